@@ -22,11 +22,11 @@ use Rattle.fwu_model.specs.Answer.{answer, migrate_moves}
 use Rattle.fwu_model.specs.Calm.{IsCalm}
 use Rattle.moves.specs.Moved.{Does, IsShown}
 use Rattle.moves.proofs.Composed.{does-then}
-use Rattle.early_boot.specs.Started.{Started, started_session}
-use Rattle.early_boot.specs.TakenUp.{TakenUp, TakesByBytes, taken, bad_layout, no_metadata, not_started, stopped, TakeUpEnds}
+use Rattle.early_boot.specs.Started.{Started, started_numbers, started_session}
+use Rattle.early_boot.specs.TakenUp.{RunsByNumbers, TakenUp, TakesByBytes, taken, bad_layout, no_metadata, not_started, stopped, TakeUpEnds}
 use Rattle.agent_machine.specs.declared.stop.Stop.{Stop}
 use Rattle.agent_machine.specs.declared.stop.Stop.TheVariants as stop
-use Rattle.agent_machine.specs.Meets.{Answers, GoesBy, IsSettingOf, IsStopped, Leaves, ShowsNext, flash_result}
+use Rattle.agent_machine.specs.Meets.{Answers, GoesBy, IsRefused, IsSettingOf, IsStopped, Leaves, ShowsNext, flash_result}
 use Rattle.agent_machine.specs.Moment.{Moment, Shows}
 use Rattle.agent_machine.specs.Fields.{Fields}
 use Rattle.agent_machine.specs.Beside.{IsSparedByAll, KeepsSparedByAll, KeepsWhere}
@@ -39,7 +39,7 @@ use Rattle.step_flash.proofs.Causes.{never_lost}
 use Rattle.flash_core.specs.Counts.{Spends}
 use Rattle.step_flash.specs.Guard.{start}
 use Rattle.fwu_c.specs.declared.report.Report.{Report}
-use Rattle.fwu_c.specs.Calls.{AnswersBy, CallEnds, Called, CallsBy, CallsFrom, IsCalled, IsNotTaken, MakesCall, Refuses, RepliesAs, ReportsCall, ReportsTakeUp, Takes, call_code, called, called_code, not_taken, status_code, stop_code, take_up_code}
+use Rattle.fwu_c.specs.Calls.{AnswersBy, CallEnds, Called, CallsBy, CallsFrom, IsAccepted, IsCalled, IsNotTaken, MakesCall, Refuses, RepliesAs, ReportsCall, ReportsTakeUp, Takes, call_code, called, called_code, not_taken, status_code, stop_code, take_up_code}
 use Rattle.fwu_c.specs.Handed.{HandsOver, IsDeviceEnd, IsStart, SameBut, is_idle}
 use Rattle.fwu_c.proofs.Booting.{began_as, over, start_same}
 
@@ -179,7 +179,8 @@ module _ (c : Call) (b : Started) (result : Result (Unit {0}) Stop) (old new : M
     → Answers (λ (value : Unit {0}) (reply : Reply). reply ≡ Success) result E s x c new)
     (leaves : Leaves (flash_result result) (λ m. passes_any m) c old new)
     (starts : (s : State) → IsShown old.fields.layout old.told.now s → Shows old s (started_session b))
-    (sees : is_ok (flash_result result) ≡ true → (s : State) (x : Session) → Shows new s x → IsShown new.fields.layout new.told.now s) where
+    (sees : is_ok (flash_result result) ≡ true → (s : State) (x : Session) → Shows new s x → IsShown new.fields.layout new.told.now s)
+    (refused : IsRefused result → new.told ≡ old.told) (again : IsAccepted c b → new.told ≡ old.told) where
   pub calls_from : CallsFrom c b result old.told new.told
   calls_from = record {
     answers = λ E s same passes shown.
@@ -196,6 +197,8 @@ module _ (c : Call) (b : Started) (result : Result (Unit {0}) Stop) (old new : M
           guarded = λ rest. leaves.guarded tells rest;
           guard_is = leaves.stays.guard tells;
         };
+    refused = refused;
+    again = again;
     keeps = spared-of b.layout b.bank old.fields old.told new.told from.layout from.boot (spared-once old.fields old.told new.told (leaves.keeps tells));
   }
 
@@ -206,7 +209,8 @@ setting_of : Layout → Setting
 setting_of L = record { layout = L; files = λ name. None; passes = λ m. passes_any m }
 
 module _ (image : List ℕ) (bank : ℕ) (c : Call) (b : Started) (result : Result (Unit {0}) Stop) (mid t : Told)
-    (takes : TakeUpEnds (λ m. passes_any m) bank (start image) (taken b) mid) (calls : CallsFrom c b result mid t) where
+    (takes : TakeUpEnds (λ m. passes_any m) bank (start image) (taken b) mid) (runs : RunsByNumbers (λ m. passes_any m) bank b (started_numbers b))
+    (calls : CallsFrom c b result mid t) where
   guard_is : t.guard ≡ mid.guard
   unfolding setting_of
   guard_is = (calls.answers (setting_of b.layout) _ refl refl takes.by_bytes.shown).guard_is
@@ -223,7 +227,7 @@ module _ (image : List ℕ) (bank : ℕ) (c : Call) (b : Started) (result : Resu
       does-then tt (flash_result result) E s (migrate_moves s) (answer E next (On bank None no_handles) c).moves mid t ready.does (λ at. by.does at)
 
   pub makes_call : MakesCall image bank c b result t
-  makes_call = record { mid = mid; takes = takes; calls = calls; does = does_both }
+  makes_call = record { mid = mid; takes = takes; runs = runs; calls = calls; does = does_both }
 
 calls_by : (image : List ℕ) (bank : ℕ) (c : Call) (first d : StepFlash) (e : Called) (number : ℕ) (told r : Report) (steps : List Step) (room : List ℕ)
     → told_of first ≡ start image → length image ≡ block_bytes * block_count first → block_count d ≡ block_count first
@@ -259,8 +263,8 @@ pub called_by : (image : List ℕ) (bank : ℕ) (c : Call) (first mid d : StepFl
 called_by image bank c first mid d b result number told r steps room made size same_size takes calls hands is =
     let from_image = subst (λ (x : Told). TakeUpEnds (λ m. passes_any m) bank x (taken b) (told_of mid)) made takes.ends in
     calls_by image bank c first d (called b result) number told r steps room made size same_size
-    (guard_is image bank c b result (told_of mid) (told_of d) from_image calls ∙ take_up_guard bank (told_of first) (told_of mid) (taken b) takes.ends.by_bytes)
-    (makes_call image bank c b result (told_of mid) (told_of d) from_image calls) hands is (start_same b told r hands.same takes.reports)
+    (guard_is image bank c b result (told_of mid) (told_of d) from_image takes.runs calls ∙ take_up_guard bank (told_of first) (told_of mid) (taken b) takes.ends.by_bytes)
+    (makes_call image bank c b result (told_of mid) (told_of d) from_image takes.runs calls) hands is (start_same b told r hands.same takes.reports)
 
 -- of the same image
 pub call_of_image : (image other : List ℕ) (bank : ℕ) (c : Call) (number : ℕ) (r : Report) (steps : List Step) (room : List ℕ) → other ≡ image

@@ -19,7 +19,7 @@ use Rattle.update_client.specs.declared.stops.Sent.{Sent}
 use Rattle.update_client.specs.declared.stops.SendStop.{SendStop}
 use Rattle.update_client.specs.declared.stops.SendStop.TheVariants.{MissingImage, ImageTooLarge, Begin, End, ReadFailed, Lost, Fault, Gone}
 use Rattle.update_client.specs.Halts.{flash_of}
-use Rattle.update_client.specs.Sends.{FaultsBy, GoneBy, Installs, IsInstalled, IsStopped, Sends, SendsBy, ended, send_answer}
+use Rattle.update_client.specs.Sends.{FaultsBy, GoneBy, Installs, IsEarly, IsInstalled, IsStopped, Sends, SendsBy, ended, send_answer}
 use Rattle.package_files.specs.OneFile.{one_file}
 use Rattle.package_files.proofs.Alone.{finds_it}
 use Rattle.host_io.specs.Contents.{Directory}
@@ -154,12 +154,14 @@ module _ (held : Directory) (file name : List ℕ) (request : ℕ) (b : Started)
               (subst (λ (L : Layout). IsInstalled i.images (replicate (length L.rows) (request == 0)) s i.now) layout i.installed);
         }
 
-    pub package_sent : FaultsBy (first_image_fault old.fields.layout.rows toc) result → SendsPackage file request b result old.told new.told
-    package_sent faults = record {
+    pub package_sent : FaultsBy (first_image_fault old.fields.layout.rows toc) result → (IsEarly result → new.told ≡ old.told)
+        → SendsPackage file request b result old.told new.told
+    package_sent faults early = record {
       toc = toc;
       table = table;
       faults = subst (λ (L : Layout). FaultsBy (first_image_fault L.rows toc) result) from.layout faults;
       answers = answers;
+      early = early;
       installs = on_done result installed;
       keeps = λ s shown. spared-of b.layout b.bank old.fields old.told new.told from.layout from.boot
           ((by (setting_of b.layout) s refl refl shown).goes.keeps tells);

@@ -48,7 +48,7 @@ unmade_by image NoMemory unmade =
 
 -- what a device handed over
 pub told_handed : (image : List ℕ) (result number : ℕ) (old : Report) (old_steps : List Step) (old_room : List ℕ) (new : Report) (steps : List Step)
-    (room : List ℕ) → HasFlashSize image → IsDeviceEnd number → (result ≡ number) ⊎ (result ≡ 7) → (IsTrue (is_idle result) → new.steps ≡ 0)
+    (room : List ℕ) → HasFlashSize image → IsDeviceEnd number → (result ≡ number) ⊎ (result ≡ 7) → (IsTrue (is_idle result) → (new.steps ≡ 0) × (new.bytes ≡ 0))
     → (result ≡ 5 → new.steps ≡ length old_steps) → (result ≡ 7 → IsUntouched old old_steps old_room new steps room)
     → TellsSteps image result old old_steps old_room new steps room
 told_handed image result number old old_steps old_room new steps room is end (inl same) idle full untouched = record {

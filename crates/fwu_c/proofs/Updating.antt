@@ -141,10 +141,10 @@ none_end_is number r old t none =
 
 -- an update is refused before it boots
 pub told_denied : (image : List ℕ) (old : Report) (old_steps : List Step) (old_room : List ℕ) (new : Report) (steps : List Step) (room : List ℕ)
-    → HasFlashSize image → new.steps ≡ 0 → TellsSteps image 16 old old_steps old_room new steps room
-told_denied image old old_steps old_room new steps room is none =
+    → HasFlashSize image → TellsSteps image 16 old old_steps old_room new steps room
+told_denied image old old_steps old_room new steps room is =
     told_handed image 16 16 old old_steps old_room new steps room is (λ four. omega (arith, four), λ six. omega (arith, six), λ seven. omega (arith, seven))
-    (inl refl) (λ idle. none) (λ five. absurd (omega (arith, five))) (λ seven. absurd (omega (arith, seven)))
+    (inl refl) (λ idle. absurd (cc)) (λ five. absurd (omega (arith, five))) (λ seven. absurd (omega (arith, seven)))
 
 -- ---- the record
 

@@ -1,10 +1,12 @@
 -- What C is told of one call of the agent, in the session behind a boot of a bank.
-use Rattle.std.specs.Prelude.{◌≡◌, ◌≢◌, ℕ, ◌++◌, Bool, List, length, take, None, Result, Ok, Err, OnOk, ⊤}
+use Rattle.std.specs.Prelude.{◌≡◌, ◌≢◌, ℕ, ◌++◌, Bool, List, length, take, None, Some, Result, Ok, Err, OnOk, IsTrue, ⊤}
 use Rattle.flash_core.specs.Told.{Told}
 use Rattle.flash_core.specs.May.{Guards}
 use Rattle.flash_core.specs.declared.flash.FlashStop.{FlashStop}
 use Rattle.flash_core.specs.declared.flash.FlashStop.TheVariants as flash_stop
 use Rattle.fwu_formats.specs.Digests.{passes_any}
+use Rattle.fwu_formats.specs.Layout.{find_image}
+use Rattle.fwu_formats.specs.Metadata.{bit_at}
 use Rattle.fwu_model.specs.declared.kinds.Status.{Status}
 use Rattle.fwu_model.specs.declared.kinds.Status.TheVariants as status
 use Rattle.fwu_model.specs.State.{State, after}
@@ -16,13 +18,13 @@ use Rattle.fwu_model.specs.Reply.{Reply, Refused, Success}
 use Rattle.fwu_model.specs.Answer.{Answer, answer, migrate_moves}
 use Rattle.fwu_model.specs.Calm.{IsCalm, IsAtRest}
 use Rattle.moves.specs.Moved.{Does, GuardedBy, IsReady, IsShown}
-use Rattle.early_boot.specs.Started.{Started, started_session}
-use Rattle.early_boot.specs.TakenUp.{TakenUp, TakeUpEnds, taken, bad_layout, no_metadata, not_started, stopped}
+use Rattle.early_boot.specs.Started.{Started, started_numbers, started_session}
+use Rattle.early_boot.specs.TakenUp.{RunsByNumbers, TakenUp, TakeUpEnds, taken, bad_layout, no_metadata, not_started, stopped}
 use Rattle.agent_machine.specs.Moment.{Moment}
 use Rattle.agent_machine.specs.Beside.{IsSparedByAll, KeepsWhere}
 use Rattle.agent_machine.specs.declared.stop.Stop.{Stop}
 use Rattle.agent_machine.specs.declared.stop.Stop.TheVariants as stop
-use Rattle.agent_machine.specs.Meets.{flash_result}
+use Rattle.agent_machine.specs.Meets.{IsRefused, flash_result}
 use Rattle.step_flash.specs.declared.step.Step.{Step}
 use Rattle.step_flash.specs.Guard.{start}
 use Rattle.step_flash.specs.Steps.{run}
@@ -79,6 +81,7 @@ ReportsTakeUp other r = ⊤
 -- the bank was taken up, and is reported as a boot reports it
 pub record Takes (bank : ℕ) (b : Started) (r : Report) (old t : Told) : Type 0 where
   pub ends : TakeUpEnds (λ m. passes_any m) bank old (taken b) t
+  pub runs : RunsByNumbers (λ m. passes_any m) bank b (started_numbers b)
   pub reports : ReportsStart b r
 
 -- for an agent
@@ -128,10 +131,19 @@ pub record AnswersBy (E : Setting) (s : State) (a : Answer) (result : Result (Un
   pub guarded : IsAtRest old → GuardedBy (flash_result result) t
   pub guard_is : t.guard ≡ old.guard
 
+-- by what the boot told, it accepts an image that is accepted already
+abbrev pub IsAccepted : Call → Started → Type 0
+IsAccepted (call.Accepts guid) b =
+    (image : ℕ) × (find_image b.layout.rows guid ≡ Some image) × IsTrue (bit_at b.meta.meta b.meta.meta.active image)
+IsAccepted other b = ⊥
+
 -- The call was made in the session behind a boot of the bank.
 pub record CallsFrom (c : Call) (b : Started) (result : Result (Unit {0}) Stop) (old t : Told) : Type 0 where
   pub answers : (E : Setting) (s : State) → E.layout ≡ b.layout → E.passes ≡ (λ m. passes_any m) → IsShown b.layout old.now s
       → AnswersBy E s (answer E s (started_session b) c) result old t
+  -- what is refused, and what is accepted again, writes nothing
+  pub refused : IsRefused result → t ≡ old
+  pub again : IsAccepted c b → t ≡ old
   -- on any flash, at any exit: nothing changed but blocks 1 to 3, and the bank that follows the one that was started
   pub keeps : KeepsWhere (IsSparedByAll b.layout b.bank) old t
 
@@ -152,6 +164,8 @@ called_code (called b result) = call_code result
 pub record MakesCall (image : List ℕ) (bank : ℕ) (c : Call) (b : Started) (result : Result (Unit {0}) Stop) (t : Told) : Type 0 where
   pub mid : Told
   pub takes : TakeUpEnds (λ m. passes_any m) bank (start image) (taken b) mid
+  -- also by the numbers that are told, and whether it is the fallback
+  pub runs : RunsByNumbers (λ m. passes_any m) bank b (started_numbers b)
   pub calls : CallsFrom c b result mid t
   -- both, from a calm image: each loss leaves the state after a prefix of all the moves
   pub does : (E : Setting) (s : State) → E.passes ≡ (λ m. passes_any m) → IsCalm E (start image) s → Guards 1 7 (start image)

@@ -68,8 +68,8 @@ pub record TellsSteps (image : List ℕ) (number : ℕ) (old : Report) (old_step
     (steps : List Step) (room : List ℕ) : Type 0 where
   -- steps are told and not done, so no power is lost
   pub unlost : number ≢ 4
-  -- where there is no layout or no metadata, or no boot started the bank, no step is told
-  pub idle : IsTrue (is_idle number) → new.steps ≡ 0
+  -- where there is no layout or no metadata, or no boot started the bank, no step is told, and no byte
+  pub idle : IsTrue (is_idle number) → (new.steps ≡ 0) × (new.bytes ≡ 0)
   -- at 5 as many steps are told as there is room for
   pub full : number ≡ 5 → new.steps ≡ length old_steps
   -- 6 comes of all bytes that are no flash, and of no others

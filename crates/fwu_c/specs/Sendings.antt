@@ -17,7 +17,7 @@ use Rattle.update_client.specs.declared.stops.Sent.{Sent}
 use Rattle.update_client.specs.declared.stops.SendStop.{SendStop}
 use Rattle.update_client.specs.declared.stops.SendStop.TheVariants.{MissingImage, ImageTooLarge, Begin, End, ReadFailed, Lost, Fault, Gone}
 use Rattle.update_client.specs.Halts.{flash_of}
-use Rattle.update_client.specs.Sends.{FaultsBy, IsInstalled, send_answer}
+use Rattle.update_client.specs.Sends.{FaultsBy, IsEarly, IsInstalled, send_answer}
 
 -- none where the bytes are no package
 abbrev pub Outcome : Type 0
@@ -86,6 +86,8 @@ pub record SendsPackage (file : List ℕ) (request : ℕ) (b : Started) (result 
   pub faults : FaultsBy (first_image_fault b.layout.rows toc) result
   pub answers : (E : Setting) (s : State) → E.layout ≡ b.layout → E.passes ≡ (λ m. passes_any m) → IsShown b.layout old.now s
       → AnswersBy E s (send_answer E toc (images_of b.layout.rows file toc) request s (started_session b)) result old t
+  -- where an image is missing or too large, and where the begin is refused, nothing is written
+  pub early : IsEarly result → t ≡ old
   pub installs : OnOk result ((s : State) → IsShown b.layout old.now s
       → HasInstalled b.layout (images_of b.layout.rows file toc) request s t)
   -- on any flash that shows a state, at any exit: nothing changed but blocks 1 to 3, and the bank that follows the one that was

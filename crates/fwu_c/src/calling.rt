@@ -5,12 +5,13 @@ ghost use Rattle.fwu_formats.specs.Digests.{passes_any};
 ghost use Rattle.fwu_model.specs.Reply.{Success};
 ghost use Rattle.early_boot.specs.Started.{Started, started};
 ghost use Rattle.early_boot.specs.Started as boot;
-ghost use Rattle.agent_machine.specs.Meets.{Meets};
-ghost use Rattle.agent_calls.specs.Shown.{AgentGoes, device, gone, moment};
+ghost use Rattle.agent_machine.specs.Meets.{IsRefused, Meets};
+ghost use Rattle.agent_calls.specs.Shown.{AgentGoes, device, fields, gone, moment};
+ghost use Rattle.agent_calls.specs.Started.{StartsFrom};
 ghost use Rattle.step_flash.specs.Flash.{block_count, image_of, is_on, told_of};
 ghost use Rattle.step_flash.specs.Guard.{start};
 ghost use Rattle.fwu_c.specs.Agents.{BeginsWith};
-ghost use Rattle.fwu_c.specs.Calls.{CallsBy, CallsFrom, IsCalled, Refuses, Takes, TakesUp, TellsCall};
+ghost use Rattle.fwu_c.specs.Calls.{CallsBy, CallsFrom, IsAccepted, IsCalled, Refuses, Takes, TakesUp, TellsCall};
 ghost use Rattle.fwu_c.specs.Calls.{call_code, call_of, status_code, stop_code};
 ghost use Rattle.fwu_c.specs.Handed.{TellsSteps};
 
@@ -146,6 +147,9 @@ fn agent_taken_up<'a>(
 fn ask(agent: &mut Agent<StepFlash<'_>>, call: AgentCall) -> Result<(), Stop>
     ensures meets { IsFalse (gone agent.old) →
         Meets (λ value reply. reply ≡ Success) result (λ m. passes_any m) (call_of call) (moment agent.old) (moment agent.new) }
+    ensures refused { IsRefused result → told_of (device agent.new) ≡ told_of (device agent.old) }
+    ensures again { (b : Started) → StartsFrom b (fields agent.old) → IsAccepted (call_of call) b →
+        told_of (device agent.new) ≡ told_of (device agent.old) }
     ensures goes { AgentGoes result agent.old agent.new }
 {
     match call {

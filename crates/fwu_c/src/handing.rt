@@ -35,7 +35,8 @@ fn parts_of(flash: StepFlash<'_>, number: u32) -> Option<StepParts>
     ensures inside { IfSome result (λ parts.
         All (IsInsideWith (length (package_of flash.entry)) (length parts.room.items) (block_bytes * block_count flash.entry))
         parts.steps.items) }
-    ensures none { IfSome result (λ parts. IsTrue (is_idle number) → length parts.steps.items ≡ 0) }
+    ensures none { IfSome result (λ parts. IsTrue (is_idle number) →
+        (length parts.steps.items ≡ 0) × (length parts.room.items ≡ 0)) }
 {
     if !flash.is_live() {
         return None;
@@ -64,7 +65,7 @@ pub fn hand_over(
     requires idle { IsTrue (is_idle number) → IsStart (told_of flash) }
     ensures number { (result ≡ number) ⊎ (result ≡ 7) }
     ensures hands { result ≢ 7 → HandsOver flash.entry told.now report.new steps.new room.new }
-    ensures idle { IsTrue (is_idle result) → report.new.steps ≡ 0 }
+    ensures idle { IsTrue (is_idle result) → (report.new.steps ≡ 0) × (report.new.bytes ≡ 0) }
     ensures full { result ≡ 5 → report.new.steps ≡ length steps.old }
     ensures untouched { result ≡ 7 → IsUntouched report.old steps.old room.old report.new steps.new room.new }
 {

@@ -1,5 +1,5 @@
 //! Where a bank keeps its images.
-ghost use Rattle.std.specs.Prelude.{◌≡◌, ◌+◌, ◌<◌, ◌≤◌, length, take, IfSome};
+ghost use Rattle.std.specs.Prelude.{◌≡◌, ◌+◌, ◌<◌, ◌≤◌, drop, length, take, IfSome};
 ghost use Rattle.base_core.specs.Bytes.{listed};
 ghost use Rattle.fwu_formats.specs.Layout.{layout_of};
 ghost use Rattle.fwu_c.specs.Codes.{slots_code};
@@ -56,7 +56,8 @@ fn slot_at(layout: &Layout, bank: u32, image: usize) -> Slot
 /// Tells the slots of a bank.
 fn put_slots(layout: &Layout, bank: u32, slots: &mut Slots)
     requires { bank < layout.now.banks }
-    ensures { TellsSlots layout.now bank slots.new }
+    ensures told { TellsSlots layout.now bank slots.new }
+    ensures behind { drop slots.new.images slots.new.slots ≡ drop slots.new.images slots.old.slots }
 {
     let images = layout.rows().len();
     for image in 0..images {
@@ -72,6 +73,8 @@ fn put_slots(layout: &Layout, bank: u32, slots: &mut Slots)
 pub extern "C" fn fwu_slots(block: &[u8], blocks: u32, bank: u32, slots: &mut Slots) -> u32
     ensures code { result ≡ slots_code bank (layout_of block.now blocks) }
     ensures slots { IfSome (layout_with bank (layout_of block.now blocks)) (λ L. TellsSlots L bank slots.new) }
+    // Nothing is told behind the last image.
+    ensures behind { drop slots.new.images slots.new.slots ≡ drop slots.new.images slots.old.slots }
     ensures kept { 1 ≤ result → slots.new ≡ slots.old }
 {
     let layout = match Layout::read(block, blocks) {

@@ -43,8 +43,9 @@ pub extern "C" fn fwu_update(
 ) -> u32
     ensures updates { IsAnswered result →
         UpdatesBy image.now file.now acceptance result report.new steps.new room.new }
-    // A boot would count one more start of a bank on trial.
-    ensures trial { IsOnTrial image.now → IsAnswered result → (result ≡ 16) × (report.new.steps ≡ 0) }
+    // A boot would count one more start of a bank on trial. Nothing else is written then.
+    ensures trial { IsOnTrial image.now → IsAnswered result → (result ≡ 16)
+        × (report.new ≡ record report.old { steps = 0; bytes = 0 }) × (steps.new ≡ steps.old) × (room.new ≡ room.old) }
     // Whatever it answers: no loss of power, and at 1, 2 and 5 to 7 what that number says.
     ensures tells { TellsSteps image.now result report.old steps.old room.old report.new steps.new room.new }
 {

@@ -1,10 +1,14 @@
-use Rattle.std.proofs.Common.{◌≡◌, ap, refl, subst, sym}
+use Rattle.std.proofs.Common.{◌≡◌, ap, refl, subst, sym, Some, IsTrue}
 use Rattle.fwu_formats.specs.Digests.{passes_any}
+use Rattle.fwu_formats.specs.Layout.{Layout, find_image}
+use Rattle.fwu_formats.specs.Metadata.{MetaRead, bit_at}
 use Rattle.fwu_model.specs.Call.{Call}
+use Rattle.fwu_model.specs.Call as call
 use Rattle.fwu_model.specs.Reply.{Reply, Success}
 use Rattle.agent_machine.specs.Meets.{Meets}
-use Rattle.agent_calls.specs.Shown.{moment}
-use Rattle.fwu_c.specs.Calls.{call_of}
+use Rattle.agent_calls.specs.Shown.{device, moment}
+use Rattle.step_flash.specs.Flash.{told_of}
+use Rattle.fwu_c.specs.Calls.{IsAccepted, call_of}
 use Rattle.fwu_c.specs.declared.calling.AgentCall.{AgentCall}
 use Rattle.fwu_c.proofs.calling.ask.Goals as goal
 
@@ -19,3 +23,20 @@ returns-in-Previous-clause-meets c = λ here.
     subst (λ (k : Call). Meets (λ (value : Unit {0}) (reply : Reply). reply ≡ Success) c.previous.result (λ m. passes_any m) k (moment c.args.agent.now) (moment c.previous.new.self))
     (ap (λ (a : AgentCall). call_of a) (sym c.in-Previous.is))
     (record { exact = λ E s x setting shows. meets.exact E s x setting shows refl; leaves = meets.leaves })
+
+pub returns-in-Accept-clause-refused : goal.returns-in-Accept-clause-refused
+returns-in-Accept-clause-refused c = λ refused. ap (λ a. told_of (device a)) (c.accept.ensures.refused refused)
+
+pub returns-in-Previous-clause-refused : goal.returns-in-Previous-clause-refused
+returns-in-Previous-clause-refused c = λ refused. c.previous.ensures.content refused refl
+
+pub returns-in-Accept-clause-again : goal.returns-in-Accept-clause-again
+returns-in-Accept-clause-again c = λ b from accepted.
+    let is : IsAccepted (call.Accepts c.in-Accept.guid) b = subst (λ (k : Call). IsAccepted k b) (ap (λ (a : AgentCall). call_of a) c.in-Accept.is) accepted in
+    ap (λ d. told_of d) (c.accept.ensures.still is.0
+    (subst (λ (L : Layout). find_image L.rows c.in-Accept.guid ≡ Some is.0) (sym from.layout) is.1)
+    (subst (λ (m : MetaRead). IsTrue (bit_at m.meta m.meta.active is.0)) (sym from.meta) is.2))
+
+pub returns-in-Previous-clause-again : goal.returns-in-Previous-clause-again
+returns-in-Previous-clause-again c = λ b from accepted.
+    absurd (subst (λ (k : Call). IsAccepted k b) (ap (λ (a : AgentCall). call_of a) c.in-Previous.is) accepted)

@@ -35,7 +35,8 @@ returns-clause-calls c = λ b begins.
     let begun : BeginsWith b old (agent.gone first) = rw c.deref_mut.ensures.value begins in
     let meets = done.ensures.meets begun.here in
     let by = calls_from (call_of c.args.call) b done.result old new (returns-clause-ends c) refl begun.from meets.exact meets.leaves begun.shows
-    (λ ok s x shows. (rw c.deref.ensures at c.showing.ensures.seen) (here_after done.result _ _ begun.here done.ensures.goes.gone ok) refl s x shows) in
+    (λ ok s x shows. (rw c.deref.ensures at c.showing.ensures.seen) (here_after done.result _ _ begun.here done.ensures.goes.gone ok) refl s x shows)
+    done.ensures.refused (done.ensures.again b begun.from) in
     subst (λ (t : Told). CallsFrom (call_of c.args.call) b done.result (told_of (agent.device c.args.agent.value)) t) (sym (ap (λ d. told_of d) c.flash_from.ensures))
     (subst (λ (t : Told). CallsFrom (call_of c.args.call) b done.result t (told_of (agent.device done.new.agent)))
     (ap (λ a. told_of (agent.device a)) c.deref_mut.ensures.value) by)

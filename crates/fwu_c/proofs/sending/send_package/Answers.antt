@@ -69,7 +69,8 @@ returns-clause-sends c = λ b begins.
     (held_there _ _ _ c.new-files.ensures) c.requires.table (returns-clause-ends c) refl begun.from (sent.ensures.sends here)
     begun.shows
     (λ ok s x shows. (rw c.deref.ensures at c.showing.ensures.seen) (here_after _ sent.result _ _ here sent.ensures.gone ok) refl s x shows)
-    (λ s x shows. sent.ensures.installs here s x shows) sent.ensures.faults in
+    (λ s x shows. sent.ensures.installs here s x shows) sent.ensures.faults
+    (λ early. ap (λ a. told_of (agent.device a)) (sent.ensures.untouched early)) in
     subst (λ (t : Told). SendsPackage file request b sent.result (told_of (agent.device c.args.agent.value)) t)
     (sym (ap (λ d. told_of d) c.flash_from.ensures))
     (subst (λ (t : Told). SendsPackage file request b sent.result t (told_of (agent.device sent.new.agent)))

@@ -1,8 +1,9 @@
-use Rattle.std.proofs.Common.{◌≡◌, ◌∙◌, ◌<◌, ◌≤◌, List, length, take, subst, sym, arith}
-use Rattle.std.proofs.lemmas.List.{length-set, take_more_set}
+use Rattle.std.proofs.Common.{◌≡◌, ◌∙◌, ◌<◌, ◌≤◌, ◌+◌, List, ap, drop, length, take, subst, sym, arith}
+use Rattle.std.proofs.lemmas.List.{drop-drop, drop-set-lt, length-set, take_more_set}
 use Rattle.base_core.specs.declared.rows.ImageRow.{ImageRow}
 use Rattle.meta_layout.proofs.Places.{pushed}
 use Rattle.fwu_c.specs.Slots.{slot_of}
+use Rattle.fwu_c.specs.declared.slots.Slot.{Slot}
 use Rattle.fwu_c.proofs.slots.put_slots.Goals as goal
 
 pub loop-image-preserved : goal.loop-image-preserved
@@ -16,4 +17,6 @@ loop-image-preserved c =
       take_more_set slots image c.slot_at.result near
           ∙ pushed (slot_of c.args.layout.now c.args.bank) (take image slots) image c.slot_at.result c.loop-image.invariant.0 c.slot_at.ensures,
       length-set slots image c.slot_at.result ∙ all,
+      drop-set-lt (image + 1) slots image c.slot_at.result (omega arith)
+          ∙ sym (drop-drop 1 image slots) ∙ ap (λ (ks : List Slot). drop 1 ks) c.loop-image.invariant.2 ∙ drop-drop 1 image c.args.slots.now.slots,
     )
