@@ -40,7 +40,7 @@ use Rattle.flash_core.specs.Counts.{Spends}
 use Rattle.step_flash.specs.Guard.{start}
 use Rattle.fwu_c.specs.declared.report.Report.{Report}
 use Rattle.fwu_c.specs.Calls.{AnswersBy, CallEnds, Called, CallsBy, CallsFrom, IsAccepted, IsCalled, IsNotTaken, MakesCall, Refuses, RepliesAs, ReportsCall, ReportsTakeUp, Takes, call_code, called, called_code, not_taken, status_code, stop_code, take_up_code}
-use Rattle.fwu_c.specs.Handed.{HandsOver, IsDeviceEnd, IsStart, SameBut, is_idle}
+use Rattle.fwu_c.specs.Handed.{HandsOver, IsDeviceEnd, IsStart, SameBut, is_idle, starts_none}
 use Rattle.fwu_c.proofs.Booting.{began_as, over, start_same}
 
 -- ---- numbers
@@ -294,3 +294,15 @@ call_busy (Err (stop.Status status.NotAvailable)) idle = absurd (cc)
 call_busy (Err stop.Lost) idle = absurd (cc)
 call_busy (Err stop.Fault) idle = absurd (cc)
 call_busy (Err stop.Gone) idle = absurd (cc)
+
+pub call_starts : (result : Result (Unit {0}) Stop) → IsTrue (starts_none (call_code result)) → ⊥
+call_starts (Ok x) none = absurd (cc)
+call_starts (Err (stop.Status status.Denied)) none = absurd (cc)
+call_starts (Err (stop.Status status.AuthFail)) none = absurd (cc)
+call_starts (Err (stop.Status status.Unknown)) none = absurd (cc)
+call_starts (Err (stop.Status status.Busy)) none = absurd (cc)
+call_starts (Err (stop.Status status.OutOfBounds)) none = absurd (cc)
+call_starts (Err (stop.Status status.NotAvailable)) none = absurd (cc)
+call_starts (Err stop.Lost) none = absurd (cc)
+call_starts (Err stop.Fault) none = absurd (cc)
+call_starts (Err stop.Gone) none = absurd (cc)

@@ -6,10 +6,42 @@ use Rattle.fwu_c.specs.declared.report.Report.{Report}
 use Rattle.step_flash.specs.declared.flash.Unmade.{Unmade}
 use Rattle.step_flash.specs.declared.flash.Unmade.TheVariants.{NoFlash, NoMemory}
 use Rattle.step_flash.specs.Unmade.{IsUnmade}
-use Rattle.fwu_c.specs.Handed.{HasFlashSize, IsDeviceEnd, IsUntouched, TellsSteps, is_idle, unmade_code}
+use Rattle.fwu_c.specs.Handed.{HasFlashSize, IsDeviceEnd, IsUntouched, KeepsReport, SameBut, TellsSteps, is_idle, starts_none, unmade_code}
 
 stays : (r : Report) (steps : List Step) (room : List ℕ) → IsUntouched r steps room r steps room
 stays r steps room = record { report_stays = refl; steps_stay = refl; room_stays = refl }
+
+pub keeps_stays : (number : ℕ) (r : Report) → KeepsReport number r r
+keeps_stays number r = record {
+  fault = λ other. refl;
+  banks = λ idle. (refl, refl);
+  start = λ none. record { bank = refl; version = refl; trials = refl; counter = refl; fallback = refl; images = refl; lengths = refl };
+}
+
+-- where a bank was started
+pub keeps_fault : (number : ℕ) (old new : Report) → new.layout_fault ≡ old.layout_fault → (IsTrue (is_idle number) → ⊥)
+    → (IsTrue (starts_none number) → ⊥) → KeepsReport number old new
+keeps_fault number old new same busy starts = record {
+  fault = λ other. same;
+  banks = λ idle. absurd (busy idle);
+  start = λ none. absurd (starts none);
+}
+
+-- with other numbers of steps and of bytes
+pub keeps_but : (number : ℕ) (old told new : Report) → SameBut told new → KeepsReport number old told → KeepsReport number old new
+keeps_but number old told new same kept = subst (KeepsReport number old) (sym same) (record {
+  fault = kept.fault;
+  banks = kept.banks;
+  start = λ none. let s = kept.start none in record {
+    bank = s.bank;
+    version = s.version;
+    trials = s.trials;
+    counter = s.counter;
+    fallback = s.fallback;
+    images = s.images;
+    lengths = s.lengths;
+  };
+})
 
 -- at 6 and 7 all stays as it was
 pub told_no_flash : (image : List ℕ) (r : Report) (steps : List Step) (room : List ℕ) → (HasFlashSize image → ⊥)
@@ -17,6 +49,7 @@ pub told_no_flash : (image : List ℕ) (r : Report) (steps : List Step) (room : 
 told_no_flash image r steps room none = record {
   unlost = λ four. omega (arith, four);
   idle = λ idle. absurd (cc);
+  kept = keeps_stays 6 r;
   full = λ five. absurd (omega (arith, five));
   no_flash = (λ six. none, λ not. refl);
   untouched = λ either. stays r steps room;
@@ -27,6 +60,7 @@ pub told_no_room : (image : List ℕ) (r : Report) (steps : List Step) (room : L
 told_no_room image r steps room is = record {
   unlost = λ four. omega (arith, four);
   idle = λ idle. absurd (cc);
+  kept = keeps_stays 7 r;
   full = λ five. absurd (omega (arith, five));
   no_flash = (λ six. absurd (omega (arith, six)), λ not. absurd (not is));
   untouched = λ either. stays r steps room;
@@ -49,11 +83,12 @@ unmade_by image NoMemory unmade =
 -- what a device handed over
 pub told_handed : (image : List ℕ) (result number : ℕ) (old : Report) (old_steps : List Step) (old_room : List ℕ) (new : Report) (steps : List Step)
     (room : List ℕ) → HasFlashSize image → IsDeviceEnd number → (result ≡ number) ⊎ (result ≡ 7) → (IsTrue (is_idle result) → (new.steps ≡ 0) × (new.bytes ≡ 0))
-    → (result ≡ 5 → new.steps ≡ length old_steps) → (result ≡ 7 → IsUntouched old old_steps old_room new steps room)
+    → KeepsReport result old new → (result ≡ 5 → new.steps ≡ length old_steps) → (result ≡ 7 → IsUntouched old old_steps old_room new steps room)
     → TellsSteps image result old old_steps old_room new steps room
-told_handed image result number old old_steps old_room new steps room is end (inl same) idle full untouched = record {
+told_handed image result number old old_steps old_room new steps room is end (inl same) idle kept full untouched = record {
   unlost = λ four. end.0 (sym same ∙ four);
   idle = idle;
+  kept = kept;
   full = full;
   no_flash = (λ six. absurd (end.1 (sym same ∙ six)), λ not. absurd (not is));
   untouched = λ either. elim either [
@@ -61,9 +96,10 @@ told_handed image result number old old_steps old_room new steps room is end (in
     | inr seven ↦ untouched seven
   ];
 }
-told_handed image result number old old_steps old_room new steps room is end (inr seven) idle full untouched = record {
+told_handed image result number old old_steps old_room new steps room is end (inr seven) idle kept full untouched = record {
   unlost = λ four. omega (arith, four, seven);
   idle = idle;
+  kept = kept;
   full = full;
   no_flash = (λ six. absurd (omega (arith, six, seven)), λ not. absurd (not is));
   untouched = λ either. untouched seven;

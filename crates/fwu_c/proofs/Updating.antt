@@ -26,13 +26,13 @@ use Rattle.step_flash.specs.Stopped.{under_as}
 use Rattle.step_flash.specs.Steps.{IsInsideWith, run_with}
 use Rattle.fwu_c.specs.declared.report.Report.{Report}
 use Rattle.fwu_c.specs.Codes.{end_code}
-use Rattle.fwu_c.specs.Handed.{HandsOver, HasFlashSize, IsDeviceEnd, TellsSteps, is_idle}
+use Rattle.fwu_c.specs.Handed.{HandsOver, HasFlashSize, IsDeviceEnd, TellsSteps, is_idle, starts_none}
 use Rattle.fwu_c.specs.Reports.{ReportsEnd, ReportsStart}
 use Rattle.update_client.specs.declared.stops.SendStop.TheVariants.{MissingImage, ImageTooLarge, Begin, End, ReadFailed, Lost, Fault, Gone}
 use Rattle.fwu_c.specs.Sendings.{InstallsBy, IsOutcome, Outcome, outcome_code}
 use Rattle.fwu_c.specs.Updates.{IsNotBooted, IsOnTrial, StartsNone, UpdateEnds, Updated, UpdatesBy, on_trial, not_booted, tried, update_code, ReportsUpdate}
 use Rattle.fwu_c.proofs.SentPackage.{setting_of}
-use Rattle.fwu_c.proofs.Telling.{told_handed}
+use Rattle.fwu_c.proofs.Telling.{keeps_fault, told_handed}
 use Rattle.fwu_c.proofs.Booting.{code_few, end_same, guard_kept, over, start_same}
 
 -- ---- trials
@@ -128,6 +128,18 @@ outcome_busy (Some (Err Lost)) idle = absurd (cc)
 outcome_busy (Some (Err Fault)) idle = absurd (cc)
 outcome_busy (Some (Err Gone)) idle = absurd (cc)
 
+pub outcome_starts : (outcome : Outcome) → IsTrue (starts_none (outcome_code outcome)) → ⊥
+outcome_starts None none = absurd (cc)
+outcome_starts (Some (Ok sent)) none = absurd (cc)
+outcome_starts (Some (Err (MissingImage guid))) none = absurd (cc)
+outcome_starts (Some (Err (ImageTooLarge guid))) none = absurd (cc)
+outcome_starts (Some (Err (Begin st))) none = absurd (cc)
+outcome_starts (Some (Err (End st))) none = absurd (cc)
+outcome_starts (Some (Err ReadFailed)) none = absurd (cc)
+outcome_starts (Some (Err Lost)) none = absurd (cc)
+outcome_starts (Some (Err Fault)) none = absurd (cc)
+outcome_starts (Some (Err Gone)) none = absurd (cc)
+
 pub outcome_end_is : (outcome : Outcome) → IsOutcome outcome → IsDeviceEnd (outcome_code outcome)
 outcome_end_is outcome is = (outcome_not_four outcome is, outcome_not_six outcome, outcome_not_seven outcome is)
 
@@ -141,10 +153,10 @@ none_end_is number r old t none =
 
 -- an update is refused before it boots
 pub told_denied : (image : List ℕ) (old : Report) (old_steps : List Step) (old_room : List ℕ) (new : Report) (steps : List Step) (room : List ℕ)
-    → HasFlashSize image → TellsSteps image 16 old old_steps old_room new steps room
-told_denied image old old_steps old_room new steps room is =
+    → HasFlashSize image → new.layout_fault ≡ old.layout_fault → TellsSteps image 16 old old_steps old_room new steps room
+told_denied image old old_steps old_room new steps room is same =
     told_handed image 16 16 old old_steps old_room new steps room is (λ four. omega (arith, four), λ six. omega (arith, six), λ seven. omega (arith, seven))
-    (inl refl) (λ idle. absurd (cc)) (λ five. absurd (omega (arith, five))) (λ seven. absurd (omega (arith, seven)))
+    (inl refl) (λ idle. absurd (cc)) (keeps_fault 16 old new same (λ idle. absurd (cc)) (λ none. absurd (cc))) (λ five. absurd (omega (arith, five))) (λ seven. absurd (omega (arith, seven)))
 
 -- ---- the record
 

@@ -63,6 +63,26 @@ pub record HasFlashSize (image : List ℕ) : Type 0 where
   pub most : blocks ≤ most_blocks
   pub size : length image ≡ block_bytes * blocks
 
+-- no bank is told as the one that is to be started
+abbrev pub starts_none : ℕ → Bool
+starts_none number = is_idle number || number == 3
+
+-- what a start writes but the banks
+pub record SameStart (old new : Report) : Type 0 where
+  pub bank : new.bank ≡ old.bank
+  pub version : new.version ≡ old.version
+  pub trials : new.trials ≡ old.trials
+  pub counter : new.counter ≡ old.counter
+  pub fallback : new.fallback ≡ old.fallback
+  pub images : new.images ≡ old.images
+  pub lengths : new.lengths ≡ old.lengths
+
+-- Of the report a number's own fields are written: the fault at 1, the banks at 3, and all but the fault where a bank was started.
+pub record KeepsReport (number : ℕ) (old new : Report) : Type 0 where
+  pub fault : number ≢ 1 → new.layout_fault ≡ old.layout_fault
+  pub banks : IsTrue (is_idle number) → (new.active ≡ old.active) × (new.previous ≡ old.previous)
+  pub start : IsTrue (starts_none number) → SameStart old new
+
 -- What each call that tells steps promises, whatever it is asked for: of what C handed in, and has then.
 pub record TellsSteps (image : List ℕ) (number : ℕ) (old : Report) (old_steps : List Step) (old_room : List ℕ) (new : Report)
     (steps : List Step) (room : List ℕ) : Type 0 where
@@ -70,6 +90,8 @@ pub record TellsSteps (image : List ℕ) (number : ℕ) (old : Report) (old_step
   pub unlost : number ≢ 4
   -- where there is no layout or no metadata, or no boot started the bank, no step is told, and no byte
   pub idle : IsTrue (is_idle number) → (new.steps ≡ 0) × (new.bytes ≡ 0)
+  -- of the other fields none is written but the number's own
+  pub kept : KeepsReport number old new
   -- at 5 as many steps are told as there is room for
   pub full : number ≡ 5 → new.steps ≡ length old_steps
   -- 6 comes of all bytes that are no flash, and of no others

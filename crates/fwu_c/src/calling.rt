@@ -13,7 +13,7 @@ ghost use Rattle.step_flash.specs.Guard.{start};
 ghost use Rattle.fwu_c.specs.Agents.{BeginsWith};
 ghost use Rattle.fwu_c.specs.Calls.{CallsBy, CallsFrom, IsAccepted, IsCalled, Refuses, Takes, TakesUp, TellsCall};
 ghost use Rattle.fwu_c.specs.Calls.{call_code, call_of, status_code, stop_code};
-ghost use Rattle.fwu_c.specs.Handed.{TellsSteps};
+ghost use Rattle.fwu_c.specs.Handed.{KeepsReport, TellsSteps};
 
 use crate::handing::{hand_over, unmade_number};
 use crate::kept_agent::{agent_of, flash_from};
@@ -92,6 +92,8 @@ fn taken_up<'a>(
     ensures taken_size { IfSome result (λ end. IfOk end (λ b. block_count (boot.device b.value) ≡ block_count flash.entry)) }
     ensures refuses { IfSome result (λ end. IfErr end (λ e. Refuses bank e.1 told.new (told_of flash.entry) (told_of e.0))) }
     ensures left_size { IfSome result (λ end. IfErr end (λ e. block_count e.0 ≡ block_count flash.entry)) }
+    ensures kept { IfSome result (λ end. IfOk end (λ x. KeepsReport 0 told.old told.new)
+        × IfErr end (λ e. KeepsReport e.1 told.old told.new)) }
 {
     match take_up(
         flash,
@@ -132,6 +134,8 @@ fn agent_taken_up<'a>(
     ensures taken_size { IfSome result (λ end. IfOk end (λ a. block_count (device a.value) ≡ block_count flash.entry)) }
     ensures refuses { IfSome result (λ end. IfErr end (λ e. Refuses bank e.1 told.new (told_of flash.entry) (told_of e.0))) }
     ensures left_size { IfSome result (λ end. IfErr end (λ e. block_count e.0 ≡ block_count flash.entry)) }
+    ensures kept { IfSome result (λ end. IfOk end (λ x. KeepsReport 0 told.old told.new)
+        × IfErr end (λ e. KeepsReport e.1 told.old told.new)) }
 {
     match taken_up(alloc, flash, bank, block, told) {
         Some(Ok(booted)) => match agent_of(alloc, booted) {

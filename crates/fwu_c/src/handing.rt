@@ -3,7 +3,7 @@ ghost use Rattle.std.specs.Prelude.{◌≡◌, ◌≢◌, ◌⊎◌, ◌*◌, Al
 ghost use Rattle.base_core.specs.Block.{block_bytes};
 ghost use Rattle.step_flash.specs.Flash.{NotedBy, block_count, package_of, told_of};
 ghost use Rattle.step_flash.specs.Steps.{IsInsideWith};
-ghost use Rattle.fwu_c.specs.Handed.{HandsOver, IsDeviceEnd, IsStart, IsUntouched, is_idle, unmade_code};
+ghost use Rattle.fwu_c.specs.Handed.{HandsOver, IsDeviceEnd, IsStart, IsUntouched, KeepsReport, is_idle, unmade_code};
 
 use crate::report::Report;
 use step_flash::{Step, StepFlash, StepParts, Unmade};
@@ -63,9 +63,11 @@ pub fn hand_over(
 ) -> u32
     requires known { IsDeviceEnd number }
     requires idle { IsTrue (is_idle number) → IsStart (told_of flash) }
+    requires kept { KeepsReport number report.old told.now }
     ensures number { (result ≡ number) ⊎ (result ≡ 7) }
     ensures hands { result ≢ 7 → HandsOver flash.entry told.now report.new steps.new room.new }
     ensures idle { IsTrue (is_idle result) → (report.new.steps ≡ 0) × (report.new.bytes ≡ 0) }
+    ensures kept { KeepsReport result report.old report.new }
     ensures full { result ≡ 5 → report.new.steps ≡ length steps.old }
     ensures untouched { result ≡ 7 → IsUntouched report.old steps.old room.old report.new steps.new room.new }
 {

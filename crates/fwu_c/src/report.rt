@@ -3,6 +3,7 @@ ghost use Rattle.std.specs.Prelude.{◌≡◌};
 ghost use Rattle.early_boot.specs.Ends.{device_of, ended};
 ghost use Rattle.early_boot.specs.Started.{started};
 ghost use Rattle.fwu_c.specs.Codes.{end_code};
+ghost use Rattle.fwu_c.specs.Handed.{KeepsReport};
 ghost use Rattle.fwu_c.specs.Reports.{ReportsEnd, ReportsStart};
 
 use crate::layouts::fault_number;
@@ -43,7 +44,8 @@ const _: () = prove!(size_of::<Report>() == 108);
 
 /// Reports a bank that is to be started.
 pub fn report_start<D: Flash>(booted: &Booted<D>, report: &mut Report)
-    ensures { ReportsStart (started booted.now) report.new }
+    ensures reports { ReportsStart (started booted.now) report.new }
+    ensures kept { report.new.layout_fault ≡ report.old.layout_fault }
 {
     report.bank = booted.bank();
     report.version = booted.version();
@@ -60,6 +62,7 @@ pub fn report_start<D: Flash>(booted: &Booted<D>, report: &mut Report)
 pub fn report_end<D: Flash>(end: &BootEnd<D>, report: &mut Report) -> u32
     ensures number { result ≡ end_code (ended end.now) }
     ensures reports { ReportsEnd (ended end.now) report.new }
+    ensures kept { KeepsReport result report.old report.new }
 {
     match end {
         BootEnd::Booted(booted, _) => {

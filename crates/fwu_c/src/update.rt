@@ -8,7 +8,7 @@ ghost use Rattle.step_flash.specs.Flash.{block_count, image_of, is_on, told_of};
 ghost use Rattle.step_flash.specs.Guard.{start, start_with};
 ghost use Rattle.early_boot.specs.Started.{started};
 ghost use Rattle.early_boot.specs.Started as boot;
-ghost use Rattle.fwu_c.specs.Handed.{TellsSteps};
+ghost use Rattle.fwu_c.specs.Handed.{KeepsReport, TellsSteps};
 ghost use Rattle.fwu_c.specs.Updates.{Boots, BootsUp, IsAnswered, IsOnTrial, StartsNone, UpdatesBy};
 
 use crate::handing::{hand_over, unmade_number};
@@ -138,6 +138,8 @@ fn booted_up<'a>(
     ensures booted_size { IfSome result (λ end. IfOk end (λ b. block_count (boot.device b.value) ≡ block_count flash.entry)) }
     ensures stays { IfSome result (λ end. IfErr end (λ e. StartsNone e.1 told.new (told_of flash.entry) (told_of e.0))) }
     ensures left_size { IfSome result (λ end. IfErr end (λ e. block_count e.0 ≡ block_count flash.entry)) }
+    ensures kept { IfSome result (λ end. IfOk end (λ x. KeepsReport 0 told.old told.new)
+        × IfErr end (λ e. KeepsReport e.1 told.old told.new)) }
 {
     match boot_in(flash, &AnyManifest, &mut block[..BLOCK_BYTES as usize]) {
         BootEnd::Booted(booted, _) => {
@@ -169,6 +171,8 @@ fn boot_agent<'a>(
     ensures booted_size { IfSome result (λ end. IfOk end (λ a. block_count (device a.value) ≡ block_count flash.entry)) }
     ensures stays { IfSome result (λ end. IfErr end (λ e. StartsNone e.1 told.new (told_of flash.entry) (told_of e.0))) }
     ensures left_size { IfSome result (λ end. IfErr end (λ e. block_count e.0 ≡ block_count flash.entry)) }
+    ensures kept { IfSome result (λ end. IfOk end (λ x. KeepsReport 0 told.old told.new)
+        × IfErr end (λ e. KeepsReport e.1 told.old told.new)) }
 {
     match booted_up(alloc, flash, block, told) {
         Some(Ok(booted)) => match agent_of(alloc, booted) {

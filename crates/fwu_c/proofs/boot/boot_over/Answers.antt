@@ -22,6 +22,9 @@ hand_over-requires-clause-idle c = λ idle.
     (boot_idle (ended c.boot_in-end.result) (told_of c.args.flash) (told_of (device_of c.boot_in-end.result)) (image_of c.args.flash, [], c.requires.fresh)
     (c.boot_in-end.ensures.boots.ends refl).by_bytes (subst (λ n. IsTrue (is_idle n)) c.report_end-number.ensures.number idle))
 
+pub hand_over-requires-clause-kept : goal.hand_over-requires-clause-kept
+hand_over-requires-clause-kept c = c.report_end-number.ensures.kept
+
 pub returns-clause-tells : goal.returns-clause-tells
 returns-clause-tells c =
     let h = c.hand_over.ensures in
@@ -29,7 +32,7 @@ returns-clause-tells c =
     (has_flash_size (image_of c.args.flash) c.args.flash c.requires.size)
     (subst (λ n. IsDeviceEnd n) (sym c.report_end-number.ensures.number)
     (boot_end_is (ended c.boot_in-end.result) c.args.flash (device_of c.boot_in-end.result) c.boot_in-end.ensures.boots.costs))
-    h.number h.idle h.full h.untouched
+    h.number h.idle h.kept h.full h.untouched
 
 pub returns-clause-boots : goal.returns-clause-boots
 returns-clause-boots c = λ low.

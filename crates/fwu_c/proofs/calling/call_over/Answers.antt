@@ -1,12 +1,12 @@
-use Rattle.std.proofs.Common.{[], ◌∙◌, sym, subst}
+use Rattle.std.proofs.Common.{[], ◌∙◌, arith, sym, subst}
 use Rattle.std.specs.Prelude.{IsTrue}
 use Rattle.agent_calls.specs.Shown.{device}
 use Rattle.step_flash.specs.Flash.{image_of, told_of}
 use Rattle.fwu_c.specs.Calls.{call_of}
-use Rattle.fwu_c.specs.Handed.{IsDeviceEnd, is_idle}
+use Rattle.fwu_c.specs.Handed.{IsDeviceEnd, is_idle, starts_none}
 use Rattle.fwu_c.proofs.Booting.{given, has_flash_size}
-use Rattle.fwu_c.proofs.Calls.{call_busy, call_end_is, called_by, refused_by, take_up_end_is, take_up_idle}
-use Rattle.fwu_c.proofs.Telling.{told_handed, told_no_room}
+use Rattle.fwu_c.proofs.Calls.{call_busy, call_end_is, call_starts, called_by, refused_by, take_up_end_is, take_up_idle}
+use Rattle.fwu_c.proofs.Telling.{keeps_fault, told_handed, told_no_room}
 use Rattle.fwu_c.proofs.calling.call_over.Goals as goal
 
 pub called-flash-requires : goal.called-flash-requires
@@ -18,6 +18,9 @@ hand_over-requires c =
     record {
       known = subst (λ n. IsDeviceEnd n) (sym c.call_number.ensures) (call_end_is a.result.1 a.ensures.ends);
       idle = λ idle. absurd (call_busy a.result.1 (subst (λ n. IsTrue (is_idle n)) c.call_number.ensures idle));
+      kept = keeps_fault _ _ _ ((rw c.in-Some-Ok.field-0-is at c.in-Some-Ok.ensures.kept).0.fault (λ one. omega (arith, one)))
+          (λ idle. call_busy a.result.1 (subst (λ n. IsTrue (is_idle n)) c.call_number.ensures idle))
+          (λ none. call_starts a.result.1 (subst (λ n. IsTrue (starts_none n)) c.call_number.ensures none));
     }
 
 pub returns-in-Some-Ok-clause-calls : goal.returns-in-Some-Ok-clause-calls
@@ -34,7 +37,7 @@ returns-in-Some-Ok-clause-tells c =
     let h = c.hand_over.ensures in
     let a = c.called-flash in
     told_handed (image_of c.args.flash) c.hand_over.result c.call_number.result _ _ _ _ _ _ (has_flash_size (image_of c.args.flash) c.args.flash c.requires.size)
-    (subst (λ n. IsDeviceEnd n) (sym c.call_number.ensures) (call_end_is a.result.1 a.ensures.ends)) h.number h.idle h.full h.untouched
+    (subst (λ n. IsDeviceEnd n) (sym c.call_number.ensures) (call_end_is a.result.1 a.ensures.ends)) h.number h.idle h.kept h.full h.untouched
 
 pub hand_over-requires-in-Some-Err : goal.hand_over-requires-in-Some-Err
 hand_over-requires-in-Some-Err c =
@@ -43,6 +46,7 @@ hand_over-requires-in-Some-Err c =
       known = take_up_end_is _ _ _ _ _ refuses;
       idle = λ idle. take_up_idle c.args.bank refuses.end (told_of c.args.flash) (told_of c.in-Some-Err.flash) (image_of c.args.flash, [], c.requires.fresh)
           refuses.ends.by_bytes (subst (λ n. IsTrue (is_idle n)) refuses.number_is idle);
+      kept = (rw c.in-Some-Err.field-0-is at c.in-Some-Err.ensures.kept).1;
     }
 
 pub returns-in-Some-Err-clause-calls : goal.returns-in-Some-Err-clause-calls
@@ -55,7 +59,7 @@ pub returns-in-Some-Err-clause-tells : goal.returns-in-Some-Err-clause-tells
 returns-in-Some-Err-clause-tells c =
     let h = c.hand_over-in-Some-Err.ensures in
     told_handed (image_of c.args.flash) c.hand_over-in-Some-Err.result c.in-Some-Err.number _ _ _ _ _ _ (has_flash_size (image_of c.args.flash) c.args.flash c.requires.size)
-    (take_up_end_is _ _ _ _ _ (rw c.in-Some-Err.field-0-is at c.in-Some-Err.ensures.refuses)) h.number h.idle h.full h.untouched
+    (take_up_end_is _ _ _ _ _ (rw c.in-Some-Err.field-0-is at c.in-Some-Err.ensures.refuses)) h.number h.idle h.kept h.full h.untouched
 
 pub returns-in-None-clause-tells : goal.returns-in-None-clause-tells
 returns-in-None-clause-tells c = told_no_room _ _ _ _ (has_flash_size (image_of c.args.flash) c.args.flash c.requires.size)

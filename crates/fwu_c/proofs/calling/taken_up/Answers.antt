@@ -48,7 +48,7 @@ returns-clause-refuses c = record {
 }
 
 pub returns-in-Ok-clause-takes : goal.returns-in-Ok-clause-takes
-returns-in-Ok-clause-takes c = rw c.in-Ok.ensures.ok (record { ends = c.in-Taken.ensures.takes.ends refl; runs = c.in-Taken.ensures.takes.numbers; reports = c.report_start.ensures })
+returns-in-Ok-clause-takes c = rw c.in-Ok.ensures.ok (record { ends = c.in-Taken.ensures.takes.ends refl; runs = c.in-Taken.ensures.takes.numbers; reports = c.report_start.ensures.reports })
 
 pub returns-in-Ok-clause-taken_size : goal.returns-in-Ok-clause-taken_size
 returns-in-Ok-clause-taken_size c = ap (λ b. block_count (device b)) c.in-Ok.ensures.ok ∙ c.in-Taken.ensures.takes.size

@@ -17,7 +17,7 @@ returns-in-Ok-clause-boots c = rw c.in-Ok.ensures.ok (record {
   numbers = numbers c.in-Booted.field-1;
   ends = c.in-Booted.ensures.boots.ends refl;
   layout = (c.in-Booted.booted.knows refl).layout_is;
-  reports = c.report_start.ensures;
+  reports = c.report_start.ensures.reports;
 })
 
 pub returns-in-Ok-clause-booted_size : goal.returns-in-Ok-clause-booted_size

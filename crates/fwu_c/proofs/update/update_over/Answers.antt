@@ -1,11 +1,11 @@
-use Rattle.std.proofs.Common.{◌∙◌, sym, subst}
+use Rattle.std.proofs.Common.{◌∙◌, arith, sym, subst}
 use Rattle.std.specs.Prelude.{IsTrue}
 use Rattle.agent_calls.specs.Shown.{device}
 use Rattle.step_flash.specs.Flash.{image_of, told_of}
-use Rattle.fwu_c.specs.Handed.{IsDeviceEnd, is_idle}
+use Rattle.fwu_c.specs.Handed.{IsDeviceEnd, is_idle, starts_none}
 use Rattle.fwu_c.proofs.Booting.{boot_idle, given, has_flash_size}
-use Rattle.fwu_c.proofs.Telling.{told_handed, told_no_room}
-use Rattle.fwu_c.proofs.Updating.{none_end_is, outcome_busy, outcome_end_is, tried_by, unbooted_by}
+use Rattle.fwu_c.proofs.Telling.{keeps_fault, told_handed, told_no_room}
+use Rattle.fwu_c.proofs.Updating.{none_end_is, outcome_busy, outcome_end_is, outcome_starts, tried_by, unbooted_by}
 use Rattle.fwu_c.proofs.update.update_over.Goals as goal
 
 pub install-requires-clause-here : goal.install-requires-clause-here
@@ -17,6 +17,9 @@ hand_over-requires c =
     record {
       known = subst (λ n. IsDeviceEnd n) (sym c.outcome_number.ensures) (outcome_end_is i.outcome i.ensures.ends);
       idle = λ idle. absurd (outcome_busy i.outcome (subst (λ n. IsTrue (is_idle n)) c.outcome_number.ensures idle));
+      kept = keeps_fault _ _ _ ((rw c.in-Some-Ok.field-0-is at c.in-Some-Ok.ensures.kept).0.fault (λ one. omega (arith, one)))
+          (λ idle. outcome_busy i.outcome (subst (λ n. IsTrue (is_idle n)) c.outcome_number.ensures idle))
+          (λ none. outcome_starts i.outcome (subst (λ n. IsTrue (starts_none n)) c.outcome_number.ensures none));
     }
 
 pub hand_over-requires-in-Some-Err : goal.hand_over-requires-in-Some-Err
@@ -26,6 +29,7 @@ hand_over-requires-in-Some-Err c =
       known = none_end_is _ _ _ _ none;
       idle = λ idle. boot_idle none.end (told_of c.args.flash) (told_of c.in-Some-Err.flash) (image_of c.args.flash, c.args.file.now, c.requires.fresh) none.boots.by_bytes
           (subst (λ n. IsTrue (is_idle n)) none.number_is idle);
+      kept = (rw c.in-Some-Err.field-0-is at c.in-Some-Err.ensures.kept).1;
     }
 
 pub returns-in-Some-clause-updates : goal.returns-in-Some-clause-updates
@@ -42,7 +46,7 @@ returns-in-Some-clause-tells c =
     let h = c.hand_over.ensures in
     let i = c.in-Some in
     told_handed (image_of c.args.flash) c.hand_over.result c.outcome_number.result _ _ _ _ _ _ (has_flash_size (image_of c.args.flash) c.args.flash c.requires.size)
-    (subst (λ n. IsDeviceEnd n) (sym c.outcome_number.ensures) (outcome_end_is i.outcome i.ensures.ends)) h.number h.idle h.full h.untouched
+    (subst (λ n. IsDeviceEnd n) (sym c.outcome_number.ensures) (outcome_end_is i.outcome i.ensures.ends)) h.number h.idle h.kept h.full h.untouched
 
 pub returns-in-Some-Err-clause-updates : goal.returns-in-Some-Err-clause-updates
 returns-in-Some-Err-clause-updates c = λ told.
@@ -56,7 +60,7 @@ pub returns-in-Some-Err-clause-tells : goal.returns-in-Some-Err-clause-tells
 returns-in-Some-Err-clause-tells c =
     let h = c.hand_over-in-Some-Err.ensures in
     told_handed (image_of c.args.flash) c.hand_over-in-Some-Err.result c.in-Some-Err.number _ _ _ _ _ _
-    (has_flash_size (image_of c.args.flash) c.args.flash c.requires.size) (none_end_is _ _ _ _ (rw c.in-Some-Err.field-0-is at c.in-Some-Err.ensures.stays)) h.number h.idle h.full h.untouched
+    (has_flash_size (image_of c.args.flash) c.args.flash c.requires.size) (none_end_is _ _ _ _ (rw c.in-Some-Err.field-0-is at c.in-Some-Err.ensures.stays)) h.number h.idle h.kept h.full h.untouched
 
 pub returns-in-None-clause-tells : goal.returns-in-None-clause-tells
 returns-in-None-clause-tells c = told_no_room _ _ _ _ (has_flash_size (image_of c.args.flash) c.args.flash c.requires.size)
