@@ -1,5 +1,6 @@
 mod Slices
 mod Grows
+mod Doable
 mod Sounds
 mod ReadBack
 mod Calls

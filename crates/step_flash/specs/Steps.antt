@@ -1,6 +1,6 @@
 -- What steps do to a flash.
-use Rattle.std.specs.Prelude.{◌≡◌, ℕ, Bool, ◌+◌, ◌<◌, ◌≤◌, ◌==◌, if◌then◌else◌, List, [], fold, slice_range, length}
-use Rattle.base_core.specs.Block.{blank, block_bytes}
+use Rattle.std.specs.Prelude.{◌≡◌, ◌⊎◌, ⊤, ℕ, Bool, ◌+◌, ◌%◌, ◌<◌, ◌≤◌, ◌==◌, if◌then◌else◌, List, [], ◌∷◌, fold, slice_range, length}
+use Rattle.base_core.specs.Block.{blank, block_bytes, granule_bytes}
 use Rattle.flash_core.specs.Told.{Told, put, settle}
 use Rattle.step_flash.specs.declared.step.Step.{Step}
 
@@ -51,3 +51,23 @@ IsInside room size s = IsInsideWith 0 room size s
 pub record StandsAt (file : List ℕ) (from : ℕ) (bytes : List ℕ) : Type 0 where
   pub fits : from + length bytes ≤ length file
   pub is : slice_range file from (from + length bytes) ≡ bytes
+
+-- So many bytes can be programmed from a place on, on a flash that tells so: whole granules, one at least, which are erased.
+pub record TakesProgram (t : Told) (at n : ℕ) : Type 0 where
+  pub place : at % granule_bytes ≡ 0
+  pub granules : n % granule_bytes ≡ 0
+  pub some : 1 ≤ n
+  pub erased : slice_range t.now at (at + n) ≡ blank n
+
+-- A step can be done on a flash that tells so: an erase takes a block; a program or a copy takes whole granules, one at least, which
+-- are erased; a barrier tells nothing.
+pub record IsDoable (t : Told) (s : Step) : Type 0 where
+  pub block : s.kind ≡ 1 → (s.at % block_bytes ≡ 0) × (s.from ≡ 0)
+  pub granules : (s.kind ≡ 2) ⊎ (s.kind ≡ 4) → (s.at % granule_bytes ≡ 0) × (s.length % granule_bytes ≡ 0) × (1 ≤ s.length)
+  pub erased : (s.kind ≡ 2) ⊎ (s.kind ≡ 4) → slice_range t.now s.at (s.at + s.length) ≡ blank s.length
+  pub barrier : s.kind ≡ 3 → (s.at ≡ 0) × (s.length ≡ 0) × (s.from ≡ 0)
+
+-- each of the steps can be done when its turn comes
+abbrev pub AreDoable : List ℕ → List ℕ → Told → List Step → Type 0
+AreDoable file room t [] = ⊤
+AreDoable file room t (s ∷ ss) = IsDoable t s × AreDoable file room (run_step file room t s) ss
