@@ -5,7 +5,7 @@ ghost use Rattle.base_core.specs.Block.{blank, block_bytes, fewest_blocks, most_
 ghost use Rattle.flash_core.specs.Told.{Told, IsSound};
 ghost use Rattle.flash_core.specs.Counts.{lowered};
 ghost use Rattle.step_flash.specs.Guard.{start_with};
-ghost use Rattle.step_flash.specs.Steps.{IsInsideWith, run_step, run_with, source_of};
+ghost use Rattle.step_flash.specs.Steps.{AreDoable, AreDoable-prop, IsInsideWith, run_step, run_with, source_of};
 
 use crate::lent_file::LentFile;
 use crate::overlay::overlay;
@@ -37,6 +37,8 @@ pub(crate) struct StepDevice<'a> {
     ghost sizes: { (fewest_blocks ≤ blocks) × (blocks ≤ most_blocks) },
     ghost size: { length image.now ≡ block_bytes * blocks },
     ghost inside: { All (IsInsideWith (length file.bytes.now) (length room.items) (block_bytes * blocks)) steps.items },
+    ghost doable: { AreDoable file.bytes.now room.items (start_with image.now file.bytes.now) steps.items }
+        by { AreDoable-prop file.bytes.now room.items (start_with image.now file.bytes.now) steps.items },
     ghost idle: { IsTrue on → IsTrue (is_none stopped) },
     ghost ahead: { ForSome arming (λ armed. 1 ≤ armed.n) },
     ghost sound: { IsSound blocks true
@@ -166,6 +168,8 @@ impl<'a> StepDevice<'a> {
         ensures noted { IsTrue (is_live self.entry) → NotedBy self.entry result }
         ensures inside { All (IsInsideWith (length (package_of self.entry)) (length result.room.items)
             (block_bytes * block_count self.entry)) result.steps.items }
+        ensures doable { AreDoable (package_of self.entry) result.room.items
+            (start_with (image_of self.entry) (package_of self.entry)) result.steps.items }
     {
         StepParts {
             steps: self.steps,

@@ -4,7 +4,7 @@ ghost use Rattle.base_core.specs.Block.{block_bytes};
 ghost use Rattle.step_flash.specs.Flash.{NotedBy, arming_of, block_count, counts_of, image_of, is_live, is_on};
 ghost use Rattle.step_flash.specs.Flash.{flash_sizes, flash_sound, flash_ahead, package_of, told_of};
 ghost use Rattle.step_flash.specs.Guard.{start, start_with};
-ghost use Rattle.step_flash.specs.Steps.{IsInsideWith};
+ghost use Rattle.step_flash.specs.Steps.{AreDoable, IsInsideWith};
 ghost use Rattle.step_flash.specs.Unmade.{IsUnmade};
 
 use crate::device::{StepDevice, StepParts};
@@ -88,6 +88,9 @@ impl<'a> StepFlash<'a> {
         ensures noted { IsTrue (is_live self.entry) → NotedBy self.entry result }
         ensures inside { All (IsInsideWith (length (package_of self.entry)) (length result.room.items)
             (block_bytes * block_count self.entry)) result.steps.items }
+        // Each step can be done when its turn comes.
+        ensures doable { AreDoable (package_of self.entry) result.room.items
+            (start_with (image_of self.entry) (package_of self.entry)) result.steps.items }
     {
         Box::into_inner(self.device).into_parts()
     }

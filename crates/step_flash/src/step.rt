@@ -1,8 +1,8 @@
 //! Steps, and the noting of one.
-ghost use Rattle.std.specs.Prelude.{◌≡◌, ℕ, List, ◌+◌, ◌<◌, ◌≤◌, All, length, IsTrue, IsFalse};
+ghost use Rattle.std.specs.Prelude.{◌≡◌, ℕ, List, ◌+◌, ◌%◌, ◌<◌, ◌≤◌, All, length, IsTrue, IsFalse};
 ghost use Rattle.base_core.specs.Block.{blank, block_bytes};
 ghost use Rattle.flash_core.specs.Told.{Told, put, settle};
-ghost use Rattle.step_flash.specs.Steps.{IsInsideWith, StandsAt, run_with};
+ghost use Rattle.step_flash.specs.Steps.{AreDoable, IsInsideWith, StandsAt, TakesProgram, run_with};
 
 use crate::lent_file::LentFile;
 use base_core::BLOCK_BYTES;
@@ -40,6 +40,8 @@ pub(crate) fn note_erase(steps: &mut Vec<Step>, most: usize, at: u32) -> bool
         → run_with file room t steps.new.items ≡ put at (blank block_bytes) (run_with file room t steps.old.items) }
     ensures inside { IsTrue result → (file room size : ℕ) → at + block_bytes ≤ size
         → All (IsInsideWith file room size) steps.old.items → All (IsInsideWith file room size) steps.new.items }
+    ensures doable { IsTrue result → (t : Told) → (file room : List ℕ) → at % block_bytes ≡ 0
+        → AreDoable file room t steps.old.items → AreDoable file room t steps.new.items }
     ensures same { IsFalse result → steps.new.items ≡ steps.old.items }
 {
     if steps.len() >= most {
@@ -62,6 +64,9 @@ fn note_copy(steps: &mut Vec<Step>, most: usize, at: u32, from: u32, bytes: &[u8
     ensures inside { IsTrue result → (file room size : ℕ) → at + length bytes.now ≤ size → 0 < length bytes.now
         → from + length bytes.now ≤ file
         → All (IsInsideWith file room size) steps.old.items → All (IsInsideWith file room size) steps.new.items }
+    ensures doable { IsTrue result → (t : Told) → (file room : List ℕ)
+        → TakesProgram (run_with file room t steps.old.items) at (length bytes.now)
+        → AreDoable file room t steps.old.items → AreDoable file room t steps.new.items }
     ensures same { IsFalse result → steps.new.items ≡ steps.old.items }
 {
     if steps.len() >= most {
@@ -88,6 +93,10 @@ fn note_bytes(steps: &mut Vec<Step>, room: &mut Vec<u8>, most: usize, at: u32, b
     ensures inside { IsTrue result → (file size : ℕ) → at + length bytes.now ≤ size
         → All (IsInsideWith file (length room.old.items) size) steps.old.items
         → All (IsInsideWith file (length room.new.items) size) steps.new.items }
+    ensures doable { IsTrue result → (t : Told) → (file : List ℕ) → (size : ℕ)
+        → All (IsInsideWith (length file) (length room.old.items) size) steps.old.items
+        → TakesProgram (run_with file room.old.items t steps.old.items) at (length bytes.now)
+        → AreDoable file room.old.items t steps.old.items → AreDoable file room.new.items t steps.new.items }
     ensures same { IsFalse result → (steps.new.items ≡ steps.old.items) × (room.new.items ≡ room.old.items) }
 {
     if steps.len() >= most {
@@ -129,6 +138,11 @@ pub(crate) fn note_program(
     ensures inside { IsTrue result → (size : ℕ) → at + length bytes.now ≤ size → 0 < length bytes.now
         → All (IsInsideWith (length file.old.bytes.now) (length room.old.items) size) steps.old.items
         → All (IsInsideWith (length file.old.bytes.now) (length room.new.items) size) steps.new.items }
+    ensures doable { IsTrue result → (t : Told) → (size : ℕ)
+        → All (IsInsideWith (length file.old.bytes.now) (length room.old.items) size) steps.old.items
+        → TakesProgram (run_with file.old.bytes.now room.old.items t steps.old.items) at (length bytes.now)
+        → AreDoable file.old.bytes.now room.old.items t steps.old.items
+        → AreDoable file.old.bytes.now room.new.items t steps.new.items }
     ensures same { IsFalse result → (steps.new.items ≡ steps.old.items) × (room.new.items ≡ room.old.items) }
     ensures file { file.new.bytes.now ≡ file.old.bytes.now }
 {
@@ -145,6 +159,8 @@ pub(crate) fn note_barrier(steps: &mut Vec<Step>, most: usize) -> bool
         → run_with file room t steps.new.items ≡ settle (run_with file room t steps.old.items) }
     ensures inside { IsTrue result → (file room size : ℕ)
         → All (IsInsideWith file room size) steps.old.items → All (IsInsideWith file room size) steps.new.items }
+    ensures doable { IsTrue result → (t : Told) → (file room : List ℕ)
+        → AreDoable file room t steps.old.items → AreDoable file room t steps.new.items }
     ensures same { IsFalse result → steps.new.items ≡ steps.old.items }
 {
     if steps.len() >= most {

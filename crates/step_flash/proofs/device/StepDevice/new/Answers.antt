@@ -2,7 +2,7 @@ use Rattle.std.proofs.Common.{arith, rules, ap, sym, subst, ◌*◌, ◌∙◌, 
 use Rattle.base_core.specs.Block.{block_bytes}
 use Rattle.flash_core.specs.Told.{Told, IsSound}
 use Rattle.step_flash.specs.Guard.{guard_with, start_with}
-use Rattle.step_flash.specs.Steps.{run_with}
+use Rattle.step_flash.specs.Steps.{AreDoable, run_with}
 use Rattle.step_flash.specs.Stopped.{under_as}
 use Rattle.step_flash.specs.declared.step.Step.{Step}
 use Rattle.step_flash.proofs.Calls.{start_idle}
@@ -25,6 +25,7 @@ invariant_of-result c =
       sizes = search rules;
       size = fits;
       inside = λ k d h. absurd (grind (arith, h, c.new-2.ensures.items));
+      doable = subst (AreDoable c.new.result.bytes.now c.new-3.result.items begun) (sym c.new-2.ensures.items) tt;
       idle = λ on. search rules;
       ahead = λ x e. absurd (cc);
       sound = subst (λ t. IsSound blocks true t) (sym none) (sound_fresh blocks (guard_with image c.new.result.bytes.now) image fits);
