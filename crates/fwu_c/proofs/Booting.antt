@@ -14,7 +14,7 @@ use Rattle.step_flash.specs.declared.step.Step.{Step}
 use Rattle.step_flash.specs.Flash.{NotedBy, block_count, counts_of, flash_sizes, told_of, image_of, package_of}
 use Rattle.step_flash.specs.Guard.{guard_with, start, start_with}
 use Rattle.step_flash.specs.Stopped.{under_as}
-use Rattle.step_flash.specs.Steps.{run_with}
+use Rattle.step_flash.specs.Steps.{AreDoable, run_with}
 use Rattle.step_flash.proofs.Causes.{never_lost}
 use Rattle.step_flash.proofs.Guards.{told_is}
 use Rattle.fwu_c.specs.declared.report.Report.{Report}
@@ -102,6 +102,7 @@ has_flash_size image d size = record { blocks = block_count d; fewest = (flash_s
 pub record IsOver (image file : List ℕ) (d : StepFlash) (r : Report) (steps : List Step) (room : List ℕ) : Type 0 where
   pub left : told_of d ≡ under_as (told_of d).under (run_with file (take r.bytes room) (start_with image file) (take r.steps steps))
   pub within : IsWithinWith (length file) (length image) r steps room
+  pub doable : AreDoable file (take r.bytes room) (start_with image file) (take r.steps steps)
 
 pub over : (image file : List ℕ) (first d : StepFlash) (told r : Report) (steps : List Step) (room : List ℕ)
     → told_of first ≡ start_with image file → length image ≡ block_bytes * block_count first → block_count d ≡ block_count first
@@ -118,6 +119,9 @@ over image file first d told r steps room made size same_size guard hands =
       within =
           subst (λ (f : List ℕ). IsWithinWith (length f) (length image) r steps room) both.1
           (subst (λ n. IsWithinWith (length (package_of d)) n r steps room) whole hands.within);
+      doable =
+          subst (λ (f : List ℕ). AreDoable f (take r.bytes room) (start_with image f) (take r.steps steps)) both.1
+          (subst (λ (i : List ℕ). AreDoable (package_of d) (take r.bytes room) (start_with i (package_of d)) (take r.steps steps)) both.0 hands.doable);
     }
 
 pub boots_by : (image : List ℕ) (first d : StepFlash) (e : Ended) (number : ℕ) (told r : Report) (steps : List Step) (room : List ℕ)
@@ -133,6 +137,7 @@ boots_by image first d e number told r steps room made size same_size ends hands
       ends = subst (λ (x : Told). BootEnds (λ m. passes_any m) x e (told_of d)) made ends;
       left = o.left;
       within = o.within;
+      doable = o.doable;
       reports = end_same e told r hands.same reports;
     }
 

@@ -242,6 +242,7 @@ calls_by image bank c first d e number told r steps room made size same_size gua
       ends = ends;
       left = o.left;
       within = o.within;
+      doable = o.doable;
       reports = reports;
     }
 

@@ -23,7 +23,7 @@ use Rattle.step_flash.specs.declared.flash.StepFlash.{StepFlash}
 use Rattle.step_flash.specs.Flash.{block_count, told_of}
 use Rattle.step_flash.specs.Guard.{start, start_with}
 use Rattle.step_flash.specs.Stopped.{under_as}
-use Rattle.step_flash.specs.Steps.{IsInsideWith, run_with}
+use Rattle.step_flash.specs.Steps.{AreDoable, IsInsideWith, run_with}
 use Rattle.fwu_c.specs.declared.report.Report.{Report}
 use Rattle.fwu_c.specs.Codes.{end_code}
 use Rattle.fwu_c.specs.Handed.{HandsOver, HasFlashSize, IsDeviceEnd, TellsSteps, is_idle, starts_none}
@@ -173,6 +173,7 @@ updates_by image file request first d e number told r steps room made size same_
       ends = ends;
       left = o.left;
       within = o.within;
+      doable = o.doable;
       reports = reports;
     }
 
@@ -227,6 +228,7 @@ denied_by image file request r steps room trial none empty =
         bytes_fit = omega (arith, empty);
         inside = subst (λ (ss : List Step). All (IsInsideWith (length file) r.bytes (length image)) ss) (sym no_steps) (λ k d lt. absurd (omega (arith, lt)));
       };
+      doable = subst (λ (ss : List Step). AreDoable file (take r.bytes room) (start_with image file) ss) (sym no_steps) tt;
       reports = (none, empty);
     }
 

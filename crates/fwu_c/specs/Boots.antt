@@ -1,12 +1,12 @@
 -- What C is told of a boot.
-use Rattle.std.specs.Prelude.{◌≡◌, ℕ, List, length, take}
+use Rattle.std.specs.Prelude.{◌≡◌, ℕ, List, [], length, take}
 use Rattle.flash_core.specs.Told.{Told}
 use Rattle.fwu_formats.specs.Digests.{passes_any}
 use Rattle.early_boot.specs.Ends.{Ended}
 use Rattle.early_boot.specs.EndsBy.{BootEnds}
 use Rattle.step_flash.specs.declared.step.Step.{Step}
 use Rattle.step_flash.specs.Guard.{start}
-use Rattle.step_flash.specs.Steps.{run}
+use Rattle.step_flash.specs.Steps.{AreDoable, run}
 use Rattle.fwu_c.specs.Codes.{end_code}
 use Rattle.fwu_c.specs.Handed.{IsWithin}
 use Rattle.fwu_c.specs.Reports.{ReportsEnd}
@@ -22,4 +22,6 @@ pub record BootsBy (image : List ℕ) (number : ℕ) (r : Report) (steps : List 
   pub left : t ≡ record (run (take r.bytes room) (start image) (take r.steps steps)) { under = t.under }
   -- each step lies within the flash, and its bytes within those of the room; none is a copy
   pub within : IsWithin (length image) r steps room
+  -- an erase takes a block; a program or a copy goes over whole granules, which are erased when its turn comes
+  pub doable : AreDoable [] (take r.bytes room) (start image) (take r.steps steps)
   pub reports : ReportsEnd end r

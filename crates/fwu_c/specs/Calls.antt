@@ -1,5 +1,5 @@
 -- What C is told of one call of the agent, in the session behind a boot of a bank.
-use Rattle.std.specs.Prelude.{◌≡◌, ◌≢◌, ℕ, ◌++◌, Bool, List, length, take, None, Some, Result, Ok, Err, OnOk, IsTrue, ⊤}
+use Rattle.std.specs.Prelude.{◌≡◌, ◌≢◌, ℕ, ◌++◌, Bool, List, [], length, take, None, Some, Result, Ok, Err, OnOk, IsTrue, ⊤}
 use Rattle.flash_core.specs.Told.{Told}
 use Rattle.flash_core.specs.May.{Guards}
 use Rattle.flash_core.specs.declared.flash.FlashStop.{FlashStop}
@@ -27,7 +27,7 @@ use Rattle.agent_machine.specs.declared.stop.Stop.TheVariants as stop
 use Rattle.agent_machine.specs.Meets.{IsRefused, flash_result}
 use Rattle.step_flash.specs.declared.step.Step.{Step}
 use Rattle.step_flash.specs.Guard.{start}
-use Rattle.step_flash.specs.Steps.{run}
+use Rattle.step_flash.specs.Steps.{AreDoable, run}
 use Rattle.fwu_c.specs.Agents.{BeginsWith}
 use Rattle.fwu_c.specs.Codes.{fault_code}
 use Rattle.fwu_c.specs.Handed.{IsWithin}
@@ -190,6 +190,8 @@ pub record CallsBy (image : List ℕ) (bank : ℕ) (c : Call) (number : ℕ) (r 
   pub left : t ≡ record (run (take r.bytes room) (start image) (take r.steps steps)) { under = t.under }
   -- each step lies within the flash, and its bytes within those of the room; none is a copy
   pub within : IsWithin (length image) r steps room
+  -- an erase takes a block; a program or a copy goes over whole granules, which are erased when its turn comes
+  pub doable : AreDoable [] (take r.bytes room) (start image) (take r.steps steps)
   pub reports : ReportsCall end r
 
 -- 6 and 7 tell nothing

@@ -9,7 +9,7 @@ use Rattle.step_flash.specs.declared.flash.Unmade.TheVariants.{NoFlash, NoMemory
 use Rattle.step_flash.specs.Flash.{block_count, image_of, package_of, told_of}
 use Rattle.step_flash.specs.Guard.{start_with}
 use Rattle.step_flash.specs.Stopped.{under_as}
-use Rattle.step_flash.specs.Steps.{IsInsideWith, run_with}
+use Rattle.step_flash.specs.Steps.{AreDoable, IsInsideWith, run_with}
 use Rattle.fwu_c.specs.declared.report.Report.{Report}
 
 -- nothing but the numbers of steps and of bytes changed
@@ -34,6 +34,8 @@ pub record HandsOver (d : StepFlash) (told r : Report) (steps : List Step) (room
       ≡ under_as (told_of d).under
       (run_with (package_of d) (take r.bytes room) (start_with (image_of d) (package_of d)) (take r.steps steps))
   pub within : IsWithinWith (length (package_of d)) (block_bytes * block_count d) r steps room
+  -- each step can be done when its turn comes
+  pub doable : AreDoable (package_of d) (take r.bytes room) (start_with (image_of d) (package_of d)) (take r.steps steps)
   pub same : SameBut told r
 
 -- there is no layout or no metadata, or no boot started the bank

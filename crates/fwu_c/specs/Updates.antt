@@ -11,7 +11,7 @@ use Rattle.early_boot.specs.EndsBy.{BootEnds}
 use Rattle.agent_machine.specs.Moment.{Moment}
 use Rattle.step_flash.specs.declared.step.Step.{Step}
 use Rattle.step_flash.specs.Guard.{start_with}
-use Rattle.step_flash.specs.Steps.{run_with}
+use Rattle.step_flash.specs.Steps.{AreDoable, run_with}
 use Rattle.fwu_c.specs.Agents.{BeginsWith}
 use Rattle.fwu_c.specs.Codes.{end_code}
 use Rattle.fwu_c.specs.Handed.{IsWithinWith}
@@ -96,4 +96,6 @@ pub record UpdatesBy (image file : List ℕ) (request number : ℕ) (r : Report)
   pub left : t ≡ record (run_with file (take r.bytes room) (start_with image file) (take r.steps steps)) { under = t.under }
   -- each step lies within the flash, and its bytes within those of the room, or at a copy within the package
   pub within : IsWithinWith (length file) (length image) r steps room
+  -- an erase takes a block; a program or a copy goes over whole granules, which are erased when its turn comes
+  pub doable : AreDoable file (take r.bytes room) (start_with image file) (take r.steps steps)
   pub reports : ReportsUpdate end r

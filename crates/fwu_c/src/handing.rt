@@ -1,8 +1,9 @@
 //! The steps of a device, handed over to C.
 ghost use Rattle.std.specs.Prelude.{◌≡◌, ◌≢◌, ◌⊎◌, ◌*◌, All, length, IfSome, IsTrue};
 ghost use Rattle.base_core.specs.Block.{block_bytes};
-ghost use Rattle.step_flash.specs.Flash.{NotedBy, block_count, package_of, told_of};
-ghost use Rattle.step_flash.specs.Steps.{IsInsideWith};
+ghost use Rattle.step_flash.specs.Flash.{NotedBy, block_count, image_of, package_of, told_of};
+ghost use Rattle.step_flash.specs.Guard.{start_with};
+ghost use Rattle.step_flash.specs.Steps.{AreDoable, IsInsideWith};
 ghost use Rattle.fwu_c.specs.Handed.{HandsOver, IsDeviceEnd, IsStart, IsUntouched, KeepsReport, is_idle, unmade_code};
 
 use crate::report::Report;
@@ -34,6 +35,9 @@ fn parts_of(flash: StepFlash<'_>, number: u32) -> Option<StepParts>
     ensures noted { IfSome result (λ parts. NotedBy flash.entry parts) }
     ensures inside { IfSome result (λ parts.
         All (IsInsideWith (length (package_of flash.entry)) (length parts.room.items) (block_bytes * block_count flash.entry))
+        parts.steps.items) }
+    ensures doable { IfSome result (λ parts.
+        AreDoable (package_of flash.entry) parts.room.items (start_with (image_of flash.entry) (package_of flash.entry))
         parts.steps.items) }
     ensures none { IfSome result (λ parts. IsTrue (is_idle number) →
         (length parts.steps.items ≡ 0) × (length parts.room.items ≡ 0)) }
