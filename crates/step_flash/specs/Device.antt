@@ -28,6 +28,10 @@ image_of d = d.image.now
 abbrev pub package_of : StepDevice → List ℕ
 package_of d = d.file.bytes.now
 
+-- how many steps are noted at most
+abbrev pub most_of : StepDevice → ℕ
+most_of d = d.most
+
 -- the image with the steps done
 abbrev pub after_steps : StepDevice → Told
 after_steps d = run_with d.file.bytes.now d.room.items (start_with d.image.now d.file.bytes.now) d.steps.items

@@ -26,6 +26,10 @@ image_of d = device.image_of d.device.value
 abbrev pub package_of : StepFlash → List ℕ
 package_of d = device.package_of d.device.value
 
+-- how many steps are noted at most
+abbrev pub most_of : StepFlash → ℕ
+most_of d = device.most_of d.device.value
+
 -- the image with the steps done, beside the operation that was stopped
 abbrev pub told_of : StepFlash → Told
 told_of d = device.told_of d.device.value

@@ -39,6 +39,7 @@ pub(crate) struct StepDevice<'a> {
     ghost inside: { All (IsInsideWith (length file.bytes.now) (length room.items) (block_bytes * blocks)) steps.items },
     ghost doable: { AreDoable file.bytes.now room.items (start_with image.now file.bytes.now) steps.items }
         by { AreDoable-prop file.bytes.now room.items (start_with image.now file.bytes.now) steps.items },
+    ghost few: { length steps.items ≤ most },
     ghost idle: { IsTrue on → IsTrue (is_none stopped) },
     ghost ahead: { ForSome arming (λ armed. 1 ≤ armed.n) },
     ghost sound: { IsSound blocks true
@@ -120,7 +121,7 @@ impl<'a> StepDevice<'a> {
     ghost use Rattle.flash_core.specs.Counts.{Spends, IsDue};
     ghost use Rattle.flash_core.specs.declared.flash.FlashStop.TheVariants.{Failed};
     ghost use Rattle.step_flash.specs.Device.{is_on, is_live, block_count, image_of, package_of, after_steps, told_of};
-    ghost use Rattle.step_flash.specs.Device.{arming_of, counts_of, NotedBy};
+    ghost use Rattle.step_flash.specs.Device.{arming_of, counts_of, most_of, NotedBy};
 
     /// The device over an image, with a package and the places that are tried in it.
     pub(crate) fn new(
@@ -136,6 +137,7 @@ impl<'a> StepDevice<'a> {
         ensures image { IfSome result (λ d. image_of d ≡ image.now) }
         ensures file { IfSome result (λ d. package_of d ≡ file.now) }
         ensures live { IfSome result (λ d. is_live d ≡ true) }
+        ensures most { IfSome result (λ d. most_of d ≡ most) }
         ensures size { IfSome result (λ d. length image.now ≡ block_bytes * block_count d) }
         ensures none { IfNone result ((b : ℕ) → fewest_blocks ≤ b → b ≤ most_blocks → length image.now ≡ block_bytes * b → ⊥) }
     {
@@ -170,6 +172,7 @@ impl<'a> StepDevice<'a> {
             (block_bytes * block_count self.entry)) result.steps.items }
         ensures doable { AreDoable (package_of self.entry) result.room.items
             (start_with (image_of self.entry) (package_of self.entry)) result.steps.items }
+        ensures few { length result.steps.items ≤ most_of self.entry }
     {
         StepParts {
             steps: self.steps,

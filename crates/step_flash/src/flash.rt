@@ -1,8 +1,8 @@
 //! The flash, as its callers hold it.
-ghost use Rattle.std.specs.Prelude.{◌≡◌, None, true, ◌*◌, All, IfErr, IfOk, IsTrue, length};
+ghost use Rattle.std.specs.Prelude.{◌≡◌, ◌≤◌, None, true, ◌*◌, All, IfErr, IfOk, IsTrue, length};
 ghost use Rattle.base_core.specs.Block.{block_bytes};
 ghost use Rattle.step_flash.specs.Flash.{NotedBy, arming_of, block_count, counts_of, image_of, is_live, is_on};
-ghost use Rattle.step_flash.specs.Flash.{flash_sizes, flash_sound, flash_ahead, package_of, told_of};
+ghost use Rattle.step_flash.specs.Flash.{flash_sizes, flash_sound, flash_ahead, most_of, package_of, told_of};
 ghost use Rattle.step_flash.specs.Guard.{start, start_with};
 ghost use Rattle.step_flash.specs.Steps.{AreDoable, IsInsideWith};
 ghost use Rattle.step_flash.specs.Unmade.{IsUnmade};
@@ -41,6 +41,7 @@ impl<'a> StepFlash<'a> {
         ensures unarmed { IfOk result (λ d. arming_of d ≡ None) }
         ensures image { IfOk result (λ d. image_of d ≡ image.now) }
         ensures live { IfOk result (λ d. is_live d ≡ true) }
+        ensures most { IfOk result (λ d. most_of d ≡ most) }
         ensures size { IfOk result (λ d. length image.now ≡ block_bytes * block_count d) }
         ensures unmade { IfErr result (λ why. IsUnmade (length image.now) why) }
     {
@@ -64,6 +65,7 @@ impl<'a> StepFlash<'a> {
         ensures image { IfOk result (λ d. image_of d ≡ image.now) }
         ensures file { IfOk result (λ d. package_of d ≡ file.now) }
         ensures live { IfOk result (λ d. is_live d ≡ true) }
+        ensures most { IfOk result (λ d. most_of d ≡ most) }
         ensures size { IfOk result (λ d. length image.now ≡ block_bytes * block_count d) }
         ensures unmade { IfErr result (λ why. IsUnmade (length image.now) why) }
     {
@@ -91,6 +93,7 @@ impl<'a> StepFlash<'a> {
         // Each step can be done when its turn comes.
         ensures doable { AreDoable (package_of self.entry) result.room.items
             (start_with (image_of self.entry) (package_of self.entry)) result.steps.items }
+        ensures few { length result.steps.items ≤ most_of self.entry }
     {
         Box::into_inner(self.device).into_parts()
     }

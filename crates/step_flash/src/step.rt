@@ -42,6 +42,7 @@ pub(crate) fn note_erase(steps: &mut Vec<Step>, most: usize, at: u32) -> bool
         → All (IsInsideWith file room size) steps.old.items → All (IsInsideWith file room size) steps.new.items }
     ensures doable { IsTrue result → (t : Told) → (file room : List ℕ) → at % block_bytes ≡ 0
         → AreDoable file room t steps.old.items → AreDoable file room t steps.new.items }
+    ensures few { length steps.old.items ≤ most → length steps.new.items ≤ most }
     ensures same { IsFalse result → steps.new.items ≡ steps.old.items }
 {
     if steps.len() >= most {
@@ -67,6 +68,7 @@ fn note_copy(steps: &mut Vec<Step>, most: usize, at: u32, from: u32, bytes: &[u8
     ensures doable { IsTrue result → (t : Told) → (file room : List ℕ)
         → TakesProgram (run_with file room t steps.old.items) at (length bytes.now)
         → AreDoable file room t steps.old.items → AreDoable file room t steps.new.items }
+    ensures few { length steps.old.items ≤ most → length steps.new.items ≤ most }
     ensures same { IsFalse result → steps.new.items ≡ steps.old.items }
 {
     if steps.len() >= most {
@@ -97,6 +99,7 @@ fn note_bytes(steps: &mut Vec<Step>, room: &mut Vec<u8>, most: usize, at: u32, b
         → All (IsInsideWith (length file) (length room.old.items) size) steps.old.items
         → TakesProgram (run_with file room.old.items t steps.old.items) at (length bytes.now)
         → AreDoable file room.old.items t steps.old.items → AreDoable file room.new.items t steps.new.items }
+    ensures few { length steps.old.items ≤ most → length steps.new.items ≤ most }
     ensures same { IsFalse result → (steps.new.items ≡ steps.old.items) × (room.new.items ≡ room.old.items) }
 {
     if steps.len() >= most {
@@ -143,6 +146,7 @@ pub(crate) fn note_program(
         → TakesProgram (run_with file.old.bytes.now room.old.items t steps.old.items) at (length bytes.now)
         → AreDoable file.old.bytes.now room.old.items t steps.old.items
         → AreDoable file.old.bytes.now room.new.items t steps.new.items }
+    ensures few { length steps.old.items ≤ most → length steps.new.items ≤ most }
     ensures same { IsFalse result → (steps.new.items ≡ steps.old.items) × (room.new.items ≡ room.old.items) }
     ensures file { file.new.bytes.now ≡ file.old.bytes.now }
 {
@@ -161,6 +165,7 @@ pub(crate) fn note_barrier(steps: &mut Vec<Step>, most: usize) -> bool
         → All (IsInsideWith file room size) steps.old.items → All (IsInsideWith file room size) steps.new.items }
     ensures doable { IsTrue result → (t : Told) → (file room : List ℕ)
         → AreDoable file room t steps.old.items → AreDoable file room t steps.new.items }
+    ensures few { length steps.old.items ≤ most → length steps.new.items ≤ most }
     ensures same { IsFalse result → steps.new.items ≡ steps.old.items }
 {
     if steps.len() >= most {

@@ -26,6 +26,7 @@ invariant_of-result c =
       size = fits;
       inside = λ k d h. absurd (grind (arith, h, c.new-2.ensures.items));
       doable = subst (AreDoable c.new.result.bytes.now c.new-3.result.items begun) (sym c.new-2.ensures.items) tt;
+      few = grind (arith, c.new-2.ensures.items);
       idle = λ on. search rules;
       ahead = λ x e. absurd (cc);
       sound = subst (λ t. IsSound blocks true t) (sym none) (sound_fresh blocks (guard_with image c.new.result.bytes.now) image fits);

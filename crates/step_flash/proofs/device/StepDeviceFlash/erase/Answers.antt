@@ -19,6 +19,7 @@ invariant_of-self-2 c =
       size = s.size;
       inside = c.note_erase.ensures.inside c.if-not-note_erase.false (length s.file.bytes.now) (length s.room.items) (block_bytes * s.blocks) (search rules) s.inside;
       doable = c.note_erase.ensures.doable c.if-not-note_erase.false (start_with s.image.now s.file.bytes.now) s.file.bytes.now s.room.items (search (rules, whole)) s.doable;
+      few = c.note_erase.ensures.few s.few;
       idle = s.idle;
       ahead = subst (λ a. ForSome a (λ armed. 1 ≤ armed.n)) (sym c.lowered-self.ensures) (lowered_ahead s.arming s.ahead (c.is_ready.ensures.undue c.if-not-is_ready.false));
       sound = subst (λ t. IsSound s.blocks true t) (sym noted) (sound_put s.blocks _ (blank block_bytes) _ s.sound (omega (arith, fits, length-blank block_bytes)));

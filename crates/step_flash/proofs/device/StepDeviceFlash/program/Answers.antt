@@ -32,6 +32,7 @@ invariant_of-self-2 c =
       inside = subst (λ (f : List ℕ). All (IsInsideWith (length f) (length new.room.items) (block_bytes * s.blocks)) new.steps.items) (sym same) within;
       doable = subst (λ (f : List ℕ). AreDoable f new.room.items (start_with s.image.now f) new.steps.items) (sym same)
           (c.note_program.ensures.doable c.if-not-note_program.false (start_with s.image.now s.file.bytes.now) (block_bytes * s.blocks) s.inside takes s.doable);
+      few = c.note_program.ensures.few s.few;
       idle = s.idle;
       ahead = subst (λ a. ForSome a (λ armed. 1 ≤ armed.n)) (sym c.lowered-self.ensures) (lowered_ahead s.arming s.ahead (c.is_ready.ensures.undue c.if-not-is_ready.false));
       sound = subst (λ (f : List ℕ). IsSound s.blocks true (run_with f new.room.items (start_with s.image.now f) new.steps.items)) (sym same)
