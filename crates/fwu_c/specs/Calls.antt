@@ -161,7 +161,8 @@ called_code (not_taken e) = take_up_code e
 called_code (called b result) = call_code result
 
 -- the bank as the definitions say, and from what that leaves the call
-pub record MakesCall (image : List ℕ) (bank : ℕ) (c : Call) (b : Started) (result : Result (Unit {0}) Stop) (t : Told) : Type 0 where
+pub record MakesCall (image : List ℕ) (bank : ℕ) (c : Call) (b : Started) (result : Result (Unit {0}) Stop)
+    (t : Told) : Type 0 where
   pub mid : Told
   pub takes : TakeUpEnds (λ m. passes_any m) bank (start image) (taken b) mid
   -- also by the numbers that are told, and whether it is the fallback
@@ -169,7 +170,8 @@ pub record MakesCall (image : List ℕ) (bank : ℕ) (c : Call) (b : Started) (r
   pub calls : CallsFrom c b result mid t
   -- both, from a calm image: each loss leaves the state after a prefix of all the moves
   pub does : (E : Setting) (s : State) → E.passes ≡ (λ m. passes_any m) → IsCalm E (start image) s → Guards 1 7 (start image)
-      → Does (flash_result result) E s (migrate_moves s ++ (answer E (after s (migrate_moves s)) (On bank None no_handles) c).moves) t
+      → Does (flash_result result) E s
+      (migrate_moves s ++ (answer E (after s (migrate_moves s)) (On bank None no_handles) c).moves) t
 
 abbrev pub CallEnds : List ℕ → ℕ → Call → Called → Told → Type 0
 CallEnds image bank c (not_taken e) t = IsNotTaken e × TakeUpEnds (λ m. passes_any m) bank (start image) e t
@@ -182,7 +184,8 @@ ReportsCall (called b result) r = ReportsStart b r
 
 -- From the image it makes the call as the definitions say. What the flash then tells is what the steps make of the image. At 5 an
 -- erase or a program beyond them may be under way.
-pub record CallsBy (image : List ℕ) (bank : ℕ) (c : Call) (number : ℕ) (r : Report) (steps : List Step) (room : List ℕ) : Type 0 where
+pub record CallsBy (image : List ℕ) (bank : ℕ) (c : Call) (number : ℕ) (r : Report) (steps : List Step)
+    (room : List ℕ) : Type 0 where
   pub end : Called
   pub number_is : number ≡ called_code end
   pub t : Told

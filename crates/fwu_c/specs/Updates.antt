@@ -86,8 +86,8 @@ ReportsUpdate on_trial r = (r.steps ≡ 0) × (r.bytes ≡ 0)
 ReportsUpdate (not_booted e) r = ReportsEnd e r
 ReportsUpdate (tried b n outcome) r = ReportsStart b r
 
--- From the image it updates as the definitions say. What the flash then tells is what the steps make of the image, with the bytes of
--- copies from the package. At 5 an erase or a program beyond them may be under way.
+-- From the image it updates as the definitions say. What the flash then tells is what the steps make of the image, with the bytes
+-- of copies from the package. At 5 an erase or a program beyond them may be under way.
 pub record UpdatesBy (image file : List ℕ) (request number : ℕ) (r : Report) (steps : List Step) (room : List ℕ) : Type 0 where
   pub end : Updated
   pub number_is : number ≡ update_code end

@@ -14,8 +14,8 @@ use step_flash::Step;
 /// that it told. No start is counted.
 ///
 /// 0: accepted, once the steps are done in their order. 1: block 0 is no layout. 2: neither replica is metadata. 5: there was no
-/// room for one more step. 6: these bytes are no flash. 7: memory, or room for the steps' bytes, is wanting. 16: the bank is not the
-/// active one. 20: no image has the type. 21: by what the flash shows no boot started the bank.
+/// room for one more step. 6: these bytes are no flash. 7: memory, or room for the steps' bytes, is wanting. 16: the bank is not
+/// the active one. 20: no image has the type. 21: by what the flash shows no boot started the bank.
 #[unsafe(no_mangle)]
 pub extern "C" fn fwu_accept(
     alloc: Global,
@@ -39,8 +39,8 @@ pub extern "C" fn fwu_accept(
 /// started: `bank` is the bank that it told. No start is counted.
 ///
 /// 0: selected, once the steps are done in their order. 1: block 0 is no layout. 2: neither replica is metadata. 5: there was no
-/// room for one more step. 6: these bytes are no flash. 7: memory, or room for the steps' bytes, is wanting. 16: there is nothing to
-/// go back from, or no bank that may be gone back to. 21: by what the flash shows no boot started the bank.
+/// room for one more step. 6: these bytes are no flash. 7: memory, or room for the steps' bytes, is wanting. 16: there is nothing
+/// to go back from, or no bank that may be gone back to. 21: by what the flash shows no boot started the bank.
 #[unsafe(no_mangle)]
 pub extern "C" fn fwu_previous(
     alloc: Global,

@@ -74,8 +74,8 @@ fn stop_number(stop: FlashStop) -> u32
     }
 }
 
-/// Takes up the bank that a boot started, keeps it in memory of its own, and reports it. Where it is refused, or the flash stops it,
-/// the number of that comes with the device. None where there is no memory for it.
+/// Takes up the bank that a boot started, keeps it in memory of its own, and reports it. Where it is refused, or the flash stops
+/// it, the number of that comes with the device. None where there is no memory for it.
 // kept apart, so that its frame is gone before the agent is made
 #[inline(never)]
 fn taken_up<'a>(

@@ -55,8 +55,8 @@ fn parts_of(flash: StepFlash<'_>, number: u32) -> Option<StepParts>
 }
 
 /// Hands the steps of a device over, with what is told beside them, and answers the number that it is given. It answers 7, and
-/// writes nothing, where there is no room for the steps or for their bytes, or where power was on again after a stop. It does so too
-/// at 5, where fewer steps were noted than there is room for: the device failed for want of memory then.
+/// writes nothing, where there is no room for the steps or for their bytes, or where power was on again after a stop. It does so
+/// too at 5, where fewer steps were noted than there is room for: the device failed for want of memory then.
 pub fn hand_over(
     flash: StepFlash<'_>,
     number: u32,

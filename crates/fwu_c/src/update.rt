@@ -23,9 +23,9 @@ use std::alloc::Global;
 use step_flash::{Step, StepFlash};
 use verify_core::AnyManifest;
 
-/// Installs a package, whose bytes lie in memory, on a flash that lies in memory. It tells the steps by which the flash becomes what
-/// the update makes of it: those of a boot, and behind them those of begin, of the images and of end (DEN0118). A copy has its bytes
-/// from the package. With `acceptance` 0 each image is accepted at once; with another number the package is on trial.
+/// Installs a package, whose bytes lie in memory, on a flash that lies in memory. It tells the steps by which the flash becomes
+/// what the update makes of it: those of a boot, and behind them those of begin, of the images and of end (DEN0118). A copy has its
+/// bytes from the package. With `acceptance` 0 each image is accepted at once; with another number the package is on trial.
 ///
 /// 0: installed, once the steps are done in their order. 1: block 0 is no layout. 2: neither replica is metadata. 3: neither bank
 /// may be started. 5: there was no room for one more step. 6: these bytes are no flash. 7: memory, or room for the steps' bytes, is
@@ -121,8 +121,8 @@ fn update(
     update_over(flash, block, file, acceptance, steps, room, report)
 }
 
-/// Boots, keeps the bank that is started in memory of its own, and reports the end. Where none is started the number of the end comes
-/// with the device. None where there is no memory for it.
+/// Boots, keeps the bank that is started in memory of its own, and reports the end. Where none is started the number of the end
+/// comes with the device. None where there is no memory for it.
 // kept apart, so that its frame is gone before the agent is made
 #[inline(never)]
 fn booted_up<'a>(

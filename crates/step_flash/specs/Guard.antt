@@ -2,10 +2,10 @@
 --
 -- A generic call as `boot` takes a device by value and gives one back. Its contract speaks of both by the ghost members of `Flash`
 -- alone. That the device which comes back still has the caller's image and package has to follow from a member that no call
--- changes. The guard is such a member: each call keeps it, and so does a power-on. So the guard of this device has blocks 1 to 7, as the
--- usual one, and behind these the package and the image. Each byte of these is the number of a block beyond the last that a flash
--- may have. One more such number stands between both. These numbers guard no block. Where two devices have the same guard, they
--- have the same image and the same package.
+-- changes. The guard is such a member: each call keeps it, and so does a power-on. So the guard of this device has blocks 1 to 7,
+-- as the usual one, and behind these the package and the image. Each byte of these is the number of a block beyond the last that a
+-- flash may have. One more such number stands between both. These numbers guard no block. Where two devices have the same guard,
+-- they have the same image and the same package.
 use Rattle.std.specs.Prelude.{ℕ, ◌+◌, ◌++◌, List, [], ◌∷◌, map}
 use Rattle.base_core.specs.Block.{most_blocks}
 use Rattle.flash_core.specs.Told.{Told, fresh}

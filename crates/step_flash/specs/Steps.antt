@@ -61,8 +61,8 @@ pub record TakesProgram (t : Told) (at n : ℕ) : Type 0 where
   pub some : 1 ≤ n
   pub erased : slice_range t.now at (at + n) ≡ blank n
 
--- A step can be done on a flash that tells so: an erase takes a block; a program or a copy takes whole granules, one at least, which
--- are erased; a barrier tells nothing.
+-- A step can be done on a flash that tells so: an erase takes a block; a program or a copy takes whole granules, one at least,
+-- which are erased; a barrier tells nothing.
 pub record IsDoable (t : Told) (s : Step) : Type 0 where
   pub block : s.kind ≡ 1 → (s.at % block_bytes ≡ 0) × (s.from ≡ 0)
   pub granules : (s.kind ≡ 2) ⊎ (s.kind ≡ 4) → (s.at % granule_bytes ≡ 0) × (s.length % granule_bytes ≡ 0) × (1 ≤ s.length)

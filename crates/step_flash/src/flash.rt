@@ -12,7 +12,7 @@ use flash_core::{Flash, FlashStop};
 use std::alloc::Global;
 
 /// A flash over an image in memory, which is never written. Its erases, programs and barriers are noted as steps, at most so many.
-/// A program whose bytes are found in a package beside the image is noted as a copy.
+/// A program whose bytes are found in a package beside the image may be noted as a copy.
 ///
 /// An erase, a program or a barrier fails where there is no room for one more step, or no memory for it. An erase or a program
 /// fails too where an armed loss of power is due, since a list of steps has no loss. Power goes then. Once it is on again, each
