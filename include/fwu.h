@@ -1,7 +1,7 @@
 /* libfwu.a: what a boot loader or an update agent in C calls. docs/FIRMWARE.md says how a board takes it up.
  *
  * Each function is written in Rattle (crates/fwu_c) and proved to meet its contract. Nothing compares the declarations below with
- * it: who changes one changes the other. What a number stands for is the same in each call.
+ * it: who changes one changes the other. What a number stands for is the same in fwu_show and in each call that tells steps.
  *
  * Every pointer is valid for its call and not null, also where its length is 0. What is written overlaps nothing else that is
  * passed. What is only read (const) is written by nobody meanwhile. The library keeps no pointer, and calls back only for memory
@@ -134,8 +134,8 @@ struct fwu_step {
     uint32_t from;
 };
 
-/* What a boot reports. `steps` and `bytes` are written at 0 to 5; of the others each says when. At 6 and 7 nothing is written: the
- * steps, the room and the report stay as they were. */
+/* What a boot reports. `steps` and `bytes` are written at 0 to 5 and 16 to 21; of the others each says when. At 6 and 7 nothing is
+ * written: the steps, the room and the report stay as they were. */
 struct fwu_report {
     uint32_t bank;                     /* at 0: the bank that is to be started */
     uint32_t version;                  /* at 0: the security version of its package */
@@ -249,7 +249,8 @@ struct fwu_shown {
 };
 
 /* What a flash that lies in memory shows, with the packages in its banks. Nothing is repaired, no step is told, and no start is
- * counted. `flash` has all its `length` bytes. The call takes a block of 4096 bytes from the work buffer (fwu_work).
+ * counted. `flash` has all its `length` bytes. The call takes a block of 4096 bytes from the work buffer (fwu_work), 160 for itself
+ * and 160 for each bank.
  *
  * 0: `shown` tells all but the fault. 1: block 0 is no layout, and `layout_fault` alone is written. 2: neither replica is metadata
  * of the layout. 6: these bytes are no flash. 7: the work buffer has no room. From 2 on nothing is written. */
@@ -261,7 +262,7 @@ FWU_ASSERT(sizeof(struct fwu_shown) == 160 && offsetof(struct fwu_shown, bank) =
 /* ---- memory: demo/c/work.c */
 
 /* Gives the library memory: `size` bytes, of any alignment, which are the caller's again when the next call has returned. To be
- * called before fwu_show and each call that tells steps. No boot that was measured took more than 17,120 bytes; what an update takes
+ * called before fwu_show and each call that tells steps. No boot that was measured took more than 17,280 bytes; what an update takes
  * is in docs/FIRMWARE.md. */
 void fwu_work(void *memory, size_t size);
 
