@@ -17,10 +17,11 @@ doable_more file room t (x ∷ ss) s all one = (all.0, doable_more file room (ru
 pub doable_kept : (file room more : List ℕ) (size : ℕ) (t : Told) (ss : List Step) → All (IsInsideWith (length file) (length room) size) ss
     → AreDoable file room t ss → AreDoable file (room ++ more) t ss
 doable_kept file room more size t [] all doable = tt
-doable_kept file room more size t (s ∷ ss) all doable =
-    (doable.0,
-    subst (λ (u : Told). AreDoable file (room ++ more) u ss) (sym (step_kept file room more size t s (all 0 s (omega arith))))
-    (doable_kept file room more size (run_step file room t s) ss (λ k d h. all (suc k) d (omega (arith, h))) doable.1))
+doable_kept file room more size t (s ∷ ss) all doable = (
+  doable.0,
+  subst (λ (u : Told). AreDoable file (room ++ more) u ss) (sym (step_kept file room more size t s (all 0 s (omega arith))))
+      (doable_kept file room more size (run_step file room t s) ss (λ k d h. all (suc k) d (omega (arith, h))) doable.1),
+)
 
 neither : (k : ℕ) → (k ≡ 2 → ⊥) → (k ≡ 4 → ⊥) → (k ≡ 2) ⊎ (k ≡ 4) → ⊥
 neither k two four (inl e) = two e

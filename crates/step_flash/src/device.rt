@@ -37,8 +37,7 @@ pub(crate) struct StepDevice<'a> {
     ghost sizes: { (fewest_blocks ≤ blocks) × (blocks ≤ most_blocks) },
     ghost size: { length image.now ≡ block_bytes * blocks },
     ghost inside: { All (IsInsideWith (length file.bytes.now) (length room.items) (block_bytes * blocks)) steps.items },
-    ghost doable: { AreDoable file.bytes.now room.items (start_with image.now file.bytes.now) steps.items }
-        by { AreDoable-prop file.bytes.now room.items (start_with image.now file.bytes.now) steps.items },
+    ghost doable: { AreDoable file.bytes.now room.items (start_with image.now file.bytes.now) steps.items } by { AreDoable-prop file.bytes.now room.items (start_with image.now file.bytes.now) steps.items },
     ghost few: { length steps.items ≤ most },
     ghost idle: { IsTrue on → IsTrue (is_none stopped) },
     ghost ahead: { ForSome arming (λ armed. 1 ≤ armed.n) },
