@@ -1,5 +1,5 @@
 -- What a write to a file that failed leaves of it.
-use Rattle.std.proofs.Common.{◌≡◌, ◌+◌, ℕ, true, List, [], ◌++◌, take, drop, min, length, Some, Ok, Err, sym, ◌∙◌, ap, arith}
+use Rattle.std.proofs.Common.{◌≡◌, ◌+◌, ℕ, Bool, true, List, [], ◌++◌, take, drop, min, length, Some, Ok, Err, sym, ◌∙◌, ap, subst, arith}
 use Rattle.std.proofs.lemmas.Bool.{false≢true}
 use Rattle.std.proofs.lemmas.List.{take_min, append-nil, take-append-drop}
 use Rattle.std.specs.Prelude.{Option, Result, is_err, ◌==◌, if◌then◌else◌}
@@ -7,8 +7,15 @@ use Rattle.base_core.specs.Bytes.{overwritten}
 use Rattle.flash_core.specs.declared.flash.Arming.{Arming}
 use Rattle.flash_core.specs.declared.flash.FlashStop.{FlashStop}
 use Rattle.flash_core.specs.declared.flash.FlashStop.TheVariants.{Lost, Failed}
-use Rattle.flash_devices.specs.ByteFiles.{written_over, Writes}
+use Rattle.flash_devices.specs.ByteFiles.{FailsWithin, written_over, Writes}
 use Rattle.flash_devices.specs.File.{to_write, LeavesFile}
+use Rattle.flash_devices.specs.Meters.{is_failed}
+
+-- a write failed as the file tells it
+pub failed_as_told : {T U E : Type 0} (result : Result T FlashStop) (write : Result U E) (told : Option Bool) (old : Option (List ℕ)) (at place : ℕ) (part whole : List ℕ)
+    → result ≡ Err Failed → is_err write ≡ true → place ≡ at → part ≡ whole → FailsWithin told old place (length part) (is_err write) → FailsWithin told old at (length whole) (is_failed result)
+failed_as_told result write told old at place part whole is failed there same within =
+    rw (← there, ← same, is) (subst (λ b. FailsWithin told old place (length part) b) failed within)
 
 -- a failed write leaves some of the first bytes that were to be written
 pub failed_write : {T U E : Type 0} (result : Result T FlashStop) (write : Result U E) (arming : Option Arming) (at place : ℕ) (bytes part : List ℕ) (old new after : Option (List ℕ))

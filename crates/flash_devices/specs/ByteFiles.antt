@@ -1,10 +1,16 @@
 -- What a file of bytes at places tells, and what a write leaves of it.
-use Rattle.std.specs.Prelude.{◌≡◌, ℕ, ◌+◌, ◌≤◌, Bool, List, Option, None, Result, Ok, Err, IfSome, length, take, slice_range, option_map}
+use Rattle.std.specs.Prelude.{◌≡◌, ℕ, ◌+◌, ◌≤◌, Bool, List, Option, None, Some, Result, Ok, Err, IfSome, length, take, slice_range, option_map}
 use Rattle.base_core.specs.Bytes.{overwritten}
 
 -- bytes that aren't told
 abbrev pub untold : Option (List ℕ)
 untold = None
+
+-- how many bytes a file has, where it says its position and its bytes
+abbrev pub size_of : Option ℕ → Option (List ℕ) → Option ℕ
+size_of None bytes = None
+size_of (Some position) None = None
+size_of (Some position) (Some bytes) = Some (length bytes)
 
 -- told bytes, with these written over them from a place on
 abbrev pub written_over : ℕ → List ℕ → Option (List ℕ) → Option (List ℕ)

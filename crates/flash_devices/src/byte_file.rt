@@ -1,5 +1,5 @@
 ghost use Rattle.std.specs.Prelude.{None};
-ghost use Rattle.flash_devices.specs.File.{size_of};
+ghost use Rattle.flash_devices.specs.ByteFiles.{size_of};
 
 use std::fs::OpenFile;
 use std::io::{self, Read, Seek, SeekFrom, Write};
