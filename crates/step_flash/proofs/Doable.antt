@@ -1,5 +1,5 @@
 -- Steps that can be done when their turn comes.
-use Rattle.std.proofs.Common.{◌≡◌, ◌⊎◌, inl, inr, ℕ, suc, ◌+◌, ◌%◌, ◌*◌, ◌≤◌, List, [], ◌∷◌, ◌++◌, length, All, sym, subst, arith, refl}
+use Rattle.std.proofs.Common.{◌≡◌, ◌⊎◌, inl, inr, ℕ, suc, ◌%◌, List, [], ◌∷◌, ◌++◌, length, All, sym, subst, arith, refl}
 use Rattle.base_core.specs.Block.{block_bytes}
 use Rattle.flash_core.specs.Told.{Told}
 use Rattle.step_flash.specs.declared.step.Step.{Step}

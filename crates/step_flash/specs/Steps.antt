@@ -1,5 +1,6 @@
 -- What steps do to a flash.
-use Rattle.std.specs.Prelude.{◌≡◌, ◌⊎◌, ⊤, ℕ, Bool, ◌+◌, ◌%◌, ◌<◌, ◌≤◌, ◌==◌, if◌then◌else◌, List, [], ◌∷◌, fold, slice_range, length}
+use Rattle.std.specs.Prelude.{◌≡◌, ◌⊎◌, ⊤, ℕ, Bool, ◌+◌, ◌%◌, ◌<◌, ◌≤◌, ◌==◌, if◌then◌else◌}
+use Rattle.std.specs.Prelude.{List, [], ◌∷◌, fold, slice_range, length}
 use Rattle.std.specs.Coded.{×_prop, Unit-prop}
 use denote.Struct.Props as logic
 use Rattle.base_core.specs.Block.{blank, block_bytes, granule_bytes}
@@ -74,11 +75,11 @@ abbrev pub AreDoable : List ℕ → List ℕ → Told → List Step → Type 0
 AreDoable file room t [] = ⊤
 AreDoable file room t (s ∷ ss) = IsDoable t s × AreDoable file room (run_step file room t s) ss
 
--- ---- a ghost field may be this, since it has one proof at most
+-- ---- whether the steps can be done has one proof at most, as a ghost field wants it
 
-one_step : (t : Told) (s : Step) → IsProp (IsDoable t s)
-one_step t s = Prim.hlevel logic.props
+one_of_step : (t : Told) (s : Step) → IsProp (IsDoable t s)
+one_of_step t s = Prim.hlevel logic.props
 
-pub AreDoable-prop : (file room : List ℕ) (t : Told) (ss : List Step) → IsProp (AreDoable file room t ss)
-AreDoable-prop file room t [] = Unit-prop
-AreDoable-prop file room t (s ∷ ss) = ×_prop (one_step t s) (AreDoable-prop file room (run_step file room t s) ss)
+pub one_proof : (file room : List ℕ) (t : Told) (ss : List Step) → IsProp (AreDoable file room t ss)
+one_proof file room t [] = Unit-prop
+one_proof file room t (s ∷ ss) = ×_prop (one_of_step t s) (one_proof file room (run_step file room t s) ss)

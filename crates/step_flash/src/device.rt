@@ -5,7 +5,7 @@ ghost use Rattle.base_core.specs.Block.{blank, block_bytes, fewest_blocks, most_
 ghost use Rattle.flash_core.specs.Told.{Told, IsSound};
 ghost use Rattle.flash_core.specs.Counts.{lowered};
 ghost use Rattle.step_flash.specs.Guard.{start_with};
-ghost use Rattle.step_flash.specs.Steps.{AreDoable, AreDoable-prop, IsInsideWith, run_step, run_with, source_of};
+ghost use Rattle.step_flash.specs.Steps.{AreDoable, IsInsideWith, one_proof, run_step, run_with, source_of};
 
 use crate::lent_file::LentFile;
 use crate::overlay::overlay;
@@ -37,7 +37,8 @@ pub(crate) struct StepDevice<'a> {
     ghost sizes: { (fewest_blocks ≤ blocks) × (blocks ≤ most_blocks) },
     ghost size: { length image.now ≡ block_bytes * blocks },
     ghost inside: { All (IsInsideWith (length file.bytes.now) (length room.items) (block_bytes * blocks)) steps.items },
-    ghost doable: { AreDoable file.bytes.now room.items (start_with image.now file.bytes.now) steps.items } by { AreDoable-prop file.bytes.now room.items (start_with image.now file.bytes.now) steps.items },
+    ghost doable: { AreDoable file.bytes.now room.items
+        (start_with image.now file.bytes.now) steps.items } by { one_proof _ _ _ _ },
     ghost few: { length steps.items ≤ most },
     ghost idle: { IsTrue on → IsTrue (is_none stopped) },
     ghost ahead: { ForSome arming (λ armed. 1 ≤ armed.n) },
