@@ -141,7 +141,7 @@ IsAccepted other b = ⊥
 pub record CallsFrom (c : Call) (b : Started) (result : Result (Unit {0}) Stop) (old t : Told) : Type 0 where
   pub answers : (E : Setting) (s : State) → E.layout ≡ b.layout → E.passes ≡ (λ m. passes_any m) → IsShown b.layout old.now s
       → AnswersBy E s (answer E s (started_session b) c) result old t
-  -- what is refused, and what is accepted again, writes nothing
+  -- what is refused, and what is accepted again, changes nothing
   pub refused : IsRefused result → t ≡ old
   pub again : IsAccepted c b → t ≡ old
   -- on any flash, at any exit: nothing changed but blocks 1 to 3, and the bank that follows the one that was started

@@ -80,6 +80,7 @@ pub record SameStart (old new : Report) : Type 0 where
   pub lengths : new.lengths ≡ old.lengths
 
 -- Of the report a number's own fields are written: the fault at 1, the banks at 3, and all but the fault where a bank was started.
+-- At 5 only the fault is sure to stay.
 pub record KeepsReport (number : ℕ) (old new : Report) : Type 0 where
   pub fault : number ≢ 1 → new.layout_fault ≡ old.layout_fault
   pub banks : IsTrue (is_idle number) → (new.active ≡ old.active) × (new.previous ≡ old.previous)

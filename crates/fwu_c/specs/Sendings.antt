@@ -86,7 +86,7 @@ pub record SendsPackage (file : List ℕ) (request : ℕ) (b : Started) (result 
   pub faults : FaultsBy (first_image_fault b.layout.rows toc) result
   pub answers : (E : Setting) (s : State) → E.layout ≡ b.layout → E.passes ≡ (λ m. passes_any m) → IsShown b.layout old.now s
       → AnswersBy E s (send_answer E toc (images_of b.layout.rows file toc) request s (started_session b)) result old t
-  -- where an image is missing or too large, and where the begin is refused, nothing is written
+  -- where an image is missing or too large, and where the begin is refused, nothing changes
   pub early : IsEarly result → t ≡ old
   pub installs : OnOk result ((s : State) → IsShown b.layout old.now s
       → HasInstalled b.layout (images_of b.layout.rows file toc) request s t)
