@@ -15,7 +15,8 @@ ghost use Rattle.gpt_core.specs.PlacesOf.{places_of};
 ghost use Rattle.gpt_core.specs.Puts.{Puts};
 ghost use Rattle.gpt_core.specs.View.{view_of};
 ghost use Rattle.gpt_core.specs.Table.{Table as Said, FitsTable, blocks_of, number_of, header_at, other, entries_at, copy_in, DecidesTable, BothSay, header_lead, header_places, header_back, header_with, header_bytes, table_in_image, copy_from, copy_to};
-ghost use Rattle.gpt_core.specs.Repair.{Mends, HeadersGuarded, StaysBeside, Ready, Steps, Spells, writes_of};
+ghost use Rattle.gpt_core.specs.Repair.{Mends, HeadersGuarded, StaysBeside, Ready, Steps, IsMended, writes_of};
+ghost use Rattle.gpt_core.specs.Writes.{Writes};
 
 use crate::headers::{
     ENTRY_SIZE, HEADER_SIZE, REVISION, blocks_for, entries_place, header_place, other_copy,
@@ -171,16 +172,11 @@ fn mend<D: Flash>(
     requires room { block_bytes ≤ length buf.old }
 
     ensures steps { IsTrue D.tells → Ready copy (D.blocks flash.old) table.now (D.told flash.old)
-        → Steps (λ u. BothSay (D.blocks flash.old) table.now u.now × NothingDirty u) result
-        (D.blocks flash.old) table.now (D.told flash.new) }
-    ensures keeps { IsTrue D.tells → Keeps
-        (copy_from copy (D.blocks flash.old) (blocks_of (number_of table.now)))
-        (copy_to copy (D.blocks flash.old) (blocks_of (number_of table.now)))
-        (D.told flash.old) (D.told flash.new) }
+        → Steps (IsMended (D.blocks flash.old) table.now) result (D.blocks flash.old) table.now (D.told flash.new) }
+    ensures writes { Writes D.Flash (copy_from copy (D.blocks flash.old) (blocks_of (number_of table.now)))
+        (copy_to copy (D.blocks flash.old) (blocks_of (number_of table.now))) (2 + 2 * blocks_of (number_of table.now))
+        result flash.old flash.new }
     ensures settled { OnOk result (IsTrue D.tells → NothingDirty (D.told flash.new)) }
-    ensures goes { Goes D.Flash result flash.old flash.new }
-    ensures spent { OnOk result (D.arming flash.new
-        ≡ lowered_by (2 + 2 * blocks_of (number_of table.now)) (D.arming flash.old)) }
     ensures buffer { length buf.new ≡ length buf.old }
 {
     let blocks = flash.blocks();
