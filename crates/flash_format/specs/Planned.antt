@@ -7,6 +7,12 @@ use Rattle.fwu_formats.specs.Package.{Entry, Toc, toc_of}
 use Rattle.fip_tables.specs.Files.{Lacks, Tells}
 use Rattle.fip_tables.specs.Images.{AreImages, no_entry, no_row}
 
+-- The payload of an entry can be read of the file of this name.
+pub record IsStored (told : Option Directory) (name : List ℕ) (e : Entry) : Type 0 where
+  pub ends : e.offset + e.size < 2 ^ 64
+  pub within : (file : List ℕ) → Tells told name file → e.offset + e.size ≤ length file
+  pub there : Lacks told name → ⊥
+
 -- each payload can be read of the file, and fits its slot
 pub record IsPlanned (told : Option Directory) (name : List ℕ) (L : Layout) (entries : List Entry) : Type 0 where
   pub count : length entries ≡ length L.rows

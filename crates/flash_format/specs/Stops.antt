@@ -1,7 +1,9 @@
 -- Why a step stopped.
-use Rattle.std.specs.Prelude.{◌≡◌, ◌⊎◌, ◌<◌, ◌≤◌, ◌^◌, ⊤, ℕ, List, Option, Some, None, Result, Ok, Err, length}
+use Rattle.std.specs.Prelude.{◌≡◌, ◌⊎◌, ◌+◌, ◌<◌, ◌≤◌, ◌^◌, ⊤, ℕ, List, Option, Some, None, Result, Ok, Err, length}
 use Rattle.base_core.specs.Counts.{Rose}
 use Rattle.host_io.specs.Contents.{Directory}
+use Rattle.host_io.specs.Reads.{ReadsFile}
+use Rattle.host_io.specs.declared.files.Files.{Ghosts}
 use Rattle.fip_tables.specs.Files.{Lacks}
 use Rattle.flash_core.specs.declared.flash.FlashStop.{FlashStop}
 use Rattle.fwu_formats.specs.declared.kinds.LayoutFault.{LayoutFault}
@@ -30,6 +32,15 @@ pub record ReadsBy {T : Type 0} (told : Option Directory) (name : List ℕ) (bef
     (result : Result T FormatStop) : Type 0 where
   pub later : before ≤ now
   pub failed : result ≡ Err ReadFailed → Rose before now ⊎ Lacks told name
+
+-- What reading the package of this name leaves of the files, by the result.
+pub record ReadsPackage {H T : Type 0} (g : Ghosts H) (name : List ℕ) (result : Result T FormatStop) (old new : H) : Type 0 where
+  -- That file alone is asked for, and none is written.
+  pub files : ReadsFile g name old new
+  -- On any files: no call of them failed but the one that is told.
+  pub once : g.faults new ≤ g.faults old + unread_in result
+  -- And that one has its cause.
+  pub cause : ReadsBy (g.contents old) name (g.faults old) (g.faults new) result
 
 -- nothing that was given is refused
 abbrev pub RefusesNothing : {T : Type 0} → Result T FormatStop → Type 0

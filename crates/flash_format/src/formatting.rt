@@ -10,7 +10,6 @@ ghost use Rattle.fwu_formats.specs.Package.{Toc, toc_of};
 ghost use Rattle.fwu_model.specs.Answer.{images_of};
 ghost use Rattle.fwu_formats.specs.Manifest.{is_complete, manifest_part};
 ghost use Rattle.meta_layout.specs.Rows.{fitted};
-ghost use Rattle.host_io.specs.Reads.{ReadsFile};
 ghost use Rattle.fip_tables.specs.Files.{Lacks, Tells};
 ghost use Rattle.image_check.specs.Law.{may_start};
 ghost use Rattle.image_check.specs.Passed.{HasPassed};
@@ -20,7 +19,7 @@ ghost use Rattle.flash_format.specs.Choosing.{refusal};
 ghost use Rattle.flash_format.specs.Formatted.{HasAtMost, HoldsImages, IsBlank, IsFormatted, IsInOrder, IsOrdered, IsRefused, IsSpelled, IsUnlaid, IsWhole};
 ghost use Rattle.flash_format.specs.Places.{AllStand, Erased};
 ghost use Rattle.flash_format.specs.Planned.{IsPlanned};
-ghost use Rattle.flash_format.specs.Stops.{flash_result, Answers, Finishes, IsEarly, IsOfBytes, IsOfLayout, LayoutBy, ReadsBy, RefusesBank, unread_in};
+ghost use Rattle.flash_format.specs.Stops.{flash_result, Answers, Finishes, IsEarly, IsOfBytes, IsOfLayout, LayoutBy, ReadsPackage, RefusesBank};
 ghost use Rattle.flash_format.specs.declared.stops.FormatStop.TheVariants.{Input as InputRefused, ReadFailed as FileFailed};
 ghost use Rattle.flash_format.specs.declared.stops.InputFault.TheVariants.{Incomplete as BankRefused};
 ghost use Rattle.flash_format.specs.Takes.{Takes, pieces_in, writes_of};
@@ -126,10 +125,7 @@ fn carry_out<D: Flash, H: Files, V: Verifier>(
     ensures seen { (found : Verdict) → result ≡ Err (InputRefused (BankRefused found)) →
         HasPassed (V.passes verifier.now) plan.now.layout.rows 0 found }
     ensures stops { IsEarly result → ⊥ }
-    ensures files { ReadsFile H.Files name.now files.old files.new }
-    ensures once { H.faults files.new ≤ H.faults files.old + unread_in result }
-    ensures reads { ReadsBy (H.contents files.old) name.now (H.faults files.old)
-        (H.faults files.new) result }
+    ensures reads { ReadsPackage H.Files name.now result files.old files.new }
 {
     let _rows = plan.layout.rows();
     fill(flash, plan, files, name)?;
@@ -224,11 +220,7 @@ pub fn format<D: Flash, H: Files, V: Verifier>(
         may_start found ≡ false }
     ensures seen { (found : Verdict) → result ≡ Err (InputRefused (BankRefused found)) →
         HasPassed (V.passes verifier.now) rows.now 0 found }
-    ensures files { ReadsFile H.Files name.now files.old files.new }
-    // On any files: no call of them failed but the one that is told.
-    ensures once { H.faults files.new ≤ H.faults files.old + unread_in result }
-    ensures reads { ReadsBy (H.contents files.old) name.now (H.faults files.old)
-        (H.faults files.new) result }
+    ensures reads { ReadsPackage H.Files name.now result files.old files.new }
 {
     let plan = plan(rows, banks, flash.blocks(), files, name)?;
     let version = carry_out(flash, &plan, files, name, verifier)?;

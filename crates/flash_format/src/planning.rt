@@ -2,11 +2,10 @@
 ghost use Rattle.std.specs.Prelude.{◌≡◌, ◌≤◌, ◌+◌, ◌⊎◌, ℕ, List, Ok, Err, IfOk, IfErr};
 ghost use Rattle.fwu_formats.specs.Package.{toc_of};
 ghost use Rattle.meta_layout.specs.Rows.{fitted};
-ghost use Rattle.host_io.specs.Reads.{ReadsFile};
 ghost use Rattle.fip_tables.specs.Files.{Lacks, Tells};
 ghost use Rattle.flash_format.specs.Choosing.{refusal, refusal_by};
 ghost use Rattle.flash_format.specs.Planned.{IsPlanned, HasToc};
-ghost use Rattle.flash_format.specs.Stops.{Answers, IsOfBytes, IsOfLayout, LayoutBy, ReadsBy, StopsEarly, unread_in};
+ghost use Rattle.flash_format.specs.Stops.{Answers, IsOfBytes, IsOfLayout, LayoutBy, ReadsPackage, StopsEarly};
 ghost use Rattle.flash_format.specs.declared.stops.FormatStop.TheVariants.{ReadFailed as FileFailed};
 
 use crate::plan::Plan;
@@ -29,10 +28,7 @@ fn plan_of<H: Files>(files: &mut H, name: &str, layout: Layout) -> Result<Plan, 
     ensures missing { Lacks (H.contents files.old) name.now → result ≡ Err FileFailed }
     ensures other { IsOfLayout result → ⊥ }
     ensures stops { IfErr result StopsEarly }
-    ensures files { ReadsFile H.Files name.now files.old files.new }
-    ensures once { H.faults files.new ≤ H.faults files.old + unread_in result }
-    ensures reads { ReadsBy (H.contents files.old) name.now (H.faults files.old)
-        (H.faults files.new) result }
+    ensures reads { ReadsPackage H.Files name.now result files.old files.new }
 {
     let toc = read_table(files, name)?;
     let _rows = layout.rows();
@@ -61,10 +57,7 @@ pub fn plan<H: Files>(
     ensures missing { Lacks (H.contents files.old) name.now → IsOfLayout result ⊎
         (result ≡ Err FileFailed) }
     ensures stops { IfErr result StopsEarly }
-    ensures files { ReadsFile H.Files name.now files.old files.new }
-    ensures once { H.faults files.new ≤ H.faults files.old + unread_in result }
-    ensures reads { ReadsBy (H.contents files.old) name.now (H.faults files.old)
-        (H.faults files.new) result }
+    ensures reads { ReadsPackage H.Files name.now result files.old files.new }
 {
     match Layout::make(rows, banks, blocks) {
         Ok(layout) => plan_of(files, name, layout),

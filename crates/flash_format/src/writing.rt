@@ -5,7 +5,6 @@ ghost use Rattle.flash_core.specs.Calls.{Goes};
 ghost use Rattle.flash_core.specs.Counts.{lowered_by};
 ghost use Rattle.flash_core.specs.May.{Keeps};
 ghost use Rattle.fwu_formats.specs.Layout.{blocks_needed};
-ghost use Rattle.host_io.specs.Reads.{ReadsFile};
 ghost use Rattle.fip_tables.specs.Files.{Tells};
 ghost use Rattle.image_check.specs.Law.{may_start};
 ghost use Rattle.image_check.specs.Passed.{HasPassed};
@@ -17,7 +16,7 @@ ghost use Rattle.flash_format.specs.Cleared.{IsBare, OnlyErased};
 ghost use Rattle.flash_format.specs.Formatted.{IsBlank};
 ghost use Rattle.flash_format.specs.Places.{AllStand, Erased};
 ghost use Rattle.flash_format.specs.Planned.{IsPlanned};
-ghost use Rattle.flash_format.specs.Stops.{flash_result, ReadsBy, RefusesBank, RefusesNothing, unread_in};
+ghost use Rattle.flash_format.specs.Stops.{flash_result, ReadsPackage, RefusesBank, RefusesNothing};
 ghost use Rattle.flash_format.specs.declared.stops.FormatStop.TheVariants.{Input as InputRefused};
 ghost use Rattle.flash_format.specs.declared.stops.InputFault.TheVariants.{Incomplete as BankRefused};
 ghost use Rattle.flash_format.specs.Takes.{pieces_in};
@@ -63,10 +62,7 @@ pub fn fill<D: Flash, H: Files>(
     // on every device: one erase of each block, and one program of each piece of an image
     ensures spent { OnOk result (D.arming flash.new
         ≡ lowered_by (blocks_needed plan.now.layout + pieces_in plan.now.entries) (D.arming flash.old)) }
-    ensures files { ReadsFile H.Files name.now files.old files.new }
-    ensures once { H.faults files.new ≤ H.faults files.old + unread_in result }
-    ensures reads { ReadsBy (H.contents files.old) name.now (H.faults files.old)
-        (H.faults files.new) result }
+    ensures reads { ReadsPackage H.Files name.now result files.old files.new }
     ensures stops { RefusesNothing result }
 {
     let _rows = plan.layout.rows();

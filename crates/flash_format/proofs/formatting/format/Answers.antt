@@ -1,4 +1,4 @@
-use Rattle.std.proofs.Common.{◌≡◌, ◌*◌, ℕ, List, length, ap, sym, subst, arith, Option, Result, Ok, Err}
+use Rattle.std.proofs.Common.{◌≡◌, ◌*◌, ℕ, List, length, ap, sym, subst, arith, Option, Result, Ok, Err, rules}
 use Rattle.host_io.proofs.Reading.{reads-then}
 use Rattle.std.specs.Prelude.{IsTrue}
 use Rattle.flash_core.specs.May.{Keeps}
@@ -54,7 +54,7 @@ returns-in_err-version-clause-images g c =
     finishes_err ℕ Formatted c.in_err-version.field-0.0 A B
     (λ stand tells file toc told has.
     let size = (g.met.D.Flash.sound c.carry_out.new.flash tells).size in
-    let here : Tells (g.H.Files.contents c.plan.new.files) c.args.name.now file = subst (λ (d : Option Directory). Tells d c.args.name.now file) (sym c.plan.ensures.files.same) told in
+    let here : Tells (g.H.Files.contents c.plan.new.files) c.args.name.now file = subst (λ (d : Option Directory). Tells d c.args.name.now file) (sym c.plan.ensures.reads.files.same) told in
     hold_given L K c.blocks-2.result file toc c.in_ok-plan.plan.entries t.now (fitted_is L c.blocks-2.result K c.in_ok-plan.ensures.fits) (omega (arith, size, c.carry_out.ensures.goes.size, c.blocks-2.ensures)) (c.in_ok-plan.ensures.toc file told) has
     (c.in_ok-plan.ensures.planned.stored file told) (stand tells file here))
     c.in_err-version.ensures.bytes)
@@ -74,7 +74,7 @@ returns-in_err-version-clause-deserved g c =
     let A : Type 0 = IsTrue g.D.Flash.tells → (bytes : List ℕ) → Tells (g.H.Files.contents c.plan.new.files) c.args.name.now bytes → AllStand (length K.rows) K bytes c.in_ok-plan.plan.entries t.now in
     let stand = subst (λ (r : Result ℕ FormatStop). Finishes r A) end c.in_err-version.ensures.bytes in
     let size = (g.met.D.Flash.sound c.carry_out.new.flash tells).size in
-    let here : Tells (g.H.Files.contents c.plan.new.files) c.args.name.now file = subst (λ (d : Option Directory). Tells d c.args.name.now file) (sym c.plan.ensures.files.same) told in
+    let here : Tells (g.H.Files.contents c.plan.new.files) c.args.name.now file = subst (λ (d : Option Directory). Tells d c.args.name.now file) (sym c.plan.ensures.reads.files.same) told in
     let holds = hold_given L K c.blocks-2.result file toc c.in_ok-plan.plan.entries t.now fit (omega (arith, size, c.carry_out.ensures.goes.size, c.blocks-2.ensures)) (c.in_ok-plan.ensures.toc file told) has (c.in_ok-plan.ensures.planned.stored file told) (stand tells file here) in
     not_refused passes L found (images_of L.rows file toc) t.now (subst (λ (l : Layout). IsTrue (fits_layout l)) fit.is fit.fits) refused holds complete passed)
 
@@ -91,7 +91,7 @@ returns-clause-images g c = λ tells file toc told has.
     let L : Layout = record { banks = c.args.banks; rows = c.args.rows.now } in
     let t = g.D.Flash.told c.carry_out.new.flash in
     let size = (g.met.D.Flash.sound c.carry_out.new.flash tells).size in
-    let here : Tells (g.H.Files.contents c.plan.new.files) c.args.name.now file = subst (λ (d : Option Directory). Tells d c.args.name.now file) (sym c.plan.ensures.files.same) told in
+    let here : Tells (g.H.Files.contents c.plan.new.files) c.args.name.now file = subst (λ (d : Option Directory). Tells d c.args.name.now file) (sym c.plan.ensures.reads.files.same) told in
     hold_given L K c.blocks-2.result file toc c.in_ok-plan.plan.entries t.now (fitted_is L c.blocks-2.result K c.in_ok-plan.ensures.fits) (omega (arith, size, c.carry_out.ensures.goes.size, c.blocks-2.ensures)) (c.in_ok-plan.ensures.toc file told) has
     (c.in_ok-plan.ensures.planned.stored file told) (c.in_ok-version.ensures.bytes tells file here)
 
@@ -214,8 +214,16 @@ returns-clause-some g c =
     subst (λ (n : ℕ). IsOfBytes {T = Formatted} (fitted L n) (Ok done)) c.blocks-2.ensures
     (of_done Plan Formatted fits c.in_ok-plan.plan (Ok done) c.in_ok-plan.ensures.some (λ early. early))
 
-pub returns-in_err-version-clause-files : goal.returns-in_err-version-clause-files
-returns-in_err-version-clause-files g c = reads-then g.H.Files _ g.met.H.Files.joins _ _ _ c.plan.ensures.files c.carry_out.ensures.files
+pub returns-in_err-version-clause-reads : goal.returns-in_err-version-clause-reads
+returns-in_err-version-clause-reads g c = record {
+  files = reads-then g.H.Files _ g.met.H.Files.joins _ _ _ c.plan.ensures.reads.files c.carry_out.ensures.reads.files;
+  once = search rules;
+  cause = search rules;
+}
 
-pub returns-clause-files : goal.returns-clause-files
-returns-clause-files g c = reads-then g.H.Files _ g.met.H.Files.joins _ _ _ c.plan.ensures.files c.carry_out.ensures.files
+pub returns-clause-reads : goal.returns-clause-reads
+returns-clause-reads g c = record {
+  files = reads-then g.H.Files _ g.met.H.Files.joins _ _ _ c.plan.ensures.reads.files c.carry_out.ensures.reads.files;
+  once = search rules;
+  cause = search rules;
+}

@@ -1,4 +1,4 @@
-use Rattle.std.proofs.Common.{◌≡◌, inl, inr, ℕ, ◌*◌, length, sym, ap, subst, ◌∙◌, arith}
+use Rattle.std.proofs.Common.{◌≡◌, inl, inr, ℕ, ◌*◌, length, sym, ap, subst, ◌∙◌, arith, rules}
 use Rattle.std.specs.Prelude.{IsTrue}
 use Rattle.base_core.specs.Block.{block}
 use Rattle.flash_core.specs.Told.{Told}
@@ -18,14 +18,19 @@ program-requires-clause-blank g c = λ tells.
     let few = c.requires.few in
     erased_range 4096 (length c.args.bytes.now) (g.D.Flash.told c.args.flash.now).now (omega (arith, size, many, few)) (λ i above below. c.requires.erased tells i above (omega (arith, below, few)))
 
-pub returns-in_err-program-clause-keeps : goal.returns-in_err-program-clause-keeps
-returns-in_err-program-clause-keeps g c = λ tells.
-    let s = g.D.Flash.told c.args.flash.now in
-    let size = (g.met.D.Flash.sound c.args.flash.now tells).size in
-    let many = (g.met.D.Flash.sizes c.args.flash.now).0 in
-    let few = c.requires.few in
-    subst (Keeps 4096 12288 s) (sym (c.program.ensures.content tells))
-    (keeps_written c.program.result 4096 12288 4096 c.args.bytes.now s s (omega arith) (omega (arith, few)) (omega (arith, size, many, few)) (keeps_same 4096 12288 s))
+pub returns-in_err-program-clause-writes : goal.returns-in_err-program-clause-writes
+returns-in_err-program-clause-writes g c = record {
+  keeps =
+      λ tells.
+      let s = g.D.Flash.told c.args.flash.now in
+      let size = (g.met.D.Flash.sound c.args.flash.now tells).size in
+      let many = (g.met.D.Flash.sizes c.args.flash.now).0 in
+      let few = c.requires.few in
+      subst (Keeps 4096 12288 s) (sym (c.program.ensures.content tells))
+      (keeps_written c.program.result 4096 12288 4096 c.args.bytes.now s s (omega arith) (omega (arith, few)) (omega (arith, size, many, few)) (keeps_same 4096 12288 s));
+  goes = search rules;
+  spent = search rules;
+}
 
 pub program-requires-2-clause-blank : goal.program-requires-2-clause-blank
 program-requires-2-clause-blank g c = λ tells.
@@ -38,27 +43,37 @@ program-requires-2-clause-blank g c = λ tells.
     let erased = erased_stays 8192 12288 4096 8192 s m (inr (omega arith)) keeps (λ i above below. c.requires.erased tells i (omega (arith, above)) below) in
     erased_range 8192 (length c.args.bytes.now) m.now (omega (arith, size, many, few, keeps.size)) (λ i above below. erased i above (omega (arith, below, few)))
 
-pub returns-in_err-program-2-clause-keeps : goal.returns-in_err-program-2-clause-keeps
-returns-in_err-program-2-clause-keeps g c = λ tells.
-    let s = g.D.Flash.told c.args.flash.now in
-    let m = g.D.Flash.told c.program.new.self in
-    let size = (g.met.D.Flash.sound c.args.flash.now tells).size in
-    let many = (g.met.D.Flash.sizes c.args.flash.now).0 in
-    let few = c.requires.few in
-    let keeps = subst (Keeps 4096 12288 s) (sym (c.program.ensures.content tells)) (keeps_written c.program.result 4096 12288 4096 c.args.bytes.now s s (omega arith) (omega (arith, few)) (omega (arith, size, many, few)) (keeps_same 4096 12288 s)) in
-    subst (Keeps 4096 12288 s) (sym (c.program-2.ensures.content tells))
-    (keeps_written c.program-2.result 4096 12288 8192 c.args.bytes.now s m (omega arith) (omega (arith, few)) (omega (arith, size, many, few)) keeps)
+pub returns-in_err-program-2-clause-writes : goal.returns-in_err-program-2-clause-writes
+returns-in_err-program-2-clause-writes g c = record {
+  keeps =
+      λ tells.
+      let s = g.D.Flash.told c.args.flash.now in
+      let m = g.D.Flash.told c.program.new.self in
+      let size = (g.met.D.Flash.sound c.args.flash.now tells).size in
+      let many = (g.met.D.Flash.sizes c.args.flash.now).0 in
+      let few = c.requires.few in
+      let keeps = subst (Keeps 4096 12288 s) (sym (c.program.ensures.content tells)) (keeps_written c.program.result 4096 12288 4096 c.args.bytes.now s s (omega arith) (omega (arith, few)) (omega (arith, size, many, few)) (keeps_same 4096 12288 s)) in
+      subst (Keeps 4096 12288 s) (sym (c.program-2.ensures.content tells))
+      (keeps_written c.program-2.result 4096 12288 8192 c.args.bytes.now s m (omega arith) (omega (arith, few)) (omega (arith, size, many, few)) keeps);
+  goes = search rules;
+  spent = search rules;
+}
 
-pub returns-clause-keeps : goal.returns-clause-keeps
-returns-clause-keeps g c = λ tells.
-    let s = g.D.Flash.told c.args.flash.now in
-    let m = g.D.Flash.told c.program.new.self in
-    let size = (g.met.D.Flash.sound c.args.flash.now tells).size in
-    let many = (g.met.D.Flash.sizes c.args.flash.now).0 in
-    let few = c.requires.few in
-    let keeps = subst (Keeps 4096 12288 s) (sym (c.program.ensures.content tells)) (keeps_written c.program.result 4096 12288 4096 c.args.bytes.now s s (omega arith) (omega (arith, few)) (omega (arith, size, many, few)) (keeps_same 4096 12288 s)) in
-    let after = subst (Keeps 4096 12288 s) (sym (c.program-2.ensures.content tells)) (keeps_written c.program-2.result 4096 12288 8192 c.args.bytes.now s m (omega arith) (omega (arith, few)) (omega (arith, size, many, few)) keeps) in
-    subst (Keeps 4096 12288 s) (sym (c.barrier.ensures.content tells)) (keeps_settled c.barrier.result 4096 12288 s (g.D.Flash.told c.program-2.new.self) after)
+pub returns-clause-writes : goal.returns-clause-writes
+returns-clause-writes g c = record {
+  keeps =
+      λ tells.
+      let s = g.D.Flash.told c.args.flash.now in
+      let m = g.D.Flash.told c.program.new.self in
+      let size = (g.met.D.Flash.sound c.args.flash.now tells).size in
+      let many = (g.met.D.Flash.sizes c.args.flash.now).0 in
+      let few = c.requires.few in
+      let keeps = subst (Keeps 4096 12288 s) (sym (c.program.ensures.content tells)) (keeps_written c.program.result 4096 12288 4096 c.args.bytes.now s s (omega arith) (omega (arith, few)) (omega (arith, size, many, few)) (keeps_same 4096 12288 s)) in
+      let after = subst (Keeps 4096 12288 s) (sym (c.program-2.ensures.content tells)) (keeps_written c.program-2.result 4096 12288 8192 c.args.bytes.now s m (omega arith) (omega (arith, few)) (omega (arith, size, many, few)) keeps) in
+      subst (Keeps 4096 12288 s) (sym (c.barrier.ensures.content tells)) (keeps_settled c.barrier.result 4096 12288 s (g.D.Flash.told c.program-2.new.self) after);
+  goes = search rules;
+  spent = spent_barrier c.barrier.result 2 _ _ _ (spent_both 1 1 2 _ _ _ (omega arith) (spent_one _ _ c.in_ok-program.ensures.arming) (spent_one _ _ c.in_ok-program-2.ensures.arming)) c.barrier.ensures.arming;
+}
 
 pub returns-clause-zero : goal.returns-clause-zero
 returns-clause-zero g c = on_ok_from _ c.barrier.result (λ tells.
@@ -95,7 +110,3 @@ returns-clause-one g c = on_ok_from _ c.barrier.result (λ tells.
 
 pub returns-clause-clean : goal.returns-clause-clean
 returns-clause-clean g c = clean_after (IsTrue g.D.Flash.tells) c.barrier.result (g.D.Flash.told c.program-2.new.self) (g.D.Flash.told c.barrier.new.self) c.barrier.ensures.content
-
-pub returns-clause-spent : goal.returns-clause-spent
-returns-clause-spent g c =
-    spent_barrier c.barrier.result 2 _ _ _ (spent_both 1 1 2 _ _ _ (omega arith) (spent_one _ _ c.in_ok-program.ensures.arming) (spent_one _ _ c.in_ok-program-2.ensures.arming)) c.barrier.ensures.arming
