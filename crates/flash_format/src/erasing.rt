@@ -1,11 +1,10 @@
 //! Erasing the front of a flash.
-ghost use Rattle.std.specs.Prelude.{◌≡◌, ◌⊎◌, ◌-◌, ◌*◌, ◌≤◌, IsTrue, OnOk};
+ghost use Rattle.std.specs.Prelude.{◌-◌, ◌*◌, ◌≤◌, IsTrue, OnOk};
 ghost use Rattle.base_core.specs.Block.{block_bytes};
-ghost use Rattle.flash_core.specs.May.{Keeps};
 ghost use Rattle.flash_core.specs.Told.{NothingDirty};
 ghost use Rattle.flash_format.specs.Cleared.{IsBare, OnlyErased};
 ghost use Rattle.flash_format.specs.Places.{Erased};
-ghost use Rattle.flash_format.specs.Writes.{Writes};
+ghost use Rattle.flash_format.specs.Writes.{ClearsFirst, Writes};
 
 use flash_core::{Flash, FlashStop};
 
@@ -48,10 +47,7 @@ pub fn erase_all<D: Flash>(flash: &mut D, count: u32) -> Result<(), FlashStop>
     // on every device: one erase of each block
     ensures writes { Writes D.Flash 0 (block_bytes * count) count result flash.old flash.new }
     ensures erased { OnOk result (IsTrue D.tells → Erased 0 (block_bytes * count) (D.told flash.new).now) }
-    ensures only { IsTrue D.tells → OnlyErased (D.told flash.old) (D.told flash.new) }
-    // Until block 0 is bare no other block is touched.
-    ensures first { IsTrue D.tells → Keeps 0 block_bytes (D.told flash.old) (D.told flash.new) ⊎
-        IsBare (D.told flash.new) }
+    ensures clears { ClearsFirst D.Flash flash.old flash.new }
     ensures bare { OnOk result (IsTrue D.tells → IsBare (D.told flash.new)) }
 {
     erase_layout(flash)?;

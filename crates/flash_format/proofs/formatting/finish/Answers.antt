@@ -21,7 +21,7 @@ returns-in_err-version-clause-refused g c =
     let size = (g.met.D.Flash.sound c.args.flash.now tells).size in
     let many = (g.met.D.Flash.sizes c.args.flash.now).0 in
     refused (g.V.Verifier.passes c.args.verifier.now) c.args.layout.now found s (g.D.Flash.told c.check_bank.new.flash) (c.check_bank.ensures.content tells) (omega (arith, size, many)) (c.requires.erased tells)
-    (c.in_err-version.ensures.found found is tells) (c.in_err-version.ensures.bad found is))
+    (c.in_err-version.ensures.found found is tells) (c.in_err-version.ensures.refuses.bad found is))
 
 pub returns-clause-formatted : goal.returns-clause-formatted
 returns-clause-formatted g c = λ tells.
