@@ -1,5 +1,5 @@
 //! Writing an image of a package into its slot.
-ghost use Rattle.std.specs.Prelude.{◌≡◌, ◌+◌, ◌*◌, ◌%◌, ◌^◌, ◌<◌, ◌≤◌, ℕ, List, length, drop, IsTrue, IfOk, OnOk};
+ghost use Rattle.std.specs.Prelude.{◌≡◌, ◌+◌, ◌*◌, ◌%◌, ◌<◌, ◌≤◌, ℕ, List, length, drop, IsTrue, IfOk, OnOk};
 ghost use Rattle.base_core.specs.Block.{block_bytes, granule_bytes, blank};
 ghost use Rattle.host_io.specs.Causes.{HasCause};
 ghost use Rattle.fwu_formats.specs.Package.{payload};

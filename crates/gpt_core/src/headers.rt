@@ -1,7 +1,7 @@
 //! Headers of a table: whether a block is one, and where a copy stands.
 
 ghost use Rattle.std.specs.Prelude.{◌≡◌, ◌+◌, ◌≤◌, length};
-ghost use Rattle.gpt_core.specs.Table.{blocks_of, number_in, header_at, entries_at, other, has_start, has_places, has_fields, is_roomy, is_header, SpeaksOf};
+ghost use Rattle.gpt_core.specs.Table.{blocks_of, header_at, entries_at, other, has_start, has_places, has_fields, is_roomy, is_header, SpeaksOf};
 
 use crate::table::TableCopy;
 use base_core::{BLOCK_BYTES, is_table_sealed, le32_at, le64_at};

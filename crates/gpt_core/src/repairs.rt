@@ -1,12 +1,12 @@
 //! Repairing a table.
 
 ghost use Rattle.flash_core.specs.Calls.{Goes};
-ghost use Rattle.std.specs.Prelude.{◌≡◌, ℕ, List, Ok, ◌+◌, ◌-◌, ◌*◌, ◌<◌, ◌≤◌, ◌++◌, Some, length, take, replicate, IsTrue, OnOk};
+ghost use Rattle.std.specs.Prelude.{◌≡◌, ℕ, List, Ok, ◌+◌, ◌-◌, ◌*◌, ◌<◌, ◌≤◌, Some, length, replicate, IsTrue, OnOk};
 ghost use Rattle.base_core.specs.Block.{block_bytes};
 ghost use Rattle.base_core.specs.Bytes.{le};
 ghost use Rattle.base_core.specs.Crc.{crc};
 ghost use Rattle.flash_core.specs.Counts.{lowered_by};
-ghost use Rattle.flash_core.specs.May.{Keeps, May};
+ghost use Rattle.flash_core.specs.May.{May};
 ghost use Rattle.flash_core.specs.Told.{Told, NothingDirty, is_guarded};
 ghost use Rattle.gpt_core.specs.declared.layout.Places.{Places};
 ghost use Rattle.gpt_core.specs.declared.table.WhichTable.{WhichTable};
