@@ -11,9 +11,7 @@ ghost use Rattle.fwu_model.specs.Answer.{images_of};
 ghost use Rattle.fwu_formats.specs.Manifest.{is_complete, manifest_part};
 ghost use Rattle.meta_layout.specs.Rows.{fitted};
 ghost use Rattle.fip_tables.specs.Files.{Lacks, Tells};
-ghost use Rattle.image_check.specs.Passed.{HasPassed};
-ghost use Rattle.image_check.specs.declared.bank.Verdict.TheVariants.{Good};
-ghost use Rattle.flash_format.specs.Formatted.{HasAtMost, HoldsImages, IsBlank, IsFormatted, IsInOrder, IsOrdered, IsRefused, IsSpelled, IsUnlaid, IsWhole};
+ghost use Rattle.flash_format.specs.Formatted.{HasAtMost, HoldsImages, IsBlank, IsInOrder, IsMade, IsOrdered, IsRefused, IsUnlaid, IsWhole};
 ghost use Rattle.flash_format.specs.Places.{Erased};
 ghost use Rattle.flash_format.specs.Planned.{IsFilled, IsPlanned};
 ghost use Rattle.flash_format.specs.Stops.{flash_result, Finishes, IfRefused, IsByVerdict, IsEarly, IsOfLayout, ReadsPackage, RefusesBank, RefusesInput};
@@ -49,10 +47,7 @@ fn finish<D: Flash, V: Verifier>(
     requires inside { blocks_needed layout.now ≤ D.blocks flash.old }
     requires erased { IsTrue D.tells → Erased 0 (block_bytes * 8) (D.told flash.old).now }
 
-    ensures passed { IfOk result (λ version. HasPassed (V.passes verifier.now) layout.now.rows 0 (Good version)) }
-    ensures formatted { IfOk result (λ version. IsTrue D.tells →
-        IsFormatted (V.passes verifier.now) layout.now version (D.told flash.new)) }
-    ensures spelled { OnOk result (IsTrue D.tells → IsSpelled layout.now (D.told flash.new).now) }
+    ensures made { IfOk result (λ version. IsMade D.Flash (V.passes verifier.now) layout.now version flash.new) }
     ensures at_most { IsTrue D.tells → HasAtMost layout.now (D.told flash.new).now }
     ensures refused { IfRefused result (λ found. IsTrue D.tells →
         IsRefused (V.passes verifier.now) layout.now found (D.told flash.new).now) }
@@ -88,10 +83,7 @@ fn carry_out<D: Flash, H: Files, V: Verifier>(
     requires inside { blocks_needed plan.now.layout ≤ D.blocks flash.old }
     requires planned { IsPlanned (H.contents files.old) name.now plan.now.layout plan.now.entries }
 
-    ensures passed { IfOk result (λ version. HasPassed (V.passes verifier.now) plan.now.layout.rows 0 (Good version)) }
-    ensures formatted { IfOk result (λ version. IsTrue D.tells →
-        IsFormatted (V.passes verifier.now) plan.now.layout version (D.told flash.new)) }
-    ensures spelled { OnOk result (IsTrue D.tells → IsSpelled plan.now.layout (D.told flash.new).now) }
+    ensures made { IfOk result (λ version. IsMade D.Flash (V.passes verifier.now) plan.now.layout version flash.new) }
     ensures refused { IfRefused result (λ found. IsTrue D.tells →
         IsRefused (V.passes verifier.now) plan.now.layout found (D.told flash.new).now) }
     ensures filled { Finishes result (IsTrue D.tells →
@@ -150,14 +142,10 @@ pub fn format<D: Flash, H: Files, V: Verifier>(
     // A name that told files lack gives a file that could not be read, unless there is no layout; and nothing was done.
     ensures missing { Lacks (H.contents files.old) name.now
         → (IsOfLayout result ⊎ (result ≡ Err FileFailed)) × (flash.new ≡ flash.old) }
-    // Formatted: what the flash shows, and that it is sound.
+    // Formatted: by the layout that was asked for.
     ensures given { IfOk result (λ done. fitted (record { banks = banks; rows = rows.now })
         (D.blocks flash.old) ≡ Ok done.layout) }
-    // On any device the version is that of some complete package whose manifest passes.
-    ensures passed { IfOk result (λ done. HasPassed (V.passes verifier.now) done.layout.rows 0 (Good done.version)) }
-    ensures formatted { IfOk result (λ done. IsTrue D.tells →
-        IsFormatted (V.passes verifier.now) done.layout done.version (D.told flash.new)) }
-    ensures spelled { IfOk result (λ done. IsTrue D.tells → IsSpelled done.layout (D.told flash.new).now) }
+    ensures made { IfOk result (λ done. IsMade D.Flash (V.passes verifier.now) done.layout done.version flash.new) }
     // Refused: the flash has no layout, and what it is refused for is the verdict on what bank 0 holds.
     ensures refused { IfRefused result (λ found. IsTrue D.tells →
         IsRefused (V.passes verifier.now) (record { banks = banks; rows = rows.now }) found (D.told flash.new).now) }

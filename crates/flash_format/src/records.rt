@@ -7,7 +7,7 @@ ghost use Rattle.fwu_formats.specs.Layout.{blocks_needed, fits_layout, layout_by
 ghost use Rattle.fwu_formats.specs.Metadata.{first_meta, replica_bytes};
 ghost use Rattle.fwu_formats.specs.Image.{layout_seen};
 ghost use Rattle.fwu_model.specs.Replica.{BothHold, in_version};
-ghost use Rattle.flash_format.specs.Formatted.{HasAtMost, IsOrdered, IsSpelled};
+ghost use Rattle.flash_format.specs.Formatted.{HasAtMost, HoldTwice, IsOrdered, IsSpelled};
 ghost use Rattle.flash_format.specs.Places.{Erased};
 ghost use Rattle.flash_format.specs.Writes.{Writes};
 
@@ -25,9 +25,7 @@ fn write_twice<D: Flash>(flash: &mut D, bytes: &[u8]) -> Result<(), FlashStop>
     requires erased { IsTrue D.tells → Erased (block_bytes * 1) (block_bytes * 3) (D.told flash.old).now }
 
     ensures writes { Writes D.Flash (block_bytes * 1) (block_bytes * 3) 2 result flash.old flash.new }
-    ensures zero { OnOk result (IsTrue D.tells →
-        block 1 (D.told flash.new).now ≡ padded bytes.now) }
-    ensures one { OnOk result (IsTrue D.tells → block 2 (D.told flash.new).now ≡ padded bytes.now) }
+    ensures twice { OnOk result (IsTrue D.tells → HoldTwice bytes.now (D.told flash.new).now) }
     ensures clean { OnOk result (IsTrue D.tells → NothingDirty (D.told flash.new)) }
 {
     flash.program(BLOCK_BYTES * FIRST_REPLICA, bytes)?;
@@ -43,10 +41,8 @@ fn write_replicas<D: Flash>(flash: &mut D, layout: &Layout) -> Result<(), FlashS
     ensures writes { Writes D.Flash (block_bytes * 1) (block_bytes * 3) 2 result flash.old flash.new }
     ensures both { OnOk result (IsTrue D.tells →
         BothHold layout.now (in_version 2 (first_meta layout.now)) (D.told flash.new).now) }
-    ensures zero { OnOk result (IsTrue D.tells →
-        block 1 (D.told flash.new).now ≡ padded (replica_bytes layout.now (first_meta layout.now))) }
-    ensures one { OnOk result (IsTrue D.tells →
-        block 2 (D.told flash.new).now ≡ padded (replica_bytes layout.now (first_meta layout.now))) }
+    ensures twice { OnOk result (IsTrue D.tells →
+        HoldTwice (replica_bytes layout.now (first_meta layout.now)) (D.told flash.new).now) }
     ensures clean { OnOk result (IsTrue D.tells → NothingDirty (D.told flash.new)) }
 {
     let mut bytes = [0xFF; BLOCK_BYTES as usize];

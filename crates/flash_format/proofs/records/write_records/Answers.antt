@@ -55,8 +55,8 @@ returns-clause-spelled g c =
     let keeps = c.write_layout.ensures.writes.keeps tells in
     record {
       layout = first tells;
-      zero = now_kept 1 0 4096 s t (omega (arith, size, many)) (inr (omega arith)) keeps ∙ c.in_ok-write_replicas.ensures.zero tells;
-      one = now_kept 2 0 4096 s t (omega (arith, size, many)) (inr (omega arith)) keeps ∙ c.in_ok-write_replicas.ensures.one tells;
+      zero = now_kept 1 0 4096 s t (omega (arith, size, many)) (inr (omega arith)) keeps ∙ (c.in_ok-write_replicas.ensures.twice tells).zero;
+      one = now_kept 2 0 4096 s t (omega (arith, size, many)) (inr (omega arith)) keeps ∙ (c.in_ok-write_replicas.ensures.twice tells).one;
     })
     c.write_layout.ensures.spelled
 
