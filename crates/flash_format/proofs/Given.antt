@@ -46,16 +46,16 @@ hold_given L K blocks file toc entries image fitted size has is stored stand =
     let holds = holds_images K file has.toc entries has.chosen stored image (omega (arith, enough, inside, size)) fitted.fits stand in
     subst (λ (l : Layout). HoldsImages l (images_of l.rows file toc) image) fitted.is (subst (λ (t : Toc). HoldsImages K (images_of K.rows file t) image) same holds)
 
--- the fact holds, wherever the result ends
-pub finishes_from : (T : Type 0) (result : Result T FormatStop) (A : Type 0) → A → Finishes result A
-finishes_from T (Ok x) A a = a
-finishes_from T (Err (Input (BadLayout fault))) A a = tt
-finishes_from T (Err (Input (Package fault))) A a = tt
-finishes_from T (Err (Input (Missing guid))) A a = tt
-finishes_from T (Err (Input (TooLarge guid))) A a = tt
-finishes_from T (Err (Input (Incomplete verdict))) A a = a
-finishes_from T (Err ReadFailed) A a = tt
-finishes_from T (Err (Flash stop)) A a = tt
+-- a fact that follows
+pub finishes_more : (T : Type 0) (result : Result T FormatStop) (A B : Type 0) → (A → B) → Finishes result A → Finishes result B
+finishes_more T (Ok x) A B f a = f a
+finishes_more T (Err (Input (BadLayout fault))) A B f a = tt
+finishes_more T (Err (Input (Package fault))) A B f a = tt
+finishes_more T (Err (Input (Missing guid))) A B f a = tt
+finishes_more T (Err (Input (TooLarge guid))) A B f a = tt
+finishes_more T (Err (Input (Incomplete verdict))) A B f a = f a
+finishes_more T (Err ReadFailed) A B f a = tt
+finishes_more T (Err (Flash stop)) A B f a = tt
 
 -- the same stop of another result
 pub finishes_err : (T U : Type 0) (stop : FormatStop) (A B : Type 0) → (A → B) → Finishes {T = T} (Err stop) A → Finishes {T = U} (Err stop) B

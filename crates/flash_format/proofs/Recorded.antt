@@ -30,10 +30,6 @@ pub on_ok_map : {T E : Type 0} (A B : Type 0) (r : Result T E) → (A → B) →
 on_ok_map A B (Ok x) f a = f a
 on_ok_map A B (Err e) f a = tt
 
-pub on_ok_two : {T E : Type 0} (A B C : Type 0) (r : Result T E) → (A → B → C) → OnOk r A → OnOk r B → OnOk r C
-on_ok_two A B C (Ok x) f a b = f a b
-on_ok_two A B C (Err e) f a b = tt
-
 -- ---- a barrier, whatever its result
 
 pub keeps_settled : {T E : Type 0} (result : Result T E) (low high : ℕ) (s t : Told) → Keeps low high s t → Keeps low high s (settled result t)

@@ -2,6 +2,7 @@
 use Rattle.std.specs.Prelude.{◌≡◌, ◌⊎◌, ◌+◌, ◌-◌, ◌*◌, ◌<◌, ℕ, Bool, true, false, List, [], ◌∷◌, ◌++◌, length, replicate, Some, None, Ok, IsErr, IsTrue, slice_index_or}
 use Rattle.base_core.specs.Block.{block_bytes, blank, block}
 use Rattle.flash_core.specs.Told.{Told, NothingDirty, fresh}
+use Rattle.flash_core.specs.declared.flash.Flash.{Ghosts}
 use Rattle.flash_core.specs.May.{Keeps, May}
 use Rattle.flash_core.specs.Replaces.{padded}
 use Rattle.fwu_formats.specs.Layout.{Layout, blocks_needed, layout_bytes, slot_bytes, slot_total}
@@ -16,8 +17,10 @@ use Rattle.fwu_formats.specs.declared.kinds.BankState.TheVariants.{Accepted, Inv
 use Rattle.flash_format.specs.Cleared.{OnlyErased}
 use Rattle.flash_format.specs.Places.{Erased}
 use Rattle.image_check.specs.Law.{may_start}
+use Rattle.image_check.specs.Passed.{HasPassed}
 use Rattle.image_check.specs.Verdict.{verdict_on}
 use Rattle.image_check.specs.declared.bank.Verdict.{Verdict}
+use Rattle.image_check.specs.declared.bank.Verdict.TheVariants.{Good}
 
 -- a bank that holds an accepted package, and one that holds none
 abbrev pub full_bank : Layout → List (List ℕ) → Bank
@@ -46,11 +49,24 @@ pub record IsFormatted (passes : List ℕ → Bool) (L : Layout) (v : ℕ) (t : 
   pub shows : seen t.now ≡ Some (first_state L installed)
   pub sound : (E : Setting) → E.layout ≡ L → E.passes ≡ passes → SoundFlash E t.now
 
+-- The first bytes of both replicas' blocks are these, and behind them are erased ones.
+pub record HoldTwice (bytes image : List ℕ) : Type 0 where
+  pub zero : block 1 image ≡ padded bytes
+  pub one : block 2 image ≡ padded bytes
+
 -- the layout and the first metadata stand in their one spelling, with erased bytes behind them
 pub record IsSpelled (L : Layout) (image : List ℕ) : Type 0 where
   pub layout : block 0 image ≡ padded (layout_bytes L)
   pub zero : block 1 image ≡ padded (replica_bytes L (first_meta L))
   pub one : block 2 image ≡ padded (replica_bytes L (first_meta L))
+
+-- A flash was made with this layout, and its package has this version.
+pub record IsMade {D : Type 0} (g : Ghosts D) (passes : List ℕ → Bool) (L : Layout) (v : ℕ) (new : D) : Type 0 where
+  -- On any device the version is that of some complete package whose manifest passes.
+  pub passed : HasPassed passes L.rows 0 (Good v)
+  -- Where it tells: what it shows, and that it is sound.
+  pub formatted : IsTrue g.tells → IsFormatted passes L v (g.told new)
+  pub spelled : IsTrue g.tells → IsSpelled L (g.told new).now
 
 -- the flash has no layout, and no loss leaves one
 pub record IsUnlaid (t : Told) : Type 0 where

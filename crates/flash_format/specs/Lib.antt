@@ -6,3 +6,4 @@ pub mod Planned
 pub mod Stops
 pub mod Table
 pub mod Takes
+pub mod Writes

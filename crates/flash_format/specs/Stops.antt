@@ -1,13 +1,19 @@
 -- Why a step stopped.
-use Rattle.std.specs.Prelude.{◌≡◌, ◌⊎◌, ◌<◌, ◌≤◌, ◌^◌, ⊤, ℕ, List, Option, Some, None, Result, Ok, Err, length}
+use Rattle.std.specs.Prelude.{◌≡◌, ◌⊎◌, ◌+◌, ◌<◌, ◌≤◌, ◌^◌, ⊤, ℕ, Bool, false, List, Option, Some, None, Result, Ok, Err, length}
 use Rattle.base_core.specs.Counts.{Rose}
 use Rattle.host_io.specs.Contents.{Directory}
-use Rattle.fip_tables.specs.Files.{Lacks}
+use Rattle.host_io.specs.Reads.{ReadsFile}
+use Rattle.host_io.specs.declared.files.Files.{Ghosts}
+use Rattle.fip_tables.specs.Files.{Lacks, Tells}
+use Rattle.image_check.specs.Law.{may_start}
+use Rattle.image_check.specs.Passed.{HasPassed}
+use Rattle.image_check.specs.declared.bank.Verdict.{Verdict}
+use Rattle.meta_layout.specs.Rows.{fitted}
 use Rattle.flash_core.specs.declared.flash.FlashStop.{FlashStop}
 use Rattle.fwu_formats.specs.declared.kinds.LayoutFault.{LayoutFault}
-use Rattle.fwu_formats.specs.Layout.{Layout}
+use Rattle.fwu_formats.specs.Layout.{ImageRow, Layout}
 use Rattle.fwu_formats.specs.Package.{toc_of}
-use Rattle.flash_format.specs.Choosing.{refusal_by}
+use Rattle.flash_format.specs.Choosing.{refusal, refusal_by}
 use Rattle.flash_format.specs.declared.stops.InputFault.{InputFault}
 use Rattle.flash_format.specs.declared.stops.InputFault.TheVariants.{Layout as BadLayout, Package, Missing, TooLarge, Incomplete}
 use Rattle.flash_format.specs.declared.stops.FormatStop.{FormatStop}
@@ -30,6 +36,15 @@ pub record ReadsBy {T : Type 0} (told : Option Directory) (name : List ℕ) (bef
     (result : Result T FormatStop) : Type 0 where
   pub later : before ≤ now
   pub failed : result ≡ Err ReadFailed → Rose before now ⊎ Lacks told name
+
+-- What reading the package of this name leaves of the files, by the result.
+pub record ReadsPackage {H T : Type 0} (g : Ghosts H) (name : List ℕ) (result : Result T FormatStop) (old new : H) : Type 0 where
+  -- That file alone is asked for, and none is written.
+  pub files : ReadsFile g name old new
+  -- On any files: no call of them failed but the one that is told.
+  pub once : g.faults new ≤ g.faults old + unread_in result
+  -- And that one has its cause.
+  pub cause : ReadsBy (g.contents old) name (g.faults old) (g.faults new) result
 
 -- nothing that was given is refused
 abbrev pub RefusesNothing : {T : Type 0} → Result T FormatStop → Type 0
@@ -87,6 +102,16 @@ abbrev pub LayoutBy : {T : Type 0} → Result Layout LayoutFault → Result T Fo
 LayoutBy (Err fault) result = result ≡ Err (Input (BadLayout fault))
 LayoutBy (Ok L) result = IsOfLayout result → ⊥
 
+-- What is refused before the flash is touched, by these rows and banks on a flash of so many blocks and by the file of this name.
+pub record RefusesInput {T : Type 0} (told : Option Directory) (name : List ℕ) (L : Layout) (blocks : ℕ)
+    (result : Result T FormatStop) : Type 0 where
+  -- By the layout, exactly.
+  pub layout : LayoutBy (fitted L blocks) result
+  -- And by the bytes of the file, exactly, where they are told.
+  pub answers : (file : List ℕ) → Tells told name file → Answers (refusal L blocks file) result
+  -- On any files by some bytes, unless the file could not be read: those have that fault, or they are a package with each image.
+  pub some : IsOfBytes (fitted L blocks) result
+
 -- what is in the bank may be refused, and nothing else
 abbrev pub RefusesBank : {T : Type 0} → Result T FormatStop → Type 0
 RefusesBank (Ok x) = ⊤
@@ -97,6 +122,17 @@ RefusesBank (Err (Input (TooLarge guid))) = ⊥
 RefusesBank (Err (Input (Incomplete verdict))) = ⊤
 RefusesBank (Err ReadFailed) = ⊥
 RefusesBank (Err (Flash stop)) = ⊤
+
+-- The fact of the verdict, where what is in the bank was refused.
+abbrev pub IfRefused : {T : Type 0} → Result T FormatStop → (Verdict → Type 0) → Type 0
+IfRefused result fact = (found : Verdict) → result ≡ Err (Input (Incomplete found)) → fact found
+
+-- On every device: why what is in the bank is refused.
+pub record IsByVerdict {T : Type 0} (passes : List ℕ → Bool) (rows : List ImageRow) (result : Result T FormatStop) : Type 0 where
+  -- The bank may not start by the verdict.
+  pub bad : IfRefused result (λ found. may_start found ≡ false)
+  -- What was read gives it: a manifest that the verifier refuses, or one that passes.
+  pub seen : IfRefused result (λ found. HasPassed passes rows 0 found)
 
 -- the fact, where the images were written: the flash was formatted, or what is in the bank was refused
 abbrev pub Finishes : {T : Type 0} → Result T FormatStop → Type 0 → Type 0

@@ -1,17 +1,13 @@
 //! Writing the images of a package into bank 0.
-ghost use Rattle.std.specs.Prelude.{◌≡◌, ◌+◌, ◌*◌, ◌^◌, ◌<◌, ◌≤◌, ℕ, List, All, length, slice_index_or, IsTrue, OnOk};
+ghost use Rattle.std.specs.Prelude.{◌+◌, ◌*◌, ◌≤◌, ℕ, List, length, IsTrue, OnOk};
 ghost use Rattle.base_core.specs.Block.{block_bytes};
-ghost use Rattle.flash_core.specs.Calls.{Goes};
-ghost use Rattle.flash_core.specs.Counts.{lowered_by};
-ghost use Rattle.flash_core.specs.May.{Keeps};
 ghost use Rattle.fwu_formats.specs.Layout.{blocks_needed, slot_total};
-ghost use Rattle.host_io.specs.Reads.{ReadsFile};
-ghost use Rattle.fip_tables.specs.Files.{Lacks, Tells};
-ghost use Rattle.fip_tables.specs.Images.{no_entry, no_row};
-ghost use Rattle.flash_format.specs.Cleared.{LeavesNoMore};
+ghost use Rattle.fip_tables.specs.Files.{Tells};
 ghost use Rattle.flash_format.specs.Places.{Erased, AllStand};
-ghost use Rattle.flash_format.specs.Stops.{flash_result, ReadsBy, RefusesNothing, unread_in};
+ghost use Rattle.flash_format.specs.Planned.{IsPlanned};
+ghost use Rattle.flash_format.specs.Stops.{ReadsPackage};
 ghost use Rattle.flash_format.specs.Takes.{pieces_in};
+ghost use Rattle.flash_format.specs.Writes.{WritesImages};
 
 use crate::images::write_image;
 use crate::stops::FormatStop;
@@ -32,29 +28,14 @@ pub fn write_bank<D: Flash, H: Files>(
     requires inside { blocks_needed layout.now ≤ D.blocks flash.old }
     requires erased { IsTrue D.tells →
         Erased (block_bytes * 8) (block_bytes * (8 + slot_total layout.now.rows)) (D.told flash.old).now }
-    requires count { length entries.now ≡ length layout.now.rows }
-    requires fit { (k : ℕ) → k < length layout.now.rows →
-        (slice_index_or entries.now k no_entry).size ≤ block_bytes * (slice_index_or layout.now.rows k no_row).slots }
-    requires ends { All (λ e. e.offset + e.size < 2 ^ 64) entries.now }
-    requires stored { (file : List ℕ) → Tells (H.contents files.old) name.now file →
-        All (λ e. e.offset + e.size ≤ length file) entries.now }
-    requires there { Lacks (H.contents files.old) name.now → ⊥ }
+    requires planned { IsPlanned (H.contents files.old) name.now layout.now entries.now }
 
-    ensures keeps { IsTrue D.tells →
-        Keeps (block_bytes * 8) (block_bytes * (8 + slot_total layout.now.rows)) (D.told flash.old)
-        (D.told flash.new) }
-    ensures left { IsTrue D.tells → LeavesNoMore 8 (D.told flash.old) (D.told flash.new) }
+    ensures writes { WritesImages D.Flash 8 (block_bytes * 8) (block_bytes * (8 + slot_total layout.now.rows))
+        (pieces_in entries.now) result flash.old flash.new }
     ensures bytes { OnOk result (IsTrue D.tells → (file : List ℕ) →
         Tells (H.contents files.old) name.now file
         → AllStand (length layout.now.rows) layout.now file entries.now (D.told flash.new).now) }
-    ensures goes { Goes D.Flash (flash_result result) flash.old flash.new }
-    ensures spent { OnOk result (D.arming flash.new
-        ≡ lowered_by (pieces_in entries.now) (D.arming flash.old)) }
-    ensures files { ReadsFile H.Files name.now files.old files.new }
-    ensures once { H.faults files.new ≤ H.faults files.old + unread_in result }
-    ensures reads { ReadsBy (H.contents files.old) name.now (H.faults files.old)
-        (H.faults files.new) result }
-    ensures stops { RefusesNothing result }
+    ensures reads { ReadsPackage H.Files name.now result files.old files.new }
 {
     let rows = layout.rows();
     for k in 0..rows.len() {

@@ -1,12 +1,10 @@
 //! Erasing the front of a flash.
-ghost use Rattle.flash_core.specs.Calls.{Goes};
-ghost use Rattle.std.specs.Prelude.{◌≡◌, ◌⊎◌, ◌-◌, ◌*◌, ◌≤◌, IsTrue, OnOk};
+ghost use Rattle.std.specs.Prelude.{◌-◌, ◌*◌, ◌≤◌, IsTrue, OnOk};
 ghost use Rattle.base_core.specs.Block.{block_bytes};
-ghost use Rattle.flash_core.specs.Counts.{lowered_by};
-ghost use Rattle.flash_core.specs.May.{Keeps};
 ghost use Rattle.flash_core.specs.Told.{NothingDirty};
 ghost use Rattle.flash_format.specs.Cleared.{IsBare, OnlyErased};
 ghost use Rattle.flash_format.specs.Places.{Erased};
+ghost use Rattle.flash_format.specs.Writes.{ClearsFirst, Writes};
 
 use flash_core::{Flash, FlashStop};
 
@@ -14,13 +12,11 @@ use flash_core::{Flash, FlashStop};
 fn erase_layout<D: Flash>(flash: &mut D) -> Result<(), FlashStop>
     requires on { IsTrue (D.on flash.old) }
 
-    ensures keeps { IsTrue D.tells → Keeps 0 block_bytes (D.told flash.old) (D.told flash.new) }
+    // on every device: one erase
+    ensures writes { Writes D.Flash 0 block_bytes 1 result flash.old flash.new }
     ensures erased { OnOk result (IsTrue D.tells → Erased 0 block_bytes (D.told flash.new).now) }
     ensures clean { OnOk result (IsTrue D.tells → NothingDirty (D.told flash.new)) }
     ensures only { IsTrue D.tells → OnlyErased (D.told flash.old) (D.told flash.new) }
-    ensures goes { Goes D.Flash result flash.old flash.new }
-    // on every device: one erase
-    ensures spent { OnOk result (D.arming flash.new ≡ lowered_by 1 (D.arming flash.old)) }
 {
     flash.erase(0)?;
     flash.barrier()
@@ -32,11 +28,9 @@ fn erase_behind<D: Flash>(flash: &mut D, count: u32) -> Result<(), FlashStop>
     requires inside { count ≤ D.blocks flash.old }
     requires some { 1 ≤ count }
 
-    ensures keeps { IsTrue D.tells → Keeps block_bytes (block_bytes * count) (D.told flash.old) (D.told flash.new) }
+    ensures writes { Writes D.Flash block_bytes (block_bytes * count) (count - 1) result flash.old flash.new }
     ensures erased { OnOk result (IsTrue D.tells → Erased block_bytes (block_bytes * count) (D.told flash.new).now) }
     ensures only { IsTrue D.tells → OnlyErased (D.told flash.old) (D.told flash.new) }
-    ensures goes { Goes D.Flash result flash.old flash.new }
-    ensures spent { OnOk result (D.arming flash.new ≡ lowered_by (count - 1) (D.arming flash.old)) }
 {
     for block in 1..count {
         flash.erase(block)?;
@@ -50,16 +44,11 @@ pub fn erase_all<D: Flash>(flash: &mut D, count: u32) -> Result<(), FlashStop>
     requires inside { count ≤ D.blocks flash.old }
     requires some { 1 ≤ count }
 
-    ensures keeps { IsTrue D.tells → Keeps 0 (block_bytes * count) (D.told flash.old) (D.told flash.new) }
-    ensures erased { OnOk result (IsTrue D.tells → Erased 0 (block_bytes * count) (D.told flash.new).now) }
-    ensures only { IsTrue D.tells → OnlyErased (D.told flash.old) (D.told flash.new) }
-    // Until block 0 is bare no other block is touched.
-    ensures first { IsTrue D.tells → Keeps 0 block_bytes (D.told flash.old) (D.told flash.new) ⊎
-        IsBare (D.told flash.new) }
-    ensures bare { OnOk result (IsTrue D.tells → IsBare (D.told flash.new)) }
-    ensures goes { Goes D.Flash result flash.old flash.new }
     // on every device: one erase of each block
-    ensures spent { OnOk result (D.arming flash.new ≡ lowered_by count (D.arming flash.old)) }
+    ensures writes { Writes D.Flash 0 (block_bytes * count) count result flash.old flash.new }
+    ensures erased { OnOk result (IsTrue D.tells → Erased 0 (block_bytes * count) (D.told flash.new).now) }
+    ensures clears { ClearsFirst D.Flash flash.old flash.new }
+    ensures bare { OnOk result (IsTrue D.tells → IsBare (D.told flash.new)) }
 {
     erase_layout(flash)?;
     erase_behind(flash, count)

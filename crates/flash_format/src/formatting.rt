@@ -1,5 +1,5 @@
 //! Formatting a flash.
-ghost use Rattle.std.specs.Prelude.{◌≡◌, ◌+◌, ◌⊎◌, ◌*◌, ◌≤◌, ℕ, List, Ok, Err, false, IfOk, IfErr, OnOk, length, IsTrue};
+ghost use Rattle.std.specs.Prelude.{◌≡◌, ◌⊎◌, ◌*◌, ◌≤◌, ℕ, List, Ok, Err, IfOk, OnOk, IsTrue};
 ghost use Rattle.base_core.specs.Block.{block_bytes};
 ghost use Rattle.flash_core.specs.Calls.{Goes};
 ghost use Rattle.flash_core.specs.Counts.{lowered_by};
@@ -10,19 +10,12 @@ ghost use Rattle.fwu_formats.specs.Package.{Toc, toc_of};
 ghost use Rattle.fwu_model.specs.Answer.{images_of};
 ghost use Rattle.fwu_formats.specs.Manifest.{is_complete, manifest_part};
 ghost use Rattle.meta_layout.specs.Rows.{fitted};
-ghost use Rattle.host_io.specs.Reads.{ReadsFile};
 ghost use Rattle.fip_tables.specs.Files.{Lacks, Tells};
-ghost use Rattle.image_check.specs.Law.{may_start};
-ghost use Rattle.image_check.specs.Passed.{HasPassed};
-ghost use Rattle.image_check.specs.declared.bank.Verdict.TheVariants.{Good};
-ghost use Rattle.image_check.specs.declared.bank.Verdict.{Verdict};
-ghost use Rattle.flash_format.specs.Choosing.{refusal};
-ghost use Rattle.flash_format.specs.Formatted.{HasAtMost, HoldsImages, IsBlank, IsFormatted, IsInOrder, IsOrdered, IsRefused, IsSpelled, IsUnlaid, IsWhole};
-ghost use Rattle.flash_format.specs.Places.{AllStand, Erased};
-ghost use Rattle.flash_format.specs.Planned.{IsPlanned};
-ghost use Rattle.flash_format.specs.Stops.{flash_result, Answers, Finishes, IsEarly, IsOfBytes, IsOfLayout, LayoutBy, ReadsBy, RefusesBank, unread_in};
-ghost use Rattle.flash_format.specs.declared.stops.FormatStop.TheVariants.{Input as InputRefused, ReadFailed as FileFailed};
-ghost use Rattle.flash_format.specs.declared.stops.InputFault.TheVariants.{Incomplete as BankRefused};
+ghost use Rattle.flash_format.specs.Formatted.{HasAtMost, HoldsImages, IsBlank, IsInOrder, IsMade, IsOrdered, IsRefused, IsUnlaid, IsWhole};
+ghost use Rattle.flash_format.specs.Places.{Erased};
+ghost use Rattle.flash_format.specs.Planned.{IsFilled, IsPlanned};
+ghost use Rattle.flash_format.specs.Stops.{flash_result, Finishes, IfRefused, IsByVerdict, IsEarly, IsOfLayout, ReadsPackage, RefusesBank, RefusesInput};
+ghost use Rattle.flash_format.specs.declared.stops.FormatStop.TheVariants.{ReadFailed as FileFailed};
 ghost use Rattle.flash_format.specs.Takes.{Takes, pieces_in, writes_of};
 
 use crate::plan::Plan;
@@ -54,13 +47,10 @@ fn finish<D: Flash, V: Verifier>(
     requires inside { blocks_needed layout.now ≤ D.blocks flash.old }
     requires erased { IsTrue D.tells → Erased 0 (block_bytes * 8) (D.told flash.old).now }
 
-    ensures passed { IfOk result (λ version. HasPassed (V.passes verifier.now) layout.now.rows 0 (Good version)) }
-    ensures formatted { IfOk result (λ version. IsTrue D.tells →
-        IsFormatted (V.passes verifier.now) layout.now version (D.told flash.new)) }
-    ensures spelled { OnOk result (IsTrue D.tells → IsSpelled layout.now (D.told flash.new).now) }
+    ensures made { IfOk result (λ version. IsMade D.Flash (V.passes verifier.now) layout.now version flash.new) }
     ensures at_most { IsTrue D.tells → HasAtMost layout.now (D.told flash.new).now }
-    ensures refused { (found : Verdict) → result ≡ Err (InputRefused (BankRefused found)) →
-        IsTrue D.tells → IsRefused (V.passes verifier.now) layout.now found (D.told flash.new).now }
+    ensures refused { IfRefused result (λ found. IsTrue D.tells →
+        IsRefused (V.passes verifier.now) layout.now found (D.told flash.new).now) }
     ensures clean { Finishes result (IsTrue D.tells → NothingDirty (D.told flash.old)
         → NothingDirty (D.told flash.new)) }
     ensures keeps { IsTrue D.tells → Keeps 0 (block_bytes * 3) (D.told flash.old) (D.told flash.new) }
@@ -71,12 +61,8 @@ fn finish<D: Flash, V: Verifier>(
         IsWhole (V.passes verifier.now) layout.now (D.told flash.new) }
     ensures goes { Goes D.Flash (flash_result result) flash.old flash.new }
     ensures spent { OnOk result (D.arming flash.new ≡ lowered_by 3 (D.arming flash.old)) }
-    ensures worn { (found : Verdict) → result ≡ Err (InputRefused (BankRefused found)) →
-        D.arming flash.new ≡ D.arming flash.old }
-    ensures bad { (found : Verdict) → result ≡ Err (InputRefused (BankRefused found)) →
-        may_start found ≡ false }
-    ensures seen { (found : Verdict) → result ≡ Err (InputRefused (BankRefused found)) →
-        HasPassed (V.passes verifier.now) layout.now.rows 0 found }
+    ensures worn { IfRefused result (λ found. D.arming flash.new ≡ D.arming flash.old) }
+    ensures refuses { IsByVerdict (V.passes verifier.now) layout.now.rows result }
     ensures stops { RefusesBank result }
 {
     let _rows = layout.rows();
@@ -97,19 +83,11 @@ fn carry_out<D: Flash, H: Files, V: Verifier>(
     requires inside { blocks_needed plan.now.layout ≤ D.blocks flash.old }
     requires planned { IsPlanned (H.contents files.old) name.now plan.now.layout plan.now.entries }
 
-    ensures passed { IfOk result (λ version. HasPassed (V.passes verifier.now) plan.now.layout.rows 0 (Good version)) }
-    ensures formatted { IfOk result (λ version. IsTrue D.tells →
-        IsFormatted (V.passes verifier.now) plan.now.layout version (D.told flash.new)) }
-    ensures spelled { OnOk result (IsTrue D.tells → IsSpelled plan.now.layout (D.told flash.new).now) }
-    ensures refused { (found : Verdict) → result ≡ Err (InputRefused (BankRefused found)) →
-        IsTrue D.tells →
-        IsRefused (V.passes verifier.now) plan.now.layout found (D.told flash.new).now }
-    ensures bytes { Finishes result (IsTrue D.tells → (file : List ℕ) →
-        Tells (H.contents files.old) name.now file
-        → AllStand (length plan.now.layout.rows) plan.now.layout file plan.now.entries (D.told flash.new).now) }
-    ensures blank { Finishes result (IsTrue D.tells →
-        IsBlank plan.now.layout (D.told flash.new).now) }
-    ensures clean { Finishes result (IsTrue D.tells → NothingDirty (D.told flash.new)) }
+    ensures made { IfOk result (λ version. IsMade D.Flash (V.passes verifier.now) plan.now.layout version flash.new) }
+    ensures refused { IfRefused result (λ found. IsTrue D.tells →
+        IsRefused (V.passes verifier.now) plan.now.layout found (D.told flash.new).now) }
+    ensures filled { Finishes result (IsTrue D.tells →
+        IsFilled (H.contents files.old) name.now plan.now.layout plan.now.entries (D.told flash.new)) }
     ensures failed { result ≡ Err FileFailed → IsTrue D.tells → IsUnlaid (D.told flash.new) }
     ensures keeps { IsTrue D.tells →
         Keeps 0 (block_bytes * blocks_needed plan.now.layout) (D.told flash.old) (D.told flash.new) }
@@ -119,17 +97,11 @@ fn carry_out<D: Flash, H: Files, V: Verifier>(
     ensures goes { Goes D.Flash (flash_result result) flash.old flash.new }
     ensures spent { OnOk result (D.arming flash.new
         ≡ lowered_by (writes_of plan.now.layout (pieces_in plan.now.entries) 3) (D.arming flash.old)) }
-    ensures worn { (found : Verdict) → result ≡ Err (InputRefused (BankRefused found)) → D.arming flash.new
-        ≡ lowered_by (writes_of plan.now.layout (pieces_in plan.now.entries) 0) (D.arming flash.old) }
-    ensures bad { (found : Verdict) → result ≡ Err (InputRefused (BankRefused found)) →
-        may_start found ≡ false }
-    ensures seen { (found : Verdict) → result ≡ Err (InputRefused (BankRefused found)) →
-        HasPassed (V.passes verifier.now) plan.now.layout.rows 0 found }
+    ensures worn { IfRefused result (λ found. D.arming flash.new
+        ≡ lowered_by (writes_of plan.now.layout (pieces_in plan.now.entries) 0) (D.arming flash.old)) }
+    ensures refuses { IsByVerdict (V.passes verifier.now) plan.now.layout.rows result }
     ensures stops { IsEarly result → ⊥ }
-    ensures files { ReadsFile H.Files name.now files.old files.new }
-    ensures once { H.faults files.new ≤ H.faults files.old + unread_in result }
-    ensures reads { ReadsBy (H.contents files.old) name.now (H.faults files.old)
-        (H.faults files.new) result }
+    ensures reads { ReadsPackage H.Files name.now result files.old files.new }
 {
     let _rows = plan.layout.rows();
     fill(flash, plan, files, name)?;
@@ -160,15 +132,9 @@ pub fn format<D: Flash, H: Files, V: Verifier>(
 ) -> Result<Formatted, FormatStop>
     requires { IsTrue (D.on flash.old) }
 
-    // What is refused before the flash is touched, exactly: by the layout, and by the bytes of the file where they are told.
-    ensures layout { LayoutBy (fitted (record { banks = banks; rows = rows.now })
-        (D.blocks flash.old)) result }
-    ensures answers { (file : List ℕ) → Tells (H.contents files.old) name.now file →
-        Answers (refusal (record { banks = banks; rows = rows.now })
-        (D.blocks flash.old) file) result }
-    // And on any files by some bytes, unless the file could not be read: a refusal before the flash is touched is one that they
-    // have, and else they are a package with each image.
-    ensures some { IsOfBytes (fitted (record { banks = banks; rows = rows.now }) (D.blocks flash.old)) result }
+    // What is refused before the flash is touched.
+    ensures input { RefusesInput (H.contents files.old) name.now (record { banks = banks; rows = rows.now })
+        (D.blocks flash.old) result }
     ensures untouched { IsEarly result → flash.new ≡ flash.old }
     // A file that could not be read: the flash is as it was, or has no layout, whatever a loss leaves.
     ensures failed { result ≡ Err FileFailed → IsTrue D.tells →
@@ -176,29 +142,23 @@ pub fn format<D: Flash, H: Files, V: Verifier>(
     // A name that told files lack gives a file that could not be read, unless there is no layout; and nothing was done.
     ensures missing { Lacks (H.contents files.old) name.now
         → (IsOfLayout result ⊎ (result ≡ Err FileFailed)) × (flash.new ≡ flash.old) }
-    // Formatted: what the flash shows, and that it is sound.
+    // Formatted: by the layout that was asked for.
     ensures given { IfOk result (λ done. fitted (record { banks = banks; rows = rows.now })
         (D.blocks flash.old) ≡ Ok done.layout) }
-    // On any device the version is that of some complete package whose manifest passes.
-    ensures passed { IfOk result (λ done. HasPassed (V.passes verifier.now) done.layout.rows 0 (Good done.version)) }
-    ensures formatted { IfOk result (λ done. IsTrue D.tells →
-        IsFormatted (V.passes verifier.now) done.layout done.version (D.told flash.new)) }
-    ensures spelled { IfOk result (λ done. IsTrue D.tells → IsSpelled done.layout (D.told flash.new).now) }
+    ensures made { IfOk result (λ done. IsMade D.Flash (V.passes verifier.now) done.layout done.version flash.new) }
     // Refused: the flash has no layout, and what it is refused for is the verdict on what bank 0 holds.
-    ensures refused { (found : Verdict) → result ≡ Err (InputRefused (BankRefused found)) →
-        IsTrue D.tells
-        → IsRefused (V.passes verifier.now) (record { banks = banks; rows = rows.now }) found (D.told flash.new).now }
+    ensures refused { IfRefused result (λ found. IsTrue D.tells →
+        IsRefused (V.passes verifier.now) (record { banks = banks; rows = rows.now }) found (D.told flash.new).now) }
     // Either way bank 0 holds the package's images, and they aren't refused where they are a complete package that passes.
     ensures images { Finishes result (IsTrue D.tells → (file : List ℕ) (toc : Toc) →
         Tells (H.contents files.old) name.now file → toc_of file ≡ Ok toc
         → HoldsImages (record { banks = banks; rows = rows.now }) (images_of rows.now file toc) (D.told flash.new).now) }
     ensures blank { Finishes result (IsTrue D.tells →
         IsBlank (record { banks = banks; rows = rows.now }) (D.told flash.new).now) }
-    ensures deserved { (found : Verdict) → result ≡ Err (InputRefused (BankRefused found)) →
-        IsTrue D.tells → (file : List ℕ) (toc : Toc) → Tells (H.contents files.old) name.now file →
-        toc_of file ≡ Ok toc
+    ensures deserved { IfRefused result (λ found. IsTrue D.tells → (file : List ℕ) (toc : Toc) →
+        Tells (H.contents files.old) name.now file → toc_of file ≡ Ok toc
         → IsTrue (is_complete rows.now (images_of rows.now file toc))
-        → IsTrue (V.passes verifier.now (manifest_part (images_of rows.now file toc))) → ⊥ }
+        → IsTrue (V.passes verifier.now (manifest_part (images_of rows.now file toc))) → ⊥) }
     // Either way nothing is dirty, so that a loss leaves just what is there.
     ensures clean { Finishes result (IsTrue D.tells → NothingDirty (D.told flash.new)) }
     // At any exit, whatever a loss leaves: block 0 alone was touched, or a layout stands only with both replicas, and the one that
@@ -215,20 +175,10 @@ pub fn format<D: Flash, H: Files, V: Verifier>(
     // each replica and for the layout; where what is in the bank is refused, none for replicas and layout.
     ensures spent { IfOk result (λ done.
         Takes (H.contents files.old) name.now done.layout 3 (D.arming flash.old) (D.arming flash.new)) }
-    ensures worn { (found : Verdict) → result ≡ Err (InputRefused (BankRefused found)) →
-        Takes (H.contents files.old) name.now (record { banks = banks; rows = rows.now }) 0
-        (D.arming flash.old) (D.arming flash.new) }
-    // No verdict is refused by which the bank may start, and none without what was read that gives it: a manifest that the verifier
-    // refuses, or one that passes.
-    ensures bad { (found : Verdict) → result ≡ Err (InputRefused (BankRefused found)) →
-        may_start found ≡ false }
-    ensures seen { (found : Verdict) → result ≡ Err (InputRefused (BankRefused found)) →
-        HasPassed (V.passes verifier.now) rows.now 0 found }
-    ensures files { ReadsFile H.Files name.now files.old files.new }
-    // On any files: no call of them failed but the one that is told.
-    ensures once { H.faults files.new ≤ H.faults files.old + unread_in result }
-    ensures reads { ReadsBy (H.contents files.old) name.now (H.faults files.old)
-        (H.faults files.new) result }
+    ensures worn { IfRefused result (λ found. Takes (H.contents files.old) name.now
+        (record { banks = banks; rows = rows.now }) 0 (D.arming flash.old) (D.arming flash.new)) }
+    ensures refuses { IsByVerdict (V.passes verifier.now) rows.now result }
+    ensures reads { ReadsPackage H.Files name.now result files.old files.new }
 {
     let plan = plan(rows, banks, flash.blocks(), files, name)?;
     let version = carry_out(flash, &plan, files, name, verifier)?;

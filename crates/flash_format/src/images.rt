@@ -1,17 +1,15 @@
 //! Writing an image of a package into its slot.
-ghost use Rattle.std.specs.Prelude.{◌≡◌, ◌+◌, ◌*◌, ◌%◌, ◌^◌, ◌<◌, ◌≤◌, ℕ, List, length, drop, IsTrue, IfOk, OnOk};
+ghost use Rattle.std.specs.Prelude.{◌≡◌, ◌+◌, ◌*◌, ◌%◌, ◌<◌, ◌≤◌, ℕ, List, length, drop, IsTrue, IfOk, OnOk};
 ghost use Rattle.base_core.specs.Block.{block_bytes, granule_bytes, blank};
-ghost use Rattle.flash_core.specs.Calls.{Goes};
-ghost use Rattle.flash_core.specs.Counts.{lowered_by};
-ghost use Rattle.flash_core.specs.May.{Keeps};
 ghost use Rattle.host_io.specs.Causes.{HasCause};
 ghost use Rattle.fwu_formats.specs.Package.{payload};
 ghost use Rattle.host_io.specs.Reads.{ReadsFile};
-ghost use Rattle.fip_tables.specs.Files.{Lacks, Tells};
-ghost use Rattle.flash_format.specs.Cleared.{LeavesNoMore};
+ghost use Rattle.fip_tables.specs.Files.{Tells};
 ghost use Rattle.flash_format.specs.Places.{Erased, Stands};
-ghost use Rattle.flash_format.specs.Stops.{flash_result, ReadsBy, RefusesNothing, unread_in};
+ghost use Rattle.flash_format.specs.Planned.{IsStored};
+ghost use Rattle.flash_format.specs.Stops.{ReadsPackage};
 ghost use Rattle.flash_format.specs.Takes.{pieces_of};
+ghost use Rattle.flash_format.specs.Writes.{WritesImages};
 
 use crate::stops::FormatStop;
 use base_core::{BLOCK_BYTES, GRANULE_BYTES};
@@ -33,10 +31,7 @@ fn read_piece<H: Files>(
 ) -> Result<usize, Failed>
     requires erased { out.old ≡ blank block_bytes }
     requires some { done < entry.now.size }
-    requires ends { entry.now.offset + entry.now.size < 2 ^ 64 }
-    requires stored { (file : List ℕ) → Tells (H.contents files.old) name.now file →
-        entry.now.offset + entry.now.size ≤ length file }
-    requires there { Lacks (H.contents files.old) name.now → ⊥ }
+    requires stored { IsStored (H.contents files.old) name.now entry.now }
 
     ensures bytes { OnOk result ((file : List ℕ) → Tells (H.contents files.old) name.now file →
         Stands 0 block_bytes (drop done (payload file entry.now)) out.new) }
@@ -67,24 +62,14 @@ fn write_piece<D: Flash, H: Files>(
     requires erased { IsTrue D.tells →
         Erased (block_bytes * block) (block_bytes * block + block_bytes) (D.told flash.old).now }
     requires some { done < entry.now.size }
-    requires ends { entry.now.offset + entry.now.size < 2 ^ 64 }
-    requires stored { (file : List ℕ) → Tells (H.contents files.old) name.now file →
-        entry.now.offset + entry.now.size ≤ length file }
-    requires there { Lacks (H.contents files.old) name.now → ⊥ }
+    requires stored { IsStored (H.contents files.old) name.now entry.now }
 
-    ensures keeps { IsTrue D.tells →
-        Keeps (block_bytes * block) (block_bytes * block + block_bytes) (D.told flash.old) (D.told flash.new) }
-    ensures left { IsTrue D.tells → LeavesNoMore block (D.told flash.old) (D.told flash.new) }
+    ensures writes { WritesImages D.Flash block (block_bytes * block) (block_bytes * block + block_bytes) 1 result
+        flash.old flash.new }
     ensures bytes { OnOk result (IsTrue D.tells → (file : List ℕ) →
         Tells (H.contents files.old) name.now file
         → Stands (block_bytes * block) block_bytes (drop done (payload file entry.now)) (D.told flash.new).now) }
-    ensures goes { Goes D.Flash (flash_result result) flash.old flash.new }
-    ensures spent { OnOk result (D.arming flash.new ≡ lowered_by 1 (D.arming flash.old)) }
-    ensures files { ReadsFile H.Files name.now files.old files.new }
-    ensures once { H.faults files.new ≤ H.faults files.old + unread_in result }
-    ensures reads { ReadsBy (H.contents files.old) name.now (H.faults files.old)
-        (H.faults files.new) result }
-    ensures stops { RefusesNothing result }
+    ensures reads { ReadsPackage H.Files name.now result files.old files.new }
 {
     let mut bytes = [0xFF; BLOCK_BYTES as usize];
     let size = match read_piece(files, name, entry, done, &mut bytes) {
@@ -109,26 +94,15 @@ pub fn write_image<D: Flash, H: Files>(
     requires erased { IsTrue D.tells →
         Erased (block_bytes * first) (block_bytes * (first + slots)) (D.told flash.old).now }
     requires fits { entry.now.size ≤ block_bytes * slots }
-    requires ends { entry.now.offset + entry.now.size < 2 ^ 64 }
-    requires stored { (file : List ℕ) → Tells (H.contents files.old) name.now file →
-        entry.now.offset + entry.now.size ≤ length file }
-    requires there { Lacks (H.contents files.old) name.now → ⊥ }
+    requires stored { IsStored (H.contents files.old) name.now entry.now }
 
-    ensures keeps { IsTrue D.tells →
-        Keeps (block_bytes * first) (block_bytes * (first + slots)) (D.told flash.old) (D.told flash.new) }
-    ensures left { IsTrue D.tells → LeavesNoMore first (D.told flash.old) (D.told flash.new) }
+    // on every device: one program of each piece
+    ensures writes { WritesImages D.Flash first (block_bytes * first) (block_bytes * (first + slots))
+        (pieces_of entry.now.size) result flash.old flash.new }
     ensures bytes { OnOk result (IsTrue D.tells → (file : List ℕ) →
         Tells (H.contents files.old) name.now file
         → Stands (block_bytes * first) (block_bytes * slots) (payload file entry.now) (D.told flash.new).now) }
-    ensures goes { Goes D.Flash (flash_result result) flash.old flash.new }
-    // on every device: one program of each piece
-    ensures spent { OnOk result (D.arming flash.new
-        ≡ lowered_by (pieces_of entry.now.size) (D.arming flash.old)) }
-    ensures files { ReadsFile H.Files name.now files.old files.new }
-    ensures once { H.faults files.new ≤ H.faults files.old + unread_in result }
-    ensures reads { ReadsBy (H.contents files.old) name.now (H.faults files.old)
-        (H.faults files.new) result }
-    ensures stops { RefusesNothing result }
+    ensures reads { ReadsPackage H.Files name.now result files.old files.new }
 {
     let pieces = ((entry.size + (PIECE - 1)) / PIECE) as u32;
     for k in 0..pieces {

@@ -1,12 +1,11 @@
 //! What is to be written: the layout, and the entries of its images. It is found before the flash is touched.
-ghost use Rattle.std.specs.Prelude.{◌≡◌, ◌≤◌, ◌+◌, ◌⊎◌, ℕ, List, Ok, Err, IfOk, IfErr};
+ghost use Rattle.std.specs.Prelude.{◌≡◌, ◌⊎◌, ℕ, List, Ok, Err, IfOk, IfErr};
 ghost use Rattle.fwu_formats.specs.Package.{toc_of};
 ghost use Rattle.meta_layout.specs.Rows.{fitted};
-ghost use Rattle.host_io.specs.Reads.{ReadsFile};
 ghost use Rattle.fip_tables.specs.Files.{Lacks, Tells};
-ghost use Rattle.flash_format.specs.Choosing.{refusal, refusal_by};
-ghost use Rattle.flash_format.specs.Planned.{IsPlanned, HasToc};
-ghost use Rattle.flash_format.specs.Stops.{Answers, IsOfBytes, IsOfLayout, LayoutBy, ReadsBy, StopsEarly, unread_in};
+ghost use Rattle.flash_format.specs.Choosing.{refusal_by};
+ghost use Rattle.flash_format.specs.Planned.{IsPlan};
+ghost use Rattle.flash_format.specs.Stops.{Answers, IsOfBytes, IsOfLayout, ReadsPackage, RefusesInput, StopsEarly};
 ghost use Rattle.flash_format.specs.declared.stops.FormatStop.TheVariants.{ReadFailed as FileFailed};
 
 use crate::plan::Plan;
@@ -20,19 +19,14 @@ use meta_layout::Layout;
 /// The entries of a layout's images in a package.
 fn plan_of<H: Files>(files: &mut H, name: &str, layout: Layout) -> Result<Plan, FormatStop>
     ensures layout { IfOk result (λ plan. plan.layout ≡ layout) }
-    ensures planned { IfOk result (λ plan. IsPlanned (H.contents files.old) name.now plan.layout plan.entries) }
-    ensures toc { IfOk result (λ plan. (file : List ℕ) →
-        Tells (H.contents files.old) name.now file → HasToc file plan.layout plan.entries) }
+    ensures plans { IfOk result (λ plan. IsPlan (H.contents files.old) name.now plan.layout plan.entries) }
     ensures answers { (file : List ℕ) → Tells (H.contents files.old) name.now file →
         Answers (refusal_by (Ok layout) (toc_of file)) result }
     ensures some { IsOfBytes (Ok layout) result }
     ensures missing { Lacks (H.contents files.old) name.now → result ≡ Err FileFailed }
     ensures other { IsOfLayout result → ⊥ }
     ensures stops { IfErr result StopsEarly }
-    ensures files { ReadsFile H.Files name.now files.old files.new }
-    ensures once { H.faults files.new ≤ H.faults files.old + unread_in result }
-    ensures reads { ReadsBy (H.contents files.old) name.now (H.faults files.old)
-        (H.faults files.new) result }
+    ensures reads { ReadsPackage H.Files name.now result files.old files.new }
 {
     let toc = read_table(files, name)?;
     let _rows = layout.rows();
@@ -51,20 +45,12 @@ pub fn plan<H: Files>(
 ) -> Result<Plan, FormatStop>
     ensures fits { IfOk result (λ plan. fitted (record { banks = banks; rows = rows.now }) blocks ≡
         Ok plan.layout) }
-    ensures planned { IfOk result (λ plan. IsPlanned (H.contents files.old) name.now plan.layout plan.entries) }
-    ensures toc { IfOk result (λ plan. (file : List ℕ) →
-        Tells (H.contents files.old) name.now file → HasToc file plan.layout plan.entries) }
-    ensures answers { (file : List ℕ) → Tells (H.contents files.old) name.now file →
-        Answers (refusal (record { banks = banks; rows = rows.now }) blocks file) result }
-    ensures some { IsOfBytes (fitted (record { banks = banks; rows = rows.now }) blocks) result }
-    ensures layout { LayoutBy (fitted (record { banks = banks; rows = rows.now }) blocks) result }
+    ensures plans { IfOk result (λ plan. IsPlan (H.contents files.old) name.now plan.layout plan.entries) }
+    ensures input { RefusesInput (H.contents files.old) name.now (record { banks = banks; rows = rows.now }) blocks result }
     ensures missing { Lacks (H.contents files.old) name.now → IsOfLayout result ⊎
         (result ≡ Err FileFailed) }
     ensures stops { IfErr result StopsEarly }
-    ensures files { ReadsFile H.Files name.now files.old files.new }
-    ensures once { H.faults files.new ≤ H.faults files.old + unread_in result }
-    ensures reads { ReadsBy (H.contents files.old) name.now (H.faults files.old)
-        (H.faults files.new) result }
+    ensures reads { ReadsPackage H.Files name.now result files.old files.new }
 {
     match Layout::make(rows, banks, blocks) {
         Ok(layout) => plan_of(files, name, layout),

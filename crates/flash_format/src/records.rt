@@ -1,17 +1,15 @@
 //! The metadata and the layout of a flash that is formatted.
-ghost use Rattle.flash_core.specs.Calls.{Goes};
 ghost use Rattle.std.specs.Prelude.{◌≡◌, ◌*◌, ◌%◌, ◌<◌, ◌≤◌, Ok, length, IsTrue, OnOk};
 ghost use Rattle.base_core.specs.Block.{block_bytes, granule_bytes, block};
-ghost use Rattle.flash_core.specs.Counts.{lowered_by};
-ghost use Rattle.flash_core.specs.May.{Keeps};
 ghost use Rattle.flash_core.specs.Told.{NothingDirty};
 ghost use Rattle.flash_core.specs.Replaces.{padded};
 ghost use Rattle.fwu_formats.specs.Layout.{blocks_needed, fits_layout, layout_bytes};
 ghost use Rattle.fwu_formats.specs.Metadata.{first_meta, replica_bytes};
 ghost use Rattle.fwu_formats.specs.Image.{layout_seen};
 ghost use Rattle.fwu_model.specs.Replica.{BothHold, in_version};
-ghost use Rattle.flash_format.specs.Formatted.{HasAtMost, IsOrdered, IsSpelled};
+ghost use Rattle.flash_format.specs.Formatted.{HasAtMost, HoldTwice, IsOrdered, IsSpelled};
 ghost use Rattle.flash_format.specs.Places.{Erased};
+ghost use Rattle.flash_format.specs.Writes.{Writes};
 
 use base_core::BLOCK_BYTES;
 use flash_core::{Flash, FlashStop};
@@ -26,13 +24,9 @@ fn write_twice<D: Flash>(flash: &mut D, bytes: &[u8]) -> Result<(), FlashStop>
     requires few { length bytes.now ≤ block_bytes }
     requires erased { IsTrue D.tells → Erased (block_bytes * 1) (block_bytes * 3) (D.told flash.old).now }
 
-    ensures keeps { IsTrue D.tells → Keeps (block_bytes * 1) (block_bytes * 3) (D.told flash.old) (D.told flash.new) }
-    ensures zero { OnOk result (IsTrue D.tells →
-        block 1 (D.told flash.new).now ≡ padded bytes.now) }
-    ensures one { OnOk result (IsTrue D.tells → block 2 (D.told flash.new).now ≡ padded bytes.now) }
+    ensures writes { Writes D.Flash (block_bytes * 1) (block_bytes * 3) 2 result flash.old flash.new }
+    ensures twice { OnOk result (IsTrue D.tells → HoldTwice bytes.now (D.told flash.new).now) }
     ensures clean { OnOk result (IsTrue D.tells → NothingDirty (D.told flash.new)) }
-    ensures goes { Goes D.Flash result flash.old flash.new }
-    ensures spent { OnOk result (D.arming flash.new ≡ lowered_by 2 (D.arming flash.old)) }
 {
     flash.program(BLOCK_BYTES * FIRST_REPLICA, bytes)?;
     flash.program(BLOCK_BYTES * SECOND_REPLICA, bytes)?;
@@ -44,16 +38,12 @@ fn write_replicas<D: Flash>(flash: &mut D, layout: &Layout) -> Result<(), FlashS
     requires on { IsTrue (D.on flash.old) }
     requires erased { IsTrue D.tells → Erased (block_bytes * 1) (block_bytes * 3) (D.told flash.old).now }
 
-    ensures keeps { IsTrue D.tells → Keeps (block_bytes * 1) (block_bytes * 3) (D.told flash.old) (D.told flash.new) }
+    ensures writes { Writes D.Flash (block_bytes * 1) (block_bytes * 3) 2 result flash.old flash.new }
     ensures both { OnOk result (IsTrue D.tells →
         BothHold layout.now (in_version 2 (first_meta layout.now)) (D.told flash.new).now) }
-    ensures zero { OnOk result (IsTrue D.tells →
-        block 1 (D.told flash.new).now ≡ padded (replica_bytes layout.now (first_meta layout.now))) }
-    ensures one { OnOk result (IsTrue D.tells →
-        block 2 (D.told flash.new).now ≡ padded (replica_bytes layout.now (first_meta layout.now))) }
+    ensures twice { OnOk result (IsTrue D.tells →
+        HoldTwice (replica_bytes layout.now (first_meta layout.now)) (D.told flash.new).now) }
     ensures clean { OnOk result (IsTrue D.tells → NothingDirty (D.told flash.new)) }
-    ensures goes { Goes D.Flash result flash.old flash.new }
-    ensures spent { OnOk result (D.arming flash.new ≡ lowered_by 2 (D.arming flash.old)) }
 {
     let mut bytes = [0xFF; BLOCK_BYTES as usize];
     let meta = Meta::first(layout);
@@ -69,15 +59,13 @@ fn write_layout<D: Flash>(flash: &mut D, layout: &Layout) -> Result<(), FlashSto
     requires inside { blocks_needed layout.now ≤ D.blocks flash.old }
     requires erased { IsTrue D.tells → Erased 0 block_bytes (D.told flash.old).now }
 
-    ensures keeps { IsTrue D.tells → Keeps 0 block_bytes (D.told flash.old) (D.told flash.new) }
+    ensures writes { Writes D.Flash 0 block_bytes 1 result flash.old flash.new }
     ensures layout { OnOk result (IsTrue D.tells →
         layout_seen (D.told flash.new).now ≡ Ok layout.now) }
     ensures spelled { OnOk result (IsTrue D.tells →
         block 0 (D.told flash.new).now ≡ padded (layout_bytes layout.now)) }
     ensures seen { IsTrue D.tells → HasAtMost layout.now (D.told flash.new).now }
     ensures clean { OnOk result (IsTrue D.tells → NothingDirty (D.told flash.new)) }
-    ensures goes { Goes D.Flash result flash.old flash.new }
-    ensures spent { OnOk result (D.arming flash.new ≡ lowered_by 1 (D.arming flash.old)) }
 {
     let mut bytes = [0xFF; BLOCK_BYTES as usize];
     layout.write(&mut bytes);
@@ -91,7 +79,8 @@ pub fn write_records<D: Flash>(flash: &mut D, layout: &Layout) -> Result<(), Fla
     requires inside { blocks_needed layout.now ≤ D.blocks flash.old }
     requires erased { IsTrue D.tells → Erased 0 (block_bytes * 3) (D.told flash.old).now }
 
-    ensures keeps { IsTrue D.tells → Keeps 0 (block_bytes * 3) (D.told flash.old) (D.told flash.new) }
+    // on every device: one program of each replica, and one of the layout
+    ensures writes { Writes D.Flash 0 (block_bytes * 3) 3 result flash.old flash.new }
     ensures both { OnOk result (IsTrue D.tells →
         BothHold layout.now (in_version 2 (first_meta layout.now)) (D.told flash.new).now) }
     ensures layout { OnOk result (IsTrue D.tells →
@@ -103,9 +92,6 @@ pub fn write_records<D: Flash>(flash: &mut D, layout: &Layout) -> Result<(), Fla
     // Whatever a loss leaves, no layout is there before both replicas are.
     ensures ordered { IsTrue D.tells → NothingDirty (D.told flash.old) →
         IsOrdered layout.now (D.told flash.new) }
-    ensures goes { Goes D.Flash result flash.old flash.new }
-    // on every device: one program of each replica, and one of the layout
-    ensures spent { OnOk result (D.arming flash.new ≡ lowered_by 3 (D.arming flash.old)) }
 {
     write_replicas(flash, layout)?;
     write_layout(flash, layout)

@@ -1,9 +1,8 @@
 //! The table of a package in a file.
-ghost use Rattle.std.specs.Prelude.{◌≡◌, ◌≤◌, ◌+◌, ◌^◌, ◌<◌, ℕ, List, Ok, Err, All, IfOk};
+ghost use Rattle.std.specs.Prelude.{◌≡◌, ◌+◌, ◌^◌, ◌<◌, ℕ, List, Ok, Err, All, IfOk};
 ghost use Rattle.fwu_formats.specs.Package.{toc_of};
-ghost use Rattle.host_io.specs.Reads.{ReadsFile};
 ghost use Rattle.fip_tables.specs.Files.{Lacks, Tells};
-ghost use Rattle.flash_format.specs.Stops.{flash_result, ReadsBy, unread_in};
+ghost use Rattle.flash_format.specs.Stops.{ReadsPackage};
 ghost use Rattle.flash_format.specs.Table.{IsTable, IsTableOfBytes, StopsTable};
 ghost use Rattle.flash_format.specs.declared.stops.FormatStop.TheVariants.{ReadFailed as FileFailed};
 
@@ -22,10 +21,7 @@ pub fn read_table<H: Files>(files: &mut H, name: &str) -> Result<Toc, FormatStop
     ensures missing { Lacks (H.contents files.old) name.now → result ≡ Err FileFailed }
     ensures there { IfOk result (λ toc. Lacks (H.contents files.old) name.now → ⊥) }
     ensures ends { IfOk result (λ toc. All (λ e. e.offset + e.size < 2 ^ 64) toc.entries) }
-    ensures files { ReadsFile H.Files name.now files.old files.new }
-    ensures once { H.faults files.new ≤ H.faults files.old + unread_in result }
-    ensures reads { ReadsBy (H.contents files.old) name.now (H.faults files.old)
-        (H.faults files.new) result }
+    ensures reads { ReadsPackage H.Files name.now result files.old files.new }
 {
     match read_toc(files, name) {
         Ok(toc) => Ok(toc),

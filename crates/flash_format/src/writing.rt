@@ -1,26 +1,19 @@
 //! Writing the images of a plan, and testing them.
-ghost use Rattle.std.specs.Prelude.{◌≡◌, ◌⊎◌, ◌+◌, ◌*◌, ◌≤◌, ℕ, List, Ok, Err, true, false, length, IsTrue, IfOk, OnOk};
+ghost use Rattle.std.specs.Prelude.{◌≡◌, ◌+◌, ◌*◌, ◌≤◌, IsTrue, IfOk, OnOk};
 ghost use Rattle.base_core.specs.Block.{block_bytes};
 ghost use Rattle.flash_core.specs.Calls.{Goes};
 ghost use Rattle.flash_core.specs.Counts.{lowered_by};
 ghost use Rattle.flash_core.specs.May.{Keeps};
 ghost use Rattle.fwu_formats.specs.Layout.{blocks_needed};
-ghost use Rattle.host_io.specs.Reads.{ReadsFile};
-ghost use Rattle.fip_tables.specs.Files.{Tells};
-ghost use Rattle.image_check.specs.Law.{may_start};
 ghost use Rattle.image_check.specs.Passed.{HasPassed};
 ghost use Rattle.image_check.specs.Verdict.{verdict_on};
-ghost use Rattle.image_check.specs.declared.bank.Verdict.{Verdict as Found};
 ghost use Rattle.image_check.specs.declared.bank.Verdict.TheVariants.{Good};
-ghost use Rattle.flash_core.specs.Told.{NothingDirty};
-ghost use Rattle.flash_format.specs.Cleared.{IsBare, OnlyErased};
-ghost use Rattle.flash_format.specs.Formatted.{IsBlank};
-ghost use Rattle.flash_format.specs.Places.{AllStand, Erased};
-ghost use Rattle.flash_format.specs.Planned.{IsPlanned};
-ghost use Rattle.flash_format.specs.Stops.{flash_result, ReadsBy, RefusesBank, RefusesNothing, unread_in};
-ghost use Rattle.flash_format.specs.declared.stops.FormatStop.TheVariants.{Input as InputRefused};
-ghost use Rattle.flash_format.specs.declared.stops.InputFault.TheVariants.{Incomplete as BankRefused};
+ghost use Rattle.flash_format.specs.Cleared.{IsBare};
+ghost use Rattle.flash_format.specs.Places.{Erased};
+ghost use Rattle.flash_format.specs.Planned.{IsFilled, IsPlanned};
+ghost use Rattle.flash_format.specs.Stops.{flash_result, IfRefused, IsByVerdict, ReadsPackage, RefusesBank, RefusesNothing};
 ghost use Rattle.flash_format.specs.Takes.{pieces_in};
+ghost use Rattle.flash_format.specs.Writes.{ClearsFirst};
 
 use crate::bank::write_bank;
 use crate::erasing::erase_all;
@@ -45,28 +38,18 @@ pub fn fill<D: Flash, H: Files>(
 
     ensures keeps { IsTrue D.tells →
         Keeps 0 (block_bytes * blocks_needed plan.now.layout) (D.told flash.old) (D.told flash.new) }
-    // Whatever the result, nothing is in the first blocks that wasn't there.
-    ensures only { IsTrue D.tells → OnlyErased (D.told flash.old) (D.told flash.new) }
-    // Until block 0 is bare no other block is touched.
-    ensures first { IsTrue D.tells → Keeps 0 block_bytes (D.told flash.old) (D.told flash.new) ⊎
-        IsBare (D.told flash.new) }
+    ensures clears { ClearsFirst D.Flash flash.old flash.new }
     ensures erased { OnOk (flash_result result) (IsTrue D.tells →
         Erased 0 (block_bytes * 8) (D.told flash.new).now) }
     // A file that could not be read leaves it bare too.
     ensures bare { OnOk (flash_result result) (IsTrue D.tells → IsBare (D.told flash.new)) }
-    ensures blank { OnOk result (IsTrue D.tells → IsBlank plan.now.layout (D.told flash.new).now) }
-    ensures clean { OnOk result (IsTrue D.tells → NothingDirty (D.told flash.new)) }
-    ensures bytes { OnOk result (IsTrue D.tells → (file : List ℕ) →
-        Tells (H.contents files.old) name.now file
-        → AllStand (length plan.now.layout.rows) plan.now.layout file plan.now.entries (D.told flash.new).now) }
+    ensures filled { OnOk result (IsTrue D.tells →
+        IsFilled (H.contents files.old) name.now plan.now.layout plan.now.entries (D.told flash.new)) }
     ensures goes { Goes D.Flash (flash_result result) flash.old flash.new }
     // on every device: one erase of each block, and one program of each piece of an image
     ensures spent { OnOk result (D.arming flash.new
         ≡ lowered_by (blocks_needed plan.now.layout + pieces_in plan.now.entries) (D.arming flash.old)) }
-    ensures files { ReadsFile H.Files name.now files.old files.new }
-    ensures once { H.faults files.new ≤ H.faults files.old + unread_in result }
-    ensures reads { ReadsBy (H.contents files.old) name.now (H.faults files.old)
-        (H.faults files.new) result }
+    ensures reads { ReadsPackage H.Files name.now result files.old files.new }
     ensures stops { RefusesNothing result }
 {
     let _rows = plan.layout.rows();
@@ -88,13 +71,9 @@ pub fn check_bank<D: Flash, V: Verifier>(
     ensures good { IfOk result (λ version. IsTrue D.tells →
         verdict_on (V.passes verifier.now) 0 layout.now (D.told flash.old).now 0 ≡ Good version) }
     ensures passed { IfOk result (λ version. HasPassed (V.passes verifier.now) layout.now.rows 0 (Good version)) }
-    ensures bad { (found : Found) → result ≡ Err (InputRefused (BankRefused found)) →
-        may_start found ≡ false }
-    ensures seen { (found : Found) → result ≡ Err (InputRefused (BankRefused found)) →
-        HasPassed (V.passes verifier.now) layout.now.rows 0 found }
-    ensures found { (found : Found) → result ≡ Err (InputRefused (BankRefused found)) →
-        IsTrue D.tells →
-        verdict_on (V.passes verifier.now) 0 layout.now (D.told flash.old).now 0 ≡ found }
+    ensures refuses { IsByVerdict (V.passes verifier.now) layout.now.rows result }
+    ensures found { IfRefused result (λ found. IsTrue D.tells →
+        verdict_on (V.passes verifier.now) 0 layout.now (D.told flash.old).now 0 ≡ found) }
     ensures content { IsTrue D.tells → D.told flash.new ≡ D.told flash.old }
     ensures goes { Goes D.Flash (flash_result result) flash.old flash.new }
     ensures arming { OnOk (flash_result result) (D.arming flash.new ≡ D.arming flash.old) }

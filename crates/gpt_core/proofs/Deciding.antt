@@ -1,18 +1,19 @@
 -- What the copies say where a table decides, and what a repair of the other copy leaves.
-use Rattle.std.proofs.Common.{◌≡◌, ℕ, ◌+◌, ◌*◌, ◌/◌, ◌≤◌, Bool, true, false, ◌&&◌, ◌==◌, List, length, Option, Some, None, refl, sym, ap, ◌∙◌, subst, eqb-true}
+use Rattle.std.proofs.Common.{◌≡◌, ℕ, ◌*◌, Bool, true, false, ◌&&◌, ◌==◌, List, length, Option, Some, None, refl, sym, ap, ◌∙◌, subst, eqb-true}
 use Rattle.std.proofs.lemmas.Bool.{and_parts, false≢true}
 use Rattle.std.proofs.lemmas.Result.{IfOk-weaker}
 use Rattle.std.specs.Prelude.{IsTrue, Result, Ok, if◌then◌else◌}
 use Rattle.base_core.specs.Bytes.{same_bytes}
 use Rattle.base_core.proofs.Spelled.{same_is}
 use Rattle.flash_core.specs.declared.flash.FlashStop.{FlashStop}
-use Rattle.flash_core.specs.Told.{Told, NothingDirty}
+use Rattle.flash_core.specs.Told.{Told}
 use Rattle.gpt_core.specs.declared.table.TableCopy.{TableCopy}
 use Rattle.gpt_core.specs.declared.table.TableCopy.TheVariants.{Primary, Backup}
 use Rattle.gpt_core.specs.declared.table.WhichTable.{WhichTable}
 use Rattle.gpt_core.specs.declared.table.WhichTable.TheVariants.{Same, RepairPrimary, RepairBackup}
-use Rattle.gpt_core.specs.Table.{Table, FitsTable, Finds, blocks_of, number_of, header_at, entries_at, copy_in, copy_from, copy_to, same_table, deciding, table_in_image, DecidesTable, BothSay}
-use Rattle.gpt_core.specs.Repair.{Mends, HeadersGuarded, Ready, Steps}
+use Rattle.gpt_core.specs.Table.{Table, FitsTable, Finds, blocks_of, number_of, header_at, entries_at, copy_in, copy_from, copy_to, same_table, deciding, table_in_image, DecidesTable}
+use Rattle.gpt_core.specs.Repair.{Mends, HeadersGuarded, Ready, Steps, IsMended}
+use Rattle.gpt_core.specs.Writes.{Spans}
 use Rattle.gpt_core.proofs.Copies.{some_is, same_table_refl, header_within, entries_within}
 use Rattle.gpt_core.proofs.Mending.{both_say}
 use Rattle.gpt_core.proofs.Stepping.{image_is_now}
@@ -45,7 +46,7 @@ finds_from (Some a) None t which is = let p = pair_is a t RepairBackup which is 
 finds_from None (Some u) t which is = let p = pair_is u t RepairPrimary which is in subst (λ (k : WhichTable). Finds k t None (Some u)) p.1 (refl, ap Some p.0)
 finds_from None None t which is = absurd (cc)
 
-pub mends_from : {T : Type 0} (result : Result T FlashStop) (blocks : ℕ) (t : Table) (u : Told) → Steps (λ v. BothSay blocks t v.now × NothingDirty v) result blocks t u → Mends result blocks t u
+pub mends_from : {T : Type 0} (result : Result T FlashStop) (blocks : ℕ) (t : Table) (u : Told) → Steps (IsMended blocks t) result blocks t u → Mends result blocks t u
 mends_from result blocks t u steps = record {
   stays = steps.stays;
   both = IfOk-weaker result _ _ (λ x done. done.0) steps.ok;
@@ -73,14 +74,8 @@ module _ (blocks : ℕ) (t : Table) (s : Told) (size : length s.now ≡ 4096 * b
       record { nothing = guarded.nothing; size = size; guarded = guarded.backup; says = finds.0; decides = (RepairBackup, is) }
 
 -- the blocks that a repair writes lie in the copy
-pub record Inside (low high header first n : ℕ) : Type 0 where
-  pub header_low : low ≤ 4096 * header
-  pub header_high : 4096 * header + 4096 ≤ high
-  pub first_low : low ≤ 4096 * first
-  pub first_high : 4096 * first + 4096 * ((n + 4095) / 4096) ≤ high
-
 pub inside_copy : (w : TableCopy) (blocks : ℕ) (t : Table) (header first n : ℕ) → FitsTable blocks t → header ≡ header_at w blocks → first ≡ entries_at w blocks (blocks_of (number_of t)) → n ≡ length t.entries
-    → Inside (copy_from w blocks (blocks_of (number_of t))) (copy_to w blocks (blocks_of (number_of t))) header first n
+    → Spans (copy_from w blocks (blocks_of (number_of t))) (copy_to w blocks (blocks_of (number_of t))) header first n
 inside_copy w blocks t header first n fits h f is =
     let e = blocks_of (number_of t) in
     let hw = header_within w blocks e fits.apart in

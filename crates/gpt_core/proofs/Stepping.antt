@@ -14,8 +14,8 @@ use Rattle.flash_core.proofs.Images.{block-overwritten_front, length-overwritten
 use Rattle.gpt_core.specs.declared.table.TableCopy.{TableCopy}
 use Rattle.gpt_core.specs.declared.table.TableCopy.TheVariants.{Primary, Backup}
 use Rattle.gpt_core.proofs.Copies.{table_roomy, entries_whole, entries_within}
-use Rattle.gpt_core.specs.Table.{Table, blocks_of, number_of, header_at, entries_at, other, copy_in, DecidesTable, BothSay}
-use Rattle.gpt_core.specs.Repair.{Ready, Cleared, Filled, Steps}
+use Rattle.gpt_core.specs.Table.{Table, blocks_of, number_of, header_at, entries_at, other, copy_in, DecidesTable}
+use Rattle.gpt_core.specs.Repair.{Ready, Cleared, Filled, Steps, IsMended}
 use Rattle.flash_core.proofs.OneCall.{sure_settled}
 use Rattle.gpt_core.proofs.Mending.{decides_with, decides_without, both_say, low, high, head_at, other_stays, head_inside, none_blank, header_stopped, header_done, entries_step}
 
@@ -172,19 +172,19 @@ module _ (w : TableCopy) (blocks : ℕ) (t : Table) where
     decides_spelled : DecidesTable blocks t (overwritten (4096 * header_at w blocks) bytes s.now)
     decides_spelled = decides_with w blocks _ t spelled (says_done s ready bytes short)
 
-    pub write_stopped : {T : Type 0} (result : Result T FlashStop) → IsErr result → Steps (λ u. BothSay blocks t u.now × NothingDirty u) result blocks t (halt (4096 * header_at w blocks) bytes s)
+    pub write_stopped : {T : Type 0} (result : Result T FlashStop) → IsErr result → Steps (IsMended blocks t) result blocks t (halt (4096 * header_at w blocks) bytes s)
     write_stopped result err = record {
       stays = header_stopped w blocks t s bytes ready.nothing ready.size short ready.guarded ready.says ready.decides (inr spelled);
       ok = IfOk-from_err result _ err;
     }
 
-    pub write_unsettled : {T : Type 0} (result : Result T FlashStop) → IsErr result → Steps (λ u. BothSay blocks t u.now × NothingDirty u) result blocks t (put (4096 * header_at w blocks) bytes s)
+    pub write_unsettled : {T : Type 0} (result : Result T FlashStop) → IsErr result → Steps (IsMended blocks t) result blocks t (put (4096 * header_at w blocks) bytes s)
     write_unsettled result err = record {
       stays = header_done w blocks t s bytes ready.nothing ready.size short ready.guarded ready.says ready.decides (inr spelled);
       ok = IfOk-from_err result _ err;
     }
 
-    pub writes : {T : Type 0} (result : Result T FlashStop) → Steps (λ u. BothSay blocks t u.now × NothingDirty u) result blocks t (settled result (put (4096 * header_at w blocks) bytes s))
+    pub writes : {T : Type 0} (result : Result T FlashStop) → Steps (IsMended blocks t) result blocks t (settled result (put (4096 * header_at w blocks) bytes s))
     writes (Err e) = write_unsettled (Err e) refl
     writes (Ok x) =
         let after = ready_after s ready bytes short decides_spelled in
@@ -208,13 +208,13 @@ module _ (w : TableCopy) (blocks : ℕ) (t : Table) (s u : Told) (b : ℕ) (at :
     spelled_at : copy_in w blocks (overwritten (4096 * header_at w blocks) bytes s.now) ≡ Some t
     spelled_at = ap (λ k. copy_in w blocks (overwritten (4096 * k) bytes s.now)) (sym at) ∙ spelled
 
-    pub write_halted : IsErr result → u ≡ halt (4096 * b) bytes s → Steps (λ v. BothSay blocks t v.now × NothingDirty v) result blocks t u
+    pub write_halted : IsErr result → u ≡ halt (4096 * b) bytes s → Steps (IsMended blocks t) result blocks t u
     write_halted err is =
-        subst (Steps (λ v. BothSay blocks t v.now × NothingDirty v) result blocks t) (sym (is ∙ ap (λ k. halt (4096 * k) bytes s) at)) (write_stopped w blocks t s filled bytes short spelled_at result err)
+        subst (Steps (IsMended blocks t) result blocks t) (sym (is ∙ ap (λ k. halt (4096 * k) bytes s) at)) (write_stopped w blocks t s filled bytes short spelled_at result err)
 
-    pub write_over : u ≡ settled result (put (4096 * b) bytes s) → Steps (λ v. BothSay blocks t v.now × NothingDirty v) result blocks t u
+    pub write_over : u ≡ settled result (put (4096 * b) bytes s) → Steps (IsMended blocks t) result blocks t u
     write_over is =
-        subst (Steps (λ v. BothSay blocks t v.now × NothingDirty v) result blocks t) (sym (is ∙ ap (λ k. settled result (put (4096 * k) bytes s)) at)) (writes w blocks t s filled bytes short spelled_at result)
+        subst (Steps (IsMended blocks t) result blocks t) (sym (is ∙ ap (λ k. settled result (put (4096 * k) bytes s)) at)) (writes w blocks t s filled bytes short spelled_at result)
 
 -- ---- but for the block nothing changes
 

@@ -64,6 +64,25 @@ pub record Steps {T : Type 0} (P : Told → Type 0) (result : Result T FlashStop
   pub stays : (image : List ℕ) → May u image → DecidesTable blocks t image
   pub ok : OnOk result (P u)
 
+-- Both copies say the table, and nothing is dirty.
+abbrev pub IsMended : ℕ → Table → Told → Type 0
+IsMended blocks t u = BothSay blocks t u.now × NothingDirty u
+
+-- Where a device is ready for a copy with this header, the step clears the header's block.
+abbrev pub ClearsHeader : {T : Type 0} → ℕ → ℕ → Result T FlashStop → Told → Told → Type 0
+ClearsHeader blocks header result s u = (w : TableCopy) (t : Table) → header ≡ header_at w blocks → Ready w blocks t s
+    → Steps (Cleared w blocks t) result blocks t u
+
+-- Where a copy with these entries, from this block on, is cleared, the step fills it.
+abbrev pub FillsEntries : {T : Type 0} → ℕ → ℕ → List ℕ → Result T FlashStop → Told → Told → Type 0
+FillsEntries blocks first bytes result s u = (w : TableCopy) (t : Table) → first ≡ entries_at w blocks (blocks_of (number_of t))
+    → bytes ≡ t.entries → Cleared w blocks t s → Steps (Filled w blocks t) result blocks t u
+
+-- Where a copy with this header is filled, and these bytes make it say the table, the step mends it.
+abbrev pub WritesHeader : {T : Type 0} → ℕ → ℕ → List ℕ → Result T FlashStop → Told → Told → Type 0
+WritesHeader blocks b bytes result s u = (w : TableCopy) (t : Table) → b ≡ header_at w blocks → Filled w blocks t s
+    → copy_in w blocks (overwritten (block_bytes * b) bytes s.now) ≡ Some t → Steps (IsMended blocks t) result blocks t u
+
 -- These bytes are the header of copy w: over an erased block, in front of the table's entries, they make the copy say the table.
 abbrev pub Spells : TableCopy → ℕ → Table → List ℕ → Type 0
 Spells w blocks t bytes = (image : List ℕ) → length image ≡ block_bytes * blocks

@@ -60,6 +60,12 @@ has_places copy blocks header =
     (num_at 8 header 24 == header_at copy blocks) && (num_at 8 header 32 == header_at (other copy) blocks)
     && (num_at 8 header 72 == entries_at copy blocks (blocks_of (number_in header)))
 
+-- A header that speaks of so many blocks of entries, for which a device of so many blocks has room.
+pub record SpeaksOf (blocks entry_blocks : ℕ) (header : List ℕ) : Type 0 where
+  pub size : 92 ≤ length header
+  pub room : 1 + entry_blocks ≤ blocks
+  pub number : entry_blocks ≡ blocks_of (number_in header)
+
 -- whether the fields of a header are those of this copy in a device of so many blocks
 unfoldable pub has_fields : TableCopy → ℕ → List ℕ → Bool
 has_fields copy blocks header = has_start header && has_places copy blocks header && (num_at 4 header 84 == 128)

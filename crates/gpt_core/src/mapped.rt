@@ -52,8 +52,8 @@ pub struct Mapped<D: Flash, K: Start> {
 }
 
 impl<D: Flash, K: Start> Mapped<D, K> {
-    ghost use Rattle.std.specs.Prelude.{◌≡◌, ◌+◌, ◌*◌, ◌%◌, ◌<◌, ◌≤◌, length, slice_range, is_ok, IsTrue, OnOk};
-    ghost use Rattle.flash_core.specs.Counts.{Spends, ReachesNone, arming_kept};
+    ghost use Rattle.std.specs.Prelude.{◌≡◌, ◌+◌, ◌*◌, ◌%◌, ◌<◌, ◌≤◌, length, slice_range, IsTrue, OnOk};
+    ghost use Rattle.flash_core.specs.Calls.{Reads};
     ghost use Rattle.gpt_core.specs.Places.{through};
     ghost use Rattle.gpt_core.specs.Mapped.{device, places_of};
 
@@ -91,12 +91,8 @@ impl<D: Flash, K: Start> Mapped<D, K> {
         requires one_block { at < 3 * block_bytes → at % block_bytes + length out.old ≤ block_bytes }
         ensures bytes { OnOk result (IsTrue D.tells
             → out.new ≡ slice_range (through (places_of self.old) (D.told (device self.old)).now) at (at + length out.old)) }
-        ensures content { IsTrue D.tells → D.told (device self.new) ≡ D.told (device self.old) }
-        ensures power { D.on (device self.new) ≡ is_ok result }
         ensures places { places_of self.new ≡ places_of self.old }
-        ensures arming { D.arming (device self.new) ≡ arming_kept result (D.arming (device self.old)) }
-        ensures counts { Spends result (D.counts (device self.old)) (D.counts (device self.new)) }
-        ensures reached { ReachesNone result (D.counts (device self.old)) (D.counts (device self.new)) }
+        ensures reads { Reads D.Flash result (device self.old) (device self.new) }
         ensures size { length out.new ≡ length out.old }
     {
         let place = self.places.byte(at);
@@ -109,12 +105,8 @@ impl<D: Flash, K: Start> Mapped<D, K> {
         requires inside { at + length out.old ≤ block_bytes * (places_of self.old).store_blocks }
         ensures bytes { OnOk result (IsTrue D.tells
             → out.new ≡ slice_range (through (places_of self.old) (D.told (device self.old)).now) at (at + length out.old)) }
-        ensures content { IsTrue D.tells → D.told (device self.new) ≡ D.told (device self.old) }
-        ensures power { D.on (device self.new) ≡ is_ok result }
         ensures places { places_of self.new ≡ places_of self.old }
-        ensures arming { D.arming (device self.new) ≡ arming_kept result (D.arming (device self.old)) }
-        ensures counts { Spends result (D.counts (device self.old)) (D.counts (device self.new)) }
-        ensures reached { ReachesNone result (D.counts (device self.old)) (D.counts (device self.new)) }
+        ensures reads { Reads D.Flash result (device self.old) (device self.new) }
         ensures size { length out.new ≡ length out.old }
     {
         if out.is_empty() {

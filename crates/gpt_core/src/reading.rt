@@ -7,7 +7,7 @@ ghost use Rattle.base_core.specs.Block.{block_bytes};
 ghost use Rattle.base_core.specs.Bytes.{same_bytes, num_at};
 ghost use Rattle.gpt_core.specs.declared.table.TableCopy.{TableCopy};
 ghost use Rattle.gpt_core.specs.Table.{Table as Said, IsCopy, FitsTable, blocks_of, number_in, number_of, header_at, entries_at, is_header, entries_in, table_of, checked, copy_in, same_table, deciding, table_in_image};
-ghost use Rattle.gpt_core.specs.Reading.{flash_result};
+ghost use Rattle.gpt_core.specs.Reading.{flash_result, ReadsCopy};
 
 use crate::headers::{ENTRY_SIZE, blocks_for, entries_place, header_place, is_header_of};
 use crate::table::{TableCopy, WhichTable};
@@ -88,8 +88,7 @@ fn read_bytes<D: Flash>(
 
     ensures bytes { IfOk result (λ v. IsTrue D.tells → v.items ≡ slice_range (D.told flash.old).now at (at + size)) }
     ensures long { IfOk result (λ v. length v.items ≡ size) }
-    ensures some { IsErrOf result GptStop.NoTable → ⊥ }
-    ensures reads { Reads D.Flash (flash_result result) flash.old flash.new }
+    ensures reads { ReadsCopy D.Flash result flash.old flash.new }
 {
     let Ok(mut bytes) = zeros(alloc, size) else {
         return Err(GptStop::NoMemory);
@@ -112,8 +111,7 @@ fn read_entries<D: Flash>(
     ensures bytes { IfOk result (λ v. IsTrue D.tells
         → v.items ≡ entries_in copy (D.blocks flash.old) header.now (D.told flash.old).now) }
     ensures count { IfOk result (λ v. length v.items ≡ number_in header.now * 128) }
-    ensures some { IsErrOf result GptStop.NoTable → ⊥ }
-    ensures reads { Reads D.Flash (flash_result result) flash.old flash.new }
+    ensures reads { ReadsCopy D.Flash result flash.old flash.new }
 {
     let blocks = flash.blocks();
     let number = le32_at(header, 80);
@@ -163,8 +161,7 @@ fn read_copy<D: Flash>(
 
     ensures value { IfOk result (λ r. IsTrue D.tells → r ≡ copy_in copy (D.blocks flash.old) (D.told flash.old).now) }
     ensures fits { IfOk result (λ r. ForSome r (FitsTable (D.blocks flash.old))) }
-    ensures some { IsErrOf result GptStop.NoTable → ⊥ }
-    ensures reads { Reads D.Flash (flash_result result) flash.old flash.new }
+    ensures reads { ReadsCopy D.Flash result flash.old flash.new }
 {
     let blocks = flash.blocks();
     let mut header = [0; BLOCK_BYTES as usize];

@@ -1,15 +1,14 @@
 //! The steps of a repair of a table.
 
 ghost use Rattle.flash_core.specs.Calls.{Goes};
-ghost use Rattle.std.specs.Prelude.{◌⊎◌, ◌≡◌, ℕ, ◌+◌, ◌-◌, ◌*◌, ◌/◌, ◌%◌, ◌<◌, ◌≤◌, length, IsTrue, OnOk, Some};
-ghost use Rattle.base_core.specs.Block.{block_bytes, granule_bytes, block, blank};
-ghost use Rattle.base_core.specs.Bytes.{part, overwritten};
+ghost use Rattle.std.specs.Prelude.{◌⊎◌, ◌≡◌, ℕ, ◌+◌, ◌*◌, ◌<◌, ◌≤◌, length, IsTrue, OnOk};
+ghost use Rattle.base_core.specs.Block.{block_bytes, block, blank};
+ghost use Rattle.base_core.specs.Bytes.{part};
 ghost use Rattle.flash_core.specs.Counts.{lowered_by};
-ghost use Rattle.flash_core.specs.Told.{Told, NothingDirty};
+ghost use Rattle.flash_core.specs.Told.{NothingDirty};
 ghost use Rattle.flash_core.specs.May.{Keeps};
-ghost use Rattle.gpt_core.specs.declared.table.TableCopy.{TableCopy};
-ghost use Rattle.gpt_core.specs.Table.{Table, blocks_of, number_of, header_at, entries_at, copy_in, BothSay};
-ghost use Rattle.gpt_core.specs.Repair.{Ready, Cleared, Filled, Steps, Writing};
+ghost use Rattle.gpt_core.specs.Repair.{ClearsHeader, FillsEntries, WritesHeader, IsMended, Steps, Writing};
+ghost use Rattle.gpt_core.specs.Writes.{behind, blocks_for, FitsBlock, FitsBlocks, Spans, Writes};
 
 use base_core::BLOCK_BYTES;
 use flash_core::{Flash, FlashStop};
@@ -18,14 +17,9 @@ use flash_core::{Flash, FlashStop};
 pub fn clear_header<D: Flash>(flash: &mut D, header: u32) -> Result<(), FlashStop>
     requires on { IsTrue (D.on flash.old) }
     requires inside { header < D.blocks flash.old }
-    ensures steps { (w : TableCopy) (t : Table) → IsTrue D.tells → header ≡ header_at w (D.blocks flash.old)
-        → Ready w (D.blocks flash.old) t (D.told flash.old)
-        → Steps (Cleared w (D.blocks flash.old) t) result (D.blocks flash.old) t (D.told flash.new) }
-    ensures keeps { IsTrue D.tells → Keeps (block_bytes * header) (block_bytes * header + block_bytes)
-        (D.told flash.old) (D.told flash.new) }
+    ensures steps { IsTrue D.tells → ClearsHeader (D.blocks flash.old) header result (D.told flash.old) (D.told flash.new) }
+    ensures writes { Writes D.Flash (block_bytes * header) (block_bytes * header + block_bytes) 1 result flash.old flash.new }
     ensures empty { OnOk result (IsTrue D.tells → block header (D.told flash.new).now ≡ blank block_bytes) }
-    ensures goes { Goes D.Flash result flash.old flash.new }
-    ensures spent { OnOk result (D.arming flash.new ≡ lowered_by 1 (D.arming flash.old)) }
 {
     flash.erase(header)?;
     flash.barrier()
@@ -34,19 +28,11 @@ pub fn clear_header<D: Flash>(flash: &mut D, header: u32) -> Result<(), FlashSto
 /// Writes over the block of a header that was erased: program, barrier.
 pub fn write_header<D: Flash>(flash: &mut D, b: u32, bytes: &[u8]) -> Result<(), FlashStop>
     requires on { IsTrue (D.on flash.old) }
-    requires inside { b < D.blocks flash.old }
-    requires granules { length bytes.now % granule_bytes ≡ 0 }
-    requires some { 0 < length bytes.now }
-    requires fits { length bytes.now ≤ block_bytes }
+    requires fits { FitsBlock (D.blocks flash.old) b bytes.now }
     requires empty { IsTrue D.tells → block b (D.told flash.old).now ≡ blank block_bytes }
-    ensures steps { (w : TableCopy) (t : Table) → IsTrue D.tells → b ≡ header_at w (D.blocks flash.old)
-        → Filled w (D.blocks flash.old) t (D.told flash.old)
-        → copy_in w (D.blocks flash.old) (overwritten (block_bytes * b) bytes.now (D.told flash.old).now) ≡ Some t
-        → Steps (λ u. BothSay (D.blocks flash.old) t u.now × NothingDirty u) result (D.blocks flash.old) t (D.told flash.new) }
-    ensures keeps { IsTrue D.tells → Keeps (block_bytes * b) (block_bytes * b + block_bytes) (D.told flash.old) (D.told flash.new) }
+    ensures steps { IsTrue D.tells → WritesHeader (D.blocks flash.old) b bytes.now result (D.told flash.old) (D.told flash.new) }
+    ensures writes { Writes D.Flash (block_bytes * b) (block_bytes * b + block_bytes) 1 result flash.old flash.new }
     ensures settled { OnOk result (IsTrue D.tells → NothingDirty (D.told flash.new)) }
-    ensures goes { Goes D.Flash result flash.old flash.new }
-    ensures spent { OnOk result (D.arming flash.new ≡ lowered_by 1 (D.arming flash.old)) }
 {
     flash.program(BLOCK_BYTES * b, bytes)?;
     flash.barrier()
@@ -55,15 +41,10 @@ pub fn write_header<D: Flash>(flash: &mut D, b: u32, bytes: &[u8]) -> Result<(),
 /// Writes over a block: erase, program. Nothing settles it yet.
 fn write_block<D: Flash>(flash: &mut D, b: u32, bytes: &[u8]) -> Result<(), FlashStop>
     requires on { IsTrue (D.on flash.old) }
-    requires inside { b < D.blocks flash.old }
-    requires granules { length bytes.now % granule_bytes ≡ 0 }
-    requires some { 0 < length bytes.now }
-    requires fits { length bytes.now ≤ block_bytes }
-    ensures keeps { IsTrue D.tells → Keeps (block_bytes * b) (block_bytes * b + block_bytes) (D.told flash.old) (D.told flash.new) }
+    requires fits { FitsBlock (D.blocks flash.old) b bytes.now }
+    ensures writes { Writes D.Flash (block_bytes * b) (block_bytes * b + block_bytes) 2 result flash.old flash.new }
     ensures written { OnOk result (IsTrue D.tells
         → part (D.told flash.new).now (block_bytes * b) (block_bytes * b + length bytes.now) ≡ bytes.now) }
-    ensures goes { Goes D.Flash result flash.old flash.new }
-    ensures spent { OnOk result (D.arming flash.new ≡ lowered_by 2 (D.arming flash.old)) }
 {
     flash.erase(b)?;
     flash.program(BLOCK_BYTES * b, bytes)
@@ -72,17 +53,11 @@ fn write_block<D: Flash>(flash: &mut D, b: u32, bytes: &[u8]) -> Result<(), Flas
 /// Writes bytes over blocks from one on, each block by itself, rising. Nothing settles them yet.
 fn write_blocks<D: Flash>(flash: &mut D, first: u32, bytes: &[u8]) -> Result<(), FlashStop>
     requires on { IsTrue (D.on flash.old) }
-    requires inside { block_bytes * first + length bytes.now ≤ block_bytes * D.blocks flash.old }
-    requires granules { length bytes.now % granule_bytes ≡ 0 }
-    requires some { 0 < length bytes.now }
-    ensures keeps { IsTrue D.tells
-        → Keeps (block_bytes * first) (block_bytes * first + block_bytes * ((length bytes.now + (block_bytes - 1)) / block_bytes))
-        (D.told flash.old) (D.told flash.new) }
+    requires fits { FitsBlocks (D.blocks flash.old) first bytes.now }
+    ensures writes { Writes D.Flash (block_bytes * first) (behind first (length bytes.now)) (2 * blocks_for (length bytes.now))
+        result flash.old flash.new }
     ensures written { OnOk result (IsTrue D.tells
         → part (D.told flash.new).now (block_bytes * first) (block_bytes * first + length bytes.now) ≡ bytes.now) }
-    ensures goes { Goes D.Flash result flash.old flash.new }
-    ensures spent { OnOk result (D.arming flash.new
-        ≡ lowered_by (2 * ((length bytes.now + (block_bytes - 1)) / block_bytes)) (D.arming flash.old)) }
 {
     if bytes.len() <= BLOCK_BYTES as usize {
         return write_block(flash, first, bytes);
@@ -95,19 +70,11 @@ fn write_blocks<D: Flash>(flash: &mut D, first: u32, bytes: &[u8]) -> Result<(),
 /// Writes the entries of a table, and settles them.
 pub fn write_entries<D: Flash>(flash: &mut D, first: u32, bytes: &[u8]) -> Result<(), FlashStop>
     requires on { IsTrue (D.on flash.old) }
-    requires inside { block_bytes * first + length bytes.now ≤ block_bytes * D.blocks flash.old }
-    requires granules { length bytes.now % granule_bytes ≡ 0 }
-    requires some { 0 < length bytes.now }
-    ensures steps { (w : TableCopy) (t : Table) → IsTrue D.tells
-        → first ≡ entries_at w (D.blocks flash.old) (blocks_of (number_of t)) → bytes.now ≡ t.entries
-        → Cleared w (D.blocks flash.old) t (D.told flash.old)
-        → Steps (Filled w (D.blocks flash.old) t) result (D.blocks flash.old) t (D.told flash.new) }
-    ensures keeps { IsTrue D.tells
-        → Keeps (block_bytes * first) (block_bytes * first + block_bytes * ((length bytes.now + (block_bytes - 1)) / block_bytes))
-        (D.told flash.old) (D.told flash.new) }
-    ensures goes { Goes D.Flash result flash.old flash.new }
-    ensures spent { OnOk result (D.arming flash.new
-        ≡ lowered_by (2 * ((length bytes.now + (block_bytes - 1)) / block_bytes)) (D.arming flash.old)) }
+    requires fits { FitsBlocks (D.blocks flash.old) first bytes.now }
+    ensures steps { IsTrue D.tells
+        → FillsEntries (D.blocks flash.old) first bytes.now result (D.told flash.old) (D.told flash.new) }
+    ensures writes { Writes D.Flash (block_bytes * first) (behind first (length bytes.now)) (2 * blocks_for (length bytes.now))
+        result flash.old flash.new }
 {
     write_blocks(flash, first, bytes)?;
     flash.barrier()
@@ -123,24 +90,16 @@ pub fn repair_copy<D: Flash>(
     entries: &[u8],
 ) -> Result<(), FlashStop>
     requires on { IsTrue (D.on flash.old) }
-    requires inside { header < D.blocks flash.old }
-    requires granules { length head.now % granule_bytes ≡ 0 }
-    requires some { 0 < length head.now }
-    requires fits { length head.now ≤ block_bytes }
-    requires entries_inside { block_bytes * first + length entries.now ≤ block_bytes * D.blocks flash.old }
-    requires entries_granules { length entries.now % granule_bytes ≡ 0 }
-    requires some_entries { 0 < length entries.now }
-    requires apart { (header < first) ⊎ (first + (length entries.now + (block_bytes - 1)) / block_bytes ≤ header) }
+    requires header_fits { FitsBlock (D.blocks flash.old) header head.now }
+    requires entries_fit { FitsBlocks (D.blocks flash.old) first entries.now }
+    requires apart { (header < first) ⊎ (first + blocks_for (length entries.now) ≤ header) }
     ensures steps { IsTrue D.tells → (x : Writing (D.blocks flash.old) header first head.now entries.now (D.told flash.old))
-        → Steps (λ u. BothSay (D.blocks flash.old) x.t u.now × NothingDirty u) result (D.blocks flash.old) x.t (D.told flash.new) }
-    ensures keeps { (low high : ℕ) → low ≤ block_bytes * header → block_bytes * header + block_bytes ≤ high
-        → low ≤ block_bytes * first
-        → block_bytes * first + block_bytes * ((length entries.now + (block_bytes - 1)) / block_bytes) ≤ high
-        → IsTrue D.tells → Keeps low high (D.told flash.old) (D.told flash.new) }
+        → Steps (IsMended (D.blocks flash.old) x.t) result (D.blocks flash.old) x.t (D.told flash.new) }
+    ensures keeps { (low high : ℕ) → Spans low high header first (length entries.now) → IsTrue D.tells
+        → Keeps low high (D.told flash.old) (D.told flash.new) }
     ensures settled { OnOk result (IsTrue D.tells → NothingDirty (D.told flash.new)) }
     ensures goes { Goes D.Flash result flash.old flash.new }
-    ensures spent { OnOk result (D.arming flash.new
-        ≡ lowered_by (2 + 2 * ((length entries.now + (block_bytes - 1)) / block_bytes)) (D.arming flash.old)) }
+    ensures spent { OnOk result (D.arming flash.new ≡ lowered_by (2 + 2 * blocks_for (length entries.now)) (D.arming flash.old)) }
 {
     clear_header(flash, header)?;
     write_entries(flash, first, entries)?;

@@ -1,4 +1,4 @@
-use Rattle.std.proofs.Common.{◌-◌, ◌*◌, inl, inr, arith}
+use Rattle.std.proofs.Common.{◌-◌, ◌*◌, inl, inr, arith, rules}
 use Rattle.std.specs.Prelude.{IsTrue}
 use Rattle.std.proofs.lemmas.Bool.{cases_lt}
 use Rattle.flash_core.proofs.Calls.{keeps_joined}
@@ -10,12 +10,17 @@ use Rattle.flash_format.proofs.Ranges.{erased_stays}
 use Rattle.flash_format.proofs.Recorded.{on_ok_from, on_ok_map}
 use Rattle.flash_format.proofs.erasing.erase_all.Goals as goal
 
-pub returns-clause-keeps : goal.returns-clause-keeps
-returns-clause-keeps g c = λ tells.
-    let s = g.D.Flash.told c.args.flash.now in
-    let m = g.D.Flash.told c.erase_layout.new.flash in
-    let t = g.D.Flash.told c.erase_behind.new.flash in
-    keeps_joined 0 4096 (4096 * c.args.count) s m t (omega arith) (omega (arith, c.requires.some)) (c.erase_layout.ensures.keeps tells) (c.erase_behind.ensures.keeps tells)
+pub returns-clause-writes : goal.returns-clause-writes
+returns-clause-writes g c = record {
+  keeps =
+      λ tells.
+      let s = g.D.Flash.told c.args.flash.now in
+      let m = g.D.Flash.told c.erase_layout.new.flash in
+      let t = g.D.Flash.told c.erase_behind.new.flash in
+      keeps_joined 0 4096 (4096 * c.args.count) s m t (omega arith) (omega (arith, c.requires.some)) (c.erase_layout.ensures.writes.keeps tells) (c.erase_behind.ensures.writes.keeps tells);
+  goes = search rules;
+  spent = spent_then c.erase_behind.result 1 (c.args.count - 1) c.args.count _ _ _ (omega (arith, c.requires.some)) c.in_ok-erase_layout.ensures.writes.spent c.erase_behind.ensures.writes.spent;
+}
 
 pub returns-clause-erased : goal.returns-clause-erased
 returns-clause-erased g c =
@@ -24,24 +29,23 @@ returns-clause-erased g c =
     let high = 4096 * c.args.count in
     on_ok_map (IsTrue g.D.Flash.tells → Erased 4096 high t.now) (IsTrue g.D.Flash.tells → Erased 0 high t.now) c.erase_behind.result
     (λ rest tells i above below. elim (cases_lt i 4096) [
-      | inl l ↦ erased_stays 0 4096 4096 high m t (inl (omega arith)) (c.erase_behind.ensures.keeps tells) (c.in_ok-erase_layout.ensures.erased tells) i above l
+      | inl l ↦ erased_stays 0 4096 4096 high m t (inl (omega arith)) (c.erase_behind.ensures.writes.keeps tells) (c.in_ok-erase_layout.ensures.erased tells) i above l
       | inr r ↦ rest tells i r below
     ])
     c.erase_behind.ensures.erased
 
-pub returns-clause-only : goal.returns-clause-only
-returns-clause-only g c = λ tells.
-    only_then (g.D.Flash.told c.args.flash.now) (g.D.Flash.told c.erase_layout.new.flash) (g.D.Flash.told c.erase_behind.new.flash) (c.erase_layout.ensures.only tells) (c.erase_behind.ensures.only tells)
-
-pub returns-clause-first : goal.returns-clause-first
-returns-clause-first g c = λ tells.
-    let m = g.D.Flash.told c.erase_layout.new.flash in
-    inr (bare_stays 4096 (4096 * c.args.count) m (g.D.Flash.told c.erase_behind.new.flash) (omega arith) (c.erase_behind.ensures.keeps tells) (bare_fresh m (c.in_ok-erase_layout.ensures.erased tells) (c.in_ok-erase_layout.ensures.clean tells)))
+pub returns-clause-clears : goal.returns-clause-clears
+returns-clause-clears g c = record {
+  only =
+      λ tells.
+      only_then (g.D.Flash.told c.args.flash.now) (g.D.Flash.told c.erase_layout.new.flash) (g.D.Flash.told c.erase_behind.new.flash) (c.erase_layout.ensures.only tells) (c.erase_behind.ensures.only tells);
+  first =
+      λ tells.
+      let m = g.D.Flash.told c.erase_layout.new.flash in
+      inr (bare_stays 4096 (4096 * c.args.count) m (g.D.Flash.told c.erase_behind.new.flash) (omega arith) (c.erase_behind.ensures.writes.keeps tells) (bare_fresh m (c.in_ok-erase_layout.ensures.erased tells) (c.in_ok-erase_layout.ensures.clean tells)));
+}
 
 pub returns-clause-bare : goal.returns-clause-bare
 returns-clause-bare g c = on_ok_from _ c.erase_behind.result (λ tells.
     let m = g.D.Flash.told c.erase_layout.new.flash in
-    bare_stays 4096 (4096 * c.args.count) m (g.D.Flash.told c.erase_behind.new.flash) (omega arith) (c.erase_behind.ensures.keeps tells) (bare_fresh m (c.in_ok-erase_layout.ensures.erased tells) (c.in_ok-erase_layout.ensures.clean tells)))
-
-pub returns-clause-spent : goal.returns-clause-spent
-returns-clause-spent g c = spent_then c.erase_behind.result 1 (c.args.count - 1) c.args.count _ _ _ (omega (arith, c.requires.some)) c.in_ok-erase_layout.ensures.spent c.erase_behind.ensures.spent
+    bare_stays 4096 (4096 * c.args.count) m (g.D.Flash.told c.erase_behind.new.flash) (omega arith) (c.erase_behind.ensures.writes.keeps tells) (bare_fresh m (c.in_ok-erase_layout.ensures.erased tells) (c.in_ok-erase_layout.ensures.clean tells)))

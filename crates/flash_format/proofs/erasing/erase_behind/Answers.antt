@@ -1,4 +1,4 @@
-use Rattle.std.proofs.Common.{◌+◌, ◌-◌, ◌*◌, ◌∙◌, sym, subst, arith}
+use Rattle.std.proofs.Common.{◌+◌, ◌-◌, ◌*◌, ◌∙◌, sym, subst, arith, rules}
 use Rattle.std.specs.Prelude.{Ok}
 use Rattle.base_core.specs.Block.{blank}
 use Rattle.base_core.proofs.Blocks.{length-blank}
@@ -14,16 +14,20 @@ use Rattle.flash_format.proofs.Ranges.{keeps_written, erased_more}
 use Rattle.flash_format.proofs.Unarmed.{unarmed_then, unarmed_spent}
 use Rattle.flash_format.proofs.erasing.erase_behind.Goals as goal
 
-pub returns-in_err-erase-clause-keeps : goal.returns-in_err-erase-clause-keeps
-returns-in_err-erase-clause-keeps g c tells =
-    let s = g.D.Flash.told c.args.flash.now in
-    let m = g.D.Flash.told c.loop-block.flash in
-    let b = c.loop-block.block in
-    let before = c.loop-block.invariant.keeps tells in
-    let size = (g.met.D.Flash.sound c.args.flash.now tells).size in
-    let wide = keeps_wider 4096 (4096 * b) 4096 (4096 * c.args.count) s m (omega arith) (omega arith) before in
-    subst (Keeps 4096 (4096 * c.args.count) s) (sym (c.erase.ensures.content tells))
-    (keeps_written c.erase.result 4096 (4096 * c.args.count) (4096 * b) (blank 4096) s m (omega (arith, c.loop-block.auto.block)) (omega (arith, length-blank 4096)) (omega (arith, length-blank 4096, size)) wide)
+pub returns-in_err-erase-clause-writes : goal.returns-in_err-erase-clause-writes
+returns-in_err-erase-clause-writes g c = record {
+  keeps = λ tells.
+      let s = g.D.Flash.told c.args.flash.now in
+      let m = g.D.Flash.told c.loop-block.flash in
+      let b = c.loop-block.block in
+      let before = c.loop-block.invariant.keeps tells in
+      let size = (g.met.D.Flash.sound c.args.flash.now tells).size in
+      let wide = keeps_wider 4096 (4096 * b) 4096 (4096 * c.args.count) s m (omega arith) (omega arith) before in
+      subst (Keeps 4096 (4096 * c.args.count) s) (sym (c.erase.ensures.content tells))
+      (keeps_written c.erase.result 4096 (4096 * c.args.count) (4096 * b) (blank 4096) s m (omega (arith, c.loop-block.auto.block)) (omega (arith, length-blank 4096)) (omega (arith, length-blank 4096, size)) wide);
+  goes = search rules;
+  spent = search rules;
+}
 
 pub returns-in_err-erase-clause-only : goal.returns-in_err-erase-clause-only
 returns-in_err-erase-clause-only g c tells =

@@ -1,4 +1,4 @@
-use Rattle.std.proofs.Common.{◌≡◌, sym, ap, subst, ◌∙◌, arith}
+use Rattle.std.proofs.Common.{◌≡◌, sym, ap, subst, ◌∙◌, arith, rules}
 use Rattle.base_core.specs.Block.{blank}
 use Rattle.base_core.proofs.Blocks.{length-blank}
 use Rattle.flash_core.specs.Told.{Told}
@@ -12,22 +12,32 @@ use Rattle.flash_format.proofs.Ranges.{keeps_written, erased_more}
 use Rattle.flash_format.proofs.Recorded.{on_ok_from, keeps_settled, now_settled, clean_after}
 use Rattle.flash_format.proofs.erasing.erase_layout.Goals as goal
 
-pub returns-in_err-erase-clause-keeps : goal.returns-in_err-erase-clause-keeps
-returns-in_err-erase-clause-keeps g c = λ tells.
-    let s = g.D.Flash.told c.args.flash.now in
-    let size = (g.met.D.Flash.sound c.args.flash.now tells).size in
-    let many = (g.met.D.Flash.sizes c.args.flash.now).0 in
-    subst (Keeps 0 4096 s) (sym (c.erase.ensures.content tells))
-    (keeps_written c.erase.result 0 4096 0 (blank 4096) s s (omega arith) (omega (arith, length-blank 4096)) (omega (arith, length-blank 4096, size, many)) (keeps_same 0 4096 s))
+pub returns-in_err-erase-clause-writes : goal.returns-in_err-erase-clause-writes
+returns-in_err-erase-clause-writes g c = record {
+  keeps =
+      λ tells.
+      let s = g.D.Flash.told c.args.flash.now in
+      let size = (g.met.D.Flash.sound c.args.flash.now tells).size in
+      let many = (g.met.D.Flash.sizes c.args.flash.now).0 in
+      subst (Keeps 0 4096 s) (sym (c.erase.ensures.content tells))
+      (keeps_written c.erase.result 0 4096 0 (blank 4096) s s (omega arith) (omega (arith, length-blank 4096)) (omega (arith, length-blank 4096, size, many)) (keeps_same 0 4096 s));
+  goes = search rules;
+  spent = search rules;
+}
 
-pub returns-clause-keeps : goal.returns-clause-keeps
-returns-clause-keeps g c = λ tells.
-    let s = g.D.Flash.told c.args.flash.now in
-    let size = (g.met.D.Flash.sound c.args.flash.now tells).size in
-    let many = (g.met.D.Flash.sizes c.args.flash.now).0 in
-    let after = subst (Keeps 0 4096 s) (sym (c.erase.ensures.content tells))
-    (keeps_written c.erase.result 0 4096 0 (blank 4096) s s (omega arith) (omega (arith, length-blank 4096)) (omega (arith, length-blank 4096, size, many)) (keeps_same 0 4096 s)) in
-    subst (Keeps 0 4096 s) (sym (c.barrier.ensures.content tells)) (keeps_settled c.barrier.result 0 4096 s (g.D.Flash.told c.erase.new.self) after)
+pub returns-clause-writes : goal.returns-clause-writes
+returns-clause-writes g c = record {
+  keeps =
+      λ tells.
+      let s = g.D.Flash.told c.args.flash.now in
+      let size = (g.met.D.Flash.sound c.args.flash.now tells).size in
+      let many = (g.met.D.Flash.sizes c.args.flash.now).0 in
+      let after = subst (Keeps 0 4096 s) (sym (c.erase.ensures.content tells))
+      (keeps_written c.erase.result 0 4096 0 (blank 4096) s s (omega arith) (omega (arith, length-blank 4096)) (omega (arith, length-blank 4096, size, many)) (keeps_same 0 4096 s)) in
+      subst (Keeps 0 4096 s) (sym (c.barrier.ensures.content tells)) (keeps_settled c.barrier.result 0 4096 s (g.D.Flash.told c.erase.new.self) after);
+  goes = search rules;
+  spent = spent_barrier c.barrier.result 1 _ _ _ (spent_one _ _ c.in_ok-erase.ensures.arming) c.barrier.ensures.arming;
+}
 
 pub returns-clause-erased : goal.returns-clause-erased
 returns-clause-erased g c = on_ok_from _ c.barrier.result (λ tells.
@@ -58,6 +68,3 @@ returns-clause-only g c = λ tells.
     let many = (g.met.D.Flash.sizes c.args.flash.now).0 in
     let after : OnlyErased s m = subst (OnlyErased s) (sym (c.erase.ensures.content tells)) (only_erase 0 s (omega (arith, size, many)) (omega (arith, size, many)) c.erase.result s (only_same s)) in
     subst (OnlyErased s) (sym (c.barrier.ensures.content tells)) (only_settled c.barrier.result s m after)
-
-pub returns-clause-spent : goal.returns-clause-spent
-returns-clause-spent g c = spent_barrier c.barrier.result 1 _ _ _ (spent_one _ _ c.in_ok-erase.ensures.arming) c.barrier.ensures.arming

@@ -1,17 +1,16 @@
-use Rattle.std.proofs.Common.{◌≡◌, ◌+◌, ℕ, List, length, ap, subst, ◌∙◌, arith, Result, Err}
+use Rattle.std.proofs.Common.{◌≡◌, ◌+◌, ℕ, length, ap, subst, ◌∙◌, arith, Result, Err}
 use Rattle.std.specs.Prelude.{IsTrue, OnOk}
 use Rattle.flash_core.specs.Counts.{lowered_by}
 use Rattle.flash_core.proofs.Spent.{spent_then}
 use Rattle.fwu_formats.specs.Layout.{blocks_needed}
 use Rattle.flash_format.specs.Cleared.{IsBare}
-use Rattle.fip_tables.specs.Files.{Tells}
-use Rattle.flash_format.specs.Formatted.{IsBlank}
-use Rattle.flash_format.specs.Places.{AllStand}
+use Rattle.flash_core.specs.Told.{NothingDirty}
+use Rattle.flash_format.specs.Planned.{IsFilled}
 use Rattle.flash_format.specs.Takes.{pieces_in, writes_of}
 use Rattle.flash_format.specs.Stops.{flash_result}
 use Rattle.flash_format.specs.declared.stops.FormatStop.{FormatStop}
 use Rattle.flash_format.specs.declared.stops.FormatStop.TheVariants.{ReadFailed}
-use Rattle.flash_format.proofs.Given.{finishes_from}
+use Rattle.flash_format.proofs.Given.{finishes_more}
 use Rattle.flash_format.proofs.Ordered.{bare_is_unlaid, blank_stays, images_stay, in_order_before, in_order_filled}
 use Rattle.flash_format.proofs.Stopped.{handed-on}
 use Rattle.flash_format.proofs.formatting.carry_out.Goals as goal
@@ -26,20 +25,25 @@ returns-in_err-fill-clause-failed g c =
     let bare = subst (λ (r : Result (Unit {0}) FormatStop). OnOk (flash_result r) (IsTrue g.D.Flash.tells → IsBare t)) (ap Err stop) c.in_err-fill.ensures.bare in
     bare_is_unlaid t (omega (arith, size, many)) (bare tells))
 
-pub returns-clause-bytes : goal.returns-clause-bytes
-returns-clause-bytes g c =
+pub returns-clause-filled : goal.returns-clause-filled
+returns-clause-filled g c =
     let L = c.args.plan.now.layout in
     let count = length L.rows in
     let entries = c.args.plan.now.entries in
+    let s = g.D.Flash.told c.fill.new.flash in
     let t = g.D.Flash.told c.finish.new.flash in
-    let A : Type 0 = IsTrue g.D.Flash.tells → (file : List ℕ) → Tells (g.H.Files.contents c.args.files.now) c.args.name.now file → AllStand count L file entries t.now in
-    finishes_from ℕ c.finish.result A (λ tells file told. images_stay count L file entries (g.D.Flash.told c.fill.new.flash) t (c.finish.ensures.keeps tells) (c.in_ok-fill.ensures.bytes tells file told))
-
-pub returns-clause-blank : goal.returns-clause-blank
-returns-clause-blank g c =
-    let L = c.args.plan.now.layout in
-    let t = g.D.Flash.told c.finish.new.flash in
-    finishes_from ℕ c.finish.result (IsTrue g.D.Flash.tells → IsBlank L t.now) (λ tells. blank_stays L (g.D.Flash.told c.fill.new.flash) t (c.finish.ensures.keeps tells) (c.in_ok-fill.ensures.blank tells))
+    let A : Type 0 = IsTrue g.D.Flash.tells → NothingDirty s → NothingDirty t in
+    let B : Type 0 = IsTrue g.D.Flash.tells → IsFilled (g.H.Files.contents c.args.files.now) c.args.name.now L entries t in
+    finishes_more ℕ c.finish.result A B
+    (λ clean tells.
+    let keeps = c.finish.ensures.keeps tells in
+    let filled = c.in_ok-fill.ensures.filled tells in
+    record {
+      bytes = λ file told. images_stay count L file entries s t keeps (filled.bytes file told);
+      blank = blank_stays L s t keeps filled.blank;
+      clean = clean tells filled.clean;
+    })
+    c.finish.ensures.clean
 
 pub returns-in_err-fill-clause-ordered : goal.returns-in_err-fill-clause-ordered
 returns-in_err-fill-clause-ordered g c =
@@ -47,14 +51,15 @@ returns-in_err-fill-clause-ordered g c =
     let t = g.D.Flash.told c.fill.new.flash in
     let size = (g.met.D.Flash.sound c.fill.new.flash tells).size in
     let many = (g.met.D.Flash.sizes c.fill.new.flash).0 in
-    in_order_before (g.V.Verifier.passes c.args.verifier.now) c.args.plan.now.layout (g.D.Flash.told c.args.flash.now) t (omega (arith, size, many)) (c.fill.ensures.only tells) (c.fill.ensures.first tells)
+    in_order_before (g.V.Verifier.passes c.args.verifier.now) c.args.plan.now.layout (g.D.Flash.told c.args.flash.now) t (omega (arith, size, many)) (c.fill.ensures.clears.only tells) (c.fill.ensures.clears.first tells)
 
 pub returns-clause-ordered : goal.returns-clause-ordered
 returns-clause-ordered g c = λ tells.
     let s = g.D.Flash.told c.fill.new.flash in
     let t = g.D.Flash.told c.finish.new.flash in
-    let clean = c.in_ok-fill.ensures.clean tells in
-    in_order_filled (g.V.Verifier.passes c.args.verifier.now) c.args.plan.now.layout (g.D.Flash.told c.args.flash.now) s t clean (c.finish.ensures.keeps tells) (c.in_ok-fill.ensures.blank tells) (c.finish.ensures.ordered tells clean) (c.finish.ensures.whole tells clean) (c.finish.ensures.at_most tells)
+    let filled = c.in_ok-fill.ensures.filled tells in
+    let clean = filled.clean in
+    in_order_filled (g.V.Verifier.passes c.args.verifier.now) c.args.plan.now.layout (g.D.Flash.told c.args.flash.now) s t clean (c.finish.ensures.keeps tells) filled.blank (c.finish.ensures.ordered tells clean) (c.finish.ensures.whole tells clean) (c.finish.ensures.at_most tells)
 
 pub returns-clause-spent : goal.returns-clause-spent
 returns-clause-spent g c =

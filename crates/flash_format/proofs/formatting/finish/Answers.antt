@@ -1,4 +1,4 @@
-use Rattle.std.proofs.Common.{inl, sym, ap, subst, ◌∙◌, arith, ◌≡◌, ℕ, Result}
+use Rattle.std.proofs.Common.{inl, sym, ap, subst, ◌∙◌, arith, ◌≡◌, ℕ, Result, rules}
 use Rattle.std.specs.Prelude.{OnOk}
 use Rattle.flash_core.specs.Told.{Told, NothingDirty}
 use Rattle.flash_core.specs.May.{Keeps}
@@ -21,17 +21,22 @@ returns-in_err-version-clause-refused g c =
     let size = (g.met.D.Flash.sound c.args.flash.now tells).size in
     let many = (g.met.D.Flash.sizes c.args.flash.now).0 in
     refused (g.V.Verifier.passes c.args.verifier.now) c.args.layout.now found s (g.D.Flash.told c.check_bank.new.flash) (c.check_bank.ensures.content tells) (omega (arith, size, many)) (c.requires.erased tells)
-    (c.in_err-version.ensures.found found is tells) (c.in_err-version.ensures.bad found is))
+    (c.in_err-version.ensures.found found is tells) (c.in_err-version.ensures.refuses.bad found is))
 
-pub returns-clause-formatted : goal.returns-clause-formatted
-returns-clause-formatted g c = λ tells.
-    let s = g.D.Flash.told c.args.flash.now in
-    let t = g.D.Flash.told c.write_records.new.flash in
-    let size = (g.met.D.Flash.sound c.args.flash.now tells).size in
-    let many = (g.met.D.Flash.sizes c.args.flash.now).0 in
-    let keeps = subst (λ (m : Told). Keeps 0 12288 m t) (c.check_bank.ensures.content tells) (c.write_records.ensures.keeps tells) in
-    formatted (g.V.Verifier.passes c.args.verifier.now) c.args.layout.now c.in_ok-version.version s t c.rows-rows.ensures.fit (omega (arith, size, many)) (c.requires.erased tells) (c.in_ok-version.ensures.good tells) keeps
-    (c.in_ok-write_records.ensures.both tells) (c.in_ok-write_records.ensures.layout tells) (c.in_ok-write_records.ensures.clean tells)
+pub returns-clause-made : goal.returns-clause-made
+returns-clause-made g c = record {
+  passed = search rules;
+  formatted =
+      λ tells.
+      let s = g.D.Flash.told c.args.flash.now in
+      let t = g.D.Flash.told c.write_records.new.flash in
+      let size = (g.met.D.Flash.sound c.args.flash.now tells).size in
+      let many = (g.met.D.Flash.sizes c.args.flash.now).0 in
+      let keeps = subst (λ (m : Told). Keeps 0 12288 m t) (c.check_bank.ensures.content tells) (c.write_records.ensures.writes.keeps tells) in
+      formatted (g.V.Verifier.passes c.args.verifier.now) c.args.layout.now c.in_ok-version.version s t c.rows-rows.ensures.fit (omega (arith, size, many)) (c.requires.erased tells) (c.in_ok-version.ensures.good tells) keeps
+      (c.in_ok-write_records.ensures.both tells) (c.in_ok-write_records.ensures.layout tells) (c.in_ok-write_records.ensures.clean tells);
+  spelled = search rules;
+}
 
 pub returns-in_err-version-clause-ordered : goal.returns-in_err-version-clause-ordered
 returns-in_err-version-clause-ordered g c =
@@ -61,7 +66,7 @@ returns-in_err-write_records-clause-whole g c = λ tells clean.
     let size = (g.met.D.Flash.sound c.args.flash.now tells).size in
     let many = (g.met.D.Flash.sizes c.args.flash.now).0 in
     whole_after (g.V.Verifier.passes c.args.verifier.now) c.args.layout.now c.in_ok-version.version s t c.rows-rows.ensures.fit (omega (arith, size, many)) (c.requires.erased tells) clean (c.in_ok-version.ensures.good tells)
-    (subst (λ (m : Told). Keeps 0 12288 m t) same (c.write_records.ensures.keeps tells)) (c.write_records.ensures.ordered tells (subst NothingDirty (sym same) clean))
+    (subst (λ (m : Told). Keeps 0 12288 m t) same (c.write_records.ensures.writes.keeps tells)) (c.write_records.ensures.ordered tells (subst NothingDirty (sym same) clean))
 
 pub returns-clause-whole : goal.returns-clause-whole
 returns-clause-whole g c = λ tells clean.
@@ -71,10 +76,10 @@ returns-clause-whole g c = λ tells clean.
     let size = (g.met.D.Flash.sound c.args.flash.now tells).size in
     let many = (g.met.D.Flash.sizes c.args.flash.now).0 in
     whole_after (g.V.Verifier.passes c.args.verifier.now) c.args.layout.now c.in_ok-version.version s t c.rows-rows.ensures.fit (omega (arith, size, many)) (c.requires.erased tells) clean (c.in_ok-version.ensures.good tells)
-    (subst (λ (m : Told). Keeps 0 12288 m t) same (c.write_records.ensures.keeps tells)) (c.write_records.ensures.ordered tells (subst NothingDirty (sym same) clean))
+    (subst (λ (m : Told). Keeps 0 12288 m t) same (c.write_records.ensures.writes.keeps tells)) (c.write_records.ensures.ordered tells (subst NothingDirty (sym same) clean))
 
 pub returns-clause-spent : goal.returns-clause-spent
-returns-clause-spent g c = c.in_ok-write_records.ensures.spent ∙ ap (lowered_by 3) c.in_ok-version.ensures.arming
+returns-clause-spent g c = c.in_ok-write_records.ensures.writes.spent ∙ ap (lowered_by 3) c.in_ok-version.ensures.arming
 
 pub returns-in_err-version-clause-worn : goal.returns-in_err-version-clause-worn
 returns-in_err-version-clause-worn g c =

@@ -1,4 +1,4 @@
-use Rattle.std.proofs.Common.{◌≡◌, ◌*◌, ℕ, List, length, ap, sym, subst, arith, Option, Result, Ok, Err}
+use Rattle.std.proofs.Common.{◌≡◌, ◌*◌, ℕ, List, ap, sym, subst, arith, Option, Result, Ok, Err, rules}
 use Rattle.host_io.proofs.Reading.{reads-then}
 use Rattle.std.specs.Prelude.{IsTrue}
 use Rattle.flash_core.specs.May.{Keeps}
@@ -9,7 +9,8 @@ use Rattle.fwu_formats.specs.Package.{Toc, toc_of}
 use Rattle.fip_tables.specs.Files.{Tells}
 use Rattle.image_check.specs.Passed.{HasPassed}
 use Rattle.flash_format.specs.Formatted.{HoldsImages, IsBlank, IsInOrder, IsRefused}
-use Rattle.flash_format.specs.Places.{AllStand}
+use Rattle.flash_core.specs.Told.{NothingDirty}
+use Rattle.flash_format.specs.Planned.{IsFilled}
 use Rattle.flash_format.specs.Choosing.{refusal}
 use Rattle.flash_format.specs.Stops.{Answers, Finishes, IsOfBytes}
 use Rattle.flash_format.specs.declared.plan.Plan.{Plan}
@@ -49,15 +50,15 @@ returns-in_err-version-clause-images g c =
     let K = c.in_ok-plan.plan.layout in
     let L : Layout = record { banks = c.args.banks; rows = c.args.rows.now } in
     let t = g.D.Flash.told c.carry_out.new.flash in
-    let A : Type 0 = IsTrue g.D.Flash.tells → (file : List ℕ) → Tells (g.H.Files.contents c.plan.new.files) c.args.name.now file → AllStand (length K.rows) K file c.in_ok-plan.plan.entries t.now in
+    let A : Type 0 = IsTrue g.D.Flash.tells → IsFilled (g.H.Files.contents c.plan.new.files) c.args.name.now K c.in_ok-plan.plan.entries t in
     let B : Type 0 = IsTrue g.D.Flash.tells → (file : List ℕ) (toc : Toc) → Tells (g.H.Files.contents c.args.files.now) c.args.name.now file → toc_of file ≡ Ok toc → HoldsImages L (images_of L.rows file toc) t.now in
     finishes_err ℕ Formatted c.in_err-version.field-0.0 A B
-    (λ stand tells file toc told has.
+    (λ filled tells file toc told has.
     let size = (g.met.D.Flash.sound c.carry_out.new.flash tells).size in
-    let here : Tells (g.H.Files.contents c.plan.new.files) c.args.name.now file = subst (λ (d : Option Directory). Tells d c.args.name.now file) (sym c.plan.ensures.files.same) told in
-    hold_given L K c.blocks-2.result file toc c.in_ok-plan.plan.entries t.now (fitted_is L c.blocks-2.result K c.in_ok-plan.ensures.fits) (omega (arith, size, c.carry_out.ensures.goes.size, c.blocks-2.ensures)) (c.in_ok-plan.ensures.toc file told) has
-    (c.in_ok-plan.ensures.planned.stored file told) (stand tells file here))
-    c.in_err-version.ensures.bytes)
+    let here : Tells (g.H.Files.contents c.plan.new.files) c.args.name.now file = subst (λ (d : Option Directory). Tells d c.args.name.now file) (sym c.plan.ensures.reads.files.same) told in
+    hold_given L K c.blocks-2.result file toc c.in_ok-plan.plan.entries t.now (fitted_is L c.blocks-2.result K c.in_ok-plan.ensures.fits) (omega (arith, size, c.carry_out.ensures.goes.size, c.blocks-2.ensures)) (c.in_ok-plan.ensures.plans.toc file told) has
+    (c.in_ok-plan.ensures.plans.planned.stored file told) ((filled tells).bytes file here))
+    c.in_err-version.ensures.filled)
 
 pub returns-in_err-version-clause-deserved : goal.returns-in_err-version-clause-deserved
 returns-in_err-version-clause-deserved g c =
@@ -71,11 +72,11 @@ returns-in_err-version-clause-deserved g c =
     let stop : c.in_err-version.field-0.0 ≡ Input (Incomplete found) = cc in
     let end : ◌≡◌ {A = Result ℕ FormatStop} (Err c.in_err-version.field-0.0) (Err (Input (Incomplete found))) = ap Err stop in
     let refused = subst (λ (l : Layout). IsRefused passes l found t.now) fit.is (c.in_err-version.ensures.refused found end tells) in
-    let A : Type 0 = IsTrue g.D.Flash.tells → (bytes : List ℕ) → Tells (g.H.Files.contents c.plan.new.files) c.args.name.now bytes → AllStand (length K.rows) K bytes c.in_ok-plan.plan.entries t.now in
-    let stand = subst (λ (r : Result ℕ FormatStop). Finishes r A) end c.in_err-version.ensures.bytes in
+    let A : Type 0 = IsTrue g.D.Flash.tells → IsFilled (g.H.Files.contents c.plan.new.files) c.args.name.now K c.in_ok-plan.plan.entries t in
+    let filled = subst (λ (r : Result ℕ FormatStop). Finishes r A) end c.in_err-version.ensures.filled in
     let size = (g.met.D.Flash.sound c.carry_out.new.flash tells).size in
-    let here : Tells (g.H.Files.contents c.plan.new.files) c.args.name.now file = subst (λ (d : Option Directory). Tells d c.args.name.now file) (sym c.plan.ensures.files.same) told in
-    let holds = hold_given L K c.blocks-2.result file toc c.in_ok-plan.plan.entries t.now fit (omega (arith, size, c.carry_out.ensures.goes.size, c.blocks-2.ensures)) (c.in_ok-plan.ensures.toc file told) has (c.in_ok-plan.ensures.planned.stored file told) (stand tells file here) in
+    let here : Tells (g.H.Files.contents c.plan.new.files) c.args.name.now file = subst (λ (d : Option Directory). Tells d c.args.name.now file) (sym c.plan.ensures.reads.files.same) told in
+    let holds = hold_given L K c.blocks-2.result file toc c.in_ok-plan.plan.entries t.now fit (omega (arith, size, c.carry_out.ensures.goes.size, c.blocks-2.ensures)) (c.in_ok-plan.ensures.plans.toc file told) has (c.in_ok-plan.ensures.plans.planned.stored file told) ((filled tells).bytes file here) in
     not_refused passes L found (images_of L.rows file toc) t.now (subst (λ (l : Layout). IsTrue (fits_layout l)) fit.is fit.fits) refused holds complete passed)
 
 pub returns-in_err-version-clause-keeps : goal.returns-in_err-version-clause-keeps
@@ -91,9 +92,9 @@ returns-clause-images g c = λ tells file toc told has.
     let L : Layout = record { banks = c.args.banks; rows = c.args.rows.now } in
     let t = g.D.Flash.told c.carry_out.new.flash in
     let size = (g.met.D.Flash.sound c.carry_out.new.flash tells).size in
-    let here : Tells (g.H.Files.contents c.plan.new.files) c.args.name.now file = subst (λ (d : Option Directory). Tells d c.args.name.now file) (sym c.plan.ensures.files.same) told in
-    hold_given L K c.blocks-2.result file toc c.in_ok-plan.plan.entries t.now (fitted_is L c.blocks-2.result K c.in_ok-plan.ensures.fits) (omega (arith, size, c.carry_out.ensures.goes.size, c.blocks-2.ensures)) (c.in_ok-plan.ensures.toc file told) has
-    (c.in_ok-plan.ensures.planned.stored file told) (c.in_ok-version.ensures.bytes tells file here)
+    let here : Tells (g.H.Files.contents c.plan.new.files) c.args.name.now file = subst (λ (d : Option Directory). Tells d c.args.name.now file) (sym c.plan.ensures.reads.files.same) told in
+    hold_given L K c.blocks-2.result file toc c.in_ok-plan.plan.entries t.now (fitted_is L c.blocks-2.result K c.in_ok-plan.ensures.fits) (omega (arith, size, c.carry_out.ensures.goes.size, c.blocks-2.ensures)) (c.in_ok-plan.ensures.plans.toc file told) has
+    (c.in_ok-plan.ensures.plans.planned.stored file told) ((c.in_ok-version.ensures.filled tells).bytes file here)
 
 pub returns-clause-keeps : goal.returns-clause-keeps
 returns-clause-keeps g c = λ tells.
@@ -107,17 +108,26 @@ returns-in_err-version-clause-blank g c =
     let K = c.in_ok-plan.plan.layout in
     let L : Layout = record { banks = c.args.banks; rows = c.args.rows.now } in
     let t = g.D.Flash.told c.carry_out.new.flash in
-    let A : Type 0 = IsTrue g.D.Flash.tells → IsBlank K t.now in
+    let A : Type 0 = IsTrue g.D.Flash.tells → IsFilled (g.H.Files.contents c.plan.new.files) c.args.name.now K c.in_ok-plan.plan.entries t in
     let B : Type 0 = IsTrue g.D.Flash.tells → IsBlank L t.now in
-    finishes_err ℕ Formatted c.in_err-version.field-0.0 A B (λ h tells. subst (λ (l : Layout). IsBlank l t.now) (fitted_is L c.blocks-2.result K c.in_ok-plan.ensures.fits).is (h tells))
-    c.in_err-version.ensures.blank)
+    finishes_err ℕ Formatted c.in_err-version.field-0.0 A B (λ filled tells. subst (λ (l : Layout). IsBlank l t.now) (fitted_is L c.blocks-2.result K c.in_ok-plan.ensures.fits).is (filled tells).blank)
+    c.in_err-version.ensures.filled)
 
 pub returns-clause-blank : goal.returns-clause-blank
 returns-clause-blank g c = λ tells.
     let K = c.in_ok-plan.plan.layout in
     let L : Layout = record { banks = c.args.banks; rows = c.args.rows.now } in
     let t = g.D.Flash.told c.carry_out.new.flash in
-    subst (λ (l : Layout). IsBlank l t.now) (fitted_is L c.blocks-2.result K c.in_ok-plan.ensures.fits).is (c.in_ok-version.ensures.blank tells)
+    subst (λ (l : Layout). IsBlank l t.now) (fitted_is L c.blocks-2.result K c.in_ok-plan.ensures.fits).is (c.in_ok-version.ensures.filled tells).blank
+
+pub returns-in_err-version-clause-clean : goal.returns-in_err-version-clause-clean
+returns-in_err-version-clause-clean g c =
+    rw (handed-on c.from_residual-in_err-version.result c.in_err-version.field-0.0 c.from_residual-in_err-version.ensures.1) (
+    let K = c.in_ok-plan.plan.layout in
+    let t = g.D.Flash.told c.carry_out.new.flash in
+    let A : Type 0 = IsTrue g.D.Flash.tells → IsFilled (g.H.Files.contents c.plan.new.files) c.args.name.now K c.in_ok-plan.plan.entries t in
+    let B : Type 0 = IsTrue g.D.Flash.tells → NothingDirty t in
+    finishes_err ℕ Formatted c.in_err-version.field-0.0 A B (λ filled tells. (filled tells).clean) c.in_err-version.ensures.filled)
 
 pub returns-in_err-version-clause-ordered : goal.returns-in_err-version-clause-ordered
 returns-in_err-version-clause-ordered g c =
@@ -138,11 +148,11 @@ pub returns-clause-spent : goal.returns-clause-spent
 returns-clause-spent g c =
     let K = c.in_ok-plan.plan.layout in
     let es = c.in_ok-plan.plan.entries in
-    let planned = c.in_ok-plan.ensures.planned in
+    let planned = c.in_ok-plan.ensures.plans.planned in
     record {
       pieces = pieces_in es;
       few = pieces_fit K.rows es planned.count planned.fit;
-      exact = λ file toc told is. pieces_told file K es toc (c.in_ok-plan.ensures.toc file told) is;
+      exact = λ file toc told is. pieces_told file K es toc (c.in_ok-plan.ensures.plans.toc file told) is;
       taken = c.in_ok-version.ensures.spent;
     }
 
@@ -153,69 +163,86 @@ returns-in_err-version-clause-worn g c =
     let K = c.in_ok-plan.plan.layout in
     let L : Layout = record { banks = c.args.banks; rows = c.args.rows.now } in
     let es = c.in_ok-plan.plan.entries in
-    let planned = c.in_ok-plan.ensures.planned in
+    let planned = c.in_ok-plan.ensures.plans.planned in
     let stop : c.in_err-version.field-0.0 ≡ Input (Incomplete found) = cc in
     subst (λ (l : Layout). Takes (g.H.Files.contents c.args.files.now) c.args.name.now l 0 (g.D.Flash.arming c.args.flash.now) (g.D.Flash.arming c.carry_out.new.flash))
     (fitted_is L c.blocks-2.result K c.in_ok-plan.ensures.fits).is
     (record {
       pieces = pieces_in es;
       few = pieces_fit K.rows es planned.count planned.fit;
-      exact = λ file toc told has. pieces_told file K es toc (c.in_ok-plan.ensures.toc file told) has;
+      exact = λ file toc told has. pieces_told file K es toc (c.in_ok-plan.ensures.plans.toc file told) has;
       taken = c.in_err-version.ensures.worn found (ap Err stop);
     }))
 
-pub returns-in_err-version-clause-bad : goal.returns-in_err-version-clause-bad
-returns-in_err-version-clause-bad g c =
-    rw (handed-on c.from_residual-in_err-version.result c.in_err-version.field-0.0 c.from_residual-in_err-version.ensures.1)
-    (λ found is.
-    let stop : c.in_err-version.field-0.0 ≡ Input (Incomplete found) = cc in
-    c.in_err-version.ensures.bad found (ap Err stop))
+pub returns-in_err-version-clause-refuses : goal.returns-in_err-version-clause-refuses
+returns-in_err-version-clause-refuses g c = record {
+  bad =
+      rw (handed-on c.from_residual-in_err-version.result c.in_err-version.field-0.0 c.from_residual-in_err-version.ensures.1)
+      (λ found is.
+      let stop : c.in_err-version.field-0.0 ≡ Input (Incomplete found) = cc in
+      c.in_err-version.ensures.refuses.bad found (ap Err stop));
+  seen =
+      rw (handed-on c.from_residual-in_err-version.result c.in_err-version.field-0.0 c.from_residual-in_err-version.ensures.1)
+      (λ found is.
+      let K = c.in_ok-plan.plan.layout in
+      let L : Layout = record { banks = c.args.banks; rows = c.args.rows.now } in
+      let stop : c.in_err-version.field-0.0 ≡ Input (Incomplete found) = cc in
+      subst (λ (l : Layout). HasPassed (g.V.Verifier.passes c.args.verifier.now) l.rows 0 found) (fitted_is L c.blocks-2.result K c.in_ok-plan.ensures.fits).is
+      (c.in_err-version.ensures.refuses.seen found (ap Err stop)));
+}
 
-pub returns-in_err-version-clause-seen : goal.returns-in_err-version-clause-seen
-returns-in_err-version-clause-seen g c =
-    rw (handed-on c.from_residual-in_err-version.result c.in_err-version.field-0.0 c.from_residual-in_err-version.ensures.1)
-    (λ found is.
-    let K = c.in_ok-plan.plan.layout in
-    let L : Layout = record { banks = c.args.banks; rows = c.args.rows.now } in
-    let stop : c.in_err-version.field-0.0 ≡ Input (Incomplete found) = cc in
-    subst (λ (l : Layout). HasPassed (g.V.Verifier.passes c.args.verifier.now) l.rows 0 found) (fitted_is L c.blocks-2.result K c.in_ok-plan.ensures.fits).is
-    (c.in_err-version.ensures.seen found (ap Err stop)))
+pub returns-in_err-plan-clause-input : goal.returns-in_err-plan-clause-input
+returns-in_err-plan-clause-input g c = record {
+  layout = search rules;
+  answers =
+      rw (handed-on c.from_residual.result c.in_err-plan.field-0.0 c.from_residual.ensures.1) (λ file told.
+      let L : Layout = record { banks = c.args.banks; rows = c.args.rows.now } in
+      let answers = c.in_err-plan.ensures.input.answers file told in
+      subst (λ (n : ℕ). Answers {T = Formatted} (refusal L n file) (Err c.in_err-plan.field-0.0)) c.blocks-2.ensures (answers_stop Plan Formatted c.in_err-plan.field-0.0 (refusal L c.blocks-2.result file) answers));
+  some =
+      rw (handed-on c.from_residual.result c.in_err-plan.field-0.0 c.from_residual.ensures.1) (
+      let L : Layout = record { banks = c.args.banks; rows = c.args.rows.now } in
+      let fits = fitted L c.blocks-2.result in
+      subst (λ (n : ℕ). IsOfBytes {T = Formatted} (fitted L n) (Err c.in_err-plan.field-0.0)) c.blocks-2.ensures
+      (of_stop Plan Formatted fits c.in_err-plan.field-0.0 c.in_err-plan.ensures.input.some));
+}
 
-pub returns-in_err-plan-clause-answers : goal.returns-in_err-plan-clause-answers
-returns-in_err-plan-clause-answers g c =
-    rw (handed-on c.from_residual.result c.in_err-plan.field-0.0 c.from_residual.ensures.1) (λ file told.
-    let L : Layout = record { banks = c.args.banks; rows = c.args.rows.now } in
-    let answers = c.in_err-plan.ensures.answers file told in
-    subst (λ (n : ℕ). Answers {T = Formatted} (refusal L n file) (Err c.in_err-plan.field-0.0)) c.blocks-2.ensures (answers_stop Plan Formatted c.in_err-plan.field-0.0 (refusal L c.blocks-2.result file) answers))
+pub returns-in_err-version-clause-input : goal.returns-in_err-version-clause-input
+returns-in_err-version-clause-input g c = record {
+  layout = search rules;
+  answers = search rules;
+  some =
+      rw (handed-on c.from_residual-in_err-version.result c.in_err-version.field-0.0 c.from_residual-in_err-version.ensures.1) (
+      let L : Layout = record { banks = c.args.banks; rows = c.args.rows.now } in
+      let fits = fitted L c.blocks-2.result in
+      let stop = c.in_err-version.field-0.0 in
+      subst (λ (n : ℕ). IsOfBytes {T = Formatted} (fitted L n) (Err stop)) c.blocks-2.ensures
+      (of_done Plan Formatted fits c.in_ok-plan.plan (Err stop) c.in_ok-plan.ensures.input.some
+      (λ early. c.in_err-version.ensures.stops (early_of Formatted ℕ stop early))));
+}
 
-pub returns-in_err-plan-clause-some : goal.returns-in_err-plan-clause-some
-returns-in_err-plan-clause-some g c =
-    rw (handed-on c.from_residual.result c.in_err-plan.field-0.0 c.from_residual.ensures.1) (
-    let L : Layout = record { banks = c.args.banks; rows = c.args.rows.now } in
-    let fits = fitted L c.blocks-2.result in
-    subst (λ (n : ℕ). IsOfBytes {T = Formatted} (fitted L n) (Err c.in_err-plan.field-0.0)) c.blocks-2.ensures
-    (of_stop Plan Formatted fits c.in_err-plan.field-0.0 c.in_err-plan.ensures.some))
+pub returns-clause-input : goal.returns-clause-input
+returns-clause-input g c = record {
+  layout = search rules;
+  answers = search rules;
+  some =
+      let L : Layout = record { banks = c.args.banks; rows = c.args.rows.now } in
+      let fits = fitted L c.blocks-2.result in
+      let done : Formatted = record { layout = c.in_ok-plan.plan.layout; version = c.in_ok-version.version } in
+      subst (λ (n : ℕ). IsOfBytes {T = Formatted} (fitted L n) (Ok done)) c.blocks-2.ensures
+      (of_done Plan Formatted fits c.in_ok-plan.plan (Ok done) c.in_ok-plan.ensures.input.some (λ early. early));
+}
 
-pub returns-in_err-version-clause-some : goal.returns-in_err-version-clause-some
-returns-in_err-version-clause-some g c =
-    rw (handed-on c.from_residual-in_err-version.result c.in_err-version.field-0.0 c.from_residual-in_err-version.ensures.1) (
-    let L : Layout = record { banks = c.args.banks; rows = c.args.rows.now } in
-    let fits = fitted L c.blocks-2.result in
-    let stop = c.in_err-version.field-0.0 in
-    subst (λ (n : ℕ). IsOfBytes {T = Formatted} (fitted L n) (Err stop)) c.blocks-2.ensures
-    (of_done Plan Formatted fits c.in_ok-plan.plan (Err stop) c.in_ok-plan.ensures.some
-    (λ early. c.in_err-version.ensures.stops (early_of Formatted ℕ stop early))))
+pub returns-in_err-version-clause-reads : goal.returns-in_err-version-clause-reads
+returns-in_err-version-clause-reads g c = record {
+  files = reads-then g.H.Files _ g.met.H.Files.joins _ _ _ c.plan.ensures.reads.files c.carry_out.ensures.reads.files;
+  once = search rules;
+  cause = search rules;
+}
 
-pub returns-clause-some : goal.returns-clause-some
-returns-clause-some g c =
-    let L : Layout = record { banks = c.args.banks; rows = c.args.rows.now } in
-    let fits = fitted L c.blocks-2.result in
-    let done : Formatted = record { layout = c.in_ok-plan.plan.layout; version = c.in_ok-version.version } in
-    subst (λ (n : ℕ). IsOfBytes {T = Formatted} (fitted L n) (Ok done)) c.blocks-2.ensures
-    (of_done Plan Formatted fits c.in_ok-plan.plan (Ok done) c.in_ok-plan.ensures.some (λ early. early))
-
-pub returns-in_err-version-clause-files : goal.returns-in_err-version-clause-files
-returns-in_err-version-clause-files g c = reads-then g.H.Files _ g.met.H.Files.joins _ _ _ c.plan.ensures.files c.carry_out.ensures.files
-
-pub returns-clause-files : goal.returns-clause-files
-returns-clause-files g c = reads-then g.H.Files _ g.met.H.Files.joins _ _ _ c.plan.ensures.files c.carry_out.ensures.files
+pub returns-clause-reads : goal.returns-clause-reads
+returns-clause-reads g c = record {
+  files = reads-then g.H.Files _ g.met.H.Files.joins _ _ _ c.plan.ensures.reads.files c.carry_out.ensures.reads.files;
+  once = search rules;
+  cause = search rules;
+}

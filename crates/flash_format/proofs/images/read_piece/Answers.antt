@@ -33,7 +33,7 @@ returns-clause-bytes g c = λ file told.
     let few : size ≤ 4096 = omega (arith, c.min-size.ensures) in
     let asked : length (take size c.args.out.now) ≡ size = length-take-le size c.args.out.now (omega (arith, room, few)) in
     let filled : length c.payload_at.new.out ≡ size = omega (arith, asked, c.payload_at.auto.out) in
-    let whole = length-payload file c.args.entry.now (c.requires.stored file told) in
+    let whole = length-payload file c.args.entry.now (c.requires.stored.within file told) in
     let is = c.in_ok-payload_at.ensures.bytes file told ∙ ap (λ (n : ℕ). take n (drop c.args.done bytes)) asked in
     piece_stands size c.payload_at.new.out c.args.out.now c.requires.erased filled c.args.done bytes is (λ less. omega (arith, less, whole, c.min-size.ensures, ap (λ (e : Entry). e.size) c.entry.view_is))
 

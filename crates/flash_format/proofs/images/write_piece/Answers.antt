@@ -1,4 +1,4 @@
-use Rattle.std.proofs.Common.{◌≡◌, ◌+◌, ◌*◌, ◌≤◌, ℕ, length, take, drop, refl, sym, subst, arith}
+use Rattle.std.proofs.Common.{◌≡◌, ◌+◌, ◌*◌, ◌≤◌, ℕ, length, take, drop, refl, sym, subst, arith, rules}
 use Rattle.std.specs.Prelude.{slice_range}
 use Rattle.std.proofs.lemmas.List.{length-take-le}
 use Rattle.base_core.specs.Block.{blank}
@@ -27,41 +27,51 @@ program-requires-clause-blank g c = λ tells.
     subst (λ (n : ℕ). slice_range s.now at (at + n) ≡ blank n) (sym size)
     (erased_range at c.in-Ok.size s.now (omega (arith, inside, c.requires.inside, c.in-Ok.ensures.some)) (λ i above below. c.requires.erased tells i above (omega (arith, below, c.in-Ok.ensures.some))))
 
-pub returns-in_err-program-clause-keeps : goal.returns-in_err-program-clause-keeps
-returns-in_err-program-clause-keeps g c = λ tells.
-    let s = g.D.Flash.told c.args.flash.now in
-    let at = 4096 * c.args.block in
-    let inside = (g.met.D.Flash.sound c.args.flash.now tells).size in
-    let bytes = take c.in-Ok.size c.read_piece.new.out in
-    let size : length bytes ≤ 4096 = omega (arith, length-take-le c.in-Ok.size c.read_piece.new.out (omega (arith, c.in-Ok.ensures.some, c.in-Ok.ensures.buffer)), c.in-Ok.ensures.some) in
-    subst (Keeps at (at + 4096) s) (sym (c.program.ensures.content tells))
-    (keeps_written c.program.result at (at + 4096) at bytes s s (omega arith) (omega (arith, size)) (omega (arith, inside, c.requires.inside, size)) (keeps_same at (at + 4096) s))
+pub returns-in_err-program-clause-writes : goal.returns-in_err-program-clause-writes
+returns-in_err-program-clause-writes g c = record {
+  keeps =
+      λ tells.
+      let s = g.D.Flash.told c.args.flash.now in
+      let at = 4096 * c.args.block in
+      let inside = (g.met.D.Flash.sound c.args.flash.now tells).size in
+      let bytes = take c.in-Ok.size c.read_piece.new.out in
+      let size : length bytes ≤ 4096 = omega (arith, length-take-le c.in-Ok.size c.read_piece.new.out (omega (arith, c.in-Ok.ensures.some, c.in-Ok.ensures.buffer)), c.in-Ok.ensures.some) in
+      subst (Keeps at (at + 4096) s) (sym (c.program.ensures.content tells))
+      (keeps_written c.program.result at (at + 4096) at bytes s s (omega arith) (omega (arith, size)) (omega (arith, inside, c.requires.inside, size)) (keeps_same at (at + 4096) s));
+  left =
+      λ tells.
+      let s = g.D.Flash.told c.args.flash.now in
+      let inside = (g.met.D.Flash.sound c.args.flash.now tells).size in
+      let bytes = take c.in-Ok.size c.read_piece.new.out in
+      let size : length bytes ≤ 4096 = omega (arith, length-take-le c.in-Ok.size c.read_piece.new.out (omega (arith, c.in-Ok.ensures.some, c.in-Ok.ensures.buffer)), c.in-Ok.ensures.some) in
+      subst (LeavesNoMore c.args.block s) (sym (c.program.ensures.content tells)) (left_below c.program.result c.args.block (4096 * c.args.block) bytes s (omega arith) (omega (arith, inside, c.requires.inside, size)));
+  goes = search rules;
+  spent = search rules;
+  stops = search rules;
+}
 
-pub returns-in_err-program-clause-left : goal.returns-in_err-program-clause-left
-returns-in_err-program-clause-left g c = λ tells.
-    let s = g.D.Flash.told c.args.flash.now in
-    let inside = (g.met.D.Flash.sound c.args.flash.now tells).size in
-    let bytes = take c.in-Ok.size c.read_piece.new.out in
-    let size : length bytes ≤ 4096 = omega (arith, length-take-le c.in-Ok.size c.read_piece.new.out (omega (arith, c.in-Ok.ensures.some, c.in-Ok.ensures.buffer)), c.in-Ok.ensures.some) in
-    subst (LeavesNoMore c.args.block s) (sym (c.program.ensures.content tells)) (left_below c.program.result c.args.block (4096 * c.args.block) bytes s (omega arith) (omega (arith, inside, c.requires.inside, size)))
-
-pub returns-clause-left : goal.returns-clause-left
-returns-clause-left g c = λ tells.
-    let s = g.D.Flash.told c.args.flash.now in
-    let inside = (g.met.D.Flash.sound c.args.flash.now tells).size in
-    let bytes = take c.in-Ok.size c.read_piece.new.out in
-    let size : length bytes ≤ 4096 = omega (arith, length-take-le c.in-Ok.size c.read_piece.new.out (omega (arith, c.in-Ok.ensures.some, c.in-Ok.ensures.buffer)), c.in-Ok.ensures.some) in
-    subst (LeavesNoMore c.args.block s) (sym (c.program.ensures.content tells)) (left_below c.program.result c.args.block (4096 * c.args.block) bytes s (omega arith) (omega (arith, inside, c.requires.inside, size)))
-
-pub returns-clause-keeps : goal.returns-clause-keeps
-returns-clause-keeps g c = λ tells.
-    let s = g.D.Flash.told c.args.flash.now in
-    let at = 4096 * c.args.block in
-    let inside = (g.met.D.Flash.sound c.args.flash.now tells).size in
-    let bytes = take c.in-Ok.size c.read_piece.new.out in
-    let size : length bytes ≤ 4096 = omega (arith, length-take-le c.in-Ok.size c.read_piece.new.out (omega (arith, c.in-Ok.ensures.some, c.in-Ok.ensures.buffer)), c.in-Ok.ensures.some) in
-    subst (Keeps at (at + 4096) s) (sym (c.program.ensures.content tells))
-    (keeps_written c.program.result at (at + 4096) at bytes s s (omega arith) (omega (arith, size)) (omega (arith, inside, c.requires.inside, size)) (keeps_same at (at + 4096) s))
+pub returns-clause-writes : goal.returns-clause-writes
+returns-clause-writes g c = record {
+  keeps =
+      λ tells.
+      let s = g.D.Flash.told c.args.flash.now in
+      let at = 4096 * c.args.block in
+      let inside = (g.met.D.Flash.sound c.args.flash.now tells).size in
+      let bytes = take c.in-Ok.size c.read_piece.new.out in
+      let size : length bytes ≤ 4096 = omega (arith, length-take-le c.in-Ok.size c.read_piece.new.out (omega (arith, c.in-Ok.ensures.some, c.in-Ok.ensures.buffer)), c.in-Ok.ensures.some) in
+      subst (Keeps at (at + 4096) s) (sym (c.program.ensures.content tells))
+      (keeps_written c.program.result at (at + 4096) at bytes s s (omega arith) (omega (arith, size)) (omega (arith, inside, c.requires.inside, size)) (keeps_same at (at + 4096) s));
+  left =
+      λ tells.
+      let s = g.D.Flash.told c.args.flash.now in
+      let inside = (g.met.D.Flash.sound c.args.flash.now tells).size in
+      let bytes = take c.in-Ok.size c.read_piece.new.out in
+      let size : length bytes ≤ 4096 = omega (arith, length-take-le c.in-Ok.size c.read_piece.new.out (omega (arith, c.in-Ok.ensures.some, c.in-Ok.ensures.buffer)), c.in-Ok.ensures.some) in
+      subst (LeavesNoMore c.args.block s) (sym (c.program.ensures.content tells)) (left_below c.program.result c.args.block (4096 * c.args.block) bytes s (omega arith) (omega (arith, inside, c.requires.inside, size)));
+  goes = search rules;
+  spent = spent_one _ _ c.in_ok-program.ensures.arming;
+  stops = search rules;
+}
 
 pub returns-clause-bytes : goal.returns-clause-bytes
 returns-clause-bytes g c = λ tells file told.
@@ -72,6 +82,3 @@ returns-clause-bytes g c = λ tells file told.
     subst (λ (t : Told). Stands at 4096 x t.now) (sym (c.in_ok-program.ensures.content tells))
     (piece_written c.args.block c.in-Ok.size x c.read_piece.new.out s (omega (arith, inside, c.requires.inside)) c.in-Ok.ensures.buffer (omega (arith, c.in-Ok.ensures.some))
     (c.requires.erased tells) c.in-Ok.ensures.erased (c.in-Ok.ensures.bytes file told))
-
-pub returns-clause-spent : goal.returns-clause-spent
-returns-clause-spent g c = spent_one _ _ c.in_ok-program.ensures.arming

@@ -1,4 +1,4 @@
-use Rattle.std.proofs.Common.{◌∙◌, inl, refl, sym, subst, Result, Err}
+use Rattle.std.proofs.Common.{◌∙◌, inl, refl, sym, subst, Result, Err, rules}
 use Rattle.fwu_formats.specs.Layout.{Layout}
 use Rattle.fwu_formats.specs.Package.{toc_of}
 use Rattle.fwu_formats.specs.declared.kinds.LayoutFault.{LayoutFault}
@@ -10,20 +10,22 @@ use Rattle.flash_format.specs.declared.stops.InputFault.TheVariants.{Layout as B
 use Rattle.flash_format.proofs.Answered.{of_fault}
 use Rattle.flash_format.proofs.planning.plan.Goals as goal
 
-pub returns-in-Ok-clause-answers : goal.returns-in-Ok-clause-answers
+pub returns-in-Ok-clause-input : goal.returns-in-Ok-clause-input
 unfolding refusal
-returns-in-Ok-clause-answers g c = λ file told.
-    subst (λ (r : Result Layout LayoutFault). Answers (refusal_by r (toc_of file)) c.plan_of.result) (sym (sym c.make.ensures ∙ c.in-Ok.is)) (c.plan_of.ensures.answers file told)
+returns-in-Ok-clause-input g c = record {
+  layout = search rules;
+  answers =
+      λ file told.
+      subst (λ (r : Result Layout LayoutFault). Answers (refusal_by r (toc_of file)) c.plan_of.result) (sym (sym c.make.ensures ∙ c.in-Ok.is)) (c.plan_of.ensures.answers file told);
+  some = subst (λ (r : Result Layout LayoutFault). IsOfBytes r c.plan_of.result) (sym (sym c.make.ensures ∙ c.in-Ok.is)) c.plan_of.ensures.some;
+}
 
-pub returns-in-Err-clause-answers : goal.returns-in-Err-clause-answers
+pub returns-in-Err-clause-input : goal.returns-in-Err-clause-input
 unfolding refusal
-returns-in-Err-clause-answers g c = λ file told.
-    subst (λ (r : Result Layout LayoutFault). Answers {T = Plan} (refusal_by r (toc_of file)) (Err (Input (BadLayout c.in-Err.fault)))) (sym (sym c.make.ensures ∙ c.in-Err.is)) (inl refl)
-
-pub returns-in-Ok-clause-some : goal.returns-in-Ok-clause-some
-returns-in-Ok-clause-some g c =
-    subst (λ (r : Result Layout LayoutFault). IsOfBytes r c.plan_of.result) (sym (sym c.make.ensures ∙ c.in-Ok.is)) c.plan_of.ensures.some
-
-pub returns-in-Err-clause-some : goal.returns-in-Err-clause-some
-returns-in-Err-clause-some g c =
-    subst (λ (r : Result Layout LayoutFault). IsOfBytes {T = Plan} r (Err (Input (BadLayout c.in-Err.fault)))) (sym (sym c.make.ensures ∙ c.in-Err.is)) (of_fault Plan c.in-Err.fault)
+returns-in-Err-clause-input g c = record {
+  layout = search rules;
+  answers =
+      λ file told.
+      subst (λ (r : Result Layout LayoutFault). Answers {T = Plan} (refusal_by r (toc_of file)) (Err (Input (BadLayout c.in-Err.fault)))) (sym (sym c.make.ensures ∙ c.in-Err.is)) (inl refl);
+  some = subst (λ (r : Result Layout LayoutFault). IsOfBytes {T = Plan} r (Err (Input (BadLayout c.in-Err.fault)))) (sym (sym c.make.ensures ∙ c.in-Err.is)) (of_fault Plan c.in-Err.fault);
+}

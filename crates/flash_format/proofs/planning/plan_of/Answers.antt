@@ -1,4 +1,4 @@
-use Rattle.std.proofs.Common.{◌≡◌, List, Some, subst}
+use Rattle.std.proofs.Common.{◌≡◌, List, Some, subst, rules}
 use Rattle.fwu_formats.specs.Layout.{ImageRow}
 use Rattle.fip_tables.specs.Images.{AreImages, images_fault}
 use Rattle.flash_format.specs.Choosing.{refused}
@@ -9,11 +9,14 @@ use Rattle.flash_format.proofs.Plans.{planned_from}
 use Rattle.flash_format.proofs.Stopped.{handed-on}
 use Rattle.flash_format.proofs.planning.plan_of.Goals as goal
 
-pub returns-clause-planned : goal.returns-clause-planned
-returns-clause-planned g c =
-    let toc = c.in_ok-toc.toc in
-    let chosen = subst (λ (rows : List ImageRow). AreImages rows toc c.in_ok-entries.entries) c.rows.ensures.value c.in_ok-entries.ensures in
-    planned_from _ c.args.name.now c.args.layout toc c.in_ok-entries.entries chosen c.in_ok-toc.ensures.ends c.in_ok-toc.ensures.told c.in_ok-toc.ensures.there
+pub returns-clause-plans : goal.returns-clause-plans
+returns-clause-plans g c = record {
+  planned =
+      let toc = c.in_ok-toc.toc in
+      let chosen = subst (λ (rows : List ImageRow). AreImages rows toc c.in_ok-entries.entries) c.rows.ensures.value c.in_ok-entries.ensures in
+      planned_from _ c.args.name.now c.args.layout toc c.in_ok-entries.entries chosen c.in_ok-toc.ensures.ends c.in_ok-toc.ensures.told c.in_ok-toc.ensures.there;
+  toc = search rules;
+}
 
 pub returns-clause-some : goal.returns-clause-some
 returns-clause-some g c =

@@ -1,4 +1,4 @@
-use Rattle.std.proofs.Common.{◌≡◌, ◌*◌, ℕ, length, sym, ap, subst, ◌∙◌, arith}
+use Rattle.std.proofs.Common.{◌≡◌, ◌*◌, ℕ, length, sym, ap, subst, ◌∙◌, arith, rules}
 use Rattle.base_core.specs.Block.{block}
 use Rattle.flash_core.specs.Told.{Told}
 use Rattle.flash_core.specs.May.{Keeps}
@@ -18,23 +18,33 @@ program-requires-clause-blank g c = λ tells.
     let whole : length c.write.new.out ≡ 4096 = omega (arith, c.write.auto.out) in
     erased_range 0 (length c.write.new.out) (g.D.Flash.told c.args.flash.now).now (omega (arith, size, many, whole)) (λ i above below. c.requires.erased tells i above (omega (arith, below, whole)))
 
-pub returns-in_err-program-clause-keeps : goal.returns-in_err-program-clause-keeps
-returns-in_err-program-clause-keeps g c = λ tells.
-    let s = g.D.Flash.told c.args.flash.now in
-    let size = (g.met.D.Flash.sound c.args.flash.now tells).size in
-    let many = (g.met.D.Flash.sizes c.args.flash.now).0 in
-    let whole : length c.write.new.out ≡ 4096 = omega (arith, c.write.auto.out) in
-    subst (Keeps 0 4096 s) (sym (c.program.ensures.content tells))
-    (keeps_written c.program.result 0 4096 0 c.write.new.out s s (omega arith) (omega (arith, whole)) (omega (arith, size, many, whole)) (keeps_same 0 4096 s))
+pub returns-in_err-program-clause-writes : goal.returns-in_err-program-clause-writes
+returns-in_err-program-clause-writes g c = record {
+  keeps =
+      λ tells.
+      let s = g.D.Flash.told c.args.flash.now in
+      let size = (g.met.D.Flash.sound c.args.flash.now tells).size in
+      let many = (g.met.D.Flash.sizes c.args.flash.now).0 in
+      let whole : length c.write.new.out ≡ 4096 = omega (arith, c.write.auto.out) in
+      subst (Keeps 0 4096 s) (sym (c.program.ensures.content tells))
+      (keeps_written c.program.result 0 4096 0 c.write.new.out s s (omega arith) (omega (arith, whole)) (omega (arith, size, many, whole)) (keeps_same 0 4096 s));
+  goes = search rules;
+  spent = search rules;
+}
 
-pub returns-clause-keeps : goal.returns-clause-keeps
-returns-clause-keeps g c = λ tells.
-    let s = g.D.Flash.told c.args.flash.now in
-    let size = (g.met.D.Flash.sound c.args.flash.now tells).size in
-    let many = (g.met.D.Flash.sizes c.args.flash.now).0 in
-    let whole : length c.write.new.out ≡ 4096 = omega (arith, c.write.auto.out) in
-    let after = subst (Keeps 0 4096 s) (sym (c.program.ensures.content tells)) (keeps_written c.program.result 0 4096 0 c.write.new.out s s (omega arith) (omega (arith, whole)) (omega (arith, size, many, whole)) (keeps_same 0 4096 s)) in
-    subst (Keeps 0 4096 s) (sym (c.barrier.ensures.content tells)) (keeps_settled c.barrier.result 0 4096 s (g.D.Flash.told c.program.new.self) after)
+pub returns-clause-writes : goal.returns-clause-writes
+returns-clause-writes g c = record {
+  keeps =
+      λ tells.
+      let s = g.D.Flash.told c.args.flash.now in
+      let size = (g.met.D.Flash.sound c.args.flash.now tells).size in
+      let many = (g.met.D.Flash.sizes c.args.flash.now).0 in
+      let whole : length c.write.new.out ≡ 4096 = omega (arith, c.write.auto.out) in
+      let after = subst (Keeps 0 4096 s) (sym (c.program.ensures.content tells)) (keeps_written c.program.result 0 4096 0 c.write.new.out s s (omega arith) (omega (arith, whole)) (omega (arith, size, many, whole)) (keeps_same 0 4096 s)) in
+      subst (Keeps 0 4096 s) (sym (c.barrier.ensures.content tells)) (keeps_settled c.barrier.result 0 4096 s (g.D.Flash.told c.program.new.self) after);
+  goes = search rules;
+  spent = spent_barrier c.barrier.result 1 _ _ _ (spent_one _ _ c.in_ok-program.ensures.arming) c.barrier.ensures.arming;
+}
 
 pub returns-clause-layout : goal.returns-clause-layout
 returns-clause-layout g c = on_ok_from _ c.barrier.result (λ tells.
@@ -53,9 +63,6 @@ returns-clause-layout g c = on_ok_from _ c.barrier.result (λ tells.
 
 pub returns-clause-clean : goal.returns-clause-clean
 returns-clause-clean g c = clean_after _ c.barrier.result (g.D.Flash.told c.program.new.self) (g.D.Flash.told c.barrier.new.self) c.barrier.ensures.content
-
-pub returns-clause-spent : goal.returns-clause-spent
-returns-clause-spent g c = spent_barrier c.barrier.result 1 _ _ _ (spent_one _ _ c.in_ok-program.ensures.arming) c.barrier.ensures.arming
 
 pub returns-clause-spelled : goal.returns-clause-spelled
 returns-clause-spelled g c = on_ok_from _ c.barrier.result (λ tells.

@@ -1,4 +1,4 @@
-use Rattle.std.proofs.Common.{◌≡◌, inl, inr, ◌∙◌, arith, IsTrue}
+use Rattle.std.proofs.Common.{◌≡◌, inl, inr, ◌∙◌, arith, IsTrue, rules}
 use Rattle.base_core.specs.Block.{block}
 use Rattle.flash_core.specs.Replaces.{padded}
 use Rattle.flash_core.proofs.Calls.{now_kept}
@@ -20,24 +20,28 @@ returns-clause-both g c = on_ok_from _ c.write_layout.result (λ tells.
     let t = g.D.Flash.told c.write_layout.new.flash in
     let size = (g.met.D.Flash.sound c.write_replicas.new.flash tells).size in
     let many = (g.met.D.Flash.sizes c.write_replicas.new.flash).0 in
-    both_stay L (in_version 2 (first_meta L)) s t (omega (arith, size, many)) (c.write_layout.ensures.keeps tells) (c.in_ok-write_replicas.ensures.both tells))
+    both_stay L (in_version 2 (first_meta L)) s t (omega (arith, size, many)) (c.write_layout.ensures.writes.keeps tells) (c.in_ok-write_replicas.ensures.both tells))
 
 pub returns-in_err-write_replicas-clause-ordered : goal.returns-in_err-write_replicas-clause-ordered
 returns-in_err-write_replicas-clause-ordered g c = λ tells clean.
     let size = (g.met.D.Flash.sound c.args.flash.now tells).size in
     let many = (g.met.D.Flash.sizes c.args.flash.now).0 in
     ordered_before c.args.layout.now 4096 (g.D.Flash.told c.args.flash.now) (g.D.Flash.told c.write_replicas.new.flash) (omega arith) (omega (arith, size, many)) (λ i above below. c.requires.erased tells i above (omega (arith, below))) clean
-    (c.write_replicas.ensures.keeps tells)
+    (c.write_replicas.ensures.writes.keeps tells)
 
 pub returns-clause-ordered : goal.returns-clause-ordered
 returns-clause-ordered g c = λ tells clean.
     let size = (g.met.D.Flash.sound c.write_replicas.new.flash tells).size in
     let many = (g.met.D.Flash.sizes c.write_replicas.new.flash).0 in
     ordered_after c.args.layout.now (g.D.Flash.told c.write_replicas.new.flash) (g.D.Flash.told c.write_layout.new.flash) (omega (arith, size, many)) (c.in_ok-write_replicas.ensures.clean tells) (c.in_ok-write_replicas.ensures.both tells)
-    (c.write_layout.ensures.keeps tells)
+    (c.write_layout.ensures.writes.keeps tells)
 
-pub returns-clause-spent : goal.returns-clause-spent
-returns-clause-spent g c = spent_then c.write_layout.result 2 1 3 _ _ _ (omega arith) c.in_ok-write_replicas.ensures.spent c.write_layout.ensures.spent
+pub returns-clause-writes : goal.returns-clause-writes
+returns-clause-writes g c = record {
+  keeps = search rules;
+  goes = search rules;
+  spent = spent_then c.write_layout.result 2 1 3 _ _ _ (omega arith) c.in_ok-write_replicas.ensures.writes.spent c.write_layout.ensures.writes.spent;
+}
 
 pub returns-clause-spelled : goal.returns-clause-spelled
 returns-clause-spelled g c =
@@ -48,11 +52,11 @@ returns-clause-spelled g c =
     (λ first tells.
     let size = (g.met.D.Flash.sound c.write_replicas.new.flash tells).size in
     let many = (g.met.D.Flash.sizes c.write_replicas.new.flash).0 in
-    let keeps = c.write_layout.ensures.keeps tells in
+    let keeps = c.write_layout.ensures.writes.keeps tells in
     record {
       layout = first tells;
-      zero = now_kept 1 0 4096 s t (omega (arith, size, many)) (inr (omega arith)) keeps ∙ c.in_ok-write_replicas.ensures.zero tells;
-      one = now_kept 2 0 4096 s t (omega (arith, size, many)) (inr (omega arith)) keeps ∙ c.in_ok-write_replicas.ensures.one tells;
+      zero = now_kept 1 0 4096 s t (omega (arith, size, many)) (inr (omega arith)) keeps ∙ (c.in_ok-write_replicas.ensures.twice tells).zero;
+      one = now_kept 2 0 4096 s t (omega (arith, size, many)) (inr (omega arith)) keeps ∙ (c.in_ok-write_replicas.ensures.twice tells).one;
     })
     c.write_layout.ensures.spelled
 
@@ -62,4 +66,4 @@ returns-in_err-write_replicas-clause-seen g c = λ tells.
     let t = g.D.Flash.told c.write_replicas.new.flash in
     let size = (g.met.D.Flash.sound c.write_replicas.new.flash tells).size in
     let many = (g.met.D.Flash.sizes c.write_replicas.new.flash).0 in
-    inl (unlaid t.now (omega (arith, size, many)) (erased_stays 0 4096 4096 12288 s t (inl (omega arith)) (c.write_replicas.ensures.keeps tells) (λ i above below. c.requires.erased tells i above (omega (arith, below)))))
+    inl (unlaid t.now (omega (arith, size, many)) (erased_stays 0 4096 4096 12288 s t (inl (omega arith)) (c.write_replicas.ensures.writes.keeps tells) (λ i above below. c.requires.erased tells i above (omega (arith, below)))))

@@ -1,4 +1,4 @@
-use Rattle.std.proofs.Common.{◌≡◌, inl, inr, ℕ, ◌*◌, length, sym, ap, subst, ◌∙◌, arith}
+use Rattle.std.proofs.Common.{◌≡◌, inl, inr, ℕ, ◌*◌, length, sym, ap, subst, ◌∙◌, arith, rules}
 use Rattle.std.specs.Prelude.{IsTrue}
 use Rattle.base_core.specs.Block.{block}
 use Rattle.flash_core.specs.Told.{Told}
@@ -18,14 +18,19 @@ program-requires-clause-blank g c = λ tells.
     let few = c.requires.few in
     erased_range 4096 (length c.args.bytes.now) (g.D.Flash.told c.args.flash.now).now (omega (arith, size, many, few)) (λ i above below. c.requires.erased tells i above (omega (arith, below, few)))
 
-pub returns-in_err-program-clause-keeps : goal.returns-in_err-program-clause-keeps
-returns-in_err-program-clause-keeps g c = λ tells.
-    let s = g.D.Flash.told c.args.flash.now in
-    let size = (g.met.D.Flash.sound c.args.flash.now tells).size in
-    let many = (g.met.D.Flash.sizes c.args.flash.now).0 in
-    let few = c.requires.few in
-    subst (Keeps 4096 12288 s) (sym (c.program.ensures.content tells))
-    (keeps_written c.program.result 4096 12288 4096 c.args.bytes.now s s (omega arith) (omega (arith, few)) (omega (arith, size, many, few)) (keeps_same 4096 12288 s))
+pub returns-in_err-program-clause-writes : goal.returns-in_err-program-clause-writes
+returns-in_err-program-clause-writes g c = record {
+  keeps =
+      λ tells.
+      let s = g.D.Flash.told c.args.flash.now in
+      let size = (g.met.D.Flash.sound c.args.flash.now tells).size in
+      let many = (g.met.D.Flash.sizes c.args.flash.now).0 in
+      let few = c.requires.few in
+      subst (Keeps 4096 12288 s) (sym (c.program.ensures.content tells))
+      (keeps_written c.program.result 4096 12288 4096 c.args.bytes.now s s (omega arith) (omega (arith, few)) (omega (arith, size, many, few)) (keeps_same 4096 12288 s));
+  goes = search rules;
+  spent = search rules;
+}
 
 pub program-requires-2-clause-blank : goal.program-requires-2-clause-blank
 program-requires-2-clause-blank g c = λ tells.
@@ -38,64 +43,70 @@ program-requires-2-clause-blank g c = λ tells.
     let erased = erased_stays 8192 12288 4096 8192 s m (inr (omega arith)) keeps (λ i above below. c.requires.erased tells i (omega (arith, above)) below) in
     erased_range 8192 (length c.args.bytes.now) m.now (omega (arith, size, many, few, keeps.size)) (λ i above below. erased i above (omega (arith, below, few)))
 
-pub returns-in_err-program-2-clause-keeps : goal.returns-in_err-program-2-clause-keeps
-returns-in_err-program-2-clause-keeps g c = λ tells.
-    let s = g.D.Flash.told c.args.flash.now in
-    let m = g.D.Flash.told c.program.new.self in
-    let size = (g.met.D.Flash.sound c.args.flash.now tells).size in
-    let many = (g.met.D.Flash.sizes c.args.flash.now).0 in
-    let few = c.requires.few in
-    let keeps = subst (Keeps 4096 12288 s) (sym (c.program.ensures.content tells)) (keeps_written c.program.result 4096 12288 4096 c.args.bytes.now s s (omega arith) (omega (arith, few)) (omega (arith, size, many, few)) (keeps_same 4096 12288 s)) in
-    subst (Keeps 4096 12288 s) (sym (c.program-2.ensures.content tells))
-    (keeps_written c.program-2.result 4096 12288 8192 c.args.bytes.now s m (omega arith) (omega (arith, few)) (omega (arith, size, many, few)) keeps)
+pub returns-in_err-program-2-clause-writes : goal.returns-in_err-program-2-clause-writes
+returns-in_err-program-2-clause-writes g c = record {
+  keeps =
+      λ tells.
+      let s = g.D.Flash.told c.args.flash.now in
+      let m = g.D.Flash.told c.program.new.self in
+      let size = (g.met.D.Flash.sound c.args.flash.now tells).size in
+      let many = (g.met.D.Flash.sizes c.args.flash.now).0 in
+      let few = c.requires.few in
+      let keeps = subst (Keeps 4096 12288 s) (sym (c.program.ensures.content tells)) (keeps_written c.program.result 4096 12288 4096 c.args.bytes.now s s (omega arith) (omega (arith, few)) (omega (arith, size, many, few)) (keeps_same 4096 12288 s)) in
+      subst (Keeps 4096 12288 s) (sym (c.program-2.ensures.content tells))
+      (keeps_written c.program-2.result 4096 12288 8192 c.args.bytes.now s m (omega arith) (omega (arith, few)) (omega (arith, size, many, few)) keeps);
+  goes = search rules;
+  spent = search rules;
+}
 
-pub returns-clause-keeps : goal.returns-clause-keeps
-returns-clause-keeps g c = λ tells.
-    let s = g.D.Flash.told c.args.flash.now in
-    let m = g.D.Flash.told c.program.new.self in
-    let size = (g.met.D.Flash.sound c.args.flash.now tells).size in
-    let many = (g.met.D.Flash.sizes c.args.flash.now).0 in
-    let few = c.requires.few in
-    let keeps = subst (Keeps 4096 12288 s) (sym (c.program.ensures.content tells)) (keeps_written c.program.result 4096 12288 4096 c.args.bytes.now s s (omega arith) (omega (arith, few)) (omega (arith, size, many, few)) (keeps_same 4096 12288 s)) in
-    let after = subst (Keeps 4096 12288 s) (sym (c.program-2.ensures.content tells)) (keeps_written c.program-2.result 4096 12288 8192 c.args.bytes.now s m (omega arith) (omega (arith, few)) (omega (arith, size, many, few)) keeps) in
-    subst (Keeps 4096 12288 s) (sym (c.barrier.ensures.content tells)) (keeps_settled c.barrier.result 4096 12288 s (g.D.Flash.told c.program-2.new.self) after)
+pub returns-clause-writes : goal.returns-clause-writes
+returns-clause-writes g c = record {
+  keeps =
+      λ tells.
+      let s = g.D.Flash.told c.args.flash.now in
+      let m = g.D.Flash.told c.program.new.self in
+      let size = (g.met.D.Flash.sound c.args.flash.now tells).size in
+      let many = (g.met.D.Flash.sizes c.args.flash.now).0 in
+      let few = c.requires.few in
+      let keeps = subst (Keeps 4096 12288 s) (sym (c.program.ensures.content tells)) (keeps_written c.program.result 4096 12288 4096 c.args.bytes.now s s (omega arith) (omega (arith, few)) (omega (arith, size, many, few)) (keeps_same 4096 12288 s)) in
+      let after = subst (Keeps 4096 12288 s) (sym (c.program-2.ensures.content tells)) (keeps_written c.program-2.result 4096 12288 8192 c.args.bytes.now s m (omega arith) (omega (arith, few)) (omega (arith, size, many, few)) keeps) in
+      subst (Keeps 4096 12288 s) (sym (c.barrier.ensures.content tells)) (keeps_settled c.barrier.result 4096 12288 s (g.D.Flash.told c.program-2.new.self) after);
+  goes = search rules;
+  spent = spent_barrier c.barrier.result 2 _ _ _ (spent_both 1 1 2 _ _ _ (omega arith) (spent_one _ _ c.in_ok-program.ensures.arming) (spent_one _ _ c.in_ok-program-2.ensures.arming)) c.barrier.ensures.arming;
+}
 
-pub returns-clause-zero : goal.returns-clause-zero
-returns-clause-zero g c = on_ok_from _ c.barrier.result (λ tells.
-    let s = g.D.Flash.told c.args.flash.now in
-    let bytes = c.args.bytes.now in
-    let m = g.D.Flash.told c.program.new.self in
-    let t = g.D.Flash.told c.program-2.new.self in
-    let size = (g.met.D.Flash.sound c.args.flash.now tells).size in
-    let many = (g.met.D.Flash.sizes c.args.flash.now).0 in
-    let few = c.requires.few in
-    let same : length m.now ≡ length s.now = (g.met.D.Flash.sound c.program.new.self tells).size ∙ ap (λ (n : ℕ). 4096 * n) c.in_ok-program.ensures.size ∙ sym size in
-    let stands : Stands 4096 4096 bytes m.now = subst (λ (u : Told). Stands 4096 4096 bytes u.now) (sym (c.in_ok-program.ensures.content tells)) (stands_put 1 bytes s (omega (arith, size, many)) few (λ i above below. c.requires.erased tells i above (omega (arith, below)))) in
-    let there : block 1 m.now ≡ padded bytes = block_padded 1 bytes m.now (omega (arith, size, many, same)) few stands in
-    let keeps = subst (Keeps 8192 12288 m) (sym (c.program-2.ensures.content tells)) (keeps_written c.program-2.result 8192 12288 8192 bytes m m (omega arith) (omega (arith, few)) (omega (arith, size, many, few, same)) (keeps_same 8192 12288 m)) in
-    let kept : block 1 t.now ≡ block 1 m.now = now_kept 1 8192 12288 m t (omega (arith, size, many, same)) (inl (omega arith)) keeps in
-    ap (λ (u : Told). block 1 u.now) (c.barrier.ensures.content tells) ∙ ap (block 1) (now_settled c.barrier.result t) ∙ kept ∙ there)
-
-pub returns-clause-one : goal.returns-clause-one
-returns-clause-one g c = on_ok_from _ c.barrier.result (λ tells.
-    let s = g.D.Flash.told c.args.flash.now in
-    let bytes = c.args.bytes.now in
-    let m = g.D.Flash.told c.program.new.self in
-    let t = g.D.Flash.told c.program-2.new.self in
-    let size = (g.met.D.Flash.sound c.args.flash.now tells).size in
-    let many = (g.met.D.Flash.sizes c.args.flash.now).0 in
-    let few = c.requires.few in
-    let same : length m.now ≡ length s.now = (g.met.D.Flash.sound c.program.new.self tells).size ∙ ap (λ (n : ℕ). 4096 * n) c.in_ok-program.ensures.size ∙ sym size in
-    let as_long : length t.now ≡ length m.now = (g.met.D.Flash.sound c.program-2.new.self tells).size ∙ ap (λ (n : ℕ). 4096 * n) c.in_ok-program-2.ensures.size ∙ sym (g.met.D.Flash.sound c.program.new.self tells).size in
-    let keeps = subst (Keeps 4096 8192 s) (sym (c.program.ensures.content tells)) (keeps_written c.program.result 4096 8192 4096 bytes s s (omega arith) (omega (arith, few)) (omega (arith, size, many, few)) (keeps_same 4096 8192 s)) in
-    let erased = erased_stays 8192 12288 4096 8192 s m (inr (omega arith)) keeps (λ i above below. c.requires.erased tells i (omega (arith, above)) below) in
-    let stands : Stands 8192 4096 bytes t.now = subst (λ (u : Told). Stands 8192 4096 bytes u.now) (sym (c.in_ok-program-2.ensures.content tells)) (stands_put 2 bytes m (omega (arith, size, many, same)) few erased) in
-    let there : block 2 t.now ≡ padded bytes = block_padded 2 bytes t.now (omega (arith, size, many, same, as_long)) few stands in
-    ap (λ (u : Told). block 2 u.now) (c.barrier.ensures.content tells) ∙ ap (block 2) (now_settled c.barrier.result t) ∙ there)
+pub returns-clause-twice : goal.returns-clause-twice
+returns-clause-twice g c = on_ok_from _ c.barrier.result (λ tells. record {
+  zero =
+      let s = g.D.Flash.told c.args.flash.now in
+      let bytes = c.args.bytes.now in
+      let m = g.D.Flash.told c.program.new.self in
+      let t = g.D.Flash.told c.program-2.new.self in
+      let size = (g.met.D.Flash.sound c.args.flash.now tells).size in
+      let many = (g.met.D.Flash.sizes c.args.flash.now).0 in
+      let few = c.requires.few in
+      let same : length m.now ≡ length s.now = (g.met.D.Flash.sound c.program.new.self tells).size ∙ ap (λ (n : ℕ). 4096 * n) c.in_ok-program.ensures.size ∙ sym size in
+      let stands : Stands 4096 4096 bytes m.now = subst (λ (u : Told). Stands 4096 4096 bytes u.now) (sym (c.in_ok-program.ensures.content tells)) (stands_put 1 bytes s (omega (arith, size, many)) few (λ i above below. c.requires.erased tells i above (omega (arith, below)))) in
+      let there : block 1 m.now ≡ padded bytes = block_padded 1 bytes m.now (omega (arith, size, many, same)) few stands in
+      let keeps = subst (Keeps 8192 12288 m) (sym (c.program-2.ensures.content tells)) (keeps_written c.program-2.result 8192 12288 8192 bytes m m (omega arith) (omega (arith, few)) (omega (arith, size, many, few, same)) (keeps_same 8192 12288 m)) in
+      let kept : block 1 t.now ≡ block 1 m.now = now_kept 1 8192 12288 m t (omega (arith, size, many, same)) (inl (omega arith)) keeps in
+      ap (λ (u : Told). block 1 u.now) (c.barrier.ensures.content tells) ∙ ap (block 1) (now_settled c.barrier.result t) ∙ kept ∙ there;
+  one =
+      let s = g.D.Flash.told c.args.flash.now in
+      let bytes = c.args.bytes.now in
+      let m = g.D.Flash.told c.program.new.self in
+      let t = g.D.Flash.told c.program-2.new.self in
+      let size = (g.met.D.Flash.sound c.args.flash.now tells).size in
+      let many = (g.met.D.Flash.sizes c.args.flash.now).0 in
+      let few = c.requires.few in
+      let same : length m.now ≡ length s.now = (g.met.D.Flash.sound c.program.new.self tells).size ∙ ap (λ (n : ℕ). 4096 * n) c.in_ok-program.ensures.size ∙ sym size in
+      let as_long : length t.now ≡ length m.now = (g.met.D.Flash.sound c.program-2.new.self tells).size ∙ ap (λ (n : ℕ). 4096 * n) c.in_ok-program-2.ensures.size ∙ sym (g.met.D.Flash.sound c.program.new.self tells).size in
+      let keeps = subst (Keeps 4096 8192 s) (sym (c.program.ensures.content tells)) (keeps_written c.program.result 4096 8192 4096 bytes s s (omega arith) (omega (arith, few)) (omega (arith, size, many, few)) (keeps_same 4096 8192 s)) in
+      let erased = erased_stays 8192 12288 4096 8192 s m (inr (omega arith)) keeps (λ i above below. c.requires.erased tells i (omega (arith, above)) below) in
+      let stands : Stands 8192 4096 bytes t.now = subst (λ (u : Told). Stands 8192 4096 bytes u.now) (sym (c.in_ok-program-2.ensures.content tells)) (stands_put 2 bytes m (omega (arith, size, many, same)) few erased) in
+      let there : block 2 t.now ≡ padded bytes = block_padded 2 bytes t.now (omega (arith, size, many, same, as_long)) few stands in
+      ap (λ (u : Told). block 2 u.now) (c.barrier.ensures.content tells) ∙ ap (block 2) (now_settled c.barrier.result t) ∙ there;
+})
 
 pub returns-clause-clean : goal.returns-clause-clean
 returns-clause-clean g c = clean_after (IsTrue g.D.Flash.tells) c.barrier.result (g.D.Flash.told c.program-2.new.self) (g.D.Flash.told c.barrier.new.self) c.barrier.ensures.content
-
-pub returns-clause-spent : goal.returns-clause-spent
-returns-clause-spent g c =
-    spent_barrier c.barrier.result 2 _ _ _ (spent_both 1 1 2 _ _ _ (omega arith) (spent_one _ _ c.in_ok-program.ensures.arming) (spent_one _ _ c.in_ok-program-2.ensures.arming)) c.barrier.ensures.arming

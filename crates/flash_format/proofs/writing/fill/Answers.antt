@@ -31,8 +31,8 @@ returns-in_err-write_bank-clause-keeps g c = λ tells.
     let m = g.D.Flash.told c.erase_all.new.flash in
     let n = g.D.Flash.told c.write_bank.new.flash in
     let enough = bank_within L c.rows-rows.ensures.fit in
-    let first = subst (λ (k : ℕ). Keeps 0 (4096 * k) s m) c.blocks-2.ensures (c.erase_all.ensures.keeps tells) in
-    keeps_then 0 high s m n first (keeps_wider 32768 (4096 * (8 + slot_total L.rows)) 0 high m n (omega arith) (omega (arith, enough)) (c.write_bank.ensures.keeps tells))
+    let first = subst (λ (k : ℕ). Keeps 0 (4096 * k) s m) c.blocks-2.ensures (c.erase_all.ensures.writes.keeps tells) in
+    keeps_then 0 high s m n first (keeps_wider 32768 (4096 * (8 + slot_total L.rows)) 0 high m n (omega arith) (omega (arith, enough)) (c.write_bank.ensures.writes.keeps tells))
 
 pub returns-in_err-barrier-clause-keeps : goal.returns-in_err-barrier-clause-keeps
 returns-in_err-barrier-clause-keeps g c = λ tells.
@@ -42,8 +42,8 @@ returns-in_err-barrier-clause-keeps g c = λ tells.
     let m = g.D.Flash.told c.erase_all.new.flash in
     let n = g.D.Flash.told c.write_bank.new.flash in
     let enough = bank_within L c.rows-rows.ensures.fit in
-    let first = subst (λ (k : ℕ). Keeps 0 (4096 * k) s m) c.blocks-2.ensures (c.erase_all.ensures.keeps tells) in
-    let both = keeps_then 0 high s m n first (keeps_wider 32768 (4096 * (8 + slot_total L.rows)) 0 high m n (omega arith) (omega (arith, enough)) (c.write_bank.ensures.keeps tells)) in
+    let first = subst (λ (k : ℕ). Keeps 0 (4096 * k) s m) c.blocks-2.ensures (c.erase_all.ensures.writes.keeps tells) in
+    let both = keeps_then 0 high s m n first (keeps_wider 32768 (4096 * (8 + slot_total L.rows)) 0 high m n (omega arith) (omega (arith, enough)) (c.write_bank.ensures.writes.keeps tells)) in
     subst (Keeps 0 high s) (sym (c.barrier.ensures.content tells)) (keeps_settled c.barrier.result 0 high s n both)
 
 pub returns-clause-keeps : goal.returns-clause-keeps
@@ -54,8 +54,8 @@ returns-clause-keeps g c = λ tells.
     let m = g.D.Flash.told c.erase_all.new.flash in
     let n = g.D.Flash.told c.write_bank.new.flash in
     let enough = bank_within L c.rows-rows.ensures.fit in
-    let first = subst (λ (k : ℕ). Keeps 0 (4096 * k) s m) c.blocks-2.ensures (c.erase_all.ensures.keeps tells) in
-    let both = keeps_then 0 high s m n first (keeps_wider 32768 (4096 * (8 + slot_total L.rows)) 0 high m n (omega arith) (omega (arith, enough)) (c.write_bank.ensures.keeps tells)) in
+    let first = subst (λ (k : ℕ). Keeps 0 (4096 * k) s m) c.blocks-2.ensures (c.erase_all.ensures.writes.keeps tells) in
+    let both = keeps_then 0 high s m n first (keeps_wider 32768 (4096 * (8 + slot_total L.rows)) 0 high m n (omega arith) (omega (arith, enough)) (c.write_bank.ensures.writes.keeps tells)) in
     subst (Keeps 0 high s) (sym (c.barrier.ensures.content tells)) (keeps_settled c.barrier.result 0 high s n both)
 
 pub returns-clause-erased : goal.returns-clause-erased
@@ -66,18 +66,10 @@ returns-clause-erased g c = λ tells.
     let enough = bank_within L c.rows-rows.ensures.fit in
     let now = ap (λ (t : Told). t.now) (c.barrier.ensures.content tells) ∙ now_settled c.barrier.result n in
     let before : Erased 0 32768 m.now = λ i above below. c.in_ok-erase_all.ensures.erased tells i above (omega (arith, below, enough, c.blocks-2.ensures)) in
-    subst (Erased 0 32768) (sym now) (erased_stays 0 32768 32768 (4096 * (8 + slot_total L.rows)) m n (inl (omega arith)) (c.write_bank.ensures.keeps tells) before)
+    subst (Erased 0 32768) (sym now) (erased_stays 0 32768 32768 (4096 * (8 + slot_total L.rows)) m n (inl (omega arith)) (c.write_bank.ensures.writes.keeps tells) before)
 
-pub returns-clause-bytes : goal.returns-clause-bytes
-returns-clause-bytes g c = λ tells file told.
-    let L = c.args.plan.now.layout in
-    let n = g.D.Flash.told c.write_bank.new.flash in
-    let now = ap (λ (t : Told). t.now) (c.barrier.ensures.content tells) ∙ now_settled c.barrier.result n in
-    let there = subst (λ (es : List Entry). AllStand (length L.rows) L file es n.now) c.as_slice.ensures (c.in_ok-write_bank.ensures.bytes tells file told) in
-    subst (AllStand (length L.rows) L file c.args.plan.now.entries) (sym now) there
-
-pub returns-clause-blank : goal.returns-clause-blank
-returns-clause-blank g c = λ tells.
+pub returns-clause-filled : goal.returns-clause-filled
+returns-clause-filled g c = λ tells.
     let L = c.args.plan.now.layout in
     let m = g.D.Flash.told c.erase_all.new.flash in
     let n = g.D.Flash.told c.write_bank.new.flash in
@@ -85,87 +77,96 @@ returns-clause-blank g c = λ tells.
     let high = 4096 * (8 + slot_total L.rows) in
     let now = ap (λ (t : Told). t.now) (c.barrier.ensures.content tells) ∙ now_settled c.barrier.result n in
     let all : Erased 0 (4096 * blocks_needed L) m.now = subst (λ (k : ℕ). Erased 0 (4096 * k) m.now) c.blocks-2.ensures (c.in_ok-erase_all.ensures.erased tells) in
-    subst (IsBlank L) (sym now) (record {
-      front = erased_stays 12288 32768 32768 high m n (inl (omega arith)) (c.write_bank.ensures.keeps tells) (λ i above below. all i (omega arith) (omega (arith, below, enough)));
-      banks = erased_stays high (4096 * blocks_needed L) 32768 high m n (inr (omega arith)) (c.write_bank.ensures.keeps tells) (λ i above below. all i (omega arith) below);
-    })
+    record {
+      bytes = λ file told.
+          let there = subst (λ (es : List Entry). AllStand (length L.rows) L file es n.now) c.as_slice.ensures (c.in_ok-write_bank.ensures.bytes tells file told) in
+          subst (AllStand (length L.rows) L file c.args.plan.now.entries) (sym now) there;
+      blank = subst (IsBlank L) (sym now) (record {
+        front = erased_stays 12288 32768 32768 high m n (inl (omega arith)) (c.write_bank.ensures.writes.keeps tells) (λ i above below. all i (omega arith) (omega (arith, below, enough)));
+        banks = erased_stays high (4096 * blocks_needed L) 32768 high m n (inr (omega arith)) (c.write_bank.ensures.writes.keeps tells) (λ i above below. all i (omega arith) below);
+      });
+      clean = subst NothingDirty (sym (c.in_ok-barrier.ensures.content tells)) (settle-fresh n);
+    }
 
-pub returns-in_err-write_bank-clause-only : goal.returns-in_err-write_bank-clause-only
-returns-in_err-write_bank-clause-only g c = λ tells.
-    let s = g.D.Flash.told c.args.flash.now in
-    let m = g.D.Flash.told c.erase_all.new.flash in
-    let n = g.D.Flash.told c.write_bank.new.flash in
-    let size = (g.met.D.Flash.sound c.erase_all.new.flash tells).size in
-    let many = (g.met.D.Flash.sizes c.erase_all.new.flash).0 in
-    only_above (4096 * (8 + slot_total c.args.plan.now.layout.rows)) s m n (omega (arith, size, many)) (c.erase_all.ensures.only tells) (c.write_bank.ensures.keeps tells) (c.write_bank.ensures.left tells)
+pub returns-in_err-write_bank-clause-clears : goal.returns-in_err-write_bank-clause-clears
+returns-in_err-write_bank-clause-clears g c = record {
+  only =
+      λ tells.
+      let s = g.D.Flash.told c.args.flash.now in
+      let m = g.D.Flash.told c.erase_all.new.flash in
+      let n = g.D.Flash.told c.write_bank.new.flash in
+      let size = (g.met.D.Flash.sound c.erase_all.new.flash tells).size in
+      let many = (g.met.D.Flash.sizes c.erase_all.new.flash).0 in
+      only_above (4096 * (8 + slot_total c.args.plan.now.layout.rows)) s m n (omega (arith, size, many)) (c.erase_all.ensures.clears.only tells) (c.write_bank.ensures.writes.keeps tells) (c.write_bank.ensures.writes.left tells);
+  first =
+      λ tells.
+      let m = g.D.Flash.told c.erase_all.new.flash in
+      let n = g.D.Flash.told c.write_bank.new.flash in
+      inr (bare_stays 32768 (4096 * (8 + slot_total c.args.plan.now.layout.rows)) m n (omega arith) (c.write_bank.ensures.writes.keeps tells) (c.in_ok-erase_all.ensures.bare tells));
+}
 
-pub returns-in_err-barrier-clause-only : goal.returns-in_err-barrier-clause-only
-returns-in_err-barrier-clause-only g c = λ tells.
-    let s = g.D.Flash.told c.args.flash.now in
-    let m = g.D.Flash.told c.erase_all.new.flash in
-    let n = g.D.Flash.told c.write_bank.new.flash in
-    let size = (g.met.D.Flash.sound c.erase_all.new.flash tells).size in
-    let many = (g.met.D.Flash.sizes c.erase_all.new.flash).0 in
-    subst (OnlyErased s) (sym (c.barrier.ensures.content tells)) (only_settled c.barrier.result s n
-    (only_above (4096 * (8 + slot_total c.args.plan.now.layout.rows)) s m n (omega (arith, size, many)) (c.erase_all.ensures.only tells) (c.write_bank.ensures.keeps tells) (c.write_bank.ensures.left tells)))
+pub returns-in_err-barrier-clause-clears : goal.returns-in_err-barrier-clause-clears
+returns-in_err-barrier-clause-clears g c = record {
+  only =
+      λ tells.
+      let s = g.D.Flash.told c.args.flash.now in
+      let m = g.D.Flash.told c.erase_all.new.flash in
+      let n = g.D.Flash.told c.write_bank.new.flash in
+      let size = (g.met.D.Flash.sound c.erase_all.new.flash tells).size in
+      let many = (g.met.D.Flash.sizes c.erase_all.new.flash).0 in
+      subst (OnlyErased s) (sym (c.barrier.ensures.content tells)) (only_settled c.barrier.result s n
+      (only_above (4096 * (8 + slot_total c.args.plan.now.layout.rows)) s m n (omega (arith, size, many)) (c.erase_all.ensures.clears.only tells) (c.write_bank.ensures.writes.keeps tells) (c.write_bank.ensures.writes.left tells)));
+  first =
+      λ tells.
+      let m = g.D.Flash.told c.erase_all.new.flash in
+      let n = g.D.Flash.told c.write_bank.new.flash in
+      let bare = bare_stays 32768 (4096 * (8 + slot_total c.args.plan.now.layout.rows)) m n (omega arith) (c.write_bank.ensures.writes.keeps tells) (c.in_ok-erase_all.ensures.bare tells) in
+      inr (subst IsBare (sym (c.barrier.ensures.content tells)) (bare_settled c.barrier.result n bare));
+}
 
-pub returns-clause-only : goal.returns-clause-only
-returns-clause-only g c = λ tells.
-    let s = g.D.Flash.told c.args.flash.now in
-    let m = g.D.Flash.told c.erase_all.new.flash in
-    let n = g.D.Flash.told c.write_bank.new.flash in
-    let size = (g.met.D.Flash.sound c.erase_all.new.flash tells).size in
-    let many = (g.met.D.Flash.sizes c.erase_all.new.flash).0 in
-    subst (OnlyErased s) (sym (c.barrier.ensures.content tells)) (only_settled c.barrier.result s n
-    (only_above (4096 * (8 + slot_total c.args.plan.now.layout.rows)) s m n (omega (arith, size, many)) (c.erase_all.ensures.only tells) (c.write_bank.ensures.keeps tells) (c.write_bank.ensures.left tells)))
-
-pub returns-clause-clean : goal.returns-clause-clean
-returns-clause-clean g c = λ tells. subst NothingDirty (sym (c.in_ok-barrier.ensures.content tells)) (settle-fresh (g.D.Flash.told c.write_bank.new.flash))
+pub returns-clause-clears : goal.returns-clause-clears
+returns-clause-clears g c = record {
+  only =
+      λ tells.
+      let s = g.D.Flash.told c.args.flash.now in
+      let m = g.D.Flash.told c.erase_all.new.flash in
+      let n = g.D.Flash.told c.write_bank.new.flash in
+      let size = (g.met.D.Flash.sound c.erase_all.new.flash tells).size in
+      let many = (g.met.D.Flash.sizes c.erase_all.new.flash).0 in
+      subst (OnlyErased s) (sym (c.barrier.ensures.content tells)) (only_settled c.barrier.result s n
+      (only_above (4096 * (8 + slot_total c.args.plan.now.layout.rows)) s m n (omega (arith, size, many)) (c.erase_all.ensures.clears.only tells) (c.write_bank.ensures.writes.keeps tells) (c.write_bank.ensures.writes.left tells)));
+  first =
+      λ tells.
+      let m = g.D.Flash.told c.erase_all.new.flash in
+      let n = g.D.Flash.told c.write_bank.new.flash in
+      let bare = bare_stays 32768 (4096 * (8 + slot_total c.args.plan.now.layout.rows)) m n (omega arith) (c.write_bank.ensures.writes.keeps tells) (c.in_ok-erase_all.ensures.bare tells) in
+      inr (subst IsBare (sym (c.barrier.ensures.content tells)) (bare_settled c.barrier.result n bare));
+}
 
 pub erase_all-requires-clause-some : goal.erase_all-requires-clause-some
 erase_all-requires-clause-some g c =
     let enough = bank_within c.args.plan.now.layout c.rows-rows.ensures.fit in
     omega (arith, enough, c.blocks-2.ensures)
 
-pub returns-in_err-write_bank-clause-first : goal.returns-in_err-write_bank-clause-first
-returns-in_err-write_bank-clause-first g c = λ tells.
-    let m = g.D.Flash.told c.erase_all.new.flash in
-    let n = g.D.Flash.told c.write_bank.new.flash in
-    inr (bare_stays 32768 (4096 * (8 + slot_total c.args.plan.now.layout.rows)) m n (omega arith) (c.write_bank.ensures.keeps tells) (c.in_ok-erase_all.ensures.bare tells))
-
-pub returns-in_err-barrier-clause-first : goal.returns-in_err-barrier-clause-first
-returns-in_err-barrier-clause-first g c = λ tells.
-    let m = g.D.Flash.told c.erase_all.new.flash in
-    let n = g.D.Flash.told c.write_bank.new.flash in
-    let bare = bare_stays 32768 (4096 * (8 + slot_total c.args.plan.now.layout.rows)) m n (omega arith) (c.write_bank.ensures.keeps tells) (c.in_ok-erase_all.ensures.bare tells) in
-    inr (subst IsBare (sym (c.barrier.ensures.content tells)) (bare_settled c.barrier.result n bare))
-
-pub returns-clause-first : goal.returns-clause-first
-returns-clause-first g c = λ tells.
-    let m = g.D.Flash.told c.erase_all.new.flash in
-    let n = g.D.Flash.told c.write_bank.new.flash in
-    let bare = bare_stays 32768 (4096 * (8 + slot_total c.args.plan.now.layout.rows)) m n (omega arith) (c.write_bank.ensures.keeps tells) (c.in_ok-erase_all.ensures.bare tells) in
-    inr (subst IsBare (sym (c.barrier.ensures.content tells)) (bare_settled c.barrier.result n bare))
-
 pub returns-clause-spent : goal.returns-clause-spent
 returns-clause-spent g c =
     let L = c.args.plan.now.layout in
     let es = c.args.plan.now.entries in
     let armed = g.D.Flash.arming c.erase_all.new.flash in
-    let wrote : g.D.Flash.arming c.write_bank.new.flash ≡ lowered_by (pieces_in es) armed = c.in_ok-write_bank.ensures.spent ∙ ap (λ (l : List Entry). lowered_by (pieces_in l) armed) c.as_slice.ensures in
-    c.in_ok-barrier.ensures.arming ∙ spent_both c.blocks-2.result (pieces_in es) (blocks_needed L + pieces_in es) _ _ _ (omega (arith, c.blocks-2.ensures)) c.in_ok-erase_all.ensures.spent wrote
+    let wrote : g.D.Flash.arming c.write_bank.new.flash ≡ lowered_by (pieces_in es) armed = c.in_ok-write_bank.ensures.writes.spent ∙ ap (λ (l : List Entry). lowered_by (pieces_in l) armed) c.as_slice.ensures in
+    c.in_ok-barrier.ensures.arming ∙ spent_both c.blocks-2.result (pieces_in es) (blocks_needed L + pieces_in es) _ _ _ (omega (arith, c.blocks-2.ensures)) c.in_ok-erase_all.ensures.writes.spent wrote
 
 pub returns-in_err-write_bank-clause-bare : goal.returns-in_err-write_bank-clause-bare
 returns-in_err-write_bank-clause-bare g c =
     let m = g.D.Flash.told c.erase_all.new.flash in
     let n = g.D.Flash.told c.write_bank.new.flash in
     let bare : IsTrue g.D.Flash.tells → IsBare n = λ tells.
-    bare_stays 32768 (4096 * (8 + slot_total c.args.plan.now.layout.rows)) m n (omega arith) (c.write_bank.ensures.keeps tells) (c.in_ok-erase_all.ensures.bare tells) in
+    bare_stays 32768 (4096 * (8 + slot_total c.args.plan.now.layout.rows)) m n (omega arith) (c.write_bank.ensures.writes.keeps tells) (c.in_ok-erase_all.ensures.bare tells) in
     on_ok_from (IsTrue g.D.Flash.tells → IsBare n) _ bare
 
 pub returns-clause-bare : goal.returns-clause-bare
 returns-clause-bare g c = λ tells.
     let m = g.D.Flash.told c.erase_all.new.flash in
     let n = g.D.Flash.told c.write_bank.new.flash in
-    let bare = bare_stays 32768 (4096 * (8 + slot_total c.args.plan.now.layout.rows)) m n (omega arith) (c.write_bank.ensures.keeps tells) (c.in_ok-erase_all.ensures.bare tells) in
+    let bare = bare_stays 32768 (4096 * (8 + slot_total c.args.plan.now.layout.rows)) m n (omega arith) (c.write_bank.ensures.writes.keeps tells) (c.in_ok-erase_all.ensures.bare tells) in
     subst IsBare (sym (c.barrier.ensures.content tells)) (bare_settled c.barrier.result n bare)

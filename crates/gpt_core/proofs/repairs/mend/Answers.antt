@@ -1,5 +1,5 @@
 use Rattle.std.proofs.Common.{◌≡◌, ℕ, ◌+◌, ◌*◌, ◌/◌, length, ap, sym, subst, ◌∙◌}
-use Rattle.gpt_core.specs.Table.{Table, header_at, entries_at, blocks_of, number_of, header_bytes, copy_from, copy_to}
+use Rattle.gpt_core.specs.Table.{Table, header_at, entries_at, blocks_of, number_of, header_bytes}
 use Rattle.gpt_core.specs.Repair.{Spells}
 use Rattle.gpt_core.proofs.Spelling.{spells}
 use Rattle.gpt_core.proofs.Deciding.{inside_copy}
@@ -23,20 +23,20 @@ returns-clause-steps g c tells ready =
       ready = ready;
     })
 
-pub returns-clause-keeps : goal.returns-clause-keeps
-returns-clause-keeps g c tells =
+pub returns-clause-writes : goal.returns-clause-writes
+returns-clause-writes g c =
     let w = c.args.copy in
     let t = c.args.table.now in
     let n = g.D.Flash.blocks c.args.flash.now in
     let number = c.number_in_table-number.ensures in
-    let inside = inside_copy w n t c.header_place-header.result c.entries_place-first.result (length c.as_slice.result.now) c.requires.fits
+    let entries = ap length (c.as_slice.ensures.value ∙ ap (λ (u : Table). u.entries) c.table.view_is) in
+    let spans = inside_copy w n t c.header_place-header.result c.entries_place-first.result (length c.as_slice.result.now) c.requires.fits
     (c.header_place-header.ensures ∙ ap (header_at w) c.blocks-blocks.ensures)
     (c.entries_place-first.ensures ∙ ap (λ (k : ℕ). entries_at w k c.blocks_for.result) c.blocks-blocks.ensures ∙ ap (entries_at w n) (c.blocks_for.ensures.value ∙ ap blocks_of number.value))
-    (ap length (c.as_slice.ensures.value ∙ ap (λ (u : Table). u.entries) c.table.view_is)) in
-    c.repair_copy.ensures.keeps (copy_from w n (blocks_of (number_of t))) (copy_to w n (blocks_of (number_of t))) inside.header_low inside.header_high inside.first_low inside.first_high tells
-
-pub returns-clause-spent : goal.returns-clause-spent
-returns-clause-spent g c =
-    let t = c.args.table.now in
-    let size : length c.as_slice.result.now ≡ number_of t * 128 = ap length (c.as_slice.ensures.value ∙ ap (λ (u : Table). u.entries) c.table.view_is) ∙ c.requires.fits.whole in
-    spent_as c.repair_copy.result (2 + 2 * ((length c.as_slice.result.now + 4095) / 4096)) (2 + 2 * blocks_of (number_of t)) _ _ (ap (λ (n : ℕ). 2 + 2 * ((n + 4095) / 4096)) size) c.repair_copy.ensures.spent
+    entries in
+    let size : length c.as_slice.result.now ≡ number_of t * 128 = entries ∙ c.requires.fits.whole in
+    record {
+      keeps = c.repair_copy.ensures.keeps _ _ spans;
+      goes = c.repair_copy.ensures.goes;
+      spent = spent_as c.repair_copy.result (2 + 2 * ((length c.as_slice.result.now + 4095) / 4096)) (2 + 2 * blocks_of (number_of t)) _ _ (ap (λ (n : ℕ). 2 + 2 * ((n + 4095) / 4096)) size) c.repair_copy.ensures.spent;
+    }

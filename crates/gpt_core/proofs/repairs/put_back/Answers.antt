@@ -1,17 +1,22 @@
-use Rattle.std.proofs.Common.{◌++◌, take, ap, ◌∙◌, ℕ}
+use Rattle.std.proofs.Common.{◌++◌, take, ap, ◌∙◌, ℕ, rules}
 use Rattle.base_core.specs.Bytes.{le}
 use Rattle.base_core.specs.Crc.{crc}
 use Rattle.gpt_core.specs.Table.{Table, entries_at, blocks_of, number_of, header_back}
 use Rattle.gpt_core.proofs.Spelling.{put_four}
 use Rattle.gpt_core.proofs.repairs.put_back.Goals as goal
 
-pub returns-clause-front : goal.returns-clause-front
+pub returns : goal.returns
 unfolding header_back
-returns-clause-front c =
+returns c =
     let t = c.args.table.now in
     let number = c.number_in_table-number.ensures.value in
-    put_four (take c.args.at c.args.out.now) _ _ _ _ (le 8 (entries_at c.args.copy c.args.blocks (blocks_of (number_of t)))) (le 4 (number_of t)) (le 4 128) (le 4 (crc t.entries))
-    (c.put_eight-place.ensures.front ∙ ap (λ (n : ℕ). take c.args.at c.args.out.now ++ le 8 n) (c.entries_place.ensures ∙ ap (entries_at c.args.copy c.args.blocks) (c.blocks_for.ensures.value ∙ ap blocks_of number)))
-    (c.put_four-count.ensures.front ∙ ap (λ (n : ℕ). take c.put_eight-place.result c.put_eight-place.new.out ++ le 4 n) number)
-    c.put_four-entry.ensures.front
-    (c.put_four.ensures.front ∙ ap (λ (n : ℕ). take c.put_four-entry.result c.put_four-entry.new.out ++ le 4 n) (c.crc32.ensures ∙ ap crc (c.as_slice.ensures.value ∙ ap (λ (u : Table). u.entries) c.table.view_is)))
+    record {
+      next_is = search rules;
+      front =
+          put_four (take c.args.at c.args.out.now) _ _ _ _ (le 8 (entries_at c.args.copy c.args.blocks (blocks_of (number_of t)))) (le 4 (number_of t)) (le 4 128) (le 4 (crc t.entries))
+          (c.put_eight-place.ensures.front ∙ ap (λ (n : ℕ). take c.args.at c.args.out.now ++ le 8 n) (c.entries_place.ensures ∙ ap (entries_at c.args.copy c.args.blocks) (c.blocks_for.ensures.value ∙ ap blocks_of number)))
+          (c.put_four-count.ensures.front ∙ ap (λ (n : ℕ). take c.put_eight-place.result c.put_eight-place.new.out ++ le 4 n) number)
+          c.put_four-entry.ensures.front
+          (c.put_four.ensures.front ∙ ap (λ (n : ℕ). take c.put_four-entry.result c.put_four-entry.new.out ++ le 4 n) (c.crc32.ensures ∙ ap crc (c.as_slice.ensures.value ∙ ap (λ (u : Table). u.entries) c.table.view_is)));
+      size = search rules;
+    }

@@ -41,12 +41,12 @@ returns-in-Same-clause-spent g c =
 pub returns-in-RepairPrimary-clause-spent : goal.returns-in-RepairPrimary-clause-spent
 returns-in-RepairPrimary-clause-spent g c =
     let e = blocks_of (number_of c.args.table.now) in
-    spent_as c.mend.result _ _ _ _ (ap (λ (w : WhichTable). writes_of w e) (sym c.in-RepairPrimary.is)) c.mend.ensures.spent
+    spent_as c.mend.result _ _ _ _ (ap (λ (w : WhichTable). writes_of w e) (sym c.in-RepairPrimary.is)) c.mend.ensures.writes.spent
 
 pub returns-in-RepairBackup-clause-spent : goal.returns-in-RepairBackup-clause-spent
 returns-in-RepairBackup-clause-spent g c =
     let e = blocks_of (number_of c.args.table.now) in
-    spent_as c.mend-in-RepairBackup.result _ _ _ _ (ap (λ (w : WhichTable). writes_of w e) (sym c.in-RepairBackup.is)) c.mend-in-RepairBackup.ensures.spent
+    spent_as c.mend-in-RepairBackup.result _ _ _ _ (ap (λ (w : WhichTable). writes_of w e) (sym c.in-RepairBackup.is)) c.mend-in-RepairBackup.ensures.writes.spent
 
 pub returns-in-RepairPrimary-clause-settled : goal.returns-in-RepairPrimary-clause-settled
 returns-in-RepairPrimary-clause-settled g c = on_ok_weaker c.mend.result (λ clean tells was. clean tells) c.mend.ensures.settled
