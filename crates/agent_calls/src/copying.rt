@@ -3,10 +3,8 @@ ghost use Rattle.std.specs.Prelude.{All, slice_index_or, true, false, ◌≡◌,
 ghost use Rattle.base_core.specs.Block.{block_bytes};
 ghost use Rattle.fwu_formats.specs.Layout.{start};
 ghost use Rattle.slot_writer.specs.Slots.{IsBlankAhead};
-ghost use Rattle.fwu_formats.specs.Metadata.{state_at};
 ghost use Rattle.agent_machine.specs.Fields.{target, total_of};
 ghost use Rattle.agent_machine.specs.Meets.{IsDone, IsRefused, flash_result};
-ghost use Rattle.fwu_model.specs.State.{is_invalid};
 ghost use Rattle.fwu_model.specs.Answer.{are_named};
 ghost use Rattle.agent_calls.specs.Partly.{named_in};
 
@@ -31,7 +29,7 @@ impl<D: Flash> Agent<D> {
     ghost use Rattle.agent_calls.specs.Shown.{AgentGoes, SpentBy, fields, device, gone, moment};
     ghost use Rattle.agent_calls.specs.Copies.{BeginsPartly, CopiesPiece, CopiesBytes, CopiesImage, CopiesImages};
     ghost use Rattle.agent_calls.specs.Copies.{FillsBank, StoresThenFills};
-    ghost use Rattle.agent_calls.specs.Metas.{meta_begun};
+    ghost use Rattle.agent_calls.specs.Metas.{has_invalid_target, meta_begun};
     ghost use Rattle.agent_calls.specs.Takes.{CopiesTake, CopyTakes, FrontTakes, PieceTakes, Takes};
     ghost use Rattle.agent_calls.specs.Takes.{piece_at, pieces_of, writes_to_begin, writes_to_copy};
 
@@ -157,7 +155,7 @@ impl<D: Flash> Agent<D> {
         ensures refused { IsRefused result → self.new ≡ self.old }
         // On any device: where the update bank is invalid already and each image is named, it is not touched.
         ensures still { let f = fields self.old in
-            IsTrue (is_invalid (state_at f.meta.meta (target f))) →
+            IsTrue (has_invalid_target f) →
             All IsTrue (are_named f.layout.rows list.now) → device self.new ≡ device self.old }
         // On any flash that tells its content, sound or not, at any exit but a refusal: the metadata is
         // stored once, as by `begin`, and behind that only the update bank changes.

@@ -70,13 +70,14 @@ fn read_image<D: Flash>(
 }
 
 impl<D: Flash> Agent<D> {
-    ghost use Rattle.std.specs.Prelude.{ℕ, ◌-◌, Bool, List, Option, is_err, IfOk, IsErrOf, IsFalse};
+    ghost use Rattle.std.specs.Prelude.{ℕ, ◌-◌, Option, is_err, IfOk, IsErrOf, IsFalse};
     ghost use Rattle.fwu_model.specs.Call as call;
     ghost use Rattle.agent_kept.specs.declared.parts.Handle.TheVariants as handle;
     ghost use Rattle.agent_kept.specs.Kept.{handle_kept};
     ghost use Rattle.agent_machine.specs.Fields.{total_of, IsThere};
-    ghost use Rattle.agent_machine.specs.Meets.{Meets, IsGot, IsRefused, flash_result};
-    ghost use Rattle.agent_calls.specs.Shown.{AgentGoes, fields, device, gone, moment};
+    ghost use Rattle.agent_machine.specs.Meets.{IsGot, IsRefused, flash_result};
+    ghost use Rattle.agent_calls.specs.Records.{KeepsRests};
+    ghost use Rattle.agent_calls.specs.Shown.{AgentGoes, AgentMeets, device, fields, gone};
 
     /// Fills the buffer with bytes of the directory, or of an image of the bank that was started,
     /// from a place on. A stop of the flash makes the agent gone.
@@ -124,9 +125,8 @@ impl<D: Flash> Agent<D> {
     pub fn read_stream(&mut self, h: u32, out: &mut [u8]) -> Result<(u32, u32), Stop>
         // On any device: an answer or a refusal is that of each machine that the agent shows, and
         // the bytes too where the device tells its content.
-        ensures meets { IsFalse (gone self.old) → (passes : List ℕ → Bool) →
-            Meets (IsGot D.tells out.new) result passes (call.Read h (length out.old))
-            (moment self.old) (moment self.new) }
+        ensures meets { AgentMeets (IsGot D.tells out.new) result (call.Read h (length out.old))
+            self.old self.new }
         ensures goes { AgentGoes result self.old self.new }
         ensures refused { IsRefused result → self.new ≡ self.old }
         ensures long { length out.new ≡ length out.old }
@@ -138,11 +138,7 @@ impl<D: Flash> Agent<D> {
         ensures beyond { (image : Option ℕ) (at total : ℕ) →
             handle_kept (fields self.old).session (h - 1) ≡ handle.Reads image at total →
             drop (total - at) out.new ≡ drop (total - at) out.old }
-        // on any device, at any exit: the bytes stay that are kept of the staged images, and so do the
-        // metadata and the trials
-        ensures rests { (fields self.new).rests ≡ (fields self.old).rests }
-        ensures metadata { (fields self.new).meta ≡ (fields self.old).meta }
-        ensures trials { (fields self.new).trials ≡ (fields self.old).trials }
+        ensures records { KeepsRests (fields self.old) (fields self.new) }
         ensures content { IsTrue D.tells → D.told (device self.new) ≡ D.told (device self.old) }
         ensures arming { D.arming (device self.new)
             ≡ arming_kept (flash_result result) (D.arming (device self.old)) }

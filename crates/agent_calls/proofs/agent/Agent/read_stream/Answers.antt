@@ -9,6 +9,7 @@ use Rattle.agent_machine.specs.Meets.{IsGot}
 use Rattle.agent_machine.proofs.ReadAnswers.{read-refused, read-inside, read-lost, read-faulty, read-meets, carried-from, filled}
 use Rattle.agent_calls.specs.Shown.{fields, moment}
 use Rattle.agent_calls.proofs.Beyond.{read-room, read-no-more, kept-beyond}
+use Rattle.agent_calls.proofs.Keeping.{read-keeps}
 use Rattle.agent_calls.proofs.NoOther.{reads}
 use Rattle.agent_calls.proofs.agent.Agent.read_stream.Goals as goal
 
@@ -129,11 +130,18 @@ returns-in-Err-Failed-clause-beyond g c image at total reads =
     (read-no-more (fields a) c.args.h (length c.args.out.now) c.in-Ok.plan c.in-Ok.ensures.asked c.in-Read.handle c.in-Read.image c.in-Read.at
     c.in-Read.length c.in-Read.total c.in-Read.is image at total reads)
 
-pub returns-in-Ok-read_part-clause-trials : goal.returns-in-Ok-read_part-clause-trials
-returns-in-Ok-read_part-clause-trials g c = c.keep.ensures.trials ∙ ap (λ (x : Fields). x.trials) c.read_part.ensures.fields
+pub returns-in-Ok-read_part-clause-records : goal.returns-in-Ok-read_part-clause-records
+returns-in-Ok-read_part-clause-records g c =
+    let was = c.read_part.ensures.fields in
+    let kept = c.keep.ensures.records in
+    record {
+      rests = kept.rests ∙ ap (λ (x : Fields). x.rests) was;
+      metadata = kept.metadata ∙ ap (λ (x : Fields). x.meta) was;
+      trials = kept.trials ∙ ap (λ (x : Fields). x.trials) was;
+    }
 
-pub returns-in-Err-Lost-clause-trials : goal.returns-in-Err-Lost-clause-trials
-returns-in-Err-Lost-clause-trials g c = ap (λ (x : Fields). x.trials) c.read_part.ensures.fields
+pub returns-in-Err-Lost-clause-records : goal.returns-in-Err-Lost-clause-records
+returns-in-Err-Lost-clause-records g c = read-keeps (fields c.args.self.now) (fields c.read_part.new.self) c.read_part.ensures.fields
 
-pub returns-in-Err-Failed-clause-trials : goal.returns-in-Err-Failed-clause-trials
-returns-in-Err-Failed-clause-trials g c = ap (λ (x : Fields). x.trials) c.read_part.ensures.fields
+pub returns-in-Err-Failed-clause-records : goal.returns-in-Err-Failed-clause-records
+returns-in-Err-Failed-clause-records g c = read-keeps (fields c.args.self.now) (fields c.read_part.new.self) c.read_part.ensures.fields
