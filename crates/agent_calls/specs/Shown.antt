@@ -1,5 +1,6 @@
 -- An agent as contracts see it.
-use Rattle.std.specs.Prelude.{◌≡◌, ℕ, Bool, List, Result, OnOk, IsFalse}
+use Rattle.std.specs.Prelude.{◌≡◌, ℕ, Bool, List, Option, Result, OnOk, IsFalse}
+use Rattle.flash_core.specs.declared.flash.Arming.{Arming}
 use Rattle.flash_core.specs.declared.flash.Flash.{Ghosts}
 use Rattle.flash_core.specs.declared.flash.FlashStop.{FlashStop}
 use Rattle.fwu_model.specs.Call.{Call}
@@ -57,6 +58,10 @@ SpentBy {F = F} result old new = Spent F result new.gone old.flash new.flash
 -- this is decided of a request by what the agent keeps
 abbrev pub AgentDecides : {D : Type 0} {F : Ghosts D} → (List ℕ → Bool) → Request → Decision → Agent D F → Type 0
 AgentDecides passes r d a = Decides passes a.meta a.counter (kept a.session) a.boot r d
+
+-- what a call spends of an armed loss, by what the agent shows before it
+abbrev pub TakesBy : {D : Type 0} {F : Ghosts D} → (Moment → Option Arming → Option Arming → Type 0) → Agent D F → Agent D F → Type 0
+TakesBy {F = F} T old new = T (moment old) (F.arming old.flash) (F.arming new.flash)
 
 -- An answer stored the metadata, or has it as it was and wrote nothing.
 abbrev pub SpendsStore : {D : Type 0} {F : Ghosts D} → Result (Unit {0}) Stop → Agent D F → Agent D F → Type 0

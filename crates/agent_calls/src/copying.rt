@@ -26,7 +26,7 @@ fn named_in(plan: &Plan) -> [bool; 16]
 }
 
 impl<D: Flash> Agent<D> {
-    ghost use Rattle.agent_calls.specs.Shown.{AgentGoes, SpentBy, fields, device, gone, moment};
+    ghost use Rattle.agent_calls.specs.Shown.{AgentGoes, SpentBy, TakesBy, fields, device, gone, moment};
     ghost use Rattle.agent_calls.specs.Copies.{BeginsPartly, CopiesPiece, CopiesBytes, CopiesImage, CopiesImages};
     ghost use Rattle.agent_calls.specs.Copies.{FillsBank, StoresThenFills};
     ghost use Rattle.agent_calls.specs.Metas.{has_invalid_target, meta_begun};
@@ -45,8 +45,7 @@ impl<D: Flash> Agent<D> {
         ensures fills { FillsBank (moment self.old) (moment self.new) }
         ensures piece { IfOk result (λ n.
             n ≡ piece_at block_bytes (total_of (fields self.old) (Some image)) at) }
-        ensures takes { IfOk result (λ n. PieceTakes image at n (moment self.old)
-            (D.arming (device self.old)) (D.arming (device self.new))) }
+        ensures takes { IfOk result (λ n. TakesBy (PieceTakes image at n) self.old self.new) }
         ensures spent { SpentBy (flash_result result) self.old self.new }
         ensures buffer { length buf.new ≡ length buf.old }
     {
@@ -69,9 +68,8 @@ impl<D: Flash> Agent<D> {
 
         ensures copies { CopiesBytes image result (moment self.old) (moment self.new) }
         ensures fills { FillsBank (moment self.old) (moment self.new) }
-        ensures takes { OnOk result (FrontTakes image
-            (pieces_of block_bytes (total_of (fields self.old) (Some image)))
-            (moment self.old) (D.arming (device self.old)) (D.arming (device self.new))) }
+        ensures takes { OnOk result (TakesBy (FrontTakes image (pieces_of block_bytes
+            (total_of (fields self.old) (Some image)))) self.old self.new) }
         ensures spent { SpentBy (flash_result result) self.old self.new }
     {
         let mut buf = [0; BLOCK_BYTES as usize];
@@ -94,8 +92,7 @@ impl<D: Flash> Agent<D> {
 
         ensures copies { CopiesImage image result (moment self.old) (moment self.new) }
         ensures fills { FillsBank (moment self.old) (moment self.new) }
-        ensures takes { OnOk result (CopyTakes image (moment self.old)
-            (D.arming (device self.old)) (D.arming (device self.new))) }
+        ensures takes { OnOk result (TakesBy (CopyTakes image) self.old self.new) }
         ensures spent { SpentBy (flash_result result) self.old self.new }
     {
         let guid = self.layout.rows()[image as usize].guid;
@@ -118,8 +115,8 @@ impl<D: Flash> Agent<D> {
         ensures copies { CopiesImages named.now result (moment self.old) (moment self.new) }
         ensures fills { FillsBank (moment self.old) (moment self.new) }
         ensures still { All IsTrue named.now → self.new ≡ self.old }
-        ensures takes { OnOk result (CopiesTake named.now (length named.now) (moment self.old)
-            (D.arming (device self.old)) (D.arming (device self.new))) }
+        ensures takes { OnOk result (TakesBy (CopiesTake named.now (length named.now))
+            self.old self.new) }
         ensures spent { SpentBy (flash_result result) self.old self.new }
     {
         for image in 0..named.len() {
