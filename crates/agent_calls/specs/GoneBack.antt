@@ -18,8 +18,8 @@ abbrev pub SomePassed : (List ℕ → Bool) → List ImageRow → ℕ → Type 0
 SomePassed passes rows counter = (v : ℕ) × HasPassed passes rows counter (Good v)
 
 -- The active and the previous bank change places, where going back is answered. What is left at each exit.
-pub record ChangesBanks {D : Type 0} (g : Ghosts D) (passes : List ℕ → Bool) (result : Result (Unit {0}) Stop) (old new : Snapshot D)
-    : Type 0 where
+pub record ChangesBanks {D : Type 0} (g : Ghosts D) (passes : List ℕ → Bool) (result : Result (Unit {0}) Stop)
+    (old new : Snapshot D) : Type 0 where
   -- On any device: what the session and the numbers of the banks refuse is refused without a look at the device.
   pub still : may_try_kept old.fields.meta.meta old.fields.session old.fields.boot ≡ false → new.device ≡ old.device
   -- On any flash that tells its content, sound or not: the metadata is stored in which the two banks changed places.

@@ -29,12 +29,13 @@ pub record WritesImage {D : Type 0} (g : Ghosts D) (image : ℕ) (bytes : List �
   -- On any device: the bytes that fill no granule are kept, and the image has all of them.
   pub keeps : OnOk result (take ((size_of (part_at old.fields.session image) + length bytes) % granule_bytes)
       (rest_of new.fields image) ≡ kept_of (size_of (part_at old.fields.session image)) (rest_of old.fields image) bytes)
+  -- and the session's part of the image grows by them
   pub grows : OnOk result (AppendsPart old.fields.session image bytes new.fields.session)
   -- On any device, at any exit: what is kept of another image stays.
   pub others : (other : ℕ) → (other ≡ image → ⊥) → rest_of new.fields other ≡ rest_of old.fields other
   -- On any device: it is not touched where no granule becomes whole.
-  pub still : done_of (size_of (part_at old.fields.session image) + length bytes) ≡ done_of (size_of (part_at old.fields.session image))
-      → new.device ≡ old.device
+  pub still : done_of (size_of (part_at old.fields.session image) + length bytes)
+      ≡ done_of (size_of (part_at old.fields.session image)) → new.device ≡ old.device
   -- what an armed loss counts of a write that is not refused
   pub spent : IsDone result → SpendsArming (flash_result result)
       (writes_to_append (size_of (part_at old.fields.session image)) (length bytes))
@@ -50,7 +51,8 @@ pub record EndsImage {D : Type 0} (g : Ghosts D) (image : ℕ) (result : Result 
       (g.arming old.device) (g.arming new.device) (g.counts old.device) (g.counts new.device)
 
 -- The bit of an image of the active bank is set.
-pub record AcceptsImage {D : Type 0} (g : Ghosts D) (image : ℕ) (result : Result (Unit {0}) Stop) (old new : Snapshot D) : Type 0 where
+pub record AcceptsImage {D : Type 0} (g : Ghosts D) (image : ℕ) (result : Result (Unit {0}) Stop)
+    (old new : Snapshot D) : Type 0 where
   -- On any device: where the bit is set already, the device is not touched.
   pub still : IsTrue (bit_at old.fields.meta.meta old.fields.meta.meta.active image) → new.device ≡ old.device
   -- On any flash that tells its content, sound or not: else the metadata is stored in which it is.

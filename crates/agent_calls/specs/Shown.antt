@@ -60,7 +60,7 @@ abbrev pub AgentDecides : {D : Type 0} {F : Ghosts D} → (List ℕ → Bool) �
 AgentDecides passes r d a = Decides passes a.meta a.counter (kept a.session) a.boot r d
 
 -- what a call spends of an armed loss, by what the agent shows before it
-abbrev pub TakesBy : {D : Type 0} {F : Ghosts D} → (Moment → Option Arming → Option Arming → Type 0) → Agent D F → Agent D F → Type 0
+abbrev pub TakesBy : {D : Type 0} {F : Ghosts D} → (Moment → Option Arming → Option Arming → Type 0) → (old new : Agent D F) → Type 0
 TakesBy {F = F} T old new = T (moment old) (F.arming old.flash) (F.arming new.flash)
 
 -- An answer stored the metadata, or has it as it was and wrote nothing.
@@ -68,7 +68,7 @@ abbrev pub SpendsStore : {D : Type 0} {F : Ghosts D} → Result (Unit {0}) Stop 
 SpendsStore {F = F} result old new = OnOk result (TakesStore old.meta new.meta (F.arming old.flash) (F.arming new.flash))
 
 -- Of an agent that isn't gone: an answer or a refusal of a call is that of each machine that the agent shows.
-abbrev pub AgentMeets : {D T : Type 0} {F : Ghosts D} → (T → Reply → Type 0) → Result T Stop → Call → Agent D F → Agent D F → Type 0
+abbrev pub AgentMeets : {D T : Type 0} {F : Ghosts D} → (T → Reply → Type 0) → Result T Stop → Call → (old new : Agent D F) → Type 0
 AgentMeets Says result c old new = IsFalse old.gone → (passes : List ℕ → Bool) → Meets Says result passes c (moment old) (moment new)
 
 -- The answer tells nothing but that the call was done.

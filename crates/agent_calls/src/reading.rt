@@ -2,7 +2,6 @@
 ghost use Rattle.flash_core.specs.Calls.{Reads};
 ghost use Rattle.std.specs.Prelude.{◌≡◌, ◌+◌, ◌*◌, ◌<◌, ◌≤◌, length, take, drop, IsTrue, OnOk, None};
 ghost use Rattle.base_core.specs.Block.{block_bytes};
-ghost use Rattle.flash_core.specs.Counts.{ReachesNone, arming_kept};
 ghost use Rattle.fwu_formats.specs.Layout.{blocks_needed, slot_bytes, start};
 ghost use Rattle.fwu_formats.specs.Metadata.{fits_meta};
 ghost use Rattle.agent_machine.specs.Fields.{directory_size};
@@ -76,7 +75,7 @@ impl<D: Flash> Agent<D> {
     ghost use Rattle.agent_kept.specs.Kept.{handle_kept};
     ghost use Rattle.agent_machine.specs.Fields.{total_of, IsThere};
     ghost use Rattle.agent_machine.specs.Meets.{IsGot, IsRefused, flash_result};
-    ghost use Rattle.agent_calls.specs.Records.{KeepsRests};
+    ghost use Rattle.agent_calls.specs.Records.{KeepsRests, ReadsAlone};
     ghost use Rattle.agent_calls.specs.Shown.{AgentGoes, AgentMeets, device, fields, gone};
 
     /// Fills the buffer with bytes of the directory, or of an image of the bank that was started,
@@ -139,11 +138,7 @@ impl<D: Flash> Agent<D> {
             handle_kept (fields self.old).session (h - 1) ≡ handle.Reads image at total →
             drop (total - at) out.new ≡ drop (total - at) out.old }
         ensures records { KeepsRests (fields self.old) (fields self.new) }
-        ensures content { IsTrue D.tells → D.told (device self.new) ≡ D.told (device self.old) }
-        ensures arming { D.arming (device self.new)
-            ≡ arming_kept (flash_result result) (D.arming (device self.old)) }
-        ensures reached { ReachesNone (flash_result result)
-            (D.counts (device self.old)) (D.counts (device self.new)) }
+        ensures reads { ReadsAlone D.Flash (flash_result result) (device self.old) (device self.new) }
     {
         if self.gone {
             return Err(Stop::Gone);
