@@ -8,18 +8,17 @@ use Rattle.fwu_formats.specs.Layout.{ImageRow, Layout, start}
 use Rattle.fwu_formats.specs.Metadata.{MetaRead}
 use Rattle.fwu_model.specs.State.{State}
 use Rattle.fwu_model.specs.Sound.{Setting}
-use Rattle.fwu_model.specs.Session.{Session, On, Off, Staged, Handle, Nothing, Committed, staged_at}
+use Rattle.fwu_model.specs.Session.{Session, On, Off, Staged, Handle, Nothing, Committed}
 use Rattle.fwu_model.specs.Reply.{Success}
 use Rattle.fwu_model.specs.declared.kinds.Status.TheVariants as status
-use Rattle.fwu_model.specs.Answer.{Answer, answered, are_named, begin_moves, cannot_begin, copied_part, copied_parts, names_unknown, refused}
+use Rattle.fwu_model.specs.Answer.{answered, are_named, begin_moves, cannot_begin, copied_part, copied_parts, names_unknown, refused}
 use Rattle.slot_writer.specs.Slots.{IsBlankAhead}
 use Rattle.agent_kept.specs.declared.parts.Part.{Part}
 use Rattle.agent_kept.specs.declared.parts.Part.TheVariants as part
 use Rattle.agent_kept.specs.Kept.{Kept, part_at, part_meant, parts_meant, staging_meant, handles_meant}
 use Rattle.agent_state.proofs.Machine.{part-is}
 use Rattle.agent_machine.specs.declared.stop.Stop.{Stop}
-use Rattle.agent_machine.specs.Fields.{Fields, target, total_of}
-use Rattle.agent_machine.specs.Knows.{Fitting}
+use Rattle.agent_machine.specs.Fields.{target, total_of}
 use Rattle.agent_machine.specs.Meets.{flash_result}
 use Rattle.agent_machine.specs.Moment.{Moment, Shows}
 use Rattle.agent_machine.specs.Filling.{between}

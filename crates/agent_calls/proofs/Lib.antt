@@ -6,6 +6,8 @@ pub mod StoredVerdict
 pub mod Listing
 mod Unstored
 mod Makes
+mod GoingBack
+mod Keeping
 mod Appending
 mod Beyond
 pub mod CopySpending

@@ -3,8 +3,7 @@ use Rattle.std.specs.Prelude.{◌≡◌, ◌≤◌, ◌<◌, ℕ, ◌+◌, Bool,
 use Rattle.flash_core.specs.declared.flash.FlashStop.{FlashStop}
 use Rattle.flash_core.specs.declared.flash.FlashStop.TheVariants as flash_stop
 use Rattle.flash_core.specs.Told.{Told}
-use Rattle.fwu_formats.specs.Metadata.{state_at}
-use Rattle.fwu_model.specs.State.{State, Free, after, is_invalid}
+use Rattle.fwu_model.specs.State.{State, Free, after}
 use Rattle.fwu_model.specs.MoveMetas.{meta_after}
 use Rattle.fwu_model.specs.Sound.{Setting}
 use Rattle.fwu_model.specs.Session.{Session, Staged, Nothing}
@@ -21,6 +20,7 @@ use Rattle.agent_machine.specs.Beside.{IsBesideBank, KeepsSparedByAll, KeepsWher
 use Rattle.agent_machine.specs.Stored.{StoresIf}
 use Rattle.agent_machine.specs.Meets.{IsDone, IsSettingOf, Stays, flash_result}
 use Rattle.agent_machine.specs.Filling.{between, within, filled}
+use Rattle.agent_calls.specs.Metas.{has_invalid_target}
 use Rattle.agent_calls.specs.Partly.{begins_over, copied_first}
 use Rattle.fwu_model.specs.Answer.{image_held}
 
@@ -143,7 +143,7 @@ pub record StoresThenFills (result : Result (Unit {0}) FlashStop) (f : Fields) (
   -- how the store ended, and what is told then
   pub stored : Result (Unit {0}) FlashStop
   pub between : Told
-  pub stores : StoresIf (not (is_invalid (state_at f.meta.meta (target f)))) stored f.layout
+  pub stores : StoresIf (not (has_invalid_target f)) stored f.layout
       (meta_after f.meta.meta (Free (target f))) s between
   pub fills : KeepsWhere (IsBesideBank f.layout (target f)) between t
   -- nothing follows a store that was stopped

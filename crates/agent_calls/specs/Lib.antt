@@ -1,8 +1,12 @@
+pub mod Snapshot
 pub mod Shown
 pub mod Started
 pub mod Told
 pub mod Asked
 pub mod Metas
+pub mod Records
+pub mod Images
+pub mod Ended
 pub mod GoneBack
 pub mod Partly
 pub mod Copies

@@ -1,15 +1,19 @@
 -- The metadata that an agent keeps once a call changed it.
-use Rattle.std.specs.Prelude.{ℕ, if◌then◌else◌, []}
+use Rattle.std.specs.Prelude.{ℕ, Bool, if◌then◌else◌, []}
 use Rattle.fwu_formats.specs.Metadata.{MetaRead, state_at, bit_at}
 use Rattle.fwu_model.specs.State.{Free, Switch, Accept, Back, is_invalid}
 use Rattle.fwu_model.specs.MoveMetas.{meta_after}
 use Rattle.agent_state.specs.Settles.{bits_kept}
 use Rattle.agent_machine.specs.Fields.{Fields, target}
 
+-- whether the bank that takes the update is invalid already
+abbrev pub has_invalid_target : Fields → Bool
+has_invalid_target f = is_invalid (state_at f.meta.meta (target f))
+
 -- the update bank is invalid
 abbrev pub meta_begun : Fields → MetaRead
 meta_begun f = record f.meta {
-  meta = if is_invalid (state_at f.meta.meta (target f)) then f.meta.meta else meta_after f.meta.meta (Free (target f));
+  meta = if has_invalid_target f then f.meta.meta else meta_after f.meta.meta (Free (target f));
 }
 
 -- an image of the active bank is accepted

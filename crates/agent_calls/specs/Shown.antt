@@ -1,13 +1,22 @@
 -- An agent as contracts see it.
-use Rattle.std.specs.Prelude.{Bool, Result}
+use Rattle.std.specs.Prelude.{◌≡◌, ℕ, Bool, List, Option, Result, OnOk, IsFalse}
+use Rattle.flash_core.specs.declared.flash.Arming.{Arming}
 use Rattle.flash_core.specs.declared.flash.Flash.{Ghosts}
 use Rattle.flash_core.specs.declared.flash.FlashStop.{FlashStop}
+use Rattle.fwu_model.specs.Call.{Call}
+use Rattle.fwu_model.specs.Reply.{Reply, Success}
+use Rattle.agent_kept.specs.declared.kinds.Decision.{Decision}
+use Rattle.agent_kept.specs.declared.kinds.Request.{Request}
 use Rattle.agent_kept.specs.Kept.{kept}
+use Rattle.agent_state.specs.Decides.{Decides}
 use Rattle.agent_calls.specs.declared.agent.Agent.{Agent}
 use Rattle.agent_machine.specs.declared.stop.Stop.{Stop}
 use Rattle.agent_machine.specs.CallGoes.{AgentAt, CallGoes, Spent}
 use Rattle.agent_machine.specs.Fields.{Fields}
+use Rattle.agent_machine.specs.Meets.{Meets}
 use Rattle.agent_machine.specs.Moment.{Moment}
+use Rattle.agent_machine.specs.Stored.{TakesStore}
+use Rattle.agent_calls.specs.Snapshot.{Snapshot}
 
 -- what it keeps beside its device
 abbrev pub fields : {D : Type 0} {F : Ghosts D} → Agent D F → Fields
@@ -24,6 +33,9 @@ fields a = record {
 
 abbrev pub device : {D : Type 0} {F : Ghosts D} → Agent D F → D
 device a = a.flash
+
+abbrev pub snapshot : {D : Type 0} {F : Ghosts D} → Agent D F → Snapshot D
+snapshot a = record { device = a.flash; fields = fields a }
 
 -- the flash stopped an earlier call
 abbrev pub gone : {D : Type 0} {F : Ghosts D} → Agent D F → Bool
@@ -42,3 +54,23 @@ AgentGoes {F = F} result old new = CallGoes F result (agent_at old) (agent_at ne
 -- and what calls in a row spend
 abbrev pub SpentBy : {D : Type 0} {F : Ghosts D} → Result (Unit {0}) FlashStop → Agent D F → Agent D F → Type 0
 SpentBy {F = F} result old new = Spent F result new.gone old.flash new.flash
+
+-- this is decided of a request by what the agent keeps
+abbrev pub AgentDecides : {D : Type 0} {F : Ghosts D} → (List ℕ → Bool) → Request → Decision → Agent D F → Type 0
+AgentDecides passes r d a = Decides passes a.meta a.counter (kept a.session) a.boot r d
+
+-- what a call spends of an armed loss, by what the agent shows before it
+abbrev pub TakesBy : {D : Type 0} {F : Ghosts D} → (Moment → Option Arming → Option Arming → Type 0) → (old new : Agent D F) → Type 0
+TakesBy {F = F} T old new = T (moment old) (F.arming old.flash) (F.arming new.flash)
+
+-- An answer stored the metadata, or has it as it was and wrote nothing.
+abbrev pub SpendsStore : {D : Type 0} {F : Ghosts D} → Result (Unit {0}) Stop → Agent D F → Agent D F → Type 0
+SpendsStore {F = F} result old new = OnOk result (TakesStore old.meta new.meta (F.arming old.flash) (F.arming new.flash))
+
+-- Of an agent that isn't gone: an answer or a refusal of a call is that of each machine that the agent shows.
+abbrev pub AgentMeets : {D T : Type 0} {F : Ghosts D} → (T → Reply → Type 0) → Result T Stop → Call → (old new : Agent D F) → Type 0
+AgentMeets Says result c old new = IsFalse old.gone → (passes : List ℕ → Bool) → Meets Says result passes c (moment old) (moment new)
+
+-- The answer tells nothing but that the call was done.
+abbrev pub MeetsDone : {D : Type 0} {F : Ghosts D} → Result (Unit {0}) Stop → Call → Agent D F → Agent D F → Type 0
+MeetsDone result c old new = AgentMeets (λ value reply. reply ≡ Success) result c old new

@@ -3,14 +3,14 @@ use Rattle.std.specs.Prelude.{◌≡◌, ℕ, zero, suc, ◌+◌, ◌-◌, ◌*�
 use Rattle.base_core.specs.Block.{block_bytes}
 use Rattle.flash_core.specs.declared.flash.Arming.{Arming}
 use Rattle.flash_core.specs.Counts.{lowered_by}
-use Rattle.fwu_formats.specs.Metadata.{state_at}
-use Rattle.fwu_model.specs.State.{State, is_invalid}
+use Rattle.fwu_model.specs.State.{State}
 use Rattle.fwu_model.specs.Sound.{Setting}
 use Rattle.fwu_model.specs.Session.{Staged, Nothing}
 use Rattle.slot_writer.specs.Writes.{writes_to_append, writes_to_finish}
-use Rattle.agent_machine.specs.Fields.{Fields, target, total_of}
+use Rattle.agent_machine.specs.Fields.{Fields, total_of}
 use Rattle.agent_machine.specs.Moment.{Moment, Shows}
 use Rattle.agent_machine.specs.Filling.{between, within}
+use Rattle.agent_calls.specs.Metas.{has_invalid_target}
 
 -- so many erases and programs were done, and no other
 abbrev pub Takes : ℕ → Option Arming → Option Arming → Type 0
@@ -18,7 +18,7 @@ Takes writes armed arming = arming ≡ lowered_by writes armed
 
 -- a begin: the two erases and two programs of a store, or nothing where the update bank is invalid already
 abbrev pub writes_to_begin : Fields → ℕ
-writes_to_begin f = if is_invalid (state_at f.meta.meta (target f)) then 0 else 4
+writes_to_begin f = if has_invalid_target f then 0 else 4
 
 -- how many pieces so many bytes have that are written `size` at a time, the last one shorter
 abbrev pub pieces_of : ℕ → ℕ → ℕ

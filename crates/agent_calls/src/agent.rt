@@ -71,6 +71,7 @@ impl<D: Flash> Agent<D> {
     ghost use Rattle.agent_machine.specs.Fields.{target};
     ghost use Rattle.agent_calls.specs.Asked.{IsPlannedFor};
     ghost use Rattle.agent_machine.specs.Carries.{MayKeep, CarriedOut};
+    ghost use Rattle.agent_calls.specs.Records.{KeepsRests};
     ghost use Rattle.agent_calls.specs.Shown.{fields, device, gone, moment};
 
     /// What is decided of a request that asks no verifier.
@@ -114,9 +115,7 @@ impl<D: Flash> Agent<D> {
         requires may { MayKeep D.tells (fields self.old) plan.now }
         ensures carried { CarriedOut plan.now [] (moment self.old) (moment self.new) }
         ensures device { device self.new ≡ device self.old }
-        ensures rests { (fields self.new).rests ≡ (fields self.old).rests }
-        ensures metadata { (fields self.new).meta ≡ (fields self.old).meta }
-        ensures trials { (fields self.new).trials ≡ (fields self.old).trials }
+        ensures records { KeepsRests (fields self.old) (fields self.new) }
         ensures here { IsFalse (gone self.new) }
     {
         settle(&mut self.meta, &mut self.session, &Decision::Do(*plan), &[]);

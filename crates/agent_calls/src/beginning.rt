@@ -1,17 +1,16 @@
 //! A staging begins.
-ghost use Rattle.std.specs.Prelude.{◌≡◌, ℕ, Bool, true, List, IsTrue, IsFalse, OnOk};
-ghost use Rattle.fwu_formats.specs.Metadata.{state_at};
-ghost use Rattle.fwu_model.specs.State.{Free, State, is_invalid};
+ghost use Rattle.std.specs.Prelude.{◌≡◌, true, IsTrue, IsFalse, OnOk};
+ghost use Rattle.fwu_model.specs.State.{Free, State};
 ghost use Rattle.fwu_model.specs.Sound.{Setting};
 ghost use Rattle.fwu_model.specs.Session.{Session};
 ghost use Rattle.fwu_model.specs.Answer.{answer};
 ghost use Rattle.fwu_model.specs.Call as call;
 ghost use Rattle.fwu_model.specs.Reply.{Success};
 ghost use Rattle.agent_machine.specs.Fields.{target};
-ghost use Rattle.agent_machine.specs.Meets.{Meets, IsDone, IsRefused, flash_result, IsStopped};
+ghost use Rattle.agent_machine.specs.Meets.{IsDone, IsRefused, flash_result, IsStopped};
 ghost use Rattle.agent_machine.specs.Moment.{Shows};
-ghost use Rattle.agent_machine.specs.Stored.{TakesStore, frees};
-ghost use Rattle.agent_calls.specs.Metas.{meta_begun};
+ghost use Rattle.agent_machine.specs.Stored.{frees};
+ghost use Rattle.agent_calls.specs.Metas.{has_invalid_target, meta_begun};
 ghost use Rattle.agent_kept.specs.Kept.{Restarts};
 ghost use Rattle.fwu_model.specs.MoveMetas.{meta_after};
 ghost use Rattle.replicas.specs.Stores.{Stores};
@@ -32,7 +31,7 @@ fn frees(plan: &Plan) -> bool
 }
 
 impl<D: Flash> Agent<D> {
-    ghost use Rattle.agent_calls.specs.Shown.{AgentGoes, fields, device, gone, moment};
+    ghost use Rattle.agent_calls.specs.Shown.{AgentGoes, MeetsDone, SpendsStore, device, fields, gone, moment};
 
     /// Begins a staging, or begins it anew (DEN0118, fwu_begin_staging). The update bank is made invalid,
     /// with the bit of each image clear, where it isn't invalid already: metadata is stored for that.
@@ -43,9 +42,7 @@ impl<D: Flash> Agent<D> {
     /// `begin_partial`. Lost, Fault: the flash stopped the store. Gone: it stopped an earlier call of this agent.
     pub fn begin(&mut self, vendor_flags: u32, partial_count: u32) -> Result<(), Stop>
         // On any device: an answer or a refusal is that of each machine that the agent shows.
-        ensures meets { IsFalse (gone self.old) → (passes : List ℕ → Bool) →
-            Meets (λ value reply. reply ≡ Success) result passes (call.Begin partial_count)
-            (moment self.old) (moment self.new) }
+        ensures meets { MeetsDone result (call.Begin partial_count) self.old self.new }
         // On any device: the flash stops no begin that a machine refuses.
         ensures begun { IsStopped result → IsFalse (gone self.old) →
             (E : Setting) (s : State) (x : Session) → E.layout ≡ (fields self.old).layout →
@@ -53,13 +50,12 @@ impl<D: Flash> Agent<D> {
         ensures goes { AgentGoes result self.old self.new }
         ensures refused { IsRefused result → self.new ≡ self.old }
         // On any device: where the update bank is invalid already, the device is not touched.
-        ensures still { IsTrue (is_invalid
-            (state_at (fields self.old).meta.meta (target (fields self.old)))) →
+        ensures still { IsTrue (has_invalid_target (fields self.old)) →
             device self.new ≡ device self.old }
         // On any flash that tells its content, sound or not: else the metadata is stored in which it is,
         // over replica 0, then over replica 1, and nothing else.
         ensures stores { IsDone result → IsTrue D.tells → let f = fields self.old in
-            IsFalse (is_invalid (state_at f.meta.meta (target f))) →
+            IsFalse (has_invalid_target f) →
             Stores (flash_result result) f.layout (meta_after f.meta.meta (Free (target f)))
             (D.told (device self.old)) (D.told (device self.new)) }
         // On any device: the agent keeps the metadata in which the update bank is invalid, also where the
@@ -69,9 +65,7 @@ impl<D: Flash> Agent<D> {
             (Restarts true (fields self.old).session (fields self.new).session) }
         // On any device, at any exit: the trials that it tells are those that it told.
         ensures trials { (fields self.new).trials ≡ (fields self.old).trials }
-        // On any device: an answer stored the metadata, or has it as it was and wrote nothing.
-        ensures spent { OnOk result (TakesStore (fields self.old).meta (fields self.new).meta
-            (D.arming (device self.old)) (D.arming (device self.new))) }
+        ensures spent { SpendsStore result self.old self.new }
     {
         if self.gone {
             return Err(Stop::Gone);

@@ -1,9 +1,9 @@
 //! A staging is given up.
-ghost use Rattle.std.specs.Prelude.{◌≡◌, ℕ, Bool, List, IsFalse};
+ghost use Rattle.std.specs.Prelude.{◌≡◌};
 ghost use Rattle.fwu_model.specs.Call as call;
-ghost use Rattle.fwu_model.specs.Reply.{Success};
-ghost use Rattle.agent_machine.specs.Meets.{Meets, IsRefused, IsStopped};
-ghost use Rattle.agent_calls.specs.Shown.{AgentGoes, fields, device, gone, moment};
+ghost use Rattle.agent_machine.specs.Meets.{IsRefused, IsStopped};
+ghost use Rattle.agent_calls.specs.Records.{KeepsRests};
+ghost use Rattle.agent_calls.specs.Shown.{AgentGoes, MeetsDone, device, fields};
 
 use crate::agent::Agent;
 use agent_machine::Stop;
@@ -17,15 +17,12 @@ impl<D: Flash> Agent<D> {
     /// DENIED: nothing is staged. Gone: the flash stopped an earlier call of this agent.
     pub fn cancel(&mut self) -> Result<(), Stop>
         // On any device: an answer or a refusal is that of each machine that the agent shows.
-        ensures meets { IsFalse (gone self.old) → (passes : List ℕ → Bool) →
-            Meets (λ value reply. reply ≡ Success) result passes call.Cancel
-            (moment self.old) (moment self.new) }
+        ensures meets { MeetsDone result call.Cancel self.old self.new }
         ensures goes { AgentGoes result self.old self.new }
         ensures refused { IsRefused result → self.new ≡ self.old }
         ensures answers { IsStopped result → ⊥ }
         ensures still { device self.new ≡ device self.old }
-        ensures metadata { (fields self.new).meta ≡ (fields self.old).meta }
-        ensures trials { (fields self.new).trials ≡ (fields self.old).trials }
+        ensures records { KeepsRests (fields self.old) (fields self.new) }
     {
         if self.gone {
             return Err(Stop::Gone);

@@ -1,16 +1,11 @@
 //! The commit of a handle.
-ghost use Rattle.std.specs.Prelude.{◌≡◌, ℕ, Some, List, Bool, IsTrue, IsFalse, IsErrOf};
+ghost use Rattle.std.specs.Prelude.{◌≡◌, ℕ, Some, List, Bool, IsFalse};
 ghost use Rattle.fwu_model.specs.Call as call;
 ghost use Rattle.fwu_model.specs.Reply.{Success};
-ghost use Rattle.fwu_formats.specs.Layout.{start};
-ghost use Rattle.slot_writer.specs.Slots.{Finishes};
-ghost use Rattle.slot_writer.specs.Writes.{SpendsArming, writes_to_finish};
-ghost use Rattle.agent_kept.specs.Kept.{kept, part_at, size_of};
-ghost use Rattle.agent_state.specs.Decides.{Decides};
+ghost use Rattle.agent_kept.specs.Kept.{kept};
 ghost use Rattle.agent_state.specs.Settles.{IsPlanOf};
 ghost use Rattle.agent_machine.specs.Ends.{IsWriter};
-ghost use Rattle.agent_machine.specs.Fields.{rest_of, target};
-ghost use Rattle.agent_machine.specs.Meets.{Meets, IsRefused, flash_result};
+ghost use Rattle.agent_machine.specs.Meets.{IsDone, IsRefused, Meets};
 
 use crate::agent::{Agent, stopped};
 use agent_kept::Handle;
@@ -21,7 +16,10 @@ use fwu_model::Status;
 use slot_writer::finish;
 
 impl<D: Flash> Agent<D> {
-    ghost use Rattle.agent_calls.specs.Shown.{AgentGoes, fields, device, gone, moment};
+    ghost use Rattle.agent_calls.specs.Images.{EndsImage};
+    ghost use Rattle.agent_calls.specs.Records.{KeepsRests};
+    ghost use Rattle.agent_calls.specs.Shown.{AgentDecides, AgentGoes, MeetsDone, device, fields, gone};
+    ghost use Rattle.agent_calls.specs.Shown.{moment, snapshot};
     ghost use Rattle.agent_kept.specs.declared.kinds.Plan.TheVariants as plan;
     ghost use Rattle.agent_kept.specs.declared.kinds.Request.TheVariants as request;
     ghost use Rattle.agent_kept.specs.declared.kinds.Decision.TheVariants as decision;
@@ -33,24 +31,14 @@ impl<D: Flash> Agent<D> {
         requires plan { IsPlanOf (kept self.old.session) (plan.Commit number (Some image) bit) }
 
         ensures meets { (passes : List ℕ → Bool) (h req most : ℕ) →
-            Decides passes self.old.meta self.old.counter (kept self.old.session) self.old.boot
-            (request.Commit h req most) (decision.Do (plan.Commit number (Some image) bit)) →
+            AgentDecides passes (request.Commit h req most)
+            (decision.Do (plan.Commit number (Some image) bit)) self.old →
             Meets (λ value reply. reply ≡ Success) result passes (call.Commit h req)
             (moment self.old) (moment self.new) }
         ensures goes { AgentGoes result self.old self.new }
-        ensures unrefused { IsRefused result → ⊥ }
-        ensures known { IsErrOf result Stop.Gone → ⊥ }
-        ensures rests { (fields self.new).rests ≡ (fields self.old).rests }
-        ensures metadata { (fields self.new).meta ≡ (fields self.old).meta }
-        ensures trials { (fields self.new).trials ≡ (fields self.old).trials }
-        ensures ends { IsTrue D.tells → let f = fields self.old in
-            Finishes (flash_result result) (start f.layout (target f) image)
-            (size_of (part_at f.session image)) (rest_of f image)
-            (D.told (device self.old)) (D.told (device self.new)) }
-        ensures spent { SpendsArming (flash_result result)
-            (writes_to_finish (size_of (part_at (kept self.old.session) image)))
-            (D.arming (device self.old)) (D.arming (device self.new))
-            (D.counts (device self.old)) (D.counts (device self.new)) }
+        ensures done { IsDone result }
+        ensures image { EndsImage D.Flash image result (snapshot self.old) (snapshot self.new) }
+        ensures records { KeepsRests (fields self.old) (fields self.new) }
     {
         let _images = self.layout.rows().len();
         let bank = self.target();
@@ -89,33 +77,17 @@ impl<D: Flash> Agent<D> {
         max_atomic_len: u32,
     ) -> Result<(), Stop>
         // on any device: an answer or a refusal is that of each machine that the agent shows
-        ensures meets { IsFalse (gone self.old) → (passes : List ℕ → Bool) →
-            Meets (λ value reply. reply ≡ Success) result passes (call.Commit handle acceptance_req)
-            (moment self.old) (moment self.new) }
+        ensures meets { MeetsDone result (call.Commit handle acceptance_req) self.old self.new }
         ensures goes { AgentGoes result self.old self.new }
         ensures refused { IsRefused result → self.new ≡ self.old }
-        // on any flash that tells its content, sound or not: the image that the handle wrote is ended,
-        // 0xFF behind it up to the block's end, and nothing else changes
-        ensures ends { IsFalse (gone self.old) → IsTrue D.tells → (image : ℕ) →
-            IsWriter (fields self.old) handle image → let f = fields self.old in
-            Finishes (flash_result result) (start f.layout (target f) image)
-            (size_of (part_at f.session image)) (rest_of f image)
-            (D.told (device self.old)) (D.told (device self.new)) }
-        // on every device: what it takes to end an image of the size that the handle wrote
-        ensures spent { IsFalse (gone self.old) → (image : ℕ) →
+        // the image that the handle wrote is ended
+        ensures image { IsFalse (gone self.old) → (image : ℕ) →
             IsWriter (fields self.old) handle image →
-            SpendsArming (flash_result result)
-            (writes_to_finish (size_of (part_at (fields self.old).session image)))
-            (D.arming (device self.old)) (D.arming (device self.new))
-            (D.counts (device self.old)) (D.counts (device self.new)) }
+            EndsImage D.Flash image result (snapshot self.old) (snapshot self.new) }
         // and nothing is done on the device where it writes none
         ensures still { ((image : ℕ) → IsWriter (fields self.old) handle image → ⊥) →
             device self.new ≡ device self.old }
-        // on any device, at any exit: the bytes stay that are kept of the images, and so do the metadata and
-        // the trials
-        ensures rests { (fields self.new).rests ≡ (fields self.old).rests }
-        ensures metadata { (fields self.new).meta ≡ (fields self.old).meta }
-        ensures trials { (fields self.new).trials ≡ (fields self.old).trials }
+        ensures records { KeepsRests (fields self.old) (fields self.new) }
     {
         if self.gone {
             return Err(Stop::Gone);

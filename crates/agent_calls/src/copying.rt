@@ -3,10 +3,8 @@ ghost use Rattle.std.specs.Prelude.{All, slice_index_or, true, false, ◌≡◌,
 ghost use Rattle.base_core.specs.Block.{block_bytes};
 ghost use Rattle.fwu_formats.specs.Layout.{start};
 ghost use Rattle.slot_writer.specs.Slots.{IsBlankAhead};
-ghost use Rattle.fwu_formats.specs.Metadata.{state_at};
 ghost use Rattle.agent_machine.specs.Fields.{target, total_of};
 ghost use Rattle.agent_machine.specs.Meets.{IsDone, IsRefused, flash_result};
-ghost use Rattle.fwu_model.specs.State.{is_invalid};
 ghost use Rattle.fwu_model.specs.Answer.{are_named};
 ghost use Rattle.agent_calls.specs.Partly.{named_in};
 
@@ -28,10 +26,10 @@ fn named_in(plan: &Plan) -> [bool; 16]
 }
 
 impl<D: Flash> Agent<D> {
-    ghost use Rattle.agent_calls.specs.Shown.{AgentGoes, SpentBy, fields, device, gone, moment};
+    ghost use Rattle.agent_calls.specs.Shown.{AgentGoes, SpentBy, TakesBy, fields, device, gone, moment};
     ghost use Rattle.agent_calls.specs.Copies.{BeginsPartly, CopiesPiece, CopiesBytes, CopiesImage, CopiesImages};
     ghost use Rattle.agent_calls.specs.Copies.{FillsBank, StoresThenFills};
-    ghost use Rattle.agent_calls.specs.Metas.{meta_begun};
+    ghost use Rattle.agent_calls.specs.Metas.{has_invalid_target, meta_begun};
     ghost use Rattle.agent_calls.specs.Takes.{CopiesTake, CopyTakes, FrontTakes, PieceTakes, Takes};
     ghost use Rattle.agent_calls.specs.Takes.{piece_at, pieces_of, writes_to_begin, writes_to_copy};
 
@@ -47,8 +45,7 @@ impl<D: Flash> Agent<D> {
         ensures fills { FillsBank (moment self.old) (moment self.new) }
         ensures piece { IfOk result (λ n.
             n ≡ piece_at block_bytes (total_of (fields self.old) (Some image)) at) }
-        ensures takes { IfOk result (λ n. PieceTakes image at n (moment self.old)
-            (D.arming (device self.old)) (D.arming (device self.new))) }
+        ensures takes { IfOk result (λ n. TakesBy (PieceTakes image at n) self.old self.new) }
         ensures spent { SpentBy (flash_result result) self.old self.new }
         ensures buffer { length buf.new ≡ length buf.old }
     {
@@ -71,9 +68,8 @@ impl<D: Flash> Agent<D> {
 
         ensures copies { CopiesBytes image result (moment self.old) (moment self.new) }
         ensures fills { FillsBank (moment self.old) (moment self.new) }
-        ensures takes { OnOk result (FrontTakes image
-            (pieces_of block_bytes (total_of (fields self.old) (Some image)))
-            (moment self.old) (D.arming (device self.old)) (D.arming (device self.new))) }
+        ensures takes { OnOk result (TakesBy (FrontTakes image (pieces_of block_bytes
+            (total_of (fields self.old) (Some image)))) self.old self.new) }
         ensures spent { SpentBy (flash_result result) self.old self.new }
     {
         let mut buf = [0; BLOCK_BYTES as usize];
@@ -96,8 +92,7 @@ impl<D: Flash> Agent<D> {
 
         ensures copies { CopiesImage image result (moment self.old) (moment self.new) }
         ensures fills { FillsBank (moment self.old) (moment self.new) }
-        ensures takes { OnOk result (CopyTakes image (moment self.old)
-            (D.arming (device self.old)) (D.arming (device self.new))) }
+        ensures takes { OnOk result (TakesBy (CopyTakes image) self.old self.new) }
         ensures spent { SpentBy (flash_result result) self.old self.new }
     {
         let guid = self.layout.rows()[image as usize].guid;
@@ -120,8 +115,8 @@ impl<D: Flash> Agent<D> {
         ensures copies { CopiesImages named.now result (moment self.old) (moment self.new) }
         ensures fills { FillsBank (moment self.old) (moment self.new) }
         ensures still { All IsTrue named.now → self.new ≡ self.old }
-        ensures takes { OnOk result (CopiesTake named.now (length named.now) (moment self.old)
-            (D.arming (device self.old)) (D.arming (device self.new))) }
+        ensures takes { OnOk result (TakesBy (CopiesTake named.now (length named.now))
+            self.old self.new) }
         ensures spent { SpentBy (flash_result result) self.old self.new }
     {
         for image in 0..named.len() {
@@ -157,7 +152,7 @@ impl<D: Flash> Agent<D> {
         ensures refused { IsRefused result → self.new ≡ self.old }
         // On any device: where the update bank is invalid already and each image is named, it is not touched.
         ensures still { let f = fields self.old in
-            IsTrue (is_invalid (state_at f.meta.meta (target f))) →
+            IsTrue (has_invalid_target f) →
             All IsTrue (are_named f.layout.rows list.now) → device self.new ≡ device self.old }
         // On any flash that tells its content, sound or not, at any exit but a refusal: the metadata is
         // stored once, as by `begin`, and behind that only the update bank changes.

@@ -51,25 +51,29 @@ fn version_of(manifest: &[u8], image: u32) -> u32
     row_at(manifest, image - 1).version
 }
 
-fn put_row(
-    out: &mut [u8],
-    at: usize,
-    guid: &Guid,
+/// A row of the directory: of an image its type, the bytes that its slot has, its length in bytes, its
+/// version, and whether it is accepted.
+#[derive(Clone, Copy)]
+struct DirectoryRow {
+    guid: Guid,
     room: u32,
-    bytes: u32,
+    length: u32,
     version: u32,
-    bit: bool,
-) -> usize
+    accepted: bool,
+}
+
+fn put_row(out: &mut [u8], at: usize, row: &DirectoryRow) -> usize
     requires { at + 32 ≤ length out.old }
     ensures next { result ≡ at + 32 }
     ensures front { take result out.new ≡ take at out.old
-        ++ (guid.now ++ le 4 room ++ le 4 bytes ++ le 4 version ++ le 4 (bit_number bit)) }
+        ++ (row.now.guid ++ le 4 row.now.room ++ le 4 row.now.length ++ le 4 row.now.version
+        ++ le 4 (bit_number row.now.accepted)) }
 {
-    let typed = put(out, at, guid.bytes());
-    let roomed = put4(out, typed, room);
-    let sized = put4(out, roomed, bytes);
-    let versioned = put4(out, sized, version);
-    put4(out, versioned, bit_value(bit))
+    let typed = put(out, at, row.guid.bytes());
+    let roomed = put4(out, typed, row.room);
+    let sized = put4(out, roomed, row.length);
+    let versioned = put4(out, sized, row.version);
+    put4(out, versioned, bit_value(row.accepted))
 }
 
 fn put_rows(
@@ -97,15 +101,14 @@ fn put_rows(
         let row = &rows[image];
         let version = version_of(manifest, image as u32);
         let bit = meta.bit(bank, image as u32);
-        end = put_row(
-            out,
-            end,
-            &row.guid,
-            BLOCK_BYTES * row.slots,
-            lengths[image],
+        let shown = DirectoryRow {
+            guid: row.guid,
+            room: BLOCK_BYTES * row.slots,
+            length: lengths[image],
             version,
-            bit,
-        );
+            accepted: bit,
+        };
+        end = put_row(out, end, &shown);
     }
     end
 }

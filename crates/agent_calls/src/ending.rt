@@ -1,15 +1,13 @@
 //! The end of a staging.
-ghost use Rattle.std.specs.Prelude.{◌≡◌, ◌⊎◌, ℕ, Bool, true, false, List, IsTrue, IsFalse, IsErrOf, IfErr, OnOk, is_ok};
+ghost use Rattle.std.specs.Prelude.{◌≡◌, ℕ, Bool, true, List, IsTrue, IsFalse, IfErr, OnOk, is_ok};
 ghost use Rattle.flash_core.specs.Counts.{Spends, StaysUnarmed};
 ghost use Rattle.fwu_formats.specs.Metadata.{fits_meta};
 ghost use Rattle.fwu_model.specs.Call as call;
 ghost use Rattle.fwu_model.specs.Reply.{Success};
-ghost use Rattle.agent_kept.specs.Kept.{Restarts, kept};
-ghost use Rattle.agent_calls.specs.Metas.{meta_ended};
-ghost use Rattle.agent_state.specs.Decides.{Decides};
+ghost use Rattle.agent_kept.specs.Kept.{kept};
 ghost use Rattle.marks_core.specs.Marks.{is_clear};
 ghost use Rattle.agent_machine.specs.Ends.{ClearsAndStores, TakesSwitch, TakesSwitchBy};
-ghost use Rattle.agent_machine.specs.Meets.{Meets, IsDone, IsRefused, flash_result};
+ghost use Rattle.agent_machine.specs.Meets.{IsDone, IsRefused, Meets};
 
 use crate::agent::{Agent, stopped};
 use agent_machine::Stop;
@@ -51,7 +49,8 @@ fn clear_and_store<D: Flash>(flash: &mut D, layout: &Layout, meta: &Meta) -> Res
 }
 
 impl<D: Flash> Agent<D> {
-    ghost use Rattle.agent_calls.specs.Shown.{AgentGoes, fields, device, gone, moment};
+    ghost use Rattle.agent_calls.specs.Ended.{EndsStaging};
+    ghost use Rattle.agent_calls.specs.Shown.{AgentDecides, AgentGoes, gone, moment, snapshot};
     ghost use Rattle.agent_kept.specs.declared.kinds.Plan.TheVariants as plan;
     ghost use Rattle.agent_kept.specs.declared.kinds.Request.TheVariants as request;
     ghost use Rattle.agent_kept.specs.declared.kinds.Decision.TheVariants as decision;
@@ -61,12 +60,10 @@ impl<D: Flash> Agent<D> {
         requires here { IsFalse (gone self.now) }
 
         ensures may { OnOk result
-            (Decides (V.passes verifier.now) self.now.meta self.now.counter (kept self.now.session)
-            self.now.boot request.End (decision.Do plan.End)) }
+            (AgentDecides (V.passes verifier.now) request.End (decision.Do plan.End) self.now) }
         ensures staging { OnOk result ((kept self.now.session).staging ≡ true) }
         ensures refused { IfErr result (λ status.
-            Decides (V.passes verifier.now) self.now.meta self.now.counter (kept self.now.session)
-            self.now.boot request.End (decision.Refused status)) }
+            AgentDecides (V.passes verifier.now) request.End (decision.Refused status) self.now) }
     {
         match decide(
             &self.meta,
@@ -93,29 +90,15 @@ impl<D: Flash> Agent<D> {
         requires here { IsFalse self.old.gone }
         requires staging { (kept self.old.session).staging ≡ true }
         requires decided { (passes : List ℕ → Bool)
-            × Decides passes self.old.meta self.old.counter (kept self.old.session) self.old.boot
-            request.End (decision.Do plan.End) }
+            × AgentDecides passes request.End (decision.Do plan.End) self.old }
 
         ensures meets { (passes : List ℕ → Bool) →
-            Decides passes self.old.meta self.old.counter (kept self.old.session) self.old.boot
-            request.End (decision.Do plan.End) →
+            AgentDecides passes request.End (decision.Do plan.End) self.old →
             Meets (λ value reply. reply ≡ Success) result passes call.End
             (moment self.old) (moment self.new) }
         ensures goes { AgentGoes result self.old self.new }
-        ensures unrefused { IsRefused result → ⊥ }
-        ensures known { IsErrOf result Stop.Gone → ⊥ }
-        ensures ends { IsTrue D.tells → ClearsAndStores (flash_result result)
-            (fields self.old).layout (fields self.new).meta.meta
-            (D.told (device self.old)) (D.told (device self.new)) }
-        ensures keeps { (fields self.new).meta ≡ meta_ended (fields self.old) }
-        ensures restarts { Restarts false (fields self.old).session (fields self.new).session }
-        ensures trials { (fields self.new).trials ≡ 0 }
-        ensures spent { OnOk result
-            (TakesSwitch (D.arming (device self.old)) (D.arming (device self.new))) }
-        // where the content is told, by the bytes of the marks' block
-        ensures once { IsTrue D.tells → OnOk result
-            (TakesSwitchBy (is_clear 3 (D.told (device self.old)).now)
-            (D.arming (device self.old)) (D.arming (device self.new))) }
+        ensures done { IsDone result }
+        ensures staging { EndsStaging D.Flash result (snapshot self.old) (snapshot self.new) }
     {
         settle(
             &mut self.meta,
@@ -151,25 +134,7 @@ impl<D: Flash> Agent<D> {
             (moment self.old) (moment self.new) }
         ensures goes { AgentGoes result self.old self.new }
         ensures refused { IsRefused result → self.new ≡ self.old }
-        // on any flash that tells its content, sound or not: the trial marks are cleared, whatever the
-        // bits are, and then both replicas are written, and nothing else
-        ensures ends { IsDone result → IsTrue D.tells → ClearsAndStores (flash_result result)
-            (fields self.old).layout (fields self.new).meta.meta
-            (D.told (device self.old)) (D.told (device self.new)) }
-        // On any device: that metadata is the one in which the update bank is active, with the bits of the
-        // committed images; and nothing is staged, and no handle is open.
-        ensures keeps { IsDone result → (fields self.new).meta ≡ meta_ended (fields self.old) }
-        ensures restarts { IsDone result →
-            Restarts false (fields self.old).session (fields self.new).session }
-        // On any device, also where the flash stopped it: no start is counted any more.
-        ensures trials { IsDone result → (fields self.new).trials ≡ 0 }
-        // on every device: an erase of the marks, or none, and two erases and two programs
-        ensures spent { OnOk result
-            (TakesSwitch (D.arming (device self.old)) (D.arming (device self.new))) }
-        // where the content is told, by the bytes of the marks' block
-        ensures once { IsTrue D.tells → OnOk result
-            (TakesSwitchBy (is_clear 3 (D.told (device self.old)).now)
-            (D.arming (device self.old)) (D.arming (device self.new))) }
+        ensures staging { EndsStaging D.Flash result (snapshot self.old) (snapshot self.new) }
     {
         if self.gone {
             return Err(Stop::Gone);

@@ -1,21 +1,17 @@
 //! Going back to the previous bank.
 ghost use Rattle.flash_core.specs.Calls.{Reads};
-ghost use Rattle.std.specs.Prelude.{◌≡◌, ◌⊎◌, ◌<◌, ◌≤◌, ◌&&◌, ℕ, Bool, false, List, length, IfOk, IsTrue, IsFalse, OnOk};
+ghost use Rattle.std.specs.Prelude.{◌≡◌, ◌<◌, ◌≤◌, ◌&&◌, ℕ, Bool, List, length, IfOk, IsTrue, IsFalse};
 ghost use Rattle.fwu_formats.specs.Layout.{blocks_needed};
-ghost use Rattle.fwu_model.specs.MoveMetas.{meta_after};
-ghost use Rattle.fwu_model.specs.State.{Back, is_valid, is_accepted};
+ghost use Rattle.fwu_model.specs.State.{is_valid, is_accepted};
 ghost use Rattle.image_check.specs.Verdict.{verdict_on};
 ghost use Rattle.image_check.specs.Law.{may_start};
 ghost use Rattle.agent_kept.specs.declared.kinds.Request.TheVariants as request;
 ghost use Rattle.agent_kept.specs.Kept.{kept};
 ghost use Rattle.agent_state.specs.Asked.{IsFor};
-ghost use Rattle.agent_state.specs.Decides.{Decides};
 ghost use Rattle.agent_state.specs.Ruled.{ruled_as};
-ghost use Rattle.agent_machine.specs.Meets.{MeetsPrevious, IsDone, IsRefused, flash_result};
-ghost use Rattle.agent_machine.specs.Stored.{TakesStore, is_to_do, may_try_kept};
-ghost use Rattle.agent_calls.specs.GoneBack.{SomePassed};
-ghost use Rattle.agent_calls.specs.Metas.{meta_back};
-ghost use Rattle.replicas.specs.Stores.{Stores};
+ghost use Rattle.agent_machine.specs.Meets.{MeetsPrevious};
+ghost use Rattle.agent_machine.specs.Stored.{is_to_do, may_try_kept};
+ghost use Rattle.agent_calls.specs.GoneBack.{ChangesBanks, SomePassed};
 
 use crate::agent::{Agent, stopped};
 use agent_machine::Stop;
@@ -106,39 +102,21 @@ fn goes_back(decision: &Decision, good: bool) -> bool
 }
 
 impl<D: Flash> Agent<D> {
-    ghost use Rattle.agent_calls.specs.Shown.{AgentGoes, fields, device, gone, moment};
+    ghost use Rattle.agent_calls.specs.Shown.{AgentDecides, AgentGoes, gone, moment, snapshot};
 
     /// Goes back by a decision, where the session and the numbers of the banks allow it and the verdict on
     /// the previous bank is good.
     fn go_back<V: Verifier>(&mut self, decision: &Decision, verifier: &V) -> Result<(), Stop>
         requires here { IsFalse (gone self.old) }
-        requires decided { Decides (V.passes verifier.now) self.old.meta self.old.counter
-            (kept self.old.session) self.old.boot request.Previous decision.now }
+        requires decided { AgentDecides (V.passes verifier.now) request.Previous decision.now
+            self.old }
         requires asked { IsFor (kept self.old.session) self.old.meta.meta request.Previous
             decision.now }
         ensures meets { MeetsPrevious result (V.passes verifier.now)
             (moment self.old) (moment self.new) }
         ensures goes { AgentGoes result self.old self.new }
-        ensures still { let f = fields self.old in
-            may_try_kept f.meta.meta f.session f.boot ≡ false → device self.new ≡ device self.old }
-        ensures stores { IsDone result → IsTrue D.tells → let f = fields self.old in
-            Stores (flash_result result) f.layout (meta_after f.meta.meta Back)
-            (D.told (device self.old)) (D.told (device self.new)) }
-        ensures keeps { OnOk result ((fields self.new).meta ≡ meta_back (fields self.old)) }
-        ensures either { IsDone result → ((fields self.new).meta ≡ (fields self.old).meta)
-            ⊎ ((fields self.new).meta ≡ meta_back (fields self.old)) }
-        ensures session { OnOk result ((fields self.new).session ≡ (fields self.old).session) }
-        ensures trials { IsDone result → ((fields self.new).trials ≡ (fields self.old).trials)
-            ⊎ ((fields self.new).trials ≡ 0) }
-        ensures passed { OnOk result (SomePassed (V.passes verifier.now)
-            (fields self.old).layout.rows (fields self.old).counter) }
-        ensures content { IsRefused result → IsTrue D.tells →
-            D.told (device self.new) ≡ D.told (device self.old) }
-        ensures arming { IsRefused result →
-            D.arming (device self.new) ≡ D.arming (device self.old) }
-        // On any device: an answer stored the metadata, or has it as it was and wrote nothing.
-        ensures spent { OnOk result (TakesStore (fields self.old).meta (fields self.new).meta
-            (D.arming (device self.old)) (D.arming (device self.new))) }
+        ensures changes { ChangesBanks D.Flash (V.passes verifier.now) result
+            (snapshot self.old) (snapshot self.new) }
     {
         // the decision that waits for a verdict doesn't say so by itself
         if !may_try(&self.meta, &self.session, self.boot) {
@@ -174,35 +152,8 @@ impl<D: Flash> Agent<D> {
             passes ≡ V.passes verifier.now →
             MeetsPrevious result passes (moment self.old) (moment self.new) }
         ensures goes { AgentGoes result self.old self.new }
-        // On any device: what the session and the numbers of the banks refuse is refused without a
-        // look at the device.
-        ensures still { let f = fields self.old in
-            may_try_kept f.meta.meta f.session f.boot ≡ false → device self.new ≡ device self.old }
-        // On any flash that tells its content, sound or not: the metadata is stored in which the two banks
-        // changed places, over replica 0, then over replica 1, and nothing else.
-        ensures stores { IsDone result → IsTrue D.tells → let f = fields self.old in
-            Stores (flash_result result) f.layout (meta_after f.meta.meta Back)
-            (D.told (device self.old)) (D.told (device self.new)) }
-        // On any device: the agent keeps that metadata, and the session as it was.
-        ensures keeps { OnOk result ((fields self.new).meta ≡ meta_back (fields self.old)) }
-        // Where the flash stopped it, the agent keeps that metadata, or the old.
-        ensures either { IsDone result → ((fields self.new).meta ≡ (fields self.old).meta)
-            ⊎ ((fields self.new).meta ≡ meta_back (fields self.old)) }
-        ensures session { OnOk result ((fields self.new).session ≡ (fields self.old).session) }
-        // On any device, also where the flash stopped it: the trials stay, or are ended.
-        ensures trials { IsDone result → ((fields self.new).trials ≡ (fields self.old).trials)
-            ⊎ ((fields self.new).trials ≡ 0) }
-        // On any device: where it goes back, some package passed, of a version that is not below the
-        // counter.
-        ensures passed { OnOk result (SomePassed (V.passes verifier.now)
-            (fields self.old).layout.rows (fields self.old).counter) }
-        ensures content { IsRefused result → IsTrue D.tells →
-            D.told (device self.new) ≡ D.told (device self.old) }
-        ensures arming { IsRefused result →
-            D.arming (device self.new) ≡ D.arming (device self.old) }
-        // On any device: an answer stored the metadata, or has it as it was and wrote nothing.
-        ensures spent { OnOk result (TakesStore (fields self.old).meta (fields self.new).meta
-            (D.arming (device self.old)) (D.arming (device self.new))) }
+        ensures changes { ChangesBanks D.Flash (V.passes verifier.now) result
+            (snapshot self.old) (snapshot self.new) }
     {
         if self.gone {
             return Err(Stop::Gone);

@@ -7,13 +7,14 @@ use flash_core::Flash;
 use fwu_model::{Op, Status};
 
 impl<D: Flash> Agent<D> {
-    ghost use Rattle.std.specs.Prelude.{◌≡◌, ℕ, List, [], Bool, IsTrue, IsFalse};
+    ghost use Rattle.std.specs.Prelude.{◌≡◌, []};
     ghost use Rattle.fwu_formats.specs.Layout.{find_image};
     ghost use Rattle.fwu_model.specs.Reply as reply;
     ghost use Rattle.agent_kept.specs.Plans.{call_of};
     ghost use Rattle.agent_machine.specs.Fields.{total_of, IsThere};
-    ghost use Rattle.agent_machine.specs.Meets.{Meets, IsStopped, IsRefused};
-    ghost use Rattle.agent_calls.specs.Shown.{AgentGoes, fields, device, gone, moment};
+    ghost use Rattle.agent_machine.specs.Meets.{IsStopped, IsRefused};
+    ghost use Rattle.agent_calls.specs.Records.{KeepsRests};
+    ghost use Rattle.agent_calls.specs.Shown.{AgentGoes, AgentMeets, device, fields};
 
     /// The image of a type.
     fn find(&self, guid: &Guid) -> Option<u32>
@@ -46,17 +47,13 @@ impl<D: Flash> Agent<D> {
     /// earlier call of this agent.
     pub fn open(&mut self, guid: Guid, op: Op) -> Result<u32, Stop>
         // On any device: an answer or a refusal is that of each machine that the agent shows.
-        ensures meets { IsFalse (gone self.old) → (passes : List ℕ → Bool) →
-            Meets (λ h r. r ≡ reply.Opened h) result passes (call_of (Request.Open guid op 0) [])
-            (moment self.old) (moment self.new) }
+        ensures meets { AgentMeets (λ h r. r ≡ reply.Opened h) result
+            (call_of (Request.Open guid op 0) []) self.old self.new }
         ensures goes { AgentGoes result self.old self.new }
         ensures refused { IsRefused result → self.new ≡ self.old }
         ensures answers { IsStopped result → ⊥ }
         ensures still { device self.new ≡ device self.old }
-        // on any device: the bytes stay that are kept of the images, and so do the metadata and the trials
-        ensures rests { (fields self.new).rests ≡ (fields self.old).rests }
-        ensures metadata { (fields self.new).meta ≡ (fields self.old).meta }
-        ensures trials { (fields self.new).trials ≡ (fields self.old).trials }
+        ensures records { KeepsRests (fields self.old) (fields self.new) }
     {
         if self.gone {
             return Err(Stop::Gone);

@@ -2,7 +2,6 @@
 ghost use Rattle.flash_core.specs.Calls.{Reads};
 ghost use Rattle.std.specs.Prelude.{◌≡◌, ◌+◌, ◌*◌, ◌<◌, ◌≤◌, length, take, drop, IsTrue, OnOk, None};
 ghost use Rattle.base_core.specs.Block.{block_bytes};
-ghost use Rattle.flash_core.specs.Counts.{ReachesNone, arming_kept};
 ghost use Rattle.fwu_formats.specs.Layout.{blocks_needed, slot_bytes, start};
 ghost use Rattle.fwu_formats.specs.Metadata.{fits_meta};
 ghost use Rattle.agent_machine.specs.Fields.{directory_size};
@@ -70,13 +69,14 @@ fn read_image<D: Flash>(
 }
 
 impl<D: Flash> Agent<D> {
-    ghost use Rattle.std.specs.Prelude.{ℕ, ◌-◌, Bool, List, Option, is_err, IfOk, IsErrOf, IsFalse};
+    ghost use Rattle.std.specs.Prelude.{ℕ, ◌-◌, Option, is_err, IfOk, IsErrOf, IsFalse};
     ghost use Rattle.fwu_model.specs.Call as call;
     ghost use Rattle.agent_kept.specs.declared.parts.Handle.TheVariants as handle;
     ghost use Rattle.agent_kept.specs.Kept.{handle_kept};
     ghost use Rattle.agent_machine.specs.Fields.{total_of, IsThere};
-    ghost use Rattle.agent_machine.specs.Meets.{Meets, IsGot, IsRefused, flash_result};
-    ghost use Rattle.agent_calls.specs.Shown.{AgentGoes, fields, device, gone, moment};
+    ghost use Rattle.agent_machine.specs.Meets.{IsGot, IsRefused, flash_result};
+    ghost use Rattle.agent_calls.specs.Records.{KeepsRests, ReadsAlone};
+    ghost use Rattle.agent_calls.specs.Shown.{AgentGoes, AgentMeets, device, fields, gone};
 
     /// Fills the buffer with bytes of the directory, or of an image of the bank that was started,
     /// from a place on. A stop of the flash makes the agent gone.
@@ -124,9 +124,8 @@ impl<D: Flash> Agent<D> {
     pub fn read_stream(&mut self, h: u32, out: &mut [u8]) -> Result<(u32, u32), Stop>
         // On any device: an answer or a refusal is that of each machine that the agent shows, and
         // the bytes too where the device tells its content.
-        ensures meets { IsFalse (gone self.old) → (passes : List ℕ → Bool) →
-            Meets (IsGot D.tells out.new) result passes (call.Read h (length out.old))
-            (moment self.old) (moment self.new) }
+        ensures meets { AgentMeets (IsGot D.tells out.new) result (call.Read h (length out.old))
+            self.old self.new }
         ensures goes { AgentGoes result self.old self.new }
         ensures refused { IsRefused result → self.new ≡ self.old }
         ensures long { length out.new ≡ length out.old }
@@ -138,16 +137,8 @@ impl<D: Flash> Agent<D> {
         ensures beyond { (image : Option ℕ) (at total : ℕ) →
             handle_kept (fields self.old).session (h - 1) ≡ handle.Reads image at total →
             drop (total - at) out.new ≡ drop (total - at) out.old }
-        // on any device, at any exit: the bytes stay that are kept of the staged images, and so do the
-        // metadata and the trials
-        ensures rests { (fields self.new).rests ≡ (fields self.old).rests }
-        ensures metadata { (fields self.new).meta ≡ (fields self.old).meta }
-        ensures trials { (fields self.new).trials ≡ (fields self.old).trials }
-        ensures content { IsTrue D.tells → D.told (device self.new) ≡ D.told (device self.old) }
-        ensures arming { D.arming (device self.new)
-            ≡ arming_kept (flash_result result) (D.arming (device self.old)) }
-        ensures reached { ReachesNone (flash_result result)
-            (D.counts (device self.old)) (D.counts (device self.new)) }
+        ensures records { KeepsRests (fields self.old) (fields self.new) }
+        ensures reads { ReadsAlone D.Flash (flash_result result) (device self.old) (device self.new) }
     {
         if self.gone {
             return Err(Stop::Gone);

@@ -69,9 +69,9 @@ fn trials_after(plan: &Plan, meta: &Meta, trials: u32) -> u32
 }
 
 impl<D: Flash> Agent<D> {
-    ghost use Rattle.agent_calls.specs.Shown.{AgentGoes, fields, device, gone, moment};
+    ghost use Rattle.agent_calls.specs.Shown.{AgentGoes, SpendsStore, device, fields, gone, moment};
     ghost use Rattle.agent_machine.specs.Meets.{IsRefused};
-    ghost use Rattle.agent_machine.specs.Stored.{MayCarryOut, CarriesOut, TakesStore};
+    ghost use Rattle.agent_machine.specs.Stored.{MayCarryOut, CarriesOut};
     ghost use Rattle.agent_state.specs.Settles.{Changes, meta_planned};
 
     /// Makes of the metadata and of the session what a plan says, and stores the metadata where the plan
@@ -94,9 +94,7 @@ impl<D: Flash> Agent<D> {
             (D.told (device self.old)) (D.told (device self.new)) }
         ensures still { is_stored plan ≡ false → device self.new ≡ device self.old }
         ensures goes { AgentGoes result self.old self.new }
-        // On any device: an answer stored the metadata, or has it as it was and wrote nothing.
-        ensures spent { OnOk result (TakesStore (fields self.old).meta (fields self.new).meta
-            (D.arming (device self.old)) (D.arming (device self.new))) }
+        ensures spent { SpendsStore result self.old self.new }
     {
         // where the store is stopped, what is kept counts no more: the agent is gone
         settle(&mut self.meta, &mut self.session, &Decision::Do(plan), &[]);

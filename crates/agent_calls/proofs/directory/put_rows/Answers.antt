@@ -17,8 +17,8 @@ bit-bit-requires-clause-within c =
     let count : length c.rows-rows.result.now ≡ length c.args.layout.now.rows = ap (λ (l : List ImageRow). length l) c.rows-rows.ensures.value in
     omega (arith, row-length c.args.layout.now c.args.meta.now.meta c.args.bank fits c.requires.bank, count, c.loop-image-test.true)
 
-pub overflow_mul-row : goal.overflow_mul-row
-overflow_mul-row c =
+pub overflow_mul-shown : goal.overflow_mul-shown
+overflow_mul-shown c =
     let small = row-small c.args.layout.now c.rows-rows.result.now c.loop-image.image c.index-rows-image.result c.rows-rows.ensures.fit
     c.rows-rows.ensures.value c.loop-image-test.true c.index-rows-image.is in
     omega (arith, small)

@@ -5,12 +5,14 @@ use Rattle.agent_kept.specs.declared.kinds.Request.TheVariants as request
 use Rattle.agent_kept.specs.declared.kinds.Plan.TheVariants as plan
 use Rattle.agent_kept.specs.Kept.{kept}
 use Rattle.agent_state.specs.Settles.{IsPlanOf}
+use Rattle.agent_machine.specs.declared.stop.Stop.TheVariants as stop
 use Rattle.agent_machine.specs.Meets.{flash_result}
 use Rattle.agent_machine.proofs.StoredCalls.{accept-may, accept-answers, refused-of}
 use Rattle.agent_machine.proofs.StoredMeets.{carried-meets, refused-meets}
-use Rattle.agent_calls.specs.Shown.{fields, moment}
+use Rattle.agent_calls.specs.Shown.{fields, moment, snapshot}
 use Rattle.agent_state.specs.Asked.{IsPlanFor}
 use Rattle.agent_machine.specs.Fields.{Fields}
+use Rattle.agent_calls.proofs.Keeping.{unaccepted-image}
 use Rattle.agent_calls.proofs.NoOther.{accepts}
 use Rattle.agent_calls.proofs.Makes.{ok-any, accept-stores, accept-keeps, accept-trials}
 use Rattle.agent_calls.proofs.Unstored.{accept-stores-none}
@@ -46,29 +48,6 @@ returns-in_default g c =
     let f : Fields = fields c.args.self.now in
     absurd (accepts f.session f.meta.meta c.args.guid c.in-Ok.plan c.in-Ok.ensures.asked c.in_default.not-Accept)
 
-pub returns-in-Accept-clause-still : goal.returns-in-Accept-clause-still
-returns-in-Accept-clause-still g c = λ image found set.
-    let a = c.args.self.now in
-    let f : Fields = fields a in
-    let asked = subst (IsPlanFor f.session f.meta.meta (request.Accept c.args.guid)) c.in-Accept.is c.in-Ok.ensures.asked in
-    c.carry_out.ensures.still (accept-stores-none f (a.fitting c.if-self.false) c.args.guid c.in-Accept.image c.in-Accept.store asked image found set)
-
-pub returns-in-Accept-clause-stores : goal.returns-in-Accept-clause-stores
-returns-in-Accept-clause-stores g c done tells image found clear =
-    let a = c.args.self.now in
-    let f : Fields = fields a in
-    let asked = subst (IsPlanFor f.session f.meta.meta (request.Accept c.args.guid)) c.in-Accept.is c.in-Ok.ensures.asked in
-    accept-stores f (a.fitting c.if-self.false) c.args.guid c.in-Accept.image c.in-Accept.store asked image found clear
-    (flash_result c.carry_out.result) (g.D.Flash.told a.flash) (g.D.Flash.told c.carry_out.new.self.flash) (c.carry_out.ensures.stores tells)
-
-pub returns-in-Accept-clause-keeps : goal.returns-in-Accept-clause-keeps
-returns-in-Accept-clause-keeps g c done image found =
-    let a = c.args.self.now in
-    let f : Fields = fields a in
-    let asked = subst (IsPlanFor f.session f.meta.meta (request.Accept c.args.guid)) c.in-Accept.is c.in-Ok.ensures.asked in
-    accept-keeps f (a.fitting c.if-self.false) c.args.guid c.in-Accept.image c.in-Accept.store asked image found
-    c.carry_out.new.self.meta c.carry_out.ensures.planned
-
 pub returns-in-Accept-clause-session : goal.returns-in-Accept-clause-session
 returns-in-Accept-clause-session g c = ok-any c.carry_out.result c.carry_out.ensures.changed
 
@@ -79,10 +58,26 @@ returns-in-Accept-clause-found g c done =
     let asked = subst (IsPlanFor f.session f.meta.meta (request.Accept c.args.guid)) c.in-Accept.is c.in-Ok.ensures.asked in
     (c.in-Accept.image, subst (λ (rows : List ImageRow). find_image rows c.args.guid ≡ Some c.in-Accept.image) (a.fitting c.if-self.false).rows asked.0)
 
-pub returns-in-Accept-clause-trials : goal.returns-in-Accept-clause-trials
-returns-in-Accept-clause-trials g c done image found =
+pub returns-in-Accept-clause-image : goal.returns-in-Accept-clause-image
+returns-in-Accept-clause-image g c image found =
     let a = c.args.self.now in
+    let b = c.carry_out.new.self in
     let f : Fields = fields a in
+    let here = a.fitting c.if-self.false in
     let asked = subst (IsPlanFor f.session f.meta.meta (request.Accept c.args.guid)) c.in-Accept.is c.in-Ok.ensures.asked in
-    accept-trials f (a.fitting c.if-self.false) c.args.guid c.in-Accept.image c.in-Accept.store asked image found
-    c.carry_out.new.self.meta (fields c.carry_out.new.self).trials c.carry_out.ensures.planned c.carry_out.ensures.trials
+    record {
+      still = λ set. c.carry_out.ensures.still (accept-stores-none f here c.args.guid c.in-Accept.image c.in-Accept.store asked image found set);
+      stores = λ done tells clear.
+          accept-stores f here c.args.guid c.in-Accept.image c.in-Accept.store asked image found clear
+          (flash_result c.carry_out.result) (g.D.Flash.told a.flash) (g.D.Flash.told b.flash) (c.carry_out.ensures.stores tells);
+      keeps = λ done. accept-keeps f here c.args.guid c.in-Accept.image c.in-Accept.store asked image found b.meta c.carry_out.ensures.planned;
+      trials = λ done.
+          accept-trials f here c.args.guid c.in-Accept.image c.in-Accept.store asked image found b.meta (fields b).trials c.carry_out.ensures.planned
+          c.carry_out.ensures.trials;
+    }
+
+pub returns-then-self-clause-image : goal.returns-then-self-clause-image
+returns-then-self-clause-image g c image found = unaccepted-image g.D.Flash stop.Gone (snapshot c.args.self.now) (λ done. done) image
+
+pub returns-in-Err-clause-image : goal.returns-in-Err-clause-image
+returns-in-Err-clause-image g c image found = unaccepted-image g.D.Flash (stop.Status c.in-Err.status) (snapshot c.args.self.now) (λ done. done) image

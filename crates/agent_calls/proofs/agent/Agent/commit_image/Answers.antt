@@ -8,6 +8,7 @@ use Rattle.fwu_model.specs.Reply.{Success}
 use Rattle.fwu_model.specs.Call as call
 use Rattle.moves.specs.Law.{Done}
 use Rattle.slot_writer.specs.Slots.{Finishes}
+use Rattle.slot_writer.specs.Writes.{SpendsArming, writes_to_finish}
 use Rattle.agent_kept.specs.declared.kinds.Plan.TheVariants as plan
 use Rattle.agent_kept.specs.Kept.{Kept, kept, part_at, size_of}
 use Rattle.agent_state.specs.Settles.{Settles}
@@ -126,20 +127,39 @@ returns-in-Err-clause-meets g c passes h req most decides =
     c.size-size.ensures (c.in-Err.ensures.finishes told)) passes h req most decides f refl refl refl refl))
 
 -- the image was ended, by the fields
-pub returns-in-Ok-clause-ends : goal.returns-in-Ok-clause-ends
-returns-in-Ok-clause-ends g c tells =
-    let f : Fields = fields c.args.self.now in
-    finishes-at (Ok tt) f c.args.image c.start-first.result c.size-size.result (rest_of f c.args.image) (g.D.Flash.told c.args.self.now.flash)
-    (g.D.Flash.told c.finish.new.flash) (first-at f c.args.image c.target-bank.result c.start-first.result c.target-bank.ensures.value c.start-first.ensures)
-    c.size-size.ensures (c.in-Ok.ensures.finishes tells)
+pub returns-in-Ok-clause-image : goal.returns-in-Ok-clause-image
+returns-in-Ok-clause-image g c =
+    let a = c.args.self.now in
+    let f : Fields = fields a in
+    let d = g.D.Flash in
+    let b = c.finish.new.flash in
+    record {
+      ends = λ tells.
+          finishes-at (Ok tt) f c.args.image c.start-first.result c.size-size.result (rest_of f c.args.image) (d.told a.flash) (d.told b)
+          (first-at f c.args.image c.target-bank.result c.start-first.result c.target-bank.ensures.value c.start-first.ensures)
+          c.size-size.ensures (c.in-Ok.ensures.finishes tells);
+      spent =
+          subst (λ (m : ℕ). SpendsArming {T = Unit {0}} (Ok tt) (writes_to_finish m) (d.arming a.flash) (d.arming b) (d.counts a.flash) (d.counts b))
+          c.size-size.ensures c.in-Ok.ensures.arming;
+    }
 
-pub returns-in-Err-clause-ends : goal.returns-in-Err-clause-ends
-returns-in-Err-clause-ends g c tells =
-    let f : Fields = fields c.args.self.now in
-    let s = g.D.Flash.told c.args.self.now.flash in
-    let t = g.D.Flash.told c.finish.new.flash in
-    subst (λ (r : Done). Finishes r (start f.layout (target f) c.args.image) (size_of (part_at f.session c.args.image)) (rest_of f c.args.image) s t)
-    (sym c.stopped.ensures.stop)
-    (finishes-at (Err c.in-Err.stop) f c.args.image c.start-first.result c.size-size.result (rest_of f c.args.image) s t
-    (first-at f c.args.image c.target-bank.result c.start-first.result c.target-bank.ensures.value c.start-first.ensures)
-    c.size-size.ensures (c.in-Err.ensures.finishes tells))
+pub returns-in-Err-clause-image : goal.returns-in-Err-clause-image
+returns-in-Err-clause-image g c =
+    let a = c.args.self.now in
+    let f : Fields = fields a in
+    let d = g.D.Flash in
+    let b = c.finish.new.flash in
+    let size : ℕ = size_of (part_at f.session c.args.image) in
+    record {
+      ends = λ tells.
+          subst (λ (r : Done). Finishes r (start f.layout (target f) c.args.image) size (rest_of f c.args.image) (d.told a.flash) (d.told b))
+          (sym c.stopped.ensures.stop)
+          (finishes-at (Err c.in-Err.stop) f c.args.image c.start-first.result c.size-size.result (rest_of f c.args.image) (d.told a.flash) (d.told b)
+          (first-at f c.args.image c.target-bank.result c.start-first.result c.target-bank.ensures.value c.start-first.ensures)
+          c.size-size.ensures (c.in-Err.ensures.finishes tells));
+      spent =
+          subst (λ (r : Done). SpendsArming r (writes_to_finish size) (d.arming a.flash) (d.arming b) (d.counts a.flash) (d.counts b))
+          (sym c.stopped.ensures.stop)
+          (subst (λ (m : ℕ). SpendsArming {T = Unit {0}} (Err c.in-Err.stop) (writes_to_finish m) (d.arming a.flash) (d.arming b)
+          (d.counts a.flash) (d.counts b)) c.size-size.ensures c.in-Err.ensures.arming);
+    }

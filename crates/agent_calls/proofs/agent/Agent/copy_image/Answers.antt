@@ -68,7 +68,7 @@ returns-clause-takes g c =
     (c.in-Ok.ensures.meets here) c.in-Ok-copy_bytes.ensures.copies
     (subst (λ d. FrontTakes c.args.image (pieces_of block_bytes (total_of (fields c.open.new.self) (Some c.args.image))) (moment c.open.new.self) (g.D.Flash.arming d)
     (g.D.Flash.arming (device c.copy_bytes.new.self))) c.in-Ok.ensures.still c.in-Ok-copy_bytes.ensures.takes)
-    (λ i writes. lowered-of _ c.commit.result (c.commit.ensures.spent still i writes).lowered)
+    (λ i writes. lowered-of _ c.commit.result (c.commit.ensures.image still i writes).spent.lowered)
 
 -- ---- what it leaves as it was
 
@@ -79,7 +79,7 @@ module _ (g : given.Over) (c : After-open g) where
   opened : FillsBank (moment c.args.self.now) (moment c.open.new.self)
   opened =
       let o = c.open.ensures in
-      fills-still (moment c.args.self.now) (moment c.open.new.self) (o.meets c.requires.here any).leaves.stays o.metadata o.trials
+      fills-still (moment c.args.self.now) (moment c.open.new.self) (o.meets c.requires.here any).leaves.stays o.records.metadata o.records.trials
       (λ told. ap (λ d. g.D.Flash.told d) o.still)
 
 pub returns-in-Err-clause-fills : goal.returns-in-Err-clause-fills
@@ -103,6 +103,6 @@ returns-clause-fills g c =
     fills-then (moment c.args.self.now) (moment b) (moment d)
     (copied g (goal.at.returns-clause-fills g c).After-copy_bytes (opened g (goal.at.returns-clause-fills g c).After-open))
     (fills-ended (moment b) (moment d)
-    (λ image writes. fills-behind (moment b) (moment d) leaves.stays e.metadata e.trials leaves.keeps _ _
-    (slot-behind (fields b).layout (target (fields b)) image _) (λ told. (e.ends still told image writes).keeps))
-    (λ none. fills-still (moment b) (moment d) leaves.stays e.metadata e.trials (λ told. ap (λ x. g.D.Flash.told x) (e.still none))))
+    (λ image writes. fills-behind (moment b) (moment d) leaves.stays e.records.metadata e.records.trials leaves.keeps _ _
+    (slot-behind (fields b).layout (target (fields b)) image _) (λ told. ((e.image still image writes).ends told).keeps))
+    (λ none. fills-still (moment b) (moment d) leaves.stays e.records.metadata e.records.trials (λ told. ap (λ x. g.D.Flash.told x) (e.still none))))

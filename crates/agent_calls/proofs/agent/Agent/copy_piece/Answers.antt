@@ -93,7 +93,7 @@ returns-in-Ok-write_stream-clause-takes g c =
     let long : length (take n (out ++ drop n buf)) ≡ n = ap length whole ∙ size in
     piece-takes c.args.image c.args.at n (moment a) (moment b) (g.D.Flash.arming (device a)) (g.D.Flash.arming (device c.write_stream.new.self))
     (λ E w x shows. read-goes g.D.Flash.tells s t f (fields b) c.read_part.ensures.fields c.read_part.ensures.reads.content E w x shows)
-    (λ i writes. (c.in-Ok-write_stream.ensures.spent tt i writes).lowered
+    (λ i writes. ((c.in-Ok-write_stream.ensures.image i writes).spent tt).lowered
     ∙ ap (λ (m : ℕ). lowered_by (writes_to_append (size_of (part_at (fields b).session i)) m) (g.D.Flash.arming (device b))) long
     ∙ ap (λ (o : Option Arming). lowered_by (writes_to_append (size_of (part_at (fields b).session i)) n) o) c.in-Ok.ensures.reads.arming)
 
@@ -147,8 +147,8 @@ module _ (g : given.Over) (c : After-write_stream g) where
       fills-by c.write_stream.result (moment b) (moment d)
       (λ done.
       let writes = w.writes done in
-      fills-behind (moment b) (moment d) leaves.stays w.metadata w.trials leaves.keeps _ _
-      (slot-behind (fields b).layout (target (fields b)) writes.0 _) (λ told. (w.appends done told writes.0 writes.1).keeps))
+      fills-behind (moment b) (moment d) leaves.stays w.records.metadata w.records.trials leaves.keeps _ _
+      (slot-behind (fields b).layout (target (fields b)) writes.0 _) (λ told. ((w.image writes.0 writes.1).appends done told).keeps))
       (λ is. ap (λ x. moment x) (w.refused is)) (λ is. ap (λ x. moment x) (w.goes.untouched is))
 
 pub returns-in-Ok-write_stream-clause-fills : goal.returns-in-Ok-write_stream-clause-fills

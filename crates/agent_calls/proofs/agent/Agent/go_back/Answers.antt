@@ -1,5 +1,8 @@
 use Rattle.std.proofs.Common.{inl, inr, true, false, refl, sym, subst, arith}
+use Rattle.std.specs.Prelude.{Option, OnOk}
+use Rattle.flash_core.specs.declared.flash.Arming.{Arming}
 use Rattle.flash_core.specs.Told.{Told}
+use Rattle.fwu_model.specs.declared.kinds.Status.TheVariants as status
 use Rattle.fwu_model.specs.State.{Back}
 use Rattle.fwu_model.specs.MoveMetas.{meta_after}
 use Rattle.moves.specs.Law.{Done}
@@ -7,10 +10,13 @@ use Rattle.replicas.specs.Stores.{Stores}
 use Rattle.agent_kept.specs.Kept.{kept}
 use Rattle.agent_state.specs.Ruled.{ruled_as}
 use Rattle.agent_machine.specs.Meets.{flash_result}
-use Rattle.agent_machine.specs.Stored.{is_to_do, may_try_kept}
+use Rattle.agent_machine.specs.declared.stop.Stop.TheVariants as stop
+use Rattle.agent_machine.specs.Fields.{Fields}
+use Rattle.agent_machine.specs.Stored.{TakesStore, is_to_do, may_try_kept}
 use Rattle.meta_layout.proofs.Fits.{meta-fits}
 use Rattle.agent_machine.proofs.StoredBack.{untried-meets, stopped-meets, bad-meets, back-meets}
-use Rattle.agent_calls.specs.Shown.{fields, moment}
+use Rattle.agent_calls.specs.Shown.{fields, moment, snapshot}
+use Rattle.agent_calls.proofs.GoingBack.{looked, not-refused, tried, unchanged}
 use Rattle.agent_calls.proofs.StoredVerdict.{back-is-good, good-permitted, promised}
 use Rattle.agent_calls.proofs.Makes.{ok-any, back-stopped}
 use Rattle.agent_calls.proofs.agent.Agent.go_back.Goals as goal
@@ -74,48 +80,58 @@ returns-in-Err-clause-meets g c =
     stopped-meets g.D.Flash.tells (fields a) (a.fitting c.requires.here) a.session.sound (g.D.Flash.told a.flash)
     (g.D.Flash.told c.is_bank_good.new.flash) c.in-Err.ensures.reads.content (g.V.Verifier.passes c.args.verifier.now) c.stopped.result c.stopped.ensures.stopped
 
--- the read before the store left the content as it was
-pub returns-else-not-goes_back-clause-stores : goal.returns-else-not-goes_back-clause-stores
-returns-else-not-goes_back-clause-stores g c done tells =
-    let f = fields c.args.self.now in
-    subst (λ (u : Told). Stores (flash_result c.carry_out.result) f.layout (meta_after f.meta.meta Back) u (g.D.Flash.told c.carry_out.new.self.flash))
-    (c.in-Ok.ensures.reads.content tells) (c.carry_out.ensures.stores tells)
+pub returns-then-not-may_try-clause-changes : goal.returns-then-not-may_try-clause-changes
+returns-then-not-may_try-clause-changes g c =
+    unchanged g.D.Flash (g.V.Verifier.passes c.args.verifier.now) (stop.Status status.Denied) (snapshot c.args.self.now) (λ done. done)
 
-pub returns-in-Err-clause-stores : goal.returns-in-Err-clause-stores
-returns-in-Err-clause-stores g c done tells =
+pub returns-then-not-goes_back-clause-changes : goal.returns-then-not-goes_back-clause-changes
+returns-then-not-goes_back-clause-changes g c =
     let a = c.args.self.now in
-    let f = fields a in
-    subst (λ (r : Done). Stores r f.layout (meta_after f.meta.meta Back) (g.D.Flash.told a.flash) (g.D.Flash.told c.is_bank_good.new.flash))
-    (sym c.stopped.ensures.stop)
-    (back-stopped f (a.fitting c.requires.here) c.in-Err.stop (g.D.Flash.told a.flash) (g.D.Flash.told c.is_bank_good.new.flash)
-    (omega (arith, a.inside c.requires.here, (g.met.D.Flash.sound a.flash tells).size)) (c.in-Err.ensures.reads.content tells))
+    looked g.D.Flash (g.V.Verifier.passes c.args.verifier.now) status.Denied (snapshot a) _
+    (promised c.may_try.result (may_try_kept a.meta.meta (kept a.session) a.boot) true c.may_try.ensures c.if-not-may_try.false)
+    c.in-Ok.ensures.reads.content c.in-Ok.ensures.reads.arming
 
-pub returns-else-not-goes_back-clause-keeps : goal.returns-else-not-goes_back-clause-keeps
-returns-else-not-goes_back-clause-keeps g c = ok-any c.carry_out.result c.carry_out.ensures.planned
-
-pub returns-else-not-goes_back-clause-session : goal.returns-else-not-goes_back-clause-session
-returns-else-not-goes_back-clause-session g c = ok-any c.carry_out.result c.carry_out.ensures.changed
-
-pub returns-else-not-goes_back-clause-content : goal.returns-else-not-goes_back-clause-content
-returns-else-not-goes_back-clause-content g c refused = absurd (c.carry_out.ensures.answered refused)
-
--- the decision was one that the verdict rules, so that it was good
-pub returns-else-not-goes_back-clause-passed : goal.returns-else-not-goes_back-clause-passed
-returns-else-not-goes_back-clause-passed g c =
+-- the read before the store left content and arming as they were; the decision was one that the verdict rules, so that it was good
+pub returns-else-not-goes_back-clause-changes : goal.returns-else-not-goes_back-clause-changes
+returns-else-not-goes_back-clause-changes g c =
     let a = c.args.self.now in
-    ok-any c.carry_out.result
-    (c.in-Ok.ensures.passed
-    (back-is-good (kept a.session) a.meta.meta c.args.decision.now c.in-Ok.good c.requires.asked
-    (promised c.goes_back.result (is_to_do (ruled_as c.args.decision.now c.in-Ok.good)) true c.goes_back.ensures c.if-not-goes_back.false)))
+    let b = c.carry_out.new.self in
+    let f : Fields = fields a in
+    let r = c.carry_out.result in
+    record {
+      still = tried _ (promised c.may_try.result (may_try_kept a.meta.meta (kept a.session) a.boot) true c.may_try.ensures c.if-not-may_try.false);
+      stores = λ done tells.
+          subst (λ (u : Told). Stores (flash_result r) f.layout (meta_after f.meta.meta Back) u (g.D.Flash.told b.flash))
+          (c.in-Ok.ensures.reads.content tells) (c.carry_out.ensures.stores tells);
+      keeps = ok-any r c.carry_out.ensures.planned;
+      either = λ done. inr c.carry_out.ensures.planned;
+      session = ok-any r c.carry_out.ensures.changed;
+      trials = λ done. inr c.carry_out.ensures.trials;
+      passed = ok-any r (c.in-Ok.ensures.passed
+          (back-is-good (kept a.session) a.meta.meta c.args.decision.now c.in-Ok.good c.requires.asked
+          (promised c.goes_back.result (is_to_do (ruled_as c.args.decision.now c.in-Ok.good)) true c.goes_back.ensures c.if-not-goes_back.false)));
+      content = λ refused. absurd (c.carry_out.ensures.answered refused);
+      arming = λ refused. absurd (c.carry_out.ensures.answered refused);
+      spent = subst (λ (x : Option Arming). OnOk r (TakesStore f.meta b.meta x (g.D.Flash.arming b.flash))) c.in-Ok.ensures.reads.arming c.carry_out.ensures.spent;
+    }
 
-pub returns-else-not-goes_back-clause-either : goal.returns-else-not-goes_back-clause-either
-returns-else-not-goes_back-clause-either g c done = inr c.carry_out.ensures.planned
-
-pub returns-in-Err-clause-either : goal.returns-in-Err-clause-either
-returns-in-Err-clause-either g c done = inl refl
-
-pub returns-else-not-goes_back-clause-trials : goal.returns-else-not-goes_back-clause-trials
-returns-else-not-goes_back-clause-trials g c done = inr c.carry_out.ensures.trials
-
-pub returns-in-Err-clause-trials : goal.returns-in-Err-clause-trials
-returns-in-Err-clause-trials g c done = inl refl
+pub returns-in-Err-clause-changes : goal.returns-in-Err-clause-changes
+returns-in-Err-clause-changes g c =
+    let a = c.args.self.now in
+    let f : Fields = fields a in
+    let t = g.D.Flash.told c.is_bank_good.new.flash in
+    record {
+      still = tried _ (promised c.may_try.result (may_try_kept a.meta.meta (kept a.session) a.boot) true c.may_try.ensures c.if-not-may_try.false);
+      stores = λ done tells.
+          subst (λ (r : Done). Stores r f.layout (meta_after f.meta.meta Back) (g.D.Flash.told a.flash) t) (sym c.stopped.ensures.stop)
+          (back-stopped f (a.fitting c.requires.here) c.in-Err.stop (g.D.Flash.told a.flash) t
+          (omega (arith, a.inside c.requires.here, (g.met.D.Flash.sound a.flash tells).size)) (c.in-Err.ensures.reads.content tells));
+      keeps = tt;
+      either = λ done. inl refl;
+      session = tt;
+      trials = λ done. inl refl;
+      passed = tt;
+      content = λ refused. absurd (not-refused c.stopped.result c.stopped.ensures.stopped refused);
+      arming = λ refused. absurd (not-refused c.stopped.result c.stopped.ensures.stopped refused);
+      spent = tt;
+    }

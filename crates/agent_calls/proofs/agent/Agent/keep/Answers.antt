@@ -1,4 +1,4 @@
-use Rattle.std.proofs.Common.{[], ap, ◌∙◌}
+use Rattle.std.proofs.Common.{[], refl, ap, ◌∙◌}
 use Rattle.fwu_formats.specs.Metadata.{Meta}
 use Rattle.agent_kept.specs.Kept.{kept}
 use Rattle.agent_machine.specs.Fields.{Fields}
@@ -40,7 +40,11 @@ returns-clause-carried g c =
     c.args.plan.now (c.args.self.now.fitting here) c.args.self.now.session.sound (c.args.self.now.knows here)
     c.requires.quiet c.requires.plan c.requires.may c.settle.ensures.session c.settle.ensures.meta c.settle.ensures.settles
 
-pub returns-clause-metadata : goal.returns-clause-metadata
-returns-clause-metadata g c =
+pub returns-clause-records : goal.returns-clause-records
+returns-clause-records g c =
     let f : Fields = fields c.args.self.now in
-    c.settle.ensures.meta ∙ ap (λ (m : Meta). record f.meta { meta = m }) (quiet-meta f.session f.meta.meta c.args.plan.now c.requires.quiet)
+    record {
+      rests = refl;
+      metadata = c.settle.ensures.meta ∙ ap (λ (m : Meta). record f.meta { meta = m }) (quiet-meta f.session f.meta.meta c.args.plan.now c.requires.quiet);
+      trials = refl;
+    }

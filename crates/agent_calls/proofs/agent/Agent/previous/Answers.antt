@@ -7,8 +7,10 @@ use Rattle.agent_state.specs.Decides.{Decides}
 use Rattle.agent_machine.proofs.Answered.{layout-limits}
 use Rattle.agent_machine.proofs.StoredPlans.{is-meta-of}
 use Rattle.agent_machine.proofs.StoredBack.{refused-meets-previous}
+use Rattle.agent_machine.specs.declared.stop.Stop.TheVariants as stop
 use Rattle.agent_machine.specs.Meets.{MeetsPrevious}
-use Rattle.agent_calls.specs.Shown.{fields, moment}
+use Rattle.agent_calls.specs.Shown.{fields, moment, snapshot}
+use Rattle.agent_calls.proofs.GoingBack.{unchanged}
 use Rattle.agent_calls.proofs.agent.Agent.previous.Goals as goal
 
 pub decide-decision-requires-clause-some : goal.decide-decision-requires-clause-some
@@ -33,23 +35,12 @@ returns-clause-meets g c = λ here passes same.
     subst (λ (ps : List ℕ → Bool). MeetsPrevious c.go_back.result ps (moment c.args.self.now) (moment c.go_back.new.self)) (sym same)
     c.go_back.ensures.meets
 
-pub returns-clause-stores : goal.returns-clause-stores
-returns-clause-stores g c = c.go_back.ensures.stores
+pub returns-then-self-clause-changes : goal.returns-then-self-clause-changes
+returns-then-self-clause-changes g c = unchanged g.D.Flash (g.V.Verifier.passes c.args.verifier.now) stop.Gone (snapshot c.args.self.now) (λ done. done)
 
-pub returns-clause-keeps : goal.returns-clause-keeps
-returns-clause-keeps g c = c.go_back.ensures.keeps
+pub returns-in-Refused-clause-changes : goal.returns-in-Refused-clause-changes
+returns-in-Refused-clause-changes g c =
+    unchanged g.D.Flash (g.V.Verifier.passes c.args.verifier.now) (stop.Status c.in-Refused.status) (snapshot c.args.self.now) (λ done. done)
 
-pub returns-clause-session : goal.returns-clause-session
-returns-clause-session g c = c.go_back.ensures.session
-
-pub returns-clause-content : goal.returns-clause-content
-returns-clause-content g c = c.go_back.ensures.content
-
-pub returns-clause-passed : goal.returns-clause-passed
-returns-clause-passed g c = c.go_back.ensures.passed
-
-pub returns-clause-either : goal.returns-clause-either
-returns-clause-either g c = c.go_back.ensures.either
-
-pub returns-clause-trials : goal.returns-clause-trials
-returns-clause-trials g c = c.go_back.ensures.trials
+pub returns-clause-changes : goal.returns-clause-changes
+returns-clause-changes g c = c.go_back.ensures.changes

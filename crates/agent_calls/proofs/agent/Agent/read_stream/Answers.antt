@@ -1,5 +1,7 @@
-use Rattle.std.proofs.Common.{◌-◌, ◌≤◌, [], length, refl, sym, ap, ◌∙◌, subst, arith}
+use Rattle.std.proofs.Common.{◌-◌, ◌≤◌, [], Ok, Err, length, refl, sym, ap, ◌∙◌, subst, arith}
 use Rattle.std.proofs.lemmas.List.{length-take, length-take-le}
+use Rattle.flash_core.specs.declared.flash.FlashStop.{FlashStop}
+use Rattle.flash_core.specs.Calls.{Reads}
 use Rattle.flash_core.specs.Told.{Told}
 use Rattle.agent_kept.specs.declared.kinds.Plan.TheVariants as plan
 use Rattle.agent_state.specs.Settles.{IsPlanOf}
@@ -7,8 +9,10 @@ use Rattle.agent_machine.specs.Fields.{Fields}
 use Rattle.agent_machine.specs.Directory.{piece_of}
 use Rattle.agent_machine.specs.Meets.{IsGot}
 use Rattle.agent_machine.proofs.ReadAnswers.{read-refused, read-inside, read-lost, read-faulty, read-meets, carried-from, filled}
-use Rattle.agent_calls.specs.Shown.{fields, moment}
+use Rattle.agent_calls.specs.Records.{ReadsAlone}
+use Rattle.agent_calls.specs.Shown.{device, fields, moment}
 use Rattle.agent_calls.proofs.Beyond.{read-room, read-no-more, kept-beyond}
+use Rattle.agent_calls.proofs.Keeping.{alone, read-keeps, untouched}
 use Rattle.agent_calls.proofs.NoOther.{reads}
 use Rattle.agent_calls.proofs.agent.Agent.read_stream.Goals as goal
 
@@ -129,11 +133,42 @@ returns-in-Err-Failed-clause-beyond g c image at total reads =
     (read-no-more (fields a) c.args.h (length c.args.out.now) c.in-Ok.plan c.in-Ok.ensures.asked c.in-Read.handle c.in-Read.image c.in-Read.at
     c.in-Read.length c.in-Read.total c.in-Read.is image at total reads)
 
-pub returns-in-Ok-read_part-clause-trials : goal.returns-in-Ok-read_part-clause-trials
-returns-in-Ok-read_part-clause-trials g c = c.keep.ensures.trials ∙ ap (λ (x : Fields). x.trials) c.read_part.ensures.fields
+pub returns-in-Ok-read_part-clause-records : goal.returns-in-Ok-read_part-clause-records
+returns-in-Ok-read_part-clause-records g c =
+    let was = c.read_part.ensures.fields in
+    let kept = c.keep.ensures.records in
+    record {
+      rests = kept.rests ∙ ap (λ (x : Fields). x.rests) was;
+      metadata = kept.metadata ∙ ap (λ (x : Fields). x.meta) was;
+      trials = kept.trials ∙ ap (λ (x : Fields). x.trials) was;
+    }
 
-pub returns-in-Err-Lost-clause-trials : goal.returns-in-Err-Lost-clause-trials
-returns-in-Err-Lost-clause-trials g c = ap (λ (x : Fields). x.trials) c.read_part.ensures.fields
+pub returns-in-Err-Lost-clause-records : goal.returns-in-Err-Lost-clause-records
+returns-in-Err-Lost-clause-records g c = read-keeps (fields c.args.self.now) (fields c.read_part.new.self) c.read_part.ensures.fields
 
-pub returns-in-Err-Failed-clause-trials : goal.returns-in-Err-Failed-clause-trials
-returns-in-Err-Failed-clause-trials g c = ap (λ (x : Fields). x.trials) c.read_part.ensures.fields
+pub returns-in-Err-Failed-clause-records : goal.returns-in-Err-Failed-clause-records
+returns-in-Err-Failed-clause-records g c = read-keeps (fields c.args.self.now) (fields c.read_part.new.self) c.read_part.ensures.fields
+
+pub returns-in-Ok-read_part-clause-reads : goal.returns-in-Ok-read_part-clause-reads
+returns-in-Ok-read_part-clause-reads g c =
+    let a = c.args.self.now in
+    subst (λ d. ReadsAlone {X = Unit {0}} g.D.Flash (Ok tt) (device a) d) (sym c.keep.ensures.device) (alone c.in-Ok-read_part.ensures.reads)
+
+pub returns-in-Err-Lost-clause-reads : goal.returns-in-Err-Lost-clause-reads
+returns-in-Err-Lost-clause-reads g c =
+    alone (subst (λ (e : FlashStop). Reads {X = Unit {0}} g.D.Flash (Err e) (device c.args.self.now) (device c.read_part.new.self))
+    c.in-Err-Lost.field-0-is c.in-Err-Lost.ensures.reads)
+
+pub returns-in-Err-Failed-clause-reads : goal.returns-in-Err-Failed-clause-reads
+returns-in-Err-Failed-clause-reads g c =
+    alone (subst (λ (e : FlashStop). Reads {X = Unit {0}} g.D.Flash (Err e) (device c.args.self.now) (device c.read_part.new.self))
+    c.in-Err-Failed.field-0-is c.in-Err-Failed.ensures.reads)
+
+pub returns-then-self-clause-reads : goal.returns-then-self-clause-reads
+returns-then-self-clause-reads g c = untouched g.D.Flash (device c.args.self.now)
+
+pub returns-in_default-clause-reads : goal.returns-in_default-clause-reads
+returns-in_default-clause-reads g c = untouched g.D.Flash (device c.args.self.now)
+
+pub returns-in-Err-clause-reads : goal.returns-in-Err-clause-reads
+returns-in-Err-clause-reads g c = untouched g.D.Flash (device c.args.self.now)

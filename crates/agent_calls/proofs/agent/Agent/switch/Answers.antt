@@ -1,4 +1,4 @@
-use Rattle.std.proofs.Common.{◌≡◌, [], Err, subst, sym}
+use Rattle.std.proofs.Common.{◌≡◌, [], Err, refl, subst, sym}
 use Rattle.fwu_model.specs.Reply.{Success}
 use Rattle.fwu_model.specs.Call as call
 use Rattle.agent_kept.specs.Kept.{Kept, kept}
@@ -69,17 +69,28 @@ returns-in-Err-clause-meets g c passes decides =
     (end-leaves f k c.settle.new.meta passes g.D.Flash.tells s t (c.args.self.now.fitting here) c.args.self.now.session.sound
     (c.args.self.now.knows here) c.requires.staging decides c.settle.ensures.meta (Err c.in-Err.stop) c.in-Err.ensures.ends))
 
-pub returns-in-Err-clause-ends : goal.returns-in-Err-clause-ends
-returns-in-Err-clause-ends g c tells =
-    subst (λ (r : Done). ClearsAndStores r (fields c.args.self.now).layout c.settle.new.meta.meta (g.D.Flash.told c.args.self.now.flash)
-    (g.D.Flash.told c.clear_and_store.new.flash)) (sym c.stopped.ensures.stop) (c.in-Err.ensures.ends tells)
-
-pub returns-in-Ok-clause-keeps : goal.returns-in-Ok-clause-keeps
-returns-in-Ok-clause-keeps g c =
+pub returns-in-Ok-clause-staging : goal.returns-in-Ok-clause-staging
+returns-in-Ok-clause-staging g c =
     let a = c.args.self.now in
-    end-keeps (fields a) (a.fitting c.requires.here) c.settle.new.meta c.settle.ensures.meta
+    record {
+      ends = λ done. c.in-Ok.ensures.ends;
+      keeps = λ done. end-keeps (fields a) (a.fitting c.requires.here) c.settle.new.meta c.settle.ensures.meta;
+      restarts = λ done. c.settle.ensures.session;
+      trials = λ done. refl;
+      spent = c.in-Ok.ensures.spent;
+      once = c.in-Ok.ensures.once;
+    }
 
-pub returns-in-Err-clause-keeps : goal.returns-in-Err-clause-keeps
-returns-in-Err-clause-keeps g c =
+pub returns-in-Err-clause-staging : goal.returns-in-Err-clause-staging
+returns-in-Err-clause-staging g c =
     let a = c.args.self.now in
-    end-keeps (fields a) (a.fitting c.requires.here) c.settle.new.meta c.settle.ensures.meta
+    record {
+      ends = λ done tells.
+          subst (λ (r : Done). ClearsAndStores r (fields a).layout c.settle.new.meta.meta (g.D.Flash.told a.flash) (g.D.Flash.told c.clear_and_store.new.flash))
+          (sym c.stopped.ensures.stop) (c.in-Err.ensures.ends tells);
+      keeps = λ done. end-keeps (fields a) (a.fitting c.requires.here) c.settle.new.meta c.settle.ensures.meta;
+      restarts = λ done. c.settle.ensures.session;
+      trials = λ done. refl;
+      spent = tt;
+      once = λ tells. tt;
+    }

@@ -76,13 +76,6 @@ returns-in-Ok-clause-meets g c passes h decides =
     c.requires.plan (λ tells. omega (arith, a.inside here, (g.met.D.Flash.sound a.flash tells).size)) fits first c.size-size.ensures c.in-Ok.ensures.appends
     c.settle.ensures.session c.settle.ensures.meta c.settle.ensures.settles passes h decides
 
-pub returns-in-Ok-clause-spent : goal.returns-in-Ok-clause-spent
-returns-in-Ok-clause-spent g c =
-    let a = c.args.self.now in
-    subst (λ (n : ℕ). SpendsArming {T = Unit {0}} (Ok tt) (writes_to_append n (length c.args.bytes.now)) (g.D.Flash.arming a.flash)
-    (g.D.Flash.arming c.append.new.flash) (g.D.Flash.counts a.flash) (g.D.Flash.counts c.append.new.flash)) c.size-size.ensures
-    c.in-Ok.ensures.arming
-
 pub returns-in-Err-clause-meets : goal.returns-in-Err-clause-meets
 returns-in-Err-clause-meets g c passes h decides =
     let a = c.args.self.now in
@@ -106,47 +99,55 @@ returns-in-Err-clause-meets g c passes h decides =
     c.size-size.ensures c.in-Err.stop c.in-Err.ensures.appends passes h decides refl
     (record { layout = refl; boot = refl; counter = refl; lengths = refl; form = refl }) c.stopped.result c.stopped.ensures.stop c.stopped.ensures.stopped
 
-pub returns-in-Ok-clause-still : goal.returns-in-Ok-clause-still
-returns-in-Ok-clause-still g c same =
-    c.in-Ok.ensures.still (subst (λ (n : ℕ). done_of (n + length c.args.bytes.now) ≡ done_of n) (sym c.size-size.ensures) same)
-
-pub returns-in-Err-clause-still : goal.returns-in-Err-clause-still
-returns-in-Err-clause-still g c same =
-    c.in-Err.ensures.still (subst (λ (n : ℕ). done_of (n + length c.args.bytes.now) ≡ done_of n) (sym c.size-size.ensures) same)
-
-pub returns-in-Ok-clause-appends : goal.returns-in-Ok-clause-appends
-returns-in-Ok-clause-appends g c tells =
+pub returns-in-Ok-clause-image : goal.returns-in-Ok-clause-image
+returns-in-Ok-clause-image g c =
     let a = c.args.self.now in
     let f : Fields = fields a in
     let fitting = a.fitting c.requires.here in
+    let size = c.size-size.ensures in
+    let n : ℕ = length c.args.bytes.now in
+    let d = g.D.Flash in
+    let b = c.append.new.flash in
     let first : c.start-first.result ≡ start f.layout (target f) c.args.image = c.start-first.ensures
     ∙ ap (λ (b : ℕ). start f.layout b c.args.image) c.target-bank.ensures.value in
-    appended f fitting c.args.image c.size-size.result c.args.bytes.now c.append.new.rest c.requires.plan.0 c.size-size.ensures (Ok tt)
-    c.start-first.result (g.D.Flash.told a.flash) (g.D.Flash.told c.append.new.flash) first (c.in-Ok.ensures.appends tells)
+    record {
+      appends = λ done tells.
+          appended f fitting c.args.image c.size-size.result c.args.bytes.now c.append.new.rest c.requires.plan.0 size (Ok tt)
+          c.start-first.result (d.told a.flash) (d.told b) first (c.in-Ok.ensures.appends tells);
+      keeps = left-kept f fitting c.args.image c.size-size.result c.args.bytes.now c.append.new.rest c.requires.plan.0 size c.in-Ok.ensures.kept;
+      grows = c.settle.ensures.session;
+      others = λ other apart. get_or-set_other f.rests c.args.image other c.append.new.rest [] apart;
+      still = λ same. c.in-Ok.ensures.still (subst (λ (m : ℕ). done_of (m + n) ≡ done_of m) (sym size) same);
+      spent = λ done.
+          subst (λ (m : ℕ). SpendsArming {T = Unit {0}} (Ok tt) (writes_to_append m n) (d.arming a.flash) (d.arming b) (d.counts a.flash) (d.counts b))
+          size c.in-Ok.ensures.arming;
+    }
 
-pub returns-in-Err-clause-appends : goal.returns-in-Err-clause-appends
-returns-in-Err-clause-appends g c tells =
+pub returns-in-Err-clause-image : goal.returns-in-Err-clause-image
+returns-in-Err-clause-image g c =
     let a = c.args.self.now in
     let f : Fields = fields a in
     let fitting = a.fitting c.requires.here in
+    let size = c.size-size.ensures in
+    let n : ℕ = length c.args.bytes.now in
+    let d = g.D.Flash in
+    let b = c.append.new.flash in
     let first : c.start-first.result ≡ start f.layout (target f) c.args.image = c.start-first.ensures
     ∙ ap (λ (b : ℕ). start f.layout b c.args.image) c.target-bank.ensures.value in
-    let s = g.D.Flash.told a.flash in
-    let t = g.D.Flash.told c.append.new.flash in
-    subst (λ (r : Done). Appends r (start f.layout (target f) c.args.image) (size_of (part_at f.session c.args.image)) (rest_of f c.args.image)
-    c.args.bytes.now (left_of f fitting c.args.image c.size-size.result c.args.bytes.now c.append.new.rest c.requires.plan.0 c.size-size.ensures) s t)
-    (sym c.stopped.ensures.stop)
-    (appended f fitting c.args.image c.size-size.result c.args.bytes.now c.append.new.rest c.requires.plan.0 c.size-size.ensures (Err c.in-Err.stop)
-    c.start-first.result s t first (c.in-Err.ensures.appends tells))
-
-pub returns-in-Ok-clause-keeps : goal.returns-in-Ok-clause-keeps
-returns-in-Ok-clause-keeps g c =
-    let a = c.args.self.now in
-    left-kept (fields a) (a.fitting c.requires.here) c.args.image c.size-size.result c.args.bytes.now c.append.new.rest c.requires.plan.0
-    c.size-size.ensures c.in-Ok.ensures.kept
-
-pub returns-in-Ok-clause-others : goal.returns-in-Ok-clause-others
-returns-in-Ok-clause-others g c other apart = get_or-set_other (fields c.args.self.now).rests c.args.image other c.append.new.rest [] apart
-
-pub returns-in-Err-clause-others : goal.returns-in-Err-clause-others
-returns-in-Err-clause-others g c other apart = get_or-set_other (fields c.args.self.now).rests c.args.image other c.append.new.rest [] apart
+    record {
+      appends = λ done tells.
+          subst (λ (r : Done). Appends r (start f.layout (target f) c.args.image) (size_of (part_at f.session c.args.image)) (rest_of f c.args.image)
+          c.args.bytes.now (left_of f fitting c.args.image c.size-size.result c.args.bytes.now c.append.new.rest c.requires.plan.0 size)
+          (d.told a.flash) (d.told b)) (sym c.stopped.ensures.stop)
+          (appended f fitting c.args.image c.size-size.result c.args.bytes.now c.append.new.rest c.requires.plan.0 size (Err c.in-Err.stop)
+          c.start-first.result (d.told a.flash) (d.told b) first (c.in-Err.ensures.appends tells));
+      keeps = tt;
+      grows = tt;
+      others = λ other apart. get_or-set_other f.rests c.args.image other c.append.new.rest [] apart;
+      still = λ same. c.in-Err.ensures.still (subst (λ (m : ℕ). done_of (m + n) ≡ done_of m) (sym size) same);
+      spent = λ done.
+          subst (λ (r : Done). SpendsArming r (writes_to_append (size_of (part_at f.session c.args.image)) n) (d.arming a.flash) (d.arming b)
+          (d.counts a.flash) (d.counts b)) (sym c.stopped.ensures.stop)
+          (subst (λ (m : ℕ). SpendsArming {T = Unit {0}} (Err c.in-Err.stop) (writes_to_append m n) (d.arming a.flash) (d.arming b)
+          (d.counts a.flash) (d.counts b)) size c.in-Err.ensures.arming);
+    }
