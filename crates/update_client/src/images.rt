@@ -24,12 +24,12 @@ pub fn send_image<D: Flash, H: Files>(
     buf: &mut [u8],
 ) -> Result<(), SendStop>
     requires room { 0 < length buf.old }
-    requires payload { HoldsPayload (H.contents files.old) payload.now.name.now payload.now.entry }
+    requires payload { HoldsPayload (H.contents files.old) payload.now.name.now payload.now.entry.now }
     requires here { IsFalse (gone agent.old) }
 
-    ensures sent { SendsImage (H.contents files.old) payload.now.name.now payload.now.entry acceptance
+    ensures sent { SendsImage (H.contents files.old) payload.now.name.now payload.now.entry.now acceptance
         result (moment agent.old) (moment agent.new) }
-    ensures takes { ImageTakesBy result (length buf.old) payload.now.entry (moment agent.old)
+    ensures takes { ImageTakesBy result (length buf.old) payload.now.entry.now (moment agent.old)
         (D.arming (device agent.old)) (D.arming (device agent.new)) }
     ensures keeps { Keeps H.Files payload.now.name.now result agent.old agent.new files.old files.new
         buf.old buf.new }
@@ -69,7 +69,7 @@ pub fn send_images<D: Flash, H: Files>(
     for k in 0..entries.len() {
         let payload = Payload {
             name: payloads.name,
-            entry: entries[k],
+            entry: &entries[k],
         };
         send_image(agent, files, &payload, acceptance, buf)?;
     }

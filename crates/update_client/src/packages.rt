@@ -12,5 +12,5 @@ pub struct Payloads<'a> {
 #[derive(Clone, Copy)]
 pub struct Payload<'a> {
     pub name: &'a str,
-    pub entry: Entry,
+    pub entry: &'a Entry,
 }

@@ -55,13 +55,13 @@ fn write_piece<D: Flash, H: Files>(
     buf: &mut [u8],
 ) -> Result<u64, SendStop>
     requires room { 0 < length buf.old }
-    requires some { at < payload.now.entry.size }
-    requires payload { HoldsPayload (H.contents files.old) payload.now.name.now payload.now.entry }
+    requires some { at < payload.now.entry.now.size }
+    requires payload { HoldsPayload (H.contents files.old) payload.now.name.now payload.now.entry.now }
     requires here { IsFalse (gone agent.old) }
 
-    ensures wrote { WritesPiece (H.contents files.old) payload.now.name.now payload.now.entry at result
+    ensures wrote { WritesPiece (H.contents files.old) payload.now.name.now payload.now.entry.now at result
         (moment agent.old) (moment agent.new) }
-    ensures piece { IfOk result (λ n. n ≡ piece_at (length buf.old) payload.now.entry.size at) }
+    ensures piece { IfOk result (λ n. n ≡ piece_at (length buf.old) payload.now.entry.now.size at) }
     ensures takes { IfOk result (λ n. PieceTakes at n (moment agent.old)
         (D.arming (device agent.old)) (D.arming (device agent.new))) }
     ensures unsent { OnUnread result (agent.new ≡ agent.old) }
@@ -70,7 +70,7 @@ fn write_piece<D: Flash, H: Files>(
 {
     let entry = payload.entry;
     let size = (entry.size - at).min(buf.len() as u64) as usize;
-    match payload_at(files, payload.name, &entry, at, &mut buf[..size]) {
+    match payload_at(files, payload.name, entry, at, &mut buf[..size]) {
         Ok(()) => {}
         Err(_) => return Err(SendStop::ReadFailed),
     }
@@ -88,12 +88,12 @@ pub fn write_image<D: Flash, H: Files>(
     buf: &mut [u8],
 ) -> Result<(), SendStop>
     requires room { 0 < length buf.old }
-    requires payload { HoldsPayload (H.contents files.old) payload.now.name.now payload.now.entry }
+    requires payload { HoldsPayload (H.contents files.old) payload.now.name.now payload.now.entry.now }
     requires here { IsFalse (gone agent.old) }
 
-    ensures wrote { WritesImage (H.contents files.old) payload.now.name.now payload.now.entry result
+    ensures wrote { WritesImage (H.contents files.old) payload.now.name.now payload.now.entry.now result
         (moment agent.old) (moment agent.new) }
-    ensures takes { PayloadTakesBy result (length buf.old) payload.now.entry (moment agent.old)
+    ensures takes { PayloadTakesBy result (length buf.old) payload.now.entry.now (moment agent.old)
         (D.arming (device agent.old)) (D.arming (device agent.new)) }
     ensures keeps { Keeps H.Files payload.now.name.now result agent.old agent.new files.old files.new
         buf.old buf.new }

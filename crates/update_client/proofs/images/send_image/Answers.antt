@@ -19,7 +19,7 @@ pub returns-in-Err-clause-sent : goal.returns-in-Err-clause-sent
 returns-in-Err-clause-sent g c =
     let opens = subst (λ (guid : List ℕ). (passes : List ℕ → Bool) → MeetsAs {T = ℕ} (λ k. reply.Opened k) (Err c.in-Err.stop) passes (call.OpenWrite guid)
     (moment c.args.agent.now) (moment c.open.new.self)) (ap (λ (e : Entry). e.guid) c.entry.view_is) (c.in-Err.ensures.meets c.requires.here) in
-    subst (λ (st : SendStop). SendsImage (g.H.Files.contents c.args.files.now) c.args.payload.now.name.now c.args.payload.now.entry c.args.acceptance (Err st)
+    subst (λ (st : SendStop). SendsImage (g.H.Files.contents c.args.files.now) c.args.payload.now.name.now c.args.payload.now.entry.now c.args.acceptance (Err st)
     (moment c.args.agent.now) (moment c.open.new.self)) (sym c.stopped.ensures)
     (image-unopened _ _ _ _ _ _ c.in-Err.stop _ _ c.requires.here c.in-Err.ensures.goes.gone opens)
 
@@ -41,7 +41,7 @@ pub returns-in-Err-commit-clause-sent : goal.returns-in-Err-commit-clause-sent
 returns-in-Err-commit-clause-sent g c =
     let opens = subst (λ (guid : List ℕ). (passes : List ℕ → Bool) → MeetsAs {T = ℕ} (λ k. reply.Opened k) (Ok c.in-Ok.field-0) passes (call.OpenWrite guid)
     (moment c.args.agent.now) (moment c.open.new.self)) (ap (λ (e : Entry). e.guid) c.entry.view_is) (c.in-Ok.ensures.meets c.requires.here) in
-    subst (λ (st : SendStop). SendsImage (g.H.Files.contents c.args.files.now) c.args.payload.now.name.now c.args.payload.now.entry c.args.acceptance (Err st)
+    subst (λ (st : SendStop). SendsImage (g.H.Files.contents c.args.files.now) c.args.payload.now.name.now c.args.payload.now.entry.now c.args.acceptance (Err st)
     (moment c.args.agent.now) (moment c.commit.new.self)) (sym c.stopped-in-Err-commit.ensures)
     (image-uncommitted _ _ _ _ c.in-Ok.field-0 _ (moment c.open.new.self) (moment c.write_image.new.agent) _ opens c.in_ok-write_image.ensures.wrote
     c.in-Err-commit.stop _ _ c.in_ok-write_image.ensures.keeps.spent.gone_is c.in-Err-commit.ensures.goes.gone
@@ -56,7 +56,7 @@ returns-in-Ok-commit-clause-takes g c =
     record {
       done = image-takes _ _ (length c.args.buf.now) _ c.in-Ok.field-0 _ (moment c.open.new.self) (moment c.write_image.new.agent) _
           (g.D.Flash.arming (device c.write_image.new.agent)) _ opens c.in_ok-write_image.ensures.wrote
-          (subst (λ d. FirstTake (length c.args.buf.now) c.args.payload.now.entry (pieces_of (length c.args.buf.now) c.args.payload.now.entry.size) (moment c.open.new.self)
+          (subst (λ d. FirstTake (length c.args.buf.now) c.args.payload.now.entry.now (pieces_of (length c.args.buf.now) c.args.payload.now.entry.now.size) (moment c.open.new.self)
           (g.D.Flash.arming d) (g.D.Flash.arming (device c.write_image.new.agent))) c.in-Ok.ensures.still c.in_ok-write_image.ensures.takes.done)
           (λ image writes. (c.in-Ok-commit.ensures.spent c.in_ok-write_image.ensures.keeps.spent.gone_is image writes).lowered);
       unread = tt;
@@ -64,7 +64,7 @@ returns-in-Ok-commit-clause-takes g c =
 
 pub returns-in-Err-clause-takes : goal.returns-in-Err-clause-takes
 returns-in-Err-clause-takes g c =
-    let starts = ImageStarts (length c.args.buf.now) c.args.payload.now.entry (moment c.args.agent.now) (g.D.Flash.arming (device c.args.agent.now))
+    let starts = ImageStarts (length c.args.buf.now) c.args.payload.now.entry.now (moment c.args.agent.now) (g.D.Flash.arming (device c.args.agent.now))
     (g.D.Flash.arming (device c.open.new.self)) in
     record {
       done = tt;
@@ -77,7 +77,7 @@ returns-in_err-write_image-clause-takes g c =
     let opens = subst (λ (guid : List ℕ). (passes : List ℕ → Bool) → MeetsAs {T = ℕ} (λ k. reply.Opened k) (Ok c.in-Ok.field-0) passes (call.OpenWrite guid)
     (moment c.args.agent.now) (moment c.open.new.self)) (ap (λ (e : Entry). e.guid) c.entry.view_is) (c.in-Ok.ensures.meets c.requires.here) in
     let size = length c.args.buf.now in
-    let entry = c.args.payload.now.entry in
+    let entry = c.args.payload.now.entry.now in
     let armed = g.D.Flash.arming (device c.args.agent.now) in
     let opened = g.D.Flash.arming (device c.open.new.self) in
     let arming = g.D.Flash.arming (device c.write_image.new.agent) in
@@ -91,7 +91,7 @@ returns-in_err-write_image-clause-takes g c =
 
 pub returns-in-Err-commit-clause-takes : goal.returns-in-Err-commit-clause-takes
 returns-in-Err-commit-clause-takes g c =
-    let starts = ImageStarts (length c.args.buf.now) c.args.payload.now.entry (moment c.args.agent.now) (g.D.Flash.arming (device c.args.agent.now))
+    let starts = ImageStarts (length c.args.buf.now) c.args.payload.now.entry.now (moment c.args.agent.now) (g.D.Flash.arming (device c.args.agent.now))
     (g.D.Flash.arming (device c.commit.new.self)) in
     record {
       done = tt;

@@ -21,21 +21,21 @@ pub loop-at-init : goal.loop-at-init
 loop-at-init g c = record {
   inside = omega arith;
   first = first-none _ _ _ _;
-  takes = first-taken-none (length c.args.buf.now) c.args.payload.now.entry _ _ c.requires.room;
+  takes = first-taken-none (length c.args.buf.now) c.args.payload.now.entry.now _ _ c.requires.room;
   keeps = keeps-none g.H.Files g.met.H.Files.at_rest g.met.H.Files.joins c.args.payload.now.name.now c.args.agent.now _ _ c.requires.here (c.args.agent.now.power c.requires.here);
 }
 
 pub loop-at-preserved : goal.loop-at-preserved
 loop-at-preserved g c =
     let before = c.loop-at.invariant in
-    let wrote = subst (λ (d : Option Directory). WritesPiece d c.args.payload.now.name.now c.args.payload.now.entry c.loop-at.at (Ok c.in_ok-at.field-0)
+    let wrote = subst (λ (d : Option Directory). WritesPiece d c.args.payload.now.name.now c.args.payload.now.entry.now c.loop-at.at (Ok c.in_ok-at.field-0)
     (moment c.loop-at.agent) (moment c.write_piece.new.agent)) before.keeps.files.same c.in_ok-at.ensures.wrote in
-    let more : c.loop-at.at < c.args.payload.now.entry.size = omega (arith, c.loop-at-test.true, ap (λ (e : Entry). e.size) c.entry.view_is) in
+    let more : c.loop-at.at < c.args.payload.now.entry.now.size = omega (arith, c.loop-at-test.true, ap (λ (e : Entry). e.size) c.entry.view_is) in
     record {
       inside = omega (arith, wrote.count.2, ap (λ (e : Entry). e.size) c.entry.view_is);
       first = first-more _ _ _ _ _ _ _ before.first c.in_ok-at.field-0 wrote;
-      takes = first-taken-more _ _ (length c.args.buf.now) c.args.payload.now.entry _ c.in_ok-at.field-0 _ (moment c.loop-at.agent) _ _ _ more
-          (c.in_ok-at.ensures.piece ∙ ap (λ (m : ℕ). piece_at m c.args.payload.now.entry.size c.loop-at.at) before.keeps.buffer) before.first before.takes c.in_ok-at.ensures.takes;
+      takes = first-taken-more _ _ (length c.args.buf.now) c.args.payload.now.entry.now _ c.in_ok-at.field-0 _ (moment c.loop-at.agent) _ _ _ more
+          (c.in_ok-at.ensures.piece ∙ ap (λ (m : ℕ). piece_at m c.args.payload.now.entry.now.size c.loop-at.at) before.keeps.buffer) before.first before.takes c.in_ok-at.ensures.takes;
       keeps = keeps-then g.H.Files g.met.H.Files.at_rest g.met.H.Files.joins c.args.payload.now.name.now before.keeps (keeps-ok g.H.Files g.met.H.Files.at_rest g.met.H.Files.joins c.args.payload.now.name.now c.in_ok-at.ensures.keeps);
     }
 
@@ -43,7 +43,7 @@ pub returns-in_err-at-clause-wrote : goal.returns-in_err-at-clause-wrote
 returns-in_err-at-clause-wrote g c =
     rw (handed-on c.from_residual.result c.in_err-at.field-0.0 c.from_residual.ensures.1) (
     let before = c.loop-at.invariant in
-    let wrote = subst (λ (d : Option Directory). WritesPiece d c.args.payload.now.name.now c.args.payload.now.entry c.loop-at.at (Err c.in_err-at.field-0.0)
+    let wrote = subst (λ (d : Option Directory). WritesPiece d c.args.payload.now.name.now c.args.payload.now.entry.now c.loop-at.at (Err c.in_err-at.field-0.0)
     (moment c.loop-at.agent) (moment c.write_piece.new.agent)) before.keeps.files.same c.in_err-at.ensures.wrote in
     image-stopped _ _ _ _ _ _ _ before.first c.in_err-at.field-0.0 wrote)
 
@@ -51,7 +51,7 @@ pub returns-clause-takes : goal.returns-clause-takes
 returns-clause-takes g c =
     let size = ap (λ (e : Entry). e.size) c.entry.view_is in
     record {
-      done = first-taken-all (length c.args.buf.now) c.args.payload.now.entry _ _ _ _ c.requires.room (omega (arith, c.loop-at-test.false, size)) c.loop-at.invariant.takes;
+      done = first-taken-all (length c.args.buf.now) c.args.payload.now.entry.now _ _ _ _ c.requires.room (omega (arith, c.loop-at-test.false, size)) c.loop-at.invariant.takes;
       unread = tt;
     }
 
@@ -60,7 +60,7 @@ pub returns-in_err-at-clause-takes : goal.returns-in_err-at-clause-takes
 returns-in_err-at-clause-takes g c =
     rw (handed-on c.from_residual.result c.in_err-at.field-0.0 c.from_residual.ensures.1) (
     let size = length c.args.buf.now in
-    let entry = c.args.payload.now.entry in
+    let entry = c.args.payload.now.entry.now in
     let armed = g.D.Flash.arming (device c.args.agent.now) in
     let arming = g.D.Flash.arming (device c.write_piece.new.agent) in
     let more : c.loop-at.at < entry.size = omega (arith, c.loop-at-test.true, ap (λ (e : Entry). e.size) c.entry.view_is) in

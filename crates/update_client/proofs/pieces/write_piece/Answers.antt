@@ -29,7 +29,7 @@ returns-in-Ok-write_stream-clause-wrote g c =
     piece-written _ _ _ _ n _ _ _ (ap length whole ∙ size) (omega
     (arith, c.requires.room, c.requires.some, c.min-size.ensures, ap (λ (e : Entry). e.size) c.entry.view_is))
     (omega (arith, c.requires.some, c.min-size.ensures, ap (λ (e : Entry). e.size) c.entry.view_is))
-    (λ file told. whole ∙ c.in-Ok.ensures.bytes file told ∙ ap (λ (k : ℕ). take k (drop c.args.at (payload file c.args.payload.now.entry)))
+    (λ file told. whole ∙ c.in-Ok.ensures.bytes file told ∙ ap (λ (k : ℕ). take k (drop c.args.at (payload file c.args.payload.now.entry.now)))
     (length-take-le n buf small))
     (c.in-Ok-write_stream.ensures.meets c.requires.here)
 
@@ -41,7 +41,7 @@ returns-in-Err-write_stream-clause-wrote g c =
     let small : n ≤ length buf = omega (arith, c.min-size.ensures) in
     let size : length out ≡ n = c.payload_at.auto.out ∙ length-take-le n buf small in
     let whole : take n (out ++ drop n buf) ≡ out = take-append-le n out (drop n buf) (omega (arith, size)) ∙ take_all n out (omega (arith, size)) in
-    subst (λ (st : SendStop). WritesPiece (g.H.Files.contents c.args.files.now) c.args.payload.now.name.now c.args.payload.now.entry c.args.at (Err st)
+    subst (λ (st : SendStop). WritesPiece (g.H.Files.contents c.args.files.now) c.args.payload.now.name.now c.args.payload.now.entry.now c.args.at (Err st)
     (moment c.args.agent.now) (moment c.write_stream.new.self)) (sym c.stopped.ensures)
     (piece-stopped _ _ _ _ n _ _ _ c.in-Err-write_stream.stop _ _ (ap length whole ∙ size)
     (omega (arith, c.requires.some, c.min-size.ensures, ap (λ (e : Entry). e.size) c.entry.view_is))
