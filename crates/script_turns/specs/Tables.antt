@@ -1,5 +1,5 @@
 -- The table that a file is sent by.
-use Rattle.std.specs.Prelude.{◌≡◌, ◌⊎◌, ◌+◌, ◌^◌, ◌<◌, ◌≤◌, ℕ, All, List, length, Option, Result, Ok, Err, IfOk}
+use Rattle.std.specs.Prelude.{◌≡◌, ◌⊎◌, ◌+◌, ◌≤◌, ℕ, List, Option, Result, Ok, Err, IfOk}
 use Rattle.base_core.specs.Counts.{Rose}
 use Rattle.host_io.specs.Contents.{Directory}
 use Rattle.host_io.specs.Reads.{ReadsFile}
@@ -8,6 +8,7 @@ use Rattle.fwu_formats.specs.Package.{Toc}
 use Rattle.fwu_model.specs.Reply.{Reply}
 use Rattle.fwu_model.specs.Reply as reply
 use Rattle.fip_tables.specs.Files.{Lacks, Tells}
+use Rattle.update_client.specs.Packages.{HoldsPayloads}
 use Rattle.script_turns.specs.declared.tables.TableStop.{TableStop}
 use Rattle.script_turns.specs.declared.tables.TableStop.TheVariants.{Package, Capsule, ReadFailed}
 
@@ -31,19 +32,12 @@ pub record HasTableCause {T : Type 0} (files : Option Directory) (name : List �
   pub once : now ≤ before + unread_in result
   pub failed : result ≡ Err ReadFailed → Rose before now ⊎ Lacks files name
 
--- each payload of a table ends within the file where its bytes are told, and below 2 ^ 64 whatever file it is, and told files have
--- the file
-pub record HoldsPayloads (files : Option Directory) (name : List ℕ) (toc : Toc) : Type 0 where
-  pub stored : (file : List ℕ) → Tells files name file → All (λ e. e.offset + e.size ≤ length file) toc.entries
-  pub ends : All (λ e. e.offset + e.size < 2 ^ 64) toc.entries
-  pub there : Lacks files name → ⊥
-
 -- what a reading of the table of a file leaves
 pub record ReadsTable {H : Type 0} (g : Ghosts H) (answer : List ℕ → Result Toc Reply) (name : List ℕ)
     (result : Result Toc TableStop) (old new : H) : Type 0 where
   -- where the file's bytes are told, it is their table, or what `send` answers to them
   pub told : (file : List ℕ) → Tells (g.contents old) name file → IsAnswer (answer file) result
-  pub found : IfOk result (HoldsPayloads (g.contents old) name)
+  pub found : IfOk result (λ toc. HoldsPayloads (g.contents old) name toc.entries)
   pub missing : Lacks (g.contents old) name → result ≡ Err ReadFailed
   pub reads : ReadsFile g name old new
   pub cause : HasTableCause (g.contents old) name (g.faults old) (g.faults new) result

@@ -4,8 +4,8 @@ ghost use Rattle.host_io.specs.Reads.{ReadsFile};
 ghost use Rattle.agent_calls.specs.Shown.{gone};
 ghost use Rattle.fwu_journal.specs.Shown.{IsShort, reply, turn};
 ghost use Rattle.script_text.specs.Shown.{shown};
+ghost use Rattle.update_client.specs.Packages.{HoldsPayloads};
 ghost use Rattle.script_turns.specs.Sending.{IsTableOf, done_reply, is_answered, send_call, sent_reply};
-ghost use Rattle.script_turns.specs.Tables.{HoldsPayloads};
 ghost use Rattle.script_turns.specs.Turned.{IsTurnWith, LeavesAgent};
 ghost use Rattle.script_turns.specs.Turning.{quiet_turn};
 
@@ -108,7 +108,7 @@ fn send_by<D: Flash, H: Files, V: Verifier>(
 ) -> AgentTurn
     requires alive { IsFalse (gone agent.old) }
     requires table { IsTableOf (H.contents files.old) (string_bytes name) (Ok toc.now) }
-    requires payloads { HoldsPayloads (H.contents files.old) (string_bytes name) toc.now }
+    requires payloads { HoldsPayloads (H.contents files.old) (string_bytes name) toc.now.entries }
     ensures turns { IsTurnWith H.Files (V.passes verifier.now) (send_call false (string_bytes name) request)
         result agent.old agent.new files.old files.new }
     ensures leaves { LeavesAgent result agent.old agent.new }
@@ -138,7 +138,7 @@ fn send_partial_by<D: Flash, H: Files, V: Verifier>(
 ) -> AgentTurn
     requires alive { IsFalse (gone agent.old) }
     requires table { IsTableOf (H.contents files.old) (string_bytes name) (Ok toc.now) }
-    requires payloads { HoldsPayloads (H.contents files.old) (string_bytes name) toc.now }
+    requires payloads { HoldsPayloads (H.contents files.old) (string_bytes name) toc.now.entries }
     ensures turns { IsTurnWith H.Files (V.passes verifier.now) (send_call true (string_bytes name) request)
         result agent.old agent.new files.old files.new }
     ensures leaves { LeavesAgent result agent.old agent.new }

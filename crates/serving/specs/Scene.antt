@@ -2,6 +2,10 @@
 use Rattle.std.specs.Prelude.{ℕ, Bool, List, [], Option}
 use Rattle.flash_core.specs.declared.flash.Flash.{Ghosts}
 use Rattle.host_io.specs.Contents.{Directory}
+use Rattle.host_io.specs.declared.files.Files as files
+use Rattle.host_io.specs.declared.sink.Sink as sink
+use Rattle.host_io.specs.declared.source.Source as source
+use Rattle.verify_core.specs.declared.verifier.Verifier as verifier
 use Rattle.fwu_model.specs.Call.{Call}
 use Rattle.fwu_model.specs.Reply.{Turn}
 use Rattle.fwu_journal.specs.Shown.{turns}
@@ -22,6 +26,9 @@ pub record Scene : Type 0 where
 abbrev pub scene : (List ℕ → Bool) → Bool → Option Directory → ℕ → Scene
 scene passes tells files faults = record { passes = passes; tells = tells; files = files; faults = faults }
 
+abbrev pub scene_of : {V D H : Type 0} → verifier.Ghosts V → Ghosts D → files.Ghosts H → V → H → Scene
+scene_of v d h by of = scene (v.passes by) d.tells (h.contents of) (h.faults of)
+
 -- a turn of such a serving, and a run of turns: no call of the files fails
 abbrev pub TurnsIn : Scene → Call → Turn → Moment → Moment → Type 0
 TurnsIn E c t old new = Turns E.passes E.tells E.files c t old new E.faults E.faults
@@ -36,6 +43,12 @@ pub record Port : Type 0 where
 
 abbrev pub port : Option (List ℕ) → ℕ → Port
 port bytes faults = record { bytes = bytes; faults = faults }
+
+abbrev pub sink_of : {O : Type 0} → sink.Ghosts O → O → Port
+sink_of o s = port (o.taken s) (o.faults s)
+
+abbrev pub source_of : {I : Type 0} → source.Ghosts I → I → Port
+source_of i s = port (i.left s) (i.faults s)
 
 -- a run between two turns: the flash, and its turns so far
 pub record RunAt : Type 0 where

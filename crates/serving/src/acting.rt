@@ -1,13 +1,14 @@
 //! A request that acts, as a turn.
-ghost use Rattle.std.specs.Prelude.{◌≡◌, ◌≤◌, Ok, Err, IfOk, IfErr, OnOk, length, take};
+ghost use Rattle.std.specs.Prelude.{◌≡◌, ◌≤◌, Ok, Err, IfOk, IfErr, length, take};
 ghost use Rattle.script_text.specs.Shown.{shown};
 ghost use Rattle.fwu_journal.specs.Shown.{HasRoomFor, IsShort, reply};
 ghost use Rattle.fwu_wire.specs.Replies.{message};
 ghost use Rattle.script_turns.specs.Powered.{device, has_power};
 ghost use Rattle.serving.specs.Acting.{ActsOn};
 ghost use Rattle.serving.specs.Ends.{end_by};
+ghost use Rattle.serving.specs.Leaves.{Leaves};
 ghost use Rattle.serving.specs.Requests.{IsServed, called};
-ghost use Rattle.serving.specs.Scene.{run_of, scene};
+ghost use Rattle.serving.specs.Scene.{run_of, scene_of};
 
 use crate::answers::put_answer;
 use crate::ends::{ServeEnd, end_by};
@@ -48,16 +49,11 @@ fn do_turn<D: Flash, H: Files, V: Verifier>(
     requires turn_fits { HasRoomFor serving.old.journal 1 }
     requires room { 4104 ≤ length out.old }
 
-    ensures acts { ActsOn
-        (scene (V.passes verifier.now) D.tells (H.contents files.old) (H.faults files.old))
-        (shown call) (run_of serving.old) (run_of serving.new) out.new result }
+    ensures acts { ActsOn (scene_of V.Verifier D.Flash H.Files verifier.now files.old) (shown call)
+        (run_of serving.old) (run_of serving.new) out.new result }
     ensures few { IfOk result (λ n. n ≤ 4104) }
     ensures exchange { serving.new.exchange ≡ serving.old.exchange }
-    ensures powered { OnOk result
-        (D.on (device serving.new.powered) ≡ has_power serving.new.powered) }
-    ensures size { D.blocks (device serving.new.powered)
-        ≡ D.blocks (device serving.old.powered) }
-    ensures files { files.new ≡ files.old }
+    ensures leaves { Leaves result serving.old serving.new files.old files.new }
 {
     let next = turn(alloc, &mut serving.powered, call, files, verifier);
     let answered = answer(out, &next.reply);
@@ -79,16 +75,11 @@ pub fn act_on<D: Flash, H: Files, V: Verifier>(
     requires some { 4 ≤ length message.now }
     requires room { 4104 ≤ length out.old }
 
-    ensures acts { ActsOn
-        (scene (V.passes verifier.now) D.tells (H.contents files.old) (H.faults files.old))
-        (called message.now) (run_of serving.old) (run_of serving.new) out.new result }
+    ensures acts { ActsOn (scene_of V.Verifier D.Flash H.Files verifier.now files.old) (called message.now)
+        (run_of serving.old) (run_of serving.new) out.new result }
     ensures few { IfOk result (λ n. n ≤ 4104) }
     ensures exchange { serving.new.exchange ≡ serving.old.exchange }
-    ensures powered { OnOk result
-        (D.on (device serving.new.powered) ≡ has_power serving.new.powered) }
-    ensures size { D.blocks (device serving.new.powered)
-        ≡ D.blocks (device serving.old.powered) }
-    ensures files { files.new ≡ files.old }
+    ensures leaves { Leaves result serving.old serving.new files.old files.new }
 {
     serving.journal.make_room(1)?;
     let call = request_of(alloc, message)?;

@@ -1,12 +1,13 @@
 //! The requests of a source, one after the other.
-ghost use Rattle.std.specs.Prelude.{◌≡◌, ◌≤◌, IfErr, OnOk, length};
+ghost use Rattle.std.specs.Prelude.{◌≡◌, IfErr};
 ghost use Rattle.host_io.specs.Once.{ReadsOnce};
 ghost use Rattle.script_turns.specs.Powered.{device, has_power};
 ghost use Rattle.wire_frames.specs.Frames.{IsBody, message_of, number_of};
 ghost use Rattle.serving.specs.Ends.{IsEarly};
 ghost use Rattle.serving.specs.Going.{GoesOn};
+ghost use Rattle.serving.specs.Leaves.{Leaves};
 ghost use Rattle.serving.specs.Requests.{called};
-ghost use Rattle.serving.specs.Scene.{at, port, scene};
+ghost use Rattle.serving.specs.Scene.{at, scene_of, sink_of, source_of};
 ghost use Rattle.serving.specs.Serving.{Puts, ServesNew, ServesOne};
 
 use crate::acting::act_on;
@@ -30,8 +31,7 @@ pub struct Serving<D: Flash> {
 
 /// Puts a frame into the sink, in one piece.
 fn put<O: Sink>(sink: &mut O, frame: &[u8]) -> Result<(), ServeEnd>
-    ensures puts { Puts frame.now result (port (O.taken sink.old) (O.faults sink.old))
-        (port (O.taken sink.new) (O.faults sink.new)) }
+    ensures puts { Puts frame.now result (sink_of O.Sink sink.old) (sink_of O.Sink sink.new) }
     ensures ends { IfErr result IsEarly }
 {
     match sink.put(frame) {
@@ -46,67 +46,53 @@ fn serve_new<D: Flash, H: Files, O: Sink, V: Verifier>(
     alloc: Global,
     serving: &mut Serving<D>,
     body: &[u8],
-    out: &mut [u8],
     files: &mut H,
     sink: &mut O,
     verifier: &V,
 ) -> Result<(), ServeEnd>
     requires powered { D.on (device serving.old.powered) ≡ has_power serving.old.powered }
     requires body { IsBody body.now }
-    requires room { length out.old ≡ 4112 }
 
-    ensures serves { ServesNew
-        (scene (V.passes verifier.now) D.tells (H.contents files.old) (H.faults files.old))
+    ensures serves { ServesNew (scene_of V.Verifier D.Flash H.Files verifier.now files.old)
         (number_of body.now) (called (message_of body.now))
-        (at serving.old (port (O.taken sink.old) (O.faults sink.old)))
-        (at serving.new (port (O.taken sink.new) (O.faults sink.new))) result }
+        (at serving.old (sink_of O.Sink sink.old)) (at serving.new (sink_of O.Sink sink.new)) result }
     ensures ends { IfErr result IsEarly }
-    ensures powered { OnOk result
-        (D.on (device serving.new.powered) ≡ has_power serving.new.powered) }
-    ensures size { D.blocks (device serving.new.powered)
-        ≡ D.blocks (device serving.old.powered) }
-    ensures files { files.new ≡ files.old }
+    ensures leaves { Leaves result serving.old serving.new files.old files.new }
 {
+    let mut out = [0; FRAME_BYTES];
     let number = number_of(body);
     let acted = act_on(alloc, serving, &body[4..], &mut out[8..], files, verifier);
     let size = match acted {
         Ok(size) => size,
         Err(end) => return Err(end),
     };
-    put_head(out, number, size);
+    put_head(&mut out, number, size);
     serving.exchange.keep(number, &out[..8 + size]);
     put(sink, &out[..8 + size])
 }
 
-/// Serves one request, by its number. The frame of its reply is made in `out`.
+/// Serves one request, by its number.
 fn serve_one<D: Flash, H: Files, O: Sink, V: Verifier>(
     alloc: Global,
     serving: &mut Serving<D>,
     body: &[u8],
-    out: &mut [u8],
     files: &mut H,
     sink: &mut O,
     verifier: &V,
 ) -> Result<(), ServeEnd>
     requires powered { D.on (device serving.old.powered) ≡ has_power serving.old.powered }
     requires body { IsBody body.now }
-    requires room { length out.old ≡ 4112 }
 
-    ensures serves { ServesOne
-        (scene (V.passes verifier.now) D.tells (H.contents files.old) (H.faults files.old)) body.now
-        (at serving.old (port (O.taken sink.old) (O.faults sink.old)))
-        (at serving.new (port (O.taken sink.new) (O.faults sink.new))) result }
+    ensures serves { ServesOne (scene_of V.Verifier D.Flash H.Files verifier.now files.old) body.now
+        (at serving.old (sink_of O.Sink sink.old)) (at serving.new (sink_of O.Sink sink.new)) result }
     ensures ends { IfErr result IsEarly }
-    ensures powered { OnOk result
-        (D.on (device serving.new.powered) ≡ has_power serving.new.powered) }
-    ensures size { D.blocks (device serving.new.powered)
-        ≡ D.blocks (device serving.old.powered) }
-    ensures files { files.new ≡ files.old }
+    ensures leaves { Leaves result serving.old serving.new files.old files.new }
 {
     match serving.exchange.admit(number_of(body)) {
-        Admission::Acts => serve_new(alloc, serving, body, out, files, sink, verifier),
+        Admission::Acts => serve_new(alloc, serving, body, files, sink, verifier),
         Admission::Repeats => {
-            let size = serving.exchange.repeat(out);
+            let mut out = [0; FRAME_BYTES];
+            let size = serving.exchange.repeat(&mut out);
             put(sink, &out[..size])
         }
         Admission::Ignored => Ok(()),
@@ -124,12 +110,9 @@ pub fn serve_all<D: Flash, H: Files, I: Source, O: Sink, V: Verifier>(
 ) -> ServeEnd
     requires powered { D.on (device serving.old.powered) ≡ has_power serving.old.powered }
 
-    ensures goes { GoesOn
-        (scene (V.passes verifier.now) D.tells (H.contents files.old) (H.faults files.old))
-        (at serving.old (port (O.taken sink.old) (O.faults sink.old)))
-        (at serving.new (port (O.taken sink.new) (O.faults sink.new))) result
-        (port (I.left source.old) (I.faults source.old))
-        (port (I.left source.new) (I.faults source.new)) }
+    ensures goes { GoesOn (scene_of V.Verifier D.Flash H.Files verifier.now files.old)
+        (at serving.old (sink_of O.Sink sink.old)) (at serving.new (sink_of O.Sink sink.new)) result
+        (source_of I.Source source.old) (source_of I.Source source.new) }
     ensures once { ReadsOnce I.Source source.old source.new }
     ensures size { D.blocks (device serving.new.powered)
         ≡ D.blocks (device serving.old.powered) }
@@ -137,21 +120,12 @@ pub fn serve_all<D: Flash, H: Files, I: Source, O: Sink, V: Verifier>(
 {
     let mut reader = FrameReader::new();
     let mut body = [0; MOST_BODY_BYTES];
-    let mut out = [0; FRAME_BYTES];
     loop {
         let size = match reader.next(source, &mut body) {
             Ok(size) => size,
             Err(why) => return end_of_stop(why),
         };
-        let served = serve_one(
-            alloc,
-            serving,
-            &body[..size],
-            &mut out,
-            files,
-            sink,
-            verifier,
-        );
+        let served = serve_one(alloc, serving, &body[..size], files, sink, verifier);
         if let Err(end) = served {
             return end;
         }

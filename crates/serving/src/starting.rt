@@ -1,9 +1,10 @@
 //! A serving, from its boot.
-ghost use Rattle.std.specs.Prelude.{◌≡◌, None, OnOk};
+ghost use Rattle.std.specs.Prelude.{◌≡◌, None};
 ghost use Rattle.host_io.specs.Once.{ReadsOnce};
 ghost use Rattle.script_turns.specs.Powered.{device, has_power, moment_of, shown_on};
 ghost use Rattle.serving.specs.Holds.{Holds};
-ghost use Rattle.serving.specs.Scene.{at, port, run_of, scene};
+ghost use Rattle.serving.specs.Leaves.{Leaves};
+ghost use Rattle.serving.specs.Scene.{at, run_of, scene_of, sink_of, source_of};
 ghost use Rattle.serving.specs.Starting.{Boots, Serves};
 
 use crate::ends::{ServeEnd, end_by};
@@ -33,15 +34,10 @@ fn boot<D: Flash, H: Files, V: Verifier>(
 ) -> Result<(), ServeEnd>
     requires powered { D.on (device serving.old.powered) ≡ has_power serving.old.powered }
 
-    ensures boots { Boots
-        (scene (V.passes verifier.now) D.tells (H.contents files.old) (H.faults files.old))
+    ensures boots { Boots (scene_of V.Verifier D.Flash H.Files verifier.now files.old)
         (run_of serving.old) (run_of serving.new) result }
     ensures exchange { serving.new.exchange ≡ serving.old.exchange }
-    ensures powered { OnOk result
-        (D.on (device serving.new.powered) ≡ has_power serving.new.powered) }
-    ensures size { D.blocks (device serving.new.powered)
-        ≡ D.blocks (device serving.old.powered) }
-    ensures files { files.new ≡ files.old }
+    ensures leaves { Leaves result serving.old serving.new files.old files.new }
 {
     serving.journal.make_room(1)?;
     let boot = turn(alloc, &mut serving.powered, Call::Boot, files, verifier);
@@ -64,19 +60,13 @@ pub fn serve<D: Flash, H: Files, I: Source, O: Sink, V: Verifier>(
     requires not_booted { shown_on start ≡ None }
 
     // What was taken, done and written.
-    ensures serves { Serves
-        (scene (V.passes verifier.now) D.tells (H.contents files.old) (H.faults files.old))
-        (moment_of start) (port (O.taken sink.old) (O.faults sink.old))
-        (at result.serving (port (O.taken sink.new) (O.faults sink.new))) result.end
-        (port (I.left source.old) (I.faults source.old))
-        (port (I.left source.new) (I.faults source.new)) }
+    ensures serves { Serves (scene_of V.Verifier D.Flash H.Files verifier.now files.old) (moment_of start)
+        (sink_of O.Sink sink.old) (at result.serving (sink_of O.Sink sink.new)) result.end
+        (source_of I.Source source.old) (source_of I.Source source.new) }
     // What holds however it ended, and why it ended so.
-    ensures holds { Holds
-        (scene (V.passes verifier.now) D.tells (H.contents files.old) (H.faults files.old))
-        (moment_of start) (port (O.taken sink.old) (O.faults sink.old))
-        (at result.serving (port (O.taken sink.new) (O.faults sink.new))) result.end
-        (port (I.left source.old) (I.faults source.old))
-        (port (I.left source.new) (I.faults source.new)) }
+    ensures holds { Holds (scene_of V.Verifier D.Flash H.Files verifier.now files.old) (moment_of start)
+        (sink_of O.Sink sink.old) (at result.serving (sink_of O.Sink sink.new)) result.end
+        (source_of I.Source source.old) (source_of I.Source source.new) }
     // No read of the source is made behind one that gave no bytes or failed.
     ensures once { ReadsOnce I.Source source.old source.new }
     ensures size { D.blocks (device result.serving.powered) ≡ D.blocks (device start) }

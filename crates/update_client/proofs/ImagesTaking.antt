@@ -78,13 +78,13 @@ first-taken-all size e at old a b some all front =
 
 -- ---- an image
 
-pub image-takes : (told : Option Directory) (name : List ℕ) (size : ℕ) (guid : List ℕ) (e : Entry) (h : ℕ) (old opened mid : Moment) (a b c : Option Arming)
-    → ((passes : List ℕ → Bool) → MeetsAs {T = ℕ} (λ k. reply.Opened k) (Ok h) passes (call.OpenWrite guid) old opened)
+pub image-takes : (told : Option Directory) (name : List ℕ) (size : ℕ) (e : Entry) (h : ℕ) (old opened mid : Moment) (a b c : Option Arming)
+    → ((passes : List ℕ → Bool) → MeetsAs {T = ℕ} (λ k. reply.Opened k) (Ok h) passes (call.OpenWrite e.guid) old opened)
     → WritesImage told name e (Ok tt) opened mid → FirstTake size e (pieces_of size e.size) opened a b
     → ((image : ℕ) → IsWriter mid.fields 1 image → c ≡ lowered_by (writes_to_finish (size_of (part_at mid.fields.session image))) b)
-    → ImageTakes size guid e old a c
-image-takes told name size guid e h old opened mid a b c opens wrote takes lowered E s boot parts image layout below found room none shows =
-    let one = image-opened guid h old opened opens E s boot parts image layout below found none shows in
+    → ImageTakes size e old a c
+image-takes told name size e h old opened mid a b c opens wrote takes lowered E s boot parts image layout below found room none shows =
+    let one = image-opened e.guid h old opened opens E s boot parts image layout below found none shows in
     let there = layout ∙ sym one.stays.layout in
     let two = wrote.goes E s boot parts image there below room one.shows in
     let long : size_of (part_at mid.fields.session image) ≡ e.size = written mid s boot parts image wrote.bytes below two.shows ∙ wrote.count in
@@ -105,7 +105,7 @@ images-take-none size entries m armed E s boot parts places layout are shows = t
 
 pub images-take-more : (told : Option Directory) (name : List ℕ) (size : ℕ) (entries : List Entry) (request k : ℕ) (old mid : Moment) (a b c : Option Arming)
     → k < length entries → SendsFirst told name entries request k old mid → ImagesTake size entries k old a b
-    → ImageTakes size (get_or entries k no_entry).guid (get_or entries k no_entry) mid b c → ImagesTake size entries (k + 1) old a c
+    → ImageTakes size (get_or entries k no_entry) mid b c → ImagesTake size entries (k + 1) old a c
 images-take-more told name size entries request k old mid a b c below first takes image E s boot parts places layout are shows =
     let e = get_or entries k no_entry in
     let one = first.goes E s boot parts places layout are shows in

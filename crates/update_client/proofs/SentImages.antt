@@ -37,7 +37,7 @@ module _ (told : Option Directory) (name : List ℕ) (entries : List Entry) (req
   abbrev e : Entry
   e = get_or entries k no_entry
 
-  next : (result : Result (Unit {0}) SendStop) (image : SendsImage told name e.guid e request result mid new) (E : Setting) (s : State) (boot : ℕ)
+  next : (result : Result (Unit {0}) SendStop) (image : SendsImage told name e request result mid new) (E : Setting) (s : State) (boot : ℕ)
       (parts : List Staged) (places : List ℕ) → E.layout ≡ old.fields.layout → AreImages E entries places parts → Shows old s (between boot parts)
       → Halts result E old new s boot (between boot (sent_parts parts (first.images ++ image.bytes ∷ []) places (request == 0)))
   next result image E s boot parts places layout are shows =
@@ -56,7 +56,7 @@ module _ (told : Option Directory) (name : List ℕ) (entries : List Entry) (req
       (ap (λ (i : ℕ). filled now i image.bytes bit) here ∙ sent-next parts first.images places bit image.bytes few)
       (image.goes E s boot now (get_or places k 0) (layout ∙ sym one.stays.layout) lt (are.found k below) (are.fit k below) none one.shows))
 
-  pub images-more : SendsImage told name e.guid e request (Ok tt) mid new → SendsFirst told name entries request (k + 1) old new
+  pub images-more : SendsImage told name e request (Ok tt) mid new → SendsFirst told name entries request (k + 1) old new
   images-more image = record {
     images = first.images ++ image.bytes ∷ [];
     count = omega (arith, length-append first.images (image.bytes ∷ []), first.count);
@@ -66,7 +66,7 @@ module _ (told : Option Directory) (name : List ℕ) (entries : List Entry) (req
     goes = next (Ok tt) image;
   }
 
-  pub images-stopped : (stop : SendStop) → SendsImage told name e.guid e request (Err stop) mid new
+  pub images-stopped : (stop : SendStop) → SendsImage told name e request (Err stop) mid new
       → SendsImages told name entries request (Err stop) old new
   images-stopped stop image = record { images = first.images ++ image.bytes ∷ []; count = tt; read = tt; goes = next (Err stop) image }
 

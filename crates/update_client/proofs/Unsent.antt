@@ -130,14 +130,14 @@ front-takes size e at old a b c more same front =
     }
 
 -- of an image that was opened
-pub image-starts : (size : ℕ) (guid : List ℕ) (e : Entry) (h : ℕ) (old opened : Moment) (a b c : Option Arming)
-    → ((passes : List ℕ → Bool) → MeetsAs {T = ℕ} (λ k. reply.Opened k) (Ok h) passes (call.OpenWrite guid) old opened) → b ≡ a
-    → FrontTakes size e opened b c → ImageStarts size guid e old a c
-image-starts size guid e h old opened a b c opens still front = record {
+pub image-starts : (size : ℕ) (e : Entry) (h : ℕ) (old opened : Moment) (a b c : Option Arming)
+    → ((passes : List ℕ → Bool) → MeetsAs {T = ℕ} (λ k. reply.Opened k) (Ok h) passes (call.OpenWrite e.guid) old opened) → b ≡ a
+    → FrontTakes size e opened b c → ImageStarts size e old a c
+image-starts size e h old opened a b c opens still front = record {
   pieces = front.pieces;
   more = front.more;
   takes = λ E s boot parts image layout below found room none shows.
-      let one = image-opened guid h old opened opens E s boot parts image layout below found none shows in
+      let one = image-opened e.guid h old opened opens E s boot parts image layout below found none shows in
       subst (λ (armed : Option Arming). Takes (writes_of_pieces size e.size front.pieces) armed c) still
       (front.takes E s boot parts image (layout ∙ sym one.stays.layout) below room one.shows);
 }
@@ -145,7 +145,7 @@ image-starts size guid e h old opened a b c opens still front = record {
 -- behind the first images
 pub images-start : (told : Option Directory) (name : List ℕ) (size : ℕ) (entries : List Entry) (request k : ℕ) (old mid : Moment) (a b c : Option Arming)
     → k < length entries → SendsFirst told name entries request k old mid → ImagesTake size entries k old a b
-    → ImageStarts size (get_or entries k no_entry).guid (get_or entries k no_entry) mid b c → ImagesStart size entries old a c
+    → ImageStarts size (get_or entries k no_entry) mid b c → ImagesStart size entries old a c
 images-start told name size entries request k old mid a b c below first takes image = record {
   images = k;
   pieces = image.pieces;

@@ -118,29 +118,29 @@ image-opened guid h old new meets E s boot parts image layout below found none s
     call-done (λ (k : ℕ). reply.Opened k) h E (call.OpenWrite guid) old new s (between boot parts) (within boot parts image [])
     (reply.Opened 1) layout shows (open-answers E s boot parts image guid found none) (meets E.passes)
 
-pub image-unopened : (told : Option Directory) (name guid : List ℕ) (e : Entry) (request : ℕ) (old new : Moment) (st : Stop) (was now : Bool)
+pub image-unopened : (told : Option Directory) (name : List ℕ) (e : Entry) (request : ℕ) (old new : Moment) (st : Stop) (was now : Bool)
     → IsFalse was → GoesBy {T = ℕ} (Err st) was now
-    → ((passes : List ℕ → Bool) → MeetsAs {T = ℕ} (λ k. reply.Opened k) (Err st) passes (call.OpenWrite guid) old new)
-    → SendsImage told name guid e request (Err (stopped_as st)) old new
-image-unopened told name guid e request old new st was now here goes meets = record {
+    → ((passes : List ℕ → Bool) → MeetsAs {T = ℕ} (λ k. reply.Opened k) (Err st) passes (call.OpenWrite e.guid) old new)
+    → SendsImage told name e request (Err (stopped_as st)) old new
+image-unopened told name e request old new st was now here goes meets = record {
   bytes = [];
   read = tt;
   goes = λ E s boot parts image layout below found room none shows.
-      call-halts (Unit {0}) (λ (k : ℕ). reply.Opened k) st E (call.OpenWrite guid) old new s (between boot parts)
+      call-halts (Unit {0}) (λ (k : ℕ). reply.Opened k) st E (call.OpenWrite e.guid) old new s (between boot parts)
       (within boot parts image []) (between boot (filled parts image [] (request == 0)))
       (reply.Opened 1) boot was now layout shows
-      (open-answers E s boot parts image guid found none) no-opened here goes (meets E.passes);
+      (open-answers E s boot parts image e.guid found none) no-opened here goes (meets E.passes);
 }
 
 -- opened, and not written
-pub image-unwritten : (told : Option Directory) (name guid : List ℕ) (e : Entry) (request : ℕ) (h : ℕ) (old mid new : Moment) (stopped : SendStop) →
-    ((passes : List ℕ → Bool) → MeetsAs {T = ℕ} (λ k. reply.Opened k) (Ok h) passes (call.OpenWrite guid) old mid)
-    → WritesImage told name e (Err stopped) mid new → SendsImage told name guid e request (Err stopped) old new
-image-unwritten told name guid e request h old mid new stopped meets wrote = record {
+pub image-unwritten : (told : Option Directory) (name : List ℕ) (e : Entry) (request : ℕ) (h : ℕ) (old mid new : Moment) (stopped : SendStop) →
+    ((passes : List ℕ → Bool) → MeetsAs {T = ℕ} (λ k. reply.Opened k) (Ok h) passes (call.OpenWrite e.guid) old mid)
+    → WritesImage told name e (Err stopped) mid new → SendsImage told name e request (Err stopped) old new
+image-unwritten told name e request h old mid new stopped meets wrote = record {
   bytes = [];
   read = tt;
   goes = λ E s boot parts image layout below found room none shows.
-      let one = image-opened guid h old mid meets E s boot parts image layout below found none shows in
+      let one = image-opened e.guid h old mid meets E s boot parts image layout below found none shows in
       other-end (Unit {0}) (Unit {0}) stopped E old new s boot (within boot parts image wrote.bytes)
       (between boot (filled parts image [] (request == 0)))
       (halts-after {T = Unit {0}} (Err stopped) E old mid new s boot (within boot parts image [])
@@ -149,20 +149,20 @@ image-unwritten told name guid e request h old mid new stopped meets wrote = rec
 }
 
 -- opened and written, and committed or not
-module _ (told : Option Directory) (name guid : List ℕ) (e : Entry) (request h : ℕ) (old opened mid new : Moment)
-    (opens : (passes : List ℕ → Bool) → MeetsAs {T = ℕ} (λ k. reply.Opened k) (Ok h) passes (call.OpenWrite guid) old opened)
+module _ (told : Option Directory) (name : List ℕ) (e : Entry) (request h : ℕ) (old opened mid new : Moment)
+    (opens : (passes : List ℕ → Bool) → MeetsAs {T = ℕ} (λ k. reply.Opened k) (Ok h) passes (call.OpenWrite e.guid) old opened)
     (wrote : WritesImage told name e (Ok tt) opened mid) where
   written : (E : Setting) (s : State) (boot : ℕ) (parts : List Staged) (image : ℕ) → E.layout ≡ old.fields.layout
-      → image < length parts → find_image E.layout.rows guid ≡ Some image
+      → image < length parts → find_image E.layout.rows e.guid ≡ Some image
       → e.size ≤ slot_bytes E.layout image → get_or parts image Nothing ≡ Nothing → Shows old s (between boot parts)
       → Goes E (Ok tt) old mid s [] (within boot parts image wrote.bytes)
   written E s boot parts image layout below found room none shows =
-      let one = image-opened guid h old opened opens E s boot parts image layout below found none shows in
+      let one = image-opened e.guid h old opened opens E s boot parts image layout below found none shows in
       goes-then E (Ok tt) old opened mid s [] [] (within boot parts image []) (within boot parts image wrote.bytes) one
       (wrote.goes E s boot parts image (layout ∙ sym one.stays.layout) below room one.shows)
 
   pub image-sent : ((passes : List ℕ → Bool) → MeetsAs {T = Unit {0}} (λ _. reply.Success) (Ok tt) passes (call.Commit 1 request) mid new)
-      → SendsImage told name guid e request (Ok tt) old new
+      → SendsImage told name e request (Ok tt) old new
   image-sent commits = record {
     bytes = wrote.bytes;
     read = wrote.read;
@@ -177,7 +177,7 @@ module _ (told : Option Directory) (name guid : List ℕ) (e : Entry) (request h
 
   pub image-uncommitted : (st : Stop) (was now : Bool) → IsFalse was → GoesBy {T = Unit {0}} (Err st) was now
       → ((passes : List ℕ → Bool) → MeetsAs {T = Unit {0}} (λ _. reply.Success) (Err st) passes (call.Commit 1 request) mid new)
-      → SendsImage told name guid e request (Err (stopped_as st)) old new
+      → SendsImage told name e request (Err (stopped_as st)) old new
   image-uncommitted st was now here goes commits = record {
     bytes = wrote.bytes;
     read = tt;

@@ -1,7 +1,10 @@
 -- What is written of an image.
 use Rattle.std.specs.Prelude.{◌≡◌, ◌≤◌, ◌<◌, ◌==◌, ℕ, ◌+◌, List, [], ◌++◌, length, take, drop, Option, Some, Result, Ok, Err, OnOk, IfOk, slice_index_or}
 use Rattle.base_core.specs.Counts.{Rose}
+use Rattle.flash_core.specs.declared.flash.Flash as flash
+use Rattle.host_io.specs.declared.files.Files.{Ghosts}
 use Rattle.host_io.specs.Contents.{Directory}
+use Rattle.host_io.specs.Reads.{ReadsFile}
 use Rattle.fwu_formats.specs.Layout.{slot_bytes, find_image}
 use Rattle.fwu_formats.specs.Package.{Entry, payload}
 use Rattle.fwu_model.specs.State.{State}
@@ -10,10 +13,12 @@ use Rattle.fwu_model.specs.Session.{Staged, Nothing}
 use Rattle.fip_tables.specs.Files.{Tells}
 use Rattle.agent_machine.specs.Moment.{Moment, Shows}
 use Rattle.agent_machine.specs.Goes.{Goes}
+use Rattle.agent_calls.specs.declared.agent.Agent.{Agent}
+use Rattle.agent_calls.specs.Shown.{SpentBy}
 use Rattle.update_client.specs.declared.stops.SendStop.{SendStop}
 use Rattle.update_client.specs.declared.stops.SendStop.TheVariants.{ReadFailed}
 use Rattle.agent_machine.specs.Filling.{between, filled, within}
-use Rattle.update_client.specs.Halts.{Halts}
+use Rattle.update_client.specs.Halts.{Halts, StopsWithin, flash_of}
 
 -- a piece of a payload, from a place of it on, was read and written behind what was there
 pub record WritesPiece (told : Option Directory) (name : List ℕ) (e : Entry) (at : ℕ) (result : Result ℕ SendStop)
@@ -58,12 +63,26 @@ pub record ReadsBy {T : Type 0} (before now : ℕ) (result : Result T SendStop) 
   pub once : now ≤ before + unread_in result
   pub failed : result ≡ Err ReadFailed → Rose before now
 
+-- What a part of a sending promises of its agent, its files and its buffer, whatever it answers and on every device.
+pub record Keeps {D H T : Type 0} {F : flash.Ghosts D} (g : Ghosts H) (name : List ℕ) (result : Result T SendStop)
+    (old new : Agent D F) (from to : H) (buf filled : List ℕ) : Type 0 where
+  -- it is not answered that an image is at fault, that a begin was refused, or that the agent was gone
+  pub stops : StopsWithin result
+  -- the agent is gone, and its device off, exactly where the flash stopped it, which has a cause
+  pub spent : SpentBy (flash_of result) old new
+  -- the buffer has as many bytes as before
+  pub buffer : length filled ≡ length buf
+  -- the file of this name alone is asked for, and none is written
+  pub files : ReadsFile g name from to
+  -- a read fails only where the count of faults rose, and no call of the files failed but the one that is told
+  pub reads : ReadsBy (g.faults from) (g.faults to) result
+
 -- an image of which nothing was staged was opened, written and committed
-pub record SendsImage (told : Option Directory) (name guid : List ℕ) (e : Entry) (request : ℕ) (result : Result (Unit {0}) SendStop)
+pub record SendsImage (told : Option Directory) (name : List ℕ) (e : Entry) (request : ℕ) (result : Result (Unit {0}) SendStop)
     (old new : Moment) : Type 0 where
   pub bytes : List ℕ
   pub read : OnOk result ((file : List ℕ) → Tells told name file → bytes ≡ payload file e)
   pub goes : (E : Setting) (s : State) (boot : ℕ) (parts : List Staged) (image : ℕ) → E.layout ≡ old.fields.layout
-      → image < length parts → find_image E.layout.rows guid ≡ Some image
+      → image < length parts → find_image E.layout.rows e.guid ≡ Some image
       → e.size ≤ slot_bytes E.layout image → slice_index_or parts image Nothing ≡ Nothing → Shows old s (between boot parts)
       → Halts result E old new s boot (between boot (filled parts image bytes (request == 0)))

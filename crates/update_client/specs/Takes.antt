@@ -1,5 +1,5 @@
 -- How many erases and programs a sending makes, as an armed loss counts them, on every device.
-use Rattle.std.specs.Prelude.{◌≡◌, ℕ, ◌+◌, ◌*◌, ◌<◌, ◌≤◌, List, [], ◌∷◌, length, take, Option, Some, None, Result, Err, slice_index_or, ⊤}
+use Rattle.std.specs.Prelude.{◌≡◌, ℕ, ◌+◌, ◌*◌, ◌<◌, ◌≤◌, List, [], ◌∷◌, length, take, Option, Some, None, Result, Err, OnOk, slice_index_or, ⊤}
 use Rattle.flash_core.specs.declared.flash.Arming.{Arming}
 use Rattle.flash_core.specs.Counts.{lowered_by}
 use Rattle.fwu_formats.specs.Layout.{ImageRow, find_image, slot_bytes}
@@ -11,7 +11,7 @@ use Rattle.slot_writer.specs.Writes.{writes_to_append}
 use Rattle.agent_machine.specs.Ends.{TakesSwitch}
 use Rattle.agent_machine.specs.Moment.{Moment, Shows}
 use Rattle.agent_machine.specs.Filling.{between, within}
-use Rattle.agent_calls.specs.Takes.{Takes, writes_of_image, writes_of_pieces}
+use Rattle.agent_calls.specs.Takes.{Takes, pieces_of, writes_of_image, writes_of_pieces}
 use Rattle.update_client.specs.Images.{AreImages, no_entry}
 use Rattle.update_client.specs.declared.stops.SendStop.{SendStop}
 use Rattle.update_client.specs.declared.stops.SendStop.TheVariants.{End, ReadFailed}
@@ -50,9 +50,9 @@ FirstTake size e pieces old armed arming = (E : Setting) (s : State) (boot : ℕ
     → Takes (writes_of_pieces size e.size pieces) armed arming
 
 -- an image
-abbrev pub ImageTakes : ℕ → List ℕ → Entry → Moment → Option Arming → Option Arming → Type 0
-ImageTakes size guid e old armed arming = (E : Setting) (s : State) (boot : ℕ) (parts : List Staged) (image : ℕ)
-    → E.layout ≡ old.fields.layout → image < length parts → find_image E.layout.rows guid ≡ Some image
+abbrev pub ImageTakes : ℕ → Entry → Moment → Option Arming → Option Arming → Type 0
+ImageTakes size e old armed arming = (E : Setting) (s : State) (boot : ℕ) (parts : List Staged) (image : ℕ)
+    → E.layout ≡ old.fields.layout → image < length parts → find_image E.layout.rows e.guid ≡ Some image
     → e.size ≤ slot_bytes E.layout image → slice_index_or parts image Nothing ≡ Nothing → Shows old s (between boot parts)
     → Takes (writes_of_image size e.size) armed arming
 
@@ -87,11 +87,11 @@ pub record FrontTakes (size : ℕ) (e : Entry) (old : Moment) (armed arming : Op
   pub takes : FirstTake size e pieces old armed arming
 
 -- of an image
-pub record ImageStarts (size : ℕ) (guid : List ℕ) (e : Entry) (old : Moment) (armed arming : Option Arming) : Type 0 where
+pub record ImageStarts (size : ℕ) (e : Entry) (old : Moment) (armed arming : Option Arming) : Type 0 where
   pub pieces : ℕ
   pub more : size * pieces < e.size
   pub takes : (E : Setting) (s : State) (boot : ℕ) (parts : List Staged) (image : ℕ)
-      → E.layout ≡ old.fields.layout → image < length parts → find_image E.layout.rows guid ≡ Some image
+      → E.layout ≡ old.fields.layout → image < length parts → find_image E.layout.rows e.guid ≡ Some image
       → e.size ≤ slot_bytes E.layout image → slice_index_or parts image Nothing ≡ Nothing → Shows old s (between boot parts)
       → Takes (writes_of_pieces size e.size pieces) armed arming
 
@@ -109,6 +109,33 @@ pub record ImagesStart (size : ℕ) (entries : List Entry) (old : Moment) (armed
   pub takes : (E : Setting) (s : State) (boot : ℕ) (parts : List Staged) (places : List ℕ)
       → E.layout ≡ old.fields.layout → AreImages E entries places parts → Shows old s (between boot parts)
       → Takes (writes_up_to size entries images pieces) armed arming
+
+-- ---- by its result
+
+-- a payload: all its pieces when done; its first pieces where the file could not be read
+pub record PayloadTakesBy {T : Type 0} (result : Result T SendStop) (size : ℕ) (e : Entry) (old : Moment)
+    (armed arming : Option Arming) : Type 0 where
+  pub done : OnOk result (FirstTake size e (pieces_of size e.size) old armed arming)
+  pub unread : OnUnread result (FrontTakes size e old armed arming)
+
+-- an image
+pub record ImageTakesBy {T : Type 0} (result : Result T SendStop) (size : ℕ) (e : Entry) (old : Moment)
+    (armed arming : Option Arming) : Type 0 where
+  pub done : OnOk result (ImageTakes size e old armed arming)
+  pub unread : OnUnread result (ImageStarts size e old armed arming)
+
+-- the images: all of them when done; the first of them, and the first pieces of the next one, where the file could not be read
+pub record ImagesTakeBy {T : Type 0} (result : Result T SendStop) (size : ℕ) (entries : List Entry) (old : Moment)
+    (armed arming : Option Arming) : Type 0 where
+  pub done : OnOk result (ImagesTake size entries (length entries) old armed arming)
+  pub unread : OnUnread result (ImagesStart size entries old armed arming)
+
+-- and their switch: made when done; not where the end is refused
+pub record InstallTakesBy {T : Type 0} (result : Result T SendStop) (size : ℕ) (entries : List Entry) (old : Moment)
+    (armed arming : Option Arming) : Type 0 where
+  pub done : OnOk result (InstallTakes size entries old armed arming)
+  pub unswitched : OnRefusedEnd result (ImagesTake size entries (length entries) old armed arming)
+  pub unread : OnUnread result (ImagesStart size entries old armed arming)
 
 -- A sending whose file could not be read: so many writes, those of the first of these payloads, and of the first pieces of the next
 -- one, which has a further one. There is no other.

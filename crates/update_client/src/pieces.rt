@@ -1,16 +1,16 @@
 //! Writing the payload of an image.
-ghost use Rattle.std.specs.Prelude.{◌≡◌, ◌+◌, ◌^◌, ◌<◌, ◌≤◌, ℕ, List, length, IsFalse, IfOk, OnOk};
-ghost use Rattle.host_io.specs.Reads.{ReadsFile};
-ghost use Rattle.fip_tables.specs.Files.{Lacks, Tells};
-ghost use Rattle.agent_calls.specs.Shown.{SpentBy, device, gone, moment};
-ghost use Rattle.agent_calls.specs.Takes.{piece_at, pieces_of};
-ghost use Rattle.update_client.specs.Halts.{StopsWithin, flash_of, stopped_as, unbegun_as, is_unread as was_unread};
-ghost use Rattle.update_client.specs.Pieces.{ReadsBy, WritesImage, WritesPiece};
-ghost use Rattle.update_client.specs.Takes.{FirstTake, FrontTakes, OnUnread, PieceTakes};
+ghost use Rattle.std.specs.Prelude.{◌≡◌, ◌<◌, length, IsFalse, IfOk};
+ghost use Rattle.agent_calls.specs.Shown.{device, gone, moment};
+ghost use Rattle.agent_calls.specs.Takes.{piece_at};
+ghost use Rattle.update_client.specs.Halts.{stopped_as, unbegun_as, is_unread as was_unread};
+ghost use Rattle.update_client.specs.Packages.{HoldsPayload};
+ghost use Rattle.update_client.specs.Pieces.{Keeps, WritesImage, WritesPiece};
+ghost use Rattle.update_client.specs.Takes.{OnUnread, PayloadTakesBy, PieceTakes};
 
+use crate::packages::Payload;
 use crate::stops::SendStop;
 use agent_calls::{Agent, Stop};
-use fip_tables::{Entry, payload_at};
+use fip_tables::payload_at;
 use flash_core::Flash;
 use host_io::Files;
 
@@ -50,33 +50,27 @@ pub fn is_unread(stop: &SendStop) -> bool
 fn write_piece<D: Flash, H: Files>(
     agent: &mut Agent<D>,
     files: &mut H,
-    name: &str,
-    entry: &Entry,
+    payload: &Payload<'_>,
     at: u64,
     buf: &mut [u8],
 ) -> Result<u64, SendStop>
     requires room { 0 < length buf.old }
-    requires some { at < entry.now.size }
-    requires ends { entry.now.offset + entry.now.size < 2 ^ 64 }
-    requires stored { (file : List ℕ) → Tells (H.contents files.old) name.now file
-        → entry.now.offset + entry.now.size ≤ length file }
-    requires there { Lacks (H.contents files.old) name.now → ⊥ }
+    requires some { at < payload.now.entry.now.size }
+    requires payload { HoldsPayload (H.contents files.old) payload.now.name.now payload.now.entry.now }
     requires here { IsFalse (gone agent.old) }
 
-    ensures wrote { WritesPiece (H.contents files.old) name.now entry.now at result
+    ensures wrote { WritesPiece (H.contents files.old) payload.now.name.now payload.now.entry.now at result
         (moment agent.old) (moment agent.new) }
-    ensures piece { IfOk result (λ n. n ≡ piece_at (length buf.old) entry.now.size at) }
+    ensures piece { IfOk result (λ n. n ≡ piece_at (length buf.old) payload.now.entry.now.size at) }
     ensures takes { IfOk result (λ n. PieceTakes at n (moment agent.old)
         (D.arming (device agent.old)) (D.arming (device agent.new))) }
     ensures unsent { OnUnread result (agent.new ≡ agent.old) }
-    ensures stops { StopsWithin result }
-    ensures spent { SpentBy (flash_of result) agent.old agent.new }
-    ensures buffer { length buf.new ≡ length buf.old }
-    ensures files { ReadsFile H.Files name.now files.old files.new }
-    ensures reads { ReadsBy (H.faults files.old) (H.faults files.new) result }
+    ensures keeps { Keeps H.Files payload.now.name.now result agent.old agent.new files.old files.new
+        buf.old buf.new }
 {
+    let entry = payload.entry;
     let size = (entry.size - at).min(buf.len() as u64) as usize;
-    match payload_at(files, name, entry, at, &mut buf[..size]) {
+    match payload_at(files, payload.name, entry, at, &mut buf[..size]) {
         Ok(()) => {}
         Err(_) => return Err(SendStop::ReadFailed),
     }
@@ -90,33 +84,24 @@ fn write_piece<D: Flash, H: Files>(
 pub fn write_image<D: Flash, H: Files>(
     agent: &mut Agent<D>,
     files: &mut H,
-    name: &str,
-    entry: &Entry,
+    payload: &Payload<'_>,
     buf: &mut [u8],
 ) -> Result<(), SendStop>
     requires room { 0 < length buf.old }
-    requires ends { entry.now.offset + entry.now.size < 2 ^ 64 }
-    requires stored { (file : List ℕ) → Tells (H.contents files.old) name.now file
-        → entry.now.offset + entry.now.size ≤ length file }
-    requires there { Lacks (H.contents files.old) name.now → ⊥ }
+    requires payload { HoldsPayload (H.contents files.old) payload.now.name.now payload.now.entry.now }
     requires here { IsFalse (gone agent.old) }
 
-    ensures wrote { WritesImage (H.contents files.old) name.now entry.now result
+    ensures wrote { WritesImage (H.contents files.old) payload.now.name.now payload.now.entry.now result
         (moment agent.old) (moment agent.new) }
-    ensures takes { OnOk result (FirstTake (length buf.old) entry.now
-        (pieces_of (length buf.old) entry.now.size) (moment agent.old)
-        (D.arming (device agent.old)) (D.arming (device agent.new))) }
-    ensures unsent { OnUnread result (FrontTakes (length buf.old) entry.now (moment agent.old)
-        (D.arming (device agent.old)) (D.arming (device agent.new))) }
-    ensures stops { StopsWithin result }
-    ensures spent { SpentBy (flash_of result) agent.old agent.new }
-    ensures buffer { length buf.new ≡ length buf.old }
-    ensures files { ReadsFile H.Files name.now files.old files.new }
-    ensures reads { ReadsBy (H.faults files.old) (H.faults files.new) result }
+    ensures takes { PayloadTakesBy result (length buf.old) payload.now.entry.now (moment agent.old)
+        (D.arming (device agent.old)) (D.arming (device agent.new)) }
+    ensures keeps { Keeps H.Files payload.now.name.now result agent.old agent.new files.old files.new
+        buf.old buf.new }
 {
+    let entry = payload.entry;
     let mut at = 0;
     while at < entry.size {
-        at += write_piece(agent, files, name, entry, at, buf)?;
+        at += write_piece(agent, files, payload, at, buf)?;
     }
     Ok(())
 }

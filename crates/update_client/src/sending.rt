@@ -1,14 +1,14 @@
 //! Sending a package to the agent.
-ghost use Rattle.std.specs.Prelude.{◌≡◌, ◌+◌, ◌^◌, ◌<◌, ◌≤◌, All, ℕ, List, length, IsFalse, IfOk, OnOk};
+ghost use Rattle.std.specs.Prelude.{◌≡◌, ◌+◌, ◌<◌, List, length, IsFalse, IfOk, OnOk};
 ghost use Rattle.flash_core.specs.Calls.{Goes};
 ghost use Rattle.fwu_model.specs.State.{State};
 ghost use Rattle.fwu_model.specs.Session.{Session};
 ghost use Rattle.agent_machine.specs.Moment.{Shows};
 ghost use Rattle.fwu_model.specs.Answer.{first_image_fault};
 ghost use Rattle.host_io.specs.Reads.{ReadsFile};
-ghost use Rattle.fip_tables.specs.Files.{Lacks, Tells};
 ghost use Rattle.agent_calls.specs.Shown.{device, fields, gone, moment};
 ghost use Rattle.update_client.specs.Halts.{flash_of};
+ghost use Rattle.update_client.specs.Packages.{HoldsPayloads};
 ghost use Rattle.update_client.specs.Pieces.{ReadsBy};
 ghost use Rattle.update_client.specs.Sends.{FaultsBy, GoneBy, Installs, IsCounted, IsEarly, IsSwitched, Sends};
 ghost use Rattle.agent_calls.specs.Takes.{Takes, writes_to_begin};
@@ -18,6 +18,7 @@ ghost use Rattle.update_client.specs.Takes.{OnRefusedEnd, OnUnread, SendTakes, U
 
 use crate::choosing::{choose, skipped};
 use crate::finishing::install;
+use crate::packages::Payloads;
 use crate::pieces::unbegun;
 use crate::stops::{SendStop, Sent};
 use agent_calls::Agent;
@@ -51,10 +52,7 @@ pub fn send<D: Flash, H: Files, V: Verifier>(
     verifier: &V,
 ) -> Result<Sent, SendStop>
     requires room { 0 < length buf.old }
-    requires ends { All (λ e. e.offset + e.size < 2 ^ 64) toc.now.entries }
-    requires stored { (file : List ℕ) → Tells (H.contents files.old) name.now file
-        → All (λ e. e.offset + e.size ≤ length file) toc.now.entries }
-    requires there { Lacks (H.contents files.old) name.now → ⊥ }
+    requires payloads { HoldsPayloads (H.contents files.old) name.now toc.now.entries }
 
     // Of an agent that isn't gone, on any device: the reply is the machine's, and so is what the
     // agent shows afterwards; on a ready flash each loss leaves a prefix of the machine's moves.
@@ -105,15 +103,11 @@ pub fn send<D: Flash, H: Files, V: Verifier>(
         Ok(()) => {}
         Err(stop) => return Err(unbegun(stop)),
     }
-    install(
-        agent,
-        files,
+    let payloads = Payloads {
         name,
-        entries.as_slice(),
-        acceptance,
-        buf,
-        verifier,
-    )?;
+        entries: entries.as_slice(),
+    };
+    install(agent, files, &payloads, acceptance, buf, verifier)?;
     Ok(Sent {
         images,
         skipped,

@@ -59,9 +59,9 @@ loop-size-preserved g c =
     let serves = subst (λ (f : g.row.H.Denot). ServesOne (scene passes g.D.Flash.tells (g.H.Files.contents f) (g.H.Files.faults f)) body now new (Ok tt)) c.loop-size.invariant.files c.in_default.ensures.serves in
     record {
       so_far = so-far-more E old from now mid c.loop-size.reader c.loop-size.invariant.so_far rest c.next.new.self body c.in-Ok.ensures.frame new (Ok tt) c.in-Ok.ensures.faults c.next.ensures.within serves refl;
-      powered = c.in_default.ensures.powered;
-      size = c.serve_one-served.ensures.size ∙ c.loop-size.invariant.size;
-      files = c.serve_one-served.ensures.files ∙ c.loop-size.invariant.files;
+      powered = c.in_default.ensures.leaves.powered;
+      size = c.serve_one-served.ensures.leaves.size ∙ c.loop-size.invariant.size;
+      files = c.serve_one-served.ensures.leaves.files ∙ c.loop-size.invariant.files;
       reads = bytes-then g.I.Source g.met.I.Source.joins c.args.source.now c.loop-size.source c.next.new.source c.loop-size.invariant.reads c.in-Ok.ensures.goes;
     }
 

@@ -1,5 +1,5 @@
-use Rattle.std.proofs.Common.{◌≡◌, ◌∙◌, ℕ, List, take, drop, ap, refl, subst, arith}
-use Rattle.std.proofs.lemmas.List.{length-take-le, take_rest}
+use Rattle.std.proofs.Common.{◌≡◌, ◌∙◌, ℕ, List, length, replicate, take, drop, ap, refl, subst, arith}
+use Rattle.std.proofs.lemmas.List.{length-replicate, length-take-le, take_rest}
 use Rattle.fwu_wire.proofs.Written.{behind-eight, frame-written}
 use Rattle.serving.specs.Acting.{OneReply, OneStop}
 use Rattle.serving.specs.Requests.{called}
@@ -24,10 +24,11 @@ returns-clause-serves g c =
     let size = c.in-Ok.size in
     let sub = c.act_on-acted.new.out in
     let out = c.put_head.new.out in
-    let room = c.requires.room in
+    let first : List ℕ = replicate 4112 0 in
+    let room : length first ≡ 4112 = length-replicate {A = ℕ} 4112 0 in
     let few = c.in-Ok.ensures.few in
     let long = c.act_on-acted.auto.out in
-    let behind : drop 8 out ≡ sub = c.put_head.ensures.behind ∙ behind-eight c.args.out.now sub (omega (arith, room)) in
+    let behind : drop 8 out ≡ sub = c.put_head.ensures.behind ∙ behind-eight first sub (omega (arith, room)) in
     let whole = frame-written c.number_of-number.result size out (take size sub) c.put_head.ensures.head (ap (take size) behind) (length-take-le size sub (omega (arith, few, long, room))) in
     let one = subst (λ (m : List ℕ). OneReply E (called m) (take size sub) (run_of c.args.serving.now) (run_of acted)) (take_rest body 4) c.in-Ok.ensures.acts in
     subst (λ (n : ℕ). ServesNew E n (called (drop 4 body)) old new c.put.result) c.number_of-number.ensures

@@ -32,7 +32,7 @@ returns-clause-serves g c =
     let end = c.serve_all-end.result in
     let boots = c.in_default.ensures.boots in
     let one = subst (λ (j : List Turn). OneTurn E call.Boot boots.0 (record { moment = start; journal = j }) mid) c.new.ensures boots.1 in
-    let goes = subst (λ (f : g.row.H.Denot). GoesOn (scene passes g.D.Flash.tells (g.H.Files.contents f) (g.H.Files.faults f)) (at c.boot.new.serving sink) new end from to) c.boot.ensures.files c.serve_all-end.ensures.goes in
+    let goes = subst (λ (f : g.row.H.Denot). GoesOn (scene passes g.D.Flash.tells (g.H.Files.contents f) (g.H.Files.faults f)) (at c.boot.new.serving sink) new end from to) c.boot.ensures.leaves.files c.serve_all-end.ensures.goes in
     serves-on E start sink c.requires.not_booted boots.0 mid one boots.2 new end from to
     (subst (λ (e : Answered). GoesOn E (record { run = mid; exchange = e; sink = sink }) new end from to) (c.boot.ensures.exchange ∙ c.new-2.ensures) goes)
 

@@ -6,9 +6,10 @@ use Rattle.update_client.specs.declared.stops.SendStop.{SendStop}
 use Rattle.update_client.specs.declared.stops.SendStop.TheVariants.{ReadFailed}
 use Rattle.update_client.specs.Halts.{flash_of, is_unread}
 use Rattle.update_client.specs.Images.{SendsImages}
-use Rattle.update_client.specs.Pieces.{ReadsBy}
+use Rattle.update_client.specs.Pieces.{Keeps}
 use Rattle.update_client.proofs.Installed.{installed, uncancelled, interrupted, unread-is}
 use Rattle.agent_machine.proofs.Spending.{call-spent, spent-then}
+use Rattle.update_client.proofs.Keeping.{keeps-ended, keeps-then}
 use Rattle.update_client.proofs.Spending.{unstopped}
 use Rattle.update_client.specs.Takes.{ImagesStart, ImagesTake, OnUnread}
 use Rattle.update_client.proofs.Unsent.{end-of, end-read, images-no-end, other-read}
@@ -25,70 +26,76 @@ returns-in-Ok-clause-installs g c = installed _ _ _ _ _ _ (moment c.send_images.
 pub returns-else-not-is_unread-clause-installs : goal.returns-else-not-is_unread-clause-installs
 returns-else-not-is_unread-clause-installs g c =
     let is : c.in-Err.stop ≡ ReadFailed = unread-is c.in-Err.stop (sym c.is_unread.ensures ∙ c.if-not-is_unread.false) in
-    let sent = subst (λ (st : SendStop). SendsImages (g.H.Files.contents c.args.files.now) c.args.name.now c.args.entries.now c.args.acceptance
+    let sent = subst (λ (st : SendStop). SendsImages (g.H.Files.contents c.args.files.now) c.args.payloads.now.name.now c.args.payloads.now.entries.now c.args.acceptance
     (Err st) (moment c.args.agent.now) (moment c.send_images.new.agent)) is c.in-Err.ensures.sent in
-    let spent = subst (λ (st : SendStop). SpentBy (flash_of {T = Unit {0}} (Err st)) c.args.agent.now c.send_images.new.agent) is c.in-Err.ensures.spent in
+    let spent = subst (λ (st : SendStop). SpentBy (flash_of {T = Unit {0}} (Err st)) c.args.agent.now c.send_images.new.agent) is c.in-Err.ensures.keeps.spent in
     let e = c.cancel-cancelled.ensures in
     uncancelled _ _ _ _ _ _ (moment c.send_images.new.agent) _ c.cancel-cancelled.result _ _ spent.gone_is e.goes.gone e.answers sent (e.meets spent.gone_is)
 
+-- ---- what it takes
+
 pub returns-in-Ok-clause-takes : goal.returns-in-Ok-clause-takes
-returns-in-Ok-clause-takes g c = on_ok_weaker c.finish.result (λ ends. record {
-  sent = g.D.Flash.arming (device c.send_images.new.agent);
-  images = c.in-Ok.ensures.takes;
-  switch = ends;
-}) c.finish.ensures.takes
+returns-in-Ok-clause-takes g c =
+    let entries = c.args.payloads.now.entries.now in
+    let size = length c.args.buf.now in
+    let old = moment c.args.agent.now in
+    let armed = g.D.Flash.arming (device c.args.agent.now) in
+    let taken = c.in-Ok.ensures.takes.done in
+    record {
+      done = on_ok_weaker c.finish.result (λ ends. record {
+        sent = g.D.Flash.arming (device c.send_images.new.agent);
+        images = taken;
+        switch = ends;
+      }) c.finish.ensures.takes;
+      unswitched = end-of (Unit {0}) c.finish.result (device c.finish.new.agent ≡ device c.send_images.new.agent)
+          (ImagesTake size entries (length entries) old armed (g.D.Flash.arming (device c.finish.new.agent)))
+          (λ same. subst (λ d. ImagesTake size entries (length entries) old armed (g.D.Flash.arming d)) (sym same) taken) c.finish.ensures.unswitched;
+      unread = end-read (Unit {0}) c.finish.result _ c.finish.ensures.stops;
+    }
 
--- ---- what it spends
+pub returns-then-not-is_unread-clause-takes : goal.returns-then-not-is_unread-clause-takes
+returns-then-not-is_unread-clause-takes g c = record {
+  done = tt;
+  unswitched = images-no-end _ _ (length c.args.buf.now) c.args.payloads.now.entries.now _ c.in-Err.stop (moment c.args.agent.now) (moment c.send_images.new.agent) _ _
+      c.in-Err.ensures.sent;
+  unread = other-read (Unit {0}) c.in-Err.stop _ (sym c.is_unread.ensures ∙ c.if-not-is_unread.true);
+}
 
-pub returns-in-Ok-clause-spent : goal.returns-in-Ok-clause-spent
-returns-in-Ok-clause-spent g c = spent-then c.in-Ok.ensures.spent c.finish.ensures.spent
-
-pub returns-else-not-is_unread-clause-spent : goal.returns-else-not-is_unread-clause-spent
-returns-else-not-is_unread-clause-spent g c =
+-- a read that failed
+pub returns-else-not-is_unread-clause-takes : goal.returns-else-not-is_unread-clause-takes
+returns-else-not-is_unread-clause-takes g c =
     let is : c.in-Err.stop ≡ ReadFailed = unread-is c.in-Err.stop (sym c.is_unread.ensures ∙ c.if-not-is_unread.false) in
-    let spent = subst (λ (st : SendStop). SpentBy (flash_of {T = Unit {0}} (Err st)) c.args.agent.now c.send_images.new.agent) is c.in-Err.ensures.spent in
+    let size = length c.args.buf.now in
+    let entries = c.args.payloads.now.entries.now in
+    let old = moment c.args.agent.now in
+    let armed = g.D.Flash.arming (device c.args.agent.now) in
+    record {
+      done = tt;
+      unswitched = tt;
+      unread = subst (λ d. ImagesStart size entries old armed (g.D.Flash.arming d)) (sym c.cancel-cancelled.ensures.still)
+          (subst (λ (st : SendStop). OnUnread {T = Unit {0}} (Err st) (ImagesStart size entries old armed (g.D.Flash.arming (device c.send_images.new.agent)))) is
+          c.in-Err.ensures.takes.unread);
+    }
+
+-- ---- what it keeps
+
+pub returns-in-Ok-clause-keeps : goal.returns-in-Ok-clause-keeps
+returns-in-Ok-clause-keeps g c =
+    let name = c.args.payloads.now.name.now in
+    keeps-then g.H.Files g.met.H.Files.at_rest g.met.H.Files.joins name c.in-Ok.ensures.keeps
+    (keeps-ended g.H.Files g.met.H.Files.at_rest g.met.H.Files.joins name c.finish.result c.send_images.new.agent c.finish.new.agent _ _ c.finish.ensures.stops c.finish.ensures.spent)
+
+pub returns-else-not-is_unread-clause-keeps : goal.returns-else-not-is_unread-clause-keeps
+returns-else-not-is_unread-clause-keeps g c =
+    let is : c.in-Err.stop ≡ ReadFailed = unread-is c.in-Err.stop (sym c.is_unread.ensures ∙ c.if-not-is_unread.false) in
+    let sent = subst (λ (st : SendStop). Keeps {T = Unit {0}} g.H.Files c.args.payloads.now.name.now (Err st) c.args.agent.now c.send_images.new.agent
+    c.args.files.now c.send_images.new.files c.args.buf.now c.send_images.new.buf) is c.in-Err.ensures.keeps in
     let e = c.cancel-cancelled.ensures in
-    spent-then spent
-    (subst (λ (f : Result (Unit {0}) FlashStop). SpentBy f c.send_images.new.agent c.cancel-cancelled.new.self)
-    (unstopped c.cancel-cancelled.result e.answers) (call-spent spent.gone_is e.goes))
-
-pub returns-else-not-is_unread-clause-reads : goal.returns-else-not-is_unread-clause-reads
-returns-else-not-is_unread-clause-reads g c =
-    let is : c.in-Err.stop ≡ ReadFailed = unread-is c.in-Err.stop (sym c.is_unread.ensures ∙ c.if-not-is_unread.false) in
-    subst (λ (st : SendStop). ReadsBy {T = Unit {0}} (g.H.Files.faults c.args.files.now) (g.H.Files.faults c.send_images.new.files) (Err st)) is c.in-Err.ensures.reads
-
--- ---- a refused end
-
-pub returns-in-Ok-clause-unswitched : goal.returns-in-Ok-clause-unswitched
-returns-in-Ok-clause-unswitched g c =
-    let entries = c.args.entries.now in
-    let size = length c.args.buf.now in
-    let old = moment c.args.agent.now in
-    let armed = g.D.Flash.arming (device c.args.agent.now) in
-    end-of (Unit {0}) c.finish.result (device c.finish.new.agent ≡ device c.send_images.new.agent)
-    (ImagesTake size entries (length entries) old armed (g.D.Flash.arming (device c.finish.new.agent)))
-    (λ same. subst (λ d. ImagesTake size entries (length entries) old armed (g.D.Flash.arming d)) (sym same) c.in-Ok.ensures.takes) c.finish.ensures.unswitched
-
-pub returns-then-not-is_unread-clause-unswitched : goal.returns-then-not-is_unread-clause-unswitched
-returns-then-not-is_unread-clause-unswitched g c =
-    images-no-end _ _ (length c.args.buf.now) c.args.entries.now _ c.in-Err.stop (moment c.args.agent.now) (moment c.send_images.new.agent) _ _ c.in-Err.ensures.sent
-
--- ---- a read that failed
-
-pub returns-in-Ok-clause-unsent : goal.returns-in-Ok-clause-unsent
-returns-in-Ok-clause-unsent g c = end-read (Unit {0}) c.finish.result _ c.finish.ensures.stops
-
-pub returns-then-not-is_unread-clause-unsent : goal.returns-then-not-is_unread-clause-unsent
-returns-then-not-is_unread-clause-unsent g c =
-    other-read (Unit {0}) c.in-Err.stop _ (sym c.is_unread.ensures ∙ c.if-not-is_unread.true)
-
-pub returns-else-not-is_unread-clause-unsent : goal.returns-else-not-is_unread-clause-unsent
-returns-else-not-is_unread-clause-unsent g c =
-    let is : c.in-Err.stop ≡ ReadFailed = unread-is c.in-Err.stop (sym c.is_unread.ensures ∙ c.if-not-is_unread.false) in
-    let size = length c.args.buf.now in
-    let entries = c.args.entries.now in
-    let old = moment c.args.agent.now in
-    let armed = g.D.Flash.arming (device c.args.agent.now) in
-    subst (λ d. ImagesStart size entries old armed (g.D.Flash.arming d)) (sym c.cancel-cancelled.ensures.still)
-    (subst (λ (st : SendStop). OnUnread {T = Unit {0}} (Err st) (ImagesStart size entries old armed (g.D.Flash.arming (device c.send_images.new.agent)))) is
-    c.in-Err.ensures.unsent)
+    record {
+      stops = tt;
+      spent = spent-then sent.spent (subst (λ (f : Result (Unit {0}) FlashStop). SpentBy f c.send_images.new.agent c.cancel-cancelled.new.self)
+          (unstopped c.cancel-cancelled.result e.answers) (call-spent sent.spent.gone_is e.goes));
+      buffer = sent.buffer;
+      files = sent.files;
+      reads = sent.reads;
+    }

@@ -1,5 +1,4 @@
 use Rattle.std.proofs.Common.{◌≡◌, ◌+◌, ◌^◌, ◌<◌, ◌≤◌, ℕ, Bool, true, false, List, length, take, Option, Some, Ok, Err, refl, sym, ap, subst, ◌∙◌, arith, IsTrue, IsFalse}
-use Rattle.std.specs.List.{All}
 use Rattle.host_io.proofs.Reading.{reads-none}
 use Rattle.fwu_formats.specs.Layout.{ImageRow}
 use Rattle.fwu_formats.specs.Package.{Entry}
@@ -20,6 +19,7 @@ use Rattle.update_client.specs.Halts.{flash_of, unbegun_as}
 use Rattle.agent_machine.proofs.Spending.{call-spent, spent-then}
 use Rattle.update_client.proofs.Spending.{goes-of, here-before, unbegun-spent}
 use Rattle.update_client.specs.Choosing.{refused_image}
+use Rattle.update_client.specs.Packages.{HoldsPayloads}
 use Rattle.update_client.specs.Finishes.{InstallsImages}
 use Rattle.update_client.specs.Partial.{ArePresent, SendsOver, present, types_of, writes_copied, writes_over}
 use Rattle.fip_tables.proofs.Chosen.{present_few}
@@ -80,25 +80,17 @@ returns-in-Err-clause-sends g c = λ here.
     not-gone : {b : Bool} → IsFalse b → IsTrue b → ⊥
     not-gone {b} here there = let both : false ≡ true = sym here ∙ there in absurd cc
 
-pub install-requires-clause-ends : goal.install-requires-clause-ends
-install-requires-clause-ends g c =
-    let agent = c.args.agent.now in
-    let L = agent.layout in
+pub install-requires-clause-payloads : goal.install-requires-clause-payloads
+install-requires-clause-payloads g c =
+    let rows = c.args.agent.now.layout.rows in
     let toc = c.args.toc.now in
-    let fit = c.rows.ensures.fits in
     let are = subst (λ (rs : List ImageRow). ArePresent rs toc c.in_ok-entries.entries) c.rows.ensures.value c.in_ok-entries.ensures in
-    subst (λ (l : List Entry). All (λ e. e.offset + e.size < 2 ^ 64) l) (sym (c.as_slice-2.ensures ∙ are.entries_are))
-    (present-have (λ e. e.offset + e.size < 2 ^ 64) L.rows toc c.requires.ends)
-
-pub install-requires-clause-stored : goal.install-requires-clause-stored
-install-requires-clause-stored g c = λ file told.
-    let agent = c.args.agent.now in
-    let L = agent.layout in
-    let toc = c.args.toc.now in
-    let fit = c.rows.ensures.fits in
-    let are = subst (λ (rs : List ImageRow). ArePresent rs toc c.in_ok-entries.entries) c.rows.ensures.value c.in_ok-entries.ensures in
-    subst (λ (l : List Entry). All (λ e. e.offset + e.size ≤ length file) l) (sym (c.as_slice-2.ensures ∙ are.entries_are))
-    (present-have (λ e. e.offset + e.size ≤ length file) L.rows toc (c.requires.stored file told))
+    subst (λ (l : List Entry). HoldsPayloads (g.H.Files.contents c.args.files.now) c.args.name.now l) (sym (c.as_slice-2.ensures ∙ are.entries_are))
+    (record {
+      ends = present-have (λ e. e.offset + e.size < 2 ^ 64) rows toc c.requires.payloads.ends;
+      stored = λ file told. present-have (λ e. e.offset + e.size ≤ length file) rows toc (c.requires.payloads.stored file told);
+      there = c.requires.payloads.there;
+    })
 
 pub returns-in_err-install-clause-sends : goal.returns-in_err-install-clause-sends
 returns-in_err-install-clause-sends g c =
@@ -188,7 +180,7 @@ returns-clause-spent g c =
     let one : Takes copies armed begun = subst (λ (t : List (List ℕ)). Takes (writes_to_begin (fields agent)
     + writes_to_copy (are_named L.rows t) agent.lengths (length L.rows)) armed begun) listed (c.in-Ok.ensures.spent here) in
     let installs = subst (λ (l : List Entry). InstallTakes size l (moment c.begin_partial.new.self) begun arming) c.as_slice-2.ensures
-    c.in_ok-install.ensures.takes in
+    c.in_ok-install.ensures.takes.done in
     let two : Takes writes begun installs.sent = takes-some writes begun installs.sent
     (shows-some (fields agent) (agent.fitting here) g.D.Flash.tells (g.D.Flash.told agent.flash) (agent.knows here) (agent.some here))
     (over-take (g.H.Files.contents c.args.files.now) c.args.name.now toc c.args.acceptance (g.V.Verifier.passes c.args.verifier.now) (moment agent) are.none known c.in_ok-entries.entries (moment c.begin_partial.new.self)
@@ -220,14 +212,14 @@ returns-in-Err-clause-goes g c = λ here.
 pub returns-clause-goes : goal.returns-clause-goes
 returns-clause-goes g c = λ here.
     let b = c.install.new.agent in
-    goes-of (Ok tt) (gone b) (device c.args.agent.now) (device b) (spent-then (call-spent here c.in-Ok.ensures.goes) c.in_ok-install.ensures.spent)
+    goes-of (Ok tt) (gone b) (device c.args.agent.now) (device b) (spent-then (call-spent here c.in-Ok.ensures.goes) c.in_ok-install.ensures.keeps.spent)
 
 pub returns-in_err-install-clause-goes : goal.returns-in_err-install-clause-goes
 returns-in_err-install-clause-goes g c =
     let b = c.install.new.agent in
     rw (handed-on c.from_residual-in_err-install.result c.in_err-install.field-0.0 c.from_residual-in_err-install.ensures.1)
     (λ here. goes-of (flash_of {T = Sent} (Err c.in_err-install.field-0.0)) (gone b) (device c.args.agent.now) (device b)
-    (spent-then (call-spent here c.in-Ok.ensures.goes) c.in_err-install.ensures.spent))
+    (spent-then (call-spent here c.in-Ok.ensures.goes) c.in_err-install.ensures.keeps.spent))
 
 -- ---- which files it asks for
 
@@ -282,7 +274,7 @@ returns-in_err-install-clause-unswitched g c =
     (over-take (g.H.Files.contents c.args.files.now) c.args.name.now toc c.args.acceptance (g.V.Verifier.passes c.args.verifier.now) (moment agent) are.none known c.in_ok-entries.entries (moment c.begin_partial.new.self)
     (moment c.install.new.agent) are.entries_are begins
     (λ E layout. placed-in E L toc begins.bytes c.in_ok-entries.entries layout fit are) size begun arming (subst images c.as_slice-2.ensures taken))))
-    c.in_err-install.ensures.unswitched)
+    c.in_err-install.ensures.takes.unswitched)
 
 -- ---- a read that failed
 
@@ -336,4 +328,4 @@ returns-in_err-install-clause-unsent g c =
           (over-some (g.H.Files.contents c.args.files.now) c.args.name.now toc c.args.acceptance (g.V.Verifier.passes c.args.verifier.now) (moment agent) are.none known c.in_ok-entries.entries
           (moment c.begin_partial.new.self) (moment c.install.new.agent) are.entries_are begins
           (λ E layout. placed-in E L toc begins.bytes c.in_ok-entries.entries layout fit are) writes begun arming start.takes));
-    })) c.in_err-install.ensures.unsent)
+    })) c.in_err-install.ensures.takes.unread)

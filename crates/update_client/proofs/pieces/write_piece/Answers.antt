@@ -1,17 +1,16 @@
-use Rattle.std.proofs.Common.{◌≡◌, ◌++◌, ◌≤◌, ℕ, length, take, drop, Err, sym, ap, subst, ◌∙◌, arith}
+use Rattle.std.proofs.Common.{◌≡◌, ◌++◌, ◌≤◌, ℕ, length, take, drop, Err, sym, ap, subst, ◌∙◌, arith, length-append, length-drop}
 use Rattle.std.proofs.lemmas.List.{length-take-le, take-append-le, take_all}
 use Rattle.fwu_formats.specs.Package.{Entry, payload}
 use Rattle.flash_core.specs.Counts.{lowered_by}
 use Rattle.slot_writer.specs.Writes.{writes_to_append}
 use Rattle.agent_kept.specs.Kept.{part_at, size_of}
-use Rattle.agent_calls.specs.Shown.{SpentBy, device, fields, gone, moment}
+use Rattle.agent_calls.specs.Shown.{device, fields, gone, moment}
 use Rattle.update_client.specs.declared.stops.SendStop.{SendStop}
-use Rattle.update_client.specs.Halts.{flash_of}
 use Rattle.update_client.specs.Pieces.{WritesPiece}
 use Rattle.update_client.proofs.WrittenPiece.{piece-unread, piece-written, piece-stopped}
 use Rattle.update_client.proofs.ImagesTaking.{piece-takes}
-use Rattle.agent_machine.proofs.Spending.{call-spent, none-spent}
-use Rattle.update_client.proofs.Spending.{stop-spent}
+use Rattle.agent_machine.proofs.Spending.{none-spent}
+use Rattle.update_client.proofs.Keeping.{keeps-called, keeps-read, keeps-stopped, keeps-then}
 use Rattle.update_client.specs.Takes.{OnUnread}
 use Rattle.update_client.proofs.Unsent.{never-unread}
 use Rattle.update_client.proofs.pieces.write_piece.Goals as goal
@@ -30,7 +29,7 @@ returns-in-Ok-write_stream-clause-wrote g c =
     piece-written _ _ _ _ n _ _ _ (ap length whole ∙ size) (omega
     (arith, c.requires.room, c.requires.some, c.min-size.ensures, ap (λ (e : Entry). e.size) c.entry.view_is))
     (omega (arith, c.requires.some, c.min-size.ensures, ap (λ (e : Entry). e.size) c.entry.view_is))
-    (λ file told. whole ∙ c.in-Ok.ensures.bytes file told ∙ ap (λ (k : ℕ). take k (drop c.args.at (payload file c.args.entry.now)))
+    (λ file told. whole ∙ c.in-Ok.ensures.bytes file told ∙ ap (λ (k : ℕ). take k (drop c.args.at (payload file c.args.payload.now.entry.now)))
     (length-take-le n buf small))
     (c.in-Ok-write_stream.ensures.meets c.requires.here)
 
@@ -42,7 +41,7 @@ returns-in-Err-write_stream-clause-wrote g c =
     let small : n ≤ length buf = omega (arith, c.min-size.ensures) in
     let size : length out ≡ n = c.payload_at.auto.out ∙ length-take-le n buf small in
     let whole : take n (out ++ drop n buf) ≡ out = take-append-le n out (drop n buf) (omega (arith, size)) ∙ take_all n out (omega (arith, size)) in
-    subst (λ (st : SendStop). WritesPiece (g.H.Files.contents c.args.files.now) c.args.name.now c.args.entry.now c.args.at (Err st)
+    subst (λ (st : SendStop). WritesPiece (g.H.Files.contents c.args.files.now) c.args.payload.now.name.now c.args.payload.now.entry.now c.args.at (Err st)
     (moment c.args.agent.now) (moment c.write_stream.new.self)) (sym c.stopped.ensures)
     (piece-stopped _ _ _ _ n _ _ _ c.in-Err-write_stream.stop _ _ (ap length whole ∙ size)
     (omega (arith, c.requires.some, c.min-size.ensures, ap (λ (e : Entry). e.size) c.entry.view_is))
@@ -61,20 +60,52 @@ returns-in-Ok-write_stream-clause-takes g c =
     (c.in-Ok-write_stream.ensures.spent tt image writes).lowered
     ∙ ap (λ (m : ℕ). lowered_by (writes_to_append (size_of (part_at (fields c.args.agent.now).session image)) m) (g.D.Flash.arming (device c.args.agent.now))) whole)
 
--- ---- what it spends
+-- ---- what it keeps
 
-pub returns-in-Err-clause-spent : goal.returns-in-Err-clause-spent
-returns-in-Err-clause-spent g c =
-    none-spent g.D.Flash (gone c.args.agent.now) (device c.args.agent.now) c.requires.here (c.args.agent.now.power c.requires.here)
+pub returns-in-Err-clause-keeps : goal.returns-in-Err-clause-keeps
+returns-in-Err-clause-keeps g c =
+    let n = c.min-size.result in
+    let buf = c.args.buf.now in
+    let agent = c.args.agent.now in
+    let out = c.payload_at.new.out in
+    let size : length out ≡ n = c.payload_at.auto.out ∙ length-take-le n buf (omega (arith, c.min-size.ensures)) in
+    let long : length (out ++ drop n buf) ≡ length buf = omega (arith, length-append out (drop n buf), length-drop n buf, size, c.min-size.ensures) in
+    let cause = c.in-Err.ensures.cause in
+    record {
+      stops = tt;
+      spent = none-spent g.D.Flash (gone agent) (device agent) c.requires.here (agent.power c.requires.here);
+      buffer = long;
+      files = c.in-Err.ensures.reads;
+      reads = record { later = cause.later; once = cause.once; failed = λ e. cause.failed };
+    }
 
-pub returns-in-Ok-write_stream-clause-spent : goal.returns-in-Ok-write_stream-clause-spent
-returns-in-Ok-write_stream-clause-spent g c = call-spent c.requires.here c.in-Ok-write_stream.ensures.goes
+pub returns-in-Ok-write_stream-clause-keeps : goal.returns-in-Ok-write_stream-clause-keeps
+returns-in-Ok-write_stream-clause-keeps g c =
+    let n = c.min-size.result in
+    let buf = c.args.buf.now in
+    let agent = c.args.agent.now in
+    let out = c.payload_at.new.out in
+    let size : length out ≡ n = c.payload_at.auto.out ∙ length-take-le n buf (omega (arith, c.min-size.ensures)) in
+    let long : length (out ++ drop n buf) ≡ length buf = omega (arith, length-append out (drop n buf), length-drop n buf, size, c.min-size.ensures) in
+    let name = c.args.payload.now.name.now in
+    keeps-then g.H.Files g.met.H.Files.at_rest g.met.H.Files.joins name
+    (keeps-read g.H.Files g.met.H.Files.at_rest g.met.H.Files.joins name agent c.args.files.now c.payload_at.new.files buf (out ++ drop n buf) c.requires.here (agent.power c.requires.here) long
+    c.in-Ok.ensures.reads c.in-Ok.ensures.cause.done)
+    (keeps-called g.H.Files g.met.H.Files.at_rest g.met.H.Files.joins name tt n agent c.write_stream.new.self _ _ c.requires.here c.in-Ok-write_stream.ensures.goes)
 
-pub returns-in-Err-write_stream-clause-spent : goal.returns-in-Err-write_stream-clause-spent
-returns-in-Err-write_stream-clause-spent g c =
-    subst (λ (st : SendStop). SpentBy (flash_of {T = ℕ} (Err st)) c.args.agent.now c.write_stream.new.self) (sym c.stopped.ensures)
-    (stop-spent (Unit {0}) ℕ c.in-Err-write_stream.stop (gone c.write_stream.new.self) (device c.args.agent.now) (device c.write_stream.new.self)
-    (call-spent c.requires.here c.in-Err-write_stream.ensures.goes))
+pub returns-in-Err-write_stream-clause-keeps : goal.returns-in-Err-write_stream-clause-keeps
+returns-in-Err-write_stream-clause-keeps g c =
+    let n = c.min-size.result in
+    let buf = c.args.buf.now in
+    let agent = c.args.agent.now in
+    let out = c.payload_at.new.out in
+    let size : length out ≡ n = c.payload_at.auto.out ∙ length-take-le n buf (omega (arith, c.min-size.ensures)) in
+    let long : length (out ++ drop n buf) ≡ length buf = omega (arith, length-append out (drop n buf), length-drop n buf, size, c.min-size.ensures) in
+    let name = c.args.payload.now.name.now in
+    rw c.stopped.ensures (keeps-then g.H.Files g.met.H.Files.at_rest g.met.H.Files.joins name
+    (keeps-read g.H.Files g.met.H.Files.at_rest g.met.H.Files.joins name agent c.args.files.now c.payload_at.new.files buf (out ++ drop n buf) c.requires.here (agent.power c.requires.here) long
+    c.in-Ok.ensures.reads c.in-Ok.ensures.cause.done)
+    (keeps-stopped g.H.Files g.met.H.Files.at_rest g.met.H.Files.joins name ℕ c.in-Err-write_stream.stop agent c.write_stream.new.self _ _ c.requires.here c.in-Err-write_stream.ensures.goes))
 
 -- ---- a read that failed
 

@@ -1,5 +1,4 @@
 use Rattle.std.proofs.Common.{◌≡◌, ◌+◌, ◌^◌, ◌<◌, ◌≤◌, List, length, Option, Some, Ok, Err, refl, sym, ap, subst, ◌∙◌}
-use Rattle.std.specs.List.{All}
 use Rattle.host_io.proofs.Reading.{reads-none}
 use Rattle.fwu_formats.specs.Layout.{ImageRow}
 use Rattle.fwu_formats.specs.Package.{Entry}
@@ -9,6 +8,7 @@ use Rattle.agent_calls.specs.Shown.{device, fields, gone, moment}
 use Rattle.update_client.specs.declared.stops.SendStop.{SendStop}
 use Rattle.update_client.specs.Choosing.{AreChosen, refused_image}
 use Rattle.update_client.specs.Halts.{flash_of, unbegun_as}
+use Rattle.update_client.specs.Packages.{HoldsPayloads}
 use Rattle.update_client.specs.Finishes.{InstallsImages}
 use Rattle.update_client.specs.Sends.{Sends}
 use Rattle.update_client.specs.declared.stops.Sent.{Sent}
@@ -26,13 +26,14 @@ use Rattle.update_client.proofs.Stopped.{handed-on}
 use Rattle.update_client.proofs.Unsent.{begin-no-end, begin-read, early-no-end, early-read, end-then, unread-then}
 use Rattle.update_client.proofs.sending.send.Goals as goal
 
-pub install-requires-clause-ends : goal.install-requires-clause-ends
-install-requires-clause-ends g c = subst (λ (l : List Entry). All (λ e. e.offset + e.size < 2 ^ 64) l) (sym c.as_slice.ensures)
-    (chosen_have (λ e. e.offset + e.size < 2 ^ 64) _ c.args.toc.now c.in_ok-entries.entries c.in_ok-entries.ensures c.requires.ends)
-
-pub install-requires-clause-stored : goal.install-requires-clause-stored
-install-requires-clause-stored g c = λ file told. subst (λ (l : List Entry). All (λ e. e.offset + e.size ≤ length file) l) (sym c.as_slice.ensures)
-    (chosen_have (λ e. e.offset + e.size ≤ length file) _ c.args.toc.now c.in_ok-entries.entries c.in_ok-entries.ensures (c.requires.stored file told))
+pub install-requires-clause-payloads : goal.install-requires-clause-payloads
+install-requires-clause-payloads g c = subst (λ (l : List Entry). HoldsPayloads (g.H.Files.contents c.args.files.now) c.args.name.now l) (sym c.as_slice.ensures)
+    (record {
+      ends = chosen_have (λ e. e.offset + e.size < 2 ^ 64) _ c.args.toc.now c.in_ok-entries.entries c.in_ok-entries.ensures c.requires.payloads.ends;
+      stored = λ file told. chosen_have (λ e. e.offset + e.size ≤ length file) _ c.args.toc.now c.in_ok-entries.entries c.in_ok-entries.ensures
+          (c.requires.payloads.stored file told);
+      there = c.requires.payloads.there;
+    })
 
 pub returns-in_err-entries-clause-sends : goal.returns-in_err-entries-clause-sends
 returns-in_err-entries-clause-sends g c =
@@ -102,7 +103,7 @@ returns-clause-spent g c =
     let arming = g.D.Flash.arming (device c.install.new.agent) in
     let chosen = subst (λ (rows : List ImageRow). AreChosen rows c.args.toc.now c.in_ok-entries.entries) c.rows.ensures.value c.in_ok-entries.ensures in
     let installs = subst (λ (l : List Entry). InstallTakes size l (moment c.begin.new.self) begun arming) c.as_slice.ensures
-    c.in_ok-install.ensures.takes in
+    c.in_ok-install.ensures.takes.done in
     let one : Takes begin armed begun = takes-begin (fields agent) _ armed begun c.in-Ok.ensures.spent (c.in-Ok.ensures.keeps tt)
     (λ is. ap (λ d. g.D.Flash.arming d) (c.in-Ok.ensures.still is)) in
     let two : Takes writes begun installs.sent = takes-some writes begun installs.sent
@@ -125,14 +126,14 @@ returns-in-Err-clause-goes g c = λ here.
 pub returns-clause-goes : goal.returns-clause-goes
 returns-clause-goes g c = λ here.
     let b = c.install.new.agent in
-    goes-of (Ok tt) (gone b) (device c.args.agent.now) (device b) (spent-then (call-spent here c.in-Ok.ensures.goes) c.in_ok-install.ensures.spent)
+    goes-of (Ok tt) (gone b) (device c.args.agent.now) (device b) (spent-then (call-spent here c.in-Ok.ensures.goes) c.in_ok-install.ensures.keeps.spent)
 
 pub returns-in_err-install-clause-goes : goal.returns-in_err-install-clause-goes
 returns-in_err-install-clause-goes g c =
     let b = c.install.new.agent in
     rw (handed-on c.from_residual-in_err-install.result c.in_err-install.field-0.0 c.from_residual-in_err-install.ensures.1)
     (λ here. goes-of (flash_of {T = Sent} (Err c.in_err-install.field-0.0)) (gone b) (device c.args.agent.now) (device b)
-    (spent-then (call-spent here c.in-Ok.ensures.goes) c.in_err-install.ensures.spent))
+    (spent-then (call-spent here c.in-Ok.ensures.goes) c.in_err-install.ensures.keeps.spent))
 
 -- ---- which files it asks for
 
@@ -176,7 +177,7 @@ returns-in_err-install-clause-unswitched g c =
     (shows-some (fields agent) (agent.fitting here) g.D.Flash.tells (g.D.Flash.told agent.flash) (agent.knows here) (agent.some here))
     (sends-take (g.H.Files.contents c.args.files.now) c.args.name.now c.args.toc.now c.args.acceptance (g.V.Verifier.passes c.args.verifier.now) (moment agent)
     c.in_ok-entries.entries (moment c.begin.new.self) (moment c.install.new.agent) (agent.fitting here).layout chosen (c.in-Ok.ensures.meets here)
-    size begun arming (subst images c.as_slice.ensures taken)))) c.in_err-install.ensures.unswitched)
+    size begun arming (subst images c.as_slice.ensures taken)))) c.in_err-install.ensures.takes.unswitched)
 
 -- ---- a read that failed
 
@@ -223,4 +224,4 @@ returns-in_err-install-clause-unsent g c =
             c.in_ok-entries.entries (moment c.begin.new.self) (moment c.install.new.agent) (agent.fitting here).layout chosen (c.in-Ok.ensures.meets here)
             writes begun arming start.takes));
       },
-    )) c.in_err-install.ensures.unsent)
+    )) c.in_err-install.ensures.takes.unread)
