@@ -5,6 +5,7 @@ pub mod Told
 pub mod Asked
 pub mod Metas
 pub mod Records
+pub mod Readable
 pub mod Images
 pub mod Ended
 pub mod GoneBack

@@ -34,6 +34,7 @@ fields a = record {
 abbrev pub device : {D : Type 0} {F : Ghosts D} → Agent D F → D
 device a = a.flash
 
+-- both
 abbrev pub snapshot : {D : Type 0} {F : Ghosts D} → Agent D F → Snapshot D
 snapshot a = record { device = a.flash; fields = fields a }
 

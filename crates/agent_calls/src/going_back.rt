@@ -1,7 +1,6 @@
 //! Going back to the previous bank.
 ghost use Rattle.flash_core.specs.Calls.{Reads};
 ghost use Rattle.std.specs.Prelude.{◌≡◌, ◌<◌, ◌≤◌, ◌&&◌, ℕ, Bool, List, length, IfOk, IsTrue, IsFalse};
-ghost use Rattle.fwu_formats.specs.Layout.{blocks_needed};
 ghost use Rattle.fwu_model.specs.State.{is_valid, is_accepted};
 ghost use Rattle.image_check.specs.Verdict.{verdict_on};
 ghost use Rattle.image_check.specs.Law.{may_start};
@@ -12,6 +11,7 @@ ghost use Rattle.agent_state.specs.Ruled.{ruled_as};
 ghost use Rattle.agent_machine.specs.Meets.{MeetsPrevious};
 ghost use Rattle.agent_machine.specs.Stored.{is_to_do, may_try_kept};
 ghost use Rattle.agent_calls.specs.GoneBack.{ChangesBanks, SomePassed};
+ghost use Rattle.agent_calls.specs.Readable.{HoldsBank};
 
 use crate::agent::{Agent, stopped};
 use agent_machine::Stop;
@@ -77,9 +77,7 @@ fn is_bank_good<D: Flash, V: Verifier>(
     counter: u32,
     verifier: &V,
 ) -> Result<bool, FlashStop>
-    requires on { IsTrue (D.on flash.old) }
-    requires fits { blocks_needed layout.now ≤ D.blocks flash.old }
-    requires bank { bank < layout.now.banks }
+    requires { HoldsBank D.Flash flash.old layout.now bank }
     ensures good { IfOk result (λ good. IsTrue D.tells → good ≡ may_start
         (verdict_on (V.passes verifier.now) counter layout.now (D.told flash.old).now bank)) }
     ensures passed { IfOk result (λ good. IsTrue good →

@@ -2,10 +2,11 @@
 ghost use Rattle.flash_core.specs.Calls.{Reads};
 ghost use Rattle.std.specs.Prelude.{◌≡◌, ◌+◌, ◌*◌, ◌<◌, ◌≤◌, length, take, drop, IsTrue, OnOk, None};
 ghost use Rattle.base_core.specs.Block.{block_bytes};
-ghost use Rattle.fwu_formats.specs.Layout.{blocks_needed, slot_bytes, start};
+ghost use Rattle.fwu_formats.specs.Layout.{slot_bytes, start};
 ghost use Rattle.fwu_formats.specs.Metadata.{fits_meta};
 ghost use Rattle.agent_machine.specs.Fields.{directory_size};
 ghost use Rattle.agent_machine.specs.Directory.{piece_of};
+ghost use Rattle.agent_calls.specs.Readable.{HoldsBank};
 
 use crate::agent::Agent;
 use crate::directory::directory_of;
@@ -28,10 +29,8 @@ fn read_directory<D: Flash>(
     at: u32,
     out: &mut [u8],
 ) -> Result<(), FlashStop>
-    requires on { IsTrue (D.on flash.old) }
-    requires inside { blocks_needed layout.now ≤ D.blocks flash.old }
+    requires holds { HoldsBank D.Flash flash.old layout.now bank }
     requires fit { IsTrue (fits_meta layout.now meta.now.meta) }
-    requires bank { bank < layout.now.banks }
     requires within { at + length out.old ≤ directory_size (length layout.now.rows) }
     ensures bytes { OnOk result (IsTrue D.tells → out.new ≡ piece_of layout.now meta.now.meta bank
         lengths.now (D.told flash.old).now None at (length out.old)) }
@@ -55,9 +54,7 @@ fn read_image<D: Flash>(
     at: u32,
     out: &mut [u8],
 ) -> Result<(), FlashStop>
-    requires on { IsTrue (D.on flash.old) }
-    requires inside { blocks_needed layout.now ≤ D.blocks flash.old }
-    requires bank { bank < layout.now.banks }
+    requires holds { HoldsBank D.Flash flash.old layout.now bank }
     requires image { image < length layout.now.rows }
     requires within { at + length out.old ≤ slot_bytes layout.now image }
     ensures bytes { OnOk result (IsTrue D.tells → out.new ≡ take (length out.old)

@@ -14,8 +14,8 @@ read-requires-clause-inside g c =
     let L = c.args.layout.now in
     let count : length c.rows.result.now ≡ length L.rows = ap (λ (l : List ImageRow). length l) c.rows.ensures.value in
     let fits = manifest-fits L c.rows.ensures.fit in
-    let inside = slot-inside L c.args.bank 0 c.requires.bank in
-    omega (arith, c.start.ensures, c.manifest_size.ensures, count, fits, inside, c.requires.inside, length-take {A = ℕ})
+    let inside = slot-inside L c.args.bank 0 c.requires.holds.below in
+    omega (arith, c.start.ensures, c.manifest_size.ensures, count, fits, inside, c.requires.holds.inside, length-take {A = ℕ})
 
 pub returns-clause-bytes : goal.returns-clause-bytes
 returns-clause-bytes g c = λ tells.

@@ -40,11 +40,12 @@ returns-then-not-may_try-clause-meets g c =
     untried-meets g.D.Flash.tells (fields a) (a.fitting c.requires.here) a.session.sound s s (λ is. refl) (g.V.Verifier.passes c.args.verifier.now)
     (promised c.may_try.result (may_try_kept a.meta.meta (kept a.session) a.boot) false c.may_try.ensures c.if-not-may_try.true)
 
-pub is_bank_good-requires-clause-bank : goal.is_bank_good-requires-clause-bank
-is_bank_good-requires-clause-bank g c =
+pub is_bank_good-requires : goal.is_bank_good-requires
+is_bank_good-requires g c =
     let a = c.args.self.now in
-    let whole = meta-fits a.layout a.meta.meta (a.fitting c.requires.here).meta in
-    omega (arith, whole.previous, c.previous-bank.ensures)
+    let here = c.requires.here in
+    let whole = meta-fits a.layout a.meta.meta (a.fitting here).meta in
+    record { on = a.power here; inside = a.inside here; below = omega (arith, whole.previous, c.previous-bank.ensures) }
 
 pub returns-then-not-goes_back-clause-meets : goal.returns-then-not-goes_back-clause-meets
 returns-then-not-goes_back-clause-meets g c =
