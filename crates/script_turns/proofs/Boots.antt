@@ -143,15 +143,6 @@ boots-again E s (On boot staging handles) = refl
 
 -- ---- what the reply and the flash say, by the end
 
-pub powered-after : (e : Ended) (on : Option Fields) → IsOnAfter e on → IsFalse (ends_run (reply_of_end e)) → is_ok (stop_of e) ≡ is_some on
-powered-after (booted b n) (Some f) starts h = refl
-powered-after (booted b n) None starts h = absurd starts
-powered-after (bad_layout f) on off h = absurd cc
-powered-after no_metadata on off h = absurd cc
-powered-after (no_bank active previous) on off h = absurd cc
-powered-after (lost n) on off h = sym (ap is_some off)
-powered-after (failed n) on off h = absurd cc
-
 safe-after : (e : Ended) (new : Told) → Guards 1 7 new → GuardedBy (stop_of e) new → IsSafe (is_ok (stop_of e)) new
 safe-after (booted b n) new guards h = h
 safe-after (bad_layout f) new guards h = h
@@ -276,17 +267,6 @@ boots-free e old mid new armed cuts reached unarmed none =
     (free.0, subst (λ (x : Result (Unit {0}) FlashStop). ReachesNone x old.counts new.counts) (stop-of-reply e) (reaches-then (stop_of e) old.counts mid.counts new.counts cuts reached free.1))
 
 -- ---- the flash that boots
-
--- power that was there, with nothing dirty
-pub powers-none : (tells : Bool) (m : Moment) → (IsTrue tells → NothingDirty m.told) → PowersOn tells m m
-powers-none tells m clean = record {
-  idles = record { faults = refl; cuts = refl; chances = omega arith; reached = refl };
-  made = refl;
-  armed = refl;
-  clean = clean;
-  leaves = λ test. record { size = refl; sure = λ i sure. refl };
-  chance = λ test. inr (λ b guarded. as_now refl);
-}
 
 fresh-guard : (old mid : Told) → mid ≡ fresh old.guard mid.now → mid.guard ≡ old.guard
 unfolding fresh

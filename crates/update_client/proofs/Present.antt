@@ -204,15 +204,6 @@ or-none false o g h = absurd cc
 pub present-fit : (rows : List ImageRow) (toc : Toc) (entries : List Entry) → ArePresent rows toc entries → first_size_fault rows toc ≡ None
 present-fit rows toc entries are = (or-none (list_any (has_image toc) rows) (first_size_fault rows toc) (get_or rows 0 no_row).guid are.none).1
 
-pub present-some : (rows : List ImageRow) (toc : Toc) (entries : List Entry) → ArePresent rows toc entries → 0 < length entries
-present-some rows toc entries are =
-    let one = (or-none (list_any (has_image toc) rows) (first_size_fault rows toc) (get_or rows 0 no_row).guid are.none).0 in
-    by-length (length entries) (sym one ∙ any_present rows toc ∙ ap (λ (l : List Entry). not (length l == 0)) (sym are.entries_are))
-  where
-    by-length : (n : ℕ) → true ≡ not (n == 0) → 0 < n
-    by-length zero h = absurd cc
-    by-length (suc n) h = omega arith
-
 -- what holds of each entry of a table holds of each of them
 pub present-have : (P : Entry → Type 0) (rows : List ImageRow) (toc : Toc) → All P toc.entries → All P (present rows toc)
 present-have P rows toc all k d below =
