@@ -1,7 +1,8 @@
 //! The table of contents of a package, from a file or from the source, or of a capsule.
-ghost use Rattle.std.specs.Prelude.{◌≡◌, ◌≤◌, ◌<◌, ◌+◌, ◌^◌, All, IfOk, List, Some, Ok, Err, length, ℕ, ◌++◌, IfErr};
+ghost use Rattle.std.specs.Prelude.{◌≡◌, ◌≤◌, ◌<◌, ◌+◌, ◌^◌, ◌∷◌, [], All, IfOk, List, Some, Ok, Err, length, ℕ, ◌++◌, IfErr};
 ghost use Rattle.std.specs.Io.KnownBytes.{Consumes, IsAtEnd};
 ghost use Rattle.host_io.specs.Contents.{Directory};
+ghost use Rattle.host_io.specs.Once.{ReadsOnce};
 ghost use Rattle.host_io.specs.Reads.{ReadsFile};
 ghost use Rattle.fwu_formats.specs.Package.{toc_of};
 ghost use Rattle.fip_tables.specs.Answers.{decided};
@@ -69,6 +70,8 @@ fn feed_some<I: Source>(source: &mut I, stream: &mut StreamToc) -> Result<usize,
     ensures few { IfOk result (λ n. n ≤ 4096) }
     ensures fed { (given : List ℕ) → Fed stream.old given
         → (piece : List ℕ) × FedSomeIn I.Source stream.new given piece source.old source.new result }
+    ensures made { IfOk result (λ n. I.reads source.old source.new (Some n ∷ [])) }
+    ensures once { ReadsOnce I.Source source.old source.new }
     ensures usage { result ≡ Err stop.Usage → ⊥ }
     ensures sink { result ≡ Err stop.SinkFault → ⊥ }
     ensures later { I.faults source.old ≤ I.faults source.new }
@@ -105,6 +108,8 @@ fn ended(stream: StreamToc, count: u64) -> Result<(Toc, u64), Stop>
 pub fn read_given<I: Source>(source: &mut I) -> Result<(Toc, u64), Stop>
     ensures given { (given : List ℕ) × StopsInTime given × GivenToIn I.Source (λ t. t) given_table
         source.old source.new result given }
+    // No read is made behind one that gave no bytes or failed.
+    ensures once { ReadsOnce I.Source source.old source.new }
     ensures usage { result ≡ Err stop.Usage → ⊥ }
     ensures sink { result ≡ Err stop.SinkFault → ⊥ }
     ensures later { I.faults source.old ≤ I.faults source.new }

@@ -4,6 +4,7 @@ use Rattle.base_core.specs.Counts.{Rose}
 use Rattle.fip_words.specs.Order.{Asked, info_of_source}
 use Rattle.host_io.specs.Access.{Access}
 use Rattle.host_io.specs.Contents.{Directory}
+use Rattle.host_io.specs.Once.{ReadsOnce}
 use Rattle.host_io.specs.declared.files.Files as files
 use Rattle.host_io.specs.declared.source.Source as source
 use Rattle.host_io.specs.declared.sink.Sink as sink
@@ -71,8 +72,9 @@ pub record Done {H I O : Type 0} (h : files.Ghosts H) (i : source.Ghosts I) (o :
   -- each refusal is one of what was asked for
   pub refusals : IfErr result (MayRefuse asked)
   -- only a listing of the source reads it
-  pub source_stays : asked ≢ Some info_of_source
-      → (i.left source_after ≡ i.left source_before) × (i.faults source_after ≡ i.faults source_before)
+  pub source_stays : asked ≢ Some info_of_source → source_after ≡ source_before
+  -- no read of the source is made behind one that gave no bytes or failed
+  pub once : ReadsOnce i source_before source_after
   pub source_count : asked ≡ Some info_of_source
       → i.faults source_after ≡ source_failures result (i.faults source_before)
   pub files_stay : IsFalse (asks_files asked) → files_after ≡ files_before

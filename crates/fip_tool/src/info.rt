@@ -1,6 +1,7 @@
 //! `info`: what a package has.
 ghost use Rattle.std.specs.Prelude.{◌≡◌, ◌≤◌, IfOk, List, Some, Err, ℕ, IfErr};
 ghost use Rattle.host_io.specs.Contents.{Directory};
+ghost use Rattle.host_io.specs.Once.{ReadsOnce};
 ghost use Rattle.host_io.specs.Reads.{ReadsFile};
 ghost use Rattle.fip_making.specs.Refusals.{IsOfPackage, IsOfSource};
 ghost use Rattle.fip_tool.specs.Said.{IsListing};
@@ -33,6 +34,7 @@ pub fn file_info<H: Files>(alloc: Global, files: &mut H, name: &str) -> Result<V
 pub fn source_info<I: Source>(alloc: Global, source: &mut I) -> Result<Vec<u8>, Stop>
     ensures given { (given : List ℕ) × StopsInTime given × GivenToIn I.Source (λ text. text.items)
         given_value source.old source.new result given }
+    ensures once { ReadsOnce I.Source source.old source.new }
     ensures listed { IfOk result (λ text. IsListing text.items) }
     ensures usage { result ≡ Err stop.Usage → ⊥ }
     ensures sink { result ≡ Err stop.SinkFault → ⊥ }

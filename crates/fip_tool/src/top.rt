@@ -5,6 +5,7 @@ ghost use Rattle.fip_tool.specs.Names.{IsUnnamed};
 ghost use Rattle.host_io.specs.Access.{Access};
 ghost use Rattle.host_io.specs.Calls.{raised};
 ghost use Rattle.host_io.specs.Contents.{Directory};
+ghost use Rattle.host_io.specs.Once.{ReadsOnce};
 ghost use Rattle.host_io.specs.Reads.{ReadsFile};
 ghost use Rattle.fip_words.specs.Order.{Asked, asked, info_of_source, view};
 ghost use Rattle.fip_words.specs.Values.{is_unpacked};
@@ -52,6 +53,7 @@ fn info_of_source<I: Source, O: Sink>(
 ) -> Result<(), Stop>
     ensures listed { (told : Option Directory) → ReadSourceIn I.Source O.Sink told told
         source.old source.new sink.old sink.new result }
+    ensures once { ReadsOnce I.Source source.old source.new }
     ensures says { SaysIn O.Sink (IsTexts info_of_source) sink.old sink.new result }
     ensures cause { result ≡ Err stop.FileFault → Rose (I.faults source.old) (I.faults source.new) }
     ensures usage { result ≡ Err stop.Usage → ⊥ }
@@ -209,8 +211,10 @@ pub fn fip_top<H: Files, I: Source, O: Sink>(
     ensures refusals { EndsFor (asked (map string_bytes words.now)) result }
     // Nothing but a listing of the source reads it.
     ensures source_stays { asked (map string_bytes words.now) ≢ Some info_of_source
-        → (I.left source.new ≡ I.left source.old) × (I.faults source.new ≡ I.faults source.old) }
-    // A listing of the source ends at the first call that fails, whatever source there is.
+        → source.new ≡ source.old }
+    // No read of the source is made behind one that gave no bytes or failed, whatever source there is.
+    ensures once { ReadsOnce I.Source source.old source.new }
+    // In a listing of the source at most one call of it failed, and at status 2 one did, whatever source there is.
     ensures source_count { asked (map string_bytes words.now) ≡ Some info_of_source
         → FailsOnce result (I.faults source.old) (I.faults source.new) }
     // Neither usage nor a listing of the source asks for a file, whatever files there are.
