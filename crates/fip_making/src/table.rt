@@ -6,6 +6,7 @@ ghost use Rattle.host_io.specs.Once.{ReadsOnce};
 ghost use Rattle.host_io.specs.Reads.{ReadsFile};
 ghost use Rattle.fwu_formats.specs.Package.{toc_of};
 ghost use Rattle.fip_tables.specs.Answers.{decided};
+ghost use Rattle.capsule_tables.specs.Answers.{IsSomeTable};
 ghost use Rattle.fip_tables.specs.Stream.{Fed};
 ghost use Rattle.fip_making.specs.Refusals.{IsOfCapsule, IsOfPackage, IsOfSource};
 ghost use Rattle.fip_making.specs.Seen.{FedSomeIn, GivenToIn, GivesIn, ReadsOnlyIn};
@@ -57,6 +58,7 @@ pub fn read_enclosed<H: Files>(files: &mut H, name: &str) -> Result<Toc, Stop>
     ensures told { (told : Directory) → H.contents files.old ≡ Some told
         → GivesIn H.Files (λ t. t) (after (capsule_in told name.now) (λ p. Ok p.1))
         files.old files.new result }
+    ensures table { IfOk result IsSomeTable }
     ensures reads { ReadsOnlyIn H.Files files.old files.new result }
     ensures files { ReadsFile H.Files name.now files.old files.new }
     ensures refusals { IfErr result IsOfCapsule }
