@@ -8,7 +8,7 @@ use std::alloc::Global;
 pub trait Files {
     ghost use Rattle.std.specs.Prelude.{◌≡◌, ◌≢◌, ◌⊎◌, ◌+◌, ◌≤◌, ℕ, Bool, Option, Err, IfOk, OnOk, OnErr, is_some, length, vec_capacity, vec_len};
     ghost use Rattle.base_core.specs.Counts.{Rose};
-    ghost use Rattle.host_io.specs.Access.{Access, Asks, Makes};
+    ghost use Rattle.host_io.specs.Access.{Access, Asks, Makes, Overwrites};
     ghost use Rattle.host_io.specs.Calls.{CountsJoin, CountsWrite, as_write, failures, write_failures};
     ghost use Rattle.host_io.specs.Causes.{HasCause, HasWriteCause};
     ghost use Rattle.std.specs.List.{All};
@@ -90,7 +90,7 @@ pub trait Files {
         ensures writes { CountsWrite result (writes self.old) (writes self.new) }
         ensures stands { result ≡ Err stop.Failed → (contents self.new ≡ contents self.old)
             ⊎ Rose (writes self.old).torn (writes self.new).torn }
-        ensures spares { (access : Access) → access ≢ Makes name.now → spares self.old self.new access };
+        ensures spares { (access : Access) → access ≢ Overwrites name.now → spares self.old self.new access };
 
     /// Makes the file anew, of a frame's bytes with pieces of files between them, each behind as many
     /// more of the frame as it says (or as there are), and last what is left of the frame. The pieces
