@@ -31,6 +31,7 @@ pub fn size_of<H: Files>(files: &mut H, name: &str) -> Result<u64, Stop>
     ensures reads { ReadsOnlyIn H.Files files.old files.new result }
     ensures files { ReadsFile H.Files name.now files.old files.new }
     ensures late { IfErr result IsLate }
+    ensures memory { result ≡ Err stop.NoMemory → ⊥ }
 {
     match files.size(name)? {
         Some(size) => Ok(size),
@@ -47,6 +48,7 @@ pub fn read_package<H: Files>(files: &mut H, name: &str) -> Result<(Toc, u64), S
     ensures reads { ReadsOnlyIn H.Files files.old files.new result }
     ensures files { ReadsFile H.Files name.now files.old files.new }
     ensures refusals { IfErr result IsOfPackage }
+    ensures memory { result ≡ Err stop.NoMemory → ⊥ }
 {
     let size = size_of(files, name)?;
     let toc = read_toc(files, name)?;
@@ -62,6 +64,7 @@ pub fn read_enclosed<H: Files>(files: &mut H, name: &str) -> Result<Toc, Stop>
     ensures reads { ReadsOnlyIn H.Files files.old files.new result }
     ensures files { ReadsFile H.Files name.now files.old files.new }
     ensures refusals { IfErr result IsOfCapsule }
+    ensures memory { result ≡ Err stop.NoMemory → ⊥ }
 {
     Ok(read_capsule(files, name)?)
 }
@@ -79,6 +82,7 @@ fn feed_some<I: Source>(source: &mut I, stream: &mut StreamToc) -> Result<usize,
     ensures later { I.faults source.old ≤ I.faults source.new }
     ensures count { I.faults source.new ≡ source_failures result (I.faults source.old) }
     ensures refusals { IfErr result IsOfSource }
+    ensures memory { result ≡ Err stop.NoMemory → ⊥ }
 {
     let mut buffer = [0u8; 4096];
     let count = source.read(&mut buffer)?;
@@ -98,6 +102,7 @@ fn ended(stream: StreamToc, count: u64) -> Result<(Toc, u64), Stop>
     ensures sink { result ≡ Err stop.SinkFault → ⊥ }
     ensures fault { result ≡ Err stop.FileFault → ⊥ }
     ensures refusals { IfErr result IsOfSource }
+    ensures memory { result ≡ Err stop.NoMemory → ⊥ }
 {
     match stream.end() {
         Ok(toc) => Ok((toc, count)),
@@ -117,6 +122,7 @@ pub fn read_given<I: Source>(source: &mut I) -> Result<(Toc, u64), Stop>
     ensures later { I.faults source.old ≤ I.faults source.new }
     ensures count { I.faults source.new ≡ source_failures result (I.faults source.old) }
     ensures refusals { IfErr result IsOfSource }
+    ensures memory { result ≡ Err stop.NoMemory → ⊥ }
 {
     let mut stream = StreamToc::new();
     let mut count = 0;
