@@ -29,7 +29,7 @@ pub record WritesTexts {H O : Type 0} (h : files.Ghosts H) (o : sink.Ghosts O) (
     (result : Result (Unit {0}) Stop) (files_before files_after : H) (sink_before sink_after : O) : Type 0 where
   pub says : SaysIn o T sink_before sink_after result
   pub wrote : WroteIn h o T files_before files_after sink_before sink_after result
-  -- at most one call of the files failed, and ended it
+  -- at most one call of the files failed, and none unless it ended for that
   pub file_count : FaultsOnce (h.faults files_before) (h.faults files_after) result
   pub cause : result ≡ Err stop.FileFault → Rose (h.faults files_before) (h.faults files_after)
   pub late : IfErr result IsLate
@@ -45,7 +45,7 @@ pub record DoneWithFiles {H O : Type 0} (h : files.Ghosts H) (o : sink.Ghosts O)
       → DidIn h o (command_outcome asked told) told files_before files_after sink_before sink_after result
   pub says : SaysIn o (IsTexts asked) sink_before sink_after result
   pub wrote : WroteForIn h o (Some asked) files_before files_after sink_before sink_after result
-  -- at most one call of the files failed, and ended it
+  -- at most one call of the files failed, and none unless it ended for that
   pub file_count : FaultsOnce (h.faults files_before) (h.faults files_after) result
   pub cause : result ≡ Err stop.FileFault → h.contents files_before ≡ None → Rose (h.faults files_before) (h.faults files_after)
   pub usage : result ≡ Err stop.Usage → ⊥
@@ -83,7 +83,7 @@ pub record Done {H I O : Type 0} (h : files.Ghosts H) (i : source.Ghosts I) (o :
   pub alone : IfErr result (λ s. RefusesAlone h asked files_before files_after (status_number s))
   pub cause : result ≡ Err stop.FileFault → h.contents files_before ≡ None
       → Rose (h.faults files_before) (h.faults files_after) ⊎ Rose (i.faults source_before) (i.faults source_after)
-  -- at most one call of the files failed, and ended it
+  -- at most one call of the files failed, and none unless it ended for that
   pub file_count : FaultsOnce (h.faults files_before) (h.faults files_after) result
   pub wrote : WroteForIn h o asked files_before files_after sink_before sink_after result
   pub later : o.faults sink_before ≤ o.faults sink_after

@@ -129,7 +129,7 @@ abbrev pub line_failures : Stop → Stop → ℕ → ℕ
 line_failures SinkFault now before = before
 line_failures s now before = sink_failed now before
 
--- And by the exit status. The first call that fails ends the listing; the line of that may be cut by the sink, or find no memory.
+-- And by the exit status, of the source: it failed once where that is told. The line of such a stop may be cut, or find no memory.
 pub record FailsOnce (status before after : ℕ) : Type 0 where
   pub once : (after ≡ before) ⊎ (after ≡ raised before)
   pub failed : status ≡ 2 → after ≡ raised before

@@ -192,7 +192,7 @@ pub fn fip_top<H: Files, I: Source, O: Sink>(
     ensures cause { result ≡ 2 → H.contents files.old ≡ None
         → Rose (H.faults files.old) (H.faults files.new)
         ⊎ Rose (I.faults source.old) (I.faults source.new) }
-    // A command ends at the first call of the files that fails, whatever files there are.
+    // At most one call of the files fails, and none but at status 2, 3 and 9, whatever files there are.
     ensures file_count { FailsAtMostOnce result (H.faults files.old) (H.faults files.new) }
     // Where the sink failed no call of the files failed, and none of a source that is listed, unless the line that told so is cut.
     ensures sink_alone { result ≡ 3 → SinkAloneIn O.Sink (asked (map string_bytes words.now))

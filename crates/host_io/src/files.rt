@@ -37,8 +37,8 @@ pub trait Files {
     /// their own: who names one has to know that it is there.
     ghost spares: { Self → Self → Access → Type 0 };
 
-    /// How many bytes the file has. `None` says that no file has the name; files that are not told
-    /// answer `Failed` there.
+    /// How many bytes the file has. `None` says that no file has the name, which files that are not told
+    /// never say.
     fn size(&mut self, name: &str) -> Result<Option<u64>, Failed>
         ensures size { IfOk result (TellsSize (contents self.old) name.now) }
         ensures same { contents self.new ≡ contents self.old }
@@ -97,10 +97,10 @@ pub trait Files {
     /// are those that the files had before, also where the made file is one of them. Files that are not
     /// told stay so.
     ///
-    /// `Unread` says that a piece could not be read: the files are as they were, and no write is counted.
-    /// `Failed` says that the file could not be written. No other name has changed then, and this one is
-    /// as it was, unless a file may have been torn, which is counted. Want of memory, which may be taken
-    /// from `alloc`, leaves the files as they were.
+    /// `Unread` is for a piece that can't be read: the files are as they were, and no write is counted.
+    /// `Failed` is for a file that can't be written. No other name has changed then, and this one is as it
+    /// was, unless a file may have been torn, which is counted. Want of memory, which may be taken from
+    /// `alloc`, leaves the files as they were.
     fn write_joined(
         &mut self,
         alloc: Global,
