@@ -2,15 +2,14 @@
 ghost use Rattle.std.specs.Prelude.{◌≡◌, ◌≤◌, ◌<◌, ◌+◌, ◌^◌, ◌∷◌, [], All, IfOk, List, Some, Ok, Err, length, ℕ, ◌++◌, IfErr};
 ghost use Rattle.std.specs.Io.KnownBytes.{Consumes, IsAtEnd};
 ghost use Rattle.host_io.specs.Contents.{Directory};
-ghost use Rattle.host_io.specs.Once.{ReadsOnce};
 ghost use Rattle.host_io.specs.Reads.{ReadsFile};
 ghost use Rattle.fwu_formats.specs.Package.{toc_of};
 ghost use Rattle.fip_tables.specs.Answers.{decided};
 ghost use Rattle.capsule_tables.specs.Answers.{IsSomeTable};
 ghost use Rattle.fip_tables.specs.Stream.{Fed};
 ghost use Rattle.fip_making.specs.Refusals.{IsOfCapsule, IsOfPackage, IsOfSource};
-ghost use Rattle.fip_making.specs.Seen.{FedSomeIn, GivenToIn, GivesIn, ReadsOnlyIn};
-ghost use Rattle.fip_making.specs.Answers.{source_failures, IsLate};
+ghost use Rattle.fip_making.specs.Seen.{FedSomeIn, GivenToIn, GivesIn, ReadsOnlyIn, ReadsSource};
+ghost use Rattle.fip_making.specs.Answers.{AsksNothing, IsLate};
 ghost use Rattle.fip_making.specs.Values.{StopsInTime, after, capsule_in, given_table, size_in, sized_table, source_limit, IsTable};
 ghost use Rattle.fip_making.specs.Source.{EndsAs};
 ghost use Rattle.fip_making.specs.declared.stops.Stop.TheVariants as stop;
@@ -76,12 +75,7 @@ fn feed_some<I: Source>(source: &mut I, stream: &mut StreamToc) -> Result<usize,
     ensures fed { (given : List ℕ) → Fed stream.old given
         → (piece : List ℕ) × FedSomeIn I.Source stream.new given piece source.old source.new result }
     ensures made { IfOk result (λ n. I.reads source.old source.new (Some n ∷ [])) }
-    ensures once { ReadsOnce I.Source source.old source.new }
-    ensures usage { result ≡ Err stop.Usage → ⊥ }
-    ensures sink { result ≡ Err stop.SinkFault → ⊥ }
-    ensures later { I.faults source.old ≤ I.faults source.new }
-    ensures count { I.faults source.new ≡ source_failures result (I.faults source.old) }
-    ensures refusals { IfErr result IsOfSource }
+    ensures source { ReadsSource I.Source source.old source.new result }
     ensures memory { result ≡ Err stop.NoMemory → ⊥ }
 {
     let mut buffer = [0u8; 4096];
@@ -98,9 +92,7 @@ fn ended(stream: StreamToc, count: u64) -> Result<(Toc, u64), Stop>
     ensures table { (given : List ℕ) → Fed stream given → length given ≡ count
         → decided (toc_of given) ≡ Ok tt
         → EndsAs given result }
-    ensures usage { result ≡ Err stop.Usage → ⊥ }
-    ensures sink { result ≡ Err stop.SinkFault → ⊥ }
-    ensures fault { result ≡ Err stop.FileFault → ⊥ }
+    ensures asks { AsksNothing result }
     ensures refusals { IfErr result IsOfSource }
     ensures memory { result ≡ Err stop.NoMemory → ⊥ }
 {
@@ -115,13 +107,7 @@ fn ended(stream: StreamToc, count: u64) -> Result<(Toc, u64), Stop>
 pub fn read_given<I: Source>(source: &mut I) -> Result<(Toc, u64), Stop>
     ensures given { (given : List ℕ) × StopsInTime given × GivenToIn I.Source (λ t. t) given_table
         source.old source.new result given }
-    // No read is made behind one that gave no bytes or failed.
-    ensures once { ReadsOnce I.Source source.old source.new }
-    ensures usage { result ≡ Err stop.Usage → ⊥ }
-    ensures sink { result ≡ Err stop.SinkFault → ⊥ }
-    ensures later { I.faults source.old ≤ I.faults source.new }
-    ensures count { I.faults source.new ≡ source_failures result (I.faults source.old) }
-    ensures refusals { IfErr result IsOfSource }
+    ensures source { ReadsSource I.Source source.old source.new result }
     ensures memory { result ≡ Err stop.NoMemory → ⊥ }
 {
     let mut stream = StreamToc::new();

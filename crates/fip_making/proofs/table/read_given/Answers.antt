@@ -19,8 +19,8 @@ pub loop-count-preserved : goal.loop-count-preserved
 loop-count-preserved g c =
     let so-far = c.loop-count.invariant.read.so-far in record {
       read =
-          goes-on _ _ _ _ _ _ c.loop-count.stream c.feed_some.new.stream c.loop-count.count c.in_ok-some.some (Rose (g.I.Source.faults c.loop-count.source) (g.I.Source.faults c.feed_some.new.source)) c.loop-count.invariant.read (omega (arith, c.loop-count-test.true)) c.in_ok-some.ensures.few c.feed_some.ensures.later
-          c.in_ok-some.ensures.count (c.in_ok-some.ensures.fed so-far.given so-far.fed);
+          goes-on _ _ _ _ _ _ c.loop-count.stream c.feed_some.new.stream c.loop-count.count c.in_ok-some.some (Rose (g.I.Source.faults c.loop-count.source) (g.I.Source.faults c.feed_some.new.source)) c.loop-count.invariant.read (omega (arith, c.loop-count-test.true)) c.in_ok-some.ensures.few c.in_ok-some.ensures.source.later
+          c.in_ok-some.ensures.source.count (c.in_ok-some.ensures.fed so-far.given so-far.fed);
       reads =
           bytes-then g.I.Source g.met.I.Source.joins c.args.source.now c.loop-count.source c.feed_some.new.source c.loop-count.invariant.reads
           (bytes-one g.I.Source c.loop-count.source c.feed_some.new.source _ c.in_ok-some.ensures.made (omega arith));
@@ -42,25 +42,37 @@ returns-then-some-eq0-clause-given g c =
 pub returns-clause-given : goal.returns-clause-given
 returns-clause-given g c = too-long _ _ _ _ c.loop-count.stream c.loop-count.count (Unit {0}) c.loop-count.invariant.read (omega (arith, c.loop-count-test.false))
 
-pub returns-in_err-some-clause-count : goal.returns-in_err-some-clause-count
-returns-in_err-some-clause-count g c =
-    rw (handed-on c.from_residual.result c.in_err-some.field-0.0 c.from_residual.ensures.1) (c.in_err-some.ensures.count ∙ ap (source_failed c.in_err-some.field-0.0) c.loop-count.invariant.read.none)
+-- ---- how often a call failed, and that no read is made behind the end or behind a failure
 
-pub returns-then-some-eq0-clause-count : goal.returns-then-some-eq0-clause-count
-returns-then-some-eq0-clause-count g c = c.in_ok-some.ensures.count ∙ c.loop-count.invariant.read.none ∙ ended-quiet c.ended.result _ c.ended.ensures.fault
+pub returns-in_err-some-clause-source : goal.returns-in_err-some-clause-source
+returns-in_err-some-clause-source g c =
+    let e = c.in_err-some.ensures.source in
+    rw (handed-on c.from_residual.result c.in_err-some.field-0.0 c.from_residual.ensures.1) (record {
+      once = once-then g.I.Source g.met.I.Source.joins c.args.source.now c.loop-count.source c.feed_some.new.source c.loop-count.invariant.reads e.once;
+      later = omega (arith, c.loop-count.invariant.read.later, e.later);
+      count = e.count ∙ ap (source_failed c.in_err-some.field-0.0) c.loop-count.invariant.read.none;
+      usage = λ same. e.usage cc;
+      sink = λ same. e.sink cc;
+      refusals = e.refusals;
+    })
 
-pub returns-clause-count : goal.returns-clause-count
-returns-clause-count g c = c.loop-count.invariant.read.none
+pub returns-then-some-eq0-clause-source : goal.returns-then-some-eq0-clause-source
+returns-then-some-eq0-clause-source g c =
+    let e = c.in_ok-some.ensures.source in record {
+      once = once-then g.I.Source g.met.I.Source.joins c.args.source.now c.loop-count.source c.feed_some.new.source c.loop-count.invariant.reads e.once;
+      later = omega (arith, c.loop-count.invariant.read.later, e.later);
+      count = e.count ∙ c.loop-count.invariant.read.none ∙ ended-quiet c.ended.result _ c.ended.ensures.asks.file;
+      usage = c.ended.ensures.asks.usage;
+      sink = c.ended.ensures.asks.sink;
+      refusals = c.ended.ensures.refusals;
+    }
 
--- ---- no read behind the end, or behind a failure
-
-pub returns-in_err-some-clause-once : goal.returns-in_err-some-clause-once
-returns-in_err-some-clause-once g c =
-    once-then g.I.Source g.met.I.Source.joins c.args.source.now c.loop-count.source c.feed_some.new.source c.loop-count.invariant.reads c.feed_some.ensures.once
-
-pub returns-then-some-eq0-clause-once : goal.returns-then-some-eq0-clause-once
-returns-then-some-eq0-clause-once g c =
-    once-then g.I.Source g.met.I.Source.joins c.args.source.now c.loop-count.source c.feed_some.new.source c.loop-count.invariant.reads c.feed_some.ensures.once
-
-pub returns-clause-once : goal.returns-clause-once
-returns-clause-once g c = once-bytes g.I.Source c.args.source.now c.loop-count.source c.loop-count.invariant.reads
+pub returns-clause-source : goal.returns-clause-source
+returns-clause-source g c = record {
+  once = once-bytes g.I.Source c.args.source.now c.loop-count.source c.loop-count.invariant.reads;
+  later = c.loop-count.invariant.read.later;
+  count = c.loop-count.invariant.read.none;
+  usage = λ e. cc;
+  sink = λ e. cc;
+  refusals = tt;
+}
