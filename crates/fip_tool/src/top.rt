@@ -22,7 +22,7 @@ ghost use Rattle.fip_making.specs.declared.stops.Stop.TheVariants.{SinkFault};
 
 use crate::capsules::{run_capsule, run_package};
 use crate::info::{file_info, source_info};
-use crate::making::{run_create, run_remove, run_update};
+use crate::making::{Remade, run_create, run_remove, run_update};
 use crate::manifest::run_manifest;
 use crate::printing::print;
 use crate::stop_lines::stop_line;
@@ -118,13 +118,27 @@ fn command<H: Files, I: Source, O: Sink>(
             from,
             out,
             parts,
-        } => run_update(alloc, files, sink, *align, from, out, parts.as_slice()),
+        } => {
+            let remade = Remade {
+                align: *align,
+                from,
+                out,
+            };
+            run_update(alloc, files, sink, &remade, parts.as_slice())
+        }
         FipOrder::Remove {
             align,
             from,
             out,
             names,
-        } => run_remove(alloc, files, sink, *align, from, out, names.as_slice()),
+        } => {
+            let remade = Remade {
+                align: *align,
+                from,
+                out,
+            };
+            run_remove(alloc, files, sink, &remade, names.as_slice())
+        }
         FipOrder::Unpack {
             from,
             prefix,
