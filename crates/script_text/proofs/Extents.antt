@@ -129,6 +129,19 @@ extent_with e later text b few_bytes few_ends bytes_is ends_is of = record {
   few = omega (arith, few_bytes, of.bytes, length_with text b);
 }
 
+-- a whole piece more, after which one line end more would not be too much
+pub extent_with_piece : (e later : Extent) (text piece : List ℕ) → e.bytes + length piece ≤ 4194304 → e.ends + ends piece < 65536 → later.bytes ≡ e.bytes + length piece → later.ends ≡ e.ends + ends piece → IsExtentOf e text → IsExtentOf later (text ++ piece)
+unfolding is_too_long
+extent_with_piece e later text piece few_bytes few_ends bytes_is ends_is of =
+    let long : length (text ++ piece) ≡ e.bytes + length piece = omega (arith, of.bytes, length-append text piece) in
+    let count : ends (text ++ piece) ≡ e.ends + ends piece = omega (arith, of.ends, sum_by-append (λ x. cond (is_end x) 1 0) text piece) in
+    record {
+      bytes = omega (arith, bytes_is, long);
+      ends = omega (arith, ends_is, count);
+      within = or_from (nat_lt 4194304 (length (text ++ piece))) (nat_lt 65536 (length (script_lines (text ++ piece)))) (le-ltb 4194304 (length (text ++ piece)) (omega (arith, few_bytes, long))) (le-ltb 65536 (length (script_lines (text ++ piece))) (omega (arith, lines_few (text ++ piece), few_ends, count)));
+      few = omega (arith, few_bytes, long);
+    }
+
 -- the bytes of a piece up to an index, and the next
 pub next_byte : (text piece : List ℕ) (i b : ℕ) → i < length piece → b ≡ get_or piece i 0 → (text ++ take i piece) ++ b ∷ [] ≡ text ++ take (i + 1) piece
 next_byte text piece i b within is = append_assoc text (take i piece) (b ∷ []) ∙ ap (λ (n : ℕ). text ++ (take i piece ++ n ∷ [])) is ∙ ap (λ (l : List ℕ). text ++ l) (sym (take_more piece i 0 within))

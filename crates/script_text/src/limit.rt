@@ -1,5 +1,5 @@
 //! The limits of a script's text: 4,194,304 bytes, and 65,536 lines.
-ghost use Rattle.std.specs.Prelude.{◌≡◌, ◌+◌, ◌<◌, ◌≤◌, ◌++◌, ◌∷◌, [], IsTrue, List, ℕ, length, take, false, true};
+ghost use Rattle.std.specs.Prelude.{◌≡◌, ◌+◌, ◌<◌, ◌≤◌, ◌==◌, ◌++◌, ◌∷◌, [], IsTrue, List, ℕ, count_by, length, take, false, true};
 ghost use Rattle.std.specs.Bool.{OnTrue, OnFalse};
 ghost use Rattle.fwu_model.specs.Script.{is_too_long};
 ghost use Rattle.script_text.specs.Limit.{Extent, IsExtentOf};
@@ -57,6 +57,24 @@ impl TextLimit {
         true
     }
 
+    /// Takes a whole piece, or leaves it where it has too many bytes, or as many line ends as the text may have more.
+    fn take_whole(&mut self, piece: &[u8]) -> bool
+        ensures taken { OnTrue result ((text : List ℕ) → IsExtentOf self.old text →
+            IsExtentOf self.new (text ++ piece.now)) }
+        ensures left { OnFalse result (self.new ≡ self.old) }
+    {
+        if piece.len() > (MOST_BYTES - self.bytes) as usize {
+            return false;
+        }
+        let ends = line_ends(piece);
+        if ends >= MOST_LINES - self.ends {
+            return false;
+        }
+        self.bytes += piece.len() as u32;
+        self.ends += ends;
+        true
+    }
+
     /// Takes the bytes of a piece up to the first with which the text would be too long, and tells how many these are.
     pub fn feed(&mut self, piece: &[u8]) -> usize
         ensures some { result ≤ length piece.now }
@@ -65,6 +83,9 @@ impl TextLimit {
         ensures full { result < length piece.now → (text : List ℕ) → IsExtentOf self.old text →
             is_too_long (text ++ take (result + 1) piece.now) ≡ true }
     {
+        if self.take_whole(piece) {
+            return piece.len();
+        }
         for (place, byte) in piece.iter().enumerate() {
             if !self.take(*byte) {
                 return place;
@@ -72,6 +93,18 @@ impl TextLimit {
         }
         piece.len()
     }
+}
+
+/// The number of line ends in a piece.
+fn line_ends(piece: &[u8]) -> u32
+    requires { length piece.now ≤ 4194304 }
+    ensures { result ≡ count_by (λ b. b == 10) piece.now }
+{
+    let mut ends = 0;
+    for byte in piece {
+        ends += u32::from(*byte == b'\n');
+    }
+    ends
 }
 
 /// Whether a text has more than 4,194,304 bytes, or a byte behind its line end 65,536.

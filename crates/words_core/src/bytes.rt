@@ -1,52 +1,51 @@
 //! Bytes as hexadecimal digits.
-ghost use Rattle.std.specs.Prelude.{◌≡◌, ◌*◌, ◌<◌, IfOk, Ok, Some, length, option_map};
-ghost use Rattle.std.specs.Bool.{OnTrue};
-ghost use Rattle.hex.specs.Hex.{decode_pairs, hex_digit_value};
+ghost use Rattle.std.specs.Prelude.{◌≡◌, ◌+◌, ◌*◌, ◌/◌, ◌%◌, Ok, IsTrue, IfOk, length, option_map};
+ghost use Rattle.std.specs.List.{list_all};
+ghost use Rattle.hex.specs.Hex.{decode_pairs, is_hex_digit};
 ghost use Rattle.fwu_formats.specs.Words.{bytes_of};
 
 use crate::names::is_word;
 use base_core::NoMemory;
-use hex::FromHexError;
-use std::alloc::Global;
+use std::alloc::{AllocError, Global};
 
-/// The value of each byte as a digit of either case; above 15 where it is none.
-const VALUES: [u8; 256] = [
-    255, 255, 255, 255, 255, 255, 255, 255, 255, 255, 255, 255, 255, 255, 255, 255, 255, 255, 255,
-    255, 255, 255, 255, 255, 255, 255, 255, 255, 255, 255, 255, 255, 255, 255, 255, 255, 255, 255,
-    255, 255, 255, 255, 255, 255, 255, 255, 255, 255, 0, 1, 2, 3, 4, 5, 6, 7, 8, 9, 255, 255, 255,
-    255, 255, 255, 255, 10, 11, 12, 13, 14, 15, 255, 255, 255, 255, 255, 255, 255, 255, 255, 255,
-    255, 255, 255, 255, 255, 255, 255, 255, 255, 255, 255, 255, 255, 255, 255, 255, 10, 11, 12, 13,
-    14, 15, 255, 255, 255, 255, 255, 255, 255, 255, 255, 255, 255, 255, 255, 255, 255, 255, 255,
-    255, 255, 255, 255, 255, 255, 255, 255, 255, 255, 255, 255, 255, 255, 255, 255, 255, 255, 255,
-    255, 255, 255, 255, 255, 255, 255, 255, 255, 255, 255, 255, 255, 255, 255, 255, 255, 255, 255,
-    255, 255, 255, 255, 255, 255, 255, 255, 255, 255, 255, 255, 255, 255, 255, 255, 255, 255, 255,
-    255, 255, 255, 255, 255, 255, 255, 255, 255, 255, 255, 255, 255, 255, 255, 255, 255, 255, 255,
-    255, 255, 255, 255, 255, 255, 255, 255, 255, 255, 255, 255, 255, 255, 255, 255, 255, 255, 255,
-    255, 255, 255, 255, 255, 255, 255, 255, 255, 255, 255, 255, 255, 255, 255, 255, 255, 255, 255,
-    255, 255, 255, 255, 255, 255, 255, 255, 255, 255, 255, 255, 255, 255, 255, 255, 255, 255, 255,
-    255, 255, 255,
-];
-
-/// The value of a digit; above 15 where it is none.
-fn value_of_digit(c: u8) -> u8
-    ensures { result < 16 → hex_digit_value c ≡ Some result }
-{
-    VALUES[usize::from(c)]
-}
-
-/// The bytes that digits spell, and whether all are digits. No step depends on a digit's value.
-fn read_pairs(digits: &[u8], out: &mut [u8]) -> bool
-    requires { length digits.now ≡ 2 * length out.old }
-    ensures { OnTrue result (decode_pairs 0 digits.now ≡ Ok out.new) }
+/// Whether all bytes are digits. It doesn't stop at the first that is none, so that many are tested at once.
+fn all_digits(word: &[u8]) -> bool
+    ensures { result ≡ list_all is_hex_digit word.now }
 {
     let mut good = true;
-    'pairs: for i in 0..out.len() {
-        let high = value_of_digit(digits[2 * i]);
-        let low = value_of_digit(digits[2 * i + 1]);
-        good = good & (high < 16) & (low < 16);
-        out[i] = high.wrapping_mul(16).wrapping_add(low);
+    for c in word {
+        good = good & c.is_ascii_hexdigit();
     }
     good
+}
+
+/// The value of a digit of either case: its low four bits, and 9 more for a letter, which is 64 at least.
+fn value_of_digit(c: u8) -> u8
+    ensures { result ≡ c % 16 + 9 * (c / 64) }
+{
+    c % 16 + 9 * (c / 64)
+}
+
+/// The byte that two digits spell.
+fn byte_of(high: u8, low: u8) -> u8
+    ensures { result ≡ ((high % 16 + 9 * (high / 64)) * 16 % 256 + (low % 16 + 9 * (low / 64))) % 256 }
+{
+    value_of_digit(high)
+        .wrapping_mul(16)
+        .wrapping_add(value_of_digit(low))
+}
+
+/// The bytes that digits spell, two each.
+fn bytes_of_digits(alloc: Global, digits: &[u8]) -> Result<Vec<u8>, AllocError>
+    requires even { length digits.now % 2 ≡ 0 }
+    requires digits { IsTrue (list_all is_hex_digit digits.now) }
+    ensures { IfOk result (λ bytes. decode_pairs 0 digits.now ≡ Ok bytes.items) }
+{
+    let (pairs, _) = digits.as_chunks::<2>();
+    pairs
+        .iter()
+        .map(|pair| byte_of(pair[0], pair[1]))
+        .collect(alloc)
 }
 
 /// The bytes that a word spells: `-` for none, or two hexadecimal digits of either case for each. `None` where it spells no bytes.
@@ -56,18 +55,8 @@ pub fn hex_bytes(alloc: Global, word: &[u8]) -> Result<Option<Vec<u8>>, NoMemory
     if is_word(word, b"-") {
         return Ok(Some(Vec::new(alloc)));
     }
-    if word.is_empty() {
+    if word.is_empty() || word.len() % 2 != 0 || !all_digits(word) {
         return Ok(None);
     }
-    if word.len() % 2 == 0 {
-        let mut out = vec![in alloc; 0; word.len() / 2]?;
-        if read_pairs(word, out.as_mut_slice()) {
-            return Ok(Some(out));
-        }
-    }
-    match hex::decode(alloc, word) {
-        Ok(bytes) => Ok(Some(bytes)),
-        Err(FromHexError::OutOfMemory) => Err(NoMemory),
-        Err(_) => Ok(None),
-    }
+    Ok(Some(bytes_of_digits(alloc, word)?))
 }
