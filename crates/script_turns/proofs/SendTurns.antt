@@ -698,19 +698,6 @@ module _ (partly : Bool) (passes : List ℕ → Bool) (tells : Bool) (files : Op
       stays : Stays old new
       stays = ∥∥₁_elim some (hlevel props) (stays-of partly files name request passes result old new sends)
 
--- the entries of a partial sending, where a read failed
-pub unread-over : (P : List Entry → Type 0) (entries : List Entry) (result : Result Sent SendStop) → OnUnread result (P entries)
-    → OnUnread result ((sent : List Entry) × (sent ≡ entries) × P sent)
-unread-over P entries (Ok sent) unread = tt
-unread-over P entries (Err (MissingImage guid)) unread = tt
-unread-over P entries (Err (ImageTooLarge guid)) unread = tt
-unread-over P entries (Err (Begin st)) unread = tt
-unread-over P entries (Err (End st)) unread = tt
-unread-over P entries (Err ReadFailed) unread = (entries, refl, unread)
-unread-over P entries (Err Lost) unread = tt
-unread-over P entries (Err Fault) unread = tt
-unread-over P entries (Err Gone) unread = tt
-
 -- ---- what the code has
 
 -- what is known of the flash of an agent that is there, or is not

@@ -145,3 +145,14 @@ pub record UnreadTakes (writes size : ℕ) (entries : List Entry) (armed arming 
   pub below : images < length entries
   pub more : size * pieces < (slice_index_or entries images no_entry).size
   pub takes : Takes (writes + writes_up_to size entries images pieces) armed arming
+
+-- What a sending takes, by its result: of entries that are so, with so many erases and programs up to its end, and so many behind its
+-- begin. There is no other.
+pub record SendTakesBy {T : Type 0} (result : Result T SendStop) (writes begun size : ℕ) (IsSent : List Entry → Type 0)
+    (armed arming : Option Arming) : Type 0 where
+  -- when done, those up to the end, and those of the end's switch
+  pub done : OnOk result (SendTakes writes armed arming)
+  -- where the end is refused, so many but for the switch
+  pub unswitched : OnRefusedEnd result (Takes writes armed arming)
+  -- where the file could not be read, those up to that read, and none behind it
+  pub unread : OnUnread result ((entries : List Entry) × IsSent entries × UnreadTakes begun size entries armed arming)

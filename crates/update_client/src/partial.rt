@@ -7,8 +7,8 @@ ghost use Rattle.fwu_model.specs.Answer.{partial_fault};
 ghost use Rattle.host_io.specs.Reads.{ReadsFile};
 ghost use Rattle.agent_machine.specs.Moment.{Shows};
 ghost use Rattle.agent_calls.specs.Shown.{device, fields, gone, moment};
-ghost use Rattle.agent_calls.specs.Takes.{Takes, writes_to_begin};
-ghost use Rattle.update_client.specs.Takes.{OnRefusedEnd, OnUnread, SendTakes, UnreadTakes};
+ghost use Rattle.agent_calls.specs.Takes.{writes_to_begin};
+ghost use Rattle.update_client.specs.Takes.{SendTakesBy};
 ghost use Rattle.update_client.specs.Packages.{HoldsPayloads};
 ghost use Rattle.update_client.specs.Pieces.{ReadsBy};
 ghost use Rattle.update_client.specs.Sends.{FaultsBy, GoneBy, IsEarly, IsSwitched};
@@ -92,21 +92,12 @@ pub fn send_partial<D: Flash, H: Files, V: Verifier>(
     ensures counted { IfOk result (IsCountedOver (fields agent.old).layout.rows toc.now) }
     ensures goes { IsFalse (gone agent.old) →
         Goes D.Flash (flash_of result) (device agent.old) (device agent.new) }
-    // When done, on every device: the erases and programs of the begin, of each copy in pieces of
-    // 4096 bytes, of each image's writes, of which each has as many bytes as the buffer but the last
-    // one of an image, and of its commit, and those of the end's switch. There is no other.
-    ensures spent { OnOk result (let f = fields agent.old in
-        SendTakes (writes_to_begin f + writes_over (length buf.old) f.layout.rows f.lengths toc.now)
-        (D.arming (device agent.old)) (D.arming (device agent.new))) }
-    // Where the end is refused, so many but for the switch.
-    ensures unswitched { OnRefusedEnd result (let f = fields agent.old in
-        Takes (writes_to_begin f + writes_over (length buf.old) f.layout.rows f.lengths toc.now)
-        (D.arming (device agent.old)) (D.arming (device agent.new))) }
-    // Where the file could not be read, those up to that read, and none behind it.
-    ensures unsent { OnUnread result (let f = fields agent.old in
-        UnreadTakes (writes_to_begin f + writes_copied f.layout.rows f.lengths toc.now)
-        (length buf.old) (present f.layout.rows toc.now)
-        (D.arming (device agent.old)) (D.arming (device agent.new))) }
+    // On every device: the erases and programs of the begin, of each copy in pieces of 4096 bytes, and of
+    // each image's writes and its commit. Each write has as many bytes as the buffer, but the last one of an image.
+    ensures takes { let f = fields agent.old in SendTakesBy result
+        (writes_to_begin f + writes_over (length buf.old) f.layout.rows f.lengths toc.now)
+        (writes_to_begin f + writes_copied f.layout.rows f.lengths toc.now) (length buf.old)
+        (λ entries. entries ≡ present f.layout.rows toc.now) (D.arming (device agent.old)) (D.arming (device agent.new)) }
     ensures buffer { length buf.new ≡ length buf.old }
     ensures files { ReadsFile H.Files name.now files.old files.new }
     ensures reads { ReadsBy (H.faults files.old) (H.faults files.new) result }

@@ -1,5 +1,5 @@
 //! Sending a package to the agent.
-ghost use Rattle.std.specs.Prelude.{◌≡◌, ◌+◌, ◌<◌, List, length, IsFalse, IfOk, OnOk};
+ghost use Rattle.std.specs.Prelude.{◌≡◌, ◌+◌, ◌<◌, length, IsFalse, IfOk, OnOk};
 ghost use Rattle.flash_core.specs.Calls.{Goes};
 ghost use Rattle.fwu_model.specs.State.{State};
 ghost use Rattle.fwu_model.specs.Session.{Session};
@@ -11,10 +11,9 @@ ghost use Rattle.update_client.specs.Halts.{flash_of};
 ghost use Rattle.update_client.specs.Packages.{HoldsPayloads};
 ghost use Rattle.update_client.specs.Pieces.{ReadsBy};
 ghost use Rattle.update_client.specs.Sends.{FaultsBy, GoneBy, Installs, IsCounted, IsEarly, IsSwitched, Sends};
-ghost use Rattle.agent_calls.specs.Takes.{Takes, writes_to_begin};
-ghost use Rattle.fwu_formats.specs.Package.{Entry};
+ghost use Rattle.agent_calls.specs.Takes.{writes_to_begin};
 ghost use Rattle.update_client.specs.Choosing.{AreChosen};
-ghost use Rattle.update_client.specs.Takes.{OnRefusedEnd, OnUnread, SendTakes, UnreadTakes, writes_sent};
+ghost use Rattle.update_client.specs.Takes.{SendTakesBy, writes_sent};
 
 use crate::choosing::{choose, skipped};
 use crate::finishing::install;
@@ -77,21 +76,11 @@ pub fn send<D: Flash, H: Files, V: Verifier>(
         (gone agent.old) (gone agent.new) }
     ensures goes { IsFalse (gone agent.old) →
         Goes D.Flash (flash_of result) (device agent.old) (device agent.new) }
-    // When done, on every device: the erases and programs of the begin, of each image's writes, of
-    // which each has as many bytes as the buffer but the last one of an image, and of its commit, and
-    // those of the end's switch. There is no other.
-    ensures spent { OnOk result (let f = fields agent.old in
-        SendTakes (writes_to_begin f + writes_sent (length buf.old) f.layout.rows toc.now)
-        (D.arming (device agent.old)) (D.arming (device agent.new))) }
-    // Where the end is refused, so many but for the switch.
-    ensures unswitched { OnRefusedEnd result (let f = fields agent.old in
-        Takes (writes_to_begin f + writes_sent (length buf.old) f.layout.rows toc.now)
-        (D.arming (device agent.old)) (D.arming (device agent.new))) }
-    // Where the file could not be read, those up to that read, and none behind it.
-    ensures unsent { OnUnread result (let f = fields agent.old in
-        (entries : List Entry) × AreChosen f.layout.rows toc.now entries
-        × UnreadTakes (writes_to_begin f) (length buf.old) entries
-        (D.arming (device agent.old)) (D.arming (device agent.new))) }
+    // On every device: the erases and programs of the begin, and of each image's writes and its commit.
+    // Each write has as many bytes as the buffer, but the last one of an image.
+    ensures takes { let f = fields agent.old in SendTakesBy result
+        (writes_to_begin f + writes_sent (length buf.old) f.layout.rows toc.now) (writes_to_begin f) (length buf.old)
+        (AreChosen f.layout.rows toc.now) (D.arming (device agent.old)) (D.arming (device agent.new)) }
     ensures buffer { length buf.new ≡ length buf.old }
     ensures files { ReadsFile H.Files name.now files.old files.new }
     ensures reads { ReadsBy (H.faults files.old) (H.faults files.new) result }

@@ -5,11 +5,8 @@ use Rattle.agent_machine.proofs.Showing.{shows-some}
 use Rattle.agent_calls.specs.declared.agent.Agent.{Agent}
 use Rattle.agent_calls.specs.Shown.{device as agent_device, fields, moment}
 use Rattle.update_client.specs.Partial.{SendsOver}
-use Rattle.base_core.specs.Block.{block_bytes}
-use Rattle.update_client.specs.Takes.{UnreadTakes}
-use Rattle.script_turns.specs.Takes.{writes_before}
 use Rattle.script_turns.specs.Calls.{moment_where}
-use Rattle.script_turns.proofs.SendTurns.{moment-sent, sending-over, sent-free, sent-takes, sent-turn, shows-known, turns-as, unread-over, with-power}
+use Rattle.script_turns.proofs.SendTurns.{moment-sent, sending-over, sent-free, sent-takes, sent-turn, shows-known, turns-as, with-power}
 use Rattle.script_turns.proofs.sending.send_partial_by.Goals as goal
 
 pub returns-clause-turns : goal.returns-clause-turns
@@ -32,8 +29,7 @@ returns-clause-turns g c =
     (sent-takes true (g.V.Verifier.passes c.args.verifier.now) g.D.Flash.tells (g.H.Files.contents c.args.files.now) (string_bytes c.args.name) c.args.request (fields agent) (fields new) _ _ _ _ _ _ 0 0 sent.result _ c.args.toc.now (sent.ensures.goes here).power
     (λ early. let same = sent.ensures.untouched early in
     (ap (λ (a : Agent _ g.D.Flash). g.D.Flash.told (agent_device a)) same, ap (λ (a : Agent _ g.D.Flash). g.D.Flash.counts (agent_device a)) same, ap (λ (a : Agent _ g.D.Flash). g.D.Flash.arming (agent_device a)) same))
-    c.requires.table sent.ensures.spent sent.ensures.unswitched (unread-over (λ entries. UnreadTakes (writes_before true (fields agent) c.args.toc.now) block_bytes entries
-    (g.D.Flash.arming (agent_device agent)) (g.D.Flash.arming (agent_device new))) _ sent.result sent.ensures.unsent))
+    c.requires.table sent.ensures.takes.done sent.ensures.takes.unswitched sent.ensures.takes.unread)
     (sent-free true (g.V.Verifier.passes c.args.verifier.now) g.D.Flash.tells (g.H.Files.contents c.args.files.now) (string_bytes c.args.name) c.args.request (fields agent) (fields new) (g.D.Flash.told (agent_device agent)) (g.D.Flash.told (agent_device new)) _ _ _ _ 0 0 sent.result true (sent.ensures.goes here).unarmed))
 
 pub returns-clause-reads : goal.returns-clause-reads

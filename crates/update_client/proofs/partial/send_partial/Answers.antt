@@ -10,7 +10,7 @@ use Rattle.agent_machine.specs.Ends.{TakesSwitch}
 use Rattle.agent_calls.specs.Takes.{Takes, writes_to_begin, writes_to_copy}
 use Rattle.agent_calls.proofs.Taking.{takes-some, takes-then}
 use Rattle.agent_machine.proofs.Showing.{shows-some}
-use Rattle.update_client.specs.Takes.{InstallTakes, writes_in, ImagesStart, ImagesTake, OnRefusedEnd, OnUnread, UnreadTakes, writes_up_to}
+use Rattle.update_client.specs.Takes.{InstallTakes, writes_in, ImagesStart, ImagesTake, SendTakesBy, UnreadTakes, writes_up_to}
 use Rattle.agent_calls.specs.Copies.{BeginsPartly}
 use Rattle.flash_core.specs.Calls.{Goes}
 use Rattle.update_client.specs.declared.stops.Sent.{Sent}
@@ -157,38 +157,6 @@ returns-clause-switched g c = λ here.
     record { now = i.now; session = i.session; shows = i.shows; active = i.installed.active; previous = i.installed.previous })
     (shows-some (fields agent) (agent.fitting here) g.D.Flash.tells (g.D.Flash.told agent.flash) (agent.knows here) (agent.some here))
 
-pub returns-clause-spent : goal.returns-clause-spent
-returns-clause-spent g c =
-    let agent = c.args.agent.now in
-    let here = here-before _ _ c.in-Ok.ensures.goes.gone in
-    let L = agent.layout in
-    let toc = c.args.toc.now in
-    let fit = c.rows.ensures.fits in
-    let are = subst (λ (rs : List ImageRow). ArePresent rs toc c.in_ok-entries.entries) c.rows.ensures.value c.in_ok-entries.ensures in
-    let listed : take c.len.result c.types_in-types.result ≡ types_of (present L.rows toc) =
-    ap (λ (n : ℕ). take n c.types_in-types.result) (c.len.ensures.length ∙ ap (λ (l : List Entry). length l) (sym c.as_slice.ensures))
-    ∙ c.types_in-types.ensures ∙ ap types_of (c.as_slice.ensures ∙ are.entries_are) in
-    let known : names_unknown L.rows (types_of (present L.rows toc)) ≡ false = known-types L.rows L.rows toc (λ i lt. rows-found L i fit lt) in
-    let begins = subst (λ (t : List (List ℕ)). BeginsPartly t (are_named L.rows t) (g.V.Verifier.passes c.args.verifier.now) (Ok tt) (moment agent)
-    (moment c.begin_partial.new.self)) listed (c.in-Ok.ensures.begins here (g.V.Verifier.passes c.args.verifier.now)) in
-    let armed = g.D.Flash.arming (device agent) in
-    let begun = g.D.Flash.arming (device c.begin_partial.new.self) in
-    let arming = g.D.Flash.arming (device c.install.new.agent) in
-    let size = length c.args.buf.now in
-    let copies = writes_to_begin (fields agent) + writes_to_copy (are_named L.rows (types_of (present L.rows toc))) agent.lengths (length L.rows) in
-    let writes = writes_in size (present L.rows toc) in
-    let one : Takes copies armed begun = subst (λ (t : List (List ℕ)). Takes (writes_to_begin (fields agent)
-    + writes_to_copy (are_named L.rows t) agent.lengths (length L.rows)) armed begun) listed (c.in-Ok.ensures.spent here) in
-    let installs = subst (λ (l : List Entry). InstallTakes size l (moment c.begin_partial.new.self) begun arming) c.as_slice-2.ensures
-    c.in_ok-install.ensures.takes.done in
-    let two : Takes writes begun installs.sent = takes-some writes begun installs.sent
-    (shows-some (fields agent) (agent.fitting here) g.D.Flash.tells (g.D.Flash.told agent.flash) (agent.knows here) (agent.some here))
-    (over-take (g.H.Files.contents c.args.files.now) c.args.name.now toc c.args.acceptance (g.V.Verifier.passes c.args.verifier.now) (moment agent) are.none known c.in_ok-entries.entries (moment c.begin_partial.new.self)
-    (moment c.install.new.agent) are.entries_are begins
-    (λ E layout. placed-in E L toc begins.bytes c.in_ok-entries.entries layout fit are) size begun installs.sent installs.images) in
-    subst (λ (a : Option Arming). TakesSwitch a arming) (takes-then copies writes
-    (writes_to_begin (fields agent) + writes_over size L.rows agent.lengths toc) armed begun installs.sent (omega arith) one two) installs.switch
-
 pub overflow_sub-copied : goal.overflow_sub-copied
 overflow_sub-copied g c =
     let agent = c.args.agent.now in
@@ -229,22 +197,62 @@ returns-in_err-entries-clause-files g c = reads-none g.H.Files _ g.met.H.Files.a
 pub returns-in-Err-clause-files : goal.returns-in-Err-clause-files
 returns-in-Err-clause-files g c = reads-none g.H.Files _ g.met.H.Files.at_rest _
 
--- ---- a refused end
+-- ---- what it takes of an armed loss
 
-pub returns-in_err-entries-clause-unswitched : goal.returns-in_err-entries-clause-unswitched
-returns-in_err-entries-clause-unswitched g c =
-    rw (handed-on c.from_residual.result c.in_err-entries.field-0.0 c.from_residual.ensures.1)
-    (early-no-end Sent _ c.in_err-entries.field-0.0 _ c.in_err-entries.ensures)
+pub returns-clause-takes : goal.returns-clause-takes
+returns-clause-takes g c =
+    let agent = c.args.agent.now in
+    let here = here-before _ _ c.in-Ok.ensures.goes.gone in
+    let L = agent.layout in
+    let toc = c.args.toc.now in
+    let fit = c.rows.ensures.fits in
+    let are = subst (λ (rs : List ImageRow). ArePresent rs toc c.in_ok-entries.entries) c.rows.ensures.value c.in_ok-entries.ensures in
+    let listed : take c.len.result c.types_in-types.result ≡ types_of (present L.rows toc) =
+    ap (λ (n : ℕ). take n c.types_in-types.result) (c.len.ensures.length ∙ ap (λ (l : List Entry). length l) (sym c.as_slice.ensures))
+    ∙ c.types_in-types.ensures ∙ ap types_of (c.as_slice.ensures ∙ are.entries_are) in
+    let known : names_unknown L.rows (types_of (present L.rows toc)) ≡ false = known-types L.rows L.rows toc (λ i lt. rows-found L i fit lt) in
+    let begins = subst (λ (t : List (List ℕ)). BeginsPartly t (are_named L.rows t) (g.V.Verifier.passes c.args.verifier.now) (Ok tt) (moment agent)
+    (moment c.begin_partial.new.self)) listed (c.in-Ok.ensures.begins here (g.V.Verifier.passes c.args.verifier.now)) in
+    let armed = g.D.Flash.arming (device agent) in
+    let begun = g.D.Flash.arming (device c.begin_partial.new.self) in
+    let arming = g.D.Flash.arming (device c.install.new.agent) in
+    let size = length c.args.buf.now in
+    let copies = writes_to_begin (fields agent) + writes_to_copy (are_named L.rows (types_of (present L.rows toc))) agent.lengths (length L.rows) in
+    let writes = writes_in size (present L.rows toc) in
+    let one : Takes copies armed begun = subst (λ (t : List (List ℕ)). Takes (writes_to_begin (fields agent)
+    + writes_to_copy (are_named L.rows t) agent.lengths (length L.rows)) armed begun) listed (c.in-Ok.ensures.spent here) in
+    let installs = subst (λ (l : List Entry). InstallTakes size l (moment c.begin_partial.new.self) begun arming) c.as_slice-2.ensures
+    c.in_ok-install.ensures.takes.done in
+    let two : Takes writes begun installs.sent = takes-some writes begun installs.sent
+    (shows-some (fields agent) (agent.fitting here) g.D.Flash.tells (g.D.Flash.told agent.flash) (agent.knows here) (agent.some here))
+    (over-take (g.H.Files.contents c.args.files.now) c.args.name.now toc c.args.acceptance (g.V.Verifier.passes c.args.verifier.now) (moment agent) are.none known c.in_ok-entries.entries (moment c.begin_partial.new.self)
+    (moment c.install.new.agent) are.entries_are begins
+    (λ E layout. placed-in E L toc begins.bytes c.in_ok-entries.entries layout fit are) size begun installs.sent installs.images) in
+    record {
+      done = subst (λ (a : Option Arming). TakesSwitch a arming) (takes-then copies writes
+          (writes_to_begin (fields agent) + writes_over size L.rows agent.lengths toc) armed begun installs.sent (omega arith) one two) installs.switch;
+      unswitched = tt;
+      unread = tt;
+    }
 
-pub returns-in-Err-clause-unswitched : goal.returns-in-Err-clause-unswitched
-returns-in-Err-clause-unswitched g c =
+pub returns-in_err-entries-clause-takes : goal.returns-in_err-entries-clause-takes
+returns-in_err-entries-clause-takes g c =
+    rw (handed-on c.from_residual.result c.in_err-entries.field-0.0 c.from_residual.ensures.1) (record {
+      done = tt;
+      unswitched = early-no-end Sent _ c.in_err-entries.field-0.0 _ c.in_err-entries.ensures;
+      unread = early-read Sent _ c.in_err-entries.field-0.0 _ c.in_err-entries.ensures;
+    })
+
+pub returns-in-Err-clause-takes : goal.returns-in-Err-clause-takes
+returns-in-Err-clause-takes g c =
     let f = fields c.args.agent.now in
-    let takes = Takes (writes_to_begin f + writes_over (length c.args.buf.now) f.layout.rows f.lengths c.args.toc.now) (g.D.Flash.arming (device c.args.agent.now))
-    (g.D.Flash.arming (device c.begin_partial.new.self)) in
-    subst (λ (st : SendStop). OnRefusedEnd {T = Sent} (Err st) takes) (sym c.unbegun.ensures) (begin-no-end Sent c.in-Err.stop takes)
+    subst (λ (st : SendStop). SendTakesBy {T = Sent} (Err st) (writes_to_begin f + writes_over (length c.args.buf.now) f.layout.rows f.lengths c.args.toc.now)
+    (writes_to_begin f + writes_copied f.layout.rows f.lengths c.args.toc.now) (length c.args.buf.now) (λ entries. entries ≡ present f.layout.rows c.args.toc.now)
+    (g.D.Flash.arming (device c.args.agent.now)) (g.D.Flash.arming (device c.begin_partial.new.self))) (sym c.unbegun.ensures)
+    (record { done = tt; unswitched = begin-no-end Sent c.in-Err.stop _; unread = begin-read Sent c.in-Err.stop _ })
 
-pub returns-in_err-install-clause-unswitched : goal.returns-in_err-install-clause-unswitched
-returns-in_err-install-clause-unswitched g c =
+pub returns-in_err-install-clause-takes : goal.returns-in_err-install-clause-takes
+returns-in_err-install-clause-takes g c =
     rw (handed-on c.from_residual-in_err-install.result c.in_err-install.field-0.0 c.from_residual-in_err-install.ensures.1) (
     let agent = c.args.agent.now in
     let here = here-before _ _ c.in-Ok.ensures.goes.gone in
@@ -268,64 +276,32 @@ returns-in_err-install-clause-unswitched g c =
     let one : Takes copies armed begun = subst (λ (t : List (List ℕ)). Takes (writes_to_begin (fields agent)
     + writes_to_copy (are_named L.rows t) agent.lengths (length L.rows)) armed begun) listed (c.in-Ok.ensures.spent here) in
     let images = λ (l : List Entry). ImagesTake size l (length l) (moment c.begin_partial.new.self) begun arming in
-    end-then (Unit {0}) Sent c.in_err-install.field-0.0 (images c.as_slice-2.result.now) (Takes all armed arming) (λ taken.
-    takes-then copies writes all armed begun arming (omega arith) one (takes-some writes begun arming
-    (shows-some (fields agent) (agent.fitting here) g.D.Flash.tells (g.D.Flash.told agent.flash) (agent.knows here) (agent.some here))
-    (over-take (g.H.Files.contents c.args.files.now) c.args.name.now toc c.args.acceptance (g.V.Verifier.passes c.args.verifier.now) (moment agent) are.none known c.in_ok-entries.entries (moment c.begin_partial.new.self)
-    (moment c.install.new.agent) are.entries_are begins
-    (λ E layout. placed-in E L toc begins.bytes c.in_ok-entries.entries layout fit are) size begun arming (subst images c.as_slice-2.ensures taken))))
-    c.in_err-install.ensures.takes.unswitched)
-
--- ---- a read that failed
-
-pub returns-in_err-entries-clause-unsent : goal.returns-in_err-entries-clause-unsent
-returns-in_err-entries-clause-unsent g c =
-    rw (handed-on c.from_residual.result c.in_err-entries.field-0.0 c.from_residual.ensures.1)
-    (early-read Sent _ c.in_err-entries.field-0.0 _ c.in_err-entries.ensures)
-
-pub returns-in-Err-clause-unsent : goal.returns-in-Err-clause-unsent
-returns-in-Err-clause-unsent g c =
-    let f = fields c.args.agent.now in
-    let toc = c.args.toc.now in
-    let takes = UnreadTakes (writes_to_begin f + writes_copied f.layout.rows f.lengths toc) (length c.args.buf.now) (present f.layout.rows toc)
-    (g.D.Flash.arming (device c.args.agent.now)) (g.D.Flash.arming (device c.begin_partial.new.self)) in
-    subst (λ (st : SendStop). OnUnread {T = Sent} (Err st) takes) (sym c.unbegun.ensures) (begin-read Sent c.in-Err.stop takes)
-
-pub returns-in_err-install-clause-unsent : goal.returns-in_err-install-clause-unsent
-returns-in_err-install-clause-unsent g c =
-    rw (handed-on c.from_residual-in_err-install.result c.in_err-install.field-0.0 c.from_residual-in_err-install.ensures.1) (
-    let agent = c.args.agent.now in
-    let here = here-before _ _ c.in-Ok.ensures.goes.gone in
-    let L = agent.layout in
-    let toc = c.args.toc.now in
-    let fit = c.rows.ensures.fits in
-    let are = subst (λ (rs : List ImageRow). ArePresent rs toc c.in_ok-entries.entries) c.rows.ensures.value c.in_ok-entries.ensures in
-    let listed : take c.len.result c.types_in-types.result ≡ types_of (present L.rows toc) =
-    ap (λ (n : ℕ). take n c.types_in-types.result) (c.len.ensures.length ∙ ap (λ (l : List Entry). length l) (sym c.as_slice.ensures))
-    ∙ c.types_in-types.ensures ∙ ap types_of (c.as_slice.ensures ∙ are.entries_are) in
-    let known : names_unknown L.rows (types_of (present L.rows toc)) ≡ false = known-types L.rows L.rows toc (λ i lt. rows-found L i fit lt) in
-    let begins = subst (λ (t : List (List ℕ)). BeginsPartly t (are_named L.rows t) (g.V.Verifier.passes c.args.verifier.now) (Ok tt) (moment agent)
-    (moment c.begin_partial.new.self)) listed (c.in-Ok.ensures.begins here (g.V.Verifier.passes c.args.verifier.now)) in
-    let armed = g.D.Flash.arming (device agent) in
-    let begun = g.D.Flash.arming (device c.begin_partial.new.self) in
-    let arming = g.D.Flash.arming (device c.install.new.agent) in
-    let size = length c.args.buf.now in
-    let copies = writes_to_begin (fields agent) + writes_copied L.rows agent.lengths toc in
-    let one : Takes copies armed begun = subst (λ (t : List (List ℕ)). Takes (writes_to_begin (fields agent)
-    + writes_to_copy (are_named L.rows t) agent.lengths (length L.rows)) armed begun) listed (c.in-Ok.ensures.spent here) in
     let starts = λ (l : List Entry). ImagesStart size l (moment c.begin_partial.new.self) begun arming in
-    unread-then (Unit {0}) Sent c.in_err-install.field-0.0 (starts c.as_slice-2.result.now) (UnreadTakes copies size (present L.rows toc) armed arming) (λ unread.
-    subst (λ (l : List Entry). UnreadTakes copies size l armed arming) are.entries_are (
-    let start = subst starts c.as_slice-2.ensures unread in
-    let writes = writes_up_to size c.in_ok-entries.entries start.images start.pieces in
     record {
-      images = start.images;
-      pieces = start.pieces;
-      below = start.below;
-      more = start.more;
-      takes = takes-then copies writes (copies + writes) armed begun arming refl one (takes-some writes begun arming
+      done = tt;
+      unswitched = end-then (Unit {0}) Sent c.in_err-install.field-0.0 (images c.as_slice-2.result.now) (Takes all armed arming) (λ taken.
+          takes-then copies writes all armed begun arming (omega arith) one (takes-some writes begun arming
           (shows-some (fields agent) (agent.fitting here) g.D.Flash.tells (g.D.Flash.told agent.flash) (agent.knows here) (agent.some here))
-          (over-some (g.H.Files.contents c.args.files.now) c.args.name.now toc c.args.acceptance (g.V.Verifier.passes c.args.verifier.now) (moment agent) are.none known c.in_ok-entries.entries
-          (moment c.begin_partial.new.self) (moment c.install.new.agent) are.entries_are begins
-          (λ E layout. placed-in E L toc begins.bytes c.in_ok-entries.entries layout fit are) writes begun arming start.takes));
-    })) c.in_err-install.ensures.takes.unread)
+          (over-take (g.H.Files.contents c.args.files.now) c.args.name.now toc c.args.acceptance (g.V.Verifier.passes c.args.verifier.now) (moment agent) are.none known c.in_ok-entries.entries (moment c.begin_partial.new.self)
+          (moment c.install.new.agent) are.entries_are begins
+          (λ E layout. placed-in E L toc begins.bytes c.in_ok-entries.entries layout fit are) size begun arming (subst images c.as_slice-2.ensures taken))))
+          c.in_err-install.ensures.takes.unswitched;
+      unread = unread-then (Unit {0}) Sent c.in_err-install.field-0.0 (starts c.as_slice-2.result.now)
+          ((entries : List Entry) × (entries ≡ present L.rows toc) × UnreadTakes copies size entries armed arming) (λ unread.
+          let start = subst starts c.as_slice-2.ensures unread in
+          let writes = writes_up_to size c.in_ok-entries.entries start.images start.pieces in (
+            c.in_ok-entries.entries,
+            are.entries_are,
+            record {
+              images = start.images;
+              pieces = start.pieces;
+              below = start.below;
+              more = start.more;
+              takes = takes-then copies writes (copies + writes) armed begun arming refl one (takes-some writes begun arming
+                  (shows-some (fields agent) (agent.fitting here) g.D.Flash.tells (g.D.Flash.told agent.flash) (agent.knows here) (agent.some here))
+                  (over-some (g.H.Files.contents c.args.files.now) c.args.name.now toc c.args.acceptance (g.V.Verifier.passes c.args.verifier.now) (moment agent) are.none known c.in_ok-entries.entries
+                  (moment c.begin_partial.new.self) (moment c.install.new.agent) are.entries_are begins
+                  (λ E layout. placed-in E L toc begins.bytes c.in_ok-entries.entries layout fit are) writes begun arming start.takes));
+            },
+          )) c.in_err-install.ensures.takes.unread;
+    })

@@ -12,7 +12,7 @@ use Rattle.update_client.specs.Packages.{HoldsPayloads}
 use Rattle.update_client.specs.Finishes.{InstallsImages}
 use Rattle.update_client.specs.Sends.{Sends}
 use Rattle.update_client.specs.declared.stops.Sent.{Sent}
-use Rattle.update_client.specs.Takes.{InstallTakes, writes_sent, ImagesStart, ImagesTake, OnRefusedEnd, OnUnread, UnreadTakes, writes_up_to}
+use Rattle.update_client.specs.Takes.{InstallTakes, writes_sent, ImagesStart, ImagesTake, SendTakesBy, UnreadTakes, writes_up_to}
 use Rattle.agent_machine.proofs.Showing.{shows-some}
 use Rattle.update_client.proofs.Chosen.{chosen_have}
 use Rattle.agent_machine.proofs.Spending.{call-spent, spent-then}
@@ -91,28 +91,6 @@ returns-clause-switched g c = λ here.
     record { now = i.now; session = i.session; shows = i.shows; active = i.installed.active; previous = i.installed.previous })
     (shows-some (fields agent) (agent.fitting here) g.D.Flash.tells (g.D.Flash.told agent.flash) (agent.knows here) (agent.some here))
 
-pub returns-clause-spent : goal.returns-clause-spent
-returns-clause-spent g c =
-    let agent = c.args.agent.now in
-    let here = here-before _ _ c.in-Ok.ensures.goes.gone in
-    let size = length c.args.buf.now in
-    let begin = writes_to_begin (fields agent) in
-    let writes = writes_sent size (fields agent).layout.rows c.args.toc.now in
-    let armed = g.D.Flash.arming (device agent) in
-    let begun = g.D.Flash.arming (device c.begin.new.self) in
-    let arming = g.D.Flash.arming (device c.install.new.agent) in
-    let chosen = subst (λ (rows : List ImageRow). AreChosen rows c.args.toc.now c.in_ok-entries.entries) c.rows.ensures.value c.in_ok-entries.ensures in
-    let installs = subst (λ (l : List Entry). InstallTakes size l (moment c.begin.new.self) begun arming) c.as_slice.ensures
-    c.in_ok-install.ensures.takes.done in
-    let one : Takes begin armed begun = takes-begin (fields agent) _ armed begun c.in-Ok.ensures.spent (c.in-Ok.ensures.keeps tt)
-    (λ is. ap (λ d. g.D.Flash.arming d) (c.in-Ok.ensures.still is)) in
-    let two : Takes writes begun installs.sent = takes-some writes begun installs.sent
-    (shows-some (fields agent) (agent.fitting here) g.D.Flash.tells (g.D.Flash.told agent.flash) (agent.knows here) (agent.some here))
-    (sends-take (g.H.Files.contents c.args.files.now) c.args.name.now c.args.toc.now c.args.acceptance (g.V.Verifier.passes c.args.verifier.now) (moment agent)
-    c.in_ok-entries.entries (moment c.begin.new.self) (moment c.install.new.agent) (agent.fitting here).layout chosen (c.in-Ok.ensures.meets here)
-    size begun installs.sent installs.images) in
-    subst (λ (a : Option Arming). TakesSwitch a arming) (takes-then begin writes (begin + writes) armed begun installs.sent refl one two) installs.switch
-
 -- ---- what it costs
 
 pub returns-in-Err-clause-goes : goal.returns-in-Err-clause-goes
@@ -143,22 +121,52 @@ returns-in_err-entries-clause-files g c = reads-none g.H.Files _ g.met.H.Files.a
 pub returns-in-Err-clause-files : goal.returns-in-Err-clause-files
 returns-in-Err-clause-files g c = reads-none g.H.Files _ g.met.H.Files.at_rest _
 
--- ---- a refused end
+-- ---- what it takes of an armed loss
 
-pub returns-in_err-entries-clause-unswitched : goal.returns-in_err-entries-clause-unswitched
-returns-in_err-entries-clause-unswitched g c =
-    rw (handed-on c.from_residual.result c.in_err-entries.field-0.0 c.from_residual.ensures.1)
-    (early-no-end Sent _ c.in_err-entries.field-0.0 _ c.in_err-entries.ensures)
+pub returns-clause-takes : goal.returns-clause-takes
+returns-clause-takes g c =
+    let agent = c.args.agent.now in
+    let here = here-before _ _ c.in-Ok.ensures.goes.gone in
+    let size = length c.args.buf.now in
+    let begin = writes_to_begin (fields agent) in
+    let writes = writes_sent size (fields agent).layout.rows c.args.toc.now in
+    let armed = g.D.Flash.arming (device agent) in
+    let begun = g.D.Flash.arming (device c.begin.new.self) in
+    let arming = g.D.Flash.arming (device c.install.new.agent) in
+    let chosen = subst (λ (rows : List ImageRow). AreChosen rows c.args.toc.now c.in_ok-entries.entries) c.rows.ensures.value c.in_ok-entries.ensures in
+    let installs = subst (λ (l : List Entry). InstallTakes size l (moment c.begin.new.self) begun arming) c.as_slice.ensures
+    c.in_ok-install.ensures.takes.done in
+    let one : Takes begin armed begun = takes-begin (fields agent) _ armed begun c.in-Ok.ensures.spent (c.in-Ok.ensures.keeps tt)
+    (λ is. ap (λ d. g.D.Flash.arming d) (c.in-Ok.ensures.still is)) in
+    let two : Takes writes begun installs.sent = takes-some writes begun installs.sent
+    (shows-some (fields agent) (agent.fitting here) g.D.Flash.tells (g.D.Flash.told agent.flash) (agent.knows here) (agent.some here))
+    (sends-take (g.H.Files.contents c.args.files.now) c.args.name.now c.args.toc.now c.args.acceptance (g.V.Verifier.passes c.args.verifier.now) (moment agent)
+    c.in_ok-entries.entries (moment c.begin.new.self) (moment c.install.new.agent) (agent.fitting here).layout chosen (c.in-Ok.ensures.meets here)
+    size begun installs.sent installs.images) in
+    record {
+      done = subst (λ (a : Option Arming). TakesSwitch a arming) (takes-then begin writes (begin + writes) armed begun installs.sent refl one two) installs.switch;
+      unswitched = tt;
+      unread = tt;
+    }
 
-pub returns-in-Err-clause-unswitched : goal.returns-in-Err-clause-unswitched
-returns-in-Err-clause-unswitched g c =
+pub returns-in_err-entries-clause-takes : goal.returns-in_err-entries-clause-takes
+returns-in_err-entries-clause-takes g c =
+    rw (handed-on c.from_residual.result c.in_err-entries.field-0.0 c.from_residual.ensures.1) (record {
+      done = tt;
+      unswitched = early-no-end Sent _ c.in_err-entries.field-0.0 _ c.in_err-entries.ensures;
+      unread = early-read Sent _ c.in_err-entries.field-0.0 _ c.in_err-entries.ensures;
+    })
+
+pub returns-in-Err-clause-takes : goal.returns-in-Err-clause-takes
+returns-in-Err-clause-takes g c =
     let f = fields c.args.agent.now in
-    let takes = Takes (writes_to_begin f + writes_sent (length c.args.buf.now) f.layout.rows c.args.toc.now) (g.D.Flash.arming (device c.args.agent.now))
-    (g.D.Flash.arming (device c.begin.new.self)) in
-    subst (λ (st : SendStop). OnRefusedEnd {T = Sent} (Err st) takes) (sym c.unbegun.ensures) (begin-no-end Sent c.in-Err.stop takes)
+    subst (λ (st : SendStop). SendTakesBy {T = Sent} (Err st) (writes_to_begin f + writes_sent (length c.args.buf.now) f.layout.rows c.args.toc.now)
+    (writes_to_begin f) (length c.args.buf.now) (AreChosen f.layout.rows c.args.toc.now)
+    (g.D.Flash.arming (device c.args.agent.now)) (g.D.Flash.arming (device c.begin.new.self))) (sym c.unbegun.ensures)
+    (record { done = tt; unswitched = begin-no-end Sent c.in-Err.stop _; unread = begin-read Sent c.in-Err.stop _ })
 
-pub returns-in_err-install-clause-unswitched : goal.returns-in_err-install-clause-unswitched
-returns-in_err-install-clause-unswitched g c =
+pub returns-in_err-install-clause-takes : goal.returns-in_err-install-clause-takes
+returns-in_err-install-clause-takes g c =
     rw (handed-on c.from_residual-in_err-install.result c.in_err-install.field-0.0 c.from_residual-in_err-install.ensures.1) (
     let agent = c.args.agent.now in
     let here = here-before _ _ c.in-Ok.ensures.goes.gone in
@@ -172,56 +180,31 @@ returns-in_err-install-clause-unswitched g c =
     let images = λ (l : List Entry). ImagesTake size l (length l) (moment c.begin.new.self) begun arming in
     let one : Takes begin armed begun = takes-begin (fields agent) _ armed begun c.in-Ok.ensures.spent (c.in-Ok.ensures.keeps tt)
     (λ is. ap (λ d. g.D.Flash.arming d) (c.in-Ok.ensures.still is)) in
-    end-then (Unit {0}) Sent c.in_err-install.field-0.0 (images c.as_slice.result.now) (Takes (begin + writes) armed arming) (λ taken.
-    takes-then begin writes (begin + writes) armed begun arming refl one (takes-some writes begun arming
-    (shows-some (fields agent) (agent.fitting here) g.D.Flash.tells (g.D.Flash.told agent.flash) (agent.knows here) (agent.some here))
-    (sends-take (g.H.Files.contents c.args.files.now) c.args.name.now c.args.toc.now c.args.acceptance (g.V.Verifier.passes c.args.verifier.now) (moment agent)
-    c.in_ok-entries.entries (moment c.begin.new.self) (moment c.install.new.agent) (agent.fitting here).layout chosen (c.in-Ok.ensures.meets here)
-    size begun arming (subst images c.as_slice.ensures taken)))) c.in_err-install.ensures.takes.unswitched)
-
--- ---- a read that failed
-
-pub returns-in_err-entries-clause-unsent : goal.returns-in_err-entries-clause-unsent
-returns-in_err-entries-clause-unsent g c =
-    rw (handed-on c.from_residual.result c.in_err-entries.field-0.0 c.from_residual.ensures.1)
-    (early-read Sent _ c.in_err-entries.field-0.0 _ c.in_err-entries.ensures)
-
-pub returns-in-Err-clause-unsent : goal.returns-in-Err-clause-unsent
-returns-in-Err-clause-unsent g c =
-    let f = fields c.args.agent.now in
-    let takes = (entries : List Entry) × AreChosen f.layout.rows c.args.toc.now entries
-    × UnreadTakes (writes_to_begin f) (length c.args.buf.now) entries (g.D.Flash.arming (device c.args.agent.now)) (g.D.Flash.arming (device c.begin.new.self)) in
-    subst (λ (st : SendStop). OnUnread {T = Sent} (Err st) takes) (sym c.unbegun.ensures) (begin-read Sent c.in-Err.stop takes)
-
-pub returns-in_err-install-clause-unsent : goal.returns-in_err-install-clause-unsent
-returns-in_err-install-clause-unsent g c =
-    rw (handed-on c.from_residual-in_err-install.result c.in_err-install.field-0.0 c.from_residual-in_err-install.ensures.1) (
-    let agent = c.args.agent.now in
-    let here = here-before _ _ c.in-Ok.ensures.goes.gone in
-    let size = length c.args.buf.now in
-    let begin = writes_to_begin (fields agent) in
-    let armed = g.D.Flash.arming (device agent) in
-    let begun = g.D.Flash.arming (device c.begin.new.self) in
-    let arming = g.D.Flash.arming (device c.install.new.agent) in
-    let chosen = subst (λ (rows : List ImageRow). AreChosen rows c.args.toc.now c.in_ok-entries.entries) c.rows.ensures.value c.in_ok-entries.ensures in
     let starts = λ (l : List Entry). ImagesStart size l (moment c.begin.new.self) begun arming in
-    let one : Takes begin armed begun = takes-begin (fields agent) _ armed begun c.in-Ok.ensures.spent (c.in-Ok.ensures.keeps tt)
-    (λ is. ap (λ d. g.D.Flash.arming d) (c.in-Ok.ensures.still is)) in
-    unread-then (Unit {0}) Sent c.in_err-install.field-0.0 (starts c.as_slice.result.now)
-    ((entries : List Entry) × AreChosen (fields agent).layout.rows c.args.toc.now entries × UnreadTakes begin size entries armed arming) (λ unread.
-    let start = subst starts c.as_slice.ensures unread in
-    let writes = writes_up_to size c.in_ok-entries.entries start.images start.pieces in (
-      c.in_ok-entries.entries,
-      chosen,
-      record {
-        images = start.images;
-        pieces = start.pieces;
-        below = start.below;
-        more = start.more;
-        takes = takes-then begin writes (begin + writes) armed begun arming refl one (takes-some writes begun arming
-            (shows-some (fields agent) (agent.fitting here) g.D.Flash.tells (g.D.Flash.told agent.flash) (agent.knows here) (agent.some here))
-            (sends-some (g.H.Files.contents c.args.files.now) c.args.name.now c.args.toc.now c.args.acceptance (g.V.Verifier.passes c.args.verifier.now) (moment agent)
-            c.in_ok-entries.entries (moment c.begin.new.self) (moment c.install.new.agent) (agent.fitting here).layout chosen (c.in-Ok.ensures.meets here)
-            writes begun arming start.takes));
-      },
-    )) c.in_err-install.ensures.takes.unread)
+    record {
+      done = tt;
+      unswitched = end-then (Unit {0}) Sent c.in_err-install.field-0.0 (images c.as_slice.result.now) (Takes (begin + writes) armed arming) (λ taken.
+          takes-then begin writes (begin + writes) armed begun arming refl one (takes-some writes begun arming
+          (shows-some (fields agent) (agent.fitting here) g.D.Flash.tells (g.D.Flash.told agent.flash) (agent.knows here) (agent.some here))
+          (sends-take (g.H.Files.contents c.args.files.now) c.args.name.now c.args.toc.now c.args.acceptance (g.V.Verifier.passes c.args.verifier.now) (moment agent)
+          c.in_ok-entries.entries (moment c.begin.new.self) (moment c.install.new.agent) (agent.fitting here).layout chosen (c.in-Ok.ensures.meets here)
+          size begun arming (subst images c.as_slice.ensures taken)))) c.in_err-install.ensures.takes.unswitched;
+      unread = unread-then (Unit {0}) Sent c.in_err-install.field-0.0 (starts c.as_slice.result.now)
+          ((entries : List Entry) × AreChosen (fields agent).layout.rows c.args.toc.now entries × UnreadTakes begin size entries armed arming) (λ unread.
+          let start = subst starts c.as_slice.ensures unread in
+          let writes = writes_up_to size c.in_ok-entries.entries start.images start.pieces in (
+            c.in_ok-entries.entries,
+            chosen,
+            record {
+              images = start.images;
+              pieces = start.pieces;
+              below = start.below;
+              more = start.more;
+              takes = takes-then begin writes (begin + writes) armed begun arming refl one (takes-some writes begun arming
+                  (shows-some (fields agent) (agent.fitting here) g.D.Flash.tells (g.D.Flash.told agent.flash) (agent.knows here) (agent.some here))
+                  (sends-some (g.H.Files.contents c.args.files.now) c.args.name.now c.args.toc.now c.args.acceptance (g.V.Verifier.passes c.args.verifier.now) (moment agent)
+                  c.in_ok-entries.entries (moment c.begin.new.self) (moment c.install.new.agent) (agent.fitting here).layout chosen (c.in-Ok.ensures.meets here)
+                  writes begun arming start.takes));
+            },
+          )) c.in_err-install.ensures.takes.unread;
+    })
