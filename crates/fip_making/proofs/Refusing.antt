@@ -27,6 +27,15 @@ pub toc-of-package : (s : TocStop) → IsOfPackage (stopped_by s)
 toc-of-package (toc.Fault f) = tt
 toc-of-package toc.ReadFailed = tt
 
+-- the reading of a table takes no memory
+pub toc-needs-none : (s : TocStop) → stopped_by s ≡ stop.NoMemory → ⊥
+toc-needs-none (toc.Fault f) e = cc
+toc-needs-none toc.ReadFailed e = cc
+
+pub items-need-none : (s : CapsuleStop) → capsule_stopped_by s ≡ stop.NoMemory → ⊥
+items-need-none (items.Fault f) e = cc
+items-need-none items.ReadFailed e = cc
+
 pub items-of-capsule : (s : CapsuleStop) → IsOfCapsule (capsule_stopped_by s)
 items-of-capsule (items.Fault f) = tt
 items-of-capsule items.ReadFailed = tt

@@ -28,7 +28,7 @@ NoneFailed (Err FileFault) before after = ⊤
 NoneFailed (Err s) before after = after ≡ before
 
 -- A part that reads alone answers, over files that tell nothing, that a file failed only where faults rose. It answers neither
--- usage nor that the sink failed. At most one call of the files fails, and ends it.
+-- usage nor that the sink failed. At most one call of the files fails.
 pub record ReadsOnly {X : Type 0} (told now : Option Directory) (before after : ℕ) (result : Result X Stop) : Type 0 where
   pub same : now ≡ told
   pub later : before ≤ after

@@ -99,7 +99,7 @@ pub record StopsInTime (given : List ℕ) : Type 0 where
   pub undecided : decided (toc_of before) ≡ Ok tt
 
 -- What a part of a command answers of what the source gave. The source was read to its end but where a fault was decided,
--- too many bytes came, or a read failed.
+-- too many bytes came, a read failed, or memory was wanting.
 abbrev pub GivenTo : {X Y : Type 0} → (X → Y) → (List ℕ → Result Y Stop) → Option (List ℕ) → Option (List ℕ) → Type 0
     → Result X Stop → List ℕ → Type 0
 GivenTo view value was left source-rose (Ok x) given = Consumes was left given × IsAtEnd left × (value given ≡ Ok (view x))

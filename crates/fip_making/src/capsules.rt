@@ -1,6 +1,7 @@
 //! Capsules that are made of packages, and packages of capsules.
 ghost use Rattle.std.specs.Prelude.{◌≡◌, All, IfErr, IfOk, List, Option, Some, Err, ℕ, length, map};
 ghost use Rattle.fwu_formats.specs.Package.{Toc};
+ghost use Rattle.capsule_tables.specs.Answers.{IsSomeTable};
 ghost use Rattle.host_io.specs.Contents.{Directory};
 ghost use Rattle.host_io.specs.Reads.{ReadsFile};
 ghost use Rattle.fip_making.specs.Payloads.{HasEntry, IsWhole, made_by};
@@ -90,7 +91,7 @@ pub fn package_of_capsule<'a, H: Files>(
         → GivesIn H.Files (made_by told) (repackage_value told align from.now)
         files.old files.new result }
     ensures whole { IfOk result (IsWhole (H.contents files.new)) }
-    ensures count { IfOk result (λ m. (t : Toc) × (m.count ≡ length t.entries)) }
+    ensures count { IfOk result (λ m. (t : Toc) × IsSomeTable t × (m.count ≡ length t.entries)) }
     ensures reads { ReadsOnlyIn H.Files files.old files.new result }
     ensures files { ReadsFile H.Files from.now files.old files.new }
     ensures refusals { IfErr result IsOfPackaging }

@@ -25,7 +25,7 @@ use std::alloc::{AllocError, Global};
 
 const NEW_SERIAL: u32 = 0x1234_5678;
 
-/// A new package of named files, each payload at a multiple of `align` bytes. It asks for their sizes, and reads none of them.
+/// A new package of named files, each payload at a multiple of `align` bytes.
 pub fn created<'a, H: Files>(
     alloc: Global,
     files: &mut H,

@@ -173,8 +173,8 @@ fn check_sizes<H: Files>(files: &mut H, named: &[ImageWord<'_>]) -> Result<(), S
     check_count(named.len(), is_long)
 }
 
-/// A manifest of named images: how many rows, and its bytes. The sizes of all files are asked for first; then `BadCount` comes
-/// where there are not 1 to 15 images, and else `TooLarge` where one has more than 1,048,576 bytes. No file is read before that.
+/// A manifest of named images: how many rows, and its bytes. A file that is missing is a fault first; then `BadCount` comes where
+/// there are not 1 to 15 images, and else `TooLarge` where one has more than 1,048,576 bytes.
 pub fn manifest<H: Files>(
     alloc: Global,
     files: &mut H,

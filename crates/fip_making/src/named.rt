@@ -1,10 +1,11 @@
 //! The entries of a package that the words name, each by its type.
-ghost use Rattle.std.specs.Prelude.{◌≡◌, ◌<◌, ◌+◌, ◌^◌, All, IfOk, None, Some, Ok, IfErr, length};
+ghost use Rattle.std.specs.Prelude.{◌≡◌, ◌<◌, ◌+◌, ◌^◌, All, IfOk, None, Some, Ok, Err, IfErr, length};
 ghost use Rattle.host_io.specs.Contents.{Directory};
 ghost use Rattle.host_io.specs.Reads.{ReadsFile};
 ghost use Rattle.fip_making.specs.Refusals.{IsOfEntries, IsOfPackage};
 ghost use Rattle.fip_making.specs.Values.{IsTable, after, first_missing, is_named, sized_table, unless_missing};
 ghost use Rattle.fip_making.specs.Seen.{GivesIn, ReadsOnlyIn};
+ghost use Rattle.fip_making.specs.declared.stops.Stop.TheVariants as stop;
 
 use crate::stops::Stop;
 use crate::table::read_package;
@@ -38,6 +39,7 @@ pub fn table_with<H: Files>(files: &mut H, name: &str, guids: &[Guid]) -> Result
     ensures reads { ReadsOnlyIn H.Files files.old files.new result }
     ensures files { ReadsFile H.Files name.now files.old files.new }
     ensures refusals { IfErr result IsOfEntries }
+    ensures memory { result ≡ Err stop.NoMemory → ⊥ }
     ensures unnamed { length guids.now ≡ 0 → IfErr result IsOfPackage }
 {
     let (toc, _) = read_package(files, name)?;

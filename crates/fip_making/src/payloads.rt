@@ -74,7 +74,7 @@ fn payload_of_file<'a, H: Files>(files: &mut H, named: &FileWord<'a>) -> Result<
     })
 }
 
-/// The payloads that named files are. It asks for the sizes of the files, and reads none of them.
+/// The payloads that named files are, each a whole file.
 pub fn payloads_of_files<'a, H: Files>(
     alloc: Global,
     files: &mut H,

@@ -1,14 +1,15 @@
 //! The table of contents of a package, from a file or from the source, or of a capsule.
-ghost use Rattle.std.specs.Prelude.{◌≡◌, ◌≤◌, ◌<◌, ◌+◌, ◌^◌, All, IfOk, List, Some, Ok, Err, length, ℕ, ◌++◌, IfErr};
+ghost use Rattle.std.specs.Prelude.{◌≡◌, ◌≤◌, ◌<◌, ◌+◌, ◌^◌, ◌∷◌, [], All, IfOk, List, Some, Ok, Err, length, ℕ, ◌++◌, IfErr};
 ghost use Rattle.std.specs.Io.KnownBytes.{Consumes, IsAtEnd};
 ghost use Rattle.host_io.specs.Contents.{Directory};
 ghost use Rattle.host_io.specs.Reads.{ReadsFile};
 ghost use Rattle.fwu_formats.specs.Package.{toc_of};
 ghost use Rattle.fip_tables.specs.Answers.{decided};
+ghost use Rattle.capsule_tables.specs.Answers.{IsSomeTable};
 ghost use Rattle.fip_tables.specs.Stream.{Fed};
 ghost use Rattle.fip_making.specs.Refusals.{IsOfCapsule, IsOfPackage, IsOfSource};
-ghost use Rattle.fip_making.specs.Seen.{FedSomeIn, GivenToIn, GivesIn, ReadsOnlyIn};
-ghost use Rattle.fip_making.specs.Answers.{source_failures, IsLate};
+ghost use Rattle.fip_making.specs.Seen.{FedSomeIn, GivenToIn, GivesIn, ReadsOnlyIn, ReadsSource};
+ghost use Rattle.fip_making.specs.Answers.{AsksNothing, IsLate};
 ghost use Rattle.fip_making.specs.Values.{StopsInTime, after, capsule_in, given_table, size_in, sized_table, source_limit, IsTable};
 ghost use Rattle.fip_making.specs.Source.{EndsAs};
 ghost use Rattle.fip_making.specs.declared.stops.Stop.TheVariants as stop;
@@ -29,6 +30,7 @@ pub fn size_of<H: Files>(files: &mut H, name: &str) -> Result<u64, Stop>
     ensures reads { ReadsOnlyIn H.Files files.old files.new result }
     ensures files { ReadsFile H.Files name.now files.old files.new }
     ensures late { IfErr result IsLate }
+    ensures memory { result ≡ Err stop.NoMemory → ⊥ }
 {
     match files.size(name)? {
         Some(size) => Ok(size),
@@ -45,6 +47,7 @@ pub fn read_package<H: Files>(files: &mut H, name: &str) -> Result<(Toc, u64), S
     ensures reads { ReadsOnlyIn H.Files files.old files.new result }
     ensures files { ReadsFile H.Files name.now files.old files.new }
     ensures refusals { IfErr result IsOfPackage }
+    ensures memory { result ≡ Err stop.NoMemory → ⊥ }
 {
     let size = size_of(files, name)?;
     let toc = read_toc(files, name)?;
@@ -56,9 +59,11 @@ pub fn read_enclosed<H: Files>(files: &mut H, name: &str) -> Result<Toc, Stop>
     ensures told { (told : Directory) → H.contents files.old ≡ Some told
         → GivesIn H.Files (λ t. t) (after (capsule_in told name.now) (λ p. Ok p.1))
         files.old files.new result }
+    ensures table { IfOk result IsSomeTable }
     ensures reads { ReadsOnlyIn H.Files files.old files.new result }
     ensures files { ReadsFile H.Files name.now files.old files.new }
     ensures refusals { IfErr result IsOfCapsule }
+    ensures memory { result ≡ Err stop.NoMemory → ⊥ }
 {
     Ok(read_capsule(files, name)?)
 }
@@ -69,11 +74,9 @@ fn feed_some<I: Source>(source: &mut I, stream: &mut StreamToc) -> Result<usize,
     ensures few { IfOk result (λ n. n ≤ 4096) }
     ensures fed { (given : List ℕ) → Fed stream.old given
         → (piece : List ℕ) × FedSomeIn I.Source stream.new given piece source.old source.new result }
-    ensures usage { result ≡ Err stop.Usage → ⊥ }
-    ensures sink { result ≡ Err stop.SinkFault → ⊥ }
-    ensures later { I.faults source.old ≤ I.faults source.new }
-    ensures count { I.faults source.new ≡ source_failures result (I.faults source.old) }
-    ensures refusals { IfErr result IsOfSource }
+    ensures made { IfOk result (λ n. I.reads source.old source.new (Some n ∷ [])) }
+    ensures source { ReadsSource I.Source source.old source.new result }
+    ensures memory { result ≡ Err stop.NoMemory → ⊥ }
 {
     let mut buffer = [0u8; 4096];
     let count = source.read(&mut buffer)?;
@@ -89,10 +92,9 @@ fn ended(stream: StreamToc, count: u64) -> Result<(Toc, u64), Stop>
     ensures table { (given : List ℕ) → Fed stream given → length given ≡ count
         → decided (toc_of given) ≡ Ok tt
         → EndsAs given result }
-    ensures usage { result ≡ Err stop.Usage → ⊥ }
-    ensures sink { result ≡ Err stop.SinkFault → ⊥ }
-    ensures fault { result ≡ Err stop.FileFault → ⊥ }
+    ensures asks { AsksNothing result }
     ensures refusals { IfErr result IsOfSource }
+    ensures memory { result ≡ Err stop.NoMemory → ⊥ }
 {
     match stream.end() {
         Ok(toc) => Ok((toc, count)),
@@ -105,11 +107,8 @@ fn ended(stream: StreamToc, count: u64) -> Result<(Toc, u64), Stop>
 pub fn read_given<I: Source>(source: &mut I) -> Result<(Toc, u64), Stop>
     ensures given { (given : List ℕ) × StopsInTime given × GivenToIn I.Source (λ t. t) given_table
         source.old source.new result given }
-    ensures usage { result ≡ Err stop.Usage → ⊥ }
-    ensures sink { result ≡ Err stop.SinkFault → ⊥ }
-    ensures later { I.faults source.old ≤ I.faults source.new }
-    ensures count { I.faults source.new ≡ source_failures result (I.faults source.old) }
-    ensures refusals { IfErr result IsOfSource }
+    ensures source { ReadsSource I.Source source.old source.new result }
+    ensures memory { result ≡ Err stop.NoMemory → ⊥ }
 {
     let mut stream = StreamToc::new();
     let mut count = 0;

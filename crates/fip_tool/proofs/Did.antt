@@ -47,7 +47,7 @@ made : (piece : List ℕ) (files : Directory) (now : Option Directory) (was text
 made piece files now was text files-rose spoiled sink-rose (Ok u) e p =
     (refl, are-told files now e, subst (Appends was text) (sym (append-nil piece)) p)
 made piece files now was text files-rose spoiled sink-rose (Err stop.SinkFault) e p =
-    (p.0, 0, are-told files now e, p.1, p.2)
+    (p.0, 0, are-told files now e, p.1, p.2, tt)
 made piece files now was text files-rose spoiled sink-rose (Err stop.NoMemory) e p = (0, are-told files now e, appends-none was text p)
 made piece files now was text files-rose spoiled sink-rose (Err stop.Usage) e p = absurd p
 made piece files now was text files-rose spoiled sink-rose (Err stop.FileFault) e p = absurd p

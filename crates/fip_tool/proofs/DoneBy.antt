@@ -6,6 +6,8 @@ use Rattle.std.proofs.lemmas.Bool.{false≢true}
 use Rattle.base_core.specs.Counts.{Rose}
 use Rattle.fip_words.specs.Order.{Asked, info_of_source}
 use Rattle.host_io.specs.Access.{Access}
+use Rattle.host_io.proofs.Once.{once-none}
+use Rattle.host_io.specs.Once.{ReadsOnce}
 use Rattle.host_io.specs.declared.files.Files as files
 use Rattle.host_io.specs.declared.source.Source as source
 use Rattle.host_io.specs.declared.sink.Sink as sink
@@ -28,9 +30,9 @@ use Rattle.fip_making.specs.declared.stops.Stop.TheVariants as stop
 
 module _ {H I O : Type 0} {h : files.Ghosts H} {i : source.Ghosts I} {o : sink.Ghosts O} where
   -- a command that asks for files does not touch the source
-  pub done-with-files : {asked : Option Asked} {result : Result (Unit {0}) Stop} {before after : H} {kept : I} {old new : O} (one : Asked) → asked ≡ Some one → IsTrue (asks_files (Some one))
+  pub done-with-files : ((s : I) → i.reads s s []) → {asked : Option Asked} {result : Result (Unit {0}) Stop} {before after : H} {kept : I} {old new : O} (one : Asked) → asked ≡ Some one → IsTrue (asks_files (Some one))
       → DoneWithFiles h o one result before after old new → Done h i o asked result before after kept kept old new
-  done-with-files {result = result} {before = before} {after = after} {kept = kept} {old = old} {new = new} one is asks done =
+  done-with-files unread {result = result} {before = before} {after = after} {kept = kept} {old = old} {new = new} one is asks done =
       subst (λ (a : Option Asked). Done h i o a result before after kept kept old new) (sym is) (record {
         told = λ told e other. done.told told e;
         source = λ same. absurd (false≢true (sym (ap asks_files same) ∙ asks));
@@ -38,7 +40,8 @@ module _ {H I O : Type 0} {h : files.Ghosts H} {i : source.Ghosts I} {o : sink.G
         words = λ none. absurd cc;
         usage = λ e. absurd (done.usage e);
         refusals = done.refusals;
-        source_stays = λ other. (refl, refl);
+        source_stays = λ other. refl;
+        once = once-none i unread kept;
         source_count = λ same. absurd (false≢true (sym (ap asks_files same) ∙ asks));
         files_stay = λ stays. absurd (false≢true (sym stays ∙ asks));
         cause = λ e untold. inl (done.cause e untold);
@@ -53,6 +56,7 @@ module _ {H I O : Type 0} {h : files.Ghosts H} {i : source.Ghosts I} {o : sink.G
   -- a listing of the source does not touch the files
   pub done-of-source : {asked : Option Asked} {result : Result (Unit {0}) Stop} {kept : H} {before after : I} {old new : O} → asked ≡ Some info_of_source
       → ReadSourceIn i o (h.contents kept) (h.contents kept) before after old new result
+      → ReadsOnce i before after
       → SaysIn o (IsTexts info_of_source) old new result
       → (result ≡ Err stop.FileFault → Rose (i.faults before) (i.faults after))
       → (result ≡ Err stop.Usage → ⊥)
@@ -62,7 +66,7 @@ module _ {H I O : Type 0} {h : files.Ghosts H} {i : source.Ghosts I} {o : sink.G
       → IfErr result (MayRefuse (Some info_of_source))
       → ((access : Access) → h.spares kept kept access)
       → Done h i o asked result kept kept before after old new
-  done-of-source {result = result} {kept = kept} {before = before} {after = after} {old = old} {new = new} is read says cause usage later source_count sink_count refusals rest =
+  done-of-source {result = result} {kept = kept} {before = before} {after = after} {old = old} {new = new} is read once says cause usage later source_count sink_count refusals rest =
       subst (λ (a : Option Asked). Done h i o a result kept kept before after old new) (sym is) (record {
         told = λ told e other. absurd (other refl);
         source = λ same. read;
@@ -71,6 +75,7 @@ module _ {H I O : Type 0} {h : files.Ghosts H} {i : source.Ghosts I} {o : sink.G
         usage = λ e. absurd (usage e);
         refusals = refusals;
         source_stays = λ other. absurd (other refl);
+        once = once;
         source_count = λ same. source_count;
         files_stay = λ stays. refl;
         cause = λ e untold. inr (cause e);
@@ -82,7 +87,7 @@ module _ {H I O : Type 0} {h : files.Ghosts H} {i : source.Ghosts I} {o : sink.G
         sink_count = sink_count;
       })
 
-  module _ {asked : Option Asked} {kept : H} {held : I} {old : O} where
+  module _ (unread : (s : I) → i.reads s s []) {asked : Option Asked} {kept : H} {held : I} {old : O} where
     pub done-usage : asked ≡ None → ((access : Access) → h.spares kept kept access) → Done h i o asked (Err stop.Usage) kept kept held held old old
     done-usage none rest = subst (λ (a : Option Asked). Done h i o a (Err stop.Usage) kept kept held held old old) (sym none) (record {
       told = λ told e other. (refl, are-told told _ e, Appends-nil _);
@@ -91,7 +96,8 @@ module _ {H I O : Type 0} {h : files.Ghosts H} {i : source.Ghosts I} {o : sink.G
       words = λ unasked. inl refl;
       usage = λ e. refl;
       refusals = tt;
-      source_stays = λ other. (refl, refl);
+      source_stays = λ other. refl;
+      once = once-none i unread held;
       source_count = λ same. absurd cc;
       files_stay = λ stays. refl;
       cause = λ e untold. absurd cc;
@@ -112,7 +118,8 @@ module _ {H I O : Type 0} {h : files.Ghosts H} {i : source.Ghosts I} {o : sink.G
       words = λ none. inr refl;
       usage = λ e. absurd cc;
       refusals = memory-may asked;
-      source_stays = λ other. (refl, refl);
+      source_stays = λ other. refl;
+      once = once-none i unread held;
       source_count = λ same. refl;
       files_stay = λ stays. refl;
       cause = λ e untold. absurd cc;

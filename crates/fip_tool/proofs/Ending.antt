@@ -16,7 +16,7 @@ module _ (outcome : Outcome) (files : Directory) (now : Option Directory) (was m
   no-memory d = (d.0, inl d.1, d.2)
 
   sink-failed : Did outcome files now was mid files-rose spoiled sink-before (Err stop.SinkFault) → EndedBy outcome files now was mid files-rose spoiled sink-rose (Err stop.SinkFault)
-  sink-failed d = (rises d.0, d.1, inl (d.2, (d.3, d.4)))
+  sink-failed d = (rises d.0, d.1, inl (d.2, (d.3, d.4), d.5))
 
   -- a refusal, with its line
   abbrev RefusedTo : Stop → Type 0

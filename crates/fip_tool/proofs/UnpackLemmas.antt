@@ -18,7 +18,7 @@ use Rattle.host_io.specs.Contents.{Directory}
 use Rattle.fip_tables.specs.Files.{Lacks, Tells}
 use Rattle.fwu_formats.specs.Package.{Entry, payload, Toc}
 use Rattle.fip_tool.specs.Lines.{unpacked_line, unpacked_name}
-use Rattle.fip_tool.specs.Steps.{Makes, Refuses, Step, Writes, Prints, Are, AreUpTo, StandAfter, Did, half_printed, printed, with_file, written}
+use Rattle.fip_tool.specs.Steps.{IsPrinting, Makes, Refuses, Step, Writes, Prints, Are, AreUpTo, StandAfter, Did, half_printed, printed, with_file, written}
 use Rattle.fip_tool.specs.Tool.{chosen, unpack_steps, unpack_value}
 use Rattle.fip_making.specs.Values.{is_named, there}
 use Rattle.fip_making.specs.declared.stops.Stop.{Stop}
@@ -88,6 +88,11 @@ more-left [] rest files now are = are-up-to rest now files are
 more-left (Writes name bytes ∷ left) rest files now are = are
 more-left (Prints text ∷ left) rest files now are = are
 
+prints-more : (left rest : List Step) → IsPrinting left → IsPrinting (left ++ rest)
+prints-more [] rest p = absurd p
+prints-more (Writes name bytes ∷ left) rest p = absurd p
+prints-more (Prints text ∷ left) rest p = tt
+
 half-none : (steps : List Step) → half_printed 0 steps ≡ []
 half-none [] = refl
 half-none (Writes name bytes ∷ steps) = refl
@@ -138,7 +143,7 @@ module _ (first second rest : List Step) (files mid : Directory) (now : Option D
   -- a stop in steps that others follow, after steps that were done
   pub stops : (s : Stop) → Did (Makes second) mid now at text rose spoiled sink-rose (Err s) → Did (Makes (first ++ (second ++ rest))) files now was text late spoiled-late sink-late (Err s)
   stops stop.NoMemory d = (reach d.0, there-are d.0 d.1, there-said d.0 d.2)
-  stops stop.SinkFault d = let f = there-half d.1 d.3 d.4 in (sink-rises d.0, reach d.1, there-are d.1 d.2, f.0, f.1)
+  stops stop.SinkFault d = let f = there-half d.1 d.3 d.4 in (sink-rises d.0, reach d.1, there-are d.1 d.2, f.0, f.1, subst IsPrinting (sym (unreached d.1)) (prints-more (drop d.1 second) rest d.5))
   stops stop.FileFault d = (cause d.0, reach d.1, stand d.1 d.2, there-said d.1 d.3)
     where
       cause : (Makes second ≡ Refuses stop.FileFault) ⊎ rose → (Makes (first ++ (second ++ rest)) ≡ Refuses stop.FileFault) ⊎ late

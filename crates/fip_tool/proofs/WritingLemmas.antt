@@ -54,7 +54,7 @@ pub then-printed : (files : Directory) (now : Option Directory) (was text : Opti
     → Are now (with_file name bytes files) → Printed was text sink-rose line r → Did (Makes (Writes name bytes ∷ Prints line ∷ [])) files now was text files-rose spoiled sink-rose r
 then-printed files now was text files-rose spoiled sink-rose name bytes line (Ok u) w p = (refl, w, subst (Appends was text) (sym (append-nil line)) p)
 then-printed files now was text files-rose spoiled sink-rose name bytes line (Err stop.SinkFault) w p =
-    (p.0, 1, w, p.1, p.2)
+    (p.0, 1, w, p.1, p.2, tt)
 then-printed files now was text files-rose spoiled sink-rose name bytes line (Err stop.NoMemory) w p = (1, w, appends-none was text p)
 then-printed files now was text files-rose spoiled sink-rose name bytes line (Err stop.Usage) w p = absurd p
 then-printed files now was text files-rose spoiled sink-rose name bytes line (Err stop.FileFault) w p = absurd p

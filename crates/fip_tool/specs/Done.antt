@@ -4,6 +4,7 @@ use Rattle.base_core.specs.Counts.{Rose}
 use Rattle.fip_words.specs.Order.{Asked, info_of_source}
 use Rattle.host_io.specs.Access.{Access}
 use Rattle.host_io.specs.Contents.{Directory}
+use Rattle.host_io.specs.Once.{ReadsOnce}
 use Rattle.host_io.specs.declared.files.Files as files
 use Rattle.host_io.specs.declared.source.Source as source
 use Rattle.host_io.specs.declared.sink.Sink as sink
@@ -28,7 +29,7 @@ pub record WritesTexts {H O : Type 0} (h : files.Ghosts H) (o : sink.Ghosts O) (
     (result : Result (Unit {0}) Stop) (files_before files_after : H) (sink_before sink_after : O) : Type 0 where
   pub says : SaysIn o T sink_before sink_after result
   pub wrote : WroteIn h o T files_before files_after sink_before sink_after result
-  -- at most one call of the files failed, and ended it
+  -- at most one call of the files failed, and none unless it ended for that
   pub file_count : FaultsOnce (h.faults files_before) (h.faults files_after) result
   pub cause : result ≡ Err stop.FileFault → Rose (h.faults files_before) (h.faults files_after)
   pub late : IfErr result IsLate
@@ -44,7 +45,7 @@ pub record DoneWithFiles {H O : Type 0} (h : files.Ghosts H) (o : sink.Ghosts O)
       → DidIn h o (command_outcome asked told) told files_before files_after sink_before sink_after result
   pub says : SaysIn o (IsTexts asked) sink_before sink_after result
   pub wrote : WroteForIn h o (Some asked) files_before files_after sink_before sink_after result
-  -- at most one call of the files failed, and ended it
+  -- at most one call of the files failed, and none unless it ended for that
   pub file_count : FaultsOnce (h.faults files_before) (h.faults files_after) result
   pub cause : result ≡ Err stop.FileFault → h.contents files_before ≡ None → Rose (h.faults files_before) (h.faults files_after)
   pub usage : result ≡ Err stop.Usage → ⊥
@@ -71,8 +72,9 @@ pub record Done {H I O : Type 0} (h : files.Ghosts H) (i : source.Ghosts I) (o :
   -- each refusal is one of what was asked for
   pub refusals : IfErr result (MayRefuse asked)
   -- only a listing of the source reads it
-  pub source_stays : asked ≢ Some info_of_source
-      → (i.left source_after ≡ i.left source_before) × (i.faults source_after ≡ i.faults source_before)
+  pub source_stays : asked ≢ Some info_of_source → source_after ≡ source_before
+  -- no read of the source is made behind one that gave no bytes or failed
+  pub once : ReadsOnce i source_before source_after
   pub source_count : asked ≡ Some info_of_source
       → i.faults source_after ≡ source_failures result (i.faults source_before)
   pub files_stay : IsFalse (asks_files asked) → files_after ≡ files_before
@@ -81,7 +83,7 @@ pub record Done {H I O : Type 0} (h : files.Ghosts H) (i : source.Ghosts I) (o :
   pub alone : IfErr result (λ s. RefusesAlone h asked files_before files_after (status_number s))
   pub cause : result ≡ Err stop.FileFault → h.contents files_before ≡ None
       → Rose (h.faults files_before) (h.faults files_after) ⊎ Rose (i.faults source_before) (i.faults source_after)
-  -- at most one call of the files failed, and ended it
+  -- at most one call of the files failed, and none unless it ended for that
   pub file_count : FaultsOnce (h.faults files_before) (h.faults files_after) result
   pub wrote : WroteForIn h o asked files_before files_after sink_before sink_after result
   pub later : o.faults sink_before ≤ o.faults sink_after

@@ -8,7 +8,7 @@ use Rattle.fwu_formats.specs.declared.kinds.ManifestFault.{ManifestFault}
 use Rattle.fwu_formats.specs.declared.kinds.ManifestFault.TheVariants as manifest
 use Rattle.fip_tables.specs.declared.faults.PackFault.{PackFault}
 use Rattle.fip_tables.specs.declared.faults.PackFault.TheVariants as pack
-use Rattle.fip_tool.specs.Steps.{Outcome, Makes, Refuses, Are, StandAfter, half_printed, steps_of, printed, written}
+use Rattle.fip_tool.specs.Steps.{IsPrinting, Outcome, Makes, Refuses, Are, StandAfter, half_printed, steps_of, printed, written}
 use Rattle.fip_making.specs.declared.stops.Stop.{Stop}
 use Rattle.fip_making.specs.declared.stops.Stop.TheVariants as stop
 use Rattle.fip_making.specs.Stops.{status_number}
@@ -57,7 +57,8 @@ SaidStop n outcome was text files-rose =
 abbrev pub SinkFailed : ℕ → Outcome → Directory → Option Directory → Option (List ℕ) → Option (List ℕ) → Type 0 → Type 0 → Type 0
 SinkFailed n outcome files now was text files-rose spoiled =
     (Are now (written (take n (steps_of outcome)) files)
-    × ((k : ℕ) × Appends was text (printed (take n (steps_of outcome)) ++ half_printed k (drop n (steps_of outcome)))))
+    × ((k : ℕ) × Appends was text (printed (take n (steps_of outcome)) ++ half_printed k (drop n (steps_of outcome))))
+    × IsPrinting (drop n (steps_of outcome)))
     ⊎ (StandAfter n outcome files now spoiled × SaidStop n outcome was text files-rose)
 
 -- How the tool ended. The files were `files` and the told contents are `now`; the sink's text was `was` and is `text`.

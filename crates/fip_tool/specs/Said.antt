@@ -2,6 +2,7 @@
 use Rattle.std.specs.Prelude.{◌≡◌, ◌⊎◌, ◌<◌, ℕ, List, [], ◌∷◌, ◌++◌, Option, Some, None, Result, Ok, Err, filter, length, map, take, drop, not}
 use Rattle.std.specs.Io.KnownBytes.{Appends}
 use Rattle.fwu_formats.specs.Package.{Toc}
+use Rattle.capsule_tables.specs.Answers.{IsSomeTable}
 use Rattle.fip_words.specs.Order.{Asked, info, info_of_source, create, update, remove, unpack, manifest, capsule, repackage}
 use Rattle.fip_tool.specs.Lines.{capsule_line, info_text, made_line, manifest_line, packed_line, unpacked_line}
 use Rattle.fip_tool.specs.Ends.{exit_status, stop_line}
@@ -16,7 +17,8 @@ use Rattle.fip_making.specs.declared.stops.Stop.TheVariants.{FileFault, SinkFaul
 abbrev pub IsListing : List ℕ → Type 0
 IsListing text = (t : Toc) × (size : ℕ) × IsTable t × (text ≡ info_text t size)
 
--- The texts that a command prints, one after the other, when all is done: of some package where one is read, and with some size.
+-- The texts that a command prints, one after the other, when all is done: of some package or some capsule's table where one is
+-- read, and with some size.
 abbrev pub IsTexts : Asked → List (List ℕ) → Type 0
 IsTexts (info file) texts = (text : List ℕ) × IsListing text × (texts ≡ text ∷ [])
 IsTexts info_of_source texts = (text : List ℕ) × IsListing text × (texts ≡ text ∷ [])
@@ -31,7 +33,8 @@ IsTexts (unpack from prefix names) texts =
     (t : Toc) × IsTable t × (first_missing t names ≡ None) × (texts ≡ map (unpacked_line prefix) (chosen names t.entries))
 IsTexts (manifest out security rows) texts = (size : ℕ) × (texts ≡ manifest_line (length rows) size security ∷ [])
 IsTexts (capsule from out) texts = (t : Toc) × IsTable t × (size : ℕ) × (texts ≡ capsule_line (length t.entries) size ∷ [])
-IsTexts (repackage align from out) texts = (t : Toc) × (size : ℕ) × (texts ≡ packed_line (length t.entries) size ∷ [])
+IsTexts (repackage align from out) texts =
+    (t : Toc) × IsSomeTable t × (size : ℕ) × (texts ≡ packed_line (length t.entries) size ∷ [])
 
 -- words that ask for nothing have none
 abbrev pub IsTextsOf : Option Asked → List (List ℕ) → Type 0

@@ -1,5 +1,5 @@
 -- What a command does, and what is there after it.
-use Rattle.std.specs.Prelude.{◌≡◌, ◌≢◌, ◌⊎◌, ◌+◌, ◌≤◌, ◌==◌, ◌||◌, IsFalse, ℕ, List, [], ◌∷◌, ◌++◌, Option, Some, None, Result, Ok, Err, if◌then◌else◌, take, drop}
+use Rattle.std.specs.Prelude.{◌≡◌, ◌≢◌, ◌⊎◌, ◌+◌, ◌≤◌, ◌==◌, ◌||◌, IsFalse, ⊤, ℕ, List, [], ◌∷◌, ◌++◌, Option, Some, None, Result, Ok, Err, if◌then◌else◌, take, drop}
 use Rattle.std.specs.Str.{bytes_eq}
 use Rattle.std.specs.Io.KnownBytes.{Appends}
 use Rattle.host_io.specs.Calls.{raised}
@@ -59,6 +59,12 @@ half_printed k [] = []
 half_printed k (Writes name bytes ∷ steps) = []
 half_printed k (Prints text ∷ steps) = take k text
 
+-- the first of these steps is to print
+abbrev pub IsPrinting : List Step → Type 0
+IsPrinting [] = ⊥
+IsPrinting (Writes name bytes ∷ steps) = ⊥
+IsPrinting (Prints text ∷ steps) = ⊤
+
 -- The files after the first n steps. Only where a writing may have torn its file may that of the next step be another.
 abbrev pub StandAfter : ℕ → Outcome → Directory → Option Directory → Type 0 → Type 0
 StandAfter n outcome files now spoiled =
@@ -67,7 +73,8 @@ StandAfter n outcome files now spoiled =
 
 -- What was done of a command, by its result. The files were `files` and the told contents are `now`; the sink's text was
 -- `was` and is `text`. Nothing but the command's steps was done, in their order. A call of the files failed where
--- `files-rose`, a writing that may have torn its file where `spoiled`, and a call of the sink where `sink-rose`.
+-- `files-rose`, a writing that may have torn its file where `spoiled`, and a call of the sink where `sink-rose`, which was a step
+-- that prints.
 abbrev pub Did : Outcome → Directory → Option Directory → Option (List ℕ) → Option (List ℕ) → Type 0 → Type 0 → Type 0
     → Result (Unit {0}) Stop → Type 0
 Did outcome files now was text files-rose spoiled sink-rose (Ok done) =
@@ -78,6 +85,7 @@ Did outcome files now was text files-rose spoiled sink-rose (Err NoMemory) =
 Did outcome files now was text files-rose spoiled sink-rose (Err SinkFault) =
     sink-rose × (n : ℕ) × Are now (written (take n (steps_of outcome)) files)
     × (k : ℕ) × Appends was text (printed (take n (steps_of outcome)) ++ half_printed k (drop n (steps_of outcome)))
+    × IsPrinting (drop n (steps_of outcome))
 Did outcome files now was text files-rose spoiled sink-rose (Err FileFault) =
     ((outcome ≡ Refuses FileFault) ⊎ files-rose) × (n : ℕ) × StandAfter n outcome files now spoiled
     × Appends was text (printed (take n (steps_of outcome)))
@@ -121,7 +129,7 @@ abbrev pub line_failures : Stop → Stop → ℕ → ℕ
 line_failures SinkFault now before = before
 line_failures s now before = sink_failed now before
 
--- And by the exit status. The first call that fails ends the listing; the line of that may be cut by the sink, or find no memory.
+-- And by the exit status, of the source: it failed once where that is told. The line of such a stop may be cut, or find no memory.
 pub record FailsOnce (status before after : ℕ) : Type 0 where
   pub once : (after ≡ before) ⊎ (after ≡ raised before)
   pub failed : status ≡ 2 → after ≡ raised before

@@ -1,14 +1,12 @@
 //! `info`: what a package has.
-ghost use Rattle.std.specs.Prelude.{◌≡◌, ◌≤◌, IfOk, List, Some, Err, ℕ, IfErr};
+ghost use Rattle.std.specs.Prelude.{◌≡◌, IfOk, List, Some, ℕ, IfErr};
 ghost use Rattle.host_io.specs.Contents.{Directory};
 ghost use Rattle.host_io.specs.Reads.{ReadsFile};
-ghost use Rattle.fip_making.specs.Refusals.{IsOfPackage, IsOfSource};
+ghost use Rattle.fip_making.specs.Refusals.{IsOfPackage};
 ghost use Rattle.fip_tool.specs.Said.{IsListing};
-ghost use Rattle.fip_making.specs.Seen.{GivenToIn, GivesIn, ReadsOnlyIn};
-ghost use Rattle.fip_making.specs.Answers.{source_failures};
+ghost use Rattle.fip_making.specs.Seen.{GivenToIn, GivesIn, ReadsOnlyIn, ReadsSource};
 ghost use Rattle.fip_making.specs.Values.{StopsInTime};
 ghost use Rattle.fip_tool.specs.Tool.{given_value, info_value};
-ghost use Rattle.fip_making.specs.declared.stops.Stop.TheVariants as stop;
 
 use crate::lines::info_text;
 use fip_making::{Stop, read_given, read_package};
@@ -34,11 +32,7 @@ pub fn source_info<I: Source>(alloc: Global, source: &mut I) -> Result<Vec<u8>, 
     ensures given { (given : List ℕ) × StopsInTime given × GivenToIn I.Source (λ text. text.items)
         given_value source.old source.new result given }
     ensures listed { IfOk result (λ text. IsListing text.items) }
-    ensures usage { result ≡ Err stop.Usage → ⊥ }
-    ensures sink { result ≡ Err stop.SinkFault → ⊥ }
-    ensures later { I.faults source.old ≤ I.faults source.new }
-    ensures count { I.faults source.new ≡ source_failures result (I.faults source.old) }
-    ensures refusals { IfErr result IsOfSource }
+    ensures source { ReadsSource I.Source source.old source.new result }
 {
     let (toc, size) = read_given(source)?;
     Ok(info_text(alloc, &toc, size)?)

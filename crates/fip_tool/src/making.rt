@@ -11,6 +11,14 @@ use fip_words::FileWord;
 use host_io::{Files, Sink};
 use std::alloc::Global;
 
+/// A package that is made of the one in the file `from`, for the file `out`, each payload at a multiple of `align` bytes.
+#[derive(Clone, Copy)]
+pub struct Remade<'a> {
+    pub align: u32,
+    pub from: &'a str,
+    pub out: &'a str,
+}
+
 /// Writes a new package of named files to the file `out`, and prints its line.
 pub fn run_create<H: Files, O: Sink>(
     alloc: Global,
@@ -33,16 +41,15 @@ pub fn run_remove<H: Files, O: Sink>(
     alloc: Global,
     files: &mut H,
     sink: &mut O,
-    align: u32,
-    from: &str,
-    out: &str,
+    remade: &Remade<'_>,
     guids: &[Guid],
 ) -> Result<(), Stop>
-    ensures { DoneWithFiles H.Files O.Sink (Asked.remove align from.now out.now guids.now) result
+    ensures { DoneWithFiles H.Files O.Sink
+        (Asked.remove remade.now.align remade.now.from.now remade.now.out.now guids.now) result
         files.old files.new sink.old sink.new }
 {
-    let made = removed(alloc, files, align, from, guids);
-    put_made(alloc, files, sink, Format::Package, out, made)
+    let made = removed(alloc, files, remade.align, remade.from, guids);
+    put_made(alloc, files, sink, Format::Package, remade.out, made)
 }
 
 /// Writes the package in the file `from` with the payloads of named files to the file `out`, and prints its line. The named files
@@ -51,15 +58,13 @@ pub fn run_update<H: Files, O: Sink>(
     alloc: Global,
     files: &mut H,
     sink: &mut O,
-    align: u32,
-    from: &str,
-    out: &str,
+    remade: &Remade<'_>,
     named: &[FileWord<'_>],
 ) -> Result<(), Stop>
     ensures { DoneWithFiles H.Files O.Sink
-        (Asked.update align from.now out.now (map part_view named.now)) result
+        (Asked.update remade.now.align remade.now.from.now remade.now.out.now (map part_view named.now)) result
         files.old files.new sink.old sink.new }
 {
-    let made = updated(alloc, files, align, from, named);
-    put_made(alloc, files, sink, Format::Package, out, made)
+    let made = updated(alloc, files, remade.align, remade.from, named);
+    put_made(alloc, files, sink, Format::Package, remade.out, made)
 }

@@ -4,7 +4,7 @@ ghost use Rattle.fip_words.specs.Order.{Asked, image_view};
 ghost use Rattle.fip_tool.specs.Done.{DoneWithFiles};
 
 use crate::lines::manifest_line;
-use crate::writing::join_and_print;
+use crate::writing::{NewFile, join_and_print};
 use fip_making::{Stop, manifest};
 use fip_words::ImageWord;
 use host_io::{Files, Sink};
@@ -26,5 +26,10 @@ pub fn run_manifest<H: Files, O: Sink>(
     let (rows, bytes) = manifest(alloc, files, security, named)?;
     let line = manifest_line(alloc, rows, bytes.len() as u64, security)?;
     let bytes = bytes.as_slice();
-    join_and_print(alloc, files, sink, out, bytes, &[], line.as_slice())
+    let file = NewFile {
+        name: out,
+        frame: bytes,
+        pieces: &[],
+    };
+    join_and_print(alloc, files, sink, &file, line.as_slice())
 }

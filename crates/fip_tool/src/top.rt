@@ -5,6 +5,7 @@ ghost use Rattle.fip_tool.specs.Names.{IsUnnamed};
 ghost use Rattle.host_io.specs.Access.{Access};
 ghost use Rattle.host_io.specs.Calls.{raised};
 ghost use Rattle.host_io.specs.Contents.{Directory};
+ghost use Rattle.host_io.specs.Once.{ReadsOnce};
 ghost use Rattle.host_io.specs.Reads.{ReadsFile};
 ghost use Rattle.fip_words.specs.Order.{Asked, asked, info_of_source, view};
 ghost use Rattle.fip_words.specs.Values.{is_unpacked};
@@ -21,7 +22,7 @@ ghost use Rattle.fip_making.specs.declared.stops.Stop.TheVariants.{SinkFault};
 
 use crate::capsules::{run_capsule, run_package};
 use crate::info::{file_info, source_info};
-use crate::making::{run_create, run_remove, run_update};
+use crate::making::{Remade, run_create, run_remove, run_update};
 use crate::manifest::run_manifest;
 use crate::printing::print;
 use crate::stop_lines::stop_line;
@@ -52,6 +53,7 @@ fn info_of_source<I: Source, O: Sink>(
 ) -> Result<(), Stop>
     ensures listed { (told : Option Directory) → ReadSourceIn I.Source O.Sink told told
         source.old source.new sink.old sink.new result }
+    ensures once { ReadsOnce I.Source source.old source.new }
     ensures says { SaysIn O.Sink (IsTexts info_of_source) sink.old sink.new result }
     ensures cause { result ≡ Err stop.FileFault → Rose (I.faults source.old) (I.faults source.new) }
     ensures usage { result ≡ Err stop.Usage → ⊥ }
@@ -116,13 +118,27 @@ fn command<H: Files, I: Source, O: Sink>(
             from,
             out,
             parts,
-        } => run_update(alloc, files, sink, *align, from, out, parts.as_slice()),
+        } => {
+            let remade = Remade {
+                align: *align,
+                from,
+                out,
+            };
+            run_update(alloc, files, sink, &remade, parts.as_slice())
+        }
         FipOrder::Remove {
             align,
             from,
             out,
             names,
-        } => run_remove(alloc, files, sink, *align, from, out, names.as_slice()),
+        } => {
+            let remade = Remade {
+                align: *align,
+                from,
+                out,
+            };
+            run_remove(alloc, files, sink, &remade, names.as_slice())
+        }
         FipOrder::Unpack {
             from,
             prefix,
@@ -190,7 +206,7 @@ pub fn fip_top<H: Files, I: Source, O: Sink>(
     ensures cause { result ≡ 2 → H.contents files.old ≡ None
         → Rose (H.faults files.old) (H.faults files.new)
         ⊎ Rose (I.faults source.old) (I.faults source.new) }
-    // A command ends at the first call of the files that fails, whatever files there are.
+    // At most one call of the files fails, and none but at status 2, 3 and 9, whatever files there are.
     ensures file_count { FailsAtMostOnce result (H.faults files.old) (H.faults files.new) }
     // Where the sink failed no call of the files failed, and none of a source that is listed, unless the line that told so is cut.
     ensures sink_alone { result ≡ 3 → SinkAloneIn O.Sink (asked (map string_bytes words.now))
@@ -209,8 +225,10 @@ pub fn fip_top<H: Files, I: Source, O: Sink>(
     ensures refusals { EndsFor (asked (map string_bytes words.now)) result }
     // Nothing but a listing of the source reads it.
     ensures source_stays { asked (map string_bytes words.now) ≢ Some info_of_source
-        → (I.left source.new ≡ I.left source.old) × (I.faults source.new ≡ I.faults source.old) }
-    // A listing of the source ends at the first call that fails, whatever source there is.
+        → source.new ≡ source.old }
+    // No read of the source is made behind one that gave no bytes or failed, whatever source there is.
+    ensures once { ReadsOnce I.Source source.old source.new }
+    // In a listing of the source at most one call of it failed, and at status 2 one did, whatever source there is.
     ensures source_count { asked (map string_bytes words.now) ≡ Some info_of_source
         → FailsOnce result (I.faults source.old) (I.faults source.new) }
     // Neither usage nor a listing of the source asks for a file, whatever files there are.

@@ -15,7 +15,7 @@ ghost use Rattle.fip_tool.specs.Tool.{unpack_steps};
 ghost use Rattle.fip_tool.specs.Unpacked.{Unpacked};
 
 use crate::lines::{add, add_guid, add_named};
-use crate::writing::join_and_print;
+use crate::writing::{NewFile, join_and_print};
 use base_core::{Guid, NoMemory};
 use fip_making::{Stop, is_named, table_with};
 use fip_tables::Entry;
@@ -76,15 +76,12 @@ fn unpack_entry<H: Files, O: Sink>(
         at: entry.offset,
         count: entry.size,
     };
-    join_and_print(
-        alloc,
-        files,
-        sink,
-        name.as_str(),
-        &[],
-        &[payload],
-        line.as_slice(),
-    )
+    let file = NewFile {
+        name: name.as_str(),
+        frame: &[],
+        pieces: &[payload],
+    };
+    join_and_print(alloc, files, sink, &file, line.as_slice())
 }
 
 // Whether the entry is named, or none is.
@@ -94,43 +91,48 @@ fn is_chosen(names: &[Guid], entry: &Entry) -> bool
     names.is_empty() || is_named(names, entry)
 }
 
+// A package that is unpacked: its file, the front of the files' names, and the types that are named.
+#[derive(Clone, Copy)]
+struct Unpacking<'a> {
+    from: &'a str,
+    prefix: &'a str,
+    names: &'a [Guid],
+}
+
 // Unpacks the entries that are named, or all where none is.
 fn unpack_entries<H: Files, O: Sink>(
     alloc: Global,
     files: &mut H,
     sink: &mut O,
-    from: &str,
-    prefix: &str,
-    names: &[Guid],
+    unpacked: &Unpacking<'_>,
     entries: &[Entry],
 ) -> Result<(), Stop>
-    requires other { is_unpacked prefix.now from.now ≡ false }
-    requires stored { (bytes : List ℕ) → Tells (H.contents files.old) from.now bytes
+    requires other { is_unpacked unpacked.now.prefix.now unpacked.now.from.now ≡ false }
+    requires stored { (bytes : List ℕ) → Tells (H.contents files.old) unpacked.now.from.now bytes
         → All (λ e. e.offset + e.size ≤ length bytes) entries.now }
-    requires there { Lacks (H.contents files.old) from.now → ⊥ }
+    requires there { Lacks (H.contents files.old) unpacked.now.from.now → ⊥ }
     ensures told { (told : Directory) → (bytes : List ℕ) → H.contents files.old ≡ Some told
-        → told from.now ≡ Some bytes
-        → DidIn H.Files O.Sink (Makes (unpack_steps prefix.now bytes
-        (filter (λ e. (length names.now == 0) || is_named names.now e) entries.now))) told
+        → told unpacked.now.from.now ≡ Some bytes
+        → DidIn H.Files O.Sink (Makes (unpack_steps unpacked.now.prefix.now bytes
+        (filter (λ e. (length unpacked.now.names.now == 0) || is_named unpacked.now.names.now e) entries.now))) told
         files.old files.new sink.old sink.new result }
-    ensures texts { WritesTexts H.Files O.Sink (λ texts. texts ≡ map (unpacked_line prefix.now)
-        (filter (λ e. (length names.now == 0) || is_named names.now e) entries.now)) result
+    ensures texts { WritesTexts H.Files O.Sink (λ texts. texts ≡ map (unpacked_line unpacked.now.prefix.now)
+        (filter (λ e. (length unpacked.now.names.now == 0) || is_named unpacked.now.names.now e) entries.now)) result
         files.old files.new sink.old sink.new }
-    ensures spares { (access : Access) → access ≢ Asks from.now
-        → ((guid : List ℕ) → access ≢ Makes (unpacked_name prefix.now guid))
+    ensures spares { (access : Access) → access ≢ Asks unpacked.now.from.now
+        → ((guid : List ℕ) → access ≢ Makes (unpacked_name unpacked.now.prefix.now guid))
         → H.spares files.old files.new access }
 {
     for entry in entries {
-        if is_chosen(names, entry) {
-            unpack_entry(alloc, files, sink, from, prefix, entry)?;
+        if is_chosen(unpacked.names, entry) {
+            unpack_entry(alloc, files, sink, unpacked.from, unpacked.prefix, entry)?;
         }
     }
     Ok(())
 }
 
 /// Writes the payloads of a package, or those that are named where some are, each to the file of the prefix, its type's text and
-/// `.bin`, and prints a line for each. It takes them in the package's order. Each file is made of a piece of the package, so that
-/// no payload is held whole.
+/// `.bin`, and prints a line for each. It takes them in the package's order.
 pub fn run_unpack<H: Files, O: Sink>(
     alloc: Global,
     files: &mut H,
@@ -145,5 +147,10 @@ pub fn run_unpack<H: Files, O: Sink>(
 {
     let toc = table_with(files, from, names)?;
     let entries = toc.entries.as_slice();
-    unpack_entries(alloc, files, sink, from, prefix, names, entries)
+    let unpacked = Unpacking {
+        from,
+        prefix,
+        names,
+    };
+    unpack_entries(alloc, files, sink, &unpacked, entries)
 }

@@ -22,19 +22,21 @@ use fip_making::{Made, Stop};
 use host_io::{Files, Piece, Sink};
 use std::alloc::Global;
 
-// Makes a file of a frame and pieces of files.
-fn join<H: Files>(
-    alloc: Global,
-    files: &mut H,
-    name: &str,
-    frame: &[u8],
-    pieces: &[Piece<'_>],
-) -> Result<(), Stop>
-    requires { All (HasPiece (H.contents files.old)) pieces.now }
+/// A file that is to be made, of a frame with pieces of files between its bytes.
+#[derive(Clone, Copy)]
+pub struct NewFile<'a> {
+    pub name: &'a str,
+    pub frame: &'a [u8],
+    pub pieces: &'a [Piece<'a>],
+}
+
+// Makes a file.
+fn join<H: Files>(alloc: Global, files: &mut H, file: &NewFile<'_>) -> Result<(), Stop>
+    requires { All (HasPiece (H.contents files.old)) file.now.pieces.now }
     ensures told { (told : Directory) → H.contents files.old ≡ Some told
-        → WrittenIn H.Files told name.now (joined_pieces told frame.now pieces.now)
+        → WrittenIn H.Files told file.now.name.now (joined_pieces told file.now.frame.now file.now.pieces.now)
         files.old files.new result }
-    ensures spares { (access : Access) → access ≢ Makes name.now → H.spares files.old files.new access }
+    ensures spares { (access : Access) → access ≢ Makes file.now.name.now → H.spares files.old files.new access }
     ensures file_count { FaultsOnce (H.faults files.old) (H.faults files.new) result }
     ensures wrote { (H.writes files.new).done ≡ written_once result (H.writes files.old).done }
     ensures unspoiled { OnOk result (NoneUnwritten (H.writes files.old) (H.writes files.new)) }
@@ -45,32 +47,35 @@ fn join<H: Files>(
     ensures sink { result ≡ Err stop.SinkFault → ⊥ }
     ensures later { H.faults files.old ≤ H.faults files.new }
 {
+    let NewFile {
+        name,
+        frame,
+        pieces,
+    } = *file;
     files.write_joined(alloc, name, frame, pieces)?;
     Ok(())
 }
 
-/// Makes a file of a frame and pieces of files, and prints a line then.
+/// Makes a file, and prints a line then.
 pub fn join_and_print<H: Files, O: Sink>(
     alloc: Global,
     files: &mut H,
     sink: &mut O,
-    name: &str,
-    frame: &[u8],
-    pieces: &[Piece<'_>],
+    file: &NewFile<'_>,
     line: &[u8],
 ) -> Result<(), Stop>
-    requires { All (HasPiece (H.contents files.old)) pieces.now }
+    requires { All (HasPiece (H.contents files.old)) file.now.pieces.now }
     ensures told { (told : Directory) → H.contents files.old ≡ Some told
         → DidIn H.Files O.Sink
-        (Makes (Writes name.now (joined_pieces told frame.now pieces.now) ∷ Prints line.now ∷ []))
+        (Makes (Writes file.now.name.now (joined_pieces told file.now.frame.now file.now.pieces.now) ∷ Prints line.now ∷ []))
         told files.old files.new sink.old sink.new result }
-    ensures spares { (access : Access) → access ≢ Makes name.now → H.spares files.old files.new access }
+    ensures spares { (access : Access) → access ≢ Makes file.now.name.now → H.spares files.old files.new access }
     ensures texts { WritesTexts H.Files O.Sink (λ texts. texts ≡ line.now ∷ []) result
         files.old files.new sink.old sink.new }
     ensures unspoiled { OnOk result (NoneUnwritten (H.writes files.old) (H.writes files.new)) }
     ensures silent { H.contents files.old ≡ None → H.contents files.new ≡ None }
 {
-    join(alloc, files, name, frame, pieces)?;
+    join(alloc, files, file)?;
     print(sink, line)
 }
 
@@ -113,5 +118,10 @@ pub fn put_made<H: Files, O: Sink>(
     let line = made_line(alloc, format, made.count, made.frame.size)?;
     let frame = made.frame.bytes.as_slice();
     let pieces = made.pieces.as_slice();
-    join_and_print(alloc, files, sink, out, frame, pieces, line.as_slice())
+    let file = NewFile {
+        name: out,
+        frame,
+        pieces,
+    };
+    join_and_print(alloc, files, sink, &file, line.as_slice())
 }

@@ -6,3 +6,5 @@ pub data Access : Type 0 where
   Asks : List ℕ → Access
   -- it makes the file of this name, or tries to
   Makes : List ℕ → Access
+  -- it writes the file of this name where it stands, or makes it, or tries to
+  Overwrites : List ℕ → Access

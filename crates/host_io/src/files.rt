@@ -8,7 +8,7 @@ use std::alloc::Global;
 pub trait Files {
     ghost use Rattle.std.specs.Prelude.{◌≡◌, ◌≢◌, ◌⊎◌, ◌+◌, ◌≤◌, ℕ, Bool, Option, Err, IfOk, OnOk, OnErr, is_some, length, vec_capacity, vec_len};
     ghost use Rattle.base_core.specs.Counts.{Rose};
-    ghost use Rattle.host_io.specs.Access.{Access, Asks, Makes};
+    ghost use Rattle.host_io.specs.Access.{Access, Asks, Makes, Overwrites};
     ghost use Rattle.host_io.specs.Calls.{CountsJoin, CountsWrite, as_write, failures, write_failures};
     ghost use Rattle.host_io.specs.Causes.{HasCause, HasWriteCause};
     ghost use Rattle.std.specs.List.{All};
@@ -37,8 +37,8 @@ pub trait Files {
     /// their own: who names one has to know that it is there.
     ghost spares: { Self → Self → Access → Type 0 };
 
-    /// How many bytes the file has. `None` says that no file has the name; files that are not told
-    /// answer `Failed` there.
+    /// How many bytes the file has. `None` says that no file has the name, which files that are not told
+    /// never say.
     fn size(&mut self, name: &str) -> Result<Option<u64>, Failed>
         ensures size { IfOk result (TellsSize (contents self.old) name.now) }
         ensures same { contents self.new ≡ contents self.old }
@@ -90,17 +90,17 @@ pub trait Files {
         ensures writes { CountsWrite result (writes self.old) (writes self.new) }
         ensures stands { result ≡ Err stop.Failed → (contents self.new ≡ contents self.old)
             ⊎ Rose (writes self.old).torn (writes self.new).torn }
-        ensures spares { (access : Access) → access ≢ Makes name.now → spares self.old self.new access };
+        ensures spares { (access : Access) → access ≢ Overwrites name.now → spares self.old self.new access };
 
     /// Makes the file anew, of a frame's bytes with pieces of files between them, each behind as many
     /// more of the frame as it says (or as there are), and last what is left of the frame. The pieces
     /// are those that the files had before, also where the made file is one of them. Files that are not
     /// told stay so.
     ///
-    /// `Unread` says that a piece could not be read: the files are as they were, and no write is counted.
-    /// `Failed` says that the file could not be written. No other name has changed then, and this one is
-    /// as it was, unless a file may have been torn, which is counted. Want of memory, which may be taken
-    /// from `alloc`, leaves the files as they were.
+    /// `Unread` is for a piece that can't be read: the files are as they were, and no write is counted.
+    /// `Failed` is for a file that can't be written. No other name has changed then, and this one is as it
+    /// was, unless a file may have been torn, which is counted. Want of memory, which may be taken from
+    /// `alloc`, leaves the files as they were.
     fn write_joined(
         &mut self,
         alloc: Global,

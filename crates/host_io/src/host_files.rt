@@ -576,7 +576,7 @@ impl<R: std::rt::Files> Files for HostFiles<R> {
         self.write_over(name, bytes)
     }
 
-    /// Besides what the trait says: a new file takes the name once it is whole and on the disk. Its own
+    /// By tests, and by no clause: a new file takes the name once it is whole and on the disk. Its own
     /// name has `.new` behind, or `.new1` up to `.new999` where files of these names are there. It has the
     /// old one's mode, and no other rights of it. So where this fails the old file is still there; that
     /// it can't be written, or that all names are taken, is an error.

@@ -21,7 +21,7 @@ returns-clause-told g c = λ told e.
     (c.package_of_items.ensures.told told o.bytes o.is (has-items _ (Some told) c.args.from.now c.in_ok-toc.toc (sym e) (λ d k. c.in_ok-toc.ensures.told d k)))
 
 pub returns-clause-count : goal.returns-clause-count
-returns-clause-count g c = if-ok-as c.package_of_items.result _ _ (λ m e. (c.in_ok-toc.toc, e)) c.package_of_items.ensures.count
+returns-clause-count g c = if-ok-as c.package_of_items.result _ _ (λ m e. (c.in_ok-toc.toc, c.in_ok-toc.ensures.table, e)) c.package_of_items.ensures.count
 
 pub returns-in_err-toc-clause-told : goal.returns-in_err-toc-clause-told
 returns-in_err-toc-clause-told g c =

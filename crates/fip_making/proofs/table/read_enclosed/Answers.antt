@@ -1,7 +1,7 @@
 use Rattle.std.proofs.Common.{refl}
 use Rattle.fip_making.proofs.Conversions.{table-read, table-stopped}
 use Rattle.fip_making.proofs.ReadsBy.{reads-no-items}
-use Rattle.fip_making.proofs.Refusing.{items-of-capsule}
+use Rattle.fip_making.proofs.Refusing.{items-need-none, items-of-capsule}
 use Rattle.fip_making.proofs.Stopped.{handed-on}
 use Rattle.fip_making.specs.Stops.{capsule_stopped_by}
 use Rattle.fip_making.proofs.table.read_enclosed.Goals as goal
@@ -18,3 +18,6 @@ returns-in_err-read_capsule-clause-reads g c = rw (handed-on c.from_residual.res
 
 pub returns-in_err-read_capsule-clause-refusals : goal.returns-in_err-read_capsule-clause-refusals
 returns-in_err-read_capsule-clause-refusals g c = rw (handed-on c.from_residual.result (capsule_stopped_by c.in_err-read_capsule.field-0.0) c.from_residual.ensures.1) (items-of-capsule c.in_err-read_capsule.field-0.0)
+
+pub returns-in_err-read_capsule-clause-memory : goal.returns-in_err-read_capsule-clause-memory
+returns-in_err-read_capsule-clause-memory g c = rw (handed-on c.from_residual.result (capsule_stopped_by c.in_err-read_capsule.field-0.0) c.from_residual.ensures.1) (λ e. items-need-none c.in_err-read_capsule.field-0.0 cc)

@@ -4,7 +4,7 @@ use Rattle.fip_making.proofs.ReadsBy.{reads-no-table, reads-stopped}
 use Rattle.fip_making.proofs.Repacking.{ends-below}
 use Rattle.fip_making.proofs.Tables.{gives-err, size-err, sized, table-ok, table-stop, tells}
 use Rattle.fip_making.proofs.Stopped.{handed-on}
-use Rattle.fip_making.proofs.Refusing.{late-of-package, toc-of-package}
+use Rattle.fip_making.proofs.Refusing.{late-of-package, toc-needs-none, toc-of-package}
 use Rattle.fip_making.specs.Stops.{stopped_by}
 use Rattle.fip_making.proofs.table.read_package.Goals as goal
 
@@ -45,6 +45,9 @@ returns-in_err-size-clause-refusals g c = rw (handed-on c.from_residual.result c
 
 pub returns-in_err-toc-clause-refusals : goal.returns-in_err-toc-clause-refusals
 returns-in_err-toc-clause-refusals g c = rw (handed-on c.from_residual-in_err-toc.result (stopped_by c.in_err-toc.field-0.0) c.from_residual-in_err-toc.ensures.1) (toc-of-package c.in_err-toc.field-0.0)
+
+pub returns-in_err-toc-clause-memory : goal.returns-in_err-toc-clause-memory
+returns-in_err-toc-clause-memory g c = rw (handed-on c.from_residual-in_err-toc.result (stopped_by c.in_err-toc.field-0.0) c.from_residual-in_err-toc.ensures.1) (λ e. toc-needs-none c.in_err-toc.field-0.0 cc)
 
 pub returns-clause-files : goal.returns-clause-files
 returns-clause-files g c =

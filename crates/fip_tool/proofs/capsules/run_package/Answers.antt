@@ -1,6 +1,7 @@
 use Rattle.std.proofs.Common.{◌≡◌, ◌∙◌, ◌∷◌, [], ℕ, List, Result, Some, ap, length, refl}
 use Rattle.fwu_formats.specs.Package.{Toc}
 use Rattle.std.specs.Prelude.{IfOk}
+use Rattle.capsule_tables.specs.Answers.{IsSomeTable}
 use Rattle.fip_words.specs.Order.{repackage}
 use Rattle.fip_tool.specs.Done.{RefusesAlone}
 use Rattle.fip_making.specs.Stops.{status_number}
@@ -16,8 +17,8 @@ use Rattle.fip_making.proofs.Refusing.{if-err-all, late-of-packaging}
 use Rattle.fip_tool.proofs.capsules.run_package.Goals as goal
 
 -- the line is of a capsule that was read, with some size
-texts-are : (align : ℕ) (from out : List ℕ) (made : Result Made Stop) → IfOk made (λ m. (t : Toc) × (m.count ≡ length t.entries)) → (texts : List (List ℕ)) → IsMadeLine format.Package made texts → IsTexts (repackage align from out) texts
-texts-are align from out made count texts t = let p = made-texts format.Package made (λ n. (t : Toc) × (n ≡ length t.entries)) count texts t in (p.1.0, p.2, p.3 ∙ ap (λ (n : ℕ). packed_line n p.2 ∷ []) p.1.1)
+texts-are : (align : ℕ) (from out : List ℕ) (made : Result Made Stop) → IfOk made (λ m. (t : Toc) × IsSomeTable t × (m.count ≡ length t.entries)) → (texts : List (List ℕ)) → IsMadeLine format.Package made texts → IsTexts (repackage align from out) texts
+texts-are align from out made count texts t = let p = made-texts format.Package made (λ n. (t : Toc) × IsSomeTable t × (n ≡ length t.entries)) count texts t in (p.1.0, p.1.1, p.2, p.3 ∙ ap (λ (n : ℕ). packed_line n p.2 ∷ []) p.1.2)
 
 pub returns : goal.returns
 returns g c =

@@ -23,8 +23,8 @@ pub returns : goal.returns
 returns g c =
     let made = c.removed-made in
     let put = c.put_made.ensures in
-    done-made format.Package c.args.out.now (λ told. remove_value told c.args.align c.args.from.now c.args.guids.now) (λ told. refl) (texts-are c.args.align c.args.from.now c.args.out.now made.result c.args.guids.now made.ensures.count) (λ w. w) late-of-repacking
+    done-made format.Package c.args.remade.now.out.now (λ told. remove_value told c.args.remade.now.align c.args.remade.now.from.now c.args.guids.now) (λ told. refl) (texts-are c.args.remade.now.align c.args.remade.now.from.now c.args.remade.now.out.now made.result c.args.guids.now made.ensures.count) (λ w. w) late-of-repacking
     made.ensures.reads made.ensures.files made.ensures.told made.ensures.refusals
     put.told put.says put.wrote put.file_count put.cause put.usage put.refusals put.later put.later_sink put.sink_count
     (λ access other. g.met.H.Files.joins _ _ _ access (made.ensures.files.spares access other.0) (put.spares access other.1))
-    put.kept (if-err-all made.result (λ s. RefusesAlone g.H.Files (Some (remove c.args.align c.args.from.now c.args.out.now c.args.guids.now)) c.args.files.now made.new.files (status_number s)) (λ s refuses access other. made.ensures.files.spares access (other)))
+    put.kept (if-err-all made.result (λ s. RefusesAlone g.H.Files (Some (remove c.args.remade.now.align c.args.remade.now.from.now c.args.remade.now.out.now c.args.guids.now)) c.args.files.now made.new.files (status_number s)) (λ s refuses access other. made.ensures.files.spares access (other)))

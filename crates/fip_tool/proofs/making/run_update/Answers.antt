@@ -30,12 +30,12 @@ pub returns : goal.returns
 returns g c =
     let made = c.updated-made in
     let put = c.put_made.ensures in
-    done-made format.Package c.args.out.now (λ told. update_value told c.args.align c.args.from.now (map part_view c.args.named.now)) (λ told. refl) (texts-are c.args.align c.args.from.now c.args.out.now made.result c.args.named.now made.ensures.count) (λ w. w) late-of-repacking
+    done-made format.Package c.args.remade.now.out.now (λ told. update_value told c.args.remade.now.align c.args.remade.now.from.now (map part_view c.args.named.now)) (λ told. refl) (texts-are c.args.remade.now.align c.args.remade.now.from.now c.args.remade.now.out.now made.result c.args.named.now made.ensures.count) (λ w. w) late-of-repacking
     made.ensures.reads made.ensures.files made.ensures.told made.ensures.refusals
     put.told put.says put.wrote put.file_count put.cause put.usage put.refusals put.later put.later_sink put.sink_count
     (λ access other. g.met.H.Files.joins _ _ _ access (made.ensures.files.spares access (other.0, of-map (λ (p : NamedFile). access ≢ Asks p.file) part_view c.args.named.now other.1)) (put.spares access other.2))
-    put.kept (if-err-as made.result (λ s. IsOfPacking s ⊎ ReadsFile g.H.Files c.args.from.now c.args.files.now made.new.files)
-    (λ s. RefusesAlone g.H.Files (Some (update c.args.align c.args.from.now c.args.out.now (map part_view c.args.named.now))) c.args.files.now made.new.files (status_number s))
+    put.kept (if-err-as made.result (λ s. IsOfPacking s ⊎ ReadsFile g.H.Files c.args.remade.now.from.now c.args.files.now made.new.files)
+    (λ s. RefusesAlone g.H.Files (Some (update c.args.remade.now.align c.args.remade.now.from.now c.args.remade.now.out.now (map part_view c.args.named.now))) c.args.files.now made.new.files (status_number s))
     (λ s by refuses access other. elim by [
       | inl packing ↦ made.ensures.files.spares access (other.0, of-map (λ (p : NamedFile). access ≢ Asks p.file) part_view c.args.named.now (other.1 (packing-six s packing refuses)))
       | inr reads ↦ reads.spares access other.0

@@ -36,14 +36,20 @@ returns-clause-says g c =
 
 pub returns-in_err-text-clause-says : goal.returns-in_err-text-clause-says
 returns-in_err-text-clause-says g c =
-    rw (handed-on c.from_residual.result c.in_err-text.field-0.0 c.from_residual.ensures.1) (says-nothing (IsTexts asks.info_of_source) _ _ _ c.in_err-text.field-0.0 (λ e. c.in_err-text.ensures.sink (err-same e)) refl)
+    rw (handed-on c.from_residual.result c.in_err-text.field-0.0 c.from_residual.ensures.1) (says-nothing (IsTexts asks.info_of_source) _ _ _ c.in_err-text.field-0.0 (λ e. c.in_err-text.ensures.source.sink (err-same e)) refl)
 
 pub returns-in_err-text-clause-sink_count : goal.returns-in_err-text-clause-sink_count
 returns-in_err-text-clause-sink_count g c =
-    rw (handed-on c.from_residual.result c.in_err-text.field-0.0 c.from_residual.ensures.1) (still _ c.in_err-text.field-0.0 (λ e. c.in_err-text.ensures.sink (err-same e)))
+    rw (handed-on c.from_residual.result c.in_err-text.field-0.0 c.from_residual.ensures.1) (still _ c.in_err-text.field-0.0 (λ e. c.in_err-text.ensures.source.sink (err-same e)))
 
 pub returns-clause-source_count : goal.returns-clause-source_count
-returns-clause-source_count g c = c.in_ok-text.ensures.count ∙ printed-quiet _ _ _ _ c.print.result _ c.print.ensures.printed
+returns-clause-source_count g c = c.in_ok-text.ensures.source.count ∙ printed-quiet _ _ _ _ c.print.result _ c.print.ensures.printed
 
 pub returns-clause-refusals : goal.returns-clause-refusals
 returns-clause-refusals g c = if-err-as c.print.result IsLate IsOfSource late-of-source c.print.ensures.late
+
+pub returns-clause-once : goal.returns-clause-once
+returns-clause-once g c = c.in_ok-text.ensures.source.once
+
+pub returns-in_err-text-clause-once : goal.returns-in_err-text-clause-once
+returns-in_err-text-clause-once g c = c.in_err-text.ensures.source.once

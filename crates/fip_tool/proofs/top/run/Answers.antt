@@ -14,7 +14,7 @@ returns-in-Ok g c =
     (sym c.in-Ok.ensures) c.command.ensures
 
 pub returns-in-Err-Usage : goal.returns-in-Err-Usage
-returns-in-Err-Usage g c = done-usage (rw c.in-Err-Usage.field-0-is at c.in-Err-Usage.ensures) (g.met.H.Files.at_rest c.args.files.now)
+returns-in-Err-Usage g c = done-usage g.met.I.Source.at_rest (rw c.in-Err-Usage.field-0-is at c.in-Err-Usage.ensures) (g.met.H.Files.at_rest c.args.files.now)
 
 pub returns-in-Err-NoMemory : goal.returns-in-Err-NoMemory
-returns-in-Err-NoMemory g c = done-starved (g.met.H.Files.at_rest c.args.files.now)
+returns-in-Err-NoMemory g c = done-starved g.met.I.Source.at_rest (g.met.H.Files.at_rest c.args.files.now)

@@ -30,23 +30,23 @@ loop-entry-init g c = record {
   later_sink = omega arith;
   sink_count = refl;
   said = Appends-nil _;
-  so-far = λ told bytes is stored. begins c.args.prefix.now c.args.from.now bytes told _ _ is stored;
+  so-far = λ told bytes is stored. begins c.args.unpacked.now.prefix.now c.args.unpacked.now.from.now bytes told _ _ is stored;
 }
 
 pub unpack_entry-requires-clause-stored : goal.unpack_entry-requires-clause-stored
 unpack_entry-requires-clause-stored g c = λ bytes tells.
     subst (λ (x : Entry). x.offset + x.size ≤ length bytes) (sym c.entry-item.is)
     (All-get_or (λ x. x.offset + x.size ≤ length bytes) c.args.entries.now c.loop-entry.entry-index c.entry-item.result c.loop-entry-test.true
-    (c.requires.stored bytes (tells-still c.args.prefix.now c.args.from.now _ _ _ _ _ c.loop-entry.invariant.silent c.requires.there c.loop-entry.invariant.so-far bytes tells)))
+    (c.requires.stored bytes (tells-still c.args.unpacked.now.prefix.now c.args.unpacked.now.from.now _ _ _ _ _ c.loop-entry.invariant.silent c.requires.there c.loop-entry.invariant.so-far bytes tells)))
 
 pub unpack_entry-requires-clause-there : goal.unpack_entry-requires-clause-there
-unpack_entry-requires-clause-there g c = there-still c.args.prefix.now c.args.from.now _ _ _ _ _ c.loop-entry.invariant.silent c.requires.there c.loop-entry.invariant.so-far
+unpack_entry-requires-clause-there g c = there-still c.args.unpacked.now.prefix.now c.args.unpacked.now.from.now _ _ _ _ _ c.loop-entry.invariant.silent c.requires.there c.loop-entry.invariant.so-far
 
 pub returns-in_err-unpack_entry-clause-told : goal.returns-in_err-unpack_entry-clause-told
 returns-in_err-unpack_entry-clause-told g c =
     rw (handed-on c.from_residual.result c.in_err-unpack_entry.field-0.0 c.from_residual.ensures.1) (λ told bytes is stored.
     let s = c.loop-entry.invariant.so-far told bytes is stored in
-    step-stops c.args.prefix.now c.args.from.now bytes (λ e. (length c.args.names.now == 0) || is_named c.args.names.now e) c.args.entries.now c.loop-entry.entry-index told _
+    step-stops c.args.unpacked.now.prefix.now c.args.unpacked.now.from.now bytes (λ e. (length c.args.unpacked.now.names.now == 0) || is_named c.args.unpacked.now.names.now e) c.args.entries.now c.loop-entry.entry-index told _
     c.entry-item.result c.loop-entry-test.true (sym c.entry-item.is) _ _ _ _ _ _ _ s _ _ _ c.in_err-unpack_entry.field-0.0
     (λ r. rose-still _ _ _ (sym c.loop-entry.invariant.quiet) r) (λ r. tears-still (g.H.Files.writes c.args.files.now) (g.H.Files.writes c.loop-entry.files) (g.H.Files.writes c.unpack_entry.new.files) c.loop-entry.invariant.unspoiled r) (λ r. rose-from _ _ _ c.loop-entry.invariant.later_sink r) (sym c.is_chosen.ensures ∙ c.if-is_chosen.true) (c.in_err-unpack_entry.ensures.told s.now bytes s.is s.stored))
 
@@ -60,25 +60,25 @@ loop-entry-preserved g c =
             quiet = w.in_ok-unpack_entry.ensures.texts.file_count.quiet ∙ c.loop-entry.invariant.quiet;
             unspoiled = none-unwritten (g.H.Files.writes c.args.files.now) (g.H.Files.writes c.loop-entry.files) (g.H.Files.writes w.unpack_entry.new.files) c.loop-entry.invariant.unspoiled w.in_ok-unpack_entry.ensures.unspoiled;
             wrote =
-                let p = λ (e : Entry). (length c.args.names.now == 0) || is_named c.args.names.now e in
+                let p = λ (e : Entry). (length c.args.unpacked.now.names.now == 0) || is_named c.args.unpacked.now.names.now e in
                 let e = c.entry-item.result in
                 let es = c.args.entries.now in
                 let more = next-chosen p es c.loop-entry.entry-index e c.loop-entry-test.true (sym c.entry-item.is) (sym c.is_chosen.ensures ∙ w.if-is_chosen.true) in
-                one-wrote (unpacked_line c.args.prefix.now e) _ _ _ _ _ (length (filter p (take c.loop-entry.entry-index es))) _ c.loop-entry.invariant.wrote
+                one-wrote (unpacked_line c.args.unpacked.now.prefix.now e) _ _ _ _ _ (length (filter p (take c.loop-entry.entry-index es))) _ c.loop-entry.invariant.wrote
                 (ap length more ∙ length-append (filter p (take c.loop-entry.entry-index es)) (e ∷ [])) w.in_ok-unpack_entry.ensures.texts.wrote;
             later_sink = omega (arith, c.loop-entry.invariant.later_sink, w.unpack_entry.ensures.texts.later_sink);
             sink_count = w.in_ok-unpack_entry.ensures.texts.sink_count ∙ c.loop-entry.invariant.sink_count;
             said =
-                let p = λ (e : Entry). (length c.args.names.now == 0) || is_named c.args.names.now e in
+                let p = λ (e : Entry). (length c.args.unpacked.now.names.now == 0) || is_named c.args.unpacked.now.names.now e in
                 let e = c.entry-item.result in
                 let es = c.args.entries.now in
                 let more = next-chosen p es c.loop-entry.entry-index e c.loop-entry-test.true (sym c.entry-item.is) (sym c.is_chosen.ensures ∙ w.if-is_chosen.true) in
-                said-more (map (unpacked_line c.args.prefix.now) (filter p (take c.loop-entry.entry-index es))) _ (unpacked_line c.args.prefix.now e) _ _ _ (Unit {0}) tt
-                (ap (map (unpacked_line c.args.prefix.now)) more ∙ map-append (unpacked_line c.args.prefix.now) (filter p (take c.loop-entry.entry-index es)) (e ∷ []))
+                said-more (map (unpacked_line c.args.unpacked.now.prefix.now) (filter p (take c.loop-entry.entry-index es))) _ (unpacked_line c.args.unpacked.now.prefix.now e) _ _ _ (Unit {0}) tt
+                (ap (map (unpacked_line c.args.unpacked.now.prefix.now)) more ∙ map-append (unpacked_line c.args.unpacked.now.prefix.now) (filter p (take c.loop-entry.entry-index es)) (e ∷ []))
                 c.loop-entry.invariant.said w.in_ok-unpack_entry.ensures.texts.says;
             so-far = λ told bytes is stored.
                 let s = c.loop-entry.invariant.so-far told bytes is stored in
-                step-done c.args.prefix.now c.args.from.now bytes (λ e. (length c.args.names.now == 0) || is_named c.args.names.now e) c.args.entries.now c.loop-entry.entry-index told _
+                step-done c.args.unpacked.now.prefix.now c.args.unpacked.now.from.now bytes (λ e. (length c.args.unpacked.now.names.now == 0) || is_named c.args.unpacked.now.names.now e) c.args.entries.now c.loop-entry.entry-index told _
                 c.entry-item.result c.loop-entry-test.true (sym c.entry-item.is) _ _ _ _ (Unit {0}) (Unit {0}) (Unit {0}) s _
                 (sym c.is_chosen.ensures ∙ w.if-is_chosen.true) (w.in_ok-unpack_entry.ensures.other c.requires.other) (w.in_ok-unpack_entry.ensures.told s.now bytes s.is s.stored);
           })
@@ -89,17 +89,17 @@ loop-entry-preserved g c =
             quiet = c.loop-entry.invariant.quiet;
             unspoiled = c.loop-entry.invariant.unspoiled;
             wrote =
-                let p = λ (e : Entry). (length c.args.names.now == 0) || is_named c.args.names.now e in
+                let p = λ (e : Entry). (length c.args.unpacked.now.names.now == 0) || is_named c.args.unpacked.now.names.now e in
                 let same = next-passed p c.args.entries.now c.loop-entry.entry-index c.entry-item.result c.loop-entry-test.true (sym c.entry-item.is) (sym c.is_chosen.ensures ∙ w.if-is_chosen.false) in
                 c.loop-entry.invariant.wrote ∙ ap (λ (l : List Entry). raised_by (length l) (g.H.Files.writes c.args.files.now).done) (sym same);
             later_sink = c.loop-entry.invariant.later_sink;
             sink_count = c.loop-entry.invariant.sink_count;
             said =
-                let p = λ (e : Entry). (length c.args.names.now == 0) || is_named c.args.names.now e in
+                let p = λ (e : Entry). (length c.args.unpacked.now.names.now == 0) || is_named c.args.unpacked.now.names.now e in
                 let same = next-passed p c.args.entries.now c.loop-entry.entry-index c.entry-item.result c.loop-entry-test.true (sym c.entry-item.is) (sym c.is_chosen.ensures ∙ w.if-is_chosen.false) in
-                subst (λ (l : List Entry). Appends (g.O.Sink.taken c.args.sink.now) (g.O.Sink.taken c.loop-entry.sink) (joined (map (unpacked_line c.args.prefix.now) l))) (sym same) c.loop-entry.invariant.said;
+                subst (λ (l : List Entry). Appends (g.O.Sink.taken c.args.sink.now) (g.O.Sink.taken c.loop-entry.sink) (joined (map (unpacked_line c.args.unpacked.now.prefix.now) l))) (sym same) c.loop-entry.invariant.said;
             so-far = λ told bytes is stored.
-                step-passed c.args.prefix.now c.args.from.now bytes (λ e. (length c.args.names.now == 0) || is_named c.args.names.now e) c.args.entries.now c.loop-entry.entry-index told _
+                step-passed c.args.unpacked.now.prefix.now c.args.unpacked.now.from.now bytes (λ e. (length c.args.unpacked.now.names.now == 0) || is_named c.args.unpacked.now.names.now e) c.args.entries.now c.loop-entry.entry-index told _
                 c.entry-item.result c.loop-entry-test.true (sym c.entry-item.is) _ _
                 (c.loop-entry.invariant.so-far told bytes is stored) (sym c.is_chosen.ensures ∙ w.if-is_chosen.false);
           })
@@ -107,11 +107,11 @@ loop-entry-preserved g c =
 
 pub returns-in_err-unpack_entry-clause-texts : goal.returns-in_err-unpack_entry-clause-texts
 returns-in_err-unpack_entry-clause-texts g c =
-    let p = λ (e : Entry). (length c.args.names.now == 0) || is_named c.args.names.now e in
+    let p = λ (e : Entry). (length c.args.unpacked.now.names.now == 0) || is_named c.args.unpacked.now.names.now e in
     let e = c.entry-item.result in
     let es = c.args.entries.now in
     let i = c.loop-entry.entry-index in
-    let line = unpacked_line c.args.prefix.now in
+    let line = unpacked_line c.args.unpacked.now.prefix.now in
     let split = split-chosen p es i e c.loop-entry-test.true (sym c.entry-item.is) (sym c.is_chosen.ensures ∙ c.if-is_chosen.true) in
     let all = ap (map line) split ∙ map-append line (filter p (take i es)) (e ∷ filter p (drop (i + 1) es)) in
     let start = (g.H.Files.writes c.args.files.now).done in
@@ -135,8 +135,8 @@ returns-in_err-unpack_entry-clause-texts g c =
 
 pub returns-clause-texts : goal.returns-clause-texts
 returns-clause-texts g c =
-    let p = λ (e : Entry). (length c.args.names.now == 0) || is_named c.args.names.now e in
-    let line = unpacked_line c.args.prefix.now in
+    let p = λ (e : Entry). (length c.args.unpacked.now.names.now == 0) || is_named c.args.unpacked.now.names.now e in
+    let line = unpacked_line c.args.unpacked.now.prefix.now in
     let start = (g.H.Files.writes c.args.files.now).done in
     let so-far = c.loop-entry.invariant in
     let all = take_all c.loop-entry.entry-index c.args.entries.now (omega (arith, c.loop-entry-test.false)) in
@@ -160,7 +160,7 @@ returns-clause-texts g c =
 pub returns-clause-told : goal.returns-clause-told
 returns-clause-told g c = λ told bytes is stored.
     let far : length c.args.entries.now ≤ c.loop-entry.entry-index = omega (arith, c.loop-entry-test.false) in
-    all-done c.args.prefix.now c.args.from.now bytes (λ e. (length c.args.names.now == 0) || is_named c.args.names.now e) c.args.entries.now c.loop-entry.entry-index told _ _ _ (Unit {0}) (Unit {0}) (Unit {0}) tt far
+    all-done c.args.unpacked.now.prefix.now c.args.unpacked.now.from.now bytes (λ e. (length c.args.unpacked.now.names.now == 0) || is_named c.args.unpacked.now.names.now e) c.args.entries.now c.loop-entry.entry-index told _ _ _ (Unit {0}) (Unit {0}) (Unit {0}) tt far
     (c.loop-entry.invariant.so-far told bytes is stored)
 
 pub returns-in_err-unpack_entry-clause-spares : goal.returns-in_err-unpack_entry-clause-spares

@@ -15,13 +15,13 @@ use Rattle.fip_tool.proofs.unpack.unpack_entries.Given as goal
 abbrev pub invariant-loop-entry : goal.invariant-loop-entry
 invariant-loop-entry g l = record {
   silent : g.H.Files.contents l.fn.files ≡ None → g.H.Files.contents l.files ≡ None;
-  spares : (access : Access) → access ≢ Asks l.from → ((guid : List ℕ) → access ≢ Makes (unpacked_name l.prefix guid)) → g.H.Files.spares l.fn.files l.files access;
+  spares : (access : Access) → access ≢ Asks l.unpacked.from.now → ((guid : List ℕ) → access ≢ Makes (unpacked_name l.unpacked.prefix.now guid)) → g.H.Files.spares l.fn.files l.files access;
   quiet : g.H.Files.faults l.files ≡ g.H.Files.faults l.fn.files;
   unspoiled : NoneUnwritten (g.H.Files.writes l.fn.files) (g.H.Files.writes l.files);
-  wrote : (g.H.Files.writes l.files).done ≡ raised_by (length (filter (λ e. (length l.names == 0) || is_named l.names e) (take l.entry-index l.entries))) (g.H.Files.writes l.fn.files).done;
+  wrote : (g.H.Files.writes l.files).done ≡ raised_by (length (filter (λ e. (length l.unpacked.names.now == 0) || is_named l.unpacked.names.now e) (take l.entry-index l.entries))) (g.H.Files.writes l.fn.files).done;
   later_sink : g.O.Sink.faults l.fn.sink ≤ g.O.Sink.faults l.sink;
   sink_count : g.O.Sink.faults l.sink ≡ g.O.Sink.faults l.fn.sink;
-  said : Appends (g.O.Sink.taken l.fn.sink) (g.O.Sink.taken l.sink) (joined (map (unpacked_line l.prefix) (filter (λ e. (length l.names == 0) || is_named l.names e) (take l.entry-index l.entries))));
-  so-far : (told : Directory) (bytes : List ℕ) → g.H.Files.contents l.fn.files ≡ Some told → told l.from ≡ Some bytes
-      → IsUnpacking l.prefix l.from bytes (filter (λ e. (length l.names == 0) || is_named l.names e) (take l.entry-index l.entries)) told (g.H.Files.contents l.files) (g.O.Sink.taken l.fn.sink) (g.O.Sink.taken l.sink);
+  said : Appends (g.O.Sink.taken l.fn.sink) (g.O.Sink.taken l.sink) (joined (map (unpacked_line l.unpacked.prefix.now) (filter (λ e. (length l.unpacked.names.now == 0) || is_named l.unpacked.names.now e) (take l.entry-index l.entries))));
+  so-far : (told : Directory) (bytes : List ℕ) → g.H.Files.contents l.fn.files ≡ Some told → told l.unpacked.from.now ≡ Some bytes
+      → IsUnpacking l.unpacked.prefix.now l.unpacked.from.now bytes (filter (λ e. (length l.unpacked.names.now == 0) || is_named l.unpacked.names.now e) (take l.entry-index l.entries)) told (g.H.Files.contents l.files) (g.O.Sink.taken l.fn.sink) (g.O.Sink.taken l.sink);
 }

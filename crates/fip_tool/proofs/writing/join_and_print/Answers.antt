@@ -9,7 +9,7 @@ use Rattle.fip_tool.proofs.writing.join_and_print.Goals as goal
 
 pub returns-in_err-join-clause-told : goal.returns-in_err-join-clause-told
 returns-in_err-join-clause-told g c = λ told e.
-    let stopped = write-stopped told _ _ _ _ _ (Rose (g.O.Sink.faults c.args.sink.now) (g.O.Sink.faults c.args.sink.now)) c.args.name.now (joined_pieces told c.args.frame.now c.args.pieces.now) c.args.line.now c.in_err-join.field-0.0 (c.in_err-join.ensures.told told e) refl in
+    let stopped = write-stopped told _ _ _ _ _ (Rose (g.O.Sink.faults c.args.sink.now) (g.O.Sink.faults c.args.sink.now)) c.args.file.now.name.now (joined_pieces told c.args.file.now.frame.now c.args.file.now.pieces.now) c.args.line.now c.in_err-join.field-0.0 (c.in_err-join.ensures.told told e) refl in
     subst (Did _ told _ (g.O.Sink.taken c.args.sink.now) _ _ _ _) (sym (handed-on _ _ c.from_residual.ensures.1)) stopped
 
 pub returns-in_err-join-clause-texts : goal.returns-in_err-join-clause-texts
@@ -19,7 +19,7 @@ returns-in_err-join-clause-texts g c =
 
 pub returns-clause-told : goal.returns-clause-told
 returns-clause-told g c = λ told e.
-    then-printed told _ _ _ _ _ _ c.args.name.now (joined_pieces told c.args.frame.now c.args.pieces.now) c.args.line.now c.print.result (c.in_ok-join.ensures.told told e) c.print.ensures.printed
+    then-printed told _ _ _ _ _ _ c.args.file.now.name.now (joined_pieces told c.args.file.now.frame.now c.args.file.now.pieces.now) c.args.line.now c.print.result (c.in_ok-join.ensures.told told e) c.print.ensures.printed
 
 pub returns-clause-texts : goal.returns-clause-texts
 returns-clause-texts g c =
