@@ -1,8 +1,9 @@
 -- The side that asks.
-use Rattle.std.specs.Prelude.{◌≡◌, ℕ, ◌+◌, Bool, true, false, not, ◌==◌, nat_lt, nat_le, ◌&&◌, if◌then◌else◌, List, [], drop, length, take, IsTrue, IsFalse}
+use Rattle.std.specs.Prelude.{◌≡◌, ℕ, ◌+◌, Bool, true, false, not, ◌==◌, nat_lt, nat_le, ◌&&◌, if◌then◌else◌, List, [], length, IsTrue, IsFalse}
 use Rattle.wire_frames.specs.declared.client.Asked.{Asked}
 use Rattle.wire_frames.specs.declared.client.Asked.TheVariants.{Frame, Waiting}
 use Rattle.wire_frames.specs.Frames.{frame, number_of, numbered}
+use Rattle.wire_frames.specs.Fronts.{PutsFront}
 
 -- the number of the last request, whether it is open, and its frame. At first that is 0, none, and no frame
 pub record Asking : Type 0 where
@@ -39,6 +40,5 @@ closed a reply = if fits a reply then record a { is_open = false } else a
 -- What an asking does: the frame is kept, and written to the front; or nothing changes.
 abbrev pub Asks : Asked → Asking → Asking → List ℕ → List ℕ → List ℕ → Type 0
 Asks (Frame size) old new message before after =
-    IsTrue (may_ask old) × (new ≡ asked old message) × (take size after ≡ new.request) × (size ≡ length new.request)
-    × (drop size after ≡ drop size before)
+    IsTrue (may_ask old) × (new ≡ asked old message) × PutsFront size new.request before after
 Asks Waiting old new message before after = IsFalse (may_ask old) × (new ≡ old) × (after ≡ before)

@@ -1,7 +1,9 @@
 -- Frames that come from a source.
-use Rattle.std.specs.Prelude.{◌≡◌, ◌⊎◌, ◌+◌, ◌<◌, ◌≤◌, ℕ, Bool, if◌then◌else◌, List, [], ◌∷◌, ◌++◌, Option, Some, Result, Ok, Err, length, ⊤}
+use Rattle.std.specs.Prelude.{◌≡◌, ◌⊎◌, ◌+◌, ◌<◌, ◌≤◌, ℕ, Bool, if◌then◌else◌, List, [], ◌∷◌, ◌++◌, Option, Some, Result, Ok, Err, OnOk, length, ⊤}
 use Rattle.std.specs.Io.KnownBytes.{Consumes, IsAtEnd}
 use Rattle.host_io.specs.Calls.{raised}
+use Rattle.host_io.specs.Once.{ReadsBytes, ReadsOnce}
+use Rattle.host_io.specs.declared.source.Source.{Ghosts}
 use Rattle.wire_frames.specs.Frames.{AreBodies, HasBadLength, IsBody, IsPartial, Splits, frame, frames}
 use Rattle.wire_frames.specs.declared.stream.Cut.{Cut}
 use Rattle.wire_frames.specs.declared.stream.Cut.TheVariants as cut
@@ -12,6 +14,17 @@ use Rattle.wire_frames.specs.declared.stream.FrameStop.TheVariants as stop
 -- the most bytes that are taken from a source
 abbrev pub most_bytes : ℕ
 most_bytes = 1073741824
+
+-- ---- reads
+
+-- How a source was read for an answer, by which the number of failed reads is told from the one before.
+pub record ReadsSource {I T E : Type 0} (g : Ghosts I) (old new : I) (answer : Result T E) (told : ℕ → ℕ) : Type 0 where
+  pub faults : g.faults new ≡ told (g.faults old)
+  pub later : g.faults old ≤ g.faults new
+  -- each read for all that was asked gave bytes
+  pub goes : OnOk answer (ReadsBytes g old new)
+  -- and whatever the answer, none is made behind one that gave none or failed
+  pub once : ReadsOnce g old new
 
 -- ---- a piece that was cut short
 

@@ -1,7 +1,8 @@
 //! The side that asks.
-ghost use Rattle.std.specs.Prelude.{◌≡◌, ◌≤◌, IsTrue, drop, length, take};
+ghost use Rattle.std.specs.Prelude.{◌≡◌, ◌≤◌, IsTrue, length};
 ghost use Rattle.wire_frames.specs.Asking.{asked, asked_none, closed, fits, may_ask};
 ghost use Rattle.wire_frames.specs.Asking.{Asks};
+ghost use Rattle.wire_frames.specs.Fronts.{PutsFront};
 
 use crate::frames::{number_of, put_message};
 use crate::kept::KeptFrame;
@@ -74,9 +75,7 @@ impl Client {
     pub fn again(&self, out: &mut [u8]) -> u32
         requires asked { IsTrue self.now.is_open }
         requires room { 4112 ≤ length out.old }
-        ensures size { result ≡ length self.now.request }
-        ensures frame { take result out.new ≡ self.now.request }
-        ensures behind { drop result out.new ≡ drop result out.old }
+        ensures { PutsFront result self.now.request out.old out.new }
     {
         self.request.copy_to(out) as u32
     }

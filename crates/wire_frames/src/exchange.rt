@@ -1,6 +1,7 @@
 //! The side that answers: which request acts, and the reply that is kept.
-ghost use Rattle.std.specs.Prelude.{◌≡◌, ◌≤◌, drop, length, take};
+ghost use Rattle.std.specs.Prelude.{◌≡◌, ◌≤◌, length};
 ghost use Rattle.wire_frames.specs.Exchange.{admission, none_yet};
+ghost use Rattle.wire_frames.specs.Fronts.{PutsFront};
 
 use crate::kept::KeptFrame;
 use std::marker::Model;
@@ -59,9 +60,7 @@ impl Exchange {
     /// Copies the frame of the last reply to the front of `out`, and gives its length in bytes.
     pub fn repeat(&self, out: &mut [u8]) -> usize
         requires { 4112 ≤ length out.old }
-        ensures size { result ≡ length self.now.reply }
-        ensures bytes { take result out.new ≡ self.now.reply }
-        ensures behind { drop result out.new ≡ drop result out.old }
+        ensures puts { PutsFront result self.now.reply out.old out.new }
         ensures few { result ≤ 4112 }
     {
         self.reply.copy_to(out)

@@ -1,7 +1,8 @@
 //! Frames: the length of a body, and the body. Numbers are little-endian, of four bytes.
-ghost use Rattle.std.specs.Prelude.{◌≡◌, ◌+◌, ◌<◌, ◌≤◌, ◌++◌, ℕ, List, length, take, drop};
+ghost use Rattle.std.specs.Prelude.{◌≡◌, ◌+◌, ◌<◌, ◌≤◌, ◌++◌, ℕ, List, length};
 ghost use Rattle.base_core.specs.Bytes.{le};
 ghost use Rattle.wire_frames.specs.Frames.{frame, number_of, numbered};
+ghost use Rattle.wire_frames.specs.Fronts.{PutsFront};
 
 use base_core::{le32_at, put_at, put_le32};
 
@@ -29,8 +30,7 @@ pub fn number_of(body: &[u8]) -> u32
 pub fn put_head(out: &mut [u8], number: u32, size: usize)
     requires room { 8 ≤ length out.old }
     requires few { size ≤ 4104 }
-    ensures head { take 8 out.new ≡ le 4 (size + 4) ++ le 4 number }
-    ensures behind { drop 8 out.new ≡ drop 8 out.old }
+    ensures { PutsFront 8 (le 4 (size + 4) ++ le 4 number) out.old out.new }
 {
     put_le32(out, 0, size as u32 + 4);
     put_le32(out, 4, number);
@@ -41,8 +41,7 @@ pub fn put_message(out: &mut [u8], number: u32, message: &[u8]) -> usize
     requires room { 8 + length message.now ≤ length out.old }
     requires few { length message.now ≤ 4104 }
     ensures size { result ≡ 8 + length message.now }
-    ensures frame { take result out.new ≡ frame (numbered number message.now) }
-    ensures behind { drop result out.new ≡ drop result out.old }
+    ensures puts { PutsFront result (frame (numbered number message.now)) out.old out.new }
 {
     put_head(out, number, message.len());
     put_at(out, 8, message);

@@ -1,5 +1,6 @@
 //! A frame that is kept.
-ghost use Rattle.std.specs.Prelude.{◌≡◌, ◌≤◌, [], drop, length, take};
+ghost use Rattle.std.specs.Prelude.{◌≡◌, ◌≤◌, [], length};
+ghost use Rattle.wire_frames.specs.Fronts.{PutsFront};
 
 use crate::frames::FRAME_BYTES;
 use std::marker::Model;
@@ -44,10 +45,8 @@ impl KeptFrame {
     /// Copies the bytes to the front of `out`, and gives their number.
     pub fn copy_to(&self, out: &mut [u8]) -> usize
         requires { 4112 ≤ length out.old }
-        ensures size { result ≡ length self.now }
         ensures few { result ≤ 4112 }
-        ensures bytes { take result out.new ≡ self.now }
-        ensures behind { drop result out.new ≡ drop result out.old }
+        ensures puts { PutsFront result self.now out.old out.new }
     {
         out[..self.length].copy_from_slice(&self.bytes[..self.length]);
         self.length

@@ -1,9 +1,9 @@
 //! Frames that come from a source.
-ghost use Rattle.std.specs.Prelude.{◌≡◌, ◌<◌, ◌≤◌, ◌+◌, ℕ, IfOk, IfErr, OnOk, Err, drop, length, take};
+ghost use Rattle.std.specs.Prelude.{◌≡◌, ◌<◌, ◌≤◌, ◌+◌, ℕ, IfOk, IfErr, OnOk, Err, [], length, take};
 ghost use Rattle.std.specs.Io.KnownBytes.{Consumes};
 ghost use Rattle.base_core.specs.Bytes.{le, num_at};
-ghost use Rattle.host_io.specs.Once.{ReadsBytes, ReadsOnce};
-ghost use Rattle.wire_frames.specs.Stream.{CutsShort, EndsAt, ReadsFrame, StopsReading, faults_by, faults_of, faults_told, most_bytes, stop_by, stop_faults};
+ghost use Rattle.wire_frames.specs.Fronts.{PutsFront};
+ghost use Rattle.wire_frames.specs.Stream.{CutsShort, EndsAt, ReadsFrame, ReadsSource, StopsReading, faults_by, faults_of, faults_told, most_bytes, stop_by, stop_faults};
 
 use crate::frames::{FEWEST_BODY_BYTES, LENGTH_BYTES, MOST_BODY_BYTES};
 use base_core::le32_at;
@@ -61,9 +61,7 @@ impl Model for FrameReader {
 /// Whether the source goes on behind the most bytes that are taken.
 fn past_the_most<I: Source>(source: &mut I) -> Cut
     ensures ends { EndsAt result (I.left source.old) (I.left source.new) }
-    ensures faults { I.faults source.new ≡ faults_by result (I.faults source.old) }
-    ensures later { I.faults source.old ≤ I.faults source.new }
-    ensures once { ReadsOnce I.Source source.old source.new }
+    ensures reads { ReadsSource {T = ℕ} I.Source source.old source.new (Err result) (faults_by result) }
 {
     let mut one = [0; 1];
     match source.read(&mut one) {
@@ -117,14 +115,10 @@ impl FrameReader {
         ensures bytes { IfOk result (λ n. Consumes (I.left source.old) (I.left source.new)
             (take n out.new)) }
         ensures taken { IfOk result (λ n. self.new ≡ self.old + n) }
-        ensures ends { IfErr result (λ why. EndsAt why (I.left source.old) (I.left source.new)) }
-        ensures most { result ≡ Err Cut.TooLong → self.old ≡ most_bytes }
-        ensures kept { IfErr result (λ why. self.new ≡ self.old) }
+        ensures cut { IfErr result (λ why. CutsShort why [] self.old self.new
+            (I.left source.old) (I.left source.new)) }
         ensures within { self.new ≤ most_bytes }
-        ensures faults { I.faults source.new ≡ faults_told result (I.faults source.old) }
-        ensures later { I.faults source.old ≤ I.faults source.new }
-        ensures goes { OnOk result (ReadsBytes I.Source source.old source.new) }
-        ensures once { ReadsOnce I.Source source.old source.new }
+        ensures reads { ReadsSource I.Source source.old source.new result (faults_told result) }
     {
         let room = (MOST_SOURCE_BYTES - self.taken).min(out.len() as u64) as usize;
         if room == 0 {
@@ -148,10 +142,7 @@ impl FrameReader {
         ensures cut { IfErr result (λ s. CutsShort s.why (take s.count out.new) self.old self.new
             (I.left source.old) (I.left source.new)) }
         ensures within { self.new ≤ most_bytes }
-        ensures faults { I.faults source.new ≡ faults_of result (I.faults source.old) }
-        ensures later { I.faults source.old ≤ I.faults source.new }
-        ensures goes { OnOk result (ReadsBytes I.Source source.old source.new) }
-        ensures once { ReadsOnce I.Source source.old source.new }
+        ensures reads { ReadsSource I.Source source.old source.new result (faults_of result) }
     {
         // what is known of each reader is known of this one from here on
         let _ = &self.taken;
@@ -174,16 +165,11 @@ impl FrameReader {
         requires room { 4108 ≤ length body.old }
         ensures frame { IfOk result (λ n. ReadsFrame (take n body.new) self.old self.new
             (I.left source.old) (I.left source.new)) }
-        ensures length { IfOk result (λ n. n ≡ length (take n body.new)) }
-        ensures behind { IfOk result (λ n. drop n body.new ≡ drop n body.old) }
+        ensures puts { IfOk result (λ n. PutsFront n (take n body.new) body.old body.new) }
         ensures stops { IfErr result (λ why. StopsReading why self.old self.new
             (I.left source.old) (I.left source.new)) }
         ensures within { self.new ≤ most_bytes }
-        ensures faults { I.faults source.new ≡ stop_faults result (I.faults source.old) }
-        ensures later { I.faults source.old ≤ I.faults source.new }
-        // Each read of a whole frame gave bytes; and whatever the answer, none is made behind one that gave none or failed.
-        ensures goes { OnOk result (ReadsBytes I.Source source.old source.new) }
-        ensures once { ReadsOnce I.Source source.old source.new }
+        ensures reads { ReadsSource I.Source source.old source.new result (stop_faults result) }
     {
         let mut head = [0; LENGTH_BYTES];
         if let Err(short) = self.fill(source, &mut head) {

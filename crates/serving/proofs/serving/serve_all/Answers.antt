@@ -26,7 +26,7 @@ returns-in-Err-clause-goes g c =
     let now = at c.loop-size.serving (port (g.O.Sink.taken c.loop-size.sink) (g.O.Sink.faults c.loop-size.sink)) in
     let mid = port (g.I.Source.left c.loop-size.source) (g.I.Source.faults c.loop-size.source) in
     let rest = port (g.I.Source.left c.next.new.source) (g.I.Source.faults c.next.new.source) in
-    ends-there E old from now mid c.loop-size.reader c.loop-size.invariant.so_far rest c.next.new.self c.end_of_stop.result c.in-Err.why c.in-Err.ensures.stops c.next.ensures.within c.in-Err.ensures.faults c.next.ensures.later c.end_of_stop.ensures
+    ends-there E old from now mid c.loop-size.reader c.loop-size.invariant.so_far rest c.next.new.self c.end_of_stop.result c.in-Err.why c.in-Err.ensures.stops c.next.ensures.within c.in-Err.ensures.reads.faults c.next.ensures.reads.later c.end_of_stop.ensures
 
 pub returns-in-Err-served-clause-goes : goal.returns-in-Err-served-clause-goes
 returns-in-Err-served-clause-goes g c =
@@ -40,7 +40,7 @@ returns-in-Err-served-clause-goes g c =
     let body = take c.in-Ok.size c.next.new.body in
     let new = at c.serve_one-served.new.serving (port (g.O.Sink.taken c.serve_one-served.new.sink) (g.O.Sink.faults c.serve_one-served.new.sink)) in
     let serves = subst (λ (f : g.row.H.Denot). ServesOne (scene passes g.D.Flash.tells (g.H.Files.contents f) (g.H.Files.faults f)) body now new (Err c.in-Err-served.end)) c.loop-size.invariant.files c.in-Err-served.ensures.serves in
-    ends-at E old from now mid c.loop-size.reader c.loop-size.invariant.so_far rest c.next.new.self body c.in-Ok.ensures.frame new c.in-Err-served.end c.in-Ok.ensures.faults c.next.ensures.within serves c.in-Err-served.ensures.ends
+    ends-at E old from now mid c.loop-size.reader c.loop-size.invariant.so_far rest c.next.new.self body c.in-Ok.ensures.frame new c.in-Err-served.end c.in-Ok.ensures.reads.faults c.next.ensures.within serves c.in-Err-served.ensures.ends
 
 pub loop-size-smaller : goal.loop-size-smaller
 loop-size-smaller g c = omega (arith, length-frame (take c.in-Ok.size c.next.new.body), c.in-Ok.ensures.frame.count, c.next.ensures.within)
@@ -58,20 +58,20 @@ loop-size-preserved g c =
     let new = at c.serve_one-served.new.serving (port (g.O.Sink.taken c.serve_one-served.new.sink) (g.O.Sink.faults c.serve_one-served.new.sink)) in
     let serves = subst (λ (f : g.row.H.Denot). ServesOne (scene passes g.D.Flash.tells (g.H.Files.contents f) (g.H.Files.faults f)) body now new (Ok tt)) c.loop-size.invariant.files c.in_default.ensures.serves in
     record {
-      so_far = so-far-more E old from now mid c.loop-size.reader c.loop-size.invariant.so_far rest c.next.new.self body c.in-Ok.ensures.frame new (Ok tt) c.in-Ok.ensures.faults c.next.ensures.within serves refl;
+      so_far = so-far-more E old from now mid c.loop-size.reader c.loop-size.invariant.so_far rest c.next.new.self body c.in-Ok.ensures.frame new (Ok tt) c.in-Ok.ensures.reads.faults c.next.ensures.within serves refl;
       powered = c.in_default.ensures.leaves.powered;
       size = c.serve_one-served.ensures.leaves.size ∙ c.loop-size.invariant.size;
       files = c.serve_one-served.ensures.leaves.files ∙ c.loop-size.invariant.files;
-      reads = bytes-then g.I.Source g.met.I.Source.joins c.args.source.now c.loop-size.source c.next.new.source c.loop-size.invariant.reads c.in-Ok.ensures.goes;
+      reads = bytes-then g.I.Source g.met.I.Source.joins c.args.source.now c.loop-size.source c.next.new.source c.loop-size.invariant.reads c.in-Ok.ensures.reads.goes;
     }
 
 -- ---- what was read
 
 pub returns-in-Err-clause-once : goal.returns-in-Err-clause-once
 returns-in-Err-clause-once g c =
-    once-then g.I.Source g.met.I.Source.joins c.args.source.now c.loop-size.source c.next.new.source c.loop-size.invariant.reads c.next.ensures.once
+    once-then g.I.Source g.met.I.Source.joins c.args.source.now c.loop-size.source c.next.new.source c.loop-size.invariant.reads c.next.ensures.reads.once
 
 pub returns-in-Err-served-clause-once : goal.returns-in-Err-served-clause-once
 returns-in-Err-served-clause-once g c =
     once-bytes g.I.Source c.args.source.now c.next.new.source
-    (bytes-then g.I.Source g.met.I.Source.joins c.args.source.now c.loop-size.source c.next.new.source c.loop-size.invariant.reads c.in-Ok.ensures.goes)
+    (bytes-then g.I.Source g.met.I.Source.joins c.args.source.now c.loop-size.source c.next.new.source c.loop-size.invariant.reads c.in-Ok.ensures.reads.goes)

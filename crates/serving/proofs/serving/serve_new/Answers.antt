@@ -29,7 +29,7 @@ returns-clause-serves g c =
     let few = c.in-Ok.ensures.few in
     let long = c.act_on-acted.auto.out in
     let behind : drop 8 out ≡ sub = c.put_head.ensures.behind ∙ behind-eight first sub (omega (arith, room)) in
-    let whole = frame-written c.number_of-number.result size out (take size sub) c.put_head.ensures.head (ap (take size) behind) (length-take-le size sub (omega (arith, few, long, room))) in
+    let whole = frame-written c.number_of-number.result size out (take size sub) c.put_head.ensures.front (ap (take size) behind) (length-take-le size sub (omega (arith, few, long, room))) in
     let one = subst (λ (m : List ℕ). OneReply E (called m) (take size sub) (run_of c.args.serving.now) (run_of acted)) (take_rest body 4) c.in-Ok.ensures.acts in
     subst (λ (n : ℕ). ServesNew E n (called (drop 4 body)) old new c.put.result) c.number_of-number.ensures
     (new-answered E c.number_of-number.result size (called (drop 4 body)) old new c.put.result sub out one whole c.keep.ensures c.put.ensures.puts)

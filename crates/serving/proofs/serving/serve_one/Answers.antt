@@ -23,4 +23,4 @@ returns-in-Repeats-clause-serves g c =
     let new = at c.args.serving.now after in
     subst (λ (a : Admission). ServesBy a E c.args.body.now old new c.put.result)
     (sym (ap (admission old.exchange.last) (sym c.number_of.ensures) ∙ sym c.admit.ensures ∙ c.in-Repeats.is))
-    (record { run = refl; exchange = refl; puts = subst (λ (l : List ℕ). Puts l c.put.result before after) c.repeat-size.ensures.bytes c.put.ensures.puts })
+    (record { run = refl; exchange = refl; puts = subst (λ (l : List ℕ). Puts l c.put.result before after) c.repeat-size.ensures.puts.front c.put.ensures.puts })

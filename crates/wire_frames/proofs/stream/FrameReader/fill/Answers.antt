@@ -1,4 +1,4 @@
-use Rattle.std.proofs.Common.{◌≡◌, ◌≤◌, ◌+◌, ◌-◌, ◌++◌, List, ℕ, ◌∙◌, refl, ap, subst, sym, length, take, drop, arith, length-append}
+use Rattle.std.proofs.Common.{◌≡◌, ◌≤◌, ◌+◌, ◌-◌, ◌++◌, List, ℕ, ◌∙◌, refl, ap, subst, sym, length, take, drop, arith, length-append, rules}
 use Rattle.std.specs.Io.KnownBytes.{Consumes}
 use Rattle.std.proofs.KnownBytes.{Consumes-nil, Consumes-trans}
 use Rattle.std.proofs.lemmas.List.{length-take-le, length-drop, take_rest}
@@ -36,13 +36,22 @@ loop-at-preserved g c =
           let rest = length-append new tail in
           omega (arith, front, whole, rest, long, room, was.within);
       most = c.read_some.ensures.within;
-      faults = c.in-Ok.ensures.faults ∙ was.faults;
-      reads = bytes-then g.I.Source g.met.I.Source.joins _ c.loop-at.source _ was.reads c.in-Ok.ensures.goes;
+      faults = c.in-Ok.ensures.reads.faults ∙ was.faults;
+      reads = bytes-then g.I.Source g.met.I.Source.joins _ c.loop-at.source _ was.reads c.in-Ok.ensures.reads.goes;
     }
 
-pub returns-in-Err-clause-once : goal.returns-in-Err-clause-once
-returns-in-Err-clause-once g c =
-    once-then g.I.Source g.met.I.Source.joins c.args.source.now c.loop-at.source c.read_some.new.source c.loop-at.invariant.reads c.read_some.ensures.once
+pub returns-in-Err-clause-reads : goal.returns-in-Err-clause-reads
+returns-in-Err-clause-reads g c = record {
+  faults = search rules;
+  later = search rules;
+  goes = tt;
+  once = once-then g.I.Source g.met.I.Source.joins c.args.source.now c.loop-at.source c.read_some.new.source c.loop-at.invariant.reads c.read_some.ensures.reads.once;
+}
 
-pub returns-clause-once : goal.returns-clause-once
-returns-clause-once g c = once-bytes g.I.Source c.args.source.now c.loop-at.source c.loop-at.invariant.reads
+pub returns-clause-reads : goal.returns-clause-reads
+returns-clause-reads g c = record {
+  faults = search rules;
+  later = search rules;
+  goes = c.loop-at.invariant.reads;
+  once = once-bytes g.I.Source c.args.source.now c.loop-at.source c.loop-at.invariant.reads;
+}

@@ -1,4 +1,4 @@
-use Rattle.std.proofs.Common.{◌≡◌, ◌<◌, false, List, ℕ, ◌∙◌, subst, sym, refl, length, take, drop, arith, length-append}
+use Rattle.std.proofs.Common.{◌≡◌, ◌<◌, false, List, ℕ, ◌∙◌, subst, sym, refl, length, take, drop, arith, length-append, rules}
 use Rattle.std.proofs.lemmas.List.{length-take, length-take-le}
 use Rattle.std.proofs.lemmas.Bool.{false≢true}
 use Rattle.host_io.proofs.Once.{bytes-then, once-then}
@@ -32,14 +32,18 @@ returns-in-Err-fill-clause-stops g c =
 
 -- ---- what was read
 
-pub returns-in-Ok-clause-goes : goal.returns-in-Ok-clause-goes
-returns-in-Ok-clause-goes g c =
-    bytes-then g.I.Source g.met.I.Source.joins c.args.source.now c.fill.new.source c.fill-2.new.source c.in_default.ensures.goes c.in-Ok.ensures.goes
+pub returns-in-Ok-clause-reads : goal.returns-in-Ok-clause-reads
+returns-in-Ok-clause-reads g c = record {
+  faults = search rules;
+  later = search rules;
+  goes = bytes-then g.I.Source g.met.I.Source.joins c.args.source.now c.fill.new.source c.fill-2.new.source c.in_default.ensures.reads.goes c.in-Ok.ensures.reads.goes;
+  once = once-then g.I.Source g.met.I.Source.joins c.args.source.now c.fill.new.source c.fill-2.new.source c.in_default.ensures.reads.goes c.fill-2.ensures.reads.once;
+}
 
-pub returns-in-Ok-clause-once : goal.returns-in-Ok-clause-once
-returns-in-Ok-clause-once g c =
-    once-then g.I.Source g.met.I.Source.joins c.args.source.now c.fill.new.source c.fill-2.new.source c.in_default.ensures.goes c.fill-2.ensures.once
-
-pub returns-in-Err-fill-clause-once : goal.returns-in-Err-fill-clause-once
-returns-in-Err-fill-clause-once g c =
-    once-then g.I.Source g.met.I.Source.joins c.args.source.now c.fill.new.source c.fill-2.new.source c.in_default.ensures.goes c.fill-2.ensures.once
+pub returns-in-Err-fill-clause-reads : goal.returns-in-Err-fill-clause-reads
+returns-in-Err-fill-clause-reads g c = record {
+  faults = search rules;
+  later = search rules;
+  goes = tt;
+  once = once-then g.I.Source g.met.I.Source.joins c.args.source.now c.fill.new.source c.fill-2.new.source c.in_default.ensures.reads.goes c.fill-2.ensures.reads.once;
+}

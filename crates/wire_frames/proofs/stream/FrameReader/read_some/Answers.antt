@@ -1,15 +1,37 @@
-use Rattle.std.proofs.Common.{arith}
+use Rattle.std.proofs.Common.{arith, rules}
+use Rattle.std.proofs.KnownBytes.{Consumes-nil}
 use Rattle.host_io.proofs.Once.{bytes-one, once-one}
 use Rattle.wire_frames.proofs.stream.FrameReader.read_some.Goals as goal
 
-pub returns-in-Ok-eq0-clause-once : goal.returns-in-Ok-eq0-clause-once
-returns-in-Ok-eq0-clause-once g c = once-one g.I.Source c.args.source.now c.read.new.self _ c.in-Ok-eq0.ensures.made
+pub returns-in-Ok-eq0-clause-reads : goal.returns-in-Ok-eq0-clause-reads
+returns-in-Ok-eq0-clause-reads g c = record {
+  faults = search rules;
+  later = search rules;
+  goes = tt;
+  once = once-one g.I.Source c.args.source.now c.read.new.self _ c.in-Ok-eq0.ensures.made;
+}
 
-pub returns-in-Ok-clause-goes : goal.returns-in-Ok-clause-goes
-returns-in-Ok-clause-goes g c = bytes-one g.I.Source c.args.source.now c.read.new.self _ c.in-Ok.ensures.made (omega arith)
+pub returns-in-Ok-clause-reads : goal.returns-in-Ok-clause-reads
+returns-in-Ok-clause-reads g c = record {
+  faults = search rules;
+  later = search rules;
+  goes = bytes-one g.I.Source c.args.source.now c.read.new.self _ c.in-Ok.ensures.made (omega arith);
+  once = once-one g.I.Source c.args.source.now c.read.new.self _ c.in-Ok.ensures.made;
+}
 
-pub returns-in-Ok-clause-once : goal.returns-in-Ok-clause-once
-returns-in-Ok-clause-once g c = once-one g.I.Source c.args.source.now c.read.new.self _ c.in-Ok.ensures.made
+pub returns-in-Err-clause-reads : goal.returns-in-Err-clause-reads
+returns-in-Err-clause-reads g c = record {
+  faults = search rules;
+  later = search rules;
+  goes = tt;
+  once = once-one g.I.Source c.args.source.now c.read.new.self _ c.in-Err.ensures.made;
+}
 
-pub returns-in-Err-clause-once : goal.returns-in-Err-clause-once
-returns-in-Err-clause-once g c = once-one g.I.Source c.args.source.now c.read.new.self _ c.in-Err.ensures.made
+pub returns-in-Err-clause-cut : goal.returns-in-Err-clause-cut
+returns-in-Err-clause-cut g c = record {
+  mid = g.I.Source.left c.args.source.now;
+  came = Consumes-nil _;
+  ends = search rules;
+  count = omega arith;
+  most = search rules;
+}
