@@ -30,7 +30,7 @@ returns-in-Previous-clause-meets g c live =
     let passes = g.V.Verifier.passes c.args.verifier.now in
     let h = c.previous.ensures in
     meets-as (shown c.args.call.now) call.Previous _ _ c.args.out.now passes _ _ (ap shown c.in-Previous.is) c.done-in-Previous.ensures
-    (meets-previous c.previous.result c.args.out.now passes _ _ (here _ _ _ h.goes.gone live) (h.meets live passes refl) h.passed)
+    (meets-previous c.previous.result c.args.out.now passes _ _ (here _ _ _ h.goes.gone live) (h.meets live passes refl) h.changes.passed)
 
 pub returns-in-Begin-clause-meets : goal.returns-in-Begin-clause-meets
 returns-in-Begin-clause-meets g c live =

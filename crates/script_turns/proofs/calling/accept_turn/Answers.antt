@@ -15,7 +15,7 @@ returns-clause-turns g c passes =
     let h = c.accept-result.ensures in
     turns-done a b c.done.result c.accept-result.result live h.goes passes (call.Accepts c.args.guid) c.done.ensures.turn c.done.ensures.here
     (meta-by a b _ live h.goes ((image : ℕ) × (find_image (fields a).layout.rows c.args.guid ≡ Some image) × ((fields b).meta ≡ meta_accepted (fields a) image))
-    (λ d. let found = h.found d in (found.0, found.1, h.keeps d found.0 found.1))) refl (λ previous. previous) (λ q same. same) (h.meets live passes)
+    (λ d. let found = h.found d in (found.0, found.1, (h.image found.0 found.1).keeps d))) refl (λ previous. previous) (λ q same. same) (h.meets live passes)
     (λ files. takes-accept a b _ h.spent h.refused)
 
 pub returns-clause-leaves : goal.returns-clause-leaves

@@ -11,7 +11,7 @@ returns-clause-turns g c passes =
     let live = c.requires.alive in
     let h = c.cancel-result.ensures in
     turns-done a b c.done.result c.cancel-result.result live h.goes passes call.Cancel c.done.ensures.turn c.done.ensures.here
-    h.metadata refl (λ previous. previous) (λ q same. same) (h.meets live passes)
+    h.records.metadata refl (λ previous. previous) (λ q same. same) (h.meets live passes)
     (λ files. same-device a b _ _ h.still)
 
 pub returns-clause-leaves : goal.returns-clause-leaves

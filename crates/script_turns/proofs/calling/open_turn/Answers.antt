@@ -19,7 +19,7 @@ returns-in-Ok-clause-turns g c passes =
     let guid = c.args.guid in
     let o = c.args.op in
     turns-by a b c.answered.result result live h.goes (λ handle. reply.Opened handle) passes (open_call guid o)
-    (c.answered.ensures.turn ∙ ap (λ (x : Call). quiet_turn x (reply_by (λ handle. reply.Opened handle) result)) (shown-open guid o)) c.answered.ensures.here (meta-open guid o (fields a) (fields b).meta h.metadata)
+    (c.answered.ensures.turn ∙ ap (λ (x : Call). quiet_turn x (reply_by (λ handle. reply.Opened handle) result)) (shown-open guid o)) c.answered.ensures.here (meta-open guid o (fields a) (fields b).meta h.records.metadata)
     (called-open result passes guid o _ _ (never-gone result _ _ h.goes.gone live) (h.meets live passes))
     (λ files. takes-open files guid o (fields a) _ _ _ (same-device a b _ _ h.still))
 
@@ -33,6 +33,6 @@ returns-in-Err-clause-turns g c passes =
     let guid = c.args.guid in
     let o = c.args.op in
     turns-by a b c.refused.result result live h.goes (λ handle. reply.Opened handle) passes (open_call guid o)
-    (c.refused.ensures.turn ∙ ap (λ (x : Call). quiet_turn x (reply_by (λ handle. reply.Opened handle) result)) (shown-open guid o)) c.refused.ensures.here (meta-open guid o (fields a) (fields b).meta h.metadata)
+    (c.refused.ensures.turn ∙ ap (λ (x : Call). quiet_turn x (reply_by (λ handle. reply.Opened handle) result)) (shown-open guid o)) c.refused.ensures.here (meta-open guid o (fields a) (fields b).meta h.records.metadata)
     (called-open result passes guid o _ _ (never-gone result _ _ h.goes.gone live) (h.meets live passes))
     (λ files. takes-open files guid o (fields a) _ _ _ (same-device a b _ _ h.still))

@@ -24,9 +24,9 @@ returns-in-Ok-clause-turns g c passes =
     let room = ap length c.as_mut_slice.ensures.value ∙ c.requires.room in
     let fits : c.in-Ok.count ≤ length out = omega (arith, h.room, h.long) in
     turns-by a b c.answered.result result live h.goes (got out) passes (call.Read c.args.handle c.args.room)
-    (c.answered.ensures.turn ∙ ap (λ (bytes : List ℕ). quiet_turn (call.Read c.args.handle c.args.room) (reply.Got c.in-Ok.total bytes)) (front c.in-Ok.count c.args.out.len c.truncate.new.self.items out _ c.truncate.ensures.items (h.long ∙ c.as_mut_slice.ensures.len))) c.answered.ensures.here h.metadata
+    (c.answered.ensures.turn ∙ ap (λ (bytes : List ℕ). quiet_turn (call.Read c.args.handle c.args.room) (reply.Got c.in-Ok.total bytes)) (front c.in-Ok.count c.args.out.len c.truncate.new.self.items out _ c.truncate.ensures.items (h.long ∙ c.as_mut_slice.ensures.len))) c.answered.ensures.here h.records.metadata
     (called-read g.D.Flash.tells result passes c.args.handle c.args.room out _ _ refl here fits (rw room at (h.meets live passes)))
-    (λ files. record { armed = h.arming; reached = h.reached })
+    (λ files. record { armed = h.reads.arming; reached = h.reads.reached })
 
 pub returns-in-Err-clause-turns : goal.returns-in-Err-clause-turns
 returns-in-Err-clause-turns g c passes =
@@ -39,6 +39,6 @@ returns-in-Err-clause-turns g c passes =
     let out = c.read_stream.new.out in
     let room = ap length c.as_mut_slice.ensures.value ∙ c.requires.room in
     turns-by a b c.refused.result result live h.goes (got out) passes (call.Read c.args.handle c.args.room)
-    c.refused.ensures.turn c.refused.ensures.here h.metadata
+    c.refused.ensures.turn c.refused.ensures.here h.records.metadata
     (called-read g.D.Flash.tells result passes c.args.handle c.args.room out _ _ refl here tt (rw room at (h.meets live passes)))
-    (λ files. reads-by result out _ _ h.arming h.reached)
+    (λ files. reads-by result out _ _ h.reads.arming h.reads.reached)

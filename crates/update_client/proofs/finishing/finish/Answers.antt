@@ -47,7 +47,7 @@ returns-in-Err-Fault-clause-finishes g c = finish-failed _ _ _ (subst
     (moment c.end.new.self)) c.in-Err-Fault.field-0-is (c.in-Err-Fault.ensures.meets c.requires.here _ refl))
 
 pub returns-in-Ok-clause-takes : goal.returns-in-Ok-clause-takes
-returns-in-Ok-clause-takes g c = c.in-Ok.ensures.spent
+returns-in-Ok-clause-takes g c = c.in-Ok.ensures.staging.spent
 
 -- ---- a refused end
 

@@ -58,7 +58,7 @@ returns-in-Ok-commit-clause-takes g c =
           (g.D.Flash.arming (device c.write_image.new.agent)) _ opens c.in_ok-write_image.ensures.wrote
           (subst (λ d. FirstTake (length c.args.buf.now) c.args.payload.now.entry.now (pieces_of (length c.args.buf.now) c.args.payload.now.entry.now.size) (moment c.open.new.self)
           (g.D.Flash.arming d) (g.D.Flash.arming (device c.write_image.new.agent))) c.in-Ok.ensures.still c.in_ok-write_image.ensures.takes.done)
-          (λ image writes. (c.in-Ok-commit.ensures.spent c.in_ok-write_image.ensures.keeps.spent.gone_is image writes).lowered);
+          (λ image writes. (c.in-Ok-commit.ensures.image c.in_ok-write_image.ensures.keeps.spent.gone_is image writes).spent.lowered);
       unread = tt;
     }
 

@@ -57,7 +57,7 @@ returns-in-Ok-write_stream-clause-takes g c =
     let whole : length (take n (out ++ drop n buf)) ≡ n = ap length (take-append-le n out (drop n buf) (omega (arith, size)) ∙ take_all n out (omega (arith, size)))
     ∙ size in
     piece-takes _ _ _ _ _ (λ image writes.
-    (c.in-Ok-write_stream.ensures.spent tt image writes).lowered
+    ((c.in-Ok-write_stream.ensures.image image writes).spent tt).lowered
     ∙ ap (λ (m : ℕ). lowered_by (writes_to_append (size_of (part_at (fields c.args.agent.now).session image)) m) (g.D.Flash.arming (device c.args.agent.now))) whole)
 
 -- ---- what it keeps
