@@ -8,7 +8,7 @@ use Rattle.agent_machine.specs.declared.stop.Stop.{Stop}
 use Rattle.agent_machine.specs.Fields.{Fields}
 use Rattle.agent_machine.specs.Meets.{IsDone}
 use Rattle.agent_calls.specs.Ended.{EndsStaging}
-use Rattle.agent_calls.specs.Images.{AcceptsImage, WritesImage}
+use Rattle.agent_calls.specs.Images.{AcceptsImage, AppendsImage}
 use Rattle.agent_calls.specs.Records.{KeepsRests, ReadsAlone}
 use Rattle.agent_calls.specs.Snapshot.{Snapshot}
 
@@ -36,7 +36,7 @@ untouched g a = record {
 -- ---- an agent that was gone, or refused the call
 
 module _ {D : Type 0} (g : Ghosts D) (e : Stop) (a : Snapshot D) (undone : IsDone {T = Unit {0}} (Err e) → ⊥) where
-  pub unwritten-image : (image : ℕ) (bytes : List ℕ) → WritesImage g image bytes (Err e) a a
+  pub unwritten-image : (image : ℕ) (bytes : List ℕ) → AppendsImage g image bytes (Err e) a a
   unwritten-image image bytes = record {
     appends = λ done. absurd (undone done);
     keeps = tt;

@@ -19,7 +19,7 @@ use Rattle.agent_calls.specs.Metas.{meta_accepted}
 use Rattle.agent_calls.specs.Snapshot.{Snapshot}
 
 -- Bytes were put behind those of a staged image.
-pub record WritesImage {D : Type 0} (g : Ghosts D) (image : ℕ) (bytes : List ℕ) (result : Result (Unit {0}) Stop)
+pub record AppendsImage {D : Type 0} (g : Ghosts D) (image : ℕ) (bytes : List ℕ) (result : Result (Unit {0}) Stop)
     (old new : Snapshot D) : Type 0 where
   -- On any flash that tells its content, sound or not: the bytes stand behind those that the image has.
   -- The block that they end in is blank behind them, and nothing else changes.

@@ -61,8 +61,8 @@ abbrev pub AgentDecides : {D : Type 0} {F : Ghosts D} → (List ℕ → Bool) �
 AgentDecides passes r d a = Decides passes a.meta a.counter (kept a.session) a.boot r d
 
 -- what a call spends of an armed loss, by what the agent shows before it
-abbrev pub TakesBy : {D : Type 0} {F : Ghosts D} → (Moment → Option Arming → Option Arming → Type 0) → (old new : Agent D F) → Type 0
-TakesBy {F = F} T old new = T (moment old) (F.arming old.flash) (F.arming new.flash)
+abbrev pub AgentTakes : {D : Type 0} {F : Ghosts D} → (Moment → Option Arming → Option Arming → Type 0) → (old new : Agent D F) → Type 0
+AgentTakes {F = F} T old new = T (moment old) (F.arming old.flash) (F.arming new.flash)
 
 -- An answer stored the metadata, or has it as it was and wrote nothing.
 abbrev pub SpendsStore : {D : Type 0} {F : Ghosts D} → Result (Unit {0}) Stop → Agent D F → Agent D F → Type 0

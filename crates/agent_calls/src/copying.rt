@@ -26,7 +26,7 @@ fn named_in(plan: &Plan) -> [bool; 16]
 }
 
 impl<D: Flash> Agent<D> {
-    ghost use Rattle.agent_calls.specs.Shown.{AgentGoes, SpentBy, TakesBy, fields, device, gone, moment};
+    ghost use Rattle.agent_calls.specs.Shown.{AgentGoes, SpentBy, AgentTakes, fields, device, gone, moment};
     ghost use Rattle.agent_calls.specs.Copies.{BeginsPartly, CopiesPiece, CopiesBytes, CopiesImage, CopiesImages};
     ghost use Rattle.agent_calls.specs.Copies.{FillsBank, StoresThenFills};
     ghost use Rattle.agent_calls.specs.Metas.{has_invalid_target, meta_begun};
@@ -45,7 +45,7 @@ impl<D: Flash> Agent<D> {
         ensures fills { FillsBank (moment self.old) (moment self.new) }
         ensures piece { IfOk result (λ n.
             n ≡ piece_at block_bytes (total_of (fields self.old) (Some image)) at) }
-        ensures takes { IfOk result (λ n. TakesBy (PieceTakes image at n) self.old self.new) }
+        ensures takes { IfOk result (λ n. AgentTakes (PieceTakes image at n) self.old self.new) }
         ensures spent { SpentBy (flash_result result) self.old self.new }
         ensures buffer { length buf.new ≡ length buf.old }
     {
@@ -68,7 +68,7 @@ impl<D: Flash> Agent<D> {
 
         ensures copies { CopiesBytes image result (moment self.old) (moment self.new) }
         ensures fills { FillsBank (moment self.old) (moment self.new) }
-        ensures takes { OnOk result (TakesBy (FrontTakes image (pieces_of block_bytes
+        ensures takes { OnOk result (AgentTakes (FrontTakes image (pieces_of block_bytes
             (total_of (fields self.old) (Some image)))) self.old self.new) }
         ensures spent { SpentBy (flash_result result) self.old self.new }
     {
@@ -92,7 +92,7 @@ impl<D: Flash> Agent<D> {
 
         ensures copies { CopiesImage image result (moment self.old) (moment self.new) }
         ensures fills { FillsBank (moment self.old) (moment self.new) }
-        ensures takes { OnOk result (TakesBy (CopyTakes image) self.old self.new) }
+        ensures takes { OnOk result (AgentTakes (CopyTakes image) self.old self.new) }
         ensures spent { SpentBy (flash_result result) self.old self.new }
     {
         let guid = self.layout.rows()[image as usize].guid;
@@ -115,7 +115,7 @@ impl<D: Flash> Agent<D> {
         ensures copies { CopiesImages named.now result (moment self.old) (moment self.new) }
         ensures fills { FillsBank (moment self.old) (moment self.new) }
         ensures still { All IsTrue named.now → self.new ≡ self.old }
-        ensures takes { OnOk result (TakesBy (CopiesTake named.now (length named.now))
+        ensures takes { OnOk result (AgentTakes (CopiesTake named.now (length named.now))
             self.old self.new) }
         ensures spent { SpentBy (flash_result result) self.old self.new }
     {

@@ -9,7 +9,7 @@ ghost use Rattle.agent_kept.specs.declared.parts.Handle.TheVariants as handle_ki
 ghost use Rattle.agent_kept.specs.Kept.{handle_kept, kept};
 ghost use Rattle.agent_state.specs.Settles.{IsPlanOf};
 ghost use Rattle.agent_machine.specs.Meets.{IsDone, IsRefused, Meets};
-ghost use Rattle.agent_calls.specs.Images.{WritesImage};
+ghost use Rattle.agent_calls.specs.Images.{AppendsImage};
 ghost use Rattle.agent_calls.specs.Records.{KeepsRecords};
 ghost use Rattle.agent_calls.specs.Shown.{AgentDecides, AgentGoes, MeetsDone, fields, gone, moment, snapshot};
 
@@ -35,7 +35,7 @@ impl<D: Flash> Agent<D> {
         ensures goes { AgentGoes result self.old self.new }
         ensures done { IsDone result }
         ensures records { KeepsRecords (fields self.old) (fields self.new) }
-        ensures image { WritesImage D.Flash image bytes.now result
+        ensures image { AppendsImage D.Flash image bytes.now result
             (snapshot self.old) (snapshot self.new) }
     {
         let _images = self.layout.rows().len();
@@ -89,7 +89,7 @@ impl<D: Flash> Agent<D> {
             × (handle_kept (fields self.old).session (handle - 1) ≡ handle_kinds.Writes image) }
         ensures image { (image : ℕ) →
             handle_kept (fields self.old).session (handle - 1) ≡ handle_kinds.Writes image →
-            WritesImage D.Flash image bytes.now result (snapshot self.old) (snapshot self.new) }
+            AppendsImage D.Flash image bytes.now result (snapshot self.old) (snapshot self.new) }
         ensures records { KeepsRecords (fields self.old) (fields self.new) }
     {
         if self.gone {

@@ -29,7 +29,7 @@ GivenToIn i view value old new result given =
     GivenTo view value (i.left old) (i.left new) (Rose (i.faults old) (i.faults new)) result given
 
 -- What a part of a command that reads the source alone leaves of it, and how it may end, whatever source it is.
-pub record ReadsSource {I X : Type 0} (i : source.Ghosts I) (old new : I) (result : Result X Stop) : Type 0 where
+pub record ReadsGiven {I X : Type 0} (i : source.Ghosts I) (old new : I) (result : Result X Stop) : Type 0 where
   -- no read is made behind one that gave no bytes or failed
   pub once : ReadsOnce i old new
   pub later : i.faults old ≤ i.faults new

@@ -8,7 +8,7 @@ ghost use Rattle.fip_tables.specs.Answers.{decided};
 ghost use Rattle.capsule_tables.specs.Answers.{IsSomeTable};
 ghost use Rattle.fip_tables.specs.Stream.{Fed};
 ghost use Rattle.fip_making.specs.Refusals.{IsOfCapsule, IsOfPackage, IsOfSource};
-ghost use Rattle.fip_making.specs.Seen.{FedSomeIn, GivenToIn, GivesIn, ReadsOnlyIn, ReadsSource};
+ghost use Rattle.fip_making.specs.Seen.{FedSomeIn, GivenToIn, GivesIn, ReadsOnlyIn, ReadsGiven};
 ghost use Rattle.fip_making.specs.Answers.{AsksNothing, IsLate};
 ghost use Rattle.fip_making.specs.Values.{StopsInTime, after, capsule_in, given_table, size_in, sized_table, source_limit, IsTable};
 ghost use Rattle.fip_making.specs.Source.{EndsAs};
@@ -75,7 +75,7 @@ fn feed_some<I: Source>(source: &mut I, stream: &mut StreamToc) -> Result<usize,
     ensures fed { (given : List ℕ) → Fed stream.old given
         → (piece : List ℕ) × FedSomeIn I.Source stream.new given piece source.old source.new result }
     ensures made { IfOk result (λ n. I.reads source.old source.new (Some n ∷ [])) }
-    ensures source { ReadsSource I.Source source.old source.new result }
+    ensures source { ReadsGiven I.Source source.old source.new result }
     ensures memory { result ≡ Err stop.NoMemory → ⊥ }
 {
     let mut buffer = [0u8; 4096];
@@ -107,7 +107,7 @@ fn ended(stream: StreamToc, count: u64) -> Result<(Toc, u64), Stop>
 pub fn read_given<I: Source>(source: &mut I) -> Result<(Toc, u64), Stop>
     ensures given { (given : List ℕ) × StopsInTime given × GivenToIn I.Source (λ t. t) given_table
         source.old source.new result given }
-    ensures source { ReadsSource I.Source source.old source.new result }
+    ensures source { ReadsGiven I.Source source.old source.new result }
     ensures memory { result ≡ Err stop.NoMemory → ⊥ }
 {
     let mut stream = StreamToc::new();

@@ -4,7 +4,7 @@ ghost use Rattle.host_io.specs.Contents.{Directory};
 ghost use Rattle.host_io.specs.Reads.{ReadsFile};
 ghost use Rattle.fip_making.specs.Refusals.{IsOfPackage};
 ghost use Rattle.fip_tool.specs.Said.{IsListing};
-ghost use Rattle.fip_making.specs.Seen.{GivenToIn, GivesIn, ReadsOnlyIn, ReadsSource};
+ghost use Rattle.fip_making.specs.Seen.{GivenToIn, GivesIn, ReadsOnlyIn, ReadsGiven};
 ghost use Rattle.fip_making.specs.Values.{StopsInTime};
 ghost use Rattle.fip_tool.specs.Tool.{given_value, info_value};
 
@@ -32,7 +32,7 @@ pub fn source_info<I: Source>(alloc: Global, source: &mut I) -> Result<Vec<u8>, 
     ensures given { (given : List ℕ) × StopsInTime given × GivenToIn I.Source (λ text. text.items)
         given_value source.old source.new result given }
     ensures listed { IfOk result (λ text. IsListing text.items) }
-    ensures source { ReadsSource I.Source source.old source.new result }
+    ensures source { ReadsGiven I.Source source.old source.new result }
 {
     let (toc, size) = read_given(source)?;
     Ok(info_text(alloc, &toc, size)?)

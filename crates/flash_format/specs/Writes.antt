@@ -11,7 +11,7 @@ use Rattle.flash_format.specs.Stops.{RefusesNothing, flash_result}
 use Rattle.flash_format.specs.declared.stops.FormatStop.{FormatStop}
 
 -- Erases and programs of the bytes from one place to before another.
-pub record Writes {D T : Type 0} (g : Ghosts D) (low high count : ℕ) (result : Result T FlashStop) (old new : D) : Type 0 where
+pub record WritesWithin {D T : Type 0} (g : Ghosts D) (low high count : ℕ) (result : Result T FlashStop) (old new : D) : Type 0 where
   -- Outside these bytes nothing changes.
   pub keeps : IsTrue g.tells → Keeps low high (g.told old) (g.told new)
   pub goes : Goes g result old new

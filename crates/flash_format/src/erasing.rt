@@ -4,7 +4,7 @@ ghost use Rattle.base_core.specs.Block.{block_bytes};
 ghost use Rattle.flash_core.specs.Told.{NothingDirty};
 ghost use Rattle.flash_format.specs.Cleared.{IsBare, OnlyErased};
 ghost use Rattle.flash_format.specs.Places.{Erased};
-ghost use Rattle.flash_format.specs.Writes.{ClearsFirst, Writes};
+ghost use Rattle.flash_format.specs.Writes.{ClearsFirst, WritesWithin};
 
 use flash_core::{Flash, FlashStop};
 
@@ -13,7 +13,7 @@ fn erase_layout<D: Flash>(flash: &mut D) -> Result<(), FlashStop>
     requires on { IsTrue (D.on flash.old) }
 
     // on every device: one erase
-    ensures writes { Writes D.Flash 0 block_bytes 1 result flash.old flash.new }
+    ensures writes { WritesWithin D.Flash 0 block_bytes 1 result flash.old flash.new }
     ensures erased { OnOk result (IsTrue D.tells → Erased 0 block_bytes (D.told flash.new).now) }
     ensures clean { OnOk result (IsTrue D.tells → NothingDirty (D.told flash.new)) }
     ensures only { IsTrue D.tells → OnlyErased (D.told flash.old) (D.told flash.new) }
@@ -28,7 +28,7 @@ fn erase_behind<D: Flash>(flash: &mut D, count: u32) -> Result<(), FlashStop>
     requires inside { count ≤ D.blocks flash.old }
     requires some { 1 ≤ count }
 
-    ensures writes { Writes D.Flash block_bytes (block_bytes * count) (count - 1) result flash.old flash.new }
+    ensures writes { WritesWithin D.Flash block_bytes (block_bytes * count) (count - 1) result flash.old flash.new }
     ensures erased { OnOk result (IsTrue D.tells → Erased block_bytes (block_bytes * count) (D.told flash.new).now) }
     ensures only { IsTrue D.tells → OnlyErased (D.told flash.old) (D.told flash.new) }
 {
@@ -45,7 +45,7 @@ pub fn erase_all<D: Flash>(flash: &mut D, count: u32) -> Result<(), FlashStop>
     requires some { 1 ≤ count }
 
     // on every device: one erase of each block
-    ensures writes { Writes D.Flash 0 (block_bytes * count) count result flash.old flash.new }
+    ensures writes { WritesWithin D.Flash 0 (block_bytes * count) count result flash.old flash.new }
     ensures erased { OnOk result (IsTrue D.tells → Erased 0 (block_bytes * count) (D.told flash.new).now) }
     ensures clears { ClearsFirst D.Flash flash.old flash.new }
     ensures bare { OnOk result (IsTrue D.tells → IsBare (D.told flash.new)) }

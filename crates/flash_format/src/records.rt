@@ -9,7 +9,7 @@ ghost use Rattle.fwu_formats.specs.Image.{layout_seen};
 ghost use Rattle.fwu_model.specs.Replica.{BothHold, in_version};
 ghost use Rattle.flash_format.specs.Formatted.{HasAtMost, HoldTwice, IsOrdered, IsSpelled};
 ghost use Rattle.flash_format.specs.Places.{Erased};
-ghost use Rattle.flash_format.specs.Writes.{Writes};
+ghost use Rattle.flash_format.specs.Writes.{WritesWithin};
 
 use base_core::BLOCK_BYTES;
 use flash_core::{Flash, FlashStop};
@@ -24,7 +24,7 @@ fn write_twice<D: Flash>(flash: &mut D, bytes: &[u8]) -> Result<(), FlashStop>
     requires few { length bytes.now ≤ block_bytes }
     requires erased { IsTrue D.tells → Erased (block_bytes * 1) (block_bytes * 3) (D.told flash.old).now }
 
-    ensures writes { Writes D.Flash (block_bytes * 1) (block_bytes * 3) 2 result flash.old flash.new }
+    ensures writes { WritesWithin D.Flash (block_bytes * 1) (block_bytes * 3) 2 result flash.old flash.new }
     ensures twice { OnOk result (IsTrue D.tells → HoldTwice bytes.now (D.told flash.new).now) }
     ensures clean { OnOk result (IsTrue D.tells → NothingDirty (D.told flash.new)) }
 {
@@ -33,12 +33,12 @@ fn write_twice<D: Flash>(flash: &mut D, bytes: &[u8]) -> Result<(), FlashStop>
     flash.barrier()
 }
 
-/// Writes the first metadata of a layout to both replicas, whose blocks are erased.
+/// WritesWithin the first metadata of a layout to both replicas, whose blocks are erased.
 fn write_replicas<D: Flash>(flash: &mut D, layout: &Layout) -> Result<(), FlashStop>
     requires on { IsTrue (D.on flash.old) }
     requires erased { IsTrue D.tells → Erased (block_bytes * 1) (block_bytes * 3) (D.told flash.old).now }
 
-    ensures writes { Writes D.Flash (block_bytes * 1) (block_bytes * 3) 2 result flash.old flash.new }
+    ensures writes { WritesWithin D.Flash (block_bytes * 1) (block_bytes * 3) 2 result flash.old flash.new }
     ensures both { OnOk result (IsTrue D.tells →
         BothHold layout.now (in_version 2 (first_meta layout.now)) (D.told flash.new).now) }
     ensures twice { OnOk result (IsTrue D.tells →
@@ -53,13 +53,13 @@ fn write_replicas<D: Flash>(flash: &mut D, layout: &Layout) -> Result<(), FlashS
     write_twice(flash, &bytes[..size])
 }
 
-/// Writes the layout to block 0, which is erased.
+/// WritesWithin the layout to block 0, which is erased.
 fn write_layout<D: Flash>(flash: &mut D, layout: &Layout) -> Result<(), FlashStop>
     requires on { IsTrue (D.on flash.old) }
     requires inside { blocks_needed layout.now ≤ D.blocks flash.old }
     requires erased { IsTrue D.tells → Erased 0 block_bytes (D.told flash.old).now }
 
-    ensures writes { Writes D.Flash 0 block_bytes 1 result flash.old flash.new }
+    ensures writes { WritesWithin D.Flash 0 block_bytes 1 result flash.old flash.new }
     ensures layout { OnOk result (IsTrue D.tells →
         layout_seen (D.told flash.new).now ≡ Ok layout.now) }
     ensures spelled { OnOk result (IsTrue D.tells →
@@ -73,14 +73,14 @@ fn write_layout<D: Flash>(flash: &mut D, layout: &Layout) -> Result<(), FlashSto
     flash.barrier()
 }
 
-/// Writes the metadata and then the layout, which makes the flash one that is formatted.
+/// WritesWithin the metadata and then the layout, which makes the flash one that is formatted.
 pub fn write_records<D: Flash>(flash: &mut D, layout: &Layout) -> Result<(), FlashStop>
     requires on { IsTrue (D.on flash.old) }
     requires inside { blocks_needed layout.now ≤ D.blocks flash.old }
     requires erased { IsTrue D.tells → Erased 0 (block_bytes * 3) (D.told flash.old).now }
 
     // on every device: one program of each replica, and one of the layout
-    ensures writes { Writes D.Flash 0 (block_bytes * 3) 3 result flash.old flash.new }
+    ensures writes { WritesWithin D.Flash 0 (block_bytes * 3) 3 result flash.old flash.new }
     ensures both { OnOk result (IsTrue D.tells →
         BothHold layout.now (in_version 2 (first_meta layout.now)) (D.told flash.new).now) }
     ensures layout { OnOk result (IsTrue D.tells →

@@ -61,7 +61,7 @@ has_places copy blocks header =
     && (num_at 8 header 72 == entries_at copy blocks (blocks_of (number_in header)))
 
 -- A header that speaks of so many blocks of entries, for which a device of so many blocks has room.
-pub record SpeaksOf (blocks entry_blocks : ℕ) (header : List ℕ) : Type 0 where
+pub record SpeaksOfBlocks (blocks entry_blocks : ℕ) (header : List ℕ) : Type 0 where
   pub size : 92 ≤ length header
   pub room : 1 + entry_blocks ≤ blocks
   pub number : entry_blocks ≡ blocks_of (number_in header)

@@ -29,7 +29,7 @@ pub record FitsBlocks (blocks first : ℕ) (bytes : List ℕ) : Type 0 where
   pub some : 0 < length bytes
 
 -- What writing from one byte to before another leaves, at any exit.
-pub record Writes {D T : Type 0} (g : Ghosts D) (low high count : ℕ) (result : Result T FlashStop) (old new : D) : Type 0 where
+pub record WritesWithin {D T : Type 0} (g : Ghosts D) (low high count : ℕ) (result : Result T FlashStop) (old new : D) : Type 0 where
   -- No other byte changes.
   pub keeps : IsTrue g.tells → Keeps low high (g.told old) (g.told new)
   pub goes : Goes g result old new

@@ -1,7 +1,7 @@
 //! Headers of a table: whether a block is one, and where a copy stands.
 
 ghost use Rattle.std.specs.Prelude.{◌≡◌, ◌+◌, ◌≤◌, length};
-ghost use Rattle.gpt_core.specs.Table.{blocks_of, header_at, entries_at, other, has_start, has_places, has_fields, is_roomy, is_header, SpeaksOf};
+ghost use Rattle.gpt_core.specs.Table.{blocks_of, header_at, entries_at, other, has_start, has_places, has_fields, is_roomy, is_header, SpeaksOfBlocks};
 
 use crate::table::TableCopy;
 use base_core::{BLOCK_BYTES, is_table_sealed, le32_at, le64_at};
@@ -72,7 +72,7 @@ fn is_start(header: &[u8]) -> bool
 
 /// Whether its own place, that of the other header and that of the entries are this copy's.
 fn are_places(copy: TableCopy, blocks: u32, entry_blocks: u32, header: &[u8]) -> bool
-    requires { SpeaksOf blocks entry_blocks header.now }
+    requires { SpeaksOfBlocks blocks entry_blocks header.now }
     ensures { result ≡ has_places copy blocks header.now }
 {
     let own = le64_at(header, 24);
@@ -87,7 +87,7 @@ fn are_places(copy: TableCopy, blocks: u32, entry_blocks: u32, header: &[u8]) ->
 /// Whether the fields of a header are those of this copy.
 #[tactic(auto, unfolding(crate::specs::Table::has_fields))]
 fn are_fields(copy: TableCopy, blocks: u32, entry_blocks: u32, header: &[u8]) -> bool
-    requires { SpeaksOf blocks entry_blocks header.now }
+    requires { SpeaksOfBlocks blocks entry_blocks header.now }
     ensures { result ≡ has_fields copy blocks header.now }
 {
     let start = is_start(header);

@@ -12,11 +12,11 @@ ghost use Rattle.gpt_core.specs.declared.layout.Places.{Places};
 ghost use Rattle.gpt_core.specs.declared.table.WhichTable.{WhichTable};
 ghost use Rattle.gpt_core.specs.Places.{through};
 ghost use Rattle.gpt_core.specs.PlacesOf.{places_of};
-ghost use Rattle.gpt_core.specs.Puts.{Puts};
+ghost use Rattle.gpt_core.specs.Puts.{PutsBytes};
 ghost use Rattle.gpt_core.specs.View.{view_of};
 ghost use Rattle.gpt_core.specs.Table.{Table as Said, FitsTable, blocks_of, number_of, header_at, other, entries_at, copy_in, DecidesTable, BothSay, header_lead, header_places, header_back, header_with, header_bytes, table_in_image, copy_from, copy_to};
 ghost use Rattle.gpt_core.specs.Repair.{Mends, HeadersGuarded, StaysBeside, Ready, Steps, IsMended, writes_of};
-ghost use Rattle.gpt_core.specs.Writes.{Writes};
+ghost use Rattle.gpt_core.specs.Writes.{WritesWithin};
 
 use crate::headers::{
     ENTRY_SIZE, HEADER_SIZE, REVISION, blocks_for, entries_place, header_place, other_copy,
@@ -58,29 +58,29 @@ fn number_in_table(table: &Table) -> u32
     (table.entries.len() / 128) as u32
 }
 
-/// Writes bytes at a place, and gives the place behind them.
+/// WritesWithin bytes at a place, and gives the place behind them.
 fn put(out: &mut [u8], at: usize, bytes: &[u8]) -> usize
     requires { at + length bytes.now ≤ length out.old }
-    ensures { Puts at (length bytes.now) bytes.now out.old out.new result }
+    ensures { PutsBytes at (length bytes.now) bytes.now out.old out.new result }
 {
     put_at(out, at, bytes);
     at + bytes.len()
 }
 
-/// Writes a number as four bytes at a place, and gives the place behind them.
+/// WritesWithin a number as four bytes at a place, and gives the place behind them.
 #[tactic(auto, using(base_core::proofs::Spelled::four_spelled))]
 fn put_four(out: &mut [u8], at: usize, value: u32) -> usize
     requires { at + 4 ≤ length out.old }
-    ensures { Puts at 4 (le 4 value) out.old out.new result }
+    ensures { PutsBytes at 4 (le 4 value) out.old out.new result }
 {
     put(out, at, &value.to_le_bytes())
 }
 
-/// Writes a number as eight bytes at a place, and gives the place behind them.
+/// WritesWithin a number as eight bytes at a place, and gives the place behind them.
 #[tactic(auto, using(base_core::proofs::Spelled::eight_spelled))]
 fn put_eight(out: &mut [u8], at: usize, value: u64) -> usize
     requires { at + 8 ≤ length out.old }
-    ensures { Puts at 8 (le 8 value) out.old out.new result }
+    ensures { PutsBytes at 8 (le 8 value) out.old out.new result }
 {
     put(out, at, &value.to_le_bytes())
 }
@@ -89,7 +89,7 @@ fn put_eight(out: &mut [u8], at: usize, value: u64) -> usize
 #[tactic(auto, unfolding(crate::specs::Table::header_lead))]
 fn put_lead(out: &mut [u8]) -> usize
     requires { 92 ≤ length out.old }
-    ensures { Puts 0 16 header_lead out.old out.new result }
+    ensures { PutsBytes 0 16 header_lead out.old out.new result }
 {
     let named = put(out, 0, b"EFI PART".as_slice());
     let revised = put_four(out, named, REVISION);
@@ -100,7 +100,7 @@ fn put_lead(out: &mut [u8]) -> usize
 fn put_places(out: &mut [u8], at: usize, copy: TableCopy, blocks: u32, table: &Table) -> usize
     requires room { at + 36 ≤ length out.old }
     requires some { 1 ≤ blocks }
-    ensures { Puts at 36 (header_places copy blocks table.now) out.old out.new result }
+    ensures { PutsBytes at 36 (header_places copy blocks table.now) out.old out.new result }
 {
     let zero = put_four(out, at, 0);
     let own = put_eight(out, zero, header_place(copy, blocks) as u64);
@@ -113,7 +113,7 @@ fn put_places(out: &mut [u8], at: usize, copy: TableCopy, blocks: u32, table: &T
 fn put_back(out: &mut [u8], at: usize, copy: TableCopy, blocks: u32, table: &Table) -> usize
     requires room { at + 20 ≤ length out.old }
     requires fits { FitsTable blocks table.now }
-    ensures { Puts at 20 (header_back copy blocks table.now) out.old out.new result }
+    ensures { PutsBytes at 20 (header_back copy blocks table.now) out.old out.new result }
 {
     let number = number_in_table(table);
     let place = put_eight(
@@ -173,7 +173,7 @@ fn mend<D: Flash>(
 
     ensures steps { IsTrue D.tells → Ready copy (D.blocks flash.old) table.now (D.told flash.old)
         → Steps (IsMended (D.blocks flash.old) table.now) result (D.blocks flash.old) table.now (D.told flash.new) }
-    ensures writes { Writes D.Flash (copy_from copy (D.blocks flash.old) (blocks_of (number_of table.now)))
+    ensures writes { WritesWithin D.Flash (copy_from copy (D.blocks flash.old) (blocks_of (number_of table.now)))
         (copy_to copy (D.blocks flash.old) (blocks_of (number_of table.now))) (2 + 2 * blocks_of (number_of table.now))
         result flash.old flash.new }
     ensures settled { OnOk result (IsTrue D.tells → NothingDirty (D.told flash.new)) }

@@ -8,7 +8,7 @@ ghost use Rattle.flash_core.specs.Counts.{lowered_by};
 ghost use Rattle.flash_core.specs.Told.{NothingDirty};
 ghost use Rattle.flash_core.specs.May.{Keeps};
 ghost use Rattle.gpt_core.specs.Repair.{ClearsHeader, FillsEntries, WritesHeader, IsMended, Steps, Writing};
-ghost use Rattle.gpt_core.specs.Writes.{behind, blocks_for, FitsBlock, FitsBlocks, Spans, Writes};
+ghost use Rattle.gpt_core.specs.Writes.{behind, blocks_for, FitsBlock, FitsBlocks, Spans, WritesWithin};
 
 use base_core::BLOCK_BYTES;
 use flash_core::{Flash, FlashStop};
@@ -18,31 +18,31 @@ pub fn clear_header<D: Flash>(flash: &mut D, header: u32) -> Result<(), FlashSto
     requires on { IsTrue (D.on flash.old) }
     requires inside { header < D.blocks flash.old }
     ensures steps { IsTrue D.tells → ClearsHeader (D.blocks flash.old) header result (D.told flash.old) (D.told flash.new) }
-    ensures writes { Writes D.Flash (block_bytes * header) (block_bytes * header + block_bytes) 1 result flash.old flash.new }
+    ensures writes { WritesWithin D.Flash (block_bytes * header) (block_bytes * header + block_bytes) 1 result flash.old flash.new }
     ensures empty { OnOk result (IsTrue D.tells → block header (D.told flash.new).now ≡ blank block_bytes) }
 {
     flash.erase(header)?;
     flash.barrier()
 }
 
-/// Writes over the block of a header that was erased: program, barrier.
+/// WritesWithin over the block of a header that was erased: program, barrier.
 pub fn write_header<D: Flash>(flash: &mut D, b: u32, bytes: &[u8]) -> Result<(), FlashStop>
     requires on { IsTrue (D.on flash.old) }
     requires fits { FitsBlock (D.blocks flash.old) b bytes.now }
     requires empty { IsTrue D.tells → block b (D.told flash.old).now ≡ blank block_bytes }
     ensures steps { IsTrue D.tells → WritesHeader (D.blocks flash.old) b bytes.now result (D.told flash.old) (D.told flash.new) }
-    ensures writes { Writes D.Flash (block_bytes * b) (block_bytes * b + block_bytes) 1 result flash.old flash.new }
+    ensures writes { WritesWithin D.Flash (block_bytes * b) (block_bytes * b + block_bytes) 1 result flash.old flash.new }
     ensures settled { OnOk result (IsTrue D.tells → NothingDirty (D.told flash.new)) }
 {
     flash.program(BLOCK_BYTES * b, bytes)?;
     flash.barrier()
 }
 
-/// Writes over a block: erase, program. Nothing settles it yet.
+/// WritesWithin over a block: erase, program. Nothing settles it yet.
 fn write_block<D: Flash>(flash: &mut D, b: u32, bytes: &[u8]) -> Result<(), FlashStop>
     requires on { IsTrue (D.on flash.old) }
     requires fits { FitsBlock (D.blocks flash.old) b bytes.now }
-    ensures writes { Writes D.Flash (block_bytes * b) (block_bytes * b + block_bytes) 2 result flash.old flash.new }
+    ensures writes { WritesWithin D.Flash (block_bytes * b) (block_bytes * b + block_bytes) 2 result flash.old flash.new }
     ensures written { OnOk result (IsTrue D.tells
         → part (D.told flash.new).now (block_bytes * b) (block_bytes * b + length bytes.now) ≡ bytes.now) }
 {
@@ -50,11 +50,11 @@ fn write_block<D: Flash>(flash: &mut D, b: u32, bytes: &[u8]) -> Result<(), Flas
     flash.program(BLOCK_BYTES * b, bytes)
 }
 
-/// Writes bytes over blocks from one on, each block by itself, rising. Nothing settles them yet.
+/// WritesWithin bytes over blocks from one on, each block by itself, rising. Nothing settles them yet.
 fn write_blocks<D: Flash>(flash: &mut D, first: u32, bytes: &[u8]) -> Result<(), FlashStop>
     requires on { IsTrue (D.on flash.old) }
     requires fits { FitsBlocks (D.blocks flash.old) first bytes.now }
-    ensures writes { Writes D.Flash (block_bytes * first) (behind first (length bytes.now)) (2 * blocks_for (length bytes.now))
+    ensures writes { WritesWithin D.Flash (block_bytes * first) (behind first (length bytes.now)) (2 * blocks_for (length bytes.now))
         result flash.old flash.new }
     ensures written { OnOk result (IsTrue D.tells
         → part (D.told flash.new).now (block_bytes * first) (block_bytes * first + length bytes.now) ≡ bytes.now) }
@@ -67,13 +67,13 @@ fn write_blocks<D: Flash>(flash: &mut D, first: u32, bytes: &[u8]) -> Result<(),
     write_blocks(flash, first + 1, rest)
 }
 
-/// Writes the entries of a table, and settles them.
+/// WritesWithin the entries of a table, and settles them.
 pub fn write_entries<D: Flash>(flash: &mut D, first: u32, bytes: &[u8]) -> Result<(), FlashStop>
     requires on { IsTrue (D.on flash.old) }
     requires fits { FitsBlocks (D.blocks flash.old) first bytes.now }
     ensures steps { IsTrue D.tells
         → FillsEntries (D.blocks flash.old) first bytes.now result (D.told flash.old) (D.told flash.new) }
-    ensures writes { Writes D.Flash (block_bytes * first) (behind first (length bytes.now)) (2 * blocks_for (length bytes.now))
+    ensures writes { WritesWithin D.Flash (block_bytes * first) (behind first (length bytes.now)) (2 * blocks_for (length bytes.now))
         result flash.old flash.new }
 {
     write_blocks(flash, first, bytes)?;

@@ -5,7 +5,7 @@ use Rattle.script_turns.specs.Powered.{device, has_power}
 use Rattle.serving.specs.declared.serving.Serving.{Serving}
 use Rattle.serving.specs.declared.ends.ServeEnd.{ServeEnd}
 
-pub record Leaves {D H T : Type 0} {F : Ghosts D} (result : Result T ServeEnd) (old new : Serving D F)
+pub record LeavesServing {D H T : Type 0} {F : Ghosts D} (result : Result T ServeEnd) (old new : Serving D F)
     (from to : H) : Type 0 where
   -- where the serving goes on, the device has power exactly where an agent or a flash that is on is there
   pub powered : OnOk result (F.on (device new.powered) ≡ has_power new.powered)

@@ -44,11 +44,11 @@ pub record Port : Type 0 where
 abbrev pub port : Option (List ℕ) → ℕ → Port
 port bytes faults = record { bytes = bytes; faults = faults }
 
-abbrev pub sink_of : {O : Type 0} → sink.Ghosts O → O → Port
-sink_of o s = port (o.taken s) (o.faults s)
+abbrev pub sink_port : {O : Type 0} → sink.Ghosts O → O → Port
+sink_port o s = port (o.taken s) (o.faults s)
 
-abbrev pub source_of : {I : Type 0} → source.Ghosts I → I → Port
-source_of i s = port (i.left s) (i.faults s)
+abbrev pub source_port : {I : Type 0} → source.Ghosts I → I → Port
+source_port i s = port (i.left s) (i.faults s)
 
 -- a run between two turns: the flash, and its turns so far
 pub record RunAt : Type 0 where

@@ -6,7 +6,7 @@ ghost use Rattle.fwu_wire.specs.Replies.{message};
 ghost use Rattle.script_turns.specs.Powered.{device, has_power};
 ghost use Rattle.serving.specs.Acting.{ActsOn};
 ghost use Rattle.serving.specs.Ends.{end_by};
-ghost use Rattle.serving.specs.Leaves.{Leaves};
+ghost use Rattle.serving.specs.Leaves.{LeavesServing};
 ghost use Rattle.serving.specs.Requests.{IsServed, called};
 ghost use Rattle.serving.specs.Scene.{run_of, scene_of};
 
@@ -53,7 +53,7 @@ fn do_turn<D: Flash, H: Files, V: Verifier>(
         (run_of serving.old) (run_of serving.new) out.new result }
     ensures few { IfOk result (λ n. n ≤ 4104) }
     ensures exchange { serving.new.exchange ≡ serving.old.exchange }
-    ensures leaves { Leaves result serving.old serving.new files.old files.new }
+    ensures leaves { LeavesServing result serving.old serving.new files.old files.new }
 {
     let next = turn(alloc, &mut serving.powered, call, files, verifier);
     let answered = answer(out, &next.reply);
@@ -79,7 +79,7 @@ pub fn act_on<D: Flash, H: Files, V: Verifier>(
         (run_of serving.old) (run_of serving.new) out.new result }
     ensures few { IfOk result (λ n. n ≤ 4104) }
     ensures exchange { serving.new.exchange ≡ serving.old.exchange }
-    ensures leaves { Leaves result serving.old serving.new files.old files.new }
+    ensures leaves { LeavesServing result serving.old serving.new files.old files.new }
 {
     serving.journal.make_room(1)?;
     let call = request_of(alloc, message)?;

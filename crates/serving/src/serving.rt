@@ -5,9 +5,9 @@ ghost use Rattle.script_turns.specs.Powered.{device, has_power};
 ghost use Rattle.wire_frames.specs.Frames.{IsBody, message_of, number_of};
 ghost use Rattle.serving.specs.Ends.{IsEarly};
 ghost use Rattle.serving.specs.Going.{GoesOn};
-ghost use Rattle.serving.specs.Leaves.{Leaves};
+ghost use Rattle.serving.specs.Leaves.{LeavesServing};
 ghost use Rattle.serving.specs.Requests.{called};
-ghost use Rattle.serving.specs.Scene.{at, scene_of, sink_of, source_of};
+ghost use Rattle.serving.specs.Scene.{at, scene_of, sink_port, source_port};
 ghost use Rattle.serving.specs.Serving.{Puts, ServesNew, ServesOne};
 
 use crate::acting::act_on;
@@ -31,7 +31,7 @@ pub struct Serving<D: Flash> {
 
 /// Puts a frame into the sink, in one piece.
 fn put<O: Sink>(sink: &mut O, frame: &[u8]) -> Result<(), ServeEnd>
-    ensures puts { Puts frame.now result (sink_of O.Sink sink.old) (sink_of O.Sink sink.new) }
+    ensures puts { Puts frame.now result (sink_port O.Sink sink.old) (sink_port O.Sink sink.new) }
     ensures ends { IfErr result IsEarly }
 {
     match sink.put(frame) {
@@ -55,9 +55,9 @@ fn serve_new<D: Flash, H: Files, O: Sink, V: Verifier>(
 
     ensures serves { ServesNew (scene_of V.Verifier D.Flash H.Files verifier.now files.old)
         (number_of body.now) (called (message_of body.now))
-        (at serving.old (sink_of O.Sink sink.old)) (at serving.new (sink_of O.Sink sink.new)) result }
+        (at serving.old (sink_port O.Sink sink.old)) (at serving.new (sink_port O.Sink sink.new)) result }
     ensures ends { IfErr result IsEarly }
-    ensures leaves { Leaves result serving.old serving.new files.old files.new }
+    ensures leaves { LeavesServing result serving.old serving.new files.old files.new }
 {
     let mut out = [0; FRAME_BYTES];
     let number = number_of(body);
@@ -84,9 +84,9 @@ fn serve_one<D: Flash, H: Files, O: Sink, V: Verifier>(
     requires body { IsBody body.now }
 
     ensures serves { ServesOne (scene_of V.Verifier D.Flash H.Files verifier.now files.old) body.now
-        (at serving.old (sink_of O.Sink sink.old)) (at serving.new (sink_of O.Sink sink.new)) result }
+        (at serving.old (sink_port O.Sink sink.old)) (at serving.new (sink_port O.Sink sink.new)) result }
     ensures ends { IfErr result IsEarly }
-    ensures leaves { Leaves result serving.old serving.new files.old files.new }
+    ensures leaves { LeavesServing result serving.old serving.new files.old files.new }
 {
     match serving.exchange.admit(number_of(body)) {
         Admission::Acts => serve_new(alloc, serving, body, files, sink, verifier),
@@ -111,8 +111,8 @@ pub fn serve_all<D: Flash, H: Files, I: Source, O: Sink, V: Verifier>(
     requires powered { D.on (device serving.old.powered) ≡ has_power serving.old.powered }
 
     ensures goes { GoesOn (scene_of V.Verifier D.Flash H.Files verifier.now files.old)
-        (at serving.old (sink_of O.Sink sink.old)) (at serving.new (sink_of O.Sink sink.new)) result
-        (source_of I.Source source.old) (source_of I.Source source.new) }
+        (at serving.old (sink_port O.Sink sink.old)) (at serving.new (sink_port O.Sink sink.new)) result
+        (source_port I.Source source.old) (source_port I.Source source.new) }
     ensures once { ReadsOnce I.Source source.old source.new }
     ensures size { D.blocks (device serving.new.powered)
         ≡ D.blocks (device serving.old.powered) }

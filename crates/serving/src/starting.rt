@@ -3,8 +3,8 @@ ghost use Rattle.std.specs.Prelude.{◌≡◌, None};
 ghost use Rattle.host_io.specs.Once.{ReadsOnce};
 ghost use Rattle.script_turns.specs.Powered.{device, has_power, moment_of, shown_on};
 ghost use Rattle.serving.specs.Holds.{Holds};
-ghost use Rattle.serving.specs.Leaves.{Leaves};
-ghost use Rattle.serving.specs.Scene.{at, run_of, scene_of, sink_of, source_of};
+ghost use Rattle.serving.specs.Leaves.{LeavesServing};
+ghost use Rattle.serving.specs.Scene.{at, run_of, scene_of, sink_port, source_port};
 ghost use Rattle.serving.specs.Starting.{Boots, Serves};
 
 use crate::ends::{ServeEnd, end_by};
@@ -37,7 +37,7 @@ fn boot<D: Flash, H: Files, V: Verifier>(
     ensures boots { Boots (scene_of V.Verifier D.Flash H.Files verifier.now files.old)
         (run_of serving.old) (run_of serving.new) result }
     ensures exchange { serving.new.exchange ≡ serving.old.exchange }
-    ensures leaves { Leaves result serving.old serving.new files.old files.new }
+    ensures leaves { LeavesServing result serving.old serving.new files.old files.new }
 {
     serving.journal.make_room(1)?;
     let boot = turn(alloc, &mut serving.powered, Call::Boot, files, verifier);
@@ -61,12 +61,12 @@ pub fn serve<D: Flash, H: Files, I: Source, O: Sink, V: Verifier>(
 
     // What was taken, done and written.
     ensures serves { Serves (scene_of V.Verifier D.Flash H.Files verifier.now files.old) (moment_of start)
-        (sink_of O.Sink sink.old) (at result.serving (sink_of O.Sink sink.new)) result.end
-        (source_of I.Source source.old) (source_of I.Source source.new) }
+        (sink_port O.Sink sink.old) (at result.serving (sink_port O.Sink sink.new)) result.end
+        (source_port I.Source source.old) (source_port I.Source source.new) }
     // What holds however it ended, and why it ended so.
     ensures holds { Holds (scene_of V.Verifier D.Flash H.Files verifier.now files.old) (moment_of start)
-        (sink_of O.Sink sink.old) (at result.serving (sink_of O.Sink sink.new)) result.end
-        (source_of I.Source source.old) (source_of I.Source source.new) }
+        (sink_port O.Sink sink.old) (at result.serving (sink_port O.Sink sink.new)) result.end
+        (source_port I.Source source.old) (source_port I.Source source.new) }
     // No read of the source is made behind one that gave no bytes or failed.
     ensures once { ReadsOnce I.Source source.old source.new }
     ensures size { D.blocks (device result.serving.powered) ≡ D.blocks (device start) }

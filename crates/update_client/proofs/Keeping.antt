@@ -15,7 +15,7 @@ use Rattle.agent_calls.specs.Shown.{AgentGoes, SpentBy, device, gone}
 use Rattle.update_client.specs.declared.stops.SendStop.{SendStop}
 use Rattle.update_client.specs.declared.stops.SendStop.TheVariants.{MissingImage, ImageTooLarge, Begin, End, ReadFailed, Lost, Fault, Gone}
 use Rattle.update_client.specs.Halts.{StopsEnd, StopsWithin, flash_of, stopped_as}
-use Rattle.update_client.specs.Pieces.{Keeps, ReadsBy}
+use Rattle.update_client.specs.Pieces.{KeepsBeside, ReadsBy}
 use Rattle.update_client.proofs.Spending.{stop-spent}
 
 -- ---- which stop it is
@@ -69,7 +69,7 @@ module _ {D H : Type 0} {F : flash.Ghosts D} (g : Ghosts H) (at_rest : (f : H) (
     (joins : (e f h : H) (access : Access) → g.spares e f access → g.spares f h access → g.spares e h access) (name : List ℕ) where
   -- nothing yet
   pub keeps-none : (a : Agent D F) (f : H) (buf : List ℕ) → IsFalse (gone a) → IsTrue (F.on (device a))
-      → Keeps {T = Unit {0}} g name (Ok tt) a a f f buf buf
+      → KeepsBeside {T = Unit {0}} g name (Ok tt) a a f f buf buf
   keeps-none a f buf here power = record {
     stops = tt;
     spent = none-spent F (gone a) (device a) here power;
@@ -80,7 +80,7 @@ module _ {D H : Type 0} {F : flash.Ghosts D} (g : Ghosts H) (at_rest : (f : H) (
 
   -- a read that was done
   pub keeps-read : (a : Agent D F) (e f : H) (buf filled : List ℕ) → IsFalse (gone a) → IsTrue (F.on (device a)) → length filled ≡ length buf
-      → ReadsFile g name e f → g.faults f ≡ g.faults e → Keeps {T = Unit {0}} g name (Ok tt) a a e f buf filled
+      → ReadsFile g name e f → g.faults f ≡ g.faults e → KeepsBeside {T = Unit {0}} g name (Ok tt) a a e f buf filled
   keeps-read a e f buf filled here power long reads same = record {
     stops = tt;
     spent = none-spent F (gone a) (device a) here power;
@@ -91,7 +91,7 @@ module _ {D H : Type 0} {F : flash.Ghosts D} (g : Ghosts H) (at_rest : (f : H) (
 
   -- a call of the agent
   pub keeps-called : {T U : Type 0} (x : T) (y : U) (a b : Agent D F) (f : H) (buf : List ℕ) → IsFalse (gone a) → AgentGoes {T = T} (Ok x) a b
-      → Keeps {T = U} g name (Ok y) a b f f buf buf
+      → KeepsBeside {T = U} g name (Ok y) a b f f buf buf
   keeps-called x y a b f buf here goes = record {
     stops = tt;
     spent = call-spent here goes;
@@ -102,7 +102,7 @@ module _ {D H : Type 0} {F : flash.Ghosts D} (g : Ghosts H) (at_rest : (f : H) (
 
   -- and one that ends it
   pub keeps-stopped : {T : Type 0} (U : Type 0) (q : Stop) (a b : Agent D F) (f : H) (buf : List ℕ) → IsFalse (gone a) → AgentGoes {T = T} (Err q) a b
-      → Keeps {T = U} g name (Err (stopped_as q)) a b f f buf buf
+      → KeepsBeside {T = U} g name (Err (stopped_as q)) a b f f buf buf
   keeps-stopped {T} U q a b f buf here goes = record {
     stops = stops-stopped T U q (gone a) (gone b) here goes.gone;
     spent = stop-spent T U q (gone b) (device a) (device b) (call-spent here goes);
@@ -113,7 +113,7 @@ module _ {D H : Type 0} {F : flash.Ghosts D} (g : Ghosts H) (at_rest : (f : H) (
 
   -- the end of a staging
   pub keeps-ended : {T : Type 0} (r : Result T SendStop) (a b : Agent D F) (f : H) (buf : List ℕ) → StopsEnd r → SpentBy (flash_of r) a b
-      → Keeps g name r a b f f buf buf
+      → KeepsBeside g name r a b f f buf buf
   keeps-ended {T} r a b f buf stops spent = record {
     stops = stops-ended T r stops;
     spent = spent;
@@ -124,7 +124,7 @@ module _ {D H : Type 0} {F : flash.Ghosts D} (g : Ghosts H) (at_rest : (f : H) (
 
   -- what was done, and one more
   pub keeps-then : {T U : Type 0} {x : T} {result : Result U SendStop} {a b c : Agent D F} {e f h : H} {k l m : List ℕ}
-      → Keeps {T = T} g name (Ok x) a b e f k l → Keeps g name result b c f h l m → Keeps g name result a c e h k m
+      → KeepsBeside {T = T} g name (Ok x) a b e f k l → KeepsBeside g name result b c f h l m → KeepsBeside g name result a c e h k m
   keeps-then {U = U} {result = result} {e = e} {f = f} {h = h} first next =
       let same : g.faults f ≡ g.faults e = omega (arith, first.reads.later, first.reads.once) in
       record {
@@ -136,8 +136,8 @@ module _ {D H : Type 0} {F : flash.Ghosts D} (g : Ghosts H) (at_rest : (f : H) (
       }
 
   -- what was done, whatever it gave
-  pub keeps-ok : {T : Type 0} {x : T} {a b : Agent D F} {e f : H} {k l : List ℕ} → Keeps {T = T} g name (Ok x) a b e f k l
-      → Keeps {T = Unit {0}} g name (Ok tt) a b e f k l
+  pub keeps-ok : {T : Type 0} {x : T} {a b : Agent D F} {e f : H} {k l : List ℕ} → KeepsBeside {T = T} g name (Ok x) a b e f k l
+      → KeepsBeside {T = Unit {0}} g name (Ok tt) a b e f k l
   keeps-ok {f = f} kept = record {
     stops = tt;
     spent = kept.spent;
@@ -147,8 +147,8 @@ module _ {D H : Type 0} {F : flash.Ghosts D} (g : Ghosts H) (at_rest : (f : H) (
   }
 
   -- a stop that is handed on
-  pub keeps-on : {T : Type 0} (U : Type 0) (st : SendStop) {a b : Agent D F} {e f : H} {k l : List ℕ} → Keeps {T = T} g name (Err st) a b e f k l
-      → Keeps {T = U} g name (Err st) a b e f k l
+  pub keeps-on : {T : Type 0} (U : Type 0) (st : SendStop) {a b : Agent D F} {e f : H} {k l : List ℕ} → KeepsBeside {T = T} g name (Err st) a b e f k l
+      → KeepsBeside {T = U} g name (Err st) a b e f k l
   keeps-on {T} U st kept = record {
     stops = stops-on st kept.stops;
     spent = kept.spent;

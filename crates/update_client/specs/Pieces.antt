@@ -64,7 +64,7 @@ pub record ReadsBy {T : Type 0} (before now : ℕ) (result : Result T SendStop) 
   pub failed : result ≡ Err ReadFailed → Rose before now
 
 -- What a part of a sending promises of its agent, its files and its buffer, whatever it answers and on every device.
-pub record Keeps {D H T : Type 0} {F : flash.Ghosts D} (g : Ghosts H) (name : List ℕ) (result : Result T SendStop)
+pub record KeepsBeside {D H T : Type 0} {F : flash.Ghosts D} (g : Ghosts H) (name : List ℕ) (result : Result T SendStop)
     (old new : Agent D F) (from to : H) (buf filled : List ℕ) : Type 0 where
   -- it is not answered that an image is at fault, that a begin was refused, or that the agent was gone
   pub stops : StopsWithin result

@@ -5,7 +5,7 @@ ghost use Rattle.agent_calls.specs.Shown.{SpentBy, device, gone, moment};
 ghost use Rattle.update_client.specs.Finishes.{FinishesBy, InstallsImages};
 ghost use Rattle.update_client.specs.Halts.{StopsEnd, flash_of};
 ghost use Rattle.update_client.specs.Packages.{HoldsPayloads};
-ghost use Rattle.update_client.specs.Pieces.{Keeps};
+ghost use Rattle.update_client.specs.Pieces.{KeepsBeside};
 ghost use Rattle.update_client.specs.Takes.{InstallTakesBy, OnRefusedEnd};
 
 use crate::images::send_images;
@@ -58,7 +58,7 @@ pub fn install<D: Flash, H: Files, V: Verifier>(
         acceptance (V.passes verifier.now) result (moment agent.old) (moment agent.new) }
     ensures takes { InstallTakesBy result (length buf.old) payloads.now.entries.now (moment agent.old)
         (D.arming (device agent.old)) (D.arming (device agent.new)) }
-    ensures keeps { Keeps H.Files payloads.now.name.now result agent.old agent.new files.old files.new
+    ensures keeps { KeepsBeside H.Files payloads.now.name.now result agent.old agent.new files.old files.new
         buf.old buf.new }
 {
     match send_images(agent, files, payloads, acceptance, buf) {

@@ -3,7 +3,7 @@ ghost use Rattle.std.specs.Prelude.{◌<◌, length, IsFalse};
 ghost use Rattle.agent_calls.specs.Shown.{device, gone, moment};
 ghost use Rattle.update_client.specs.Images.{SendsImages};
 ghost use Rattle.update_client.specs.Packages.{HoldsPayload, HoldsPayloads};
-ghost use Rattle.update_client.specs.Pieces.{Keeps, SendsImage};
+ghost use Rattle.update_client.specs.Pieces.{KeepsBeside, SendsImage};
 ghost use Rattle.update_client.specs.Takes.{ImageTakesBy, ImagesTakeBy};
 
 use crate::packages::{Payload, Payloads};
@@ -31,7 +31,7 @@ pub fn send_image<D: Flash, H: Files>(
         result (moment agent.old) (moment agent.new) }
     ensures takes { ImageTakesBy result (length buf.old) payload.now.entry.now (moment agent.old)
         (D.arming (device agent.old)) (D.arming (device agent.new)) }
-    ensures keeps { Keeps H.Files payload.now.name.now result agent.old agent.new files.old files.new
+    ensures keeps { KeepsBeside H.Files payload.now.name.now result agent.old agent.new files.old files.new
         buf.old buf.new }
 {
     let entry = payload.entry;
@@ -62,7 +62,7 @@ pub fn send_images<D: Flash, H: Files>(
         result (moment agent.old) (moment agent.new) }
     ensures takes { ImagesTakeBy result (length buf.old) payloads.now.entries.now (moment agent.old)
         (D.arming (device agent.old)) (D.arming (device agent.new)) }
-    ensures keeps { Keeps H.Files payloads.now.name.now result agent.old agent.new files.old files.new
+    ensures keeps { KeepsBeside H.Files payloads.now.name.now result agent.old agent.new files.old files.new
         buf.old buf.new }
 {
     let entries = payloads.entries;

@@ -4,7 +4,7 @@ ghost use Rattle.agent_calls.specs.Shown.{device, gone, moment};
 ghost use Rattle.agent_calls.specs.Takes.{piece_at};
 ghost use Rattle.update_client.specs.Halts.{stopped_as, unbegun_as, is_unread as was_unread};
 ghost use Rattle.update_client.specs.Packages.{HoldsPayload};
-ghost use Rattle.update_client.specs.Pieces.{Keeps, WritesImage, WritesPiece};
+ghost use Rattle.update_client.specs.Pieces.{KeepsBeside, WritesImage, WritesPiece};
 ghost use Rattle.update_client.specs.Takes.{OnUnread, PayloadTakesBy, PieceTakes};
 
 use crate::packages::Payload;
@@ -65,7 +65,7 @@ fn write_piece<D: Flash, H: Files>(
     ensures takes { IfOk result (λ n. PieceTakes at n (moment agent.old)
         (D.arming (device agent.old)) (D.arming (device agent.new))) }
     ensures unsent { OnUnread result (agent.new ≡ agent.old) }
-    ensures keeps { Keeps H.Files payload.now.name.now result agent.old agent.new files.old files.new
+    ensures keeps { KeepsBeside H.Files payload.now.name.now result agent.old agent.new files.old files.new
         buf.old buf.new }
 {
     let entry = payload.entry;
@@ -95,7 +95,7 @@ pub fn write_image<D: Flash, H: Files>(
         (moment agent.old) (moment agent.new) }
     ensures takes { PayloadTakesBy result (length buf.old) payload.now.entry.now (moment agent.old)
         (D.arming (device agent.old)) (D.arming (device agent.new)) }
-    ensures keeps { Keeps H.Files payload.now.name.now result agent.old agent.new files.old files.new
+    ensures keeps { KeepsBeside H.Files payload.now.name.now result agent.old agent.new files.old files.new
         buf.old buf.new }
 {
     let entry = payload.entry;

@@ -6,7 +6,7 @@ use Rattle.update_client.specs.declared.stops.SendStop.{SendStop}
 use Rattle.update_client.specs.declared.stops.SendStop.TheVariants.{ReadFailed}
 use Rattle.update_client.specs.Halts.{flash_of, is_unread}
 use Rattle.update_client.specs.Images.{SendsImages}
-use Rattle.update_client.specs.Pieces.{Keeps}
+use Rattle.update_client.specs.Pieces.{KeepsBeside}
 use Rattle.update_client.proofs.Installed.{installed, uncancelled, interrupted, unread-is}
 use Rattle.agent_machine.proofs.Spending.{call-spent, spent-then}
 use Rattle.update_client.proofs.Keeping.{keeps-ended, keeps-then}
@@ -88,7 +88,7 @@ returns-in-Ok-clause-keeps g c =
 pub returns-else-not-is_unread-clause-keeps : goal.returns-else-not-is_unread-clause-keeps
 returns-else-not-is_unread-clause-keeps g c =
     let is : c.in-Err.stop ≡ ReadFailed = unread-is c.in-Err.stop (sym c.is_unread.ensures ∙ c.if-not-is_unread.false) in
-    let sent = subst (λ (st : SendStop). Keeps {T = Unit {0}} g.H.Files c.args.payloads.now.name.now (Err st) c.args.agent.now c.send_images.new.agent
+    let sent = subst (λ (st : SendStop). KeepsBeside {T = Unit {0}} g.H.Files c.args.payloads.now.name.now (Err st) c.args.agent.now c.send_images.new.agent
     c.args.files.now c.send_images.new.files c.args.buf.now c.send_images.new.buf) is c.in-Err.ensures.keeps in
     let e = c.cancel-cancelled.ensures in
     record {

@@ -1,7 +1,7 @@
 use Rattle.std.proofs.Common.{◌-◌, ◌≤◌, length}
 use Rattle.std.specs.Prelude.{Ok}
 use Rattle.agent_calls.specs.Shown.{device, moment}
-use Rattle.update_client.specs.Pieces.{Keeps, WritesFirst}
+use Rattle.update_client.specs.Pieces.{KeepsBeside, WritesFirst}
 use Rattle.update_client.proofs.ImagesTaking.{FirstTaken}
 use Rattle.update_client.proofs.pieces.write_image.Given as goal
 
@@ -10,7 +10,7 @@ invariant-loop-at g l = record {
   inside : l.at ≤ l.payload.entry.now.size;
   first : WritesFirst (g.H.Files.contents l.fn.files) l.payload.name.now l.payload.entry.now l.at (moment l.fn.agent) (moment l.agent);
   takes : FirstTaken (length l.fn.buf) l.payload.entry.now l.at (moment l.fn.agent) (g.D.Flash.arming (device l.fn.agent)) (g.D.Flash.arming (device l.agent));
-  keeps : Keeps {T = Unit {0}} g.H.Files l.payload.name.now (Ok tt) l.fn.agent l.agent l.fn.files l.files l.fn.buf l.buf;
+  keeps : KeepsBeside {T = Unit {0}} g.H.Files l.payload.name.now (Ok tt) l.fn.agent l.agent l.fn.files l.files l.fn.buf l.buf;
 }
 
 abbrev pub decreases-loop-at : goal.decreases-loop-at

@@ -9,7 +9,7 @@ use Rattle.agent_state.specs.Settles.{IsPlanOf}
 use Rattle.agent_machine.specs.declared.stop.Stop.TheVariants as stop
 use Rattle.agent_machine.specs.Fields.{Fields}
 use Rattle.agent_machine.proofs.Answered.{refused-meets}
-use Rattle.agent_calls.specs.Images.{WritesImage}
+use Rattle.agent_calls.specs.Images.{AppendsImage}
 use Rattle.agent_calls.specs.Shown.{fields, moment, snapshot}
 use Rattle.agent_state.specs.Asked.{IsPlanFor}
 use Rattle.agent_calls.proofs.Beyond.{writes-same}
@@ -62,7 +62,7 @@ returns-in-Write-clause-image g c image writes =
     let f : Fields = fields a in
     let own = subst (IsPlanFor f.session f.meta.meta (request.Write c.args.handle (length c.args.bytes.now))) c.in-Write.is c.in-Ok.ensures.asked in
     let is : c.in-Write.image ≡ image = writes-same c.in-Write.image image (sym own.1 ∙ writes) in
-    subst (λ (i : ℕ). WritesImage g.D.Flash i c.args.bytes.now c.write_image.result (snapshot a) (snapshot c.write_image.new.self)) is c.write_image.ensures.image
+    subst (λ (i : ℕ). AppendsImage g.D.Flash i c.args.bytes.now c.write_image.result (snapshot a) (snapshot c.write_image.new.self)) is c.write_image.ensures.image
 
 pub returns-then-self-clause-image : goal.returns-then-self-clause-image
 returns-then-self-clause-image g c image writes = unwritten-image g.D.Flash stop.Gone (snapshot c.args.self.now) (λ done. done) image c.args.bytes.now
