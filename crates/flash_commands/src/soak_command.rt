@@ -36,7 +36,7 @@ use fwu_formats::LayoutFault;
 use fwu_journal::Journal;
 use gen_core::{Lcg, draw_sizes, file_name, is_too_small, package, soak_rows};
 use host_io::Sink;
-use script_runs::{Done, End, Note, Refusal, Room, Run, done, put_line, refuse};
+use script_runs::{Done, End, Note, Refusal, Room, Run, put_line, refuse};
 use script_turns::{Fresh, Powered};
 use std::alloc::Global;
 use verify_core::AnyManifest;
@@ -129,7 +129,7 @@ fn finish<D: Flash, O: Sink>(
         sink,
     );
     let note = end.note;
-    done(run, End { status, note })
+    run.into_done(End { status, note })
 }
 
 /// Formats a flash with the first package, and does the rounds.

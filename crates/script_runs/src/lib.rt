@@ -18,4 +18,4 @@ pub use done::{Done, NoTable, Note};
 pub use printing::{put_line, put_usage};
 pub use refusing::{Refusal, refuse};
 pub use room::Room;
-pub use running::{End, GOES_ON, Run, STARVED, do_call, done};
+pub use running::{End, GOES_ON, Run, STARVED, do_call};

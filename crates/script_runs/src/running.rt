@@ -48,6 +48,26 @@ impl<D: Flash> Run<D> {
             text,
         }
     }
+
+    /// What is left of a run that ended.
+    pub fn into_done(self, end: End) -> Done<D>
+        ensures status { result.status ≡ end.status }
+        ensures note { result.note ≡ end.note }
+        ensures flash { result.flash ≡ device self.powered }
+        ensures journal { result.journal ≡ self.journal }
+    {
+        let Run {
+            powered,
+            journal,
+            ..
+        } = self;
+        Done {
+            status: end.status,
+            note: end.note,
+            flash: powered.into_flash(),
+            journal,
+        }
+    }
 }
 
 /// How a run stands: at the status 0 it goes on, and else it ends.
@@ -143,26 +163,6 @@ pub fn do_call<D: Flash, H: Files, V: Verifier>(
     end
 }
 
-/// What is left of a run that ended.
-pub fn done<D: Flash>(run: Run<D>, end: End) -> Done<D>
-    ensures status { result.status ≡ end.status }
-    ensures note { result.note ≡ end.note }
-    ensures flash { result.flash ≡ device run.powered }
-    ensures journal { result.journal ≡ run.journal }
-{
-    let Run {
-        powered,
-        journal,
-        ..
-    } = run;
-    Done {
-        status: end.status,
-        note: end.note,
-        flash: powered.into_flash(),
-        journal,
-    }
-}
-
 /// Does the calls of a script in their order, and puts the line of each into the sink. A turn that the flash failed, that found
 /// nothing to boot, or whose file could not be read ends the run after its line, and so does a line that the sink did not take. The
 /// room is for all turns. No bank was started on the flash.
@@ -203,8 +203,8 @@ pub fn run_script<D: Flash, H: Files, O: Sink, V: Verifier>(
         let status = put_line(sink, run.text.as_slice(), end.status);
         if status != 0 {
             let note = end.note;
-            return done(run, End { status, note });
+            return run.into_done(End { status, note });
         }
     }
-    done(run, GOES_ON)
+    run.into_done(GOES_ON)
 }

@@ -7,7 +7,7 @@ pub returns-clause-ended : goal.returns-clause-ended
 returns-clause-ended g c all calls old stands =
     let e = c.print_end-status.ensures in
     let text = c.as_slice.ensures.value in
-    rw c.done.ensures.journal (rw c.done.ensures.status (rw c.done.ensures.note
+    rw c.into_done.ensures.journal (rw c.into_done.ensures.status (rw c.into_done.ensures.note
     (ends-by _ all c.args.rounds calls _ old _ _ _ _ _ _ _ _ _ e.goes e.starved (λ nine. ap g.O.Sink.taken (e.untouched nine))
     (λ nine. ap g.O.Sink.faults (e.untouched nine))
     e.failed

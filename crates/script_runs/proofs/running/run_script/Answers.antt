@@ -74,20 +74,20 @@ returns-then-status-ne0-clause-ran g c =
     let to = g.H.Files.faults c.do_call-end.new.files in
     let m = c.do_call-end.new.run.powered in (
       shown_on m,
-      subst (λ (x : g.row.D.Denot). Ran passes g.D.Flash.tells files (turns c.done.result.journal) old (at (shown_on m) (g.D.Flash.told x) (g.D.Flash.counts x) (g.D.Flash.arming x) (g.D.Flash.on x)) from to) (sym c.done.ensures.flash)
-          (subst (λ (j : Journal). Ran passes g.D.Flash.tells files (turns j) old (at (shown_on m) (g.D.Flash.told (device m)) (g.D.Flash.counts (device m)) (g.D.Flash.arming (device m)) (g.D.Flash.on (device m))) from to) (sym c.done.ensures.journal)
+      subst (λ (x : g.row.D.Denot). Ran passes g.D.Flash.tells files (turns c.into_done.result.journal) old (at (shown_on m) (g.D.Flash.told x) (g.D.Flash.counts x) (g.D.Flash.arming x) (g.D.Flash.on x)) from to) (sym c.into_done.ensures.flash)
+          (subst (λ (j : Journal). Ran passes g.D.Flash.tells files (turns j) old (at (shown_on m) (g.D.Flash.told (device m)) (g.D.Flash.counts (device m)) (g.D.Flash.arming (device m)) (g.D.Flash.on (device m))) from to) (sym c.into_done.ensures.journal)
           (ends-ran _ _ _ _ _ _ _ _ c.loop-index.index (shown c.take-call.result) _ _ _ _ _ _ _ _ _ _ _ _ refl c.loop-index.invariant.goes (steps-told _ _ _ _ _ _ _ _ _ _ _ _ _ _ _ _ _ c.loop-index.invariant.same_files (steps-printed c.do_call-end.ensures.does c.as_slice.ensures.value c.put_line-status.ensures)))),
     )
 
 pub returns-then-status-ne0-clause-ended : goal.returns-then-status-ne0-clause-ended
 returns-then-status-ne0-clause-ended g c =
     let at_call : slice_get c.args.ready.script c.loop-index.index ≡ Some (shown c.take-call.result) = sym (c.loop-index.invariant.calls_left c.loop-index.index (omega arith)) ∙ c.take-call.ensures.call in
-    rw c.done.ensures.journal (rw c.done.ensures.status (rw c.done.ensures.note
+    rw c.into_done.ensures.journal (rw c.into_done.ensures.status (rw c.into_done.ensures.note
     (ends-by _ _ _ _ _ _ _ _ c.loop-index.index (shown c.take-call.result) _ _ _ _ _ _ _ _ _ _ _ _ c.loop-index.invariant.goes at_call (steps-told _ _ _ _ _ _ _ _ _ _ _ _ _ _ _ _ _ c.loop-index.invariant.same_files (steps-printed c.do_call-end.ensures.does c.as_slice.ensures.value c.put_line-status.ensures)) c.if-status-ne0.true)))
 
 pub returns-then-status-ne0-clause-printed : goal.returns-then-status-ne0-clause-printed
 returns-then-status-ne0-clause-printed g c =
-    rw c.done.ensures.journal (rw c.done.ensures.status
+    rw c.into_done.ensures.journal (rw c.into_done.ensures.status
     (ends-printed _ _ _ _ _ _ _ _ c.loop-index.index (shown c.take-call.result) _ _ _ _ _ _ _ _ _ _ _ _ c.loop-index.invariant.goes (steps-told _ _ _ _ _ _ _ _ _ _ _ _ _ _ _ _ _ c.loop-index.invariant.same_files (steps-printed c.do_call-end.ensures.does c.as_slice.ensures.value c.put_line-status.ensures))))
 
 pub returns-then-status-ne0-clause-files : goal.returns-then-status-ne0-clause-files
@@ -98,19 +98,19 @@ returns-then-status-ne0-clause-files g c = λ none.
 pub returns-clause-ended : goal.returns-clause-ended
 returns-clause-ended g c =
     let end : c.loop-index.index ≡ length c.args.ready.script = omega (arith, c.loop-index-test.false, c.loop-index.auto.index-end, c.len-index-end.ensures) in
-    rw c.done-2.ensures.journal (rw c.done-2.ensures.status (rw c.done-2.ensures.note (all-ended _ _ _ _ _ _ _ _ _ _ _ _ _ (rw end at c.loop-index.invariant.goes))))
+    rw c.into_done-2.ensures.journal (rw c.into_done-2.ensures.status (rw c.into_done-2.ensures.note (all-ended _ _ _ _ _ _ _ _ _ _ _ _ _ (rw end at c.loop-index.invariant.goes))))
 
 pub returns-clause-printed : goal.returns-clause-printed
 returns-clause-printed g c =
     let end : c.loop-index.index ≡ length c.args.ready.script = omega (arith, c.loop-index-test.false, c.loop-index.auto.index-end, c.len-index-end.ensures) in
-    rw c.done-2.ensures.journal (rw c.done-2.ensures.status (all-printed _ _ _ _ _ _ _ _ _ _ _ _ _ (rw end at c.loop-index.invariant.goes)))
+    rw c.into_done-2.ensures.journal (rw c.into_done-2.ensures.status (all-printed _ _ _ _ _ _ _ _ _ _ _ _ _ (rw end at c.loop-index.invariant.goes)))
 
 pub returns-then-status-ne0-clause-unsent : goal.returns-then-status-ne0-clause-unsent
 returns-then-status-ne0-clause-unsent g c = λ none.
     let step = steps-printed c.do_call-end.ensures.does c.as_slice.ensures.value c.put_line-status.ensures in
-    let still = subst (λ (j : Journal). IsTrue (sends_none (calls_of (turns j)))) c.done.ensures.journal none in
+    let still = subst (λ (j : Journal). IsTrue (sends_none (calls_of (turns j)))) c.into_done.ensures.journal none in
     let parts = sends-more (turns c.loop-index.run.journal) _ step.turn step.kept still in
     c.do_call-end.ensures.files (subst (λ (x : Call). IsFalse (is_send x)) step.turns.call_is parts.1) ∙ c.loop-index.invariant.unsent parts.0
 
 pub returns-clause-unsent : goal.returns-clause-unsent
-returns-clause-unsent g c = λ none. c.loop-index.invariant.unsent (subst (λ (j : Journal). IsTrue (sends_none (calls_of (turns j)))) c.done-2.ensures.journal none)
+returns-clause-unsent g c = λ none. c.loop-index.invariant.unsent (subst (λ (j : Journal). IsTrue (sends_none (calls_of (turns j)))) c.into_done-2.ensures.journal none)
