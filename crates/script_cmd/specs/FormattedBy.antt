@@ -11,7 +11,6 @@ use Rattle.fip_tables.specs.Files.{Lacks, Tells}
 use Rattle.flash_format.specs.Choosing.{refusal}
 use Rattle.flash_format.specs.Formatted.{IsBlank}
 use Rattle.script_runs.specs.Ending.{Device, Ending, World}
-use Rattle.script_runs.specs.Noted.{noted}
 use Rattle.script_cmd.specs.Granted.{IsGranted, RefusesBadList}
 use Rattle.script_runs.specs.Ways.{Given}
 use Rattle.script_runs.specs.declared.done.Note.{Note}

@@ -1,5 +1,5 @@
 -- What the command `show` promises, whichever way it ends.
-use Rattle.std.specs.Prelude.{◌≡◌, ◌⊎◌, ℕ, [], Bool, List, Option, Some, None, Ok, IsTrue}
+use Rattle.std.specs.Prelude.{◌≡◌, ◌⊎◌, ℕ, [], Bool, List, Option, None, Ok, IsTrue}
 use Rattle.flash_core.specs.Told.{NothingDirty}
 use Rattle.fwu_formats.specs.Layout.{Layout}
 use Rattle.fwu_formats.specs.Image.{layout_seen, deciding}
