@@ -7,7 +7,8 @@ use fip_tool::fip_top;
 use flash_core::Flash;
 use flash_devices::MemoryFlash;
 use host_io::{Files, MemoryFiles, MemorySink, MemorySource};
-use script_cmd::{Done, fwu_top};
+use script_cmd::fwu_top;
+use script_runs::Done;
 use std::alloc::Global;
 
 /// How many blocks the blank flash has.

@@ -18,38 +18,48 @@ use Rattle.fwu_words.specs.declared.orders.ScriptFrom.TheVariants as origin
 use Rattle.host_io.specs.Contents.{Directory}
 use Rattle.script_turns.specs.Powered.{Moment}
 use Rattle.script_cmd.specs.Answered.{Answered}
-use Rattle.script_cmd.specs.Asking.{asks_beyond, asks_files, asks_run, asks_source, leaves_on, plainly}
-use Rattle.script_cmd.specs.Formatting.{FormattedBy}
-use Rattle.script_cmd.specs.Noted.{is_beyond, noted}
+use Rattle.script_cmd.specs.Asking.{asks_beyond, asks_files, asks_run, asks_source, leaves_on, RunsOrNone, over_table}
+use Rattle.script_runs.specs.Refusing.{plainly, plain_of, text_of}
+use Rattle.script_cmd.specs.FormattedBy.{FormattedBy}
+use Rattle.script_runs.specs.Noted.{is_beyond, noted}
 use Rattle.script_cmd.specs.Promises.{given_to}
 use Rattle.host_io.specs.Printed.{Prints}
 use Rattle.script_turns.specs.Runs.{calls_of, sends_none}
-use Rattle.script_cmd.specs.Refusing.{plain_of, text_of}
 use Rattle.script_cmd.specs.ServeWays.{ServeWay}
 use Rattle.script_cmd.specs.ServeWays as serve
-use Rattle.script_cmd.specs.Showing.{ShowedBy}
-use Rattle.script_cmd.specs.SoakWays.{SoakWay}
-use Rattle.script_cmd.specs.SoakWays as soak
-use Rattle.script_cmd.specs.Sourced.{FailsOnce, ReadsInTime}
-use Rattle.script_cmd.specs.Ways.{ByList, HasGoodList, Refuses, RunsOrNone, Way}
-use Rattle.script_cmd.specs.Ways as way
-use Rattle.script_cmd.specs.WaysByTable.{WayAt, WayByTable, over_table}
-use Rattle.script_cmd.specs.declared.done.Note.{Note}
-use Rattle.script_cmd.specs.declared.done.Note.TheVariants as note
+use Rattle.script_cmd.specs.ShowedBy.{ShowedBy}
+use Rattle.flash_commands.specs.SoakWays.{SoakWay}
+use Rattle.flash_commands.specs.SoakWays as soak
+use Rattle.script_runs.specs.Sourced.{FailsOnce, ReadsInTime}
+use Rattle.script_cmd.specs.ByList.{ByList}
+use Rattle.script_runs.specs.Ways.{HasGoodList, Refuses, Way}
+use Rattle.script_runs.specs.Ways as way
+use Rattle.script_runs.specs.WaysByTable.{WayAt, WayByTable}
+use Rattle.script_runs.specs.declared.done.Note.{Note}
+use Rattle.script_runs.specs.declared.done.Note.TheVariants as note
 use Rattle.script_cmd.proofs.ServeTop.{refused-serves, serves-with-list}
-use Rattle.script_cmd.proofs.Shapes.{Later, device-of, end-of, inputs-of, world-of}
+use Rattle.script_cmd.proofs.Inputs.{Later, inputs-of}
+use Rattle.script_runs.proofs.Shapes.{device-of, end-of, world-of}
 use Rattle.script_cmd.proofs.SoakTop.{refused-soaks, soaks-with-list}
-use Rattle.script_cmd.proofs.TableWays.{not-over, table-refused, table-starved, table-with-list}
+use Rattle.script_runs.proofs.TableWays.{table-refused, table-starved, table-with-list}
 use Rattle.script_cmd.proofs.TopFormats.{formats-with-list, none-some, refused-formats, starved-formats}
-use Rattle.script_cmd.proofs.TopPrints.{not-done}
+use Rattle.script_runs.proofs.TopPrints.{not-done}
 use Rattle.script_cmd.proofs.TopShows.{refused-shows, shows-with-list, starved-shows}
-use Rattle.script_cmd.proofs.TopSources.{none-fails, unread-in-time}
-use Rattle.script_cmd.proofs.TopWays.{no-list-named, refused-by, with-list}
+use Rattle.script_runs.proofs.TopSources.{none-fails, unread-in-time}
+use Rattle.script_cmd.proofs.TopLists.{no-list-named}
+use Rattle.script_runs.proofs.TopWays.{refused-by, with-list}
 
 -- what holds whichever manifests pass
 pub whichever : (Has : (List ℕ → Bool) → Type 0) (Idle : Type 0) (P : (List ℕ → Bool) → Type 0) (Q : Type 0) → ByList Has Idle P → ((passes : List ℕ → Bool) → P passes → Q) → Q
 whichever Has Idle P Q (inl (passes, has, p)) goes = goes passes p
 whichever Has Idle P Q (inr (idle, all)) goes = goes passes_any (all passes_any)
+
+-- other words ask for no flash behind a table
+pub not-over : (asked other : Option Asked) (plain : Asked) → asked ≡ other → over_table other ≡ None → over_table asked ≡ Some plain → ⊥
+not-over asked other plain is none over = none-plain plain (sym none ∙ ap over_table (sym is) ∙ over)
+  where
+    none-plain : (a : Asked) → None ≡ Some a → ⊥
+    none-plain a e = cc
 
 -- ---- what is asked for where turns are
 

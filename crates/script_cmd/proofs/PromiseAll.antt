@@ -1,8 +1,9 @@
 -- All that a run promises, whichever way it ended.
 use Rattle.std.proofs.Common.{ℕ, Bool, List}
 use Rattle.fwu_model.specs.declared.kinds.Note.{Note}
-use Rattle.script_cmd.specs.Ending.{Ending, World}
-use Rattle.script_cmd.specs.Ways.{Inputs, Way}
+use Rattle.script_runs.specs.Ending.{Ending, World}
+use Rattle.script_cmd.specs.Handed.{Inputs}
+use Rattle.script_runs.specs.Ways.{Way}
 use Rattle.script_cmd.specs.Promises.{given_to, Promised}
 use Rattle.script_cmd.proofs.PromiseHeadline.{ways-keep-the-headline}
 use Rattle.script_cmd.proofs.PromiseWritten.{ways-write}

@@ -29,16 +29,17 @@ use Rattle.early_boot.specs.EndsBy.{Chose}
 use Rattle.host_io.specs.Contents.{Directory}
 use Rattle.fwu_words.specs.Order.{Asked}
 use Rattle.fwu_words.specs.Order as ask
-use Rattle.script_cmd.specs.Asking.{plainly}
+use Rattle.script_runs.specs.Refusing.{plainly}
 use Rattle.script_turns.specs.Booted.{BootsFrom, ChoseBank, ChoseNone}
 use Rattle.script_cmd.specs.BootWord.{BootsBy}
 use Rattle.script_turns.specs.Powered.{Moment, at}
-use Rattle.script_cmd.specs.Running.{Ended, status_of_last, note_of_last, last_turn}
+use Rattle.script_runs.specs.Running.{Ended, status_of_last, note_of_last, last_turn}
 use Rattle.script_turns.specs.Runs.{Ran, calls_of}
-use Rattle.script_cmd.specs.Ways.{Given, Refuses, usage, not_read, list_not_read, too_long, bad_script, bad_list, starved, refused, ran}
+use Rattle.script_runs.specs.Ways.{Given, Refuses, usage, not_read, list_not_read, too_long, bad_script, bad_list, starved, refused, ran}
 use Rattle.script_cmd.specs.Promises.{given_to, WaysBoot}
-use Rattle.script_cmd.proofs.PromiseTurns.{by-plan, some-at}
-use Rattle.script_cmd.proofs.PromiseWords.{boot-is-script, boot-script, same-calls}
+use Rattle.script_runs.proofs.TopPrints.{by-plan}
+use Rattle.script_cmd.proofs.PromiseTurns.{some-at}
+use Rattle.script_runs.proofs.PromiseWords.{boot-is-script, boot-script, same-calls}
 
 same-Ok : (x y : Layout) → ◌≡◌ {A = Result Layout LayoutFault} (Ok x) (Ok y) → x ≡ y
 same-Ok x y e = cc

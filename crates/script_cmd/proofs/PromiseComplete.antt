@@ -2,7 +2,7 @@
 use Rattle.std.proofs.Common.{ℕ, List, Option, subst}
 use Rattle.fwu_model.specs.Causes.{EndsAs}
 use Rattle.fwu_model.proofs.Complete.{runs-are-complete}
-use Rattle.script_cmd.specs.Asking.{plainly}
+use Rattle.script_runs.specs.Refusing.{plainly}
 use Rattle.script_cmd.specs.Promises.{given_to, outcome, WaysAreComplete}
 use Rattle.script_cmd.proofs.PromiseHeadline.{ways-keep-the-headline, sound-start}
 use Rattle.script_cmd.proofs.PromiseEnds.{ways-end}

@@ -18,18 +18,18 @@ use Rattle.fwu_model.specs.Causes.{EndsAs, Faults, LossesAreCounted, LacksList, 
 use Rattle.fwu_model.specs.Causes as noted_alone
 use Rattle.host_io.specs.Contents.{Directory}
 use Rattle.fwu_words.specs.Order.{Asked}
-use Rattle.script_cmd.specs.Asking.{plainly}
+use Rattle.script_runs.specs.Refusing.{plainly}
 use Rattle.script_turns.specs.Powered.{Moment, at}
-use Rattle.script_cmd.specs.Ending.{Ending, World}
+use Rattle.script_runs.specs.Ending.{Ending, World}
 use Rattle.host_io.specs.Printed.{Prints, all, front, nothing}
-use Rattle.script_cmd.specs.Running.{Ended, Printed, status_of_last, note_of_last, last_turn}
+use Rattle.script_runs.specs.Running.{Ended, Printed, status_of_last, note_of_last, last_turn}
 use Rattle.script_turns.specs.Runs.{Ran}
-use Rattle.script_cmd.specs.Ways.{Given, HasGoodList, AsksTurns, HasCalls, Refuses, usage, not_read, list_not_read, too_long, bad_script, bad_list, starved, refused, ran}
+use Rattle.script_runs.specs.Ways.{Given, HasGoodList, AsksTurns, HasCalls, Refuses, usage, not_read, list_not_read, too_long, bad_script, bad_list, starved, refused, ran}
 use Rattle.script_cmd.specs.Promises.{EndsHold, WaysEnd}
-use Rattle.script_cmd.proofs.PromiseWords.{asks-none, asks-turns, asks-run, same-calls}
-use Rattle.script_cmd.proofs.TopPrints.{raised-rose}
+use Rattle.script_runs.proofs.PromiseWords.{asks-none, asks-turns, asks-run, same-calls}
+use Rattle.script_runs.proofs.TopPrints.{raised-rose, printed-plan, by-plan, printed-rose}
 use Rattle.script_turns.proofs.RunTurns.{not-read-around}
-use Rattle.script_cmd.proofs.PromiseTurns.{last-get, is_ran, none-ended, ran-at, ran-status, lack-cases, printed-plan, by-plan, printed-rose, some-from, some-at}
+use Rattle.script_cmd.proofs.PromiseTurns.{last-get, is_ran, none-ended, ran-at, ran-status, lack-cases, some-from, some-at}
 
 -- ---- no turn
 

@@ -24,15 +24,16 @@ use Rattle.fwu_model.proofs.Frame.{calm-stays, start-is-calm}
 use Rattle.fwu_model.proofs.Selects.{runs-select}
 use Rattle.fwu_formats.proofs.Read.{layout-fits}
 use Rattle.fwu_words.specs.Order.{Asked}
-use Rattle.script_cmd.specs.Asking.{plainly}
+use Rattle.script_runs.specs.Refusing.{plainly}
 use Rattle.script_turns.specs.Powered.{Moment, Shows, at}
-use Rattle.script_cmd.specs.Running.{Ended}
+use Rattle.script_runs.specs.Running.{Ended}
 use Rattle.script_turns.specs.Runs.{Ran, StartsSound, calls_of}
-use Rattle.script_cmd.specs.Ways.{HasCalls, starved, refused, ran}
+use Rattle.script_runs.specs.Ways.{HasCalls, starved, refused, ran}
 use Rattle.script_cmd.specs.Promises.{given_to, HeadlineHolds, WaysKeepTheHeadline, outcome}
-use Rattle.script_cmd.proofs.Shapes.{end-of, inputs-of, world-of}
-use Rattle.script_cmd.proofs.PromiseWords.{boot-is-script, same-calls}
-use Rattle.script_cmd.proofs.PromiseTurns.{printed-plan}
+use Rattle.script_runs.proofs.Shapes.{end-of, world-of}
+use Rattle.script_cmd.proofs.Inputs.{inputs-of}
+use Rattle.script_runs.proofs.PromiseWords.{boot-is-script, same-calls}
+use Rattle.script_runs.proofs.TopPrints.{printed-plan}
 use Rattle.script_cmd.proofs.PromiseEnds.{why-planned}
 
 -- ---- the calls

@@ -11,10 +11,10 @@ use Rattle.agent_machine.specs.Fields.{Fields}
 use Rattle.host_io.specs.Contents.{Directory}
 use Rattle.script_turns.specs.Powered.{IsSafe, Moment, SameDevice, at}
 use Rattle.script_turns.specs.Runs.{Ran, RunsFree}
-use Rattle.script_cmd.specs.Ending.{Ending, World}
-use Rattle.script_cmd.specs.Ways.{Given, Way, starved, refused, ran}
+use Rattle.script_runs.specs.Ending.{Ending, World}
+use Rattle.script_runs.specs.Ways.{Given, Way, starved, refused, ran}
 use Rattle.script_cmd.specs.Promises.{LeavesDevice, RanHolds, WaysBootFirst, WaysGuard, WaysLeaveTheDevice, WaysReply}
-use Rattle.script_cmd.proofs.ShowFlash.{clean-sure}
+use Rattle.flash_commands.proofs.ShowFlash.{clean-sure}
 
 -- ---- the device
 

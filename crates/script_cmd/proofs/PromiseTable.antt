@@ -18,23 +18,24 @@ use Rattle.fwu_model.specs.Sound.{Setting}
 use Rattle.fwu_model.specs.Causes.{IsServed}
 use Rattle.fwu_model.specs.Contract.{Premises}
 use Rattle.fwu_model.specs.Headline.{Headline, made_after}
-use Rattle.script_cmd.specs.declared.done.Note.{Note}
-use Rattle.script_cmd.specs.Asking.{plainly}
-use Rattle.script_cmd.specs.ByTable.{Starts, StopsMending, Wakes, lacked_by, lacked_in, lacked_of, seen_at}
-use Rattle.script_cmd.specs.Noted.{noted}
+use Rattle.script_runs.specs.declared.done.Note.{Note}
+use Rattle.script_runs.specs.Refusing.{plainly}
+use Rattle.script_runs.specs.ByTable.{Starts, StopsMending, Wakes, lacked_by, lacked_in, lacked_of, seen_at}
+use Rattle.script_runs.specs.Noted.{noted}
 use Rattle.script_turns.specs.Powered.{Moment}
 use Rattle.script_cmd.specs.Promises.{given_to, outcome}
 use Rattle.script_cmd.specs.PromisesByTable.{CompleteByTable, HeadlineByTable, KeepsFlash, KeptByTable, PromisedByTable, RunsByTable, TableGives}
-use Rattle.script_cmd.specs.Ending.{Device, Ending, World, in_model}
-use Rattle.script_cmd.specs.Ways.{Inputs, Way}
-use Rattle.script_cmd.specs.Ways as way
-use Rattle.script_cmd.specs.WaysByTable.{WayByTable, untouched, starved, lacked, stopped, ran}
+use Rattle.script_runs.specs.Ending.{Device, Ending, World, in_model}
+use Rattle.script_cmd.specs.Handed.{Inputs}
+use Rattle.script_runs.specs.Ways.{Way}
+use Rattle.script_runs.specs.Ways as way
+use Rattle.script_runs.specs.WaysByTable.{WayByTable, untouched, starved, lacked, stopped, ran}
 use Rattle.script_cmd.proofs.PromiseAll.{promised}
 use Rattle.script_cmd.proofs.PromiseTurns.{none-ended}
 use Rattle.script_cmd.proofs.PromiseComplete.{ways-are-complete}
-use Rattle.script_cmd.proofs.TableOpens.{woken-clean, woken-now, woken-same}
+use Rattle.script_runs.proofs.TableOpens.{woken-clean, woken-now, woken-same}
 use Rattle.script_turns.proofs.RunTurns.{rose-before}
-use Rattle.script_cmd.proofs.TableWays.{not-nothing}
+use Rattle.script_runs.proofs.TableWays.{not-nothing}
 
 same-pair : (t u : Table) (w x : WhichTable) → ◌≡◌ {A = Option (Table × WhichTable)} (Some (t, w)) (Some (u, x)) → t ≡ u
 same-pair t u w x is = ap (λ (o : Option (Table × WhichTable)). of o) is

@@ -1,16 +1,13 @@
 -- The last turn of a run, and the statuses that a run of turns and a run that did nothing end with.
-use Rattle.std.proofs.Common.{◌≡◌, ◌≢◌, ℕ, suc, ◌-◌, Bool, ◌||◌, ◌==◌, List, [], ◌∷◌, length, Option, Some, None, slice_get, refl, sym, ap, subst, ◌∙◌, arith, inl, inr, ◌⊎◌, IsTrue, IsFalse, IfSome, eqb-true}
+use Rattle.std.proofs.Common.{◌≡◌, ◌≢◌, ℕ, suc, ◌-◌, Bool, ◌||◌, ◌==◌, List, [], ◌∷◌, length, Option, Some, None, slice_get, refl, sym, ap, subst, ◌∙◌, arith, inl, inr, ◌⊎◌, IsTrue, IfSome, eqb-true}
 use Rattle.std.proofs.lemmas.Bool.{cases_Bool, or_cases, false≢true}
-use Rattle.base_core.specs.Counts.{Rose}
 use Rattle.fwu_model.specs.Reply.{Reply, Turn}
 use Rattle.fwu_model.specs.Reply as reply
 use Rattle.fwu_model.specs.declared.kinds.Note.{Note}
 use Rattle.fwu_model.specs.Wrote.{may_lack, ends_early}
 use Rattle.fwu_model.specs.Causes.{status_by}
-use Rattle.host_io.specs.Printed.{Prints, all, front, nothing}
-use Rattle.script_cmd.specs.Running.{status_of_last, last_turn, Ended}
+use Rattle.script_runs.specs.Running.{status_of_last, last_turn, Ended}
 use Rattle.fwu_model.specs.Call.{Call}
-use Rattle.script_cmd.proofs.TopPrints.{raised-rose}
 
 -- ---- the last turn
 
@@ -76,26 +73,6 @@ early-not-ran status early is =
         ]
       ]
     ]
-
--- ---- what printing makes of a status
-
--- at no other status than 3 and 9 the line was printed
-pub printed-plan : (piece : List ℕ) (plan status : ℕ) (old new : Option (List ℕ)) (faults_before faults_after : ℕ) → Prints piece plan status old new faults_before faults_after → IsFalse (may_lack status) → status ≡ plan
-printed-plan piece plan status old new faults_before faults_after (all is bytes later) lacks = is
-printed-plan piece plan status old new faults_before faults_after (front is n bytes later rose) lacks = absurd (false≢true (sym (subst (λ (k : ℕ). IsFalse (may_lack k)) is lacks)))
-printed-plan piece plan status old new faults_before faults_after (nothing is same later) lacks = absurd (false≢true (sym (subst (λ (k : ℕ). IsFalse (may_lack k)) is lacks)))
-
--- a status is the planned one, or one that a sink gives: what holds of these holds of it
-pub by-plan : (piece : List ℕ) (plan status : ℕ) (old new : Option (List ℕ)) (faults_before faults_after : ℕ) → Prints piece plan status old new faults_before faults_after
-    → (f : ℕ → Bool) → IsTrue (f 3) → IsTrue (f 9) → IsTrue (f plan) → IsTrue (f status)
-by-plan piece plan status old new faults_before faults_after (all is bytes later) f three nine h = subst (λ (k : ℕ). IsTrue (f k)) (sym is) h
-by-plan piece plan status old new faults_before faults_after (front is n bytes later rose) f three nine h = subst (λ (k : ℕ). IsTrue (f k)) (sym is) three
-by-plan piece plan status old new faults_before faults_after (nothing is same later) f three nine h = subst (λ (k : ℕ). IsTrue (f k)) (sym is) nine
-
-pub printed-rose : (piece : List ℕ) (plan status : ℕ) (old new : Option (List ℕ)) (faults_before faults_after : ℕ) → Prints piece plan status old new faults_before faults_after → plan ≢ 3 → status ≡ 3 → Rose faults_before faults_after
-printed-rose piece plan status old new faults_before faults_after (all is bytes later) other three = absurd (other (sym is ∙ three))
-printed-rose piece plan status old new faults_before faults_after (front is n bytes later once) other three = raised-rose faults_before faults_after once
-printed-rose piece plan status old new faults_before faults_after (nothing is same later) other three = absurd (omega arith)
 
 -- ---- what is said of a value where there is one
 

@@ -12,12 +12,12 @@ use Rattle.fwu_model.specs.Allow.{list_bytes}
 use Rattle.fwu_model.specs.Causes.{Faults}
 use Rattle.fwu_model.specs.Wrote.{Wrote, StopsAlone, may_lack, not_read_line, usage_line, too_long_line, bad_script_line, bad_list_line, IsBadScript, IsBadList}
 use Rattle.fwu_words.specs.Order.{Asked}
-use Rattle.script_cmd.specs.Ending.{World}
+use Rattle.script_runs.specs.Ending.{World}
 use Rattle.host_io.specs.Printed.{Prints, all, front, nothing}
-use Rattle.script_cmd.specs.Running.{Writes}
-use Rattle.script_cmd.specs.Ways.{Given, Refuses, usage, not_read, list_not_read, too_long, bad_script, bad_list, starved, refused, ran}
+use Rattle.script_runs.specs.Running.{Writes}
+use Rattle.script_runs.specs.Ways.{Given, Refuses, usage, not_read, list_not_read, too_long, bad_script, bad_list, starved, refused, ran}
 use Rattle.script_cmd.specs.Promises.{WroteHolds, WaysWrite}
-use Rattle.script_cmd.proofs.Shapes.{end-of}
+use Rattle.script_runs.proofs.Shapes.{end-of}
 use Rattle.script_cmd.proofs.PromiseTurns.{is_ran, none-ended, ran-at, ran-status, early-not-ran}
 
 pub appended : (old new : Option (List ℕ)) (piece before : List ℕ) → old ≡ Some before → Appends old new piece → new ≡ Some (before ++ piece)

@@ -35,7 +35,7 @@ use Rattle.serving.specs.declared.ends.ServeEnd.TheVariants as end
 use Rattle.serving.proofs.Snoc.{frame-last, length-messages, messages-more}
 use Rattle.script_cmd.specs.ServedBy.{last_frame}
 use Rattle.script_cmd.proofs.PromiseTurns.{some-from}
-use Rattle.script_cmd.proofs.TopPrints.{later}
+use Rattle.script_runs.proofs.TopPrints.{later}
 
 -- ---- the ends
 

@@ -24,16 +24,18 @@ use Rattle.fwu_model.specs.declared.kinds.Note.{Note}
 use Rattle.fwu_model.proofs.Complete.{runs-boot}
 use Rattle.fwu_words.specs.Order as ask
 use Rattle.script_turns.specs.Runs.{calls_of}
-use Rattle.script_cmd.specs.Ending.{Ending, World}
+use Rattle.script_runs.specs.Ending.{Ending, World}
 use Rattle.script_cmd.specs.Promises.{RanHolds}
 use Rattle.script_cmd.specs.ServeWays.{ServeWay, ServesSource, Unread, left_at, list_refused, note_of, served, sink_of, starved}
 use Rattle.script_cmd.specs.ServedBy.{ServedBy, ServedComplete, ServedEnds, ServedHeadline, ServedWrites, TakesAtMost, WroteFrames, WroteLine, may_end_serving}
-use Rattle.script_cmd.specs.Showing.{RefusesBadList}
-use Rattle.script_cmd.specs.Ways.{Given, Refuses, bad_list, bad_script, list_not_read, may_lack_list, not_read, too_long, usage}
+use Rattle.script_cmd.specs.Granted.{RefusesBadList}
+use Rattle.script_runs.specs.Ways.{Given, Refuses, bad_list, bad_script, list_not_read, not_read, too_long, usage}
+use Rattle.script_cmd.specs.ByList.{may_lack_list}
 use Rattle.script_cmd.proofs.PromiseEnds.{refused-ends}
 use Rattle.script_cmd.proofs.PromiseHeadline.{idle-head, ran-head, sound-start}
 use Rattle.script_cmd.proofs.PromiseRan.{idle-holds, ran-holds}
-use Rattle.script_cmd.proofs.PromiseTurns.{by-plan, some-from}
+use Rattle.script_runs.proofs.TopPrints.{by-plan}
+use Rattle.script_cmd.proofs.PromiseTurns.{some-from}
 use Rattle.script_cmd.proofs.PromiseWritten.{appended}
 use Rattle.script_cmd.proofs.ServeAccount.{Account, account, end-at-three}
 use Rattle.script_cmd.proofs.TopCompletes.{granted}

@@ -16,11 +16,11 @@ use Rattle.serving.specs.Scene.{port, scene}
 use Rattle.serving.specs.Starting.{Serves}
 use Rattle.serving.specs.declared.ends.ServeEnd.{ServeEnd}
 use Rattle.script_turns.specs.Powered.{Moment, at}
-use Rattle.script_cmd.specs.Ending.{World}
+use Rattle.script_runs.specs.Ending.{World}
 use Rattle.script_cmd.specs.ServeWays.{ServeWay, ServesSource, list_refused, served, sink_of, starved}
-use Rattle.script_cmd.specs.Ways.{HasGoodList, Given, Refuses}
-use Rattle.script_cmd.proofs.Shapes.{end-of, world-of}
-use Rattle.script_cmd.proofs.TopWays.{refuses}
+use Rattle.script_runs.specs.Ways.{HasGoodList, Given, Refuses}
+use Rattle.script_runs.proofs.Shapes.{end-of, world-of}
+use Rattle.script_runs.proofs.TopWays.{refuses}
 
 -- a list was refused, and nothing else was done
 pub refused-serves : (passes : List ℕ → Bool) (tells : Bool) (g : Given) (old new : Moment) (status : ℕ) (noted : Note) (journal : List Turn) (taken_before taken_after : Option (List ℕ)) (faults_before faults_after : Faults) (planned : ℕ) (line : List ℕ) (n : Note)

@@ -1,10 +1,10 @@
 -- What was answered is served.
 use Rattle.std.proofs.Common.{ℕ, Bool, List, Option}
 use Rattle.script_cmd.specs.Answered.{Answered}
-use Rattle.script_cmd.specs.Ending.{Device, Ending, World}
+use Rattle.script_runs.specs.Ending.{Device, Ending, World}
 use Rattle.script_cmd.specs.Serves.{Serves}
-use Rattle.script_cmd.specs.Ways.{Inputs}
-use Rattle.script_cmd.specs.declared.done.Note.{Note}
+use Rattle.script_cmd.specs.Handed.{Inputs}
+use Rattle.script_runs.specs.declared.done.Note.{Note}
 use Rattle.script_cmd.proofs.PromiseAll.{promised}
 use Rattle.script_cmd.proofs.PromiseTable.{promised-by-table}
 use Rattle.script_cmd.proofs.SinkCounts.{answered-counts}

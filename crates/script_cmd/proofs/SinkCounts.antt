@@ -13,25 +13,27 @@ use Rattle.fwu_words.specs.Order.{Asked}
 use Rattle.fwu_words.specs.Order as ask
 use Rattle.gen_core.specs.Line.{soak_line, too_small_line}
 use Rattle.script_cmd.specs.Answered.{Answered}
-use Rattle.script_cmd.specs.ByTable.{flash_fault_line, no_table_line}
-use Rattle.script_cmd.specs.Ending.{Device, Ending, World, in_model}
-use Rattle.script_cmd.specs.Formatting.{Formats, format_status, format_text}
-use Rattle.script_cmd.specs.Formatting as format
+use Rattle.script_runs.specs.ByTable.{flash_fault_line, no_table_line}
+use Rattle.script_runs.specs.Ending.{Device, Ending, World, in_model}
+use Rattle.flash_commands.specs.Formatting.{Formats, format_status, format_text}
+use Rattle.flash_commands.specs.Formatting as format
 use Rattle.host_io.specs.Printed.{FailsAtThree}
 use Rattle.script_cmd.specs.Promises.{given_to}
 use Rattle.script_cmd.specs.ServeWays.{ServeWay}
 use Rattle.script_cmd.specs.ServeWays as serve
-use Rattle.script_cmd.specs.Showing.{Finds, RefusedList, Showed}
-use Rattle.script_cmd.specs.Showing as show
-use Rattle.script_cmd.specs.SoakWays.{SoakEnds, SoakWay}
-use Rattle.script_cmd.specs.SoakWays as soak
-use Rattle.script_cmd.specs.Soaking.{stop_line}
-use Rattle.script_cmd.specs.Ways.{Given, Inputs, Refuses, RunsOrNone, Way, given_all}
-use Rattle.script_cmd.specs.Ways as way
-use Rattle.script_cmd.specs.WaysByTable.{WayByTable, over_table}
-use Rattle.script_cmd.specs.WaysByTable as table
-use Rattle.script_cmd.specs.declared.done.Note.{Note}
-use Rattle.script_cmd.proofs.TopPrints.{counts-line, counts-none}
+use Rattle.flash_commands.specs.Showing.{Finds, RefusedList, Showed}
+use Rattle.flash_commands.specs.Showing as show
+use Rattle.flash_commands.specs.SoakWays.{SoakEnds, SoakWay}
+use Rattle.flash_commands.specs.SoakWays as soak
+use Rattle.flash_commands.specs.Soaking.{stop_line}
+use Rattle.script_runs.specs.Ways.{Given, Refuses, Way}
+use Rattle.script_cmd.specs.Handed.{Inputs, given_all}
+use Rattle.script_cmd.specs.Asking.{RunsOrNone, over_table}
+use Rattle.script_runs.specs.Ways as way
+use Rattle.script_runs.specs.WaysByTable.{WayByTable}
+use Rattle.script_runs.specs.WaysByTable as table
+use Rattle.script_runs.specs.declared.done.Note.{Note}
+use Rattle.script_runs.proofs.TopPrints.{counts-line, counts-none}
 
 -- ---- no plan is the status 3
 

@@ -46,24 +46,25 @@ use Rattle.gen_core.specs.Setup.{is_too_small, soak_layout}
 use Rattle.gen_core.proofs.Naming.{rounds-have-packages}
 use Rattle.script_turns.specs.Powered.{Moment, at}
 use Rattle.script_turns.specs.Turning.{NoneFalls}
-use Rattle.script_cmd.specs.Ending.{Device, Ending, World, in_model}
-use Rattle.script_cmd.specs.Formatting.{Formats, IsFormattable, Tries, format_status, format_text}
-use Rattle.script_cmd.specs.Formatting as format
-use Rattle.script_cmd.specs.Noted.{noted}
+use Rattle.script_runs.specs.Ending.{Device, Ending, World, in_model}
+use Rattle.flash_commands.specs.Formatting.{Formats, Tries, format_status, format_text}
+use Rattle.script_cmd.specs.FormattedBy.{IsFormattable}
+use Rattle.flash_commands.specs.Formatting as format
+use Rattle.script_runs.specs.Noted.{noted}
 use Rattle.host_io.specs.Printed.{Prints, all, front, nothing}
 use Rattle.script_turns.specs.Runs.{Ran, RunsTo, calls_of}
-use Rattle.script_cmd.specs.Showing.{HasCause, RefusesBadList}
+use Rattle.flash_commands.specs.Showing.{HasCause}
+use Rattle.script_cmd.specs.Granted.{RefusesBadList}
 use Rattle.script_cmd.specs.Soaked.{HasSoakList, RunsSoak, SoakedBy, first_images, soak_setting}
-use Rattle.script_cmd.specs.Soaking.{first_files, soak_files, stop_line}
-use Rattle.script_cmd.specs.SoakWays.{SoakEnds, SoakWay, all_done, lacking, list_refused, not_formatted, ran, starved, stopped, too_small}
-use Rattle.script_cmd.specs.Ways.{Given, Refuses, bad_list, bad_script, list_not_read, not_read, too_long, usage}
-use Rattle.script_cmd.specs.declared.done.Note.{Note}
+use Rattle.flash_commands.specs.Soaking.{first_files, soak_files, stop_line}
+use Rattle.flash_commands.specs.SoakWays.{SoakEnds, SoakWay, all_done, lacking, list_refused, not_formatted, ran, starved, stopped, too_small}
+use Rattle.script_runs.specs.Ways.{Given, Refuses, bad_list, bad_script, list_not_read, not_read, too_long, usage}
+use Rattle.script_runs.specs.declared.done.Note.{Note}
 use Rattle.script_cmd.proofs.PromiseHeadline.{fits, left-by}
-use Rattle.script_cmd.proofs.PromiseTurns.{by-plan, printed-plan}
+use Rattle.script_runs.proofs.TopPrints.{by-plan, printed-plan, not-done, raised-rose}
 use Rattle.script_turns.proofs.RunTurns.{rose-before}
-use Rattle.script_cmd.proofs.SoakRounds.{file-there}
+use Rattle.flash_commands.proofs.SoakRounds.{file-there}
 use Rattle.script_cmd.proofs.TopCompletes.{format-completes}
-use Rattle.script_cmd.proofs.TopPrints.{not-done, raised-rose}
 use Rattle.script_cmd.proofs.TopShows.{good-list-kept, refused-list, starved-list}
 
 -- ---- what was formatted

@@ -8,13 +8,13 @@ use Rattle.fwu_words.specs.Order.{Asked}
 use Rattle.fwu_words.specs.Order as ask
 use Rattle.gen_core.specs.Calls.{soak_calls}
 use Rattle.script_turns.specs.Powered.{Moment}
-use Rattle.script_cmd.specs.Noted.{is_beyond, noted}
+use Rattle.script_runs.specs.Noted.{is_beyond, noted}
 use Rattle.host_io.specs.Printed.{Prints}
-use Rattle.script_cmd.specs.SoakWays.{SoakWay, SoakEnds, list_refused, starved, too_small, not_formatted, ran}
-use Rattle.script_cmd.specs.Ways.{Given, HasGoodList, Refuses}
-use Rattle.script_cmd.specs.declared.done.Note.{Note}
-use Rattle.script_cmd.proofs.Shapes.{device-of, end-of, world-of}
-use Rattle.script_cmd.proofs.TopWays.{refuses}
+use Rattle.flash_commands.specs.SoakWays.{SoakWay, SoakEnds, list_refused, starved, too_small, not_formatted, ran}
+use Rattle.script_runs.specs.Ways.{Given, HasGoodList, Refuses}
+use Rattle.script_runs.specs.declared.done.Note.{Note}
+use Rattle.script_runs.proofs.Shapes.{device-of, end-of, world-of}
+use Rattle.script_runs.proofs.TopWays.{refuses}
 
 -- what is asked is one command
 pub soak-as : (tells : Bool) (g : Given) (blocks : ℕ) (journal : List Turn) (status : ℕ) (said : Note) (old new : Moment) (taken_before taken_after : Option (List ℕ)) (faults_before faults_after : Faults)

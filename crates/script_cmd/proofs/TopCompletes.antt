@@ -20,17 +20,20 @@ use Rattle.host_io.specs.Contents.{Directory}
 use Rattle.fwu_words.specs.Order.{Asked}
 use Rattle.fwu_words.specs.Order as ask
 use Rattle.script_turns.specs.Powered.{Moment}
-use Rattle.script_cmd.specs.Noted.{noted}
+use Rattle.script_runs.specs.Noted.{noted}
 use Rattle.host_io.specs.Printed.{Prints, all, front, nothing}
-use Rattle.script_cmd.specs.Ways.{Given, Refuses, bad_list, bad_script, list_not_read, not_read, too_long, usage}
-use Rattle.script_cmd.specs.Showing.{Finds, HasCause, HasMetadata, IsGranted, RefusedList, Showed, ShowsNone}
-use Rattle.script_cmd.specs.Showing as show
-use Rattle.script_cmd.specs.Formatting.{Formats, IsFormattable, Tries, format_status, format_text}
-use Rattle.script_cmd.specs.Formatting as format
-use Rattle.script_cmd.specs.declared.done.Note.{Note as Said}
-use Rattle.script_cmd.proofs.Shapes.{device-of, world-of}
-use Rattle.script_cmd.proofs.ShowFlash.{wakes-clean}
-use Rattle.script_cmd.proofs.TopPrints.{raised-rose}
+use Rattle.script_runs.specs.Ways.{Given, Refuses, bad_list, bad_script, list_not_read, not_read, too_long, usage}
+use Rattle.flash_commands.specs.Showing.{Finds, HasCause, RefusedList, Showed, ShowsNone}
+use Rattle.script_cmd.specs.ShowedBy.{HasMetadata}
+use Rattle.script_cmd.specs.Granted.{IsGranted}
+use Rattle.flash_commands.specs.Showing as show
+use Rattle.flash_commands.specs.Formatting.{Formats, Tries, format_status, format_text}
+use Rattle.script_cmd.specs.FormattedBy.{IsFormattable}
+use Rattle.flash_commands.specs.Formatting as format
+use Rattle.script_runs.specs.declared.done.Note.{Note as Said}
+use Rattle.script_runs.proofs.Shapes.{device-of, world-of}
+use Rattle.flash_commands.proofs.ShowFlash.{wakes-clean}
+use Rattle.script_runs.proofs.TopPrints.{raised-rose}
 
 -- a line whose status was to be 0, at a sink that did not fail
 printed : (line : List ℕ) (status : ℕ) (old new : Option (List ℕ)) (faults_before faults_after : ℕ) → (Rose faults_before faults_after → ⊥) → Prints line 0 status old new faults_before faults_after → (status ≡ 0) ⊎ (status ≡ 9)

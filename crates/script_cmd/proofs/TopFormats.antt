@@ -16,20 +16,20 @@ use Rattle.fwu_model.specs.declared.kinds.Note as model
 use Rattle.host_io.specs.Contents.{Directory}
 use Rattle.fwu_words.specs.Order.{Asked}
 use Rattle.fwu_words.specs.Order as ask
-use Rattle.script_cmd.specs.Formatting.{Formats, FormattedBy, Tries, format_status, format_text, list_refused, starved, tried}
+use Rattle.flash_commands.specs.Formatting.{Formats, Tries, format_status, format_text, list_refused, starved, tried}
+use Rattle.script_cmd.specs.FormattedBy.{FormattedBy}
 use Rattle.script_turns.specs.Powered.{Moment}
-use Rattle.script_cmd.specs.Noted.{is_beyond, noted}
-use Rattle.script_cmd.specs.Showing.{RefusesBadList}
+use Rattle.script_runs.specs.Noted.{is_beyond, noted}
+use Rattle.script_cmd.specs.Granted.{RefusesBadList}
 use Rattle.host_io.specs.Printed.{Prints}
-use Rattle.script_cmd.specs.Ways.{Given, HasGoodList, Refuses, bad_list, bad_script, list_not_read, not_read, too_long, usage}
-use Rattle.script_cmd.specs.declared.done.Note.{Note}
-use Rattle.script_cmd.specs.declared.done.Note.TheVariants as note
-use Rattle.script_cmd.proofs.Shapes.{device-of, end-of, world-of}
+use Rattle.script_runs.specs.Ways.{Given, HasGoodList, Refuses, bad_list, bad_script, list_not_read, not_read, too_long, usage}
+use Rattle.script_runs.specs.declared.done.Note.{Note}
+use Rattle.script_runs.specs.declared.done.Note.TheVariants as note
+use Rattle.script_runs.proofs.Shapes.{device-of, end-of, world-of}
 use Rattle.script_cmd.proofs.TopCompletes.{format-completes}
-use Rattle.script_cmd.proofs.PromiseTurns.{by-plan}
-use Rattle.script_cmd.proofs.TopPrints.{not-done}
+use Rattle.script_runs.proofs.TopPrints.{by-plan, not-done}
 use Rattle.script_cmd.proofs.TopShows.{good-list-kept, refused-list, starved-list}
-use Rattle.script_cmd.proofs.TopWays.{refuses}
+use Rattle.script_runs.proofs.TopWays.{refuses}
 
 -- ---- by what it did
 

@@ -14,12 +14,15 @@ use Rattle.fwu_words.specs.Order as ask
 use Rattle.script_turns.specs.Powered.{Moment}
 use Rattle.host_io.specs.Printed.{Prints}
 use Rattle.script_turns.specs.Turning.{NoneFalls}
-use Rattle.script_cmd.specs.Ways.{Given, HasGoodList, Refuses}
-use Rattle.script_cmd.specs.Showing.{ShowedBy, Showed, RefusedList, RefusesBadList, starved, list_refused, found}
-use Rattle.script_cmd.proofs.Shapes.{end-of, world-of}
+use Rattle.script_runs.specs.Ways.{Given, HasGoodList, Refuses}
+use Rattle.script_cmd.specs.ShowedBy.{ShowedBy}
+use Rattle.flash_commands.specs.Showing.{Showed, RefusedList, starved, list_refused, found}
+use Rattle.script_cmd.specs.Granted.{RefusesBadList}
+use Rattle.script_runs.proofs.Shapes.{end-of, world-of}
 use Rattle.script_cmd.proofs.PromiseEnds.{bad-status, lacks-list}
-use Rattle.script_cmd.proofs.PromiseTurns.{by-plan, some-from, some-at}
-use Rattle.script_cmd.proofs.TopWays.{refuses}
+use Rattle.script_runs.proofs.TopPrints.{by-plan}
+use Rattle.script_cmd.proofs.PromiseTurns.{some-from, some-at}
+use Rattle.script_runs.proofs.TopWays.{refuses}
 use Rattle.script_cmd.proofs.TopCompletes.{show-completes}
 
 falls-none : (counts : Counts) → NoneFalls counts counts

@@ -4,19 +4,21 @@ use Rattle.fwu_formats.specs.Layout.{ImageRow}
 use Rattle.fwu_model.specs.Causes.{may_fail_before}
 use Rattle.fwu_words.specs.Order.{Asked}
 use Rattle.fwu_words.specs.Order as ask
-use Rattle.script_cmd.specs.Asking.{asks_beyond, asks_files, asks_package, asks_run, asks_source, leaves_on}
-use Rattle.script_cmd.specs.Ending.{Device, Ending, World, in_model}
-use Rattle.script_cmd.specs.Formatting.{FormattedBy}
-use Rattle.script_cmd.specs.Noted.{is_beyond}
+use Rattle.script_cmd.specs.Asking.{asks_beyond, asks_files, asks_package, asks_run, asks_source, leaves_on, RunsOrNone, over_table}
+use Rattle.script_runs.specs.Ending.{Device, Ending, World, in_model}
+use Rattle.script_cmd.specs.FormattedBy.{FormattedBy}
+use Rattle.script_runs.specs.Noted.{is_beyond}
 use Rattle.script_cmd.specs.Promises.{given_to}
 use Rattle.script_turns.specs.Runs.{calls_of, sends_none}
 use Rattle.script_cmd.specs.ServeWays.{ServeWay}
-use Rattle.script_cmd.specs.Showing.{ShowedBy}
-use Rattle.script_cmd.specs.SoakWays.{SoakWay}
-use Rattle.script_cmd.specs.Sourced.{FailsOnce, ReadsInTime}
-use Rattle.script_cmd.specs.Ways.{ByList, HasGoodList, Inputs, IsIdle, RunsOrNone, Way, given_all}
-use Rattle.script_cmd.specs.WaysByTable.{WayByTable, over_table}
-use Rattle.script_cmd.specs.declared.done.Note.{Note}
+use Rattle.script_cmd.specs.ShowedBy.{ShowedBy}
+use Rattle.flash_commands.specs.SoakWays.{SoakWay}
+use Rattle.script_runs.specs.Sourced.{FailsOnce, ReadsInTime}
+use Rattle.script_cmd.specs.ByList.{ByList, IsIdle}
+use Rattle.script_runs.specs.Ways.{HasGoodList, Way}
+use Rattle.script_cmd.specs.Handed.{Inputs, given_all}
+use Rattle.script_runs.specs.WaysByTable.{WayByTable}
+use Rattle.script_runs.specs.declared.done.Note.{Note}
 
 -- What was done for the words behind a list, or without one. `rest` is what the source tells afterwards.
 pub record Answered {H I : Type 0} (passes : List ℕ → Bool) (device : Device) (inputs : Inputs)

@@ -19,8 +19,9 @@ use Rattle.fwu_words.specs.Order.{Asked}
 use Rattle.fwu_words.specs.Order as ask
 use Rattle.host_io.specs.Contents.{Directory}
 use Rattle.script_turns.specs.Powered.{SameDevice}
-use Rattle.script_cmd.specs.Ending.{Ending, World}
-use Rattle.script_cmd.specs.Ways.{HasPasses, Inputs}
+use Rattle.script_runs.specs.Ending.{Ending, World}
+use Rattle.script_cmd.specs.ByList.{HasPasses}
+use Rattle.script_cmd.specs.Handed.{Inputs}
 use Rattle.script_cmd.specs.Promises.{Promised}
 
 -- A script with a call isn't passed over: nothing done and status 0 is the end of a script without calls.

@@ -8,9 +8,9 @@ use Rattle.fwu_model.specs.Reply as reply
 use Rattle.fwu_model.specs.State.{Numbers}
 use Rattle.fwu_model.specs.declared.kinds.Note.{Note}
 use Rattle.image_check.specs.Passed.{HasPackage}
-use Rattle.script_cmd.specs.Ending.{Ending, World}
+use Rattle.script_runs.specs.Ending.{Ending, World}
 use Rattle.script_cmd.specs.Promises.{Promised}
-use Rattle.script_cmd.specs.Ways.{Inputs}
+use Rattle.script_cmd.specs.Handed.{Inputs}
 
 -- Some complete package of some images has this version and a manifest that passes, and it is not below the counter that the boot
 -- read, which its turn tells.

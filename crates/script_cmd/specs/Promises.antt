@@ -1,6 +1,6 @@
 -- What `run` or `boot` promises, whichever way it ends.
-use Rattle.std.specs.Prelude.{◌≡◌, ◌≢◌, ◌+◌, ◌≤◌, ◌⊎◌, ℕ, Bool, List, ◌++◌, Option, Some, None, IsTrue, IsFalse, ◌||◌, ◌==◌}
-use Rattle.std.specs.Prelude.{[], slice_get}
+use Rattle.std.specs.Prelude.{◌≡◌, ◌≢◌, ◌+◌, ◌≤◌, ◌⊎◌, ℕ, Bool, List, ◌++◌, Option, Some, None, IsTrue, IsFalse, ◌||◌, ◌==◌, []}
+use Rattle.std.specs.Prelude.{slice_get}
 use Rattle.flash_core.specs.Counts.{Rose, all_stops}
 use Rattle.flash_core.specs.Told.{NothingDirty}
 use Rattle.flash_core.specs.May.{Guards}
@@ -20,13 +20,14 @@ use Rattle.fwu_model.specs.Causes.{EndsAs, IsServed, cuts_in, may_fail_before}
 use Rattle.fwu_model.specs.declared.kinds.Note.{Note}
 use Rattle.fwu_words.specs.Order.{Asked}
 use Rattle.fwu_words.specs.Order as ask
-use Rattle.script_cmd.specs.Asking.{plainly}
+use Rattle.script_runs.specs.Refusing.{plainly}
 use Rattle.script_cmd.specs.BootWord.{BootsBy}
-use Rattle.script_cmd.specs.Ending.{Ending, World}
+use Rattle.script_runs.specs.Ending.{Ending, World}
 use Rattle.script_turns.specs.Booted.{BootsFrom}
 use Rattle.script_turns.specs.Powered.{Moment, SameDevice, at}
 use Rattle.script_turns.specs.Runs.{Follows, RunsFree, power_left, stops_of}
-use Rattle.script_cmd.specs.Ways.{Given, Inputs, Refuses, Way}
+use Rattle.script_runs.specs.Ways.{Given, Refuses, Way}
+use Rattle.script_cmd.specs.Handed.{Inputs}
 
 -- what the program was given to read, with the script that its words and its source give
 abbrev pub given_to : Inputs → Given

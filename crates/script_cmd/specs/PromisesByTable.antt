@@ -18,14 +18,14 @@ use Rattle.fwu_model.specs.Causes.{IsServed}
 use Rattle.fwu_model.specs.Contract.{Premises, Asks}
 use Rattle.fwu_model.specs.Headline.{Headline}
 use Rattle.fwu_model.specs.Wrote.{script_asked}
-use Rattle.script_cmd.specs.declared.done.Note.{Note}
-use Rattle.script_cmd.specs.Asking.{plainly}
-use Rattle.script_cmd.specs.ByTable.{Starts, seen_at}
-use Rattle.script_cmd.specs.Ending.{Device, Ending, World, in_model}
+use Rattle.script_runs.specs.declared.done.Note.{Note}
+use Rattle.script_runs.specs.Refusing.{plainly}
+use Rattle.script_runs.specs.ByTable.{Starts, seen_at}
+use Rattle.script_runs.specs.Ending.{Device, Ending, World, in_model}
 use Rattle.script_turns.specs.Powered.{Moment}
 use Rattle.script_cmd.specs.Promises.{Promised, given_to, outcome}
-use Rattle.script_cmd.specs.Ways.{Inputs}
-use Rattle.script_cmd.specs.WaysByTable.{WayByTable}
+use Rattle.script_cmd.specs.Handed.{Inputs}
+use Rattle.script_runs.specs.WaysByTable.{WayByTable}
 
 -- A run began on the flash that a device has at the places that its table gives.
 pub record RunsByTable (passes : List ℕ → Bool) (device : Device) (inputs : Inputs) (ending : Ending Note)

@@ -14,9 +14,9 @@ use Rattle.serving.specs.Scene.{At, Port, port, scene}
 use Rattle.serving.specs.Starting.{Serves}
 use Rattle.serving.specs.declared.ends.ServeEnd.{ServeEnd}
 use Rattle.serving.specs.declared.ends.ServeEnd.TheVariants as end
-use Rattle.script_cmd.specs.Ending.{Ending, PutsNone, World}
-use Rattle.script_cmd.specs.Showing.{RefusedList}
-use Rattle.script_cmd.specs.Ways.{Given, HasGoodList}
+use Rattle.script_runs.specs.Ending.{Ending, PutsNone, World}
+use Rattle.flash_commands.specs.Showing.{RefusedList}
+use Rattle.script_runs.specs.Ways.{Given, HasGoodList}
 
 -- only a boot that started no bank is noted
 abbrev pub note_of : ServeEnd → Note

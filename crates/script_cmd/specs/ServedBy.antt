@@ -1,6 +1,6 @@
 -- What the command `serve` promises, whichever way it ends.
-use Rattle.std.specs.Prelude.{◌≡◌, ◌≢◌, ◌≤◌, ◌<◌, ◌⊎◌, ◌||◌, ◌==◌, ℕ, Bool, List, [], ◌++◌, Option, Some, IfSome, IsSome}
-use Rattle.std.specs.Prelude.{◌↔◌, ◌+◌, IsTrue, drop, length, take}
+use Rattle.std.specs.Prelude.{◌≡◌, ◌≢◌, ◌≤◌, ◌<◌, ◌⊎◌, ◌||◌, ◌==◌, ℕ, Bool, List, [], ◌++◌, Option, Some, IfSome, IsSome, ◌↔◌, ◌+◌}
+use Rattle.std.specs.Prelude.{IsTrue, drop, length, take}
 use Rattle.std.specs.Io.KnownBytes.{Consumes}
 use Rattle.flash_core.specs.Counts.{Rose}
 use Rattle.host_io.specs.Calls.{raised}
@@ -24,11 +24,11 @@ use Rattle.fwu_model.specs.declared.kinds.Note.TheVariants as note
 use Rattle.fwu_words.specs.Order as ask
 use Rattle.script_turns.specs.Powered.{Moment}
 use Rattle.script_turns.specs.Runs.{calls_of}
-use Rattle.script_cmd.specs.Ending.{Ending, World}
+use Rattle.script_runs.specs.Ending.{Ending, World}
 use Rattle.script_cmd.specs.Promises.{RanHolds, outcome}
 use Rattle.script_cmd.specs.ServeWays.{ServeWay}
-use Rattle.script_cmd.specs.Showing.{IsGranted, RefusesBadList}
-use Rattle.script_cmd.specs.Ways.{Given, Refuses}
+use Rattle.script_cmd.specs.Granted.{IsGranted, RefusesBadList}
+use Rattle.script_runs.specs.Ways.{Given, Refuses}
 
 -- ---- the turns
 

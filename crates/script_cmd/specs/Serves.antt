@@ -5,21 +5,22 @@ use Rattle.fwu_model.specs.Allow.{asks_list}
 use Rattle.fwu_model.specs.Causes.{may_fail_before}
 use Rattle.fwu_words.specs.Order.{Asked}
 use Rattle.fwu_words.specs.Order as ask
-use Rattle.script_cmd.specs.Asking.{asks_beyond, asks_files, asks_package, asks_run, asks_source, leaves_on}
-use Rattle.script_cmd.specs.Ending.{Device, Ending, World, in_model}
-use Rattle.script_cmd.specs.Formatting.{FormattedBy}
-use Rattle.script_cmd.specs.Noted.{is_beyond}
+use Rattle.script_cmd.specs.Asking.{asks_beyond, asks_files, asks_package, asks_run, asks_source, leaves_on, RunsOrNone, over_table}
+use Rattle.script_runs.specs.Ending.{Device, Ending, World, in_model}
+use Rattle.script_cmd.specs.FormattedBy.{FormattedBy}
+use Rattle.script_runs.specs.Noted.{is_beyond}
 use Rattle.host_io.specs.Printed.{FailsAtThree}
 use Rattle.script_cmd.specs.Promises.{Promised}
 use Rattle.script_cmd.specs.PromisesByTable.{PromisedByTable}
 use Rattle.script_turns.specs.Runs.{calls_of, sends_none}
 use Rattle.script_cmd.specs.ServedBy.{ServedBy}
-use Rattle.script_cmd.specs.Showing.{ShowedBy}
+use Rattle.script_cmd.specs.ShowedBy.{ShowedBy}
 use Rattle.script_cmd.specs.Soaked.{SoakedBy}
-use Rattle.script_cmd.specs.Sourced.{FailsOnce, ReadsInTime}
-use Rattle.script_cmd.specs.Ways.{ByList, HasGoodList, HasPasses, Inputs, IsIdle, RunsOrNone, given_all}
-use Rattle.script_cmd.specs.WaysByTable.{over_table}
-use Rattle.script_cmd.specs.declared.done.Note.{Note}
+use Rattle.script_runs.specs.Sourced.{FailsOnce, ReadsInTime}
+use Rattle.script_cmd.specs.ByList.{ByList, HasPasses, IsIdle}
+use Rattle.script_runs.specs.Ways.{HasGoodList}
+use Rattle.script_cmd.specs.Handed.{Inputs, given_all}
+use Rattle.script_runs.specs.declared.done.Note.{Note}
 
 -- What it promises of a run for what was asked. `rest` is what the source tells afterwards.
 pub record Serves {H I : Type 0} (passes : List ℕ → Bool) (device : Device) (inputs : Inputs)

@@ -18,14 +18,14 @@ use Rattle.gen_core.specs.Rounds.{sizes_of}
 use Rattle.gen_core.specs.Setup.{is_too_small, soak_layout}
 use Rattle.script_turns.specs.Powered.{Moment}
 use Rattle.script_turns.specs.Turning.{NoneFalls}
-use Rattle.script_cmd.specs.Ending.{Device, Ending, World}
+use Rattle.script_runs.specs.Ending.{Device, Ending, World}
 use Rattle.script_cmd.specs.Promises.{outcome}
 use Rattle.script_turns.specs.Runs.{calls_of}
-use Rattle.script_cmd.specs.Showing.{RefusesBadList}
-use Rattle.script_cmd.specs.SoakWays.{SoakWay}
-use Rattle.script_cmd.specs.Soaking.{soak_files}
-use Rattle.script_cmd.specs.Ways.{Given}
-use Rattle.script_cmd.specs.declared.done.Note.{Note}
+use Rattle.script_cmd.specs.Granted.{RefusesBadList}
+use Rattle.flash_commands.specs.SoakWays.{SoakWay}
+use Rattle.flash_commands.specs.Soaking.{soak_files}
+use Rattle.script_runs.specs.Ways.{Given}
+use Rattle.script_runs.specs.declared.done.Note.{Note}
 
 -- the packages of all rounds are the files, and any manifest passes
 abbrev pub soak_setting : ℕ → ℕ → Setting

@@ -1,82 +1,24 @@
 //! What the words ask for is done, in one of the ways that it may end.
-ghost use Rattle.std.specs.Prelude.{◌≡◌, ◌≤◌, [], Some, None, IfSome, map, string_bytes, IsTrue, IsFalse};
+ghost use Rattle.std.specs.Prelude.{◌≡◌, Some, None, map, string_bytes, IsFalse};
 ghost use Rattle.host_io.specs.Once.{ReadsOnce};
 ghost use Rattle.fwu_model.specs.Allow.{asks_list, list_name};
-ghost use Rattle.fwu_model.specs.Causes.{Faults};
-ghost use Rattle.fwu_journal.specs.Shown.{turns};
 ghost use Rattle.fwu_words.specs.Order.{asked};
-ghost use Rattle.fwu_words.specs.declared.orders.Place.TheVariants as place;
-ghost use Rattle.fwu_words.specs.declared.orders.ScriptFrom.TheVariants as origin;
 ghost use Rattle.script_cmd.specs.Answered.{Answered};
-ghost use Rattle.script_cmd.specs.Handed.{listed, unlisted};
-ghost use Rattle.script_cmd.specs.Here.{AnswersHere, GoesFor};
-ghost use Rattle.script_cmd.specs.Done.{ending};
-ghost use Rattle.script_cmd.specs.Noted.{is_beyond};
-ghost use Rattle.script_turns.specs.Runs.{calls_of, sends_none};
-ghost use Rattle.script_cmd.specs.Sourced.{FailsOnce, ReadsInTime};
-ghost use Rattle.script_cmd.specs.Ways.{Given, HasGoodList, HasPasses};
-ghost use Rattle.script_cmd.specs.Ways.{ReadsList, device_of, inputs_of, world};
+ghost use Rattle.script_cmd.specs.Handed.{listed, unlisted, inputs_of};
+ghost use Rattle.script_cmd.specs.Here.{AnswersHere, world};
+ghost use Rattle.script_runs.specs.Done.{ending};
+ghost use Rattle.script_runs.specs.Ways.{device_of};
+ghost use Rattle.script_cmd.specs.ByList.{HasPasses, ReadsList};
 
-use crate::done::Done;
-use crate::formatting::format_flash;
-use crate::partitioned::run_by_table;
-use crate::reading::script_of;
-use crate::refusing::{Refusal, refuse};
-use crate::running::run_script;
 use crate::serving_command::serve_source;
-use crate::showing::show;
-use crate::soak_command::soak;
 use allow_list::{ListStop, read_list};
+use flash_commands::{format_flash, show, soak};
 use flash_core::Flash;
-use fwu_words::{Allow, Order, Place, Turns, UsageStop, allow_of, fwu_order};
+use fwu_words::{Allow, Order, UsageStop, allow_of, fwu_order};
 use host_io::{Files, Sink, Source};
-use script_turns::Powered;
+use script_runs::{Done, Refusal, refuse, run_turns};
 use std::alloc::Global;
 use verify_core::{AnyManifest, Verifier};
-
-/// Does the turns that are asked for, at the place that is asked for. The script is read first, and room is made for its turns.
-fn run_turns<D: Flash, H: Files, I: Source, O: Sink, V: Verifier>(
-    alloc: Global,
-    order: Turns,
-    files: &mut H,
-    source: &mut I,
-    sink: &mut O,
-    flash: D,
-    verifier: &V,
-) -> Done<D>
-    requires off { IsFalse (D.on flash) }
-    requires unarmed { D.arming flash ≡ None }
-    ensures way { (g : Given) (was are : Faults) → HasGoodList g.list g.files
-        → g.files ≡ H.contents files.old → was.files ≤ H.faults files.old
-        → GoesFor order D.Flash H.Files I.Source O.Sink (V.passes verifier.now) g was are
-        flash source.old sink.old result files.new source.new sink.new }
-    ensures note { order.place ≡ place.Flash → IsFalse (is_beyond result.note) }
-    // What it reads: for one boot neither the source nor a file, and a file only for a `send`.
-    ensures boot_source { order.from ≡ origin.Boot → source.new ≡ source.old }
-    ensures boot_files { order.from ≡ origin.Boot → files.new ≡ files.old }
-    ensures unsent { IsTrue (sends_none (calls_of (turns result.journal))) → files.new ≡ files.old }
-    ensures same_files { H.contents files.new ≡ H.contents files.old }
-    ensures unwritten { H.writes files.new ≡ H.writes files.old }
-    ensures read_to_end { result.status ≡ 0 → order.from ≡ origin.Source
-        → IfSome (I.left source.new) (λ rest. rest ≡ []) }
-    ensures in_time { ReadsInTime (I.left source.old) (I.left source.new) }
-    ensures source_count { FailsOnce (turns result.journal) result.status (I.faults source.old)
-        (I.faults source.new) }
-    ensures later_files { H.faults files.old ≤ H.faults files.new }
-    ensures later_source { I.faults source.old ≤ I.faults source.new }
-    ensures later_sink { O.faults sink.old ≤ O.faults sink.new }
-    ensures once { ReadsOnce I.Source source.old source.new }
-    ensures size { D.blocks result.flash ≡ D.blocks flash }
-{
-    let ready = match script_of(alloc, order.from, source) {
-        Ok(ready) => ready,
-        Err(why) => return refuse(alloc, sink, why, flash),
-    };
-    match order.place {
-        Place::Flash => run_script(alloc, ready, files, sink, Powered::off(flash), verifier),
-        Place::Partitions => run_by_table(alloc, ready, files, sink, flash, verifier),
-    }
-}
 
 /// Does what the words behind the name of the flash, and behind a list, ask for.
 pub fn answer_with<D: Flash, H: Files, I: Source, O: Sink, V: Verifier>(

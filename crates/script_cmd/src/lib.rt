@@ -2,31 +2,14 @@
 #![tactic(auto)]
 
 mod answering;
-mod done;
-mod format_line;
-mod formatting;
 mod laws;
-mod one_file;
-mod opening;
-mod partitioned;
-mod printing;
-mod reading;
-mod refusing;
-mod room;
-mod running;
 mod serving_command;
-mod showing;
-mod soak_command;
-mod soaking;
 mod top;
-mod totals;
 
-pub use done::{Done, NoTable, Note};
 pub use laws::{
     bad_list_is_none, boots_are_permitted, list_is_some, missing_list_is_none, no_metadata_is_none,
     nothing_follows_the_sink, nothing_is_armed, nothing_is_passed_over, nothing_is_touched,
     usage_line_is_of_usage, usage_reads_no_source, ways_are_complete, ways_boot, ways_boot_first,
     ways_end, ways_guard, ways_keep_the_headline, ways_leave_the_device, ways_reply, ways_write,
 };
-pub use printing::{put_line, put_usage};
 pub use top::{fwu_top, fwu_top_with};

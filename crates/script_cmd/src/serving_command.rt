@@ -1,16 +1,16 @@
 //! The command `serve`.
 ghost use Rattle.std.specs.Prelude.{◌≡◌, ◌≤◌, None, IsFalse};
 ghost use Rattle.host_io.specs.Once.{ReadsOnce};
-ghost use Rattle.script_cmd.specs.Done.{ending};
-ghost use Rattle.script_cmd.specs.Ending.{in_model};
-ghost use Rattle.script_cmd.specs.Here.{without_list};
-ghost use Rattle.script_cmd.specs.Noted.{is_beyond, noted};
+ghost use Rattle.script_runs.specs.Done.{ending};
+ghost use Rattle.script_runs.specs.Ending.{in_model};
+ghost use Rattle.flash_commands.specs.Here.{without_list};
+ghost use Rattle.script_runs.specs.Noted.{is_beyond, noted};
 ghost use Rattle.script_cmd.specs.ServeWays.{ServeWay, note_of};
-ghost use Rattle.script_cmd.specs.Ways.{world};
+ghost use Rattle.script_cmd.specs.Here.{world};
 
-use crate::done::{Done, Note};
 use flash_core::Flash;
 use host_io::{Files, Sink, Source};
+use script_runs::{Done, Note};
 use script_turns::Powered;
 use serving::{ServeEnd, Served, Serving, serve};
 use std::alloc::Global;

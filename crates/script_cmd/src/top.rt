@@ -1,15 +1,16 @@
 //! The program as one call.
 ghost use Rattle.std.specs.Prelude.{◌≡◌, None, map, string_bytes, IsFalse};
 ghost use Rattle.host_io.specs.Once.{ReadsOnce};
-ghost use Rattle.script_cmd.specs.Done.{ending};
+ghost use Rattle.script_runs.specs.Done.{ending};
 ghost use Rattle.script_cmd.specs.Handed.{listed, unlisted};
 ghost use Rattle.script_cmd.specs.Serves.{Serves, ServesByList};
-ghost use Rattle.script_cmd.specs.Ways.{device_of, world};
+ghost use Rattle.script_runs.specs.Ways.{device_of};
+ghost use Rattle.script_cmd.specs.Here.{world};
 
 use crate::answering::{answer, answer_with};
-use crate::done::Done;
 use flash_core::Flash;
 use host_io::{Files, Sink, Source};
+use script_runs::Done;
 use std::alloc::Global;
 use verify_core::Verifier;
 

@@ -6,7 +6,7 @@ use crate::runs::{Ran, ends, holds, run_on, source_of};
 use crate::tables::{BACKUP, PRIMARY, partitioned};
 use flash_devices::{Cut, MemoryFlash};
 use runs_kit::{NO_TROUBLE, Trouble, files_of, flash_of};
-use script_cmd::Note;
+use script_runs::Note;
 use std::alloc::Global;
 use std::process::Abort;
 

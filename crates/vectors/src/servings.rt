@@ -3,7 +3,7 @@ use crate::runs::{Ran, end_on, holds, run_on};
 use flash_devices::Cut;
 use host_io::{MemorySink, MemorySource};
 use runs_kit::{NO_TROUBLE, Trouble, files_of, flash_of, two_banks, words_of};
-use script_cmd::Note;
+use script_runs::Note;
 use std::alloc::Global;
 use std::process::Abort;
 

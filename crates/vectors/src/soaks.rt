@@ -2,7 +2,7 @@
 use crate::runs::{ends, holds, run, run_with};
 use flash_devices::Cut;
 use runs_kit::{NO_TROUBLE, Trouble, blank};
-use script_cmd::Note;
+use script_runs::Note;
 use std::alloc::Global;
 use std::process::Abort;
 

@@ -9,7 +9,7 @@ use host_io::{MemorySink, Source};
 use runs_kit::{
     LIST, NO_TROUBLE, Named, Trouble, blank, files_of, flash_of, one_file, two_banks, words_of,
 };
-use script_cmd::{NoTable, Note};
+use script_runs::{NoTable, Note};
 use std::alloc::Global;
 use std::process::Abort;
 

@@ -5,8 +5,9 @@ use Rattle.fwu_model.specs.Allow.{list_name}
 use Rattle.fwu_model.specs.Wrote.{usage_line}
 use Rattle.host_io.proofs.Once.{once-none}
 use Rattle.script_cmd.proofs.AnsweredBy.{answered-at, answered-usage}
-use Rattle.script_cmd.proofs.TopPrints.{later}
-use Rattle.script_cmd.proofs.TopWays.{by-words, has-any, idles-at, no-list, no-words, none-bad, same-moment, some-list}
+use Rattle.script_runs.proofs.TopPrints.{later}
+use Rattle.script_cmd.proofs.TopLists.{by-words, has-any, idles-at, no-list, no-words, none-bad, some-list}
+use Rattle.script_runs.proofs.TopWays.{same-moment}
 use Rattle.script_cmd.proofs.answering.answer.Goals as goal
 
 pub returns-in-No-clause-answers : goal.returns-in-No-clause-answers

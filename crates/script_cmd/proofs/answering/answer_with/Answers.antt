@@ -4,10 +4,11 @@ use Rattle.script_cmd.proofs.TopFormats.{formatted-as}
 use Rattle.script_cmd.proofs.SoakTop.{soak-as}
 use Rattle.std.proofs.Common.{Some, None, ap, refl, arith}
 use Rattle.fwu_words.specs.Order as ask
-use Rattle.script_cmd.specs.Ways.{Given}
+use Rattle.script_runs.specs.Ways.{Given}
 use Rattle.script_cmd.proofs.TopShows.{showed-by}
-use Rattle.script_cmd.proofs.TopPrints.{later}
-use Rattle.script_cmd.proofs.TopWays.{no-list-named, same-moment}
+use Rattle.script_runs.proofs.TopPrints.{later}
+use Rattle.script_cmd.proofs.TopLists.{no-list-named}
+use Rattle.script_runs.proofs.TopWays.{same-moment}
 use Rattle.script_cmd.proofs.answering.answer_with.Goals as goal
 
 pub returns-in-Ok-Turns-clause-answers : goal.returns-in-Ok-Turns-clause-answers

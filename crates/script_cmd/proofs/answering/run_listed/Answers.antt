@@ -4,12 +4,13 @@ use Rattle.fwu_formats.specs.Digests.{digests_of, passes_listed}
 use Rattle.fwu_model.specs.Causes.{may_fail_before}
 use Rattle.fwu_model.specs.Wrote.{bad_list_line, not_read_line}
 use Rattle.host_io.proofs.Once.{once-none}
-use Rattle.script_cmd.specs.declared.done.Note.TheVariants as note
-use Rattle.script_cmd.specs.Ways.{bad_list, list_not_read}
+use Rattle.script_runs.specs.declared.done.Note.TheVariants as note
+use Rattle.script_runs.specs.Ways.{bad_list, list_not_read}
 use Rattle.script_cmd.proofs.AnsweredBy.{answered-refused, answered-starved, answered-with-list}
-use Rattle.script_cmd.proofs.PromiseTurns.{by-plan}
-use Rattle.script_cmd.proofs.TopPrints.{later}
-use Rattle.script_cmd.proofs.TopWays.{bytes-there, good-list, idles, idles-at, list-lacks, list-there, of-list, reads-list, same-moment}
+use Rattle.script_runs.proofs.TopPrints.{by-plan}
+use Rattle.script_runs.proofs.TopPrints.{later}
+use Rattle.script_cmd.proofs.TopLists.{bytes-there, good-list, idles, idles-at, list-lacks, list-there, of-list, reads-list}
+use Rattle.script_runs.proofs.TopWays.{same-moment}
 use Rattle.script_cmd.proofs.answering.run_listed.Goals as goal
 
 pub returns-in-Err-Failed-clause-answers : goal.returns-in-Err-Failed-clause-answers

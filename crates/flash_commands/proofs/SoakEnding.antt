@@ -1,0 +1,90 @@
+-- How a soak ends.
+use Rattle.std.proofs.Common.{◌≡◌, ◌≢◌, ◌<◌, ◌+◌, ℕ, List, ◌∷◌, ◌++◌, Bool, get_or, Option, Some, None, Result, sym, ap, subst, ◌∙◌, arith, IsTrue}
+use Rattle.std.specs.Prelude.{flat_map}
+use Rattle.host_io.specs.Contents.{Directory}
+use Rattle.fwu_formats.specs.Digests.{passes_any}
+use Rattle.fwu_formats.specs.Layout.{ImageRow}
+use Rattle.flash_format.specs.declared.formatting.Formatted.{Formatted}
+use Rattle.flash_format.specs.declared.stops.FormatStop.{FormatStop}
+use Rattle.flash_commands.specs.Formatting.{Tries}
+use Rattle.fwu_model.specs.Call.{Call}
+use Rattle.fwu_model.specs.Call as call
+use Rattle.fwu_model.specs.Reply.{Reply, Turn}
+use Rattle.fwu_model.specs.Reply as reply
+use Rattle.fwu_model.specs.Run.{ends_run}
+use Rattle.fwu_model.specs.Causes.{status_by}
+use Rattle.fwu_model.specs.Text.{line}
+use Rattle.fwu_model.specs.declared.kinds.Note.{Note}
+use Rattle.gen_core.specs.Calls.{file_name, round_calls, round_package, soak_calls}
+use Rattle.gen_core.specs.Draws.{register_after}
+use Rattle.gen_core.specs.Line.{soak_line}
+use Rattle.gen_core.specs.Rounds.{rounds_from}
+use Rattle.gen_core.specs.Setup.{soak_layout}
+use Rattle.gen_core.specs.declared.rounds.Round.{Round}
+use Rattle.gen_core.proofs.Naming.{rounds-have-packages}
+use Rattle.flash_core.specs.declared.flash.Flash.{Ghosts}
+use Rattle.agent_machine.specs.Fields.{Fields}
+use Rattle.script_turns.specs.declared.powered.Powered.{Powered}
+use Rattle.script_turns.specs.Powered.{Moment, at, device, moment_of, shown_on}
+use Rattle.host_io.specs.Printed.{Prints}
+use Rattle.script_turns.specs.Runs.{Ran}
+use Rattle.flash_commands.specs.Showing.{flash_fault_line}
+use Rattle.flash_commands.specs.Soaking.{Stands, goes, starved, ended, first_files, soak_files, stop_text}
+use Rattle.flash_commands.specs.SoakWays.{SoakEnds, all_done, lacking, stopped}
+use Rattle.script_runs.proofs.Shapes.{end-of}
+
+-- a flash on which no bank was started
+pub moment-fresh : {D : Type 0} {F : Ghosts D} (p : Powered D F) (d : D) → shown_on p ≡ None → device p ≡ d
+    → moment_of p ≡ at None (F.told d) (F.counts d) (F.arming d) (F.on d)
+moment-fresh {F = F} p d off is =
+    ap (λ (o : Option Fields). at o (F.told (device p)) (F.counts (device p)) (F.arming (device p)) (F.on (device p))) off
+    ∙ ap (λ (e : _). at None (F.told e) (F.counts e) (F.arming e) (F.on e)) is
+
+-- ---- the calls and the files
+
+pub soak-calls-are : (seed register n : ℕ) → register ≡ register_after 2 seed → call.Boot ∷ flat_map (round_calls soak_layout.rows) (rounds_from register 1 n) ≡ soak_calls seed n
+unfolding soak_calls
+soak-calls-are seed register n is = ap (λ (x : ℕ). call.Boot ∷ flat_map (round_calls soak_layout.rows) (rounds_from x 1 n)) is
+
+pub soak-named : (seed register n : ℕ) → n < 4294967296 → register ≡ register_after 2 seed → (k : ℕ) (d : Round) → k < n
+    → soak_files seed n (file_name (k + 1)) ≡ Some (round_package (get_or (rounds_from register 1 n) k d))
+soak-named seed register n few is k d below =
+    rounds-have-packages.named seed n k d few below ∙ ap (λ (x : ℕ). Some (round_package (get_or (rounds_from x 1 n) k d))) (sym is)
+
+pub tries-as : (tells : Bool) (seed : ℕ) (files : Directory) (name : List ℕ) (rows : List ImageRow) (blocks : ℕ) (old new : Moment) (r : Result Formatted FormatStop) → files ≡ first_files seed → name ≡ file_name 0
+    → rows ≡ soak_layout.rows → Tries passes_any tells (Some files) name (record { banks = 2; rows = rows }) blocks old new 0 0 r
+    → Tries passes_any tells (Some (first_files seed)) (file_name 0) soak_layout blocks old new 0 0 r
+tries-as tells seed files name rows blocks old new r files_are name_is rows_are t =
+    subst (λ (f : Directory). Tries passes_any tells (Some f) (file_name 0) soak_layout blocks old new 0 0 r) files_are
+    (subst (λ (w : List ℕ). Tries passes_any tells (Some files) w soak_layout blocks old new 0 0 r) name_is
+    (subst (λ (rs : List ImageRow). Tries passes_any tells (Some files) name (record { banks = 2; rows = rs }) blocks old new 0 0 r) rows_are t))
+
+-- ---- by how it stands
+
+module _ (tells : Bool) (all : Directory) (calls : List Call) (journal : List Turn) (old new : Moment) (stand : ℕ) (noted : Note) (text : List ℕ) where
+  pub stands-ran : Stands tells all calls journal old new stand noted text → Ran passes_any tells (Some all) journal old new 0 0
+  stands-ran (goes zero_is quiet going) = going.ran
+  stands-ran (starved nine quiet front less going) = going.ran
+  stands-ran (ended front t is less ran none ends read status_is noted_is text_is) = ran
+
+-- the line of a turn that ended it, by its status: that of a fault of the flash, or its own
+stop-printed : (c : Call) (r : Reply) (stand status : ℕ) (old new : Option (List ℕ)) (was are : ℕ) → stand ≡ status_by r → IsTrue (ends_run r) → (stand ≡ 5 → Prints flash_fault_line 5 status old new was are)
+    → (stand ≢ 0 → stand ≢ 5 → stand ≢ 9 → Prints (line c r) stand status old new was are) → Prints (stop_text c r) (status_by r) status old new was are
+stop-printed c reply.Fault stand status old new was are is ends failed stops = failed is
+stop-printed c reply.ReadFault stand status old new was are is ends failed stops =
+    subst (λ (k : ℕ). Prints (line c reply.ReadFault) k status old new was are) is (stops (λ zero. absurd (omega (arith, is))) (λ five. absurd (omega (arith, is))) (λ nine. absurd (omega (arith, is))))
+stop-printed c (reply.NotBooted why) stand status old new was are is ends failed stops =
+    subst (λ (k : ℕ). Prints (line c (reply.NotBooted why)) k status old new was are) is (stops (λ zero. absurd (omega (arith, is))) (λ five. absurd (omega (arith, is))) (λ nine. absurd (omega (arith, is))))
+stop-printed c other stand status old new was are is ends failed stops = absurd cc
+
+module _ (tells : Bool) (all : Directory) (rounds : ℕ) (calls : List Call) (journal : List Turn) (old new : Moment) (stand : ℕ) (noted : Note) (text : List ℕ) (status : ℕ) (taken_before taken_after : Option (List ℕ)) (faults_before faults_after : ℕ) where
+  pub ends-by : (stand ≡ 0 → Prints (soak_line rounds journal) 0 status taken_before taken_after faults_before faults_after) → (stand ≡ 9 → status ≡ 9) → (stand ≡ 9 → taken_after ≡ taken_before) → (stand ≡ 9 → faults_after ≡ faults_before)
+      → (stand ≡ 5 → Prints flash_fault_line 5 status taken_before taken_after faults_before faults_after) → (stand ≢ 0 → stand ≢ 5 → stand ≢ 9 → Prints text stand status taken_before taken_after faults_before faults_after)
+      → Stands tells all calls journal old new stand noted text → SoakEnds rounds calls (end-of journal status noted) taken_before taken_after faults_before faults_after
+  ends-by whole nines same quietly failed stops (goes zero_is quiet going) = all_done going.calls_are going.none quiet (whole zero_is)
+  ends-by whole nines same quietly failed stops (starved nine quiet front less going) =
+      lacking (less.0, ap (λ (cs : List Call). cs ++ less.0) going.calls_are ∙ less.1) going.none quiet (nines nine) (same nine) (quietly nine)
+  ends-by whole nines same quietly failed stops (ended front t is less ran none ends read status_is noted_is text_is) =
+      stopped less front t is none ends read noted_is
+      (stop-printed t.call t.reply stand status taken_before taken_after faults_before faults_after status_is ends failed
+      (λ some lives left. subst (λ (l : List ℕ). Prints l stand status taken_before taken_after faults_before faults_after) text_is (stops some lives left)))

@@ -1,0 +1,50 @@
+use Rattle.std.proofs.Common.{ℕ, None, ap, subst, ◌∙◌}
+use Rattle.flash_commands.specs.Formatting.{Tries}
+use Rattle.script_turns.specs.Powered.{at}
+use Rattle.flash_commands.proofs.ShowFlash.{power-on-guards, power-on-keeps, none-falls, stops-then}
+use Rattle.flash_commands.proofs.FormatFlash.{stop-cause}
+use Rattle.flash_commands.proofs.formatting.try_format.Goals as goal
+
+pub returns-clause-tries : goal.returns-clause-tries
+returns-clause-tries g c =
+    let told = g.D.Flash.told in
+    let counts = g.D.Flash.counts in
+    let old = c.args.flash.now in
+    let mid = c.power_on.new.self in
+    let new = c.format.new.flash in
+    let e = c.format.ensures in
+    subst (λ (blocks : ℕ). Tries (g.V.Verifier.passes c.args.verifier.now) g.D.Flash.tells (g.H.Files.contents c.args.files.now) c.args.name.now (record { banks = c.args.banks; rows = c.args.rows.now }) blocks
+    (at None (told old) (counts old) (g.D.Flash.arming old) (g.D.Flash.on old)) (at None (told new) (counts new) (g.D.Flash.arming new) (g.D.Flash.on new)) (g.H.Files.faults c.args.files.now) (g.H.Files.faults c.format.new.files) c.format.result)
+    c.power_on.ensures.size
+    (record {
+      mid = told mid;
+      fresh = λ tells clean. power-on-keeps (told old) (told mid) clean (c.power_on.ensures.fresh tells) (c.power_on.ensures.leaves tells);
+      woken = λ tells. record { fresh_is = c.power_on.ensures.fresh tells; leaves = c.power_on.ensures.leaves tells };
+      layout = e.layout;
+      answers = e.answers;
+      some = e.some;
+      untouched = λ early. ap told (e.untouched early);
+      missing = λ lacks. let m = e.missing lacks in (m.0, ap told m.1);
+      failed = e.failed;
+      reads = e.reads;
+      unread_once = e.once;
+      given = e.given;
+      passed = e.passed;
+      formatted = e.formatted;
+      spelled = e.spelled;
+      refused = e.refused;
+      bad = λ found is. (e.bad found is, e.seen found is);
+      images = e.images;
+      blank = e.blank;
+      deserved = e.deserved;
+      clean = e.clean;
+      ordered = e.ordered;
+      keeps = e.keeps;
+      guard = λ tells. (e.keeps tells).guard ∙ power-on-guards (told old) (told mid) (c.power_on.ensures.fresh tells);
+      counts = none-falls _ (counts old) (counts mid) (counts new) c.power_on.ensures.counts e.goes.costs;
+      once = stops-then _ (counts old) (counts mid) (counts new) c.power_on.ensures.counts e.goes.costs;
+      made = e.goes.costs.made ∙ c.power_on.ensures.made;
+      unarmed = (e.goes.unarmed (c.power_on.ensures.arming ∙ c.requires.unarmed)).0;
+      power = e.goes.power;
+      stopped = λ stop is. stop-cause _ stop (counts old) (counts mid) (counts new) is c.power_on.ensures.counts e.goes.costs (e.goes.unarmed (c.power_on.ensures.arming ∙ c.requires.unarmed)).1;
+    })

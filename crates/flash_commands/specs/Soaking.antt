@@ -1,0 +1,112 @@
+-- What the turns of a soak do, and what its line tells.
+use Rattle.std.specs.Prelude.{◌≡◌, ◌≢◌, ◌≤◌, ℕ, ◌+◌, Bool, cond, List, [], ◌∷◌, ◌++◌, Some, ⊤, IsTrue, IsFalse}
+use Rattle.std.specs.List.{list_any}
+use Rattle.host_io.specs.Contents.{Directory, bytes_in}
+use Rattle.fwu_model.specs.Call.{Call}
+use Rattle.fwu_model.specs.Call as call
+use Rattle.fwu_model.specs.Reply.{Reply, Turn}
+use Rattle.fwu_model.specs.Reply as reply
+use Rattle.fwu_model.specs.Run.{ends_run}
+use Rattle.fwu_model.specs.Text.{line}
+use Rattle.fwu_model.specs.Headline.{IsPrefixOf}
+use Rattle.fwu_model.specs.Causes.{status_by, note_by}
+use Rattle.fwu_model.specs.declared.kinds.Note.{Note}
+use Rattle.fwu_model.specs.declared.kinds.Note.TheVariants as note
+use Rattle.fwu_formats.specs.Digests.{passes_any}
+use Rattle.gen_core.specs.Calls.{file_name, first_package, packages_of}
+use Rattle.gen_core.specs.Line.{Started, is_booted, is_fallback, is_lost, is_sent, started}
+use Rattle.gen_core.specs.Rounds.{soak_rounds}
+use Rattle.gen_core.specs.declared.line.Totals.{Totals}
+use Rattle.gen_core.specs.declared.rounds.Cut.{Cut}
+use Rattle.script_turns.specs.Powered.{Moment}
+use Rattle.script_turns.specs.Runs.{Ran, calls_of}
+use Rattle.flash_commands.specs.Showing.{flash_fault_line}
+
+-- ---- the totals, one turn after the other
+
+abbrev pub no_totals : Totals
+no_totals = record { turns = 0; boots = 0; losses = 0; fallbacks = 0; sends = 0; bank = 0; version = 0; counter = 0 }
+
+-- the numbers of the last boot so far
+abbrev pub started_of : Totals → Started
+started_of t = record { bank = t.bank; version = t.version; counter = t.counter }
+
+-- the totals with one turn more
+abbrev pub counted : Totals → Reply → Totals
+counted t r = record {
+  turns = t.turns + 1;
+  boots = t.boots + cond (is_booted r) 1 0;
+  losses = t.losses + cond (is_lost r) 1 0;
+  fallbacks = t.fallbacks + cond (is_fallback r) 1 0;
+  sends = t.sends + cond (is_sent r) 1 0;
+  bank = (started (started_of t) r).bank;
+  version = (started (started_of t) r).version;
+  counter = (started (started_of t) r).counter;
+}
+
+-- no count is above that of the turns
+pub record AreWithin (t : Totals) : Type 0 where
+  pub boots : t.boots ≤ t.turns
+  pub losses : t.losses ≤ t.turns
+  pub fallbacks : t.fallbacks ≤ t.turns
+  pub sends : t.sends ≤ t.turns
+
+-- ---- files
+
+-- the one file of this name
+abbrev pub file_of : List ℕ → List ℕ → Directory
+file_of name bytes = bytes_in ((name, bytes) ∷ [])
+
+-- the file that the flash is formatted with
+abbrev pub first_files : ℕ → Directory
+first_files seed = file_of (file_name 0) (first_package seed)
+
+-- the packages of all rounds
+abbrev pub soak_files : ℕ → ℕ → Directory
+soak_files seed n = packages_of (soak_rounds seed n)
+
+-- it is a call of a soak, and the package that it sends is in the one file and among all
+abbrev pub AgreeFor : Directory → Directory → Call → Type 0
+AgreeFor one all (call.Send name request) = (one name ≡ all name) × (bytes : List ℕ) × (one name ≡ Some bytes)
+AgreeFor one all call.Boot = ⊤
+AgreeFor one all (call.Cut n k) = ⊤
+AgreeFor one all (call.Accepts guid) = ⊤
+AgreeFor one all call.Previous = ⊤
+AgreeFor one all other = ⊥
+
+-- a loss that may be armed
+pub record IsArmableCut (cut : Cut) : Type 0 where
+  pub some : 1 ≤ cut.n
+  pub few : cut.n ≤ 4294967295
+  pub within : cut.k ≤ 4096
+
+-- the line of a turn that ends a soak
+abbrev pub stop_text : Call → Reply → List ℕ
+stop_text c reply.Fault = flash_fault_line
+stop_text c other = line c other
+
+abbrev pub stop_line : Turn → List ℕ
+stop_line t = stop_text t.call t.reply
+
+-- ---- the turns so far
+
+-- These calls were done, in their order, and none of them ended the soak.
+pub record GoesSoaking (tells : Bool) (all : Directory) (calls : List Call) (journal : List Turn) (old new : Moment) : Type 0 where
+  pub ran : Ran passes_any tells (Some all) journal old new 0 0
+  pub calls_are : calls_of journal ≡ calls
+  pub none : IsFalse (list_any (λ (t : Turn). ends_run t.reply) journal)
+
+-- How a soak that does these calls stands:
+-- all were done; or memory was wanting for more than the first of them; or a turn ended it, whose line is in the text.
+pub data Stands (tells : Bool) (all : Directory) (calls : List Call) (journal : List Turn) (old new : Moment) (status : ℕ)
+    (noted : Note) (text : List ℕ) : Type 0 where
+  goes : status ≡ 0 → noted ≡ note.Nothing → GoesSoaking tells all calls journal old new
+      → Stands tells all calls journal old new status noted text
+  starved : status ≡ 9 → noted ≡ note.Nothing → (front : List Call) → IsPrefixOf front calls
+      → GoesSoaking tells all front journal old new
+      → Stands tells all calls journal old new status noted text
+  ended : (front : List Turn) (t : Turn) → journal ≡ front ++ t ∷ [] → IsPrefixOf (calls_of journal) calls
+      → Ran passes_any tells (Some all) journal old new 0 0
+      → IsFalse (list_any (λ (u : Turn). ends_run u.reply) front) → IsTrue (ends_run t.reply) → t.reply ≢ reply.ReadFault
+      → status ≡ status_by t.reply → noted ≡ note_by t.reply → text ≡ line t.call t.reply
+      → Stands tells all calls journal old new status noted text

@@ -1,6 +1,0 @@
-use Rattle.std.proofs.Common.{◌∙◌}
-use Rattle.script_cmd.proofs.TopPrints.{at-piece}
-use Rattle.script_cmd.proofs.refusing.put_bad_list.Goals as goal
-
-pub returns-in-Ok : goal.returns-in-Ok
-returns-in-Ok g c = at-piece _ _ _ _ _ _ _ _ (c.as_bytes.ensures.value ∙ c.in-Ok.ensures.ok) c.put_line.ensures

@@ -1,0 +1,11 @@
+pub mod Shapes
+pub mod PromiseWords
+mod RunCalls
+pub mod RunEnds
+pub mod TopReads
+pub mod TopSources
+pub mod TopPrints
+pub mod TopWays
+pub mod TableOpens
+pub mod TableWays
+mod Refused

@@ -1,0 +1,131 @@
+-- How the flash behind a partition table is found, from what its parts did.
+use Rattle.std.proofs.Common.{◌≡◌, ◌⊎◌, inl, inr, ℕ, ◌≤◌, Bool, true, false, List, ext_get_or, Some, None, sym, ap, subst, ◌∙◌, arith}
+use Rattle.std.specs.Prelude.{IsTrue, IsFalse, Result, Ok, Err}
+use Rattle.flash_core.specs.Counts.{Rose, Idles}
+use Rattle.flash_core.specs.declared.flash.FlashStop.{FlashStop}
+use Rattle.flash_core.specs.Told.{Told, NothingDirty, fresh, is_unsure}
+use Rattle.flash_core.specs.May.{NoChance}
+use Rattle.gpt_core.specs.declared.layout.Places.{Places}
+use Rattle.gpt_core.specs.declared.table.WhichTable.{WhichTable}
+use Rattle.gpt_core.specs.PlacesOf.{places_of}
+use Rattle.gpt_core.specs.Repair.{HeadersGuarded, Mends, StaysBeside}
+use Rattle.gpt_core.specs.Table.{Table, FitsTable, table_in_image}
+use Rattle.script_runs.specs.ByTable.{Starts, StopsBefore, Waits, Wakes}
+use Rattle.script_turns.specs.Powered.{Moment}
+use Rattle.script_turns.proofs.RunTurns.{rose-after, rose-before}
+
+-- ---- power that came
+
+sure : (t : Told) (i : ℕ) → NothingDirty t → IsFalse (is_unsure t i)
+unfolding fresh is_unsure
+sure t i clean = ap (λ (x : Told). is_unsure x i) clean
+
+-- it leaves the bytes of a device with nothing dirty
+pub woken-now : (old mid : Told) → NothingDirty old → Wakes old mid → mid.now ≡ old.now
+woken-now old mid clean wakes = ext_get_or 0 mid.now old.now wakes.leaves.size (λ i below. wakes.leaves.sure i (sure old i clean))
+
+pub woken-clean : (old mid : Told) → Wakes old mid → NothingDirty mid
+unfolding fresh
+woken-clean old mid wakes = wakes.fresh_is ∙ ap (λ (g : List ℕ). fresh g mid.now) (sym (ap (λ (t : Told). t.guard) wakes.fresh_is))
+
+pub woken-same : (old mid : Told) → NothingDirty old → Wakes old mid → mid ≡ old
+woken-same old mid clean wakes = wakes.fresh_is ∙ ap (fresh old.guard) (woken-now old mid clean wakes) ∙ sym clean
+
+-- ---- what was counted
+
+pub waits-idle : (old mid : Moment) → Idles old.counts mid.counts → mid.counts.made ≡ old.counts.made → mid.armed ≡ old.armed → old.armed ≡ None → Waits 0 old mid
+waits-idle old mid idles made armed none = record {
+  falls = record { faults = omega (arith, idles.faults); cuts = omega (arith, idles.cuts); reached = omega (arith, idles.reached); chances = idles.chances };
+  once = omega (arith, idles.faults, idles.cuts, idles.reached);
+  made = made;
+  reached = idles.reached;
+  armed = armed ∙ none;
+}
+
+pub waits-then : (stops : ℕ) (old mid new : Moment) → Waits 0 old mid → Waits stops mid new → Waits stops old new
+waits-then stops old mid new first then = record {
+  falls = record {
+    faults = let a = first.falls.faults in let b = then.falls.faults in omega arith;
+    cuts = let a = first.falls.cuts in let b = then.falls.cuts in omega arith;
+    reached = let a = first.falls.reached in let b = then.falls.reached in omega arith;
+    chances = let a = first.falls.chances in let b = then.falls.chances in omega arith;
+  };
+  once = omega (arith, first.once, then.once);
+  made = then.made ∙ first.made;
+  reached = then.reached ∙ first.reached;
+  armed = then.armed;
+}
+
+chance-later : (old mid new : ℕ) (N : Type 0) → mid ≤ new → Rose old mid ⊎ N → Rose old new ⊎ N
+chance-later old mid new N later (inl rose) = inl (rose-after old mid new later rose)
+chance-later old mid new N later (inr none) = inr none
+
+cause-before : (old mid new : Moment) → Waits 0 old mid → Rose mid.counts.faults new.counts.faults ⊎ Rose mid.counts.cuts new.counts.cuts
+    → Rose old.counts.faults new.counts.faults ⊎ Rose old.counts.cuts new.counts.cuts
+cause-before old mid new waits (inl fault) = inl (rose-before old.counts.faults mid.counts.faults new.counts.faults waits.falls.faults fault)
+cause-before old mid new waits (inr cut) = inr (rose-before old.counts.cuts mid.counts.cuts new.counts.cuts waits.falls.cuts cut)
+
+-- ---- a repair, done or stopped
+
+-- from where power came, by what the search found and the repair did
+module _ (stops : ℕ) (tells : Bool) (blocks m n : ℕ) (old mid found new : Moment) (table : Table) (which : WhichTable) (mid_size : m ≡ blocks) (found_size : n ≡ m)
+    (wakes : IsTrue tells → Wakes old.told mid.told) (woke : Waits 0 old mid) (looked : Waits 0 mid found) (mended : Waits stops found new) (same : IsTrue tells → found.told ≡ mid.told)
+    (decides : IsTrue tells → table_in_image m mid.told.now ≡ Some (table, which)) where
+  waited : Waits stops old new
+  waited = waits-then stops old found new (waits-then 0 old mid found woke looked) mended
+
+  size : n ≡ blocks
+  size = found_size ∙ mid_size
+
+  decides-here : IsTrue tells → table_in_image blocks mid.told.now ≡ Some (table, which)
+  decides-here told = subst (λ (k : ℕ). table_in_image k mid.told.now ≡ Some (table, which)) mid_size (decides told)
+
+  beside-here : StaysBeside n table which found.told new.told → IsTrue tells → StaysBeside blocks table which mid.told new.told
+  beside-here beside told =
+      subst (λ (t : Told). StaysBeside blocks table which t new.told) (same told) (subst (λ (k : ℕ). StaysBeside k table which found.told new.told) size beside)
+
+  mends-here : (result : Result (Unit {0}) FlashStop) → (HeadersGuarded n found.told → Mends result n table new.told) → IsTrue tells → HeadersGuarded blocks mid.told → Mends result blocks table new.told
+  mends-here result mends told =
+      subst (λ (t : Told). HeadersGuarded blocks t → Mends result blocks table new.told) (same told) (subst (λ (k : ℕ). HeadersGuarded k found.told → Mends result k table new.told) size mends)
+
+  pub starts-from : stops ≡ 0 → (p : Places) → FitsTable m table → places_of m table ≡ Ok p → (IsTrue tells → Rose old.counts.chances mid.counts.chances ⊎ NoChance old.told mid.told.now)
+      → (IsTrue tells → HeadersGuarded n found.told → Mends {T = Unit {0}} (Ok tt) n table new.told) → (IsTrue tells → StaysBeside n table which found.told new.told)
+      → (IsTrue tells → NothingDirty found.told → NothingDirty new.told) → new.on ≡ None → new.power ≡ true → Starts tells blocks old p new
+  starts-from none p fits gives chance mends beside clean not_booted power = record {
+    woken = mid.told;
+    wakes = wakes;
+    chance = λ told. chance-later old.counts.chances mid.counts.chances new.counts.chances _ (later-chances) (chance told);
+    has = record {
+      table = table;
+      which = which;
+      fits = subst (λ (k : ℕ). FitsTable k table) mid_size fits;
+      decides = decides-here;
+      gives = subst (λ (k : ℕ). places_of k table ≡ Ok p) mid_size gives;
+    };
+    mends = λ told. mends-here (Ok tt) (mends told) told;
+    beside = λ told. beside-here (beside told) told;
+    clean = λ told. clean told (subst NothingDirty (sym (same told)) (woken-clean old.told mid.told (wakes told)));
+    waits = subst (λ (k : ℕ). Waits k old new) none waited;
+    not_booted = not_booted;
+    power = power;
+  }
+    where
+      later-chances : mid.counts.chances ≤ new.counts.chances
+      later-chances = let a = looked.falls.chances in let b = mended.falls.chances in omega arith
+
+  pub stops-from : stops ≡ 1 → (stop : FlashStop) → (IsTrue tells → HeadersGuarded n found.told → Mends {T = Unit {0}} (Err stop) n table new.told) → (IsTrue tells → StaysBeside n table which found.told new.told)
+      → Rose found.counts.faults new.counts.faults ⊎ Rose found.counts.cuts new.counts.cuts → new.power ≡ false → StopsBefore tells blocks old new
+  stops-from one stop mends beside cause off = record {
+    woken = mid.told;
+    wakes = wakes;
+    left = λ told. inr (record {
+      table = table;
+      which = which;
+      decides = decides-here told;
+      stays = λ guarded. (mends-here (Err stop) (mends told) told guarded).stays;
+      beside = beside-here (beside told) told;
+    });
+    waits = subst (λ (k : ℕ). Waits k old new) one waited;
+    off = off;
+    cause = cause-before old found new (waits-then 0 old mid found woke looked) cause;
+  }

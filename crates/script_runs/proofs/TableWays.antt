@@ -1,0 +1,72 @@
+-- The ways that a run behind a partition table may end, from what its parts did.
+use Rattle.std.proofs.Common.{◌≡◌, ◌≢◌, ◌≤◌, ℕ, Bool, List, [], Option, Some, None, sym, ap, subst, ◌∙◌, arith}
+use Rattle.std.specs.Prelude.{IsTrue, IsFalse}
+use Rattle.fwu_model.specs.Call.{Call}
+use Rattle.fwu_model.specs.Reply.{Turn}
+use Rattle.fwu_model.specs.Causes.{Faults}
+use Rattle.host_io.specs.Contents.{Directory}
+use Rattle.fwu_words.specs.Order.{Asked}
+use Rattle.script_runs.specs.declared.done.Note.{Note}
+use Rattle.script_runs.specs.declared.done.Note.TheVariants as note
+use Rattle.script_runs.specs.declared.done.NoTable.{NoTable}
+use Rattle.script_runs.specs.ByTable.{Looks, StopsBefore, flash_fault_line, lacked_in, no_table_line, seen_at}
+use Rattle.script_runs.specs.Noted.{is_beyond, noted}
+use Rattle.script_turns.specs.Powered.{Moment, at}
+use Rattle.host_io.specs.Printed.{Prints, all, front, nothing}
+use Rattle.script_runs.specs.Running.{Printed}
+use Rattle.script_runs.specs.Ways.{Given, HasGoodList, Refuses}
+use Rattle.script_runs.specs.Ways as way
+use Rattle.script_runs.specs.WaysByTable.{ReadsScript, WayByTable, untouched, starved, lacked, stopped, ran}
+use Rattle.script_runs.proofs.Shapes.{device-of, end-of, world-of}
+use Rattle.script_runs.proofs.TopWays.{ran-told, refused-by, with-list}
+
+pub not-nothing : (line : List ℕ) (planned status : ℕ) (taken_before taken_after : Option (List ℕ)) (faults_before faults_after : ℕ) → planned ≢ 0 → Prints line planned status taken_before taken_after faults_before faults_after → status ≢ 0
+not-nothing line planned status taken_before taken_after faults_before faults_after some (all is appends later) zero_is = some (sym is ∙ zero_is)
+not-nothing line planned status taken_before taken_after faults_before faults_after some (front three n appends later rose) zero_is = absurd (omega arith)
+not-nothing line planned status taken_before taken_after faults_before faults_after some (nothing nine same later) zero_is = absurd (omega arith)
+
+module _ (passes : List ℕ → Bool) (tells : Bool) (blocks : ℕ) (journal : List Turn) (status : ℕ) (said : Note) (old new : Moment) (taken_before taken_after : Option (List ℕ)) where
+  -- nothing was touched, and the line of the cause was put
+  pub table-refused : (asked : Option Asked) (g : Given) (faults_before faults_after : Faults) (planned : ℕ) (line : List ℕ) (told : Note) → journal ≡ [] → new ≡ old → said ≡ told → planned ≢ 0 → IsFalse (is_beyond told)
+      → Refuses asked g faults_before faults_after planned (noted told) line → Prints line planned status taken_before taken_after faults_before.sink faults_after.sink → WayByTable passes (device-of tells blocks) asked g (end-of journal status said) (world-of old taken_before faults_before) (world-of new taken_after faults_after)
+  table-refused asked g faults_before faults_after planned line told none same is some beyond why prints =
+      untouched none same (not-nothing line planned status taken_before taken_after faults_before.sink faults_after.sink some prints) (subst (λ (n : Note). IsFalse (is_beyond n)) (sym is) beyond)
+      (refused-by passes tells journal status (noted said) old new taken_before taken_after asked g faults_before faults_after planned line (noted told) none same (ap noted is) why prints)
+
+  -- nothing was touched for want of memory
+  pub table-starved : (asked : Option Asked) (g : Given) (faults_before faults_after : Faults) → journal ≡ [] → new ≡ old → status ≡ 9 → said ≡ note.Nothing → (taken_after ≡ taken_before) × (faults_after.sink ≡ faults_before.sink) → WayByTable passes (device-of tells blocks) asked g (end-of journal status said) (world-of old taken_before faults_before) (world-of new taken_after faults_after)
+  table-starved asked g faults_before faults_after none same nine is quiet =
+      untouched none same (λ zero_is. absurd (omega arith)) (ap is_beyond is) (way.starved none same nine (ap noted is) quiet)
+
+  -- by where the search for the flash left the device
+  pub lacked-way : (asked : Option Asked) (g : Given) (faults_before faults_after : Faults) (mid : Moment) (calls : List Call) (why : NoTable) → ReadsScript asked g calls → journal ≡ [] → Looks tells old mid
+      → (IsTrue tells → lacked_in blocks mid.told.now ≡ Some why) → new ≡ mid → said ≡ note.NoTable why → Prints (no_table_line why) 10 status taken_before taken_after faults_before.sink faults_after.sink
+      → WayByTable passes (device-of tells blocks) asked g (end-of journal status said) (world-of old taken_before faults_before) (world-of new taken_after faults_after)
+  lacked-way asked g faults_before faults_after mid calls why reads none looks lacks same is prints =
+      lacked calls why reads none (subst (Looks tells old) (sym same) looks) (λ told. subst (λ (m : Moment). lacked_in blocks m.told.now ≡ Some why) (sym same) (lacks told)) is prints
+
+  pub stopped-way : (asked : Option Asked) (g : Given) (faults_before faults_after : Faults) (mid : Moment) (calls : List Call) → ReadsScript asked g calls → journal ≡ [] → StopsBefore tells blocks old mid → new ≡ mid
+      → said ≡ note.Nothing → Prints flash_fault_line 5 status taken_before taken_after faults_before.sink faults_after.sink → WayByTable passes (device-of tells blocks) asked g (end-of journal status said) (world-of old taken_before faults_before) (world-of new taken_after faults_after)
+  stopped-way asked g faults_before faults_after mid calls reads none stops same is prints = stopped calls reads none (subst (StopsBefore tells blocks old) (sym same) stops) is prints
+
+  pub starved-way : (asked : Option Asked) (g : Given) (faults_before faults_after : Faults) (mid : Moment) (calls : List Call) → ReadsScript asked g calls → journal ≡ [] → Looks tells old mid → new ≡ mid → status ≡ 9
+      → said ≡ note.Nothing → (taken_after ≡ taken_before) × (faults_after.sink ≡ faults_before.sink) → WayByTable passes (device-of tells blocks) asked g (end-of journal status said) (world-of old taken_before faults_before) (world-of new taken_after faults_after)
+  starved-way asked g faults_before faults_after mid calls reads none looks same nine is quiet = starved calls reads none (subst (Looks tells old) (sym same) looks) nine is quiet
+
+  -- a way without a list is one behind a list that was read and is one
+  pub table-with-list : (asked : Option Asked) (told files : Option Directory) (name : List ℕ) (script : Option (List ℕ)) (first faults_before faults_after : Faults) → told ≡ files → HasGoodList (Some name) files
+      → first.files ≤ faults_before.files → first.source ≡ faults_before.source → first.sink ≡ faults_before.sink
+      → WayByTable passes (device-of tells blocks) asked (record { list = None; files = told; script = script }) (end-of journal status said) (world-of old taken_before faults_before) (world-of new taken_after faults_after)
+      → WayByTable passes (device-of tells blocks) asked (record { list = Some name; files = files; script = script }) (end-of journal status said) (world-of old taken_before first) (world-of new taken_after faults_after)
+  table-with-list asked told files name script first faults_before faults_after same_files good later source sink (untouched none same other beyond w) =
+      untouched none same other beyond (with-list passes tells journal status (noted said) old new taken_before taken_after asked told files name script first faults_before faults_after same_files good later source sink w)
+  table-with-list asked told files name script first faults_before faults_after same_files good later source sink (starved calls reads none looks nine is quiet) =
+      starved calls (record { good = good; asks = reads.asks; has = reads.has }) none looks nine is (quiet.0, quiet.1 ∙ sym sink)
+  table-with-list asked told files name script first faults_before faults_after same_files good later source sink (lacked calls why reads none looks lacks is prints) =
+      lacked calls why (record { good = good; asks = reads.asks; has = reads.has }) none looks lacks is (subst (λ (n : ℕ). Prints (no_table_line why) 10 status taken_before taken_after n faults_after.sink) (sym sink) prints)
+  table-with-list asked told files name script first faults_before faults_after same_files good later source sink (stopped calls reads none stops is prints) =
+      stopped calls (record { good = good; asks = reads.asks; has = reads.has }) none stops is (subst (λ (n : ℕ). Prints flash_fault_line 5 status taken_before taken_after n faults_after.sink) (sym sink) prints)
+  table-with-list asked told files name script first faults_before faults_after same_files good later source sink (ran calls p start on from reads starts from_later does beside ended beyond printed) =
+      ran calls p start on from (record { good = good; asks = reads.asks; has = reads.has }) starts (omega arith)
+      (ran-told passes tells files told journal (seen_at p start) (seen_at p (at on new.told new.counts new.armed new.power)) from faults_after.files (sym same_files) does)
+      beside ended beyond (subst (λ (n : ℕ). Printed journal status taken_before taken_after n faults_after.sink) (sym sink) printed)

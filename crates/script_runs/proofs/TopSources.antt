@@ -1,0 +1,65 @@
+-- What a run takes of the source.
+use Rattle.std.proofs.Common.{◌≡◌, false, inl, inr, ◌≤◌, ℕ, List, [], ◌++◌, Option, Some, None, length, arith, refl, sym, ap, subst, ◌∙◌, append-nil}
+use Rattle.std.proofs.lemmas.Bool.{false≢true}
+use Rattle.std.specs.Io.KnownBytes.{Consumes, Keeps}
+use Rattle.std.proofs.KnownBytes.{Consumes-nil, Consumes-trans}
+use Rattle.host_io.specs.Calls.{raised}
+use Rattle.fwu_model.specs.Causes.{may_fail_before}
+use Rattle.fwu_model.specs.Reply.{Turn}
+use Rattle.fwu_model.specs.Script.{is_too_long}
+use Rattle.script_text.specs.Limit.{Extent}
+use Rattle.host_io.specs.Printed.{Prints}
+use Rattle.script_runs.specs.Sourced.{FailsOnce, ReadsInTime}
+use Rattle.script_runs.proofs.TopPrints.{by-plan}
+use Rattle.script_runs.proofs.TopReads.{IsReading}
+
+nothing-long : is_too_long [] ≡ false
+unfolding is_too_long
+nothing-long = refl
+
+-- nothing was read
+pub in-time-still : (was : Option (List ℕ)) → ReadsInTime was was
+in-time-still was = record { before = []; last = []; taken = Consumes-nil was; short = omega arith; within = nothing-long }
+
+pub unread-in-time : (was now : Option (List ℕ)) → now ≡ was → ReadsInTime was now
+unread-in-time was now same = subst (ReadsInTime was) (sym same) (in-time-still was)
+
+-- a read that failed took nothing
+kept : (was mid new : Option (List ℕ)) (text : List ℕ) → Consumes was mid text → Keeps mid new → Consumes was new text
+kept None mid new text c k = tt
+kept (Some xs) None new text c k = absurd c
+kept (Some xs) (Some ys) None text c k = absurd k
+kept (Some xs) (Some ys) (Some zs) text c k = c ∙ ap (λ (l : List ℕ). text ++ l) (sym k)
+
+pub in-time-failed : (was mid new : Option (List ℕ)) (before middle : ℕ) (limit : Extent) (text : List ℕ) → IsReading was mid before middle limit text → Keeps mid new → ReadsInTime was new
+in-time-failed was mid new before middle limit text r same = record {
+  before = text;
+  last = [];
+  taken = subst (λ (l : List ℕ). Consumes was new l) (sym (append-nil text)) (kept was mid new text r.consumed same);
+  short = omega arith;
+  within = r.extent.within;
+}
+
+-- the last piece that was read
+pub in-time-more : (was mid new : Option (List ℕ)) (before middle : ℕ) (limit : Extent) (text piece : List ℕ) → IsReading was mid before middle limit text → Consumes mid new piece → length piece ≤ 4096
+    → ReadsInTime was new
+in-time-more was mid new before middle limit text piece r some short = record {
+  before = text;
+  last = piece;
+  taken = Consumes-trans was mid new text piece r.consumed some;
+  short = short;
+  within = r.extent.within;
+}
+
+-- no call failed
+pub none-fails : (journal : List Turn) (status before after : ℕ) → after ≡ before → FailsOnce journal status before after
+none-fails journal status before after same = record { once = inl same; ran = λ some. same; none = λ other. same }
+
+-- one failed, and the line of that was put into the sink
+pub one-fails : (line : List ℕ) (journal : List Turn) (status : ℕ) (taken takes : Option (List ℕ)) (was are : ℕ) (before after : ℕ) → journal ≡ [] → Prints line 2 status taken takes was are
+    → after ≡ raised before → FailsOnce journal status before after
+one-fails line journal status taken takes was are before after idle prints one = record {
+  once = inr one;
+  ran = λ some. absurd (some idle);
+  none = λ other. absurd (false≢true (sym other ∙ by-plan line 2 status taken takes was are prints may_fail_before refl refl refl));
+}

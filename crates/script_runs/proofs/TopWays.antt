@@ -1,0 +1,69 @@
+-- The ways that a run may end, from what its parts did.
+use Rattle.std.proofs.Common.{◌≡◌, ◌≤◌, ℕ, Bool, true, false, List, [], Option, Some, None, refl, sym, ap, subst, ◌∙◌, arith}
+use Rattle.std.specs.Prelude.{IfSome}
+use Rattle.flash_core.specs.declared.flash.Arming.{Arming}
+use Rattle.flash_core.specs.declared.flash.Counts.{Counts}
+use Rattle.flash_core.specs.Counts.{Rose}
+use Rattle.flash_core.specs.Told.{Told}
+use Rattle.fwu_model.specs.Reply.{Turn}
+use Rattle.fwu_model.specs.Causes.{Faults}
+use Rattle.host_io.specs.Contents.{Directory}
+use Rattle.fwu_model.specs.declared.kinds.Note.{Note}
+use Rattle.fwu_words.specs.Order.{Asked, asked}
+use Rattle.script_runs.proofs.Shapes.{end-of, world-of}
+use Rattle.script_turns.specs.Powered.{Moment, at}
+use Rattle.host_io.specs.Printed.{Prints}
+use Rattle.script_runs.specs.Running.{Printed}
+use Rattle.script_turns.specs.Runs.{Ran}
+use Rattle.script_runs.specs.Ways.{Given, HasGoodList, Refuses, Way, bad_list, bad_script, list_not_read, not_read, ran, refused, starved, too_long, usage}
+
+false_true : false ≡ true → ⊥
+false_true e = cc
+
+-- a flash that is as it was
+pub same-moment : {D : Type 0} (told : D → Told) (counts : D → Counts) (arming : D → Option Arming) (on : D → Bool) (old new : D) → new ≡ old
+    → at None (told new) (counts new) (arming new) (on new) ≡ at None (told old) (counts old) (arming old) (on old)
+same-moment told counts arming on old new e = ap (λ d. at None (told d) (counts d) (arming d) (on d)) e
+
+-- a fact of what is told
+pub of-told : {A : Type 0} (told : Option A) (P : A → Type 0) → ((value : A) → told ≡ Some value → P value) → IfSome told P
+of-told None P all = tt
+of-told (Some value) P all = all value refl
+
+-- a refusal without a list is one behind a list that was read and is one
+pub refuses : (asked : Option Asked) (told files : Option Directory) (name : List ℕ) (script : Option (List ℕ)) (first faults_before faults_after : Faults) (planned : ℕ) (noted : Note) (line : List ℕ)
+    → HasGoodList (Some name) files → first.files ≤ faults_before.files → first.source ≡ faults_before.source
+    → Refuses asked (record { list = None; files = told; script = script }) faults_before faults_after planned noted line
+    → Refuses asked (record { list = Some name; files = files; script = script }) first faults_after planned noted line
+refuses asked told files name script first faults_before faults_after planned noted line good later source (usage listed is) = usage good is
+refuses asked told files name script first faults_before faults_after planned noted line good later source (not_read listed is rose) = not_read good is (subst (λ (n : ℕ). Rose n faults_after.source) (sym source) rose)
+refuses asked told files name script first faults_before faults_after planned noted line good later source (list_not_read some why) = let no : false ≡ true = some in absurd (false_true no)
+refuses asked told files name script first faults_before faults_after planned noted line good later source (too_long listed is long) = too_long good is long
+refuses asked told files name script first faults_before faults_after planned noted line good later source (bad_script n listed asks short bad) = bad_script n good asks short bad
+refuses asked told files name script first faults_before faults_after planned noted line good later source (bad_list n some there bad) = let no : false ≡ true = some in absurd (false_true no)
+
+-- turns with these files are turns with files that are told the same
+pub ran-told : (passes : List ℕ → Bool) (tells : Bool) (files told : Option Directory) (journal : List Turn) (old new : Moment) (from to : ℕ) → files ≡ told → Ran passes tells told journal old new from to
+    → Ran passes tells files journal old new from to
+ran-told passes tells files told journal old new from to same did = subst (λ (f : Option Directory). Ran passes tells f journal old new from to) (sym same) did
+
+module _ (passes : List ℕ → Bool) (tells : Bool) (journal : List Turn) (status : ℕ) (noted : Note) (old new : Moment) (taken_before taken_after : Option (List ℕ)) where
+  -- nothing ran, and the line of the cause was put
+  pub refused-by : (asked : Option Asked) (g : Given) (faults_before faults_after : Faults) (planned : ℕ) (line : List ℕ) (told : Note) → journal ≡ [] → new ≡ old → noted ≡ told → Refuses asked g faults_before faults_after planned told line
+      → Prints line planned status taken_before taken_after faults_before.sink faults_after.sink → Way passes tells asked g (end-of journal status noted) (world-of old taken_before faults_before) (world-of new taken_after faults_after)
+  refused-by asked g faults_before faults_after planned line told none same is why prints = refused planned line none same (subst (λ (n : Note). Refuses asked g faults_before faults_after planned n line) (sym is) why) prints
+
+  -- a way without a list is one behind a list that was read and is one
+  pub with-list : (asked : Option Asked) (told files : Option Directory) (name : List ℕ) (script : Option (List ℕ)) (first faults_before faults_after : Faults) → told ≡ files → HasGoodList (Some name) files
+      → first.files ≤ faults_before.files → first.source ≡ faults_before.source → first.sink ≡ faults_before.sink
+      → Way passes tells asked (record { list = None; files = told; script = script }) (end-of journal status noted) (world-of old taken_before faults_before) (world-of new taken_after faults_after)
+      → Way passes tells asked (record { list = Some name; files = files; script = script }) (end-of journal status noted) (world-of old taken_before first) (world-of new taken_after faults_after)
+  with-list asked told files name script first faults_before faults_after same_files good later source sink (starved none same nine quiet stuck) = starved none same nine quiet (stuck.0, stuck.1 ∙ sym sink)
+  with-list asked told files name script first faults_before faults_after same_files good later source sink (refused planned line none same why prints) =
+      refused planned line none same
+      (refuses asked told files name script first faults_before faults_after planned noted line good later source why)
+      (subst (λ (n : ℕ). Prints line planned status taken_before taken_after n faults_after.sink) (sym sink) prints)
+  with-list asked told files name script first faults_before faults_after same_files good later source sink (ran calls on from listed asks has from_later does ended printed) =
+      ran calls on from good asks has (omega arith)
+      (ran-told passes tells files told journal old (at on new.told new.counts new.armed new.power) from faults_after.files (sym same_files) does)
+      ended (subst (λ (n : ℕ). Printed journal status taken_before taken_after n faults_after.sink) (sym sink) printed)

@@ -1,0 +1,66 @@
+use Rattle.std.proofs.Common.{Some, ap, subst, sym}
+use Rattle.fwu_words.specs.declared.orders.Place.{Place}
+use Rattle.script_runs.specs.Here.{GoesAt}
+use Rattle.script_runs.specs.Refusing.{plain_of, text_of}
+use Rattle.script_runs.specs.Ways.{ran}
+use Rattle.script_runs.proofs.Refused.{asks-of, lacks-at, lacks-once, lacks-quiet, lacks-some}
+use Rattle.script_runs.proofs.TopPrints.{later}
+use Rattle.script_runs.proofs.TopSources.{none-fails}
+use Rattle.script_runs.proofs.TopWays.{ran-told, same-moment}
+use Rattle.script_runs.proofs.at_place.run_turns.Goals as goal
+
+-- ---- no script
+
+pub returns-in-Err-clause-way : goal.returns-in-Err-clause-way
+returns-in-Err-clause-way g c = λ given was are listed told before.
+    let e = c.refuse.ensures in
+    lacks-at _ _ _ _ _ _ _ _ _ _ c.args.order.from given (g.I.Source.left c.args.source.now) (record was { source = g.I.Source.faults c.args.source.now; sink = g.O.Sink.faults c.args.sink.now })
+    (record are { files = g.H.Files.faults c.args.files.now; source = g.I.Source.faults c.script_of.new.source; sink = g.O.Sink.faults c.refuse.new.sink }) c.in-Err.why c.args.order.place listed c.in-Err.ensures.lacks e.no_turns
+    (same-moment g.D.Flash.told g.D.Flash.counts g.D.Flash.arming g.D.Flash.on _ _ e.flash) e.note e.prints
+    (λ none. let stuck = e.starved none in (stuck.0, ap g.O.Sink.taken stuck.1, ap g.O.Sink.faults stuck.1))
+
+pub returns-in-Err-clause-note : goal.returns-in-Err-clause-note
+returns-in-Err-clause-note g c = λ flash. lacks-quiet _ _ _ _ c.in-Err.why _ c.in-Err.ensures.lacks c.refuse.ensures.note
+
+pub returns-in-Err-clause-source_count : goal.returns-in-Err-clause-source_count
+returns-in-Err-clause-source_count g c = lacks-once _ _ _ _ c.in-Err.why _ _ _ _ _ _ c.in-Err.ensures.lacks c.refuse.ensures.no_turns c.refuse.ensures.prints
+
+pub returns-in-Err-clause-later_sink : goal.returns-in-Err-clause-later_sink
+returns-in-Err-clause-later_sink g c = later _ _ _ _ _ _ _ c.refuse.ensures.prints
+
+pub returns-in-Err-clause-read_to_end : goal.returns-in-Err-clause-read_to_end
+returns-in-Err-clause-read_to_end g c = λ zero source. absurd (lacks-some c.in-Err.why _ _ _ _ _ c.refuse.ensures.prints zero)
+
+-- ---- on the device
+
+pub returns-in-Flash-clause-way : goal.returns-in-Flash-clause-way
+returns-in-Flash-clause-way g c = λ given was are listed told before.
+    let e = c.run_script.ensures in
+    let from = c.args.order.from in
+    let left = g.I.Source.left c.args.source.now in
+    subst (λ (p : Place). GoesAt p g.D.Flash g.H.Files g.O.Sink (g.V.Verifier.passes c.args.verifier.now) (Some (plain_of from)) (record given { script = text_of from left }) (record was { source = g.I.Source.faults c.args.source.now })
+    (record are { source = g.I.Source.faults c.script_of.new.source }) c.args.flash c.args.sink.now c.run_script.result c.run_script.new.files c.run_script.new.sink) (sym c.in-Flash.is)
+    (ran _ e.ran.0 (g.H.Files.faults c.args.files.now) listed (asks-of from) c.in-Ok.ensures.script before (ran-told _ _ _ _ _ _ _ _ _ told (rw c.off.ensures.device at e.ran.1)) e.ended e.printed)
+
+pub returns-in-Flash-clause-boot_files : goal.returns-in-Flash-clause-boot_files
+returns-in-Flash-clause-boot_files g c = λ boot. c.run_script.ensures.files (c.in-Ok.ensures.boot_sends boot)
+
+pub returns-in-Flash-clause-source_count : goal.returns-in-Flash-clause-source_count
+returns-in-Flash-clause-source_count g c = none-fails _ _ _ _ c.in-Ok.ensures.quiet
+
+-- ---- behind its partition table
+
+pub returns-in-Partitions-clause-way : goal.returns-in-Partitions-clause-way
+returns-in-Partitions-clause-way g c = λ given was are listed told before.
+    let from = c.args.order.from in
+    let left = g.I.Source.left c.args.source.now in
+    subst (λ (p : Place). GoesAt p g.D.Flash g.H.Files g.O.Sink (g.V.Verifier.passes c.args.verifier.now) (Some (plain_of from)) (record given { script = text_of from left }) (record was { source = g.I.Source.faults c.args.source.now })
+    (record are { source = g.I.Source.faults c.script_of.new.source }) c.args.flash c.args.sink.now c.run_by_table.result c.run_by_table.new.files c.run_by_table.new.sink) (sym c.in-Partitions.is)
+    (c.run_by_table.ensures.way (Some (plain_of from)) (record given { script = text_of from left }) (record was { source = g.I.Source.faults c.args.source.now }) (record are { source = g.I.Source.faults c.script_of.new.source })
+    (record { good = listed; asks = asks-of from; has = c.in-Ok.ensures.script }) told before)
+
+pub returns-in-Partitions-clause-boot_files : goal.returns-in-Partitions-clause-boot_files
+returns-in-Partitions-clause-boot_files g c = λ boot. c.run_by_table.ensures.files (c.in-Ok.ensures.boot_sends boot)
+
+pub returns-in-Partitions-clause-source_count : goal.returns-in-Partitions-clause-source_count
+returns-in-Partitions-clause-source_count g c = none-fails _ _ _ _ c.in-Ok.ensures.quiet

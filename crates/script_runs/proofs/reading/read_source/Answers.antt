@@ -1,0 +1,74 @@
+use Rattle.std.proofs.Common.{arith, ap, ◌∙◌, List, subst, sym, ℕ}
+use Rattle.std.specs.Prelude.{not}
+use Rattle.host_io.specs.Calls.{raised}
+use Rattle.host_io.proofs.Once.{bytes-none, bytes-one, bytes-then, once-one, once-then}
+use Rattle.script_runs.proofs.TopReads.{IsReading, goes-on, is-long, nothing-yet}
+use Rattle.script_runs.proofs.TopSources.{in-time-failed, in-time-more}
+use Rattle.script_runs.proofs.reading.read_source.Goals as goal
+
+pub returns-then-feed-count-clause-long : goal.returns-then-feed-count-clause-long
+returns-then-feed-count-clause-long g c = λ _.
+    is-long _ _ _ _ _ c.loop-count.limit _ _ c.feed.result c.loop-count.invariant.text c.in-Ok.ensures.bytes.0 (omega (arith, c.if-feed-count.true, c.in-Ok.ensures.bound.1)) c.feed.ensures.full
+
+pub loop-count-init : goal.loop-count-init
+loop-count-init g c = record {
+  text =
+      let left = g.I.Source.left c.args.source.now in
+      let faults = g.I.Source.faults c.args.source.now in
+      subst (λ (l : List ℕ). IsReading left left faults faults c.new-limit.result l) (sym c.new-text.ensures.items) (nothing-yet left faults c.new-limit.result c.new-limit.ensures);
+  reads = bytes-none g.I.Source g.met.I.Source.at_rest c.args.source.now;
+}
+
+pub loop-count-preserved : goal.loop-count-preserved
+loop-count-preserved g c = record {
+  text =
+      goes-on _ _ _ _ _ _ c.loop-count.limit _ _ _ _ c.in-Ok.count c.feed.result _ c.loop-count.invariant.text c.in-Ok.ensures.count c.in-Ok.ensures.bytes.0 c.in-Ok.ensures.bound.1
+      c.feed.ensures.some c.if-feed-count.false c.feed.ensures.taken c.extend_from_slice.ensures.items (c.is_err.ensures.negation ∙ ap not c.if-is_err.false);
+  reads =
+      bytes-then g.I.Source g.met.I.Source.joins c.args.source.now c.loop-count.source c.read.new.self c.loop-count.invariant.reads
+      (bytes-one g.I.Source c.loop-count.source c.read.new.self _ c.in-Ok.ensures.made (omega arith));
+}
+
+-- ---- what was read, and how often that failed
+
+pub returns-in-Err-clause-in_time : goal.returns-in-Err-clause-in_time
+returns-in-Err-clause-in_time g c = in-time-failed _ _ _ _ _ c.loop-count.limit _ c.loop-count.invariant.text c.in-Err.ensures.bytes
+
+pub returns-in-Err-clause-count : goal.returns-in-Err-clause-count
+returns-in-Err-clause-count g c = c.in-Err.ensures.count ∙ ap raised c.loop-count.invariant.text.none
+
+pub returns-then-count-eq0-clause-in_time : goal.returns-then-count-eq0-clause-in_time
+returns-then-count-eq0-clause-in_time g c = in-time-more _ _ _ _ _ c.loop-count.limit _ _ c.loop-count.invariant.text c.in-Ok.ensures.bytes.0 (omega (arith, c.in-Ok.ensures.bound.0, c.in-Ok.ensures.bound.1))
+
+pub returns-then-count-eq0-clause-count : goal.returns-then-count-eq0-clause-count
+returns-then-count-eq0-clause-count g c = c.in-Ok.ensures.count ∙ c.loop-count.invariant.text.none
+
+pub returns-then-feed-count-clause-in_time : goal.returns-then-feed-count-clause-in_time
+returns-then-feed-count-clause-in_time g c = in-time-more _ _ _ _ _ c.loop-count.limit _ _ c.loop-count.invariant.text c.in-Ok.ensures.bytes.0 (omega (arith, c.in-Ok.ensures.bound.0, c.in-Ok.ensures.bound.1))
+
+pub returns-then-feed-count-clause-count : goal.returns-then-feed-count-clause-count
+returns-then-feed-count-clause-count g c = c.in-Ok.ensures.count ∙ c.loop-count.invariant.text.none
+
+pub returns-then-is_err-clause-in_time : goal.returns-then-is_err-clause-in_time
+returns-then-is_err-clause-in_time g c = in-time-more _ _ _ _ _ c.loop-count.limit _ _ c.loop-count.invariant.text c.in-Ok.ensures.bytes.0 (omega (arith, c.in-Ok.ensures.bound.0, c.in-Ok.ensures.bound.1))
+
+pub returns-then-is_err-clause-count : goal.returns-then-is_err-clause-count
+returns-then-is_err-clause-count g c = c.in-Ok.ensures.count ∙ c.loop-count.invariant.text.none
+
+-- ---- no read behind the end, or behind a failure
+
+pub returns-in-Err-clause-once : goal.returns-in-Err-clause-once
+returns-in-Err-clause-once g c =
+    once-then g.I.Source g.met.I.Source.joins c.args.source.now c.loop-count.source c.read.new.self c.loop-count.invariant.reads (once-one g.I.Source c.loop-count.source c.read.new.self _ c.in-Err.ensures.made)
+
+pub returns-then-count-eq0-clause-once : goal.returns-then-count-eq0-clause-once
+returns-then-count-eq0-clause-once g c =
+    once-then g.I.Source g.met.I.Source.joins c.args.source.now c.loop-count.source c.read.new.self c.loop-count.invariant.reads (once-one g.I.Source c.loop-count.source c.read.new.self _ c.in-Ok.ensures.made)
+
+pub returns-then-feed-count-clause-once : goal.returns-then-feed-count-clause-once
+returns-then-feed-count-clause-once g c =
+    once-then g.I.Source g.met.I.Source.joins c.args.source.now c.loop-count.source c.read.new.self c.loop-count.invariant.reads (once-one g.I.Source c.loop-count.source c.read.new.self _ c.in-Ok.ensures.made)
+
+pub returns-then-is_err-clause-once : goal.returns-then-is_err-clause-once
+returns-then-is_err-clause-once g c =
+    once-then g.I.Source g.met.I.Source.joins c.args.source.now c.loop-count.source c.read.new.self c.loop-count.invariant.reads (once-one g.I.Source c.loop-count.source c.read.new.self _ c.in-Ok.ensures.made)

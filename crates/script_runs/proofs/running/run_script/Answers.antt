@@ -1,0 +1,116 @@
+use Rattle.std.proofs.Common.{◌≡◌, ◌+◌, ◌-◌, List, [], length, IsTrue, IsFalse, Option, None, Some, refl, sym, ap, subst, ◌∙◌, arith}
+use Rattle.std.specs.List.{slice_get}
+use Rattle.std.proofs.lemmas.List.{length-set}
+use Rattle.fwu_model.specs.Call.{Call}
+use Rattle.fwu_model.specs.Call as call
+use Rattle.fwu_model.specs.Reply.{Turn}
+use Rattle.fwu_model.specs.Run.{is_send}
+use Rattle.agent_machine.specs.Fields.{Fields}
+use Rattle.fwu_journal.specs.declared.journal.Journal.{Journal}
+use Rattle.fwu_journal.specs.Shown.{HasRoomFor, turns}
+use Rattle.script_text.specs.Shown.{shown}
+use Rattle.script_turns.specs.Powered.{at, device, has_power, moment_of, shown_on}
+use Rattle.script_turns.specs.Runs.{Ran, calls_of, sends_none}
+use Rattle.script_runs.proofs.RunCalls.{left-behind, reads-none, sends-more}
+use Rattle.script_runs.proofs.RunEnds.{GoesOn, none-left, goes-none, goes-on, ends-ran, ends-by, ends-printed, all-ended, all-printed, steps-printed, steps-told}
+use Rattle.script_runs.proofs.TopPrints.{done-planned}
+use Rattle.script_runs.proofs.running.run_script.Goals as goal
+
+pub loop-index-init : goal.loop-index-init
+loop-index-init g c =
+    let d = device c.args.start in
+    let old = at None (g.D.Flash.told d) (g.D.Flash.counts d) (g.D.Flash.arming d) (g.D.Flash.on d) in
+    let passes = g.V.Verifier.passes c.args.verifier.now in
+    let files = g.H.Files.contents c.args.files.now in
+    let from = g.H.Files.faults c.args.files.now in
+    let taken = g.O.Sink.taken c.args.sink.now in
+    let was = g.O.Sink.faults c.args.sink.now in
+    let powered = sym c.new-run.ensures.powered in
+    let none : turns c.new-run.result.journal ≡ [] = ap turns c.new-run.ensures.journal ∙ none-left (turns c.args.ready.room.journal) c.args.ready.no_turns in
+    let goes = goes-none passes g.D.Flash.tells files c.args.ready.script old from taken was refl in
+    let begun = subst (λ (on : Option Fields). GoesOn passes g.D.Flash.tells files c.args.ready.script 0 [] old (at on old.told old.counts old.armed old.power) from from taken taken was was) (sym c.requires.not_booted) goes in
+    record {
+      goes = subst (λ (p : _). GoesOn passes g.D.Flash.tells files c.args.ready.script 0 (turns c.new-run.result.journal) old (moment_of p) from from taken taken was was) powered
+          (subst (λ (j : List Turn). GoesOn passes g.D.Flash.tells files c.args.ready.script 0 j old (moment_of c.args.start) from from taken taken was was) (sym none) begun);
+      length_is = refl;
+      calls_left = λ k behind. refl;
+      powered = subst (λ (p : _). g.D.Flash.on (device p) ≡ has_power p) powered c.requires.powered;
+      turns_fit = subst (λ (j : Journal). HasRoomFor j (length c.args.ready.script - 0)) (sym c.new-run.ensures.journal) (omega (arith, c.args.ready.turns_fit));
+      size = ap (λ (p : _). g.D.Flash.blocks (device p)) (sym powered);
+      same_files = refl;
+      unwritten = refl;
+      files = λ none. refl;
+      unsent = λ none. refl;
+    }
+
+pub loop-index-preserved : goal.loop-index-preserved
+loop-index-preserved g c =
+    let was = c.loop-index.invariant in
+    let taken_call = shown c.take-call.result in
+    let at_call : slice_get c.args.ready.script c.loop-index.index ≡ Some taken_call = sym (was.calls_left c.loop-index.index (omega arith)) ∙ c.take-call.ensures.call in
+    record {
+      goes = goes-on _ _ _ _ _ _ _ _ c.loop-index.index taken_call _ _ _ _ _ _ _ _ _ _ _ _ refl was.goes at_call (steps-told _ _ _ _ _ _ _ _ _ _ _ _ _ _ _ _ _ c.loop-index.invariant.same_files (steps-printed c.do_call-end.ensures.does c.as_slice.ensures.value c.put_line-status.ensures)) c.if-status-ne0.false;
+      length_is = ap length c.take-call.ensures.left ∙ length-set c.loop-index.script c.loop-index.index call.Show ∙ was.length_is;
+      calls_left = λ k behind. ap (λ (l : List Call). slice_get l k) c.take-call.ensures.left ∙ left-behind c.loop-index.script c.loop-index.index call.Show k behind ∙ was.calls_left k (omega arith);
+      powered = c.do_call-end.ensures.powered (done-planned _ _ _ _ _ _ _ c.put_line-status.ensures c.if-status-ne0.false);
+      turns_fit = c.do_call-end.ensures.turns_fit (length c.args.ready.script - (c.loop-index.index + 1)) (omega (arith, was.turns_fit));
+      size = c.do_call-end.ensures.size ∙ was.size;
+      same_files = c.do_call-end.ensures.same_files ∙ was.same_files;
+      unwritten = c.do_call-end.ensures.unwritten ∙ was.unwritten;
+      files = λ none. c.do_call-end.ensures.files (reads-none c.args.ready.script c.loop-index.index taken_call none at_call) ∙ was.files none;
+      unsent = λ none.
+          let step = steps-printed c.do_call-end.ensures.does c.as_slice.ensures.value c.put_line-status.ensures in
+          let parts = sends-more (turns c.loop-index.run.journal) _ step.turn step.kept none in
+          c.do_call-end.ensures.files (subst (λ (x : Call). IsFalse (is_send x)) step.turns.call_is parts.1) ∙ was.unsent parts.0;
+    }
+
+pub returns-then-status-ne0-clause-ran : goal.returns-then-status-ne0-clause-ran
+returns-then-status-ne0-clause-ran g c =
+    let d = device c.args.start in
+    let old = at None (g.D.Flash.told d) (g.D.Flash.counts d) (g.D.Flash.arming d) (g.D.Flash.on d) in
+    let passes = g.V.Verifier.passes c.args.verifier.now in
+    let files = g.H.Files.contents c.args.files.now in
+    let from = g.H.Files.faults c.args.files.now in
+    let to = g.H.Files.faults c.do_call-end.new.files in
+    let m = c.do_call-end.new.run.powered in (
+      shown_on m,
+      subst (λ (x : g.row.D.Denot). Ran passes g.D.Flash.tells files (turns c.into_done.result.journal) old (at (shown_on m) (g.D.Flash.told x) (g.D.Flash.counts x) (g.D.Flash.arming x) (g.D.Flash.on x)) from to) (sym c.into_done.ensures.flash)
+          (subst (λ (j : Journal). Ran passes g.D.Flash.tells files (turns j) old (at (shown_on m) (g.D.Flash.told (device m)) (g.D.Flash.counts (device m)) (g.D.Flash.arming (device m)) (g.D.Flash.on (device m))) from to) (sym c.into_done.ensures.journal)
+          (ends-ran _ _ _ _ _ _ _ _ c.loop-index.index (shown c.take-call.result) _ _ _ _ _ _ _ _ _ _ _ _ refl c.loop-index.invariant.goes (steps-told _ _ _ _ _ _ _ _ _ _ _ _ _ _ _ _ _ c.loop-index.invariant.same_files (steps-printed c.do_call-end.ensures.does c.as_slice.ensures.value c.put_line-status.ensures)))),
+    )
+
+pub returns-then-status-ne0-clause-ended : goal.returns-then-status-ne0-clause-ended
+returns-then-status-ne0-clause-ended g c =
+    let at_call : slice_get c.args.ready.script c.loop-index.index ≡ Some (shown c.take-call.result) = sym (c.loop-index.invariant.calls_left c.loop-index.index (omega arith)) ∙ c.take-call.ensures.call in
+    rw c.into_done.ensures.journal (rw c.into_done.ensures.status (rw c.into_done.ensures.note
+    (ends-by _ _ _ _ _ _ _ _ c.loop-index.index (shown c.take-call.result) _ _ _ _ _ _ _ _ _ _ _ _ c.loop-index.invariant.goes at_call (steps-told _ _ _ _ _ _ _ _ _ _ _ _ _ _ _ _ _ c.loop-index.invariant.same_files (steps-printed c.do_call-end.ensures.does c.as_slice.ensures.value c.put_line-status.ensures)) c.if-status-ne0.true)))
+
+pub returns-then-status-ne0-clause-printed : goal.returns-then-status-ne0-clause-printed
+returns-then-status-ne0-clause-printed g c =
+    rw c.into_done.ensures.journal (rw c.into_done.ensures.status
+    (ends-printed _ _ _ _ _ _ _ _ c.loop-index.index (shown c.take-call.result) _ _ _ _ _ _ _ _ _ _ _ _ c.loop-index.invariant.goes (steps-told _ _ _ _ _ _ _ _ _ _ _ _ _ _ _ _ _ c.loop-index.invariant.same_files (steps-printed c.do_call-end.ensures.does c.as_slice.ensures.value c.put_line-status.ensures))))
+
+pub returns-then-status-ne0-clause-files : goal.returns-then-status-ne0-clause-files
+returns-then-status-ne0-clause-files g c = λ none.
+    let at_call : slice_get c.args.ready.script c.loop-index.index ≡ Some (shown c.take-call.result) = sym (c.loop-index.invariant.calls_left c.loop-index.index (omega arith)) ∙ c.take-call.ensures.call in
+    c.do_call-end.ensures.files (reads-none c.args.ready.script c.loop-index.index (shown c.take-call.result) none at_call) ∙ c.loop-index.invariant.files none
+
+pub returns-clause-ended : goal.returns-clause-ended
+returns-clause-ended g c =
+    let end : c.loop-index.index ≡ length c.args.ready.script = omega (arith, c.loop-index-test.false, c.loop-index.auto.index-end, c.len-index-end.ensures) in
+    rw c.into_done-2.ensures.journal (rw c.into_done-2.ensures.status (rw c.into_done-2.ensures.note (all-ended _ _ _ _ _ _ _ _ _ _ _ _ _ (rw end at c.loop-index.invariant.goes))))
+
+pub returns-clause-printed : goal.returns-clause-printed
+returns-clause-printed g c =
+    let end : c.loop-index.index ≡ length c.args.ready.script = omega (arith, c.loop-index-test.false, c.loop-index.auto.index-end, c.len-index-end.ensures) in
+    rw c.into_done-2.ensures.journal (rw c.into_done-2.ensures.status (all-printed _ _ _ _ _ _ _ _ _ _ _ _ _ (rw end at c.loop-index.invariant.goes)))
+
+pub returns-then-status-ne0-clause-unsent : goal.returns-then-status-ne0-clause-unsent
+returns-then-status-ne0-clause-unsent g c = λ none.
+    let step = steps-printed c.do_call-end.ensures.does c.as_slice.ensures.value c.put_line-status.ensures in
+    let still = subst (λ (j : Journal). IsTrue (sends_none (calls_of (turns j)))) c.into_done.ensures.journal none in
+    let parts = sends-more (turns c.loop-index.run.journal) _ step.turn step.kept still in
+    c.do_call-end.ensures.files (subst (λ (x : Call). IsFalse (is_send x)) step.turns.call_is parts.1) ∙ c.loop-index.invariant.unsent parts.0
+
+pub returns-clause-unsent : goal.returns-clause-unsent
+returns-clause-unsent g c = λ none. c.loop-index.invariant.unsent (subst (λ (j : Journal). IsTrue (sends_none (calls_of (turns j)))) c.into_done-2.ensures.journal none)

@@ -1,0 +1,63 @@
+-- The ways that `run --gpt` or `boot --gpt` may end, and what they promise.
+use Rattle.std.specs.Prelude.{◌≡◌, ◌≢◌, ◌≤◌, ℕ, Bool, List, [], Option, Some, IsTrue, IsFalse}
+use Rattle.gpt_core.specs.declared.layout.Places.{Places}
+use Rattle.gpt_core.specs.Beside.{Beside}
+use Rattle.fwu_model.specs.Call.{Call}
+use Rattle.agent_machine.specs.Fields.{Fields}
+use Rattle.fwu_words.specs.Order.{Asked}
+use Rattle.fwu_words.specs.declared.orders.Place.{Place}
+use Rattle.fwu_words.specs.declared.orders.Place.TheVariants as place
+use Rattle.script_runs.specs.declared.done.Note.{Note}
+use Rattle.script_runs.specs.declared.done.Note.TheVariants as note
+use Rattle.script_runs.specs.declared.done.NoTable.{NoTable}
+use Rattle.script_runs.specs.ByTable.{Looks, Starts, StopsBefore, flash_fault_line, lacked_in, no_table_line, seen_at}
+use Rattle.script_runs.specs.Ending.{Device, Ending, PutsNone, World, in_model}
+use Rattle.script_runs.specs.Noted.{is_beyond, noted}
+use Rattle.script_turns.specs.Powered.{Moment, at}
+use Rattle.host_io.specs.Printed.{Prints}
+use Rattle.script_runs.specs.Running.{Ended, Printed}
+use Rattle.script_turns.specs.Runs.{Ran}
+use Rattle.script_runs.specs.Ways.{AsksTurns, Given, HasCalls, HasGoodList, Way}
+
+-- the script was read whole, and has these calls
+pub record ReadsScript (asked : Option Asked) (g : Given) (calls : List Call) : Type 0 where
+  pub good : HasGoodList g.list g.files
+  pub asks : AsksTurns asked
+  pub has : HasCalls g.script calls
+
+-- It ended before the device was touched, as without a table; or power came and memory was wanting, or the table
+-- gave no flash, or the device stopped, before the first turn; or the turns ran on the flash that the device has at
+-- the table's places.
+pub data WayByTable (passes : List ℕ → Bool) (device : Device) (asked : Option Asked) (g : Given)
+    (ending : Ending Note) (old new : World) : Type 0 where
+  untouched : ending.journal ≡ [] → new.flash ≡ old.flash → ending.status ≢ 0 → IsFalse (is_beyond ending.noted)
+      → Way passes device.tells asked g (in_model ending) old new
+      → WayByTable passes device asked g ending old new
+  starved : (calls : List Call) → ReadsScript asked g calls → ending.journal ≡ []
+      → Looks device.tells old.flash new.flash
+      → ending.status ≡ 9 → ending.noted ≡ note.Nothing → PutsNone old new
+      → WayByTable passes device asked g ending old new
+  lacked : (calls : List Call) (why : NoTable) → ReadsScript asked g calls → ending.journal ≡ []
+      → Looks device.tells old.flash new.flash
+      → (IsTrue device.tells → lacked_in device.blocks new.flash.told.now ≡ Some why)
+      → ending.noted ≡ note.NoTable why
+      → Prints (no_table_line why) 10 ending.status old.taken new.taken old.faults.sink new.faults.sink
+      → WayByTable passes device asked g ending old new
+  stopped : (calls : List Call) → ReadsScript asked g calls → ending.journal ≡ []
+      → StopsBefore device.tells device.blocks old.flash new.flash → ending.noted ≡ note.Nothing
+      → Prints flash_fault_line 5 ending.status old.taken new.taken old.faults.sink new.faults.sink
+      → WayByTable passes device asked g ending old new
+  ran : (calls : List Call) (p : Places) (start : Moment) (on : Option Fields) (from : ℕ)
+      → ReadsScript asked g calls → Starts device.tells device.blocks old.flash p start
+      → old.faults.files ≤ from
+      → Ran passes device.tells g.files ending.journal (seen_at p start)
+      (seen_at p (at on new.flash.told new.flash.counts new.flash.armed new.flash.power)) from new.faults.files
+      → (IsTrue device.tells → Beside p start.told new.flash.told)
+      → Ended calls ending.journal ending.status (noted ending.noted) → IsFalse (is_beyond ending.noted)
+      → Printed ending.journal ending.status old.taken new.taken old.faults.sink new.faults.sink
+      → WayByTable passes device asked g ending old new
+
+-- The ways that a run may end at the place that was asked for.
+abbrev pub WayAt : Place → (List ℕ → Bool) → Device → Option Asked → Given → Ending Note → World → World → Type 0
+WayAt place.Flash passes device asked g ending old new = Way passes device.tells asked g (in_model ending) old new
+WayAt place.Partitions passes device asked g ending old new = WayByTable passes device asked g ending old new

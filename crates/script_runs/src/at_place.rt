@@ -1,0 +1,68 @@
+//! A run at the place that is asked for: on the flash as it is, or on the one that the device has behind its partition table.
+ghost use Rattle.std.specs.Prelude.{◌≡◌, ◌≤◌, [], None, IfSome, IsTrue, IsFalse};
+ghost use Rattle.host_io.specs.Once.{ReadsOnce};
+ghost use Rattle.fwu_model.specs.Causes.{Faults};
+ghost use Rattle.fwu_journal.specs.Shown.{turns};
+ghost use Rattle.fwu_words.specs.declared.orders.Place.TheVariants as place;
+ghost use Rattle.fwu_words.specs.declared.orders.ScriptFrom.TheVariants as origin;
+ghost use Rattle.script_runs.specs.Here.{GoesFor};
+ghost use Rattle.script_runs.specs.Noted.{is_beyond};
+ghost use Rattle.script_runs.specs.Sourced.{FailsOnce, ReadsInTime};
+ghost use Rattle.script_runs.specs.Ways.{Given, HasGoodList};
+ghost use Rattle.script_turns.specs.Runs.{calls_of, sends_none};
+
+use crate::done::Done;
+use crate::partitioned::run_by_table;
+use crate::reading::script_of;
+use crate::refusing::refuse;
+use crate::running::run_script;
+use flash_core::Flash;
+use fwu_words::{Place, Turns};
+use host_io::{Files, Sink, Source};
+use script_turns::Powered;
+use std::alloc::Global;
+use verify_core::Verifier;
+
+/// Does the turns that are asked for, at the place that is asked for. The script is read first, and room is made for its turns.
+pub fn run_turns<D: Flash, H: Files, I: Source, O: Sink, V: Verifier>(
+    alloc: Global,
+    order: Turns,
+    files: &mut H,
+    source: &mut I,
+    sink: &mut O,
+    flash: D,
+    verifier: &V,
+) -> Done<D>
+    requires off { IsFalse (D.on flash) }
+    requires unarmed { D.arming flash ≡ None }
+    ensures way { (g : Given) (was are : Faults) → HasGoodList g.list g.files
+        → g.files ≡ H.contents files.old → was.files ≤ H.faults files.old
+        → GoesFor order D.Flash H.Files I.Source O.Sink (V.passes verifier.now) g was are
+        flash source.old sink.old result files.new source.new sink.new }
+    ensures note { order.place ≡ place.Flash → IsFalse (is_beyond result.note) }
+    // What it reads: for one boot neither the source nor a file, and a file only for a `send`.
+    ensures boot_source { order.from ≡ origin.Boot → source.new ≡ source.old }
+    ensures boot_files { order.from ≡ origin.Boot → files.new ≡ files.old }
+    ensures unsent { IsTrue (sends_none (calls_of (turns result.journal))) → files.new ≡ files.old }
+    ensures same_files { H.contents files.new ≡ H.contents files.old }
+    ensures unwritten { H.writes files.new ≡ H.writes files.old }
+    ensures read_to_end { result.status ≡ 0 → order.from ≡ origin.Source
+        → IfSome (I.left source.new) (λ rest. rest ≡ []) }
+    ensures in_time { ReadsInTime (I.left source.old) (I.left source.new) }
+    ensures source_count { FailsOnce (turns result.journal) result.status (I.faults source.old)
+        (I.faults source.new) }
+    ensures later_files { H.faults files.old ≤ H.faults files.new }
+    ensures later_source { I.faults source.old ≤ I.faults source.new }
+    ensures later_sink { O.faults sink.old ≤ O.faults sink.new }
+    ensures once { ReadsOnce I.Source source.old source.new }
+    ensures size { D.blocks result.flash ≡ D.blocks flash }
+{
+    let ready = match script_of(alloc, order.from, source) {
+        Ok(ready) => ready,
+        Err(why) => return refuse(alloc, sink, why, flash),
+    };
+    match order.place {
+        Place::Flash => run_script(alloc, ready, files, sink, Powered::off(flash), verifier),
+        Place::Partitions => run_by_table(alloc, ready, files, sink, flash, verifier),
+    }
+}
