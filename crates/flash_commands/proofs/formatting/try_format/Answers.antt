@@ -1,4 +1,5 @@
 use Rattle.std.proofs.Common.{ℕ, None, ap, subst, ◌∙◌}
+use Rattle.std.proofs.lemmas.Result.{IfOk-weaker}
 use Rattle.flash_commands.specs.Formatting.{Tries}
 use Rattle.script_turns.specs.Powered.{at}
 use Rattle.flash_commands.proofs.ShowFlash.{power-on-guards, power-on-keeps, none-falls, stops-then}
@@ -20,20 +21,20 @@ returns-clause-tries g c =
       mid = told mid;
       fresh = λ tells clean. power-on-keeps (told old) (told mid) clean (c.power_on.ensures.fresh tells) (c.power_on.ensures.leaves tells);
       woken = λ tells. record { fresh_is = c.power_on.ensures.fresh tells; leaves = c.power_on.ensures.leaves tells };
-      layout = e.layout;
-      answers = e.answers;
-      some = e.some;
+      layout = e.input.layout;
+      answers = e.input.answers;
+      some = e.input.some;
       untouched = λ early. ap told (e.untouched early);
       missing = λ lacks. let m = e.missing lacks in (m.0, ap told m.1);
       failed = e.failed;
-      reads = e.reads;
-      unread_once = e.once;
+      reads = e.reads.cause;
+      unread_once = e.reads.once;
       given = e.given;
-      passed = e.passed;
-      formatted = e.formatted;
-      spelled = e.spelled;
+      passed = IfOk-weaker c.format.result _ _ (λ done made. made.passed) e.made;
+      formatted = IfOk-weaker c.format.result _ _ (λ done made. made.formatted) e.made;
+      spelled = IfOk-weaker c.format.result _ _ (λ done made. made.spelled) e.made;
       refused = e.refused;
-      bad = λ found is. (e.bad found is, e.seen found is);
+      bad = λ found is. (e.refuses.bad found is, e.refuses.seen found is);
       images = e.images;
       blank = e.blank;
       deserved = e.deserved;
