@@ -146,7 +146,7 @@ pub record UnreadTakes (writes size : ℕ) (entries : List Entry) (armed arming 
   pub more : size * pieces < (slice_index_or entries images no_entry).size
   pub takes : Takes (writes + writes_up_to size entries images pieces) armed arming
 
--- What a sending takes, by its result: of entries that are so, with so many erases and programs up to its end, and so many behind its
+-- What a sending of such entries takes, by its result: so many erases and programs up to its end, of which so many are those of its
 -- begin. There is no other.
 pub record SendTakesBy {T : Type 0} (result : Result T SendStop) (writes begun size : ℕ) (IsSent : List Entry → Type 0)
     (armed arming : Option Arming) : Type 0 where
