@@ -4,6 +4,7 @@ mod RunCalls
 pub mod RunEnds
 pub mod TopReads
 pub mod TopSources
+mod Making
 pub mod TopPrints
 pub mod TopWays
 pub mod TableOpens

@@ -6,5 +6,6 @@ pub mod Ways
 pub mod ByTable
 pub mod WaysByTable
 pub mod Refusing
+pub mod Making
 pub mod Here
 pub mod Done

@@ -1,14 +1,12 @@
 //! The script that is to run, with the room for its turns. It is there before the flash is touched.
-ghost use Rattle.std.specs.Prelude.{◌≡◌, ◌≤◌, ℕ, List, [], Some, Err, IfErr, IfOk, OnOk, IsTrue, length, false};
+ghost use Rattle.std.specs.Prelude.{◌≡◌, ◌≤◌, ℕ, List, [], Some, Err, IfOk, OnOk, IsTrue, length, false};
 ghost use Rattle.std.specs.Io.KnownBytes.{IsAtEnd};
 ghost use Rattle.flash_core.specs.Counts.{Rose};
 ghost use Rattle.fwu_model.specs.Script.{is_too_long};
 ghost use Rattle.host_io.specs.Once.{ReadsOnce};
 ghost use Rattle.fwu_words.specs.declared.orders.ScriptFrom.TheVariants as origin;
-ghost use Rattle.script_runs.specs.Refusing.{LacksScript, text_of};
+ghost use Rattle.script_runs.specs.Making.{MakesScript};
 ghost use Rattle.script_runs.specs.Sourced.{ReadsInTime, read_failures};
-ghost use Rattle.script_runs.specs.Ways.{HasCalls};
-ghost use Rattle.script_turns.specs.Runs.{sends_none};
 
 use crate::refusing::Refusal;
 use crate::room::{Ready, Room};
@@ -67,14 +65,7 @@ pub fn read_source<I: Source>(alloc: Global, source: &mut I) -> Result<Vec<u8>, 
 
 /// Reads a script from the source, and parses it.
 fn read_whole<I: Source>(alloc: Global, source: &mut I) -> Result<Script, Refusal>
-    ensures script { IfOk result (HasCalls (I.left source.old)) }
-    ensures lacks { IfErr result (LacksScript origin.Source (I.left source.old)
-        (I.faults source.old) (I.faults source.new)) }
-    ensures to_end { OnOk result (IsAtEnd (I.left source.new)) }
-    ensures quiet { OnOk result (I.faults source.new ≡ I.faults source.old) }
-    ensures in_time { ReadsInTime (I.left source.old) (I.left source.new) }
-    ensures later { I.faults source.old ≤ I.faults source.new }
-    ensures once { ReadsOnce I.Source source.old source.new }
+    ensures { MakesScript I.Source origin.Source (λ script. script) result source.old source.new }
 {
     let text = match read_source(alloc, source) {
         Ok(text) => text,
@@ -95,16 +86,7 @@ fn calls_asked<I: Source>(
     from: ScriptFrom,
     source: &mut I,
 ) -> Result<Script, Refusal>
-    ensures script { IfOk result (HasCalls (text_of from (I.left source.old))) }
-    ensures lacks { IfErr result (LacksScript from (I.left source.old) (I.faults source.old)
-        (I.faults source.new)) }
-    ensures boot_alone { from ≡ origin.Boot → source.new ≡ source.old }
-    ensures boot_sends { from ≡ origin.Boot → IfOk result (λ script. IsTrue (sends_none script)) }
-    ensures to_end { from ≡ origin.Source → OnOk result (IsAtEnd (I.left source.new)) }
-    ensures quiet { OnOk result (I.faults source.new ≡ I.faults source.old) }
-    ensures in_time { ReadsInTime (I.left source.old) (I.left source.new) }
-    ensures later { I.faults source.old ≤ I.faults source.new }
-    ensures once { ReadsOnce I.Source source.old source.new }
+    ensures { MakesScript I.Source from (λ script. script) result source.old source.new }
 {
     match from {
         ScriptFrom::Source => read_whole(alloc, source),
@@ -122,17 +104,7 @@ pub fn script_of<I: Source>(
     from: ScriptFrom,
     source: &mut I,
 ) -> Result<Ready, Refusal>
-    ensures script { IfOk result (λ ready. HasCalls (text_of from (I.left source.old)) ready.script) }
-    ensures lacks { IfErr result (LacksScript from (I.left source.old) (I.faults source.old)
-        (I.faults source.new)) }
-    ensures boot_alone { from ≡ origin.Boot → source.new ≡ source.old }
-    ensures boot_sends { from ≡ origin.Boot
-        → IfOk result (λ ready. IsTrue (sends_none ready.script)) }
-    ensures to_end { from ≡ origin.Source → OnOk result (IsAtEnd (I.left source.new)) }
-    ensures quiet { OnOk result (I.faults source.new ≡ I.faults source.old) }
-    ensures in_time { ReadsInTime (I.left source.old) (I.left source.new) }
-    ensures later { I.faults source.old ≤ I.faults source.new }
-    ensures once { ReadsOnce I.Source source.old source.new }
+    ensures { MakesScript I.Source from (λ ready. ready.script) result source.old source.new }
 {
     let script = match calls_asked(alloc, from, source) {
         Ok(script) => script,

@@ -1,0 +1,128 @@
+-- Making the script of a run.
+use Rattle.std.proofs.Common.{◌≡◌, ◌≤◌, List, [], ◌∷◌, Ok, Err, ap, arith, refl, subst, sym, ◌∙◌}
+use Rattle.std.specs.Prelude.{IsTrue}
+use Rattle.std.specs.Io.KnownBytes.{IsAtEnd}
+use Rattle.host_io.specs.Once.{ReadsOnce}
+use Rattle.host_io.specs.declared.source.Source as source
+use Rattle.fwu_model.specs.Call.{Call}
+use Rattle.fwu_model.specs.Call as call
+use Rattle.fwu_words.specs.declared.orders.ScriptFrom.{ScriptFrom}
+use Rattle.fwu_words.specs.declared.orders.ScriptFrom.TheVariants as origin
+use Rattle.script_turns.specs.Runs.{sends_none}
+use Rattle.script_runs.specs.Making.{MakesScript}
+use Rattle.script_runs.specs.Refusing.{LacksScript, starved}
+use Rattle.script_runs.specs.Sourced.{ReadsInTime}
+use Rattle.script_runs.specs.Ways.{HasCalls}
+use Rattle.script_runs.specs.declared.refusing.Refusal.{Refusal}
+use Rattle.script_runs.specs.declared.refusing.Refusal.TheVariants as why
+use Rattle.script_runs.proofs.PromiseWords.{boot-is-script, boot-is-short}
+use Rattle.script_runs.proofs.TopSources.{in-time-still}
+
+source-not-boot : {A : Type 0} → origin.Source ≡ origin.Boot → A
+source-not-boot e = absurd cc
+
+boot-not-source : {A : Type 0} → origin.Boot ≡ origin.Source → A
+boot-not-source e = absurd cc
+
+-- ---- by a source that was read
+
+module _ {I : Type 0} (s : source.Ghosts I) (old new : I) (timely : ReadsInTime (s.left old) (s.left new)) (later : s.faults old ≤ s.faults new) (once : ReadsOnce s old new) where
+  -- it gave a script
+  pub makes-read : (calls : List Call) → HasCalls (s.left old) calls → IsAtEnd (s.left new) → s.faults new ≡ s.faults old → MakesScript s origin.Source (λ script. script) (Ok calls) old new
+  makes-read calls has end quiet = record {
+    script = has;
+    lacks = tt;
+    boot_alone = source-not-boot;
+    boot_sends = source-not-boot;
+    to_end = λ is. end;
+    quiet = quiet;
+    in_time = timely;
+    later = later;
+    once = once;
+  }
+
+  -- it gave none
+  pub lacks-read : (met : Refusal) → LacksScript origin.Source (s.left old) (s.faults old) (s.faults new) met → MakesScript s origin.Source (λ (script : List Call). script) (Err met) old new
+  lacks-read met lacks = record {
+    script = tt;
+    lacks = lacks;
+    boot_alone = source-not-boot;
+    boot_sends = source-not-boot;
+    to_end = λ is. tt;
+    quiet = tt;
+    in_time = timely;
+    later = later;
+    once = once;
+  }
+
+-- ---- of one boot, for which nothing is read
+
+module _ {I : Type 0} (s : source.Ghosts I) (at : I) (still : ReadsOnce s at at) (from : ScriptFrom) (boot : from ≡ origin.Boot) where
+  pub makes-boot : (calls : List Call) → calls ≡ call.Boot ∷ [] → MakesScript s from (λ script. script) (Ok calls) at at
+  makes-boot calls is = subst (λ (f : ScriptFrom). MakesScript s f (λ script. script) (Ok calls) at at) (sym boot) (record {
+    script = (boot-is-short, boot-is-script ∙ ap Ok (sym is));
+    lacks = tt;
+    boot_alone = λ again. refl;
+    boot_sends = λ again. subst (λ (l : List Call). IsTrue (sends_none l)) (sym is) refl;
+    to_end = boot-not-source;
+    quiet = refl;
+    in_time = in-time-still (s.left at);
+    later = omega arith;
+    once = still;
+  })
+
+  pub starves-boot : MakesScript s from (λ (script : List Call). script) (Err why.NoMemory) at at
+  starves-boot = subst (λ (f : ScriptFrom). MakesScript s f (λ (script : List Call). script) (Err why.NoMemory) at at) (sym boot) (record {
+    script = tt;
+    lacks = starved refl;
+    boot_alone = λ again. refl;
+    boot_sends = λ again. tt;
+    to_end = boot-not-source;
+    quiet = tt;
+    in_time = in-time-still (s.left at);
+    later = omega arith;
+    once = still;
+  })
+
+-- ---- with the room for its turns
+
+module _ {I R : Type 0} (s : source.Ghosts I) (from : ScriptFrom) (calls : R → List Call) (old new : I) where
+  pub makes-ready : (made : R) → MakesScript s from (λ script. script) (Ok (calls made)) old new → MakesScript s from calls (Ok made) old new
+  makes-ready made m = record {
+    script = m.script;
+    lacks = tt;
+    boot_alone = m.boot_alone;
+    boot_sends = m.boot_sends;
+    to_end = m.to_end;
+    quiet = m.quiet;
+    in_time = m.in_time;
+    later = m.later;
+    once = m.once;
+  }
+
+  pub lacks-ready : (met : Refusal) → MakesScript s from (λ (script : List Call). script) (Err met) old new → MakesScript s from calls (Err met) old new
+  lacks-ready met m = record {
+    script = tt;
+    lacks = m.lacks;
+    boot_alone = m.boot_alone;
+    boot_sends = λ boot. tt;
+    to_end = λ is. tt;
+    quiet = tt;
+    in_time = m.in_time;
+    later = m.later;
+    once = m.once;
+  }
+
+  -- no memory for the turns, behind a script that was read
+  pub lacks-room : (script : List Call) → MakesScript s from (λ script. script) (Ok script) old new → MakesScript s from calls (Err why.NoMemory) old new
+  lacks-room script m = record {
+    script = tt;
+    lacks = starved m.quiet;
+    boot_alone = m.boot_alone;
+    boot_sends = λ boot. tt;
+    to_end = λ is. tt;
+    quiet = tt;
+    in_time = m.in_time;
+    later = m.later;
+    once = m.once;
+  }
