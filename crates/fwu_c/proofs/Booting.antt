@@ -1,5 +1,6 @@
 -- A boot, by what its device tells and by its steps.
-use Rattle.std.proofs.Common.{◌≡◌, ◌∙◌, ◌⊎◌, ◌≤◌, inl, inr, refl, ℕ, ◌*◌, List, [], length, Some, None, ap, sym, subst, take, arith}
+use Rattle.std.proofs.Common.{◌≡◌, ◌∙◌, ◌⊎◌, ◌≤◌, ◌*◌, inl, inr, refl, ap, sym, subst, ℕ, true, List, [], length, take, arith}
+use Rattle.std.proofs.Common.{Some, None}
 use Rattle.std.specs.Prelude.{IsTrue}
 use Rattle.base_core.specs.Block.{block_bytes}
 use Rattle.flash_core.specs.Told.{Told, fresh}
@@ -11,7 +12,7 @@ use Rattle.early_boot.specs.EndsBy.{BootEnds, EndsByBytes}
 use Rattle.step_flash.specs.declared.flash.StepFlash.{StepFlash}
 use Rattle.step_flash.specs.declared.device.StepParts.{StepParts}
 use Rattle.step_flash.specs.declared.step.Step.{Step}
-use Rattle.step_flash.specs.Flash.{NotedBy, block_count, counts_of, flash_sizes, told_of, image_of, package_of}
+use Rattle.step_flash.specs.Flash.{NotedBy, block_count, counts_of, flash_sizes, is_on, told_of, image_of, package_of}
 use Rattle.step_flash.specs.Guard.{guard_with, start, start_with}
 use Rattle.step_flash.specs.Stopped.{under_as}
 use Rattle.step_flash.specs.Steps.{AreDoable, run_with}
@@ -20,7 +21,7 @@ use Rattle.step_flash.proofs.Guards.{told_is}
 use Rattle.fwu_c.specs.declared.report.Report.{Report}
 use Rattle.fwu_c.specs.Boots.{BootsBy}
 use Rattle.fwu_c.specs.Codes.{end_code}
-use Rattle.fwu_c.specs.Handed.{HandsOver, HasFlashSize, IsDeviceEnd, IsStart, IsWithinWith, SameBut, is_idle}
+use Rattle.fwu_c.specs.Handed.{HandsOver, HasFlashSize, IsDeviceEnd, IsNew, IsStart, IsWithinWith, SameBut, is_idle}
 use Rattle.fwu_c.specs.Reports.{ReportsEnd, ReportsStart}
 
 kept : (old t : Told) → t ≡ old → t.guard ≡ old.guard
@@ -97,6 +98,15 @@ boot_end_is e old new spends =
 -- what a device lies over has the size of a flash
 pub has_flash_size : (image : List ℕ) (d : StepFlash) → length image ≡ block_bytes * block_count d → HasFlashSize image
 has_flash_size image d size = record { blocks = block_count d; fewest = (flash_sizes d).0; most = (flash_sizes d).1; size = size }
+
+-- it was just made over the image
+pub made_new : (image file : List ℕ) (d : StepFlash) → told_of d ≡ start_with image file → is_on d ≡ true → image_of d ≡ image
+    → length image ≡ block_bytes * block_count d → IsNew file d
+made_new image file d made on is size = record {
+  on = on;
+  fresh = made ∙ sym (ap (λ (i : List ℕ). start_with i file) is);
+  size = ap (λ (i : List ℕ). length i) is ∙ size;
+}
 
 -- it is over the image, with the package, and its steps lie within both
 pub record IsOver (image file : List ℕ) (d : StepFlash) (r : Report) (steps : List Step) (room : List ℕ) : Type 0 where

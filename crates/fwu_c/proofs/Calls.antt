@@ -96,8 +96,9 @@ take_up_not e number is (inr seven) = elim (few_codes e) [
   | inr other ↦ omega (arith, other, is, seven)
 ]
 
-pub take_up_end_is : (bank number : ℕ) (told : Report) (old t : Told) → Refuses bank number told old t → IsDeviceEnd number
-take_up_end_is bank number told old t refuses =
+pub take_up_end_is : (bank number : ℕ) (first left : StepFlash) (old told : Report)
+    → Refuses bank number first left old told → IsDeviceEnd number
+take_up_end_is bank number first left old told refuses =
     let is = sym refuses.number_is in
     (refuses.unlost, λ six. take_up_not refuses.end number is (inl six), λ seven. take_up_not refuses.end number is (inr seven))
 
@@ -247,23 +248,25 @@ calls_by image bank c first d e number told r steps room made size same_size gua
     }
 
 -- the bank was not taken up
-pub refused_by : (image : List ℕ) (bank : ℕ) (c : Call) (first d : StepFlash) (number given : ℕ) (told r : Report) (steps : List Step) (room : List ℕ)
-    → told_of first ≡ start image → length image ≡ block_bytes * block_count first → block_count d ≡ block_count first
-    → Refuses bank given told (told_of first) (told_of d) → HandsOver d told r steps room → number ≡ given → CallsBy image bank c number r steps room
-refused_by image bank c first d number given told r steps room made size same_size refuses hands is =
-    calls_by image bank c first d (not_taken refuses.end) number told r steps room made size same_size
+pub refused_by : (image : List ℕ) (bank : ℕ) (c : Call) (first d : StepFlash) (number given : ℕ) (old told r : Report)
+    (steps : List Step) (room : List ℕ)
+    → told_of first ≡ start image → length image ≡ block_bytes * block_count first → Refuses bank given first d old told
+    → HandsOver d told r steps room → number ≡ given → CallsBy image bank c number r steps room
+refused_by image bank c first d number given old told r steps room made size refuses hands is =
+    calls_by image bank c first d (not_taken refuses.end) number told r steps room made size refuses.size
     (take_up_guard bank (told_of first) (told_of d) refuses.end refuses.ends.by_bytes)
     (refuses.is, subst (λ (x : Told). TakeUpEnds (λ m. passes_any m) bank x refuses.end (told_of d)) made refuses.ends) hands (is ∙ refuses.number_is)
     (take_up_same refuses.end told r refuses.is hands.same refuses.reports)
 
 -- it was, and the call was made
-pub called_by : (image : List ℕ) (bank : ℕ) (c : Call) (first mid d : StepFlash) (b : Started) (result : Result (Unit {0}) Stop) (number : ℕ) (told r : Report) (steps : List Step) (room : List ℕ)
-    → told_of first ≡ start image → length image ≡ block_bytes * block_count first → block_count d ≡ block_count first
-    → Takes bank b told (told_of first) (told_of mid) → CallsFrom c b result (told_of mid) (told_of d) → HandsOver d told r steps room
+pub called_by : (image : List ℕ) (bank : ℕ) (c : Call) (first mid d : StepFlash) (b : Started)
+    (result : Result (Unit {0}) Stop) (number : ℕ) (old told r : Report) (steps : List Step) (room : List ℕ)
+    → told_of first ≡ start image → length image ≡ block_bytes * block_count first → block_count d ≡ block_count mid
+    → Takes bank b first mid old told → CallsFrom c b result (told_of mid) (told_of d) → HandsOver d told r steps room
     → number ≡ call_code result → CallsBy image bank c number r steps room
-called_by image bank c first mid d b result number told r steps room made size same_size takes calls hands is =
+called_by image bank c first mid d b result number old told r steps room made size same_size takes calls hands is =
     let from_image = subst (λ (x : Told). TakeUpEnds (λ m. passes_any m) bank x (taken b) (told_of mid)) made takes.ends in
-    calls_by image bank c first d (called b result) number told r steps room made size same_size
+    calls_by image bank c first d (called b result) number told r steps room made size (same_size ∙ takes.size)
     (guard_is image bank c b result (told_of mid) (told_of d) from_image takes.runs calls ∙ take_up_guard bank (told_of first) (told_of mid) (taken b) takes.ends.by_bytes)
     (makes_call image bank c b result (told_of mid) (told_of d) from_image takes.runs calls) hands is (start_same b told r hands.same takes.reports)
 
@@ -284,18 +287,6 @@ take_up_idle bank (stopped flash_stop.Lost) old t began ends idle = absurd (cc)
 take_up_idle bank (stopped flash_stop.Failed) old t began ends idle = absurd (cc)
 
 -- a call that was made has none of these numbers
-pub call_busy : (result : Result (Unit {0}) Stop) → IsTrue (is_idle (call_code result)) → ⊥
-call_busy (Ok x) idle = absurd (cc)
-call_busy (Err (stop.Status status.Denied)) idle = absurd (cc)
-call_busy (Err (stop.Status status.AuthFail)) idle = absurd (cc)
-call_busy (Err (stop.Status status.Unknown)) idle = absurd (cc)
-call_busy (Err (stop.Status status.Busy)) idle = absurd (cc)
-call_busy (Err (stop.Status status.OutOfBounds)) idle = absurd (cc)
-call_busy (Err (stop.Status status.NotAvailable)) idle = absurd (cc)
-call_busy (Err stop.Lost) idle = absurd (cc)
-call_busy (Err stop.Fault) idle = absurd (cc)
-call_busy (Err stop.Gone) idle = absurd (cc)
-
 pub call_starts : (result : Result (Unit {0}) Stop) → IsTrue (starts_none (call_code result)) → ⊥
 call_starts (Ok x) none = absurd (cc)
 call_starts (Err (stop.Status status.Denied)) none = absurd (cc)

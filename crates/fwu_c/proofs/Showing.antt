@@ -1,5 +1,6 @@
 -- The banks of what an image shows.
-use Rattle.std.proofs.Common.{◌≡◌, ◌∙◌, refl, None, sym, ap, ℕ, ◌*◌, ◌/◌, ◌≤◌, ◌⊎◌, inl, inr, subst, List, length, Ok, Option, Some, arith}
+use Rattle.std.proofs.Common.{◌≡◌, ◌∙◌, refl, None, sym, ap, ℕ, ◌*◌, ◌/◌, ◌≤◌, List, length, Ok, Option, Some, arith}
+use Rattle.std.specs.Prelude.{◌↔◌}
 use Rattle.std.proofs.lemmas.List.{length-map}
 use Rattle.base_core.specs.Block.{block, block_bytes}
 use Rattle.meta_layout.proofs.Places.{length-listed}
@@ -11,7 +12,8 @@ use Rattle.fwu_model.specs.State.{Bank, Numbers, State}
 use Rattle.fwu_model.specs.Seen.{bank_in, seen, seen_by, seen_with, state_of}
 use Rattle.early_boot.specs.Numbers.{ShowsNumbers}
 use Rattle.early_boot.proofs.Lookups.{layout-inside}
-use Rattle.fwu_c.specs.Shows.{ShowsBy}
+use Rattle.fwu_c.specs.Handed.{HasFlashSize}
+use Rattle.fwu_c.specs.Shows.{TellsShown}
 use Rattle.fwu_c.specs.declared.show.BankShown.{BankShown}
 use Rattle.fwu_c.specs.declared.show.FlashShown.{FlashShown}
 
@@ -45,12 +47,17 @@ pub same_bank : (state verdict version image state2 verdict2 version2 image2 : �
     (record { state = state2; verdict = verdict2; version = version2; image = image2; accepted = accepted2 })
 same_bank state verdict version image state2 verdict2 version2 image2 accepted accepted2 a b c d e = cc
 
--- ---- numbers
+-- ---- what is told
 
-pub no_other : (n k : ℕ) → (n ≡ 0) ⊎ (n ≡ 7) → n ≡ k → (0 ≡ k → ⊥) → (7 ≡ k → ⊥) → ⊥
-no_other n k (inl zero) is low high = low (sym zero ∙ is)
-no_other n k (inr seven) is low high = high (sym seven ∙ is)
+-- the bytes are those of a flash, and the number isn't 6
+pub no_six : (image : List ℕ) (number : ℕ) → HasFlashSize image → (number ≡ 6 → ⊥) → (number ≡ 6) ↔ (HasFlashSize image → ⊥)
+no_six image number is other = (λ six. absurd (other six), λ none. absurd (none is))
 
-pub all_shown : (image : List ℕ) (s : FlashShown) (n : ℕ) → (n ≡ 0) ⊎ (n ≡ 7) → (n ≡ 0 → ShowsBy image 0 s) → n ≤ 5 → ShowsBy image n s
-all_shown image s n (inl zero) shows few = subst (λ k. ShowsBy image k s) (sym zero) (shows zero)
-all_shown image s n (inr seven) shows few = absurd (omega (arith, seven, few))
+pub tells_nothing : (image : List ℕ) (number : ℕ) (s : FlashShown) → (number ≡ 6) ↔ (HasFlashSize image → ⊥)
+    → TellsShown image number s s
+tells_nothing image number s no_flash = record { fault = λ one. refl; behind = refl; no_flash = no_flash; untouched = λ low. refl }
+
+-- of a flash
+pub tells_none : (image : List ℕ) (number : ℕ) (s : FlashShown) → HasFlashSize image → (number ≡ 6 → ⊥)
+    → TellsShown image number s s
+tells_none image number s is other = tells_nothing image number s (no_six image number is other)

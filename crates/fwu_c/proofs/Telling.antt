@@ -1,47 +1,54 @@
 -- What a call promises that tells steps, whatever it is asked for.
-use Rattle.std.proofs.Common.{◌≡◌, ◌∙◌, ◌⊎◌, inl, inr, refl, sym, subst, ℕ, List, length, arith}
-use Rattle.std.specs.Prelude.{◌↔◌, IsTrue}
+use Rattle.std.proofs.Common.{◌≡◌, ◌∙◌, ◌⊎◌, ◌==◌, inl, inr, refl, ap, sym, subst, ℕ, Bool, List, length, arith}
+use Rattle.std.specs.Prelude.{◌↔◌, ◌||◌, IsTrue}
 use Rattle.step_flash.specs.declared.step.Step.{Step}
 use Rattle.fwu_c.specs.declared.report.Report.{Report}
 use Rattle.step_flash.specs.declared.flash.Unmade.{Unmade}
 use Rattle.step_flash.specs.declared.flash.Unmade.TheVariants.{NoFlash, NoMemory}
 use Rattle.step_flash.specs.Unmade.{IsUnmade}
-use Rattle.fwu_c.specs.Handed.{HasFlashSize, IsDeviceEnd, IsUntouched, KeepsReport, SameBut, TellsSteps, is_idle, starts_none, unmade_code}
+use Rattle.fwu_c.specs.Handed.{HasFlashSize, IsDeviceEnd, IsUntouched, KeepsReport, SameStart, TellsSteps}
+use Rattle.fwu_c.specs.Handed.{is_idle, starts_none, unmade_code}
 
 stays : (r : Report) (steps : List Step) (room : List ℕ) → IsUntouched r steps room r steps room
 stays r steps room = record { report_stays = refl; steps_stay = refl; room_stays = refl }
 
-pub keeps_stays : (number : ℕ) (r : Report) → KeepsReport number r r
-keeps_stays number r = record {
-  fault = λ other. refl;
-  banks = λ idle. (refl, refl);
-  start = λ none. record { bank = refl; version = refl; trials = refl; counter = refl; fallback = refl; images = refl; lengths = refl };
+-- a start was not told
+same_start : (r : Report) (fault : ℕ) → SameStart r (record r { layout_fault = fault })
+same_start r fault = record {
+  bank = refl;
+  version = refl;
+  trials = refl;
+  counter = refl;
+  fallback = refl;
+  images = refl;
+  lengths = refl;
 }
 
+pub keeps_stays : (number : ℕ) (r : Report) → KeepsReport number r r
+keeps_stays number r = record { fault = λ other. refl; banks = λ idle. (refl, refl); start = λ none. same_start r r.layout_fault }
+
+pub idle_starts : (number : ℕ) → IsTrue (is_idle number) → IsTrue (starts_none number)
+idle_starts number idle = ap (λ (b : Bool). b || number == 3) idle
+
 -- where a bank was started
-pub keeps_fault : (number : ℕ) (old new : Report) → new.layout_fault ≡ old.layout_fault → (IsTrue (is_idle number) → ⊥)
-    → (IsTrue (starts_none number) → ⊥) → KeepsReport number old new
-keeps_fault number old new same busy starts = record {
+pub keeps_fault : (number : ℕ) (old new : Report) → new.layout_fault ≡ old.layout_fault → (IsTrue (starts_none number) → ⊥)
+    → KeepsReport number old new
+keeps_fault number old new same starts = record {
   fault = λ other. same;
-  banks = λ idle. absurd (busy idle);
+  banks = λ idle. absurd (starts (idle_starts number idle));
   start = λ none. absurd (starts none);
 }
 
--- with other numbers of steps and of bytes
-pub keeps_but : (number : ℕ) (old told new : Report) → SameBut told new → KeepsReport number old told → KeepsReport number old new
-keeps_but number old told new same kept = subst (KeepsReport number old) (sym same) (record {
-  fault = kept.fault;
-  banks = kept.banks;
-  start = λ none. let s = kept.start none in record {
-    bank = s.bank;
-    version = s.version;
-    trials = s.trials;
-    counter = s.counter;
-    fallback = s.fallback;
-    images = s.images;
-    lengths = s.lengths;
-  };
-})
+pub keeps_started : (old new : Report) → new.layout_fault ≡ old.layout_fault → KeepsReport 0 old new
+keeps_started old new same = keeps_fault 0 old new same (λ none. absurd (cc))
+
+-- where the layout is refused
+pub keeps_but_fault : (r : Report) (fault : ℕ) → KeepsReport 1 r (record r { layout_fault = fault })
+keeps_but_fault r fault = record {
+  fault = λ other. absurd (other refl);
+  banks = λ idle. (refl, refl);
+  start = λ none. same_start r fault;
+}
 
 -- at 6 and 7 all stays as it was
 pub told_no_flash : (image : List ℕ) (r : Report) (steps : List Step) (room : List ℕ) → (HasFlashSize image → ⊥)

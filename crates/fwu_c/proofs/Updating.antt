@@ -26,11 +26,11 @@ use Rattle.step_flash.specs.Stopped.{under_as}
 use Rattle.step_flash.specs.Steps.{AreDoable, IsInsideWith, run_with}
 use Rattle.fwu_c.specs.declared.report.Report.{Report}
 use Rattle.fwu_c.specs.Codes.{end_code}
-use Rattle.fwu_c.specs.Handed.{HandsOver, HasFlashSize, IsDeviceEnd, TellsSteps, is_idle, starts_none}
-use Rattle.fwu_c.specs.Reports.{ReportsEnd, ReportsStart}
+use Rattle.fwu_c.specs.Handed.{HandsOver, HasFlashSize, IsDeviceEnd, TellsSteps, starts_none}
 use Rattle.update_client.specs.declared.stops.SendStop.TheVariants.{MissingImage, ImageTooLarge, Begin, End, ReadFailed, Lost, Fault, Gone}
 use Rattle.fwu_c.specs.Sendings.{InstallsBy, IsOutcome, Outcome, outcome_code}
-use Rattle.fwu_c.specs.Updates.{IsNotBooted, IsOnTrial, StartsNone, UpdateEnds, Updated, UpdatesBy, on_trial, not_booted, tried, update_code, ReportsUpdate}
+use Rattle.fwu_c.specs.Updates.{Boots, IsNotBooted, IsOnTrial, StartsNone, UpdateEnds, Updated, UpdatesBy}
+use Rattle.fwu_c.specs.Updates.{on_trial, not_booted, tried, update_code, ReportsUpdate}
 use Rattle.fwu_c.proofs.SentPackage.{setting_of}
 use Rattle.fwu_c.proofs.Telling.{keeps_fault, told_handed}
 use Rattle.fwu_c.proofs.Booting.{code_few, end_same, guard_kept, over, start_same}
@@ -116,18 +116,6 @@ outcome_not_seven (Some (Err Lost)) is e = is
 outcome_not_seven (Some (Err Fault)) is e = omega (arith, e)
 outcome_not_seven (Some (Err Gone)) is e = is
 
-pub outcome_busy : (outcome : Outcome) → IsTrue (is_idle (outcome_code outcome)) → ⊥
-outcome_busy None idle = absurd (cc)
-outcome_busy (Some (Ok sent)) idle = absurd (cc)
-outcome_busy (Some (Err (MissingImage guid))) idle = absurd (cc)
-outcome_busy (Some (Err (ImageTooLarge guid))) idle = absurd (cc)
-outcome_busy (Some (Err (Begin st))) idle = absurd (cc)
-outcome_busy (Some (Err (End st))) idle = absurd (cc)
-outcome_busy (Some (Err ReadFailed)) idle = absurd (cc)
-outcome_busy (Some (Err Lost)) idle = absurd (cc)
-outcome_busy (Some (Err Fault)) idle = absurd (cc)
-outcome_busy (Some (Err Gone)) idle = absurd (cc)
-
 pub outcome_starts : (outcome : Outcome) → IsTrue (starts_none (outcome_code outcome)) → ⊥
 outcome_starts None none = absurd (cc)
 outcome_starts (Some (Ok sent)) none = absurd (cc)
@@ -147,8 +135,8 @@ outcome_end_is outcome is = (outcome_not_four outcome is, outcome_not_six outcom
 none_not_six : (e : Ended) → IsNotBooted e → (end_code e ≡ 6 → ⊥) × (end_code e ≡ 7 → ⊥)
 none_not_six e is = let few = code_few e in (λ six. omega (arith, few, six), λ seven. omega (arith, few, seven))
 
-pub none_end_is : (number : ℕ) (r : Report) (old t : Told) → StartsNone number r old t → IsDeviceEnd number
-none_end_is number r old t none =
+pub none_end_is : (number : ℕ) (first left : StepFlash) (old r : Report) → StartsNone number first left old r → IsDeviceEnd number
+none_end_is number first left old r none =
     let not = none_not_six none.end none.is in (none.unlost, λ six. not.0 (sym none.number_is ∙ six), λ seven. not.1 (sym none.number_is ∙ seven))
 
 -- an update is refused before it boots
@@ -156,7 +144,8 @@ pub told_denied : (image : List ℕ) (old : Report) (old_steps : List Step) (old
     → HasFlashSize image → new.layout_fault ≡ old.layout_fault → TellsSteps image 16 old old_steps old_room new steps room
 told_denied image old old_steps old_room new steps room is same =
     told_handed image 16 16 old old_steps old_room new steps room is (λ four. omega (arith, four), λ six. omega (arith, six), λ seven. omega (arith, seven))
-    (inl refl) (λ idle. absurd (cc)) (keeps_fault 16 old new same (λ idle. absurd (cc)) (λ none. absurd (cc))) (λ five. absurd (omega (arith, five))) (λ seven. absurd (omega (arith, seven)))
+    (inl refl) (λ idle. absurd (cc)) (keeps_fault 16 old new same (λ none. absurd (cc)))
+    (λ five. absurd (omega (arith, five))) (λ seven. absurd (omega (arith, seven)))
 
 -- ---- the record
 
@@ -178,14 +167,15 @@ updates_by image file request first d e number told r steps room made size same_
     }
 
 -- the boot started no bank
-pub unbooted_by : (image file : List ℕ) (request : ℕ) (first d : StepFlash) (e : Ended) (number : ℕ) (told r : Report) (steps : List Step) (room : List ℕ)
-    → told_of first ≡ start_with image file → length image ≡ block_bytes * block_count first → block_count d ≡ block_count first
-    → IsNotBooted e → BootEnds (λ m. passes_any m) (told_of first) e (told_of d) → HandsOver d told r steps room
-    → number ≡ end_code e → ReportsEnd e told → UpdatesBy image file request number r steps room
-unbooted_by image file request first d e number told r steps room made size same_size not ends hands is reports =
-    updates_by image file request first d (not_booted e) number told r steps room made size same_size
-    (guard_kept (told_of first) (told_of d) e ends.by_bytes)
-    (not, subst (λ (x : Told). BootEnds (λ m. passes_any m) x e (told_of d)) made ends) hands is (end_same e told r hands.same reports)
+pub unbooted_by : (image file : List ℕ) (request : ℕ) (first d : StepFlash) (number given : ℕ) (old told r : Report)
+    (steps : List Step) (room : List ℕ)
+    → told_of first ≡ start_with image file → length image ≡ block_bytes * block_count first → StartsNone given first d old told
+    → HandsOver d told r steps room → number ≡ given → UpdatesBy image file request number r steps room
+unbooted_by image file request first d number given old told r steps room made size none hands is =
+    updates_by image file request first d (not_booted none.end) number told r steps room made size none.size
+    (guard_kept (told_of first) (told_of d) none.end none.boots.by_bytes)
+    (none.is, subst (λ (x : Told). BootEnds (λ m. passes_any m) x none.end (told_of d)) made none.boots) hands (is ∙ none.number_is)
+    (end_same none.end told r hands.same none.reports)
 
 -- a sending keeps the guard, since the boot before it left a flash that shows a state
 guard_by : (file : List ℕ) (request : ℕ) (b : Started) (outcome : Outcome) (old t : Told) (s : State) → IsShown b.layout old.now s
@@ -194,22 +184,23 @@ guard_by file request b None old t s shown by = ap (λ (x : Told). x.guard) by.1
 guard_by file request b (Some result) old t s shown by = (by.answers (setting_of b.layout) s refl refl shown).guard_is
 
 -- a bank was started, and the package tried
-pub tried_by : (image file : List ℕ) (request : ℕ) (first mid d : StepFlash) (b : Started) (n : Numbers) (outcome : Outcome) (number : ℕ) (told r : Report)
-    (steps : List Step) (room : List ℕ)
-    → told_of first ≡ start_with image file → length image ≡ block_bytes * block_count first → block_count d ≡ block_count first
-    → BootEnds (λ m. passes_any m) (told_of first) (booted b n) (told_of mid) → layout_seen (told_of mid).now ≡ Ok b.layout
-    → InstallsBy file request b outcome (told_of mid) (told_of d) → HandsOver d told r steps room
-    → number ≡ outcome_code outcome → ReportsStart b told → UpdatesBy image file request number r steps room
-tried_by image file request first mid d b n outcome number told r steps room made size same_size boots layout installs hands is reports =
-    let shown : IsShown b.layout (told_of mid).now boots.by_bytes.shows.0 = record { layout = layout; shows = boots.by_bytes.shows.1 } in
-    updates_by image file request first d (tried b n outcome) number told r steps room made size same_size
-    (guard_by file request b outcome (told_of mid) (told_of d) boots.by_bytes.shows.0 shown installs
-    ∙ guard_kept (told_of first) (told_of mid) (booted b n) boots.by_bytes)
+pub tried_by : (image file : List ℕ) (request : ℕ) (first mid d : StepFlash) (b : Started) (outcome : Outcome) (number : ℕ)
+    (old told r : Report) (steps : List Step) (room : List ℕ)
+    → told_of first ≡ start_with image file → length image ≡ block_bytes * block_count first → block_count d ≡ block_count mid
+    → Boots b first mid old told → InstallsBy file request b outcome (told_of mid) (told_of d) → HandsOver d told r steps room
+    → number ≡ outcome_code outcome → UpdatesBy image file request number r steps room
+tried_by image file request first mid d b outcome number old told r steps room made size same_size boots installs hands is =
+    let bytes = boots.ends.by_bytes in
+    let shown : IsShown b.layout (told_of mid).now bytes.shows.0 = record { layout = boots.layout; shows = bytes.shows.1 } in
+    updates_by image file request first d (tried b boots.numbers outcome) number told r steps room made size
+    (same_size ∙ boots.size)
+    (guard_by file request b outcome (told_of mid) (told_of d) bytes.shows.0 shown installs
+    ∙ guard_kept (told_of first) (told_of mid) (booted b boots.numbers) bytes)
     (record {
       mid = told_of mid;
-      boots = subst (λ (x : Told). BootEnds (λ m. passes_any m) x (booted b n) (told_of mid)) made boots;
+      boots = subst (λ (x : Told). BootEnds (λ m. passes_any m) x (booted b boots.numbers) (told_of mid)) made boots.ends;
       installs = installs;
-    }) hands is (start_same b told r hands.same reports)
+    }) hands is (start_same b told r hands.same boots.reports)
 
 -- nothing was tried
 pub denied_by : (image file : List ℕ) (request : ℕ) (r : Report) (steps : List Step) (room : List ℕ) → IsOnTrial image

@@ -26,11 +26,16 @@ use Rattle.agent_machine.specs.declared.stop.Stop.{Stop}
 use Rattle.agent_machine.specs.declared.stop.Stop.TheVariants as stop
 use Rattle.agent_machine.specs.Meets.{IsRefused, flash_result}
 use Rattle.step_flash.specs.declared.step.Step.{Step}
+use Rattle.step_flash.specs.declared.flash.StepFlash.{StepFlash}
+use Rattle.step_flash.specs.Flash.{block_count, told_of}
 use Rattle.step_flash.specs.Guard.{start}
 use Rattle.step_flash.specs.Steps.{AreDoable, run}
+use Rattle.agent_calls.specs.Shown.{device, gone, moment}
+use Rattle.agent_calls.specs.declared.agent.Agent.{Agent}
+use Rattle.flash_core.specs.declared.flash.Flash.{Ghosts}
 use Rattle.fwu_c.specs.Agents.{BeginsWith}
 use Rattle.fwu_c.specs.Codes.{fault_code}
-use Rattle.fwu_c.specs.Handed.{IsWithin}
+use Rattle.fwu_c.specs.Handed.{IsWithin, KeepsReport}
 use Rattle.fwu_c.specs.Reports.{ReportsStart}
 use Rattle.fwu_c.specs.declared.calling.AgentCall.{AgentCall}
 use Rattle.fwu_c.specs.declared.calling.AgentCall.TheVariants.{Accept, Previous}
@@ -78,27 +83,32 @@ abbrev pub ReportsTakeUp : TakenUp → Report → Type 0
 ReportsTakeUp (bad_layout f) r = r.layout_fault ≡ fault_code f
 ReportsTakeUp other r = ⊤
 
--- the bank was taken up, and is reported as a boot reports it
-pub record Takes (bank : ℕ) (b : Started) (r : Report) (old t : Told) : Type 0 where
-  pub ends : TakeUpEnds (λ m. passes_any m) bank old (taken b) t
+-- The bank was taken up, and is reported as a boot reports it.
+pub record Takes (bank : ℕ) (b : Started) (first left : StepFlash) (old r : Report) : Type 0 where
+  pub ends : TakeUpEnds (λ m. passes_any m) bank (told_of first) (taken b) (told_of left)
   pub runs : RunsByNumbers (λ m. passes_any m) bank b (started_numbers b)
   pub reports : ReportsStart b r
+  pub kept : KeepsReport 0 old r
+  -- the device in it has the size of the first one
+  pub size : block_count left ≡ block_count first
 
 -- for an agent
-pub record TakesUp (bank : ℕ) (r : Report) (old : Told) (m : Moment) (gone : Bool) : Type 0 where
+pub record TakesUp (bank : ℕ) (first left : StepFlash) (m : Moment) (gone : Bool) (old r : Report) : Type 0 where
   pub began : Started
-  pub takes : Takes bank began r old m.told
+  pub takes : Takes bank began first left old r
   pub begins : BeginsWith began m gone
 
--- or it was not
-pub record Refuses (bank number : ℕ) (r : Report) (old t : Told) : Type 0 where
+-- or it was not, and the device came back
+pub record Refuses (bank number : ℕ) (first left : StepFlash) (old r : Report) : Type 0 where
   pub end : TakenUp
   pub is : IsNotTaken end
   pub number_is : number ≡ take_up_code end
-  pub ends : TakeUpEnds (λ m. passes_any m) bank old end t
+  pub ends : TakeUpEnds (λ m. passes_any m) bank (told_of first) end (told_of left)
   pub reports : ReportsTakeUp end r
+  pub kept : KeepsReport number old r
   -- steps are told and not done, so no power is lost
   pub unlost : number ≢ 4
+  pub size : block_count left ≡ block_count first
 
 -- ---- the call
 
@@ -146,6 +156,14 @@ pub record CallsFrom (c : Call) (b : Started) (result : Result (Unit {0}) Stop) 
   pub again : IsAccepted c b → t ≡ old
   -- on any flash, at any exit: nothing changed but blocks 1 to 3, and the bank that follows the one that was started
   pub keeps : KeepsWhere (IsSparedByAll b.layout b.bank) old t
+
+-- What an agent made of a call, and the device that it left.
+pub record CalledBy {F : Ghosts StepFlash} (c : Call) (a : Agent StepFlash F) (left : StepFlash)
+    (result : Result (Unit {0}) Stop) : Type 0 where
+  -- where it began with a bank that a boot started
+  pub calls : (b : Started) → BeginsWith b (moment a) (gone a) → CallsFrom c b result (told_of (device a)) (told_of left)
+  pub ends : IsCalled result
+  pub size : block_count left ≡ block_count (device a)
 
 -- ---- all of it
 

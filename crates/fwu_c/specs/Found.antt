@@ -1,16 +1,22 @@
 -- What is found in a package, and in a manifest.
-use Rattle.std.specs.Prelude.{ℕ, List, Option, Some, None, Result, Ok, Err}
+use Rattle.std.specs.Prelude.{◌≡◌, ℕ, List, Option, Some, None, Result, Ok, Err}
 use Rattle.fwu_formats.specs.Layout.{Layout}
 use Rattle.fwu_formats.specs.Manifest.{Manifest, manifest_of}
 use Rattle.fwu_formats.specs.Package.{Toc, Entry, entry_of}
 use Rattle.fwu_formats.specs.declared.kinds.FipFault.{FipFault}
 use Rattle.fwu_formats.specs.declared.kinds.LayoutFault.{LayoutFault}
 use Rattle.fwu_formats.specs.declared.kinds.ManifestFault.{ManifestFault}
+use Rattle.fwu_c.specs.declared.packages.Place.{Place}
 
 -- the entry of a type, where the bytes are a package
 abbrev pub entry_in : List ℕ → Result Toc FipFault → Option Entry
 entry_in guid (Err f) = None
 entry_in guid (Ok toc) = entry_of toc guid
+
+-- its place is told, where there is one; else the place stays
+abbrev pub TellsPlace : Option Entry → Place → Place → Type 0
+TellsPlace (Some e) old new = (new.offset ≡ e.offset) × (new.size ≡ e.size)
+TellsPlace None old new = new ≡ old
 
 abbrev pub security_of : Result Manifest ManifestFault → Option ℕ
 security_of (Err f) = None

@@ -1,12 +1,12 @@
 -- The steps of a device, as they were handed over.
-use Rattle.std.specs.Prelude.{◌≡◌, ◌≢◌, ◌↔◌, ◌⊎◌, ◌≤◌, ◌*◌, ◌==◌, ◌||◌, All, Bool, ℕ, List, IsTrue, length, take}
+use Rattle.std.specs.Prelude.{◌≡◌, ◌≢◌, ◌↔◌, ◌⊎◌, ◌≤◌, ◌*◌, ◌==◌, ◌||◌, true, All, Bool, ℕ, List, IsTrue, length, take}
 use Rattle.base_core.specs.Block.{block_bytes, fewest_blocks, most_blocks}
 use Rattle.flash_core.specs.Told.{Told}
 use Rattle.step_flash.specs.declared.step.Step.{Step}
 use Rattle.step_flash.specs.declared.flash.StepFlash.{StepFlash}
 use Rattle.step_flash.specs.declared.flash.Unmade.{Unmade}
 use Rattle.step_flash.specs.declared.flash.Unmade.TheVariants.{NoFlash, NoMemory}
-use Rattle.step_flash.specs.Flash.{block_count, image_of, package_of, told_of}
+use Rattle.step_flash.specs.Flash.{block_count, image_of, is_on, package_of, told_of}
 use Rattle.step_flash.specs.Guard.{start_with}
 use Rattle.step_flash.specs.Stopped.{under_as}
 use Rattle.step_flash.specs.Steps.{AreDoable, IsInsideWith, run_with}
@@ -45,6 +45,12 @@ is_idle number = number == 1 || number == 2 || number == 21
 -- what a device over some image and some package tells before its first step
 abbrev pub IsStart : Told → Type 0
 IsStart t = (image : List ℕ) × (file : List ℕ) × (t ≡ start_with image file)
+
+-- A device was just made over its image, with this package: it is on, has noted nothing, and lies over the whole image.
+pub record IsNew (file : List ℕ) (d : StepFlash) : Type 0 where
+  pub on : is_on d ≡ true
+  pub fresh : told_of d ≡ start_with (image_of d) file
+  pub size : length (image_of d) ≡ block_bytes * block_count d
 
 -- there is no device over the image: it is no flash, or memory is wanting
 abbrev pub unmade_code : Unmade → ℕ

@@ -13,6 +13,12 @@ use Rattle.fwu_model.specs.Calm.{IsAtRest}
 use Rattle.moves.specs.Moved.{Does, GuardedBy, IsReady, IsShown}
 use Rattle.early_boot.specs.Started.{Started, started_session}
 use Rattle.agent_machine.specs.Beside.{IsSparedByAll, KeepsWhere}
+use Rattle.agent_calls.specs.Shown.{device, gone, moment}
+use Rattle.agent_calls.specs.declared.agent.Agent.{Agent}
+use Rattle.flash_core.specs.declared.flash.Flash.{Ghosts}
+use Rattle.step_flash.specs.declared.flash.StepFlash.{StepFlash}
+use Rattle.step_flash.specs.Flash.{block_count, told_of}
+use Rattle.fwu_c.specs.Agents.{BeginsWith}
 use Rattle.update_client.specs.declared.stops.Sent.{Sent}
 use Rattle.update_client.specs.declared.stops.SendStop.{SendStop}
 use Rattle.update_client.specs.declared.stops.SendStop.TheVariants.{MissingImage, ImageTooLarge, Begin, End, ReadFailed, Lost, Fault, Gone}
@@ -97,3 +103,12 @@ pub record SendsPackage (file : List ℕ) (request : ℕ) (b : Started) (result 
 abbrev pub InstallsBy : List ℕ → ℕ → Started → Outcome → Told → Told → Type 0
 InstallsBy file request b None old t = IsErr (toc_of file) × (t ≡ old)
 InstallsBy file request b (Some result) old t = SendsPackage file request b result old t
+
+-- What an agent made of a package, and the device that it left.
+pub record TriesBy {F : Ghosts StepFlash} (file : List ℕ) (request : ℕ) (a : Agent StepFlash F) (left : StepFlash)
+    (outcome : Outcome) : Type 0 where
+  -- where it began with a bank that was started
+  pub installs : (b : Started) → BeginsWith b (moment a) (gone a)
+      → InstallsBy file request b outcome (told_of (device a)) (told_of left)
+  pub ends : IsOutcome outcome
+  pub size : block_count left ≡ block_count (device a)

@@ -1,5 +1,5 @@
 -- What C is told of what a flash shows.
-use Rattle.std.specs.Prelude.{◌≡◌, ℕ, zero, suc, Bool, false, List, [], length, take, None, Ok, Err, slice_index_or}
+use Rattle.std.specs.Prelude.{◌≡◌, ◌↔◌, ◌≤◌, ℕ, zero, suc, Bool, false, List, [], drop, length, take, None, Ok, Err, slice_index_or}
 use Rattle.base_core.specs.Bytes.{listed}
 use Rattle.fwu_formats.specs.Digests.{passes_any}
 use Rattle.fwu_formats.specs.Image.{layout_seen, deciding}
@@ -12,8 +12,9 @@ use Rattle.fwu_model.specs.State.{Numbers}
 use Rattle.image_check.specs.declared.bank.Verdict.{Verdict}
 use Rattle.image_check.specs.declared.bank.Verdict.TheVariants.{Good, BadManifest, NotAccepted, BadImage, BelowCounter}
 use Rattle.image_check.specs.Verdict.{verdict_on}
-use Rattle.early_boot.specs.Numbers.{ShowsNumbers}
+use Rattle.early_boot.specs.Numbers.{AreNumbers, ShowsNumbers}
 use Rattle.fwu_c.specs.Codes.{fault_code}
+use Rattle.fwu_c.specs.Handed.{HasFlashSize}
 use Rattle.fwu_c.specs.declared.show.BankShown.{BankShown}
 use Rattle.fwu_c.specs.declared.show.FlashShown.{FlashShown}
 
@@ -82,9 +83,26 @@ pub record ShowsAll (image : List ℕ) (s : FlashShown) : Type 0 where
   pub tells : TellsNumbers layout numbers s
   pub banks : TellsBanks image layout numbers s
 
+-- the image has this layout, and shows these numbers, which are numbers of a flash
+pub record ShowsWith (image : List ℕ) (L : Layout) (n : Numbers) : Type 0 where
+  pub layout : layout_seen image ≡ Ok L
+  pub shows : ShowsNumbers image n
+  pub are : AreNumbers n
+
 -- 0: what the image shows; 1: the first fault of its layout; 2: neither replica is metadata of the layout
 abbrev pub ShowsBy : List ℕ → ℕ → FlashShown → Type 0
 ShowsBy image zero s = ShowsAll image s
 ShowsBy image (suc zero) s = (f : LayoutFault) × (layout_seen image ≡ Err f) × (s.layout_fault ≡ fault_code f)
 ShowsBy image (suc (suc zero)) s = (L : Layout) × (layout_seen image ≡ Ok L) × (deciding L image ≡ None)
 ShowsBy image (suc (suc (suc n))) s = ⊥
+
+-- What a call that shows a flash promises, whatever it answers: of what C handed in, and has then.
+pub record TellsShown (image : List ℕ) (number : ℕ) (old new : FlashShown) : Type 0 where
+  -- at 1 nothing but the fault is told
+  pub fault : number ≡ 1 → new ≡ record old { layout_fault = new.layout_fault }
+  -- nothing is told behind the last bank
+  pub behind : drop new.banks new.bank ≡ drop new.banks old.bank
+  -- 6 comes of all bytes that are no flash, and of no others
+  pub no_flash : (number ≡ 6) ↔ (HasFlashSize image → ⊥)
+  -- and from 2 on nothing is told
+  pub untouched : 2 ≤ number → new ≡ old

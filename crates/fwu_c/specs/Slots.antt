@@ -1,5 +1,6 @@
 -- Where a bank keeps its images.
-use Rattle.std.specs.Prelude.{◌≡◌, ℕ, ◌*◌, nat_lt, if◌then◌else◌, length, take, Option, Some, None, Result, Ok, Err, slice_index_or}
+use Rattle.std.specs.Prelude.{◌≡◌, ℕ, ◌*◌, nat_lt, if◌then◌else◌, drop, length, take, slice_index_or}
+use Rattle.std.specs.Prelude.{Option, Some, None, Result, Ok, Err}
 use Rattle.base_core.specs.Block.{block_bytes}
 use Rattle.base_core.specs.Bytes.{listed}
 use Rattle.fwu_formats.specs.Layout.{Layout, no_row, slot_bytes, start}
@@ -21,7 +22,9 @@ layout_with bank (Err f) = None
 layout_with bank (Ok L) = if nat_lt bank L.banks then Some L else None
 
 -- the bank's slots, in the order of the layout
-pub record TellsSlots (L : Layout) (bank : ℕ) (s : Slots) : Type 0 where
+pub record TellsSlots (L : Layout) (bank : ℕ) (old s : Slots) : Type 0 where
   pub banks : s.banks ≡ L.banks
   pub images : s.images ≡ length L.rows
   pub slots : take s.images s.slots ≡ listed (length L.rows) (slot_of L bank)
+  -- nothing is told behind the last image
+  pub behind : drop s.images s.slots ≡ drop s.images old.slots

@@ -10,11 +10,13 @@ use Rattle.early_boot.specs.Ends.{Ended, booted}
 use Rattle.early_boot.specs.EndsBy.{BootEnds}
 use Rattle.agent_machine.specs.Moment.{Moment}
 use Rattle.step_flash.specs.declared.step.Step.{Step}
+use Rattle.step_flash.specs.declared.flash.StepFlash.{StepFlash}
+use Rattle.step_flash.specs.Flash.{block_count, told_of}
 use Rattle.step_flash.specs.Guard.{start_with}
 use Rattle.step_flash.specs.Steps.{AreDoable, run_with}
 use Rattle.fwu_c.specs.Agents.{BeginsWith}
 use Rattle.fwu_c.specs.Codes.{end_code}
-use Rattle.fwu_c.specs.Handed.{IsWithinWith}
+use Rattle.fwu_c.specs.Handed.{IsWithinWith, KeepsReport}
 use Rattle.fwu_c.specs.Reports.{ReportsEnd, ReportsStart}
 use Rattle.fwu_c.specs.Sendings.{Outcome, InstallsBy, outcome_code}
 use Rattle.fwu_c.specs.declared.report.Report.{Report}
@@ -45,28 +47,33 @@ abbrev pub IsNotBooted : Ended → Type 0
 IsNotBooted (booted b n) = ⊥
 IsNotBooted other = ⊤
 
--- a bank was started, and is reported as a boot reports it
-pub record Boots (b : Started) (r : Report) (old t : Told) : Type 0 where
+-- A bank was started, and is reported as a boot reports it.
+pub record Boots (b : Started) (first left : StepFlash) (old r : Report) : Type 0 where
   pub numbers : Numbers
-  pub ends : BootEnds (λ m. passes_any m) old (booted b numbers) t
-  pub layout : layout_seen t.now ≡ Ok b.layout
+  pub ends : BootEnds (λ m. passes_any m) (told_of first) (booted b numbers) (told_of left)
+  pub layout : layout_seen (told_of left).now ≡ Ok b.layout
   pub reports : ReportsStart b r
+  pub kept : KeepsReport 0 old r
+  -- the device in it has the size of the first one
+  pub size : block_count left ≡ block_count first
 
 -- for an agent
-pub record BootsUp (r : Report) (old : Told) (m : Moment) (gone : Bool) : Type 0 where
+pub record BootsUp (first left : StepFlash) (m : Moment) (gone : Bool) (old r : Report) : Type 0 where
   pub began : Started
-  pub boots : Boots began r old m.told
+  pub boots : Boots began first left old r
   pub begins : BeginsWith began m gone
 
--- or none was
-pub record StartsNone (number : ℕ) (r : Report) (old t : Told) : Type 0 where
+-- or none was, and the device came back
+pub record StartsNone (number : ℕ) (first left : StepFlash) (old r : Report) : Type 0 where
   pub end : Ended
   pub is : IsNotBooted end
   pub number_is : number ≡ end_code end
-  pub boots : BootEnds (λ m. passes_any m) old end t
+  pub boots : BootEnds (λ m. passes_any m) (told_of first) end (told_of left)
   pub reports : ReportsEnd end r
+  pub kept : KeepsReport number old r
   -- steps are told and not done, so no power is lost
   pub unlost : number ≢ 4
+  pub size : block_count left ≡ block_count first
 
 -- the boot as the definitions say, and from what it leaves the sending
 pub record TriesPackage (image file : List ℕ) (request : ℕ) (b : Started) (n : Numbers) (outcome : Outcome)

@@ -1,10 +1,9 @@
 //! The boot of a flash that lies in memory.
-ghost use Rattle.std.specs.Prelude.{◌≡◌, ◌⊎◌, ◌*◌, ◌≤◌, length, true};
+ghost use Rattle.std.specs.Prelude.{◌≡◌, ◌⊎◌, ◌≤◌, [], length};
 ghost use Rattle.base_core.specs.Block.{block_bytes};
-ghost use Rattle.step_flash.specs.Flash.{block_count, image_of, is_on, told_of};
-ghost use Rattle.step_flash.specs.Guard.{start};
+ghost use Rattle.step_flash.specs.Flash.{image_of};
 ghost use Rattle.fwu_c.specs.Boots.{BootsBy};
-ghost use Rattle.fwu_c.specs.Handed.{TellsSteps};
+ghost use Rattle.fwu_c.specs.Handed.{IsNew, TellsSteps};
 
 use crate::handing::{hand_over, unmade_number};
 use crate::report::{Report, into_flash, report_end};
@@ -50,10 +49,8 @@ fn boot_over(
     room: &mut [u8],
     report: &mut Report,
 ) -> u32
-    requires on { is_on flash ≡ true }
+    requires new { IsNew [] flash }
     requires block { block_bytes ≤ length block.old }
-    requires fresh { told_of flash ≡ start (image_of flash) }
-    requires size { length (image_of flash) ≡ block_bytes * block_count flash }
     ensures answers { (result ≤ 5) ⊎ (result ≡ 7) }
     ensures boots { result ≤ 5 → BootsBy (image_of flash.entry) result report.new steps.new room.new }
     ensures tells { TellsSteps (image_of flash.entry) result report.old steps.old room.old report.new steps.new room.new }

@@ -1,5 +1,5 @@
 //! A call of the agent in the session behind a boot of a bank.
-ghost use Rattle.std.specs.Prelude.{◌≡◌, ◌*◌, ◌≤◌, length, true, IfErr, IfOk, IfSome, IsFalse};
+ghost use Rattle.std.specs.Prelude.{◌≡◌, ◌≤◌, [], length, true, IfSome, IsFalse, MatchResult};
 ghost use Rattle.base_core.specs.Block.{block_bytes};
 ghost use Rattle.fwu_formats.specs.Digests.{passes_any};
 ghost use Rattle.fwu_model.specs.Reply.{Success};
@@ -8,12 +8,10 @@ ghost use Rattle.early_boot.specs.Started as boot;
 ghost use Rattle.agent_machine.specs.Meets.{IsRefused, Meets};
 ghost use Rattle.agent_calls.specs.Shown.{AgentGoes, device, fields, gone, moment};
 ghost use Rattle.agent_calls.specs.Started.{StartsFrom};
-ghost use Rattle.step_flash.specs.Flash.{block_count, image_of, is_on, told_of};
-ghost use Rattle.step_flash.specs.Guard.{start};
-ghost use Rattle.fwu_c.specs.Agents.{BeginsWith};
-ghost use Rattle.fwu_c.specs.Calls.{CallsBy, CallsFrom, IsAccepted, IsCalled, Refuses, Takes, TakesUp, TellsCall};
+ghost use Rattle.step_flash.specs.Flash.{image_of, is_on, told_of};
+ghost use Rattle.fwu_c.specs.Calls.{CalledBy, CallsBy, IsAccepted, Refuses, Takes, TakesUp, TellsCall};
 ghost use Rattle.fwu_c.specs.Calls.{call_code, call_of, status_code, stop_code};
-ghost use Rattle.fwu_c.specs.Handed.{KeepsReport, TellsSteps};
+ghost use Rattle.fwu_c.specs.Handed.{IsNew, TellsSteps};
 
 use crate::handing::{hand_over, unmade_number};
 use crate::kept_agent::{agent_of, flash_from};
@@ -87,13 +85,9 @@ fn taken_up<'a>(
 ) -> Option<Result<Box<Booted<StepFlash<'a>>>, (StepFlash<'a>, u32)>>
     requires on { is_on flash ≡ true }
     requires room { block_bytes ≤ length block.old }
-    ensures takes { IfSome result (λ end. IfOk end (λ b.
-        Takes bank (started b.value) told.new (told_of flash.entry) (told_of (boot.device b.value)))) }
-    ensures taken_size { IfSome result (λ end. IfOk end (λ b. block_count (boot.device b.value) ≡ block_count flash.entry)) }
-    ensures refuses { IfSome result (λ end. IfErr end (λ e. Refuses bank e.1 told.new (told_of flash.entry) (told_of e.0))) }
-    ensures left_size { IfSome result (λ end. IfErr end (λ e. block_count e.0 ≡ block_count flash.entry)) }
-    ensures kept { IfSome result (λ end. IfOk end (λ x. KeepsReport 0 told.old told.new)
-        × IfErr end (λ e. KeepsReport e.1 told.old told.new)) }
+    ensures { IfSome result (λ end. MatchResult end
+        (λ b. Takes bank (started b.value) flash.entry (boot.device b.value) told.old told.new)
+        (λ e. Refuses bank e.1 flash.entry e.0 told.old told.new)) }
 {
     match take_up(
         flash,
@@ -129,13 +123,9 @@ fn agent_taken_up<'a>(
 ) -> Option<Result<Box<Agent<StepFlash<'a>>>, (StepFlash<'a>, u32)>>
     requires on { is_on flash ≡ true }
     requires room { block_bytes ≤ length block.old }
-    ensures takes { IfSome result (λ end. IfOk end (λ a.
-        TakesUp bank told.new (told_of flash.entry) (moment a.value) (gone a.value))) }
-    ensures taken_size { IfSome result (λ end. IfOk end (λ a. block_count (device a.value) ≡ block_count flash.entry)) }
-    ensures refuses { IfSome result (λ end. IfErr end (λ e. Refuses bank e.1 told.new (told_of flash.entry) (told_of e.0))) }
-    ensures left_size { IfSome result (λ end. IfErr end (λ e. block_count e.0 ≡ block_count flash.entry)) }
-    ensures kept { IfSome result (λ end. IfOk end (λ x. KeepsReport 0 told.old told.new)
-        × IfErr end (λ e. KeepsReport e.1 told.old told.new)) }
+    ensures { IfSome result (λ end. MatchResult end
+        (λ a. TakesUp bank flash.entry (device a.value) (moment a.value) (gone a.value) told.old told.new)
+        (λ e. Refuses bank e.1 flash.entry e.0 told.old told.new)) }
 {
     match taken_up(alloc, flash, bank, block, told) {
         Some(Ok(booted)) => match agent_of(alloc, booted) {
@@ -168,10 +158,7 @@ fn called<'a>(
     call: AgentCall,
 ) -> (StepFlash<'a>, Result<(), Stop>)
     requires here { IsFalse (gone agent.value) }
-    ensures calls { (b : Started) → let m = moment agent.entry.value in BeginsWith b m (gone agent.entry.value)
-        → CallsFrom (call_of call) b result.1 m.told (told_of result.0) }
-    ensures ends { IsCalled result.1 }
-    ensures size { block_count result.0 ≡ block_count (device agent.entry.value) }
+    ensures { CalledBy (call_of call) agent.entry.value result.0 result.1 }
 {
     let mut agent = agent;
     let done = ask(&mut agent, call);
@@ -212,10 +199,8 @@ fn call_over(
     room: &mut [u8],
     report: &mut Report,
 ) -> u32
-    requires on { is_on flash ≡ true }
+    requires new { IsNew [] flash }
     requires block { block_bytes ≤ length block.old.items }
-    requires fresh { told_of flash ≡ start (image_of flash) }
-    requires size { length (image_of flash) ≡ block_bytes * block_count flash }
     ensures calls { TellsCall result →
         CallsBy (image_of flash.entry) bank (call_of call) result report.new steps.new room.new }
     ensures tells { TellsSteps (image_of flash.entry) result report.old steps.old room.old report.new steps.new room.new }

@@ -1,9 +1,9 @@
 //! Packages (the FIP layout of Trusted Firmware-A) and manifests (own format).
-ghost use Rattle.std.specs.Prelude.{◌≡◌, ◌≤◌, is_some, IfNone, IfSome};
+ghost use Rattle.std.specs.Prelude.{◌≡◌, ◌≤◌, is_some, unwrap_or};
 ghost use Rattle.fwu_formats.specs.Layout.{layout_of};
 ghost use Rattle.fwu_formats.specs.Package.{toc_of};
 ghost use Rattle.fwu_c.specs.Codes.{find_code, found_code};
-ghost use Rattle.fwu_c.specs.Found.{entry_in, security_version};
+ghost use Rattle.fwu_c.specs.Found.{TellsPlace, entry_in, security_version};
 
 use base_core::Guid;
 use fip_tables::{Entry, StreamToc};
@@ -25,8 +25,7 @@ const _: () = prove!(size_of::<Place>() == 16);
 /// Tells where an entry's payload stands, where there is one. 0: there is one; 1: there is none.
 fn put_place(entry: Option<Entry>, place: &mut Place) -> u32
     ensures code { result ≡ found_code entry }
-    ensures place { IfSome entry (λ e. (place.new.offset ≡ e.offset) × (place.new.size ≡ e.size)) }
-    ensures kept { IfNone entry (place.new ≡ place.old) }
+    ensures place { TellsPlace entry place.old place.new }
 {
     match entry {
         Some(entry) => {
@@ -43,9 +42,7 @@ fn put_place(entry: Option<Entry>, place: &mut Place) -> u32
 #[unsafe(no_mangle)]
 pub extern "C" fn fwu_find(bytes: &[u8], guid: &[u8; 16], place: &mut Place) -> u32
     ensures code { result ≡ find_code guid.now (toc_of bytes.now) }
-    ensures place { IfSome (entry_in guid.now (toc_of bytes.now))
-        (λ e. (place.new.offset ≡ e.offset) × (place.new.size ≡ e.size)) }
-    ensures kept { IfNone (entry_in guid.now (toc_of bytes.now)) (place.new ≡ place.old) }
+    ensures place { TellsPlace (entry_in guid.now (toc_of bytes.now)) place.old place.new }
 {
     // the table is read where it stands: a fault that `feed` tells is told by `toc` again
     let mut stream = StreamToc::new();
@@ -86,8 +83,7 @@ pub extern "C" fn fwu_manifest(
     version: &mut u32,
 ) -> bool
     ensures passes { result ≡ is_some (security_version manifest.now (layout_of block.now blocks)) }
-    ensures version { IfSome (security_version manifest.now (layout_of block.now blocks)) (λ v. version.new ≡ v) }
-    ensures kept { IfNone (security_version manifest.now (layout_of block.now blocks)) (version.new ≡ version.old) }
+    ensures version { version.new ≡ unwrap_or (security_version manifest.now (layout_of block.now blocks)) version.old }
 {
     let Ok(layout) = Layout::read(block, blocks) else {
         return false;

@@ -1,12 +1,9 @@
 //! A package that lies in memory, sent to the agent of a bank that was booted.
-ghost use Rattle.std.specs.Prelude.{◌≡◌, ◌^◌, ◌<◌, [], IfSome, IsFalse, Ok, length};
-ghost use Rattle.agent_calls.specs.Shown.{device, gone, moment};
-ghost use Rattle.early_boot.specs.Started.{Started};
+ghost use Rattle.std.specs.Prelude.{◌≡◌, ◌^◌, ◌<◌, [], IfSome, IsFalse, Ok, Some, length};
+ghost use Rattle.agent_calls.specs.Shown.{gone};
 ghost use Rattle.fwu_formats.specs.Package.{toc_of};
 ghost use Rattle.fip_tables.specs.Stream.{Fed};
-ghost use Rattle.step_flash.specs.Flash.{block_count, told_of};
-ghost use Rattle.fwu_c.specs.Agents.{BeginsWith};
-ghost use Rattle.fwu_c.specs.Sendings.{InstallsBy, IsOutcome, IsSent, SendsPackage, outcome_code, sent_code};
+ghost use Rattle.fwu_c.specs.Sendings.{TriesBy, outcome_code, sent_code};
 
 use crate::kept_agent::flash_from;
 use agent_calls::Agent;
@@ -58,10 +55,7 @@ fn send_package<'a>(
     requires table { toc_of file.now ≡ Ok toc.now }
     requires short { length file.now < 2 ^ 64 }
     requires room { 0 < length block.old }
-    ensures sends { (b : Started) → let m = moment agent.entry.value in BeginsWith b m (gone agent.entry.value)
-        → SendsPackage file.now acceptance b result.1 m.told (told_of result.0) }
-    ensures ends { IsSent result.1 }
-    ensures size { block_count result.0 ≡ block_count (device agent.entry.value) }
+    ensures { TriesBy file.now acceptance agent.entry.value result.0 (Some result.1) }
 {
     let mut agent = agent;
     let mut files = PackageFiles::new(NAME, file);
@@ -103,10 +97,7 @@ pub fn install<'a>(
 ) -> Option<(StepFlash<'a>, Option<Result<Sent, SendStop>>)>
     requires here { IsFalse (gone agent.value) }
     requires room { 0 < length block.old }
-    ensures installs { (b : Started) → let m = moment agent.entry.value in BeginsWith b m (gone agent.entry.value)
-        → IfSome result (λ end. InstallsBy file.now acceptance b end.1 m.told (told_of end.0)) }
-    ensures ends { IfSome result (λ end. IsOutcome end.1) }
-    ensures size { IfSome result (λ end. block_count end.0 ≡ block_count (device agent.entry.value)) }
+    ensures { IfSome result (λ end. TriesBy file.now acceptance agent.entry.value end.0 end.1) }
 {
     // the table is read where it stands: a fault that `feed` tells is told by `toc` again
     let mut table = new_table(alloc)?;

@@ -1,11 +1,11 @@
 //! What a flash shows, and what is found of the package in each bank.
-ghost use Rattle.std.specs.Prelude.{◌≡◌, ◌⊎◌, ◌↔◌, ◌<◌, ◌≤◌, true, false, Ok, drop, length, slice_index_or, IfSome};
+ghost use Rattle.std.specs.Prelude.{◌≡◌, ◌⊎◌, ◌<◌, ◌≤◌, true, false, drop, length, slice_index_or, IfSome};
 ghost use Rattle.fwu_formats.specs.Metadata.{bit_number};
 ghost use Rattle.base_core.specs.Block.{block_bytes};
 ghost use Rattle.fwu_formats.specs.Image.{layout_seen};
 ghost use Rattle.early_boot.specs.Numbers.{AreNumbers, ShowsNumbers, numbers};
 ghost use Rattle.fwu_c.specs.Handed.{HasFlashSize};
-ghost use Rattle.fwu_c.specs.Shows.{ShowsBy, TellsBanks, TellsNumbers, bank_shown, bits_of};
+ghost use Rattle.fwu_c.specs.Shows.{ShowsBy, ShowsWith, TellsBanks, TellsNumbers, TellsShown, bank_shown, bits_of};
 ghost use Rattle.fwu_c.specs.Shows.{image_told, state_code, verdict_code, version_told};
 
 use crate::handing::unmade_number;
@@ -71,13 +71,8 @@ const _: () = prove!(size_of::<FlashShown>() == 160);
 pub extern "C" fn fwu_show(alloc: Global, image: &[u8], shown: &mut FlashShown) -> u32
     ensures answers { result ≤ 7 }
     ensures shows { result ≤ 5 → ShowsBy image.now result shown.new }
-    // At 1 nothing but the fault is told, and from 2 on nothing.
-    ensures fault { result ≡ 1 → shown.new ≡ record shown.old { layout_fault = shown.new.layout_fault } }
-    // Nothing is told behind the last bank.
-    ensures behind { drop shown.new.banks shown.new.bank ≡ drop shown.new.banks shown.old.bank }
-    // 6 comes of all bytes that are no flash, and of no others.
-    ensures no_flash { (result ≡ 6) ↔ (HasFlashSize image.now → ⊥) }
-    ensures untouched { 2 ≤ result → shown.new ≡ shown.old }
+    // Whatever it answers: nothing is told behind the last bank, at 1 nothing but the fault, and from 2 on nothing.
+    ensures tells { TellsShown image.now result shown.old shown.new }
 {
     let mut flash = match StepFlash::new(alloc, image, 0) {
         Ok(flash) => flash,
@@ -120,9 +115,8 @@ fn show_all(
     requires numbers { ShowsNumbers image.now (numbers read.now) }
     requires are { AreNumbers (numbers read.now) }
     ensures answers { (result ≡ 0) ⊎ (result ≡ 7) }
-    ensures shows { result ≡ 0 → ShowsBy image.now 0 shown.new }
-    ensures behind { drop shown.new.banks shown.new.bank ≡ drop shown.new.banks shown.old.bank }
-    ensures untouched { result ≡ 7 → shown.new ≡ shown.old }
+    ensures shows { result ≤ 5 → ShowsBy image.now result shown.new }
+    ensures tells { TellsShown image.now result shown.old shown.new }
 {
     // without a layout there are no numbers
     let Ok(layout) = layout_in(image) else {
@@ -162,9 +156,7 @@ fn show_banks(
     shown: &mut FlashShown,
 ) -> bool
     requires room { length block.old ≡ block_bytes }
-    requires layout { layout_seen image.now ≡ Ok layout.now }
-    requires numbers { ShowsNumbers image.now (numbers read.now) }
-    requires are { AreNumbers (numbers read.now) }
+    requires shown { ShowsWith image.now layout.now (numbers read.now) }
     requires told { TellsNumbers layout.now (numbers read.now) shown.old }
     ensures banks { result ≡ true → TellsBanks image.now layout.now (numbers read.now) shown.new }
     ensures behind { result ≡ true → drop shown.new.banks shown.new.bank ≡ drop shown.new.banks shown.old.bank }
@@ -189,10 +181,8 @@ fn find_bank(
     block: &mut [u8],
 ) -> Option<BankShown>
     requires room { block_bytes ≤ length block.old }
-    requires layout { layout_seen image.now ≡ Ok layout.now }
-    requires bank { bank < layout.now.banks }
-    requires states { bank < length (numbers read.now).states }
-    requires bits { bank < length (numbers read.now).bits }
+    requires shown { ShowsWith image.now layout.now (numbers read.now) }
+    requires bank { bank < length (numbers read.now).states }
     ensures found { IfSome result (λ found. found ≡ bank_shown image.now layout.now (numbers read.now) bank) }
     ensures room { length block.new ≡ length block.old }
 {

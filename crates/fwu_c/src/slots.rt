@@ -1,6 +1,5 @@
 //! Where a bank keeps its images.
-ghost use Rattle.std.specs.Prelude.{◌≡◌, ◌+◌, ◌<◌, ◌≤◌, drop, length, take, IfSome};
-ghost use Rattle.base_core.specs.Bytes.{listed};
+ghost use Rattle.std.specs.Prelude.{◌≡◌, ◌<◌, ◌≤◌, length, IfSome};
 ghost use Rattle.fwu_formats.specs.Layout.{layout_of};
 ghost use Rattle.fwu_c.specs.Codes.{slots_code};
 ghost use Rattle.fwu_c.specs.Slots.{layout_with, slot_of, TellsSlots};
@@ -56,8 +55,7 @@ fn slot_at(layout: &Layout, bank: u32, image: usize) -> Slot
 /// Tells the slots of a bank.
 fn put_slots(layout: &Layout, bank: u32, slots: &mut Slots)
     requires { bank < layout.now.banks }
-    ensures told { TellsSlots layout.now bank slots.new }
-    ensures behind { drop slots.new.images slots.new.slots ≡ drop slots.new.images slots.old.slots }
+    ensures { TellsSlots layout.now bank slots.old slots.new }
 {
     let images = layout.rows().len();
     for image in 0..images {
@@ -72,9 +70,7 @@ fn put_slots(layout: &Layout, bank: u32, slots: &mut Slots)
 #[unsafe(no_mangle)]
 pub extern "C" fn fwu_slots(block: &[u8], blocks: u32, bank: u32, slots: &mut Slots) -> u32
     ensures code { result ≡ slots_code bank (layout_of block.now blocks) }
-    ensures slots { IfSome (layout_with bank (layout_of block.now blocks)) (λ L. TellsSlots L bank slots.new) }
-    // Nothing is told behind the last image.
-    ensures behind { drop slots.new.images slots.new.slots ≡ drop slots.new.images slots.old.slots }
+    ensures slots { IfSome (layout_with bank (layout_of block.now blocks)) (λ L. TellsSlots L bank slots.old slots.new) }
     ensures kept { 1 ≤ result → slots.new ≡ slots.old }
 {
     let layout = match Layout::read(block, blocks) {

@@ -1,14 +1,13 @@
 //! An update of a flash that lies in memory.
-ghost use Rattle.std.specs.Prelude.{◌≡◌, ◌*◌, ◌≤◌, ◌<◌, length, true, IfErr, IfOk, IfSome, IsFalse, IsTrue, slice_index_or};
+ghost use Rattle.std.specs.Prelude.{◌≡◌, ◌≤◌, ◌<◌, [], length, true, IfSome, IsFalse, IsTrue, MatchResult, slice_index_or};
 ghost use Rattle.base_core.specs.Block.{block_bytes};
 ghost use Rattle.fwu_formats.specs.declared.kinds.BankState.TheVariants.{Invalid};
 ghost use Rattle.fwu_model.specs.State.{is_valid};
 ghost use Rattle.agent_calls.specs.Shown.{device, gone, moment};
-ghost use Rattle.step_flash.specs.Flash.{block_count, image_of, is_on, told_of};
-ghost use Rattle.step_flash.specs.Guard.{start, start_with};
+ghost use Rattle.step_flash.specs.Flash.{image_of, is_on};
 ghost use Rattle.early_boot.specs.Started.{started};
 ghost use Rattle.early_boot.specs.Started as boot;
-ghost use Rattle.fwu_c.specs.Handed.{KeepsReport, TellsSteps};
+ghost use Rattle.fwu_c.specs.Handed.{IsNew, TellsSteps};
 ghost use Rattle.fwu_c.specs.Updates.{Boots, BootsUp, IsAnswered, IsOnTrial, StartsNone, UpdatesBy};
 
 use crate::handing::{hand_over, unmade_number};
@@ -80,9 +79,8 @@ fn is_on_trial(shown: &Numbers) -> bool
 // its frame is gone before the boot: that keeps the stack small
 #[inline(never)]
 fn shows_trial(flash: StepFlash<'_>, block: &mut [u8]) -> Option<bool>
-    requires on { is_on flash ≡ true }
+    requires new { IsNew [] flash }
     requires block { block_bytes ≤ length block.old }
-    requires fresh { told_of flash ≡ start (image_of flash) }
     ensures trial { IfSome result (λ shown. IsTrue shown → IsOnTrial (image_of flash.entry)) }
     ensures other { IfSome result (λ shown. IsFalse shown → IsOnTrial (image_of flash.entry) → ⊥) }
 {
@@ -133,13 +131,9 @@ fn booted_up<'a>(
 ) -> Option<Result<Box<Booted<StepFlash<'a>>>, (StepFlash<'a>, u32)>>
     requires on { is_on flash ≡ true }
     requires room { block_bytes ≤ length block.old }
-    ensures boots { IfSome result (λ end. IfOk end (λ b.
-        Boots (started b.value) told.new (told_of flash.entry) (told_of (boot.device b.value)))) }
-    ensures booted_size { IfSome result (λ end. IfOk end (λ b. block_count (boot.device b.value) ≡ block_count flash.entry)) }
-    ensures stays { IfSome result (λ end. IfErr end (λ e. StartsNone e.1 told.new (told_of flash.entry) (told_of e.0))) }
-    ensures left_size { IfSome result (λ end. IfErr end (λ e. block_count e.0 ≡ block_count flash.entry)) }
-    ensures kept { IfSome result (λ end. IfOk end (λ x. KeepsReport 0 told.old told.new)
-        × IfErr end (λ e. KeepsReport e.1 told.old told.new)) }
+    ensures { IfSome result (λ end. MatchResult end
+        (λ b. Boots (started b.value) flash.entry (boot.device b.value) told.old told.new)
+        (λ e. StartsNone e.1 flash.entry e.0 told.old told.new)) }
 {
     match boot_in(flash, &AnyManifest, &mut block[..BLOCK_BYTES as usize]) {
         BootEnd::Booted(booted, _) => {
@@ -166,13 +160,9 @@ fn boot_agent<'a>(
 ) -> Option<Result<Box<Agent<StepFlash<'a>>>, (StepFlash<'a>, u32)>>
     requires on { is_on flash ≡ true }
     requires room { block_bytes ≤ length block.old }
-    ensures boots { IfSome result (λ end. IfOk end (λ a.
-        BootsUp told.new (told_of flash.entry) (moment a.value) (gone a.value))) }
-    ensures booted_size { IfSome result (λ end. IfOk end (λ a. block_count (device a.value) ≡ block_count flash.entry)) }
-    ensures stays { IfSome result (λ end. IfErr end (λ e. StartsNone e.1 told.new (told_of flash.entry) (told_of e.0))) }
-    ensures left_size { IfSome result (λ end. IfErr end (λ e. block_count e.0 ≡ block_count flash.entry)) }
-    ensures kept { IfSome result (λ end. IfOk end (λ x. KeepsReport 0 told.old told.new)
-        × IfErr end (λ e. KeepsReport e.1 told.old told.new)) }
+    ensures { IfSome result (λ end. MatchResult end
+        (λ a. BootsUp flash.entry (device a.value) (moment a.value) (gone a.value) told.old told.new)
+        (λ e. StartsNone e.1 flash.entry e.0 told.old told.new)) }
 {
     match booted_up(alloc, flash, block, told) {
         Some(Ok(booted)) => match agent_of(alloc, booted) {
@@ -194,10 +184,8 @@ fn update_over(
     room: &mut [u8],
     report: &mut Report,
 ) -> u32
-    requires on { is_on flash ≡ true }
+    requires new { IsNew file.now flash }
     requires block { block_bytes ≤ length block.old.items }
-    requires fresh { told_of flash ≡ start_with (image_of flash) file.now }
-    requires size { length (image_of flash) ≡ block_bytes * block_count flash }
     ensures updates { IsAnswered result →
         UpdatesBy (image_of flash.entry) file.now acceptance result report.new steps.new room.new }
     ensures tells { TellsSteps (image_of flash.entry) result report.old steps.old room.old report.new steps.new room.new }

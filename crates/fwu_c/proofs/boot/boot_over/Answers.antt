@@ -19,7 +19,8 @@ pub hand_over-requires-clause-idle : goal.hand_over-requires-clause-idle
 hand_over-requires-clause-idle c = λ idle.
     let back : c.into_flash.result ≡ device_of c.boot_in-end.result = c.into_flash.ensures in
     subst (λ (d : StepFlash). IsStart (told_of d)) (sym back)
-    (boot_idle (ended c.boot_in-end.result) (told_of c.args.flash) (told_of (device_of c.boot_in-end.result)) (image_of c.args.flash, [], c.requires.fresh)
+    (boot_idle (ended c.boot_in-end.result) (told_of c.args.flash) (told_of (device_of c.boot_in-end.result))
+    (image_of c.args.flash, [], c.requires.new.fresh)
     (c.boot_in-end.ensures.boots.ends refl).by_bytes (subst (λ n. IsTrue (is_idle n)) c.report_end-number.ensures.number idle))
 
 pub hand_over-requires-clause-kept : goal.hand_over-requires-clause-kept
@@ -29,7 +30,7 @@ pub returns-clause-tells : goal.returns-clause-tells
 returns-clause-tells c =
     let h = c.hand_over.ensures in
     told_handed (image_of c.args.flash) c.hand_over.result c.report_end-number.result _ _ _ _ _ _
-    (has_flash_size (image_of c.args.flash) c.args.flash c.requires.size)
+    (has_flash_size (image_of c.args.flash) c.args.flash c.requires.new.size)
     (subst (λ n. IsDeviceEnd n) (sym c.report_end-number.ensures.number)
     (boot_end_is (ended c.boot_in-end.result) c.args.flash (device_of c.boot_in-end.result) c.boot_in-end.ensures.boots.costs))
     h.number h.idle h.kept h.full h.untouched
@@ -41,6 +42,6 @@ returns-clause-boots c = λ low.
     let known = below_seven c.hand_over.result low in
     let is : c.hand_over.result ≡ c.report_end-number.result = given c.hand_over.result _ c.hand_over.ensures.number known in
     boots_by (image_of c.args.flash) c.args.flash c.into_flash.result (ended c.boot_in-end.result) c.hand_over.result _ _ _ _
-    c.requires.fresh c.requires.size (ap (λ (d : StepFlash). block_count d) back ∙ boots.size)
+    c.requires.new.fresh c.requires.new.size (ap (λ (d : StepFlash). block_count d) back ∙ boots.size)
     (subst (λ (d : StepFlash). BootEnds (λ m. passes_any m) (told_of c.args.flash) (ended c.boot_in-end.result) (told_of d)) (sym back) (boots.ends refl))
     (c.hand_over.ensures.hands known) (is ∙ c.report_end-number.ensures.number) c.report_end-number.ensures.reports

@@ -1,17 +1,17 @@
-use Rattle.std.proofs.Common.{◌∙◌, ap, subst, sym}
-use Rattle.flash_core.specs.Told.{Told}
+use Rattle.std.proofs.Common.{subst, sym}
 use Rattle.early_boot.specs.Started.{started}
-use Rattle.step_flash.specs.Flash.{block_count, told_of}
+use Rattle.step_flash.specs.declared.flash.StepFlash.{StepFlash}
 use Rattle.fwu_c.specs.Calls.{Takes}
 use Rattle.fwu_c.proofs.calling.agent_taken_up.Goals as goal
 
-pub returns-in-Some-clause-takes : goal.returns-in-Some-clause-takes
-returns-in-Some-clause-takes c = record {
+pub returns-in-Some : goal.returns-in-Some
+returns-in-Some c = record {
   began = started c.in-Some-Ok.booted.value;
-  takes = subst (λ (t : Told). Takes c.args.bank (started c.in-Some-Ok.booted.value) c.taken_up.new.told (told_of c.args.flash) t)
-      (sym (ap (λ d. told_of d) c.in-Some.ensures.device)) (rw c.in-Some-Ok.field-0-is at c.in-Some-Ok.ensures.takes);
+  takes = subst
+      (λ (d : StepFlash). Takes c.args.bank (started c.in-Some-Ok.booted.value) c.args.flash d c.args.told.now c.taken_up.new.told)
+      (sym c.in-Some.ensures.device) (rw c.in-Some-Ok.field-0-is at c.in-Some-Ok.ensures);
   begins = c.in-Some.ensures.begins;
 }
 
-pub returns-in-Some-clause-taken_size : goal.returns-in-Some-clause-taken_size
-returns-in-Some-clause-taken_size c = ap (λ d. block_count d) c.in-Some.ensures.device ∙ (rw c.in-Some-Ok.field-0-is at c.in-Some-Ok.ensures.taken_size)
+pub returns-in-Some-Err : goal.returns-in-Some-Err
+returns-in-Some-Err c = rw c.in-Some-Err.field-0-is at c.in-Some-Err.ensures

@@ -28,13 +28,13 @@ pub returns-in-Accept-clause-refused : goal.returns-in-Accept-clause-refused
 returns-in-Accept-clause-refused c = λ refused. ap (λ a. told_of (device a)) (c.accept.ensures.refused refused)
 
 pub returns-in-Previous-clause-refused : goal.returns-in-Previous-clause-refused
-returns-in-Previous-clause-refused c = λ refused. c.previous.ensures.content refused refl
+returns-in-Previous-clause-refused c = λ refused. c.previous.ensures.changes.content refused refl
 
 pub returns-in-Accept-clause-again : goal.returns-in-Accept-clause-again
 returns-in-Accept-clause-again c = λ b from accepted.
     let is : IsAccepted (call.Accepts c.in-Accept.guid) b = subst (λ (k : Call). IsAccepted k b) (ap (λ (a : AgentCall). call_of a) c.in-Accept.is) accepted in
-    ap (λ d. told_of d) (c.accept.ensures.still is.0
-    (subst (λ (L : Layout). find_image L.rows c.in-Accept.guid ≡ Some is.0) (sym from.layout) is.1)
+    ap (λ d. told_of d) ((c.accept.ensures.image is.0
+    (subst (λ (L : Layout). find_image L.rows c.in-Accept.guid ≡ Some is.0) (sym from.layout) is.1)).still
     (subst (λ (m : MetaRead). IsTrue (bit_at m.meta m.meta.active is.0)) (sym from.meta) is.2))
 
 pub returns-in-Previous-clause-again : goal.returns-in-Previous-clause-again

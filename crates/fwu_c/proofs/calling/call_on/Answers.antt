@@ -1,7 +1,10 @@
-use Rattle.fwu_c.proofs.Booting.{has_flash_size}
+use Rattle.fwu_c.proofs.Booting.{has_flash_size, made_new}
 use Rattle.fwu_c.proofs.Calls.{call_of_image}
 use Rattle.fwu_c.proofs.Telling.{tells_of_image, told_no_room, told_unmade}
 use Rattle.fwu_c.proofs.calling.call_on.Goals as goal
+
+pub call_over-requires-clause-new : goal.call_over-requires-clause-new
+call_over-requires-clause-new c = let ok = c.in-Ok.ensures in made_new _ _ _ ok.content ok.power ok.image ok.size
 
 pub returns-in-Err-clause-tells : goal.returns-in-Err-clause-tells
 returns-in-Err-clause-tells c = told_unmade _ c.in-Err.why _ _ _ _ c.in-Err.ensures.unmade c.unmade_number.ensures

@@ -5,61 +5,68 @@ use Rattle.step_flash.specs.Flash.{image_of, told_of}
 use Rattle.fwu_c.specs.Calls.{call_of}
 use Rattle.fwu_c.specs.Handed.{IsDeviceEnd, is_idle, starts_none}
 use Rattle.fwu_c.proofs.Booting.{given, has_flash_size}
-use Rattle.fwu_c.proofs.Calls.{call_busy, call_end_is, call_starts, called_by, refused_by, take_up_end_is, take_up_idle}
-use Rattle.fwu_c.proofs.Telling.{keeps_fault, told_handed, told_no_room}
+use Rattle.fwu_c.proofs.Calls.{call_end_is, call_starts, called_by, refused_by, take_up_end_is, take_up_idle}
+use Rattle.fwu_c.proofs.Telling.{idle_starts, keeps_fault, told_handed, told_no_room}
 use Rattle.fwu_c.proofs.calling.call_over.Goals as goal
 
 pub called-flash-requires : goal.called-flash-requires
-called-flash-requires c = record { here = (rw c.in-Some-Ok.field-0-is at c.in-Some-Ok.ensures.takes).begins.here }
+called-flash-requires c = record { here = (rw c.in-Some-Ok.field-0-is at c.in-Some-Ok.ensures).begins.here }
 
 pub hand_over-requires : goal.hand_over-requires
 hand_over-requires c =
     let a = c.called-flash in
+    let up = rw c.in-Some-Ok.field-0-is at c.in-Some-Ok.ensures in
+    let starts = λ (none : IsTrue (starts_none c.call_number.result)).
+    call_starts a.result.1 (subst (λ n. IsTrue (starts_none n)) c.call_number.ensures none) in
     record {
       known = subst (λ n. IsDeviceEnd n) (sym c.call_number.ensures) (call_end_is a.result.1 a.ensures.ends);
-      idle = λ idle. absurd (call_busy a.result.1 (subst (λ n. IsTrue (is_idle n)) c.call_number.ensures idle));
-      kept = keeps_fault _ _ _ ((rw c.in-Some-Ok.field-0-is at c.in-Some-Ok.ensures.kept).0.fault (λ one. omega (arith, one)))
-          (λ idle. call_busy a.result.1 (subst (λ n. IsTrue (is_idle n)) c.call_number.ensures idle))
-          (λ none. call_starts a.result.1 (subst (λ n. IsTrue (starts_none n)) c.call_number.ensures none));
+      idle = λ idle. absurd (starts (idle_starts c.call_number.result idle));
+      kept = keeps_fault _ _ _ (up.takes.kept.fault (λ one. omega (arith, one))) starts;
     }
 
 pub returns-in-Some-Ok-clause-calls : goal.returns-in-Some-Ok-clause-calls
 returns-in-Some-Ok-clause-calls c = λ tells.
     let h = c.hand_over in
     let a = c.called-flash in
-    let up = rw c.in-Some-Ok.field-0-is at c.in-Some-Ok.ensures.takes in
-    called_by (image_of c.args.flash) c.args.bank (call_of c.args.call) c.args.flash (device c.in-Some-Ok.agent.value) a.result.0 up.began a.result.1 h.result _ _ _ _
-    c.requires.fresh c.requires.size (a.ensures.size ∙ (rw c.in-Some-Ok.field-0-is at c.in-Some-Ok.ensures.taken_size)) up.takes (a.ensures.calls up.began up.begins)
+    let up = rw c.in-Some-Ok.field-0-is at c.in-Some-Ok.ensures in
+    called_by (image_of c.args.flash) c.args.bank (call_of c.args.call) c.args.flash (device c.in-Some-Ok.agent.value) a.result.0
+    up.began a.result.1 h.result _ _ _ _ _
+    c.requires.new.fresh c.requires.new.size a.ensures.size up.takes (a.ensures.calls up.began up.begins)
     (h.ensures.hands tells.1) (given _ _ h.ensures.number tells.1 ∙ c.call_number.ensures)
 
 pub returns-in-Some-Ok-clause-tells : goal.returns-in-Some-Ok-clause-tells
 returns-in-Some-Ok-clause-tells c =
     let h = c.hand_over.ensures in
     let a = c.called-flash in
-    told_handed (image_of c.args.flash) c.hand_over.result c.call_number.result _ _ _ _ _ _ (has_flash_size (image_of c.args.flash) c.args.flash c.requires.size)
+    told_handed (image_of c.args.flash) c.hand_over.result c.call_number.result _ _ _ _ _ _
+    (has_flash_size (image_of c.args.flash) c.args.flash c.requires.new.size)
     (subst (λ n. IsDeviceEnd n) (sym c.call_number.ensures) (call_end_is a.result.1 a.ensures.ends)) h.number h.idle h.kept h.full h.untouched
 
 pub hand_over-requires-in-Some-Err : goal.hand_over-requires-in-Some-Err
 hand_over-requires-in-Some-Err c =
-    let refuses = rw c.in-Some-Err.field-0-is at c.in-Some-Err.ensures.refuses in
+    let refuses = rw c.in-Some-Err.field-0-is at c.in-Some-Err.ensures in
     record {
-      known = take_up_end_is _ _ _ _ _ refuses;
-      idle = λ idle. take_up_idle c.args.bank refuses.end (told_of c.args.flash) (told_of c.in-Some-Err.flash) (image_of c.args.flash, [], c.requires.fresh)
+      known = take_up_end_is _ _ _ _ _ _ refuses;
+      idle = λ idle. take_up_idle c.args.bank refuses.end (told_of c.args.flash) (told_of c.in-Some-Err.flash)
+          (image_of c.args.flash, [], c.requires.new.fresh)
           refuses.ends.by_bytes (subst (λ n. IsTrue (is_idle n)) refuses.number_is idle);
-      kept = (rw c.in-Some-Err.field-0-is at c.in-Some-Err.ensures.kept).1;
+      kept = refuses.kept;
     }
 
 pub returns-in-Some-Err-clause-calls : goal.returns-in-Some-Err-clause-calls
 returns-in-Some-Err-clause-calls c = λ tells.
     let h = c.hand_over-in-Some-Err in
-    refused_by (image_of c.args.flash) c.args.bank (call_of c.args.call) c.args.flash c.in-Some-Err.flash h.result c.in-Some-Err.number _ _ _ _
-    c.requires.fresh c.requires.size (rw c.in-Some-Err.field-0-is at c.in-Some-Err.ensures.left_size) (rw c.in-Some-Err.field-0-is at c.in-Some-Err.ensures.refuses) (h.ensures.hands tells.1) (given _ _ h.ensures.number tells.1)
+    refused_by (image_of c.args.flash) c.args.bank (call_of c.args.call) c.args.flash c.in-Some-Err.flash
+    h.result c.in-Some-Err.number _ _ _ _ _
+    c.requires.new.fresh c.requires.new.size (rw c.in-Some-Err.field-0-is at c.in-Some-Err.ensures)
+    (h.ensures.hands tells.1) (given _ _ h.ensures.number tells.1)
 
 pub returns-in-Some-Err-clause-tells : goal.returns-in-Some-Err-clause-tells
 returns-in-Some-Err-clause-tells c =
     let h = c.hand_over-in-Some-Err.ensures in
-    told_handed (image_of c.args.flash) c.hand_over-in-Some-Err.result c.in-Some-Err.number _ _ _ _ _ _ (has_flash_size (image_of c.args.flash) c.args.flash c.requires.size)
-    (take_up_end_is _ _ _ _ _ (rw c.in-Some-Err.field-0-is at c.in-Some-Err.ensures.refuses)) h.number h.idle h.kept h.full h.untouched
+    told_handed (image_of c.args.flash) c.hand_over-in-Some-Err.result c.in-Some-Err.number _ _ _ _ _ _
+    (has_flash_size (image_of c.args.flash) c.args.flash c.requires.new.size)
+    (take_up_end_is _ _ _ _ _ _ (rw c.in-Some-Err.field-0-is at c.in-Some-Err.ensures)) h.number h.idle h.kept h.full h.untouched
 
 pub returns-in-None-clause-tells : goal.returns-in-None-clause-tells
-returns-in-None-clause-tells c = told_no_room _ _ _ _ (has_flash_size (image_of c.args.flash) c.args.flash c.requires.size)
+returns-in-None-clause-tells c = told_no_room _ _ _ _ (has_flash_size (image_of c.args.flash) c.args.flash c.requires.new.size)

@@ -1,4 +1,4 @@
-use Rattle.std.proofs.Common.{◌≡◌, ◌∙◌, refl, sym, ap, subst, Result, IsFalse}
+use Rattle.std.proofs.Common.{◌∙◌, refl, sym, ap, subst, Result, IsFalse}
 use Rattle.std.specs.Prelude.{IsErrOf}
 use Rattle.flash_core.specs.Told.{Told}
 use Rattle.flash_core.specs.declared.flash.FlashStop.TheVariants as flash_stop
@@ -8,35 +8,36 @@ use Rattle.agent_calls.specs.Shown as agent
 use Rattle.step_flash.specs.Flash.{block_count, told_of}
 use Rattle.step_flash.proofs.Causes.{never_lost}
 use Rattle.fwu_c.specs.Agents.{BeginsWith}
-use Rattle.fwu_c.specs.Calls.{CallsFrom, call_of}
+use Rattle.fwu_c.specs.Calls.{CallsFrom, IsCalled, call_of}
 use Rattle.fwu_c.proofs.Calls.{calls_from, here_after, is_called}
 use Rattle.fwu_c.proofs.calling.called.Goals as goal
 
-pub returns-clause-ends : goal.returns-clause-ends
-returns-clause-ends c =
-    let first = c.deref_mut.result.now in
-    let done = c.ask-done in
-    let here : IsFalse (agent.gone first) = rw c.deref_mut.ensures.value c.requires.here in
-    is_called done.result
-    (λ lost. never_lost (flash_result done.result) (agent.device first) (agent.device done.new.agent) done.ensures.goes.costs
-    (subst (λ (r : Result (Unit {0}) Stop). IsErrOf (flash_result r) flash_stop.Lost) (sym lost) refl))
-    (λ gone. let was = done.ensures.goes.gone.gone.0 gone in absurd (cc (was, here)))
-
-pub returns-clause-size : goal.returns-clause-size
-returns-clause-size c =
-    ap (λ d. block_count d) c.flash_from.ensures ∙ c.ask-done.ensures.goes.size ∙ ap (λ a. block_count (agent.device a)) c.deref_mut.ensures.value
-
-pub returns-clause-calls : goal.returns-clause-calls
-returns-clause-calls c = λ b begins.
+pub returns : goal.returns
+returns c =
     let first = c.deref_mut.result.now in
     let done = c.ask-done in
     let old = agent.moment first in
     let new = agent.moment done.new.agent in
-    let begun : BeginsWith b old (agent.gone first) = rw c.deref_mut.ensures.value begins in
-    let meets = done.ensures.meets begun.here in
-    let by = calls_from (call_of c.args.call) b done.result old new (returns-clause-ends c) refl begun.from meets.exact meets.leaves begun.shows
-    (λ ok s x shows. (rw c.deref.ensures at c.showing.ensures.seen) (here_after done.result _ _ begun.here done.ensures.goes.gone ok) refl s x shows)
-    done.ensures.refused (done.ensures.again b begun.from) in
-    subst (λ (t : Told). CallsFrom (call_of c.args.call) b done.result (told_of (agent.device c.args.agent.value)) t) (sym (ap (λ d. told_of d) c.flash_from.ensures))
-    (subst (λ (t : Told). CallsFrom (call_of c.args.call) b done.result t (told_of (agent.device done.new.agent)))
-    (ap (λ a. told_of (agent.device a)) c.deref_mut.ensures.value) by)
+    let goes = done.ensures.goes in
+    let here : IsFalse (agent.gone first) = rw c.deref_mut.ensures.value c.requires.here in
+    let ends : IsCalled done.result =
+    is_called done.result
+    (λ lost. never_lost (flash_result done.result) (agent.device first) (agent.device done.new.agent) goes.costs
+    (subst (λ (r : Result (Unit {0}) Stop). IsErrOf (flash_result r) flash_stop.Lost) (sym lost) refl))
+    (λ gone. let was = goes.gone.gone.0 gone in absurd (cc (was, here))) in
+    record {
+      calls = λ b begins.
+          let begun : BeginsWith b old (agent.gone first) = rw c.deref_mut.ensures.value begins in
+          let meets = done.ensures.meets here in
+          let by = calls_from (call_of c.args.call) b done.result old new ends refl begun.from meets.exact meets.leaves begun.shows
+          (λ ok s x shows. (rw c.deref.ensures at c.showing.ensures.seen)
+          (here_after done.result _ _ here goes.gone ok) refl s x shows)
+          done.ensures.refused (done.ensures.again b begun.from) in
+          subst (λ (t : Told). CallsFrom (call_of c.args.call) b done.result (told_of (agent.device c.args.agent.value)) t)
+          (sym (ap (λ d. told_of d) c.flash_from.ensures))
+          (subst (λ (t : Told). CallsFrom (call_of c.args.call) b done.result t (told_of (agent.device done.new.agent)))
+          (ap (λ a. told_of (agent.device a)) c.deref_mut.ensures.value) by);
+      ends = ends;
+      size = ap (λ d. block_count d) c.flash_from.ensures ∙ goes.size
+          ∙ ap (λ a. block_count (agent.device a)) c.deref_mut.ensures.value;
+    }

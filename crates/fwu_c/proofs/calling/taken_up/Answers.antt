@@ -1,54 +1,62 @@
-use Rattle.std.proofs.Common.{◌∙◌, ap, refl, arith, subst, sym}
-use Rattle.flash_core.specs.Told.{Told}
-use Rattle.fwu_formats.specs.Digests.{passes_any}
-use Rattle.early_boot.specs.Started.{device, started}
-use Rattle.early_boot.specs.TakenUp.{TakeUpEnds, bad_layout, no_metadata, not_started, stopped, taken}
-use Rattle.step_flash.specs.Flash.{block_count, told_of}
+use Rattle.std.proofs.Common.{◌∙◌, refl, arith, sym}
+use Rattle.early_boot.specs.TakenUp.{bad_layout, no_metadata, not_started, stopped}
 use Rattle.fwu_c.proofs.Calls.{stop_unlost}
+use Rattle.fwu_c.proofs.Telling.{keeps_but_fault, keeps_started, keeps_stays}
 use Rattle.fwu_c.proofs.calling.taken_up.Goals as goal
 
-pub returns-in-BadLayout-clause-refuses : goal.returns-in-BadLayout-clause-refuses
-returns-in-BadLayout-clause-refuses c = record {
+pub returns-in-BadLayout : goal.returns-in-BadLayout
+returns-in-BadLayout c = record {
   end = bad_layout c.in-BadLayout.fault;
   is = tt;
   number_is = refl;
   ends = c.in-BadLayout.ensures.takes.ends refl;
   reports = c.fault_number-told.ensures;
+  kept = keeps_but_fault _ _;
   unlost = λ e. omega (arith, e);
+  size = c.in-BadLayout.ensures.takes.size;
 }
 
-pub returns-in-NoMetadata-clause-refuses : goal.returns-in-NoMetadata-clause-refuses
-returns-in-NoMetadata-clause-refuses c = record {
+pub returns-in-NoMetadata : goal.returns-in-NoMetadata
+returns-in-NoMetadata c = record {
   end = no_metadata;
   is = tt;
   number_is = refl;
   ends = c.in-NoMetadata.ensures.takes.ends refl;
   reports = tt;
+  kept = keeps_stays _ _;
   unlost = λ e. omega (arith, e);
+  size = c.in-NoMetadata.ensures.takes.size;
 }
 
-pub returns-in-NotStarted-clause-refuses : goal.returns-in-NotStarted-clause-refuses
-returns-in-NotStarted-clause-refuses c = record {
+pub returns-in-NotStarted : goal.returns-in-NotStarted
+returns-in-NotStarted c = record {
   end = not_started;
   is = tt;
   number_is = refl;
   ends = c.in-NotStarted.ensures.takes.ends refl;
   reports = tt;
+  kept = keeps_stays _ _;
   unlost = λ e. omega (arith, e);
+  size = c.in-NotStarted.ensures.takes.size;
 }
 
-pub returns-clause-refuses : goal.returns-clause-refuses
-returns-clause-refuses c = record {
+pub returns : goal.returns
+returns c = record {
   end = stopped c.in-Stopped.stop;
   is = tt;
   number_is = c.stop_number.ensures;
   ends = c.in-Stopped.ensures.takes.ends refl;
   reports = tt;
+  kept = keeps_stays _ _;
   unlost = λ e. stop_unlost c.in-Stopped.stop c.args.flash c.in-Stopped.flash c.in-Stopped.ensures.takes.costs (sym c.stop_number.ensures ∙ e);
+  size = c.in-Stopped.ensures.takes.size;
 }
 
-pub returns-in-Ok-clause-takes : goal.returns-in-Ok-clause-takes
-returns-in-Ok-clause-takes c = rw c.in-Ok.ensures.ok (record { ends = c.in-Taken.ensures.takes.ends refl; runs = c.in-Taken.ensures.takes.numbers; reports = c.report_start.ensures.reports })
-
-pub returns-in-Ok-clause-taken_size : goal.returns-in-Ok-clause-taken_size
-returns-in-Ok-clause-taken_size c = ap (λ b. block_count (device b)) c.in-Ok.ensures.ok ∙ c.in-Taken.ensures.takes.size
+pub returns-in-Ok : goal.returns-in-Ok
+returns-in-Ok c = rw c.in-Ok.ensures.ok (record {
+  ends = c.in-Taken.ensures.takes.ends refl;
+  runs = c.in-Taken.ensures.takes.numbers;
+  reports = c.report_start.ensures.reports;
+  kept = keeps_started _ _ c.report_start.ensures.kept;
+  size = c.in-Taken.ensures.takes.size;
+})

@@ -12,13 +12,16 @@ is-no-package : (bytes : List ℕ) (answer : Result (Bor Toc) FipFault) → Matc
 is-no-package bytes (Ok toc) answers fault = absurd (cc)
 is-no-package bytes (Err f) answers fault = ap (λ (r : Result Toc FipFault). is_err r) answers
 
-pub returns-clause-size : goal.returns-clause-size
-returns-clause-size c = ap (λ d. block_count d) c.flash_from.ensures
-
-pub returns-clause-installs : goal.returns-clause-installs
-returns-clause-installs c = λ b begins.
+pub returns : goal.returns
+returns c =
     let fed : Fed c.deref_mut.result.now [] = rw c.deref_mut.ensures.value c.in_ok-table.ensures in
-    let read = rw c.deref.ensures at c.toc.ensures in (
-      is-no-package c.args.file.now c.toc.result (read c.args.file.now (c.feed-fault.ensures.fed [] fed)) (ap (λ (r : Result (Bor Toc) FipFault). is_err r) c.in-Err.is),
-      ap (λ d. told_of d) c.flash_from.ensures,
-    )
+    let read = rw c.deref.ensures at c.toc.ensures in
+    record {
+      installs = λ b begins. (
+        is-no-package c.args.file.now c.toc.result (read c.args.file.now (c.feed-fault.ensures.fed [] fed))
+            (ap (λ (r : Result (Bor Toc) FipFault). is_err r) c.in-Err.is),
+        ap (λ d. told_of d) c.flash_from.ensures,
+      );
+      ends = tt;
+      size = ap (λ d. block_count d) c.flash_from.ensures;
+    }

@@ -10,7 +10,7 @@ use Rattle.update_client.specs.Halts.{flash_of}
 use Rattle.step_flash.specs.Flash.{block_count, told_of}
 use Rattle.step_flash.proofs.Causes.{never_lost}
 use Rattle.fwu_c.specs.Agents.{BeginsWith}
-use Rattle.fwu_c.specs.Sendings.{SendsPackage}
+use Rattle.fwu_c.specs.Sendings.{IsSent, SendsPackage}
 use Rattle.fwu_c.proofs.SentPackage.{held_there, here_after, is_sent, never_rose, package_sent}
 use Rattle.fwu_formats.proofs.Tables.{table-of}
 use Rattle.fwu_formats.specs.Package.{Entry}
@@ -28,50 +28,45 @@ is_there held name file is none =
     let e : ◌≡◌ {A = Option (List ℕ)} (Some file) None = sym (finds_it name file) ∙ sym (ap (λ (d : Directory). d name) is) ∙ none in
     absurd (cc)
 
-pub send-sent-requires-clause-ends : goal.send-sent-requires-clause-ends
-send-sent-requires-clause-ends c = λ k d lt. omega (arith, (table-of c.args.file.now c.args.toc.now c.requires.table).within k d lt, c.requires.short)
+pub send-sent-requires-clause-payloads : goal.send-sent-requires-clause-payloads
+send-sent-requires-clause-payloads c =
+    let within = (table-of c.args.file.now c.args.toc.now c.requires.table).within in
+    record {
+      ends = λ k d lt. omega (arith, within k d lt, c.requires.short);
+      stored = λ file told. subst (λ (f : List ℕ). All (λ (e : Entry). e.offset + e.size ≤ length f) c.args.toc.now.entries)
+          (same_file _ _ c.args.file.now file c.new-files.ensures told) within;
+      there = λ lacks. is_there _ _ c.args.file.now c.new-files.ensures lacks;
+    }
 
-pub send-sent-requires-clause-stored : goal.send-sent-requires-clause-stored
-send-sent-requires-clause-stored c = λ file told.
-    subst (λ (f : List ℕ). All (λ (e : Entry). e.offset + e.size ≤ length f) c.args.toc.now.entries)
-    (same_file _ _ c.args.file.now file c.new-files.ensures told) (table-of c.args.file.now c.args.toc.now c.requires.table).within
-
-pub send-sent-requires-clause-there : goal.send-sent-requires-clause-there
-send-sent-requires-clause-there c = λ lacks. is_there _ _ c.args.file.now c.new-files.ensures lacks
-
-pub returns-clause-ends : goal.returns-clause-ends
-returns-clause-ends c =
-    let first = c.deref_mut.result.now in
-    let sent = c.send-sent in
-    let here : IsFalse (agent.gone first) = rw c.deref_mut.ensures.value c.requires.here in
-    is_sent sent.result
-    (λ read. never_rose (sent.ensures.reads.failed read))
-    (λ lost. never_lost (flash_of sent.result) (agent.device first) (agent.device sent.new.agent) (sent.ensures.goes here).costs
-    (subst (λ (r : Result Sent SendStop). IsErrOf (flash_of r) flash_stop.Lost) (sym lost) refl))
-    (λ gone. let was = (sent.ensures.gone.gone.0 gone).0 in absurd (cc (was, here)))
-
-pub returns-clause-size : goal.returns-clause-size
-returns-clause-size c =
-    let here : IsFalse (agent.gone c.deref_mut.result.now) = rw c.deref_mut.ensures.value c.requires.here in
-    ap (λ d. block_count d) c.flash_from.ensures ∙ (c.send-sent.ensures.goes here).size ∙ ap (λ a. block_count (agent.device a)) c.deref_mut.ensures.value
-
-pub returns-clause-sends : goal.returns-clause-sends
-returns-clause-sends c = λ b begins.
+pub returns : goal.returns
+returns c =
     let first = c.deref_mut.result.now in
     let sent = c.send-sent in
     let file = c.args.file.now in
     let request = c.args.acceptance in
     let old = agent.moment first in
     let new = agent.moment sent.new.agent in
-    let begun : BeginsWith b old (agent.gone first) = rw c.deref_mut.ensures.value begins in
-    let here = begun.here in
-    let by = package_sent _ file _ request b c.args.toc.now sent.result old new
-    (held_there _ _ _ c.new-files.ensures) c.requires.table (returns-clause-ends c) refl begun.from (sent.ensures.sends here)
-    begun.shows
-    (λ ok s x shows. (rw c.deref.ensures at c.showing.ensures.seen) (here_after _ sent.result _ _ here sent.ensures.gone ok) refl s x shows)
-    (λ s x shows. sent.ensures.installs here s x shows) sent.ensures.faults
-    (λ early. ap (λ a. told_of (agent.device a)) (sent.ensures.untouched early)) in
-    subst (λ (t : Told). SendsPackage file request b sent.result (told_of (agent.device c.args.agent.value)) t)
-    (sym (ap (λ d. told_of d) c.flash_from.ensures))
-    (subst (λ (t : Told). SendsPackage file request b sent.result t (told_of (agent.device sent.new.agent)))
-    (ap (λ a. told_of (agent.device a)) c.deref_mut.ensures.value) by)
+    let here : IsFalse (agent.gone first) = rw c.deref_mut.ensures.value c.requires.here in
+    let goes = sent.ensures.goes here in
+    let ends : IsSent sent.result =
+    is_sent sent.result (λ read. never_rose (sent.ensures.reads.failed read))
+    (λ lost. never_lost (flash_of sent.result) (agent.device first) (agent.device sent.new.agent) goes.costs
+    (subst (λ (r : Result Sent SendStop). IsErrOf (flash_of r) flash_stop.Lost) (sym lost) refl))
+    (λ gone. let was = (sent.ensures.gone.gone.0 gone).0 in absurd (cc (was, here))) in
+    record {
+      installs = λ b begins.
+          let begun : BeginsWith b old (agent.gone first) = rw c.deref_mut.ensures.value begins in
+          let by = package_sent _ file _ request b c.args.toc.now sent.result old new
+          (held_there _ _ _ c.new-files.ensures) c.requires.table ends refl begun.from (sent.ensures.sends here) begun.shows
+          (λ ok s x shows. (rw c.deref.ensures at c.showing.ensures.seen)
+          (here_after _ sent.result _ _ here sent.ensures.gone ok) refl s x shows)
+          (λ s x shows. sent.ensures.installs here s x shows) sent.ensures.faults
+          (λ early. ap (λ a. told_of (agent.device a)) (sent.ensures.untouched early)) in
+          subst (λ (t : Told). SendsPackage file request b sent.result (told_of (agent.device c.args.agent.value)) t)
+          (sym (ap (λ d. told_of d) c.flash_from.ensures))
+          (subst (λ (t : Told). SendsPackage file request b sent.result t (told_of (agent.device sent.new.agent)))
+          (ap (λ a. told_of (agent.device a)) c.deref_mut.ensures.value) by);
+      ends = ends;
+      size = ap (λ d. block_count d) c.flash_from.ensures ∙ goes.size
+          ∙ ap (λ a. block_count (agent.device a)) c.deref_mut.ensures.value;
+    }

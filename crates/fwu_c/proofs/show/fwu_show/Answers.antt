@@ -1,17 +1,21 @@
-use Rattle.std.proofs.Common.{◌∙◌, ap, refl, subst, sym, arith, List, ℕ}
+use Rattle.std.proofs.Common.{◌∙◌, ap, refl, subst, arith, List, ℕ}
 use Rattle.early_boot.specs.Numbers.{ShowsNumbers, numbers}
 use Rattle.early_boot.specs.Showing.{ShowsNothing}
 use Rattle.early_boot.specs.declared.showing.Unshown.{Unshown}
 use Rattle.fwu_c.specs.Codes.{fault_code}
 use Rattle.fwu_c.proofs.Booting.{has_flash_size}
-use Rattle.fwu_c.proofs.Showing.{all_shown, no_other}
+use Rattle.fwu_c.proofs.Showing.{no_six, tells_none, tells_nothing}
 use Rattle.fwu_c.proofs.Telling.{unmade_by}
 use Rattle.fwu_c.proofs.Updating.{start_now}
 use Rattle.fwu_c.proofs.show.fwu_show.Goals as goal
 
-pub returns-in-Err-clause-no_flash : goal.returns-in-Err-clause-no_flash
-returns-in-Err-clause-no_flash c =
-    rw c.unmade_number.ensures (unmade_by c.args.image.now c.in-Err.why c.in-Err.ensures.unmade)
+pub returns-in-Err-clause-tells : goal.returns-in-Err-clause-tells
+returns-in-Err-clause-tells c = tells_nothing _ _ _
+    (rw c.unmade_number.ensures (unmade_by c.args.image.now c.in-Err.why c.in-Err.ensures.unmade))
+
+pub returns-in_default-clause-tells : goal.returns-in_default-clause-tells
+returns-in_default-clause-tells c = tells_none _ 7 _
+    (has_flash_size _ c.in-Ok.flash c.in-Ok.ensures.size) (λ six. omega (arith, six))
 
 pub show_all-requires-clause-numbers : goal.show_all-requires-clause-numbers
 show_all-requires-clause-numbers c =
@@ -34,16 +38,17 @@ returns-in-Err-Metadata-clause-shows c = λ low.
     let nothing = subst (λ (i : List ℕ). ShowsNothing i why) now (c.in-Err-Metadata.ensures.nothing refl) in
     subst (λ (w : Unshown). ShowsNothing c.args.image.now w) c.in-Err-Metadata.field-0-is nothing
 
-pub returns-in-Ok-read_numbers_in-clause-shows : goal.returns-in-Ok-read_numbers_in-clause-shows
-returns-in-Ok-read_numbers_in-clause-shows c = λ low.
-    all_shown c.args.image.now c.show_all.new.shown c.show_all.result c.show_all.ensures.answers c.show_all.ensures.shows low
+pub returns-in-Err-Layout-clause-tells : goal.returns-in-Err-Layout-clause-tells
+returns-in-Err-Layout-clause-tells c = record {
+  fault = λ one. refl;
+  behind = refl;
+  no_flash = no_six _ 1 (has_flash_size _ c.in-Ok.flash c.in-Ok.ensures.size) (λ six. omega (arith, six));
+  untouched = λ low. absurd (omega (arith, low));
+}
 
-pub returns-in-Ok-read_numbers_in-clause-fault : goal.returns-in-Ok-read_numbers_in-clause-fault
-returns-in-Ok-read_numbers_in-clause-fault c = λ one.
-    absurd (no_other c.show_all.result 1 c.show_all.ensures.answers one (λ e. omega (arith, e)) (λ e. omega (arith, e)))
+pub returns-in-Err-Metadata-clause-tells : goal.returns-in-Err-Metadata-clause-tells
+returns-in-Err-Metadata-clause-tells c = tells_none _ 2 _
+    (has_flash_size _ c.in-Ok.flash c.in-Ok.ensures.size) (λ six. omega (arith, six))
 
-pub returns-in-Ok-read_numbers_in-clause-no_flash : goal.returns-in-Ok-read_numbers_in-clause-no_flash
-returns-in-Ok-read_numbers_in-clause-no_flash c = (
-  λ six flash. no_other c.show_all.result 6 c.show_all.ensures.answers six (λ e. omega (arith, e)) (λ e. omega (arith, e)),
-  λ none. absurd (none (has_flash_size _ c.in-Ok.flash c.in-Ok.ensures.size)),
-)
+pub returns-clause-tells : goal.returns-clause-tells
+returns-clause-tells c = tells_none _ 7 _ (has_flash_size _ c.in-Ok.flash c.in-Ok.ensures.size) (λ six. omega (arith, six))

@@ -4,22 +4,14 @@ use Rattle.meta_layout.proofs.Places.{pushed}
 use Rattle.early_boot.specs.Numbers.{numbers}
 use Rattle.fwu_c.specs.Shows.{bank_shown}
 use Rattle.fwu_c.specs.declared.show.BankShown.{BankShown}
-use Rattle.fwu_c.proofs.Showing.{banks_are}
 use Rattle.fwu_c.proofs.show.show_banks.Goals as goal
-
-pub find_bank-requires-clause-bank : goal.find_bank-requires-clause-bank
-find_bank-requires-clause-bank c =
-    omega (arith, banks_are c.args.image.now c.args.layout.now (numbers c.args.read.now) c.requires.layout c.requires.numbers, c.loop-bank-test.true)
-
-pub find_bank-requires-clause-bits : goal.find_bank-requires-clause-bits
-find_bank-requires-clause-bits c = omega (arith, c.requires.are.bits, c.loop-bank-test.true)
 
 pub loop-bank-preserved : goal.loop-bank-preserved
 loop-bank-preserved c =
     let told = c.loop-bank.shown.bank in
     let bank = c.loop-bank.bank in
     let all : length told ≡ 4 = c.loop-bank.invariant.1 in
-    let near : bank < length told = omega (arith, all, c.requires.are.most, c.loop-bank-test.true) in
+    let near : bank < length told = omega (arith, all, c.requires.shown.are.most, c.loop-bank-test.true) in
     let numbers_stay = c.loop-bank.invariant.2 in (
       take_more_set told bank c.in-Some.found near
           ∙ pushed (bank_shown c.args.image.now c.args.layout.now (numbers c.args.read.now)) (take bank told) bank c.in-Some.found c.loop-bank.invariant.0 c.in-Some.ensures.found,

@@ -1,30 +1,28 @@
-use Rattle.std.proofs.Common.{◌≡◌, ◌∙◌, Ok, ap, refl, subst, sym}
-use Rattle.flash_core.specs.Told.{Told}
+use Rattle.std.proofs.Common.{◌≡◌, ◌∙◌, ap, refl, subst, sym}
 use Rattle.fwu_formats.specs.Digests.{passes_any}
-use Rattle.early_boot.specs.Ends.{booted, device_of, ended}
+use Rattle.early_boot.specs.Ends.{device_of, ended}
 use Rattle.early_boot.specs.EndsBy.{BootEnds}
 use Rattle.early_boot.specs.Numbers.{numbers}
-use Rattle.early_boot.specs.Started.{device, started}
 use Rattle.step_flash.specs.declared.flash.StepFlash.{StepFlash}
 use Rattle.step_flash.specs.Flash.{block_count, told_of}
 use Rattle.fwu_c.specs.Codes.{end_code}
 use Rattle.fwu_c.proofs.Booting.{boot_end_is}
+use Rattle.fwu_c.proofs.Telling.{keeps_started}
 use Rattle.fwu_c.proofs.Unbooted.{not_started}
 use Rattle.fwu_c.proofs.update.booted_up.Goals as goal
 
-pub returns-in-Ok-clause-boots : goal.returns-in-Ok-clause-boots
-returns-in-Ok-clause-boots c = rw c.in-Ok.ensures.ok (record {
+pub returns-in-Ok : goal.returns-in-Ok
+returns-in-Ok c = rw c.in-Ok.ensures.ok (record {
   numbers = numbers c.in-Booted.field-1;
   ends = c.in-Booted.ensures.boots.ends refl;
   layout = (c.in-Booted.booted.knows refl).layout_is;
   reports = c.report_start.ensures.reports;
+  kept = keeps_started _ _ c.report_start.ensures.kept;
+  size = c.in-Booted.ensures.boots.size;
 })
 
-pub returns-in-Ok-clause-booted_size : goal.returns-in-Ok-clause-booted_size
-returns-in-Ok-clause-booted_size c = ap (λ b. block_count (device b)) c.in-Ok.ensures.ok ∙ c.in-Booted.ensures.boots.size
-
-pub returns-clause-stays : goal.returns-clause-stays
-returns-clause-stays c =
+pub returns : goal.returns
+returns c =
     let ended_as = c.report_end-number.ensures in
     let numbered = ended_as.number in
     let same = c.in_default.end-is in
@@ -39,12 +37,7 @@ returns-clause-stays c =
       number_is = code;
       boots = subst (λ (d : StepFlash). BootEnds (λ m. passes_any m) (told_of c.args.flash) (ended c.boot_in.result) (told_of d)) (sym back) (boots.ends refl);
       reports = ended_as.reports;
+      kept = ended_as.kept;
       unlost = λ four. end.0 (sym code ∙ four);
+      size = ap (λ (d : StepFlash). block_count d) back ∙ boots.size;
     }
-
-pub returns-clause-left_size : goal.returns-clause-left_size
-returns-clause-left_size c =
-    let same = c.in_default.end-is in
-    let given_back = c.into_flash.ensures in
-    let back : c.into_flash.result ≡ device_of c.boot_in.result = cc in
-    ap (λ (d : StepFlash). block_count d) back ∙ c.boot_in.ensures.boots.size

@@ -4,66 +4,70 @@ use Rattle.agent_calls.specs.Shown.{device}
 use Rattle.step_flash.specs.Flash.{image_of, told_of}
 use Rattle.fwu_c.specs.Handed.{IsDeviceEnd, is_idle, starts_none}
 use Rattle.fwu_c.proofs.Booting.{boot_idle, given, has_flash_size}
-use Rattle.fwu_c.proofs.Telling.{keeps_fault, told_handed, told_no_room}
-use Rattle.fwu_c.proofs.Updating.{none_end_is, outcome_busy, outcome_end_is, outcome_starts, tried_by, unbooted_by}
+use Rattle.fwu_c.proofs.Telling.{idle_starts, keeps_fault, told_handed, told_no_room}
+use Rattle.fwu_c.proofs.Updating.{none_end_is, outcome_end_is, outcome_starts, tried_by, unbooted_by}
 use Rattle.fwu_c.proofs.update.update_over.Goals as goal
 
 pub install-requires-clause-here : goal.install-requires-clause-here
-install-requires-clause-here c = (rw c.in-Some-Ok.field-0-is at c.in-Some-Ok.ensures.boots).begins.here
+install-requires-clause-here c = (rw c.in-Some-Ok.field-0-is at c.in-Some-Ok.ensures).begins.here
 
 pub hand_over-requires : goal.hand_over-requires
 hand_over-requires c =
     let i = c.in-Some in
+    let up = rw c.in-Some-Ok.field-0-is at c.in-Some-Ok.ensures in
+    let starts = λ (none : IsTrue (starts_none c.outcome_number.result)).
+    outcome_starts i.outcome (subst (λ n. IsTrue (starts_none n)) c.outcome_number.ensures none) in
     record {
       known = subst (λ n. IsDeviceEnd n) (sym c.outcome_number.ensures) (outcome_end_is i.outcome i.ensures.ends);
-      idle = λ idle. absurd (outcome_busy i.outcome (subst (λ n. IsTrue (is_idle n)) c.outcome_number.ensures idle));
-      kept = keeps_fault _ _ _ ((rw c.in-Some-Ok.field-0-is at c.in-Some-Ok.ensures.kept).0.fault (λ one. omega (arith, one)))
-          (λ idle. outcome_busy i.outcome (subst (λ n. IsTrue (is_idle n)) c.outcome_number.ensures idle))
-          (λ none. outcome_starts i.outcome (subst (λ n. IsTrue (starts_none n)) c.outcome_number.ensures none));
+      idle = λ idle. absurd (starts (idle_starts c.outcome_number.result idle));
+      kept = keeps_fault _ _ _ (up.boots.kept.fault (λ one. omega (arith, one))) starts;
     }
 
 pub hand_over-requires-in-Some-Err : goal.hand_over-requires-in-Some-Err
 hand_over-requires-in-Some-Err c =
-    let none = rw c.in-Some-Err.field-0-is at c.in-Some-Err.ensures.stays in
+    let none = rw c.in-Some-Err.field-0-is at c.in-Some-Err.ensures in
     record {
-      known = none_end_is _ _ _ _ none;
-      idle = λ idle. boot_idle none.end (told_of c.args.flash) (told_of c.in-Some-Err.flash) (image_of c.args.flash, c.args.file.now, c.requires.fresh) none.boots.by_bytes
+      known = none_end_is _ _ _ _ _ none;
+      idle = λ idle. boot_idle none.end (told_of c.args.flash) (told_of c.in-Some-Err.flash)
+          (image_of c.args.flash, c.args.file.now, c.requires.new.fresh) none.boots.by_bytes
           (subst (λ n. IsTrue (is_idle n)) none.number_is idle);
-      kept = (rw c.in-Some-Err.field-0-is at c.in-Some-Err.ensures.kept).1;
+      kept = none.kept;
     }
 
 pub returns-in-Some-clause-updates : goal.returns-in-Some-clause-updates
 returns-in-Some-clause-updates c = λ told.
     let h = c.hand_over in
     let i = c.in-Some in
-    let up = rw c.in-Some-Ok.field-0-is at c.in-Some-Ok.ensures.boots in
-    tried_by (image_of c.args.flash) _ _ c.args.flash (device c.in-Some-Ok.agent.value) i.flash up.began up.boots.numbers i.outcome h.result _ _ _ _
-    c.requires.fresh c.requires.size (i.ensures.size ∙ (rw c.in-Some-Ok.field-0-is at c.in-Some-Ok.ensures.booted_size)) up.boots.ends up.boots.layout (i.ensures.installs up.began up.begins)
-    (h.ensures.hands told.1) (given _ _ h.ensures.number told.1 ∙ c.outcome_number.ensures) up.boots.reports
+    let up = rw c.in-Some-Ok.field-0-is at c.in-Some-Ok.ensures in
+    tried_by (image_of c.args.flash) _ _ c.args.flash (device c.in-Some-Ok.agent.value) i.flash up.began i.outcome
+    h.result _ _ _ _ _
+    c.requires.new.fresh c.requires.new.size i.ensures.size up.boots (i.ensures.installs up.began up.begins)
+    (h.ensures.hands told.1) (given _ _ h.ensures.number told.1 ∙ c.outcome_number.ensures)
 
 pub returns-in-Some-clause-tells : goal.returns-in-Some-clause-tells
 returns-in-Some-clause-tells c =
     let h = c.hand_over.ensures in
     let i = c.in-Some in
-    told_handed (image_of c.args.flash) c.hand_over.result c.outcome_number.result _ _ _ _ _ _ (has_flash_size (image_of c.args.flash) c.args.flash c.requires.size)
+    told_handed (image_of c.args.flash) c.hand_over.result c.outcome_number.result _ _ _ _ _ _
+    (has_flash_size (image_of c.args.flash) c.args.flash c.requires.new.size)
     (subst (λ n. IsDeviceEnd n) (sym c.outcome_number.ensures) (outcome_end_is i.outcome i.ensures.ends)) h.number h.idle h.kept h.full h.untouched
 
 pub returns-in-Some-Err-clause-updates : goal.returns-in-Some-Err-clause-updates
 returns-in-Some-Err-clause-updates c = λ told.
     let h = c.hand_over-in-Some-Err in
-    let none = rw c.in-Some-Err.field-0-is at c.in-Some-Err.ensures.stays in
-    unbooted_by (image_of c.args.flash) c.args.file.now c.args.acceptance c.args.flash c.in-Some-Err.flash none.end h.result _ _ _ _
-    c.requires.fresh c.requires.size (rw c.in-Some-Err.field-0-is at c.in-Some-Err.ensures.left_size) none.is none.boots (h.ensures.hands told.1)
-    (given _ _ h.ensures.number told.1 ∙ none.number_is) none.reports
+    unbooted_by (image_of c.args.flash) c.args.file.now c.args.acceptance c.args.flash c.in-Some-Err.flash h.result _ _ _ _ _ _
+    c.requires.new.fresh c.requires.new.size (rw c.in-Some-Err.field-0-is at c.in-Some-Err.ensures) (h.ensures.hands told.1)
+    (given _ _ h.ensures.number told.1)
 
 pub returns-in-Some-Err-clause-tells : goal.returns-in-Some-Err-clause-tells
 returns-in-Some-Err-clause-tells c =
     let h = c.hand_over-in-Some-Err.ensures in
     told_handed (image_of c.args.flash) c.hand_over-in-Some-Err.result c.in-Some-Err.number _ _ _ _ _ _
-    (has_flash_size (image_of c.args.flash) c.args.flash c.requires.size) (none_end_is _ _ _ _ (rw c.in-Some-Err.field-0-is at c.in-Some-Err.ensures.stays)) h.number h.idle h.kept h.full h.untouched
+    (has_flash_size (image_of c.args.flash) c.args.flash c.requires.new.size)
+    (none_end_is _ _ _ _ _ (rw c.in-Some-Err.field-0-is at c.in-Some-Err.ensures)) h.number h.idle h.kept h.full h.untouched
 
 pub returns-in-None-clause-tells : goal.returns-in-None-clause-tells
-returns-in-None-clause-tells c = told_no_room _ _ _ _ (has_flash_size (image_of c.args.flash) c.args.flash c.requires.size)
+returns-in-None-clause-tells c = told_no_room _ _ _ _ (has_flash_size (image_of c.args.flash) c.args.flash c.requires.new.size)
 
 pub returns-in_default-clause-tells : goal.returns-in_default-clause-tells
-returns-in_default-clause-tells c = told_no_room _ _ _ _ (has_flash_size (image_of c.args.flash) c.args.flash c.requires.size)
+returns-in_default-clause-tells c = told_no_room _ _ _ _ (has_flash_size (image_of c.args.flash) c.args.flash c.requires.new.size)
