@@ -3,7 +3,8 @@ ghost use Rattle.std.specs.Prelude.{◌≡◌, ◌≤◌, ◌+◌, ◌++◌, Err
 ghost use Rattle.fwu_formats.specs.FaultText.{fip_fault_text};
 ghost use Rattle.fwu_model.specs.Text.{format_line};
 ghost use Rattle.fwu_journal.specs.Room.{Grows, HasRoom};
-ghost use Rattle.flash_commands.specs.Formatting.{blocks_text, format_text, images_text, input_text, named_text, verdict_text, version_text};
+ghost use Rattle.flash_commands.specs.Formatting.{blocks_text, format_text, images_text, input_text, named_text};
+ghost use Rattle.flash_commands.specs.Formatting.{verdict_text, version_text};
 ghost use Rattle.flash_commands.specs.declared.format_line.TheConstants.{FORMAT_ROOM};
 ghost use Rattle.flash_format.specs.declared.stops.FormatStop.TheVariants.{Input as InputRefused};
 

@@ -1,8 +1,11 @@
 //! Laws of the ways that a run may end, and of wrong outcomes that none is promised:
 //! functions that do nothing, whose contract is the law.
-ghost use Rattle.script_cmd.specs.Outcomes.{BadListIsNone, ListIsSome, MissingListIsNone, NoMetadataIsNone, NothingFollowsTheSink, NothingIsArmed, NothingIsPassedOver, NothingIsTouched, UsageLineIsOfUsage, UsageReadsNoSource};
+ghost use Rattle.script_cmd.specs.Outcomes.{BadListIsNone, ListIsSome, MissingListIsNone, NoMetadataIsNone};
+ghost use Rattle.script_cmd.specs.Outcomes.{NothingFollowsTheSink, NothingIsArmed, NothingIsPassedOver};
+ghost use Rattle.script_cmd.specs.Outcomes.{NothingIsTouched, UsageLineIsOfUsage, UsageReadsNoSource};
 ghost use Rattle.script_cmd.specs.Permitted.{BootsArePermitted};
-ghost use Rattle.script_cmd.specs.Promises.{WaysAreComplete, WaysBoot, WaysBootFirst, WaysEnd, WaysGuard, WaysKeepTheHeadline, WaysLeaveTheDevice, WaysReply, WaysWrite};
+ghost use Rattle.script_cmd.specs.Promises.{WaysAreComplete, WaysBoot, WaysBootFirst, WaysEnd, WaysGuard};
+ghost use Rattle.script_cmd.specs.Promises.{WaysKeepTheHeadline, WaysLeaveTheDevice, WaysReply, WaysWrite};
 
 /// Whichever way a run ends, what the sink took is the lines of its turns, or one line where nothing ran.
 pub fn ways_write()
