@@ -1,6 +1,6 @@
 //! Capsules in files.
 
-ghost use Rattle.std.specs.Prelude.{◌≡◌, ◌≤◌, ℕ, List, Err, IfOk};
+ghost use Rattle.std.specs.Prelude.{◌≡◌, Err, IfOk};
 ghost use Rattle.host_io.specs.Reads.{ReadsFile};
 ghost use Rattle.fip_tables.specs.Files.{Lacks};
 ghost use Rattle.capsule_tables.specs.Answers.{AnswersFile, HasReadCause, IsSomeTable};

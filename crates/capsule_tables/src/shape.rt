@@ -1,6 +1,6 @@
 //! The two headers of a capsule.
 
-ghost use Rattle.std.specs.Prelude.{◌≡◌, ◌<◌, ◌≤◌, ◌+◌, ◌*◌, ℕ, List, Some, Err, IfOk, IsTrue};
+ghost use Rattle.std.specs.Prelude.{◌≡◌, ◌<◌, ◌≤◌, ◌+◌, ◌*◌, Some, Err, IfOk};
 ghost use Rattle.host_io.specs.Contents.{TellsSize};
 ghost use Rattle.host_io.specs.Reads.{ReadsFile};
 ghost use Rattle.capsule_tables.specs.Answers.{AnswersFile, HasReadCause};

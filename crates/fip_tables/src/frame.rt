@@ -1,6 +1,6 @@
 //! What a package has besides its payloads, for one that is made in memory or in a file.
 
-ghost use Rattle.std.specs.Prelude.{◌≡◌, ◌<◌, ◌≤◌, ◌*◌, ◌++◌, List, None, Some, Err, IfOk, IfErr, OnOk, drop, flat_map, length, map, take};
+ghost use Rattle.std.specs.Prelude.{◌≡◌, ◌<◌, ◌≤◌, ◌*◌, ◌++◌, List, None, Err, IfOk, IfErr, OnOk, drop, flat_map, length, take};
 ghost use Rattle.base_core.specs.Bytes.{le};
 ghost use Rattle.fwu_formats.specs.Package.{Part as Payload, fip_name, packed, packed_entries};
 ghost use Rattle.host_io.specs.Joined.{joined};

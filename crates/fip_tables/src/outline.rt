@@ -1,6 +1,6 @@
 //! The parts of a package to come, by their sizes, and why they cannot be packed.
 
-ghost use Rattle.std.specs.Prelude.{◌≡◌, ◌<◌, ◌≤◌, ◌+◌, ◌*◌, ℕ, Option, Some, None, IsFalse, IsTrue, IsNone, IfErr, IfSome, OnOk, Ok, Err, not, nat_le, ◌&&◌, length, take, position};
+ghost use Rattle.std.specs.Prelude.{◌≡◌, ◌<◌, ◌+◌, ◌*◌, ℕ, Option, Some, None, IsFalse, IsTrue, IsNone, IfErr, IfSome, OnOk, Ok, Err, not, nat_le, ◌&&◌, length, take, position};
 ghost use Rattle.std.specs.List.{list_any, list_all, range_with_len};
 ghost use Rattle.base_core.specs.Bytes.{same_bytes};
 ghost use Rattle.fip_tables.specs.Packing.{AreOutlines, HasNoFault, IsOutline, MayFit, first_repeat, is_alignment, is_nil, is_repeat, pack_fault, parts_fault};

@@ -1,11 +1,9 @@
 //! Packages made from payloads in memory.
 
-ghost use Rattle.std.specs.Prelude.{◌≡◌, ◌≢◌, Some, None, Err, IfOk, OnOk, map};
+ghost use Rattle.std.specs.Prelude.{◌≡◌, ◌≢◌, IfOk, map};
 ghost use Rattle.fwu_formats.specs.Package.{packed};
 ghost use Rattle.fip_tables.specs.Again.{ReadsAgain};
 ghost use Rattle.fip_tables.specs.Packing.{IsByFault, pack_fault, zeroed};
-ghost use Rattle.fip_tables.specs.declared.faults.PackFault.{PackFault};
-ghost use Rattle.fip_tables.specs.declared.faults.PackStop.TheVariants as stop;
 
 use crate::faults::PackStop;
 use crate::frame::package_frame;
