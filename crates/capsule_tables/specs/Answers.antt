@@ -4,7 +4,7 @@ use Rattle.base_core.specs.Counts.{Rose}
 use Rattle.host_io.specs.Contents.{Directory}
 use Rattle.fwu_formats.specs.Layout.{are_distinct}
 use Rattle.fwu_formats.specs.Package.{Entry, Toc}
-use Rattle.fip_tables.specs.Files.{Lacks}
+use Rattle.fip_tables.specs.Files.{Lacks, Tells}
 use Rattle.fwu_formats.specs.Capsule.{usual_serial}
 use Rattle.fwu_formats.specs.declared.kinds.CapsuleFault.{CapsuleFault}
 use Rattle.capsule_tables.specs.declared.faults.CapsuleStop.{CapsuleStop}
@@ -15,6 +15,10 @@ abbrev pub IsAnswer : {T : Type 0} → Result T CapsuleStop → Result T Capsule
 IsAnswer (Ok x) answer = answer ≡ Ok x
 IsAnswer (Err (Fault f)) answer = answer ≡ Err f
 IsAnswer (Err ReadFailed) answer = Unit {0}
+
+-- where the file's bytes are told, what is answered is what they have
+abbrev pub AnswersFile : {T : Type 0} → Option Directory → List ℕ → (List ℕ → Result T CapsuleFault) → Result T CapsuleStop → Type 0
+AnswersFile told name answer result = (bytes : List ℕ) → Tells told name bytes → IsAnswer result (answer bytes)
 
 -- a reading fails only where the files' faults rose, by one at most, or told files lack the name
 pub record HasReadCause {T : Type 0} (told : Option Directory) (name : List ℕ) (before now : ℕ)

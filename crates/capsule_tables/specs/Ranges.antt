@@ -1,6 +1,6 @@
 -- What the ranges say that are read of a capsule: the first 28 bytes, the eight of the payloads' header, and the first 32 of an
 -- item.
-use Rattle.std.specs.Prelude.{◌≡◌, ◌<◌, ◌⊎◌, All, ℕ, ◌+◌, not, ◌==◌, nat_lt, nat_le, ◌&&◌, if◌then◌else◌, List, length, take, drop, Option, Some, None, Result, Ok, Err}
+use Rattle.std.specs.Prelude.{◌≡◌, ◌<◌, ◌≤◌, ◌⊎◌, All, ℕ, ◌+◌, not, ◌==◌, nat_lt, nat_le, ◌&&◌, if◌then◌else◌, List, length, take, drop, Option, Some, None, Result, Ok, Err}
 use Rattle.base_core.specs.Bytes.{num_at, same_bytes}
 use Rattle.fwu_formats.specs.Package.{Entry, Toc, entry_limit}
 use Rattle.fwu_formats.specs.Capsule.{Item, Shape, entry_in, entry_of_item, fmp_guid, head_size, is_item, item_at, item_place, places_end, swapped}
@@ -46,6 +46,13 @@ abbrev pub good_entry : List ℕ → Shape → ℕ → Option Entry
 good_entry bytes s i =
     let at = item_place bytes s i in
     if is_item s at (item_at bytes at) then Some (entry_in bytes s i) else None
+
+-- the headers are those of a capsule that a file of so many bytes may have
+pub record FitsFile (s : Shape) (size : ℕ) : Type 0 where
+  pub places : places_end s ≤ s.end
+  pub within : s.end ≤ size
+  pub small : s.end < 4294967296
+  pub few : s.items ≤ entry_limit
 
 -- ---- the answer by what was read, on any files
 

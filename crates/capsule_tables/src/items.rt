@@ -6,9 +6,9 @@ ghost use Rattle.host_io.specs.Contents.{TellsSize};
 ghost use Rattle.fwu_formats.specs.Package.{Entry};
 ghost use Rattle.host_io.specs.Reads.{ReadsFile};
 ghost use Rattle.fip_tables.specs.Files.{Tells};
-ghost use Rattle.capsule_tables.specs.Answers.{AreEntries, HasReadCause, IsAnswer};
+ghost use Rattle.capsule_tables.specs.Answers.{AnswersFile, AreEntries, HasReadCause};
 ghost use Rattle.fwu_formats.specs.Capsule.{items_of, places_end};
-ghost use Rattle.capsule_tables.specs.Ranges.{IsOfItems, IsRead, good_entry, item_read};
+ghost use Rattle.capsule_tables.specs.Ranges.{FitsFile, IsOfItems, IsRead, good_entry, item_read};
 
 use crate::faults::CapsuleStop;
 use crate::guids::swapped;
@@ -59,8 +59,7 @@ fn read_item<H: Files>(
 ) -> Result<Option<Entry>, Failed>
     requires known { TellsSize (H.contents files.old) name.now (Some size) }
     requires there { i < shape.now.items }
-    requires inside { (places_end shape.now ≤ shape.now.end) × (shape.now.end ≤ size)
-        × (shape.now.end < 4294967296) }
+    requires inside { FitsFile shape.now size }
     ensures told { IfOk result (λ o. (bytes : List ℕ)
         → Tells (H.contents files.old) name.now bytes → o ≡ good_entry bytes shape.now i) }
     ensures some { IfOk result (λ o. IfSome o (IsRead shape.now)) }
@@ -97,11 +96,8 @@ pub fn read_items<H: Files>(
     shape: &Shape,
 ) -> Result<Entries, CapsuleStop>
     requires known { TellsSize (H.contents files.old) name.now (Some size) }
-    requires few { shape.now.items ≤ 64 }
-    requires inside { (places_end shape.now ≤ shape.now.end) × (shape.now.end ≤ size)
-        × (shape.now.end < 4294967296) }
-    ensures told { (bytes : List ℕ) → Tells (H.contents files.old) name.now bytes
-        → IsAnswer result (items_of bytes shape.now) }
+    requires inside { FitsFile shape.now size }
+    ensures told { AnswersFile (H.contents files.old) name.now (λ bytes. items_of bytes shape.now) result }
     ensures some { IsOfItems shape.now result }
     ensures any { IfOk result (λ entries. AreEntries entries shape.now.end) }
     ensures reads { ReadsFile H.Files name.now files.old files.new }

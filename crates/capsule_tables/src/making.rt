@@ -1,11 +1,8 @@
 //! Capsules made from payloads.
 
-ghost use Rattle.std.specs.Prelude.{◌≡◌, ◌≤◌, ◌<◌, ◌+◌, ◌*◌, ◌++◌, All, List, Some, None, Err, IfOk, IfErr, OnOk, length, map};
-ghost use Rattle.fwu_formats.specs.Package.{Part as Payload};
-ghost use Rattle.host_io.specs.Joined.{joined};
-ghost use Rattle.fip_tables.specs.Frame.{chunks};
-ghost use Rattle.fip_tables.specs.Packing.{AreOutlines, zeroed};
-ghost use Rattle.fip_tables.specs.declared.faults.PackFault.{PackFault};
+ghost use Rattle.std.specs.Prelude.{◌≡◌, ◌≤◌, ◌<◌, ◌+◌, ◌*◌, ◌++◌, All, None, Err, IfOk, IfErr, OnOk, length};
+ghost use Rattle.fip_tables.specs.Frame.{IsFrame};
+ghost use Rattle.fip_tables.specs.Packing.{IsByFault};
 ghost use Rattle.fip_tables.specs.declared.faults.PackFault.TheVariants as fault;
 ghost use Rattle.fip_tables.specs.declared.faults.PackStop.TheVariants as stop;
 ghost use Rattle.capsule_tables.specs.Making.{IsMadeOf, capsule_bytes, capsule_size, head_gaps, headers_bytes, heads_bytes, item_head, make_fault, places_bytes};
@@ -120,17 +117,10 @@ fn gaps_of(alloc: Global, front: usize, parts: &[Outline]) -> Result<Vec<usize>,
 /// their order: both headers, the places of the items, and before each image 40 bytes. A capsule has at
 /// most 67,108,864 bytes.
 pub fn capsule_frame(alloc: Global, parts: &[Outline]) -> Result<Frame, PackStop>
-    ensures joined { IfOk result (λ f. (payloads : List Payload) → map zeroed payloads ≡ parts.now
-        → joined f.bytes.items (chunks f.gaps.items payloads) ≡ capsule_bytes payloads) }
-    ensures gaps { IfOk result (λ f. length f.gaps.items ≡ length parts.now) }
-    ensures size { IfOk result (λ f. (payloads : List Payload) → map zeroed payloads ≡ parts.now
-        → f.size ≡ length (capsule_bytes payloads)) }
+    ensures frame { IfOk result (λ f. IsFrame f parts.now capsule_bytes) }
     ensures counted { IfOk result (λ f. f.size ≡ capsule_size parts.now) }
-    ensures limit { IfOk result (λ f. f.size ≤ 67108864) }
-    ensures fits { OnOk result (make_fault parts.now ≡ None) }
-    ensures outlines { OnOk result (AreOutlines parts.now) }
+    ensures fault { IsByFault result (make_fault parts.now) }
     ensures memory { result ≡ Err stop.NoMemory → make_fault parts.now ≡ None }
-    ensures err { (f : PackFault) → result ≡ Err (stop.Fault f) → make_fault parts.now ≡ Some f }
 {
     check_parts(parts)?;
     let size = size_of(parts)?;
@@ -146,9 +136,7 @@ pub fn capsule_frame(alloc: Global, parts: &[Outline]) -> Result<Frame, PackStop
 pub fn make_capsule(alloc: Global, parts: &Parts) -> Result<Vec<u8>, PackStop>
     ensures ok { IfOk result (λ v. v.items ≡ capsule_bytes parts.now.parts.items) }
     ensures read_again { IfOk result (λ v. IsMadeOf parts.now.parts.items v.items) }
-    ensures fits { OnOk result (make_fault parts.now.parts.items ≡ None) }
-    ensures err { (f : PackFault) → result ≡ Err (stop.Fault f)
-        → make_fault parts.now.parts.items ≡ Some f }
+    ensures fault { IsByFault result (make_fault parts.now.parts.items) }
 {
     let payloads = parts.parts.as_slice();
     let all = outlines(alloc, payloads)?;

@@ -1,9 +1,9 @@
 //! Capsules in files.
 
-ghost use Rattle.std.specs.Prelude.{◌≡◌, ◌≤◌, ℕ, List, Err, IfOk};
+ghost use Rattle.std.specs.Prelude.{◌≡◌, Err, IfOk};
 ghost use Rattle.host_io.specs.Reads.{ReadsFile};
-ghost use Rattle.fip_tables.specs.Files.{Lacks, Tells};
-ghost use Rattle.capsule_tables.specs.Answers.{HasReadCause, IsAnswer, IsSomeTable};
+ghost use Rattle.fip_tables.specs.Files.{Lacks};
+ghost use Rattle.capsule_tables.specs.Answers.{AnswersFile, HasReadCause, IsSomeTable};
 ghost use Rattle.fwu_formats.specs.Capsule.{capsule_of};
 ghost use Rattle.capsule_tables.specs.Ranges.{IsOfReads};
 ghost use Rattle.capsule_tables.specs.declared.faults.CapsuleStop.TheVariants as stop;
@@ -23,8 +23,7 @@ const SERIAL: u32 = 0x1234_5678;
 /// its place and its first 32 bytes, up to the first fault, and takes no memory.
 pub fn read_capsule<H: Files>(files: &mut H, name: &str) -> Result<Toc, CapsuleStop>
     // Where the file's bytes are told, it is their table or their first fault.
-    ensures told { (bytes : List ℕ) → Tells (H.contents files.old) name.now bytes
-        → IsAnswer result (capsule_of bytes) }
+    ensures told { AnswersFile (H.contents files.old) name.now capsule_of result }
     // On any files a table and a fault are of what was read: some headers, and of each item some bytes.
     ensures some { IsOfReads result }
     // Whatever file it is, the entries end below 2 ^ 32 and have different types.

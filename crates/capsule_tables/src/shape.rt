@@ -1,12 +1,11 @@
 //! The two headers of a capsule.
 
-ghost use Rattle.std.specs.Prelude.{◌≡◌, ◌<◌, ◌≤◌, ◌+◌, ◌*◌, ℕ, List, Some, Err, IfOk, IsTrue};
+ghost use Rattle.std.specs.Prelude.{◌≡◌, ◌<◌, ◌≤◌, ◌+◌, ◌*◌, Some, Err, IfOk};
 ghost use Rattle.host_io.specs.Contents.{TellsSize};
 ghost use Rattle.host_io.specs.Reads.{ReadsFile};
-ghost use Rattle.fip_tables.specs.Files.{Tells};
-ghost use Rattle.capsule_tables.specs.Answers.{HasReadCause, IsAnswer};
+ghost use Rattle.capsule_tables.specs.Answers.{AnswersFile, HasReadCause};
 ghost use Rattle.fwu_formats.specs.Capsule.{places_end, shape_of};
-ghost use Rattle.capsule_tables.specs.Ranges.{IsOfHeaders, header_read, shape_read};
+ghost use Rattle.capsule_tables.specs.Ranges.{FitsFile, IsOfHeaders, header_read, shape_read};
 
 use crate::faults::CapsuleStop;
 use crate::guids::FMP_GUID;
@@ -85,11 +84,9 @@ fn shape_in(header: u64, end: u64, fields: &[u8; 8]) -> Result<Shape, CapsuleFau
 /// What the headers of a file say.
 pub fn read_shape<H: Files>(files: &mut H, name: &str, size: u64) -> Result<Shape, CapsuleStop>
     requires known { TellsSize (H.contents files.old) name.now (Some size) }
-    ensures told { (bytes : List ℕ) → Tells (H.contents files.old) name.now bytes
-        → IsAnswer result (shape_of bytes) }
+    ensures told { AnswersFile (H.contents files.old) name.now shape_of result }
     ensures some { IsOfHeaders result }
-    ensures inside { IfOk result (λ s. (places_end s ≤ s.end) × (s.end ≤ size)
-        × (s.end < 4294967296) × (s.items ≤ 64)) }
+    ensures inside { IfOk result (λ s. FitsFile s size) }
     ensures reads { ReadsFile H.Files name.now files.old files.new }
     ensures cause { HasReadCause (H.contents files.old) name.now (H.faults files.old)
         (H.faults files.new) result }

@@ -14,7 +14,6 @@ pub record IsFeeding {H : Type 0} (g : Ghosts H) (name : List ℕ) (old now : H)
   pub reads : ReadsFile g name old now
   pub quiet : g.faults now ≡ g.faults old
   pub inside : at ≤ size
-  pub count : stream.count ≡ at
   pub fed : HasFed (g.contents old) name stream at
 
 -- an answer that stopped is that of the file, and of some bytes

@@ -1,10 +1,12 @@
 -- What a package has besides its payloads.
-use Rattle.std.specs.Prelude.{◌≡◌, ◌≤◌, ℕ, ◌+◌, ◌-◌, ◌*◌, List, [], ◌∷◌, ◌++◌, length, take, replicate, flat_map, sum_by}
+use Rattle.std.specs.Prelude.{◌≡◌, ◌≤◌, ℕ, ◌+◌, ◌-◌, ◌*◌, List, [], ◌∷◌, ◌++◌, length, take, replicate, flat_map, map, sum_by}
 use Rattle.std.specs.Int.{next_multiple_of}
 use Rattle.base_core.specs.Bytes.{le}
 use Rattle.base_core.specs.Guid.{nil_guid}
 use Rattle.fwu_formats.specs.Package.{Entry, Part, fip_name}
-use Rattle.host_io.specs.Joined.{Chunk}
+use Rattle.host_io.specs.Joined.{Chunk, joined}
+use Rattle.fip_tables.specs.Packing.{AreOutlines, package_limit, zeroed}
+use Rattle.fip_tables.specs.declared.frame.Frame.{Frame}
 
 -- where the table of a package ends
 abbrev pub table_end : List Part → ℕ
@@ -55,3 +57,12 @@ sizes_of entries = sum_by (λ e. e.size) entries
 abbrev pub AreInOrder : ℕ → List Entry → ℕ → Type 0
 AreInOrder end [] size = end ≤ size
 AreInOrder end (e ∷ es) size = (end ≤ e.offset) × AreInOrder (e.offset + e.size) es size
+
+-- A frame is that of the files that payloads of these outlines make, each payload with one gap before it.
+pub record IsFrame (f : Frame) (blank : List Part) (file : List Part → List ℕ) : Type 0 where
+  -- with the payloads it is the file
+  pub filled : (parts : List Part) → map zeroed parts ≡ blank → joined f.bytes.items (chunks f.gaps.items parts) ≡ file parts
+  pub gaps : length f.gaps.items ≡ length blank
+  pub size : (parts : List Part) → map zeroed parts ≡ blank → f.size ≡ length (file parts)
+  pub limit : f.size ≤ package_limit
+  pub outlines : AreOutlines blank

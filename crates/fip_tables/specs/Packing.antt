@@ -1,11 +1,13 @@
 -- Why parts cannot be packed: their first fault.
-use Rattle.std.specs.Prelude.{◌≡◌, ◌<◌, ◌≤◌, ℕ, Bool, true, ◌&&◌, not, nat_le, nat_lt, if◌then◌else◌, List, [], length, take, Option, Some, None, option_map, position, slice_index_or, replicate}
+use Rattle.std.specs.Prelude.{◌≡◌, ◌<◌, ◌≤◌, ℕ, Bool, true, ◌&&◌, not, nat_le, nat_lt, if◌then◌else◌, List, [], length, take, Option, Some, None, option_map, position, slice_index_or, replicate, Result, Err, OnOk}
 use Rattle.std.specs.List.{list_any, range_with_len}
 use Rattle.std.specs.Int.{is_power_of_two}
 use Rattle.base_core.specs.Bytes.{same_bytes}
 use Rattle.base_core.specs.Guid.{nil_guid}
 use Rattle.fwu_formats.specs.Package.{Part, entry_limit, packed}
 use Rattle.fip_tables.specs.declared.faults.PackFault.{PackFault}
+use Rattle.fip_tables.specs.declared.faults.PackStop.{PackStop}
+use Rattle.fip_tables.specs.declared.faults.PackStop.TheVariants.{Fault}
 use Rattle.fip_tables.specs.declared.faults.PackFault.TheVariants.{TooMany, Duplicate, NilGuid, BadAlign, TooLarge}
 
 abbrev pub part_at : List Part → ℕ → Part
@@ -61,8 +63,18 @@ pub record IsOutline (p : Part) : Type 0 where
 abbrev pub AreOutlines : List Part → Type 0
 AreOutlines parts = (i : ℕ) → i < length parts → IsOutline (part_at parts i)
 
--- no fault but that the package may be too large
-pub record HasNoFault (parts : List Part) (a : ℕ) : Type 0 where
+-- no fault that parts have whatever is made of them
+pub record HasNoFault (parts : List Part) : Type 0 where
   pub few : length parts ≤ entry_limit
-  pub shared : parts_fault parts ≡ None
+  pub none : parts_fault parts ≡ None
+  pub outlines : AreOutlines parts
+
+-- and as a package none but that it may be too large
+pub record MayFit (parts : List Part) (a : ℕ) : Type 0 where
+  pub shared : HasNoFault parts
   pub alignment : is_alignment a ≡ true
+
+-- Something is made of parts where they have no fault, and a fault that is answered is their first one.
+pub record IsByFault {T : Type 0} (result : Result T PackStop) (fault : Option PackFault) : Type 0 where
+  pub fits : OnOk result (fault ≡ None)
+  pub err : (f : PackFault) → result ≡ Err (Fault f) → fault ≡ Some f

@@ -1,13 +1,13 @@
 //! What a package has besides its payloads, for one that is made in memory or in a file.
 
-ghost use Rattle.std.specs.Prelude.{◌≡◌, ◌<◌, ◌≤◌, ◌*◌, ◌++◌, List, None, Some, Err, IfOk, IfErr, OnOk, drop, flat_map, length, map, take};
+ghost use Rattle.std.specs.Prelude.{◌≡◌, ◌<◌, ◌≤◌, ◌*◌, ◌++◌, List, None, Err, IfOk, IfErr, OnOk, drop, flat_map, length, take};
 ghost use Rattle.base_core.specs.Bytes.{le};
 ghost use Rattle.fwu_formats.specs.Package.{Part as Payload, fip_name, packed, packed_entries};
 ghost use Rattle.host_io.specs.Joined.{joined};
-ghost use Rattle.fip_tables.specs.Packing.{AreOutlines, pack_fault, zeroed};
+ghost use Rattle.fip_tables.specs.Packing.{IsByFault, pack_fault};
 ghost use Rattle.fip_tables.specs.declared.faults.PackFault.{PackFault};
 ghost use Rattle.fip_tables.specs.declared.faults.PackStop.TheVariants as stop;
-ghost use Rattle.fip_tables.specs.Frame.{AreInOrder, chunks, entry_bytes, gaps_from, last_end, sizes_of, table_end, tabled};
+ghost use Rattle.fip_tables.specs.Frame.{AreInOrder, IsFrame, chunks, entry_bytes, gaps_from, last_end, sizes_of, table_end, tabled};
 
 use crate::entries::{Entries, Entry};
 use crate::faults::{PackFault, PackStop};
@@ -164,16 +164,9 @@ pub fn package_frame(
     outlines: &[Outline],
     align: u32,
 ) -> Result<Frame, PackStop>
-    ensures joined { IfOk result (λ f. (parts : List Payload) → map zeroed parts ≡ outlines.now
-        → joined f.bytes.items (chunks f.gaps.items parts) ≡ packed serial flags parts align) }
-    ensures gaps { IfOk result (λ f. length f.gaps.items ≡ length outlines.now) }
-    ensures size { IfOk result (λ f. (parts : List Payload) → map zeroed parts ≡ outlines.now
-        → f.size ≡ length (packed serial flags parts align)) }
-    ensures limit { IfOk result (λ f. f.size ≤ 67108864) }
-    ensures fits { OnOk result (pack_fault outlines.now align ≡ None) }
-    ensures outlines { OnOk result (AreOutlines outlines.now) }
+    ensures frame { IfOk result (λ f. IsFrame f outlines.now (λ (parts : List Payload). packed serial flags parts align)) }
+    ensures fault { IsByFault result (pack_fault outlines.now align) }
     ensures memory { result ≡ Err stop.NoMemory → pack_fault outlines.now align ≡ None }
-    ensures err { (f : PackFault) → result ≡ Err (stop.Fault f) → pack_fault outlines.now align ≡ Some f }
 {
     check(outlines, align)?;
     let places = places_of(outlines, align as u64)?;

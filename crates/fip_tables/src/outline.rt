@@ -1,9 +1,9 @@
 //! The parts of a package to come, by their sizes, and why they cannot be packed.
 
-ghost use Rattle.std.specs.Prelude.{◌≡◌, ◌<◌, ◌≤◌, ◌+◌, ◌*◌, ℕ, Option, Some, None, IsFalse, IsTrue, IsNone, IfErr, IfSome, OnOk, Ok, Err, not, nat_le, ◌&&◌, length, take, position};
+ghost use Rattle.std.specs.Prelude.{◌≡◌, ◌<◌, ◌+◌, ◌*◌, ℕ, Option, Some, None, IsFalse, IsTrue, IsNone, IfErr, IfSome, OnOk, Ok, Err, not, nat_le, ◌&&◌, length, take, position};
 ghost use Rattle.std.specs.List.{list_any, list_all, range_with_len};
 ghost use Rattle.base_core.specs.Bytes.{same_bytes};
-ghost use Rattle.fip_tables.specs.Packing.{AreOutlines, HasNoFault, IsOutline, first_repeat, is_alignment, is_nil, is_repeat, pack_fault, parts_fault};
+ghost use Rattle.fip_tables.specs.Packing.{AreOutlines, HasNoFault, IsOutline, MayFit, first_repeat, is_alignment, is_nil, is_repeat, pack_fault, parts_fault};
 
 use crate::faults::PackFault;
 use base_core::Guid;
@@ -91,9 +91,7 @@ fn is_alignment(align: u32) -> bool
 /// Whether parts can be made into anything, whatever they add up to, or the first fault that they
 /// have as a package and as a capsule: too many, a type twice, the nil UUID.
 pub fn check_parts(parts: &[Outline]) -> Result<(), PackFault>
-    ensures ok { OnOk result (parts_fault parts.now ≡ None) }
-    ensures few { OnOk result (length parts.now ≤ 64) }
-    ensures outlines { OnOk result (AreOutlines parts.now) }
+    ensures ok { OnOk result (HasNoFault parts.now) }
     ensures err { IfErr result (λ f. parts_fault parts.now ≡ Some f) }
 {
     if parts.len() > 64 {
@@ -112,8 +110,7 @@ pub fn check_parts(parts: &[Outline]) -> Result<(), PackFault>
 
 /// Whether parts can be packed, whatever they add up to, or their first fault.
 pub fn check(parts: &[Outline], align: u32) -> Result<(), PackFault>
-    ensures ok { OnOk result (HasNoFault parts.now align) }
-    ensures outlines { OnOk result (AreOutlines parts.now) }
+    ensures ok { OnOk result (MayFit parts.now align) }
     ensures err { IfErr result (λ f. pack_fault parts.now align ≡ Some f) }
 {
     check_parts(parts)?;

@@ -1,11 +1,9 @@
 //! Packages made from payloads in memory.
 
-ghost use Rattle.std.specs.Prelude.{◌≡◌, ◌≢◌, Some, None, Err, IfOk, OnOk, map};
+ghost use Rattle.std.specs.Prelude.{◌≡◌, ◌≢◌, IfOk, map};
 ghost use Rattle.fwu_formats.specs.Package.{packed};
 ghost use Rattle.fip_tables.specs.Again.{ReadsAgain};
-ghost use Rattle.fip_tables.specs.Packing.{pack_fault, zeroed};
-ghost use Rattle.fip_tables.specs.declared.faults.PackFault.{PackFault};
-ghost use Rattle.fip_tables.specs.declared.faults.PackStop.TheVariants as stop;
+ghost use Rattle.fip_tables.specs.Packing.{IsByFault, pack_fault, zeroed};
 
 use crate::faults::PackStop;
 use crate::frame::package_frame;
@@ -64,8 +62,7 @@ pub fn pack(alloc: Global, parts: &Parts, align: u32) -> Result<Vec<u8>, PackSto
     ensures ok { IfOk result (λ v. v.items ≡ packed parts.now.serial parts.now.flags parts.now.parts.items align) }
     ensures read_again { IfOk result (λ v. parts.now.serial ≢ 0
         → ReadsAgain parts.now.serial parts.now.flags parts.now.parts.items v.items) }
-    ensures fits { OnOk result (pack_fault parts.now.parts.items align ≡ None) }
-    ensures err { (f : PackFault) → result ≡ Err (stop.Fault f) → pack_fault parts.now.parts.items align ≡ Some f }
+    ensures fault { IsByFault result (pack_fault parts.now.parts.items align) }
 {
     let all = outlines(alloc, parts.parts.as_slice())?;
     let frame = package_frame(alloc, parts.serial, parts.flags, all.as_slice(), align)?;

@@ -31,13 +31,10 @@ fn feed_next<H: Files>(
 ) -> Result<u64, TocStop>
     requires known { TellsSize (H.contents files.old) name.now (Some size) }
     requires inside { at < size }
-    requires count { stream.old.count ≡ at }
+    requires fed { HasFed (H.contents files.old) name.now stream.old at }
     ensures some { IfOk result (λ count. (0 < count) × (at + count ≤ size)) }
-    ensures count { IfOk result (λ count. stream.new.count ≡ at + count) }
-    ensures fed { IfOk result (λ count. HasFed (H.contents files.old) name.now stream.old at
-        → HasFed (H.contents files.old) name.now stream.new (at + count)) }
-    ensures fault { (f : FipFault) → result ≡ Err (stop.Fault f) → HasFed (H.contents files.old) name.now stream.old at
-        → IsFault (H.contents files.old) name.now f }
+    ensures fed { IfOk result (λ count. HasFed (H.contents files.old) name.now stream.new (at + count)) }
+    ensures fault { (f : FipFault) → result ≡ Err (stop.Fault f) → IsFault (H.contents files.old) name.now f }
     ensures reads { ReadsFile H.Files name.now files.old files.new }
     ensures cause { HasReadCause (H.contents files.old) name.now (H.faults files.old) (H.faults files.new) result }
 {

@@ -50,7 +50,7 @@ loop-i-preserved g c =
       count = ap length pushed ∙ length-append es (e ∷ []) ∙ ap (λ (n : ℕ). n + 1) c.loop-i.invariant.count;
       some = subst (All (IsRead s)) (sym pushed) (All-push (IsRead s) es e c.loop-i.invariant.some
           (let some = subst (λ (o : Option Entry). IfSome o (IsRead s)) c.in-Some.is c.in_ok-entry.ensures.some in some));
-      any = subst (λ (xs : List Entry). AreEntries xs s.end) (sym pushed) (entries-more es e s.end (let few = c.requires.few in let count = c.loop-i.invariant.count in omega (arith, few, count, lt)) c.loop-i.invariant.any
+      any = subst (λ (xs : List Entry). AreEntries xs s.end) (sym pushed) (entries-more es e s.end (let few = c.requires.inside.few in let count = c.loop-i.invariant.count in omega (arith, few, count, lt)) c.loop-i.invariant.any
           (let ends = subst (λ (o : Option Entry). IfSome o (λ x. x.offset + x.size ≤ s.end)) c.in-Some.is c.in_ok-entry.ensures.ends in ends) none);
       entries_are = λ bytes told. pushed ∙ ap (λ (xs : List Entry). xs ++ e ∷ []) (c.loop-i.invariant.entries_are bytes told)
           ∙ ap (λ (x : Entry). entries_in bytes s i ++ x ∷ []) (sym (entry-is bytes s i e (good bytes told))) ∙ sym (one-more bytes s i);

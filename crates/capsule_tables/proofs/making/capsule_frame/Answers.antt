@@ -1,17 +1,23 @@
-use Rattle.std.proofs.Common.{◌≡◌, ◌∙◌, ◌+◌, ◌*◌, ◌++◌, ap, arith, sym, length, ℕ, List, Some}
+use Rattle.std.proofs.Common.{◌≡◌, ◌∙◌, ◌+◌, ◌*◌, ◌++◌, ap, arith, rules, sym, length, ℕ, List, Some}
 use Rattle.fip_tables.specs.declared.faults.PackFault.{PackFault}
 use Rattle.capsule_tables.specs.Making.{front_bytes, headers_bytes, heads_bytes, places_bytes}
 use Rattle.capsule_tables.proofs.Frames.{frame-joined, frame-size, front-low, gaps-count}
 use Rattle.capsule_tables.proofs.MadeFaults.{no-fault, same-fault, shared, too-large}
 use Rattle.capsule_tables.proofs.making.capsule_frame.Goals as goal
 
-pub returns-in_err-check_parts-clause-err : goal.returns-in_err-check_parts-clause-err
-returns-in_err-check_parts-clause-err c = λ f is. shared c.args.parts.now _ c.in_err-check_parts.ensures.err ∙ same-fault _ _ f c.from_residual.ensures.1 is
+pub returns-in_err-check_parts-clause-fault : goal.returns-in_err-check_parts-clause-fault
+returns-in_err-check_parts-clause-fault c = record {
+  fits = search rules;
+  err = λ f is. shared c.args.parts.now _ c.in_err-check_parts.ensures.err ∙ same-fault _ _ f c.from_residual.ensures.1 is;
+}
 
-pub returns-in_err-size-clause-err : goal.returns-in_err-size-clause-err
-returns-in_err-size-clause-err c = λ f is.
-    too-large c.args.parts.now c.in_ok-check_parts.ensures.ok c.in_err-size.ensures.err.1
-    ∙ ap (λ (x : PackFault). Some x) (sym c.in_err-size.ensures.err.0) ∙ same-fault _ _ f c.from_residual-in_err-size.ensures.1 is
+pub returns-in_err-size-clause-fault : goal.returns-in_err-size-clause-fault
+returns-in_err-size-clause-fault c = record {
+  fits = search rules;
+  err = λ f is.
+      too-large c.args.parts.now c.in_ok-check_parts.ensures.ok.none c.in_err-size.ensures.err.1
+      ∙ ap (λ (x : PackFault). Some x) (sym c.in_err-size.ensures.err.0) ∙ same-fault _ _ f c.from_residual-in_err-size.ensures.1 is;
+}
 
 pub gaps_of-requires : goal.gaps_of-requires
 gaps_of-requires c =
@@ -23,40 +29,42 @@ gaps_of-requires c =
     let long : c.len.result ≡ length (front_bytes os) = c.len.ensures ∙ c.add_places.new.bytes.ok.0 ∙ ap length front in
     omega (arith, long, front-low os, size, small)
 
-pub returns-clause-joined : goal.returns-clause-joined
-returns-clause-joined c =
+pub returns-clause-frame : goal.returns-clause-frame
+returns-clause-frame c =
     let os = c.args.parts.now in
     let size = c.in_ok-size.ensures.size.0 in
     let small = c.in_ok-size.ensures.size.1 in
     let front : c.add_places.new.bytes.items ≡ front_bytes os =
     c.in_ok-add_places.ensures ∙ ap (λ (xs : List ℕ). xs ++ places_bytes (8 + 8 * length os) os) (c.in_ok-bytes.ensures ∙ ap (λ (n : ℕ). headers_bytes n (length os)) size) in
     let long : c.len.result ≡ length (front_bytes os) = c.len.ensures ∙ c.add_places.new.bytes.ok.0 ∙ ap length front in
-    frame-joined os _ _ c.len.result c.in_ok-check_parts.ensures.outlines (omega (arith, size, small))
-    (c.in_ok-add_heads.ensures ∙ ap (λ (xs : List ℕ). xs ++ heads_bytes 1 os) front) c.in_ok-gaps.ensures long
+    let are = c.in_ok-check_parts.ensures.ok.outlines in
+    record {
+      filled = frame-joined os _ _ c.len.result are (omega (arith, size, small))
+          (c.in_ok-add_heads.ensures ∙ ap (λ (xs : List ℕ). xs ++ heads_bytes 1 os) front) c.in_ok-gaps.ensures long;
+      gaps = ap length c.in_ok-gaps.ensures ∙ gaps-count c.len.result os;
+      size = frame-size os c.in_ok-size.size are size small;
+      limit = small;
+      outlines = are;
+    }
 
-pub returns-clause-gaps : goal.returns-clause-gaps
-returns-clause-gaps c = ap length c.in_ok-gaps.ensures ∙ gaps-count c.len.result c.args.parts.now
-
-pub returns-clause-size : goal.returns-clause-size
-returns-clause-size c =
-    frame-size c.args.parts.now c.in_ok-size.size c.in_ok-check_parts.ensures.outlines c.in_ok-size.ensures.size.0 c.in_ok-size.ensures.size.1
-
-pub returns-clause-fits : goal.returns-clause-fits
-returns-clause-fits c =
-    no-fault c.args.parts.now c.in_ok-check_parts.ensures.ok (let a = c.in_ok-size.ensures.size.0 in let b = c.in_ok-size.ensures.size.1 in omega (arith, a, b))
+pub returns-clause-fault : goal.returns-clause-fault
+returns-clause-fault c = record {
+  fits = no-fault c.args.parts.now c.in_ok-check_parts.ensures.ok.none (let a = c.in_ok-size.ensures.size.0 in let b = c.in_ok-size.ensures.size.1 in omega (arith, a, b));
+  err = search rules;
+}
 
 pub returns-in_err-bytes-clause-memory : goal.returns-in_err-bytes-clause-memory
 returns-in_err-bytes-clause-memory c = λ e.
-    no-fault c.args.parts.now c.in_ok-check_parts.ensures.ok (let a = c.in_ok-size.ensures.size.0 in let b = c.in_ok-size.ensures.size.1 in omega (arith, a, b))
+    no-fault c.args.parts.now c.in_ok-check_parts.ensures.ok.none (let a = c.in_ok-size.ensures.size.0 in let b = c.in_ok-size.ensures.size.1 in omega (arith, a, b))
 
 pub returns-in_err-add_places-clause-memory : goal.returns-in_err-add_places-clause-memory
 returns-in_err-add_places-clause-memory c = λ e.
-    no-fault c.args.parts.now c.in_ok-check_parts.ensures.ok (let a = c.in_ok-size.ensures.size.0 in let b = c.in_ok-size.ensures.size.1 in omega (arith, a, b))
+    no-fault c.args.parts.now c.in_ok-check_parts.ensures.ok.none (let a = c.in_ok-size.ensures.size.0 in let b = c.in_ok-size.ensures.size.1 in omega (arith, a, b))
 
 pub returns-in_err-gaps-clause-memory : goal.returns-in_err-gaps-clause-memory
 returns-in_err-gaps-clause-memory c = λ e.
-    no-fault c.args.parts.now c.in_ok-check_parts.ensures.ok (let a = c.in_ok-size.ensures.size.0 in let b = c.in_ok-size.ensures.size.1 in omega (arith, a, b))
+    no-fault c.args.parts.now c.in_ok-check_parts.ensures.ok.none (let a = c.in_ok-size.ensures.size.0 in let b = c.in_ok-size.ensures.size.1 in omega (arith, a, b))
 
 pub returns-in_err-add_heads-clause-memory : goal.returns-in_err-add_heads-clause-memory
 returns-in_err-add_heads-clause-memory c = λ e.
-    no-fault c.args.parts.now c.in_ok-check_parts.ensures.ok (let a = c.in_ok-size.ensures.size.0 in let b = c.in_ok-size.ensures.size.1 in omega (arith, a, b))
+    no-fault c.args.parts.now c.in_ok-check_parts.ensures.ok.none (let a = c.in_ok-size.ensures.size.0 in let b = c.in_ok-size.ensures.size.1 in omega (arith, a, b))

@@ -1,4 +1,4 @@
-use Rattle.std.proofs.Common.{◌≡◌, ◌∙◌, ap, sym, subst, List, Err, map}
+use Rattle.std.proofs.Common.{◌≡◌, ◌∙◌, ap, rules, sym, subst, List, Err, map}
 use Rattle.fwu_formats.specs.Package.{Part}
 use Rattle.host_io.specs.Joined.{joined}
 use Rattle.fip_tables.specs.Frame.{chunks}
@@ -9,12 +9,15 @@ use Rattle.capsule_tables.proofs.MadeZeros.{same-make_fault, types-of}
 use Rattle.capsule_tables.proofs.ReadAgain.{made-is-read}
 use Rattle.capsule_tables.proofs.making.make_capsule.Goals as goal
 
-pub returns-in_err-frame-clause-err : goal.returns-in_err-frame-clause-err
-returns-in_err-frame-clause-err c = λ f is.
-    let items : List Part = c.args.parts.now.parts.items in
-    let all : c.as_slice.result.now ≡ map zeroed items = c.as_slice.ensures.value ∙ c.in_ok-all.ensures ∙ ap (map zeroed) c.as_slice-payloads.ensures.value in
-    let why = rw is at c.from_residual-in_err-frame.ensures.1 in
-    sym (same-make_fault items) ∙ ap make_fault (sym all) ∙ c.in_err-frame.ensures.err f (ap (λ (s : PackStop). Err s) (sym why))
+pub returns-in_err-frame-clause-fault : goal.returns-in_err-frame-clause-fault
+returns-in_err-frame-clause-fault c = record {
+  fits = search rules;
+  err = λ f is.
+      let items : List Part = c.args.parts.now.parts.items in
+      let all : c.as_slice.result.now ≡ map zeroed items = c.as_slice.ensures.value ∙ c.in_ok-all.ensures ∙ ap (map zeroed) c.as_slice-payloads.ensures.value in
+      let why = rw is at c.from_residual-in_err-frame.ensures.1 in
+      sym (same-make_fault items) ∙ ap make_fault (sym all) ∙ c.in_err-frame.ensures.fault.err f (ap (λ (s : PackStop). Err s) (sym why));
+}
 
 pub returns-clause-ok : goal.returns-clause-ok
 returns-clause-ok c =
@@ -23,17 +26,20 @@ returns-clause-ok c =
     let all : c.as_slice.result.now ≡ map zeroed items = c.as_slice.ensures.value ∙ c.in_ok-all.ensures ∙ ap (map zeroed) c.as_slice-payloads.ensures.value in
     c.in_ok-filled.ensures
     ∙ ap (λ (ps : List Part). joined frame.bytes.items (chunks frame.gaps.items ps)) c.as_slice-payloads.ensures.value
-    ∙ c.in_ok-frame.ensures.joined items (sym all)
+    ∙ c.in_ok-frame.ensures.frame.filled items (sym all)
 
 pub returns-clause-read_again : goal.returns-clause-read_again
 returns-clause-read_again c =
     let items : List Part = c.args.parts.now.parts.items in
     let all : c.as_slice.result.now ≡ map zeroed items = c.as_slice.ensures.value ∙ c.in_ok-all.ensures ∙ ap (map zeroed) c.as_slice-payloads.ensures.value in
-    let none = sym (same-make_fault items) ∙ ap make_fault (sym all) ∙ c.in_ok-frame.ensures.fits in
-    subst (IsMadeOf items) (sym (returns-clause-ok c)) (made-is-read items none (types-of items (subst AreOutlines all c.in_ok-frame.ensures.outlines)))
+    let none = sym (same-make_fault items) ∙ ap make_fault (sym all) ∙ c.in_ok-frame.ensures.fault.fits in
+    subst (IsMadeOf items) (sym (returns-clause-ok c)) (made-is-read items none (types-of items (subst AreOutlines all c.in_ok-frame.ensures.frame.outlines)))
 
-pub returns-clause-fits : goal.returns-clause-fits
-returns-clause-fits c =
+pub returns-clause-fault : goal.returns-clause-fault
+returns-clause-fault c =
     let items : List Part = c.args.parts.now.parts.items in
     let all : c.as_slice.result.now ≡ map zeroed items = c.as_slice.ensures.value ∙ c.in_ok-all.ensures ∙ ap (map zeroed) c.as_slice-payloads.ensures.value in
-    sym (same-make_fault items) ∙ ap make_fault (sym all) ∙ c.in_ok-frame.ensures.fits
+    record {
+      fits = sym (same-make_fault items) ∙ ap make_fault (sym all) ∙ c.in_ok-frame.ensures.fault.fits;
+      err = search rules;
+    }

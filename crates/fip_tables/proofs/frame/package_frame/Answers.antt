@@ -1,4 +1,4 @@
-use Rattle.std.proofs.Common.{◌≡◌, ◌∙◌, ◌-◌, ◌++◌, ap, sym, subst, arith, length, replicate, take, List, Some}
+use Rattle.std.proofs.Common.{◌≡◌, ◌∙◌, ◌-◌, ◌++◌, ap, sym, subst, arith, rules, length, replicate, take, List, Some}
 use Rattle.fwu_formats.specs.Package.{Entry, packed_entries}
 use Rattle.fip_tables.specs.Frame.{AreInOrder, gaps_from, sizes_of, table_end, up_to}
 use Rattle.fip_tables.specs.declared.faults.PackFault.{PackFault}
@@ -12,15 +12,18 @@ use Rattle.fip_tables.proofs.frame.package_frame.Goals as goal
 same-fault : (a b : PackFault) → ◌≡◌ {A = PackStop} (stop.Fault b) (stop.Fault a) → a ≡ b
 same-fault a b e = cc
 
-pub returns-in_err-places-clause-err : goal.returns-in_err-places-clause-err
-returns-in_err-places-clause-err c = λ f is.
-    let parts = c.args.outlines.now in
-    let a = c.args.align in
-    let ok = c.in_ok-check.ensures.ok in
-    let long = packed-length 0 0 parts a (outlines-sixteen parts c.in_ok-check.ensures.outlines) in
-    let why = rw is at c.from_residual-in_err-places.ensures.1 in
-    size-fault parts a ok.shared ok.alignment (omega (arith, long, c.in_err-places.ensures.err.1))
-    ∙ ap Some (sym c.in_err-places.ensures.err.0 ∙ same-fault c.in_err-places.field-0.0 f why)
+pub returns-in_err-places-clause-fault : goal.returns-in_err-places-clause-fault
+returns-in_err-places-clause-fault c = record {
+  fits = search rules;
+  err = λ f is.
+      let parts = c.args.outlines.now in
+      let a = c.args.align in
+      let ok = c.in_ok-check.ensures.ok in
+      let long = packed-length 0 0 parts a (outlines-sixteen parts ok.shared.outlines) in
+      let why = rw is at c.from_residual-in_err-places.ensures.1 in
+      size-fault parts a ok.shared.none ok.alignment (omega (arith, long, c.in_err-places.ensures.err.1))
+      ∙ ap Some (sym c.in_err-places.ensures.err.0 ∙ same-fault c.in_err-places.field-0.0 f why);
+}
 
 pub gaps_of-requires : goal.gaps_of-requires
 gaps_of-requires c =
@@ -40,56 +43,58 @@ overflow_sub-size c =
     let room = planned-room c.args.outlines.now c.args.align c.in_ok-places.places.entries c.in_ok-places.places.size p.entries p.size in
     omega (arith, room, ap sizes_of c.as_slice-entries.ensures, c.sizes_of.ensures)
 
-pub returns-clause-joined : goal.returns-clause-joined
-returns-clause-joined c =
+pub returns-clause-frame : goal.returns-clause-frame
+returns-clause-frame c =
+    let os = c.args.outlines.now in
     let p = c.in_ok-places.ensures in
     let places = c.in_ok-places.places in
     let bytes = c.in_ok-bytes.bytes.items in
     let n = places.size - c.sizes_of.result in
-    frame-joined c.args.serial c.args.flags c.args.outlines.now c.args.align _ _ places.entries places.size c.in_ok-check.ensures.outlines p.entries p.size
-    (c.in_ok-resize.ensures.items ∙ ap (λ k. take n bytes ++ replicate (n - k) 0) c.in_ok-bytes.bytes.ok.0
-    ∙ ap (λ k. up_to (places.size - k) bytes) (c.sizes_of.ensures ∙ ap sizes_of c.as_slice-entries.ensures)
-    ∙ ap (up_to (places.size - sizes_of places.entries)) c.in_ok-bytes.ensures)
-    (c.in_ok-gaps.ensures ∙ ap (gaps_from 0) c.as_slice-entries.ensures)
+    let are = c.in_ok-check.ensures.ok.shared.outlines in
+    record {
+      filled = frame-joined c.args.serial c.args.flags c.args.outlines.now c.args.align _ _ places.entries places.size c.in_ok-check.ensures.ok.shared.outlines p.entries p.size
+          (c.in_ok-resize.ensures.items ∙ ap (λ k. take n bytes ++ replicate (n - k) 0) c.in_ok-bytes.bytes.ok.0
+          ∙ ap (λ k. up_to (places.size - k) bytes) (c.sizes_of.ensures ∙ ap sizes_of c.as_slice-entries.ensures)
+          ∙ ap (up_to (places.size - sizes_of places.entries)) c.in_ok-bytes.ensures)
+          (c.in_ok-gaps.ensures ∙ ap (gaps_from 0) c.as_slice-entries.ensures);
+      gaps = ap length (c.in_ok-gaps.ensures ∙ ap (gaps_from 0) (c.as_slice-entries.ensures ∙ c.in_ok-places.ensures.entries))
+          ∙ gaps-count 0 (packed_entries c.args.align (table_end os) os) ∙ entries-count c.args.align (table_end os) os;
+      size = frame-size c.args.serial c.args.flags os c.args.align places.size are p.size;
+      limit = p.small;
+      outlines = are;
+    }
 
-pub returns-clause-gaps : goal.returns-clause-gaps
-returns-clause-gaps c =
-    let os = c.args.outlines.now in
-    ap length (c.in_ok-gaps.ensures ∙ ap (gaps_from 0) (c.as_slice-entries.ensures ∙ c.in_ok-places.ensures.entries))
-    ∙ gaps-count 0 (packed_entries c.args.align (table_end os) os) ∙ entries-count c.args.align (table_end os) os
-
-pub returns-clause-size : goal.returns-clause-size
-returns-clause-size c =
-    frame-size c.args.serial c.args.flags c.args.outlines.now c.args.align c.in_ok-places.places.size c.in_ok-check.ensures.outlines c.in_ok-places.ensures.size
-
-pub returns-clause-fits : goal.returns-clause-fits
-returns-clause-fits c =
+pub returns-clause-fault : goal.returns-clause-fault
+returns-clause-fault c =
     let parts = c.args.outlines.now in
     let a = c.args.align in
     let ok = c.in_ok-check.ensures.ok in
-    let long = packed-length 0 0 parts a (outlines-sixteen parts c.in_ok-check.ensures.outlines) in
-    no-fault parts a ok.shared ok.alignment (omega (arith, long, c.in_ok-places.ensures.size, c.in_ok-places.ensures.small))
+    let long = packed-length 0 0 parts a (outlines-sixteen parts ok.shared.outlines) in
+    record {
+      fits = no-fault parts a ok.shared.none ok.alignment (omega (arith, long, c.in_ok-places.ensures.size, c.in_ok-places.ensures.small));
+      err = search rules;
+    }
 
 pub returns-in_err-gaps-clause-memory : goal.returns-in_err-gaps-clause-memory
 returns-in_err-gaps-clause-memory c = λ e.
     let parts = c.args.outlines.now in
     let a = c.args.align in
     let ok = c.in_ok-check.ensures.ok in
-    let long = packed-length 0 0 parts a (outlines-sixteen parts c.in_ok-check.ensures.outlines) in
-    no-fault parts a ok.shared ok.alignment (omega (arith, long, c.in_ok-places.ensures.size, c.in_ok-places.ensures.small))
+    let long = packed-length 0 0 parts a (outlines-sixteen parts c.in_ok-check.ensures.ok.shared.outlines) in
+    no-fault parts a ok.shared.none ok.alignment (omega (arith, long, c.in_ok-places.ensures.size, c.in_ok-places.ensures.small))
 
 pub returns-in_err-bytes-clause-memory : goal.returns-in_err-bytes-clause-memory
 returns-in_err-bytes-clause-memory c = λ e.
     let parts = c.args.outlines.now in
     let a = c.args.align in
     let ok = c.in_ok-check.ensures.ok in
-    let long = packed-length 0 0 parts a (outlines-sixteen parts c.in_ok-check.ensures.outlines) in
-    no-fault parts a ok.shared ok.alignment (omega (arith, long, c.in_ok-places.ensures.size, c.in_ok-places.ensures.small))
+    let long = packed-length 0 0 parts a (outlines-sixteen parts c.in_ok-check.ensures.ok.shared.outlines) in
+    no-fault parts a ok.shared.none ok.alignment (omega (arith, long, c.in_ok-places.ensures.size, c.in_ok-places.ensures.small))
 
 pub returns-in_err-resize-clause-memory : goal.returns-in_err-resize-clause-memory
 returns-in_err-resize-clause-memory c = λ e.
     let parts = c.args.outlines.now in
     let a = c.args.align in
     let ok = c.in_ok-check.ensures.ok in
-    let long = packed-length 0 0 parts a (outlines-sixteen parts c.in_ok-check.ensures.outlines) in
-    no-fault parts a ok.shared ok.alignment (omega (arith, long, c.in_ok-places.ensures.size, c.in_ok-places.ensures.small))
+    let long = packed-length 0 0 parts a (outlines-sixteen parts c.in_ok-check.ensures.ok.shared.outlines) in
+    no-fault parts a ok.shared.none ok.alignment (omega (arith, long, c.in_ok-places.ensures.size, c.in_ok-places.ensures.small))

@@ -12,4 +12,4 @@ returns-in_err-check_parts-clause-err c =
     (shared-fault c.args.parts.now c.args.align p.0 (c.in_err-check_parts.ensures.err ∙ ap (λ (f : PackFault). Some f) (sym p.2)))
 
 pub returns-then-not-is_alignment-clause-err : goal.returns-then-not-is_alignment-clause-err
-returns-then-not-is_alignment-clause-err c = align-fault c.args.parts.now c.args.align c.in_ok-check_parts.ensures.ok (sym c.is_alignment.ensures ∙ c.if-not-is_alignment.true)
+returns-then-not-is_alignment-clause-err c = align-fault c.args.parts.now c.args.align c.in_ok-check_parts.ensures.ok.none (sym c.is_alignment.ensures ∙ c.if-not-is_alignment.true)

@@ -1,4 +1,4 @@
-use Rattle.std.proofs.Common.{arith, sym}
+use Rattle.std.proofs.Common.{arith, rules, sym}
 use Rattle.fip_tables.proofs.Firsts.{nil-fault, none-shared, repeat-fault, too-many}
 use Rattle.fip_tables.proofs.outline.check_parts.Goals as goal
 
@@ -12,4 +12,8 @@ pub returns-in-Some-first_nil-clause-err : goal.returns-in-Some-first_nil-clause
 returns-in-Some-first_nil-clause-err c = nil-fault c.args.parts.now (omega (arith, c.if-parts-gt64.false)) (sym c.in-None.ensures.value) c.in-Some-first_nil.i (sym c.in-Some-first_nil.ensures.value)
 
 pub returns-clause-ok : goal.returns-clause-ok
-returns-clause-ok c = none-shared c.args.parts.now (omega (arith, c.if-parts-gt64.false)) (sym c.in-None.ensures.value) (sym c.in-None-first_nil.ensures.value)
+returns-clause-ok c = record {
+  few = omega (arith, c.if-parts-gt64.false);
+  none = none-shared c.args.parts.now (omega (arith, c.if-parts-gt64.false)) (sym c.in-None.ensures.value) (sym c.in-None-first_nil.ensures.value);
+  outlines = search rules;
+}

@@ -12,7 +12,8 @@ same-fault : {X : Type 0} (a b : FipFault) → ◌≡◌ {A = Result X TocStop} 
 same-fault a b e = cc
 
 pub returns-in-Err-feed-clause-fault : goal.returns-in-Err-feed-clause-fault
-returns-in-Err-feed-clause-fault g c = λ f is h.
+returns-in-Err-feed-clause-fault g c = λ f is.
+    let h = c.requires.fed in
     let piece = c.read_at.new.out in
     let least : c.min-count.result ≤ 40 = omega (arith, c.min-count.ensures, c.group_at.ensures) in
     let size : length piece ≡ c.min-count.result = c.read_at.auto.out ∙ length-take-le c.min-count.result _ least in
@@ -30,7 +31,8 @@ returns-in-Err-feed-clause-fault g c = λ f is h.
     }
 
 pub returns-in-Ok-feed-clause-fed : goal.returns-in-Ok-feed-clause-fed
-returns-in-Ok-feed-clause-fed g c = λ h.
+returns-in-Ok-feed-clause-fed g c =
+    let h = c.requires.fed in
     let piece = c.read_at.new.out in
     let least : c.min-count.result ≤ 40 = omega (arith, c.min-count.ensures, c.group_at.ensures) in
     let size : length piece ≡ c.min-count.result = c.read_at.auto.out ∙ length-take-le c.min-count.result _ least in
