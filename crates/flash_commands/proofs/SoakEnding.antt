@@ -28,7 +28,7 @@ use Rattle.script_turns.specs.declared.powered.Powered.{Powered}
 use Rattle.script_turns.specs.Powered.{Moment, at, device, moment_of, shown_on}
 use Rattle.host_io.specs.Printed.{Prints}
 use Rattle.script_turns.specs.Runs.{Ran}
-use Rattle.flash_commands.specs.Showing.{flash_fault_line}
+use Rattle.script_runs.specs.ByTable.{flash_fault_line}
 use Rattle.flash_commands.specs.Soaking.{Stands, goes, starved, ended, first_files, soak_files, stop_text}
 use Rattle.flash_commands.specs.SoakWays.{SoakEnds, all_done, lacking, stopped}
 use Rattle.script_runs.proofs.Shapes.{end-of}

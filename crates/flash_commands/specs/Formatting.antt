@@ -31,11 +31,11 @@ use Rattle.flash_format.specs.declared.stops.InputFault.TheVariants as fault
 use Rattle.fwu_words.specs.Order as ask
 use Rattle.fwu_words.specs.declared.orders.NewFlash.{NewFlash}
 use Rattle.script_turns.specs.Powered.{Moment}
-use Rattle.script_runs.specs.ByTable.{Wakes}
+use Rattle.script_runs.specs.ByTable.{Wakes, flash_fault_line}
 use Rattle.script_runs.specs.Ending.{Device, PutsNone, World}
 use Rattle.script_runs.specs.Noted.{is_beyond, noted}
 use Rattle.host_io.specs.Printed.{Prints}
-use Rattle.flash_commands.specs.Showing.{HasCause, RefusedList, flash_fault_line}
+use Rattle.flash_commands.specs.Showing.{HasCause, RefusedList}
 use Rattle.script_turns.specs.Turning.{NoneFalls}
 use Rattle.script_runs.specs.Ways.{Given, HasGoodList}
 use Rattle.script_runs.specs.declared.done.Note.{Note}

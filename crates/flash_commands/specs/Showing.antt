@@ -12,7 +12,7 @@ use Rattle.fwu_model.specs.declared.kinds.NoBoot.TheVariants as no_boot
 use Rattle.fwu_model.specs.declared.kinds.Note.{Note}
 use Rattle.fwu_model.specs.declared.kinds.Note.TheVariants as note
 use Rattle.early_boot.specs.Numbers.{AreNumbers, ShowsNumbers}
-use Rattle.script_runs.specs.ByTable.{Wakes}
+use Rattle.script_runs.specs.ByTable.{Wakes, flash_fault_line}
 use Rattle.script_runs.specs.Ending.{PutsNone, World}
 use Rattle.host_io.specs.Printed.{Prints}
 use Rattle.script_runs.specs.Ways.{Given, HasGoodList, Refuses}
@@ -24,9 +24,6 @@ shown_line n = codes "show " ++ numbers_text n ++ 10 ∷ []
 
 abbrev pub not_shown_line : NoBoot → List ℕ
 not_shown_line why = codes "show " ++ no_boot_text why ++ 10 ∷ []
-
-abbrev pub flash_fault_line : List ℕ
-flash_fault_line = codes "flash-fault\n"
 
 -- an image has no layout, or no metadata
 abbrev pub ShowsNone : List ℕ → NoBoot → Type 0

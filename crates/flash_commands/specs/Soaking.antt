@@ -20,7 +20,7 @@ use Rattle.gen_core.specs.declared.line.Totals.{Totals}
 use Rattle.gen_core.specs.declared.rounds.Cut.{Cut}
 use Rattle.script_turns.specs.Powered.{Moment}
 use Rattle.script_turns.specs.Runs.{Ran, calls_of}
-use Rattle.flash_commands.specs.Showing.{flash_fault_line}
+use Rattle.script_runs.specs.ByTable.{flash_fault_line}
 
 -- ---- the totals, one turn after the other
 

@@ -19,7 +19,7 @@ ghost use Rattle.script_runs.specs.Ending.{in_model};
 ghost use Rattle.script_runs.specs.Noted.{noted};
 ghost use Rattle.host_io.specs.Printed.{Prints};
 ghost use Rattle.flash_commands.specs.SoakWays.{SoakEnds};
-ghost use Rattle.flash_commands.specs.Showing.{flash_fault_line};
+ghost use Rattle.script_runs.specs.ByTable.{flash_fault_line};
 ghost use Rattle.flash_commands.specs.SoakStands.{StandsHere};
 ghost use Rattle.flash_commands.specs.Soaking.{file_of, first_files};
 ghost use Rattle.script_runs.specs.Ways.{Given, HasGoodList};

@@ -21,7 +21,7 @@ use Rattle.step_flash.proofs.Guards.{told_is}
 use Rattle.fwu_c.specs.declared.report.Report.{Report}
 use Rattle.fwu_c.specs.Boots.{BootsBy}
 use Rattle.fwu_c.specs.Codes.{end_code}
-use Rattle.fwu_c.specs.Handed.{HandsOver, HasFlashSize, IsDeviceEnd, IsNew, IsStart, IsWithinWith, SameBut, is_idle}
+use Rattle.fwu_c.specs.Handed.{HandsOver, HasFlashSize, IsDeviceEnd, IsJustMade, IsStart, IsWithinWith, SameBut, is_idle}
 use Rattle.fwu_c.specs.Reports.{ReportsEnd, ReportsStart}
 
 kept : (old t : Told) → t ≡ old → t.guard ≡ old.guard
@@ -101,7 +101,7 @@ has_flash_size image d size = record { blocks = block_count d; fewest = (flash_s
 
 -- it was just made over the image
 pub made_new : (image file : List ℕ) (d : StepFlash) → told_of d ≡ start_with image file → is_on d ≡ true → image_of d ≡ image
-    → length image ≡ block_bytes * block_count d → IsNew file d
+    → length image ≡ block_bytes * block_count d → IsJustMade file d
 made_new image file d made on is size = record {
   on = on;
   fresh = made ∙ sym (ap (λ (i : List ℕ). start_with i file) is);

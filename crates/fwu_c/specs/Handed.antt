@@ -47,7 +47,7 @@ abbrev pub IsStart : Told → Type 0
 IsStart t = (image : List ℕ) × (file : List ℕ) × (t ≡ start_with image file)
 
 -- A device was just made over its image, with this package: it is on, has noted nothing, and lies over the whole image.
-pub record IsNew (file : List ℕ) (d : StepFlash) : Type 0 where
+pub record IsJustMade (file : List ℕ) (d : StepFlash) : Type 0 where
   pub on : is_on d ≡ true
   pub fresh : told_of d ≡ start_with (image_of d) file
   pub size : length (image_of d) ≡ block_bytes * block_count d

@@ -3,7 +3,7 @@ ghost use Rattle.std.specs.Prelude.{◌≡◌, ◌⊎◌, ◌≤◌, [], length}
 ghost use Rattle.base_core.specs.Block.{block_bytes};
 ghost use Rattle.step_flash.specs.Flash.{image_of};
 ghost use Rattle.fwu_c.specs.Boots.{BootsBy};
-ghost use Rattle.fwu_c.specs.Handed.{IsNew, TellsSteps};
+ghost use Rattle.fwu_c.specs.Handed.{IsJustMade, TellsSteps};
 
 use crate::handing::{hand_over, unmade_number};
 use crate::report::{Report, into_flash, report_end};
@@ -49,7 +49,7 @@ fn boot_over(
     room: &mut [u8],
     report: &mut Report,
 ) -> u32
-    requires new { IsNew [] flash }
+    requires new { IsJustMade [] flash }
     requires block { block_bytes ≤ length block.old }
     ensures answers { (result ≤ 5) ⊎ (result ≡ 7) }
     ensures boots { result ≤ 5 → BootsBy (image_of flash.entry) result report.new steps.new room.new }

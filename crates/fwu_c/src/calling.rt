@@ -11,7 +11,7 @@ ghost use Rattle.agent_calls.specs.Started.{StartsFrom};
 ghost use Rattle.step_flash.specs.Flash.{image_of, is_on, told_of};
 ghost use Rattle.fwu_c.specs.Calls.{CalledBy, CallsBy, IsAccepted, Refuses, Takes, TakesUp, TellsCall};
 ghost use Rattle.fwu_c.specs.Calls.{call_code, call_of, status_code, stop_code};
-ghost use Rattle.fwu_c.specs.Handed.{IsNew, TellsSteps};
+ghost use Rattle.fwu_c.specs.Handed.{IsJustMade, TellsSteps};
 
 use crate::handing::{hand_over, unmade_number};
 use crate::kept_agent::{agent_of, flash_from};
@@ -199,7 +199,7 @@ fn call_over(
     room: &mut [u8],
     report: &mut Report,
 ) -> u32
-    requires new { IsNew [] flash }
+    requires new { IsJustMade [] flash }
     requires block { block_bytes ≤ length block.old.items }
     ensures calls { TellsCall result →
         CallsBy (image_of flash.entry) bank (call_of call) result report.new steps.new room.new }

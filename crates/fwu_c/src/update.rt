@@ -7,7 +7,7 @@ ghost use Rattle.agent_calls.specs.Shown.{device, gone, moment};
 ghost use Rattle.step_flash.specs.Flash.{image_of, is_on};
 ghost use Rattle.early_boot.specs.Started.{started};
 ghost use Rattle.early_boot.specs.Started as boot;
-ghost use Rattle.fwu_c.specs.Handed.{IsNew, TellsSteps};
+ghost use Rattle.fwu_c.specs.Handed.{IsJustMade, TellsSteps};
 ghost use Rattle.fwu_c.specs.Updates.{Boots, BootsUp, IsAnswered, IsOnTrial, StartsNone, UpdatesBy};
 
 use crate::handing::{hand_over, unmade_number};
@@ -79,7 +79,7 @@ fn is_on_trial(shown: &Numbers) -> bool
 // its frame is gone before the boot: that keeps the stack small
 #[inline(never)]
 fn shows_trial(flash: StepFlash<'_>, block: &mut [u8]) -> Option<bool>
-    requires new { IsNew [] flash }
+    requires new { IsJustMade [] flash }
     requires block { block_bytes ≤ length block.old }
     ensures trial { IfSome result (λ shown. IsTrue shown → IsOnTrial (image_of flash.entry)) }
     ensures other { IfSome result (λ shown. IsFalse shown → IsOnTrial (image_of flash.entry) → ⊥) }
@@ -184,7 +184,7 @@ fn update_over(
     room: &mut [u8],
     report: &mut Report,
 ) -> u32
-    requires new { IsNew file.now flash }
+    requires new { IsJustMade file.now flash }
     requires block { block_bytes ≤ length block.old.items }
     ensures updates { IsAnswered result →
         UpdatesBy (image_of flash.entry) file.now acceptance result report.new steps.new room.new }

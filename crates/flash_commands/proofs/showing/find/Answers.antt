@@ -5,7 +5,8 @@ use Rattle.fwu_model.specs.declared.kinds.NoBoot.TheVariants as no_boot
 use Rattle.early_boot.specs.Numbers.{numbers as read, ShowsNumbers}
 use Rattle.script_runs.specs.Noted.{noted}
 use Rattle.flash_commands.specs.Showing as show
-use Rattle.flash_commands.specs.Showing.{Finds, ShowsNone, shown_line, not_shown_line, flash_fault_line}
+use Rattle.flash_commands.specs.Showing.{Finds, ShowsNone, shown_line, not_shown_line}
+use Rattle.script_runs.specs.ByTable.{flash_fault_line}
 use Rattle.flash_commands.proofs.ShowFlash.{wakes-on, kept-none, power-on-guards, power-on-keeps, has-cause, not-found}
 use Rattle.flash_commands.proofs.showing.find.Goals as goal
 

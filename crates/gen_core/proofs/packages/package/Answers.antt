@@ -63,5 +63,5 @@ unreachable-requires c =
     let made = parts-made rows sizes c.args.number c.args.security c.index-rows-0.result images in
     let pass = made-pass rows sizes c.args.number c.args.security images (sizes-fit rows sizes c.requires.sizes) in
     let none = ap (λ (ps : List Part). pack_fault ps 1) (c.in_ok-parts.ensures ∙ made) ∙ pass in
-    let fault = c.in-Err-Fault.ensures.err c.in-Err-Fault.field-0-0 (ap Err c.in-Err-Fault.field-0-is) in
+    let fault = c.in-Err-Fault.ensures.fault.err c.in-Err-Fault.field-0-0 (ap Err c.in-Err-Fault.field-0-is) in
     absurd cc
