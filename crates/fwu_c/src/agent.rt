@@ -3,7 +3,7 @@ ghost use Rattle.fwu_model.specs.Call.{Accepts, Previous};
 ghost use Rattle.fwu_c.specs.Calls.{CallsBy, TellsCall};
 ghost use Rattle.fwu_c.specs.Handed.{TellsSteps};
 
-use crate::calling::{AgentCall, call_on};
+use crate::calling::{AgentCall, BankCall, call_on};
 use crate::report::Report;
 use base_core::Guid;
 use std::alloc::Global;
@@ -31,7 +31,8 @@ pub extern "C" fn fwu_accept(
     ensures tells { TellsSteps image.now result report.old steps.old room.old report.new steps.new room.new }
 {
     let call = AgentCall::Accept(Guid::of(*guid));
-    call_on(alloc, image, bank, call, steps, room, report)
+    let asked = BankCall { bank, call };
+    call_on(alloc, image, asked, steps, room, report)
 }
 
 /// Selects the bank before on a flash that lies in memory (DEN0118, fwu_select_previous): the active and the previous bank change
@@ -54,5 +55,6 @@ pub extern "C" fn fwu_previous(
     // Whatever it answers: no loss of power, and at 1, 2, 5 to 7 and 21 what that number says.
     ensures tells { TellsSteps image.now result report.old steps.old room.old report.new steps.new room.new }
 {
-    call_on(alloc, image, bank, AgentCall::Previous, steps, room, report)
+    let call = AgentCall::Previous;
+    call_on(alloc, image, BankCall { bank, call }, steps, room, report)
 }

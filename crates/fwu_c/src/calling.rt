@@ -34,6 +34,13 @@ pub enum AgentCall {
     Previous,
 }
 
+/// A call, and the bank that the boot behind which it comes told.
+#[derive(Clone, Copy)]
+pub struct BankCall {
+    pub bank: u32,
+    pub call: AgentCall,
+}
+
 /// The number of a refusal.
 fn status_number(status: Status) -> u32
     ensures { result ≡ status_code status }
@@ -170,13 +177,12 @@ fn called<'a>(
 pub fn call_on(
     alloc: Global,
     image: &[u8],
-    bank: u32,
-    call: AgentCall,
+    asked: BankCall,
     steps: &mut [Step],
     room: &mut [u8],
     report: &mut Report,
 ) -> u32
-    ensures calls { TellsCall result → CallsBy image.now bank (call_of call) result report.new steps.new room.new }
+    ensures calls { TellsCall result → CallsBy image.now asked.bank (call_of asked.call) result report.new steps.new room.new }
     ensures tells { TellsSteps image.now result report.old steps.old room.old report.new steps.new room.new }
 {
     let flash = match StepFlash::new(alloc, image, steps.len()) {
@@ -186,15 +192,14 @@ pub fn call_on(
     let Ok(mut block) = Vec::from_elem(alloc, 0u8, BLOCK_BYTES as usize) else {
         return 7;
     };
-    call_over(flash, &mut block, bank, call, steps, room, report)
+    call_over(flash, &mut block, asked, steps, room, report)
 }
 
 /// As `call_on`, on the device over the image, with a buffer of 4096 bytes.
 fn call_over(
     flash: StepFlash<'_>,
     block: &mut Vec<u8>,
-    bank: u32,
-    call: AgentCall,
+    asked: BankCall,
     steps: &mut [Step],
     room: &mut [u8],
     report: &mut Report,
@@ -202,14 +207,14 @@ fn call_over(
     requires new { IsJustMade [] flash }
     requires block { block_bytes ≤ length block.old.items }
     ensures calls { TellsCall result →
-        CallsBy (image_of flash.entry) bank (call_of call) result report.new steps.new room.new }
+        CallsBy (image_of flash.entry) asked.bank (call_of asked.call) result report.new steps.new room.new }
     ensures tells { TellsSteps (image_of flash.entry) result report.old steps.old room.old report.new steps.new room.new }
 {
     let alloc = *block.allocator();
     let mut told = *report;
-    match agent_taken_up(alloc, flash, bank, block, &mut told) {
+    match agent_taken_up(alloc, flash, asked.bank, block, &mut told) {
         Some(Ok(agent)) => {
-            let (flash, done) = called(agent, call);
+            let (flash, done) = called(agent, asked.call);
             hand_over(flash, call_number(&done), &told, steps, room, report)
         }
         Some(Err((flash, number))) => hand_over(flash, number, &told, steps, room, report),

@@ -29,7 +29,7 @@ returns-in-Some-Ok-clause-calls c = λ tells.
     let h = c.hand_over in
     let a = c.called-flash in
     let up = rw c.in-Some-Ok.field-0-is at c.in-Some-Ok.ensures in
-    called_by (image_of c.args.flash) c.args.bank (call_of c.args.call) c.args.flash (device c.in-Some-Ok.agent.value) a.result.0
+    called_by (image_of c.args.flash) c.args.asked.bank (call_of c.args.asked.call) c.args.flash (device c.in-Some-Ok.agent.value) a.result.0
     up.began a.result.1 h.result _ _ _ _ _
     c.requires.new.fresh c.requires.new.size a.ensures.size up.takes (a.ensures.calls up.began up.begins)
     (h.ensures.hands tells.1) (given _ _ h.ensures.number tells.1 ∙ c.call_number.ensures)
@@ -47,7 +47,7 @@ hand_over-requires-in-Some-Err c =
     let refuses = rw c.in-Some-Err.field-0-is at c.in-Some-Err.ensures in
     record {
       known = take_up_end_is _ _ _ _ _ _ refuses;
-      idle = λ idle. take_up_idle c.args.bank refuses.end (told_of c.args.flash) (told_of c.in-Some-Err.flash)
+      idle = λ idle. take_up_idle c.args.asked.bank refuses.end (told_of c.args.flash) (told_of c.in-Some-Err.flash)
           (image_of c.args.flash, [], c.requires.new.fresh)
           refuses.ends.by_bytes (subst (λ n. IsTrue (is_idle n)) refuses.number_is idle);
       kept = refuses.kept;
@@ -56,7 +56,7 @@ hand_over-requires-in-Some-Err c =
 pub returns-in-Some-Err-clause-calls : goal.returns-in-Some-Err-clause-calls
 returns-in-Some-Err-clause-calls c = λ tells.
     let h = c.hand_over-in-Some-Err in
-    refused_by (image_of c.args.flash) c.args.bank (call_of c.args.call) c.args.flash c.in-Some-Err.flash
+    refused_by (image_of c.args.flash) c.args.asked.bank (call_of c.args.asked.call) c.args.flash c.in-Some-Err.flash
     h.result c.in-Some-Err.number _ _ _ _ _
     c.requires.new.fresh c.requires.new.size (rw c.in-Some-Err.field-0-is at c.in-Some-Err.ensures)
     (h.ensures.hands tells.1) (given _ _ h.ensures.number tells.1)
