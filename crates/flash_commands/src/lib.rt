@@ -1,5 +1,5 @@
-//! The commands of `fwu` that run no script and read nothing of the source: `show` tells what a flash shows, `format` makes a flash
-//! with a package, and `soak` formats one and updates it round by round, with losses of power, by packages that it makes itself.
+//! The commands of `fwu` that run no script and read nothing of the source. `show` tells what a flash shows, and `format` makes a
+//! flash with a package. `soak` formats one and updates it round by round, with losses of power, by packages that it makes itself.
 //! Each puts one line into the sink.
 #![tactic(auto)]
 

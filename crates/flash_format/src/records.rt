@@ -33,7 +33,7 @@ fn write_twice<D: Flash>(flash: &mut D, bytes: &[u8]) -> Result<(), FlashStop>
     flash.barrier()
 }
 
-/// WritesWithin the first metadata of a layout to both replicas, whose blocks are erased.
+/// Writes the first metadata of a layout to both replicas, whose blocks are erased.
 fn write_replicas<D: Flash>(flash: &mut D, layout: &Layout) -> Result<(), FlashStop>
     requires on { IsTrue (D.on flash.old) }
     requires erased { IsTrue D.tells → Erased (block_bytes * 1) (block_bytes * 3) (D.told flash.old).now }
@@ -53,7 +53,7 @@ fn write_replicas<D: Flash>(flash: &mut D, layout: &Layout) -> Result<(), FlashS
     write_twice(flash, &bytes[..size])
 }
 
-/// WritesWithin the layout to block 0, which is erased.
+/// Writes the layout to block 0, which is erased.
 fn write_layout<D: Flash>(flash: &mut D, layout: &Layout) -> Result<(), FlashStop>
     requires on { IsTrue (D.on flash.old) }
     requires inside { blocks_needed layout.now ≤ D.blocks flash.old }
@@ -73,7 +73,7 @@ fn write_layout<D: Flash>(flash: &mut D, layout: &Layout) -> Result<(), FlashSto
     flash.barrier()
 }
 
-/// WritesWithin the metadata and then the layout, which makes the flash one that is formatted.
+/// Writes the metadata and then the layout, which makes the flash one that is formatted.
 pub fn write_records<D: Flash>(flash: &mut D, layout: &Layout) -> Result<(), FlashStop>
     requires on { IsTrue (D.on flash.old) }
     requires inside { blocks_needed layout.now ≤ D.blocks flash.old }

@@ -8,12 +8,12 @@ use Rattle.flash_core.specs.declared.flash.Flash.{Ghosts}
 use Rattle.flash_core.specs.declared.flash.FlashStop.{FlashStop}
 
 -- how many blocks so many bytes take
-abbrev pub blocks_for : ℕ → ℕ
-blocks_for size = (size + (block_bytes - 1)) / block_bytes
+abbrev pub blocks_filled : ℕ → ℕ
+blocks_filled size = (size + (block_bytes - 1)) / block_bytes
 
 -- the first byte behind so many bytes that begin with a block, up to a whole block
-abbrev pub behind : ℕ → ℕ → ℕ
-behind first size = block_bytes * first + block_bytes * blocks_for size
+abbrev pub end_of_blocks : ℕ → ℕ → ℕ
+end_of_blocks first size = block_bytes * first + block_bytes * blocks_filled size
 
 -- Bytes for one block of a device of so many blocks.
 pub record FitsBlock (blocks b : ℕ) (bytes : List ℕ) : Type 0 where
@@ -41,4 +41,4 @@ pub record Spans (low high header first size : ℕ) : Type 0 where
   pub header_low : low ≤ block_bytes * header
   pub header_high : block_bytes * header + block_bytes ≤ high
   pub first_low : low ≤ block_bytes * first
-  pub first_high : behind first size ≤ high
+  pub first_high : end_of_blocks first size ≤ high

@@ -58,7 +58,7 @@ fn number_in_table(table: &Table) -> u32
     (table.entries.len() / 128) as u32
 }
 
-/// WritesWithin bytes at a place, and gives the place behind them.
+/// Writes bytes at a place, and gives the place behind them.
 fn put(out: &mut [u8], at: usize, bytes: &[u8]) -> usize
     requires { at + length bytes.now ≤ length out.old }
     ensures { PutsBytes at (length bytes.now) bytes.now out.old out.new result }
@@ -67,7 +67,7 @@ fn put(out: &mut [u8], at: usize, bytes: &[u8]) -> usize
     at + bytes.len()
 }
 
-/// WritesWithin a number as four bytes at a place, and gives the place behind them.
+/// Writes a number as four bytes at a place, and gives the place behind them.
 #[tactic(auto, using(base_core::proofs::Spelled::four_spelled))]
 fn put_four(out: &mut [u8], at: usize, value: u32) -> usize
     requires { at + 4 ≤ length out.old }
@@ -76,7 +76,7 @@ fn put_four(out: &mut [u8], at: usize, value: u32) -> usize
     put(out, at, &value.to_le_bytes())
 }
 
-/// WritesWithin a number as eight bytes at a place, and gives the place behind them.
+/// Writes a number as eight bytes at a place, and gives the place behind them.
 #[tactic(auto, using(base_core::proofs::Spelled::eight_spelled))]
 fn put_eight(out: &mut [u8], at: usize, value: u64) -> usize
     requires { at + 8 ≤ length out.old }

@@ -8,7 +8,7 @@ ghost use Rattle.flash_core.specs.Counts.{lowered_by};
 ghost use Rattle.flash_core.specs.Told.{NothingDirty};
 ghost use Rattle.flash_core.specs.May.{Keeps};
 ghost use Rattle.gpt_core.specs.Repair.{ClearsHeader, FillsEntries, WritesHeader, IsMended, Steps, Writing};
-ghost use Rattle.gpt_core.specs.Writes.{behind, blocks_for, FitsBlock, FitsBlocks, Spans, WritesWithin};
+ghost use Rattle.gpt_core.specs.Writes.{end_of_blocks, blocks_filled, FitsBlock, FitsBlocks, Spans, WritesWithin};
 
 use base_core::BLOCK_BYTES;
 use flash_core::{Flash, FlashStop};
@@ -25,7 +25,7 @@ pub fn clear_header<D: Flash>(flash: &mut D, header: u32) -> Result<(), FlashSto
     flash.barrier()
 }
 
-/// WritesWithin over the block of a header that was erased: program, barrier.
+/// Writes over the block of a header that was erased: program, barrier.
 pub fn write_header<D: Flash>(flash: &mut D, b: u32, bytes: &[u8]) -> Result<(), FlashStop>
     requires on { IsTrue (D.on flash.old) }
     requires fits { FitsBlock (D.blocks flash.old) b bytes.now }
@@ -38,7 +38,7 @@ pub fn write_header<D: Flash>(flash: &mut D, b: u32, bytes: &[u8]) -> Result<(),
     flash.barrier()
 }
 
-/// WritesWithin over a block: erase, program. Nothing settles it yet.
+/// Writes over a block: erase, program. Nothing settles it yet.
 fn write_block<D: Flash>(flash: &mut D, b: u32, bytes: &[u8]) -> Result<(), FlashStop>
     requires on { IsTrue (D.on flash.old) }
     requires fits { FitsBlock (D.blocks flash.old) b bytes.now }
@@ -50,11 +50,11 @@ fn write_block<D: Flash>(flash: &mut D, b: u32, bytes: &[u8]) -> Result<(), Flas
     flash.program(BLOCK_BYTES * b, bytes)
 }
 
-/// WritesWithin bytes over blocks from one on, each block by itself, rising. Nothing settles them yet.
+/// Writes bytes over blocks from one on, each block by itself, rising. Nothing settles them yet.
 fn write_blocks<D: Flash>(flash: &mut D, first: u32, bytes: &[u8]) -> Result<(), FlashStop>
     requires on { IsTrue (D.on flash.old) }
     requires fits { FitsBlocks (D.blocks flash.old) first bytes.now }
-    ensures writes { WritesWithin D.Flash (block_bytes * first) (behind first (length bytes.now)) (2 * blocks_for (length bytes.now))
+    ensures writes { WritesWithin D.Flash (block_bytes * first) (end_of_blocks first (length bytes.now)) (2 * blocks_filled (length bytes.now))
         result flash.old flash.new }
     ensures written { OnOk result (IsTrue D.tells
         → part (D.told flash.new).now (block_bytes * first) (block_bytes * first + length bytes.now) ≡ bytes.now) }
@@ -67,13 +67,13 @@ fn write_blocks<D: Flash>(flash: &mut D, first: u32, bytes: &[u8]) -> Result<(),
     write_blocks(flash, first + 1, rest)
 }
 
-/// WritesWithin the entries of a table, and settles them.
+/// Writes the entries of a table, and settles them.
 pub fn write_entries<D: Flash>(flash: &mut D, first: u32, bytes: &[u8]) -> Result<(), FlashStop>
     requires on { IsTrue (D.on flash.old) }
     requires fits { FitsBlocks (D.blocks flash.old) first bytes.now }
     ensures steps { IsTrue D.tells
         → FillsEntries (D.blocks flash.old) first bytes.now result (D.told flash.old) (D.told flash.new) }
-    ensures writes { WritesWithin D.Flash (block_bytes * first) (behind first (length bytes.now)) (2 * blocks_for (length bytes.now))
+    ensures writes { WritesWithin D.Flash (block_bytes * first) (end_of_blocks first (length bytes.now)) (2 * blocks_filled (length bytes.now))
         result flash.old flash.new }
 {
     write_blocks(flash, first, bytes)?;
@@ -92,14 +92,14 @@ pub fn repair_copy<D: Flash>(
     requires on { IsTrue (D.on flash.old) }
     requires header_fits { FitsBlock (D.blocks flash.old) header head.now }
     requires entries_fit { FitsBlocks (D.blocks flash.old) first entries.now }
-    requires apart { (header < first) ⊎ (first + blocks_for (length entries.now) ≤ header) }
+    requires apart { (header < first) ⊎ (first + blocks_filled (length entries.now) ≤ header) }
     ensures steps { IsTrue D.tells → (x : Writing (D.blocks flash.old) header first head.now entries.now (D.told flash.old))
         → Steps (IsMended (D.blocks flash.old) x.t) result (D.blocks flash.old) x.t (D.told flash.new) }
     ensures keeps { (low high : ℕ) → Spans low high header first (length entries.now) → IsTrue D.tells
         → Keeps low high (D.told flash.old) (D.told flash.new) }
     ensures settled { OnOk result (IsTrue D.tells → NothingDirty (D.told flash.new)) }
     ensures goes { Goes D.Flash result flash.old flash.new }
-    ensures spent { OnOk result (D.arming flash.new ≡ lowered_by (2 + 2 * blocks_for (length entries.now)) (D.arming flash.old)) }
+    ensures spent { OnOk result (D.arming flash.new ≡ lowered_by (2 + 2 * blocks_filled (length entries.now)) (D.arming flash.old)) }
 {
     clear_header(flash, header)?;
     write_entries(flash, first, entries)?;

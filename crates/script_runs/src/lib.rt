@@ -1,6 +1,6 @@
-//! A script that runs over a flash, turn by turn, each with its line: on the flash as it is, or on the one that the device has
-//! behind its partition table. The script is read whole, and the room for its turns is made, before the flash is touched.
-//! A run that has no first turn is refused by one line.
+//! A script that runs over a flash, turn by turn, each with its line. The flash is the device as it is, or the one that the device
+//! has behind its partition table. The script is read whole, and the room for its turns is made, before the flash is touched. A run
+//! that has no first turn is refused by one line.
 #![tactic(auto)]
 
 mod at_place;
