@@ -117,8 +117,8 @@ GuardedHolds tells old new =
 -- What holds of the turns of any run, whichever way it ended. They began with the device as it was handed in.
 pub record RanHolds (passes : List ℕ → Bool) (tells : Bool) (files : Option Directory) (journal : List Turn)
     (old new : World) : Type 0 where
-  -- For every device: each turn's reply is that of each machine that the agent shows; a boot's reply tells whether the flash is on,
-  -- and with which numbers; while off all else is answered `off`; and what an armed loss counts of the turn.
+  -- For every device: each turn's reply is that of each machine that the agent shows. A boot's reply tells whether an agent is
+  -- there, and with which numbers it begins. While off all else is answered `off`. What an armed loss counts of the turn is known.
   pub replies : RepliesHold passes tells files journal old new
   -- For every device: where no turn ran it is as it was, and its power is by the replies.
   pub device : LeavesDevice tells journal old.flash new.flash
@@ -202,11 +202,12 @@ pub record Promised (passes : List ℕ → Bool) (tells : Bool) (inputs : Inputs
   -- From a sound flash: the turns are those of the machine, every image that a loss may leave shows a state that they lead to, and
   -- each boot selects a complete and permitted package.
   pub headline : HeadlineHolds passes tells inputs ending old new
-  -- For every device, files and source: the lines of what was done, at every status.
+  -- Of a sink that tells its bytes, over every device, files and source: the lines of what was done, at every status.
   pub wrote : WroteHolds inputs.asked (given_to inputs) ending old new
   -- For every device, files, source and sink: which turns and causes ended the run.
   pub ends : EndsHold inputs.asked (given_to inputs) ending old new
-  -- For every device: what each turn did, how the device is left, and that no loss harms what is in use.
+  -- For every device: what each turn did, and how the device is left. On any flash with nothing dirty no loss harms what is in
+  -- use.
   pub turns : RanHolds passes tells inputs.files ending.journal old new
   -- `boot` on any flash with nothing dirty, sound or not, where nothing failed.
   pub boot_word : BootWordHolds passes tells inputs.asked ending old.flash new.flash

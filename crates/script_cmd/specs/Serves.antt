@@ -55,11 +55,11 @@ pub record Serves {H I : Type 0} (passes : List ℕ → Bool) (device : Device) 
   pub files : inputs.list ≡ None → IsFalse (asks_files inputs.asked) → files_after ≡ files_before
   pub unsent : inputs.list ≡ None → IsFalse (asks_package inputs.asked)
       → IsTrue (sends_none (calls_of ending.journal)) → files_after ≡ files_before
-  -- then no other file than the list is asked for
+  -- then no call of the files failed, but at a status by which the list may not have been read
   pub list_alone : IsFalse (asks_package inputs.asked) → IsTrue (sends_none (calls_of ending.journal))
       → IsFalse (may_fail_before ending.status) → new.faults.files ≡ old.faults.files
   pub note : IsFalse (asks_beyond inputs.asked) → IsFalse (is_beyond ending.noted)
-  -- the sink fails at the line that ends it with 3, and at no other
+  -- the sink failed once where the status is 3, and else not at all
   pub sink_count : FailsAtThree ending.status old.faults.sink new.faults.sink
   -- no count of failures falls
   pub later_files : old.faults.files ≤ new.faults.files
