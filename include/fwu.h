@@ -148,12 +148,13 @@ struct fwu_report {
     uint32_t images;                   /* at 0: how many images the bank has, 2 to 16 */
     uint32_t lengths[FWU_MOST_IMAGES]; /* at 0: the bytes of each image, in the order of the layout */
     uint32_t steps;                    /* how many steps are told */
-    uint32_t bytes;                    /* how many bytes of the room are theirs */
+    uint32_t bytes;                    /* how many bytes of the room are theirs: those of the programs, each once */
 };
 
 /* Boots a flash that lies in memory, and writes nothing to it. `flash` has all its `length` bytes, from block 0 on. `steps` has
  * room for `most` steps, which is also how many are told at most; `room` has `size` bytes. The steps are to be done in their
- * order, and at 0 before the bank is started. The call takes its memory from the work buffer (fwu_work). */
+ * order, and at 0 before the bank is started. Each erase and program lies in blocks 1 to 6. Behind those that are told, and
+ * behind their bytes, `steps` and `room` stay as they were. The call takes its memory from the work buffer (fwu_work). */
 uint32_t fwu_boot(const uint8_t *flash, size_t length, struct fwu_step *steps, size_t most, uint8_t *room, size_t size,
                   struct fwu_report *report);
 
@@ -167,10 +168,12 @@ FWU_ASSERT(sizeof(struct fwu_report) == 108 && offsetof(struct fwu_report, lengt
  * flash's layout, by their types. With `acceptance` 0 each image is accepted at once; with any other number the package is on trial,
  * and is started three times at most until its images are accepted. The other arguments are those of fwu_boot.
  *
- * It boots first, which writes nothing more where the loader's boot has been. The steps are one list: those of the boot, and behind
- * them those that make the update bank invalid, write its images, and make it active. Bytes that are found in the package are told as
- * copies (FWU_COPY), and need no room. It looks behind the last copy, and where the first 16 payloads begin. A copy lies within the
- * package. A driver that does an update's steps has to know copies. `package` stays as it is until the steps are done.
+ * It boots first, which writes nothing more where the loader's boot has been. The steps are one list: those of the boot, and
+ * behind them those that make the update bank invalid, write its images, and make it active. No erase, program or copy lies in
+ * block 0 or in the bank that the boot starts; where it starts none, each lies in blocks 1 to 6. Bytes that are found in the
+ * package are told as copies (FWU_COPY), and need no room. It looks behind the last copy, and where the first 16 payloads begin.
+ * A copy lies within the package. A driver that does an update's steps has to know copies. `package` stays as it is until the
+ * steps are done.
  *
  * 0: once all steps are done, in their order, the next boot tries the package first. 1 to 3: no bank may be started, as fwu_boot
  * says. 5, 16 to 19: nothing is installed. The steps that are told then needn't be done; to do the first ones of them harms no bank
@@ -186,7 +189,7 @@ uint32_t fwu_update(const uint8_t *flash, size_t length, const uint8_t *package,
 
 /* Each call here is made in the firmware that a boot started. `bank` is the bank that fwu_boot reported, whose steps are done; the
  * loader hands it on. No start is counted, and no counter raised. A call tells steps as fwu_boot does, over the same arguments. Its
- * steps first repair the metadata, where a replica lacks it.
+ * steps first repair the metadata, where a replica lacks it. Each erase and program lies in blocks 1 to 3.
  *
  * 0: done, once all steps are done. 1, 2, 21: no step is told. 16, 20: refused (DEN0118); steps may repair metadata. 5, 6 and 7 are
  * those of fwu_boot.

@@ -2,7 +2,7 @@
 use Rattle.std.proofs.Common.{◌≡◌, ℕ, ◌+◌, ◌%◌, ◌<◌, List, [], length, take, get_or, set, sym, ap, ◌∙◌, subst, arith, get_or-set_same}
 use Rattle.flash_core.specs.Told.{Told}
 use Rattle.fwu_formats.specs.Layout.{ImageRow, start}
-use Rattle.moves.specs.Law.{Done}
+use Rattle.moves.specs.Law.{CallResult}
 use Rattle.slot_writer.specs.Slots.{Appends, kept_of}
 use Rattle.agent_kept.specs.Kept.{part_at, size_of}
 use Rattle.agent_machine.specs.Fields.{Fields, rest_of, target}
@@ -20,7 +20,7 @@ module _ (f : Fields) (fitting : Fitting f) (image size : ℕ) (bytes left : Lis
       let rows : length f.session.rows ≡ length f.layout.rows = ap (λ (l : List ImageRow). length l) fitting.rows in
       get_or-set_same f.rests image left [] (omega (arith, within, few, rows, fitting.rests))
 
-  pub appended : (result : Done) (first : ℕ) (s t : Told) → first ≡ start f.layout (target f) image
+  pub appended : (result : CallResult) (first : ℕ) (s t : Told) → first ≡ start f.layout (target f) image
       → Appends result first size (rest_of f image) bytes left s t
       → Appends result (start f.layout (target f) image) (size_of (part_at f.session image)) (rest_of f image) bytes left_of s t
   appended result first s t first-is appends =

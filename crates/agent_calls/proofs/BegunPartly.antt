@@ -29,7 +29,7 @@ use Rattle.agent_machine.specs.Knows.{Fitting}
 use Rattle.agent_machine.specs.Machine.{state_in}
 use Rattle.agent_machine.specs.Moment.{Moment, Shows, Showing}
 use Rattle.agent_machine.specs.Meets.{IsDone, IsRefused, IsSettingOf, IsStopped, flash_result}
-use Rattle.agent_machine.specs.Goes.{Goes}
+use Rattle.agent_machine.specs.Goes.{GoesByMoves}
 use Rattle.agent_machine.specs.Beside.{IsSparedByAll}
 use Rattle.agent_machine.proofs.Beside.{spared-once, spared-same}
 use Rattle.agent_machine.proofs.Going.{goes-then}
@@ -41,7 +41,7 @@ use Rattle.agent_calls.specs.Takes.{CopiesTake, Takes, writes_to_copy}
 use Rattle.agent_machine.specs.Filling.{between}
 use Rattle.agent_calls.specs.Partly.{begins_over}
 use Rattle.fwu_model.specs.Answer.{are_named, booted_package, names_unknown, copied_parts, image_held}
-use Rattle.agent_calls.specs.Copies.{Follows, CopiesImages, AnswersAs, BeginsPartly}
+use Rattle.agent_calls.specs.Copies.{FollowsInStaging, CopiesImages, AnswersAs, BeginsPartly}
 use Rattle.agent_machine.proofs.CallGoing.{MeetsAs, call-goes, call-replies}
 use Rattle.agent_calls.proofs.Copies.{stays-none, stays-then}
 use Rattle.agent_calls.proofs.CopyingAll.{first-all}
@@ -286,7 +286,7 @@ module _ (old mid new : Moment) (types : List (List ℕ)) (passes : List ℕ →
   -- the begin
   pub record Begun (E : Setting) (s : State) (x : Session) : Type 0 where
     pub is : begins_over E s x types copied.bytes ≡ answered Success (begin_moves s) (between old.fields.boot (copied_parts named copied.bytes))
-    pub goes : Goes E (Ok tt) old mid s (begin_moves s) (between old.fields.boot (replicate (length named) Nothing))
+    pub goes : GoesByMoves E (Ok tt) old mid s (begin_moves s) (between old.fields.boot (replicate (length named) Nothing))
     pub booted : old.fields.boot ≡ s.active
 
   begun-at : (E : Setting) (s : State) (x : Session) → IsSettingOf old.fields passes E → Shows old s x → Begun E s x
@@ -298,33 +298,33 @@ module _ (old mid new : Moment) (types : List (List ℕ)) (passes : List ℕ →
       let rows : length E.layout.rows ≡ length named = ap (λ (L : Layout). length L.rows) setting.layout ∙ sym count-is in
       record {
         is = with.0 ∙ ap (λ (L : Layout). answered Success (begin_moves s) (between old.fields.boot (copied_parts (are_named L.rows types) copied.bytes))) setting.layout;
-        goes = subst (λ (n : ℕ). Goes E (Ok tt) old mid s (begin_moves s) (between old.fields.boot (replicate n Nothing))) rows
-            (subst (λ (a : Answer). Goes E (Ok tt) old mid s a.moves a.next) with.1
+        goes = subst (λ (n : ℕ). GoesByMoves E (Ok tt) old mid s (begin_moves s) (between old.fields.boot (replicate n Nothing))) rows
+            (subst (λ (a : Answer). GoesByMoves E (Ok tt) old mid s a.moves a.next) with.1
             (call-goes E (λ (_ : Unit {0}). Success) (Ok tt) (call.Begin 0) old mid s x setting.layout shows meets Success refl));
         booted = with.2;
       }
 
   -- the copies after it
   follows-at : (E : Setting) (s : State) (x : Session) → IsSettingOf old.fields passes E → Shows old s x
-      → Follows result E mid new (after s (begin_moves s)) (between old.fields.boot (copied_parts named copied.bytes))
+      → FollowsInStaging result E mid new (after s (begin_moves s)) (between old.fields.boot (copied_parts named copied.bytes))
   follows-at E s x setting shows =
       let at = begun-at E s x setting shows in
-      subst (λ (ps : List Staged). Follows result E mid new (after s (begin_moves s)) (between old.fields.boot ps)) (first-all named copied.bytes)
+      subst (λ (ps : List Staged). FollowsInStaging result E mid new (after s (begin_moves s)) (between old.fields.boot ps)) (first-all named copied.bytes)
       (copied.goes E (after s (begin_moves s)) old.fields.boot (setting.layout ∙ sym at.goes.stays.layout) at.goes.shows)
 
   -- both in a row
   then-goes : (r : Result (Unit {0}) FlashStop) (E : Setting) (s : State) (x : Session) → IsSettingOf old.fields passes E → Shows old s x
-      → Goes E r mid new (after s (begin_moves s)) [] (between old.fields.boot (copied_parts named copied.bytes))
-      → Goes E r old new s (begin_moves s) (between old.fields.boot (copied_parts named copied.bytes))
+      → GoesByMoves E r mid new (after s (begin_moves s)) [] (between old.fields.boot (copied_parts named copied.bytes))
+      → GoesByMoves E r old new s (begin_moves s) (between old.fields.boot (copied_parts named copied.bytes))
   then-goes r E s x setting shows next =
       let at = begun-at E s x setting shows in
-      subst (λ (ms : List Move). Goes E r old new s ms (between old.fields.boot (copied_parts named copied.bytes))) (append-nil (begin_moves s))
+      subst (λ (ms : List Move). GoesByMoves E r old new s ms (between old.fields.boot (copied_parts named copied.bytes))) (append-nil (begin_moves s))
       (goes-then E r old mid new s (begin_moves s) [] (between old.fields.boot (replicate (length named) Nothing))
       (between old.fields.boot (copied_parts named copied.bytes)) at.goes next)
 
   goes-by : (q : Result (Unit {0}) Stop) (E : Setting) (s : State) (x : Session) → IsSettingOf old.fields passes E → Shows old s x
-      → Follows q E mid new (after s (begin_moves s)) (between old.fields.boot (copied_parts named copied.bytes))
-      → Goes E (flash_result q) old new s (begin_moves s) (between old.fields.boot (copied_parts named copied.bytes))
+      → FollowsInStaging q E mid new (after s (begin_moves s)) (between old.fields.boot (copied_parts named copied.bytes))
+      → GoesByMoves E (flash_result q) old new s (begin_moves s) (between old.fields.boot (copied_parts named copied.bytes))
   goes-by (Ok u) E s x setting shows h = then-goes (Ok tt) E s x setting shows h
   goes-by (Err stop.Lost) E s x setting shows h = then-goes (Err flash_stop.Lost) E s x setting shows h
   goes-by (Err stop.Fault) E s x setting shows h = then-goes (Err flash_stop.Failed) E s x setting shows h
@@ -332,13 +332,13 @@ module _ (old mid new : Moment) (types : List (List ℕ)) (passes : List ℕ →
   goes-by (Err stop.Gone) E s x setting shows h = absurd h
 
   goes-all : (E : Setting) (s : State) (x : Session) → IsSettingOf old.fields passes E → Shows old s x
-      → Goes E (flash_result result) old new s (begin_moves s) (between old.fields.boot (copied_parts named copied.bytes))
+      → GoesByMoves E (flash_result result) old new s (begin_moves s) (between old.fields.boot (copied_parts named copied.bytes))
   goes-all E s x setting shows = goes-by result E s x setting shows (follows-at E s x setting shows)
 
   answers-by : (q : Result (Unit {0}) Stop) (a : Answer) (s : State) (E : Setting)
       → a ≡ answered Success (begin_moves s) (between old.fields.boot (copied_parts named copied.bytes))
-      → Follows q E mid new (after s (begin_moves s)) (between old.fields.boot (copied_parts named copied.bytes))
-      → Goes E (flash_result q) old new s (begin_moves s) (between old.fields.boot (copied_parts named copied.bytes))
+      → FollowsInStaging q E mid new (after s (begin_moves s)) (between old.fields.boot (copied_parts named copied.bytes))
+      → GoesByMoves E (flash_result q) old new s (begin_moves s) (between old.fields.boot (copied_parts named copied.bytes))
       → AnswersAs q a s new
   answers-by (Ok u) a s E is follows goes = (ap (λ (b : Answer). b.reply) is, subst (λ (b : Answer). Shows new (after s b.moves) b.next) (sym is) goes.shows)
   answers-by (Err stop.Lost) a s E is follows goes = ap (λ (b : Answer). b.reply) is
@@ -379,7 +379,7 @@ module _ (old mid new : Moment) (types : List (List ℕ)) (passes : List ℕ →
       (begun-with old E s x shows types (held old) replied (ap (λ (L : Layout). names_unknown L.rows types) setting.layout ∙ known)).0
 
   stops-by : (q : Stop) (E : Setting) (s : State) (x : Session)
-      → Follows {T = Unit {0}} (Err q) E mid new (after s (begin_moves s)) (between old.fields.boot (copied_parts named copied.bytes))
+      → FollowsInStaging {T = Unit {0}} (Err q) E mid new (after s (begin_moves s)) (between old.fields.boot (copied_parts named copied.bytes))
       → (asked E s x).reply ≡ Success → AnswersAs (Err q) (asked E s x) s new
   stops-by stop.Lost E s x follows is = is
   stops-by stop.Fault E s x follows is = is
@@ -410,7 +410,7 @@ module _ (old mid new : Moment) (types : List (List ℕ)) (passes : List ℕ →
         record { state = w.0; session = w.1; shows = w.2; is = (begun-at plain w.0 w.1 plain-fits w.2).booted }) i (omega (arith, lt, count-is));
     read = λ tells s x shows i lt un. held-is old s x shows tells i;
     exact = λ E s x setting shows. stops-by q E s x
-        (subst (λ (r : Result (Unit {0}) Stop). Follows r E mid new (after s (begin_moves s)) (between old.fields.boot (copied_parts named copied.bytes))) (sym e) (follows-at E s x setting shows))
+        (subst (λ (r : Result (Unit {0}) Stop). FollowsInStaging r E mid new (after s (begin_moves s)) (between old.fields.boot (copied_parts named copied.bytes))) (sym e) (follows-at E s x setting shows))
         (ap (λ (a : Answer). a.reply) (asked-is E s x setting shows));
     does = λ E s x setting shows tells ready.
         subst (λ (r : Result (Unit {0}) Stop). Does (flash_result r) E s (asked E s x).moves new.told) (sym e)
@@ -426,7 +426,7 @@ module _ (old mid new : Moment) (types : List (List ℕ)) (passes : List ℕ →
   begun-partly some = partly-by result refl some
 
   -- some machine is shown, so it was neither refused nor was the agent gone
-  follows-one : (q : Result (Unit {0}) Stop) (E : Setting) (s : State) (y : Session) → Follows q E mid new s y → IsDone q
+  follows-one : (q : Result (Unit {0}) Stop) (E : Setting) (s : State) (y : Session) → FollowsInStaging q E mid new s y → IsDone q
   follows-one (Ok u) E s y h = tt
   follows-one (Err stop.Lost) E s y h = tt
   follows-one (Err stop.Fault) E s y h = tt

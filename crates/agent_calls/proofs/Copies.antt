@@ -26,7 +26,7 @@ use Rattle.agent_machine.specs.Fields.{Fields, total_of}
 use Rattle.agent_machine.specs.Machine.{state_in, session_in}
 use Rattle.agent_machine.specs.Moment.{Moment, Shows}
 use Rattle.agent_machine.specs.Meets.{GoesBy, Stays, flash_result}
-use Rattle.agent_machine.specs.Goes.{Goes}
+use Rattle.agent_machine.specs.Goes.{GoesByMoves}
 use Rattle.agent_machine.specs.Beside.{IsSparedByAll, KeepsSparedByAll}
 use Rattle.agent_machine.proofs.Beside.{spared-told}
 use Rattle.agent_machine.specs.Knows.{Fitting, Knows}
@@ -37,7 +37,7 @@ use Rattle.agent_machine.proofs.CallGoing.{MeetsAs, call-goes, call-replies, cal
 use Rattle.agent_machine.proofs.Filling.{open-answers, write-answers, commit-answers}
 use Rattle.agent_machine.specs.Filling.{between, within, filled}
 use Rattle.fwu_model.specs.Answer.{image_held}
-use Rattle.agent_calls.specs.Copies.{Follows, CopiesPiece, CopiesFront, CopiesBytes, CopiesImage}
+use Rattle.agent_calls.specs.Copies.{FollowsInStaging, CopiesPiece, CopiesFront, CopiesBytes, CopiesImage}
 
 -- ---- one after the other
 
@@ -58,7 +58,7 @@ any : List ℕ → Bool
 any _ = true
 
 pub follows-after : {T : Type 0} (result : Result T Stop) (E : Setting) (old mid new : Moment) (s : State) (x y : Session)
-    → Goes E (Ok tt) old mid s [] x → Follows result E mid new s y → Follows result E old new s y
+    → GoesByMoves E (Ok tt) old mid s [] x → FollowsInStaging result E mid new s y → FollowsInStaging result E old new s y
 follows-after (Ok v) E old mid new s x y first next = goes-then E (Ok tt) old mid new s [] [] x y first next
 follows-after (Err stop.Lost) E old mid new s x y first next = goes-then E (Err flash_stop.Lost) old mid new s [] [] x y first next
 follows-after (Err stop.Fault) E old mid new s x y first next = goes-then E (Err flash_stop.Failed) old mid new s [] [] x y first next
@@ -67,7 +67,7 @@ follows-after (Err stop.Gone) E old mid new s x y first next = absurd next
 
 -- at a stop nothing is said of the session
 pub other-end : (T U : Type 0) (st : Stop) (E : Setting) (old new : Moment) (s : State) (y z : Session)
-    → Follows {T = T} (Err st) E old new s y → Follows {T = U} (Err st) E old new s z
+    → FollowsInStaging {T = T} (Err st) E old new s y → FollowsInStaging {T = U} (Err st) E old new s z
 other-end T U stop.Lost E old new s y z h = record { shows = tt; does = h.does; guarded = h.guarded; keeps = h.keeps; stays = h.stays }
 other-end T U stop.Fault E old new s y z h = record { shows = tt; does = h.does; guarded = h.guarded; keeps = h.keeps; stays = h.stays }
 other-end T U (stop.Status st) E old new s y z h = h
@@ -77,7 +77,7 @@ other-end T U stop.Gone E old new s y z h = h
 pub call-follows : {T : Type 0} (U : Type 0) (of : T → Reply) (st : Stop) (E : Setting) (c : Call) (old new : Moment) (s : State) (x y z : Session)
     (r : Reply) (was now : Bool) → E.layout ≡ old.fields.layout → Shows old s x
     → answer E s x c ≡ answered r [] y → ((q : Status) → reply.Refused q ≢ r) → IsFalse was → GoesBy {T = T} (Err st) was now
-    → MeetsAs of (Err st) E.passes c old new → Follows {T = U} (Err st) E old new s z
+    → MeetsAs of (Err st) E.passes c old new → FollowsInStaging {T = U} (Err st) E old new s z
 call-follows U of (stop.Status st) E c old new s x y z r was now layout shows is other here goes meets =
     absurd (other st (call-replies E of (Err (stop.Status st)) c old new s x layout shows meets (reply.Refused st) refl ∙ ap (λ (w : Answer). w.reply) is))
 call-follows U of stop.Gone E c old new s x y z r was now layout shows is other here goes meets = absurd (gone-here (goes.gone.0 refl))
@@ -85,15 +85,15 @@ call-follows U of stop.Gone E c old new s x y z r was now layout shows is other 
     gone-here : IsTrue was → ⊥
     gone-here is = cc
 call-follows U of stop.Lost E c old new s x y z r was now layout shows is other here goes meets =
-    subst (λ (w : Answer). Goes E (Err flash_stop.Lost) old new s w.moves z) is (call-stopped E of (Err stop.Lost) c old new s x layout shows meets refl z)
+    subst (λ (w : Answer). GoesByMoves E (Err flash_stop.Lost) old new s w.moves z) is (call-stopped E of (Err stop.Lost) c old new s x layout shows meets refl z)
 call-follows U of stop.Fault E c old new s x y z r was now layout shows is other here goes meets =
-    subst (λ (w : Answer). Goes E (Err flash_stop.Failed) old new s w.moves z) is (call-stopped E of (Err stop.Fault) c old new s x layout shows meets refl z)
+    subst (λ (w : Answer). GoesByMoves E (Err flash_stop.Failed) old new s w.moves z) is (call-stopped E of (Err stop.Fault) c old new s x layout shows meets refl z)
 
 -- and where it is done
 pub call-done : {T : Type 0} (of : T → Reply) (v : T) (E : Setting) (c : Call) (old new : Moment) (s : State) (x y : Session) (r : Reply)
     → E.layout ≡ old.fields.layout → Shows old s x
-    → answer E s x c ≡ answered r [] y → MeetsAs of (Ok v) E.passes c old new → Goes E (Ok tt) old new s [] y
-call-done of v E c old new s x y r layout shows is meets = subst (λ (w : Answer). Goes E (Ok tt) old new s w.moves w.next) is
+    → answer E s x c ≡ answered r [] y → MeetsAs of (Ok v) E.passes c old new → GoesByMoves E (Ok tt) old new s [] y
+call-done of v E c old new s x y r layout shows is meets = subst (λ (w : Answer). GoesByMoves E (Ok tt) old new s w.moves w.next) is
     (call-goes E of (Ok v) c old new s x layout shows meets (of v) refl)
 
 pub no-success : (q : Status) → reply.Refused q ≢ reply.Success
@@ -138,7 +138,7 @@ module _ (tells : Bool) (s t : Told) (f g : Fields) (fields : g ≡ f) (told : I
   keeps-all : IsTrue tells → KeepsSparedByAll f s t
   keeps-all is = spared-told (IsSparedByAll f.layout f.boot) s t (told is)
 
-  pub read-goes : (E : Setting) (w : State) (x : Session) → Shows earlier w x → Goes E (Ok tt) earlier behind w [] x
+  pub read-goes : (E : Setting) (w : State) (x : Session) → Shows earlier w x → GoesByMoves E (Ok tt) earlier behind w [] x
   read-goes E w x shows = record {
     shows = read-shows w x shows;
     does = λ is ready. does-nothing {T = Unit {0}} (Ok tt) E w t (subst (λ (u : Told). IsReady E u w) (sym (told is)) ready);
@@ -147,7 +147,7 @@ module _ (tells : Bool) (s t : Told) (f g : Fields) (fields : g ≡ f) (told : I
     stays = read-stays;
   }
 
-  pub read-stopped : (r : Result (Unit {0}) FlashStop) → IsErr r → (E : Setting) (w : State) (y : Session) → Goes E r earlier behind w [] y
+  pub read-stopped : (r : Result (Unit {0}) FlashStop) → IsErr r → (E : Setting) (w : State) (y : Session) → GoesByMoves E r earlier behind w [] y
   read-stopped r err E w y = record {
     shows = IfOk-from_err r (λ _. Shows behind w y) err;
     does = λ is ready. does-nothing r E w t (subst (λ (u : Told). IsReady E u w) (sym (told is)) ready);
@@ -158,9 +158,9 @@ module _ (tells : Bool) (s t : Told) (f g : Fields) (fields : g ≡ f) (told : I
 
 -- a stop of the flash, as that of a copy
 pub flash-follows : (T : Type 0) (q : Stop) (e : FlashStop) (E : Setting) (old new : Moment) (s : State) (y : Session)
-    → flash_result {T = Unit {0}} (Err q) ≡ Err e → Goes E (Err e) old new s [] y → Follows {T = T} (Err q) E old new s y
-flash-follows T stop.Lost e E old new s y is goes = subst (λ (r : Result (Unit {0}) FlashStop). Goes E r old new s [] y) (sym is) goes
-flash-follows T stop.Fault e E old new s y is goes = subst (λ (r : Result (Unit {0}) FlashStop). Goes E r old new s [] y) (sym is) goes
+    → flash_result {T = Unit {0}} (Err q) ≡ Err e → GoesByMoves E (Err e) old new s [] y → FollowsInStaging {T = T} (Err q) E old new s y
+flash-follows T stop.Lost e E old new s y is goes = subst (λ (r : Result (Unit {0}) FlashStop). GoesByMoves E r old new s [] y) (sym is) goes
+flash-follows T stop.Fault e E old new s y is goes = subst (λ (r : Result (Unit {0}) FlashStop). GoesByMoves E r old new s [] y) (sym is) goes
 flash-follows T (stop.Status st) e E old new s y is goes = absurd cc
 flash-follows T stop.Gone e E old new s y is goes = absurd cc
 
@@ -193,7 +193,7 @@ piece-unread tells s t f g fields told image at q e is = record {
 }
 
 module _ (old mid new : Moment) (fitting : Fitting old.fields) (image at n : ℕ) (bytes : List ℕ)
-    (reads : (E : Setting) (s : State) (x : Session) → Shows old s x → Goes E (Ok tt) old mid s [] x) (kept : Stays old mid)
+    (reads : (E : Setting) (s : State) (x : Session) → Shows old s x → GoesByMoves E (Ok tt) old mid s [] x) (kept : Stays old mid)
     (lt : image < length old.fields.layout.rows) (long : length bytes ≡ n) (inside : at + n ≤ total_of old.fields (Some image)) where
   -- the bytes fit the slot
   fits : (E : Setting) (before : List ℕ) → E.layout ≡ old.fields.layout → length before ≡ at → length before + length bytes ≤ slot_bytes E.layout image
@@ -321,7 +321,7 @@ pub image-opened : (guid : List ℕ) (image h : ℕ) (old new : Moment)
     → ((passes : List ℕ → Bool) → MeetsAs {T = ℕ} (λ k. reply.Opened k) (Ok h) passes (call.OpenWrite guid) old new)
     → find_image old.fields.layout.rows guid ≡ Some image
     → (E : Setting) (s : State) (boot : ℕ) (parts : List Staged) → E.layout ≡ old.fields.layout → get_or parts image Nothing ≡ Nothing
-    → Shows old s (between boot parts) → Goes E (Ok tt) old new s [] (within boot parts image [])
+    → Shows old s (between boot parts) → GoesByMoves E (Ok tt) old new s [] (within boot parts image [])
 image-opened guid image h old new meets found E s boot parts layout none shows =
     call-done (λ (k : ℕ). reply.Opened k) h E (call.OpenWrite guid) old new s (between boot parts) (within boot parts image [])
     (reply.Opened 1) layout shows (open-answers E s boot parts image guid (ap (λ (L : Layout). find_image L.rows guid) layout ∙ found) none) (meets E.passes)
@@ -363,7 +363,7 @@ module _ (guid : List ℕ) (image h : ℕ) (old opened : Moment) (found : find_i
   module _ (mid : Moment) (copied : CopiesBytes image (Ok tt) opened mid) where
     copies : (E : Setting) (s : State) (boot : ℕ) (parts : List Staged) → E.layout ≡ old.fields.layout → image < length parts
         → get_or parts image Nothing ≡ Nothing → Shows old s (between boot parts)
-        → Goes E (Ok tt) old mid s [] (within boot parts image copied.bytes)
+        → GoesByMoves E (Ok tt) old mid s [] (within boot parts image copied.bytes)
     copies E s boot parts layout below none shows =
         let one = image-opened guid image h old opened opens found E s boot parts layout none shows in
         goes-then E (Ok tt) old opened mid s [] [] (within boot parts image []) (within boot parts image copied.bytes) one

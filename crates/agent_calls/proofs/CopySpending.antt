@@ -8,7 +8,7 @@ use Rattle.agent_machine.specs.declared.stop.Stop.{Stop}
 use Rattle.agent_machine.specs.declared.stop.Stop.TheVariants as stop
 use Rattle.agent_machine.specs.Meets.{flash_result}
 use Rattle.agent_machine.specs.CallGoes.{Spent}
-use Rattle.agent_machine.proofs.Spending.{unarmed-read}
+use Rattle.flash_core.proofs.Unarmed.{unarmed_kept}
 
 -- a read
 pub read-spent : {D : Type 0} {g : Ghosts D} (result : Result (Unit {0}) FlashStop) (gone : Bool) (a b : D) → gone ≡ is_err result
@@ -18,7 +18,7 @@ read-spent {g = g} result gone a b is reads = record {
   power = reads.power;
   size = reads.size;
   costs = reads.costs;
-  unarmed = unarmed-read result (g.arming a) (g.arming b) (g.counts a) (g.counts b) reads.arming reads.reached;
+  unarmed = unarmed_kept result (g.arming a) (g.arming b) (g.counts a) (g.counts b) reads.arming reads.reached;
 }
   where
     unless : (r : Result (Unit {0}) FlashStop) → is_err r ≡ not (is_ok r)

@@ -16,7 +16,7 @@ use Rattle.agent_kept.specs.Kept.{part_at, handle_kept, size_of}
 use Rattle.agent_machine.specs.declared.stop.Stop.{Stop}
 use Rattle.agent_machine.specs.Ends.{IsWriter}
 use Rattle.agent_machine.specs.Fields.{Fields, total_of}
-use Rattle.agent_machine.specs.Goes.{Goes}
+use Rattle.agent_machine.specs.Goes.{GoesByMoves}
 use Rattle.agent_machine.specs.Meets.{flash_result}
 use Rattle.agent_machine.specs.Moment.{Moment, Shows}
 use Rattle.agent_machine.specs.Filling.{within}
@@ -36,7 +36,7 @@ plain f = record { layout = f.layout; files = λ _. None; passes = λ _. true }
 
 -- a write by the handle that writes the image, behind a read
 pub piece-takes : (image at n : ℕ) (old mid : Moment) (armed arming : Option Arming)
-    → ((E : Setting) (s : State) (x : Session) → Shows old s x → Goes E (Ok tt) old mid s [] x)
+    → ((E : Setting) (s : State) (x : Session) → Shows old s x → GoesByMoves E (Ok tt) old mid s [] x)
     → ((i : ℕ) → handle_kept mid.fields.session 0 ≡ Writes i
     → arming ≡ lowered_by (writes_to_append (size_of (part_at mid.fields.session i)) n) armed) → PieceTakes image at n old armed arming
 piece-takes image at n old mid armed arming reads lowered s boot parts before below count shows =

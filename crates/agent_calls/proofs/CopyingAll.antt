@@ -9,7 +9,7 @@ use Rattle.fwu_model.specs.Session.{Staged, Nothing, Committed}
 use Rattle.agent_machine.specs.declared.stop.Stop.{Stop}
 use Rattle.agent_machine.specs.Fields.{Fields, total_of}
 use Rattle.agent_machine.specs.Moment.{Moment, Shows}
-use Rattle.agent_machine.specs.Goes.{Goes}
+use Rattle.agent_machine.specs.Goes.{GoesByMoves}
 use Rattle.agent_machine.proofs.Going.{goes-nothing, goes-then}
 use Rattle.agent_machine.specs.Filling.{between, filled}
 use Rattle.agent_calls.specs.Partly.{copied_first}
@@ -148,7 +148,7 @@ module _ (named : List Bool) (k : ℕ) (old mid : Moment) (first : CopiesFirst n
     bytes = first.bytes;
     count = λ i lt not. first.count i (split i k lt (other i not)) not;
     read = λ tells s boot shows i lt not. first.read tells s boot shows i (split i k lt (other i not)) not;
-    goes = λ E s boot layout shows. subst (λ (ps : List Staged). Goes E (Ok tt) old mid s [] (between boot ps)) (sym (next-named named k first.bytes is)) (first.goes E s boot layout shows);
+    goes = λ E s boot layout shows. subst (λ (ps : List Staged). GoesByMoves E (Ok tt) old mid s [] (between boot ps)) (sym (next-named named k first.bytes is)) (first.goes E s boot layout shows);
   }
     where
       other : (i : ℕ) → get_or named i true ≡ false → i ≢ k
@@ -180,7 +180,7 @@ module _ (named : List Bool) (k : ℕ) (old mid : Moment) (first : CopiesFirst n
       goes = λ E s boot layout shows.
           let one = first.goes E s boot layout shows in
           let parts = copied_first named k first.bytes in
-          subst (λ (ps : List Staged). Goes E (Ok tt) old new s [] (between boot ps)) (next-copied named k first.bytes image.bytes is below)
+          subst (λ (ps : List Staged). GoesByMoves E (Ok tt) old new s [] (between boot ps)) (next-copied named k first.bytes image.bytes is below)
           (goes-then E (Ok tt) old mid new s [] [] (between boot parts) (between boot (filled parts k image.bytes true)) one
           (image.goes E s boot parts (layout ∙ sym one.stays.layout) within-parts nothing-there one.shows));
     }
@@ -205,5 +205,5 @@ module _ (named : List Bool) (k : ℕ) (old mid : Moment) (first : CopiesFirst n
     bytes = first.bytes;
     count = λ i lt not. first.count i (omega (arith, lt, all)) not;
     read = λ tells s boot shows i lt not. first.read tells s boot shows i (omega (arith, lt, all)) not;
-    goes = λ E s boot layout shows. subst (λ (n : ℕ). Goes E (Ok tt) old mid s [] (between boot (copied_first named n first.bytes))) all (first.goes E s boot layout shows);
+    goes = λ E s boot layout shows. subst (λ (n : ℕ). GoesByMoves E (Ok tt) old mid s [] (between boot (copied_first named n first.bytes))) all (first.goes E s boot layout shows);
   }

@@ -1,12 +1,11 @@
 -- A row of the directory, as it is written.
-use Rattle.std.proofs.Common.{◌≡◌, ℕ, ◌*◌, ◌<◌, ◌≤◌, Bool, List, [], ◌++◌, length, get_or, refl, ap, ◌∙◌, arith, IsTrue}
+use Rattle.std.proofs.Common.{◌≡◌, ℕ, ◌*◌, ◌<◌, ◌≤◌, Bool, List, [], ◌++◌, length, get_or, append-nil, ap, sym, ◌∙◌, arith, IsTrue}
 use Rattle.std.proofs.lemmas.List.{get_or_default}
-use Rattle.std.specs.Prelude.{flat_map}
-use Rattle.base_core.specs.Bytes.{le, listed}
+use Rattle.base_core.specs.Bytes.{le}
 use Rattle.fwu_formats.specs.Layout.{ImageRow, Layout, fits_layout}
 use Rattle.fwu_formats.specs.Metadata.{Meta, bit_number, bit_at}
 use Rattle.fwu_formats.proofs.Written.{rows-fit, rows-limits}
-use Rattle.agent_machine.specs.Directory.{version_by, directory_row_by, directory_by}
+use Rattle.agent_machine.specs.Directory.{version_by, directory_row_by, directory_head}
 
 abbrev no_row : ImageRow
 no_row = record { guid = []; slots = 0 }
@@ -35,10 +34,7 @@ row-small L rows image row fits same lt is =
     (is ∙ get_or_default rows image row no_row lt ∙ ap (λ (l : List ImageRow). get_or l image no_row) same) in
     omega (arith, small, here)
 
--- the directory, piece by piece
-pub directory-written : (L : Layout) (m : Meta) (bank : ℕ) (lengths manifest : List ℕ) (images : ℕ) (a b c d e : List ℕ)
-    → a ≡ [] ++ le 4 1 → b ≡ a ++ le 4 images → c ≡ b ++ le 4 32 → d ≡ c ++ le 4 bank
-    → e ≡ d ++ flat_map (directory_row_by L m bank lengths manifest) (listed (length L.rows) (λ image. image)) → images ≡ length L.rows
-    → e ≡ directory_by L m bank lengths manifest
-unfolding directory_by
-directory-written L m bank lengths manifest images a b c d e ea eb ec ed ee counted = rw (ee, ed, ec, eb, ea, counted) refl
+-- the directory's first four numbers, one after another
+pub head-written : (L : Layout) (images bank : ℕ) (a b c d : List ℕ) → a ≡ [] ++ le 4 1 → b ≡ a ++ le 4 images → c ≡ b ++ le 4 32 → d ≡ c ++ le 4 bank
+    → images ≡ length L.rows → d ≡ directory_head L bank ++ []
+head-written L images bank a b c d ea eb ec ed counted = rw (ed, ec, eb, ea, counted) (sym (append-nil (directory_head L bank)))

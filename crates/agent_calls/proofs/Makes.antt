@@ -8,7 +8,7 @@ use Rattle.fwu_formats.specs.Layout.{ImageRow, find_image, blocks_needed}
 use Rattle.fwu_formats.specs.Metadata.{Meta, MetaRead, state_at, bit_at}
 use Rattle.fwu_model.specs.State.{Free, Switch, Accept, Back, is_invalid}
 use Rattle.fwu_model.specs.MoveMetas.{meta_after}
-use Rattle.moves.specs.Law.{Done}
+use Rattle.moves.specs.Law.{CallResult}
 use Rattle.moves.proofs.Fitting.{fits-back}
 use Rattle.replicas.specs.Stores.{WritesBoth, Stores}
 use Rattle.replicas.proofs.Both.{quiet_zero, quiet_one, stored}
@@ -73,7 +73,7 @@ module _ (f : Fields) (fitting : Fitting f) where
   begin-frees flags count plan.Back asked = absurd asked
 
   module _ (store : Bool) (is : store ≡ not (is_invalid (state_at m (target f)))) where
-    pub begin-stores : IsFalse (is_invalid (state_at m (target f))) → (result : Done) (s t : Told)
+    pub begin-stores : IsFalse (is_invalid (state_at m (target f))) → (result : CallResult) (s t : Told)
         → StoresIf store result f.layout (meta_planned f.session m (plan.Begin store)) s t
         → Stores result f.layout (meta_after m (Free (target f))) s t
     begin-stores used result s t stores =
@@ -97,7 +97,7 @@ module _ (f : Fields) (fitting : Fitting f) where
     pub accept-sets : store ≡ not (bit_at m m.active other)
     accept-sets = asked.1 ∙ ap (λ (i : ℕ). not (bit_at m m.active i)) accept-same
 
-    pub accept-stores : IsFalse (bit_at m m.active other) → (result : Done) (s t : Told)
+    pub accept-stores : IsFalse (bit_at m m.active other) → (result : CallResult) (s t : Told)
         → StoresIf store result f.layout (meta_planned f.session m (plan.Accept image store)) s t
         → Stores result f.layout (meta_after m (Accept other)) s t
     accept-stores clear result s t stores =

@@ -8,7 +8,7 @@ use Rattle.agent_kept.specs.declared.kinds.Request.{Request}
 use Rattle.agent_kept.specs.declared.kinds.Request.TheVariants as request
 use Rattle.agent_kept.specs.Kept.{Kept}
 use Rattle.agent_state.specs.Asked.{IsPlanFor, IsVerdictFor}
-use Rattle.agent_machine.specs.Asks.{IsPlain}
+use Rattle.agent_machine.specs.Asks.{AsksNoVerifier}
 
 module _ (k : Kept) (m : Meta) where
   pub cancels : (p : Plan) → IsPlanFor k m request.Cancel p → p ≡ plan.Cancel
@@ -93,7 +93,7 @@ module _ (k : Kept) (m : Meta) where
   accepts guid (plan.Accept image store) asked not = not image store refl
   accepts guid plan.Back asked not = asked
 
-pub waits : (m : Meta) (r : Request) → IsPlain r → (b : ℕ) → IsVerdictFor m r b → ⊥
+pub waits : (m : Meta) (r : Request) → AsksNoVerifier r → (b : ℕ) → IsVerdictFor m r b → ⊥
 waits m request.Discover plain b asked = asked
 waits m (request.Begin flags n) plain b asked = asked
 waits m (request.BeginPartial flags list) plain b asked = asked

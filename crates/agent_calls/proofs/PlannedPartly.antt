@@ -19,7 +19,7 @@ use Rattle.agent_kept.specs.declared.kinds.Decision.TheVariants as decision
 use Rattle.agent_kept.specs.Kept.{Kept, staging_meant, handles_meant}
 use Rattle.agent_kept.specs.Plans.{call_of, planned, planned_in, FitsRequest}
 use Rattle.agent_state.specs.Asked.{IsPlanFor}
-use Rattle.agent_state.specs.Decides.{Decides}
+use Rattle.agent_state.specs.Decides.{DecidesRequest}
 use Rattle.agent_machine.specs.Fields.{Fields}
 use Rattle.agent_machine.specs.Knows.{Fitting, SessionSound, SomeStaged}
 use Rattle.agent_machine.specs.Moment.{Moment, Shows}
@@ -110,7 +110,7 @@ partial-plan k m flags list plan.Back is = absurd is
 pub plan-known : (f : Fields) (t : Told) (fitting : Fitting f) (sound : SessionSound f) (some : ∥ SomeStaged f.session ∥₁) (passes : List ℕ → Bool)
     (r : Request) (types : List (List ℕ)) → call_of r [] ≡ call.BeginPartial types
     → ((E : Setting) (s : State) → FitsRequest E s f.boot f.session r []) → (p : Plan) → IsPartial f.session types p
-    → Decides passes f.meta f.counter f.session f.boot r (decision.Do p) → names_unknown f.layout.rows types ≡ false
+    → DecidesRequest passes f.meta f.counter f.session f.boot r (decision.Do p) → names_unknown f.layout.rows types ≡ false
 plan-known f t fitting sound some passes r types asks fits p partial decides =
     bools-alike f t fitting some (names_unknown f.layout.rows types) false (λ s x shows.
     let E = plain-of f passes in

@@ -6,7 +6,7 @@ use Rattle.sha2.specs.declared.Sha256.{Sha256}
 use Rattle.fwu_formats.specs.Layout.{Layout, fits_layout}
 use Rattle.fwu_formats.specs.Metadata.{MetaRead, fits_meta}
 use Rattle.early_boot.specs.Knows.{KnowsStarted}
-use Rattle.early_boot.specs.Choosing.{FitSlots}
+use Rattle.early_boot.specs.Choosing.{LengthsFitSlots}
 use Rattle.early_boot.specs.Tells.{Started}
 use Rattle.agent_kept.specs.declared.parts.Part.{Part}
 use Rattle.agent_kept.specs.declared.parts.Part.TheVariants.{Nothing, Open, Committed}
@@ -63,7 +63,7 @@ module _ (f : Fields) (rows : f.session.rows ≡ f.layout.rows) (nothing : HasNo
 
   pub starts-fitting : IsTrue (fits_layout f.layout) → IsTrue (fits_meta f.layout f.meta.meta) → f.boot < f.layout.banks → length f.lengths ≡ 16
       → (lengths : List ℕ) → take (length lengths) f.lengths ≡ lengths → length lengths ≡ length f.layout.rows
-      → FitSlots f.layout lengths → length f.rests ≡ 16 → Fitting f
+      → LengthsFitSlots f.layout lengths → length f.rests ≡ 16 → Fitting f
   starts-fitting fits meta below long lengths front count within rests = record {
     layout = fits;
     meta = meta;

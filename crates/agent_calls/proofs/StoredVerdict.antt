@@ -9,7 +9,7 @@ use Rattle.image_check.specs.declared.bank.Verdict.{Verdict}
 use Rattle.image_check.specs.declared.bank.Verdict.TheVariants as verdict
 use Rattle.image_check.specs.Passed.{HasPassed}
 use Rattle.image_check.specs.Verdict.{verdict_on}
-use Rattle.image_check.specs.Law.{may_start}
+use Rattle.image_check.specs.Law.{verdict_may_start}
 use Rattle.image_check.proofs.Permitted.{held}
 use Rattle.agent_kept.specs.declared.kinds.Request.TheVariants as request
 use Rattle.agent_kept.specs.declared.kinds.Plan.{Plan}
@@ -24,9 +24,9 @@ use Rattle.agent_calls.specs.GoneBack.{SomePassed}
 
 pub good-permitted : (E : Setting) (L : Layout) (passes : List ℕ → Bool) (counter : ℕ) (image : List ℕ) (bank previous : ℕ) (good : Bool)
     → IsTrue (fits_layout L) → E.layout ≡ L → E.passes ≡ passes → bank ≡ previous
-    → good ≡ may_start (verdict_on passes counter L image bank) → good ≡ holds_permitted E counter (package_in L image previous)
+    → good ≡ verdict_may_start (verdict_on passes counter L image bank) → good ≡ holds_permitted E counter (package_in L image previous)
 good-permitted E L passes counter image bank previous good fits layout verifier bank-is good-is =
-    good-is ∙ ap₂ (λ (ps : List ℕ → Bool) (l : Layout). may_start (verdict_on ps counter l image bank)) (sym verifier) (sym layout)
+    good-is ∙ ap₂ (λ (ps : List ℕ → Bool) (l : Layout). verdict_may_start (verdict_on ps counter l image bank)) (sym verifier) (sym layout)
     ∙ held E counter image bank (subst (λ (l : Layout). IsTrue (fits_layout l)) (sym layout) fits)
     ∙ ap₂ (λ (l : Layout) (b : ℕ). holds_permitted E counter (package_in l image b)) layout bank-is
 
@@ -38,7 +38,7 @@ promised answer value other is was = sym is ∙ was
 
 -- a bank that may be started had a manifest that passes
 pub good-passed : (passes : List ℕ → Bool) (rows : List ImageRow) (counter : ℕ) (found : Verdict) → HasPassed passes rows counter found
-    → IsTrue (may_start found) → SomePassed passes rows counter
+    → IsTrue (verdict_may_start found) → SomePassed passes rows counter
 good-passed passes rows counter (verdict.Good v) has may = (v, has)
 good-passed passes rows counter verdict.BadManifest has may = absurd (false≢true may)
 good-passed passes rows counter verdict.NotAccepted has may = absurd (false≢true may)

@@ -29,9 +29,9 @@ abbrev pub IsDecided : Bool → Call → Type 0
 IsDecided tells call.Previous = IsTrue tells
 IsDecided tells other = ⊤
 
-abbrev pub IsPrevious : Call → Type 0
-IsPrevious call.Previous = ⊤
-IsPrevious other = ⊥
+abbrev pub IsPreviousCall : Call → Type 0
+IsPreviousCall call.Previous = ⊤
+IsPreviousCall other = ⊥
 
 -- On any device: what the session and the numbers refuse is refused, and an answer goes back.
 abbrev pub GoesBackBy : Reply → State → Session → Moment → Type 0
@@ -48,6 +48,6 @@ PermitsBack passes other f = ⊤
 pub record AnswersCall (passes : List ℕ → Bool) (c : Call) (r : Reply) (old new : Moment) : Type 0 where
   pub exact : (E : Setting) (s : State) (x : Session) → IsSettingOf old.fields passes E → Shows old s x → IsDecided old.tells c
       → IsReplyOf old.tells c (answer E s x c).reply r × ShowsNext E s x c new
-  pub back : IsPrevious c → (s : State) (x : Session) → Shows old s x → GoesBackBy r s x new
-  pub permitted : IsPrevious c → PermitsBack passes r old.fields
+  pub back : IsPreviousCall c → (s : State) (x : Session) → Shows old s x → GoesBackBy r s x new
+  pub permitted : IsPreviousCall c → PermitsBack passes r old.fields
   pub stays : Stays old new

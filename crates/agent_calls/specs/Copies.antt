@@ -15,7 +15,7 @@ use Rattle.agent_machine.specs.declared.stop.Stop.{Stop}
 use Rattle.agent_machine.specs.declared.stop.Stop.TheVariants as stop
 use Rattle.agent_machine.specs.Fields.{Fields, target, total_of}
 use Rattle.agent_machine.specs.Moment.{Moment, Shows}
-use Rattle.agent_machine.specs.Goes.{Goes}
+use Rattle.agent_machine.specs.Goes.{GoesByMoves}
 use Rattle.agent_machine.specs.Beside.{IsBesideBank, KeepsSparedByAll, KeepsWhere}
 use Rattle.agent_machine.specs.Stored.{StoresIf}
 use Rattle.agent_machine.specs.Meets.{IsDone, IsSettingOf, Stays, flash_result}
@@ -25,12 +25,12 @@ use Rattle.agent_calls.specs.Partly.{begins_over, copied_first}
 use Rattle.fwu_model.specs.Answer.{image_held}
 
 -- Steps within a staging: done, and then the session is this one; or the flash stopped them. None is refused.
-abbrev pub Follows : {T : Type 0} → Result T Stop → Setting → Moment → Moment → State → Session → Type 0
-Follows (Ok x) E old new s y = Goes E (Ok tt) old new s [] y
-Follows (Err stop.Lost) E old new s y = Goes E (Err flash_stop.Lost) old new s [] y
-Follows (Err stop.Fault) E old new s y = Goes E (Err flash_stop.Failed) old new s [] y
-Follows (Err (stop.Status st)) E old new s y = ⊥
-Follows (Err stop.Gone) E old new s y = ⊥
+abbrev pub FollowsInStaging : {T : Type 0} → Result T Stop → Setting → Moment → Moment → State → Session → Type 0
+FollowsInStaging (Ok x) E old new s y = GoesByMoves E (Ok tt) old new s [] y
+FollowsInStaging (Err stop.Lost) E old new s y = GoesByMoves E (Err flash_stop.Lost) old new s [] y
+FollowsInStaging (Err stop.Fault) E old new s y = GoesByMoves E (Err flash_stop.Failed) old new s [] y
+FollowsInStaging (Err (stop.Status st)) E old new s y = ⊥
+FollowsInStaging (Err stop.Gone) E old new s y = ⊥
 
 -- A piece of an image of the bank that was started, from a place of it on, was read and written behind what was there.
 pub record CopiesPiece (image at : ℕ) (result : Result ℕ Stop) (old new : Moment) : Type 0 where
@@ -41,7 +41,7 @@ pub record CopiesPiece (image at : ℕ) (result : Result ℕ Stop) (old new : Mo
       → bytes ≡ take n (drop at (image_held s old.fields.boot image)))
   pub goes : (E : Setting) (s : State) (boot : ℕ) (parts : List Staged) (before : List ℕ) → E.layout ≡ old.fields.layout
       → image < length parts → length before ≡ at → Shows old s (within boot parts image before)
-      → Follows result E old new s (within boot parts image (before ++ bytes))
+      → FollowsInStaging result E old new s (within boot parts image (before ++ bytes))
 
 -- its first bytes were
 pub record CopiesFront (image at : ℕ) (old new : Moment) : Type 0 where
@@ -52,7 +52,7 @@ pub record CopiesFront (image at : ℕ) (old new : Moment) : Type 0 where
       → Shows old s (within boot parts image []) → bytes ≡ take at (image_held s boot image)
   pub goes : (E : Setting) (s : State) (boot : ℕ) (parts : List Staged) → E.layout ≡ old.fields.layout
       → image < length parts → Shows old s (within boot parts image [])
-      → Goes E (Ok tt) old new s [] (within boot parts image bytes)
+      → GoesByMoves E (Ok tt) old new s [] (within boot parts image bytes)
 
 -- all of it was
 pub record CopiesBytes (image : ℕ) (result : Result (Unit {0}) Stop) (old new : Moment) : Type 0 where
@@ -63,7 +63,7 @@ pub record CopiesBytes (image : ℕ) (result : Result (Unit {0}) Stop) (old new 
       → Shows old s (within boot parts image []) → bytes ≡ image_held s boot image)
   pub goes : (E : Setting) (s : State) (boot : ℕ) (parts : List Staged) → E.layout ≡ old.fields.layout
       → image < length parts → Shows old s (within boot parts image [])
-      → Follows result E old new s (within boot parts image bytes)
+      → FollowsInStaging result E old new s (within boot parts image bytes)
 
 -- an image of which nothing was staged is committed with the bytes that it has in the bank that was started
 pub record CopiesImage (image : ℕ) (result : Result (Unit {0}) Stop) (old new : Moment) : Type 0 where
@@ -74,7 +74,7 @@ pub record CopiesImage (image : ℕ) (result : Result (Unit {0}) Stop) (old new 
       → slice_index_or parts image Nothing ≡ Nothing → Shows old s (between boot parts) → bytes ≡ image_held s boot image)
   pub goes : (E : Setting) (s : State) (boot : ℕ) (parts : List Staged) → E.layout ≡ old.fields.layout
       → image < length parts → slice_index_or parts image Nothing ≡ Nothing → Shows old s (between boot parts)
-      → Follows result E old new s (between boot (filled parts image bytes true))
+      → FollowsInStaging result E old new s (between boot (filled parts image bytes true))
 
 -- so each of the first images that isn't named
 pub record CopiesFirst (named : List Bool) (k : ℕ) (old new : Moment) : Type 0 where
@@ -85,7 +85,7 @@ pub record CopiesFirst (named : List Bool) (k : ℕ) (old new : Moment) : Type 0
       → (i : ℕ) → i < k → slice_index_or named i true ≡ false → bytes i ≡ image_held s boot i
   pub goes : (E : Setting) (s : State) (boot : ℕ) → E.layout ≡ old.fields.layout
       → Shows old s (between boot (replicate (length named) Nothing))
-      → Goes E (Ok tt) old new s [] (between boot (copied_first named k bytes))
+      → GoesByMoves E (Ok tt) old new s [] (between boot (copied_first named k bytes))
 
 -- and all of them
 pub record CopiesImages (named : List Bool) (result : Result (Unit {0}) Stop) (old new : Moment) : Type 0 where
@@ -97,7 +97,7 @@ pub record CopiesImages (named : List Bool) (result : Result (Unit {0}) Stop) (o
       → (i : ℕ) → i < length named → slice_index_or named i true ≡ false → bytes i ≡ image_held s boot i)
   pub goes : (E : Setting) (s : State) (boot : ℕ) → E.layout ≡ old.fields.layout
       → Shows old s (between boot (replicate (length named) Nothing))
-      → Follows result E old new s (between boot (copied_first named (length named) bytes))
+      → FollowsInStaging result E old new s (between boot (copied_first named (length named) bytes))
 
 -- What the copies leave at any exit: the metadata that is kept, the trials, and on a flash that tells its content all beside the
 -- update bank.

@@ -7,7 +7,7 @@ use Rattle.fwu_formats.specs.Metadata.{bit_at}
 use Rattle.fwu_model.specs.MoveMetas.{meta_after}
 use Rattle.fwu_model.specs.State.{Accept}
 use Rattle.replicas.specs.Stores.{Stores}
-use Rattle.slot_writer.specs.Slots.{Appends, Finishes, done_of, kept_of}
+use Rattle.slot_writer.specs.Slots.{Appends, FinishesImage, done_of, kept_of}
 use Rattle.slot_writer.specs.Writes.{SpendsArming, writes_to_append, writes_to_finish}
 use Rattle.agent_kept.specs.declared.kinds.Plan.TheVariants as plan
 use Rattle.agent_kept.specs.Kept.{AppendsPart, part_at, size_of}
@@ -44,7 +44,7 @@ pub record AppendsImage {D : Type 0} (g : Ghosts D) (image : ℕ) (bytes : List 
 -- A staged image was ended.
 pub record EndsImage {D : Type 0} (g : Ghosts D) (image : ℕ) (result : Result (Unit {0}) Stop) (old new : Snapshot D) : Type 0 where
   -- On any flash that tells its content, sound or not: 0xFF stands behind it up to the block's end, and nothing else changes.
-  pub ends : IsTrue g.tells → Finishes (flash_result result) (start old.fields.layout (target old.fields) image)
+  pub ends : IsTrue g.tells → FinishesImage (flash_result result) (start old.fields.layout (target old.fields) image)
       (size_of (part_at old.fields.session image)) (rest_of old.fields image) (g.told old.device) (g.told new.device)
   -- on every device: what it takes to end an image of its size
   pub spent : SpendsArming (flash_result result) (writes_to_finish (size_of (part_at old.fields.session image)))

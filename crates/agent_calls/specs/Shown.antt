@@ -8,7 +8,7 @@ use Rattle.fwu_model.specs.Reply.{Reply, Success}
 use Rattle.agent_kept.specs.declared.kinds.Decision.{Decision}
 use Rattle.agent_kept.specs.declared.kinds.Request.{Request}
 use Rattle.agent_kept.specs.Kept.{kept}
-use Rattle.agent_state.specs.Decides.{Decides}
+use Rattle.agent_state.specs.Decides.{DecidesRequest}
 use Rattle.agent_calls.specs.declared.agent.Agent.{Agent}
 use Rattle.agent_machine.specs.declared.stop.Stop.{Stop}
 use Rattle.agent_machine.specs.CallGoes.{AgentAt, CallGoes, Spent}
@@ -58,10 +58,11 @@ SpentBy {F = F} result old new = Spent F result new.gone old.flash new.flash
 
 -- this is decided of a request by what the agent keeps
 abbrev pub AgentDecides : {D : Type 0} {F : Ghosts D} → (List ℕ → Bool) → Request → Decision → Agent D F → Type 0
-AgentDecides passes r d a = Decides passes a.meta a.counter (kept a.session) a.boot r d
+AgentDecides passes r d a = DecidesRequest passes a.meta a.counter (kept a.session) a.boot r d
 
 -- what a call spends of an armed loss, by what the agent shows before it
-abbrev pub AgentTakes : {D : Type 0} {F : Ghosts D} → (Moment → Option Arming → Option Arming → Type 0) → (old new : Agent D F) → Type 0
+abbrev pub AgentTakes : {D : Type 0} {F : Ghosts D} → (Moment → Option Arming → Option Arming → Type 0) → (old new : Agent D F)
+    → Type 0
 AgentTakes {F = F} T old new = T (moment old) (F.arming old.flash) (F.arming new.flash)
 
 -- An answer stored the metadata, or has it as it was and wrote nothing.
@@ -70,7 +71,8 @@ SpendsStore {F = F} result old new = OnOk result (TakesStore old.meta new.meta (
 
 -- Of an agent that isn't gone: an answer or a refusal of a call is that of each machine that the agent shows.
 abbrev pub AgentMeets : {D T : Type 0} {F : Ghosts D} → (T → Reply → Type 0) → Result T Stop → Call → (old new : Agent D F) → Type 0
-AgentMeets Says result c old new = IsFalse old.gone → (passes : List ℕ → Bool) → Meets Says result passes c (moment old) (moment new)
+AgentMeets Says result c old new = IsFalse old.gone → (passes : List ℕ → Bool)
+    → Meets Says result passes c (moment old) (moment new)
 
 -- The answer tells nothing but that the call was done.
 abbrev pub MeetsDone : {D : Type 0} {F : Ghosts D} → Result (Unit {0}) Stop → Call → Agent D F → Agent D F → Type 0

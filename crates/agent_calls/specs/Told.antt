@@ -12,5 +12,5 @@ abbrev pub state_kept : Fields → AgentState
 state_kept f = if f.session.staging then Staging else if is_valid (state_at f.meta.meta f.meta.meta.active) then Trial else Regular
 
 -- the version 1.0, and the numbers of the ten functions
-abbrev pub HasNumbers : Discovery → Type 0
-HasNumbers d = (d.major ≡ 1) × (d.minor ≡ 0) × (d.functions ≡ 0 ∷ 16 ∷ 17 ∷ 18 ∷ 19 ∷ 20 ∷ 21 ∷ 22 ∷ 23 ∷ 24 ∷ [])
+abbrev pub HasFunctionNumbers : Discovery → Type 0
+HasFunctionNumbers d = (d.major ≡ 1) × (d.minor ≡ 0) × (d.functions ≡ 0 ∷ 16 ∷ 17 ∷ 18 ∷ 19 ∷ 20 ∷ 21 ∷ 22 ∷ 23 ∷ 24 ∷ [])

@@ -67,7 +67,7 @@ pub(crate) fn stopped(stop: FlashStop) -> Stop
 impl<D: Flash> Agent<D> {
     ghost use Rattle.std.specs.Prelude.{ℕ, ◌<◌, Bool, List, []};
     ghost use Rattle.agent_state.specs.Settles.{IsPlanOf};
-    ghost use Rattle.agent_machine.specs.Asks.{IsPlain, IsQuiet, PlansAs, IsPlannedIn};
+    ghost use Rattle.agent_machine.specs.Asks.{AsksNoVerifier, IsQuietPlan, PlansAs, IsPlannedIn};
     ghost use Rattle.agent_machine.specs.Fields.{target};
     ghost use Rattle.agent_calls.specs.Asked.{IsPlannedFor};
     ghost use Rattle.agent_machine.specs.Carries.{MayKeep, CarriedOut};
@@ -77,7 +77,7 @@ impl<D: Flash> Agent<D> {
     /// What is decided of a request that asks no verifier.
     pub(crate) fn plan(&self, request: &Request) -> Result<Plan, Status>
         requires here { IsFalse (gone self.now) }
-        requires plain { IsPlain request.now }
+        requires plain { AsksNoVerifier request.now }
         ensures plans { (passes : List ℕ → Bool) → PlansAs passes (fields self.now) request.now result }
         ensures of { IsPlannedIn (fields self.now) result }
         ensures asked { IsPlannedFor (fields self.now) request.now result }
@@ -111,7 +111,7 @@ impl<D: Flash> Agent<D> {
     pub(crate) fn keep(&mut self, plan: &Plan)
         requires here { IsFalse (gone self.old) }
         requires plan { IsPlanOf (kept self.old.session) plan.now }
-        requires quiet { IsQuiet plan.now }
+        requires quiet { IsQuietPlan plan.now }
         requires may { MayKeep D.tells (fields self.old) plan.now }
         ensures carried { CarriedOut plan.now [] (moment self.old) (moment self.new) }
         ensures device { device self.new ≡ device self.old }

@@ -3,7 +3,7 @@ ghost use Rattle.flash_core.specs.Calls.{Reads};
 ghost use Rattle.std.specs.Prelude.{◌≡◌, ◌<◌, ◌≤◌, ◌&&◌, ℕ, Bool, List, length, IfOk, IsTrue, IsFalse};
 ghost use Rattle.fwu_model.specs.State.{is_valid, is_accepted};
 ghost use Rattle.image_check.specs.Verdict.{verdict_on};
-ghost use Rattle.image_check.specs.Law.{may_start};
+ghost use Rattle.image_check.specs.Law.{verdict_may_start};
 ghost use Rattle.agent_kept.specs.declared.kinds.Request.TheVariants as request;
 ghost use Rattle.agent_kept.specs.Kept.{kept};
 ghost use Rattle.agent_state.specs.Asked.{IsFor};
@@ -56,7 +56,7 @@ fn may_try(meta: &Meta, session: &Session, boot: u32) -> bool
 }
 
 fn is_good(verdict: Verdict) -> bool
-    ensures { result ≡ may_start verdict }
+    ensures { result ≡ verdict_may_start verdict }
 {
     match verdict {
         Verdict::Good { .. } => true,
@@ -78,7 +78,7 @@ fn is_bank_good<D: Flash, V: Verifier>(
     verifier: &V,
 ) -> Result<bool, FlashStop>
     requires { HoldsBank D.Flash flash.old layout.now bank }
-    ensures good { IfOk result (λ good. IsTrue D.tells → good ≡ may_start
+    ensures good { IfOk result (λ good. IsTrue D.tells → good ≡ verdict_may_start
         (verdict_on (V.passes verifier.now) counter layout.now (D.told flash.old).now bank)) }
     ensures passed { IfOk result (λ good. IsTrue good →
         SomePassed (V.passes verifier.now) layout.now.rows counter) }

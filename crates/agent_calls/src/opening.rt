@@ -11,7 +11,7 @@ impl<D: Flash> Agent<D> {
     ghost use Rattle.fwu_formats.specs.Layout.{find_image};
     ghost use Rattle.fwu_model.specs.Reply as reply;
     ghost use Rattle.agent_kept.specs.Plans.{call_of};
-    ghost use Rattle.agent_machine.specs.Fields.{total_of, IsThere};
+    ghost use Rattle.agent_machine.specs.Fields.{total_of, IsImageOrDirectory};
     ghost use Rattle.agent_machine.specs.Meets.{IsStopped, IsRefused};
     ghost use Rattle.agent_calls.specs.Records.{KeepsRests};
     ghost use Rattle.agent_calls.specs.Shown.{AgentGoes, AgentMeets, device, fields};
@@ -19,7 +19,7 @@ impl<D: Flash> Agent<D> {
     /// The image of a type.
     fn find(&self, guid: &Guid) -> Option<u32>
         ensures value { result ≡ find_image (fields self.now).layout.rows guid.now }
-        ensures there { IsThere (fields self.now) result }
+        ensures there { IsImageOrDirectory (fields self.now) result }
     {
         self.layout.find(guid)
     }
@@ -27,7 +27,7 @@ impl<D: Flash> Agent<D> {
     /// How many bytes there are in all: of the directory, or of an image of the bank that was
     /// started.
     fn total(&self, image: Option<u32>) -> u32
-        requires { IsThere (fields self.now) image }
+        requires { IsImageOrDirectory (fields self.now) image }
         ensures { result ≡ total_of (fields self.now) image }
     {
         let images = self.layout.rows().len();

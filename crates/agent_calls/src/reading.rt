@@ -70,7 +70,7 @@ impl<D: Flash> Agent<D> {
     ghost use Rattle.fwu_model.specs.Call as call;
     ghost use Rattle.agent_kept.specs.declared.parts.Handle.TheVariants as handle;
     ghost use Rattle.agent_kept.specs.Kept.{handle_kept};
-    ghost use Rattle.agent_machine.specs.Fields.{total_of, IsThere};
+    ghost use Rattle.agent_machine.specs.Fields.{total_of, IsImageOrDirectory};
     ghost use Rattle.agent_machine.specs.Meets.{IsGot, IsRefused, flash_result};
     ghost use Rattle.agent_calls.specs.Records.{KeepsRests, ReadsAlone};
     ghost use Rattle.agent_calls.specs.Shown.{AgentGoes, AgentMeets, device, fields, gone};
@@ -84,7 +84,7 @@ impl<D: Flash> Agent<D> {
         out: &mut [u8],
     ) -> Result<(), FlashStop>
         requires here { IsFalse (gone self.old) }
-        requires there { IsThere (fields self.old) image }
+        requires there { IsImageOrDirectory (fields self.old) image }
         requires within { at + length out.old ≤ total_of (fields self.old) image }
         ensures bytes { OnOk result (IsTrue D.tells → let f = fields self.old in
             out.new ≡ piece_of f.layout f.meta.meta f.boot f.lengths (D.told (device self.old)).now

@@ -14,7 +14,7 @@ ghost use Rattle.fwu_model.specs.Calm.{IsCalm};
 ghost use Rattle.moves.specs.Moved.{IsReady, IsShown};
 ghost use Rattle.agent_machine.specs.Moment.{Showing, Shows};
 ghost use Rattle.agent_calls.specs.Shown.{AgentGoes, fields, device, gone, moment};
-ghost use Rattle.agent_calls.specs.Told.{HasNumbers, state_kept};
+ghost use Rattle.agent_calls.specs.Told.{HasFunctionNumbers, state_kept};
 
 use crate::agent::Agent;
 use agent_machine::Stop;
@@ -71,7 +71,7 @@ impl<D: Flash> Agent<D> {
             (moment self.now) (moment self.now) }
         ensures goes { AgentGoes result self.now self.now }
         ensures answers { IsFalse (gone self.now) → IsOk result }
-        ensures numbers { IfOk result HasNumbers }
+        ensures numbers { IfOk result HasFunctionNumbers }
     {
         if self.gone {
             return Err(Stop::Gone);

@@ -11,7 +11,7 @@ use Rattle.fwu_formats.specs.Layout.{ImageRow}
 use Rattle.fwu_formats.specs.Manifest.{manifest_size}
 use Rattle.agent_kept.specs.declared.parts.Part.{Part}
 use Rattle.agent_kept.specs.declared.parts.Part.TheVariants.{Nothing, Open, Committed}
-use Rattle.agent_kept.specs.Kept.{Kept, IsKept, part_at, size_of, GrowsPart, AppendsPart, OpensPart, CommitsPart, IsNew, CommitsTo, Restarts}
+use Rattle.agent_kept.specs.Kept.{Kept, IsKept, part_at, size_of, GrowsPart, AppendsPart, OpensPart, CommitsPart, IsNewPart, CommitsTo, Restarts}
 use Rattle.agent_kept.specs.Fronts.{FrontGrows}
 
 -- the front that is kept, by its parts
@@ -107,12 +107,12 @@ kept-opened k new image place staged after is opens none same =
       | inr ne ↦ front-other k new image staged after is opens.rows opens.others same (part_at new image) refl (fits (part_at new image) opens.part) ne opens.front
     ])
   where
-    empty : (p : Part) → IsNew p → size_of p ≡ 0
+    empty : (p : Part) → IsNewPart p → size_of p ≡ 0
     empty Nothing it = absurd it
     empty (Open size hasher) it = it.0
     empty (Committed size digest bit) it = absurd it
 
-    fits : (p : Part) → IsNew p → FitsPart p (after image)
+    fits : (p : Part) → IsNewPart p → FitsPart p (after image)
     fits Nothing it = absurd it
     fits (Open size hasher) it = subst (λ (l : List ℕ). (size ≡ length l) × ∥ Holds256 hasher l ∥₁) (sym none) (it.0, ∣ it.1 ∣₁)
     fits (Committed size digest bit) it = absurd it

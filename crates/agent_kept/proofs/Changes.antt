@@ -7,7 +7,7 @@ use Rattle.agent_kept.specs.declared.parts.Part.TheVariants.{Nothing, Open, Comm
 use Rattle.agent_kept.specs.declared.parts.Handle.{Handle}
 use Rattle.agent_kept.specs.declared.parts.Handle.TheVariants.{Free, Reads, Writes}
 use Rattle.agent_kept.specs.Handles.{is_writer_kept}
-use Rattle.agent_kept.specs.Sound.{size_of, is_part_open, slot_of, IsSound, CommitsTo}
+use Rattle.agent_kept.specs.Sound.{size_of, is_part_open, slot_room_of, IsSoundKept, CommitsTo}
 
 -- what a handle writes is told by it
 same-writer : (a b : ℕ) → Writes a ≡ Writes b → a ≡ b
@@ -35,14 +35,14 @@ module _ (handles : List Handle) (place : ℕ) (h : Handle) (below : place < len
   ]
 
   -- a handle that writes nothing
-  module _ (staging : Bool) (rows : List ImageRow) (parts : List Part) (reads : is_writer_kept h ≡ false) (ends : (image : Option ℕ) (at total : ℕ) → h ≡ Reads image at total → at ≤ total) (sound : IsSound staging rows parts handles) where
+  module _ (staging : Bool) (rows : List ImageRow) (parts : List Part) (reads : is_writer_kept h ≡ false) (ends : (image : Option ℕ) (at total : ℕ) → h ≡ Reads image at total → at ≤ total) (sound : IsSoundKept staging rows parts handles) where
     was : (other image : ℕ) → get_or changed other Free ≡ Writes image → get_or handles other Free ≡ Writes image
     was other image e = elim (writer-was other image e) [
       | inl new ↦ absurd (false≢true (sym reads ∙ ap is_writer_kept new.1))
       | inr old ↦ old.1
     ]
 
-    pub handle-sound : IsSound staging rows parts changed
+    pub handle-sound : IsSoundKept staging rows parts changed
     handle-sound = record {
       few = sound.few;
       slots = sound.slots;
@@ -59,7 +59,7 @@ module _ (handles : List Handle) (place : ℕ) (h : Handle) (below : place < len
 
 -- an image that was not open is opened, and a handle writes it
 module _ (handles : List Handle) (place : ℕ) (below : place < length handles) (rows : List ImageRow) (parts : List Part) (image : ℕ) (p : Part) (within : image < length rows) (room : image < length parts)
-    (closed : is_part_open (get_or parts image Nothing) ≡ false) (opens : is_part_open p ≡ true) (empty : size_of p ≡ 0) (staging : Bool) (on : staging ≡ true) (sound : IsSound staging rows parts handles) where
+    (closed : is_part_open (get_or parts image Nothing) ≡ false) (opens : is_part_open p ≡ true) (empty : size_of p ≡ 0) (staging : Bool) (on : staging ≡ true) (sound : IsSoundKept staging rows parts handles) where
   abbrev opened : List Part
   opened = set parts image p
 
@@ -84,13 +84,13 @@ module _ (handles : List Handle) (place : ℕ) (below : place < length handles) 
     ]
   ]
 
-  pub open-sound : IsSound staging rows opened (set handles place (Writes image))
+  pub open-sound : IsSoundKept staging rows opened (set handles place (Writes image))
   open-sound = record {
     few = sound.few;
     slots = sound.slots;
     sizes = λ i lt. elim (cases_eq i image) [
-      | inl same ↦ subst (λ (n : ℕ). n ≤ slot_of rows i) (sym (ap (λ (j : ℕ). size_of (get_or opened j Nothing)) same ∙ ap size_of part-here ∙ empty)) (omega arith)
-      | inr ne ↦ subst (λ (q : Part). size_of q ≤ slot_of rows i) (sym (part-there i ne)) (sound.sizes i lt)
+      | inl same ↦ subst (λ (n : ℕ). n ≤ slot_room_of rows i) (sym (ap (λ (j : ℕ). size_of (get_or opened j Nothing)) same ∙ ap size_of part-here ∙ empty)) (omega arith)
+      | inr ne ↦ subst (λ (q : Part). size_of q ≤ slot_room_of rows i) (sym (part-there i ne)) (sound.sizes i lt)
     ];
     within = λ other i e. elim (writer-was handles place (Writes image) below other i e) [
       | inl new ↦ subst (λ (j : ℕ). j < length rows) (same-writer image i new.1) within
@@ -113,7 +113,7 @@ module _ (handles : List Handle) (place : ℕ) (below : place < length handles) 
 
 -- an image is committed, and the handle that wrote it is free
 module _ (handles : List Handle) (place : ℕ) (below : place < length handles) (staging : Bool) (rows : List ImageRow) (parts : List Part) (image : ℕ) (ended : List Part) (writes : get_or handles place Free ≡ Writes image)
-    (there-part : (i : ℕ) → i ≢ image → get_or ended i Nothing ≡ get_or parts i Nothing) (size : size_of (get_or ended image Nothing) ≡ size_of (get_or parts image Nothing)) (sound : IsSound staging rows parts handles) where
+    (there-part : (i : ℕ) → i ≢ image → get_or ended i Nothing ≡ get_or parts i Nothing) (size : size_of (get_or ended image Nothing) ≡ size_of (get_or parts image Nothing)) (sound : IsSoundKept staging rows parts handles) where
   free-was : (other i : ℕ) → get_or (set handles place Free) other Free ≡ Writes i → (other ≢ place) × (get_or handles other Free ≡ Writes i)
   free-was other i e = elim (writer-was handles place Free below other i e) [ inl new ↦ absurd (not-free i new.1) | inr old ↦ old ]
     where
@@ -124,14 +124,14 @@ module _ (handles : List Handle) (place : ℕ) (below : place < length handles) 
   other-image : (other i : ℕ) → (other ≢ place) × (get_or handles other Free ≡ Writes i) → i ≢ image
   other-image other i old same = old.0 (sound.alone other place i old.1 (writes ∙ ap Writes (sym same)))
 
-  pub commit-sound : IsSound staging rows ended (set handles place Free)
+  pub commit-sound : IsSoundKept staging rows ended (set handles place Free)
   commit-sound = record {
     few = sound.few;
     slots = sound.slots;
     sizes = λ i lt. elim (cases_eq i image) [
       | inl same ↦
-          subst (λ (n : ℕ). n ≤ slot_of rows i) (sym (ap (λ (j : ℕ). size_of (get_or ended j Nothing)) same ∙ size ∙ ap (λ (j : ℕ). size_of (get_or parts j Nothing)) (sym same))) (sound.sizes i lt)
-      | inr ne ↦ subst (λ (q : Part). size_of q ≤ slot_of rows i) (sym (there-part i ne)) (sound.sizes i lt)
+          subst (λ (n : ℕ). n ≤ slot_room_of rows i) (sym (ap (λ (j : ℕ). size_of (get_or ended j Nothing)) same ∙ size ∙ ap (λ (j : ℕ). size_of (get_or parts j Nothing)) (sym same))) (sound.sizes i lt)
+      | inr ne ↦ subst (λ (q : Part). size_of q ≤ slot_room_of rows i) (sym (there-part i ne)) (sound.sizes i lt)
     ];
     within = λ other i e. sound.within other i (free-was other i e).1;
     opened = λ other i e. ap is_part_open (there-part i (other-image other i (free-was other i e))) ∙ sound.opened other i (free-was other i e).1;

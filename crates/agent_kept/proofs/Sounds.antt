@@ -10,10 +10,7 @@ use Rattle.agent_kept.specs.declared.parts.Part.{Part}
 use Rattle.agent_kept.specs.declared.parts.Part.TheVariants.{Nothing}
 use Rattle.agent_kept.specs.declared.parts.Handle.{Handle}
 use Rattle.agent_kept.specs.declared.parts.Handle.TheVariants.{Free, Reads, Writes}
-use Rattle.agent_kept.specs.Sound.{size_of, slot_of, IsSound}
-
-free-no-writer : (h : Handle) (image : ℕ) → h ≡ Free → h ≡ Writes image → Unit {0}
-free-no-writer h image a b = tt
+use Rattle.agent_kept.specs.Sound.{size_of, slot_room_of, IsSoundKept}
 
 pub not-free-writes : (image : ℕ) → Free ≡ Writes image → ⊥
 not-free-writes image e = cc
@@ -21,8 +18,8 @@ not-free-writes image e = cc
 pub not-free-reads : (image : Option ℕ) (at total : ℕ) → Free ≡ Reads image at total → ⊥
 not-free-reads image at total e = cc
 
-pub new-sound : (staging : Bool) (rows : List ImageRow) (parts : List Part) (handles : List Handle) → length rows ≤ 16 → ((image : ℕ) → slot_of rows image ≤ 1048576)
-    → ((image : ℕ) → get_or parts image Nothing ≡ Nothing) → ((place : ℕ) → get_or handles place Free ≡ Free) → IsSound staging rows parts handles
+pub new-sound : (staging : Bool) (rows : List ImageRow) (parts : List Part) (handles : List Handle) → length rows ≤ 16 → ((image : ℕ) → slot_room_of rows image ≤ 1048576)
+    → ((image : ℕ) → get_or parts image Nothing ≡ Nothing) → ((place : ℕ) → get_or handles place Free ≡ Free) → IsSoundKept staging rows parts handles
 new-sound staging rows parts handles few slots nothing free = record {
   few = few;
   slots = slots;

@@ -17,7 +17,7 @@ use Rattle.agent_kept.specs.declared.parts.Handle.{Handle}
 use Rattle.agent_kept.specs.declared.parts.Handle.TheVariants.{Free, Reads, Writes}
 use Rattle.agent_kept.specs.declared.session.Session.{Session}
 pub use Rattle.agent_kept.specs.Handles.{is_free_kept, is_writer_kept}
-pub use Rattle.agent_kept.specs.Sound.{size_of, is_part_open, slot_of, IsSound, CommitsTo}
+pub use Rattle.agent_kept.specs.Sound.{size_of, is_part_open, slot_room_of, IsSoundKept, CommitsTo}
 
 pub record Kept : Type 0 where
   pub rows : List ImageRow
@@ -63,14 +63,14 @@ pub record SameBesideParts (old new : Kept) : Type 0 where
   pub handles : new.handles ≡ old.handles
 
 -- an image without bytes
-abbrev pub IsNew : Part → Type 0
-IsNew Nothing = ⊥
-IsNew (Open size hasher) = (size ≡ 0) × Holds256 hasher []
-IsNew (Committed size digest bit) = ⊥
+abbrev pub IsNewPart : Part → Type 0
+IsNewPart Nothing = ⊥
+IsNewPart (Open size hasher) = (size ≡ 0) × Holds256 hasher []
+IsNewPart (Committed size digest bit) = ⊥
 
 -- an image is open, without bytes, and the handle at a place writes it; all else is the same
 pub record OpensPart (old : Kept) (image place : ℕ) (new : Kept) : Type 0 where
-  pub part : IsNew (part_at new image)
+  pub part : IsNewPart (part_at new image)
   pub others : (other : ℕ) → other ≢ image → part_at new other ≡ part_at old other
   pub handles : new.handles ≡ slice_set old.handles place (Writes image)
   pub rows : new.rows ≡ old.rows
@@ -136,8 +136,8 @@ session_meant k boot bytes = machine.On boot (staging_meant k bytes) (handles_me
 -- ---- what is kept fits the bytes
 
 -- of image 0 the bytes that a manifest would have, as far as they were written
-abbrev pub IsFrontOf : ℕ → List ℕ → List ℕ → Type 0
-IsFrontOf most front bytes = take (min most (length bytes)) front ≡ take most bytes
+abbrev pub IsManifestFront : ℕ → List ℕ → List ℕ → Type 0
+IsManifestFront most front bytes = take (min most (length bytes)) front ≡ take most bytes
 
 pub record IsKept (k : Kept) (bytes : ℕ → List ℕ) : Type 0 where
   -- of an open image the length, and the hash so far
@@ -146,7 +146,7 @@ pub record IsKept (k : Kept) (bytes : ℕ → List ℕ) : Type 0 where
   -- of a committed one the length and the digest
   pub committed : (i size : ℕ) (digest : List ℕ) (bit : Bool) → i < length k.rows → part_at k i ≡ Committed size digest bit
       → (size ≡ length (bytes i)) × (digest ≡ sha256 (bytes i))
-  pub front : IsFrontOf (manifest_size (length k.rows - 1)) k.front (take (size_of (part_at k 0)) (bytes 0))
+  pub front : IsManifestFront (manifest_size (length k.rows - 1)) k.front (take (size_of (part_at k 0)) (bytes 0))
 
 -- each reader has the total of what it reads, and is within it
 pub record HasTotals (E : Setting) (s : State) (boot : ℕ) (k : Kept) : Type 0 where

@@ -30,14 +30,14 @@ CommitsTo Nothing new bit = new ≡ Nothing
 CommitsTo (Committed size digest b) new bit = new ≡ Committed size digest b
 
 -- the bytes that an image's slot has room for
-abbrev pub slot_of : List ImageRow → ℕ → ℕ
-slot_of rows image = block_bytes * (slice_index_or rows image (record { guid = []; slots = 0 })).slots
+abbrev pub slot_room_of : List ImageRow → ℕ → ℕ
+slot_room_of rows image = block_bytes * (slice_index_or rows image (record { guid = []; slots = 0 })).slots
 
-pub record IsSound (staging : Bool) (rows : List ImageRow) (parts : List Part) (handles : List Handle) : Type 0 where
+pub record IsSoundKept (staging : Bool) (rows : List ImageRow) (parts : List Part) (handles : List Handle) : Type 0 where
   pub few : length rows ≤ 16
   -- a slot has at most 256 blocks, and no image is longer than its slot
-  pub slots : (image : ℕ) → slot_of rows image ≤ 1048576
-  pub sizes : (image : ℕ) → image < length rows → size_of (slice_index_or parts image Nothing) ≤ slot_of rows image
+  pub slots : (image : ℕ) → slot_room_of rows image ≤ 1048576
+  pub sizes : (image : ℕ) → image < length rows → size_of (slice_index_or parts image Nothing) ≤ slot_room_of rows image
   -- what a handle writes is an open image, and no other handle writes it
   pub within : (place image : ℕ) → slice_index_or handles place Free ≡ Writes image → image < length rows
   pub opened : (place image : ℕ) → slice_index_or handles place Free ≡ Writes image

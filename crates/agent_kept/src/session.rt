@@ -1,7 +1,7 @@
 //! What an agent keeps between its calls.
 ghost use Rattle.std.specs.Prelude.{◌≡◌, ◌+◌, ◌<◌, ◌≤◌, ◌++◌, ℕ, length, take, slice_index_or};
 ghost use Rattle.manifest_core.specs.Sizes.{most_manifest_bytes};
-ghost use Rattle.agent_kept.specs.Sound.{IsSound};
+ghost use Rattle.agent_kept.specs.Sound.{IsSoundKept};
 ghost use Rattle.agent_kept.specs.Fronts.{FrontGrows};
 
 use crate::parts::{Handle, Part};
@@ -23,7 +23,7 @@ pub struct Session {
     front: [u8; MOST_MANIFEST_BYTES],
     handles: [Handle; 32],
     ghost few: { images ≤ 16 },
-    ghost sound: { IsSound staging (take images rows) parts handles },
+    ghost sound: { IsSoundKept staging (take images rows) parts handles },
 }
 
 /// Puts bytes behind the first ones.
@@ -54,11 +54,11 @@ fn no_parts() -> [Part; 16]
 impl Session {
     ghost use Rattle.std.specs.Prelude.{replicate, slice_set, ◌≢◌, ◌+◌, IsTrue, ℕ, ◌-◌, List, Option, Some, None, false, true, length, take, slice_index_or, IfSome};
     ghost use Rattle.fwu_formats.specs.Layout.{find_image};
-    ghost use Rattle.agent_kept.specs.Kept.{kept, part_at, handle_kept, is_free_kept, HasNothing, size_of, committed_size, is_part_open, slot_of, IsSound, AppendsPart, Restarts, with_handle, OpensPart, CommitsPart};
+    ghost use Rattle.agent_kept.specs.Kept.{kept, part_at, handle_kept, is_free_kept, HasNothing, size_of, committed_size, is_part_open, slot_room_of, IsSoundKept, AppendsPart, Restarts, with_handle, OpensPart, CommitsPart};
     /// Nothing is staged of the images of a layout, and no handle is open.
     pub fn new(rows: &[ImageRow]) -> Session
         requires few { length rows.now ≤ 16 }
-        requires slots { (image : ℕ) → slot_of rows.now image ≤ 1048576 }
+        requires slots { (image : ℕ) → slot_room_of rows.now image ≤ 1048576 }
         ensures rows { (kept result).rows ≡ rows.now }
         ensures nothing { HasNothing (kept result) }
         ensures idle { (kept result).staging ≡ false }
@@ -158,7 +158,7 @@ impl Session {
         requires within { image < length (kept self.old).rows }
         requires opened { IsTrue (is_part_open (part_at (kept self.old) image)) }
         requires size { size_of (part_at (kept self.old) image) + length bytes.now
-            ≤ slot_of (kept self.old).rows image }
+            ≤ slot_room_of (kept self.old).rows image }
         ensures appends { AppendsPart (kept self.old) image bytes.now (kept self.new) }
     {
         if image == 0 {
@@ -233,7 +233,7 @@ impl Session {
     /// How many bytes an image has room for.
     pub fn slot(&self, image: usize) -> u32
         requires { image < length (kept self.now).rows }
-        ensures { result ≡ slot_of (kept self.now).rows image }
+        ensures { result ≡ slot_room_of (kept self.now).rows image }
     {
         BLOCK_BYTES * self.rows[image].slots
     }

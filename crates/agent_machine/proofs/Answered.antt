@@ -35,21 +35,21 @@ use Rattle.agent_kept.specs.declared.kinds.Plan.TheVariants as plan
 use Rattle.agent_kept.specs.declared.kinds.Decision.TheVariants as decision
 use Rattle.agent_kept.specs.Kept.{Kept, IsKept, HasTotals, size_of, part_at, handle_kept, part_meant, handles_meant, staging_meant, session_meant}
 use Rattle.agent_kept.specs.Plans.{call_of, planned, planned_in, SpeaksWhole, loosely, FitsRequest}
-use Rattle.agent_state.specs.Decides.{Decides}
+use Rattle.agent_state.specs.Decides.{DecidesRequest}
 use Rattle.agent_state.specs.Settles.{SettlesIn, staged_after}
 use Rattle.agent_machine.specs.Deciding.{KeepsOldOrNew}
 use Rattle.agent_machine.proofs.Deciding.{decides-same}
 use Rattle.agent_machine.specs.declared.stop.Stop.{Stop}
 use Rattle.agent_machine.specs.declared.stop.Stop.TheVariants as stop
 use Rattle.agent_machine.specs.Fields.{Fields, directory_size, total_of}
-pub use Rattle.agent_machine.specs.Fields.{IsThere}
+pub use Rattle.agent_machine.specs.Fields.{IsImageOrDirectory}
 use Rattle.agent_machine.specs.Machine.{state_in, session_in, staged_bytes}
 use Rattle.agent_machine.specs.Knows.{Fitting, SessionSound, Knows}
 use Rattle.agent_machine.specs.Beside.{IsSpared, KeepsSpared}
 use Rattle.agent_machine.proofs.Beside.{spared-same}
 use Rattle.agent_machine.specs.Moment.{Moment, SpeaksOf, Shows}
 pub use Rattle.agent_machine.specs.Carries.{MeansSame, planned_moves, SameBeside, state_before, staging_before, CarriedOut}
-use Rattle.agent_machine.specs.Meets.{IsSettingOf, IsStopped, Stays, Leaves, Meets, GoesBy, flash_result}
+use Rattle.agent_machine.specs.Meets.{IsSettingOf, IsStopped, Stays, LeavesFlash, Meets, GoesBy, flash_result}
 
 -- ---- how many bytes there are to read
 
@@ -89,7 +89,7 @@ directory-total E s boot fits =
 
 -- what is read has the total that the fields say
 pub content-total : (f : Fields) (E : Setting) (s : State) → IsTrue (fits_layout f.layout) → E.layout ≡ f.layout → SpeaksOf f s → (image : Option ℕ)
-    → IsThere f image → length (content E s f.boot image) ≡ total_of f image
+    → IsImageOrDirectory f image → length (content E s f.boot image) ≡ total_of f image
 content-total f E s fits same speaks None there =
     directory-total E s f.boot (subst (λ (L : Layout). IsTrue (fits_layout L)) (sym same) fits) ∙ ap (λ (L : Layout). directory_size (length L.rows)) same
 content-total f E s fits same speaks (Some image) there =
@@ -118,7 +118,7 @@ layout-limits L h =
 -- ---- the machines that are spoken of
 
 module _ (f : Fields) (fitting : Fitting f) (sound : SessionSound f) where
-  reader-there : (place : ℕ) (image : Option ℕ) (at total : ℕ) → handle_kept f.session place ≡ Reads image at total → IsThere f image
+  reader-there : (place : ℕ) (image : Option ℕ) (at total : ℕ) → handle_kept f.session place ≡ Reads image at total → IsImageOrDirectory f image
   reader-there place None at total is = tt
   reader-there place (Some image) at total is = fitting.readable place image at total is
 
@@ -152,7 +152,7 @@ stays-same m = record { tells = refl; layout = refl; boot = refl; counter = refl
 
 -- an answer without moves, on a flash that stays
 pub leaves-nothing : (m : Moment) (passes : List ℕ → Bool) (c : Call)
-    → ((E : Setting) (s : State) (x : Session) → IsSettingOf m.fields passes E → Shows m s x → (answer E s x c).moves ≡ []) → Leaves (Ok tt) passes c m m
+    → ((E : Setting) (s : State) (x : Session) → IsSettingOf m.fields passes E → Shows m s x → (answer E s x c).moves ≡ []) → LeavesFlash (Ok tt) passes c m m
 leaves-nothing m passes c none = record {
   does = λ E s x setting shows tells ready. subst (λ (ms : List Move). Does {T = Unit {0}} (Ok tt) E s ms m.told) (sym (none E s x setting shows))
       (does-nothing {T = Unit {0}} (Ok tt) E s m.told ready);
@@ -170,7 +170,7 @@ module _ (m : Moment) (fitting : Fitting m.fields) (sound : SessionSound m.field
   abbrev c : Call
   c = call_of r bytes
 
-  module _ (st : Status) (decides : Decides passes f.meta f.counter f.session f.boot r (decision.Refused st)) where
+  module _ (st : Status) (decides : DecidesRequest passes f.meta f.counter f.session f.boot r (decision.Refused st)) where
     pub refused-is : (E : Setting) (s : State) (x : Session) → IsSettingOf f passes E → Shows m s x → answer E s x c ≡ refused st x
     refused-is E s x setting shows =
         subst (λ (y : Session). answer E s y c ≡ refused st y) (sym shows.means)
@@ -256,7 +256,7 @@ planned-form s stg plan.Back = refl
 
 module _ (old new : Moment) (fitting : Fitting old.fields) (sound : SessionSound old.fields) (knows : IsTrue old.tells → Knows old.fields old.told)
     (passes : List ℕ → Bool) (r : Request) (bytes : List ℕ) (fits : FitsEach old.fields passes r bytes)
-    (p : Plan) (decides : Decides passes old.fields.meta old.fields.counter old.fields.session old.fields.boot r (decision.Do p)) where
+    (p : Plan) (decides : DecidesRequest passes old.fields.meta old.fields.counter old.fields.session old.fields.boot r (decision.Do p)) where
   abbrev was : Fields
   was = old.fields
 
@@ -292,7 +292,7 @@ module _ (old new : Moment) (fitting : Fitting old.fields) (sound : SessionSound
       → Does result E (state_before old) (planned_moves (state_before old) (staging_before old) p) new.told)
       → (IsTrue old.tells → IsAtRest old.told → GuardedBy result new.told) → (IsTrue old.tells → KeepsSpared was old.told new.told)
       → (IsTrue old.tells → KeepsOldOrNew was.layout was.meta is.meta old.told new.told) → Stays old new
-      → Leaves result passes call old new
+      → LeavesFlash result passes call old new
   leaves-by result does guarded keeps decides stays = record {
     does = λ E s x setting shows tells ready.
         let here = (shows.told tells).0 in
@@ -306,11 +306,11 @@ module _ (old new : Moment) (fitting : Fitting old.fields) (sound : SessionSound
   }
 
   -- a call that the flash stopped
-  pub lost-meets : {T : Type 0} (Says : T → Reply → Type 0) → Leaves (Err flash_stop.Lost) passes call old new
+  pub lost-meets : {T : Type 0} (Says : T → Reply → Type 0) → LeavesFlash (Err flash_stop.Lost) passes call old new
       → Meets {T = T} Says (Err stop.Lost) passes call old new
   lost-meets Says leaves = record { exact = λ E s x setting shows. tt; leaves = leaves }
 
-  pub fault-meets : {T : Type 0} (Says : T → Reply → Type 0) → Leaves (Err flash_stop.Failed) passes call old new
+  pub fault-meets : {T : Type 0} (Says : T → Reply → Type 0) → LeavesFlash (Err flash_stop.Failed) passes call old new
       → Meets {T = T} Says (Err stop.Fault) passes call old new
   fault-meets Says leaves = record { exact = λ E s x setting shows. tt; leaves = leaves }
 
@@ -385,7 +385,7 @@ module _ (old new : Moment) (fitting : Fitting old.fields) (sound : SessionSound
     -- a call that is done
     pub done-meets : {T : Type 0} (Says : T → Reply → Type 0) (value : T)
         → ((E : Setting) (s : State) (x : Session) → IsSettingOf was passes E → Shows old s x → Says value (planned_in E s x bytes p).reply)
-        → Leaves (Ok tt) passes call old new → Meets {T = T} Says (Ok value) passes call old new
+        → LeavesFlash (Ok tt) passes call old new → Meets {T = T} Says (Ok value) passes call old new
     done-meets Says value says leaves = record {
       exact = λ E s x setting shows.
           (subst (λ (a : Answer). Says value a.reply) (sym (planned-is E s x setting shows)) (says E s x setting shows), shows-next E s x setting shows);
@@ -395,7 +395,7 @@ module _ (old new : Moment) (fitting : Fitting old.fields) (sound : SessionSound
 -- ---- a call that the flash stopped
 
 pub stopped-meets : {T : Type 0} (Says : T → Reply → Type 0) (r : Stop) (passes : List ℕ → Bool) (c : Call) (old new : Moment) → IsStopped {T = T} (Err r)
-    → Leaves (flash_result {T = T} (Err r)) passes c old new → Meets {T = T} Says (Err r) passes c old new
+    → LeavesFlash (flash_result {T = T} (Err r)) passes c old new → Meets {T = T} Says (Err r) passes c old new
 stopped-meets Says (stop.Status refusal) passes c old new stopped leaves = absurd stopped
 stopped-meets Says stop.Lost passes c old new stopped leaves = record { exact = λ E s x setting shows. tt; leaves = leaves }
 stopped-meets Says stop.Fault passes c old new stopped leaves = record { exact = λ E s x setting shows. tt; leaves = leaves }

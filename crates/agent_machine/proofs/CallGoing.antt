@@ -13,8 +13,8 @@ use Rattle.agent_machine.proofs.Beside.{spared-once}
 use Rattle.agent_machine.specs.declared.stop.Stop.{Stop}
 use Rattle.agent_machine.specs.declared.stop.Stop.TheVariants as stop
 use Rattle.agent_machine.specs.Moment.{Moment, Shows}
-use Rattle.agent_machine.specs.Meets.{Meets, Answers, Replies, flash_result}
-use Rattle.agent_machine.specs.Goes.{Goes}
+use Rattle.agent_machine.specs.Meets.{Meets, Answers, RepliesByMachine, flash_result}
+use Rattle.agent_machine.specs.Goes.{GoesByMoves}
 
 -- the machine's reply, where the call was answered or refused
 abbrev pub reply_of : {T : Type 0} → (T → Reply) → Result T Stop → Option Reply
@@ -35,7 +35,7 @@ no-reply : (r : Reply) → ◌≡◌ {A = Option Reply} None (Some r) → ⊥
 no-reply r e = cc
 
 replied : {T : Type 0} (E : Setting) (of : T → Reply) (result : Result T Stop) (c : Call) (new : Moment) (s : State) (x : Session) (r : Reply)
-    → Answers (λ value a. a ≡ of value) result E s x c new → reply_of of result ≡ Some r → Replies E s x c new r
+    → Answers (λ value a. a ≡ of value) result E s x c new → reply_of of result ≡ Some r → RepliesByMachine E s x c new r
 replied E of (Ok v) c new s x r has is = record { reply_is = sym (some-is (of v) r is) ∙ sym has.0; shows = has.1 }
 replied E of (Err (stop.Status st)) c new s x r has is = record { reply_is = sym (some-is (Refused st) r is) ∙ sym has.0; shows = has.1 }
 replied E of (Err stop.Lost) c new s x r has is = absurd (no-reply r is)
@@ -55,7 +55,7 @@ call-replies E of result c old new s x layout shows meets r is = (replied E of r
 pub call-goes : {T : Type 0} (E : Setting) (of : T → Reply) (result : Result T Stop) (c : Call) (old new : Moment) (s : State) (x : Session)
     → E.layout ≡ old.fields.layout → Shows old s x
     → MeetsAs of result E.passes c old new → (r : Reply) → reply_of of result ≡ Some r
-    → Goes E (flash_result result) old new s (answer E s x c).moves (answer E s x c).next
+    → GoesByMoves E (flash_result result) old new s (answer E s x c).moves (answer E s x c).next
 call-goes E of result c old new s x layout shows meets r is = record {
   shows = on-ok (flash_result result) (replied E of result c new s x r (meets.exact E s x (record { layout = layout; verifier = refl }) shows) is).shows;
   does = λ tells ready. meets.leaves.does E s x (record { layout = layout; verifier = refl }) shows tells ready;
@@ -67,7 +67,7 @@ call-goes E of result c old new s x layout shows meets r is = record {
 pub call-stopped : {T : Type 0} (E : Setting) (of : T → Reply) (result : Result T Stop) (c : Call) (old new : Moment) (s : State) (x : Session)
     → E.layout ≡ old.fields.layout → Shows old s x
     → MeetsAs of result E.passes c old new → IsErr (flash_result result) → (y : Session)
-    → Goes E (flash_result result) old new s (answer E s x c).moves y
+    → GoesByMoves E (flash_result result) old new s (answer E s x c).moves y
 call-stopped E of result c old new s x layout shows meets err y = record {
   shows = IfOk-from_err (flash_result result) (λ _. Shows new (after s (answer E s x c).moves) y) err;
   does = λ tells ready. meets.leaves.does E s x (record { layout = layout; verifier = refl }) shows tells ready;

@@ -9,10 +9,10 @@ use Rattle.fwu_model.specs.Session.{Session}
 use Rattle.fwu_model.specs.Call.{Call}
 use Rattle.fwu_model.specs.Call as call
 use Rattle.fwu_model.specs.Reply.{Success}
-use Rattle.moves.specs.Law.{Done}
+use Rattle.moves.specs.Law.{CallResult}
 use Rattle.moves.specs.Moved.{GuardedBy}
 use Rattle.moves.proofs.Composed.{does-nothing}
-use Rattle.slot_writer.specs.Slots.{Finishes}
+use Rattle.slot_writer.specs.Slots.{FinishesImage}
 use Rattle.agent_kept.specs.declared.kinds.Plan.TheVariants as plan
 use Rattle.agent_kept.specs.declared.kinds.Request.TheVariants as request
 use Rattle.agent_kept.specs.declared.kinds.Decision.TheVariants.{Do}
@@ -23,7 +23,7 @@ use Rattle.agent_kept.specs.declared.parts.Handle.TheVariants.{Free}
 use Rattle.agent_kept.specs.Kept.{Kept, CommitsPart, is_part_open, part_at, size_of}
 use Rattle.agent_kept.specs.Plans.{planned, planned_in}
 use Rattle.agent_kept.proofs.After.{kept-committed}
-use Rattle.agent_state.specs.Decides.{Decides}
+use Rattle.agent_state.specs.Decides.{DecidesRequest}
 use Rattle.agent_state.specs.Settles.{IsPlanOf, Settles}
 use Rattle.agent_machine.proofs.Deciding.{decides-kept}
 use Rattle.agent_machine.specs.Fields.{Fields, target, rest_of, with_session}
@@ -31,7 +31,7 @@ use Rattle.agent_machine.specs.Machine.{state_in}
 use Rattle.agent_machine.specs.Moment.{Moment}
 use Rattle.agent_machine.specs.Knows.{Fitting, SessionSound, Knows, SomeStaged}
 use Rattle.agent_machine.specs.Law.{StaysKnown}
-use Rattle.agent_machine.specs.Meets.{Leaves, Meets}
+use Rattle.agent_machine.specs.Meets.{LeavesFlash, Meets}
 use Rattle.agent_machine.proofs.Answered.{leaves-by, done-meets}
 use Rattle.agent_machine.proofs.Committing.{slot-room, finish-spares, finish-stays, committed-means, committed-state, committed-knows}
 use Rattle.agent_machine.proofs.Room.{ReadsWell, set-readers, old-readers, free-well, fitting-again, staged-before}
@@ -66,19 +66,19 @@ module _ (f : Fields) (tells : Bool) (s t : Told) (number image : ℕ) (bit : Bo
 
   -- ---- at any exit
 
-  module _ (result : Done) (finishes : IsTrue tells → Finishes result first size (rest_of f image) s t) where
+  module _ (result : CallResult) (finishes : IsTrue tells → FinishesImage result first size (rest_of f image) s t) where
     stays : IsTrue tells → StaysKnown f image s t
     stays told = finish-stays result f image size s t fitting sound (knows told) (fitting.free fits.2) image-there (room told)
         (slot-room f fitting sound image image-there) (finishes told)
 
-    guarded-by : (r : Done) → IsAtRest t → GuardedBy r t
+    guarded-by : (r : CallResult) → IsAtRest t → GuardedBy r t
     guarded-by (Ok u) rest = rest
     guarded-by (Err why) rest = rest.guarded
 
     pub commit-leaves : (passes : List ℕ → Bool) (h req most : ℕ)
-        → Decides passes f.meta f.counter f.session f.boot (request.Commit h req most) (Do (plan.Commit number (Some image) bit)) → (g : Fields)
+        → DecidesRequest passes f.meta f.counter f.session f.boot (request.Commit h req most) (Do (plan.Commit number (Some image) bit)) → (g : Fields)
         → g.layout ≡ f.layout → g.boot ≡ f.boot → g.counter ≡ f.counter → g.lengths ≡ f.lengths
-        → Leaves result passes (call.Commit h req) old (record { tells = tells; told = t; fields = g })
+        → LeavesFlash result passes (call.Commit h req) old (record { tells = tells; told = t; fields = g })
     commit-leaves passes h req most decides g layout boot counter lengths =
         leaves-by old (record { tells = tells; told = t; fields = g }) fitting sound knows passes (request.Commit h req most) []
         (λ E st setting speaks. tt) (plan.Commit number (Some image) bit) decides result
@@ -110,9 +110,9 @@ module _ (f : Fields) (tells : Bool) (s t : Told) (number image : ℕ) (bit : Bo
     commit-some some = ∥∥₁_map some
         (λ it. record { staged = it.staged; kept = kept-committed f.session k image (number - 1) bit it.staged it.kept fits.1 commits })
 
-    module _ (finishes : IsTrue tells → Finishes {T = Unit {0}} (Ok tt) first size (rest_of f image) s t) where
-      ends-at : IsTrue tells → Finishes {T = Unit {0}} (Ok tt) first was-open.0 (rest_of f image) s t
-      ends-at told = subst (λ (n : ℕ). Finishes {T = Unit {0}} (Ok tt) first n (rest_of f image) s t) size-is (finishes told)
+    module _ (finishes : IsTrue tells → FinishesImage {T = Unit {0}} (Ok tt) first size (rest_of f image) s t) where
+      ends-at : IsTrue tells → FinishesImage {T = Unit {0}} (Ok tt) first was-open.0 (rest_of f image) s t
+      ends-at told = subst (λ (n : ℕ). FinishesImage {T = Unit {0}} (Ok tt) first n (rest_of f image) s t) size-is (finishes told)
 
       pub commit-knows : IsTrue tells → Knows g t
       commit-knows told =
@@ -120,7 +120,7 @@ module _ (f : Fields) (tells : Bool) (s t : Told) (number image : ℕ) (bit : Bo
           (room told) was-open.2 commits (ends-at told)
 
       pub commit-meets : (passes : List ℕ → Bool) (h req most : ℕ)
-          → Decides passes f.meta f.counter f.session f.boot (request.Commit h req most) (Do (plan.Commit number (Some image) bit))
+          → DecidesRequest passes f.meta f.counter f.session f.boot (request.Commit h req most) (Do (plan.Commit number (Some image) bit))
           → Settles f.session f.meta [] (plan.Commit number (Some image) bit) f.meta k
           → Meets {T = Unit {0}} (λ value r. r ≡ Success) (Ok tt) passes (call.Commit h req) old (record { tells = tells; told = t; fields = g })
       unfolding planned

@@ -9,10 +9,10 @@ use Rattle.sha2.specs.declared.Sha256.{Sha256}
 use Rattle.fwu_formats.specs.Layout.{ImageRow, start, slot_bytes, blocks_needed}
 use Rattle.fwu_formats.specs.Metadata.{state_at}
 use Rattle.fwu_model.specs.State.{is_invalid}
-use Rattle.slot_writer.specs.Slots.{Finishes, IsBlankAhead, blocks_for, done_of}
+use Rattle.slot_writer.specs.Slots.{FinishesImage, IsBlankAhead, blocks_for, done_of}
 use Rattle.agent_kept.specs.declared.parts.Part.{Part}
 use Rattle.agent_kept.specs.declared.parts.Part.TheVariants.{Nothing, Open, Committed}
-use Rattle.agent_kept.specs.Kept.{Kept, IsKept, CommitsPart, CommitsTo, part_at, part_meant, size_of, slot_of}
+use Rattle.agent_kept.specs.Kept.{Kept, IsKept, CommitsPart, CommitsTo, part_at, part_meant, size_of, slot_room_of}
 use Rattle.agent_kept.proofs.After.{kept-committed}
 use Rattle.agent_machine.specs.Beside.{KeepsSpared}
 use Rattle.agent_machine.proofs.Beside.{slot-spares}
@@ -29,7 +29,7 @@ pub slot-room : (f : Fields) → Fitting f → SessionSound f → (image : ℕ) 
     → size_of (part_at f.session image) ≤ slot_bytes f.layout image
 slot-room f fitting sound image lt =
     let count : length f.session.rows ≡ length f.layout.rows = ap (λ (l : List ImageRow). length l) fitting.rows in
-    let slot : slot_of f.session.rows image ≡ slot_bytes f.layout image = ap (λ (l : List ImageRow). slot_of l image) fitting.rows in
+    let slot : slot_room_of f.session.rows image ≡ slot_bytes f.layout image = ap (λ (l : List ImageRow). slot_room_of l image) fitting.rows in
     omega (arith, sound.sizes image (omega (arith, count, lt)), slot)
 
 ended : (size : ℕ) (hasher : Sha256) (bit : Bool) (q : Part) → CommitsTo (Open size hasher) q bit → (digest : List ℕ) × (q ≡ Committed size digest bit)
@@ -45,7 +45,7 @@ module _ (f : Fields) (k : Kept) (image place size : ℕ) (hasher : Sha256) (bit
     (invalid : IsTrue (is_invalid (state_at f.meta.meta (target f))))
     (within : image < length f.layout.rows) (room : blocks_needed f.layout * 4096 ≤ length s.now) (was : part_at f.session image ≡ Open size hasher)
     (commits : CommitsPart f.session image place bit k)
-    (finishes : Finishes {T = Unit {0}} (Ok tt) (start f.layout (target f) image) size (rest_of f image) s t) where
+    (finishes : FinishesImage {T = Unit {0}} (Ok tt) (start f.layout (target f) image) size (rest_of f image) s t) where
   abbrev g : Fields
   g = with_session f k f.rests
 
@@ -115,7 +115,7 @@ module _ (f : Fields) (k : Kept) (image place size : ℕ) (hasher : Sha256) (bit
 pub finish-stays : {T : Type 0} (result : Result T FlashStop) (f : Fields) (image size : ℕ) (s t : Told) → Fitting f → SessionSound f → Knows f s
     → IsTrue (is_invalid (state_at f.meta.meta (target f)))
     → image < length f.layout.rows → blocks_needed f.layout * 4096 ≤ length s.now → size ≤ slot_bytes f.layout image
-    → Finishes result (start f.layout (target f) image) size (rest_of f image) s t → StaysKnown f image s t
+    → FinishesImage result (start f.layout (target f) image) size (rest_of f image) s t → StaysKnown f image s t
 finish-stays result f image size s t fitting sound knows invalid within room fits finishes =
     let first : ℕ = start f.layout (target f) image in
     stays-known f image s t fitting sound knows invalid within room
@@ -124,7 +124,7 @@ finish-stays result f image size s t fitting sound knows invalid within room fit
 
 -- nor does anything change beside the update bank
 pub finish-spares : {T : Type 0} (result : Result T FlashStop) (f : Fields) (image size : ℕ) (s t : Told) → f.boot ≡ f.meta.meta.active
-    → size ≤ slot_bytes f.layout image → Finishes result (start f.layout (target f) image) size (rest_of f image) s t → KeepsSpared f s t
+    → size ≤ slot_bytes f.layout image → FinishesImage result (start f.layout (target f) image) size (rest_of f image) s t → KeepsSpared f s t
 finish-spares result f image size s t active fits finishes =
     let first : ℕ = start f.layout (target f) image in
     slot-spares f image s t active

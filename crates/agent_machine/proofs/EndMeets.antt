@@ -14,7 +14,7 @@ use Rattle.fwu_model.specs.Answer.{answer, staged_package, staged_bits, may_end}
 use Rattle.fwu_model.specs.MoveMetas.{meta_after, meta_in}
 use Rattle.marks_core.specs.Marks.{Clears}
 use Rattle.replicas.specs.Stores.{Stores}
-use Rattle.moves.specs.Law.{Done}
+use Rattle.moves.specs.Law.{CallResult}
 use Rattle.moves.specs.Moved.{Does, GuardedBy, IsReady}
 use Rattle.moves.specs.StoreLaw.{EndsBy}
 use Rattle.moves.proofs.Cleared.{clear-guarded}
@@ -24,7 +24,7 @@ use Rattle.agent_kept.specs.declared.kinds.Request.TheVariants as request
 use Rattle.agent_kept.specs.Kept.{Kept, Restarts, parts_meant, staging_meant, handles_meant}
 use Rattle.agent_kept.specs.Plans.{loosely, planned, planned_in, package_staged, bits_staged}
 use Rattle.agent_kept.proofs.Meant.{staging-on}
-use Rattle.agent_state.specs.Decides.{Decides, next_bank}
+use Rattle.agent_state.specs.Decides.{DecidesRequest, next_bank}
 use Rattle.agent_state.specs.Settles.{Settles, bits_kept}
 use Rattle.fwu_model.specs.Replica.{in_version}
 use Rattle.agent_machine.proofs.Deciding.{decides-ends}
@@ -34,7 +34,7 @@ use Rattle.agent_machine.specs.Fields.{Fields}
 use Rattle.agent_machine.specs.Machine.{state_in, staged_bytes}
 use Rattle.agent_machine.specs.Moment.{Moment}
 use Rattle.agent_machine.specs.Knows.{Fitting, SessionSound, Knows}
-use Rattle.agent_machine.specs.Meets.{IsSettingOf, Leaves, Meets}
+use Rattle.agent_machine.specs.Meets.{IsSettingOf, LeavesFlash, Meets}
 use Rattle.agent_machine.proofs.Answered.{shown-speaks, leaves-by, done-meets}
 use Rattle.agent_machine.proofs.Committing.{slot-room}
 use Rattle.agent_machine.proofs.Showing.{known-speaks}
@@ -49,13 +49,13 @@ stored-when-done L m s t (inl done) = done
 stored-when-done L m s t (inr (err, clears)) = absurd cc
 
 -- the same blocks are guarded afterwards
-ended-guard : (result : Done) (L : Layout) (m : Meta) (s t : Told) → ClearsAndStores result L m s t → t.guard ≡ s.guard
+ended-guard : (result : CallResult) (L : Layout) (m : Meta) (s t : Told) → ClearsAndStores result L m s t → t.guard ≡ s.guard
 ended-guard result L m s t (inl (mid, clears, stores)) = stores.writes.keeps.guard ∙ clears.keeps.guard
 ended-guard result L m s t (inr (err, clears)) = clears.keeps.guard
 
 module _ (f : Fields) (k : Kept) (meta : MetaRead) (passes : List ℕ → Bool) (tells : Bool) (s t : Told) (fitting : Fitting f) (sound : SessionSound f)
     (knows : IsTrue tells → Knows f s) (staging : f.session.staging ≡ true)
-    (decides : Decides passes f.meta f.counter f.session f.boot request.End (Do plan.End))
+    (decides : DecidesRequest passes f.meta f.counter f.session f.boot request.End (Do plan.End))
     (is : meta ≡ record f.meta { meta = meta_after f.meta.meta (Switch (next_bank f.meta.meta) [] (bits_kept f.session)) }) where
   abbrev g : Fields
   g = record f { meta = meta; session = k; trials = 0 }
@@ -112,7 +112,7 @@ module _ (f : Fields) (k : Kept) (meta : MetaRead) (passes : List ℕ → Bool) 
 
   -- ---- at any exit
 
-  module _ (result : Done) (ended : IsTrue tells → ClearsAndStores result f.layout meta.meta s t) where
+  module _ (result : CallResult) (ended : IsTrue tells → ClearsAndStores result f.layout meta.meta s t) where
     does-told : (E : Setting) → IsSettingOf f passes E → IsTrue tells → IsReady E s state → Does result E state (Switch (update_bank state) p bits ∷ []) t
     does-told E setting told ready =
         let known = knows told in
@@ -137,7 +137,7 @@ module _ (f : Fields) (k : Kept) (meta : MetaRead) (passes : List ℕ → Bool) 
     version : Knows f s → meta ≡ in_version 2 meta.meta
     version known = ap (λ (n : ℕ). record { form = n; meta = meta.meta }) (ap (λ (r : MetaRead). r.form) is ∙ known.version)
 
-    pub end-leaves : Leaves result passes call.End old new
+    pub end-leaves : LeavesFlash result passes call.End old new
     end-leaves =
         leaves-by old new fitting sound knows passes request.End [] (λ E st setting speaks. tt) plan.End decides result
         (λ told E setting ready. subst (λ (ms : List Move). Does result E state ms t) (sym moves-are) (does-told E setting told ready)) guarded-told

@@ -15,8 +15,8 @@ use Rattle.agent_machine.specs.Beside.{IsSparedByAll}
 use Rattle.agent_machine.proofs.Beside.{spared-further, spared-once, spared-same}
 use Rattle.agent_machine.specs.declared.stop.Stop.TheVariants as stop
 use Rattle.agent_machine.specs.Moment.{Moment, Shows}
-use Rattle.agent_machine.specs.Meets.{Leaves, Meets, Stays}
-use Rattle.agent_machine.specs.Goes.{Goes, Met, CallsMet, Done, Then, Ran, moves_of, session_of}
+use Rattle.agent_machine.specs.Meets.{LeavesFlash, Meets, Stays}
+use Rattle.agent_machine.specs.Goes.{GoesByMoves, Met, CallsMet, Done, Then, RanCalls, moves_of, session_of}
 
 stays-then : (a b c : Moment) → Stays a b → Stays b c → Stays a c
 stays-then a b c ab bc = record {
@@ -30,7 +30,7 @@ stays-then a b c ab bc = record {
 
 -- what is done, and what comes next
 pub goes-then : (E : Setting) (result : Result (Unit {0}) FlashStop) (a b c : Moment) (s : State) (ms ns : List Move) (y z : Session)
-    → Goes E (Ok tt) a b s ms y → Goes E result b c (after s ms) ns z → Goes E result a c s (ms ++ ns) z
+    → GoesByMoves E (Ok tt) a b s ms y → GoesByMoves E result b c (after s ms) ns z → GoesByMoves E result a c s (ms ++ ns) z
 goes-then E result a b c s ms ns y z first second = record {
   shows = on_ok_weaker result (λ shown. subst (λ (w : State). Shows c w z) (sym (after-append s ms ns)) shown) second.shows;
   does = λ tells ready. does-then tt result E s ms ns b.told c.told (first.does tells ready)
@@ -43,7 +43,7 @@ goes-then E result a b c s ms ns y z first second = record {
 
 -- what was stopped did a prefix of whatever was to follow
 pub goes-stopped : (E : Setting) (result : Result (Unit {0}) FlashStop) (a b : Moment) (s : State) (ms ns : List Move) (y z : Session) → IsErr result
-    → Goes E result a b s ms y → Goes E result a b s (ms ++ ns) z
+    → GoesByMoves E result a b s ms y → GoesByMoves E result a b s (ms ++ ns) z
 goes-stopped E result a b s ms ns y z err goes = record {
   shows = IfOk-from_err result (λ _. Shows b (after s (ms ++ ns)) z) err;
   does = λ tells ready. does-stopped result result E s ms ns b.told err (goes.does tells ready);
@@ -53,7 +53,7 @@ goes-stopped E result a b s ms ns y z err goes = record {
 }
 
 -- no call
-pub goes-nothing : (E : Setting) (a : Moment) (s : State) (x : Session) → Shows a s x → Goes E (Ok tt) a a s [] x
+pub goes-nothing : (E : Setting) (a : Moment) (s : State) (x : Session) → Shows a s x → GoesByMoves E (Ok tt) a a s [] x
 goes-nothing E a s x shows = record {
   shows = shows;
   does = λ tells ready. does-nothing {T = Unit {0}} (Ok tt) E s a.told ready;
@@ -65,8 +65,8 @@ goes-nothing E a s x shows = record {
 -- ---- one call
 
 module _ (E : Setting) (c : Call) (old new : Moment) (layout : E.layout ≡ old.fields.layout) where
-  leaves-goes : (s : State) (x : Session) → Shows old s x → Leaves (Ok tt) E.passes c old new
-      → Shows new (after s (answer E s x c).moves) (answer E s x c).next → Goes E (Ok tt) old new s (answer E s x c).moves (answer E s x c).next
+  leaves-goes : (s : State) (x : Session) → Shows old s x → LeavesFlash (Ok tt) E.passes c old new
+      → Shows new (after s (answer E s x c).moves) (answer E s x c).next → GoesByMoves E (Ok tt) old new s (answer E s x c).moves (answer E s x c).next
   leaves-goes s x shows leaves next = record {
     shows = next;
     does = λ tells ready. leaves.does E s x (record { layout = layout; verifier = refl }) shows tells ready;
@@ -97,7 +97,7 @@ module _ (E : Setting) (c : Call) (old new : Moment) (layout : E.layout ≡ old.
 -- ---- a list of calls
 
 pub all-go : (E : Setting) (cs : List Call) (rs : List Reply) (old new : Moment) (s : State) (x : Session) → Shows old s x → CallsMet E cs rs old new
-    → Ran E cs rs old new s x
+    → RanCalls E cs rs old new s x
 all-go E [] [] old new s x shows Done = record {
   replies_are = refl;
   shows = shows;

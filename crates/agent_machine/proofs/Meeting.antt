@@ -15,15 +15,15 @@ use Rattle.agent_kept.specs.declared.kinds.Plan.TheVariants as plan
 use Rattle.agent_kept.specs.declared.kinds.Decision.TheVariants as decision
 use Rattle.agent_kept.specs.Kept.{handles_meant, staging_meant}
 use Rattle.agent_kept.specs.Plans.{call_of, planned, planned_in}
-use Rattle.agent_state.specs.Decides.{Decides}
+use Rattle.agent_state.specs.Decides.{DecidesRequest}
 use Rattle.agent_machine.proofs.Deciding.{decides-same}
 use Rattle.agent_machine.specs.Beside.{IsSpared}
 use Rattle.agent_machine.proofs.Beside.{spared-told}
-use Rattle.agent_machine.specs.Asks.{IsQuiet}
+use Rattle.agent_machine.specs.Asks.{IsQuietPlan}
 use Rattle.agent_machine.specs.Carries.{CarriedOut, planned_moves, state_before, staging_before}
 use Rattle.agent_machine.specs.Knows.{Fitting, SessionSound, Knows}
 use Rattle.agent_machine.specs.Moment.{Moment, Shows}
-use Rattle.agent_machine.specs.Meets.{IsSettingOf, Leaves, Meets}
+use Rattle.agent_machine.specs.Meets.{IsSettingOf, LeavesFlash, Meets}
 use Rattle.agent_machine.proofs.Answered.{FitsEach, leaves-by, done-meets}
 use Rattle.agent_machine.proofs.Quietly.{quiet-moves}
 
@@ -69,9 +69,9 @@ success-says old bytes p success E s x shows =
 
 module _ (old new : Moment) (fitting : Fitting old.fields) (sound : SessionSound old.fields) (knows : IsTrue old.tells → Knows old.fields old.told)
     (passes : List ℕ → Bool) (r : Request) (bytes : List ℕ) (fits : FitsEach old.fields passes r bytes)
-    (p : Plan) (decides : Decides passes old.fields.meta old.fields.counter old.fields.session old.fields.boot r (decision.Do p)) (quiet : IsQuiet p)
+    (p : Plan) (decides : DecidesRequest passes old.fields.meta old.fields.counter old.fields.session old.fields.boot r (decision.Do p)) (quiet : IsQuietPlan p)
     (told : new.told ≡ old.told) (out : CarriedOut p bytes old new) where
-  pub quiet-leaves : Leaves (Ok tt) passes (call_of r bytes) old new
+  pub quiet-leaves : LeavesFlash (Ok tt) passes (call_of r bytes) old new
   quiet-leaves =
       leaves-by old new fitting sound knows passes r bytes fits p decides (Ok tt)
       (λ tells E setting ready.

@@ -14,7 +14,7 @@ use Rattle.replicas.specs.Stores.{Stores}
 use Rattle.moves.specs.Moved.{Does, IsShown, ShowsAfter, GuardedBy}
 use Rattle.fwu_model.specs.MoveMetas.{meta_after}
 use Rattle.moves.specs.StoreLaw.{QuietBy}
-use Rattle.moves.specs.Law.{Done}
+use Rattle.moves.specs.Law.{CallResult}
 use Rattle.moves.proofs.Agree.{bank-count, state-is}
 use Rattle.moves.proofs.Stored.{free-does, accept-does, back-does}
 use Rattle.moves.proofs.StoredPlain.{free-shows, accept-shows, back-shows, store-guarded, quiet-free, quiet-accept, quiet-back}
@@ -26,12 +26,12 @@ use Rattle.agent_machine.specs.Knows.{Fitting, Knows}
 use Rattle.agent_machine.proofs.Known.{both-decides, known-shown, known-ready}
 
 -- What a store of the metadata of a move is: on a calm flash under this premise, on any flash, and on any flash at rest.
-pub record StoreMeets (result : Done) (f : Fields) (Premise : Setting → Type 0) (move : Move) (s t : Told) : Type 0 where
+pub record StoreMeets (result : CallResult) (f : Fields) (Premise : Setting → Type 0) (move : Move) (s t : Told) : Type 0 where
   pub does : (E : Setting) → E.layout ≡ f.layout → Premise E → IsCalm E s (state_in f s.now) → Guards 1 7 s → Does result E (state_in f s.now) (move ∷ []) t
   pub shows : ShowsAfter result f.layout (state_in f s.now) (move ∷ []) t
   pub guarded : IsAtRest s → GuardedBy result t
 
-pub record StoresMeet (result : Done) (f : Fields) (s t : Told) : Type 0 where
+pub record StoresMeet (result : CallResult) (f : Fields) (s t : Told) : Type 0 where
   pub free : IsTrue (is_accepted (state_at f.meta.meta f.meta.meta.active)) → Stores result f.layout (meta_after f.meta.meta (Free (target f))) s t
       → StoreMeets result f (λ E. Unit {0}) (Free (target f)) s t
   pub accept : (image : ℕ) → IsFalse (is_invalid (state_at f.meta.meta f.meta.meta.active))
@@ -39,7 +39,7 @@ pub record StoresMeet (result : Done) (f : Fields) (s t : Told) : Type 0 where
   pub back : IsTrue (is_accepted (state_at f.meta.meta f.meta.meta.previous)) → Stores result f.layout (meta_after f.meta.meta Back) s t
       → StoreMeets result f (λ E. IsTrue (holds_permitted E (state_in f s.now).counter (bank (state_in f s.now) (state_in f s.now).previous).held)) Back s t
 
-module _ (result : Done) (f : Fields) (s t : Told) (fitting : Fitting f) (knows : Knows f s) where
+module _ (result : CallResult) (f : Fields) (s t : Told) (fitting : Fitting f) (knows : Knows f s) where
   abbrev L : Layout
   L = f.layout
 

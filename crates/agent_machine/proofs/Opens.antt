@@ -19,7 +19,7 @@ use Rattle.agent_kept.specs.declared.kinds.Request.TheVariants as request
 use Rattle.agent_kept.specs.declared.kinds.Decision.TheVariants as decision
 use Rattle.agent_kept.specs.Kept.{staging_meant, handles_meant}
 use Rattle.agent_kept.specs.Plans.{call_of, planned, planned_in}
-use Rattle.agent_state.specs.Decides.{Decides}
+use Rattle.agent_state.specs.Decides.{DecidesRequest}
 use Rattle.agent_state.specs.Asked.{IsPlanFor}
 use Rattle.agent_machine.specs.declared.stop.Stop.{Stop}
 use Rattle.agent_machine.specs.declared.stop.Stop.TheVariants as stop
@@ -67,21 +67,21 @@ module _ (tells : Bool) (t : Told) (f : Fields) (fitting : Fitting f) (sound : S
       → Meets Says result passes (call_of asked []) m new → Meets Says result passes (call_of (request.Open guid o 0) []) m new
   as-called Says result passes new meets = subst (λ (c : Call). Meets Says result passes c m new) (same-call guid [] o total 0) meets
 
-  pub open-refused : (st : Status) → ((passes : List ℕ → Bool) → Decides passes f.meta f.counter f.session f.boot asked (decision.Refused st))
+  pub open-refused : (st : Status) → ((passes : List ℕ → Bool) → DecidesRequest passes f.meta f.counter f.session f.boot asked (decision.Refused st))
       → (passes : List ℕ → Bool)
       → Meets {T = ℕ} (λ h r. r ≡ reply.Opened h) (Err (stop.Status st)) passes (call_of (request.Open guid o 0) []) m m
   open-refused st decides passes =
       as-called (λ h r. r ≡ reply.Opened h) (Err (stop.Status st)) passes m
       (refused-meets m fitting sound passes asked [] (fits passes) st (decides passes) (λ h r. r ≡ reply.Opened h))
 
-  pub open-meets : (p : Plan) → ((passes : List ℕ → Bool) → Decides passes f.meta f.counter f.session f.boot asked (decision.Do p))
+  pub open-meets : (p : Plan) → ((passes : List ℕ → Bool) → DecidesRequest passes f.meta f.counter f.session f.boot asked (decision.Do p))
       → (h : ℕ) → p ≡ plan.Open h image o total → (new : Moment) → new.told ≡ t → CarriedOut (plan.Open h image o total) [] m new
       → (passes : List ℕ → Bool)
       → Meets {T = ℕ} (λ v r. r ≡ reply.Opened v) (Ok h) passes (call_of (request.Open guid o 0) []) m new
   open-meets p decides h is new told out passes =
       as-called (λ v r. r ≡ reply.Opened v) (Ok h) passes new
       (quiet-meets m new fitting sound knows passes asked [] (fits passes) (plan.Open h image o total)
-      (subst (λ (q : Plan). Decides passes f.meta f.counter f.session f.boot asked (decision.Do q)) is (decides passes)) tt told out
+      (subst (λ (q : Plan). DecidesRequest passes f.meta f.counter f.session f.boot asked (decision.Do q)) is (decides passes)) tt told out
       (λ v r. r ≡ reply.Opened v) h
       (λ E s x setting shows.
       subst (λ (y : Session). (planned_in E s y [] (plan.Open h image o total)).reply ≡ reply.Opened h) (sym shows.means)

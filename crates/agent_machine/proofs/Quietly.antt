@@ -19,11 +19,11 @@ use Rattle.agent_kept.specs.declared.parts.Handle.TheVariants.{Free, Reads, Writ
 use Rattle.agent_kept.specs.declared.kinds.Plan.{Plan}
 use Rattle.agent_kept.specs.declared.kinds.Plan.TheVariants as plan
 use Rattle.agent_kept.specs.declared.kinds.Decision.TheVariants as decision
-use Rattle.agent_kept.specs.Kept.{Kept, IsKept, HasNothing, OpensPart, IsNew, size_of, part_at, part_meant, handle_kept, staging_meant, with_handle}
+use Rattle.agent_kept.specs.Kept.{Kept, IsKept, HasNothing, OpensPart, IsNewPart, size_of, part_at, part_meant, handle_kept, staging_meant, with_handle}
 use Rattle.agent_kept.proofs.Sounds.{frees}
 use Rattle.agent_state.specs.Settles.{IsPlanOf, Changes, HasTotal, Settles, SettlesBy, meta_planned, staged_after, with_bytes}
-use Rattle.agent_machine.specs.Asks.{IsQuiet}
-use Rattle.agent_machine.specs.Fields.{Fields, IsThere, target, total_of, rest_of, with_session}
+use Rattle.agent_machine.specs.Asks.{IsQuietPlan}
+use Rattle.agent_machine.specs.Fields.{Fields, IsImageOrDirectory, target, total_of, rest_of, with_session}
 use Rattle.agent_machine.specs.Machine.{state_in, staged_bytes, part_bytes}
 use Rattle.agent_machine.specs.Knows.{Fitting, SessionSound, HasStaged, Knows, SomeStaged}
 use Rattle.agent_machine.specs.Moment.{SpeaksOf}
@@ -95,19 +95,19 @@ module _ (f : Fields) (k : Kept) (t : Told) (fitting : Fitting f) (knows : Knows
   }
 
   -- an image is opened
-  new-part : (q : Part) (first : ℕ) (rest : List ℕ) → IsNew q → part_bytes first q rest t.now ≡ []
+  new-part : (q : Part) (first : ℕ) (rest : List ℕ) → IsNewPart q → part_bytes first q rest t.now ≡ []
   new-part Nothing first rest it = absurd it
   new-part (Open size hasher) first rest it = subst (λ (n : ℕ). part_bytes first (Open n hasher) rest t.now ≡ []) (sym it.0) refl
   new-part (Committed size digest bit) first rest it = absurd it
 
-  new-ahead : (q : Part) (first size : ℕ) (hasher : Sha256) → IsNew q → q ≡ Open size hasher → IsBlankAhead first (done_of size) t.now
+  new-ahead : (q : Part) (first size : ℕ) (hasher : Sha256) → IsNewPart q → q ≡ Open size hasher → IsBlankAhead first (done_of size) t.now
   new-ahead Nothing first size hasher it e = absurd it
   new-ahead (Open n h) first size hasher it e = λ i above below.
       let same : n ≡ size = ap size_of e in
       absurd (omega (arith, it.0, same, above, below))
   new-ahead (Committed n digest bit) first size hasher it e = absurd it
 
-  new-committed : (q : Part) (size : ℕ) (digest : List ℕ) (bit : Bool) → IsNew q → q ≡ Committed size digest bit → ⊥
+  new-committed : (q : Part) (size : ℕ) (digest : List ℕ) (bit : Bool) → IsNewPart q → q ≡ Committed size digest bit → ⊥
   new-committed Nothing size digest bit it e = it
   new-committed (Open n h) size digest bit it e = absurd cc
   new-committed (Committed n d b) size digest bit it e = it
@@ -121,15 +121,15 @@ module _ (f : Fields) (k : Kept) (t : Told) (fitting : Fitting f) (knows : Knows
       | inr ne ↦ ap (λ (q : Part). part_bytes (start f.layout (target f) i) q (rest_of f i) t.now) (opens.others i ne) ∙ sym (bytes-there was image [] i ne)
     ]);
     ahead = λ i size hasher lt is. elim (cases_eq i image) [
-      | inl same ↦ new-ahead (part_at k i) (start f.layout (target f) i) size hasher (subst (λ (j : ℕ). IsNew (part_at k j)) (sym same) opens.part) is
+      | inl same ↦ new-ahead (part_at k i) (start f.layout (target f) i) size hasher (subst (λ (j : ℕ). IsNewPart (part_at k j)) (sym same) opens.part) is
       | inr ne ↦ knows.staged.ahead i size hasher lt (sym (opens.others i ne) ∙ is)
     ];
     padded = λ i size digest bit lt is. elim (cases_eq i image) [
-      | inl same ↦ absurd (new-committed (part_at k i) size digest bit (subst (λ (j : ℕ). IsNew (part_at k j)) (sym same) opens.part) is)
+      | inl same ↦ absurd (new-committed (part_at k i) size digest bit (subst (λ (j : ℕ). IsNewPart (part_at k j)) (sym same) opens.part) is)
       | inr ne ↦ knows.staged.padded i size digest bit lt (sym (opens.others i ne) ∙ is)
     ];
     sure = λ i size digest bit lt is. elim (cases_eq i image) [
-      | inl same ↦ absurd (new-committed (part_at k i) size digest bit (subst (λ (j : ℕ). IsNew (part_at k j)) (sym same) opens.part) is)
+      | inl same ↦ absurd (new-committed (part_at k i) size digest bit (subst (λ (j : ℕ). IsNewPart (part_at k j)) (sym same) opens.part) is)
       | inr ne ↦ knows.staged.sure i size digest bit lt (sym (opens.others i ne) ∙ is)
     ];
   }
@@ -137,7 +137,7 @@ module _ (f : Fields) (k : Kept) (t : Told) (fitting : Fitting f) (knows : Knows
   of-kept : (i : ℕ) → k ≡ f.session → part_at k i ≡ part_at f.session i
   of-kept i e = ap (λ (x : Kept). part_at x i) e
 
-  still : (p : Plan) → IsQuiet p → Changes f.session bytes p k → Still p
+  still : (p : Plan) → IsQuietPlan p → Changes f.session bytes p k → Still p
   still plan.Tell quiet changes = same-still plan.Tell (λ i. of-kept i changes) (λ i. refl)
   still (plan.BeginPartial store named) quiet changes = absurd quiet
   still (plan.Begin true) quiet changes = absurd quiet
@@ -160,10 +160,10 @@ module _ (f : Fields) (k : Kept) (t : Told) (fitting : Fitting f) (knows : Knows
   still (plan.Accept image false) quiet changes = same-still (plan.Accept image false) (λ i. of-kept i changes) (λ i. refl)
   still plan.Back quiet changes = absurd quiet
 
-  pub quiet-means : (p : Plan) → IsQuiet p → Changes f.session bytes p k → MeansSame k (staged_after p bytes was) (staged_bytes g t.now)
+  pub quiet-means : (p : Plan) → IsQuietPlan p → Changes f.session bytes p k → MeansSame k (staged_after p bytes was) (staged_bytes g t.now)
   quiet-means p quiet changes = (still p quiet changes).means
 
-  pub quiet-known : (p : Plan) → IsQuiet p → Changes f.session bytes p k → 1 ≤ length k.rows → IsKept k (staged_after p bytes was)
+  pub quiet-known : (p : Plan) → IsQuietPlan p → Changes f.session bytes p k → 1 ≤ length k.rows → IsKept k (staged_after p bytes was)
       → (k.staging ≡ true → IsTrue (is_accepted (state_at f.meta.meta f.meta.meta.active))) → Knows g t
   quiet-known p quiet changes some kept accepted =
       let it = still p quiet changes in
@@ -221,7 +221,7 @@ module _ (f : Fields) (k : Kept) (bytes : List ℕ) (fitting : Fitting f) where
   closed-readers : k.handles ≡ replicate 32 Free → (place : ℕ) → ReadsWell f (handle_kept k place)
   closed-readers closed place = subst (ReadsWell f) (sym (ap (λ (hs : List Handle). get_or hs place Free) closed ∙ frees 32 place)) (free-well f)
 
-  stays-fit : (tells : Bool) (p : Plan) → IsQuiet p → IsPlanOf f.session p → MayKeep tells f p → Changes f.session bytes p k → StaysFit
+  stays-fit : (tells : Bool) (p : Plan) → IsQuietPlan p → IsPlanOf f.session p → MayKeep tells f p → Changes f.session bytes p k → StaysFit
   stays-fit tells plan.Tell quiet of may changes = same-fit changes
   stays-fit tells (plan.BeginPartial store named) quiet of may changes = absurd quiet
   stays-fit tells (plan.Begin true) quiet of may changes = absurd quiet
@@ -234,11 +234,11 @@ module _ (f : Fields) (k : Kept) (bytes : List ℕ) (fitting : Fitting f) where
   stays-fit tells (plan.Open number image op.Read total) quiet of may changes = handle-fit number (Reads image 0 total) changes
       (opened-well image total may)
     where
-      opened-well : (image : Option ℕ) (total : ℕ) → (total ≡ total_of f image) × IsThere f image → ReadsWell f (Reads image 0 total)
+      opened-well : (image : Option ℕ) (total : ℕ) → (total ≡ total_of f image) × IsImageOrDirectory f image → ReadsWell f (Reads image 0 total)
       opened-well image total well other at n e =
           let same : image ≡ other = cc in
           let much : total ≡ n = cc in
-          subst (λ (o : Option ℕ). (n ≡ total_of f o) × IsThere f o) same (sym much ∙ well.0, well.1)
+          subst (λ (o : Option ℕ). (n ≡ total_of f o) × IsImageOrDirectory f o) same (sym much ∙ well.0, well.1)
   stays-fit tells (plan.Open number None op.Write total) quiet of may changes = absurd changes
   stays-fit tells (plan.Open number (Some image) op.Write total) quiet of may changes = record {
     may = staged-before f k fitting changes.staging;
@@ -252,7 +252,7 @@ module _ (f : Fields) (k : Kept) (bytes : List ℕ) (fitting : Fitting f) where
       let same : image ≡ other = cc in
       let much : total ≡ size = cc in
       let well = old-readers f fitting (number - 1) image at total of.1 in
-      subst (λ (o : Option ℕ). (size ≡ total_of f o) × IsThere f o) same (sym much ∙ well.0, well.1))
+      subst (λ (o : Option ℕ). (size ≡ total_of f o) × IsImageOrDirectory f o) same (sym much ∙ well.0, well.1))
   stays-fit tells (plan.Commit number None bit) quiet of may changes = handle-fit number Free changes (free-well f)
   stays-fit tells (plan.Commit number (Some image) bit) quiet of may changes = absurd quiet
   stays-fit tells plan.End quiet of may changes = absurd quiet
@@ -265,14 +265,14 @@ module _ (f : Fields) (k : Kept) (bytes : List ℕ) (fitting : Fitting f) where
   stays-fit tells (plan.Accept image false) quiet of may changes = same-fit changes
   stays-fit tells plan.Back quiet of may changes = absurd quiet
 
-  pub quiet-fitting : (tells : Bool) (p : Plan) → IsQuiet p → IsPlanOf f.session p → MayKeep tells f p → Changes f.session bytes p k
+  pub quiet-fitting : (tells : Bool) (p : Plan) → IsQuietPlan p → IsPlanOf f.session p → MayKeep tells f p → Changes f.session bytes p k
       → Fitting (with_session f k f.rests)
   quiet-fitting tells p quiet of may changes =
       let it = stays-fit tells p quiet of may changes in
       fitting-again f k f.rests fitting (rows-after f.session bytes p k changes) it.may it.idle fitting.rests it.readers
 
   -- where a package is staged afterwards, the active bank is accepted
-  pub quiet-accepted : (tells : Bool) (p : Plan) → IsQuiet p → IsPlanOf f.session p → MayKeep tells f p → Changes f.session bytes p k → IsTrue tells
+  pub quiet-accepted : (tells : Bool) (p : Plan) → IsQuietPlan p → IsPlanOf f.session p → MayKeep tells f p → Changes f.session bytes p k → IsTrue tells
       → (f.session.staging ≡ true → IsTrue (is_accepted (state_at f.meta.meta f.meta.meta.active)))
       → k.staging ≡ true → IsTrue (is_accepted (state_at f.meta.meta f.meta.meta.active))
   quiet-accepted tells plan.Tell quiet of may c told was is = was (sym (ap (λ (x : Kept). x.staging) c) ∙ is)
@@ -292,7 +292,7 @@ module _ (f : Fields) (k : Kept) (bytes : List ℕ) (fitting : Fitting f) where
 
 -- ---- such a plan is carried out as what is kept is settled
 
-pub quiet-meta : (k : Kept) (m : Meta) (p : Plan) → IsQuiet p → meta_planned k m p ≡ m
+pub quiet-meta : (k : Kept) (m : Meta) (p : Plan) → IsQuietPlan p → meta_planned k m p ≡ m
 quiet-meta k m plan.Tell quiet = refl
 quiet-meta k m (plan.BeginPartial store named) quiet = absurd quiet
 quiet-meta k m (plan.Begin true) quiet = absurd quiet
@@ -307,7 +307,7 @@ quiet-meta k m (plan.Accept image true) quiet = absurd quiet
 quiet-meta k m (plan.Accept image false) quiet = refl
 quiet-meta k m plan.Back quiet = absurd quiet
 
-pub quiet-moves : (s : State) (stg : Option (List Staged)) (p : Plan) → IsQuiet p → planned_moves s stg p ≡ []
+pub quiet-moves : (s : State) (stg : Option (List Staged)) (p : Plan) → IsQuietPlan p → planned_moves s stg p ≡ []
 quiet-moves s stg plan.Tell quiet = refl
 quiet-moves s stg (plan.BeginPartial store named) quiet = absurd quiet
 quiet-moves s stg (plan.Begin true) quiet = absurd quiet
@@ -340,13 +340,13 @@ keeps-total tells f fitting (plan.Accept image store) may E s same speaks = tt
 keeps-total tells f fitting plan.Back may E s same speaks = tt
 
 -- settling such a plan is as it says
-quiet-settles : (k : Kept) (m : MetaRead) (bytes : List ℕ) (p : Plan) (new_meta : MetaRead) (new : Kept) → IsQuiet p
+quiet-settles : (k : Kept) (m : MetaRead) (bytes : List ℕ) (p : Plan) (new_meta : MetaRead) (new : Kept) → IsQuietPlan p
     → SettlesBy k m bytes (decision.Do p) new_meta new → Settles k m bytes p new_meta new
 quiet-settles k m bytes (plan.BeginPartial store named) new_meta new quiet settles = absurd quiet
 quiet-settles k m bytes other new_meta new quiet settles = settles
 
 module _ (tells : Bool) (t : Told) (f : Fields) (k : Kept) (new_meta : MetaRead) (bytes : List ℕ) (p : Plan) (fitting : Fitting f) (sound : SessionSound f)
-    (knows : IsTrue tells → Knows f t) (quiet : IsQuiet p) (of : IsPlanOf f.session p) (may : MayKeep tells f p)
+    (knows : IsTrue tells → Knows f t) (quiet : IsQuietPlan p) (of : IsPlanOf f.session p) (may : MayKeep tells f p)
     (changes : Changes f.session bytes p k) (meta : new_meta ≡ record f.meta { meta = meta_planned f.session f.meta.meta p })
     (settled : SettlesBy f.session f.meta bytes (decision.Do p) new_meta k) where
   settles : Settles f.session f.meta bytes p new_meta k

@@ -20,18 +20,18 @@ use Rattle.agent_kept.specs.declared.kinds.Request.TheVariants as request
 use Rattle.agent_kept.specs.declared.kinds.Decision.TheVariants as decision
 use Rattle.agent_kept.specs.Kept.{staging_meant, handles_meant}
 use Rattle.agent_kept.specs.Plans.{call_of, planned, planned_in}
-use Rattle.agent_state.specs.Decides.{Decides}
+use Rattle.agent_state.specs.Decides.{DecidesRequest}
 use Rattle.agent_state.specs.Settles.{IsPlanOf}
 use Rattle.agent_machine.proofs.Deciding.{decides-same}
 use Rattle.agent_machine.specs.Beside.{IsSpared}
 use Rattle.agent_machine.proofs.Beside.{spared-told}
 use Rattle.agent_machine.specs.declared.stop.Stop.TheVariants as stop
-use Rattle.agent_machine.specs.Fields.{Fields, total_of, IsThere}
+use Rattle.agent_machine.specs.Fields.{Fields, total_of, IsImageOrDirectory}
 use Rattle.agent_machine.specs.Carries.{CarriedOut, state_before}
 use Rattle.agent_machine.specs.Directory.{piece_of}
 use Rattle.agent_machine.specs.Knows.{Fitting, SessionSound, Knows}
 use Rattle.agent_machine.specs.Moment.{Moment, Shows}
-use Rattle.agent_machine.specs.Meets.{IsGot, Leaves, Meets, Stays}
+use Rattle.agent_machine.specs.Meets.{IsGot, LeavesFlash, Meets, Stays}
 use Rattle.agent_machine.proofs.Answered.{FitsEach, shown-totals, refused-meets, done-meets, lost-meets, fault-meets, leaves-by, content-total}
 use Rattle.fwu_model.specs.State.{State}
 use Rattle.agent_machine.proofs.Room.{old-readers}
@@ -76,7 +76,7 @@ read-reply E s boot stg hs bytes h image at n total = refl
 module _ (m : Moment) (fitting : Fitting m.fields) (number : ℕ) (image : Option ℕ) (at n total : ℕ)
     (of : IsPlanOf m.fields.session (plan.Read number image at n total)) where
   -- what is read is there
-  read-there : IsThere m.fields image
+  read-there : IsImageOrDirectory m.fields image
   read-there = (old-readers m.fields fitting (number - 1) image at total of.1).1
 
   read-total : total ≡ total_of m.fields image
@@ -120,11 +120,11 @@ module _ (old : Moment) (fitting : Fitting old.fields) (sound : SessionSound old
       (shown-totals f fitting sound E s setting.layout speaks).total (h - 1) image at total is
 
   pub read-refused : (Says : ℕ × ℕ → Reply → Type 0) (st : Status) → ((passes : List ℕ → Bool)
-      → Decides passes f.meta f.counter f.session f.boot asked (decision.Refused st)) → (passes : List ℕ → Bool)
+      → DecidesRequest passes f.meta f.counter f.session f.boot asked (decision.Refused st)) → (passes : List ℕ → Bool)
       → Meets {T = ℕ × ℕ} Says (Err (stop.Status st)) passes (call_of asked []) old old
   read-refused Says st decides passes = refused-meets old fitting sound passes asked [] (reader-fits passes) st (decides passes) Says
 
-  module _ (p : Plan) (decides : (passes : List ℕ → Bool) → Decides passes f.meta f.counter f.session f.boot asked (decision.Do p)) (number : ℕ)
+  module _ (p : Plan) (decides : (passes : List ℕ → Bool) → DecidesRequest passes f.meta f.counter f.session f.boot asked (decision.Do p)) (number : ℕ)
       (image : Option ℕ) (at n total : ℕ) (is : p ≡ plan.Read number image at n total) (of-it : IsPlanOf f.session p) where
     abbrev own : Plan
     own = plan.Read number image at n total
@@ -132,11 +132,11 @@ module _ (old : Moment) (fitting : Fitting old.fields) (sound : SessionSound old
     of : IsPlanOf f.session own
     of = subst (IsPlanOf f.session) is of-it
 
-    reads : (passes : List ℕ → Bool) → Decides passes f.meta f.counter f.session f.boot asked (decision.Do own)
-    reads passes = subst (λ (q : Plan). Decides passes f.meta f.counter f.session f.boot asked (decision.Do q)) is (decides passes)
+    reads : (passes : List ℕ → Bool) → DecidesRequest passes f.meta f.counter f.session f.boot asked (decision.Do own)
+    reads passes = subst (λ (q : Plan). DecidesRequest passes f.meta f.counter f.session f.boot asked (decision.Do q)) is (decides passes)
 
     module _ (new : Moment) (told : IsTrue old.tells → new.told ≡ old.told) (passes : List ℕ → Bool) where
-      leaves : (result : Result (Unit {0}) FlashStop) → Stays old new → Leaves result passes (call_of asked []) old new
+      leaves : (result : Result (Unit {0}) FlashStop) → Stays old new → LeavesFlash result passes (call_of asked []) old new
       leaves result stays =
           leaves-by old new fitting sound knows passes asked [] (reader-fits passes) own (reads passes) result
           (λ tells E setting ready. subst (λ (t : Told). Does result E (state_before old) [] t) (sym (told tells))

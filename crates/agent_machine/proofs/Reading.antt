@@ -8,7 +8,7 @@ use Rattle.fwu_formats.proofs.Spell.{part_front}
 use Rattle.fwu_formats.proofs.SealLaws.{limits}
 use Rattle.fwu_model.specs.Sound.{Setting}
 use Rattle.fwu_model.specs.Answer.{content, held_package}
-use Rattle.agent_machine.specs.Fields.{Fields, total_of, IsThere}
+use Rattle.agent_machine.specs.Fields.{Fields, total_of, IsImageOrDirectory}
 use Rattle.agent_machine.specs.Machine.{state_in}
 use Rattle.agent_machine.specs.Knows.{Fitting, Knows}
 use Rattle.agent_machine.proofs.Held.{held-in-slots}
@@ -38,7 +38,7 @@ image-piece E f t image at n same fitting knows lt fits =
     ∙ ap (take n) (drop-drop at place t.now)
 
 -- what is read is what the machine reads
-pub piece-is : (E : Setting) (f : Fields) (t : Told) (image : Option ℕ) (at n : ℕ) → E.layout ≡ f.layout → Fitting f → Knows f t → IsThere f image
+pub piece-is : (E : Setting) (f : Fields) (t : Told) (image : Option ℕ) (at n : ℕ) → E.layout ≡ f.layout → Fitting f → Knows f t → IsImageOrDirectory f image
     → at + n ≤ total_of f image
     → take n (drop at (content E (state_in f t.now) f.boot image)) ≡ piece_of f.layout f.meta.meta f.boot f.lengths t.now image at n
 piece-is E f t None at n same fitting knows there fits = ap (λ (l : List ℕ). take n (drop at l)) (directory-is E f t same fitting knows)

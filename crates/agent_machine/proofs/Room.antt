@@ -16,20 +16,20 @@ use Rattle.agent_state.specs.Decides.{IsMetaOf}
 use Rattle.slot_writer.specs.Slots.{Appends, blocks_for, done_of}
 use Rattle.agent_kept.specs.declared.parts.Handle.{Handle}
 use Rattle.agent_kept.specs.declared.parts.Handle.TheVariants.{Free, Reads, Writes}
-use Rattle.agent_kept.specs.Kept.{Kept, HasNothing, handle_kept, slot_of}
+use Rattle.agent_kept.specs.Kept.{Kept, HasNothing, handle_kept, slot_room_of}
 use Rattle.agent_machine.specs.Beside.{KeepsSpared}
 use Rattle.agent_machine.proofs.Beside.{slot-spares}
 use Rattle.agent_machine.specs.Fields.{Fields, total_of, target, with_session}
 use Rattle.agent_machine.specs.Knows.{Fitting, SessionSound, Knows}
 use Rattle.agent_machine.specs.Law.{StaysKnown}
 use Rattle.agent_machine.proofs.Staging.{stays-known}
-use Rattle.agent_machine.proofs.Answered.{IsThere, layout-limits}
+use Rattle.agent_machine.proofs.Answered.{IsImageOrDirectory, layout-limits}
 
 pub slot-small : (L : Layout) (image : ℕ) → IsTrue (fits_layout L) → image < length L.rows → slot_bytes L image ≤ 1048576
 slot-small L image h lt = let small = (rows-limits (record { guid = []; slots = 0 }) L.rows (rows-fit L h) image lt).slots in omega (arith, small)
 
 -- also where there is no such image
-pub slots-small : (L : Layout) → IsTrue (fits_layout L) → (image : ℕ) → slot_of L.rows image ≤ 1048576
+pub slots-small : (L : Layout) → IsTrue (fits_layout L) → (image : ℕ) → slot_room_of L.rows image ≤ 1048576
 slots-small L h image = elim (cases_lt image (length L.rows)) [
   | inl lt ↦ slot-small L image h lt
   | inr past ↦ let none : (get_or L.rows image (record { guid = []; slots = 0 })).slots ≡ 0 = ap (λ (r : ImageRow). r.slots)
@@ -47,7 +47,7 @@ slot-inside L bank image lt =
 
 -- a reader is of what is there, and has its total
 abbrev pub ReadsWell : Fields → Handle → Type 0
-ReadsWell f h = (image : Option ℕ) (at total : ℕ) → h ≡ Reads image at total → (total ≡ total_of f image) × IsThere f image
+ReadsWell f h = (image : Option ℕ) (at total : ℕ) → h ≡ Reads image at total → (total ≡ total_of f image) × IsImageOrDirectory f image
 
 pub free-well : (f : Fields) → ReadsWell f Free
 free-well f image at total e = absurd cc

@@ -8,34 +8,12 @@ use Rattle.flash_core.specs.declared.flash.Flash.{Ghosts}
 use Rattle.flash_core.specs.declared.flash.FlashStop.{FlashStop}
 use Rattle.flash_core.specs.declared.flash.FlashStop.TheVariants.{Lost, Failed}
 use Rattle.flash_core.specs.Counts.{ReachesNone, StaysUnarmed, arming_kept}
-use Rattle.flash_core.proofs.Costs.{spends_none, spends_then, rose_earlier}
+use Rattle.flash_core.proofs.Costs.{spends_none, spends_then}
+use Rattle.flash_core.proofs.Unarmed.{unarmed_none, unarmed_then}
 use Rattle.agent_machine.specs.declared.stop.Stop.{Stop}
 use Rattle.agent_machine.specs.declared.stop.Stop.TheVariants as stop
 use Rattle.agent_machine.specs.Meets.{GoesBy, IsDone, IsRefused, flash_result}
 use Rattle.agent_machine.specs.CallGoes.{AgentAt, CallGoes, Spent}
-
--- ---- where none was armed
-
-done-lost : ◌≡◌ {A = Result (Unit {0}) FlashStop} (Ok tt) (Err Lost) → ⊥
-done-lost e = absurd cc
-
-pub still-unarmed : (armed : Option Arming) (c : Counts) → StaysUnarmed {T = Unit {0}} (Ok tt) armed armed c c
-still-unarmed armed c none = (none, record { same = refl; lost = λ e. absurd (done-lost e) })
-
--- calls that were done, and one more
-pub unarmed-then : (result : Result (Unit {0}) FlashStop) (a b c : Option Arming) (u v w : Counts) → u.cuts ≤ v.cuts
-    → StaysUnarmed {T = Unit {0}} (Ok tt) a b u v → StaysUnarmed result b c v w → StaysUnarmed result a c u w
-unarmed-then result a b c u v w less first second none =
-    let one = first none in
-    let two = second one.0 in
-    (two.0, record { same = two.1.same ∙ one.1.same; lost = λ e. rose_earlier u.cuts v.cuts w.cuts less (two.1.lost e) })
-
--- what only reads
-pub unarmed-read : (result : Result (Unit {0}) FlashStop) (armed arming : Option Arming) (old new : Counts)
-    → arming ≡ arming_kept result armed → ReachesNone result old new → StaysUnarmed result armed arming old new
-unarmed-read (Ok u) armed arming old new is reached none = (is ∙ none, reached)
-unarmed-read (Err Lost) armed arming old new is reached none = (is, reached)
-unarmed-read (Err Failed) armed arming old new is reached none = (is ∙ none, reached)
 
 -- ---- whether an agent is gone
 
@@ -65,7 +43,7 @@ none-spent g gone a here power = record {
   power = power;
   size = refl;
   costs = spends_none tt (g.counts a);
-  unarmed = still-unarmed (g.arming a) (g.counts a);
+  unarmed = unarmed_none tt (g.arming a) (g.counts a);
 }
 
 -- a call of an agent that isn't gone
@@ -87,7 +65,7 @@ spent-then {g = g} {result = result} {a = a} {b = b} {c = c} first second = reco
   power = second.power;
   size = second.size ∙ first.size;
   costs = spends_then tt result (g.counts a) (g.counts b) (g.counts c) first.costs second.costs;
-  unarmed = unarmed-then result (g.arming a) (g.arming b) (g.arming c) (g.counts a) (g.counts b) (g.counts c) first.costs.cuts first.unarmed second.unarmed;
+  unarmed = unarmed_then tt result (g.arming a) (g.arming b) (g.arming c) (g.counts a) (g.counts b) (g.counts c) first.costs.cuts first.unarmed second.unarmed;
 }
 
 -- ---- the record of both
@@ -131,25 +109,3 @@ spent-goes result old new done here spent = record {
     goes-by (Err stop.Lost) done was now here is = record { gone = (λ e. absurd cc, λ is. absurd (is-gone was is here)); later = (λ now-gone. inr tt, λ one. is) }
     goes-by (Err stop.Fault) done was now here is = record { gone = (λ e. absurd cc, λ is. absurd (is-gone was is here)); later = (λ now-gone. inr tt, λ one. is) }
     goes-by (Err stop.Gone) done was now here is = absurd done
-
--- a call that was done, and one more that isn't refused
-pub calls-then : {A D T U : Type 0} {g : Ghosts D} (x : T) (result : Result U Stop) (a b c : AgentAt A D) → (IsRefused result → ⊥)
-    → CallGoes {T = T} g (Ok x) a b → CallGoes g result b c → CallGoes g result a c
-calls-then {T = T} {U = U} x result a b c unrefused first second =
-    let here = was-here a.gone first.gone in
-    let amid : IsFalse b.gone = gone-by (Ok x) a.gone b.gone here first.gone in
-    spent-goes result a c (done result unrefused amid second.gone) here (spent-then (call-spent here first) (call-spent amid second))
-  where
-    was-here : (was : Bool) {now : Bool} → GoesBy {T = T} (Ok x) was now → IsFalse was
-    was-here false goes = refl
-    was-here true goes = absurd (never (goes.gone.1 refl))
-      where
-        never : Ok x ≡ Err stop.Gone → ⊥
-        never e = absurd cc
-
-    done : (r : Result U Stop) → (IsRefused r → ⊥) → IsFalse b.gone → GoesBy r b.gone c.gone → IsDone r
-    done (Ok y) unrefused amid goes = tt
-    done (Err (stop.Status st)) unrefused amid goes = unrefused tt
-    done (Err stop.Lost) unrefused amid goes = tt
-    done (Err stop.Fault) unrefused amid goes = tt
-    done (Err stop.Gone) unrefused amid goes = absurd (is-gone b.gone (goes.gone.0 refl) amid)

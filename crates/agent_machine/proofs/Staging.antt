@@ -23,7 +23,7 @@ use Rattle.std.proofs.lemmas.List.Sums.{sum_by-cons}
 use Rattle.slot_writer.specs.Slots.{done_of}
 use Rattle.agent_kept.specs.declared.parts.Part.{Part}
 use Rattle.agent_kept.specs.declared.parts.Part.TheVariants.{Nothing, Open, Committed}
-use Rattle.agent_kept.specs.Kept.{part_at, size_of, slot_of}
+use Rattle.agent_kept.specs.Kept.{part_at, size_of, slot_room_of}
 use Rattle.agent_machine.specs.Fields.{Fields, target, rest_of}
 use Rattle.agent_machine.specs.Machine.{state_in, part_bytes}
 use Rattle.agent_machine.specs.Knows.{Fitting, SessionSound, Knows}
@@ -67,7 +67,7 @@ module _ (f : Fields) (image : ℕ) (s t : Told) (fitting : Fitting f) (sound : 
   in-slot : (other : ℕ) → other < length L.rows → size_of (part_at f.session other) ≤ slot_bytes L other
   in-slot other lt =
       let count : length f.session.rows ≡ length L.rows = ap (λ (l : List ImageRow). length l) fitting.rows in
-      let slot : slot_of f.session.rows other ≡ slot_bytes L other = ap (λ (l : List ImageRow). slot_of l other) fitting.rows in
+      let slot : slot_room_of f.session.rows other ≡ slot_bytes L other = ap (λ (l : List ImageRow). slot_room_of l other) fitting.rows in
       omega (arith, sound.sizes other (omega (arith, count, lt)), slot)
 
   below : u < L.banks

@@ -30,7 +30,7 @@ use Rattle.agent_kept.specs.declared.kinds.Decision.{Decision}
 use Rattle.agent_kept.specs.declared.kinds.Decision.TheVariants as decision
 use Rattle.agent_kept.specs.Kept.{session_meant, staging_meant, handles_meant, parts_meant}
 use Rattle.agent_kept.specs.Plans.{planned_in, by_verdict}
-use Rattle.agent_state.specs.Decides.{Decides, has_other_kept}
+use Rattle.agent_state.specs.Decides.{DecidesRequest, has_other_kept}
 use Rattle.agent_state.specs.Ruled.{ruled_as}
 use Rattle.agent_state.proofs.Machine.{leave-is, other-is, is-idle}
 use Rattle.agent_state.proofs.Replies.{accepting, previous-staging}
@@ -43,7 +43,7 @@ use Rattle.agent_machine.specs.declared.stop.Stop.TheVariants as stop
 use Rattle.agent_machine.specs.Fields.{Fields}
 use Rattle.agent_machine.specs.Machine.{state_in}
 use Rattle.agent_machine.specs.Knows.{Fitting, SessionSound, Knows}
-use Rattle.agent_machine.specs.Meets.{IsRefused, IsSettingOf, IsStopped, Leaves, MeetsPrevious, flash_result, may_try}
+use Rattle.agent_machine.specs.Meets.{IsRefused, IsSettingOf, IsStopped, LeavesFlash, MeetsPrevious, flash_result, may_try}
 use Rattle.agent_machine.specs.Moment.{Moment, Shows, SpeaksOf}
 use Rattle.agent_machine.specs.Stored.{MayGoBack, CarriesOut, MayBeDone, may_try_kept, is_to_do}
 use Rattle.agent_machine.proofs.StoredAnswers.{asks, stays, goes, denied-alone}
@@ -169,7 +169,7 @@ module _ (tells : Bool) (f : Fields) (fitting : Fitting f) (sound : SessionSound
       subst (λ (z : Session). answer E x z call.Previous ≡ refused status.Denied z) (sym shows.means) (not-tried f x shows.speaks shows.staged E untried))
 
   -- it is refused as it is decided
-  pub refused-meets-previous : (st : Status) → Decides passes f.meta f.counter f.session f.boot request.Previous (decision.Refused st)
+  pub refused-meets-previous : (st : Status) → DecidesRequest passes f.meta f.counter f.session f.boot request.Previous (decision.Refused st)
       → MeetsPrevious (Err (stop.Status st)) passes old mid
   refused-meets-previous st decides = record {
     exact = λ E x y setting shows is. refused-answers tells f s t same passes call.Previous st E x y shows (here E x y setting shows);
@@ -186,7 +186,7 @@ module _ (tells : Bool) (f : Fields) (fitting : Fitting f) (sound : SessionSound
       here E x y setting shows = refused-of old fitting sound passes request.Previous (λ e z. tt) st decides E x y setting shows
 
   -- the flash stopped the reading
-  stopped-leaves : (result : Result (Unit {0}) FlashStop) → IsErr result → Leaves result passes call.Previous old mid
+  stopped-leaves : (result : Result (Unit {0}) FlashStop) → IsErr result → LeavesFlash result passes call.Previous old mid
   stopped-leaves result err = record {
     does = λ E x y setting shows is ready. does-idle result E x (answer E x y call.Previous).moves t err
         (subst (λ (u : Told). IsCalm E u x) (sym (same is)) ready.calm);
@@ -217,7 +217,7 @@ module _ (tells : Bool) (f : Fields) (fitting : Fitting f) (sound : SessionSound
   stopped-meets stop.Gone is = absurd is
 
   module _ (knows : IsTrue tells → Knows f s) (may : may_try_kept f.meta.meta f.session f.boot ≡ true) (d : Decision)
-      (decides : Decides passes f.meta f.counter f.session f.boot request.Previous d) (good : Bool)
+      (decides : DecidesRequest passes f.meta f.counter f.session f.boot request.Previous d) (good : Bool)
       (good-is : IsTrue tells → (E : Setting) → IsSettingOf f passes E → good ≡ holds_permitted E f.counter
       (package_in f.layout s.now f.meta.meta.previous)) where
     module _ (E : Setting) (x : State) (y : Session) (setting : IsSettingOf f passes E) (shows : Shows old x y) (is : IsTrue tells) where
@@ -239,7 +239,7 @@ module _ (tells : Bool) (f : Fields) (fitting : Fitting f) (sound : SessionSound
       no-plan : (p : Plan) → d ≡ decision.Do p → good ≡ false → ⊥
       no-plan p d-is bad =
           let planned-it = planned-of old fitting sound passes request.Previous (λ e z. tt) p
-          (subst (Decides passes f.meta f.counter f.session f.boot request.Previous) d-is decides) E x y setting shows in
+          (subst (DecidesRequest passes f.meta f.counter f.session f.boot request.Previous) d-is decides) E x y setting shows in
           let there = goes E x f.boot (staging_meant f.session shows.staged) (handles_meant f.session) p
           (subst (λ (z : Session). answer E x z call.Previous ≡ planned_in E x z [] p) shows.means planned-it) in
           true-false good (sym (verdict-is f fitting s passes may good (good-is is) E setting (sym (knows is).counter_is)) ∙ sym
@@ -248,7 +248,7 @@ module _ (tells : Bool) (f : Fields) (fitting : Fitting f) (sound : SessionSound
       no-refusal : (st : Status) → d ≡ decision.Refused st → good ≡ true → ⊥
       no-refusal st d-is fine =
           let refused-it = refused-of old fitting sound passes request.Previous (λ e z. tt) st
-          (subst (Decides passes f.meta f.counter f.session f.boot request.Previous) d-is decides) E x y setting shows in
+          (subst (DecidesRequest passes f.meta f.counter f.session f.boot request.Previous) d-is decides) E x y setting shows in
           success-refused y st (sym (ruled-is ∙ ap (by_verdict y) fine) ∙ refused-it)
 
       is-good : is_to_do (ruled_as d good) ≡ true → good ≡ true

@@ -21,7 +21,7 @@ use Rattle.agent_kept.specs.declared.kinds.Decision.{Decision}
 use Rattle.agent_kept.specs.declared.kinds.Decision.TheVariants as decision
 use Rattle.agent_kept.specs.Kept.{Kept, session_meant, staging_meant, handles_meant, parts_meant}
 use Rattle.agent_kept.specs.Plans.{call_of, planned, planned_in, loosely, FitsRequest, DecidesAs}
-use Rattle.agent_state.specs.Decides.{Decides, cannot_begin_kept}
+use Rattle.agent_state.specs.Decides.{DecidesRequest, cannot_begin_kept}
 use Rattle.agent_state.proofs.Machine.{state-is, active-is, cannot-is}
 use Rattle.agent_machine.specs.Fields.{Fields, target}
 use Rattle.agent_machine.specs.Knows.{Fitting, SessionSound, SomeStaged}
@@ -42,7 +42,7 @@ module _ (m : Moment) (fitting : Fitting m.fields) (sound : SessionSound m.field
   f = m.fields
 
   abbrev Decided : Decision → Type 0
-  Decided d = Decides passes f.meta f.counter f.session f.boot r d
+  Decided d = DecidesRequest passes f.meta f.counter f.session f.boot r d
 
   pub decided-of : (d : Decision) → Decided d → (E : Setting) (s : State) (x : Session) → IsSettingOf f passes E → Shows m s x
       → DecidesAs E s x (call_of r []) [] d
@@ -98,7 +98,7 @@ accept-succeeds E s boot stg hs image store = refl
 -- ---- begin
 
 module _ (f : Fields) (fitting : Fitting f) (sound : SessionSound f) (passes : List ℕ → Bool) (flags n : ℕ) (p : Plan)
-    (decides : Decides passes f.meta f.counter f.session f.boot (request.Begin flags n) (decision.Do p)) where
+    (decides : DecidesRequest passes f.meta f.counter f.session f.boot (request.Begin flags n) (decision.Do p)) where
   module _ (tells : Bool) (t : Told) where
     begins-as : (E : Setting) (s : State) (x : Session) → IsSettingOf f passes E → (shows : Shows (moment-of tells t f) s x)
         → Begins E s f.boot (staging_meant f.session shows.staged) (handles_meant f.session) n p
@@ -137,7 +137,7 @@ module _ (f : Fields) (fitting : Fitting f) (sound : SessionSound f) (passes : L
 -- ---- accept
 
 module _ (f : Fields) (fitting : Fitting f) (sound : SessionSound f) (passes : List ℕ → Bool) (guid : List ℕ) (p : Plan)
-    (decides : Decides passes f.meta f.counter f.session f.boot (request.Accept guid) (decision.Do p)) where
+    (decides : DecidesRequest passes f.meta f.counter f.session f.boot (request.Accept guid) (decision.Do p)) where
   module _ (tells : Bool) (t : Told) where
     accept-planned : (E : Setting) (s : State) (x : Session) → IsSettingOf f passes E → (shows : Shows (moment-of tells t f) s x)
         → answer E s (session_meant f.session f.boot shows.staged) (call.Accepts guid) ≡ planned E s f.boot (staging_meant f.session shows.staged)

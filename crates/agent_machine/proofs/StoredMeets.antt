@@ -24,7 +24,7 @@ use Rattle.agent_machine.specs.Fields.{Fields}
 use Rattle.agent_machine.proofs.Beside.{spared-told}
 use Rattle.agent_machine.specs.Machine.{state_in, session_in}
 use Rattle.agent_machine.specs.Moment.{Moment, Shows}
-use Rattle.agent_machine.specs.Meets.{Answers, GoesBack, IsRefused, IsSettingOf, Leaves, Meets, MeetsPrevious, flash_result, may_try}
+use Rattle.agent_machine.specs.Meets.{Answers, GoesBack, IsRefused, IsSettingOf, LeavesFlash, Meets, MeetsPrevious, flash_result, may_try}
 use Rattle.agent_machine.specs.Stored.{CarriesOut, MayBeDone}
 
 abbrev Succeeds : Unit {0} → Reply → Type 0
@@ -89,7 +89,7 @@ module _ (tells : Bool) (f : Fields) (s t : Told) (same : IsTrue tells → t ≡
 
   -- a refusal, or an answer that changes nothing
   pub same-leaves : (passes : List ℕ → Bool) (c : Call) → ((E : Setting) (x : State) (y : Session) → IsSettingOf f passes E → Shows old x y
-      → IsTrue tells → (answer E x y c).moves ≡ []) → Leaves (Ok tt) passes c old new
+      → IsTrue tells → (answer E x y c).moves ≡ []) → LeavesFlash (Ok tt) passes c old new
   same-leaves passes c none = record {
     does = λ E x y setting shows is ready.
         subst (λ (ms : List Move). Does {T = Unit {0}} (Ok tt) E x ms t) (sym (none E x y setting shows is))

@@ -4,7 +4,7 @@ use Rattle.flash_core.specs.Told.{Told}
 use Rattle.fwu_formats.specs.Layout.{ImageRow}
 use Rattle.fwu_formats.specs.Metadata.{MetaRead, fits_meta}
 use Rattle.meta_layout.proofs.Fits.{meta-fits}
-use Rattle.moves.specs.Law.{Done}
+use Rattle.moves.specs.Law.{CallResult}
 use Rattle.agent_kept.specs.declared.kinds.Plan.{Plan}
 use Rattle.agent_kept.specs.declared.kinds.Plan.TheVariants as plan
 use Rattle.agent_kept.specs.declared.kinds.Decision.TheVariants as decision
@@ -67,7 +67,7 @@ module _ (f : Fields) (fitting : Fitting f) where
     planned-known plan.Back k knows may changes stores = subst (λ (x : Kept). Knows (after_plan f plan.Back x) t) (sym changes)
         (back-known f s t fitting knows may stores)
 
-    module _ (tells : Bool) (result : Done) (knows : IsTrue tells → Knows f s) where
+    module _ (tells : Bool) (result : CallResult) (knows : IsTrue tells → Knows f s) where
       abbrev Settled : Plan → Kept → Type 0
       Settled p k = Settles f.session f.meta [] p (after_plan f p k).meta k
 
@@ -130,7 +130,7 @@ module _ (f : Fields) (fitting : Fitting f) (p : Plan) (k : Kept) (m : MetaRead)
   after-some some = planned-some f fitting p k may changes some
 
   module _ (s t : Told) (stored : Bool) (stored-is : stored ≡ is_stored p) where
-    stores-planned : (result : Done) → StoresIf stored result f.layout m.meta s t
+    stores-planned : (result : CallResult) → StoresIf stored result f.layout m.meta s t
         → StoresIf (is_stored p) result f.layout (meta_planned f.session f.meta.meta p) s t
     stores-planned result stores =
         subst (λ (b : Bool). StoresIf b result f.layout (meta_planned f.session f.meta.meta p) s t) stored-is
@@ -139,7 +139,7 @@ module _ (f : Fields) (fitting : Fitting f) (p : Plan) (k : Kept) (m : MetaRead)
     pub after-known : Knows f s → StoresIf {T = Unit {0}} stored (Ok tt) f.layout m.meta s t → Knows g t
     after-known knows stores = subst (λ (x : Fields). Knows x t) fields-are (planned-known f fitting s t p k knows may changes (stores-planned (Ok tt) stores))
 
-    pub after-carried : (tells : Bool) (result : Done) → SessionSound f → (IsTrue tells → Knows f s) → SettlesBy f.session f.meta [] (decision.Do p) m k
+    pub after-carried : (tells : Bool) (result : CallResult) → SessionSound f → (IsTrue tells → Knows f s) → SettlesBy f.session f.meta [] (decision.Do p) m k
         → (IsTrue tells → StoresIf stored result f.layout m.meta s t)
         → CarriesOut result p (record { tells = tells; told = s; fields = f }) (record { tells = tells; told = t; fields = g })
     after-carried tells result sound knows settles stores =

@@ -12,7 +12,7 @@ use Rattle.fwu_model.specs.Answer.{held_package}
 use Rattle.fwu_model.specs.MoveMetas.{meta_in, meta_after, bits_in}
 use Rattle.fwu_model.specs.Calm.{IsAtRest}
 use Rattle.moves.specs.Moved.{IsReady, Does, GuardedBy}
-use Rattle.moves.specs.Law.{Done}
+use Rattle.moves.specs.Law.{CallResult}
 use Rattle.moves.proofs.Agree.{bank-count}
 use Rattle.moves.proofs.Composed.{does-nothing}
 use Rattle.replicas.specs.Stores.{Stores}
@@ -97,7 +97,7 @@ module _ (f : Fields) (s : State) (of : SpeaksOf f s) (fitting : Fitting f) wher
 
 -- ---- a plan carried out, by its parts
 
-module _ (tells : Bool) (f : Fields) (s t : Told) (result : Done) (p : Plan) (k : Kept) where
+module _ (tells : Bool) (f : Fields) (s t : Told) (result : CallResult) (p : Plan) (k : Kept) where
   abbrev pub old : Moment
   old = record { tells = tells; told = s; fields = f }
 
@@ -146,7 +146,7 @@ module _ (tells : Bool) (f : Fields) (s t : Told) (result : Done) (p : Plan) (k 
           means = sym si.next;
         })
 
-    by-result : (r : Done) (P : Type 0) → (IsTrue (is_ok r) → P) → OnOk r P
+    by-result : (r : CallResult) (P : Type 0) → (IsTrue (is_ok r) → P) → OnOk r P
     by-result (Ok x) P h = h refl
     by-result (Err stop) P h = tt
 
@@ -170,11 +170,11 @@ module _ (tells : Bool) (f : Fields) (s t : Told) (result : Done) (p : Plan) (k 
 idle-session : (k : Kept) (boot : ℕ) (a b : ℕ → List ℕ) → k.staging ≡ false → session_meant k boot a ≡ session_meant k boot b
 idle-session k boot a b off = ap (λ (o : Option (List Staged)). machine.On boot o (handles_meant k)) (is-idle k a off ∙ sym (is-idle k b off))
 
-done-is : (result : Done) → IsTrue (is_ok result) → result ≡ Ok tt
+done-is : (result : CallResult) → IsTrue (is_ok result) → result ≡ Ok tt
 done-is (Ok x) h = refl
 done-is (Err stop) h = absurd cc
 
-module _ (tells : Bool) (f : Fields) (s t : Told) (result : Done) (fitting : Fitting f) (knows : IsTrue tells → Knows f s) where
+module _ (tells : Bool) (f : Fields) (s t : Told) (result : CallResult) (fitting : Fitting f) (knows : IsTrue tells → Knows f s) where
   abbrev m : Meta
   m = f.meta.meta
 
@@ -203,7 +203,7 @@ module _ (tells : Bool) (f : Fields) (s t : Told) (result : Done) (fitting : Fit
     session = λ a b. restarts-staging k f.boot a restarts.nothing restarts.staging_is restarts.closed ∙ sym
         (restarts-staging k f.boot b restarts.nothing restarts.staging_is restarts.closed);
     state = λ E staged is ok.
-        let done = subst (λ (r : Done). Stores r f.layout (meta_after m (Free (next_bank m))) s t) (done-is result ok) (stores is) in
+        let done = subst (λ (r : CallResult). Stores r f.layout (meta_after m (Free (next_bank m))) s t) (done-is result ok) (stores is) in
         ap (λ (b : ℕ). after (state_in f s.now) (Free b ∷ [])) (freed-bank is)
         ∙ sym (state-after f s t (knows is) (meta_after m (Free (next_bank m))) k f.trials (Free (target f)) done
         (begun-shows f s t fitting (knows is) may done));
@@ -221,7 +221,7 @@ module _ (tells : Bool) (f : Fields) (s t : Told) (result : Done) (fitting : Fit
   same-ready E x still ready = does-nothing result E x t (subst (λ (u : Told). IsReady E u x) (sym still.1) ready)
 
   same-guarded : IsTrue (is_ok result) × (t ≡ s) → IsAtRest s → GuardedBy result t
-  same-guarded still rest = subst (λ (r : Done). GuardedBy r t) (sym (done-is result still.0)) (subst IsAtRest (sym still.1) rest)
+  same-guarded still rest = subst (λ (r : CallResult). GuardedBy r t) (sym (done-is result still.0)) (subst IsAtRest (sym still.1) rest)
 
   same-state : IsTrue (is_ok result) × (t ≡ s) → state_in f s.now ≡ state_in f t.now
   same-state still = ap (λ (u : Told). state_in f u.now) (sym still.1)
@@ -259,7 +259,7 @@ module _ (tells : Bool) (f : Fields) (s t : Told) (result : Done) (fitting : Fit
     speaks = λ E x staged of meta. accepted-speaks f x of fitting image meta;
     session = λ a b. idle-session f.session f.boot a b may.idle;
     state = λ E staged is ok.
-        let done = subst (λ (r : Done). Stores r f.layout (meta_after m (Accept image)) s t) (done-is result ok) (stores is) in
+        let done = subst (λ (r : CallResult). Stores r f.layout (meta_after m (Accept image)) s t) (done-is result ok) (stores is) in
         sym (state-after f s t (knows is) (meta_after m (Accept image)) f.session (after_plan f (plan.Accept image true) f.session).trials
         (Accept image) done (accepted-shows f s t fitting (knows is) image may done));
     does = λ E staged same is may_be ready. (accept-stores image may is (stores is)).does E same tt ready.calm ready.guarded;
@@ -300,7 +300,7 @@ module _ (tells : Bool) (f : Fields) (s t : Told) (result : Done) (fitting : Fit
     speaks = λ E x staged of meta. back-speaks f x of fitting meta;
     session = λ a b. idle-session f.session f.boot a b may.idle;
     state = λ E staged is ok.
-        let done = subst (λ (r : Done). Stores r f.layout (meta_after m Back) s t) (done-is result ok) (stores is) in
+        let done = subst (λ (r : CallResult). Stores r f.layout (meta_after m Back) s t) (done-is result ok) (stores is) in
         sym (state-after f s t (knows is) (meta_after m Back) f.session 0 Back done (back-shows f s t fitting (knows is) may done));
     does = λ E staged same is may_be ready. (back-stores may is (stores is)).does E same may_be ready.calm ready.guarded;
     guarded = λ is rest. (back-stores may is (stores is)).guarded rest;

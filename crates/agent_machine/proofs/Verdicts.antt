@@ -15,8 +15,8 @@ use Rattle.agent_kept.specs.declared.kinds.Plan.TheVariants as plan
 use Rattle.agent_kept.specs.declared.kinds.Decision.TheVariants as decision
 use Rattle.agent_kept.specs.Kept.{Kept}
 use Rattle.agent_kept.specs.Plans.{call_of, planned, Speaks, FitsRequest}
-use Rattle.agent_state.specs.Decides.{Decides}
-use Rattle.agent_machine.specs.Asks.{IsPlain}
+use Rattle.agent_state.specs.Decides.{DecidesRequest}
+use Rattle.agent_machine.specs.Asks.{AsksNoVerifier}
 
 -- the setting with another verifier
 abbrev pub with_verifier : Setting → (List ℕ → Bool) → Setting
@@ -29,7 +29,7 @@ content-any E passes s boot None = refl
 content-any E passes s boot (Some image) = refl
 
 answer-any : (E : Setting) (passes : List ℕ → Bool) (s : State) (boot : ℕ) (stg : Option (List Staged)) (hs : List Handle) (r : Request) (bytes : List ℕ)
-    → IsPlain r
+    → AsksNoVerifier r
     → answer (with_verifier E passes) s (On boot stg hs) (call_of r bytes) ≡ answer E s (On boot stg hs) (call_of r bytes)
 unfolding answer answer_begin answer_begin_partial answer_open_read answer_open_write answer_write answer_read answer_commit answer_cancel answer_accept directory
 answer-any E passes s boot stg hs request.Discover bytes plain = refl
@@ -67,7 +67,7 @@ planned-any E passes s boot stg hs bytes plan.Cancel = refl
 planned-any E passes s boot stg hs bytes (plan.Accept image store) = refl
 planned-any E passes s boot stg hs bytes plan.Back = refl
 
-module _ (p q : List ℕ → Bool) (m : MetaRead) (counter : ℕ) (k : Kept) (boot : ℕ) (r : Request) (plain : IsPlain r) where
+module _ (p q : List ℕ → Bool) (m : MetaRead) (counter : ℕ) (k : Kept) (boot : ℕ) (r : Request) (plain : AsksNoVerifier r) where
   speaks-any : (E : Setting) (s : State) (staged : ℕ → List ℕ) → Speaks E s q m counter k boot staged
       → Speaks (with_verifier E p) s p m counter k boot staged
   speaks-any E s staged sp = record {
@@ -94,11 +94,11 @@ module _ (p q : List ℕ → Bool) (m : MetaRead) (counter : ℕ) (k : Kept) (bo
   fits-any E s bytes request.Previous fits = tt
 
   -- a refusal, and a plan, are the machine's in settings with any verifier
-  pub refuses-any : (st : Status) → Decides p m counter k boot r (decision.Refused st) → Decides q m counter k boot r (decision.Refused st)
+  pub refuses-any : (st : Status) → DecidesRequest p m counter k boot r (decision.Refused st) → DecidesRequest q m counter k boot r (decision.Refused st)
   refuses-any st decides E s staged bytes sp fits =
       sym (answer-any E p s boot _ _ r bytes plain) ∙ decides (with_verifier E p) s staged bytes (speaks-any E s staged sp) (fits-any E s bytes r fits)
 
-  pub plans-any : (d : Plan) → Decides p m counter k boot r (decision.Do d) → Decides q m counter k boot r (decision.Do d)
+  pub plans-any : (d : Plan) → DecidesRequest p m counter k boot r (decision.Do d) → DecidesRequest q m counter k boot r (decision.Do d)
   plans-any d decides E s staged bytes sp fits =
       sym (answer-any E p s boot _ _ r bytes plain) ∙ decides (with_verifier E p) s staged bytes (speaks-any E s staged sp) (fits-any E s bytes r fits)
       ∙ planned-any E p s boot _ _ bytes d

@@ -18,7 +18,7 @@ use Rattle.agent_kept.specs.declared.kinds.Request.TheVariants as request
 use Rattle.agent_kept.specs.declared.kinds.Decision.TheVariants as decision
 use Rattle.agent_kept.specs.Kept.{Kept, IsKept, AppendsPart, part_at, size_of}
 use Rattle.agent_kept.specs.Plans.{call_of}
-use Rattle.agent_state.specs.Decides.{Decides}
+use Rattle.agent_state.specs.Decides.{DecidesRequest}
 use Rattle.agent_state.specs.Settles.{IsPlanOf, Settles, staged_after}
 use Rattle.agent_machine.proofs.Deciding.{decides-kept}
 use Rattle.agent_machine.specs.Fields.{Fields, target, rest_of, with_session}
@@ -26,7 +26,7 @@ use Rattle.agent_machine.specs.Machine.{state_in, staged_bytes}
 use Rattle.agent_machine.specs.Knows.{Fitting, SessionSound, Knows, SomeStaged}
 use Rattle.agent_machine.specs.Moment.{Moment}
 use Rattle.agent_machine.specs.Carries.{MeansSame, CarriedOut, SameBeside}
-use Rattle.agent_machine.specs.Meets.{Leaves, Meets, IsStopped, flash_result}
+use Rattle.agent_machine.specs.Meets.{LeavesFlash, Meets, IsStopped, flash_result}
 use Rattle.agent_machine.specs.declared.stop.Stop.{Stop}
 use Rattle.fwu_model.specs.Reply.{Success}
 use Rattle.agent_machine.specs.Law.{StaysKnown, WriteMeets}
@@ -57,14 +57,14 @@ module _ (old new : Moment) (image first size number at n : ℕ) (left bytes : L
           (room tells) first-is (omega (arith, size-is, fits)) (appends tells)
 
       module _ (passes : List ℕ → Bool) (r : Request) (fits_request : FitsEach f passes r bytes)
-          (decides : Decides passes f.meta f.counter f.session f.boot r (decision.Do (plan.Write number image at n))) (tells-same : new.tells ≡ old.tells)
+          (decides : DecidesRequest passes f.meta f.counter f.session f.boot r (decision.Do (plan.Write number image at n))) (tells-same : new.tells ≡ old.tells)
           (beside : SameBeside f new.fields) where
         guards : (result : Result (Unit {0}) FlashStop) (t : Told) → IsAtRest t → GuardedBy result t
         guards (Ok x) t rest = rest
         guards (Err stop) t rest = rest.guarded
 
         -- a prefix of no moves
-        pub write-leaves : Leaves result passes (call_of r bytes) old new
+        pub write-leaves : LeavesFlash result passes (call_of r bytes) old new
         write-leaves =
             leaves-by old new fitting sound knows passes r bytes fits_request (plan.Write number image at n) decides result
             (λ tells E setting ready. does-nothing result E (state_in f old.told.now) new.told
@@ -147,7 +147,7 @@ module _ (tells : Bool) (s t : Told) (f : Fields) (k : Kept) (new_meta : MetaRea
   }
 
   -- the machine's answer
-  module _ (passes : List ℕ → Bool) (h : ℕ) (decides : Decides passes f.meta f.counter f.session f.boot (request.Write h (length bytes))
+  module _ (passes : List ℕ → Bool) (h : ℕ) (decides : DecidesRequest passes f.meta f.counter f.session f.boot (request.Write h (length bytes))
       (decision.Do (plan.Write number image at (length bytes)))) where
     abbrev before : Moment
     before = record { tells = tells; told = s; fields = f }
@@ -174,13 +174,13 @@ module _ (old new : Moment) (image first size number at : ℕ) (left bytes : Lis
     (fits : size_of (part_at old.fields.session image) + length bytes ≤ slot_bytes old.fields.layout image)
     (first-is : first ≡ start old.fields.layout (target old.fields) image) (size-is : size ≡ size_of (part_at old.fields.session image)) (cause : FlashStop)
     (appends : IsTrue old.tells → Appends {T = Unit {0}} (Err cause) first size (rest_of old.fields image) bytes left old.told new.told)
-    (passes : List ℕ → Bool) (h : ℕ) (decides : Decides passes old.fields.meta old.fields.counter old.fields.session old.fields.boot
+    (passes : List ℕ → Bool) (h : ℕ) (decides : DecidesRequest passes old.fields.meta old.fields.counter old.fields.session old.fields.boot
     (request.Write h (length bytes)) (decision.Do (plan.Write number image at (length bytes)))) (tells-same : new.tells ≡ old.tells)
     (beside : SameBeside old.fields new.fields) where
   pub write-stopped : (r : Stop) → flash_result {T = Unit {0}} (Err r) ≡ Err cause → IsStopped {T = Unit {0}} (Err r)
       → Meets {T = Unit {0}} (λ value reply. reply ≡ Success) (Err r) passes (call_of (request.Write h (length bytes)) bytes) old new
   write-stopped r is stopped =
       stopped-meets (λ value reply. reply ≡ Success) r passes (call_of (request.Write h (length bytes)) bytes) old new stopped
-      (subst (λ (result : Result (Unit {0}) FlashStop). Leaves result passes (call_of (request.Write h (length bytes)) bytes) old new) (sym is)
+      (subst (λ (result : Result (Unit {0}) FlashStop). LeavesFlash result passes (call_of (request.Write h (length bytes)) bytes) old new) (sym is)
       (write-leaves old new image first size number at (length bytes) left bytes fitting sound knows of room fits first-is size-is (Err cause) appends
       passes (request.Write h (length bytes)) (λ E s setting speaks. refl) decides tells-same beside))

@@ -6,46 +6,46 @@ use Rattle.agent_kept.specs.declared.kinds.Request.TheVariants as request
 use Rattle.agent_kept.specs.declared.kinds.Plan.{Plan}
 use Rattle.agent_kept.specs.declared.kinds.Plan.TheVariants as plan
 use Rattle.agent_kept.specs.declared.kinds.Decision.TheVariants.{Do, Refused}
-use Rattle.agent_state.specs.Decides.{Decides}
+use Rattle.agent_state.specs.Decides.{DecidesRequest}
 use Rattle.agent_state.specs.Settles.{IsPlanOf}
 use Rattle.agent_machine.specs.Fields.{Fields}
 
 -- no verifier is asked
-abbrev pub IsPlain : Request → Type 0
-IsPlain request.Discover = Unit {0}
-IsPlain (request.Begin flags n) = Unit {0}
-IsPlain (request.BeginPartial flags list) = Unit {0}
-IsPlain (request.Open guid o total) = Unit {0}
-IsPlain (request.Write h n) = Unit {0}
-IsPlain (request.Read h room) = Unit {0}
-IsPlain (request.Commit h req most) = Unit {0}
-IsPlain request.End = ⊥
-IsPlain request.Cancel = Unit {0}
-IsPlain (request.Accept guid) = Unit {0}
-IsPlain request.Previous = ⊥
+abbrev pub AsksNoVerifier : Request → Type 0
+AsksNoVerifier request.Discover = Unit {0}
+AsksNoVerifier (request.Begin flags n) = Unit {0}
+AsksNoVerifier (request.BeginPartial flags list) = Unit {0}
+AsksNoVerifier (request.Open guid o total) = Unit {0}
+AsksNoVerifier (request.Write h n) = Unit {0}
+AsksNoVerifier (request.Read h room) = Unit {0}
+AsksNoVerifier (request.Commit h req most) = Unit {0}
+AsksNoVerifier request.End = ⊥
+AsksNoVerifier request.Cancel = Unit {0}
+AsksNoVerifier (request.Accept guid) = Unit {0}
+AsksNoVerifier request.Previous = ⊥
 
 -- Nothing of a plan is done on the flash: what is kept changes alone.
-abbrev pub IsQuiet : Plan → Type 0
-IsQuiet plan.Tell = Unit {0}
-IsQuiet (plan.Begin true) = ⊥
-IsQuiet (plan.Begin false) = Unit {0}
+abbrev pub IsQuietPlan : Plan → Type 0
+IsQuietPlan plan.Tell = Unit {0}
+IsQuietPlan (plan.Begin true) = ⊥
+IsQuietPlan (plan.Begin false) = Unit {0}
 -- images are copied on the flash
-IsQuiet (plan.BeginPartial store named) = ⊥
-IsQuiet (plan.Open h image o total) = Unit {0}
-IsQuiet (plan.Write h image at n) = ⊥
-IsQuiet (plan.Read h image at n total) = Unit {0}
-IsQuiet (plan.Commit h None bit) = Unit {0}
-IsQuiet (plan.Commit h (Some image) bit) = ⊥
-IsQuiet plan.End = ⊥
-IsQuiet plan.Cancel = Unit {0}
-IsQuiet (plan.Accept image true) = ⊥
-IsQuiet (plan.Accept image false) = Unit {0}
-IsQuiet plan.Back = ⊥
+IsQuietPlan (plan.BeginPartial store named) = ⊥
+IsQuietPlan (plan.Open h image o total) = Unit {0}
+IsQuietPlan (plan.Write h image at n) = ⊥
+IsQuietPlan (plan.Read h image at n total) = Unit {0}
+IsQuietPlan (plan.Commit h None bit) = Unit {0}
+IsQuietPlan (plan.Commit h (Some image) bit) = ⊥
+IsQuietPlan plan.End = ⊥
+IsQuietPlan plan.Cancel = Unit {0}
+IsQuietPlan (plan.Accept image true) = ⊥
+IsQuietPlan (plan.Accept image false) = Unit {0}
+IsQuietPlan plan.Back = ⊥
 
 -- the plan for a request, or its refusal, is what is decided of it
 abbrev pub PlansAs : (List ℕ → Bool) → Fields → Request → Result Plan Status → Type 0
-PlansAs passes f r (Ok p) = Decides passes f.meta f.counter f.session f.boot r (Do p)
-PlansAs passes f r (Err st) = Decides passes f.meta f.counter f.session f.boot r (Refused st)
+PlansAs passes f r (Ok p) = DecidesRequest passes f.meta f.counter f.session f.boot r (Do p)
+PlansAs passes f r (Err st) = DecidesRequest passes f.meta f.counter f.session f.boot r (Refused st)
 
 -- a plan is of what is kept
 abbrev pub IsPlannedIn : Fields → Result Plan Status → Type 0

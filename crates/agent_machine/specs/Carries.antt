@@ -10,7 +10,7 @@ use Rattle.agent_kept.specs.declared.kinds.Plan.TheVariants as plan
 use Rattle.agent_kept.specs.Kept.{Kept, IsKept, part_at, part_meant, staging_meant}
 use Rattle.agent_kept.specs.Plans.{package_staged, bits_staged}
 use Rattle.agent_state.specs.Settles.{HasTotal, Settles, staged_after}
-use Rattle.agent_machine.specs.Fields.{Fields, target, total_of, IsThere}
+use Rattle.agent_machine.specs.Fields.{Fields, target, total_of, IsImageOrDirectory}
 use Rattle.agent_machine.specs.Machine.{state_in, staged_bytes}
 use Rattle.agent_machine.specs.Moment.{Moment, SpeaksOf}
 
@@ -73,5 +73,5 @@ abbrev pub MayKeep : Bool → Fields → Plan → Type 0
 MayKeep tells f (plan.Begin store) =
     (f.boot ≡ f.meta.meta.active) × IsTrue (is_invalid (state_at f.meta.meta (target f)))
     × (IsTrue tells → IsTrue (is_accepted (state_at f.meta.meta f.meta.meta.active)))
-MayKeep tells f (plan.Open number image op.Read total) = (total ≡ total_of f image) × IsThere f image
+MayKeep tells f (plan.Open number image op.Read total) = (total ≡ total_of f image) × IsImageOrDirectory f image
 MayKeep tells f other = Unit {0}

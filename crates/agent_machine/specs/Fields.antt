@@ -34,9 +34,9 @@ total_of f None = directory_size (length f.layout.rows)
 total_of f (Some image) = slice_index_or f.lengths image 0
 
 -- an image of the layout, or the directory
-abbrev pub IsThere : Fields → Option ℕ → Type 0
-IsThere f None = Unit {0}
-IsThere f (Some image) = image < length f.layout.rows
+abbrev pub IsImageOrDirectory : Fields → Option ℕ → Type 0
+IsImageOrDirectory f None = Unit {0}
+IsImageOrDirectory f (Some image) = image < length f.layout.rows
 
 -- the same agent with another session, and other bytes kept of the staged images
 abbrev pub with_session : Fields → Kept → List (List ℕ) → Fields

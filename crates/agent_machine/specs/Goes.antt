@@ -12,10 +12,10 @@ use Rattle.fwu_model.specs.Calm.{IsAtRest}
 use Rattle.moves.specs.Moved.{Does, GuardedBy, IsReady}
 use Rattle.agent_machine.specs.Beside.{KeepsSparedByAll}
 use Rattle.agent_machine.specs.Moment.{Moment, Shows}
-use Rattle.agent_machine.specs.Meets.{Replies, Stays}
+use Rattle.agent_machine.specs.Meets.{RepliesByMachine, Stays}
 
 -- From a moment that shows a state to one after these moves, with this session, or stopped on the way.
-pub record Goes (E : Setting) (result : Result (Unit {0}) FlashStop) (old new : Moment) (s : State) (ms : List Move)
+pub record GoesByMoves (E : Setting) (result : Result (Unit {0}) FlashStop) (old new : Moment) (s : State) (ms : List Move)
     (y : Session) : Type 0 where
   pub shows : OnOk result (Shows new (after s ms) y)
   pub does : IsTrue old.tells → IsReady E old.told s → Does result E s ms new.told
@@ -28,8 +28,8 @@ pub record Goes (E : Setting) (result : Result (Unit {0}) FlashStop) (old new : 
 
 -- A call that was answered or refused with this reply, whatever its value was.
 pub record Met (E : Setting) (c : Call) (r : Reply) (old new : Moment) : Type 0 where
-  pub replies : (s : State) (x : Session) → Shows old s x → Replies E s x c new r
-  pub goes : (s : State) (x : Session) → Shows old s x → Goes E (Ok tt) old new s (answer E s x c).moves (answer E s x c).next
+  pub replies : (s : State) (x : Session) → Shows old s x → RepliesByMachine E s x c new r
+  pub goes : (s : State) (x : Session) → Shows old s x → GoesByMoves E (Ok tt) old new s (answer E s x c).moves (answer E s x c).next
   pub layout : new.fields.layout ≡ old.fields.layout
 
 -- calls in a row, each from the moment that the one before it left
@@ -39,7 +39,7 @@ pub data CallsMet : Setting → List Call → List Reply → Moment → Moment �
       → CallsMet E cs rs mid new → CallsMet E (c ∷ cs) (r ∷ rs) old new
 
 -- what a list of calls did: its replies are the machine's, and so are its moves and its session
-pub record Ran (E : Setting) (cs : List Call) (rs : List Reply) (old new : Moment) (s : State) (x : Session) : Type 0 where
+pub record RanCalls (E : Setting) (cs : List Call) (rs : List Reply) (old new : Moment) (s : State) (x : Session) : Type 0 where
   pub replies_are : rs ≡ replies_of E s x cs
   pub shows : Shows new (after s (moves_of E s x cs)) (session_of E s x cs)
   pub does : IsTrue old.tells → IsReady E old.told s → Does {T = Unit {0}} (Ok tt) E s (moves_of E s x cs) new.told
@@ -52,10 +52,10 @@ pub record Ran (E : Setting) (cs : List Call) (rs : List Reply) (old new : Momen
 pub record CallsGo : Type 0 where
   -- what is done, and what comes next
   pub next : (E : Setting) (result : Result (Unit {0}) FlashStop) (a b c : Moment) (s : State) (ms ns : List Move) (y z : Session)
-      → Goes E (Ok tt) a b s ms y → Goes E result b c (after s ms) ns z → Goes E result a c s (ms ++ ns) z
+      → GoesByMoves E (Ok tt) a b s ms y → GoesByMoves E result b c (after s ms) ns z → GoesByMoves E result a c s (ms ++ ns) z
   -- what was stopped did a prefix of whatever was to follow
   pub stopped : (E : Setting) (result : Result (Unit {0}) FlashStop) (a b : Moment) (s : State) (ms ns : List Move) (y z : Session)
-      → IsErr result → Goes E result a b s ms y → Goes E result a b s (ms ++ ns) z
+      → IsErr result → GoesByMoves E result a b s ms y → GoesByMoves E result a b s (ms ++ ns) z
   -- a list of calls
   pub all : (E : Setting) (cs : List Call) (rs : List Reply) (old new : Moment) (s : State) (x : Session) → Shows old s x
-      → CallsMet E cs rs old new → Ran E cs rs old new s x
+      → CallsMet E cs rs old new → RanCalls E cs rs old new s x

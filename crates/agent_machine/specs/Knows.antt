@@ -13,7 +13,7 @@ use Rattle.fwu_model.specs.Answer.{held_package}
 use Rattle.slot_writer.specs.Slots.{IsBlankAhead, done_of}
 use Rattle.agent_kept.specs.declared.parts.Part.TheVariants.{Open, Committed}
 use Rattle.agent_kept.specs.declared.parts.Handle.TheVariants.{Reads}
-use Rattle.agent_kept.specs.Kept.{Kept, IsKept, IsSound, HasNothing, part_at, handle_kept}
+use Rattle.agent_kept.specs.Kept.{Kept, IsKept, IsSoundKept, HasNothing, part_at, handle_kept}
 use Rattle.agent_machine.specs.Fields.{Fields, target, total_of}
 use Rattle.agent_machine.specs.Machine.{staged_bytes, state_in}
 
@@ -39,7 +39,7 @@ pub record Fitting (f : Fields) : Type 0 where
 
 -- what the session keeps to, whatever was called
 abbrev pub SessionSound : Fields → Type 0
-SessionSound f = IsSound f.session.staging f.session.rows f.session.parts f.session.handles
+SessionSound f = IsSoundKept f.session.staging f.session.rows f.session.parts f.session.handles
 
 -- What the flash has of the staged image: behind each the block that it ends in is blank, and a committed one is sure.
 pub record HasStaged (f : Fields) (t : Told) : Type 0 where

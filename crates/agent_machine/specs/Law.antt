@@ -15,7 +15,7 @@ use Rattle.fwu_model.specs.Calm.{IsCalm, IsAtRest}
 use Rattle.replicas.specs.Stores.{Stores}
 use Rattle.moves.specs.Moved.{IsReady, Does, ShowsAfter, GuardedBy}
 use Rattle.fwu_model.specs.MoveMetas.{meta_after}
-use Rattle.moves.specs.Law.{Done}
+use Rattle.moves.specs.Law.{CallResult}
 use Rattle.sha2.specs.declared.Sha256.{Sha256}
 use Rattle.slot_writer.specs.Slots.{IsBlankAhead, done_of}
 use Rattle.agent_kept.specs.declared.parts.Part.TheVariants.{Open, Committed}
@@ -48,13 +48,13 @@ pub record StaysKnown (f : Fields) (image : ℕ) (s t : Told) : Type 0 where
 -- ---- a store of the metadata of a move, by what the agent knows
 
 -- on a calm flash under this premise, on any flash, and on any flash at rest
-pub record StoreMeets (result : Done) (f : Fields) (Premise : Setting → Type 0) (move : Move) (s t : Told) : Type 0 where
+pub record StoreMeets (result : CallResult) (f : Fields) (Premise : Setting → Type 0) (move : Move) (s t : Told) : Type 0 where
   pub does : (E : Setting) → E.layout ≡ f.layout → Premise E → IsCalm E s (state_in f s.now) → Guards 1 7 s
       → Does result E (state_in f s.now) (move ∷ []) t
   pub shows : ShowsAfter result f.layout (state_in f s.now) (move ∷ []) t
   pub guarded : IsAtRest s → GuardedBy result t
 
-pub record StoresMeet (result : Done) (f : Fields) (s t : Told) : Type 0 where
+pub record StoresMeet (result : CallResult) (f : Fields) (s t : Told) : Type 0 where
   pub free : IsTrue (is_accepted (state_at f.meta.meta f.meta.meta.active))
       → Stores result f.layout (meta_after f.meta.meta (Free (target f))) s t
       → StoreMeets result f (λ E. Unit {0}) (Free (target f)) s t

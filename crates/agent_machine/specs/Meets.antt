@@ -69,7 +69,7 @@ abbrev pub ShowsNext : Setting → State → Session → Call → Moment → Typ
 ShowsNext E s x c new = Shows new (after s (answer E s x c).moves) (answer E s x c).next
 
 -- the reply is the machine's, and the agent shows the machine after it
-pub record Replies (E : Setting) (s : State) (x : Session) (c : Call) (new : Moment) (r : Reply) : Type 0 where
+pub record RepliesByMachine (E : Setting) (s : State) (x : Session) (c : Call) (new : Moment) (r : Reply) : Type 0 where
   pub reply_is : r ≡ (answer E s x c).reply
   pub shows : ShowsNext E s x c new
 
@@ -82,7 +82,7 @@ Answers Says (Err stop.Fault) E s x c new = ⊤
 Answers Says (Err stop.Gone) E s x c new = ⊤
 
 -- What a call says of the flash, of an agent that isn't gone.
-pub record Leaves (result : Result (Unit {0}) FlashStop) (passes : List ℕ → Bool) (c : Call) (old new : Moment) : Type 0 where
+pub record LeavesFlash (result : Result (Unit {0}) FlashStop) (passes : List ℕ → Bool) (c : Call) (old new : Moment) : Type 0 where
   -- on a flash that is ready: each loss leaves a prefix of the moves, and an answer leaves it ready after all of them
   pub does : (E : Setting) (s : State) (x : Session) → IsSettingOf old.fields passes E → Shows old s x → IsTrue old.tells
       → IsReady E old.told s
@@ -100,7 +100,7 @@ pub record Meets {T : Type 0} (Says : T → Reply → Type 0) (result : Result T
     (old new : Moment) : Type 0 where
   pub exact : (E : Setting) (s : State) (x : Session) → IsSettingOf old.fields passes E → Shows old s x
       → Answers Says result E s x c new
-  pub leaves : Leaves (flash_result result) passes c old new
+  pub leaves : LeavesFlash (flash_result result) passes c old new
 
 -- bytes and total are what was read; where the content isn't told, their number and the total
 abbrev pub IsGot : Bool → List ℕ → ℕ × ℕ → Reply → Type 0
@@ -128,7 +128,7 @@ pub record MeetsPrevious (result : Result (Unit {0}) Stop) (passes : List ℕ �
   pub exact : (E : Setting) (s : State) (x : Session) → IsSettingOf old.fields passes E → Shows old s x → IsTrue old.tells
       → Answers (λ value reply. reply ≡ Success) result E s x Previous new
   pub shows : (s : State) (x : Session) → Shows old s x → GoesBack result s x new
-  pub leaves : Leaves (flash_result result) passes Previous old new
+  pub leaves : LeavesFlash (flash_result result) passes Previous old new
 
 -- Gone comes exactly after an earlier stop of this agent.
 pub record GoesBy {T : Type 0} (result : Result T Stop) (was now : Bool) : Type 0 where

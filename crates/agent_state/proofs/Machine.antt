@@ -15,7 +15,7 @@ use Rattle.agent_kept.specs.declared.parts.Part.{Part}
 use Rattle.agent_kept.specs.declared.parts.Part.TheVariants.{Nothing, Open, Committed}
 use Rattle.agent_kept.specs.declared.parts.Handle.{Handle}
 use Rattle.agent_kept.specs.declared.parts.Handle.TheVariants.{Free, Reads, Writes}
-use Rattle.agent_kept.specs.Kept.{Kept, part_at, part_meant, parts_meant, staging_meant, handle_meant, handles_meant, handle_kept, size_of, slot_of, IsKept}
+use Rattle.agent_kept.specs.Kept.{Kept, part_at, part_meant, parts_meant, staging_meant, handle_meant, handles_meant, handle_kept, size_of, slot_room_of, IsKept}
 use Rattle.fwu_model.specs.MoveMetas.{meta_in}
 use Rattle.agent_state.specs.Decides.{next_bank, is_trial_kept, cannot_begin_kept, has_other_kept}
 
@@ -101,5 +101,5 @@ staged-long k staged image is lt on =
     ap (λ (stg : Option (List Staged)). length (staged_bytes (staged_at stg image))) (is-staging k staged on)
     ∙ ap (λ (p : Staged). length (staged_bytes p)) (part-is k staged image lt) ∙ part-long k staged image (part_at k image) is lt refl
 
-pub slot-is : (E : Setting) (k : Kept) (image : ℕ) → k.rows ≡ E.layout.rows → slot_bytes E.layout image ≡ slot_of k.rows image
-slot-is E k image rows = ap (λ (l : List ImageRow). slot_of l image) (sym rows)
+pub slot-is : (E : Setting) (k : Kept) (image : ℕ) → k.rows ≡ E.layout.rows → slot_bytes E.layout image ≡ slot_room_of k.rows image
+slot-is E k image rows = ap (λ (l : List ImageRow). slot_room_of l image) (sym rows)

@@ -17,7 +17,7 @@ use Rattle.agent_kept.specs.declared.parts.Handle.TheVariants as handle
 use Rattle.agent_kept.specs.declared.kinds.Plan.{Plan}
 use Rattle.agent_kept.specs.declared.kinds.Plan.TheVariants as plan
 use Rattle.agent_kept.specs.declared.kinds.Decision.TheVariants as decision
-use Rattle.agent_kept.specs.Kept.{Kept, IsKept, HasTotals, part_at, handle_kept, part_meant, parts_meant, staging_meant, handle_meant, handles_meant, session_meant, with_handle, is_part_open, IsNew, GrowsPart, CommitsTo, Restarts, OpensPart, AppendsPart, CommitsPart}
+use Rattle.agent_kept.specs.Kept.{Kept, IsKept, HasTotals, part_at, handle_kept, part_meant, parts_meant, staging_meant, handle_meant, handles_meant, session_meant, with_handle, is_part_open, IsNewPart, GrowsPart, CommitsTo, Restarts, OpensPart, AppendsPart, CommitsPart}
 use Rattle.fwu_model.specs.MoveMetas.{meta_in, meta_after}
 use Rattle.agent_kept.specs.Plans.{SpeaksWhole, planned, with_open, bits_staged, package_staged}
 use Rattle.agent_kept.proofs.Meant.{part-meant, parts-changed, staging-on, handle-meant}
@@ -114,7 +114,7 @@ with-here staged image bytes = ap (λ (b : Bool). cond b bytes (staged image)) (
 with-there : (staged : ℕ → List ℕ) (image : ℕ) (bytes : List ℕ) (i : ℕ) → i ≢ image → with_bytes staged image bytes i ≡ staged i
 with-there staged image bytes i ne = ap (λ (b : Bool). cond b bytes (staged i)) (ne_eqb i image ne)
 
-new-meant : (p : Part) (bytes : List ℕ) → IsNew p → part_meant p bytes ≡ machine.Open bytes
+new-meant : (p : Part) (bytes : List ℕ) → IsNewPart p → part_meant p bytes ≡ machine.Open bytes
 new-meant part.Nothing bytes it = absurd it
 new-meant (part.Open size hasher) bytes it = refl
 new-meant (part.Committed size digest bit) bytes it = absurd it

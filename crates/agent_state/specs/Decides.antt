@@ -19,15 +19,15 @@ abbrev pub IsMetaOf : Kept → Meta → Type 0
 IsMetaOf k m = IsTrue (fits_meta (record { banks = length m.states; rows = k.rows }) m)
 
 -- The decision of a request is the machine's, in each setting and state that is spoken of.
-abbrev pub Decides : (List ℕ → Bool) → MetaRead → ℕ → Kept → ℕ → Request → Decision → Type 0
-Decides passes m counter k boot request d =
+abbrev pub DecidesRequest : (List ℕ → Bool) → MetaRead → ℕ → Kept → ℕ → Request → Decision → Type 0
+DecidesRequest passes m counter k boot request d =
     (E : Setting) (s : State) (staged : ℕ → List ℕ) (bytes : List ℕ) → Speaks E s passes m counter k boot staged
     → FitsRequest E s boot k request bytes
     → DecidesAs E s (session_meant k boot staged) (call_of request bytes) bytes d
 
 -- whatever the verifier and the counter are
 abbrev pub DecidesByMeta : MetaRead → Kept → ℕ → Request → Decision → Type 0
-DecidesByMeta m k boot request d = (passes : List ℕ → Bool) (counter : ℕ) → Decides passes m counter k boot request d
+DecidesByMeta m k boot request d = (passes : List ℕ → Bool) (counter : ℕ) → DecidesRequest passes m counter k boot request d
 
 -- and whatever the metadata is
 abbrev pub DecidesBySession : Kept → Request → Decision → Type 0

@@ -12,7 +12,7 @@ use Rattle.agent_kept.specs.declared.kinds.Plan.{Plan}
 use Rattle.agent_kept.specs.declared.kinds.Plan.TheVariants as plan
 use Rattle.agent_kept.specs.declared.kinds.Decision.{Decision}
 use Rattle.agent_kept.specs.declared.kinds.Decision.TheVariants as decision
-use Rattle.agent_kept.specs.Kept.{Kept, part_at, handle_kept, size_of, slot_of, is_part_open, session_meant, with_handle, Restarts, OpensPart, AppendsPart, CommitsPart}
+use Rattle.agent_kept.specs.Kept.{Kept, part_at, handle_kept, size_of, slot_room_of, is_part_open, session_meant, with_handle, Restarts, OpensPart, AppendsPart, CommitsPart}
 use Rattle.agent_kept.specs.Judged.{parts_of}
 use Rattle.fwu_model.specs.MoveMetas.{meta_after}
 use Rattle.agent_kept.specs.Plans.{SpeaksWhole, planned_in}
@@ -35,7 +35,7 @@ IsPlanOf k (plan.Open number (Some image) op.Write total) =
     IsNumber number × (image < length k.rows) × (k.staging ≡ true) × (is_part_open (part_at k image) ≡ false)
 IsPlanOf k (plan.Write number image at n) =
     (image < length k.rows) × (k.staging ≡ true) × (is_part_open (part_at k image) ≡ true)
-    × (size_of (part_at k image) + n ≤ slot_of k.rows image)
+    × (size_of (part_at k image) + n ≤ slot_room_of k.rows image)
 IsPlanOf k (plan.Read number image at n total) = IsNumber number × (handle_kept k (number - 1) ≡ handle.Reads image at total)
     × (at + n ≤ total)
 IsPlanOf k (plan.Commit number None bit) = IsNumber number

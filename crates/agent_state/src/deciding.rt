@@ -9,7 +9,7 @@ ghost use Rattle.std.specs.List.{list_any, position, position_or_len};
 ghost use Rattle.agent_kept.specs.Handles.{is_free_kept, is_writer_kept};
 ghost use Rattle.agent_kept.specs.Kept.{kept};
 ghost use Rattle.agent_state.specs.Ruled.{ruled_as};
-ghost use Rattle.agent_state.specs.Decides.{Decides, DecidesByMeta, IsMetaOf, DecidesBySession, next_bank, is_trial_kept, cannot_begin_kept, may_leave_kept, has_other_kept, lowest_free_kept, opened_as};
+ghost use Rattle.agent_state.specs.Decides.{DecidesRequest, DecidesByMeta, IsMetaOf, DecidesBySession, next_bank, is_trial_kept, cannot_begin_kept, may_leave_kept, has_other_kept, lowest_free_kept, opened_as};
 ghost use Rattle.agent_state.specs.Settles.{IsDecisionOf};
 ghost use Rattle.agent_state.specs.Asked.{IsFor};
 
@@ -82,11 +82,9 @@ fn begin(
     partial_count: u32,
 ) -> Decision
     requires active { meta.now.meta.active < length meta.now.meta.states }
-    ensures decides { DecidesByMeta meta.now (kept session.now) boot_index
-        (Request.Begin vendor_flags partial_count) result }
+    ensures decides { DecidesByMeta meta.now (kept session.now) boot_index (Request.Begin vendor_flags partial_count) result }
     ensures plan { IsDecisionOf (kept session.now) result }
-    ensures asked { IsFor (kept session.now) meta.now.meta
-        (Request.Begin vendor_flags partial_count) result }
+    ensures asked { IsFor (kept session.now) meta.now.meta (Request.Begin vendor_flags partial_count) result }
 {
     if cannot_begin(meta, session, boot_index) {
         return Decision::Refused(Status::Denied);
@@ -131,11 +129,9 @@ fn begin_partial(
     list: &[Guid],
 ) -> Decision
     requires active { meta.now.meta.active < length meta.now.meta.states }
-    ensures decides { DecidesByMeta meta.now (kept session.now) boot_index
-        (Request.BeginPartial vendor_flags list.entry) result }
+    ensures decides { DecidesByMeta meta.now (kept session.now) boot_index (Request.BeginPartial vendor_flags list.entry) result }
     ensures plan { IsDecisionOf (kept session.now) result }
-    ensures asked { IsFor (kept session.now) meta.now.meta
-        (Request.BeginPartial vendor_flags list.entry) result }
+    ensures asked { IsFor (kept session.now) meta.now.meta (Request.BeginPartial vendor_flags list.entry) result }
 {
     if cannot_begin(meta, session, boot_index) {
         return Decision::Refused(Status::Denied);
@@ -215,8 +211,7 @@ fn open_image(session: &Session, image: u32, op: Op, total: u32) -> Decision
 }
 
 fn open_directory(session: &Session, op: Op, total: u32) -> Decision
-    ensures decides { (guid : List ℕ) → find_image (kept session.now).rows guid ≡ None →
-        IsTrue (same_bytes guid dir_guid) →
+    ensures decides { (guid : List ℕ) → find_image (kept session.now).rows guid ≡ None → IsTrue (same_bytes guid dir_guid) →
         DecidesBySession (kept session.now) (Request.Open guid op total) result }
     ensures plan { IsDecisionOf (kept session.now) result }
     ensures asked { (m : MetaValue) (guid : List ℕ) → find_image (kept session.now).rows guid ≡ None →
@@ -287,11 +282,9 @@ fn read(session: &Session, handle: u32, room: u64) -> Decision
 }
 
 fn commit(session: &Session, handle: u32, acceptance_req: u32, max_atomic_len: u32) -> Decision
-    ensures decides { DecidesBySession (kept session.now)
-        (Request.Commit handle acceptance_req max_atomic_len) result }
+    ensures decides { DecidesBySession (kept session.now) (Request.Commit handle acceptance_req max_atomic_len) result }
     ensures plan { IsDecisionOf (kept session.now) result }
-    ensures asked { (m : MetaValue) → IsFor (kept session.now) m
-        (Request.Commit handle acceptance_req max_atomic_len) result }
+    ensures asked { (m : MetaValue) → IsFor (kept session.now) m (Request.Commit handle acceptance_req max_atomic_len) result }
 {
     let bit = acceptance_req == 0;
     match session.handle(handle) {
@@ -319,7 +312,7 @@ fn is_writing(handles: &[Handle]) -> bool
 fn end<V: Verifier>(session: &Session, counter: u32, verifier: &V) -> Decision
     requires some { 1 ≤ length (kept session.now).rows }
     ensures decides { (m : MetaRead) (boot : ℕ) →
-        Decides (V.passes verifier.now) m counter (kept session.now) boot Request.End result }
+        DecidesRequest (V.passes verifier.now) m counter (kept session.now) boot Request.End result }
     ensures plan { IsDecisionOf (kept session.now) result }
     ensures asked { (m : MetaValue) → IsFor (kept session.now) m Request.End result }
 {
@@ -419,8 +412,7 @@ pub fn decide<V: Verifier>(
 ) -> Decision
     requires some { 1 ≤ length (kept session.now).rows }
     requires fits { IsMetaOf (kept session.now) meta.now.meta }
-    ensures decides { Decides (V.passes verifier.now) meta.now counter (kept session.now) boot_index
-        request.now result }
+    ensures decides { DecidesRequest (V.passes verifier.now) meta.now counter (kept session.now) boot_index request.now result }
     ensures plan { IsDecisionOf (kept session.now) result }
     // a plan of the request's own kind, with the numbers that the request and what is kept give
     ensures asked { IsFor (kept session.now) meta.now.meta request.now result }

@@ -122,9 +122,7 @@ fn go_back(meta: &mut Meta)
 fn change_meta(meta: &mut Meta, session: &Session, plan: &Plan)
     requires fits { IsMetaOf (kept session.now) meta.old.meta }
     requires plan { IsPlanOf (kept session.now) plan.now }
-    ensures set { meta.new ≡ record meta.old {
-      meta = meta_planned (kept session.now) meta.old.meta plan.now;
-    } }
+    ensures set { meta.new ≡ record meta.old { meta = meta_planned (kept session.now) meta.old.meta plan.now } }
 {
     match *plan {
         Plan::Begin { store } | Plan::BeginPartial { store, .. } => free_if(meta, store),
@@ -146,8 +144,7 @@ fn change_meta(meta: &mut Meta, session: &Session, plan: &Plan)
 
 fn open(session: &mut Session, handle: u32, image: Option<u32>, op: Op, total: u32)
     requires plan { IsPlanOf (kept session.old) (Plan.Open handle image op total) }
-    ensures changes { Changes (kept session.old) [] (Plan.Open handle image op total)
-        (kept session.new) }
+    ensures changes { Changes (kept session.old) [] (Plan.Open handle image op total) (kept session.new) }
 {
     match op {
         Op::Read => session.set_reader(handle, image, 0, total),
@@ -161,8 +158,7 @@ fn open(session: &mut Session, handle: u32, image: Option<u32>, op: Op, total: u
 
 fn commit(session: &mut Session, handle: u32, written: Option<u32>, bit: bool)
     requires plan { IsPlanOf (kept session.old) (Plan.Commit handle written bit) }
-    ensures changes { Changes (kept session.old) [] (Plan.Commit handle written bit)
-        (kept session.new) }
+    ensures changes { Changes (kept session.old) [] (Plan.Commit handle written bit) (kept session.new) }
 {
     match written {
         Some(image) => session.commit_part(handle, image, bit),
@@ -211,14 +207,11 @@ pub fn settle(meta: &mut Meta, session: &mut Session, decision: &Decision, bytes
     requires decided { IsDecisionOf (kept session.old) decision.now }
     requires bytes { (p : Plan) → decision.now ≡ Decision.Do p → HasBytes p bytes.now }
 
-    ensures meta { meta.new ≡ record meta.old {
-      meta = meta_settled (kept session.old) meta.old.meta decision.now;
-    } }
+    ensures meta { meta.new ≡ record meta.old { meta = meta_settled (kept session.old) meta.old.meta decision.now } }
     ensures session { ChangesBy (kept session.old) bytes.now decision.now (kept session.new) }
     ensures fits { IsMetaOf (kept session.new) meta.new.meta }
     // the machine that was spoken of before is spoken of after its moves, with its next session
-    ensures settles { SettlesBy (kept session.old) meta.old bytes.now decision.now
-        meta.new (kept session.new) }
+    ensures settles { SettlesBy (kept session.old) meta.old bytes.now decision.now meta.new (kept session.new) }
 {
     if let Decision::Do(plan) = decision {
         change_meta(meta, session, plan);

@@ -5,7 +5,7 @@ use Rattle.fwu_formats.specs.Package.{Part}
 use Rattle.host_io.specs.Joined.{joined}
 use Rattle.fip_tables.specs.Frame.{AreSixteen, chunks}
 use Rattle.fip_tables.specs.Packing.{AreOutlines, zeroed}
-use Rattle.capsule_tables.specs.Making.{capsule_bytes, capsule_size, front_bytes, head_gaps, heads_bytes, item_head, items_bytes, made_head}
+use Rattle.capsule_tables.specs.Making.{capsule_bytes, capsule_size, capsule_front_bytes, head_gaps, heads_bytes, item_head, items_bytes, made_head}
 use Rattle.capsule_tables.proofs.MadeZeros.{same-front, same-gaps, same-heads, same-size, sizes, sizes-cons, types-of}
 use Rattle.capsule_tables.proofs.ReadAgain.{front-total, head-length, items-length}
 
@@ -41,15 +41,15 @@ low-sizes : (ps : List Part) → capsule_size ps ≤ 67108864 → sizes ps < 429
 low-sizes ps le = omega (arith, le)
 
 parts-joined : (ps : List Part) → AreSixteen ps → capsule_size ps ≤ 67108864
-    → joined (front_bytes ps ++ heads_bytes 1 ps) (chunks (head_gaps (length (front_bytes ps)) ps) ps) ≡ capsule_bytes ps
+    → joined (capsule_front_bytes ps ++ heads_bytes 1 ps) (chunks (head_gaps (length (capsule_front_bytes ps)) ps) ps) ≡ capsule_bytes ps
 unfolding capsule_bytes
 parts-joined ps types le =
-    front-joined (front_bytes ps) (heads_bytes 1 ps) ps ∙ ap (λ (xs : List ℕ). front_bytes ps ++ xs) (items-joined 1 ps types (low-sizes ps le))
+    front-joined (capsule_front_bytes ps) (heads_bytes 1 ps) ps ∙ ap (λ (xs : List ℕ). capsule_front_bytes ps ++ xs) (items-joined 1 ps types (low-sizes ps le))
 
 capsule-length : (ps : List Part) → AreSixteen ps → capsule_size ps ≤ 67108864 → length (capsule_bytes ps) ≡ capsule_size ps
 unfolding capsule_bytes
 capsule-length ps types le =
-    length-append (front_bytes ps) (items_bytes 1 ps) ∙ omega (arith, items-length 1 ps types (low-sizes ps le), front-total ps)
+    length-append (capsule_front_bytes ps) (items_bytes 1 ps) ∙ omega (arith, items-length 1 ps types (low-sizes ps le), front-total ps)
 
 -- ---- of outlines
 
@@ -60,16 +60,16 @@ size-alike : (os ps : List Part) → map zeroed ps ≡ os → capsule_size os �
 size-alike os ps same = ap capsule_size (sym same) ∙ same-size ps
 
 pub frame-joined : (os : List Part) (bytes gaps : List ℕ) (front : ℕ) → AreOutlines os → capsule_size os ≤ 67108864
-    → bytes ≡ front_bytes os ++ heads_bytes 1 os → gaps ≡ head_gaps front os → front ≡ length (front_bytes os)
+    → bytes ≡ capsule_front_bytes os ++ heads_bytes 1 os → gaps ≡ head_gaps front os → front ≡ length (capsule_front_bytes os)
     → (ps : List Part) → map zeroed ps ≡ os → joined bytes (chunks gaps ps) ≡ capsule_bytes ps
 frame-joined os bytes gaps front ok le made found long ps same =
-    let fronts : front_bytes os ≡ front_bytes ps = ap front_bytes (sym same) ∙ same-front ps in
+    let fronts : capsule_front_bytes os ≡ capsule_front_bytes ps = ap capsule_front_bytes (sym same) ∙ same-front ps in
     let heads : heads_bytes 1 os ≡ heads_bytes 1 ps = ap (heads_bytes 1) (sym same) ∙ same-heads 1 ps in
-    let before : front ≡ length (front_bytes ps) = long ∙ ap length fronts in
+    let before : front ≡ length (capsule_front_bytes ps) = long ∙ ap length fronts in
     ap (λ (xs : List ℕ). joined xs (chunks gaps ps)) made
     ∙ ap (λ (xs : List ℕ). joined (xs ++ heads_bytes 1 os) (chunks gaps ps)) fronts
-    ∙ ap (λ (xs : List ℕ). joined (front_bytes ps ++ xs) (chunks gaps ps)) heads
-    ∙ ap (λ (gs : List ℕ). joined (front_bytes ps ++ heads_bytes 1 ps) (chunks gs ps)) (found ∙ ap (head_gaps front) (sym same) ∙ same-gaps front ps ∙ ap (λ (n : ℕ). head_gaps n ps) before)
+    ∙ ap (λ (xs : List ℕ). joined (capsule_front_bytes ps ++ xs) (chunks gaps ps)) heads
+    ∙ ap (λ (gs : List ℕ). joined (capsule_front_bytes ps ++ heads_bytes 1 ps) (chunks gs ps)) (found ∙ ap (head_gaps front) (sym same) ∙ same-gaps front ps ∙ ap (λ (n : ℕ). head_gaps n ps) before)
     ∙ parts-joined ps (sixteen-of os ps ok same) (omega (arith, le, size-alike os ps same))
 
 pub frame-size : (os : List Part) (size : ℕ) → AreOutlines os → size ≡ capsule_size os → size ≤ 67108864
@@ -79,5 +79,5 @@ frame-size os size ok counted le ps same =
     counted ∙ alike ∙ sym (capsule-length ps (sixteen-of os ps ok same) (omega (arith, counted, le, alike)))
 
 -- the headers and the places are no longer than the capsule
-pub front-low : (os : List Part) → length (front_bytes os) ≤ capsule_size os
+pub front-low : (os : List Part) → length (capsule_front_bytes os) ≤ capsule_size os
 front-low os = omega (arith, front-total os)

@@ -30,31 +30,6 @@ pub record HasPlaces (old now : List ℕ) (parts : List Part) (at k : ℕ) : Typ
 pub next-size : (parts : List Part) (k : ℕ) (d : Part) → k < length parts → sizes (drop k parts) ≡ length (get_or parts k d).bytes + sizes (drop (k + 1) parts)
 next-size parts k d lt = ap sizes (drop_more parts k d lt) ∙ sizes-cons (get_or parts k d) (drop (k + 1) parts)
 
-pub next-head : (now more : List ℕ) (parts : List Part) (index k : ℕ) (p : Part) → k < length parts → p ≡ get_or parts k p → more ≡ now ++ item_head index p
-    → now ++ heads_bytes index (drop k parts) ≡ more ++ heads_bytes (index + 1) (drop (k + 1) parts)
-next-head now more parts index k p lt is one =
-    let rest = heads_bytes (index + 1) (drop (k + 1) parts) in
-    ap (λ (ps : List Part). now ++ heads_bytes index ps) (drop_more parts k p lt)
-    ∙ ap (λ (q : Part). now ++ (item_head index q ++ rest)) (sym is)
-    ∙ sym (append_assoc now (item_head index p) rest)
-    ∙ ap (λ (xs : List ℕ). xs ++ rest) (sym one)
-
-pub next-gap : (gaps more : List ℕ) (parts : List Part) (before k : ℕ) (d : Part) → k < length parts → more ≡ gaps ++ (before + 40) ∷ []
-    → gaps ++ head_gaps before (drop k parts) ≡ more ++ head_gaps 0 (drop (k + 1) parts)
-next-gap gaps more parts before k d lt one =
-    let rest = head_gaps 0 (drop (k + 1) parts) in
-    ap (λ (ps : List Part). gaps ++ head_gaps before ps) (drop_more parts k d lt)
-    ∙ sym (append_assoc gaps ((before + 40) ∷ []) rest)
-    ∙ ap (λ (xs : List ℕ). xs ++ rest) (sym one)
-
-pub next-place : (now more : List ℕ) (parts : List Part) (at k : ℕ) (p : Part) → k < length parts → p ≡ get_or parts k p → more ≡ now ++ le 8 at
-    → now ++ places_bytes at (drop k parts) ≡ more ++ places_bytes (at + made_head + length p.bytes) (drop (k + 1) parts)
-next-place now more parts at k p lt is one =
-    ap (λ (ps : List Part). now ++ places_bytes at ps) (drop_more parts k p lt)
-    ∙ ap (λ (q : Part). now ++ (le 8 at ++ places_bytes (at + made_head + length q.bytes) (drop (k + 1) parts))) (sym is)
-    ∙ sym (append_assoc now (le 8 at) (places_bytes (at + made_head + length p.bytes) (drop (k + 1) parts)))
-    ∙ ap (λ (xs : List ℕ). xs ++ places_bytes (at + made_head + length p.bytes) (drop (k + 1) parts)) (sym one)
-
 -- what is appended to what was appended
 pub further : (v x y s piece : List ℕ) → x ≡ v ++ s → y ≡ x ++ piece → y ≡ v ++ (s ++ piece)
 further v x y s piece before now = now ∙ ap (λ (l : List ℕ). l ++ piece) before ∙ append_assoc v s piece

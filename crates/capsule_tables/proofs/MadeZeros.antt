@@ -13,7 +13,7 @@ use Rattle.fip_tables.proofs.Again.{count-passes}
 use Rattle.fip_tables.proofs.Plans.{outlines-sixteen, sixteen-zeroed}
 use Rattle.fip_tables.proofs.Zeros.{length-zeroed, zeros-share}
 use Rattle.fwu_formats.specs.Capsule.{swapped}
-use Rattle.capsule_tables.specs.Making.{capsule_size, front_bytes, head_gaps, headers_bytes, heads_bytes, item_head, made_head, make_fault, places_bytes}
+use Rattle.capsule_tables.specs.Making.{capsule_size, capsule_front_bytes, head_gaps, headers_bytes, heads_bytes, item_head, made_head, make_fault, places_bytes}
 use Rattle.capsule_tables.proofs.MadeFaults.{parts-pass}
 
 abbrev pub sizes : List Part → ℕ
@@ -36,7 +36,7 @@ same-places at (p ∷ ps) =
     ap (λ (n : ℕ). le 8 at ++ places_bytes (at + made_head + n) (map zeroed ps)) (length-replicate {A = ℕ} (length p.bytes) 0)
     ∙ ap (λ (xs : List ℕ). le 8 at ++ xs) (same-places (at + made_head + length p.bytes) ps)
 
-pub same-front : (ps : List Part) → front_bytes (map zeroed ps) ≡ front_bytes ps
+pub same-front : (ps : List Part) → capsule_front_bytes (map zeroed ps) ≡ capsule_front_bytes ps
 same-front ps =
     ap (λ (n : ℕ). headers_bytes n (length (map zeroed ps)) ++ places_bytes (8 + 8 * length (map zeroed ps)) (map zeroed ps)) (same-size ps)
     ∙ ap (λ (n : ℕ). headers_bytes (capsule_size ps) n ++ places_bytes (8 + 8 * n) (map zeroed ps)) (length-zeroed ps)

@@ -14,9 +14,9 @@ use Rattle.fwu_formats.proofs.Spell.{at-place, num-le, num-le4, within}
 use Rattle.fip_tables.proofs.Again.{no-repeat, none-at, nil-passes, repeat-passes, same-sym}
 use Rattle.fip_tables.proofs.Steps.{skips}
 use Rattle.fip_tables.specs.Frame.{AreSixteen}
-use Rattle.fip_tables.specs.Packing.{is_nil, part_at}
+use Rattle.fip_tables.specs.Packing.{is_nil, packed_part_at}
 use Rattle.fwu_formats.specs.Capsule.{Item, Shape, capsule_of, checked, entries_in, entry_in, fmp_guid, has_sizes, is_item, item_at, item_fault, item_place, places_end, shape_in, shape_of, swapped, usual_serial}
-use Rattle.capsule_tables.specs.Making.{IsMadeOf, MadeIsRead, capsule_bytes, capsule_size, front_bytes, headers_bytes, item_bytes, item_head, items_bytes, made_head, make_fault, places_bytes}
+use Rattle.capsule_tables.specs.Making.{IsCapsuleOf, MadeIsRead, capsule_bytes, capsule_size, capsule_front_bytes, headers_bytes, item_bytes, item_head, items_bytes, made_head, make_fault, places_bytes}
 use Rattle.fwu_formats.specs.declared.kinds.CapsuleFault.TheVariants as fault
 use Rattle.capsule_tables.proofs.MadeFaults.{parts-pass, size-passes}
 use Rattle.capsule_tables.proofs.MadeZeros.{few-parts, sizes, sizes-cons}
@@ -75,7 +75,7 @@ places-length at (p ∷ ps) =
     omega (arith, length-append (le 8 at) more, places-length (at + made_head + length p.bytes) ps)
 
 -- what stands before the items, and the items
-pub front-total : (ps : List Part) → length (front_bytes ps) + total ps ≡ capsule_size ps
+pub front-total : (ps : List Part) → length (capsule_front_bytes ps) + total ps ≡ capsule_size ps
 front-total ps =
     let headers = headers_bytes (capsule_size ps) (length ps) in
     let places = places_bytes (8 + 8 * length ps) ps in
@@ -303,7 +303,7 @@ module _ (parts : List Part) (fits : make_fault parts ≡ None) (types : AreSixt
   at i = 28 + place_of (8 + 8 * n) parts i
 
   abbrev guid : ℕ → List ℕ
-  guid i = (part_at parts i).guid
+  guid i = (packed_part_at parts i).guid
 
   place-is : (i : ℕ) → i < n → item_place bytes shape i ≡ at i
   place-is i lt =
@@ -312,20 +312,20 @@ module _ (parts : List Part) (fits : make_fault parts ≡ None) (types : AreSixt
       ∙ ap (λ (xs : List ℕ). 28 + num_at 8 xs (length headers + 8 * i)) (append_assoc headers places items)
       ∙ ap (λ (m : ℕ). 28 + m) (place-read (8 + 8 * n) parts headers items i lt (omega (arith, small)))
 
-  reads : (i : ℕ) → i < n → ReadsAs bytes (at i) (part_at parts i)
+  reads : (i : ℕ) → i < n → ReadsAs bytes (at i) (packed_part_at parts i)
   reads i lt =
-      subst (λ (xs : List ℕ). ReadsAs ((headers ++ places) ++ xs) (at i) (part_at parts i)) (append-nil items)
+      subst (λ (xs : List ℕ). ReadsAs ((headers ++ places) ++ xs) (at i) (packed_part_at parts i)) (append-nil items)
       (items-read 1 (8 + 8 * n) parts (headers ++ places) [] i no_part lt types (omega (arith, small)) front-length)
 
-  item-is : (i : ℕ) → i < n → item_at bytes (item_place bytes shape i) ≡ made_item (at i) (part_at parts i)
+  item-is : (i : ℕ) → i < n → item_at bytes (item_place bytes shape i) ≡ made_item (at i) (packed_part_at parts i)
   item-is i lt = ap (item_at bytes) (place-is i lt) ∙ (reads i lt).item
 
-  ends : (i : ℕ) → i < n → at i + made_head + length (part_at parts i).bytes ≤ end
+  ends : (i : ℕ) → i < n → at i + made_head + length (packed_part_at parts i).bytes ≤ end
   ends i lt = omega (arith, place-high (8 + 8 * n) parts i no_part lt)
 
   good : (i : ℕ) → i < n → is_item shape (item_place bytes shape i) (item_at bytes (item_place bytes shape i)) ≡ true
   good i lt =
-      let p = part_at parts i in
+      let p = packed_part_at parts i in
       let some : not (same_bytes p.guid nil_guid) ≡ true = ap not (none-at is_nil parts (nil-passes parts (parts-pass parts fits)) i no_part lt) in
       ap (λ (x : Item). is_item shape (item_place bytes shape i) x) (item-is i lt)
       ∙ ap (λ (m : ℕ). is_item shape m (made_item (at i) p)) (place-is i lt)
@@ -364,17 +364,17 @@ module _ (parts : List Part) (fits : make_fault parts ≡ None) (types : AreSixt
   toc-read : capsule_of bytes ≡ Ok toc
   toc-read = capsule-is bytes shape (entries_in bytes shape n) shape-read (passes-all bytes shape passes)
 
-  entry-is : (i : ℕ) → i < n → entry_in bytes shape i ≡ record { guid = guid i; offset = at i + made_head; size = length (part_at parts i).bytes; flags = 0 }
+  entry-is : (i : ℕ) → i < n → entry_in bytes shape i ≡ record { guid = guid i; offset = at i + made_head; size = length (packed_part_at parts i).bytes; flags = 0 }
   entry-is i lt = ap (λ (x : Item). let e : Entry = record { guid = x.guid; offset = x.image; size = x.size; flags = 0 } in e) (item-is i lt)
 
-  payload-is : (i : ℕ) → i < n → payload bytes (entry_in bytes shape i) ≡ (part_at parts i).bytes
+  payload-is : (i : ℕ) → i < n → payload bytes (entry_in bytes shape i) ≡ (packed_part_at parts i).bytes
   payload-is i lt = ap (payload bytes) (entry-is i lt) ∙ (reads i lt).image
 
   -- the part at a place, whatever stands for one that is not there
-  at-place-is : {X : Type 0} (g : Part → X) (k : ℕ) (d : Part) → k < n → g (part_at parts k) ≡ g (get_or parts k d)
+  at-place-is : {X : Type 0} (g : Part → X) (k : ℕ) (d : Part) → k < n → g (packed_part_at parts k) ≡ g (get_or parts k d)
   at-place-is g k d lt = ap g (get_or_default parts k no_part d lt)
 
-  made : IsMadeOf parts bytes
+  made : IsCapsuleOf parts bytes
   made = record {
     toc = toc;
     read = toc-read;

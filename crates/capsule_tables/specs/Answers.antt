@@ -11,14 +11,14 @@ use Rattle.capsule_tables.specs.declared.faults.CapsuleStop.{CapsuleStop}
 use Rattle.capsule_tables.specs.declared.faults.CapsuleStop.TheVariants.{Fault, ReadFailed}
 
 -- what is answered is the value, or the first fault, unless the file could not be read
-abbrev pub IsAnswer : {T : Type 0} → Result T CapsuleStop → Result T CapsuleFault → Type 0
-IsAnswer (Ok x) answer = answer ≡ Ok x
-IsAnswer (Err (Fault f)) answer = answer ≡ Err f
-IsAnswer (Err ReadFailed) answer = Unit {0}
+abbrev pub IsCapsuleAnswer : {T : Type 0} → Result T CapsuleStop → Result T CapsuleFault → Type 0
+IsCapsuleAnswer (Ok x) answer = answer ≡ Ok x
+IsCapsuleAnswer (Err (Fault f)) answer = answer ≡ Err f
+IsCapsuleAnswer (Err ReadFailed) answer = Unit {0}
 
 -- where the file's bytes are told, what is answered is what they have
 abbrev pub AnswersFile : {T : Type 0} → Option Directory → List ℕ → (List ℕ → Result T CapsuleFault) → Result T CapsuleStop → Type 0
-AnswersFile told name answer result = (bytes : List ℕ) → Tells told name bytes → IsAnswer result (answer bytes)
+AnswersFile told name answer result = (bytes : List ℕ) → Tells told name bytes → IsCapsuleAnswer result (answer bytes)
 
 -- a reading fails only where the files' faults rose, by one at most, or told files lack the name
 pub record HasReadCause {T : Type 0} (told : Option Directory) (name : List ℕ) (before now : ℕ)

@@ -48,11 +48,11 @@ abbrev pub headers_bytes : ℕ → ℕ → List ℕ
 headers_bytes size items = swapped fmp_guid ++ le 4 28 ++ le 4 0 ++ le 4 size ++ le 4 1 ++ le 2 0 ++ le 2 items
 
 -- what stands before the items
-abbrev pub front_bytes : List Part → List ℕ
-front_bytes parts = headers_bytes (capsule_size parts) (length parts) ++ places_bytes (8 + 8 * length parts) parts
+abbrev pub capsule_front_bytes : List Part → List ℕ
+capsule_front_bytes parts = headers_bytes (capsule_size parts) (length parts) ++ places_bytes (8 + 8 * length parts) parts
 
 unfoldable pub capsule_bytes : List Part → List ℕ
-capsule_bytes parts = front_bytes parts ++ items_bytes 1 parts
+capsule_bytes parts = capsule_front_bytes parts ++ items_bytes 1 parts
 
 -- why parts make no capsule: their first fault
 unfoldable pub make_fault : List Part → Option PackFault
@@ -61,7 +61,7 @@ make_fault parts = first_of (parts_fault parts) (if nat_lt package_limit (capsul
 -- ---- the law
 
 -- The bytes are a capsule that is read as these parts: in their order their types and their bytes, each without flags.
-pub record IsMadeOf (parts : List Part) (bytes : List ℕ) : Type 0 where
+pub record IsCapsuleOf (parts : List Part) (bytes : List ℕ) : Type 0 where
   pub toc : Toc
   pub read : capsule_of bytes ≡ Ok toc
   pub types : map (λ e. e.guid) toc.entries ≡ map (λ p. p.guid) parts
@@ -69,4 +69,4 @@ pub record IsMadeOf (parts : List Part) (bytes : List ℕ) : Type 0 where
 
 -- parts of types of sixteen bytes that have no fault are read again as they were made
 abbrev pub MadeIsRead : Type 0
-MadeIsRead = (parts : List Part) → make_fault parts ≡ None → AreSixteen parts → IsMadeOf parts (capsule_bytes parts)
+MadeIsRead = (parts : List Part) → make_fault parts ≡ None → AreSixteen parts → IsCapsuleOf parts (capsule_bytes parts)

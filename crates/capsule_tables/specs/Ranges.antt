@@ -6,7 +6,7 @@ use Rattle.fwu_formats.specs.Package.{Entry, Toc, entry_limit}
 use Rattle.fwu_formats.specs.Capsule.{Item, Shape, entry_in, entry_of_item, fmp_guid, head_size, is_item, item_at, item_place, places_end, swapped}
 use Rattle.fwu_formats.specs.declared.kinds.CapsuleFault.{CapsuleFault}
 use Rattle.fwu_formats.specs.declared.kinds.CapsuleFault.TheVariants as fault
-use Rattle.capsule_tables.specs.Answers.{IsAnswer}
+use Rattle.capsule_tables.specs.Answers.{IsCapsuleAnswer}
 use Rattle.capsule_tables.specs.declared.faults.CapsuleStop.{CapsuleStop}
 use Rattle.capsule_tables.specs.declared.faults.CapsuleStop.TheVariants.{Fault, ReadFailed}
 
@@ -69,7 +69,7 @@ pub record IsOfHeaders (result : Result Shape CapsuleStop) : Type 0 where
   pub size : ℕ
   pub head : List ℕ
   pub fields : List ℕ
-  pub answer : IsAnswer result (headers_read size head fields)
+  pub answer : IsCapsuleAnswer result (headers_read size head fields)
 
 -- some place and some 32 bytes there give this entry
 pub record IsRead (s : Shape) (e : Entry) : Type 0 where

@@ -5,7 +5,7 @@ ghost use Rattle.fip_tables.specs.Frame.{IsFrame};
 ghost use Rattle.fip_tables.specs.Packing.{IsByFault};
 ghost use Rattle.fip_tables.specs.declared.faults.PackFault.TheVariants as fault;
 ghost use Rattle.fip_tables.specs.declared.faults.PackStop.TheVariants as stop;
-ghost use Rattle.capsule_tables.specs.Making.{IsMadeOf, capsule_bytes, capsule_size, head_gaps, headers_bytes, heads_bytes, item_head, make_fault, places_bytes};
+ghost use Rattle.capsule_tables.specs.Making.{IsCapsuleOf, capsule_bytes, capsule_size, head_gaps, headers_bytes, heads_bytes, item_head, make_fault, places_bytes};
 
 use crate::guids::{FMP_GUID, swapped};
 use fip_tables::{Frame, Outline, PackFault, PackStop, Parts, check_parts, outlines};
@@ -135,7 +135,7 @@ pub fn capsule_frame(alloc: Global, parts: &[Outline]) -> Result<Frame, PackStop
 /// serial number and flags are left out. A capsule has at most 67,108,864 bytes.
 pub fn make_capsule(alloc: Global, parts: &Parts) -> Result<Vec<u8>, PackStop>
     ensures ok { IfOk result (λ v. v.items ≡ capsule_bytes parts.now.parts.items) }
-    ensures read_again { IfOk result (λ v. IsMadeOf parts.now.parts.items v.items) }
+    ensures read_again { IfOk result (λ v. IsCapsuleOf parts.now.parts.items v.items) }
     ensures fault { IsByFault result (make_fault parts.now.parts.items) }
 {
     let payloads = parts.parts.as_slice();

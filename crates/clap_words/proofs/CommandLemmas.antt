@@ -13,12 +13,6 @@ arg_added {old = old} is local adds = record {
   globals = adds.globals ∙ rw local (or-false _);
 }
 
-pub rule_added : {old new : Command} {a : App} {r : Rule} → IsApp old a → AddsRule old new r → IsApp new (with_rule a r)
-rule_added {r = r} is adds = record {
-  app = adds.app ∙ ap (λ (x : App). with_rule x r) is.app;
-  globals = adds.globals ∙ is.globals;
-}
-
 pub leaf_added : {old leaf new : Command} {a b : App} → IsApp old a → IsApp leaf b → AddsLeaf old leaf new → IsApp new (with_leaf a b)
 leaf_added is below adds = record {
   app = adds.app ∙ ap₂ with_leaf is.app below.app;

@@ -6,10 +6,10 @@ use Rattle.clap_words.specs.declared.UsageStop.{UsageStop}
 use Rattle.clap_words.specs.declared.UsageStop.TheVariants.{Usage, NoMemory}
 
 -- what a function returned, seen by view, is what is asked, unless memory ran out
-abbrev pub Answers : {X Y : Type 0} → (X → Y) → Result X UsageStop → Option Y → Type 0
-Answers view (Ok x) asked = asked ≡ Some (view x)
-Answers view (Err Usage) asked = asked ≡ None
-Answers view (Err NoMemory) asked = Unit {0}
+abbrev pub GivesAsked : {X Y : Type 0} → (X → Y) → Result X UsageStop → Option Y → Type 0
+GivesAsked view (Ok x) asked = asked ≡ Some (view x)
+GivesAsked view (Err Usage) asked = asked ≡ None
+GivesAsked view (Err NoMemory) asked = Unit {0}
 
 -- the values of a repeated argument
 abbrev pub values_of : Text → List Row → List Text

@@ -1,7 +1,7 @@
 -- The values of words.
 use Rattle.std.specs.Prelude.{ℕ, ◌==◌, List, [], ◌∷◌, Option, Some, None, length, if◌then◌else◌, nat_lt, option_and_then, option_map}
 use Rattle.std.specs.List.{position_or_len, before_first, after_first}
-use Rattle.fwu_formats.specs.Words.{file_of, named, number_of}
+use Rattle.fwu_formats.specs.Words.{file_word_of, named, number_of}
 
 -- NAME
 unfoldable pub name_of : List ℕ → Option (List ℕ)
@@ -9,7 +9,7 @@ name_of text = named text
 
 -- FILE
 unfoldable pub file_named : List ℕ → Option (List ℕ)
-file_named text = file_of text
+file_named text = file_word_of text
 
 -- NUMBER
 unfoldable pub number_read : List ℕ → Option ℕ

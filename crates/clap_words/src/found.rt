@@ -2,7 +2,7 @@
 ghost use Rattle.std.specs.Prelude.{◌≡◌, Err, None, IfOk, map, option_map, string_bytes, true};
 ghost use Rattle.clap.specs.Faults.{is_simple_and_free};
 ghost use Rattle.clap.specs.Words.{app_of, first_of, found_of, rows_of, subcommand_rows_of};
-ghost use Rattle.clap_words.specs.Answers.{Answers, file_in, values_of};
+ghost use Rattle.clap_words.specs.Answers.{GivesAsked, file_in, values_of};
 ghost use Rattle.clap_words.specs.Words.{reads};
 
 use crate::UsageStop;
@@ -52,7 +52,7 @@ pub fn given_all<'a>(
 
 /// The value of an argument that is a file's name. `Usage` comes exactly where there is none, or no file can have that name.
 pub fn given_file<'a>(found: &ArgMatches<'a>, id: &str) -> Result<&'a str, UsageStop>
-    ensures { Answers (λ s. s.now) result (file_in id.now (rows_of (found_of found.now))) }
+    ensures { GivesAsked (λ s. s.now) result (file_in id.now (rows_of (found_of found.now))) }
 {
     let Some(text) = given(found, id) else {
         return Err(UsageStop::Usage);

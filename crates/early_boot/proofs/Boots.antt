@@ -25,10 +25,10 @@ use Rattle.moves.specs.Moved.{IsShown}
 use Rattle.moves.proofs.Composed.{after-append, does-stopped, does-then}
 use Rattle.early_boot.specs.declared.choosing.Chosen.{Chosen}
 use Rattle.early_boot.specs.declared.showing.Shown.{Shown}
-use Rattle.early_boot.specs.Showing.{Shows, state_shown}
-use Rattle.early_boot.specs.Choosing.{boot_setting, chosen_in, tried_in, with_package}
-use Rattle.early_boot.specs.Mending.{Mends, mended}
-use Rattle.early_boot.specs.CountingStarts.{IsStart, Leads, WritesMoves}
+use Rattle.early_boot.specs.Showing.{state_shown}
+use Rattle.early_boot.specs.Choosing.{boot_setting, chosen_in, with_package}
+use Rattle.early_boot.specs.Mending.{MendsReplicas, mended}
+use Rattle.early_boot.specs.CountingStarts.{IsStartOf, Leads, WritesMoves}
 use Rattle.early_boot.specs.Starting.{BootWrites, Boots, RepairsAndCounts, all_moves, count_moves}
 use Rattle.early_boot.proofs.Endings.{chosen-parts}
 use Rattle.early_boot.proofs.Led.{guarded-stop, on-ok, writes-done, writes-stopped}
@@ -65,14 +65,10 @@ start-left E s b chosen here valid =
     (λ g f. absurd cc) e)
     chosen
 
-pub chosen-start : (E : Setting) (s : State) (c : Chosen) → chosen_in E s ≡ Some c → IsStart s c
+pub chosen-start : (E : Setting) (s : State) (c : Chosen) → chosen_in E s ≡ Some c → IsStartOf s c
 chosen-start E s c found =
     let parts = chosen-parts s (choice E s) c found in
     record { version_is = parts.1; left = λ here valid. start-left E s c.bank parts.0 here valid }
-
--- with the trials that are shown, the state is as it is
-pub tried-itself : (image : List ℕ) (shown : Shown) → Shows image shown → tried_in (state_shown image shown) shown.trials ≡ state_shown image shown
-tried-itself image shown shows = ap (λ (n : ℕ). tried_in (state_shown image shown) n) shows.trials_are
 
 -- ---- a migration changes no choice
 
@@ -151,7 +147,7 @@ module _ (passes : List ℕ → Bool) (shown : Shown) (s : Told) where
   E0 = boot_setting passes shown.layout
 
   -- the repair was stopped
-  pub boots-stopped : {T U : Type 0} (stop : FlashStop) (result : Result U FlashStop) (t : Told) → IsErr result → Mends {T = T} (Err stop) shown s t → Boots result passes shown s t
+  pub boots-stopped : {T U : Type 0} (stop : FlashStop) (result : Result U FlashStop) (t : Told) → IsErr result → MendsReplicas {T = T} (Err stop) shown s t → Boots result passes shown s t
   boots-stopped {T} stop result t err mends = record {
     keeps = keeps_wider 4096 12288 4096 28672 s t (omega arith) (omega arith) mends.keeps;
     none = λ e. mends.keeps;
@@ -163,7 +159,7 @@ module _ (passes : List ℕ → Bool) (shown : Shown) (s : Told) where
     guarded = λ rest. guarded-stop result t err (mends.guarded rest);
   }
 
-  module _ {T U : Type 0} (x : T) (result : Result U FlashStop) (m t : Told) (mends : Mends {T = T} (Ok x) shown s m) where
+  module _ {T U : Type 0} (x : T) (result : Result U FlashStop) (m t : Told) (mends : MendsReplicas {T = T} (Ok x) shown s m) where
     abbrev ms : List Move
     ms = count_moves state (choice E0 state)
 

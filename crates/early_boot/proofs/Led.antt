@@ -34,9 +34,9 @@ use Rattle.early_boot.specs.declared.showing.Shown.{Shown}
 use Rattle.replicas.specs.Which.{Finds}
 use Rattle.early_boot.specs.declared.counting_starts.Counting.{Counting}
 use Rattle.early_boot.specs.declared.counting_starts.Counting.TheVariants as counting
-use Rattle.early_boot.specs.Showing.{Shows, state_shown, trials_in}
+use Rattle.early_boot.specs.Showing.{ShowsImage, state_shown, trials_in}
 use Rattle.early_boot.specs.Starting.{count_moves}
-use Rattle.early_boot.specs.CountingStarts.{CountedAs, CountsChosen, IsStart, Leads, WritesMove, WritesMoves, counting_in, counting_moves, counting_of, with_counts}
+use Rattle.early_boot.specs.CountingStarts.{CountedAs, CountsChosen, IsStartOf, Leads, WritesMove, WritesMoves, counting_in, counting_moves, counting_of, with_counts}
 use Rattle.early_boot.proofs.Lookups.{bank-is}
 
 -- a stop from which the flash is guarded
@@ -179,7 +179,7 @@ counting-raise shown c is =
 
 -- ---- by what is shown
 
-module _ (shown : Shown) (s : Told) (shows : Shows s.now shown) (fits : IsTrue (fits_meta shown.layout shown.meta.meta)) where
+module _ (shown : Shown) (s : Told) (shows : ShowsImage s.now shown) (fits : IsTrue (fits_meta shown.layout shown.meta.meta)) where
   abbrev state : State
   state = state_shown s.now shown
 
@@ -233,7 +233,7 @@ module _ (shown : Shown) (s : Told) (shows : Shows s.now shown) (fits : IsTrue (
       ∙ ap (λ (n : ℕ). start_moves (state_at shown.meta.meta active) n (version (booted_package state b))) (sym shows.counter_is)
 
   -- what a start is counted as is the machine's move
-  pub counting-is : (c : Chosen) → IsStart state c → counting_moves (counting_in shown c) c.version ≡ chosen_moves state c.bank
+  counting-is : (c : Chosen) → IsStartOf state c → counting_moves (counting_in shown c) c.version ≡ chosen_moves state c.bank
   counting-is c start = by-place (eqb c.bank active) refl
     where
       by-test : (test : Bool) → counting_moves (cond test counting.Raise counting.Nothing) c.version ≡ cond test (RaiseTo c.version ∷ []) []
@@ -251,7 +251,7 @@ module _ (shown : Shown) (s : Told) (shows : Shows s.now shown) (fits : IsTrue (
       by-place false e = sym (ap (λ (same : Bool). cond same (start_moves (bank state c.bank).state state.counter (version (booted_package state c.bank))) []) e)
 
   -- a trial is one of the active bank, which has some left
-  pub trials-left : (c : Chosen) → counting_in shown c ≡ counting.Trial → IsStart state c → shown.trials < 3
+  pub trials-left : (c : Chosen) → counting_in shown c ≡ counting.Trial → IsStartOf state c → shown.trials < 3
   trials-left c is start =
       let here = counting-trial shown c is in
       let in_state : IsTrue (is_valid (bank state c.bank).state) = ap (λ (b : ℕ). is_valid (bank state b).state) here.0 ∙ ap is_valid (active-in Valid here.1) in
@@ -259,12 +259,30 @@ module _ (shown : Shown) (s : Told) (shows : Shows s.now shown) (fits : IsTrue (
       omega (arith, left, shows.trials_are)
 
   -- and a raise one to the version of the active bank
-  pub version-active : (c : Chosen) → counting_in shown c ≡ counting.Raise → IsStart state c → c.version ≡ version (booted_package state active)
+  version-active : (c : Chosen) → counting_in shown c ≡ counting.Raise → IsStartOf state c → c.version ≡ version (booted_package state active)
   version-active c is start = start.version_is ∙ ap (λ (b : ℕ). version (booted_package state b)) (counting-raise shown c is).0
+
+  -- ---- what a start of what was chosen writes, by what it is counted as
+
+  module _ (c : Chosen) (start : IsStartOf state c) where
+    moves-are : (what : Counting) → counting_in shown c ≡ what → counting_moves what c.version ≡ chosen_moves state c.bank
+    moves-are what is = ap (λ (w : Counting). counting_moves w c.version) (sym is) ∙ counting-is c start
+
+    pub start-nothing : {T : Type 0} (x : T) → counting_in shown c ≡ counting.Nothing → Leads {T = T} (Ok x) shown.layout state (chosen_moves state c.bank) s s
+    start-nothing {T} x is = subst (λ (ms : List Move). Leads {T = T} (Ok x) shown.layout state ms s s) (moves-are counting.Nothing is) (leads-nothing x shown.layout state s is-shown)
+
+    module _ {T : Type 0} (result : Result T FlashStop) (t : Told) where
+      pub start-trial : counting_in shown c ≡ counting.Trial → Adds result 3 shown.trials s t → Leads result shown.layout state (chosen_moves state c.bank) s t
+      start-trial is adds =
+          subst (λ (ms : List Move). Leads result shown.layout state ms s t) (moves-are counting.Trial is) (leads-trial result t (counting-trial shown c is).1 (trials-left c is start) adds)
+
+      pub start-raise : counting_in shown c ≡ counting.Raise → Raises result c.version s t → Leads result shown.layout state (chosen_moves state c.bank) s t
+      start-raise is raises =
+          subst (λ (ms : List Move). Leads result shown.layout state ms s t) (moves-are counting.Raise is) (leads-raise result t c.version (counting-raise shown c is).1 (version-active c is start) raises)
 
   -- ---- what is shown once a start was counted
 
-  pub shows-later : (t : Told) (trials counter : ℕ) → Keeps 12288 28672 s t → trials ≡ trials_in t.now shown.meta.meta → counter ≡ counter_in t.now → Shows t.now (with_counts shown trials counter)
+  pub shows-later : (t : Told) (trials counter : ℕ) → Keeps 12288 28672 s t → trials ≡ trials_in t.now shown.meta.meta → counter ≡ counter_in t.now → ShowsImage t.now (with_counts shown trials counter)
   shows-later t trials counter keeps tries count =
       let agree = front-kept shown.layout 12288 28672 s t keeps in
       let zero = block-agrees shown.layout no_meta 12288 28672 s.now t.now agree 1 (omega arith) (inl (omega arith)) in

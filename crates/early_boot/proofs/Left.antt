@@ -7,16 +7,12 @@ use Rattle.flash_core.specs.declared.flash.FlashStop.{FlashStop}
 use Rattle.flash_core.specs.declared.flash.FlashStop.TheVariants.{Lost, Failed}
 use Rattle.flash_core.specs.Calls.{Goes, Reads}
 use Rattle.flash_core.specs.Counts.{StaysUnarmed, arming_kept}
-use Rattle.flash_core.proofs.Costs.{rose_earlier, spends_then}
-
-kept-none : (r : Result (Unit {0}) FlashStop) (armed : Option Arming) → armed ≡ None → arming_kept r armed ≡ None
-kept-none (Ok x) armed none = none
-kept-none (Err Lost) armed none = refl
-kept-none (Err Failed) armed none = none
+use Rattle.flash_core.proofs.Costs.{spends_then}
+use Rattle.flash_core.proofs.Unarmed.{unarmed_done, unarmed_kept, unarmed_stopped, unarmed_then}
 
 -- a read alone
 pub read-unarmed : {D : Type 0} (g : Ghosts D) (r : Result (Unit {0}) FlashStop) (a b : D) → Reads g r a b → StaysUnarmed r (g.arming a) (g.arming b) (g.counts a) (g.counts b)
-read-unarmed g r a b reads = λ none. (reads.arming ∙ kept-none r (g.arming a) none, reads.reached)
+read-unarmed g r a b reads = unarmed_kept r (g.arming a) (g.arming b) (g.counts a) (g.counts b) reads.arming reads.reached
 
 -- as the flash's own calls tell a result, whatever its value is
 pub goes-done : {D T : Type 0} (g : Ghosts D) (x : T) (a b : D) → Goes {X = T} g (Ok x) a b → Goes {X = Unit {0}} g (Ok tt) a b
@@ -33,7 +29,7 @@ goes-done g x a b goes = record {
     failed = λ is. absurd cc;
     once = goes.costs.once;
   };
-  unarmed = λ none. let left = goes.unarmed none in (left.0, record { same = left.1.same; lost = λ is. absurd cc });
+  unarmed = unarmed_done (Ok x) tt goes.unarmed;
 }
 
 -- a stop has the same cause, whatever the value would have been
@@ -57,7 +53,7 @@ goes-stopped {D} {T} g stop a b goes = record {
     failed = λ is. goes.costs.failed (same-stop {T = T} stop Failed is);
     once = goes.costs.once;
   };
-  unarmed = λ none. let left = goes.unarmed none in (left.0, record { same = left.1.same; lost = λ is. left.1.lost (same-stop {T = T} stop Lost is) });
+  unarmed = unarmed_stopped stop goes.unarmed;
 }
 
 -- a read, and then what writes
@@ -66,7 +62,6 @@ read-goes g x r a b c reads goes = record {
   power = goes.power;
   size = goes.size ∙ reads.size;
   costs = spends_then x r (g.counts a) (g.counts b) (g.counts c) reads.costs goes.costs;
-  unarmed = λ none.
-      let left = goes.unarmed (reads.arming ∙ none) in
-      (left.0, record { same = left.1.same ∙ reads.reached.same; lost = λ is. rose_earlier (g.counts a).cuts (g.counts b).cuts (g.counts c).cuts reads.costs.cuts (left.1.lost is) });
+  unarmed = unarmed_then x r (g.arming a) (g.arming b) (g.arming c) (g.counts a) (g.counts b) (g.counts c) reads.costs.cuts
+      (unarmed_kept (Ok x) (g.arming a) (g.arming b) (g.counts a) (g.counts b) reads.arming reads.reached) goes.unarmed;
 }

@@ -12,7 +12,7 @@ use Rattle.early_boot.specs.declared.counting_starts.Counting.TheVariants as cou
 use Rattle.early_boot.specs.declared.showing.Shown.{Shown}
 use Rattle.early_boot.specs.declared.showing.Unshown.{Unshown}
 use Rattle.early_boot.specs.declared.showing.Unshown.TheVariants as unshown
-use Rattle.early_boot.specs.Showing.{Shows, stop_in}
+use Rattle.early_boot.specs.Showing.{ShowsImage, stop_in}
 use Rattle.early_boot.specs.Mending.{TakesMending, mended}
 use Rattle.early_boot.specs.Numbers.{numbers_shown}
 use Rattle.early_boot.specs.CountingStarts.{CountsLater, TakesCounting, counting_in, counting_of}
@@ -20,7 +20,7 @@ use Rattle.early_boot.specs.Starting.{TakesMendingAndStart, TakesRepairAndStart}
 use Rattle.early_boot.specs.Tells.{started_as}
 use Rattle.early_boot.specs.Ends.{no_bank}
 use Rattle.early_boot.specs.EndsBy.{TakesBoot, TakesByBytes, TakesLoaded, TakesLoadedAndStart, TakesStart, counting_told, stopped_with, unshown_end}
-use Rattle.replicas.specs.Which.{form_of}
+use Rattle.replicas.specs.Which.{form_read_of}
 use Rattle.replicas.specs.Repairs.{TakesRepair}
 
 -- ---- nothing was shown, or the flash stopped it
@@ -67,7 +67,7 @@ module _ (shown after : Shown) (chosen : Chosen) (n : Numbers) (read : n ≡ num
       ∙ ap (λ (r : MetaRead). cond (not (chosen.bank == r.meta.active)) counting.Nothing counted) (sym later.meta)
       ∙ ap (λ (m : Numbers). counting_told (started_as after chosen) m) (sym read)
 
-  pub start-spent : (armed arming : Option Arming) → shown.meta.form ≡ form_of shown.which → TakesRepairAndStart shown (Some (after, chosen)) armed arming → TakesStart (started_as after chosen) n armed arming
+  pub start-spent : (armed arming : Option Arming) → shown.meta.form ≡ form_read_of shown.which → TakesRepairAndStart shown (Some (after, chosen)) armed arming → TakesStart (started_as after chosen) n armed arming
   start-spent armed arming form takes = record {
     which = shown.which;
     version_is = ap (λ (m : Numbers). m.form) read ∙ form;
@@ -76,7 +76,7 @@ module _ (shown after : Shown) (chosen : Chosen) (n : Numbers) (read : n ≡ num
     counting = subst (λ (k : Counting). TakesCounting k takes.repaired arming) counting-is takes.start;
   }
 
-  pub start-takes : (image : List ℕ) (armed arming : Option Arming) → Shows image shown → TakesMendingAndStart shown image (Some (after, chosen)) armed arming
+  pub start-takes : (image : List ℕ) (armed arming : Option Arming) → ShowsImage image shown → TakesMendingAndStart shown image (Some (after, chosen)) armed arming
       → TakesLoadedAndStart image (started_as after chosen) n armed arming
   start-takes image armed arming shows takes = record {
     repaired = takes.repaired;
@@ -92,7 +92,7 @@ module _ (shown after : Shown) (chosen : Chosen) (n : Numbers) (read : n ≡ num
   }
 
 -- where none was started, the repair alone
-pub none-takes : (shown : Shown) (image : List ℕ) (armed arming : Option Arming) → Shows image shown → TakesMendingAndStart shown image None armed arming
+pub none-takes : (shown : Shown) (image : List ℕ) (armed arming : Option Arming) → ShowsImage image shown → TakesMendingAndStart shown image None armed arming
     → TakesLoaded image armed arming
 none-takes shown image armed arming shows takes = record {
   layout = shown.layout;

@@ -1,5 +1,5 @@
 -- What taking up a bank promises of its device, on any device: the reading, the check, and then the repair.
-use Rattle.std.proofs.Common.{◌≡◌, ℕ, ◌+◌, ◌≤◌, ◌==◌, ◌&&◌, ◌||◌, not, Bool, true, false, cond, List, [], ◌∷◌, Option, Some, None, Ok, Err, refl, sym, ap, subst, ◌∙◌, arith, eq-eqb, IsTrue, leb, le-leb, ltb, lt-ltb}
+use Rattle.std.proofs.Common.{◌≡◌, ℕ, ◌+◌, ◌==◌, ◌&&◌, ◌||◌, not, Bool, true, false, cond, List, [], ◌∷◌, Option, Some, None, Ok, Err, refl, sym, ap, subst, ◌∙◌, arith, eq-eqb, IsTrue, leb, le-leb, ltb, lt-ltb}
 use Rattle.std.proofs.lemmas.Bool.{and_from, and_parts, cond_both}
 use Rattle.std.proofs.lemmas.Option.{same_Some}
 use Rattle.std.specs.Prelude.{IfSome}
@@ -8,8 +8,6 @@ use Rattle.flash_core.specs.declared.flash.Arming.{Arming}
 use Rattle.flash_core.specs.declared.flash.FlashStop.{FlashStop}
 use Rattle.flash_core.specs.Calls.{Goes, Reads}
 use Rattle.flash_core.specs.Told.{Told}
-use Rattle.fwu_formats.specs.Layout.{fits_layout}
-use Rattle.fwu_formats.specs.Metadata.{fits_meta, state_at}
 use Rattle.fwu_formats.specs.Manifest.{version}
 use Rattle.fwu_formats.specs.Places.{trial_limit}
 use Rattle.fwu_formats.specs.declared.kinds.BankState.{BankState}
@@ -23,13 +21,14 @@ use Rattle.early_boot.specs.declared.choosing.Chosen.{Chosen}
 use Rattle.early_boot.specs.declared.showing.Shown.{Shown}
 use Rattle.early_boot.specs.declared.showing.Unshown.{Unshown}
 use Rattle.early_boot.specs.declared.showing.Unshown.TheVariants as unshown
-use Rattle.early_boot.specs.Showing.{CountsNone, Shows, ShowsNothing, stop_in}
-use Rattle.early_boot.specs.Choosing.{IsPermitted}
+use Rattle.early_boot.specs.Showing.{HasShown, ShowsNothing, stop_in}
+use Rattle.early_boot.specs.Choosing.{IsFound}
 use Rattle.early_boot.specs.Knows.{KnowsStarted}
 use Rattle.early_boot.specs.Mending.{TakesMending, mended}
 use Rattle.early_boot.specs.Tells.{started_as}
-use Rattle.early_boot.specs.TakenUp.{BootedRuns, IsTakeUp, MendsFound, OnceFound, SpendsFound, TakenByNumbers, TakesOnce, may_run, not_started, running_in, runs_from, stop_in_end, stopped, taken, unshown_as, was_started}
+use Rattle.early_boot.specs.TakenUp.{BootedRuns, IsTakeUp, MendsFound, OnceFound, SpendsFound, TakenByNumbers, TakesOnce, not_started, running_bank, running_in, runs_from, stop_in_end, stopped, taken, unshown_as, was_started}
 use Rattle.early_boot.proofs.Boots.{past-migration}
+use Rattle.early_boot.proofs.Lookups.{some-of}
 use Rattle.early_boot.proofs.Left.{goes-done, goes-stopped, read-goes, read-unarmed}
 use Rattle.early_boot.proofs.Numbered.{numbers-are}
 use Rattle.early_boot.proofs.TakingUp.{none-ends, refused-ends, stopped-ends, taken-ends, taken-knows}
@@ -90,7 +89,7 @@ module _ {D : Type 0} (g : Ghosts D) (passes : List ℕ → Bool) (b : ℕ) (fla
 -- ---- the flash was read, and then the bank was checked
 
 module _ {D : Type 0} (g : Ghosts D) (passes : List ℕ → Bool) (b : ℕ) (flash mid left : D) (shown : Shown)
-    (reads : Reads {X = Unit {0}} g (Ok tt) flash mid) (shows : IsTrue g.tells → Shows (g.told flash).now shown) (are : IsTrue (fits_meta shown.layout shown.meta.meta)) where
+    (reads : Reads {X = Unit {0}} g (Ok tt) flash mid) (has : HasShown g flash shown) where
   refused-take-up : Goes {X = Option Chosen} g (Ok None) mid left → SpendsFound shown None (g.arming mid) (g.arming left) (g.counts mid) (g.counts left)
       → (IsTrue g.tells → None ≡ running_in passes (g.told mid).now shown b) → (IsTrue g.tells → MendsFound (Ok None) shown (g.told mid) (g.told left))
       → IsTakeUp g passes b flash not_started left
@@ -110,7 +109,7 @@ module _ {D : Type 0} (g : Ghosts D) (passes : List ℕ → Bool) (b : ℕ) (fla
         ends = λ tells.
             let content = reads.content tells in
             let none = subst (λ (t : Told). None ≡ running_in passes t.now shown b) content (found tells) in
-            refused-ends passes shown b (g.told flash) (g.told left) (shows tells) are (sym none) (mends tells ∙ content);
+            refused-ends passes shown b (g.told flash) (g.told left) (has.shows tells) has.fits (sym none) (mends tells ∙ content);
       }
 
   pub stopped-take-up : (stop : FlashStop) → Goes {X = Option Chosen} g (Err stop) mid left → (IsTrue g.tells → MendsFound (Err stop) shown (g.told mid) (g.told left))
@@ -126,7 +125,7 @@ module _ {D : Type 0} (g : Ghosts D) (passes : List ℕ → Bool) (b : ℕ) (fla
         once = λ tells. tt;
         numbers = tt;
         ends = λ tells.
-            stopped-ends passes shown b (g.told flash) (g.told left) (shows tells) are stop
+            stopped-ends passes shown b (g.told flash) (g.told left) (has.shows tells) has.fits stop
             (subst (λ (t : Told). MendsFound (Err stop) shown t (g.told left)) (reads.content tells) (mends tells));
       }
 
@@ -134,16 +133,15 @@ module _ {D : Type 0} (g : Ghosts D) (passes : List ℕ → Bool) (b : ℕ) (fla
     knows-taken : IsTrue g.tells → KnowsStarted (started_as (mended shown) c) (g.told left)
     knows-taken tells =
         let content = reads.content tells in
-        taken-knows passes shown b (g.told flash) (g.told left) (shows tells) are c
+        taken-knows passes shown b (g.told flash) (g.told left) (has.shows tells) has.fits c
         (sym (subst (λ (t : Told). Some c ≡ running_in passes t.now shown b) content (found tells)))
         (subst (λ (t : Told). MendsFound (Ok (Some c)) shown t (g.told left)) content (mends tells))
 
     taken-take-up : Goes {X = Option Chosen} g (Ok (Some c)) mid left → SpendsFound shown (Some c) (g.arming mid) (g.arming left) (g.counts mid) (g.counts left)
-        → (IsTrue g.tells → OnceFound shown (g.told mid).now (Some c) (g.arming mid) (g.arming left)) → IsPermitted passes shown c → c.bank ≡ b
-        → IsTrue (may_run b shown.meta.meta.active shown.meta.meta.previous (state_at shown.meta.meta b) shown.trials)
-        → IsTrue (fits_layout shown.layout) → shown.trials ≤ trial_limit → CountsNone shown
+        → (IsTrue g.tells → OnceFound shown (g.told mid).now (Some c) (g.arming mid) (g.arming left)) → IsFound passes shown (λ x. running_bank shown b ≡ Some x) c
         → IsTakeUp g passes b flash (taken (started_as (mended shown) c)) left
-    taken-take-up went spent once permitted is may fit few none =
+    taken-take-up went spent once is_found =
+        let run = some-of _ b c.bank is_found.is in
         let goes = read-goes g tt (Ok tt) flash mid left reads (goes-done {T = Option Chosen} g (Some c) mid left went) in
         record {
           power = goes.power;
@@ -153,25 +151,25 @@ module _ {D : Type 0} (g : Ghosts D) (passes : List ℕ → Bool) (b : ℕ) (fla
           spent = (shown.which, subst (λ (a : Option Arming). TakesRepair shown.which a (g.arming left)) reads.arming spent);
           once = λ tells. record {
             layout = shown.layout;
-            layout_is = (shows tells).layout_is;
+            layout_is = (has.shows tells).layout_is;
             which = shown.which;
             meta = shown.meta;
-            loads = (shows tells).loads;
+            loads = (has.shows tells).loads;
             takes =
                 subst (λ (a : Option Arming). TakesMending shown.layout shown.which shown.meta (g.told flash).now a (g.arming left)) reads.arming
                 (subst (λ (t : Told). TakesMending shown.layout shown.which shown.meta t.now (g.arming mid) (g.arming left)) (reads.content tells) (once tells));
           };
           numbers = record {
-            numbers = numbers-are (mended shown) fit are few refl none;
-            bank_is = is;
-            runs = may;
-            fallback_is = ap (λ (x : ℕ). not (x == shown.meta.meta.active)) is;
+            numbers = numbers-are (mended shown) has.layout has.fits has.few refl has.none;
+            bank_is = sym run.1;
+            runs = run.0;
+            fallback_is = ap (λ (x : ℕ). not (x == shown.meta.meta.active)) (sym run.1);
             form_two = refl;
-            permitted = permitted;
+            permitted = is_found.permitted;
           };
           ends = λ tells.
               let content = reads.content tells in
-              taken-ends passes shown b (g.told flash) (g.told left) (shows tells) are c
+              taken-ends passes shown b (g.told flash) (g.told left) (has.shows tells) has.fits c
               (sym (subst (λ (t : Told). Some c ≡ running_in passes t.now shown b) content (found tells)))
               (subst (λ (t : Told). MendsFound (Ok (Some c)) shown t (g.told left)) content (mends tells));
         }
@@ -184,13 +182,11 @@ module _ {D : Type 0} (g : Ghosts D) (passes : List ℕ → Bool) (b : ℕ) (fla
 
   pub taken-at : (o : Option Chosen) (c : Chosen) → o ≡ Some c → (IsTrue g.tells → o ≡ running_in passes (g.told mid).now shown b) → (IsTrue g.tells → MendsFound (Ok o) shown (g.told mid) (g.told left))
       → Goes {X = Option Chosen} g (Ok o) mid left → SpendsFound shown o (g.arming mid) (g.arming left) (g.counts mid) (g.counts left)
-      → (IsTrue g.tells → OnceFound shown (g.told mid).now o (g.arming mid) (g.arming left)) → IfSome o (IsPermitted passes shown) → IfSome o (λ x. x.bank ≡ b)
-      → IfSome o (λ x. IsTrue (may_run b shown.meta.meta.active shown.meta.meta.previous (state_at shown.meta.meta b) shown.trials))
-      → IsTrue (fits_layout shown.layout) → shown.trials ≤ trial_limit → CountsNone shown
+      → (IsTrue g.tells → OnceFound shown (g.told mid).now o (g.arming mid) (g.arming left)) → IfSome o (IsFound passes shown (λ x. running_bank shown b ≡ Some x))
       → IsTakeUp g passes b flash (taken (started_as (mended shown) c)) left
-  taken-at None c is found mends went spent once permitted bank_is may fit few none = absurd cc
-  taken-at (Some x) c is found mends went spent once permitted bank_is may fit few none =
-      subst (λ (y : Chosen). IsTakeUp g passes b flash (taken (started_as (mended shown) y)) left) (same_Some x c is) (taken-take-up x found mends went spent once permitted bank_is may fit few none)
+  taken-at None c is found mends went spent once is_found = absurd cc
+  taken-at (Some x) c is found mends went spent once is_found =
+      subst (λ (y : Chosen). IsTakeUp g passes b flash (taken (started_as (mended shown) y)) left) (same_Some x c is) (taken-take-up x found mends went spent once is_found)
 
   pub refused-at : (o : Option Chosen) → o ≡ None → Goes {X = Option Chosen} g (Ok o) mid left → SpendsFound shown o (g.arming mid) (g.arming left) (g.counts mid) (g.counts left)
       → (IsTrue g.tells → o ≡ running_in passes (g.told mid).now shown b) → (IsTrue g.tells → MendsFound (Ok o) shown (g.told mid) (g.told left))

@@ -29,14 +29,14 @@ use Rattle.early_boot.specs.declared.choosing.Chosen.{Chosen}
 use Rattle.early_boot.specs.declared.showing.Shown.{Shown}
 use Rattle.early_boot.specs.declared.showing.Unshown.{Unshown}
 use Rattle.early_boot.specs.declared.showing.Unshown.TheVariants as unshown
-use Rattle.early_boot.specs.Showing.{Shows, ShowsNothing, state_shown}
+use Rattle.early_boot.specs.Showing.{ShowsImage, ShowsNothing, state_shown}
 use Rattle.early_boot.specs.Choosing.{boot_setting, candidate_in, chosen_as}
-use Rattle.early_boot.specs.Mending.{Mends, mended}
+use Rattle.early_boot.specs.Mending.{MendsReplicas, mended}
 use Rattle.early_boot.specs.Knows.{KnowsStarted}
 use Rattle.early_boot.specs.Tells.{started_as}
 use Rattle.early_boot.specs.TakenUp.{MendsFound, TakeUpEnds, TakesBank, TakesByBytes, TakesByMachine, TakesReady, may_run, not_started, running_in, runs_from, stop_in_end, stopped, taken, unshown_as, was_started}
 use Rattle.early_boot.proofs.Endings.{shown-numbers}
-use Rattle.early_boot.proofs.Lookups.{bank-is}
+use Rattle.early_boot.proofs.Lookups.{bank-is, found-by-test, some-of}
 
 -- ---- a bank that may run
 
@@ -89,10 +89,6 @@ in-two : (E : Setting) (b : ℕ) (run : Bool) (counter : ℕ) (slots own : Optio
 in-two E b true counter slots own same = ap (candidate_in E counter b) (sym (same refl))
 in-two E b false counter slots own same = refl
 
-some-of : (test : Bool) (x c : Chosen) → cond test (Some x) None ≡ Some c → IsTrue test × (x ≡ c)
-some-of true x c e = (refl, same_Some x c e)
-some-of false x c e = absurd cc
-
 none-of : (test : Bool) (x : Chosen) → cond test (Some x) None ≡ None → test ≡ false
 none-of true x e = absurd cc
 none-of false x e = refl
@@ -110,7 +106,7 @@ runs-setting E s b L passes is = ap (λ (test : List ℕ → Bool). runs_from (r
 
 -- ---- how it ends
 
-module _ (passes : List ℕ → Bool) (shown : Shown) (b : ℕ) (old new : Told) (shows : Shows old.now shown) (are : IsTrue (fits_meta shown.layout shown.meta.meta)) where
+module _ (passes : List ℕ → Bool) (shown : Shown) (b : ℕ) (old new : Told) (shows : ShowsImage old.now shown) (are : IsTrue (fits_meta shown.layout shown.meta.meta)) where
   abbrev state : State
   state = state_shown old.now shown
 
@@ -127,7 +123,8 @@ module _ (passes : List ℕ → Bool) (shown : Shown) (b : ℕ) (old new : Told)
   found-by =
       let m = shown.meta.meta in
       let slots = package_in shown.layout old.now b in
-      ap (λ (x : ℕ × ℕ). cond (may_run b m.active m.previous (state_at m b) x.0) (candidate_in E0 x.1 b slots) None) (pair shows.trials_are shows.counter_is)
+      sym (found-by-test passes old.now shown b (may_run b m.active m.previous (state_at m b) shown.trials))
+      ∙ ap (λ (x : ℕ × ℕ). cond (may_run b m.active m.previous (state_at m b) x.0) (candidate_in E0 x.1 b slots) None) (pair shows.trials_are shows.counter_is)
       ∙ ap (λ (run : Bool). cond run (candidate_in E0 state.counter b slots) None) (same-run shown.layout old.now shown.meta are b state.trials)
       ∙ in-two E0 b (may_run b m.active m.previous (bank state b).state state.trials) state.counter slots (bank state b).held (held-by shown.layout old.now shown.meta are b state.trials)
     where
@@ -147,7 +144,7 @@ module _ (passes : List ℕ → Bool) (shown : Shown) (b : ℕ) (old new : Told)
     has-some : IsTrue (is_some (bank state b).held)
     has-some = some-held E0 state.counter (bank state b).held (and_parts _ _ parts.0).1
 
-    module _ (mends : Mends {T = Unit {0}} (Ok tt) shown old new) where
+    module _ (mends : MendsReplicas {T = Unit {0}} (Ok tt) shown old new) where
       held-now : (bank state b).held ≡ package_in shown.layout new.now b
       held-now = held-old ∙ sym (package-same shown.layout new.now old.now b mends.keeps.size (λ place above below. mends.keeps.now place (inr (omega (arith, above)))))
 

@@ -76,7 +76,7 @@ pub record Leads {T : Type 0} (result : Result T FlashStop) (L : Layout) (state 
 -- ---- what a start is counted as
 
 -- the bank was chosen by the state
-pub record IsStart (s : State) (chosen : Chosen) : Type 0 where
+pub record IsStartOf (s : State) (chosen : Chosen) : Type 0 where
   pub version_is : chosen.version ≡ version (booted_package s chosen.bank)
   pub left : chosen.bank ≡ s.active → IsTrue (is_valid (bank s chosen.bank).state) → s.trials < trial_limit
 

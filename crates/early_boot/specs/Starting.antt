@@ -1,7 +1,8 @@
 -- What a boot leaves of a flash that shows this: the replicas are repaired, a bank is chosen, and its start is counted.
-use Rattle.std.specs.Prelude.{◌≡◌, ◌⊎◌, ℕ, ◌*◌, Bool, List, [], ◌++◌, Option, Some, None, Result, Ok, Err, OnOk}
+use Rattle.std.specs.Prelude.{◌≡◌, ◌⊎◌, ℕ, ◌*◌, Bool, List, [], ◌++◌, Option, Some, None, Result, Ok, Err, OnOk, IsTrue}
 use Rattle.base_core.specs.Block.{block_bytes}
 use Rattle.flash_core.specs.declared.flash.Arming.{Arming}
+use Rattle.flash_core.specs.declared.flash.Flash.{Ghosts}
 use Rattle.flash_core.specs.declared.flash.FlashStop.{FlashStop}
 use Rattle.flash_core.specs.Told.{Told}
 use Rattle.flash_core.specs.May.{Guards, Keeps}
@@ -18,10 +19,10 @@ use Rattle.replicas.specs.Repairs.{Repairs, TakesRepair}
 use Rattle.moves.specs.Moved.{IsShown, Does, GuardedBy}
 use Rattle.early_boot.specs.declared.choosing.Chosen.{Chosen}
 use Rattle.early_boot.specs.declared.showing.Shown.{Shown}
-use Rattle.early_boot.specs.Showing.{state_shown}
-use Rattle.early_boot.specs.Choosing.{boot_setting}
+use Rattle.early_boot.specs.Showing.{ShowsImage, state_shown}
+use Rattle.early_boot.specs.Choosing.{IsFound, MayBeChosen, boot_setting}
 use Rattle.early_boot.specs.Mending.{TakesMending, mended}
-use Rattle.early_boot.specs.CountingStarts.{WritesMoves, TakesCounting, counting_in}
+use Rattle.early_boot.specs.CountingStarts.{CountsChosen, CountsLater, Leads, TakesCounting, WritesMoves, counting_in}
 
 -- the bank that was chosen, without what is shown once its start is counted
 abbrev pub chosen_of : Option (Shown × Chosen) → Option Chosen
@@ -70,6 +71,22 @@ pub record TakesMendingAndStart (shown : Shown) (image : List ℕ) (found : Opti
   pub repaired : Option Arming
   pub repair : TakesMending shown.layout shown.which shown.meta image armed repaired
   pub start : TakesFound (mended shown) found repaired arming
+
+-- ---- the choice and its count
+
+-- The bank that was chosen by what was shown, and what is shown once its start is counted.
+pub record IsCountedStart {D : Type 0} (g : Ghosts D) (flash : D) (passes : List ℕ → Bool) (shown : Shown)
+    (start : Shown × Chosen) : Type 0 where
+  pub found : IsFound passes shown (MayBeChosen shown) start.1
+  pub later : CountsLater shown start.0
+  pub counted : CountsChosen shown start.0 start.1
+  pub shows : IsTrue g.tells → ShowsImage (g.told flash).now start.0
+
+-- it writes by the moves of the bank that the definition chooses
+abbrev pub LeadsChosen : {T : Type 0} → Result T FlashStop → (List ℕ → Bool) → Shown → Told → Told → Type 0
+LeadsChosen result passes shown s t =
+    let state = state_shown s.now shown in
+    Leads result shown.layout state (count_moves state (choice (boot_setting passes shown.layout) state)) s t
 
 -- ---- all of it
 

@@ -11,7 +11,7 @@ use Rattle.flash_core.specs.May.{Guards, Keeps}
 use Rattle.fwu_formats.specs.Layout.{Layout}
 use Rattle.fwu_formats.specs.Metadata.{MetaRead, state_at}
 use Rattle.fwu_formats.specs.Manifest.{version}
-use Rattle.fwu_formats.specs.Image.{layout_seen, deciding, package_in}
+use Rattle.fwu_formats.specs.Image.{layout_seen, deciding}
 use Rattle.fwu_formats.specs.declared.kinds.BankState.{BankState}
 use Rattle.fwu_formats.specs.declared.kinds.BankState.TheVariants.{Invalid}
 use Rattle.fwu_formats.specs.declared.kinds.LayoutFault.{LayoutFault}
@@ -32,8 +32,8 @@ use Rattle.early_boot.specs.declared.showing.Unshown.{Unshown}
 use Rattle.early_boot.specs.declared.showing.Unshown.TheVariants as unshown
 use Rattle.early_boot.specs.declared.taking_up.TakeUpEnd.{TakeUpEnd}
 use Rattle.early_boot.specs.declared.taking_up.TakeUpEnd.TheVariants as take_up_end
-use Rattle.early_boot.specs.Choosing.{MayStart, boot_setting, candidate_in}
-use Rattle.early_boot.specs.Mending.{Mends, TakesMending}
+use Rattle.early_boot.specs.Choosing.{MayStart, found_in}
+use Rattle.early_boot.specs.Mending.{MendsReplicas, TakesMending}
 use Rattle.early_boot.specs.Numbers.{AreNumbers}
 use Rattle.early_boot.specs.Started.{Started, started, device, started_session, started_numbers}
 use Rattle.early_boot.specs.EndsBy.{Renewed, TakesLoaded, WroteNothing}
@@ -57,13 +57,15 @@ runs_from E s b = may_run b s.active s.previous (bank s b).state s.trials && hol
 abbrev pub BootedRuns : Type 0
 BootedRuns = (E : Setting) (s : State) (b : ℕ) → choice E s ≡ Some b → IsTrue (runs_from E (after s (boot_moves s b)) b)
 
--- the bank with what is told of its package, by the bytes of a flash that shows this
-abbrev pub running_in : (List ℕ → Bool) → List ℕ → Shown → ℕ → Option Chosen
-running_in passes image shown b =
+-- the bank, where a boot may have started it by what is shown
+abbrev pub running_bank : Shown → ℕ → Option ℕ
+running_bank shown b =
     let m = shown.meta.meta in
-    if may_run b m.active m.previous (state_at m b) shown.trials
-    then candidate_in (boot_setting passes shown.layout) shown.counter b (package_in shown.layout image b)
-    else None
+    if may_run b m.active m.previous (state_at m b) shown.trials then Some b else None
+
+-- with what is told of its package, by the bytes of a flash that shows this
+abbrev pub running_in : (List ℕ → Bool) → List ℕ → Shown → ℕ → Option Chosen
+running_in passes image shown b = found_in passes image shown (running_bank shown b)
 
 -- ---- the check and the repair
 
@@ -79,8 +81,8 @@ OnceFound shown image (Some c) armed arming = TakesMending shown.layout shown.wh
 -- a stop comes before the repair or in it
 abbrev pub MendsFound : Result (Option Chosen) FlashStop → Shown → Told → Told → Type 0
 MendsFound (Ok None) shown s t = t ≡ s
-MendsFound (Ok (Some c)) shown s t = Mends {T = Unit {0}} (Ok tt) shown s t
-MendsFound (Err stop) shown s t = (t ≡ s) ⊎ Mends {T = Unit {0}} (Err stop) shown s t
+MendsFound (Ok (Some c)) shown s t = MendsReplicas {T = Unit {0}} (Ok tt) shown s t
+MendsFound (Err stop) shown s t = (t ≡ s) ⊎ MendsReplicas {T = Unit {0}} (Err stop) shown s t
 
 -- ---- how it ends
 

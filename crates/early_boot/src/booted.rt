@@ -2,7 +2,7 @@
 ghost use Rattle.std.specs.Prelude.{◌≡◌, ◌<◌, ◌≤◌, length, take, IsTrue};
 ghost use Rattle.fwu_formats.specs.Layout.{blocks_needed, slot_bytes};
 ghost use Rattle.fwu_formats.specs.Metadata.{fits_meta};
-ghost use Rattle.early_boot.specs.Choosing.{FitSlots, IsCandidate};
+ghost use Rattle.early_boot.specs.Choosing.{LengthsFitSlots, IsCandidate};
 ghost use Rattle.early_boot.specs.Tells.{started_as};
 ghost use Rattle.early_boot.specs.Knows.{KnowsStarted};
 ghost use Rattle.fwu_formats.specs.Places.{trial_limit};
@@ -17,9 +17,9 @@ use meta_layout::{Layout, Meta};
 /// The bank that was started, with what its flash shows, and the device, which is on. What it tells stays as it was at the boot.
 #[derive(Drop)]
 pub struct Booted<D: Flash> {
-    flash: D,
-    shown: Shown,
-    chosen: Chosen,
+    pub(crate) flash: D,
+    pub(crate) shown: Shown,
+    pub(crate) chosen: Chosen,
     ghost power: { IsTrue (D.on flash) },
     ghost fits: { IsTrue (fits_meta shown.layout shown.meta.meta) },
     ghost few: { shown.trials ≤ trial_limit },
@@ -33,24 +33,6 @@ impl<D: Flash> Booted<D> {
     ghost use Rattle.fwu_formats.specs.Metadata.{state_at, bit_at};
     ghost use Rattle.early_boot.specs.Numbers.{numbers};
     ghost use Rattle.early_boot.specs.Started.{started, started_numbers, device};
-
-    /// The bank was chosen by what the device shows.
-    pub(crate) fn of(flash: D, shown: Shown, chosen: Chosen) -> Booted<D>
-        requires on { IsTrue (D.on flash) }
-        requires fits { IsTrue (fits_meta shown.layout shown.meta.meta) }
-        requires few { shown.trials ≤ trial_limit }
-        requires candidate { IsCandidate shown.layout chosen }
-        requires inside { blocks_needed shown.layout ≤ D.blocks flash }
-        requires knows { IsTrue D.tells → KnowsStarted (started_as shown chosen) (D.told flash) }
-        ensures device { device result ≡ flash }
-        ensures started { started result ≡ started_as shown chosen }
-    {
-        Booted {
-            flash,
-            shown,
-            chosen,
-        }
-    }
 
     /// The layout of the flash.
     pub fn layout(&self) -> &Layout
@@ -146,12 +128,9 @@ impl<D: Flash> Booted<D> {
     /// The lengths in bytes of the images of the bank that was started, one for each image of the layout,
     /// at the front of 16 numbers.
     pub fn lengths(&self) -> [u32; 16]
-        ensures front { let b = started self.now in
-            take (length b.lengths) result ≡ b.lengths }
-        ensures count { let b = started self.now in
-            length b.lengths ≡ length b.layout.rows }
-        ensures within { let b = started self.now in
-            FitSlots b.layout b.lengths }
+        ensures front { take (length (started self.now).lengths) result ≡ (started self.now).lengths }
+        ensures count { length (started self.now).lengths ≡ length (started self.now).layout.rows }
+        ensures within { LengthsFitSlots (started self.now).layout (started self.now).lengths }
         ensures all { length result ≡ 16 }
     {
         self.chosen.lengths.all()

@@ -1,12 +1,11 @@
 //! Taking up a bank that an earlier boot started: what an agent begins with, in the firmware that runs.
-ghost use Rattle.flash_core.specs.Calls.{Goes, Reads};
-ghost use Rattle.std.specs.Prelude.{◌≡◌, ◌≤◌, length, IsTrue, IfOk, IfSome};
+ghost use Rattle.flash_core.specs.Calls.{Goes};
+ghost use Rattle.std.specs.Prelude.{◌≡◌, ◌≤◌, ℕ, length, IsTrue, IfOk, IfSome};
 ghost use Rattle.base_core.specs.Block.{block_bytes};
-ghost use Rattle.fwu_formats.specs.Layout.{blocks_needed, fits_layout};
 ghost use Rattle.fwu_formats.specs.Metadata.{fits_meta, state_at};
-ghost use Rattle.early_boot.specs.Showing.{Shows};
-ghost use Rattle.early_boot.specs.Choosing.{IsCandidate, IsPermitted};
-ghost use Rattle.early_boot.specs.TakenUp.{BootedRuns, IsTakeUp, MendsFound, OnceFound, SpendsFound, device_left, may_run, running_in, taken_as, unshown_as, was_started};
+ghost use Rattle.early_boot.specs.Showing.{HasShown};
+ghost use Rattle.early_boot.specs.Choosing.{IsFound};
+ghost use Rattle.early_boot.specs.TakenUp.{BootedRuns, IsTakeUp, MendsFound, OnceFound, SpendsFound, device_left, may_run, running_bank, running_in, taken_as, unshown_as, was_started};
 
 use crate::booted::Booted;
 use crate::choosing::{Chosen, candidate};
@@ -42,8 +41,7 @@ fn was_started(state: BankState, trials: u32) -> bool
 /// Whether a boot may have started the bank, by the numbers that the flash shows.
 fn may_run(shown: &Shown, bank: u32) -> bool
     requires { IsTrue (fits_meta shown.now.layout shown.now.meta.meta) }
-    ensures { let m = shown.now.meta.meta in
-        result ≡ may_run bank m.active m.previous (state_at m bank) shown.now.trials }
+    ensures { let m = shown.now.meta.meta in result ≡ may_run bank m.active m.previous (state_at m bank) shown.now.trials }
 {
     let meta = &shown.meta;
     if bank == meta.active() {
@@ -51,36 +49,6 @@ fn may_run(shown: &Shown, bank: u32) -> bool
     } else {
         bank == meta.previous() && meta.state(bank).is_accepted()
     }
-}
-
-/// The bank, where a boot may have started it and its package is complete and permitted.
-fn running<D: Flash, V: Verifier>(
-    flash: &mut D,
-    shown: &Shown,
-    bank: u32,
-    verifier: &V,
-    buf: &mut [u8],
-) -> Result<Option<Chosen>, FlashStop>
-    requires on { IsTrue (D.on flash.old) }
-    requires room { block_bytes ≤ length buf.old }
-    requires layout { IsTrue (fits_layout shown.now.layout) }
-    requires inside { blocks_needed shown.now.layout ≤ D.blocks flash.old }
-    requires fits { IsTrue (fits_meta shown.now.layout shown.now.meta.meta) }
-
-    ensures running { IfOk result (λ found. IsTrue D.tells →
-        found ≡ running_in (V.passes verifier.now) (D.told flash.old).now shown.now bank) }
-    ensures whole { IfOk result (λ found. IfSome found (IsCandidate shown.now.layout)) }
-    ensures permitted { IfOk result (λ found. IfSome found (IsPermitted (V.passes verifier.now) shown.now)) }
-    ensures of { IfOk result (λ found. IfSome found (λ c. c.bank ≡ bank)) }
-    ensures may { let m = shown.now.meta.meta in
-        IfOk result (λ found. IfSome found (λ c.
-        IsTrue (may_run bank m.active m.previous (state_at m bank) shown.now.trials))) }
-    ensures reads { Reads D.Flash result flash.old flash.new }
-{
-    if !may_run(shown, bank) {
-        return Ok(None);
-    }
-    candidate(flash, shown, bank, verifier, buf)
 }
 
 /// The bank, where it may be taken up; then the replicas are repaired.
@@ -93,21 +61,13 @@ fn check_and_mend<D: Flash, V: Verifier>(
     verifier: &V,
     buf: &mut [u8],
 ) -> Result<Option<Chosen>, FlashStop>
-    requires on { IsTrue (D.on flash.old) }
+    requires has { HasShown D.Flash flash.old shown.now }
     requires room { block_bytes ≤ length buf.old }
-    requires layout { IsTrue (fits_layout shown.now.layout) }
-    requires inside { blocks_needed shown.now.layout ≤ D.blocks flash.old }
-    requires fits { IsTrue (fits_meta shown.now.layout shown.now.meta.meta) }
-    requires shows { IsTrue D.tells → Shows (D.told flash.old).now shown.now }
 
-    ensures running { IfOk result (λ found. IsTrue D.tells →
-        found ≡ running_in (V.passes verifier.now) (D.told flash.old).now shown.now bank) }
-    ensures whole { IfOk result (λ found. IfSome found (IsCandidate shown.now.layout)) }
-    ensures permitted { IfOk result (λ found. IfSome found (IsPermitted (V.passes verifier.now) shown.now)) }
-    ensures of { IfOk result (λ found. IfSome found (λ c. c.bank ≡ bank)) }
-    ensures may { let m = shown.now.meta.meta in
-        IfOk result (λ found. IfSome found (λ c.
-        IsTrue (may_run bank m.active m.previous (state_at m bank) shown.now.trials))) }
+    ensures running { let passes = V.passes verifier.now in
+        IfOk result (λ found. IsTrue D.tells → found ≡ running_in passes (D.told flash.old).now shown.now bank) }
+    ensures found { let Is : ℕ → Type 0 = λ b. running_bank shown.now bank ≡ Some b in
+        IfOk result (λ found. IfSome found (IsFound (V.passes verifier.now) shown.now Is)) }
     ensures mends { IsTrue D.tells → MendsFound result shown.now (D.told flash.old) (D.told flash.new) }
     ensures goes { Goes D.Flash result flash.old flash.new }
     ensures spent { IfOk result (λ found.
@@ -115,7 +75,8 @@ fn check_and_mend<D: Flash, V: Verifier>(
     ensures once { IfOk result (λ found. IsTrue D.tells →
         OnceFound shown.now (D.told flash.old).now found (D.arming flash.old) (D.arming flash.new)) }
 {
-    let Some(chosen) = running(flash, shown, bank, verifier, buf)? else {
+    let running = may_run(shown, bank).then_some(bank);
+    let Some(chosen) = candidate(flash, shown, running, verifier, buf)? else {
         return Ok(None);
     };
     mend(flash, shown, buf)?;
@@ -164,7 +125,14 @@ pub fn take_up<D: Flash, V: Verifier>(
         Err(why) => return unshown(flash, why),
     };
     match check_and_mend(&mut flash, &shown, bank, verifier, buf) {
-        Ok(Some(chosen)) => TakeUpEnd::Taken(Booted::of(flash, mended(&shown), chosen)),
+        Ok(Some(chosen)) => {
+            let booted = Booted {
+                flash,
+                shown: mended(&shown),
+                chosen,
+            };
+            TakeUpEnd::Taken(booted)
+        }
         Ok(None) => TakeUpEnd::NotStarted(flash),
         Err(stop) => TakeUpEnd::Stopped(flash, stop),
     }

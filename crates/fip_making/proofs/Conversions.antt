@@ -1,16 +1,17 @@
 -- What a capsule in a file gives, and what is made of it.
 use Rattle.std.proofs.Common.{◌≡◌, ◌⊎◌, inl, inr, ◌≤◌, ◌+◌, ℕ, List, [], Option, Some, None, Result, Ok, Err, length, map, refl, sym, ap, subst, ◌∙◌}
+use Rattle.std.specs.Prelude.{unwrap_or}
 use Rattle.std.specs.List.{All}
 use Rattle.host_io.specs.Contents.{Directory}
 use Rattle.fwu_formats.specs.Package.{Toc}
 use Rattle.fip_tables.specs.Files.{Lacks, Tells}
-use Rattle.capsule_tables.specs.Answers.{IsAnswer}
+use Rattle.capsule_tables.specs.Answers.{IsCapsuleAnswer}
 use Rattle.fwu_formats.specs.Capsule.{capsule_of}
 use Rattle.fwu_formats.specs.declared.kinds.CapsuleFault.{CapsuleFault}
 use Rattle.capsule_tables.specs.declared.faults.CapsuleStop.{CapsuleStop}
 use Rattle.capsule_tables.specs.declared.faults.CapsuleStop.TheVariants as read_stop
 use Rattle.capsule_tables.proofs.Within.{ends-within}
-use Rattle.fip_making.specs.Payloads.{HasEntry}
+use Rattle.fip_making.specs.Payloads.{HasEntry, bytes_in}
 use Rattle.fip_making.specs.Answers.{Gives}
 use Rattle.fip_making.specs.Values.{after, capsule_in, capsule_table, capsule_value, enclose_value, kept_part, pack_value, repackage_value, there}
 use Rattle.fip_making.specs.Stops.{capsule_stopped_by}
@@ -75,14 +76,14 @@ told-lacks None told name e h = absurd h
 told-lacks (Some d) told name e h = let same : d ≡ told = cc in sym (ap (λ (f : Directory). f name) same) ∙ h
 
 module _ (o : Option Directory) (told : Directory) (name : List ℕ) (e : o ≡ Some told) where
-  pub table-read : (toc : Toc) → ((bytes : List ℕ) → Tells o name bytes → IsAnswer (Ok toc) (capsule_of bytes)) → (Lacks o name → ◌≡◌ {A = Result Toc CapsuleStop} (Ok toc) (Err read_stop.ReadFailed)) → table_in told name ≡ Ok toc
+  pub table-read : (toc : Toc) → ((bytes : List ℕ) → Tells o name bytes → IsCapsuleAnswer (Ok toc) (capsule_of bytes)) → (Lacks o name → ◌≡◌ {A = Result Toc CapsuleStop} (Ok toc) (Err read_stop.ReadFailed)) → table_in told name ≡ Ok toc
   table-read toc tells missing = go (told name) refl
     where
       go : (b : Option (List ℕ)) → told name ≡ b → table_in told name ≡ Ok toc
       go None is = let no = missing (lacks-of o told name e is) in absurd cc
       go (Some bytes) is = capsule-ok told name bytes toc is (tells bytes (tells-of o told name bytes e is))
 
-  pub table-stopped : (s : CapsuleStop) (rose : Type 0) → ((bytes : List ℕ) → Tells o name bytes → IsAnswer (Err s) (capsule_of bytes)) → (Lacks o name → ◌≡◌ {A = Result Toc CapsuleStop} (Err s) (Err read_stop.ReadFailed))
+  pub table-stopped : (s : CapsuleStop) (rose : Type 0) → ((bytes : List ℕ) → Tells o name bytes → IsCapsuleAnswer (Err s) (capsule_of bytes)) → (Lacks o name → ◌≡◌ {A = Result Toc CapsuleStop} (Err s) (Err read_stop.ReadFailed))
       → (◌≡◌ {A = Result Toc CapsuleStop} (Err s) (Err read_stop.ReadFailed) → rose ⊎ Lacks o name) → Gives (λ (t : Toc). t) rose (table_in told name) (Err (capsule_stopped_by s))
   table-stopped (read_stop.Fault f) rose tells missing cause = go (told name) refl
     where
@@ -128,18 +129,19 @@ stopped-capsule {Y} told name k s e = go (capsule_in told name) e
     go (Err t) h = let same : t ≡ s = cc in ap (λ (x : Stop). Err x) same
 
 pub package-of : (told : Directory) (a : ℕ) (name : List ℕ) (toc : Toc) (o : IsEnclosed told name toc)
-    → repackage_value told a name ≡ pack_value toc.serial toc.flags (map (kept_part o.bytes) toc.entries) a
+    → repackage_value told a name ≡ pack_value toc.serial toc.flags (map (kept_part (bytes_in told name)) toc.entries) a
 unfolding repackage_value
 package-of told a name toc o =
     let k : List ℕ × Toc → Result (ℕ × List ℕ) Stop = λ p. pack_value p.1.serial p.1.flags (map (kept_part p.0) p.1.entries) a in
     ap (λ (b : Option (List ℕ)). after (capsule_by b) k) o.is
     ∙ ap (λ (r : Result Toc CapsuleFault). after (after (capsule_table r) (λ t. Ok (o.bytes, t))) k) o.table
+    ∙ ap (λ (f : Option (List ℕ)). k (unwrap_or f [], toc)) (sym o.is)
 
 pub package-err : (told : Directory) (a : ℕ) (name : List ℕ) (s : Stop) → table_in told name ≡ Err s → repackage_value told a name ≡ Err s
 unfolding repackage_value
 package-err told a name s e = stopped-capsule told name (λ p. pack_value p.1.serial p.1.flags (map (kept_part p.0) p.1.entries) a) s e
 
-pub capsule-of : (told : Directory) (name : List ℕ) (toc : Toc) (o : IsOpened told name [] toc) → capsule_value told name ≡ enclose_value (map (kept_part o.bytes) toc.entries)
+pub capsule-of : (told : Directory) (name : List ℕ) (toc : Toc) (o : IsOpened told name [] toc) → capsule_value told name ≡ enclose_value (map (kept_part (bytes_in told name)) toc.entries)
 unfolding capsule_value
 capsule-of told name toc o = going-on told name [] toc (λ p. enclose_value (map (kept_part p.0) p.1.entries)) o
 

@@ -1,52 +1,112 @@
 -- Frames with payloads between their bytes.
-use Rattle.std.proofs.Common.{◌≡◌, ◌<◌, ◌∙◌, ℕ, zero, suc, List, [], ◌∷◌, Option, Some, get_or, length, map, arith, ap, refl, sym, subst}
+use Rattle.std.proofs.Common.{◌≡◌, ◌<◌, ◌∙◌, ℕ, zero, suc, List, [], ◌∷◌, Option, Some, Result, Ok, Err, get_or, length, map, arith, ap, refl, sym, subst}
+use Rattle.std.proofs.lemmas.List.{length-map}
 use Rattle.std.specs.List.{All}
 use Rattle.fwu_formats.specs.Package.{Part}
-use Rattle.fip_tables.specs.Frame.{chunks}
+use Rattle.fip_tables.specs.Frame.{IsFrame, chunks}
 use Rattle.fip_tables.specs.Packing.{zeroed}
+use Rattle.fip_tables.specs.declared.faults.PackFault.{PackFault}
+use Rattle.fip_tables.specs.declared.faults.PackStop.{PackStop}
+use Rattle.fip_tables.specs.declared.faults.PackStop.TheVariants as pack
 use Rattle.fip_tables.specs.declared.frame.Frame.{Frame}
 use Rattle.host_io.specs.Contents.{Directory}
 use Rattle.host_io.specs.Joined.{Chunk, HasPiece, chunk_in, joined}
 use Rattle.host_io.specs.declared.joining.Piece.{Piece}
-use Rattle.fip_making.specs.Payloads.{IsMadeOf, IsThere, IsWhole, made_bytes, outline_of, part_told, piece_of, pieces_of}
+use Rattle.fip_making.specs.Making.{MakesFile}
+use Rattle.fip_making.specs.Payloads.{IsMadeOf, IsThere, IsWholeFile, made_by, made_bytes, outline_of, part_told, payload_piece, payload_pieces}
+use Rattle.fip_making.specs.Stops.{packed_by}
 use Rattle.fip_making.specs.declared.made.Made.{Made}
 use Rattle.fip_making.specs.declared.payloads.Payload.{Payload}
+use Rattle.fip_making.specs.declared.stops.Stop.{Stop}
+use Rattle.fip_making.specs.declared.stops.Stop.TheVariants as stop
 use Rattle.fip_making.proofs.Packings.{zeroed-all}
+use Rattle.fip_making.proofs.PartLemmas.{gives-same}
+use Rattle.fip_making.proofs.Tables.{if-ok-as}
 
 -- the pieces are the payloads' bytes, by the files
-chunks-told : (told : Directory) (gaps : List ℕ) (ps : List Payload) → map (chunk_in told) (pieces_of gaps ps) ≡ chunks gaps (map (part_told told) ps)
+chunks-told : (told : Directory) (gaps : List ℕ) (ps : List Payload) → map (chunk_in told) (payload_pieces gaps ps) ≡ chunks gaps (map (part_told told) ps)
 chunks-told told [] ps = refl
 chunks-told told (g ∷ gaps) [] = refl
-chunks-told told (g ∷ gaps) (p ∷ ps) = ap (λ (cs : List Chunk). chunk_in told (piece_of g p) ∷ cs) (chunks-told told gaps ps)
+chunks-told told (g ∷ gaps) (p ∷ ps) = ap (λ (cs : List Chunk). chunk_in told (payload_piece g p) ∷ cs) (chunks-told told gaps ps)
 
 -- and they are there
-pieces-there : (told : Option Directory) (gaps : List ℕ) (ps : List Payload) → All (IsThere told) ps → All (HasPiece told) (pieces_of gaps ps)
+pieces-there : (told : Option Directory) (gaps : List ℕ) (ps : List Payload) → All (IsThere told) ps → All (HasPiece told) (payload_pieces gaps ps)
 pieces-there told [] ps h = λ k d lt. absurd (omega (arith, lt))
 pieces-there told (g ∷ gaps) [] h = λ k d lt. absurd (omega (arith, lt))
 pieces-there told (g ∷ gaps) (p ∷ ps) h = at (pieces-there told gaps ps (λ i x less. h (suc i) x (omega (arith, less))))
   where
-    at : All (HasPiece told) (pieces_of gaps ps) → (k : ℕ) (d : Piece) → k < length (pieces_of (g ∷ gaps) (p ∷ ps)) → HasPiece told (get_or (pieces_of (g ∷ gaps) (p ∷ ps)) k d)
+    at : All (HasPiece told) (payload_pieces gaps ps) → (k : ℕ) (d : Piece) → k < length (payload_pieces (g ∷ gaps) (p ∷ ps)) → HasPiece told (get_or (payload_pieces (g ∷ gaps) (p ∷ ps)) k d)
     at rest zero d lt = h 0 p (omega arith)
     at rest (suc k) d lt = rest k d (omega (arith, lt))
 
--- What is made of a frame and payloads, where the frame is that of a file with such bytes, whatever the payloads are.
-module _ (bytes-of : List Part → List ℕ) (frame : Frame) (ps : List Payload) (os : List Part) (m : Made) (made : IsMadeOf frame ps m) (same : os ≡ map outline_of ps)
-    (joins : (parts : List Part) → map zeroed parts ≡ os → joined frame.bytes.items (chunks frame.gaps.items parts) ≡ bytes-of parts)
-    (long : (parts : List Part) → map zeroed parts ≡ os → frame.size ≡ length (bytes-of parts)) where
+-- each payload is one of them
+pieces-all : (gaps : List ℕ) (ps : List Payload) → length gaps ≡ length ps → length (payload_pieces gaps ps) ≡ length ps
+pieces-all [] ps e = e
+pieces-all (g ∷ gaps) [] e = refl
+pieces-all (g ∷ gaps) (p ∷ ps) e = ap suc (pieces-all gaps ps (omega (arith, e)))
+
+-- ---- what is made, or why nothing is
+
+pub makes-starved : {HasAll : Option Directory → Type 0} {value : Directory → Result (ℕ × List ℕ) Stop} {number : ℕ} → MakesFile HasAll value number (Err stop.NoMemory)
+makes-starved = record {
+  told = λ told has. tt;
+  whole = λ told has. tt;
+  count = tt;
+  asks = record { file = λ e. absurd cc; usage = λ e. absurd cc; sink = λ e. absurd cc; refusals = tt };
+}
+
+-- of payloads that are among those of another
+pub makes-as : {Has HasAll : Option Directory → Type 0} {inner value : Directory → Result (ℕ × List ℕ) Stop} {number all : ℕ} {result : Result Made Stop}
+    → ((told : Option Directory) → HasAll told → Has told) → ((told : Directory) → HasAll (Some told) → value told ≡ inner told) → all ≡ number
+    → MakesFile Has inner number result → MakesFile HasAll value all result
+makes-as {result = result} has same counts made = record {
+  told = λ told all. gives-same (made_by told) _ _ _ _ result (λ r. r) (same told all) (made.told told (has (Some told) all));
+  whole = λ told all. made.whole told (has told all);
+  count = if-ok-as result _ _ (λ m e. e ∙ sym counts) made.count;
+  asks = made.asks;
+}
+
+-- What is made of payloads by their sizes.
+module _ (value : List Part → Result (ℕ × List ℕ) Stop) (ps : List Payload) (os : List Part) (same : os ≡ map outline_of ps) where
   zeros : (told : Directory) → All (IsThere (Some told)) ps → map zeroed (map (part_told told) ps) ≡ os
   zeros told all = zeroed-all told ps all ∙ sym same
 
-  pub made-is : (told : Directory) → All (IsThere (Some told)) ps → made_bytes told m ≡ bytes-of (map (part_told told) ps)
-  made-is told all =
-      ap (λ (f : Frame). joined f.bytes.items (map (chunk_in told) m.pieces.items)) made.frame_is
-      ∙ ap (λ (q : List Piece). joined frame.bytes.items (map (chunk_in told) q)) made.pieces
-      ∙ ap (joined frame.bytes.items) (chunks-told told frame.gaps.items ps)
-      ∙ joins (map (part_told told) ps) (zeros told all)
+  -- with a frame, which is that of a file with such bytes, whatever the payloads are
+  module _ (bytes-of : List Part → List ℕ) (frame : Frame) (m : Made) (made : IsMadeOf frame ps m) (is : IsFrame frame os bytes-of) where
+    made-is : (told : Directory) → All (IsThere (Some told)) ps → made_bytes told m ≡ bytes-of (map (part_told told) ps)
+    made-is told all =
+        ap (λ (f : Frame). joined f.bytes.items (map (chunk_in told) m.pieces.items)) made.frame_is
+        ∙ ap (λ (q : List Piece). joined frame.bytes.items (map (chunk_in told) q)) made.pieces
+        ∙ ap (joined frame.bytes.items) (chunks-told told frame.gaps.items ps)
+        ∙ is.filled (map (part_told told) ps) (zeros told all)
 
-  pub made-whole : (told : Option Directory) → All (IsThere told) ps → IsWhole told m
-  made-whole told all = record {
-    there = subst (All (HasPiece told)) (sym made.pieces) (pieces-there told frame.gaps.items ps all);
-    sized = λ files e.
-        let there = subst (λ (o : Option Directory). All (IsThere o) ps) e all in
-        ap (λ (f : Frame). f.size) made.frame_is ∙ long (map (part_told files) ps) (zeros files there) ∙ ap length (sym (made-is files there));
+    made-whole : (told : Option Directory) → All (IsThere told) ps → IsWholeFile told m
+    made-whole told all = record {
+      counted = made.count ∙ sym (ap length made.pieces ∙ pieces-all frame.gaps.items ps (is.gaps ∙ ap length same ∙ length-map ps outline_of));
+      there = subst (All (HasPiece told)) (sym made.pieces) (pieces-there told frame.gaps.items ps all);
+      sized = λ files e.
+          let there = subst (λ (o : Option Directory). All (IsThere o) ps) e all in
+          ap (λ (f : Frame). f.size) made.frame_is ∙ is.size (map (part_told files) ps) (zeros files there) ∙ ap length (sym (made-is files there));
+    }
+
+    pub makes-framed : ((parts : List Part) → map zeroed parts ≡ os → value parts ≡ Ok (length parts, bytes-of parts))
+        → MakesFile (λ told. All (IsThere told) ps) (λ told. value (map (part_told told) ps)) (length ps) (Ok m)
+    makes-framed fits = record {
+      told = λ told all.
+          let parts = map (part_told told) ps in
+          fits parts (zeros told all) ∙ ap (λ (n : ℕ). Ok (n, bytes-of parts)) (length-map ps (part_told told) ∙ sym made.count)
+          ∙ ap (λ (b : List ℕ). Ok (m.count, b)) (sym (made-is told all));
+      whole = made-whole;
+      count = made.count;
+      asks = record { file = λ e. absurd cc; usage = λ e. absurd cc; sink = λ e. absurd cc; refusals = tt };
+    }
+
+  pub makes-unpacked : (s : PackStop) → ((parts : List Part) → map zeroed parts ≡ os → (f : PackFault) → s ≡ pack.Fault f → value parts ≡ Err (stop.NotPacked f))
+      → MakesFile (λ told. All (IsThere told) ps) (λ told. value (map (part_told told) ps)) (length ps) (Err (packed_by s))
+  makes-unpacked (pack.Fault f) refuses = record {
+    told = λ told all. refuses (map (part_told told) ps) (zeros told all) f refl;
+    whole = λ told all. tt;
+    count = tt;
+    asks = record { file = λ e. absurd cc; usage = λ e. absurd cc; sink = λ e. absurd cc; refusals = tt };
   }
+  makes-unpacked pack.NoMemory refuses = makes-starved

@@ -1,21 +1,22 @@
 -- Manifests of images in files.
-use Rattle.std.proofs.Common.{◌≡◌, ◌<◌, ◌+◌, ℕ, suc, List, [], ◌∷◌, ◌++◌, Bool, true, false, Option, Some, None, Result, Ok, Err, get_or, length, map, take, drop, drop-cons, length-append, option_map, arith, refl, sym, ap, subst, ◌∙◌}
+use Rattle.std.proofs.Common.{◌≡◌, ◌<◌, ◌+◌, ℕ, suc, List, [], ◌∷◌, ◌++◌, Bool, true, false, Option, Some, None, Result, Ok, Err, get_or, length, map, take, drop, drop-cons, length-append, option_map, arith, refl, sym, ap, ◌∙◌}
 use Rattle.std.specs.Prelude.{IfSome, ◌==◌, ◌||◌, if◌then◌else◌, nat_lt, option_and_then}
 use Rattle.std.specs.List.{list_any}
 use Rattle.std.proofs.lemmas.List.{length-map, map-append, take-append-drop, take_more}
 use Rattle.host_io.specs.Contents.{Directory}
 use Rattle.fwu_formats.specs.Manifest.{Row}
+use Rattle.fwu_formats.specs.declared.kinds.ManifestFault.{ManifestFault}
 use Rattle.fwu_formats.specs.declared.kinds.ManifestFault.TheVariants as fault
 use Rattle.manifest_core.specs.Shown.{row}
 use Rattle.manifest_core.specs.declared.rows.Row.{Row as CodeRow}
 use Rattle.fip_words.specs.Order.{image_view}
 use Rattle.fip_words.specs.Values.{NamedImage, each}
 use Rattle.fip_words.specs.declared.values.ImageWord.{ImageWord}
-use Rattle.fip_making.specs.Answers.{Gives}
+use Rattle.fip_making.specs.Answers.{AsksNothing}
+use Rattle.fip_making.specs.Refusals.{IsManifestStop}
 use Rattle.fip_making.specs.Values.{Image, after, file_value, image_in, image_limit, image_row, is_long, manifest_value, of_rows, size_in, sizes_value, there, unless_long}
 use Rattle.fip_making.specs.declared.stops.Stop.{Stop}
 use Rattle.fip_making.specs.declared.stops.Stop.TheVariants as stop
-use Rattle.fip_making.proofs.Tables.{gives-err}
 
 -- one more, where there is one
 abbrev pub with_one : {Y : Type 0} → Option (List Y) → Option Y → Option (List Y)
@@ -324,22 +325,12 @@ refused-counted count security = go ((count == 0) || nat_lt 15 count)
     go true = refl
     go false = refl
 
-gives-refused : {X Y : Type 0} (view : X → Y) (rose : Type 0) (value : Result Y Stop) (count : ℕ) → value ≡ Err (refused count) → Gives view rose value (Err (refused count))
-gives-refused view rose value count e = go ((count == 0) || nat_lt 15 count) e
-  where
-    go : (b : Bool) → value ≡ Err (if b then stop.NoManifest fault.BadCount else stop.NoManifest fault.TooLarge)
-        → Gives view rose value (Err (if b then stop.NoManifest fault.BadCount else stop.NoManifest fault.TooLarge))
-    go true e = e
-    go false e = e
+pub too-long-of : (told : Directory) (security : ℕ) (named : List ImageWord) (f : ManifestFault) → rows_value told (map image_view named) ≡ Ok None
+    → stop.NoManifest f ≡ refused (length named) → manifest_value told security (map image_view named) ≡ Err (stop.NoManifest f)
+too-long-of told security named f e is =
+    value-of-rows told security (map image_view named) None e ∙ ap (λ (n : ℕ). counted n security None) (length-map named image_view) ∙ refused-counted (length named) security
+    ∙ ap (λ (s : Stop). Err s) (sym is)
 
-pub too-long-of : {X : Type 0} (view : X → ℕ × List ℕ) (rose : Type 0) (told : Directory) (security : ℕ) (named : List ImageWord) (s : Stop) → rows_value told (map image_view named) ≡ Ok None
-    → s ≡ refused (length named) → Gives view rose (manifest_value told security (map image_view named)) (Err s)
-too-long-of view rose told security named s e is =
-    let value : manifest_value told security (map image_view named) ≡ Err (refused (length named)) =
-    value-of-rows told security (map image_view named) None e ∙ ap (λ (n : ℕ). counted n security None) (length-map named image_view) ∙ refused-counted (length named) security in
-    subst (λ (t : Stop). Gives view rose (manifest_value told security (map image_view named)) (Err t)) (sym is) (gives-refused view rose (manifest_value told security (map image_view named)) (length named) value)
-
--- what gives a value gives one that is the same
-pub gives-same : {X Y : Type 0} (view : X → Y) (rose late : Type 0) (v w : Result Y Stop) (r : Result X Stop) → (rose → late) → w ≡ v → Gives view rose v r → Gives view late w r
-gives-same view rose late v w (Ok x) rises e g = e ∙ g
-gives-same view rose late v w (Err s) rises e g = gives-err view view rose late v w s rises (λ h. e ∙ h) g
+-- to refuse asks for nothing
+pub asks-refused : {X : Type 0} (f : ManifestFault) → AsksNothing {X = X} IsManifestStop (Err (stop.NoManifest f))
+asks-refused f = record { file = λ e. absurd cc; usage = λ e. absurd cc; sink = λ e. absurd cc; refusals = tt }

@@ -2,7 +2,7 @@
 use Rattle.std.proofs.Common.{◌≡◌, ◌<◌, ◌≤◌, ◌+◌, ℕ, zero, suc, List, [], ◌∷◌, ◌++◌, Bool, true, false, Option, Some, None, Ok, Err, get_or, length, map, take, drop, replicate, cond, option_map, unwrap_or, arith, refl, sym, ap, subst, ◌∙◌}
 use Rattle.std.specs.Prelude.{find}
 use Rattle.std.specs.List.{All}
-use Rattle.std.proofs.lemmas.List.{length-drop, length-map, length-take-le, map-append, take_all}
+use Rattle.std.proofs.lemmas.List.{length-drop, length-take-le, map-append, take_all}
 use Rattle.std.proofs.lemmas.List.Elements.{All-append}
 use Rattle.base_core.specs.Bytes.{same_bytes}
 use Rattle.host_io.specs.Contents.{Directory, HasRange}
@@ -13,14 +13,13 @@ use Rattle.fip_tables.specs.declared.faults.PackFault.{PackFault}
 use Rattle.fip_tables.proofs.Zeros.{zeros-decide}
 use Rattle.fip_words.specs.Order.{part_view}
 use Rattle.fip_words.specs.declared.values.FileWord.{FileWord}
-use Rattle.fip_making.specs.Payloads.{HasEntry, IsThere, outline_of, part_told}
-use Rattle.fip_making.specs.Answers.{Gives}
-use Rattle.fip_making.specs.Values.{after, fit_value, nothing, pack_value, part_in, parts_in, size_in, there, unless_fault, new_bytes, updated_part}
+use Rattle.fip_making.specs.Payloads.{HasEntry, IsThere, bytes_in, outline_of, part_told}
+use Rattle.fip_making.specs.Values.{after, pack_value, part_in, parts_in, size_in, there, new_bytes, updated_part}
 use Rattle.fip_making.specs.declared.payloads.Payload.{Payload}
 use Rattle.fip_making.specs.declared.stops.Stop.{Stop}
 use Rattle.fip_making.specs.declared.stops.Stop.TheVariants as stop
 use Rattle.fip_making.proofs.PartLemmas.{more-at, packs-fault, packs-ok}
-use Rattle.fip_making.proofs.Tables.{gives-err, sized}
+use Rattle.fip_making.proofs.Tables.{sized}
 
 -- ---- a named file
 
@@ -114,11 +113,11 @@ module _ (told : Directory) (bytes : List ℕ) (new : List Payload) (e : Entry) 
       find-map (part_told told) (λ (x : Part). same_bytes x.guid e.guid) new ∙ ap (option_map (part_told told)) is in
       spelled p guid flags (part_told told q).bytes same ∙ ap by-new (sym found)
 
-  pub entry-kept : (p : Payload) → of_its_type ≡ None → told p.file.now ≡ Some bytes → p.guid ≡ e.guid → p.flags ≡ e.flags → p.size ≡ e.size → p.at ≡ e.offset
+  pub entry-kept : (p : Payload) → of_its_type ≡ None → bytes_in told p.file.now ≡ bytes → p.guid ≡ e.guid → p.flags ≡ e.flags → p.size ≡ e.size → p.at ≡ e.offset
       → part_told told p ≡ updated_part bytes (map (part_told told) new) e
   entry-kept p is file guid flags size at =
       let same : (part_told told p).bytes ≡ payload bytes e =
-      ap (λ (o : Option (List ℕ)). take p.size (drop p.at (unwrap_or o []))) file ∙ ap (λ (n : ℕ). take n (drop p.at bytes)) size ∙ ap (λ (n : ℕ). take e.size (drop n bytes)) at in
+      ap (λ (b : List ℕ). take p.size (drop p.at b)) file ∙ ap (λ (n : ℕ). take n (drop p.at bytes)) size ∙ ap (λ (n : ℕ). take e.size (drop n bytes)) at in
       let found : find (λ (x : Part). same_bytes x.guid e.guid) (map (part_told told) new) ≡ None =
       find-map (part_told told) (λ (x : Part). same_bytes x.guid e.guid) new ∙ ap (option_map (part_told told)) is in
       spelled p guid flags (payload bytes e) same ∙ ap by-new (sym found)
@@ -161,29 +160,10 @@ zeroed-all told (p ∷ ps) h =
     ap (λ (x : Part). x ∷ map zeroed (map (part_told told) ps)) (zeroed-one told p (h 0 p (omega arith)))
     ∙ ap (λ (xs : List Part). outline_of p ∷ xs) (zeroed-all told ps (λ k d lt. h (suc k) d (omega (arith, lt))))
 
-no-fault : (o : Option PackFault) → unless_fault {X = Unit {0}} o tt ≡ Ok tt → o ≡ None
-no-fault None e = refl
-no-fault (Some f) e = cc
+-- sizes that fit a package, and sizes that don't
+module _ (serial flags a : ℕ) (ps os : List Part) (same : map zeroed ps ≡ os) where
+  pub packs-zeroed : pack_fault os a ≡ None → pack_value serial flags ps a ≡ Ok (length ps, packed serial flags ps a)
+  packs-zeroed none = packs-ok serial flags ps a (length ps) (packed serial flags ps a) (sym (zeros-decide ps a) ∙ ap (λ (l : List Part). pack_fault l a) same ∙ none) refl refl
 
-pub parts-fit : (ps os : List Part) (a : ℕ) → map zeroed ps ≡ os → fit_value os a ≡ Ok tt → pack_fault ps a ≡ None
-parts-fit ps os a same fits = sym (zeros-decide ps a) ∙ ap (λ (l : List Part). pack_fault l a) same ∙ no-fault (pack_fault os a) fits
-
--- sizes that fit no package
-pub packing-refused : (F : Type 0) {X : Type 0} (view : X → ℕ × List ℕ) (late : Type 0) (serial flags a : ℕ) (ps os : List Part) (s : Stop) → map zeroed ps ≡ os
-    → Gives (nothing {X = F}) ⊥ (fit_value os a) (Err s) → Gives view late (pack_value serial flags ps a) (Err s)
-packing-refused F view late serial flags a ps os s same g = gives-err (nothing {X = F}) view ⊥ late (fit_value os a) (pack_value serial flags ps a) s (λ r. absurd r) so g
-  where
-    same-fault : pack_fault os a ≡ pack_fault ps a
-    same-fault = ap (λ (l : List Part). pack_fault l a) (sym same) ∙ zeros-decide ps a
-
-    go : (o : Option PackFault) → pack_fault ps a ≡ o → unless_fault {X = Unit {0}} o tt ≡ Err s → pack_value serial flags ps a ≡ Err s
-    go None is h = cc
-    go (Some f) is h = let e : ◌≡◌ {A = Stop} (stop.NotPacked f) s = cc in packs-fault serial flags ps a f is ∙ ap (λ (t : Stop). Err t) e
-
-    so : fit_value os a ≡ Err s → pack_value serial flags ps a ≡ Err s
-    so h = go (pack_fault ps a) refl (ap (λ (o : Option PackFault). unless_fault {X = Unit {0}} o tt) (sym same-fault) ∙ h)
-
--- all fit
-pub packing-ends : (told : Directory) (serial flags a n : ℕ) (ps : List Payload) (bytes : List ℕ) → n ≡ length ps → pack_fault (map (part_told told) ps) a ≡ None → bytes ≡ packed serial flags (map (part_told told) ps) a
-    → pack_value serial flags (map (part_told told) ps) a ≡ Ok (n, bytes)
-packing-ends told serial flags a n ps bytes count fits is = packs-ok serial flags (map (part_told told) ps) a n bytes fits (count ∙ sym (length-map ps (part_told told))) is
+  pub packs-not : (f : PackFault) → pack_fault os a ≡ Some f → pack_value serial flags ps a ≡ Err (stop.NotPacked f)
+  packs-not f is = packs-fault serial flags ps a f (sym (zeros-decide ps a) ∙ ap (λ (l : List Part). pack_fault l a) same ∙ is)

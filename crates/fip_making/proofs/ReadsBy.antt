@@ -1,5 +1,5 @@
 -- What a part that reads alone answers, from what its own parts answered.
-use Rattle.std.proofs.Common.{◌≡◌, ◌⊎◌, inl, inr, ℕ, List, Option, None, Result, Ok, Err, arith, refl, subst, sym, ◌∙◌}
+use Rattle.std.proofs.Common.{◌≡◌, ◌≢◌, ◌<◌, ◌⊎◌, inl, inr, ℕ, List, All, Option, None, Result, Ok, Err, get_or, length, arith, refl, subst, sym, ◌∙◌}
 use Rattle.base_core.specs.Counts.{Rose}
 use Rattle.host_io.specs.Contents.{Directory}
 use Rattle.fwu_formats.specs.Package.{Toc}
@@ -10,11 +10,17 @@ use Rattle.capsule_tables.specs.Answers.{HasReadCause as CapsuleCause}
 use Rattle.capsule_tables.specs.declared.faults.CapsuleStop.{CapsuleStop}
 use Rattle.capsule_tables.specs.declared.faults.CapsuleStop.TheVariants as items
 use Rattle.fip_making.specs.Answers.{AsksNothing, NoneFailed, ReadsOnly}
-use Rattle.fip_making.specs.Stops.{capsule_stopped_by, stopped_by}
+use Rattle.host_io.specs.Access.{Access, Asks}
+use Rattle.host_io.specs.Reads.{ReadsFiles}
+use Rattle.host_io.specs.declared.files.Files as files
+use Rattle.host_io.proofs.Reading.{reads-then as reads-after, reads-wider}
+use Rattle.fip_making.specs.Seen.{ReadsFilesAlone}
+use Rattle.fip_making.specs.Stops.{capsule_stopped_by, stop_of_table}
 use Rattle.fip_making.specs.declared.stops.Stop.{Stop}
 use Rattle.fip_making.specs.declared.stops.Stop.TheVariants as stop
 use Rattle.fip_making.proofs.Tables.{rose-still}
 use Rattle.fip_making.proofs.Stopped.{err-same}
+use Rattle.fip_making.proofs.Refusing.{if-err-as}
 
 -- a stop of a part is one of the whole, after parts that failed not once
 pub quiet-as : (X Y : Type 0) (s : Stop) (before between after : ℕ) → between ≡ before → NoneFailed {X = X} (Err s) between after → NoneFailed {X = Y} (Err s) before after
@@ -88,8 +94,8 @@ module _ {X : Type 0} {told now : Option Directory} {before after : ℕ} where
   }
 
   -- a last part that asks for nothing
-  pub reads-asked : (result : Result X Stop) → now ≡ told → after ≡ before → AsksNothing result → ReadsOnly told now before after result
-  reads-asked result same quiet asks = record {
+  pub reads-asked : {IsOwn : Stop → Type 0} (result : Result X Stop) → now ≡ told → after ≡ before → AsksNothing IsOwn result → ReadsOnly told now before after result
+  reads-asked {IsOwn = IsOwn} result same quiet asks = record {
     same = same;
     later = omega (arith, quiet);
     once = omega (arith, quiet);
@@ -99,7 +105,7 @@ module _ {X : Type 0} {told now : Option Directory} {before after : ℕ} where
     sink = asks.sink;
   }
     where
-      none : (r : Result X Stop) → AsksNothing r → NoneFailed r before after
+      none : (r : Result X Stop) → AsksNothing IsOwn r → NoneFailed r before after
       none (Ok x) h = quiet
       none (Err stop.FileFault) h = tt
       none (Err stop.Usage) h = quiet
@@ -115,7 +121,7 @@ module _ {X : Type 0} {told now : Option Directory} {before after : ℕ} where
   -- a table that was not read, of a file that is there where its contents are told
   module _ {mid : Option Directory} {name : List ℕ} {between : ℕ} where
     pub reads-no-table : (s : TocStop) → mid ≡ told → now ≡ mid → between ≡ before → PackageCause {T = Toc} mid name between after (Err s)
-        → ReadsOnly {X = X} told now before after (Err (stopped_by s))
+        → ReadsOnly {X = X} told now before after (Err (stop_of_table s))
     reads-no-table (toc.Fault f) same still quiet h = record {
       same = still ∙ same;
       later = omega (arith, quiet, h.later);
@@ -155,3 +161,53 @@ module _ {X : Type 0} {told now : Option Directory} {before after : ℕ} where
       usage = λ e. absurd cc;
       sink = λ e. absurd cc;
     }
+
+-- ---- with which files are asked for, and which stops may end it
+
+-- what all of a list spare, one of them spares
+pub one-spared : {W : Type 0} (file : W → List ℕ) (all : List W) (i : ℕ) (x : W) → x ≡ get_or all i x → i < length all → (access : Access)
+    → All (λ (w : W). access ≢ Asks (file w)) all → access ≢ Asks (file x)
+one-spared {W} file all i x is within access other = subst (λ (w : W). access ≢ Asks (file w)) (sym is) (other i x within)
+
+module _ {H X : Type 0} {h : files.Ghosts H} {IsOther : Access → Type 0} {IsOwn : Stop → Type 0} {start now : H} where
+  pub alone-done : {x : X} → ReadsFiles h IsOther start now → h.faults now ≡ h.faults start → ReadsFilesAlone h IsOther IsOwn start now (Ok x)
+  alone-done reads quiet = record { only = reads-done reads.same quiet; files = reads; refusals = tt }
+
+  pub alone-starved : IsOwn stop.NoMemory → ReadsFiles h IsOther start now → h.faults now ≡ h.faults start → ReadsFilesAlone {X = X} h IsOther IsOwn start now (Err stop.NoMemory)
+  alone-starved own reads quiet = record { only = reads-starved reads.same quiet; files = reads; refusals = own }
+
+  -- a last part that asks for nothing
+  pub alone-asked : {Y : Type 0} {y : Y} {First Last : Stop → Type 0} → ((s : Stop) → Last s → IsOwn s) → ReadsFilesAlone {X = Y} h IsOther First start now (Ok y)
+      → (result : Result X Stop) → AsksNothing Last result → ReadsFilesAlone h IsOther IsOwn start now result
+  alone-asked {Last = Last} turns reads result asks = record {
+    only = reads-asked result reads.only.same reads.only.quiet asks;
+    files = reads.files;
+    refusals = if-err-as result Last IsOwn turns asks.refusals;
+  }
+
+  -- a stop of a part
+  pub alone-stopped : {Y : Type 0} {s : Stop} {Part : Stop → Type 0} → IsOwn s → ReadsFilesAlone {X = Y} h IsOther Part start now (Err s)
+      → ReadsFilesAlone {X = X} h IsOther IsOwn start now (Err s)
+  alone-stopped own reads = record { only = reads-stopped refl refl reads.only; files = reads.files; refusals = own }
+
+  pub alone-wider : {IsAny : Access → Type 0} {result : Result X Stop} → ((access : Access) → IsAny access → IsOther access)
+      → ReadsFilesAlone h IsOther IsOwn start now result → ReadsFilesAlone h IsAny IsOwn start now result
+  alone-wider {IsAny = IsAny} fewer reads = record { only = reads.only; files = reads-wider h IsOther IsAny fewer start now reads.files; refusals = reads.refusals }
+
+-- after a part of which no call failed
+module _ {H X : Type 0} {h : files.Ghosts H} {IsOther : Access → Type 0} {IsOwn Part : Stop → Type 0} {start mid now : H}
+    (joins : (e f g : H) (access : Access) → h.spares e f access → h.spares f g access → h.spares e g access)
+    (first : ReadsFiles h IsOther start mid) (quiet : h.faults mid ≡ h.faults start) where
+  pub alone-then : {result : Result X Stop} → ((s : Stop) → Part s → IsOwn s) → ReadsFilesAlone h IsOther Part mid now result → ReadsFilesAlone h IsOther IsOwn start now result
+  alone-then {result = result} turns reads = record {
+    only = reads-then first.same quiet reads.only;
+    files = reads-after h IsOther joins start mid now first reads.files;
+    refusals = if-err-as result Part IsOwn turns reads.refusals;
+  }
+
+  pub alone-then-stopped : {Y : Type 0} {s : Stop} → ((s : Stop) → Part s → IsOwn s) → ReadsFilesAlone {X = Y} h IsOther Part mid now (Err s) → ReadsFilesAlone {X = X} h IsOther IsOwn start now (Err s)
+  alone-then-stopped {s = s} turns reads = record {
+    only = reads-stopped first.same quiet reads.only;
+    files = reads-after h IsOther joins start mid now first reads.files;
+    refusals = turns s reads.refusals;
+  }

@@ -5,9 +5,9 @@ use Rattle.fip_tables.specs.declared.toc.TocStop.{TocStop}
 use Rattle.fip_tables.specs.declared.toc.TocStop.TheVariants as toc
 use Rattle.capsule_tables.specs.declared.faults.CapsuleStop.{CapsuleStop}
 use Rattle.capsule_tables.specs.declared.faults.CapsuleStop.TheVariants as items
-use Rattle.fip_making.specs.Refusals.{IsOfCapsule, IsOfEnclosing, IsOfEntries, IsOfManifest, IsOfPackage, IsOfPackaging, IsOfPacking, IsOfRepacking, IsOfSource}
+use Rattle.fip_making.specs.Refusals.{IsOfCapsule, IsOfEnclosing, IsOfEntries, IsManifestStop, IsPackageStop, IsOfPackaging, IsOfPacking, IsOfRepacking, IsOfSource, Unstarved}
 use Rattle.fwu_formats.specs.Package.{Toc}
-use Rattle.fip_making.specs.Stops.{capsule_stopped_by, stopped_by}
+use Rattle.fip_making.specs.Stops.{capsule_stopped_by, stop_of_table}
 use Rattle.fip_making.specs.Answers.{IsLate}
 use Rattle.fip_making.specs.Values.{first_missing}
 use Rattle.fip_making.specs.declared.stops.Stop.{Stop}
@@ -23,12 +23,17 @@ pub if-err-all : {X : Type 0} (r : Result X Stop) (P : Stop → Type 0) → ((s 
 if-err-all (Ok x) P all = tt
 if-err-all (Err s) P all = all s
 
-pub toc-of-package : (s : TocStop) → IsOfPackage (stopped_by s)
+-- what takes no memory doesn't end for want of it
+pub never-starved : {X : Type 0} (P : Stop → Type 0) (r : Result X Stop) → IfErr r (Unstarved P) → r ≡ Err stop.NoMemory → ⊥
+never-starved P (Ok x) own e = cc
+never-starved P (Err s) own e = let same : s ≡ stop.NoMemory = cc in own.1 same
+
+pub toc-of-package : (s : TocStop) → IsPackageStop (stop_of_table s)
 toc-of-package (toc.Fault f) = tt
 toc-of-package toc.ReadFailed = tt
 
 -- the reading of a table takes no memory
-pub toc-needs-none : (s : TocStop) → stopped_by s ≡ stop.NoMemory → ⊥
+pub toc-needs-none : (s : TocStop) → stop_of_table s ≡ stop.NoMemory → ⊥
 toc-needs-none (toc.Fault f) e = cc
 toc-needs-none toc.ReadFailed e = cc
 
@@ -40,7 +45,7 @@ pub items-of-capsule : (s : CapsuleStop) → IsOfCapsule (capsule_stopped_by s)
 items-of-capsule (items.Fault f) = tt
 items-of-capsule items.ReadFailed = tt
 
-pub late-of-package : (s : Stop) → IsLate s → IsOfPackage s
+pub late-of-package : (s : Stop) → IsLate s → IsPackageStop s
 late-of-package stop.Usage h = absurd h
 late-of-package stop.FileFault h = tt
 late-of-package stop.SinkFault h = tt
@@ -76,7 +81,7 @@ late-of-entries stop.TooLong h = absurd h
 late-of-entries (stop.NotCapsule f) h = absurd h
 late-of-entries stop.NoMemory h = tt
 
-pub package-of-entries : (s : Stop) → IsOfPackage s → IsOfEntries s
+pub package-of-entries : (s : Stop) → IsPackageStop s → IsOfEntries s
 package-of-entries stop.Usage h = absurd h
 package-of-entries stop.FileFault h = tt
 package-of-entries stop.SinkFault h = tt
@@ -88,7 +93,7 @@ package-of-entries stop.TooLong h = absurd h
 package-of-entries (stop.NotCapsule f) h = absurd h
 package-of-entries stop.NoMemory h = tt
 
-pub late-of-manifest : (s : Stop) → IsLate s → IsOfManifest s
+pub late-of-manifest : (s : Stop) → IsLate s → IsManifestStop s
 late-of-manifest stop.Usage h = absurd h
 late-of-manifest stop.FileFault h = tt
 late-of-manifest stop.SinkFault h = tt
@@ -172,7 +177,7 @@ packing-of-repacking stop.TooLong h = absurd h
 packing-of-repacking (stop.NotCapsule f) h = absurd h
 packing-of-repacking stop.NoMemory h = tt
 
-pub package-of-enclosing : (s : Stop) → IsOfPackage s → IsOfEnclosing s
+pub package-of-enclosing : (s : Stop) → IsPackageStop s → IsOfEnclosing s
 package-of-enclosing stop.Usage h = absurd h
 package-of-enclosing stop.FileFault h = tt
 package-of-enclosing stop.SinkFault h = tt

@@ -1,6 +1,6 @@
 -- Packages that are made of others.
 use Rattle.std.proofs.Common.{◌≡◌, ◌<◌, ◌≤◌, ◌+◌, ◌^◌, ℕ, List, [], ◌∷◌, Bool, true, false, Option, Some, None, Result, Ok, Err, get_or, length, map, arith, refl, sym, ap, subst, ◌∙◌}
-use Rattle.std.specs.Prelude.{not, ◌==◌, if◌then◌else◌, nat_lt, position, filter}
+use Rattle.std.specs.Prelude.{not, unwrap_or, ◌==◌, if◌then◌else◌, nat_lt, position, filter}
 use Rattle.std.specs.List.{All, position_or_len}
 use Rattle.std.proofs.lemmas.Bool.{ltb-false}
 use Rattle.std.proofs.lemmas.List.Elements.{All-filter}
@@ -14,9 +14,8 @@ use Rattle.fip_tables.specs.Files.{Lacks, Tells}
 use Rattle.fip_words.specs.Order.{part_view}
 use Rattle.fip_words.specs.Values.{NamedFile}
 use Rattle.fip_words.specs.declared.values.FileWord.{FileWord}
-use Rattle.fip_making.specs.Payloads.{HasEntry}
-use Rattle.fip_making.specs.Values.{after, first_missing, is_named, kept_part, pack_value, package_in, parts_in, remove_value, sized_table, table_of, there, unless_missing, update_value, updated_part}
-use Rattle.fip_making.specs.Answers.{Gives}
+use Rattle.fip_making.specs.Payloads.{HasEntry, bytes_in}
+use Rattle.fip_making.specs.Values.{after, first_missing, is_named, kept_part, pack_value, package_read_in, parts_in, remove_value, sized_table, table_or_stop, there, unless_missing, update_value, updated_part}
 use Rattle.fip_making.specs.declared.stops.Stop.{Stop}
 use Rattle.fip_making.proofs.Packings.{entries-there}
 
@@ -64,7 +63,7 @@ abbrev made_with : {Y : Type 0} → List (List ℕ) → (List ℕ × Toc → Res
 made_with guids k r = after r (λ p. unless_missing (first_missing p.1 guids) (k p))
 
 abbrev package_of : Option (List ℕ) → Result (List ℕ × Toc) Stop
-package_of o = after (there o) (λ bytes. after (table_of (toc_of bytes)) (λ t. Ok (bytes, t)))
+package_of o = after (there o) (λ bytes. after (table_or_stop (toc_of bytes)) (λ t. Ok (bytes, t)))
 
 abbrev table_by : List (List ℕ) → Result (List ℕ × Toc) Stop → Result Toc Stop
 table_by guids r = after {X = Toc × ℕ} (after r (λ p. Ok (p.1, length p.0))) (λ t. unless_missing (first_missing t.0 guids) (Ok t.0))
@@ -87,7 +86,7 @@ opened told name guids toc e = by-file (told name) refl e
         record { bytes = bytes; is = is; table = t ∙ ap (λ (x : Toc). Ok x) same; all = subst (λ (x : Toc). first_missing x guids ≡ None) same none }
     by-missing bytes found (Some guid) is t some h = cc
 
-    by-table : (bytes : List ℕ) (r : Result Toc FipFault) → told name ≡ Some bytes → toc_of bytes ≡ r → table_by guids (after (table_of r) (λ t. Ok (bytes, t))) ≡ Ok toc → IsOpened told name guids toc
+    by-table : (bytes : List ℕ) (r : Result Toc FipFault) → told name ≡ Some bytes → toc_of bytes ≡ r → table_by guids (after (table_or_stop r) (λ t. Ok (bytes, t))) ≡ Ok toc → IsOpened told name guids toc
     by-table bytes (Err f) is t h = cc
     by-table bytes (Ok found) is t h = by-missing bytes found (first_missing found guids) is t refl h
 
@@ -97,7 +96,7 @@ opened told name guids toc e = by-file (told name) refl e
 
 -- a stop of the table is one of what is made
 pub stopped : {Y : Type 0} (told : Directory) (name : List ℕ) (guids : List (List ℕ)) (k : List ℕ × Toc → Result Y Stop) (s : Stop) → table_with told name guids ≡ Err s
-    → after (package_in told name) (λ p. unless_missing (first_missing p.1 guids) (k p)) ≡ Err s
+    → after (package_read_in told name) (λ p. unless_missing (first_missing p.1 guids) (k p)) ≡ Err s
 unfolding sized_table
 stopped {Y} told name guids k s e = by-file (told name) e
   where
@@ -108,7 +107,7 @@ stopped {Y} told name guids k s e = by-file (told name) e
     by-missing bytes found None h = cc
     by-missing bytes found (Some guid) h = err-of h
 
-    by-table : (bytes : List ℕ) (r : Result Toc FipFault) → table_by guids (after (table_of r) (λ t. Ok (bytes, t))) ≡ Err s → made_with guids k (after (table_of r) (λ t. Ok (bytes, t))) ≡ Err s
+    by-table : (bytes : List ℕ) (r : Result Toc FipFault) → table_by guids (after (table_or_stop r) (λ t. Ok (bytes, t))) ≡ Err s → made_with guids k (after (table_or_stop r) (λ t. Ok (bytes, t))) ≡ Err s
     by-table bytes (Err f) h = err-of h
     by-table bytes (Ok found) h = by-missing bytes found (first_missing found guids) h
 
@@ -118,11 +117,12 @@ stopped {Y} told name guids k s e = by-file (told name) e
 
 -- and where there is none
 pub going-on : {Y : Type 0} (told : Directory) (name : List ℕ) (guids : List (List ℕ)) (toc : Toc) (k : List ℕ × Toc → Result Y Stop) → (o : IsOpened told name guids toc)
-    → after (package_in told name) (λ p. unless_missing (first_missing p.1 guids) (k p)) ≡ k (o.bytes, toc)
+    → after (package_read_in told name) (λ p. unless_missing (first_missing p.1 guids) (k p)) ≡ k (bytes_in told name, toc)
 going-on told name guids toc k o =
     ap (λ (f : Option (List ℕ)). made_with guids k (package_of f)) o.is
-    ∙ ap (λ (r : Result Toc FipFault). made_with guids k (after (table_of r) (λ t. Ok (o.bytes, t)))) o.table
+    ∙ ap (λ (r : Result Toc FipFault). made_with guids k (after (table_or_stop r) (λ t. Ok (o.bytes, t)))) o.table
     ∙ ap (λ (m : Option (List ℕ)). unless_missing m (k (o.bytes, toc))) o.all
+    ∙ ap (λ (f : Option (List ℕ)). k (unwrap_or f [], toc)) (sym o.is)
 
 -- ---- what its file holds
 
@@ -149,7 +149,7 @@ has-entries o p name guids toc same knows = entries-there p name toc.entries (th
 -- ---- what is made of it
 
 pub remove-of : (told : Directory) (a : ℕ) (name : List ℕ) (guids : List (List ℕ)) (toc : Toc) (o : IsOpened told name guids toc)
-    → remove_value told a name guids ≡ pack_value toc.serial toc.flags (map (kept_part o.bytes) (filter (λ e. not (is_named guids e)) toc.entries)) a
+    → remove_value told a name guids ≡ pack_value toc.serial toc.flags (map (kept_part (bytes_in told name)) (filter (λ e. not (is_named guids e)) toc.entries)) a
 unfolding remove_value
 remove-of told a name guids toc o =
     going-on told name guids toc (λ p. pack_value p.1.serial p.1.flags (map (kept_part p.0) (filter (λ e. not (is_named guids e)) p.1.entries)) a) o
@@ -168,17 +168,17 @@ abbrev updating : Directory → ℕ → List NamedFile → List ℕ × Toc → R
 updating told a parts p = after (parts_in told parts) (λ fresh. pack_value p.1.serial p.1.flags (map (updated_part p.0 fresh) p.1.entries) a)
 
 pub update-of : (told : Directory) (a : ℕ) (name : List ℕ) (words : List FileWord) (guids : List (List ℕ)) (toc : Toc) (o : IsOpened told name guids toc) → guids ≡ map (λ (w : FileWord). w.guid) words
-    → update_value told a name (map part_view words) ≡ after (parts_in told (map part_view words)) (λ fresh. pack_value toc.serial toc.flags (map (updated_part o.bytes fresh) toc.entries) a)
+    → update_value told a name (map part_view words) ≡ after (parts_in told (map part_view words)) (λ fresh. pack_value toc.serial toc.flags (map (updated_part (bytes_in told name) fresh) toc.entries) a)
 unfolding update_value
 update-of told a name words guids toc o e =
-    ap (λ (g : List (List ℕ)). made_with g (updating told a (map part_view words)) (package_in told name)) (types-are words ∙ sym e)
+    ap (λ (g : List (List ℕ)). made_with g (updating told a (map part_view words)) (package_read_in told name)) (types-are words ∙ sym e)
     ∙ going-on told name guids toc (updating told a (map part_view words)) o
 
 pub update-err : (told : Directory) (a : ℕ) (name : List ℕ) (words : List FileWord) (guids : List (List ℕ)) (s : Stop) → guids ≡ map (λ (w : FileWord). w.guid) words → table_with told name guids ≡ Err s
     → update_value told a name (map part_view words) ≡ Err s
 unfolding update_value
 update-err told a name words guids s is e =
-    ap (λ (g : List (List ℕ)). made_with g (updating told a (map part_view words)) (package_in told name)) (types-are words ∙ sym is)
+    ap (λ (g : List (List ℕ)). made_with g (updating told a (map part_view words)) (package_read_in told name)) (types-are words ∙ sym is)
     ∙ stopped told name guids (updating told a (map part_view words)) s e
 
 -- ---- the parts of a package's entries
@@ -186,11 +186,9 @@ update-err told a name words guids s is e =
 pub kept-all : (P : Entry → Type 0) (p : Entry → Bool) (entries kept : List Entry) → kept ≡ filter p entries → All P entries → All P kept
 kept-all P p entries kept e h = subst (λ (l : List Entry). All P l) (sym e) (All-filter p P entries h)
 
-pub without-gives : {X : Type 0} (view : X → ℕ × List ℕ) (rose : Type 0) (serial flags a : ℕ) (bytes : List ℕ) (fresh : List Part) (entries kept : List Entry) (r : Result X Stop) → entries ≡ kept → fresh ≡ []
-    → Gives view rose (pack_value serial flags (map (updated_part bytes fresh) entries) a) r → Gives view rose (pack_value serial flags (map (kept_part bytes) kept) a) r
-without-gives view rose serial flags a bytes fresh entries kept r same none g =
-    subst (λ (ps : List Part). Gives view rose (pack_value serial flags (map (updated_part bytes ps) kept) a) r) none
-    (subst (λ (es : List Entry). Gives view rose (pack_value serial flags (map (updated_part bytes fresh) es) a) r) same g)
+pub kept-updated : (bytes : List ℕ) (fresh : List Part) (entries kept : List Entry) → entries ≡ kept → fresh ≡ [] → map (kept_part bytes) kept ≡ map (updated_part bytes fresh) entries
+kept-updated bytes fresh entries kept same none =
+    ap (map (kept_part bytes)) (sym same) ∙ ap (λ (ps : List Part). map (updated_part bytes ps) entries) (sym none)
 
 pub replaced-value : (parts : Result (List Part) Stop) (serial flags a : ℕ) (bytes : List ℕ) (fresh new : List Part) (es entries : List Entry) → parts ≡ Ok new → fresh ≡ new → es ≡ entries
     → after parts (λ ps. pack_value serial flags (map (updated_part bytes ps) entries) a) ≡ pack_value serial flags (map (updated_part bytes fresh) es) a

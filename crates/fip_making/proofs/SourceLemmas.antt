@@ -8,7 +8,7 @@ use Rattle.fwu_formats.specs.Package.{Toc, toc_of}
 use Rattle.fwu_formats.specs.declared.kinds.FipFault.{FipFault}
 use Rattle.fip_tables.specs.Answers.{decided}
 use Rattle.fip_tables.specs.Stream.{Fed, Stream}
-use Rattle.fip_making.specs.Source.{EndsAs, FedSome}
+use Rattle.fip_making.specs.Source.{SourceEndsAs, FedSome}
 use Rattle.fip_making.specs.Values.{GivenTo, StopsInTime, given_table, source_limit}
 use Rattle.fip_making.specs.declared.stops.Stop.{Stop}
 use Rattle.fip_making.specs.declared.stops.Stop.TheVariants as stop
@@ -95,7 +95,7 @@ stopped was mid new stream next count before then now rose-late rose rises few r
 stopped was mid new stream next count before then now rose-late rose rises few r stop.NoMemory p = absurd p.1
 
 -- the source is at its end
-pub at-end : (was left : Option (List ℕ)) (rose : Type 0) (given : List ℕ) (result : Result (Toc × ℕ) Stop) → Consumes was left given → IsAtEnd left → EndsAs given result
+pub at-end : (was left : Option (List ℕ)) (rose : Type 0) (given : List ℕ) (result : Result (Toc × ℕ) Stop) → Consumes was left given → IsAtEnd left → SourceEndsAs given result
     → GivenTo (λ (t : Toc × ℕ). t) given_table was left rose result given
 at-end was left rose given (Ok t) c e h = (c, e, h)
 at-end was left rose given (Err (stop.NotFip f)) c e h = (c, inl e, h)
@@ -136,7 +136,7 @@ ended-err given count f long few undecided is =
 -- the last read found the end
 pub last : (was mid new : Option (List ℕ)) (before then now : ℕ) (stream next : Stream) (count : ℕ) (rose-late rose : Type 0) (result : Result (Toc × ℕ) Stop) → count ≤ 4294967296 → (r : IsReading was mid before then stream count)
     → ((piece : List ℕ) × FedSome next r.so-far.given piece mid new rose-late (Ok 0))
-    → ((given : List ℕ) → Fed next given → length given ≡ count → decided (toc_of given) ≡ Ok tt → EndsAs given result)
+    → ((given : List ℕ) → Fed next given → length given ≡ count → decided (toc_of given) ≡ Ok tt → SourceEndsAs given result)
     → (given : List ℕ) × StopsInTime given × GivenTo (λ (t : Toc × ℕ). t) given_table was new rose result given
 last was mid new before then now stream next count rose-late rose result few r f ends =
     let piece : List ℕ = f.0 in

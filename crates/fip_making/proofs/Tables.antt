@@ -4,12 +4,12 @@ use Rattle.base_core.specs.Counts.{Rose}
 use Rattle.host_io.specs.Contents.{Directory}
 use Rattle.fwu_formats.specs.Package.{Toc, toc_of}
 use Rattle.fwu_formats.specs.declared.kinds.FipFault.{FipFault}
-use Rattle.fip_tables.specs.Files.{IsAnswer, Lacks, Tells}
+use Rattle.fip_tables.specs.Files.{IsTocAnswer, Lacks, Tells}
 use Rattle.fip_tables.specs.declared.toc.TocStop.{TocStop}
 use Rattle.fip_tables.specs.declared.toc.TocStop.TheVariants.{Fault, ReadFailed}
 use Rattle.fip_making.specs.Answers.{Gives}
 use Rattle.fip_making.specs.Values.{size_in, sized_table, there}
-use Rattle.fip_making.specs.Stops.{stopped_by}
+use Rattle.fip_making.specs.Stops.{stop_of_table}
 use Rattle.fip_making.specs.declared.stops.Stop.{Stop}
 use Rattle.fip_making.specs.declared.stops.Stop.TheVariants as stop
 
@@ -112,7 +112,7 @@ read-failed files name o before mid now later e (inr none) = inl (table-none fil
 
 -- a stop of the table
 pub table-stop : {X : Type 0} (files : Directory) (name bytes : List ℕ) (o : Option Directory) (before mid now : ℕ) (s : TocStop) → before ≤ mid → o ≡ Some files → files name ≡ Some bytes
-    → IsAnswer (Err s) (toc_of bytes) → (◌≡◌ {A = Result X TocStop} (Err s) (Err ReadFailed) → Rose mid now ⊎ Lacks o name)
-    → Gives (λ (t : Toc × ℕ). t) (Rose before now) (sized_table files name) (Err (stopped_by s))
+    → IsTocAnswer (Err s) (toc_of bytes) → (◌≡◌ {A = Result X TocStop} (Err s) (Err ReadFailed) → Rose mid now ⊎ Lacks o name)
+    → Gives (λ (t : Toc × ℕ). t) (Rose before now) (sized_table files name) (Err (stop_of_table s))
 table-stop files name bytes o before mid now (Fault f) later e is answer failed = table-fault files name bytes f is answer
 table-stop files name bytes o before mid now ReadFailed later e is answer failed = read-failed files name o before mid now later e (failed refl)

@@ -1,5 +1,5 @@
 -- What a part of a command answers that reads alone, or that asks for nothing outside.
-use Rattle.std.specs.Prelude.{◌≡◌, ◌⊎◌, ◌+◌, ◌≤◌, ⊤, ℕ, Option, None, Result, Ok, Err}
+use Rattle.std.specs.Prelude.{◌≡◌, ◌⊎◌, ◌+◌, ◌≤◌, ⊤, ℕ, Option, None, Result, Ok, Err, IfErr}
 use Rattle.base_core.specs.Counts.{Rose}
 use Rattle.host_io.specs.Calls.{raised}
 use Rattle.host_io.specs.Contents.{Directory}
@@ -39,10 +39,12 @@ pub record ReadsOnly {X : Type 0} (told now : Option Directory) (before after : 
   pub sink : result ≡ Err SinkFault → ⊥
 
 -- a part that asks for nothing outside answers neither that a file failed, nor that the sink did, nor usage
-pub record AsksNothing {X : Type 0} (result : Result X Stop) : Type 0 where
+pub record AsksNothing {X : Type 0} (IsOwn : Stop → Type 0) (result : Result X Stop) : Type 0 where
   pub file : result ≡ Err FileFault → ⊥
   pub usage : result ≡ Err Usage → ⊥
   pub sink : result ≡ Err SinkFault → ⊥
+  -- it ends with a stop of its own
+  pub refusals : IfErr result IsOwn
 
 -- how many calls of the source have failed after a listing of it that ended so: one more where it could not be read, and else as
 -- many as before

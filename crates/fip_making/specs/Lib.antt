@@ -5,3 +5,4 @@ pub mod Source
 pub mod Payloads
 pub mod Seen
 pub mod Refusals
+pub mod Making

@@ -9,9 +9,13 @@ use Rattle.fwu_formats.specs.Package.{Entry, Part}
 use Rattle.fip_making.specs.declared.made.Made.{Made}
 use Rattle.fip_making.specs.declared.payloads.Payload.{Payload}
 
+-- the bytes of a file, by the files, and none of one that isn't there
+abbrev pub bytes_in : Directory → List ℕ → List ℕ
+bytes_in files name = unwrap_or (files name) []
+
 -- the part that a payload is, by the files
 abbrev pub part_told : Directory → Payload → Part
-part_told files p = record { guid = p.guid; flags = p.flags; bytes = take p.size (drop p.at (unwrap_or (files p.file.now) [])) }
+part_told files p = record { guid = p.guid; flags = p.flags; bytes = take p.size (drop p.at (bytes_in files p.file.now)) }
 
 -- the part with zeros in place of its bytes
 abbrev pub outline_of : Payload → Part
@@ -26,18 +30,18 @@ abbrev pub HasEntry : Option Directory → List ℕ → Entry → Type 0
 HasEntry told name e = HasRange told name e.offset e.size
 
 -- the piece of a file that a payload is, behind a gap
-abbrev pub piece_of : ℕ → Payload → Piece
-piece_of gap p = record { gap = gap; file = p.file; at = p.at; count = p.size }
+abbrev pub payload_piece : ℕ → Payload → Piece
+payload_piece gap p = record { gap = gap; file = p.file; at = p.at; count = p.size }
 
 -- the payloads as pieces, each behind its gap
-abbrev pub pieces_of : List ℕ → List Payload → List Piece
-pieces_of gaps ps = map (λ x. piece_of x.0 x.1) (zip gaps ps)
+abbrev pub payload_pieces : List ℕ → List Payload → List Piece
+payload_pieces gaps ps = map (λ x. payload_piece x.0 x.1) (zip gaps ps)
 
 -- a frame with these payloads between its bytes
 pub record IsMadeOf (frame : Frame) (ps : List Payload) (m : Made) : Type 0 where
   pub count : m.count ≡ length ps
   pub frame_is : m.frame ≡ frame
-  pub pieces : m.pieces.items ≡ pieces_of frame.gaps.items ps
+  pub pieces : m.pieces.items ≡ payload_pieces frame.gaps.items ps
 
 -- a frame with the pieces between its bytes that files have
 abbrev pub joined_pieces : Directory → List ℕ → List Piece → List ℕ
@@ -51,7 +55,8 @@ made_bytes files m = joined_pieces files m.frame.bytes.items m.pieces.items
 abbrev pub made_by : Directory → Made → ℕ × List ℕ
 made_by files m = (m.count, made_bytes files m)
 
--- Told files have all its pieces, and it will be as long as its frame says.
-pub record IsWhole (told : Option Directory) (m : Made) : Type 0 where
+-- Told files have all its pieces, of which it has as many as it says, and it will be as long as its frame says.
+pub record IsWholeFile (told : Option Directory) (m : Made) : Type 0 where
+  pub counted : m.count ≡ length m.pieces.items
   pub there : All (HasPiece told) m.pieces.items
   pub sized : (files : Directory) → told ≡ Some files → m.frame.size ≡ length (made_bytes files m)

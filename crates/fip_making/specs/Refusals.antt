@@ -1,13 +1,17 @@
 -- Which stops a part of a command may end with, whatever files there are: what it reads and makes decides which are its own.
-use Rattle.std.specs.Prelude.{⊤}
+use Rattle.std.specs.Prelude.{⊤, ◌≢◌}
 use Rattle.fip_making.specs.Answers.{IsLate}
 use Rattle.fip_making.specs.declared.stops.Stop.{Stop}
 use Rattle.fip_making.specs.declared.stops.Stop.TheVariants as stop
 
+-- of what takes no memory
+abbrev pub Unstarved : (Stop → Type 0) → Stop → Type 0
+Unstarved IsOwn s = IsOwn s × (s ≢ stop.NoMemory)
+
 -- of a package that is read
-abbrev pub IsOfPackage : Stop → Type 0
-IsOfPackage (stop.NotFip f) = ⊤
-IsOfPackage s = IsLate s
+abbrev pub IsPackageStop : Stop → Type 0
+IsPackageStop (stop.NotFip f) = ⊤
+IsPackageStop s = IsLate s
 
 -- of a package that the source gives
 abbrev pub IsOfSource : Stop → Type 0
@@ -27,9 +31,9 @@ IsOfCapsule (stop.NotCapsule f) = ⊤
 IsOfCapsule s = IsLate s
 
 -- of a manifest that is made
-abbrev pub IsOfManifest : Stop → Type 0
-IsOfManifest (stop.NoManifest f) = ⊤
-IsOfManifest s = IsLate s
+abbrev pub IsManifestStop : Stop → Type 0
+IsManifestStop (stop.NoManifest f) = ⊤
+IsManifestStop s = IsLate s
 
 -- of payloads that are packed, into a package or a capsule
 abbrev pub IsOfPacking : Stop → Type 0
@@ -44,7 +48,7 @@ IsOfRepacking s = IsOfEntries s
 -- of a capsule that is made of a package
 abbrev pub IsOfEnclosing : Stop → Type 0
 IsOfEnclosing (stop.NotPacked f) = ⊤
-IsOfEnclosing s = IsOfPackage s
+IsOfEnclosing s = IsPackageStop s
 
 -- of a package that is made of a capsule
 abbrev pub IsOfPackaging : Stop → Type 0

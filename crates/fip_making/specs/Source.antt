@@ -19,7 +19,7 @@ FedSome stream given piece was left source-rose (Err stop.FileFault) = Consumes 
 FedSome stream given piece was left source-rose (Err s) = ⊥
 
 -- what is answered where the source is at its end
-abbrev pub EndsAs : List ℕ → Result (Toc × ℕ) Stop → Type 0
-EndsAs given (Ok t) = given_table given ≡ Ok t
-EndsAs given (Err (stop.NotFip f)) = given_table given ≡ Err (stop.NotFip f)
-EndsAs given (Err s) = ⊥
+abbrev pub SourceEndsAs : List ℕ → Result (Toc × ℕ) Stop → Type 0
+SourceEndsAs given (Ok t) = given_table given ≡ Ok t
+SourceEndsAs given (Err (stop.NotFip f)) = given_table given ≡ Err (stop.NotFip f)
+SourceEndsAs given (Err s) = ⊥

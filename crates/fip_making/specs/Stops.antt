@@ -6,6 +6,8 @@ use Rattle.host_io.specs.declared.stops.ReadStop.{ReadStop}
 use Rattle.host_io.specs.declared.stops.ReadStop.TheVariants as read_stop
 use Rattle.capsule_tables.specs.declared.faults.CapsuleStop.{CapsuleStop}
 use Rattle.capsule_tables.specs.declared.faults.CapsuleStop.TheVariants as capsule_stop
+use Rattle.fip_tables.specs.declared.faults.PackStop.{PackStop}
+use Rattle.fip_tables.specs.declared.faults.PackStop.TheVariants as pack
 use Rattle.fip_tables.specs.declared.toc.TocStop.{TocStop}
 use Rattle.fip_tables.specs.declared.toc.TocStop.TheVariants as toc
 use Rattle.fip_making.specs.declared.stops.Stop.{Stop}
@@ -24,13 +26,18 @@ status_number (stop.NotCapsule f) = 8
 status_number stop.NoMemory = 9
 
 -- the stop of a table that was not read
-abbrev pub stopped_by : TocStop → Stop
-stopped_by (toc.Fault f) = stop.NotFip f
-stopped_by toc.ReadFailed = stop.FileFault
+abbrev pub stop_of_table : TocStop → Stop
+stop_of_table (toc.Fault f) = stop.NotFip f
+stop_of_table toc.ReadFailed = stop.FileFault
 
 abbrev pub capsule_stopped_by : CapsuleStop → Stop
 capsule_stopped_by (capsule_stop.Fault f) = stop.NotCapsule f
 capsule_stopped_by capsule_stop.ReadFailed = stop.FileFault
+
+-- the stop of what was not packed
+abbrev pub packed_by : PackStop → Stop
+packed_by (pack.Fault f) = stop.NotPacked f
+packed_by pack.NoMemory = stop.NoMemory
 
 -- the stop of a file that was not read whole
 abbrev pub unread_by : ReadStop → Stop

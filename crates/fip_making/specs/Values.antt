@@ -29,9 +29,9 @@ there None = Err stop.FileFault
 there (Some x) = Ok x
 
 -- the table of a package
-abbrev pub table_of : Result Toc FipFault → Result Toc Stop
-table_of (Ok t) = Ok t
-table_of (Err f) = Err (stop.NotFip f)
+abbrev pub table_or_stop : Result Toc FipFault → Result Toc Stop
+table_or_stop (Ok t) = Ok t
+table_or_stop (Err f) = Err (stop.NotFip f)
 
 -- the table of a capsule
 abbrev pub capsule_table : Result Toc CapsuleFault → Result Toc Stop
@@ -41,12 +41,12 @@ capsule_table (Err f) = Err (stop.NotCapsule f)
 -- ---- what files give
 
 -- a package's bytes, and its table
-abbrev pub package_in : Directory → List ℕ → Result (List ℕ × Toc) Stop
-package_in files name = after (there (files name)) (λ bytes. after (table_of (toc_of bytes)) (λ t. Ok (bytes, t)))
+abbrev pub package_read_in : Directory → List ℕ → Result (List ℕ × Toc) Stop
+package_read_in files name = after (there (files name)) (λ bytes. after (table_or_stop (toc_of bytes)) (λ t. Ok (bytes, t)))
 
 -- some bytes are a package with this table
-abbrev pub IsTable : Toc → Type 0
-IsTable t = (bytes : List ℕ) × (toc_of bytes ≡ Ok t)
+abbrev pub IsTableOfSome : Toc → Type 0
+IsTableOfSome t = (bytes : List ℕ) × (toc_of bytes ≡ Ok t)
 
 -- a capsule's bytes, and its table
 abbrev pub capsule_in : Directory → List ℕ → Result (List ℕ × Toc) Stop
@@ -61,7 +61,7 @@ parts_in files parts = there (each (part_in files) parts)
 
 -- a package's table, and how many bytes it has
 unfoldable pub sized_table : Directory → List ℕ → Result (Toc × ℕ) Stop
-sized_table files name = after (package_in files name) (λ p. Ok (p.1, length p.0))
+sized_table files name = after (package_read_in files name) (λ p. Ok (p.1, length p.0))
 
 -- how many bytes a file has
 unfoldable pub size_in : Directory → List ℕ → Result ℕ Stop
@@ -86,7 +86,7 @@ unfoldable pub given_table : List ℕ → Result (Toc × ℕ) Stop
 given_table given =
     unless_decided (decided (toc_of given))
     (if nat_lt source_limit (length given) then Err stop.TooLong
-    else after (table_of (toc_of given)) (λ t. Ok (t, length given)))
+    else after (table_or_stop (toc_of given)) (λ t. Ok (t, length given)))
 
 -- But for the last read, of at most 4096 bytes, the bytes that were read were not too many,
 -- and had no fault that no further bytes mend.
@@ -115,10 +115,6 @@ GivenTo view value was left source-rose (Err s) given = Consumes was left given 
 abbrev pub unless_fault : {X : Type 0} → Option PackFault → X → Result X Stop
 unless_fault None made = Ok made
 unless_fault (Some f) made = Err (stop.NotPacked f)
-
--- whether parts fit a package
-abbrev pub fit_value : List Part → ℕ → Result (Unit {0}) Stop
-fit_value parts align = unless_fault (pack_fault parts align) tt
 
 -- what is seen of a value of which this says no more
 abbrev pub nothing : {X : Type 0} → X → Unit {0}
@@ -155,7 +151,7 @@ updated_part bytes new e =
 -- serial number, flags and order stay
 unfoldable pub update_value : Directory → ℕ → List ℕ → List NamedFile → Result (ℕ × List ℕ) Stop
 update_value files align from parts =
-    after (package_in files from) (λ p. unless_missing (first_missing p.1 (map (λ q. q.guid) parts))
+    after (package_read_in files from) (λ p. unless_missing (first_missing p.1 (map (λ q. q.guid) parts))
     (after (parts_in files parts) (λ new. pack_value p.1.serial p.1.flags (map (updated_part p.0 new) p.1.entries) align)))
 
 abbrev pub kept_part : List ℕ → Entry → Part
@@ -166,14 +162,10 @@ is_named guids e = list_any (λ guid. same_bytes guid e.guid) guids
 
 unfoldable pub remove_value : Directory → ℕ → List ℕ → List (List ℕ) → Result (ℕ × List ℕ) Stop
 remove_value files align from guids =
-    after (package_in files from) (λ p. unless_missing (first_missing p.1 guids)
+    after (package_read_in files from) (λ p. unless_missing (first_missing p.1 guids)
     (pack_value p.1.serial p.1.flags (map (kept_part p.0) (filter (λ e. not (is_named guids e)) p.1.entries)) align))
 
 -- ---- from packages to capsules, and back
-
--- whether parts fit a capsule
-abbrev pub enclose_fit : List Part → Result (Unit {0}) Stop
-enclose_fit parts = unless_fault (make_fault parts) tt
 
 -- the capsule of parts: how many items, and the bytes; or the first fault
 unfoldable pub enclose_value : List Part → Result (ℕ × List ℕ) Stop
@@ -181,7 +173,7 @@ enclose_value parts = unless_fault (make_fault parts) (length parts, capsule_byt
 
 -- of all entries, in their order
 unfoldable pub capsule_value : Directory → List ℕ → Result (ℕ × List ℕ) Stop
-capsule_value files from = after (package_in files from) (λ p. enclose_value (map (kept_part p.0) p.1.entries))
+capsule_value files from = after (package_read_in files from) (λ p. enclose_value (map (kept_part p.0) p.1.entries))
 
 -- of all items, in their order
 unfoldable pub repackage_value : Directory → ℕ → List ℕ → Result (ℕ × List ℕ) Stop

@@ -1,14 +1,12 @@
 //! Capsules that are made of packages, and packages of capsules.
-ghost use Rattle.std.specs.Prelude.{◌≡◌, All, IfErr, IfOk, List, Option, Some, Err, ℕ, length, map};
+ghost use Rattle.std.specs.Prelude.{◌≡◌, All, IfOk, length, map};
 ghost use Rattle.fwu_formats.specs.Package.{Toc};
 ghost use Rattle.capsule_tables.specs.Answers.{IsSomeTable};
-ghost use Rattle.host_io.specs.Contents.{Directory};
-ghost use Rattle.host_io.specs.Reads.{ReadsFile};
-ghost use Rattle.fip_making.specs.Payloads.{HasEntry, IsWhole, made_by};
-ghost use Rattle.fip_making.specs.Values.{IsTable, capsule_value, enclose_value, kept_part, pack_value, repackage_value};
-ghost use Rattle.fip_making.specs.Refusals.{IsOfEnclosing, IsOfPackaging, IsOfPacking};
-ghost use Rattle.fip_making.specs.Seen.{GivesIn, ReadsOnlyIn};
-ghost use Rattle.fip_making.specs.Answers.{AsksNothing, Gives};
+ghost use Rattle.fip_making.specs.Payloads.{HasEntry, IsWholeFile, bytes_in, made_by};
+ghost use Rattle.fip_making.specs.Making.{MakesFile};
+ghost use Rattle.fip_making.specs.Values.{IsTableOfSome, capsule_value, enclose_value, kept_part, pack_value, repackage_value};
+ghost use Rattle.fip_making.specs.Refusals.{IsOfEnclosing, IsOfPackaging};
+ghost use Rattle.fip_making.specs.Seen.{AsTold, ReadsOne};
 
 use crate::enclosing::enclosed;
 use crate::made::Made;
@@ -23,14 +21,8 @@ use std::alloc::Global;
 
 // The capsule of a package's entries.
 fn capsule_of_entries<'a>(alloc: Global, from: &'a str, entries: &[Entry]) -> Result<Made<'a>, Stop>
-    ensures told { (told : Directory) (bytes : List ℕ) → told from.now ≡ Some bytes
-        → All (HasEntry (Some told) from.now) entries.now
-        → Gives (made_by told) ⊥ (enclose_value (map (kept_part bytes) entries.now)) result }
-    ensures whole { (told : Option Directory) → All (HasEntry told from.now) entries.now
-        → IfOk result (IsWhole told) }
-    ensures count { IfOk result (λ m. m.count ≡ length entries.now) }
-    ensures asks { AsksNothing result }
-    ensures refusals { IfErr result IsOfPacking }
+    ensures { MakesFile (λ told. All (HasEntry told from.now) entries.now)
+        (λ told. enclose_value (map (kept_part (bytes_in told from.now)) entries.now)) (length entries.now) result }
 {
     let none = Vec::new(alloc);
     let Ok(payloads) = payloads_of_entries(alloc, from, entries, none.as_slice()) else {
@@ -45,13 +37,10 @@ pub fn capsule_of_package<'a, H: Files>(
     files: &mut H,
     from: &'a str,
 ) -> Result<Made<'a>, Stop>
-    ensures told { (told : Directory) → H.contents files.old ≡ Some told
-        → GivesIn H.Files (made_by told) (capsule_value told from.now) files.old files.new result }
-    ensures whole { IfOk result (IsWhole (H.contents files.new)) }
-    ensures count { IfOk result (λ m. (t : Toc) × IsTable t × (m.count ≡ length t.entries)) }
-    ensures reads { ReadsOnlyIn H.Files files.old files.new result }
-    ensures files { ReadsFile H.Files from.now files.old files.new }
-    ensures refusals { IfErr result IsOfEnclosing }
+    ensures told { AsTold H.Files made_by (λ told. capsule_value told from.now) files.old files.new result }
+    ensures whole { IfOk result (IsWholeFile (H.contents files.new)) }
+    ensures count { IfOk result (λ m. (t : Toc) × IsTableOfSome t × (m.count ≡ length t.entries)) }
+    ensures reads { ReadsOne H.Files from.now IsOfEnclosing files.old files.new result }
 {
     let toc = table_with(files, from, &[])?;
     capsule_of_entries(alloc, from, toc.entries.as_slice())
@@ -64,15 +53,9 @@ fn package_of_items<'a>(
     from: &'a str,
     toc: &Toc,
 ) -> Result<Made<'a>, Stop>
-    ensures told { (told : Directory) (bytes : List ℕ) → told from.now ≡ Some bytes
-        → All (HasEntry (Some told) from.now) toc.now.entries
-        → Gives (made_by told) ⊥ (pack_value toc.now.serial toc.now.flags
-        (map (kept_part bytes) toc.now.entries) align) result }
-    ensures whole { (told : Option Directory) → All (HasEntry told from.now) toc.now.entries
-        → IfOk result (IsWhole told) }
-    ensures count { IfOk result (λ m. m.count ≡ length toc.now.entries) }
-    ensures asks { AsksNothing result }
-    ensures refusals { IfErr result IsOfPacking }
+    ensures { MakesFile (λ told. All (HasEntry told from.now) toc.now.entries)
+        (λ told. pack_value toc.now.serial toc.now.flags (map (kept_part (bytes_in told from.now)) toc.now.entries) align)
+        (length toc.now.entries) result }
 {
     let none = Vec::new(alloc);
     let entries = toc.entries.as_slice();
@@ -87,14 +70,10 @@ pub fn package_of_capsule<'a, H: Files>(
     align: u32,
     from: &'a str,
 ) -> Result<Made<'a>, Stop>
-    ensures told { (told : Directory) → H.contents files.old ≡ Some told
-        → GivesIn H.Files (made_by told) (repackage_value told align from.now)
-        files.old files.new result }
-    ensures whole { IfOk result (IsWhole (H.contents files.new)) }
+    ensures told { AsTold H.Files made_by (λ told. repackage_value told align from.now) files.old files.new result }
+    ensures whole { IfOk result (IsWholeFile (H.contents files.new)) }
     ensures count { IfOk result (λ m. (t : Toc) × IsSomeTable t × (m.count ≡ length t.entries)) }
-    ensures reads { ReadsOnlyIn H.Files files.old files.new result }
-    ensures files { ReadsFile H.Files from.now files.old files.new }
-    ensures refusals { IfErr result IsOfPackaging }
+    ensures reads { ReadsOne H.Files from.now IsOfPackaging files.old files.new result }
 {
     let toc = read_enclosed(files, from)?;
     package_of_items(alloc, align, from, &toc)

@@ -2,7 +2,7 @@
 //! read.
 ghost use Rattle.std.specs.Prelude.{◌≡◌, IfOk, length, map};
 ghost use Rattle.std.specs.List.{zip};
-ghost use Rattle.fip_making.specs.Payloads.{IsMadeOf, piece_of, pieces_of};
+ghost use Rattle.fip_making.specs.Payloads.{IsMadeOf, payload_piece, payload_pieces};
 
 use crate::payloads::Payload;
 use fip_tables::Frame;
@@ -24,7 +24,7 @@ fn pieces_of<'a>(
     gaps: &[usize],
     payloads: &[Payload<'a>],
 ) -> Result<Vec<Piece<'a>>, AllocError>
-    ensures { IfOk result (λ v. v.items ≡ pieces_of gaps.now payloads.now) }
+    ensures { IfOk result (λ v. v.items ≡ payload_pieces gaps.now payloads.now) }
 {
     gaps.iter()
         .zip(payloads)

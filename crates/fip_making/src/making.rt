@@ -1,16 +1,14 @@
 //! Packages that are made: new ones, and those of another package's entries.
-ghost use Rattle.std.specs.Prelude.{◌≡◌, ◌≢◌, ◌⊎◌, ◌≤◌, ◌+◌, All, IfErr, IfOk, List, Option, Some, None, Err, ℕ, filter, length, map, not};
-ghost use Rattle.fip_tables.specs.Files.{Lacks, Tells};
+ghost use Rattle.std.specs.Prelude.{◌≡◌, ◌≢◌, ◌⊎◌, All, IfErr, IfOk, None, filter, length, map, not};
 ghost use Rattle.fwu_formats.specs.Package.{Toc};
-ghost use Rattle.host_io.specs.Contents.{Directory};
 ghost use Rattle.host_io.specs.Access.{Asks};
-ghost use Rattle.host_io.specs.Reads.{ReadsFile, ReadsFiles};
+ghost use Rattle.host_io.specs.Reads.{ReadsFile};
 ghost use Rattle.fip_words.specs.Order.{part_view};
-ghost use Rattle.fip_making.specs.Payloads.{HasEntry, IsThere, IsWhole, made_by, part_told};
-ghost use Rattle.fip_making.specs.Values.{IsTable, after, create_value, first_missing, is_named, kept_part, pack_value, parts_in, remove_value, update_value, updated_part};
+ghost use Rattle.fip_making.specs.Making.{MakesFile};
+ghost use Rattle.fip_making.specs.Payloads.{HasEntry, IsThere, IsWholeFile, bytes_in, made_by, part_told};
+ghost use Rattle.fip_making.specs.Values.{IsTableOfSome, after, create_value, first_missing, is_named, kept_part, pack_value, parts_in, remove_value, update_value, updated_part};
 ghost use Rattle.fip_making.specs.Refusals.{IsOfPacking, IsOfRepacking};
-ghost use Rattle.fip_making.specs.Seen.{GivesIn, ReadsOnlyIn};
-ghost use Rattle.fip_making.specs.Answers.{AsksNothing, Gives};
+ghost use Rattle.fip_making.specs.Seen.{AsTold, ReadsFilesAlone, ReadsOne};
 
 use crate::made::Made;
 use crate::named::{is_named, table_with};
@@ -32,15 +30,11 @@ pub fn created<'a, H: Files>(
     align: u32,
     named: &[FileWord<'a>],
 ) -> Result<Made<'a>, Stop>
-    ensures told { (told : Directory) → H.contents files.old ≡ Some told
-        → GivesIn H.Files (made_by told) (create_value told align (map part_view named.now))
-        files.old files.new result }
-    ensures whole { IfOk result (IsWhole (H.contents files.new)) }
+    ensures told { AsTold H.Files made_by (λ told. create_value told align (map part_view named.now)) files.old files.new result }
+    ensures whole { IfOk result (IsWholeFile (H.contents files.new)) }
     ensures count { IfOk result (λ m. m.count ≡ length named.now) }
-    ensures reads { ReadsOnlyIn H.Files files.old files.new result }
-    ensures files { ReadsFiles H.Files (λ access. All (λ w. access ≢ Asks w.file.now) named.now)
-        files.old files.new }
-    ensures refusals { IfErr result IsOfPacking }
+    ensures reads { ReadsFilesAlone H.Files (λ access. All (λ w. access ≢ Asks w.file.now) named.now) IsOfPacking
+        files.old files.new result }
 {
     match payloads_of_files(alloc, files, named) {
         Ok(payloads) => packed(alloc, NEW_SERIAL, 0, align, payloads.as_slice()),
@@ -58,15 +52,10 @@ pub fn repacked<'a>(
     entries: &[Entry],
     new: &[Payload<'a>],
 ) -> Result<Made<'a>, Stop>
-    ensures told { (told : Directory) (bytes : List ℕ) → told from.now ≡ Some bytes
-        → All (IsThere (Some told)) new.now → All (HasEntry (Some told) from.now) entries.now
-        → Gives (made_by told) ⊥ (pack_value toc.now.serial toc.now.flags
-        (map (updated_part bytes (map (part_told told) new.now)) entries.now) align) result }
-    ensures whole { (told : Option Directory) → All (IsThere told) new.now
-        → All (HasEntry told from.now) entries.now → IfOk result (IsWhole told) }
-    ensures count { IfOk result (λ m. m.count ≡ length entries.now) }
-    ensures asks { AsksNothing result }
-    ensures refusals { IfErr result IsOfPacking }
+    ensures { MakesFile (λ told. All (IsThere told) new.now × All (HasEntry told from.now) entries.now)
+        (λ told. pack_value toc.now.serial toc.now.flags
+        (map (updated_part (bytes_in told from.now) (map (part_told told) new.now)) entries.now) align)
+        (length entries.now) result }
 {
     let Ok(payloads) = payloads_of_entries(alloc, from, entries, new) else {
         return Err(Stop::NoMemory);
@@ -100,17 +89,9 @@ fn without<'a>(
     toc: &Toc,
     guids: &[Guid],
 ) -> Result<Made<'a>, Stop>
-    ensures told { (told : Directory) (bytes : List ℕ) → told from.now ≡ Some bytes
-        → All (HasEntry (Some told) from.now) toc.now.entries
-        → Gives (made_by told) ⊥ (pack_value toc.now.serial toc.now.flags
-        (map (kept_part bytes) (filter (λ e. not (is_named guids.now e)) toc.now.entries)) align)
-        result }
-    ensures whole { (told : Option Directory) → All (HasEntry told from.now) toc.now.entries
-        → IfOk result (IsWhole told) }
-    ensures count { IfOk result (λ m. m.count ≡ length
-        (filter (λ e. not (is_named guids.now e)) toc.now.entries)) }
-    ensures asks { AsksNothing result }
-    ensures refusals { IfErr result IsOfPacking }
+    ensures { MakesFile (λ told. All (HasEntry told from.now) toc.now.entries) (λ told. pack_value toc.now.serial toc.now.flags
+        (map (kept_part (bytes_in told from.now)) (filter (λ e. not (is_named guids.now e)) toc.now.entries)) align)
+        (length (filter (λ e. not (is_named guids.now e)) toc.now.entries)) result }
 {
     let kept = kept_entries(alloc, toc.entries.as_slice(), guids)?;
     let none = Vec::new(alloc);
@@ -125,15 +106,11 @@ pub fn removed<'a, H: Files>(
     from: &'a str,
     guids: &[Guid],
 ) -> Result<Made<'a>, Stop>
-    ensures told { (told : Directory) → H.contents files.old ≡ Some told
-        → GivesIn H.Files (made_by told) (remove_value told align from.now guids.now)
-        files.old files.new result }
-    ensures whole { IfOk result (IsWhole (H.contents files.new)) }
-    ensures count { IfOk result (λ m. (t : Toc) × IsTable t × (first_missing t guids.now ≡ None)
+    ensures told { AsTold H.Files made_by (λ told. remove_value told align from.now guids.now) files.old files.new result }
+    ensures whole { IfOk result (IsWholeFile (H.contents files.new)) }
+    ensures count { IfOk result (λ m. (t : Toc) × IsTableOfSome t × (first_missing t guids.now ≡ None)
         × (m.count ≡ length (filter (λ e. not (is_named guids.now e)) t.entries))) }
-    ensures reads { ReadsOnlyIn H.Files files.old files.new result }
-    ensures files { ReadsFile H.Files from.now files.old files.new }
-    ensures refusals { IfErr result IsOfRepacking }
+    ensures reads { ReadsOne H.Files from.now IsOfRepacking files.old files.new result }
 {
     let toc = table_with(files, from, guids)?;
     without(alloc, align, from, &toc, guids)
@@ -148,20 +125,14 @@ fn replaced<'a, H: Files>(
     toc: &Toc,
     named: &[FileWord<'a>],
 ) -> Result<Made<'a>, Stop>
-    requires stored { (bytes : List ℕ) → Tells (H.contents files.old) from.now bytes
-        → All (λ e. e.offset + e.size ≤ length bytes) toc.now.entries }
-    requires there { Lacks (H.contents files.old) from.now → ⊥ }
-    ensures told { (told : Directory) (bytes : List ℕ) → H.contents files.old ≡ Some told
-        → told from.now ≡ Some bytes
-        → GivesIn H.Files (made_by told) (after (parts_in told (map part_view named.now))
-        (λ new. pack_value toc.now.serial toc.now.flags
-        (map (updated_part bytes new) toc.now.entries) align)) files.old files.new result }
-    ensures whole { IfOk result (IsWhole (H.contents files.new)) }
+    requires { All (HasEntry (H.contents files.old) from.now) toc.now.entries }
+    ensures told { AsTold H.Files made_by (λ told. after (parts_in told (map part_view named.now))
+        (λ new. pack_value toc.now.serial toc.now.flags (map (updated_part (bytes_in told from.now) new) toc.now.entries) align))
+        files.old files.new result }
+    ensures whole { IfOk result (IsWholeFile (H.contents files.new)) }
     ensures count { IfOk result (λ m. m.count ≡ length toc.now.entries) }
-    ensures reads { ReadsOnlyIn H.Files files.old files.new result }
-    ensures files { ReadsFiles H.Files (λ access. All (λ w. access ≢ Asks w.file.now) named.now)
-        files.old files.new }
-    ensures refusals { IfErr result IsOfPacking }
+    ensures reads { ReadsFilesAlone H.Files (λ access. All (λ w. access ≢ Asks w.file.now) named.now) IsOfPacking
+        files.old files.new result }
 {
     match payloads_of_files(alloc, files, named) {
         Ok(new) => {
@@ -181,19 +152,14 @@ pub fn updated<'a, H: Files>(
     from: &'a str,
     named: &[FileWord<'a>],
 ) -> Result<Made<'a>, Stop>
-    ensures told { (told : Directory) → H.contents files.old ≡ Some told
-        → GivesIn H.Files (made_by told)
-        (update_value told align from.now (map part_view named.now)) files.old files.new result }
-    ensures whole { IfOk result (IsWhole (H.contents files.new)) }
-    ensures count { IfOk result (λ m. (t : Toc) × IsTable t
-        × (first_missing t (map (λ p. p.guid) (map part_view named.now)) ≡ None)
+    ensures told { AsTold H.Files made_by (λ told. update_value told align from.now (map part_view named.now))
+        files.old files.new result }
+    ensures whole { IfOk result (IsWholeFile (H.contents files.new)) }
+    ensures count { IfOk result (λ m. (t : Toc) × IsTableOfSome t × (first_missing t (map (λ p. p.guid) (map part_view named.now)) ≡ None)
         × (m.count ≡ length t.entries)) }
-    ensures reads { ReadsOnlyIn H.Files files.old files.new result }
-    ensures files { ReadsFiles H.Files (λ access. (access ≢ Asks from.now)
-        × All (λ w. access ≢ Asks w.file.now) named.now) files.old files.new }
-    ensures package { IfErr result (λ s. IsOfPacking s
-        ⊎ ReadsFile H.Files from.now files.old files.new) }
-    ensures refusals { IfErr result IsOfRepacking }
+    ensures reads { ReadsFilesAlone H.Files (λ access. (access ≢ Asks from.now) × All (λ w. access ≢ Asks w.file.now) named.now)
+        IsOfRepacking files.old files.new result }
+    ensures package { IfErr result (λ s. IsOfPacking s ⊎ ReadsFile H.Files from.now files.old files.new) }
 {
     let types = types_of(alloc, named)?;
     let toc = table_with(files, from, types.as_slice())?;

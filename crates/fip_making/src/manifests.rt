@@ -1,15 +1,13 @@
 //! Manifests of images in files.
-ghost use Rattle.std.specs.Prelude.{◌≡◌, All, ◌≢◌, ◌==◌, ◌||◌, ◌++◌, ◌∷◌, [], Some, Ok, Err, IfOk, IfSome, if◌then◌else◌, length, map, nat_lt, option_and_then, option_map, IfErr};
+ghost use Rattle.std.specs.Prelude.{◌≡◌, All, ◌≢◌, ◌==◌, ◌||◌, ◌++◌, ◌∷◌, [], Some, Ok, Err, IfOk, IfSome, if◌then◌else◌, length, map, nat_lt, option_and_then, option_map};
 ghost use Rattle.fwu_formats.specs.declared.kinds.ManifestFault.TheVariants as fault;
 ghost use Rattle.fip_words.specs.Order.{image_view};
 ghost use Rattle.fip_words.specs.Values.{each};
-ghost use Rattle.host_io.specs.Contents.{Directory};
 ghost use Rattle.host_io.specs.Access.{Asks};
-ghost use Rattle.host_io.specs.Reads.{ReadsFile, ReadsFiles};
 ghost use Rattle.manifest_core.specs.Shown.{row};
-ghost use Rattle.fip_making.specs.Refusals.{IsOfManifest};
-ghost use Rattle.fip_making.specs.Seen.{GivesIn, ReadsOnlyIn};
-ghost use Rattle.fip_making.specs.Answers.{Gives, IsLate};
+ghost use Rattle.fip_making.specs.Refusals.{IsManifestStop};
+ghost use Rattle.fip_making.specs.Seen.{AsTold, ReadsFilesAlone, ReadsOne};
+ghost use Rattle.fip_making.specs.Answers.{AsksNothing, Gives, IsLate};
 ghost use Rattle.fip_making.specs.Values.{after, image_in, image_row, is_long, manifest_value, nothing, of_rows, sizes_value, there, unless_long};
 ghost use Rattle.fip_making.specs.declared.stops.Stop.TheVariants as stop;
 
@@ -29,8 +27,7 @@ const IMAGE_LIMIT: usize = 1_048_576;
 // What a manifest says of an image, which is nothing where it is too long.
 #[tactic(auto, unfolding(crate::specs::Values::image_row))]
 fn row_of(guid: Guid, version: u32, image: &[u8]) -> Option<Row>
-    ensures { option_map row result ≡ image_row
-        (record { guid = guid; version = version; bytes = image.now }) }
+    ensures { option_map row result ≡ image_row (record { guid = guid; version = version; bytes = image.now }) }
 {
     if image.len() > IMAGE_LIMIT {
         None
@@ -45,13 +42,9 @@ fn row_of_file<H: Files>(
     files: &mut H,
     named: &ImageWord,
 ) -> Result<Option<Row>, Stop>
-    ensures told { (told : Directory) → H.contents files.old ≡ Some told
-        → GivesIn H.Files (option_map row)
-        (after (there (image_in told (image_view named.now))) (λ i. Ok (image_row i)))
-        files.old files.new result }
-    ensures reads { ReadsOnlyIn H.Files files.old files.new result }
-    ensures files { ReadsFile H.Files named.now.file.now files.old files.new }
-    ensures late { IfErr result IsLate }
+    ensures told { AsTold H.Files (λ told. option_map row)
+        (λ told. after (there (image_in told (image_view named.now))) (λ i. Ok (image_row i))) files.old files.new result }
+    ensures reads { ReadsOne H.Files named.now.file.now IsLate files.old files.new result }
 {
     let image = read_file(alloc, files, named.file)?;
     Ok(row_of(named.guid, named.version, image.as_slice()))
@@ -77,15 +70,11 @@ fn rows_of_files<H: Files>(
     files: &mut H,
     named: &[ImageWord],
 ) -> Result<Option<Vec<Row>>, Stop>
-    ensures told { (told : Directory) → H.contents files.old ≡ Some told
-        → GivesIn H.Files (option_map (λ v. map row v.items))
-        (after (there (each (image_in told) (map image_view named.now)))
-        (λ images. Ok (each image_row images))) files.old files.new result }
-    ensures reads { ReadsOnlyIn H.Files files.old files.new result }
-    ensures files { ReadsFiles H.Files (λ access. All (λ w. access ≢ Asks w.file.now) named.now)
-        files.old files.new }
+    ensures told { AsTold H.Files (λ told. option_map (λ v. map row v.items))
+        (λ told. after (there (each (image_in told) (map image_view named.now))) (λ images. Ok (each image_row images)))
+        files.old files.new result }
+    ensures reads { ReadsFilesAlone H.Files (λ access. All (λ w. access ≢ Asks w.file.now) named.now) IsLate files.old files.new result }
     ensures count { IfOk result (λ rows. IfSome rows (λ v. length v.items ≡ length named.now)) }
-    ensures late { IfErr result IsLate }
 {
     let mut rows = Some(Vec::new(alloc));
     for one in named {
@@ -98,12 +87,10 @@ fn rows_of_files<H: Files>(
 // The manifest of these rows: how many, and its bytes.
 fn manifest_of_rows(alloc: Global, security: u32, rows: Vec<Row>) -> Result<(u64, Vec<u8>), Stop>
     ensures value { Gives (λ m. (m.0, m.1.items)) ⊥
-        (if (length rows.items == 0) || nat_lt 15 (length rows.items) then Err
-        (stop.NoManifest fault.BadCount) else of_rows security (Some (map row rows.items))) result }
+        (if (length rows.items == 0) || nat_lt 15 (length rows.items) then Err (stop.NoManifest fault.BadCount)
+        else of_rows security (Some (map row rows.items))) result }
     ensures count { IfOk result (λ m. m.0 ≡ length rows.items) }
-    ensures usage { result ≡ Err stop.Usage → ⊥ }
-    ensures sink { result ≡ Err stop.SinkFault → ⊥ }
-    ensures refusals { IfErr result IsOfManifest }
+    ensures asks { AsksNothing IsManifestStop result }
 {
     let count = rows.len() as u64;
     let manifest = match Manifest::of_rows(alloc, security, rows) {
@@ -115,55 +102,43 @@ fn manifest_of_rows(alloc: Global, security: u32, rows: Vec<Row>) -> Result<(u64
 }
 
 // Why there is no manifest of so many images, of which one is too long.
-fn refusal(count: usize) -> Stop
-    ensures value { result ≡ (if (count == 0) || nat_lt 15 count then stop.NoManifest fault.BadCount
+fn refusal(count: usize) -> ManifestFault
+    ensures { stop.NoManifest result ≡ (if (count == 0) || nat_lt 15 count then stop.NoManifest fault.BadCount
         else stop.NoManifest fault.TooLarge) }
-    ensures usage { result ≡ stop.Usage → ⊥ }
-    ensures sink { result ≡ stop.SinkFault → ⊥ }
-    ensures refusals { IsOfManifest result }
 {
     if count == 0 || count > 15 {
-        Stop::NoManifest(ManifestFault::BadCount)
+        ManifestFault::BadCount
     } else {
-        Stop::NoManifest(ManifestFault::TooLarge)
+        ManifestFault::TooLarge
     }
 }
 
 // Whether there is a manifest of so many images, where one of them may be too long.
 fn check_count(count: usize, is_long: bool) -> Result<(), Stop>
     ensures value { Gives nothing ⊥ (unless_long count is_long) result }
-    ensures usage { result ≡ Err stop.Usage → ⊥ }
-    ensures sink { result ≡ Err stop.SinkFault → ⊥ }
-    ensures refusals { IfErr result IsOfManifest }
+    ensures asks { AsksNothing IsManifestStop result }
 {
     if count == 0 || count > 15 || is_long {
-        return Err(refusal(count));
+        return Err(Stop::NoManifest(refusal(count)));
     }
     Ok(())
 }
 
 // Whether the image of a file is too long, by its size.
 fn is_long_file<H: Files>(files: &mut H, named: &ImageWord<'_>) -> Result<bool, Stop>
-    ensures told { (told : Directory) → H.contents files.old ≡ Some told
-        → GivesIn H.Files (λ long. long)
-        (after (there (image_in told (image_view named.now))) (λ i. Ok (is_long i)))
-        files.old files.new result }
-    ensures reads { ReadsOnlyIn H.Files files.old files.new result }
-    ensures files { ReadsFile H.Files named.now.file.now files.old files.new }
-    ensures late { IfErr result IsLate }
+    ensures told { AsTold H.Files (λ told long. long)
+        (λ told. after (there (image_in told (image_view named.now))) (λ i. Ok (is_long i))) files.old files.new result }
+    ensures reads { ReadsOne H.Files named.now.file.now IsLate files.old files.new result }
 {
     Ok(size_of(files, named.file)? > IMAGE_LIMIT as u64)
 }
 
 // Whether there is a manifest of named images. It asks for the sizes of all files, and reads none.
 fn check_sizes<H: Files>(files: &mut H, named: &[ImageWord<'_>]) -> Result<(), Stop>
-    ensures told { (told : Directory) → H.contents files.old ≡ Some told
-        → GivesIn H.Files nothing (sizes_value told (map image_view named.now))
+    ensures told { AsTold H.Files (λ told. nothing) (λ told. sizes_value told (map image_view named.now))
         files.old files.new result }
-    ensures reads { ReadsOnlyIn H.Files files.old files.new result }
-    ensures files { ReadsFiles H.Files (λ access. All (λ w. access ≢ Asks w.file.now) named.now)
-        files.old files.new }
-    ensures refusals { IfErr result IsOfManifest }
+    ensures reads { ReadsFilesAlone H.Files (λ access. All (λ w. access ≢ Asks w.file.now) named.now) IsManifestStop
+        files.old files.new result }
 {
     let mut is_long = false;
     for one in named {
@@ -181,18 +156,15 @@ pub fn manifest<H: Files>(
     security: u32,
     named: &[ImageWord<'_>],
 ) -> Result<(u64, Vec<u8>), Stop>
-    ensures told { (told : Directory) → H.contents files.old ≡ Some told
-        → GivesIn H.Files (λ m. (m.0, m.1.items))
-        (manifest_value told security (map image_view named.now)) files.old files.new result }
+    ensures told { AsTold H.Files (λ told m. (m.0, m.1.items))
+        (λ told. manifest_value told security (map image_view named.now)) files.old files.new result }
     ensures count { IfOk result (λ m. m.0 ≡ length named.now) }
-    ensures reads { ReadsOnlyIn H.Files files.old files.new result }
-    ensures files { ReadsFiles H.Files (λ access. All (λ w. access ≢ Asks w.file.now) named.now)
-        files.old files.new }
-    ensures refusals { IfErr result IsOfManifest }
+    ensures reads { ReadsFilesAlone H.Files (λ access. All (λ w. access ≢ Asks w.file.now) named.now) IsManifestStop
+        files.old files.new result }
 {
     check_sizes(files, named)?;
     match rows_of_files(alloc, files, named)? {
         Some(rows) => manifest_of_rows(alloc, security, rows),
-        None => Err(refusal(named.len())),
+        None => Err(Stop::NoManifest(refusal(named.len()))),
     }
 }

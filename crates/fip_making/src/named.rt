@@ -1,11 +1,8 @@
 //! The entries of a package that the words name, each by its type.
-ghost use Rattle.std.specs.Prelude.{◌≡◌, ◌<◌, ◌+◌, ◌^◌, All, IfOk, None, Some, Ok, Err, IfErr, length};
-ghost use Rattle.host_io.specs.Contents.{Directory};
-ghost use Rattle.host_io.specs.Reads.{ReadsFile};
-ghost use Rattle.fip_making.specs.Refusals.{IsOfEntries, IsOfPackage};
-ghost use Rattle.fip_making.specs.Values.{IsTable, after, first_missing, is_named, sized_table, unless_missing};
-ghost use Rattle.fip_making.specs.Seen.{GivesIn, ReadsOnlyIn};
-ghost use Rattle.fip_making.specs.declared.stops.Stop.TheVariants as stop;
+ghost use Rattle.std.specs.Prelude.{◌≡◌, ◌<◌, ◌+◌, ◌^◌, All, IfOk, None, Ok, IfErr, length};
+ghost use Rattle.fip_making.specs.Refusals.{IsOfEntries, IsPackageStop, Unstarved};
+ghost use Rattle.fip_making.specs.Values.{IsTableOfSome, after, first_missing, is_named, sized_table, unless_missing};
+ghost use Rattle.fip_making.specs.Seen.{AsTold, ReadsOne};
 
 use crate::stops::Stop;
 use crate::table::read_package;
@@ -30,17 +27,13 @@ pub fn is_named(guids: &[Guid], entry: &Entry) -> bool
 
 /// The table of a package that has an entry of each of these types.
 pub fn table_with<H: Files>(files: &mut H, name: &str, guids: &[Guid]) -> Result<Toc, Stop>
-    ensures told { (told : Directory) → H.contents files.old ≡ Some told
-        → GivesIn H.Files (λ t. t) (after (sized_table told name.now)
+    ensures told { AsTold H.Files (λ told t. t) (λ told. after (sized_table told name.now)
         (λ t. unless_missing (first_missing t.0 guids.now) (Ok t.0))) files.old files.new result }
     ensures all { IfOk result (λ t. first_missing t guids.now ≡ None) }
-    ensures table { IfOk result IsTable }
+    ensures table { IfOk result IsTableOfSome }
     ensures ends { IfOk result (λ t. All (λ e. e.offset + e.size < 2 ^ 64) t.entries) }
-    ensures reads { ReadsOnlyIn H.Files files.old files.new result }
-    ensures files { ReadsFile H.Files name.now files.old files.new }
-    ensures refusals { IfErr result IsOfEntries }
-    ensures memory { result ≡ Err stop.NoMemory → ⊥ }
-    ensures unnamed { length guids.now ≡ 0 → IfErr result IsOfPackage }
+    ensures reads { ReadsOne H.Files name.now (Unstarved IsOfEntries) files.old files.new result }
+    ensures unnamed { length guids.now ≡ 0 → IfErr result IsPackageStop }
 {
     let (toc, _) = read_package(files, name)?;
     match first_missing(&toc, guids) {

@@ -1,13 +1,12 @@
 //! The payloads of packages that are made: what each is, and where it is read.
-ghost use Rattle.std.specs.Prelude.{◌≡◌, ◌≢◌, ◌<◌, ◌≤◌, ◌+◌, ◌^◌, All, IfOk, List, Option, Some, None, ℕ, find, length, map, IfErr};
+ghost use Rattle.std.specs.Prelude.{◌≡◌, ◌≢◌, All, IfOk, Option, find, length, map};
 ghost use Rattle.base_core.specs.Bytes.{same_bytes};
 ghost use Rattle.host_io.specs.Contents.{Directory};
 ghost use Rattle.host_io.specs.Access.{Asks};
-ghost use Rattle.host_io.specs.Reads.{ReadsFile, ReadsFiles};
 ghost use Rattle.fip_words.specs.Order.{part_view};
-ghost use Rattle.fip_making.specs.Seen.{GivesIn, ReadsOnlyIn};
+ghost use Rattle.fip_making.specs.Seen.{AsTold, ReadsFilesAlone, ReadsOne};
 ghost use Rattle.fip_making.specs.Answers.{IsLate};
-ghost use Rattle.fip_making.specs.Payloads.{HasEntry, IsThere, outline_of, part_told, piece_of};
+ghost use Rattle.fip_making.specs.Payloads.{HasEntry, IsThere, bytes_in, outline_of, part_told, payload_piece};
 ghost use Rattle.fip_making.specs.Values.{part_in, parts_in, there, updated_part};
 
 use crate::stops::Stop;
@@ -43,7 +42,7 @@ impl<'a> Payload<'a> {
 
     /// The piece of a file that it is, behind a gap.
     pub fn piece(&self, gap: usize) -> Piece<'a>
-        ensures { result ≡ piece_of gap self.now }
+        ensures { result ≡ payload_piece gap self.now }
     {
         Piece {
             gap,
@@ -56,13 +55,9 @@ impl<'a> Payload<'a> {
 
 // The payload that a named file is, whole.
 fn payload_of_file<'a, H: Files>(files: &mut H, named: &FileWord<'a>) -> Result<Payload<'a>, Stop>
-    ensures told { (told : Directory) → H.contents files.old ≡ Some told
-        → GivesIn H.Files (part_told told) (there (part_in told (part_view named.now)))
-        files.old files.new result }
+    ensures told { AsTold H.Files part_told (λ told. there (part_in told (part_view named.now))) files.old files.new result }
     ensures there { IfOk result (IsThere (H.contents files.old)) }
-    ensures reads { ReadsOnlyIn H.Files files.old files.new result }
-    ensures files { ReadsFile H.Files named.now.file.now files.old files.new }
-    ensures late { IfErr result IsLate }
+    ensures reads { ReadsOne H.Files named.now.file.now IsLate files.old files.new result }
 {
     let size = size_of(files, named.file)?;
     Ok(Payload {
@@ -80,15 +75,11 @@ pub fn payloads_of_files<'a, H: Files>(
     files: &mut H,
     named: &[FileWord<'a>],
 ) -> Result<Vec<Payload<'a>>, Stop>
-    ensures told { (told : Directory) → H.contents files.old ≡ Some told
-        → GivesIn H.Files (λ v. map (part_told told) v.items)
-        (parts_in told (map part_view named.now)) files.old files.new result }
+    ensures told { AsTold H.Files (λ told v. map (part_told told) v.items) (λ told. parts_in told (map part_view named.now))
+        files.old files.new result }
     ensures there { IfOk result (λ v. All (IsThere (H.contents files.old)) v.items) }
     ensures count { IfOk result (λ v. length v.items ≡ length named.now) }
-    ensures reads { ReadsOnlyIn H.Files files.old files.new result }
-    ensures files { ReadsFiles H.Files (λ access. All (λ w. access ≢ Asks w.file.now) named.now)
-        files.old files.new }
-    ensures late { IfErr result IsLate }
+    ensures reads { ReadsFilesAlone H.Files (λ access. All (λ w. access ≢ Asks w.file.now) named.now) IsLate files.old files.new result }
 {
     let mut payloads = Vec::new(alloc);
     for one in named {
@@ -116,10 +107,10 @@ fn of_type<'a>(payloads: &[Payload<'a>], guid: &Guid) -> Option<Payload<'a>>
 
 // The payload of an entry of a package, or the new one of its type, where there is one.
 fn payload_of_entry<'a>(from: &'a str, entry: &Entry, new: &[Payload<'a>]) -> Payload<'a>
-    ensures told { (told : Directory) (bytes : List ℕ) → told from.now ≡ Some bytes
-        → part_told told result ≡ updated_part bytes (map (part_told told) new.now) entry.now }
-    ensures there { (told : Option Directory) → All (IsThere told) new.now
-        → HasEntry told from.now entry.now → IsThere told result }
+    ensures told { (told : Directory)
+        → part_told told result ≡ updated_part (bytes_in told from.now) (map (part_told told) new.now) entry.now }
+    ensures there { (told : Option Directory) → All (IsThere told) new.now × HasEntry told from.now entry.now
+        → IsThere told result }
 {
     match of_type(new, &entry.guid) {
         Some(payload) => Payload {
@@ -146,11 +137,9 @@ pub fn payloads_of_entries<'a>(
     entries: &[Entry],
     new: &[Payload<'a>],
 ) -> Result<Vec<Payload<'a>>, NoMemory>
-    ensures told { (told : Directory) (bytes : List ℕ) → told from.now ≡ Some bytes
-        → IfOk result (λ v. map (part_told told) v.items ≡ map
-        (updated_part bytes (map (part_told told) new.now)) entries.now) }
-    ensures there { (told : Option Directory) → All (IsThere told) new.now
-        → All (HasEntry told from.now) entries.now
+    ensures told { (told : Directory) → IfOk result (λ v. map (part_told told) v.items
+        ≡ map (updated_part (bytes_in told from.now) (map (part_told told) new.now)) entries.now) }
+    ensures there { (told : Option Directory) → All (IsThere told) new.now × All (HasEntry told from.now) entries.now
         → IfOk result (λ v. All (IsThere told) v.items) }
     ensures count { IfOk result (λ v. length v.items ≡ length entries.now) }
 {

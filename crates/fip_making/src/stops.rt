@@ -1,12 +1,12 @@
 //! Why a command ended before all was done.
 
 ghost use Rattle.std.specs.Prelude.{◌≡◌};
-ghost use Rattle.fip_making.specs.Stops.{capsule_stopped_by, stopped_by, unmade_by, unread_by};
+ghost use Rattle.fip_making.specs.Stops.{capsule_stopped_by, packed_by, stop_of_table, unmade_by, unread_by};
 ghost use Rattle.fip_making.specs.declared.stops.Stop.TheVariants as stop;
 
 use base_core::{Guid, NoMemory as NoMemoryFound};
 use capsule_tables::{CapsuleFault, CapsuleStop};
-use fip_tables::{PackFault, TocStop};
+use fip_tables::{PackFault, PackStop, TocStop};
 use fwu_formats::{FipFault, ManifestFault};
 use host_io::{Failed, JoinStop, ReadStop};
 use std::alloc::AllocError;
@@ -95,8 +95,20 @@ impl From<Failed> for Stop {
     }
 }
 
+// Of what was not packed, into a package or a capsule.
+impl From<PackStop> for Stop {
+    ghost from_gives = { λ given stopped. stopped ≡ packed_by given };
+
+    fn from(given: PackStop) -> Stop {
+        match given {
+            PackStop::Fault(fault) => Stop::NotPacked(fault),
+            PackStop::NoMemory => Stop::NoMemory,
+        }
+    }
+}
+
 impl From<TocStop> for Stop {
-    ghost from_gives = { λ given stopped. stopped ≡ stopped_by given };
+    ghost from_gives = { λ given stopped. stopped ≡ stop_of_table given };
 
     fn from(given: TocStop) -> Stop {
         match given {

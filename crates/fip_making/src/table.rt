@@ -1,17 +1,15 @@
 //! The table of contents of a package, from a file or from the source, or of a capsule.
-ghost use Rattle.std.specs.Prelude.{◌≡◌, ◌≤◌, ◌<◌, ◌+◌, ◌^◌, ◌∷◌, [], All, IfOk, List, Some, Ok, Err, length, ℕ, ◌++◌, IfErr};
+ghost use Rattle.std.specs.Prelude.{◌≡◌, ◌≤◌, ◌<◌, ◌+◌, ◌^◌, ◌∷◌, [], All, IfOk, List, Some, Ok, Err, length, ℕ, ◌++◌};
 ghost use Rattle.std.specs.Io.KnownBytes.{Consumes, IsAtEnd};
-ghost use Rattle.host_io.specs.Contents.{Directory};
-ghost use Rattle.host_io.specs.Reads.{ReadsFile};
 ghost use Rattle.fwu_formats.specs.Package.{toc_of};
 ghost use Rattle.fip_tables.specs.Answers.{decided};
 ghost use Rattle.capsule_tables.specs.Answers.{IsSomeTable};
 ghost use Rattle.fip_tables.specs.Stream.{Fed};
-ghost use Rattle.fip_making.specs.Refusals.{IsOfCapsule, IsOfPackage, IsOfSource};
-ghost use Rattle.fip_making.specs.Seen.{FedSomeIn, GivenToIn, GivesIn, ReadsOnlyIn, ReadsGiven};
+ghost use Rattle.fip_making.specs.Refusals.{IsOfCapsule, IsPackageStop, IsOfSource, Unstarved};
+ghost use Rattle.fip_making.specs.Seen.{AsTold, FedSomeIn, GivenToIn, ReadsGiven, ReadsOne};
 ghost use Rattle.fip_making.specs.Answers.{AsksNothing, IsLate};
-ghost use Rattle.fip_making.specs.Values.{StopsInTime, after, capsule_in, given_table, size_in, sized_table, source_limit, IsTable};
-ghost use Rattle.fip_making.specs.Source.{EndsAs};
+ghost use Rattle.fip_making.specs.Values.{StopsInTime, after, capsule_in, given_table, size_in, sized_table, source_limit, IsTableOfSome};
+ghost use Rattle.fip_making.specs.Source.{SourceEndsAs};
 ghost use Rattle.fip_making.specs.declared.stops.Stop.TheVariants as stop;
 
 use crate::stops::Stop;
@@ -25,12 +23,8 @@ const SOURCE_LIMIT: u64 = 4_294_967_296;
 /// How many bytes a file has.
 #[tactic(auto, unfolding(crate::specs::Values::size_in))]
 pub fn size_of<H: Files>(files: &mut H, name: &str) -> Result<u64, Stop>
-    ensures told { (told : Directory) → H.contents files.old ≡ Some told
-        → GivesIn H.Files (λ n. n) (size_in told name.now) files.old files.new result }
-    ensures reads { ReadsOnlyIn H.Files files.old files.new result }
-    ensures files { ReadsFile H.Files name.now files.old files.new }
-    ensures late { IfErr result IsLate }
-    ensures memory { result ≡ Err stop.NoMemory → ⊥ }
+    ensures told { AsTold H.Files (λ told n. n) (λ told. size_in told name.now) files.old files.new result }
+    ensures reads { ReadsOne H.Files name.now (Unstarved IsLate) files.old files.new result }
 {
     match files.size(name)? {
         Some(size) => Ok(size),
@@ -40,14 +34,10 @@ pub fn size_of<H: Files>(files: &mut H, name: &str) -> Result<u64, Stop>
 
 /// The table of a package in a file, and how many bytes the file has.
 pub fn read_package<H: Files>(files: &mut H, name: &str) -> Result<(Toc, u64), Stop>
-    ensures told { (told : Directory) → H.contents files.old ≡ Some told
-        → GivesIn H.Files (λ t. t) (sized_table told name.now) files.old files.new result }
+    ensures told { AsTold H.Files (λ told t. t) (λ told. sized_table told name.now) files.old files.new result }
     ensures ends { IfOk result (λ t. All (λ e. e.offset + e.size < 2 ^ 64) t.0.entries) }
-    ensures table { IfOk result (λ t. IsTable t.0) }
-    ensures reads { ReadsOnlyIn H.Files files.old files.new result }
-    ensures files { ReadsFile H.Files name.now files.old files.new }
-    ensures refusals { IfErr result IsOfPackage }
-    ensures memory { result ≡ Err stop.NoMemory → ⊥ }
+    ensures table { IfOk result (λ t. IsTableOfSome t.0) }
+    ensures reads { ReadsOne H.Files name.now (Unstarved IsPackageStop) files.old files.new result }
 {
     let size = size_of(files, name)?;
     let toc = read_toc(files, name)?;
@@ -56,14 +46,10 @@ pub fn read_package<H: Files>(files: &mut H, name: &str) -> Result<(Toc, u64), S
 
 /// The table of a capsule in a file.
 pub fn read_enclosed<H: Files>(files: &mut H, name: &str) -> Result<Toc, Stop>
-    ensures told { (told : Directory) → H.contents files.old ≡ Some told
-        → GivesIn H.Files (λ t. t) (after (capsule_in told name.now) (λ p. Ok p.1))
+    ensures told { AsTold H.Files (λ told t. t) (λ told. after (capsule_in told name.now) (λ p. Ok p.1))
         files.old files.new result }
     ensures table { IfOk result IsSomeTable }
-    ensures reads { ReadsOnlyIn H.Files files.old files.new result }
-    ensures files { ReadsFile H.Files name.now files.old files.new }
-    ensures refusals { IfErr result IsOfCapsule }
-    ensures memory { result ≡ Err stop.NoMemory → ⊥ }
+    ensures reads { ReadsOne H.Files name.now (Unstarved IsOfCapsule) files.old files.new result }
 {
     Ok(read_capsule(files, name)?)
 }
@@ -89,12 +75,9 @@ fn feed_some<I: Source>(source: &mut I, stream: &mut StreamToc) -> Result<usize,
 // The table of what the source gave, which was all.
 fn ended(stream: StreamToc, count: u64) -> Result<(Toc, u64), Stop>
     requires few { count ≤ source_limit }
-    ensures table { (given : List ℕ) → Fed stream given → length given ≡ count
-        → decided (toc_of given) ≡ Ok tt
-        → EndsAs given result }
-    ensures asks { AsksNothing result }
-    ensures refusals { IfErr result IsOfSource }
-    ensures memory { result ≡ Err stop.NoMemory → ⊥ }
+    ensures table { (given : List ℕ) → Fed stream given → length given ≡ count → decided (toc_of given) ≡ Ok tt
+        → SourceEndsAs given result }
+    ensures asks { AsksNothing (Unstarved IsOfSource) result }
 {
     match stream.end() {
         Ok(toc) => Ok((toc, count)),

@@ -9,8 +9,8 @@ use Rattle.base_core.specs.Bytes.{same_bytes}
 use Rattle.fwu_formats.specs.Layout.{are_distinct}
 use Rattle.fwu_formats.specs.Package.{FitsPackage, Part, entry_limit, is_part, packed}
 use Rattle.fwu_formats.proofs.PackWritten.{packed-is-read}
-use Rattle.fip_tables.specs.Again.{PassedIsRead, has_fields}
-use Rattle.fip_tables.specs.Packing.{AreOutlines, first_repeat, is_alignment, is_nil, is_repeat, pack_fault, package_limit, part_at, parts_fault, zeroed}
+use Rattle.fip_tables.specs.Again.{PassedIsRead, part_has_fields}
+use Rattle.fip_tables.specs.Packing.{AreOutlines, first_repeat, is_alignment, is_nil, is_repeat, pack_fault, package_limit, packed_part_at, parts_fault, zeroed}
 use Rattle.fip_tables.specs.Frame.{AreSixteen}
 use Rattle.fip_tables.specs.declared.faults.PackFault.{PackFault}
 use Rattle.fip_tables.proofs.Firsts.{align-fault, nil-fault, numbers, repeat-fault, shared-fault, size-fault, too-many}
@@ -74,19 +74,19 @@ none-at {X} p xs none = go (ltb (position_or_len p xs) (length xs)) refl none
     go true e h = absurd cc
     go false e h = λ k d lt. fails_before_first p xs k d (let far = ltb-false (position_or_len p xs) (length xs) e in omega (arith, far, lt))
 
-each-part : (ps : List Part) → IsTrue (list_all has_fields ps) → ((k : ℕ) → k < length ps → is_nil (part_at ps k) ≡ false) → IsTrue (list_all is_part ps)
+each-part : (ps : List Part) → IsTrue (list_all part_has_fields ps) → ((k : ℕ) → k < length ps → is_nil (packed_part_at ps k) ≡ false) → IsTrue (list_all is_part ps)
 each-part [] fields some = refl
 each-part (p ∷ ps) fields some =
-    let both = and_parts (has_fields p) (list_all has_fields ps) fields in
+    let both = and_parts (part_has_fields p) (list_all part_has_fields ps) fields in
     let own = and_parts (length p.guid == 16) (ltb p.flags 18446744073709551616) both.0 in
     and_from (is_part p) (list_all is_part ps)
     (and_from ((length p.guid == 16) && not (is_nil p)) (ltb p.flags 18446744073709551616) (and_from (length p.guid == 16) (not (is_nil p)) own.0 (ap not (some 0 (omega arith)))) own.1)
     (each-part ps both.1 (λ k lt. some (suc k) (omega (arith, lt))))
 
-sixteen-each : (ps : List Part) → IsTrue (list_all has_fields ps) → AreSixteen ps
+sixteen-each : (ps : List Part) → IsTrue (list_all part_has_fields ps) → AreSixteen ps
 sixteen-each [] fields = tt
 sixteen-each (p ∷ ps) fields =
-    let both = and_parts (has_fields p) (list_all has_fields ps) fields in
+    let both = and_parts (part_has_fields p) (list_all part_has_fields ps) fields in
     let own = and_parts (length p.guid == 16) (ltb p.flags 18446744073709551616) both.0 in
     (eqb-true (length p.guid) 16 own.0, sixteen-each ps both.1)
 
@@ -98,7 +98,7 @@ same-sym [] (y ∷ ys) = refl
 same-sym (x ∷ xs) [] = refl
 same-sym (x ∷ xs) (y ∷ ys) = ap (λ (b : Bool). b && same_bytes xs ys) (let e : (x == y) ≡ (y == x) = grind arith in e) ∙ ap (λ (b : Bool). (y == x) && b) (same-sym xs ys)
 
-none-alike : (g : List ℕ) (ps : List Part) → ((k : ℕ) → k < length ps → same_bytes (part_at ps k).guid g ≡ false) → list_any (same_bytes g) (map (λ p. p.guid) ps) ≡ false
+none-alike : (g : List ℕ) (ps : List Part) → ((k : ℕ) → k < length ps → same_bytes (packed_part_at ps k).guid g ≡ false) → list_any (same_bytes g) (map (λ p. p.guid) ps) ≡ false
 none-alike g [] other = refl
 none-alike g (p ∷ ps) other =
     or_from (same_bytes g p.guid) (list_any (same_bytes g) (map (λ q. q.guid) ps)) (same-sym g p.guid ∙ other 0 (omega arith)) (none-alike g ps (λ k lt. other (suc k) (omega (arith, lt))))
@@ -110,8 +110,8 @@ distinct-each (p ∷ ps) h =
     (ap not (none-alike p.guid ps (λ k lt. (apart k lt).0)))
     (distinct-each ps (λ k lt. (apart k lt).1))
   where
-    apart : (k : ℕ) → k < length ps → (same_bytes (part_at ps k).guid p.guid ≡ false) × (is_repeat ps k ≡ false)
-    apart k lt = or_parts (same_bytes (part_at ps k).guid p.guid) (is_repeat ps k) (h (suc k) (omega (arith, lt)))
+    apart : (k : ℕ) → k < length ps → (same_bytes (packed_part_at ps k).guid p.guid ≡ false) × (is_repeat ps k ≡ false)
+    apart k lt = or_parts (same_bytes (packed_part_at ps k).guid p.guid) (is_repeat ps k) (h (suc k) (omega (arith, lt)))
 
 pub no-repeat : (ps : List Part) → first_repeat ps ≡ None → (k : ℕ) → k < length ps → is_repeat ps k ≡ false
 no-repeat ps none k lt =
@@ -120,7 +120,7 @@ no-repeat ps none k lt =
 
 -- ---- a package that fits
 
-fits-package : (serial flags : ℕ) (parts : List Part) (a : ℕ) → pack_fault parts a ≡ None → IsTrue (list_all has_fields parts) → 1 ≤ serial → serial < 4294967296 → flags < 18446744073709551616 → FitsPackage serial flags parts a
+fits-package : (serial flags : ℕ) (parts : List Part) (a : ℕ) → pack_fault parts a ≡ None → IsTrue (list_all part_has_fields parts) → 1 ≤ serial → serial < 4294967296 → flags < 18446744073709551616 → FitsPackage serial flags parts a
 fits-package serial flags parts a ok fields some low small =
     let sixteen = sixteen-each parts fields in
     record {
@@ -137,10 +137,10 @@ passed-is-read serial flags parts a ok fields some low small = packed-is-read se
 
 -- ---- parts by their outlines
 
-pub fields-of-outlines : (ps : List Part) → AreOutlines (map zeroed ps) → IsTrue (list_all has_fields ps)
+pub fields-of-outlines : (ps : List Part) → AreOutlines (map zeroed ps) → IsTrue (list_all part_has_fields ps)
 fields-of-outlines [] ok = refl
 fields-of-outlines (p ∷ ps) ok =
     let first = ok 0 (omega arith) in
-    and_from (has_fields p) (list_all has_fields ps)
+    and_from (part_has_fields p) (list_all part_has_fields ps)
     (and_from (length p.guid == 16) (ltb p.flags 18446744073709551616) (eq-eqb (length p.guid) 16 first.sixteen) (let e : ltb p.flags 18446744073709551616 ≡ true = let low = first.fits in grind (arith, low) in e))
     (fields-of-outlines ps (λ k lt. ok (suc k) (omega (arith, lt))))

@@ -5,7 +5,7 @@ use Rattle.fwu_formats.specs.Package.{Toc, entry_limit, entries_from, is_beyond,
 use Rattle.fwu_formats.specs.declared.kinds.FipFault.{FipFault}
 use Rattle.fwu_formats.specs.declared.kinds.FipFault.TheVariants as fault
 use Rattle.fip_tables.specs.Answers.{decided, has_marker, lasting}
-use Rattle.fip_tables.specs.Stream.{HoldsAt, ReadsOn, group_size, met}
+use Rattle.fip_tables.specs.Stream.{ReaderHoldsAt, ReadsOn, group_size, met}
 use Rattle.fip_tables.specs.declared.reader.Stage.{Stage}
 use Rattle.fip_tables.specs.declared.reader.Stage.TheVariants.{Header, Table, Whole, Faulty}
 use Rattle.fip_tables.proofs.Fronts.{header-front}
@@ -20,7 +20,7 @@ answer_at (Faulty f) toc bytes = Err f
 same-end : (bytes : List ℕ) → bytes ++ [] ≡ bytes
 same-end bytes = append-nil bytes
 
-pub answers : (at : Stage) (toc : Toc) (pending bytes : List ℕ) → length pending < group_size at → HoldsAt at toc pending bytes → toc_of bytes ≡ answer_at at toc bytes
+pub answers : (at : Stage) (toc : Toc) (pending bytes : List ℕ) → length pending < group_size at → ReaderHoldsAt at toc pending bytes → toc_of bytes ≡ answer_at at toc bytes
 answers Header toc pending bytes few h = short-header bytes (omega (arith, few, ap length h.0))
 answers Table toc pending bytes few h =
     let k = length toc.entries in
@@ -51,23 +51,23 @@ unmarked fault.TooMany h = refl
 unmarked (fault.Duplicate i) h = refl
 unmarked (fault.Beyond i) h = absurd cc
 
-pub met-decided : (at : Stage) (toc : Toc) (pending bytes : List ℕ) → length pending < group_size at → HoldsAt at toc pending bytes → met at ≡ decided (toc_of bytes)
+pub met-decided : (at : Stage) (toc : Toc) (pending bytes : List ℕ) → length pending < group_size at → ReaderHoldsAt at toc pending bytes → met at ≡ decided (toc_of bytes)
 met-decided Header toc pending bytes few h = sym (ap decided (answers Header toc pending bytes few h))
 met-decided Table toc pending bytes few h = sym (ap decided (answers Table toc pending bytes few h))
 met-decided Whole toc pending bytes few h = sym (ap decided (answers Whole toc pending bytes few h) ∙ none-decided bytes toc (position (is_beyond bytes) toc.entries))
 met-decided (Faulty f) toc pending bytes few h = sym (ap decided (answers (Faulty f) toc pending bytes few h) ∙ h.lasts)
 
-pub whole-marked : (toc : Toc) (pending bytes : List ℕ) → length pending < 40 → HoldsAt Whole toc pending bytes → has_marker (toc_of bytes) ≡ true
+pub whole-marked : (toc : Toc) (pending bytes : List ℕ) → length pending < 40 → ReaderHoldsAt Whole toc pending bytes → has_marker (toc_of bytes) ≡ true
 whole-marked toc pending bytes few h = ap has_marker (answers Whole toc pending bytes few h) ∙ marked bytes toc (position (is_beyond bytes) toc.entries)
 
-pub other-unmarked : (at : Stage) (toc : Toc) (pending bytes : List ℕ) → (at ≡ Whole → ⊥) → length pending < group_size at → HoldsAt at toc pending bytes → has_marker (toc_of bytes) ≡ false
+pub other-unmarked : (at : Stage) (toc : Toc) (pending bytes : List ℕ) → (at ≡ Whole → ⊥) → length pending < group_size at → ReaderHoldsAt at toc pending bytes → has_marker (toc_of bytes) ≡ false
 other-unmarked Header toc pending bytes other few h = ap has_marker (answers Header toc pending bytes few h)
 other-unmarked Table toc pending bytes other few h = ap has_marker (answers Table toc pending bytes few h)
 other-unmarked Whole toc pending bytes other few h = absurd (other refl)
 other-unmarked (Faulty f) toc pending bytes other few h = ap has_marker (answers (Faulty f) toc pending bytes few h) ∙ unmarked f h.lasts
 
 -- past the table whatever follows changes nothing
-pub holds-on : (at : Stage) (toc : Toc) (pending bytes more : List ℕ) → (ReadsOn at → ⊥) → HoldsAt at toc pending bytes → HoldsAt at toc pending (bytes ++ more)
+pub holds-on : (at : Stage) (toc : Toc) (pending bytes more : List ℕ) → (ReadsOn at → ⊥) → ReaderHoldsAt at toc pending bytes → ReaderHoldsAt at toc pending (bytes ++ more)
 holds-on Header toc pending bytes more done h = absurd (done tt)
 holds-on Table toc pending bytes more done h = absurd (done tt)
 holds-on Whole toc pending bytes more done h = record {

@@ -10,7 +10,7 @@ use Rattle.base_core.specs.Bytes.{le}
 use Rattle.fwu_formats.specs.Package.{Entry, Part, fip_name, packed, packed_entries, payloads, table_bytes}
 use Rattle.host_io.specs.Joined.{Chunk, joined}
 use Rattle.fip_tables.specs.Packing.{AreOutlines, zeroed}
-use Rattle.fip_tables.specs.Frame.{AreInOrder, AreSixteen, chunks, entry_bytes, gaps_from, last_end, marker, sizes_of, table_end, tabled, up_to}
+use Rattle.fip_tables.specs.Frame.{AreInOrder, AreSixteen, chunks, toc_entry_bytes, gaps_from, last_end, marker, sizes_of, table_end, tabled, up_to}
 use Rattle.fip_tables.proofs.Plans.{outlines-sixteen, packed-length, sixteen-zeroed, table-length, table-spelled}
 use Rattle.fip_tables.proofs.Zeros.{length-zeroed, same-end, same-entries}
 
@@ -74,23 +74,6 @@ next-ends es end i e lt is order =
 -- the first payloads are in, with what is left of the frame
 abbrev pub AreFilled : List ℕ → List ℕ → List Part → List ℕ → List ℕ → ℕ → Type 0
 AreFilled frame gaps parts bytes left i = bytes ++ joined left (chunks (drop i gaps) (drop i parts)) ≡ joined frame (chunks gaps parts)
-
-pub next-filled : (frame gaps : List ℕ) (parts : List Part) (bytes more left rest : List ℕ) (i g : ℕ) (p : Part)
-    → i < length gaps → i < length parts → g ≡ get_or gaps i g → p ≡ get_or parts i p
-    → more ≡ bytes ++ (take g left ++ p.bytes) → rest ≡ drop g left
-    → AreFilled frame gaps parts bytes left i → AreFilled frame gaps parts more rest (i + 1)
-next-filled frame gaps parts bytes more left rest i g p lt below gap is added cut before =
-    let cs = chunks (drop (i + 1) gaps) (drop (i + 1) parts) in
-    let behind = joined (drop g left) cs in
-    let gs : drop i gaps ≡ g ∷ drop (i + 1) gaps = drop_more gaps i g lt ∙ ap (λ (x : ℕ). x ∷ drop (i + 1) gaps) (sym gap) in
-    let ps : drop i parts ≡ p ∷ drop (i + 1) parts = drop_more parts i p below ∙ ap (λ (x : Part). x ∷ drop (i + 1) parts) (sym is) in
-    let here : bytes ++ joined left (chunks (drop i gaps) (drop i parts)) ≡ bytes ++ (take g left ++ (p.bytes ++ behind)) =
-    ap (λ (xs : List ℕ). bytes ++ joined left (chunks xs (drop i parts))) gs ∙ ap (λ (xs : List Part). bytes ++ joined left (chunks (g ∷ drop (i + 1) gaps) xs)) ps in
-    ap (λ (l : List ℕ). more ++ joined l cs) cut
-    ∙ ap (λ (l : List ℕ). l ++ behind) added
-    ∙ append_assoc bytes (take g left ++ p.bytes) behind
-    ∙ ap (λ (l : List ℕ). bytes ++ l) (append_assoc (take g left) p.bytes behind)
-    ∙ sym here ∙ before
 
 chunks-none : (gaps : List ℕ) → chunks gaps [] ≡ []
 chunks-none [] = refl
@@ -168,7 +151,7 @@ parts-joined serial flags ps a sixteen =
     let order = entries-in-order a end ps in
     let room = order-room end es last order in
     let spelled : tabled serial flags es last ≡ head =
-    append_assoc numbers (flat_map entry_bytes es) (entry_bytes (marker last)) ∙ ap (λ (xs : List ℕ). numbers ++ xs) (sym (table-spelled a end ps)) in
+    append_assoc numbers (flat_map toc_entry_bytes es) (toc_entry_bytes (marker last)) ∙ ap (λ (xs : List ℕ). numbers ++ xs) (sym (table-spelled a end ps)) in
     let long : length head ≡ end = omega (arith, length-append numbers (table_bytes a end ps), table-length a end ps sixteen) in
     let zeros = last - sizes_of es - length head in
     ap (λ (xs : List ℕ). joined (up_to (last - sizes_of es) xs) cs) spelled

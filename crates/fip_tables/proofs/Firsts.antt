@@ -5,15 +5,15 @@ use Rattle.std.proofs.lemmas.List.FromFn.{get_or-range_with_len, length-range_wi
 use Rattle.std.specs.Prelude.{position, option_map, nat_lt, not, if◌then◌else◌}
 use Rattle.std.specs.List.{position_or_len, range_with_len}
 use Rattle.fwu_formats.specs.Package.{Part, entry_limit, packed}
-use Rattle.fip_tables.specs.Packing.{IsOutline, first_of, first_repeat, is_alignment, is_nil, is_repeat, pack_fault, package_limit, part_at, parts_fault}
+use Rattle.fip_tables.specs.Packing.{IsOutline, first_of, first_repeat, is_alignment, is_nil, is_repeat, pack_fault, package_limit, packed_part_at, parts_fault}
 use Rattle.fip_tables.specs.declared.faults.PackFault.{PackFault}
 use Rattle.fip_tables.specs.declared.faults.PackFault.TheVariants as fault
 use Rattle.fip_tables.proofs.Steps.{is-less, skips, takes}
 
 -- none of the first parts has the nil UUID
 pub record HasNoneNil (parts : List Part) (count : ℕ) : Type 0 where
-  pub some : (k : ℕ) → k < count → is_nil (part_at parts k) ≡ false
-  pub outlines : (k : ℕ) → k < count → IsOutline (part_at parts k)
+  pub some : (k : ℕ) → k < count → is_nil (packed_part_at parts k) ≡ false
+  pub outlines : (k : ℕ) → k < count → IsOutline (packed_part_at parts k)
 
 pub position-none : {X : Type 0} (p : X → Bool) (xs : List X) (d : X) → ((k : ℕ) → k < length xs → p (get_or xs k d) ≡ false) → position p xs ≡ None
 position-none p xs d h =

@@ -8,7 +8,7 @@ use Rattle.fwu_formats.specs.Package.{Entry, Toc, entry_at, entry_limit, entries
 use Rattle.fwu_formats.specs.declared.kinds.FipFault.{FipFault}
 use Rattle.fwu_formats.specs.declared.kinds.FipFault.TheVariants as fault
 use Rattle.fip_tables.specs.Decoded.{entry_from, IsHeaderOf}
-use Rattle.fip_tables.specs.Stream.{BeginsWith, HasLastingFault, HoldsAt, IsAmongEntries, IsPastMarker}
+use Rattle.fip_tables.specs.Stream.{HasTableFront, HasLastingFault, ReaderHoldsAt, IsAmongEntries, IsPastMarker}
 use Rattle.fip_tables.specs.declared.reader.Stage.{Stage}
 use Rattle.fip_tables.specs.declared.reader.Stage.TheVariants.{Header, Table, Whole, Faulty}
 use Rattle.fip_tables.proofs.Fronts.{entry-front, entry-of-group, header-front, num-front}
@@ -98,7 +98,7 @@ after-header toc group serial flags bytes is whole none header =
     record {
       header = record { long = omega (arith, all); name = parts.0; some = parts.1; serial = parts.2; flags = parts.3 };
       few = omega (arith, ap length none);
-      begins = subst (BeginsWith bytes) (sym none) (λ rest left at. ap (λ (n : ℕ). entries_from (bytes ++ rest) [] 0 n) (let same : entry_limit ≡ left = omega (arith, at) in same));
+      begins = subst (HasTableFront bytes) (sym none) (λ rest left at. ap (λ (n : ℕ). entries_from (bytes ++ rest) [] 0 n) (let same : entry_limit ≡ left = omega (arith, at) in same));
       place = omega (arith, ap length none, all);
       rest = sym (drop_of_length-le bytes {i = 16 + 40 * length toc.entries} (omega (arith, ap length none, all)));
     }
@@ -125,7 +125,7 @@ after-bad-header (fault.Duplicate i) group bytes is whole header = absurd header
 after-bad-header (fault.Beyond i) group bytes is whole header = absurd header
 
 -- past the table no bytes are held back
-pub nothing-pending : (at : Stage) (toc : Toc) (pending other bytes : List ℕ) → (at ≡ Header → ⊥) → (at ≡ Table → ⊥) → HoldsAt at toc pending bytes → HoldsAt at toc other bytes
+pub nothing-pending : (at : Stage) (toc : Toc) (pending other bytes : List ℕ) → (at ≡ Header → ⊥) → (at ≡ Table → ⊥) → ReaderHoldsAt at toc pending bytes → ReaderHoldsAt at toc other bytes
 nothing-pending Header toc pending other bytes a b h = absurd (a refl)
 nothing-pending Table toc pending other bytes a b h = absurd (b refl)
 nothing-pending Whole toc pending other bytes a b h = h

@@ -7,7 +7,7 @@ use Rattle.base_core.specs.Bytes.{le}
 use Rattle.fwu_formats.specs.Package.{Entry, Part, fip_name, packed, packed_entries, payloads, table_bytes}
 use Rattle.fip_tables.specs.Packing.{AreOutlines, zeroed}
 use Rattle.std.specs.Prelude.{flat_map}
-use Rattle.fip_tables.specs.Frame.{AreSixteen, entry_bytes, last_end, marker, tabled, table_end}
+use Rattle.fip_tables.specs.Frame.{AreSixteen, toc_entry_bytes, last_end, marker, tabled, table_end}
 
 -- the first payloads are placed
 pub record IsPlanning (parts : List Part) (a : ℕ) (entries : List Entry) (end at : ℕ) : Type 0 where
@@ -37,8 +37,8 @@ next-le-last a end at parts d lt =
 -- the first entries are appended
 pub record HasAdded (before now : List ℕ) (entries : List Entry) (at : ℕ) : Type 0 where
   pub inside : at ≤ length entries
-  pub added : before ++ flat_map entry_bytes entries ≡ now ++ flat_map entry_bytes (drop at entries)
-  pub forty : length (flat_map entry_bytes entries) ≡ 40 * at + length (flat_map entry_bytes (drop at entries))
+  pub added : before ++ flat_map toc_entry_bytes entries ≡ now ++ flat_map toc_entry_bytes (drop at entries)
+  pub forty : length (flat_map toc_entry_bytes entries) ≡ 40 * at + length (flat_map toc_entry_bytes (drop at entries))
 
 -- four pieces, one after another
 pub appended : (v a b c d g o s f : List ℕ) → a ≡ v ++ g → b ≡ a ++ o → c ≡ b ++ s → d ≡ c ++ f → d ≡ v ++ (g ++ o ++ s ++ f)
@@ -48,21 +48,21 @@ appended v a b c d g o s f p q r t =
     ∙ ap (λ (x : List ℕ). v ++ x) (sym (append_assoc g o (s ++ f)) ∙ sym (append_assoc (g ++ o) s f))
 
 -- a header, entries and a marker, one after another
-pub tabled-bytes : (serial flags : ℕ) (entries : List Entry) (size : ℕ) (a b c : List ℕ) → a ≡ le 4 fip_name ++ le 4 serial ++ le 8 flags → b ≡ a ++ flat_map entry_bytes entries
-    → c ≡ b ++ entry_bytes (marker size) → c ≡ tabled serial flags entries size
+pub tabled-bytes : (serial flags : ℕ) (entries : List Entry) (size : ℕ) (a b c : List ℕ) → a ≡ le 4 fip_name ++ le 4 serial ++ le 8 flags → b ≡ a ++ flat_map toc_entry_bytes entries
+    → c ≡ b ++ toc_entry_bytes (marker size) → c ≡ tabled serial flags entries size
 tabled-bytes serial flags entries size a b c p q r =
-    r ∙ ap (λ (x : List ℕ). x ++ entry_bytes (marker size)) (q ∙ ap (λ (x : List ℕ). x ++ flat_map entry_bytes entries) p)
+    r ∙ ap (λ (x : List ℕ). x ++ toc_entry_bytes (marker size)) (q ∙ ap (λ (x : List ℕ). x ++ flat_map toc_entry_bytes entries) p)
 
 -- ---- the table of a package
 
-pub table-spelled : (a end : ℕ) (ps : List Part) → table_bytes a end ps ≡ flat_map entry_bytes (packed_entries a end ps) ++ entry_bytes (marker (last_end a end ps))
+pub table-spelled : (a end : ℕ) (ps : List Part) → table_bytes a end ps ≡ flat_map toc_entry_bytes (packed_entries a end ps) ++ toc_entry_bytes (marker (last_end a end ps))
 table-spelled a end [] = refl
 table-spelled a end (p ∷ ps) =
     let offset = next_multiple_of end a in
     let next = offset + length p.bytes in
     let e = p.guid ++ le 8 offset ++ le 8 (length p.bytes) ++ le 8 p.flags in
     ap (λ (x : List ℕ). e ++ x) (table-spelled a next ps)
-    ∙ sym (append_assoc e (flat_map entry_bytes (packed_entries a next ps)) (entry_bytes (marker (last_end a next ps))))
+    ∙ sym (append_assoc e (flat_map toc_entry_bytes (packed_entries a next ps)) (toc_entry_bytes (marker (last_end a next ps))))
 
 -- ---- the length of a package
 

@@ -32,12 +32,3 @@ longer_front front piece whole at a b =
 
 pub front_and_rest : (front whole : List ℕ) (at : ℕ) → front ≡ take at whole → front ++ drop at whole ≡ whole
 front_and_rest front whole at a = ap (λ (xs : List ℕ). xs ++ drop at whole) a ∙ take-append-drop at whole
-
--- a file of a known size has all of its range
-pub has_all : (told : Option Directory) (name : List ℕ) (size : ℕ) → TellsSize told name (Some size) → HasRange told name 0 size
-has_all None name size h = tt
-has_all (Some files) name size h = go (files name) h
-  where
-    go : (o : Option (List ℕ)) → Some size ≡ option_map length o → IsSomeAnd o (λ bytes. 0 + size ≤ length bytes)
-    go None e = absurd cc
-    go (Some bytes) e = let same : size ≡ length bytes = same_Some size (length bytes) e in omega (arith, same)

@@ -6,7 +6,7 @@ use Rattle.std.specs.List.{list_any, position_or_len, range_with_len}
 use Rattle.std.specs.Int.{next_multiple_of}
 use Rattle.base_core.specs.Bytes.{le, same_bytes}
 use Rattle.fwu_formats.specs.Package.{Entry, Part, entry_limit, fip_name, packed, packed_entries, payloads, table_bytes}
-use Rattle.fip_tables.specs.Packing.{first_of, first_repeat, is_alignment, is_nil, is_repeat, pack_fault, package_limit, part_at, parts_fault, zeroed}
+use Rattle.fip_tables.specs.Packing.{first_of, first_repeat, is_alignment, is_nil, is_repeat, pack_fault, package_limit, packed_part_at, parts_fault, zeroed}
 use Rattle.fip_tables.specs.declared.faults.PackFault.{PackFault}
 use Rattle.fip_tables.specs.declared.faults.PackFault.TheVariants as fault
 use Rattle.fip_tables.specs.Frame.{last_end, table_end}
@@ -44,7 +44,7 @@ same-types g (p ∷ ps) (suc k) = let e = same-types g ps k in cc
 same-repeat : (ps : List Part) (k : ℕ) → is_repeat (map zeroed ps) k ≡ is_repeat ps k
 same-repeat ps k =
     ap (λ (g : List ℕ). list_any (λ (p : Part). same_bytes g p.guid) (take k (map zeroed ps))) (same-type ps k (record { guid = []; flags = 0; bytes = [] }))
-    ∙ same-types (part_at ps k).guid ps k
+    ∙ same-types (packed_part_at ps k).guid ps k
 
 same-first-repeat : (ps : List Part) → first_repeat (map zeroed ps) ≡ first_repeat ps
 same-first-repeat ps =

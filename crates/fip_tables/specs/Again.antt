@@ -5,8 +5,8 @@ use Rattle.fwu_formats.specs.Package.{Part, Toc, packed, payload, toc_of}
 use Rattle.fip_tables.specs.Packing.{pack_fault}
 
 -- a type of sixteen bytes, and flags that have room in their field
-abbrev pub has_fields : Part → Bool
-has_fields p = (length p.guid == 16) && nat_lt p.flags 18446744073709551616
+abbrev pub part_has_fields : Part → Bool
+part_has_fields p = (length p.guid == 16) && nat_lt p.flags 18446744073709551616
 
 -- The bytes are a package that is read as these parts: its table has the serial number, the flags, and in their order the parts'
 -- types and flags; and the payloads are their bytes.
@@ -19,5 +19,5 @@ ReadsAgain serial flags parts bytes =
 -- parts that have no fault, under a serial number that isn't zero, are read again as they were packed
 abbrev pub PassedIsRead : Type 0
 PassedIsRead =
-    (serial flags : ℕ) (parts : List Part) (a : ℕ) → pack_fault parts a ≡ None → IsTrue (list_all has_fields parts)
+    (serial flags : ℕ) (parts : List Part) (a : ℕ) → pack_fault parts a ≡ None → IsTrue (list_all part_has_fields parts)
     → 1 ≤ serial → serial < 4294967296 → flags < 18446744073709551616 → ReadsAgain serial flags parts (packed serial flags parts a)

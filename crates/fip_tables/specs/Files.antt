@@ -19,16 +19,16 @@ Lacks None name = ⊥
 Lacks (Some files) name = files name ≡ None
 
 -- what is answered is the table, or the first fault, unless the file could not be read
-abbrev pub IsAnswer : Result Toc TocStop → Result Toc FipFault → Type 0
-IsAnswer (Ok toc) answer = answer ≡ Ok toc
-IsAnswer (Err (Fault f)) answer = answer ≡ Err f
-IsAnswer (Err ReadFailed) answer = Unit {0}
+abbrev pub IsTocAnswer : Result Toc TocStop → Result Toc FipFault → Type 0
+IsTocAnswer (Ok toc) answer = answer ≡ Ok toc
+IsTocAnswer (Err (Fault f)) answer = answer ≡ Err f
+IsTocAnswer (Err ReadFailed) answer = Unit {0}
 
 -- Some bytes have this answer: so a table that is read is one of a package, whatever file gave it.
 pub record IsOfSome (result : Result Toc TocStop) : Type 0 where
   pub bytes : List ℕ
   pub short : length bytes < 2 ^ 64
-  pub answer : IsAnswer result (toc_of bytes)
+  pub answer : IsTocAnswer result (toc_of bytes)
 
 -- a reading fails only where the files' faults rose, by one at most, or told files lack the name
 pub record HasReadCause {T : Type 0} (told : Option Directory) (name : List ℕ) (before now : ℕ)
@@ -40,7 +40,7 @@ pub record HasReadCause {T : Type 0} (told : Option Directory) (name : List ℕ)
   pub failed : result ≡ Err ReadFailed → Rose before now ⊎ Lacks told name
 
 -- the fault is the first one of the file's bytes where they are told, and of some bytes in any case
-pub record IsFault (told : Option Directory) (name : List ℕ) (f : FipFault) : Type 0 where
+pub record IsTableFault (told : Option Directory) (name : List ℕ) (f : FipFault) : Type 0 where
   pub bytes : List ℕ
   pub short : length bytes < 2 ^ 64
   pub first : toc_of bytes ≡ Err f

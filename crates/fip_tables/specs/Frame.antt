@@ -18,8 +18,8 @@ last_end a end [] = next_multiple_of end a
 last_end a end (p ∷ ps) = last_end a (next_multiple_of end a + length p.bytes) ps
 
 -- the forty bytes of an entry
-abbrev pub entry_bytes : Entry → List ℕ
-entry_bytes e = e.guid ++ le 8 e.offset ++ le 8 e.size ++ le 8 e.flags
+abbrev pub toc_entry_bytes : Entry → List ℕ
+toc_entry_bytes e = e.guid ++ le 8 e.offset ++ le 8 e.size ++ le 8 e.flags
 
 abbrev pub marker : ℕ → Entry
 marker size = record { guid = nil_guid; offset = size; size = 0; flags = 0 }
@@ -27,7 +27,7 @@ marker size = record { guid = nil_guid; offset = size; size = 0; flags = 0 }
 -- a header, entries, and their marker
 abbrev pub tabled : ℕ → ℕ → List Entry → ℕ → List ℕ
 tabled serial flags entries size =
-    le 4 fip_name ++ le 4 serial ++ le 8 flags ++ flat_map entry_bytes entries ++ entry_bytes (marker size)
+    le 4 fip_name ++ le 4 serial ++ le 8 flags ++ flat_map toc_entry_bytes entries ++ toc_entry_bytes (marker size)
 
 -- bytes that are cut, or go on with zeros, to be so many
 abbrev pub up_to : ℕ → List ℕ → List ℕ

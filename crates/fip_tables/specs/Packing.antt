@@ -10,12 +10,12 @@ use Rattle.fip_tables.specs.declared.faults.PackStop.{PackStop}
 use Rattle.fip_tables.specs.declared.faults.PackStop.TheVariants.{Fault}
 use Rattle.fip_tables.specs.declared.faults.PackFault.TheVariants.{TooMany, Duplicate, NilGuid, BadAlign, TooLarge}
 
-abbrev pub part_at : List Part → ℕ → Part
-part_at parts i = slice_index_or parts i (record { guid = []; flags = 0; bytes = [] })
+abbrev pub packed_part_at : List Part → ℕ → Part
+packed_part_at parts i = slice_index_or parts i (record { guid = []; flags = 0; bytes = [] })
 
 -- an earlier part has its type
 abbrev pub is_repeat : List Part → ℕ → Bool
-is_repeat parts i = list_any (λ p. same_bytes (part_at parts i).guid p.guid) (take i parts)
+is_repeat parts i = list_any (λ p. same_bytes (packed_part_at parts i).guid p.guid) (take i parts)
 
 abbrev pub first_repeat : List Part → Option ℕ
 first_repeat parts = position (is_repeat parts) (range_with_len 0 (length parts))
@@ -61,7 +61,7 @@ pub record IsOutline (p : Part) : Type 0 where
   pub blank : p.bytes ≡ replicate (length p.bytes) 0
 
 abbrev pub AreOutlines : List Part → Type 0
-AreOutlines parts = (i : ℕ) → i < length parts → IsOutline (part_at parts i)
+AreOutlines parts = (i : ℕ) → i < length parts → IsOutline (packed_part_at parts i)
 
 -- no fault that parts have whatever is made of them
 pub record HasNoFault (parts : List Part) : Type 0 where

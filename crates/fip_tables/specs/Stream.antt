@@ -26,8 +26,8 @@ pub record HasHeader (bytes : List ℕ) (toc : Toc) : Type 0 where
   pub flags : toc.flags ≡ num_at 8 bytes 8
 
 -- whatever follows the bytes, its table begins with these entries
-abbrev pub BeginsWith : List ℕ → List Entry → Type 0
-BeginsWith bytes front =
+abbrev pub HasTableFront : List ℕ → List Entry → Type 0
+HasTableFront bytes front =
     (rest : List ℕ) (left : ℕ) → length front + left ≡ entry_limit
     → entries_from (bytes ++ rest) [] 0 entry_limit ≡ entries_from (bytes ++ rest) front (length front) left
 
@@ -35,7 +35,7 @@ BeginsWith bytes front =
 pub record IsAmongEntries (toc : Toc) (pending bytes : List ℕ) : Type 0 where
   pub header : HasHeader bytes toc
   pub few : length toc.entries ≤ entry_limit
-  pub begins : BeginsWith bytes toc.entries
+  pub begins : HasTableFront bytes toc.entries
   pub place : 16 + 40 * length toc.entries ≤ length bytes
   pub rest : pending ≡ drop (16 + 40 * length toc.entries) bytes
 
@@ -50,14 +50,14 @@ pub record HasLastingFault (fault : FipFault) (bytes : List ℕ) : Type 0 where
   pub lasts : lasting fault ≡ Err fault
 
 -- what the reader holds, by how far it is
-abbrev pub HoldsAt : Stage → Toc → List ℕ → List ℕ → Type 0
-HoldsAt Header toc pending bytes = (pending ≡ bytes) × (toc.entries ≡ [])
-HoldsAt Table toc pending bytes = IsAmongEntries toc pending bytes
-HoldsAt Whole toc pending bytes = IsPastMarker toc bytes
-HoldsAt (Faulty f) toc pending bytes = HasLastingFault f bytes
+abbrev pub ReaderHoldsAt : Stage → Toc → List ℕ → List ℕ → Type 0
+ReaderHoldsAt Header toc pending bytes = (pending ≡ bytes) × (toc.entries ≡ [])
+ReaderHoldsAt Table toc pending bytes = IsAmongEntries toc pending bytes
+ReaderHoldsAt Whole toc pending bytes = IsPastMarker toc bytes
+ReaderHoldsAt (Faulty f) toc pending bytes = HasLastingFault f bytes
 
-abbrev pub Holds : Reader → List ℕ → Type 0
-Holds r bytes = HoldsAt r.stage r.toc r.pending bytes
+abbrev pub ReaderHolds : Reader → List ℕ → Type 0
+ReaderHolds r bytes = ReaderHoldsAt r.stage r.toc r.pending bytes
 
 -- a group is what is read at once: the header's 16 bytes, or the 40 of an entry
 abbrev pub group_size : Stage → ℕ
@@ -70,8 +70,8 @@ abbrev pub IsGroup : Stage → List ℕ → Type 0
 IsGroup at bytes = length bytes ≡ group_size at
 
 -- no whole group is held back
-abbrev pub IsPartial : Reader → Type 0
-IsPartial r = length r.pending < group_size r.stage
+abbrev pub HoldsPartOfGroup : Reader → Type 0
+HoldsPartOfGroup r = length r.pending < group_size r.stage
 
 -- more of the table is to be read
 abbrev pub ReadsOn : Stage → Type 0
@@ -88,10 +88,10 @@ met Whole = Ok tt
 met (Faulty f) = Err f
 
 -- the end marker was fed, and no fault before it
-abbrev pub IsWhole : Stream → Type 0
-IsWhole s = s.reader.stage ≡ Whole
+abbrev pub IsWholeStream : Stream → Type 0
+IsWholeStream s = s.reader.stage ≡ Whole
 
 -- The stream was given these bytes. Of those that it was told to skip nothing but their number counts.
 pub record Fed (s : Stream) (bytes : List ℕ) : Type 0 where
   pub count : s.count ≡ length bytes
-  pub holds : Holds s.reader bytes
+  pub holds : ReaderHolds s.reader bytes

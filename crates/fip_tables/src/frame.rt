@@ -7,7 +7,7 @@ ghost use Rattle.host_io.specs.Joined.{joined};
 ghost use Rattle.fip_tables.specs.Packing.{IsByFault, pack_fault};
 ghost use Rattle.fip_tables.specs.declared.faults.PackFault.{PackFault};
 ghost use Rattle.fip_tables.specs.declared.faults.PackStop.TheVariants as stop;
-ghost use Rattle.fip_tables.specs.Frame.{AreInOrder, IsFrame, chunks, entry_bytes, gaps_from, last_end, sizes_of, table_end, tabled};
+ghost use Rattle.fip_tables.specs.Frame.{AreInOrder, IsFrame, chunks, toc_entry_bytes, gaps_from, last_end, sizes_of, table_end, tabled};
 
 use crate::entries::{Entries, Entry};
 use crate::faults::{PackFault, PackStop};
@@ -63,8 +63,8 @@ fn places_of(parts: &[Outline], align: u64) -> Result<Places, PackFault>
 // Appends the forty bytes of an entry.
 #[tactic(auto, using(base_core::proofs::Spelled::eight_spelled))]
 fn add_entry(bytes: &mut Vec<u8>, entry: &Entry) -> Result<(), AllocError>
-    ensures added { OnOk result (bytes.new.items ≡ bytes.old.items ++ entry_bytes entry.now) }
-    ensures forty { length (entry_bytes entry.now) ≡ 40 }
+    ensures added { OnOk result (bytes.new.items ≡ bytes.old.items ++ toc_entry_bytes entry.now) }
+    ensures forty { length (toc_entry_bytes entry.now) ≡ 40 }
 {
     bytes.extend_from_slice(entry.guid.bytes())?;
     bytes.extend_from_slice(&entry.offset.to_le_bytes())?;
@@ -75,8 +75,8 @@ fn add_entry(bytes: &mut Vec<u8>, entry: &Entry) -> Result<(), AllocError>
 
 // Appends all entries.
 fn add_entries(bytes: &mut Vec<u8>, entries: &[Entry]) -> Result<(), AllocError>
-    ensures added { OnOk result (bytes.new.items ≡ bytes.old.items ++ flat_map entry_bytes entries.now) }
-    ensures forty { OnOk result (length (flat_map entry_bytes entries.now) ≡ 40 * length entries.now) }
+    ensures added { OnOk result (bytes.new.items ≡ bytes.old.items ++ flat_map toc_entry_bytes entries.now) }
+    ensures forty { OnOk result (length (flat_map toc_entry_bytes entries.now) ≡ 40 * length entries.now) }
 {
     for entry in entries {
         add_entry(bytes, entry)?;

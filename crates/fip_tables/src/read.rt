@@ -6,7 +6,7 @@ ghost use Rattle.host_io.specs.Contents.{TellsSize};
 ghost use Rattle.host_io.specs.Reads.{ReadsFile};
 ghost use Rattle.fwu_formats.specs.Package.{payload, toc_of};
 ghost use Rattle.fwu_formats.specs.declared.kinds.FipFault.{FipFault};
-ghost use Rattle.fip_tables.specs.Files.{HasFed, HasFedAll, HasReadCause, IsAnswer, IsFault, IsOfSome, Lacks, Tells};
+ghost use Rattle.fip_tables.specs.Files.{HasFed, HasFedAll, HasReadCause, IsTocAnswer, IsTableFault, IsOfSome, Lacks, Tells};
 ghost use Rattle.fip_tables.specs.declared.toc.TocStop.TheVariants as stop;
 
 use crate::entries::Entry;
@@ -34,7 +34,7 @@ fn feed_next<H: Files>(
     requires fed { HasFed (H.contents files.old) name.now stream.old at }
     ensures some { IfOk result (λ count. (0 < count) × (at + count ≤ size)) }
     ensures fed { IfOk result (λ count. HasFed (H.contents files.old) name.now stream.new (at + count)) }
-    ensures fault { (f : FipFault) → result ≡ Err (stop.Fault f) → IsFault (H.contents files.old) name.now f }
+    ensures fault { (f : FipFault) → result ≡ Err (stop.Fault f) → IsTableFault (H.contents files.old) name.now f }
     ensures reads { ReadsFile H.Files name.now files.old files.new }
     ensures cause { HasReadCause (H.contents files.old) name.now (H.faults files.old) (H.faults files.new) result }
 {
@@ -55,7 +55,7 @@ fn feed_next<H: Files>(
 fn feed_table<H: Files>(files: &mut H, name: &str, size: u64) -> Result<StreamToc, TocStop>
     requires known { TellsSize (H.contents files.old) name.now (Some size) }
     ensures fed { IfOk result (λ stream. HasFedAll (H.contents files.old) name.now stream size) }
-    ensures fault { (f : FipFault) → result ≡ Err (stop.Fault f) → IsFault (H.contents files.old) name.now f }
+    ensures fault { (f : FipFault) → result ≡ Err (stop.Fault f) → IsTableFault (H.contents files.old) name.now f }
     ensures reads { ReadsFile H.Files name.now files.old files.new }
     ensures cause { HasReadCause (H.contents files.old) name.now (H.faults files.old) (H.faults files.new) result }
 {
@@ -75,7 +75,7 @@ fn feed_table<H: Files>(files: &mut H, name: &str, size: u64) -> Result<StreamTo
 /// alone, a group at a time, and takes no memory.
 pub fn read_toc<H: Files>(files: &mut H, name: &str) -> Result<Toc, TocStop>
     // Where the file's bytes are told, it is their table or their first fault.
-    ensures told { (bytes : List ℕ) → Tells (H.contents files.old) name.now bytes → IsAnswer result (toc_of bytes) }
+    ensures told { (bytes : List ℕ) → Tells (H.contents files.old) name.now bytes → IsTocAnswer result (toc_of bytes) }
     // Whatever file it is, the answer is that of some bytes. So a table has entries that end below 2 ^ 64, of different types.
     ensures some { IsOfSome result }
     ensures missing { Lacks (H.contents files.old) name.now → result ≡ Err stop.ReadFailed }

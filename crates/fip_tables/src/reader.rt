@@ -3,7 +3,7 @@
 ghost use Rattle.std.specs.Prelude.{◌≡◌, ◌≢◌, ◌+◌, ◌*◌, ◌<◌, ◌≤◌, ◌^◌, ◌++◌, ℕ, List, [], Option, IsTrue, IsNone, OnOk, ◌↔◌, length, take, position, MatchResult, Ok, Err};
 ghost use Rattle.fwu_formats.specs.Package.{is_beyond, toc_of, within};
 ghost use Rattle.fip_tables.specs.Decoded.{IsHeaderOf};
-ghost use Rattle.fip_tables.specs.Stream.{HoldsAt, IsGroup};
+ghost use Rattle.fip_tables.specs.Stream.{ReaderHoldsAt, IsGroup};
 ghost use Rattle.fip_tables.specs.declared.reader.Stage.TheVariants as stage;
 
 use crate::entries::{Entries, Entry};
@@ -63,7 +63,7 @@ fn header_in(group: &[u8]) -> Result<(u32, u64), FipFault>
 // Takes in the bytes of the header, and says how far the table is then.
 fn take_header(toc: &mut Toc, group: &[u8]) -> Stage
     requires { length group.now ≡ 16 }
-    ensures { (bytes : List ℕ) → HoldsAt stage.Header toc.old group.now bytes → HoldsAt result toc.new [] bytes }
+    ensures { (bytes : List ℕ) → ReaderHoldsAt stage.Header toc.old group.now bytes → ReaderHoldsAt result toc.new [] bytes }
 {
     match header_in(group) {
         Ok((serial, flags)) => {
@@ -78,7 +78,7 @@ fn take_header(toc: &mut Toc, group: &[u8]) -> Stage
 // Takes in the bytes of an entry, and says how far the table is then.
 fn take_entry(toc: &mut Toc, group: &[u8]) -> Stage
     requires { length group.now ≡ 40 }
-    ensures { (bytes : List ℕ) → HoldsAt stage.Table toc.old group.now bytes → HoldsAt result toc.new [] bytes }
+    ensures { (bytes : List ℕ) → ReaderHoldsAt stage.Table toc.old group.now bytes → ReaderHoldsAt result toc.new [] bytes }
 {
     let entry = Entry::at(group, 0);
     let count = toc.entries.len();
@@ -115,11 +115,11 @@ fn check_ends(toc: &Toc, size: u64) -> Result<(), FipFault>
 }
 
 impl TableReader {
-    ghost use Rattle.fip_tables.specs.Stream.{Holds, IsPartial, ReadsOn, group_size, met};
+    ghost use Rattle.fip_tables.specs.Stream.{ReaderHolds, HoldsPartOfGroup, ReadsOn, group_size, met};
 
     pub fn new() -> TableReader
-        ensures partial { IsPartial result }
-        ensures holds { Holds result [] }
+        ensures partial { HoldsPartOfGroup result }
+        ensures holds { ReaderHolds result [] }
     {
         TableReader {
             stage: Stage::Header,
@@ -135,9 +135,9 @@ impl TableReader {
 
     // Reads on in the table, as far as it and the piece go.
     pub fn read_on(&mut self, piece: &[u8])
-        requires { IsPartial self.old }
-        ensures partial { IsPartial self.new }
-        ensures holds { (bytes : List ℕ) → Holds self.old bytes → Holds self.new (bytes ++ piece.now) }
+        requires { HoldsPartOfGroup self.old }
+        ensures partial { HoldsPartOfGroup self.new }
+        ensures holds { (bytes : List ℕ) → ReaderHolds self.old bytes → ReaderHolds self.new (bytes ++ piece.now) }
     {
         let mut at = 0;
         while at < piece.len() && self.reads_on() {
@@ -149,7 +149,7 @@ impl TableReader {
     fn take_group(&mut self)
         requires { IsGroup self.old.stage self.old.pending }
         ensures empty { self.new.pending ≡ [] }
-        ensures holds { (bytes : List ℕ) → Holds self.old bytes → Holds self.new bytes }
+        ensures holds { (bytes : List ℕ) → ReaderHolds self.old bytes → ReaderHolds self.new bytes }
     {
         let group = &self.group[..self.held];
         match self.stage {
@@ -180,11 +180,11 @@ impl TableReader {
     // Takes in some of the bytes, at most to the end of a group, and says how many.
     fn take_some(&mut self, rest: &[u8]) -> usize
         requires some { 0 < length rest.now }
-        requires partial { IsPartial self.old }
+        requires partial { HoldsPartOfGroup self.old }
         requires reads { ReadsOn self.old.stage }
         ensures some { (0 < result) × (result ≤ length rest.now) }
-        ensures partial { IsPartial self.new }
-        ensures holds { (bytes : List ℕ) → Holds self.old bytes → Holds self.new (bytes ++ take result rest.now) }
+        ensures partial { HoldsPartOfGroup self.new }
+        ensures holds { (bytes : List ℕ) → ReaderHolds self.old bytes → ReaderHolds self.new (bytes ++ take result rest.now) }
     {
         let wanted = self.wanted();
         let taken = rest.len().min(wanted - self.held);
@@ -225,8 +225,8 @@ impl TableReader {
 
     // The first fault of a package of so many bytes. Where there is none, its table is the one so far.
     fn check(&self, size: u64) -> Result<(), FipFault>
-        requires { IsPartial self.now }
-        ensures { (bytes : List ℕ) → size ≡ length bytes → Holds self.now bytes
+        requires { HoldsPartOfGroup self.now }
+        ensures { (bytes : List ℕ) → size ≡ length bytes → ReaderHolds self.now bytes
             → MatchResult result (λ _. toc_of bytes ≡ Ok self.now.toc) (λ fault. toc_of bytes ≡ Err fault) }
     {
         match self.stage {
@@ -239,8 +239,8 @@ impl TableReader {
 
     // The table of a package of so many bytes, or the fault.
     pub fn toc(&self, size: u64) -> Result<&Toc, FipFault>
-        requires { IsPartial self.now }
-        ensures { (bytes : List ℕ) → size ≡ length bytes → Holds self.now bytes
+        requires { HoldsPartOfGroup self.now }
+        ensures { (bytes : List ℕ) → size ≡ length bytes → ReaderHolds self.now bytes
             → MatchResult result (λ toc. toc_of bytes ≡ Ok toc.now) (λ fault. toc_of bytes ≡ Err fault) }
     {
         self.check(size)?;
@@ -249,8 +249,8 @@ impl TableReader {
 
     // The same, with the table itself.
     pub fn end(self, size: u64) -> Result<Toc, FipFault>
-        requires { IsPartial self }
-        ensures { (bytes : List ℕ) → size ≡ length bytes → Holds self bytes → result ≡ toc_of bytes }
+        requires { HoldsPartOfGroup self }
+        ensures { (bytes : List ℕ) → size ≡ length bytes → ReaderHolds self bytes → result ≡ toc_of bytes }
     {
         self.check(size)?;
         let TableReader {

@@ -18,17 +18,17 @@ pub struct StreamToc {
 }
 
 impl Model for StreamToc {
-    ghost use Rattle.fip_tables.specs.Stream.{IsPartial, Stream};
+    ghost use Rattle.fip_tables.specs.Stream.{HoldsPartOfGroup, Stream};
 
     ghost Value = { Stream };
 
     ghost view = { λ s. record { reader = s.reader; count = s.count } };
 
-    ghost invariant = { λ s. IsPartial s.reader };
+    ghost invariant = { λ s. HoldsPartOfGroup s.reader };
 }
 
 impl StreamToc {
-    ghost use Rattle.fip_tables.specs.Stream.{Fed, IsWhole};
+    ghost use Rattle.fip_tables.specs.Stream.{Fed, IsWholeStream};
 
     /// A reader that was given nothing yet.
     pub fn new() -> StreamToc
@@ -55,10 +55,10 @@ impl StreamToc {
 
     /// Counts bytes behind the table that are not fed, whatever they are.
     pub fn skip(&mut self, n: u64)
-        requires whole { IsWhole self.old }
+        requires whole { IsWholeStream self.old }
         requires room { self.old.count + n < 2 ^ 64 }
         ensures fed { (bytes gap : List ℕ) → Fed self.old bytes → length gap ≡ n → Fed self.new (bytes ++ gap) }
-        ensures whole { IsWhole self.new }
+        ensures whole { IsWholeStream self.new }
         ensures count { self.new.count ≡ self.old.count + n }
     {
         self.count += n;
@@ -66,7 +66,7 @@ impl StreamToc {
 
     /// Whether the end marker was fed, and no fault before it.
     pub fn is_whole(&self) -> bool
-        ensures seen { IsTrue result ↔ IsWhole self.now }
+        ensures seen { IsTrue result ↔ IsWholeStream self.now }
         ensures bytes { (bytes : List ℕ) → Fed self.now bytes → result ≡ has_marker (toc_of bytes) }
     {
         self.reader.is_whole()

@@ -10,22 +10,22 @@ use Rattle.host_io.specs.Contents.{Directory}
 use Rattle.fwu_formats.specs.Package.{Entry, Part, Toc, entry_at, packed, payload, toc_of}
 use Rattle.fwu_formats.specs.declared.kinds.FipFault.{FipFault}
 use Rattle.fwu_formats.proofs.Tables.{table-of}
-use Rattle.fip_tables.specs.Again.{has_fields}
+use Rattle.fip_tables.specs.Again.{part_has_fields}
 use Rattle.fip_tables.specs.Files.{Tells}
 use Rattle.fip_tables.specs.Frame.{AreSixteen}
 use Rattle.fip_tables.specs.Packing.{pack_fault}
 use Rattle.fip_tables.specs.declared.faults.PackFault.{PackFault}
 use Rattle.fip_tables.proofs.Again.{passed-is-read}
 use Rattle.fwu_formats.specs.Capsule.{capsule_of}
-use Rattle.capsule_tables.specs.Making.{IsMadeOf, capsule_bytes, make_fault}
+use Rattle.capsule_tables.specs.Making.{IsCapsuleOf, capsule_bytes, make_fault}
 use Rattle.fwu_formats.specs.declared.kinds.CapsuleFault.{CapsuleFault}
 use Rattle.capsule_tables.proofs.ReadAgain.{made-is-read}
 use Rattle.capsule_tables.proofs.Within.{is-read, no-flags, types-sixteen}
-use Rattle.fip_words.specs.Order.{Asked, info, info_of_source, create, update, remove, unpack, manifest, capsule, repackage}
+use Rattle.fip_words.specs.Order.{FipAsked, info, info_of_source, create, update, remove, unpack, manifest, capsule, repackage}
 use Rattle.fip_tool.specs.Converted.{Converts, IsEnclosed, IsPackaged}
 use Rattle.fip_making.specs.Stops.{status_number}
-use Rattle.fip_tool.specs.Steps.{Are, Did, Makes, Refuses, Step, outcome_by, with_file, written}
-use Rattle.fip_making.specs.Values.{after, capsule_table, capsule_value, enclose_value, kept_part, pack_value, repackage_value, table_of, there, unless_fault}
+use Rattle.fip_tool.specs.Steps.{Are, Did, Makes, Refuses, CommandStep, outcome_by, with_file, written}
+use Rattle.fip_making.specs.Values.{after, capsule_table, capsule_value, enclose_value, kept_part, pack_value, repackage_value, table_or_stop, there, unless_fault}
 use Rattle.fip_tool.specs.Tool.{encloses, outcome_of, packs}
 use Rattle.fip_making.specs.declared.stops.Stop.{Stop}
 use Rattle.fip_making.specs.declared.stops.Stop.TheVariants as stop
@@ -41,10 +41,10 @@ sixteen-parts : (bytes : List ℕ) (es : List Entry) → All (λ e. length e.gui
 sixteen-parts bytes [] all = tt
 sixteen-parts bytes (e ∷ es) all = (all 0 e (omega arith), sixteen-parts bytes es (λ k d lt. all (suc k) d (omega (arith, lt))))
 
-fields-parts : (bytes : List ℕ) (es : List Entry) → All (λ e. length e.guid ≡ 16) es → All (λ e. e.flags ≡ 0) es → IsTrue (list_all has_fields (map (kept_part bytes) es))
+fields-parts : (bytes : List ℕ) (es : List Entry) → All (λ e. length e.guid ≡ 16) es → All (λ e. e.flags ≡ 0) es → IsTrue (list_all part_has_fields (map (kept_part bytes) es))
 fields-parts bytes [] long none = refl
 fields-parts bytes (e ∷ es) long none =
-    and_from (has_fields (kept_part bytes e)) (list_all has_fields (map (kept_part bytes) es))
+    and_from (part_has_fields (kept_part bytes e)) (list_all part_has_fields (map (kept_part bytes) es))
     (and_from (length e.guid == 16) (ltb e.flags 18446744073709551616) (eq-eqb (length e.guid) 16 (long 0 e (omega arith)))
     (let low : e.flags ≡ 0 = none 0 e (omega arith) in ap (λ (n : ℕ). ltb n 18446744073709551616) low))
     (fields-parts bytes es (λ k d lt. long (suc k) d (omega (arith, lt))) (λ k d lt. none (suc k) d (omega (arith, lt))))
@@ -70,7 +70,7 @@ file-there out bytes files (Some d) are =
     are out ∙ rw same refl
 
 -- a command that was done has a value
-done-has : {X : Type 0} (steps : X → List Step) (r : Result X Stop) (files : Directory) (now : Option Directory) (was text : Option (List ℕ)) (rose spoiled sink-rose : Type 0)
+done-has : {X : Type 0} (steps : X → List CommandStep) (r : Result X Stop) (files : Directory) (now : Option Directory) (was text : Option (List ℕ)) (rose spoiled sink-rose : Type 0)
     → Did (outcome_by steps r) files now was text rose spoiled sink-rose (Ok tt) → (x : X) × (r ≡ Ok x) × Are now (written (steps x) files)
 done-has steps (Ok x) files now was text rose spoiled sink-rose d = (x, refl, d.1)
 done-has steps (Err s) files now was text rose spoiled sink-rose d = let no : Refuses s ≡ Makes [] = d.0 in cc
@@ -96,7 +96,7 @@ capsule-kept files now from out made value are = by-file (files from) refl value
     kept bytes toc is table h =
         let parts = map (kept_part bytes) toc.entries in
         let two = enclosed-is parts made h in
-        let read : IsMadeOf parts (capsule_bytes parts) = made-is-read parts two.0 (sixteen-parts bytes toc.entries (package-sixteen bytes toc table)) in
+        let read : IsCapsuleOf parts (capsule_bytes parts) = made-is-read parts two.0 (sixteen-parts bytes toc.entries (package-sixteen bytes toc table)) in
         let there : Tells now out (capsule_bytes parts) = subst (λ (l : List ℕ). Tells now out l) two.1 (file-there out made.1 files now are) in
         record {
           old = bytes;
@@ -111,11 +111,11 @@ capsule-kept files now from out made value are = by-file (files from) refl value
           };
         }
 
-    by-table : (bytes : List ℕ) (r : Result Toc FipFault) → files from ≡ Some bytes → toc_of bytes ≡ r → after (after (table_of r) (λ t. Ok (bytes, t))) enclosed_by ≡ Ok made → IsEnclosed files now from out
+    by-table : (bytes : List ℕ) (r : Result Toc FipFault) → files from ≡ Some bytes → toc_of bytes ≡ r → after (after (table_or_stop r) (λ t. Ok (bytes, t))) enclosed_by ≡ Ok made → IsEnclosed files now from out
     by-table bytes (Err f) is table h = cc
     by-table bytes (Ok toc) is table h = kept bytes toc is table h
 
-    by-file : (o : Option (List ℕ)) → files from ≡ o → after (after (there o) (λ bytes. after (table_of (toc_of bytes)) (λ t. Ok (bytes, t)))) enclosed_by ≡ Ok made → IsEnclosed files now from out
+    by-file : (o : Option (List ℕ)) → files from ≡ o → after (after (there o) (λ bytes. after (table_or_stop (toc_of bytes)) (λ t. Ok (bytes, t)))) enclosed_by ≡ Ok made → IsEnclosed files now from out
     by-file None is h = cc
     by-file (Some bytes) is h = by-table bytes (toc_of bytes) is refl h
 
@@ -169,7 +169,7 @@ package-kept files now a from out made value are = by-file (files from) refl val
 
 -- ---- by the words
 
-pub converted : (a : Option Asked) (files : Directory) (now : Option Directory) (was text : Option (List ℕ)) (rose spoiled sink-rose : Type 0)
+pub converted : (a : Option FipAsked) (files : Directory) (now : Option Directory) (was text : Option (List ℕ)) (rose spoiled sink-rose : Type 0)
     → (a ≢ Some info_of_source → Did (outcome_of a files) files now was text rose spoiled sink-rose (Ok tt)) → Converts a files now
 converted None files now was text rose spoiled sink-rose h = tt
 converted (Some (capsule from out)) files now was text rose spoiled sink-rose h =

@@ -3,7 +3,7 @@ use Rattle.std.proofs.Common.{◌≡◌, ◌⊎◌, inl, inr, ℕ, List, [], ◌
 use Rattle.std.specs.Io.KnownBytes.{Appends}
 use Rattle.std.proofs.KnownBytes.{Appends-nil}
 use Rattle.host_io.specs.Contents.{Directory}
-use Rattle.fip_tool.specs.Steps.{Outcome, Makes, Refuses, Step, Writes, Prints, Are, AreUpTo, StandAfter, Did, Printed, outcome_by}
+use Rattle.fip_tool.specs.Steps.{CommandPlan, Makes, Refuses, CommandStep, Writes, Prints, Are, AreUpTo, StandAfter, Did, PrintedText, outcome_by}
 use Rattle.fip_making.specs.Answers.{Gives}
 use Rattle.fip_tool.specs.Tool.{prints}
 use Rattle.fip_making.specs.declared.stops.Stop.{Stop}
@@ -13,7 +13,7 @@ pub are-told : (files : Directory) (now : Option Directory) → now ≡ Some fil
 are-told files None e = cc
 are-told files (Some now) e = λ name. let same : now ≡ files = cc in ap (λ (d : Directory). d name) same
 
-pub are-up-to : (steps : List Step) (now : Option Directory) (files : Directory) → Are now files → AreUpTo steps now files
+pub are-up-to : (steps : List CommandStep) (now : Option Directory) (files : Directory) → Are now files → AreUpTo steps now files
 are-up-to [] now files h = h
 are-up-to (Prints text ∷ steps) now files h = h
 are-up-to (Writes name bytes ∷ steps) None files h = absurd h
@@ -23,7 +23,7 @@ pub appends-none : (was text : Option (List ℕ)) → text ≡ was → Appends w
 appends-none was text e = subst (λ (t : Option (List ℕ)). Appends was t []) (sym e) (Appends-nil was)
 
 -- a part that stopped before anything was done
-pub refused : {A X : Type 0} (steps : X → List Step) (view : A → X) (value : Result X Stop) (files : Directory) (now : Option Directory) (was text : Option (List ℕ))
+pub refused : {A X : Type 0} (steps : X → List CommandStep) (view : A → X) (value : Result X Stop) (files : Directory) (now : Option Directory) (was text : Option (List ℕ))
     (files-rose spoiled sink-rose : Type 0) (s : Stop) → Gives view files-rose value (Err s) → now ≡ Some files → text ≡ was
     → Did (outcome_by steps value) files now was text files-rose spoiled sink-rose (Err s)
 refused steps view value files now was text files-rose spoiled sink-rose stop.Usage g e t = (ap (outcome_by steps) g, are-told files now e, appends-none was text t)
@@ -42,7 +42,7 @@ refused steps view value files now was text files-rose spoiled sink-rose stop.No
 
 -- a text that was made, and printed
 made : (piece : List ℕ) (files : Directory) (now : Option Directory) (was text : Option (List ℕ))
-    (files-rose spoiled sink-rose : Type 0) (r : Result (Unit {0}) Stop) → now ≡ Some files → Printed was text sink-rose piece r
+    (files-rose spoiled sink-rose : Type 0) (r : Result (Unit {0}) Stop) → now ≡ Some files → PrintedText was text sink-rose piece r
     → Did (Makes (prints piece)) files now was text files-rose spoiled sink-rose r
 made piece files now was text files-rose spoiled sink-rose (Ok u) e p =
     (refl, are-told files now e, subst (Appends was text) (sym (append-nil piece)) p)
@@ -59,13 +59,13 @@ made piece files now was text files-rose spoiled sink-rose (Err stop.TooLong) e 
 made piece files now was text files-rose spoiled sink-rose (Err (stop.NotCapsule f)) e p = absurd p
 
 pub printed-text : (value : Result (List ℕ) Stop) (piece : List ℕ) (files : Directory) (now : Option Directory) (was text : Option (List ℕ))
-    (files-rose spoiled sink-rose : Type 0) (r : Result (Unit {0}) Stop) → value ≡ Ok piece → now ≡ Some files → Printed was text sink-rose piece r
+    (files-rose spoiled sink-rose : Type 0) (r : Result (Unit {0}) Stop) → value ≡ Ok piece → now ≡ Some files → PrintedText was text sink-rose piece r
     → Did (outcome_by prints value) files now was text files-rose spoiled sink-rose r
 printed-text value piece files now was text files-rose spoiled sink-rose r v e p =
-    subst (λ (o : Outcome). Did o files now was text files-rose spoiled sink-rose r) (sym (ap (outcome_by prints) v)) (made piece files now was text files-rose spoiled sink-rose r e p)
+    subst (λ (o : CommandPlan). Did o files now was text files-rose spoiled sink-rose r) (sym (ap (outcome_by prints) v)) (made piece files now was text files-rose spoiled sink-rose r e p)
 
 -- a file that failed in a part of a command failed in the whole
-pub did-later : (outcome : Outcome) (files : Directory) (now : Option Directory) (was text : Option (List ℕ)) (rose late spoiled spoiled-late sink-rose : Type 0) (r : Result (Unit {0}) Stop) → (rose → late) → (spoiled → spoiled-late)
+pub did-later : (outcome : CommandPlan) (files : Directory) (now : Option Directory) (was text : Option (List ℕ)) (rose late spoiled spoiled-late sink-rose : Type 0) (r : Result (Unit {0}) Stop) → (rose → late) → (spoiled → spoiled-late)
     → Did outcome files now was text rose spoiled sink-rose r → Did outcome files now was text late spoiled-late sink-rose r
 did-later outcome files now was text rose late spoiled spoiled-late sink-rose (Ok u) rises spoils d = d
 did-later outcome files now was text rose late spoiled spoiled-late sink-rose (Err stop.FileFault) rises spoils d = (cause d.0, d.1, stand d.1 d.2, d.3)
@@ -88,14 +88,14 @@ did-later outcome files now was text rose late spoiled spoiled-late sink-rose (E
 did-later outcome files now was text rose late spoiled spoiled-late sink-rose (Err (stop.NotCapsule f)) rises spoils d = d
 
 -- want of memory before anything was done
-pub no-memory-yet : (outcome : Outcome) (files : Directory) (now : Option Directory) (was text : Option (List ℕ)) (files-rose spoiled sink-rose : Type 0) → now ≡ Some files → text ≡ was
+pub no-memory-yet : (outcome : CommandPlan) (files : Directory) (now : Option Directory) (was text : Option (List ℕ)) (files-rose spoiled sink-rose : Type 0) → now ≡ Some files → text ≡ was
     → Did outcome files now was text files-rose spoiled sink-rose (Err stop.NoMemory)
 no-memory-yet outcome files now was text files-rose spoiled sink-rose e t = (0, are-told files now e, appends-none was text t)
 
 -- the steps of a value that was made
-pub made-steps : {X : Type 0} (steps : X → List Step) (value : Result X Stop) (x : X) (files : Directory) (now : Option Directory) (was text : Option (List ℕ)) (rose late spoiled spoiled-late sink-rose : Type 0)
+pub made-steps : {X : Type 0} (steps : X → List CommandStep) (value : Result X Stop) (x : X) (files : Directory) (now : Option Directory) (was text : Option (List ℕ)) (rose late spoiled spoiled-late sink-rose : Type 0)
     (r : Result (Unit {0}) Stop) → value ≡ Ok x → (rose → late) → (spoiled → spoiled-late) → Did (Makes (steps x)) files now was text rose spoiled sink-rose r
     → Did (outcome_by steps value) files now was text late spoiled-late sink-rose r
 made-steps steps value x files now was text rose late spoiled spoiled-late sink-rose r v rises spoils d =
-    subst (λ (o : Outcome). Did o files now was text late spoiled-late sink-rose r) (sym (ap (outcome_by steps) v))
+    subst (λ (o : CommandPlan). Did o files now was text late spoiled-late sink-rose r) (sym (ap (outcome_by steps) v))
     (did-later (Makes (steps x)) files now was text rose late spoiled spoiled-late sink-rose r rises spoils d)

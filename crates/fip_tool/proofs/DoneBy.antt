@@ -1,13 +1,11 @@
 -- What is done for what the words ask for, from what a command did.
-use Rattle.std.proofs.Common.{◌≡◌, ◌≤◌, inl, inr, [], Option, Some, None, Result, Err, refl, sym, ap, subst, ◌∙◌, arith}
-use Rattle.std.specs.Prelude.{IfErr, IsTrue}
+use Rattle.std.proofs.Common.{◌≡◌, inl, inr, [], Option, Some, None, Result, Err, refl, sym, ap, subst, ◌∙◌, arith}
+use Rattle.std.specs.Prelude.{IsTrue}
 use Rattle.std.proofs.KnownBytes.{Appends-nil, Consumes-nil}
 use Rattle.std.proofs.lemmas.Bool.{false≢true}
-use Rattle.base_core.specs.Counts.{Rose}
-use Rattle.fip_words.specs.Order.{Asked, info_of_source}
+use Rattle.fip_words.specs.Order.{FipAsked, info_of_source}
 use Rattle.host_io.specs.Access.{Access}
 use Rattle.host_io.proofs.Once.{once-none}
-use Rattle.host_io.specs.Once.{ReadsOnce}
 use Rattle.host_io.specs.declared.files.Files as files
 use Rattle.host_io.specs.declared.source.Source as source
 use Rattle.host_io.specs.declared.sink.Sink as sink
@@ -17,23 +15,18 @@ use Rattle.fip_making.proofs.SourceLemmas.{nothing-read}
 use Rattle.fip_tool.proofs.WroteLemmas.{wrote-none}
 use Rattle.fip_making.proofs.Refusing.{if-err-all}
 use Rattle.fip_tool.proofs.Refusing.{memory-may}
-use Rattle.fip_tool.specs.Done.{Done, DoneWithFiles, RefusesAlone}
+use Rattle.fip_tool.specs.Done.{CommandDone, DoneWithFiles, DoneWithSource, RefusesAlone}
 use Rattle.fip_making.specs.Stops.{status_number}
-use Rattle.fip_tool.specs.Refusals.{MayRefuse}
-use Rattle.fip_tool.specs.Said.{IsTexts}
-use Rattle.fip_tool.specs.Seen.{ReadSourceIn, SaysIn}
-use Rattle.fip_tool.specs.Steps.{sink_failures}
-use Rattle.fip_making.specs.Answers.{source_failures}
 use Rattle.fip_tool.specs.Tool.{asks_files}
 use Rattle.fip_making.specs.declared.stops.Stop.{Stop}
 use Rattle.fip_making.specs.declared.stops.Stop.TheVariants as stop
 
 module _ {H I O : Type 0} {h : files.Ghosts H} {i : source.Ghosts I} {o : sink.Ghosts O} where
   -- a command that asks for files does not touch the source
-  pub done-with-files : ((s : I) → i.reads s s []) → {asked : Option Asked} {result : Result (Unit {0}) Stop} {before after : H} {kept : I} {old new : O} (one : Asked) → asked ≡ Some one → IsTrue (asks_files (Some one))
-      → DoneWithFiles h o one result before after old new → Done h i o asked result before after kept kept old new
+  pub done-with-files : ((s : I) → i.reads s s []) → {asked : Option FipAsked} {result : Result (Unit {0}) Stop} {before after : H} {kept : I} {old new : O} (one : FipAsked) → asked ≡ Some one → IsTrue (asks_files (Some one))
+      → DoneWithFiles h o one result before after old new → CommandDone h i o asked result before after kept kept old new
   done-with-files unread {result = result} {before = before} {after = after} {kept = kept} {old = old} {new = new} one is asks done =
-      subst (λ (a : Option Asked). Done h i o a result before after kept kept old new) (sym is) (record {
+      subst (λ (a : Option FipAsked). CommandDone h i o a result before after kept kept old new) (sym is) (record {
         told = λ told e other. done.told told e;
         source = λ same. absurd (false≢true (sym (ap asks_files same) ∙ asks));
         says = done.says;
@@ -54,42 +47,34 @@ module _ {H I O : Type 0} {h : files.Ghosts H} {i : source.Ghosts I} {o : sink.G
       })
 
   -- a listing of the source does not touch the files
-  pub done-of-source : {asked : Option Asked} {result : Result (Unit {0}) Stop} {kept : H} {before after : I} {old new : O} → asked ≡ Some info_of_source
-      → ReadSourceIn i o (h.contents kept) (h.contents kept) before after old new result
-      → ReadsOnce i before after
-      → SaysIn o (IsTexts info_of_source) old new result
-      → (result ≡ Err stop.FileFault → Rose (i.faults before) (i.faults after))
-      → (result ≡ Err stop.Usage → ⊥)
-      → o.faults old ≤ o.faults new
-      → i.faults after ≡ source_failures result (i.faults before)
-      → o.faults new ≡ sink_failures result (o.faults old)
-      → IfErr result (MayRefuse (Some info_of_source))
+  pub done-of-source : {asked : Option FipAsked} {result : Result (Unit {0}) Stop} {kept : H} {before after : I} {old new : O} → asked ≡ Some info_of_source
+      → DoneWithSource i o result before after old new
       → ((access : Access) → h.spares kept kept access)
-      → Done h i o asked result kept kept before after old new
-  done-of-source {result = result} {kept = kept} {before = before} {after = after} {old = old} {new = new} is read once says cause usage later source_count sink_count refusals rest =
-      subst (λ (a : Option Asked). Done h i o a result kept kept before after old new) (sym is) (record {
+      → CommandDone h i o asked result kept kept before after old new
+  done-of-source {result = result} {kept = kept} {before = before} {after = after} {old = old} {new = new} is done rest =
+      subst (λ (a : Option FipAsked). CommandDone h i o a result kept kept before after old new) (sym is) (record {
         told = λ told e other. absurd (other refl);
-        source = λ same. read;
-        says = says;
+        source = λ same. done.listed (h.contents kept);
+        says = done.says;
         words = λ none. absurd cc;
-        usage = λ e. absurd (usage e);
-        refusals = refusals;
+        usage = λ e. absurd (done.usage e);
+        refusals = done.refusals;
         source_stays = λ other. absurd (other refl);
-        once = once;
-        source_count = λ same. source_count;
+        once = done.once;
+        source_count = λ same. done.source_count;
         files_stay = λ stays. refl;
-        cause = λ e untold. inr (cause e);
+        cause = λ e untold. inr (done.cause e);
         spares = λ access other. rest access;
         alone = if-err-all result (λ s. RefusesAlone h (Some info_of_source) kept kept (status_number s)) (λ s refuses access other. rest access);
         file_count = faults-none refl;
         wrote = refl;
-        later = later;
-        sink_count = sink_count;
+        later = done.later;
+        sink_count = done.sink_count;
       })
 
-  module _ (unread : (s : I) → i.reads s s []) {asked : Option Asked} {kept : H} {held : I} {old : O} where
-    pub done-usage : asked ≡ None → ((access : Access) → h.spares kept kept access) → Done h i o asked (Err stop.Usage) kept kept held held old old
-    done-usage none rest = subst (λ (a : Option Asked). Done h i o a (Err stop.Usage) kept kept held held old old) (sym none) (record {
+  module _ (unread : (s : I) → i.reads s s []) {asked : Option FipAsked} {kept : H} {held : I} {old : O} where
+    pub done-usage : asked ≡ None → ((access : Access) → h.spares kept kept access) → CommandDone h i o asked (Err stop.Usage) kept kept held held old old
+    done-usage none rest = subst (λ (a : Option FipAsked). CommandDone h i o a (Err stop.Usage) kept kept held held old old) (sym none) (record {
       told = λ told e other. (refl, are-told told _ e, Appends-nil _);
       source = λ same. absurd cc;
       says = refl;
@@ -110,7 +95,7 @@ module _ {H I O : Type 0} {h : files.Ghosts H} {i : source.Ghosts I} {o : sink.G
     })
 
     -- want of memory before anything was done
-    pub done-starved : ((access : Access) → h.spares kept kept access) → Done h i o asked (Err stop.NoMemory) kept kept held held old old
+    pub done-starved : ((access : Access) → h.spares kept kept access) → CommandDone h i o asked (Err stop.NoMemory) kept kept held held old old
     done-starved rest = record {
       told = λ told e other. (0, are-told told _ e, Appends-nil _);
       source = λ same. ([], nothing-read, refl, Consumes-nil _, (0, λ name. refl, Appends-nil _));

@@ -3,12 +3,12 @@ use Rattle.std.proofs.Common.{◌≡◌, ◌≢◌, ◌⊎◌, inl, inr, ℕ, Li
 use Rattle.std.specs.Io.KnownBytes.{Appends}
 use Rattle.std.proofs.KnownBytes.{Appends-trans}
 use Rattle.host_io.specs.Contents.{Directory}
-use Rattle.fip_tool.specs.Ends.{EndedBy, HasCauseOf, Reported, SinkFailed, Told, stop_line}
-use Rattle.fip_tool.specs.Steps.{Outcome, Refuses, Are, StandAfter, Did, steps_of, printed}
+use Rattle.fip_tool.specs.Ends.{EndedBy, HasCauseOf, Reported, SinkFailed, StopTold, stop_line}
+use Rattle.fip_tool.specs.Steps.{CommandPlan, Refuses, Are, StandAfter, Did, steps_in_plan, printed}
 use Rattle.fip_making.specs.declared.stops.Stop.{Stop}
 use Rattle.fip_making.specs.declared.stops.Stop.TheVariants as stop
 
-module _ (outcome : Outcome) (files : Directory) (now : Option Directory) (was mid text : Option (List ℕ)) (files-rose spoiled sink-before sink-rose : Type 0) (rises : sink-before → sink-rose) where
+module _ (outcome : CommandPlan) (files : Directory) (now : Option Directory) (was mid text : Option (List ℕ)) (files-rose spoiled sink-before sink-rose : Type 0) (rises : sink-before → sink-rose) where
   pub done : (u : Unit {0}) → Did outcome files now was mid files-rose spoiled sink-before (Ok u) → EndedBy outcome files now was mid files-rose spoiled sink-rose (Ok u)
   done u d = d
 
@@ -28,13 +28,13 @@ module _ (outcome : Outcome) (files : Directory) (now : Option Directory) (was m
   half-told : (s : Stop) → RefusedTo s → (k : ℕ) → Appends mid text (take k (stop_line s)) → (n : ℕ) × SinkFailed n outcome files now was text files-rose spoiled
   half-told s d k a = (0, inr (inl d.1, (s, inl d.0, k, Appends-trans was mid text [] (take k (stop_line s)) d.2 a)))
 
-  untold : (s : Stop) → RefusedTo s → text ≡ mid → (n : ℕ) × StandAfter n outcome files now spoiled × Appends was text (printed (take n (steps_of outcome)))
+  untold : (s : Stop) → RefusedTo s → text ≡ mid → (n : ℕ) × StandAfter n outcome files now spoiled × Appends was text (printed (take n (steps_in_plan outcome)))
   untold s d e = (0, inl d.1, subst (λ (t : Option (List ℕ)). Appends was t []) (sym e) d.2)
 
   -- a file failed, after the first n steps
   abbrev FailedAfter : Type 0
   FailedAfter = ((outcome ≡ Refuses stop.FileFault) ⊎ files-rose) × (n : ℕ) × StandAfter n outcome files now spoiled
-      × Appends was mid (printed (take n (steps_of outcome)))
+      × Appends was mid (printed (take n (steps_in_plan outcome)))
 
   cause-of : (outcome ≡ Refuses stop.FileFault) ⊎ files-rose → HasCauseOf outcome files-rose stop.FileFault
   cause-of (inl e) = inl e
@@ -45,24 +45,24 @@ module _ (outcome : Outcome) (files : Directory) (now : Option Directory) (was m
 
   failed-half-told : FailedAfter → (k : ℕ) → Appends mid text (take k (stop_line stop.FileFault)) → (n : ℕ) × SinkFailed n outcome files now was text files-rose spoiled
   failed-half-told d k a =
-      let so-far : List ℕ = printed (take d.1 (steps_of outcome)) in
+      let so-far : List ℕ = printed (take d.1 (steps_in_plan outcome)) in
       (d.1, inr (d.2, (stop.FileFault, cause-of d.0, k, Appends-trans was mid text so-far (take k (stop_line stop.FileFault)) d.3 a)))
 
-  failed-untold : FailedAfter → text ≡ mid → (n : ℕ) × StandAfter n outcome files now spoiled × Appends was text (printed (take n (steps_of outcome)))
+  failed-untold : FailedAfter → text ≡ mid → (n : ℕ) × StandAfter n outcome files now spoiled × Appends was text (printed (take n (steps_in_plan outcome)))
   failed-untold d e =
-      let so-far : List ℕ = printed (take d.1 (steps_of outcome)) in
+      let so-far : List ℕ = printed (take d.1 (steps_in_plan outcome)) in
       (d.1, d.2, subst (λ (t : Option (List ℕ)). Appends was t so-far) (sym e) d.3)
 
   at-stop : {s t : Stop} → t ≡ s → EndedBy outcome files now was text files-rose spoiled sink-rose (Err s) → EndedBy outcome files now was text files-rose spoiled sink-rose (Err t)
   at-stop e h = subst (λ (s : Stop). EndedBy outcome files now was text files-rose spoiled sink-rose (Err s)) (sym e) h
 
   refused-ends : (s t : Stop) → RefusedTo s → (Appends mid text (stop_line s) → EndedBy outcome files now was text files-rose spoiled sink-rose (Err s))
-      → Told mid text sink-rose s t → EndedBy outcome files now was text files-rose spoiled sink-rose (Err t)
+      → StopTold mid text sink-rose s t → EndedBy outcome files now was text files-rose spoiled sink-rose (Err t)
   refused-ends s t d whole (inl r) = at-stop r.0 (whole r.1)
   refused-ends s t d whole (inr (inl r)) = at-stop r.0 (let h = half-told s d r.2 r.3 in (r.1, h.0, h.1))
   refused-ends s t d whole (inr (inr r)) = at-stop r.0 (untold s d r.1)
 
-  failed-ends : (t : Stop) → FailedAfter → Told mid text sink-rose stop.FileFault t → EndedBy outcome files now was text files-rose spoiled sink-rose (Err t)
+  failed-ends : (t : Stop) → FailedAfter → StopTold mid text sink-rose stop.FileFault t → EndedBy outcome files now was text files-rose spoiled sink-rose (Err t)
   failed-ends t d (inl r) = at-stop r.0 (failed-told d r.1)
   failed-ends t d (inr (inl r)) = at-stop r.0 (let h = failed-half-told d r.2 r.3 in (r.1, h.0, h.1))
   failed-ends t d (inr (inr r)) = at-stop r.0 (failed-untold d r.1)
@@ -83,7 +83,7 @@ module _ (outcome : Outcome) (files : Directory) (now : Option Directory) (was m
       at-stop r.0 (subst (λ (x : Option (List ℕ)). EndedBy outcome files now was x files-rose spoiled sink-rose (Err stop.NoMemory)) (sym r.1) (no-memory d))
 
 -- what is told of a stop
-pub reported : (was text : Option (List ℕ)) (sink-rose : Type 0) (s t : Stop) → s ≢ stop.SinkFault → s ≢ stop.NoMemory → Told was text sink-rose s t → Reported was text sink-rose s t
+pub reported : (was text : Option (List ℕ)) (sink-rose : Type 0) (s t : Stop) → s ≢ stop.SinkFault → s ≢ stop.NoMemory → StopTold was text sink-rose s t → Reported was text sink-rose s t
 reported was text sink-rose stop.SinkFault t a b r = absurd (a refl)
 reported was text sink-rose stop.NoMemory t a b r = absurd (b refl)
 reported was text sink-rose stop.Usage t a b r = r
@@ -99,7 +99,7 @@ reported was text sink-rose (stop.NotCapsule f) t a b r = r
 pub reported-later : (was text : Option (List ℕ)) (rose late : Type 0) (s t : Stop) → (rose → late) → Reported was text rose s t → Reported was text late s t
 reported-later was text rose late s t rises r = by-stop s r
   where
-    told-later : (s : Stop) → Told was text rose s t → Told was text late s t
+    told-later : (s : Stop) → StopTold was text rose s t → StopTold was text late s t
     told-later s (inl a) = inl a
     told-later s (inr (inl a)) = inr (inl (a.0, rises a.1, a.2, a.3))
     told-later s (inr (inr a)) = inr (inr a)

@@ -9,7 +9,7 @@ use Rattle.fip_making.specs.Stops.{status_number}
 use Rattle.fip_tool.specs.Steps.{FailsAtMostOnce, FaultsOnce}
 use Rattle.fip_making.specs.Answers.{NoneFailed, ReadsOnly, source_failed}
 use Rattle.std.proofs.KnownBytes.{Appends-trans}
-use Rattle.fip_words.specs.Order.{Asked}
+use Rattle.fip_words.specs.Order.{FipAsked}
 use Rattle.fip_tool.specs.Said.{IsTextsOf, Says, SinkAlone}
 use Rattle.fip_making.specs.declared.stops.Stop.{Stop}
 use Rattle.fip_making.specs.declared.stops.Stop.TheVariants as stop
@@ -73,7 +73,7 @@ pub fails-told : (was text : Option (List ℕ)) (rose : Type 0) (s now : Stop) (
     → FailsAtMostOnce status before after
 fails-told was text rose s now status before after is r faults = record { once = faults.once; none = none-but was text rose s now status before after is r faults.quiet }
 
-pub sink-alone : (asked : Option Asked) (was mid text : Option (List ℕ)) (rose late : Type 0) (s now : Stop) (before after : ℕ) → status_number now ≡ 3 → Says (IsTextsOf asked) was mid rose (Err s) → Reported mid text late s now
+pub sink-alone : (asked : Option FipAsked) (was mid text : Option (List ℕ)) (rose late : Type 0) (s now : Stop) (before after : ℕ) → status_number now ≡ 3 → Says (IsTextsOf asked) was mid rose (Err s) → Reported mid text late s now
     → FaultsOnce {X = Unit {0}} before after (Err s) → SinkAlone asked was text before after
 sink-alone asked was mid text rose late stop.FileFault now before after three says (inl a) faults = let no : ◌≡◌ {A = ℕ} 2 3 = sym (ap status_number a.0) ∙ three in cc
 sink-alone asked was mid text rose late stop.FileFault now before after three says (inr (inl a)) faults = inr (says.0, says.1, a.2, Appends-trans was mid text says.0 _ says.2 a.3)
@@ -88,7 +88,7 @@ sink-alone asked was mid text rose late stop.TooLong now before after three says
 sink-alone asked was mid text rose late (stop.NotCapsule f) now before after three says r faults = inl faults.quiet
 sink-alone asked was mid text rose late stop.NoMemory now before after three says r faults = inl faults.quiet
 
-pub source-alone : (asked : Option Asked) (was mid text : Option (List ℕ)) (rose late : Type 0) (s now : Stop) (before after : ℕ) → status_number now ≡ 3 → Says (IsTextsOf asked) was mid rose (Err s) → Reported mid text late s now
+pub source-alone : (asked : Option FipAsked) (was mid text : Option (List ℕ)) (rose late : Type 0) (s now : Stop) (before after : ℕ) → status_number now ≡ 3 → Says (IsTextsOf asked) was mid rose (Err s) → Reported mid text late s now
     → after ≡ source_failed s before → SinkAlone asked was text before after
 source-alone asked was mid text rose late stop.FileFault now before after three says (inl a) faults = let no : ◌≡◌ {A = ℕ} 2 3 = sym (ap status_number a.0) ∙ three in cc
 source-alone asked was mid text rose late stop.FileFault now before after three says (inr (inl a)) faults = inr (says.0, says.1, a.2, Appends-trans was mid text says.0 _ says.2 a.3)

@@ -5,7 +5,7 @@ use Rattle.fwu_formats.specs.Package.{Toc, toc_of}
 use Rattle.fwu_formats.specs.declared.kinds.FipFault.{FipFault}
 use Rattle.fip_tables.specs.Answers.{decided}
 use Rattle.fip_tool.specs.Lines.{info_text}
-use Rattle.fip_making.specs.Values.{GivenTo, after, given_table, source_limit, sized_table, table_of, unless_decided}
+use Rattle.fip_making.specs.Values.{GivenTo, after, given_table, source_limit, sized_table, table_or_stop, unless_decided}
 use Rattle.fip_tool.specs.Tool.{given_value, info_value}
 use Rattle.fip_making.specs.declared.stops.Stop.{Stop}
 use Rattle.fip_making.specs.declared.stops.Stop.TheVariants as stop
@@ -50,7 +50,7 @@ unfolding given_table
 table-given given t size e = go (decided (toc_of given)) (nat_lt source_limit (length given)) (toc_of given) e
   where
     go : (d : Result (Unit {0}) FipFault) (b : Bool) (r : Result Toc FipFault)
-        → unless_decided {X = Toc × ℕ} d (if b then Err stop.TooLong else after {X = Toc} {Y = Toc × ℕ} (table_of r) (λ t. Ok (t, length given))) ≡ Ok (t, size) → r ≡ Ok t
+        → unless_decided {X = Toc × ℕ} d (if b then Err stop.TooLong else after {X = Toc} {Y = Toc × ℕ} (table_or_stop r) (λ t. Ok (t, length given))) ≡ Ok (t, size) → r ≡ Ok t
     go (Err f) b r e = cc
     go (Ok u) true r e = cc
     go (Ok u) false (Err f) e = cc

@@ -3,17 +3,17 @@ use Rattle.std.proofs.Common.{◌≡◌, ◌⊎◌, inl, inr, ℕ, List, Option,
 use Rattle.std.specs.Prelude.{IfErr}
 use Rattle.fip_making.specs.Refusals.{IsOfPacking}
 use Rattle.fip_tool.specs.Refusals.{MayRefuse}
-use Rattle.fip_words.specs.Order.{Asked, info, info_of_source, create, update, remove, unpack, manifest, capsule, repackage}
-use Rattle.fip_tool.specs.Ends.{Reported, Told}
+use Rattle.fip_words.specs.Order.{FipAsked, info, info_of_source, create, update, remove, unpack, manifest, capsule, repackage}
+use Rattle.fip_tool.specs.Ends.{Reported, StopTold}
 use Rattle.fip_making.specs.Stops.{status_number}
-use Rattle.fip_tool.specs.Names.{IsRefusal}
+use Rattle.fip_tool.specs.Names.{IsRefusalStatus}
 use Rattle.fip_making.specs.Answers.{IsLate}
 use Rattle.fip_making.specs.declared.stops.Stop.{Stop}
 use Rattle.fip_making.specs.declared.stops.Stop.TheVariants as stop
 use Rattle.fip_making.proofs.Refusing.{if-err-as}
 
 -- what comes late is no refusal
-pub late-unrefused : (s : Stop) → IsLate s → IsRefusal (status_number s) → ⊥
+pub late-unrefused : (s : Stop) → IsLate s → IsRefusalStatus (status_number s) → ⊥
 late-unrefused stop.Usage h refuses = h
 late-unrefused stop.FileFault h refuses = omega (arith, refuses.0)
 late-unrefused stop.SinkFault h refuses = omega (arith, refuses.0)
@@ -25,11 +25,11 @@ late-unrefused stop.TooLong h refuses = h
 late-unrefused (stop.NotCapsule f) h refuses = h
 late-unrefused stop.NoMemory h refuses = omega (arith, refuses.1)
 
-pub late-alone : {X : Type 0} (r : Result X Stop) (P : Stop → Type 0) → IfErr r IsLate → IfErr r (λ s. IsRefusal (status_number s) → P s)
-late-alone r P h = if-err-as r IsLate (λ s. IsRefusal (status_number s) → P s) (λ s late refuses. absurd (late-unrefused s late refuses)) h
+pub late-alone : {X : Type 0} (r : Result X Stop) (P : Stop → Type 0) → IfErr r IsLate → IfErr r (λ s. IsRefusalStatus (status_number s) → P s)
+late-alone r P h = if-err-as r IsLate (λ s. IsRefusalStatus (status_number s) → P s) (λ s late refuses. absurd (late-unrefused s late refuses)) h
 
 -- a refusal of what is packed
-pub packing-six : (s : Stop) → IsOfPacking s → IsRefusal (status_number s) → status_number s ≡ 6
+pub packing-six : (s : Stop) → IsOfPacking s → IsRefusalStatus (status_number s) → status_number s ≡ 6
 packing-six (stop.NotPacked f) h refuses = refl
 packing-six stop.FileFault h refuses = absurd (late-unrefused stop.FileFault tt refuses)
 packing-six stop.SinkFault h refuses = absurd (late-unrefused stop.SinkFault tt refuses)
@@ -50,16 +50,16 @@ made-may made (Err s) P late of (inr h) = late s h
 
 -- and it alone has done what it did
 pub made-alone : {H X Y : Type 0} (made : Result X Stop) (r : Result Y Stop) (mid after : H) (P : H → Stop → Type 0) → IfErr r (λ s. (made ≡ Err s) ⊎ IsLate s) → IfErr made (λ s. after ≡ mid)
-    → IfErr made (λ s. IsRefusal (status_number s) → P mid s) → IfErr r (λ s. IsRefusal (status_number s) → P after s)
+    → IfErr made (λ s. IsRefusalStatus (status_number s) → P mid s) → IfErr r (λ s. IsRefusalStatus (status_number s) → P after s)
 made-alone made (Ok y) mid after P of kept alone = tt
 made-alone made (Err s) mid after P (inl is) kept alone =
     let same : after ≡ mid = rw is at kept in
-    let so : IsRefusal (status_number s) → P mid s = rw is at alone in
+    let so : IsRefusalStatus (status_number s) → P mid s = rw is at alone in
     λ refuses. subst (λ (f : _). P f s) (sym same) (so refuses)
 made-alone made (Err s) mid after P (inr late) kept alone = λ refuses. absurd (late-unrefused s late refuses)
 
 -- any command may end for the sink, or for want of memory
-pub sink-may : (a : Option Asked) → MayRefuse a stop.SinkFault
+pub sink-may : (a : Option FipAsked) → MayRefuse a stop.SinkFault
 sink-may None = tt
 sink-may (Some (info file)) = tt
 sink-may (Some info_of_source) = tt
@@ -71,7 +71,7 @@ sink-may (Some (manifest out security rows)) = tt
 sink-may (Some (capsule from out)) = tt
 sink-may (Some (repackage align from out)) = tt
 
-pub memory-may : (a : Option Asked) → MayRefuse a stop.NoMemory
+pub memory-may : (a : Option FipAsked) → MayRefuse a stop.NoMemory
 memory-may None = tt
 memory-may (Some (info file)) = tt
 memory-may (Some info_of_source) = tt
@@ -83,8 +83,8 @@ memory-may (Some (manifest out security rows)) = tt
 memory-may (Some (capsule from out)) = tt
 memory-may (Some (repackage align from out)) = tt
 
-module _ (a : Option Asked) (was text : Option (List ℕ)) (rose : Type 0) where
-  told-may : (s t : Stop) → MayRefuse a s → Told was text rose s t → MayRefuse a t
+module _ (a : Option FipAsked) (was text : Option (List ℕ)) (rose : Type 0) where
+  told-may : (s t : Stop) → MayRefuse a s → StopTold was text rose s t → MayRefuse a t
   told-may s t may (inl h) = subst (MayRefuse a) (sym h.0) may
   told-may s t may (inr (inl h)) = subst (MayRefuse a) (sym h.0) (sink-may a)
   told-may s t may (inr (inr h)) = subst (MayRefuse a) (sym h.0) (memory-may a)
@@ -104,14 +104,14 @@ module _ (a : Option Asked) (was text : Option (List ℕ)) (rose : Type 0) where
 
 -- a refusal is the stop that was told
 module _ (was text : Option (List ℕ)) (rose : Type 0) (P : ℕ → Type 0) where
-  told-alone : (s t : Stop) → (IsRefusal (status_number s) → P (status_number s)) → Told was text rose s t → IsRefusal (status_number t) → P (status_number t)
-  told-alone s t alone (inl h) refuses = let same : t ≡ s = h.0 in subst (λ (x : Stop). P (status_number x)) (sym same) (alone (subst (λ (x : Stop). IsRefusal (status_number x)) same refuses))
-  told-alone s t alone (inr (inl h)) refuses = absurd (late-unrefused stop.SinkFault tt (subst (λ (x : Stop). IsRefusal (status_number x)) h.0 refuses))
-  told-alone s t alone (inr (inr h)) refuses = absurd (late-unrefused stop.NoMemory tt (subst (λ (x : Stop). IsRefusal (status_number x)) h.0 refuses))
+  told-alone : (s t : Stop) → (IsRefusalStatus (status_number s) → P (status_number s)) → StopTold was text rose s t → IsRefusalStatus (status_number t) → P (status_number t)
+  told-alone s t alone (inl h) refuses = let same : t ≡ s = h.0 in subst (λ (x : Stop). P (status_number x)) (sym same) (alone (subst (λ (x : Stop). IsRefusalStatus (status_number x)) same refuses))
+  told-alone s t alone (inr (inl h)) refuses = absurd (late-unrefused stop.SinkFault tt (subst (λ (x : Stop). IsRefusalStatus (status_number x)) h.0 refuses))
+  told-alone s t alone (inr (inr h)) refuses = absurd (late-unrefused stop.NoMemory tt (subst (λ (x : Stop). IsRefusalStatus (status_number x)) h.0 refuses))
 
-  pub reported-alone : (s t : Stop) → (IsRefusal (status_number s) → P (status_number s)) → Reported was text rose s t → IsRefusal (status_number t) → P (status_number t)
-  reported-alone stop.SinkFault t alone h refuses = absurd (late-unrefused stop.SinkFault tt (subst (λ (x : Stop). IsRefusal (status_number x)) h.0 refuses))
-  reported-alone stop.NoMemory t alone h refuses = absurd (late-unrefused stop.NoMemory tt (subst (λ (x : Stop). IsRefusal (status_number x)) h.0 refuses))
+  pub reported-alone : (s t : Stop) → (IsRefusalStatus (status_number s) → P (status_number s)) → Reported was text rose s t → IsRefusalStatus (status_number t) → P (status_number t)
+  reported-alone stop.SinkFault t alone h refuses = absurd (late-unrefused stop.SinkFault tt (subst (λ (x : Stop). IsRefusalStatus (status_number x)) h.0 refuses))
+  reported-alone stop.NoMemory t alone h refuses = absurd (late-unrefused stop.NoMemory tt (subst (λ (x : Stop). IsRefusalStatus (status_number x)) h.0 refuses))
   reported-alone stop.Usage t alone h refuses = told-alone stop.Usage t alone h refuses
   reported-alone stop.FileFault t alone h refuses = told-alone stop.FileFault t alone h refuses
   reported-alone (stop.NotFip f) t alone h refuses = told-alone (stop.NotFip f) t alone h refuses

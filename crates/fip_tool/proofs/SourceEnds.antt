@@ -2,9 +2,9 @@
 use Rattle.std.proofs.Common.{◌≡◌, inl, inr, ℕ, List, Option, Some, Result, Ok, Err, refl, sym, ap, subst, ◌∙◌}
 use Rattle.std.specs.Io.KnownBytes.{Consumes, IsAtEnd}
 use Rattle.std.proofs.KnownBytes.{Appends-nil}
-use Rattle.fip_tool.specs.Ends.{Reported, Told}
+use Rattle.fip_tool.specs.Ends.{Reported, StopTold}
 use Rattle.fip_making.specs.Stops.{status_number}
-use Rattle.fip_tool.specs.Steps.{Are, Did, Printed, outcome_by}
+use Rattle.fip_tool.specs.Steps.{Are, Did, PrintedText, outcome_by}
 use Rattle.fip_making.specs.Values.{GivenTo}
 use Rattle.fip_tool.specs.Tool.{IsReadFor, given_value, no_files, prints}
 use Rattle.fip_making.specs.declared.stops.Stop.{Stop}
@@ -28,7 +28,7 @@ source-refused view was left text rose sink-rose given (stop.NoManifest f) g = (
 source-refused view was left text rose sink-rose given stop.TooLong g = (g.0, (ap (outcome_by prints) g.1, none-changed, Appends-nil text))
 source-refused view was left text rose sink-rose given (stop.NotCapsule f) g = (g.0, (ap (outcome_by prints) g.1, none-changed, Appends-nil text))
 
-read-all : (was left taken text : Option (List ℕ)) (sink-rose : Type 0) (given piece : List ℕ) (r : Result (Unit {0}) Stop) → Consumes was left given → IsAtEnd left → Printed taken text sink-rose piece r → IsReadFor r was left given
+read-all : (was left taken text : Option (List ℕ)) (sink-rose : Type 0) (given piece : List ℕ) (r : Result (Unit {0}) Stop) → Consumes was left given → IsAtEnd left → PrintedText taken text sink-rose piece r → IsReadFor r was left given
 read-all was left taken text sink-rose given piece (Ok u) c e p = (c, e)
 read-all was left taken text sink-rose given piece (Err (stop.NotFip f)) c e p = absurd p
 read-all was left taken text sink-rose given piece (Err stop.Usage) c e p = c
@@ -42,7 +42,7 @@ read-all was left taken text sink-rose given piece (Err (stop.NotCapsule f)) c e
 read-all was left taken text sink-rose given piece (Err stop.NoMemory) c e p = c
 
 pub source-printed : (was left taken text : Option (List ℕ)) (rose sink-rose : Type 0) (given piece : List ℕ) (r : Result (Unit {0}) Stop) → Consumes was left given × IsAtEnd left × (given_value given ≡ Ok piece)
-    → Printed taken text sink-rose piece r
+    → PrintedText taken text sink-rose piece r
     → IsReadFor r was left given × Did (outcome_by prints (given_value given)) no_files (Some no_files) taken text rose ⊥ sink-rose r
 source-printed was left taken text rose sink-rose given piece r g p =
     (read-all was left taken text sink-rose given piece r g.0 g.1 p, printed-text (given_value given) piece no_files (Some no_files) taken text rose ⊥ sink-rose r g.2 refl p)
@@ -63,7 +63,7 @@ module _ (was left taken text : Option (List ℕ)) (rose : Type 0) (given : List
   at : {s t : Stop} → t ≡ s → IsReadFor (Err s) was left given → IsReadFor (Err t) was left given
   at e r = subst (λ (x : Stop). IsReadFor (Err x) was left given) (sym e) r
 
-  told-read : (s t : Stop) → IsReadFor (Err s) was left given → Told taken text rose s t → IsReadFor (Err t) was left given
+  told-read : (s t : Stop) → IsReadFor (Err s) was left given → StopTold taken text rose s t → IsReadFor (Err t) was left given
   told-read s t r (inl a) = at a.0 r
   told-read s t r (inr (inl a)) = at {s = stop.SinkFault} a.0 (consumed was left given s r)
   told-read s t r (inr (inr a)) = at {s = stop.NoMemory} a.0 (consumed was left given s r)
@@ -93,7 +93,7 @@ module _ (was left taken text : Option (List ℕ)) (rose : Type 0) (given : List
   two (stop.NotCapsule f) e = cc
   two stop.NoMemory e = cc
 
-  told-two : (s t : Stop) → Told taken text rose s t → status_number t ≡ 2 → s ≡ stop.FileFault
+  told-two : (s t : Stop) → StopTold taken text rose s t → status_number t ≡ 2 → s ≡ stop.FileFault
   told-two s t (inl a) e = two s (sym (ap status_number a.0) ∙ e)
   told-two s t (inr (inl a)) e = let no : ◌≡◌ {A = ℕ} 3 2 = sym (ap status_number a.0) ∙ e in cc
   told-two s t (inr (inr a)) e = let no : ◌≡◌ {A = ℕ} 9 2 = sym (ap status_number a.0) ∙ e in cc

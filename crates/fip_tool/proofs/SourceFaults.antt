@@ -5,13 +5,13 @@ use Rattle.std.proofs.lemmas.Bool.{false≢true}
 use Rattle.fip_tool.proofs.SourceEnds.{reported-two}
 use Rattle.fip_tool.specs.Ends.{Reported}
 use Rattle.fip_making.specs.Stops.{status_number}
-use Rattle.fip_tool.specs.Steps.{FailsOnce, Printed}
+use Rattle.fip_tool.specs.Steps.{FailsOnceAt, PrintedText}
 use Rattle.fip_making.specs.Answers.{source_failed, source_failures}
 use Rattle.fip_making.specs.declared.stops.Stop.{Stop}
 use Rattle.fip_making.specs.declared.stops.Stop.TheVariants as stop
 
 -- nor is a text that was printed or not
-pub printed-quiet : (was text : Option (List ℕ)) (rose : Type 0) (piece : List ℕ) (r : Result (Unit {0}) Stop) (n : ℕ) → Printed was text rose piece r → n ≡ source_failures r n
+pub printed-quiet : (was text : Option (List ℕ)) (rose : Type 0) (piece : List ℕ) (r : Result (Unit {0}) Stop) (n : ℕ) → PrintedText was text rose piece r → n ≡ source_failures r n
 printed-quiet was text rose piece (Ok u) n p = refl
 printed-quiet was text rose piece (Err stop.FileFault) n p = absurd p
 printed-quiet was text rose piece (Err stop.SinkFault) n p = refl
@@ -25,7 +25,7 @@ printed-quiet was text rose piece (Err (stop.NotCapsule f)) n p = refl
 printed-quiet was text rose piece (Err stop.NoMemory) n p = refl
 
 -- all was read
-pub none-failed : (status before after : ℕ) → status ≡ 0 → after ≡ before → FailsOnce status before after
+pub none-failed : (status before after : ℕ) → status ≡ 0 → after ≡ before → FailsOnceAt status before after
 none-failed status before after zero same = record {
   once = inl same;
   failed = λ two. (let no : ◌≡◌ {A = ℕ} 0 2 = sym zero ∙ two in cc);
@@ -33,7 +33,7 @@ none-failed status before after zero same = record {
 }
 
 none-by : (taken text : Option (List ℕ)) (rose : Type 0) (s now : Stop) (status before after : ℕ) → s ≢ stop.FileFault → status ≡ status_number now → Reported taken text rose s now → after ≡ before
-    → FailsOnce status before after
+    → FailsOnceAt status before after
 none-by taken text rose s now status before after other is r same = record {
   once = inl same;
   failed = λ two. absurd (other (reported-two None None taken text rose [] s now r (sym is ∙ two)));
@@ -51,7 +51,7 @@ late taken text rose now status before after is (inr (inr a)) o = absurd (false�
 
 -- so many failed in the listing that stopped; its line asks for no more of the source
 pub fails-once : (taken text : Option (List ℕ)) (rose : Type 0) (s now : Stop) (status before after : ℕ) → status ≡ status_number now → Reported taken text rose s now → after ≡ source_failed s before
-    → FailsOnce status before after
+    → FailsOnceAt status before after
 fails-once taken text rose stop.FileFault now status before after is r m = record {
   once = inr m;
   failed = λ two. m;

@@ -4,12 +4,12 @@ use Rattle.std.specs.Prelude.{IfOk}
 use Rattle.std.proofs.Math.Seq.{drop-append_seam, take-append_seam}
 use Rattle.std.specs.Io.KnownBytes.{Appends}
 use Rattle.std.proofs.KnownBytes.{Appends-nil, Appends-trans}
-use Rattle.fip_tool.specs.Ends.{Reported, Told, stop_line}
+use Rattle.fip_tool.specs.Ends.{Reported, StopTold, stop_line}
 use Rattle.fip_making.specs.Stops.{status_number}
 use Rattle.fip_tool.specs.Lines.{made_line}
-use Rattle.fip_tool.specs.Said.{IsBefore, IsBegun, IsCut, IsMadeLine, Says, SaysAll, half_of, joined}
+use Rattle.fip_tool.specs.Said.{IsBefore, IsBegunText, IsCutText, IsMadeLine, Says, SaysAll, half_of, joined_texts}
 use Rattle.fip_making.specs.Answers.{IsLate}
-use Rattle.fip_tool.specs.Steps.{Printed}
+use Rattle.fip_tool.specs.Steps.{PrintedText}
 use Rattle.fip_tool.specs.declared.lines.Format.{Format}
 use Rattle.fip_making.specs.declared.made.Made.{Made}
 use Rattle.fip_making.specs.declared.stops.Stop.{Stop}
@@ -20,11 +20,11 @@ appends-same was text e = subst (λ (t : Option (List ℕ)). Appends was t []) (
 
 -- ---- one text
 
-pub joined-one : (line : List ℕ) → joined (line ∷ []) ≡ line
+pub joined-one : (line : List ℕ) → joined_texts (line ∷ []) ≡ line
 joined-one line = append-nil line
 
 -- a text that was printed is all of its kind
-pub says-printed : (T : List (List ℕ) → Type 0) (line : List ℕ) (was text : Option (List ℕ)) (rose : Type 0) (r : Result (Unit {0}) Stop) → T (line ∷ []) → Printed was text rose line r → Says T was text rose r
+pub says-printed : (T : List (List ℕ) → Type 0) (line : List ℕ) (was text : Option (List ℕ)) (rose : Type 0) (r : Result (Unit {0}) Stop) → T (line ∷ []) → PrintedText was text rose line r → Says T was text rose r
 says-printed T line was text rose (Ok u) t p = (line ∷ [], t, subst (Appends was text) (sym (joined-one line)) p)
 says-printed T line was text rose (Err stop.SinkFault) t p = (p.0, (line ∷ [], t, 0, omega arith, p.1, p.2))
 says-printed T line was text rose (Err stop.NoMemory) t p = ([], inl refl, appends-same was text p)
@@ -52,7 +52,7 @@ says-nothing T was text rose (stop.NotCapsule f) other e = e
 
 -- ---- texts of another kind
 
-begun-as : (T U : List (List ℕ) → Type 0) → ((texts : List (List ℕ)) → T texts → U texts) → (said : List ℕ) → IsBegun T said → IsBegun U said
+begun-as : (T U : List (List ℕ) → Type 0) → ((texts : List (List ℕ)) → T texts → U texts) → (said : List ℕ) → IsBegunText T said → IsBegunText U said
 begun-as T U turns said (inl e) = inl e
 begun-as T U turns said (inr b) = inr (b.0, turns b.0 b.1, b.2, b.3, b.4)
 
@@ -77,13 +77,13 @@ made-texts format (Err s) P h texts t = absurd t
 
 -- ---- texts one after the other
 
-pub joined-append : (a b : List (List ℕ)) → joined (a ++ b) ≡ joined a ++ joined b
+pub joined-append : (a b : List (List ℕ)) → joined_texts (a ++ b) ≡ joined_texts a ++ joined_texts b
 joined-append [] b = refl
-joined-append (t ∷ a) b = ap (λ (l : List ℕ). t ++ l) (joined-append a b) ∙ sym (append_assoc t (joined a) (joined b))
+joined-append (t ∷ a) b = ap (λ (l : List ℕ). t ++ l) (joined-append a b) ∙ sym (append_assoc t (joined_texts a) (joined_texts b))
 
 -- a stop at one text, behind texts that were printed and before others
 module _ (before : List (List ℕ)) (line : List ℕ) (after all : List (List ℕ)) (is : all ≡ before ++ (line ∷ after)) (was at text : Option (List ℕ)) (rose late : Type 0) (rises : rose → late)
-    (so-far : Appends was at (joined before)) where
+    (so-far : Appends was at (joined_texts before)) where
   abbrev One : List (List ℕ) → Type 0
   One texts = texts ≡ line ∷ []
 
@@ -102,29 +102,29 @@ module _ (before : List (List ℕ)) (line : List ℕ) (after all : List (List �
   none-of-one : (texts : List (List ℕ)) (n : ℕ) → One texts → n < length texts → n ≡ 0
   none-of-one texts n one lt = omega (arith, lt, ap length one)
 
-  begun : (said : List ℕ) → IsBegun One said → said ≡ []
+  begun : (said : List ℕ) → IsBegunText One said → said ≡ []
   begun said (inl e) = e
-  begun said (inr b) = b.4 ∙ ap (λ (n : ℕ). joined (take n b.0)) (none-of-one b.0 b.2 b.1 b.3)
+  begun said (inr b) = b.4 ∙ ap (λ (n : ℕ). joined_texts (take n b.0)) (none-of-one b.0 b.2 b.1 b.3)
 
-  whole : (said : List ℕ) → IsBegun One said → Appends at text said → (x : List ℕ) × IsBegun All x × Appends was text x
+  whole : (said : List ℕ) → IsBegunText One said → Appends at text said → (x : List ℕ) × IsBegunText All x × Appends was text x
   whole said b a =
       let none = begun said b in
       let here : Appends at text [] = subst (Appends at text) none a in
-      (joined before, inr (all, refl, length before, within, sym (ap joined front)), subst (Appends was text) (append-nil (joined before)) (Appends-trans was at text (joined before) [] so-far here))
+      (joined_texts before, inr (all, refl, length before, within, sym (ap joined_texts front)), subst (Appends was text) (append-nil (joined_texts before)) (Appends-trans was at text (joined_texts before) [] so-far here))
 
-  cut : IsCut One at text → IsCut All was text
+  cut : IsCutText One at text → IsCutText All was text
   cut h =
       let zero-is = none-of-one h.0 h.2 h.1 h.3 in
-      let here : joined (take h.2 h.0) ++ half_of h.4 (drop h.2 h.0) ≡ take h.4 line =
-      ap (λ (n : ℕ). joined (take n h.0) ++ half_of h.4 (drop n h.0)) zero-is ∙ ap (half_of h.4) h.1 in
-      let there : joined (take (length before) all) ++ half_of h.4 (drop (length before) all) ≡ joined before ++ take h.4 line =
-      ap (λ (ts : List (List ℕ)). joined ts ++ half_of h.4 (drop (length before) all)) front ∙ ap (λ (ts : List (List ℕ)). joined before ++ half_of h.4 ts) back in (
+      let here : joined_texts (take h.2 h.0) ++ half_of h.4 (drop h.2 h.0) ≡ take h.4 line =
+      ap (λ (n : ℕ). joined_texts (take n h.0) ++ half_of h.4 (drop n h.0)) zero-is ∙ ap (half_of h.4) h.1 in
+      let there : joined_texts (take (length before) all) ++ half_of h.4 (drop (length before) all) ≡ joined_texts before ++ take h.4 line =
+      ap (λ (ts : List (List ℕ)). joined_texts ts ++ half_of h.4 (drop (length before) all)) front ∙ ap (λ (ts : List (List ℕ)). joined_texts before ++ half_of h.4 ts) back in (
         all,
         refl,
         length before,
         within,
         h.4,
-        subst (Appends was text) (sym there) (Appends-trans was at text (joined before) (take h.4 line) so-far (subst (Appends at text) here h.5)),
+        subst (Appends was text) (sym there) (Appends-trans was at text (joined_texts before) (take h.4 line) so-far (subst (Appends at text) here h.5)),
       )
 
   pub says-behind : (s : Stop) → IsLate s → Says One at text rose (Err s) → Says All was text late (Err s)
@@ -140,12 +140,12 @@ module _ (before : List (List ℕ)) (line : List ℕ) (after all : List (List �
   says-behind (stop.NotCapsule f) l h = absurd l
 
 -- one more text was printed
-pub said-more : (before all : List (List ℕ)) (line : List ℕ) (was at text : Option (List ℕ)) (rose : Type 0) (u : Unit {0}) → all ≡ before ++ (line ∷ []) → Appends was at (joined before)
-    → Says (λ texts. texts ≡ line ∷ []) at text rose (Ok u) → Appends was text (joined all)
+pub said-more : (before all : List (List ℕ)) (line : List ℕ) (was at text : Option (List ℕ)) (rose : Type 0) (u : Unit {0}) → all ≡ before ++ (line ∷ []) → Appends was at (joined_texts before)
+    → Says (λ texts. texts ≡ line ∷ []) at text rose (Ok u) → Appends was text (joined_texts all)
 said-more before all line was at text rose u is so-far h =
-    let here : Appends at text line = subst (Appends at text) (ap joined h.1 ∙ joined-one line) h.2 in
-    subst (Appends was text) (sym (ap joined is ∙ joined-append before (line ∷ []) ∙ ap (λ (l : List ℕ). joined before ++ l) (joined-one line)))
-    (Appends-trans was at text (joined before) line so-far here)
+    let here : Appends at text line = subst (Appends at text) (ap joined_texts h.1 ∙ joined-one line) h.2 in
+    subst (Appends was text) (sym (ap joined_texts is ∙ joined-append before (line ∷ []) ∙ ap (λ (l : List ℕ). joined_texts before ++ l) (joined-one line)))
+    (Appends-trans was at text (joined_texts before) line so-far here)
 
 -- ---- with the line of the stop
 
@@ -157,19 +157,19 @@ module _ (T : List (List ℕ) → Type 0) (was mid text : Option (List ℕ)) (ea
   StoppedAt s = (said : List ℕ) × IsBefore T s said × Appends was mid said
 
   ended : (s t : Stop) → StoppedAt s → ((said : List ℕ) × IsBefore T s said × Appends was text (said ++ stop_line s) → SaysAll T was text rose (Err s))
-      → ((said : List ℕ) → IsBefore T s said → IsBegun T said) → Told mid text rose s t → SaysAll T was text rose (Err t)
+      → ((said : List ℕ) → IsBefore T s said → IsBegunText T said) → StopTold mid text rose s t → SaysAll T was text rose (Err t)
   ended s t d whole begun (inl r) = at-stop r.0 (whole (d.0, d.1, Appends-trans was mid text d.0 (stop_line s) d.2 r.1))
   ended s t d whole begun (inr (inl r)) =
       at-stop r.0 (r.1, inr (s, d.0, d.1, r.2, Appends-trans was mid text d.0 (take r.2 (stop_line s)) d.2 r.3))
   ended s t d whole begun (inr (inr r)) = at-stop r.0 (d.0, begun d.0 d.1, subst (λ (x : Option (List ℕ)). Appends was x d.0) (sym r.1) d.2)
 
-  none-yet : (said : List ℕ) → said ≡ [] → IsBegun T said
+  none-yet : (said : List ℕ) → said ≡ [] → IsBegunText T said
   none-yet said e = inl e
 
   pub says-ends : (s t : Stop) → Says T was mid early (Err s) → Reported mid text rose s t → SaysAll T was text rose (Err t)
   says-ends stop.FileFault t h r = ended stop.FileFault t h (λ w. w) (λ said b. b) r
   says-ends stop.SinkFault t h r =
-      at-stop r.0 (rises h.0, inl (subst (λ (x : Option (List ℕ)). IsCut T was x) (sym r.1) h.1))
+      at-stop r.0 (rises h.0, inl (subst (λ (x : Option (List ℕ)). IsCutText T was x) (sym r.1) h.1))
   says-ends stop.NoMemory t h r = at-stop r.0 (h.0, h.1, subst (λ (x : Option (List ℕ)). Appends was x h.0) (sym r.1) h.2)
   says-ends stop.Usage t h r = ended stop.Usage t ([], refl, appends-same was mid h) (λ w. w) none-yet r
   says-ends (stop.NotFip f) t h r = ended (stop.NotFip f) t ([], refl, appends-same was mid h) (λ w. w) none-yet r

@@ -1,6 +1,6 @@
 -- Steps that are done one after the other, and the steps of `unpack`.
 use Rattle.std.proofs.Common.{◌≡◌, ◌≢◌, ◌⊎◌, inl, inr, ◌≤◌, ◌<◌, ◌+◌, ℕ, zero, suc, Bool, true, false, List, [], ◌∷◌, ◌++◌, Option, Some, None, Result, Ok, Err, length, take, drop, filter, get_or, arith, refl, sym, ap, subst, ◌∙◌, append-nil, append_assoc, take-append-drop, eq-eqb, true≢false}
-use Rattle.std.specs.Prelude.{cond, codes, decimal, ◌==◌, ◌||◌, IsTrue, if◌then◌else◌}
+use Rattle.std.specs.Prelude.{cond, codes, decimal, ◌==◌, ◌||◌, IsTrue, if◌then◌else◌, unwrap_or}
 use Rattle.std.proofs.Math.Seq.{take-append_seam, drop-append_seam, take-append-add, drop-append-add}
 use Rattle.std.proofs.lemmas.List.{drop_more, length-append, take_all, take_more}
 use Rattle.std.proofs.lemmas.Bool.{and_from}
@@ -18,7 +18,7 @@ use Rattle.host_io.specs.Contents.{Directory}
 use Rattle.fip_tables.specs.Files.{Lacks, Tells}
 use Rattle.fwu_formats.specs.Package.{Entry, payload, Toc}
 use Rattle.fip_tool.specs.Lines.{unpacked_line, unpacked_name}
-use Rattle.fip_tool.specs.Steps.{IsPrinting, Makes, Refuses, Step, Writes, Prints, Are, AreUpTo, StandAfter, Did, half_printed, printed, with_file, written}
+use Rattle.fip_tool.specs.Steps.{IsPrinting, Makes, Refuses, CommandStep, Writes, Prints, Are, AreUpTo, StandAfter, Did, half_printed, printed, with_file, written}
 use Rattle.fip_tool.specs.Tool.{chosen, unpack_steps, unpack_value}
 use Rattle.fip_making.specs.Values.{is_named, there}
 use Rattle.fip_making.specs.declared.stops.Stop.{Stop}
@@ -28,17 +28,17 @@ use Rattle.fip_making.proofs.Repacking.{IsOpened, going-on, stopped, table_with}
 
 -- ---- steps one after the other
 
-written-append : (first second : List Step) (files : Directory) → written (first ++ second) files ≡ written second (written first files)
+written-append : (first second : List CommandStep) (files : Directory) → written (first ++ second) files ≡ written second (written first files)
 written-append [] second files = refl
 written-append (Writes name bytes ∷ first) second files = written-append first second (with_file name bytes files)
 written-append (Prints text ∷ first) second files = written-append first second files
 
-printed-append : (first second : List Step) → printed (first ++ second) ≡ printed first ++ printed second
+printed-append : (first second : List CommandStep) → printed (first ++ second) ≡ printed first ++ printed second
 printed-append [] second = refl
 printed-append (Writes name bytes ∷ first) second = printed-append first second
 printed-append (Prints text ∷ first) second = ap (λ (l : List ℕ). text ++ l) (printed-append first second) ∙ sym (append_assoc text (printed first) (printed second))
 
-written-along : (steps : List Step) (a b : Directory) → ((name : List ℕ) → a name ≡ b name) → (name : List ℕ) → written steps a name ≡ written steps b name
+written-along : (steps : List CommandStep) (a b : Directory) → ((name : List ℕ) → a name ≡ b name) → (name : List ℕ) → written steps a name ≡ written steps b name
 written-along [] a b h other = h other
 written-along (Prints text ∷ steps) a b h other = written-along steps a b h other
 written-along (Writes name bytes ∷ steps) a b h other =
@@ -48,29 +48,29 @@ are-along : (a b : Directory) (now : Option Directory) → ((name : List ℕ) �
 are-along a b None h are = absurd are
 are-along a b (Some now) h are = λ name. are name ∙ h name
 
-are-up-to-along : (rest : List Step) (a b : Directory) (now : Option Directory) → ((name : List ℕ) → a name ≡ b name) → AreUpTo rest now a → AreUpTo rest now b
+are-up-to-along : (rest : List CommandStep) (a b : Directory) (now : Option Directory) → ((name : List ℕ) → a name ≡ b name) → AreUpTo rest now a → AreUpTo rest now b
 are-up-to-along [] a b now h are = are-along a b now h are
 are-up-to-along (Prints text ∷ rest) a b now h are = are-along a b now h are
 are-up-to-along (Writes name bytes ∷ rest) a b None h are = absurd are
 are-up-to-along (Writes name bytes ∷ rest) a b (Some now) h are = λ other differs. are other differs ∙ h other
 
 -- these steps are done
-pub record IsDone (steps : List Step) (files now : Directory) (was text : Option (List ℕ)) : Type 0 where
+pub record IsDone (steps : List CommandStep) (files now : Directory) (was text : Option (List ℕ)) : Type 0 where
   pub are : (name : List ℕ) → now name ≡ written steps files name
   pub said : Appends was text (printed steps)
 
 pub nothing-done : (files : Directory) (was : Option (List ℕ)) → IsDone [] files files was was
 nothing-done files was = record { are = λ name. refl; said = Appends-nil was }
 
-written-then : (first steps : List Step) (files mid : Directory) → ((name : List ℕ) → mid name ≡ written first files name)
+written-then : (first steps : List CommandStep) (files mid : Directory) → ((name : List ℕ) → mid name ≡ written first files name)
     → (name : List ℕ) → written steps mid name ≡ written (first ++ steps) files name
 written-then first steps files mid are name =
     written-along steps mid (written first files) are name ∙ sym (ap (λ (d : Directory). d name) (written-append first steps files))
 
-said-then : (first steps : List Step) (was at text : Option (List ℕ)) → Appends was at (printed first) → Appends at text (printed steps) → Appends was text (printed (first ++ steps))
+said-then : (first steps : List CommandStep) (was at text : Option (List ℕ)) → Appends was at (printed first) → Appends at text (printed steps) → Appends was text (printed (first ++ steps))
 said-then first steps was at text a b = subst (Appends was text) (sym (printed-append first steps)) (Appends-trans was at text (printed first) (printed steps) a b)
 
-pub done-then : (first second : List Step) (files mid now : Directory) (was at text : Option (List ℕ)) → IsDone first files mid was at → IsDone second mid now at text
+pub done-then : (first second : List CommandStep) (files mid now : Directory) (was at text : Option (List ℕ)) → IsDone first files mid was at → IsDone second mid now at text
     → IsDone (first ++ second) files now was text
 done-then first second files mid now was at text a b = record {
   are = λ name. b.are name ∙ written-then first second files mid a.are name;
@@ -83,27 +83,27 @@ fewer zero xs ys = (0, refl, refl)
 fewer (suc n) [] ys = (0, refl, refl)
 fewer (suc n) (x ∷ xs) ys = let f = fewer n xs ys in (suc f.0, ap (λ l. x ∷ l) f.1, f.2)
 
-more-left : (left rest : List Step) (files : Directory) (now : Option Directory) → AreUpTo left now files → AreUpTo (left ++ rest) now files
+more-left : (left rest : List CommandStep) (files : Directory) (now : Option Directory) → AreUpTo left now files → AreUpTo (left ++ rest) now files
 more-left [] rest files now are = are-up-to rest now files are
 more-left (Writes name bytes ∷ left) rest files now are = are
 more-left (Prints text ∷ left) rest files now are = are
 
-prints-more : (left rest : List Step) → IsPrinting left → IsPrinting (left ++ rest)
+prints-more : (left rest : List CommandStep) → IsPrinting left → IsPrinting (left ++ rest)
 prints-more [] rest p = absurd p
 prints-more (Writes name bytes ∷ left) rest p = absurd p
 prints-more (Prints text ∷ left) rest p = tt
 
-half-none : (steps : List Step) → half_printed 0 steps ≡ []
+half-none : (steps : List CommandStep) → half_printed 0 steps ≡ []
 half-none [] = refl
 half-none (Writes name bytes ∷ steps) = refl
 half-none (Prints text ∷ steps) = refl
 
-half-more : (k : ℕ) (left rest : List Step) → (j : ℕ) × (half_printed j (left ++ rest) ≡ half_printed k left)
+half-more : (k : ℕ) (left rest : List CommandStep) → (j : ℕ) × (half_printed j (left ++ rest) ≡ half_printed k left)
 half-more k [] rest = (0, half-none rest)
 half-more k (Writes name bytes ∷ left) rest = (k, refl)
 half-more k (Prints text ∷ left) rest = (k, refl)
 
-module _ (first second rest : List Step) (files mid : Directory) (now : Option Directory) (was at text : Option (List ℕ)) (rose late spoiled spoiled-late sink-rose sink-late : Type 0)
+module _ (first second rest : List CommandStep) (files mid : Directory) (now : Option Directory) (was at text : Option (List ℕ)) (rose late spoiled spoiled-late sink-rose sink-late : Type 0)
     (done : IsDone first files mid was at) (rises : rose → late) (spoils : spoiled → spoiled-late) (sink-rises : sink-rose → sink-late) where
   -- the first n of the second steps are some of the first of all
   reach : ℕ → ℕ
@@ -111,7 +111,7 @@ module _ (first second rest : List Step) (files mid : Directory) (now : Option D
 
   reached : (n : ℕ) → take (reach n) (first ++ (second ++ rest)) ≡ first ++ take n second
   unfolding reach
-  reached n = let f = fewer n second rest in take-append-add first (second ++ rest) f.0 ∙ ap (λ (l : List Step). first ++ l) f.1
+  reached n = let f = fewer n second rest in take-append-add first (second ++ rest) f.0 ∙ ap (λ (l : List CommandStep). first ++ l) f.1
 
   unreached : (n : ℕ) → drop (reach n) (first ++ (second ++ rest)) ≡ drop n second ++ rest
   unfolding reach
@@ -119,12 +119,12 @@ module _ (first second rest : List Step) (files mid : Directory) (now : Option D
 
   there-are : (n : ℕ) → Are now (written (take n second) mid) → Are now (written (take (reach n) (first ++ (second ++ rest))) files)
   there-are n are =
-      subst (λ (l : List Step). Are now (written l files)) (sym (reached n))
+      subst (λ (l : List CommandStep). Are now (written l files)) (sym (reached n))
       (are-along (written (take n second) mid) (written (first ++ take n second) files) now (written-then first (take n second) files mid done.are) are)
 
   there-said : (n : ℕ) → Appends at text (printed (take n second)) → Appends was text (printed (take (reach n) (first ++ (second ++ rest))))
   there-said n said =
-      subst (λ (l : List Step). Appends was text (printed l)) (sym (reached n)) (said-then first (take n second) was at text done.said said)
+      subst (λ (l : List CommandStep). Appends was text (printed l)) (sym (reached n)) (said-then first (take n second) was at text done.said said)
 
   there-half : (n k : ℕ) → Appends at text (printed (take n second) ++ half_printed k (drop n second))
       → (j : ℕ) × Appends was text (printed (take (reach n) (first ++ (second ++ rest))) ++ half_printed j (drop (reach n) (first ++ (second ++ rest))))
@@ -133,8 +133,8 @@ module _ (first second rest : List Step) (files mid : Directory) (now : Option D
       let half : List ℕ = half_printed k (drop n second) in
       let whole : printed (take (reach n) (first ++ (second ++ rest))) ++ half_printed h.0 (drop (reach n) (first ++ (second ++ rest)))
       ≡ printed first ++ (printed (take n second) ++ half) =
-      ap (λ (l : List Step). printed l ++ half_printed h.0 (drop (reach n) (first ++ (second ++ rest)))) (reached n)
-      ∙ ap (λ (l : List Step). printed (first ++ take n second) ++ half_printed h.0 l) (unreached n)
+      ap (λ (l : List CommandStep). printed l ++ half_printed h.0 (drop (reach n) (first ++ (second ++ rest)))) (reached n)
+      ∙ ap (λ (l : List CommandStep). printed (first ++ take n second) ++ half_printed h.0 l) (unreached n)
       ∙ ap (λ (l : List ℕ). printed (first ++ take n second) ++ l) h.1
       ∙ ap (λ (l : List ℕ). l ++ half) (printed-append first (take n second))
       ∙ append_assoc (printed first) (printed (take n second)) half in
@@ -156,8 +156,8 @@ module _ (first second rest : List Step) (files mid : Directory) (now : Option D
           let along : AreUpTo (drop n second) now (written (first ++ take n second) files) =
           are-up-to-along (drop n second) (written (take n second) mid) (written (first ++ take n second) files) now (written-then first (take n second) files mid done.are) are in
           let more : AreUpTo (drop n second ++ rest) now (written (first ++ take n second) files) = more-left (drop n second) rest _ now along in
-          subst (λ (l : List Step). AreUpTo l now (written (take (reach n) (first ++ (second ++ rest))) files)) (sym (unreached n))
-          (subst (λ (l : List Step). AreUpTo (drop n second ++ rest) now (written l files)) (sym (reached n)) more)
+          subst (λ (l : List CommandStep). AreUpTo l now (written (take (reach n) (first ++ (second ++ rest))) files)) (sym (unreached n))
+          (subst (λ (l : List CommandStep). AreUpTo (drop n second ++ rest) now (written l files)) (sym (reached n)) more)
 
       stand : (n : ℕ) → StandAfter n (Makes second) mid now spoiled → StandAfter (reach n) (Makes (first ++ (second ++ rest))) files now spoiled-late
       stand n (inl are) = inl (there-are n are)
@@ -171,12 +171,12 @@ module _ (first second rest : List Step) (files mid : Directory) (now : Option D
   stops (stop.NotCapsule f) d = let no : Makes second ≡ Refuses (stop.NotCapsule f) = d.0 in cc
 
 -- all steps were done
-pub did-all : (steps : List Step) (files now : Directory) (was text : Option (List ℕ)) (rose spoiled sink-rose : Type 0) (u : Unit {0}) → IsDone steps files now was text
+pub did-all : (steps : List CommandStep) (files now : Directory) (was text : Option (List ℕ)) (rose spoiled sink-rose : Type 0) (u : Unit {0}) → IsDone steps files now was text
     → Did (Makes steps) files (Some now) was text rose spoiled sink-rose (Ok u)
 did-all steps files now was text rose spoiled sink-rose u done = (refl, done.are, done.said)
 
 -- what there is after a command that did all
-pub are-now : (steps : List Step) (files : Directory) (now : Option Directory) (was text : Option (List ℕ)) (rose spoiled sink-rose : Type 0) (u : Unit {0})
+pub are-now : (steps : List CommandStep) (files : Directory) (now : Option Directory) (was text : Option (List ℕ)) (rose spoiled sink-rose : Type 0) (u : Unit {0})
     → Did (Makes steps) files now was text rose spoiled sink-rose (Ok u) → (d : Directory) × (now ≡ Some d) × IsDone steps files d was text
 are-now steps files None was text rose spoiled sink-rose u d = absurd d.1
 are-now steps files (Some now) was text rose spoiled sink-rose u d = (now, refl, record { are = d.1; said = d.2 })
@@ -185,7 +185,7 @@ are-now steps files (Some now) was text rose spoiled sink-rose u d = (now, refl,
 
 pub unpack-append : (prefix bytes : List ℕ) (a b : List Entry) → unpack_steps prefix bytes (a ++ b) ≡ unpack_steps prefix bytes a ++ unpack_steps prefix bytes b
 unpack-append prefix bytes [] b = refl
-unpack-append prefix bytes (e ∷ a) b = ap (λ (l : List Step). Writes (unpacked_name prefix e.guid) (payload bytes e) ∷ l) (ap (λ (l : List Step). Prints (unpacked_line prefix e) ∷ l) (unpack-append prefix bytes a b))
+unpack-append prefix bytes (e ∷ a) b = ap (λ (l : List CommandStep). Writes (unpacked_name prefix e.guid) (payload bytes e) ∷ l) (ap (λ (l : List CommandStep). Prints (unpacked_line prefix e) ∷ l) (unpack-append prefix bytes a b))
 
 -- ---- the chosen entries
 
@@ -253,7 +253,7 @@ one-more prefix from bytes entries e told mid contents was at text rose spoiled 
       now = n.0;
       is = n.1;
       stored = kept prefix bytes from e s.now n.0 at text other n.2 ∙ s.stored;
-      done = subst (λ (l : List Step). IsDone l told n.0 was text) (sym (unpack-append prefix bytes entries (e ∷ [])))
+      done = subst (λ (l : List CommandStep). IsDone l told n.0 was text) (sym (unpack-append prefix bytes entries (e ∷ [])))
           (done-then (unpack_steps prefix bytes entries) (unpack_steps prefix bytes (e ∷ [])) told s.now n.0 was at text s.done n.2);
     }
 
@@ -264,7 +264,7 @@ pub one-stops : (prefix from bytes : List ℕ) (entries : List Entry) (e : Entry
 one-stops prefix from bytes entries e left told mid contents was at text rose late spoiled spoiled-late sink-rose sink-late x rises spoils sink-rises s did =
     let split : unpack_steps prefix bytes (entries ++ (e ∷ left)) ≡ unpack_steps prefix bytes entries ++ (unpack_steps prefix bytes (e ∷ []) ++ unpack_steps prefix bytes left) =
     unpack-append prefix bytes entries (e ∷ left) in
-    subst (λ (l : List Step). Did (Makes l) told contents was text late spoiled-late sink-late (Err x)) (sym split)
+    subst (λ (l : List CommandStep). Did (Makes l) told contents was text late spoiled-late sink-late (Err x)) (sym split)
     (stops (unpack_steps prefix bytes entries) (unpack_steps prefix bytes (e ∷ [])) (unpack_steps prefix bytes left) told s.now contents was at text rose late spoiled spoiled-late sink-rose sink-late s.done rises spoils sink-rises x did)
 
 pub ends : (prefix from bytes : List ℕ) (entries : List Entry) (told : Directory) (contents : Option Directory) (was text : Option (List ℕ)) (rose spoiled sink-rose : Type 0) (u : Unit {0})
@@ -324,7 +324,7 @@ entry-did prefix bytes e name shown out line told now was text rose late spoiled
     let lined : line ≡ unpacked_line prefix e = said ∙ ap (λ (n : List ℕ). guid_text e.guid ++ codes " size=" ++ decimal e.size ++ codes " file=" ++ n ++ codes "\n") seen in
     let steps : Writes name out ∷ Prints line ∷ [] ≡ unpack_steps prefix bytes (e ∷ []) = cc in
     did-later (Makes (unpack_steps prefix bytes (e ∷ []))) told now was text rose late spoiled spoiled-late sink-rose r rises spoils
-    (subst (λ (l : List Step). Did (Makes l) told now was text rose spoiled sink-rose r) steps d)
+    (subst (λ (l : List CommandStep). Did (Makes l) told now was text rose spoiled sink-rose r) steps d)
 
 -- ---- one entry after the other
 
@@ -380,7 +380,9 @@ module _ (prefix from bytes : List ℕ) (p : Entry → Bool) (es : List Entry) (
 
 pub unpack-of : (told : Directory) (name : List ℕ) (guids : List (List ℕ)) (toc : Toc) (o : IsOpened told name guids toc) → unpack_value told name guids ≡ Ok (o.bytes, chosen guids toc.entries)
 unfolding unpack_value
-unpack-of told name guids toc o = going-on told name guids toc (λ p. Ok (p.0, chosen guids p.1.entries)) o
+unpack-of told name guids toc o =
+    going-on told name guids toc (λ p. Ok (p.0, chosen guids p.1.entries)) o
+    ∙ ap (λ (f : Option (List ℕ)). Ok (unwrap_or f [], chosen guids toc.entries)) o.is
 
 pub unpack-err : (told : Directory) (name : List ℕ) (guids : List (List ℕ)) (s : Stop) → table_with told name guids ≡ Err s → unpack_value told name guids ≡ Err s
 unfolding unpack_value

@@ -3,12 +3,12 @@ use Rattle.std.proofs.Common.{◌≡◌, ℕ, Bool, true, false, List, Option, S
 use Rattle.std.specs.Prelude.{if◌then◌else◌, option_and_then}
 use Rattle.base_core.specs.Bytes.{same_bytes}
 use Rattle.fip_words.specs.Commands.{fip_app}
-use Rattle.fip_words.specs.Order.{Asked, info, info_of_source, unpack, align_in, asked, create_by, file_in, capsule_by, info_by, manifest_by, order_of, repackage_by, repackage_of, remove_by, unpack_by, update_by, values_of}
-use Rattle.fip_words.specs.Values.{NamedFile, NamedImage, is_unpacked, names_of, parts_of, rows_of}
+use Rattle.fip_words.specs.Order.{FipAsked, info, info_of_source, unpack, align_in, asked, create_by, file_in, capsule_by, info_by, manifest_by, order_of, repackage_by, repackage_of, remove_by, unpack_by, update_by, values_of}
+use Rattle.fip_words.specs.Values.{NamedFile, NamedImage, is_unpacked, names_of, named_parts_of, named_rows_of}
 use Rattle.fip_words.specs.Words.{reads}
 
 module _ (from prefix : List ℕ) (names : List (List ℕ)) where
-  abbrev Is : Option Asked → Type 0
+  abbrev Is : Option FipAsked → Type 0
   Is o = o ≡ Some (unpack from prefix names)
 
   info-is-none : (file : Option (List ℕ)) → Is (info_by file) → ⊥
@@ -70,12 +70,12 @@ module _ (from prefix : List ℕ) (names : List (List ℕ)) where
           ap (λ (x : List ℕ). is_unpacked x from) (sym two) ∙ ap (is_unpacked p) (sym one) ∙ is
 
   -- one of two
-  one-of : (b : Bool) (x y : Option Asked) (P : Type 0) → (Is x → P) → (Is y → P) → Is (if b then x else y) → P
+  one-of : (b : Bool) (x y : Option FipAsked) (P : Type 0) → (Is x → P) → (Is y → P) → Is (if b then x else y) → P
   one-of true x y P f g h = f h
   one-of false x y P f g h = g h
 
   -- a value, and what is made of it
-  made-of : {X : Type 0} (o : Option X) (f : X → Option Asked) (P : Type 0) → ((x : X) → Is (f x) → P) → Is (option_and_then f o) → P
+  made-of : {X : Type 0} (o : Option X) (f : X → Option FipAsked) (P : Type 0) → ((x : X) → Is (f x) → P) → Is (option_and_then f o) → P
   made-of None f P g h = cc
   made-of (Some x) f P g h = g x h
 
@@ -85,15 +85,15 @@ module _ (from prefix : List ℕ) (names : List (List ℕ)) where
       (λ p h.
       one-of (same_bytes p.0 (codes "info")) _ _ _ (λ is. absurd (info-is-none (file_in (codes "file") p.1) is))
       (λ then-one.
-      one-of (same_bytes p.0 (codes "create")) _ _ _ (λ is. absurd (create-is-none (align_in p.1) (file_in (codes "out") p.1) (parts_of (values_of (codes "parts") p.1)) is))
+      one-of (same_bytes p.0 (codes "create")) _ _ _ (λ is. absurd (create-is-none (align_in p.1) (file_in (codes "out") p.1) (named_parts_of (values_of (codes "parts") p.1)) is))
       (λ then-two.
-      one-of (same_bytes p.0 (codes "update")) _ _ _ (λ is. absurd (update-is-none (align_in p.1) (file_in (codes "in") p.1) (file_in (codes "out") p.1) (parts_of (values_of (codes "parts") p.1)) is))
+      one-of (same_bytes p.0 (codes "update")) _ _ _ (λ is. absurd (update-is-none (align_in p.1) (file_in (codes "in") p.1) (file_in (codes "out") p.1) (named_parts_of (values_of (codes "parts") p.1)) is))
       (λ then-three.
       one-of (same_bytes p.0 (codes "remove")) _ _ _ (λ is. absurd (remove-is-none (align_in p.1) (file_in (codes "in") p.1) (file_in (codes "out") p.1) (names_of (values_of (codes "parts") p.1)) is))
       (λ then-four.
       one-of (same_bytes p.0 (codes "unpack")) _ _ _ (λ is. unpack-is-other (file_in (codes "in") p.1) (file_in (codes "prefix") p.1) (names_of (values_of (codes "names") p.1)) is)
       (λ then-five.
-      one-of (same_bytes p.0 (codes "manifest")) _ _ _ (λ is. absurd (manifest-is-none (file_in (codes "out") p.1) _ (rows_of (values_of (codes "rows") p.1)) is))
+      one-of (same_bytes p.0 (codes "manifest")) _ _ _ (λ is. absurd (manifest-is-none (file_in (codes "out") p.1) _ (named_rows_of (values_of (codes "rows") p.1)) is))
       (λ then-six.
       one-of (same_bytes p.0 (codes "capsule")) _ _ _ (λ is. absurd (capsule-is-none (file_in (codes "in") p.1) (file_in (codes "out") p.1) is))
       (λ then-seven.

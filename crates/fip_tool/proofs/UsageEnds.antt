@@ -1,6 +1,6 @@
 -- Usage, by the status.
 use Rattle.std.proofs.Common.{◌≡◌, ◌⊎◌, inl, inr, ℕ, List, Option, Result, Ok, Err, refl, sym, ap, subst, ◌∙◌}
-use Rattle.fip_tool.specs.Ends.{Reported, Told}
+use Rattle.fip_tool.specs.Ends.{Reported, StopTold}
 use Rattle.fip_making.specs.Stops.{status_number}
 use Rattle.fip_making.specs.declared.stops.Stop.{Stop}
 use Rattle.fip_making.specs.declared.stops.Stop.TheVariants as stop
@@ -23,7 +23,7 @@ one (stop.NotCapsule f) e = cc
 one stop.NoMemory e = cc
 
 module _ (was text : Option (List ℕ)) (rose : Type 0) where
-  told-one : (s t : Stop) → Told was text rose s t → status_number t ≡ 1 → s ≡ stop.Usage
+  told-one : (s t : Stop) → StopTold was text rose s t → status_number t ≡ 1 → s ≡ stop.Usage
   told-one s t (inl a) e = one s (sym (ap status_number a.0) ∙ e)
   told-one s t (inr (inl a)) e = let no : ◌≡◌ {A = ℕ} 3 1 = sym (ap status_number a.0) ∙ e in cc
   told-one s t (inr (inr a)) e = let no : ◌≡◌ {A = ℕ} 9 1 = sym (ap status_number a.0) ∙ e in cc
@@ -49,7 +49,7 @@ module _ (was text : Option (List ℕ)) (rose : Type 0) where
       by : (◌≡◌ {A = Result X Stop} (Err s) (Err stop.Usage)) ⊎ (◌≡◌ {A = Result X Stop} (Err s) (Err stop.NoMemory)) → (n ≡ 1) ⊎ (n ≡ 3) ⊎ (n ≡ 9)
       by (inl e) = let same : s ≡ stop.Usage = cc in by-told (subst (λ (x : Stop). Reported was text rose x t) same r)
         where
-          by-told : Told was text rose stop.Usage t → (n ≡ 1) ⊎ (n ≡ 3) ⊎ (n ≡ 9)
+          by-told : StopTold was text rose stop.Usage t → (n ≡ 1) ⊎ (n ≡ 3) ⊎ (n ≡ 9)
           by-told (inl a) = inl (is ∙ ap status_number a.0)
           by-told (inr (inl a)) = inr (inl (is ∙ ap status_number a.0))
           by-told (inr (inr a)) = inr (inr (is ∙ ap status_number a.0))

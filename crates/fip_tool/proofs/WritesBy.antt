@@ -1,5 +1,5 @@
 -- What a part that writes files does, from what its own parts did.
-use Rattle.std.proofs.Common.{◌≡◌, ◌≢◌, ◌≤◌, ◌∷◌, [], ℕ, List, Result, Err, ap, arith, inl, refl, subst, sym}
+use Rattle.std.proofs.Common.{◌≡◌, ◌≢◌, ◌≤◌, ◌⊎◌, ◌∙◌, ◌∷◌, [], ℕ, List, Result, Ok, Err, ap, arith, inl, inr, refl, subst, sym}
 use Rattle.std.specs.Prelude.{IfErr}
 use Rattle.std.proofs.KnownBytes.{Appends-nil}
 use Rattle.base_core.specs.Counts.{Rose}
@@ -7,7 +7,12 @@ use Rattle.host_io.specs.Calls.{raised}
 use Rattle.host_io.specs.declared.files.Files as files
 use Rattle.host_io.specs.declared.sink.Sink as sink
 use Rattle.host_io.specs.declared.writes.Writes.{Writes}
-use Rattle.fip_tool.specs.Done.{WritesTexts}
+use Rattle.fip_tool.specs.Done.{PutsMade, WritesTexts}
+use Rattle.fip_tool.specs.Lines.{made_line}
+use Rattle.fip_tool.specs.Said.{IsMadeLine}
+use Rattle.fip_tool.specs.declared.lines.Format.{Format}
+use Rattle.fip_making.specs.declared.made.Made.{Made}
+use Rattle.fip_making.proofs.Refusing.{if-err-as}
 use Rattle.fip_tool.specs.Seen.{PrintedIn}
 use Rattle.fip_tool.specs.Steps.{FaultsOnce, sink_failures}
 use Rattle.fip_making.specs.Answers.{IsLate}
@@ -19,6 +24,22 @@ use Rattle.fip_making.proofs.Tables.{rose-still}
 use Rattle.fip_making.proofs.Stopped.{err-same}
 use Rattle.fip_tool.proofs.Texts.{says-as, says-nothing, says-printed}
 use Rattle.fip_tool.proofs.WroteLemmas.{wrote-as, wrote-printed}
+
+module _ {H O : Type 0} {h : files.Ghosts H} {o : sink.Ghosts O} where
+  -- a stop in place of what was to be made
+  pub puts-stopped : {old : O} {kept : H} (format : Format) (s : Stop) → PutsMade h o format (Err s) (Err s) kept kept old old
+  puts-stopped format s = record {
+    says = λ apart. says-nothing (IsMadeLine format (Err s)) _ _ _ s (λ e. apart (err-same e)) refl;
+    file_count = λ count faults. faults-as faults;
+    wrote = inl (refl, Appends-nil _);
+    cause = λ e. let same : s ≡ stop.FileFault = cc in inl (err-same same);
+    usage = λ e. let same : s ≡ stop.Usage = cc in err-same same;
+    refusals = inl refl;
+    kept = refl;
+    later = omega arith;
+    later_sink = omega arith;
+    sink_count = λ apart. still _ s (λ e. apart (err-same e));
+  }
 
 module _ {H O : Type 0} {h : files.Ghosts H} {o : sink.Ghosts O} {before after : H} where
   -- a stop before anything was written
@@ -38,6 +59,22 @@ module _ {H O : Type 0} {h : files.Ghosts H} {o : sink.Ghosts O} {before after :
   }
 
   module _ {result : Result (Unit {0}) Stop} {old new : O} where
+    -- the file of what was made, and its line
+    pub puts-texts : (format : Format) (made : Made) (line : List ℕ) → line ≡ made_line format made.count made.frame.size
+        → WritesTexts h o (λ texts. texts ≡ line ∷ []) result before after old new → PutsMade h o format (Ok made) result before after old new
+    puts-texts format made line is put = record {
+      says = λ apart. says-as (λ texts. texts ≡ line ∷ []) (IsMadeLine format (Ok made)) _ _ _ _ result (λ texts e. e ∙ ap (λ l. l ∷ []) is) (λ r. r) put.says;
+      file_count = λ count faults. faults-then faults.quiet put.file_count;
+      wrote = wrote-as (λ texts. texts ≡ line ∷ []) (IsMadeLine format (Ok made)) _ _ _ _ _ result (λ texts e. e ∙ ap (λ l. l ∷ []) is) refl put.wrote;
+      cause = λ e. inr (put.cause e);
+      usage = λ e. absurd (put.usage e);
+      refusals = if-err-as result IsLate (λ s. (◌≡◌ {A = Result Made Stop} (Ok made) (Err s)) ⊎ IsLate s) (λ s late. inr late) put.late;
+      kept = tt;
+      later = put.later;
+      later_sink = put.later_sink;
+      sink_count = λ apart. put.sink_count;
+    }
+
     -- the file was written, and then its line was printed
     pub one-text : (line : List ℕ) → h.faults after ≡ h.faults before → (h.writes after).done ≡ raised (h.writes before).done → PrintedIn o line old new result
         → IfErr result IsLate → (result ≡ Err stop.Usage → ⊥) → o.faults old ≤ o.faults new → o.faults new ≡ sink_failures result (o.faults old)

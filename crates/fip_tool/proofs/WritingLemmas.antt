@@ -8,7 +8,7 @@ use Rattle.host_io.specs.declared.writes.Writes as count
 use Rattle.fip_tool.specs.Lines.{made_line, manifest_line}
 use Rattle.fip_making.specs.Payloads.{joined_pieces, made_bytes}
 use Rattle.fip_making.specs.declared.made.Made.{Made}
-use Rattle.fip_tool.specs.Steps.{Makes, Step, Writes, Prints, Are, Did, Printed, Written, outcome_by, with_file}
+use Rattle.fip_tool.specs.Steps.{Makes, CommandStep, Writes, Prints, Are, Did, PrintedText, Written, outcome_by, with_file}
 use Rattle.fip_tool.specs.Torn.{MayTear}
 use Rattle.fip_tool.specs.Tool.{puts, writes_manifest}
 use Rattle.fip_tool.specs.declared.lines.Format.{Format}
@@ -44,14 +44,14 @@ pub made-put : (format : Format) (files : Directory) (out : List ℕ) (value : R
 made-put format files out value n bytes laid line now was text a b c k s t sink-rose r v is lined le kept did =
     let steps : Writes out laid ∷ Prints line ∷ [] ≡ puts format out (n, bytes) = ap (λ (l : List ℕ). Writes out l ∷ Prints line ∷ []) is ∙ ap (λ (l : List ℕ). Writes out bytes ∷ Prints l ∷ []) lined ∙ spelled format in
     made-steps (puts format out) value (n, bytes) files now was text (Rose b c) (Rose a c) (MayTear s t) (MayTear k t) sink-rose r v (rose-from a b c le) (tears-since t (sym kept))
-    (subst (λ (l : List Step). Did (Makes l) files now was text (Rose b c) (MayTear s t) sink-rose r) steps did)
+    (subst (λ (l : List CommandStep). Did (Makes l) files now was text (Rose b c) (MayTear s t) sink-rose r) steps did)
   where
-    spelled : (f : Format) → ◌≡◌ {A = List Step} (Writes out bytes ∷ Prints (made_line f n (length bytes)) ∷ []) (puts f out (n, bytes))
+    spelled : (f : Format) → ◌≡◌ {A = List CommandStep} (Writes out bytes ∷ Prints (made_line f n (length bytes)) ∷ []) (puts f out (n, bytes))
     spelled kind.Package = refl
     spelled kind.Capsule = refl
 
 pub then-printed : (files : Directory) (now : Option Directory) (was text : Option (List ℕ)) (files-rose spoiled sink-rose : Type 0) (name bytes line : List ℕ) (r : Result (Unit {0}) Stop)
-    → Are now (with_file name bytes files) → Printed was text sink-rose line r → Did (Makes (Writes name bytes ∷ Prints line ∷ [])) files now was text files-rose spoiled sink-rose r
+    → Are now (with_file name bytes files) → PrintedText was text sink-rose line r → Did (Makes (Writes name bytes ∷ Prints line ∷ [])) files now was text files-rose spoiled sink-rose r
 then-printed files now was text files-rose spoiled sink-rose name bytes line (Ok u) w p = (refl, w, subst (Appends was text) (sym (append-nil line)) p)
 then-printed files now was text files-rose spoiled sink-rose name bytes line (Err stop.SinkFault) w p =
     (p.0, 1, w, p.1, p.2, tt)
@@ -74,4 +74,4 @@ manifest-written files out security value made bytes line now was text rose late
     let steps : Writes out bytes ∷ Prints line ∷ [] ≡ writes_manifest out security made =
     ap (λ (l : List ℕ). Writes out l ∷ Prints line ∷ []) same ∙ ap (λ (l : List ℕ). Writes out made.1 ∷ Prints l ∷ []) said in
     made-steps (writes_manifest out security) value made files now was text rose late spoiled spoiled-late sink-rose r v rises spoils
-    (subst (λ (steps : List Step). Did (Makes steps) files now was text rose spoiled sink-rose r) steps did)
+    (subst (λ (steps : List CommandStep). Did (Makes steps) files now was text rose spoiled sink-rose r) steps did)

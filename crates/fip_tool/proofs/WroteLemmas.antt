@@ -4,18 +4,18 @@ use Rattle.std.proofs.Math.Seq.{drop-append_seam, take-append_seam}
 use Rattle.std.specs.Io.KnownBytes.{Appends}
 use Rattle.std.proofs.KnownBytes.{Appends-nil, Appends-trans}
 use Rattle.host_io.specs.Calls.{raised}
-use Rattle.fip_words.specs.Order.{Asked, info, info_of_source, create, update, remove, unpack, manifest, capsule, repackage}
-use Rattle.fip_tool.specs.Said.{IsBegun, Says, half_of, joined}
+use Rattle.fip_words.specs.Order.{FipAsked, info, info_of_source, create, update, remove, unpack, manifest, capsule, repackage}
+use Rattle.fip_tool.specs.Said.{IsBegunText, Says, half_of, joined_texts}
 use Rattle.fip_making.specs.Answers.{IsLate}
-use Rattle.fip_tool.specs.Steps.{Printed}
-use Rattle.fip_tool.specs.Wrote.{IsRest, Wrote, WroteAll, WroteFor, WroteNone, WroteSome, files_ahead, raised_by}
+use Rattle.fip_tool.specs.Steps.{PrintedText}
+use Rattle.fip_tool.specs.Wrote.{IsRestOfTexts, CommandWrote, WroteAll, WroteFor, WroteNone, WroteSome, files_ahead, raised_by}
 use Rattle.fip_making.specs.declared.stops.Stop.{Stop}
 use Rattle.fip_making.specs.declared.stops.Stop.TheVariants as stop
 use Rattle.fip_tool.proofs.Texts.{appends-same, joined-one}
 
 -- ---- one file and its text
 
-one-of : (line rest : List ℕ) (was text : Option (List ℕ)) (before after : ℕ) (s : Stop) → IsRest s rest (line ∷ []) → 1 ≤ files_ahead s → after ≡ raised before → Appends was text rest
+one-of : (line rest : List ℕ) (was text : Option (List ℕ)) (before after : ℕ) (s : Stop) → IsRestOfTexts s rest (line ∷ []) → 1 ≤ files_ahead s → after ≡ raised before → Appends was text rest
     → WroteSome (λ texts. texts ≡ line ∷ []) s was text before after
 one-of line rest was text before after s is ahead count said = record {
   texts = line ∷ [];
@@ -31,8 +31,8 @@ one-of line rest was text before after s is ahead count said = record {
   count = count;
 }
 
-pub wrote-printed : (line : List ℕ) (was text : Option (List ℕ)) (rose : Type 0) (before after : ℕ) (r : Result (Unit {0}) Stop) → after ≡ raised before → Printed was text rose line r
-    → Wrote (λ texts. texts ≡ line ∷ []) was text before after r
+pub wrote-printed : (line : List ℕ) (was text : Option (List ℕ)) (rose : Type 0) (before after : ℕ) (r : Result (Unit {0}) Stop) → after ≡ raised before → PrintedText was text rose line r
+    → CommandWrote (λ texts. texts ≡ line ∷ []) was text before after r
 wrote-printed line was text rose before after (Ok u) count p = record {
   texts = line ∷ [];
   are = refl;
@@ -53,7 +53,7 @@ wrote-printed line was text rose before after (Err stop.NoMemory) count p = inr 
 -- ---- texts of another kind, and a count that was the same
 
 pub wrote-as : (T U : List (List ℕ) → Type 0) (was text : Option (List ℕ)) (mid before after : ℕ) (r : Result (Unit {0}) Stop) → ((texts : List (List ℕ)) → T texts → U texts) → mid ≡ before
-    → Wrote T was text mid after r → Wrote U was text before after r
+    → CommandWrote T was text mid after r → CommandWrote U was text before after r
 wrote-as T U was text mid before after (Ok u) turns same w = record {
   texts = w.texts;
   are = turns w.texts w.are;
@@ -95,20 +95,20 @@ one-wrote line was text start mid after n m so-far next w =
     let same : suc n ≡ m = omega (arith, next) in
     once ∙ ap raised so-far ∙ ap (λ (k : ℕ). raised_by k start) same
 
-none-of-one : (line said : List ℕ) → IsBegun (λ texts. texts ≡ line ∷ []) said → said ≡ []
+none-of-one : (line said : List ℕ) → IsBegunText (λ texts. texts ≡ line ∷ []) said → said ≡ []
 none-of-one line said (inl e) = e
 none-of-one line said (inr b) =
     let zero-is : b.2 ≡ 0 = omega (arith, b.3, ap length b.1) in
-    b.4 ∙ ap (λ (n : ℕ). joined (take n b.0)) zero-is
+    b.4 ∙ ap (λ (n : ℕ). joined_texts (take n b.0)) zero-is
 
-front-of-one : (line : List ℕ) (texts : List (List ℕ)) → texts ≡ line ∷ [] → (n k : ℕ) → n < length texts → joined (take n texts) ++ half_of k (drop n texts) ≡ take k line
+front-of-one : (line : List ℕ) (texts : List (List ℕ)) → texts ≡ line ∷ [] → (n k : ℕ) → n < length texts → joined_texts (take n texts) ++ half_of k (drop n texts) ≡ take k line
 front-of-one line texts is n k lt =
     let zero-is : n ≡ 0 = omega (arith, lt, ap length is) in
-    ap (λ (m : ℕ). joined (take m texts) ++ half_of k (drop m texts)) zero-is ∙ ap (half_of k) is
+    ap (λ (m : ℕ). joined_texts (take m texts) ++ half_of k (drop m texts)) zero-is ∙ ap (half_of k) is
 
 -- what stands there when a part of one text stopped late: a front of it where the sink failed, and else nothing
 says-tail : (line : List ℕ) (after : List (List ℕ)) (at text : Option (List ℕ)) (rose : Type 0) (s : Stop) → IsLate s → Says (λ texts. texts ≡ line ∷ []) at text rose (Err s)
-    → (rest : List ℕ) × IsRest s rest (line ∷ after) × Appends at text rest
+    → (rest : List ℕ) × IsRestOfTexts s rest (line ∷ after) × Appends at text rest
 says-tail line after at text rose stop.FileFault l h = ([], refl, subst (Appends at text) (none-of-one line h.0 h.1) h.2)
 says-tail line after at text rose stop.SinkFault l h = (take h.1.4 line, (h.1.4, refl), subst (Appends at text) (front-of-one line h.1.0 h.1.1 h.1.2 h.1.4 h.1.3) h.1.5)
 says-tail line after at text rose stop.Usage l h = absurd l
@@ -121,12 +121,12 @@ says-tail line after at text rose (stop.NotCapsule f) l h = absurd l
 says-tail line after at text rose stop.NoMemory l h = ([], refl, subst (Appends at text) (none-of-one line h.0 h.1) h.2)
 
 -- a stop at one file, behind files whose texts were printed and before others
-pub wrote-behind : (before : List (List ℕ)) (line : List ℕ) (after all : List (List ℕ)) (was at text : Option (List ℕ)) (rose : Type 0) (start mid now : ℕ) (s : Stop) → all ≡ before ++ (line ∷ after) → Appends was at (joined before)
+pub wrote-behind : (before : List (List ℕ)) (line : List ℕ) (after all : List (List ℕ)) (was at text : Option (List ℕ)) (rose : Type 0) (start mid now : ℕ) (s : Stop) → all ≡ before ++ (line ∷ after) → Appends was at (joined_texts before)
     → mid ≡ raised_by (length before) start → IsLate s → Says (λ texts. texts ≡ line ∷ []) at text rose (Err s)
-    → Wrote (λ texts. texts ≡ line ∷ []) at text mid now (Err s) → Wrote (λ texts. texts ≡ all) was text start now (Err s)
+    → CommandWrote (λ texts. texts ≡ line ∷ []) at text mid now (Err s) → CommandWrote (λ texts. texts ≡ all) was text start now (Err s)
 wrote-behind before line after all was at text rose start mid now s is so-far count late says wrote = inr (late, go wrote)
   where
-    tail : (rest : List ℕ) × IsRest s rest (line ∷ after) × Appends at text rest
+    tail : (rest : List ℕ) × IsRestOfTexts s rest (line ∷ after) × Appends at text rest
     tail = says-tail line after at text rose s late says
 
     front : take (length before) all ≡ before
@@ -135,8 +135,8 @@ wrote-behind before line after all was at text rose start mid now s is so-far co
     back : drop (length before) all ≡ line ∷ after
     back = ap (drop (length before)) is ∙ drop-append_seam before (line ∷ after)
 
-    said : Appends was text (joined (take (length before) all) ++ tail.0)
-    said = subst (λ (l : List (List ℕ)). Appends was text (joined l ++ tail.0)) (sym front) (Appends-trans was at text (joined before) tail.0 so-far tail.2)
+    said : Appends was text (joined_texts (take (length before) all) ++ tail.0)
+    said = subst (λ (l : List (List ℕ)). Appends was text (joined_texts l ++ tail.0)) (sym front) (Appends-trans was at text (joined_texts before) tail.0 so-far tail.2)
 
     behind : (n : ℕ) → n ≤ files_ahead s → now ≡ raised_by n mid → WroteSome (λ texts. texts ≡ all) s was text start now
     behind n few more = record {
@@ -145,7 +145,7 @@ wrote-behind before line after all was at text rose start mid now s is so-far co
       printed = length before;
       left = omega (arith, ap length is, length-append before (line ∷ after));
       rest = tail.0;
-      rest_is = subst (IsRest s tail.0) (sym back) tail.1;
+      rest_is = subst (IsRestOfTexts s tail.0) (sym back) tail.1;
       said = said;
       files = n + length before;
       least = omega arith;
@@ -158,7 +158,7 @@ wrote-behind before line after all was at text rose start mid now s is so-far co
     go (inr (late, w)) = behind w.files (omega (arith, w.most, w.left, ap length w.are)) w.count
 
 -- nothing was written before a stop
-pub wrote-none : (asked : Option Asked) (was : Option (List ℕ)) (n : ℕ) (s : Stop) → WroteFor asked was was n n (Err s)
+pub wrote-none : (asked : Option FipAsked) (was : Option (List ℕ)) (n : ℕ) (s : Stop) → WroteFor asked was was n n (Err s)
 wrote-none None was n s = refl
 wrote-none (Some (info file)) was n s = refl
 wrote-none (Some info_of_source) was n s = refl

@@ -4,7 +4,7 @@ use Rattle.host_io.specs.Contents.{Directory}
 use Rattle.fwu_formats.specs.Package.{Toc, payload, toc_of}
 use Rattle.fwu_formats.specs.Capsule.{capsule_of}
 use Rattle.fip_tables.specs.Files.{Tells}
-use Rattle.fip_words.specs.Order.{Asked, capsule, repackage}
+use Rattle.fip_words.specs.Order.{FipAsked, capsule, repackage}
 
 -- the entries of one table are those of the other, in their order, by their types and their payloads
 pub record KeepsAll (old : List ℕ) (was : Toc) (new : List ℕ) (is : Toc) : Type 0 where
@@ -32,7 +32,7 @@ pub record IsPackaged (files : Directory) (now : Option Directory) (from out : L
   pub keeps : KeepsAll old was new is
 
 -- what a command that is a conversion has done
-abbrev pub Converts : Option Asked → Directory → Option Directory → Type 0
+abbrev pub Converts : Option FipAsked → Directory → Option Directory → Type 0
 Converts (Some (capsule from out)) files now = IsEnclosed files now from out
 Converts (Some (repackage align from out)) files now = IsPackaged files now from out
 Converts other files now = ⊤

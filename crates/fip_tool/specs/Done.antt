@@ -1,7 +1,7 @@
 -- What is done for what the words ask for, by its result.
 use Rattle.std.specs.Prelude.{◌≡◌, ◌≢◌, ◌≤◌, ◌⊎◌, ℕ, List, Option, Some, None, Result, Err, IfErr, IsFalse}
 use Rattle.base_core.specs.Counts.{Rose}
-use Rattle.fip_words.specs.Order.{Asked, info_of_source}
+use Rattle.fip_words.specs.Order.{FipAsked, info_of_source}
 use Rattle.host_io.specs.Access.{Access}
 use Rattle.host_io.specs.Contents.{Directory}
 use Rattle.host_io.specs.Once.{ReadsOnce}
@@ -9,20 +9,22 @@ use Rattle.host_io.specs.declared.files.Files as files
 use Rattle.host_io.specs.declared.source.Source as source
 use Rattle.host_io.specs.declared.sink.Sink as sink
 use Rattle.fip_making.specs.Stops.{status_number}
-use Rattle.fip_tool.specs.Names.{IsRefusal, IsUnneeded, IsUnnamed}
+use Rattle.fip_tool.specs.Names.{IsRefusalStatus, IsUnneeded, IsUnnamedBy}
 use Rattle.fip_tool.specs.Refusals.{MayRefuse}
-use Rattle.fip_tool.specs.Said.{IsTexts, IsTextsOf}
+use Rattle.fip_tool.specs.Said.{IsMadeLine, IsTexts, IsTextsOf}
 use Rattle.fip_tool.specs.Seen.{DidIn, ReadSourceIn, SaysIn, WroteForIn, WroteIn}
 use Rattle.fip_tool.specs.Steps.{FaultsOnce, sink_failures}
 use Rattle.fip_making.specs.Answers.{IsLate, source_failures}
 use Rattle.fip_tool.specs.Tool.{asks_files, command_outcome, outcome_of}
+use Rattle.fip_tool.specs.declared.lines.Format.{Format}
+use Rattle.fip_making.specs.declared.made.Made.{Made}
 use Rattle.fip_making.specs.declared.stops.Stop.{Stop}
 use Rattle.fip_making.specs.declared.stops.Stop.TheVariants as stop
 
 -- a refusal with this status has made no file, and asked for none but those that it comes by
-abbrev pub RefusesAlone : {H : Type 0} → files.Ghosts H → Option Asked → H → H → ℕ → Type 0
+abbrev pub RefusesAlone : {H : Type 0} → files.Ghosts H → Option FipAsked → H → H → ℕ → Type 0
 RefusesAlone h asked before after status =
-    IsRefusal status → (access : Access) → IsUnneeded asked status access → h.spares before after access
+    IsRefusalStatus status → (access : Access) → IsUnneeded asked status access → h.spares before after access
 
 -- What was done by a part of a command that writes files, each with its text behind it, whatever files there are.
 pub record WritesTexts {H O : Type 0} (h : files.Ghosts H) (o : sink.Ghosts O) (T : List (List ℕ) → Type 0)
@@ -39,7 +41,8 @@ pub record WritesTexts {H O : Type 0} (h : files.Ghosts H) (o : sink.Ghosts O) (
   pub sink_count : o.faults sink_after ≡ sink_failures result (o.faults sink_before)
 
 -- What was done for an order that asks for files. A status is not told yet, nor a line that says why the command stopped.
-pub record DoneWithFiles {H O : Type 0} (h : files.Ghosts H) (o : sink.Ghosts O) (asked : Asked) (result : Result (Unit {0}) Stop)
+pub record DoneWithFiles {H O : Type 0} (h : files.Ghosts H) (o : sink.Ghosts O) (asked : FipAsked)
+    (result : Result (Unit {0}) Stop)
     (files_before files_after : H) (sink_before sink_after : O) : Type 0 where
   pub told : (told : Directory) → h.contents files_before ≡ Some told
       → DidIn h o (command_outcome asked told) told files_before files_after sink_before sink_after result
@@ -52,14 +55,44 @@ pub record DoneWithFiles {H O : Type 0} (h : files.Ghosts H) (o : sink.Ghosts O)
   -- each refusal is one of what was asked for
   pub refusals : IfErr result (MayRefuse (Some asked))
   -- no access is made that the words don't name
-  pub spares : (access : Access) → IsUnnamed (Some asked) access → h.spares files_before files_after access
+  pub spares : (access : Access) → IsUnnamedBy (Some asked) access → h.spares files_before files_after access
   pub alone : IfErr result (λ s. RefusesAlone h (Some asked) files_before files_after (status_number s))
   pub later : o.faults sink_before ≤ o.faults sink_after
   pub sink_count : o.faults sink_after ≡ sink_failures result (o.faults sink_before)
 
+-- What was done for a listing of the source: no file is asked for.
+pub record DoneWithSource {I O : Type 0} (i : source.Ghosts I) (o : sink.Ghosts O) (result : Result (Unit {0}) Stop)
+    (source_before source_after : I) (sink_before sink_after : O) : Type 0 where
+  pub listed : (told : Option Directory) → ReadSourceIn i o told told source_before source_after sink_before sink_after result
+  -- no read of the source is made behind one that gave no bytes or failed
+  pub once : ReadsOnce i source_before source_after
+  pub says : SaysIn o (IsTexts info_of_source) sink_before sink_after result
+  pub cause : result ≡ Err stop.FileFault → Rose (i.faults source_before) (i.faults source_after)
+  pub usage : result ≡ Err stop.Usage → ⊥
+  pub later : o.faults sink_before ≤ o.faults sink_after
+  pub source_count : i.faults source_after ≡ source_failures result (i.faults source_before)
+  pub sink_count : o.faults sink_after ≡ sink_failures result (o.faults sink_before)
+  pub refusals : IfErr result (MayRefuse (Some info_of_source))
+
+-- What is done by the making of a file, with its line behind it, or a stop that came in place of what was to be made.
+pub record PutsMade {H O : Type 0} (h : files.Ghosts H) (o : sink.Ghosts O) (format : Format) (made : Result Made Stop)
+    (result : Result (Unit {0}) Stop) (files_before files_after : H) (sink_before sink_after : O) : Type 0 where
+  pub says : (made ≡ Err stop.SinkFault → ⊥) → SaysIn o (IsMadeLine format made) sink_before sink_after result
+  pub file_count : (before : ℕ) → FaultsOnce before (h.faults files_before) made → FaultsOnce before (h.faults files_after) result
+  pub wrote : WroteIn h o (IsMadeLine format made) files_before files_after sink_before sink_after result
+  pub cause : result ≡ Err stop.FileFault
+      → (made ≡ Err stop.FileFault) ⊎ Rose (h.faults files_before) (h.faults files_after)
+  pub usage : result ≡ Err stop.Usage → made ≡ Err stop.Usage
+  pub refusals : IfErr result (λ s. (made ≡ Err s) ⊎ IsLate s)
+  -- a stop that came before leaves the files as they were
+  pub kept : IfErr made (λ s. files_after ≡ files_before)
+  pub later : h.faults files_before ≤ h.faults files_after
+  pub later_sink : o.faults sink_before ≤ o.faults sink_after
+  pub sink_count : (made ≡ Err stop.SinkFault → ⊥) → o.faults sink_after ≡ sink_failures result (o.faults sink_before)
+
 -- The same of whatever the words ask for, with what is seen of the source.
-pub record Done {H I O : Type 0} (h : files.Ghosts H) (i : source.Ghosts I) (o : sink.Ghosts O)
-    (asked : Option Asked) (result : Result (Unit {0}) Stop)
+pub record CommandDone {H I O : Type 0} (h : files.Ghosts H) (i : source.Ghosts I) (o : sink.Ghosts O)
+    (asked : Option FipAsked) (result : Result (Unit {0}) Stop)
     (files_before files_after : H) (source_before source_after : I) (sink_before sink_after : O) : Type 0 where
   pub told : (told : Directory) → h.contents files_before ≡ Some told → asked ≢ Some info_of_source
       → DidIn h o (outcome_of asked told) told files_before files_after sink_before sink_after result
@@ -79,7 +112,7 @@ pub record Done {H I O : Type 0} (h : files.Ghosts H) (i : source.Ghosts I) (o :
       → i.faults source_after ≡ source_failures result (i.faults source_before)
   pub files_stay : IsFalse (asks_files asked) → files_after ≡ files_before
   -- no access is made that the words don't name
-  pub spares : (access : Access) → IsUnnamed asked access → h.spares files_before files_after access
+  pub spares : (access : Access) → IsUnnamedBy asked access → h.spares files_before files_after access
   pub alone : IfErr result (λ s. RefusesAlone h asked files_before files_after (status_number s))
   pub cause : result ≡ Err stop.FileFault → h.contents files_before ≡ None
       → Rose (h.faults files_before) (h.faults files_after) ⊎ Rose (i.faults source_before) (i.faults source_after)

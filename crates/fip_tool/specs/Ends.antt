@@ -8,7 +8,7 @@ use Rattle.fwu_formats.specs.declared.kinds.ManifestFault.{ManifestFault}
 use Rattle.fwu_formats.specs.declared.kinds.ManifestFault.TheVariants as manifest
 use Rattle.fip_tables.specs.declared.faults.PackFault.{PackFault}
 use Rattle.fip_tables.specs.declared.faults.PackFault.TheVariants as pack
-use Rattle.fip_tool.specs.Steps.{IsPrinting, Outcome, Makes, Refuses, Are, StandAfter, half_printed, steps_of, printed, written}
+use Rattle.fip_tool.specs.Steps.{IsPrinting, CommandPlan, Makes, Refuses, Are, StandAfter, half_printed, steps_in_plan, printed, written}
 use Rattle.fip_making.specs.declared.stops.Stop.{Stop}
 use Rattle.fip_making.specs.declared.stops.Stop.TheVariants as stop
 use Rattle.fip_making.specs.Stops.{status_number}
@@ -44,49 +44,50 @@ exit_status (Ok done) = 0
 exit_status (Err s) = status_number s
 
 -- a stop that has its cause: it is what the files and words give, or a file failed
-abbrev pub HasCauseOf : Outcome → Type 0 → Stop → Type 0
+abbrev pub HasCauseOf : CommandPlan → Type 0 → Stop → Type 0
 HasCauseOf outcome files-rose s = (outcome ≡ Refuses s) ⊎ ((s ≡ stop.FileFault) × files-rose)
 
 -- the text of the first n steps, and a front of a stop's line
-abbrev pub SaidStop : ℕ → Outcome → Option (List ℕ) → Option (List ℕ) → Type 0 → Type 0
+abbrev pub SaidStop : ℕ → CommandPlan → Option (List ℕ) → Option (List ℕ) → Type 0 → Type 0
 SaidStop n outcome was text files-rose =
     (s : Stop) × HasCauseOf outcome files-rose s
-    × (k : ℕ) × Appends was text (printed (take n (steps_of outcome)) ++ take k (stop_line s))
+    × (k : ℕ) × Appends was text (printed (take n (steps_in_plan outcome)) ++ take k (stop_line s))
 
 -- The sink failed behind the first n steps: at the text of the next one, or at the line of a stop.
-abbrev pub SinkFailed : ℕ → Outcome → Directory → Option Directory → Option (List ℕ) → Option (List ℕ) → Type 0 → Type 0 → Type 0
+abbrev pub SinkFailed : ℕ → CommandPlan → Directory → Option Directory → Option (List ℕ) → Option (List ℕ) → Type 0 → Type 0
+    → Type 0
 SinkFailed n outcome files now was text files-rose spoiled =
-    (Are now (written (take n (steps_of outcome)) files)
-    × ((k : ℕ) × Appends was text (printed (take n (steps_of outcome)) ++ half_printed k (drop n (steps_of outcome))))
-    × IsPrinting (drop n (steps_of outcome)))
+    (Are now (written (take n (steps_in_plan outcome)) files)
+    × ((k : ℕ) × Appends was text (printed (take n (steps_in_plan outcome)) ++ half_printed k (drop n (steps_in_plan outcome))))
+    × IsPrinting (drop n (steps_in_plan outcome)))
     ⊎ (StandAfter n outcome files now spoiled × SaidStop n outcome was text files-rose)
 
 -- How the tool ended. The files were `files` and the told contents are `now`; the sink's text was `was` and is `text`.
 -- Where it stopped, the files are those after the first steps, but for one whose writing failed.
-abbrev pub EndedBy : Outcome → Directory → Option Directory → Option (List ℕ) → Option (List ℕ) → Type 0 → Type 0 → Type 0
+abbrev pub EndedBy : CommandPlan → Directory → Option Directory → Option (List ℕ) → Option (List ℕ) → Type 0 → Type 0 → Type 0
     → Result (Unit {0}) Stop → Type 0
 EndedBy outcome files now was text files-rose spoiled sink-rose (Ok done) =
-    (outcome ≡ Makes (steps_of outcome)) × Are now (written (steps_of outcome) files)
-    × Appends was text (printed (steps_of outcome))
+    (outcome ≡ Makes (steps_in_plan outcome)) × Are now (written (steps_in_plan outcome) files)
+    × Appends was text (printed (steps_in_plan outcome))
 EndedBy outcome files now was text files-rose spoiled sink-rose (Err stop.NoMemory) =
-    (n : ℕ) × StandAfter n outcome files now spoiled × Appends was text (printed (take n (steps_of outcome)))
+    (n : ℕ) × StandAfter n outcome files now spoiled × Appends was text (printed (take n (steps_in_plan outcome)))
 EndedBy outcome files now was text files-rose spoiled sink-rose (Err stop.SinkFault) =
     sink-rose × (n : ℕ) × SinkFailed n outcome files now was text files-rose spoiled
 EndedBy outcome files now was text files-rose spoiled sink-rose (Err stop.FileFault) =
     HasCauseOf outcome files-rose stop.FileFault × (n : ℕ) × StandAfter n outcome files now spoiled
-    × Appends was text (printed (take n (steps_of outcome)) ++ stop_line stop.FileFault)
+    × Appends was text (printed (take n (steps_in_plan outcome)) ++ stop_line stop.FileFault)
 EndedBy outcome files now was text files-rose spoiled sink-rose (Err s) =
     (outcome ≡ Refuses s) × Are now files × Appends was text (stop_line s)
 
-abbrev pub Ended : Outcome → Directory → Option Directory → Option (List ℕ) → Option (List ℕ) → Type 0 → Type 0 → Type 0
+abbrev pub CommandEnded : CommandPlan → Directory → Option Directory → Option (List ℕ) → Option (List ℕ) → Type 0 → Type 0 → Type 0
     → ℕ → Type 0
-Ended outcome files now was text files-rose spoiled sink-rose status =
+CommandEnded outcome files now was text files-rose spoiled sink-rose status =
     (result : Result (Unit {0}) Stop) × (status ≡ exit_status result)
     × EndedBy outcome files now was text files-rose spoiled sink-rose result
 
 -- what the line of a stop leaves, and the stop then
-abbrev pub Told : Option (List ℕ) → Option (List ℕ) → Type 0 → Stop → Stop → Type 0
-Told was text sink-rose s now =
+abbrev pub StopTold : Option (List ℕ) → Option (List ℕ) → Type 0 → Stop → Stop → Type 0
+StopTold was text sink-rose s now =
     ((now ≡ s) × Appends was text (stop_line s))
     ⊎ ((now ≡ stop.SinkFault) × sink-rose × (k : ℕ) × Appends was text (take k (stop_line s)))
     ⊎ ((now ≡ stop.NoMemory) × (text ≡ was))
@@ -95,4 +96,4 @@ Told was text sink-rose s now =
 abbrev pub Reported : Option (List ℕ) → Option (List ℕ) → Type 0 → Stop → Stop → Type 0
 Reported was text sink-rose stop.SinkFault now = (now ≡ stop.SinkFault) × (text ≡ was)
 Reported was text sink-rose stop.NoMemory now = (now ≡ stop.NoMemory) × (text ≡ was)
-Reported was text sink-rose s now = Told was text sink-rose s now
+Reported was text sink-rose s now = StopTold was text sink-rose s now

@@ -1,26 +1,26 @@
 -- Which accesses to files the words don't name, and which a refusal has no use for.
 use Rattle.std.specs.Prelude.{◌≡◌, ◌≢◌, ◌≤◌, ⊤, ℕ, List, Option, Some, None, All}
 use Rattle.host_io.specs.Access.{Access, Asks, Makes}
-use Rattle.fip_words.specs.Order.{Asked, info, info_of_source, create, update, remove, unpack, manifest, capsule, repackage}
+use Rattle.fip_words.specs.Order.{FipAsked, info, info_of_source, create, update, remove, unpack, manifest, capsule, repackage}
 use Rattle.fip_tool.specs.Lines.{unpacked_name}
 
 -- it asks for none of the files that are to be read, and makes none of those that are to be made
-abbrev pub IsUnnamed : Option Asked → Access → Type 0
-IsUnnamed None access = ⊤
-IsUnnamed (Some (info file)) access = access ≢ Asks file
-IsUnnamed (Some info_of_source) access = ⊤
-IsUnnamed (Some (create align out parts)) access = All (λ p. access ≢ Asks p.file) parts × (access ≢ Makes out)
-IsUnnamed (Some (update align from out parts)) access =
+abbrev pub IsUnnamedBy : Option FipAsked → Access → Type 0
+IsUnnamedBy None access = ⊤
+IsUnnamedBy (Some (info file)) access = access ≢ Asks file
+IsUnnamedBy (Some info_of_source) access = ⊤
+IsUnnamedBy (Some (create align out parts)) access = All (λ p. access ≢ Asks p.file) parts × (access ≢ Makes out)
+IsUnnamedBy (Some (update align from out parts)) access =
     (access ≢ Asks from) × All (λ p. access ≢ Asks p.file) parts × (access ≢ Makes out)
-IsUnnamed (Some (remove align from out names)) access = (access ≢ Asks from) × (access ≢ Makes out)
-IsUnnamed (Some (unpack from prefix names)) access =
+IsUnnamedBy (Some (remove align from out names)) access = (access ≢ Asks from) × (access ≢ Makes out)
+IsUnnamedBy (Some (unpack from prefix names)) access =
     (access ≢ Asks from) × ((guid : List ℕ) → access ≢ Makes (unpacked_name prefix guid))
-IsUnnamed (Some (manifest out security rows)) access = All (λ r. access ≢ Asks r.file) rows × (access ≢ Makes out)
-IsUnnamed (Some (capsule from out)) access = (access ≢ Asks from) × (access ≢ Makes out)
-IsUnnamed (Some (repackage align from out)) access = (access ≢ Asks from) × (access ≢ Makes out)
+IsUnnamedBy (Some (manifest out security rows)) access = All (λ r. access ≢ Asks r.file) rows × (access ≢ Makes out)
+IsUnnamedBy (Some (capsule from out)) access = (access ≢ Asks from) × (access ≢ Makes out)
+IsUnnamedBy (Some (repackage align from out)) access = (access ≢ Asks from) × (access ≢ Makes out)
 
 -- it asks for none of the files that are to be read
-abbrev pub IsUnasked : Asked → Access → Type 0
+abbrev pub IsUnasked : FipAsked → Access → Type 0
 IsUnasked (info file) access = access ≢ Asks file
 IsUnasked info_of_source access = ⊤
 IsUnasked (create align out parts) access = All (λ p. access ≢ Asks p.file) parts
@@ -32,12 +32,12 @@ IsUnasked (capsule from out) access = access ≢ Asks from
 IsUnasked (repackage align from out) access = access ≢ Asks from
 
 -- the status of a refusal
-abbrev pub IsRefusal : ℕ → Type 0
-IsRefusal status = (4 ≤ status) × (status ≤ 8)
+abbrev pub IsRefusalStatus : ℕ → Type 0
+IsRefusalStatus status = (4 ≤ status) × (status ≤ 8)
 
 -- A refusal makes no file, and asks for those alone that it comes by: where a package to be updated is none or lacks an entry, for
 -- the package.
-abbrev pub IsUnneeded : Option Asked → ℕ → Access → Type 0
+abbrev pub IsUnneeded : Option FipAsked → ℕ → Access → Type 0
 IsUnneeded None status access = ⊤
 IsUnneeded (Some (update align from out parts)) status access =
     (access ≢ Asks from) × (status ≡ 6 → All (λ p. access ≢ Asks p.file) parts)

@@ -3,11 +3,11 @@ use Rattle.std.specs.Prelude.{◌≡◌, ◌⊎◌, ◌<◌, ℕ, List, [], ◌�
 use Rattle.std.specs.Io.KnownBytes.{Appends}
 use Rattle.fwu_formats.specs.Package.{Toc}
 use Rattle.capsule_tables.specs.Answers.{IsSomeTable}
-use Rattle.fip_words.specs.Order.{Asked, info, info_of_source, create, update, remove, unpack, manifest, capsule, repackage}
+use Rattle.fip_words.specs.Order.{FipAsked, info, info_of_source, create, update, remove, unpack, manifest, capsule, repackage}
 use Rattle.fip_tool.specs.Lines.{capsule_line, info_text, made_line, manifest_line, packed_line, unpacked_line}
 use Rattle.fip_tool.specs.Ends.{exit_status, stop_line}
 use Rattle.fip_tool.specs.Tool.{chosen}
-use Rattle.fip_making.specs.Values.{first_missing, is_named, IsTable}
+use Rattle.fip_making.specs.Values.{first_missing, is_named, IsTableOfSome}
 use Rattle.fip_tool.specs.declared.lines.Format.{Format}
 use Rattle.fip_making.specs.declared.made.Made.{Made}
 use Rattle.fip_making.specs.declared.stops.Stop.{Stop}
@@ -15,35 +15,35 @@ use Rattle.fip_making.specs.declared.stops.Stop.TheVariants.{FileFault, SinkFaul
 
 -- the listing of some package, with some size
 abbrev pub IsListing : List ℕ → Type 0
-IsListing text = (t : Toc) × (size : ℕ) × IsTable t × (text ≡ info_text t size)
+IsListing text = (t : Toc) × (size : ℕ) × IsTableOfSome t × (text ≡ info_text t size)
 
 -- The texts that a command prints, one after the other, when all is done: of some package or some capsule's table where one is
 -- read, and with some size.
-abbrev pub IsTexts : Asked → List (List ℕ) → Type 0
+abbrev pub IsTexts : FipAsked → List (List ℕ) → Type 0
 IsTexts (info file) texts = (text : List ℕ) × IsListing text × (texts ≡ text ∷ [])
 IsTexts info_of_source texts = (text : List ℕ) × IsListing text × (texts ≡ text ∷ [])
 IsTexts (create align out parts) texts = (size : ℕ) × (texts ≡ packed_line (length parts) size ∷ [])
 IsTexts (update align from out parts) texts =
-    (t : Toc) × IsTable t × (size : ℕ) × (first_missing t (map (λ p. p.guid) parts) ≡ None)
+    (t : Toc) × IsTableOfSome t × (size : ℕ) × (first_missing t (map (λ p. p.guid) parts) ≡ None)
     × (texts ≡ packed_line (length t.entries) size ∷ [])
 IsTexts (remove align from out names) texts =
-    (t : Toc) × IsTable t × (size : ℕ) × (first_missing t names ≡ None)
+    (t : Toc) × IsTableOfSome t × (size : ℕ) × (first_missing t names ≡ None)
     × (texts ≡ packed_line (length (filter (λ e. not (is_named names e)) t.entries)) size ∷ [])
 IsTexts (unpack from prefix names) texts =
-    (t : Toc) × IsTable t × (first_missing t names ≡ None) × (texts ≡ map (unpacked_line prefix) (chosen names t.entries))
+    (t : Toc) × IsTableOfSome t × (first_missing t names ≡ None) × (texts ≡ map (unpacked_line prefix) (chosen names t.entries))
 IsTexts (manifest out security rows) texts = (size : ℕ) × (texts ≡ manifest_line (length rows) size security ∷ [])
-IsTexts (capsule from out) texts = (t : Toc) × IsTable t × (size : ℕ) × (texts ≡ capsule_line (length t.entries) size ∷ [])
+IsTexts (capsule from out) texts = (t : Toc) × IsTableOfSome t × (size : ℕ) × (texts ≡ capsule_line (length t.entries) size ∷ [])
 IsTexts (repackage align from out) texts =
     (t : Toc) × IsSomeTable t × (size : ℕ) × (texts ≡ packed_line (length t.entries) size ∷ [])
 
 -- words that ask for nothing have none
-abbrev pub IsTextsOf : Option Asked → List (List ℕ) → Type 0
+abbrev pub IsTextsOf : Option FipAsked → List (List ℕ) → Type 0
 IsTextsOf None texts = ⊥
 IsTextsOf (Some asked) texts = IsTexts asked texts
 
-abbrev pub joined : List (List ℕ) → List ℕ
-joined [] = []
-joined (text ∷ texts) = text ++ joined texts
+abbrev pub joined_texts : List (List ℕ) → List ℕ
+joined_texts [] = []
+joined_texts (text ∷ texts) = text ++ joined_texts texts
 
 -- so many bytes of the first text
 abbrev pub half_of : ℕ → List (List ℕ) → List ℕ
@@ -51,47 +51,48 @@ half_of k [] = []
 half_of k (text ∷ texts) = take k text
 
 -- nothing, or the first ones of such texts, but not all of them
-abbrev pub IsBegun : (List (List ℕ) → Type 0) → List ℕ → Type 0
-IsBegun T said = (said ≡ []) ⊎ ((texts : List (List ℕ)) × T texts × (n : ℕ) × (n < length texts) × (said ≡ joined (take n texts)))
+abbrev pub IsBegunText : (List (List ℕ) → Type 0) → List ℕ → Type 0
+IsBegunText T said = (said ≡ []) ⊎ ((texts : List (List ℕ)) × T texts × (n : ℕ) × (n < length texts)
+    × (said ≡ joined_texts (take n texts)))
 
 -- the sink failed at one of such texts: those before it are printed, and a front of it
-abbrev pub IsCut : (List (List ℕ) → Type 0) → Option (List ℕ) → Option (List ℕ) → Type 0
-IsCut T was text =
+abbrev pub IsCutText : (List (List ℕ) → Type 0) → Option (List ℕ) → Option (List ℕ) → Type 0
+IsCutText T was text =
     (texts : List (List ℕ)) × T texts × (n : ℕ) × (n < length texts)
-    × (k : ℕ) × Appends was text (joined (take n texts) ++ half_of k (drop n texts))
+    × (k : ℕ) × Appends was text (joined_texts (take n texts) ++ half_of k (drop n texts))
 
 -- what was printed by the result of a command, before the line that tells why it stopped
 abbrev pub Says : (List (List ℕ) → Type 0) → Option (List ℕ) → Option (List ℕ) → Type 0 → Result (Unit {0}) Stop → Type 0
-Says T was text sink-rose (Ok done) = (texts : List (List ℕ)) × T texts × Appends was text (joined texts)
-Says T was text sink-rose (Err SinkFault) = sink-rose × IsCut T was text
-Says T was text sink-rose (Err FileFault) = (said : List ℕ) × IsBegun T said × Appends was text said
-Says T was text sink-rose (Err NoMemory) = (said : List ℕ) × IsBegun T said × Appends was text said
+Says T was text sink-rose (Ok done) = (texts : List (List ℕ)) × T texts × Appends was text (joined_texts texts)
+Says T was text sink-rose (Err SinkFault) = sink-rose × IsCutText T was text
+Says T was text sink-rose (Err FileFault) = (said : List ℕ) × IsBegunText T said × Appends was text said
+Says T was text sink-rose (Err NoMemory) = (said : List ℕ) × IsBegunText T said × Appends was text said
 Says T was text sink-rose (Err s) = text ≡ was
 
 -- what may be printed before a stop: nothing before a refusal
 abbrev pub IsBefore : (List (List ℕ) → Type 0) → Stop → List ℕ → Type 0
-IsBefore T FileFault said = IsBegun T said
+IsBefore T FileFault said = IsBegunText T said
 IsBefore T s said = said ≡ []
 
 -- What was printed in all, by the result. Where there is a stop, its line stands last; where the sink failed it is cut.
 abbrev pub SaysAll : (List (List ℕ) → Type 0) → Option (List ℕ) → Option (List ℕ) → Type 0 → Result (Unit {0}) Stop → Type 0
-SaysAll T was text sink-rose (Ok done) = (texts : List (List ℕ)) × T texts × Appends was text (joined texts)
+SaysAll T was text sink-rose (Ok done) = (texts : List (List ℕ)) × T texts × Appends was text (joined_texts texts)
 SaysAll T was text sink-rose (Err SinkFault) =
-    sink-rose × (IsCut T was text
+    sink-rose × (IsCutText T was text
     ⊎ ((s : Stop) × (said : List ℕ) × IsBefore T s said × (k : ℕ) × Appends was text (said ++ take k (stop_line s))))
-SaysAll T was text sink-rose (Err NoMemory) = (said : List ℕ) × IsBegun T said × Appends was text said
+SaysAll T was text sink-rose (Err NoMemory) = (said : List ℕ) × IsBegunText T said × Appends was text said
 SaysAll T was text sink-rose (Err s) = (said : List ℕ) × IsBefore T s said × Appends was text (said ++ stop_line s)
 
 -- and by the status
-abbrev pub SaidWith : Option Asked → Option (List ℕ) → Option (List ℕ) → Type 0 → ℕ → Type 0
+abbrev pub SaidWith : Option FipAsked → Option (List ℕ) → Option (List ℕ) → Type 0 → ℕ → Type 0
 SaidWith asked was text sink-rose status =
     (result : Result (Unit {0}) Stop) × (status ≡ exit_status result) × SaysAll (IsTextsOf asked) was text sink-rose result
 
 -- Where the sink failed, no call of this count failed, unless the line that tells so is cut.
-abbrev pub SinkAlone : Option Asked → Option (List ℕ) → Option (List ℕ) → ℕ → ℕ → Type 0
+abbrev pub SinkAlone : Option FipAsked → Option (List ℕ) → Option (List ℕ) → ℕ → ℕ → Type 0
 SinkAlone asked was text before after =
     (after ≡ before)
-    ⊎ ((said : List ℕ) × IsBegun (IsTextsOf asked) said × (k : ℕ) × Appends was text (said ++ take k (stop_line FileFault)))
+    ⊎ ((said : List ℕ) × IsBegunText (IsTextsOf asked) said × (k : ℕ) × Appends was text (said ++ take k (stop_line FileFault)))
 
 -- the line of what was made
 abbrev pub IsMadeLine : Format → Result Made Stop → List (List ℕ) → Type 0

@@ -9,31 +9,31 @@ use Rattle.fip_making.specs.declared.stops.Stop.TheVariants.{FileFault, SinkFaul
 use Rattle.fip_making.specs.Answers.{NoneFailed}
 
 -- a file is written whole, or a text is printed
-pub data Step : Type 0 where
-  Writes : List ℕ → List ℕ → Step
-  Prints : List ℕ → Step
+pub data CommandStep : Type 0 where
+  Writes : List ℕ → List ℕ → CommandStep
+  Prints : List ℕ → CommandStep
 
 -- what a command does in order, or why it does nothing
-pub data Outcome : Type 0 where
-  Makes : List Step → Outcome
-  Refuses : Stop → Outcome
+pub data CommandPlan : Type 0 where
+  Makes : List CommandStep → CommandPlan
+  Refuses : Stop → CommandPlan
 
-abbrev pub steps_of : Outcome → List Step
-steps_of (Makes steps) = steps
-steps_of (Refuses stop) = []
+abbrev pub steps_in_plan : CommandPlan → List CommandStep
+steps_in_plan (Makes steps) = steps
+steps_in_plan (Refuses stop) = []
 
 -- the files with one written over
 abbrev pub with_file : List ℕ → List ℕ → Directory → Directory
 with_file name bytes files other = if bytes_eq name other then Some bytes else files other
 
 -- the files after these steps
-abbrev pub written : List Step → Directory → Directory
+abbrev pub written : List CommandStep → Directory → Directory
 written [] files = files
 written (Writes name bytes ∷ steps) files = written steps (with_file name bytes files)
 written (Prints text ∷ steps) files = written steps files
 
 -- the text that these steps print
-abbrev pub printed : List Step → List ℕ
+abbrev pub printed : List CommandStep → List ℕ
 printed [] = []
 printed (Writes name bytes ∷ steps) = printed steps
 printed (Prints text ∷ steps) = text ++ printed steps
@@ -48,52 +48,52 @@ AreBut but None files = ⊥
 AreBut but (Some now) files = (name : List ℕ) → name ≢ but → now name ≡ files name
 
 -- and where the first of these steps is a writing, it failed, and nothing is said of its file
-abbrev pub AreUpTo : List Step → Option Directory → Directory → Type 0
+abbrev pub AreUpTo : List CommandStep → Option Directory → Directory → Type 0
 AreUpTo [] now files = Are now files
 AreUpTo (Writes name bytes ∷ steps) now files = AreBut name now files
 AreUpTo (Prints text ∷ steps) now files = Are now files
 
 -- so many bytes of what the first of these steps prints
-abbrev pub half_printed : ℕ → List Step → List ℕ
+abbrev pub half_printed : ℕ → List CommandStep → List ℕ
 half_printed k [] = []
 half_printed k (Writes name bytes ∷ steps) = []
 half_printed k (Prints text ∷ steps) = take k text
 
 -- the first of these steps is to print
-abbrev pub IsPrinting : List Step → Type 0
+abbrev pub IsPrinting : List CommandStep → Type 0
 IsPrinting [] = ⊥
 IsPrinting (Writes name bytes ∷ steps) = ⊥
 IsPrinting (Prints text ∷ steps) = ⊤
 
 -- The files after the first n steps. Only where a writing may have torn its file may that of the next step be another.
-abbrev pub StandAfter : ℕ → Outcome → Directory → Option Directory → Type 0 → Type 0
+abbrev pub StandAfter : ℕ → CommandPlan → Directory → Option Directory → Type 0 → Type 0
 StandAfter n outcome files now spoiled =
-    Are now (written (take n (steps_of outcome)) files)
-    ⊎ (spoiled × AreUpTo (drop n (steps_of outcome)) now (written (take n (steps_of outcome)) files))
+    Are now (written (take n (steps_in_plan outcome)) files)
+    ⊎ (spoiled × AreUpTo (drop n (steps_in_plan outcome)) now (written (take n (steps_in_plan outcome)) files))
 
 -- What was done of a command, by its result. The files were `files` and the told contents are `now`; the sink's text was
 -- `was` and is `text`. Nothing but the command's steps was done, in their order. A call of the files failed where
 -- `files-rose`, a writing that may have torn its file where `spoiled`, and a call of the sink where `sink-rose`, which was a step
 -- that prints.
-abbrev pub Did : Outcome → Directory → Option Directory → Option (List ℕ) → Option (List ℕ) → Type 0 → Type 0 → Type 0
+abbrev pub Did : CommandPlan → Directory → Option Directory → Option (List ℕ) → Option (List ℕ) → Type 0 → Type 0 → Type 0
     → Result (Unit {0}) Stop → Type 0
 Did outcome files now was text files-rose spoiled sink-rose (Ok done) =
-    (outcome ≡ Makes (steps_of outcome)) × Are now (written (steps_of outcome) files)
-    × Appends was text (printed (steps_of outcome))
+    (outcome ≡ Makes (steps_in_plan outcome)) × Are now (written (steps_in_plan outcome) files)
+    × Appends was text (printed (steps_in_plan outcome))
 Did outcome files now was text files-rose spoiled sink-rose (Err NoMemory) =
-    (n : ℕ) × Are now (written (take n (steps_of outcome)) files) × Appends was text (printed (take n (steps_of outcome)))
+    (n : ℕ) × Are now (written (take n (steps_in_plan outcome)) files) × Appends was text (printed (take n (steps_in_plan outcome)))
 Did outcome files now was text files-rose spoiled sink-rose (Err SinkFault) =
-    sink-rose × (n : ℕ) × Are now (written (take n (steps_of outcome)) files)
-    × (k : ℕ) × Appends was text (printed (take n (steps_of outcome)) ++ half_printed k (drop n (steps_of outcome)))
-    × IsPrinting (drop n (steps_of outcome))
+    sink-rose × (n : ℕ) × Are now (written (take n (steps_in_plan outcome)) files)
+    × (k : ℕ) × Appends was text (printed (take n (steps_in_plan outcome)) ++ half_printed k (drop n (steps_in_plan outcome)))
+    × IsPrinting (drop n (steps_in_plan outcome))
 Did outcome files now was text files-rose spoiled sink-rose (Err FileFault) =
     ((outcome ≡ Refuses FileFault) ⊎ files-rose) × (n : ℕ) × StandAfter n outcome files now spoiled
-    × Appends was text (printed (take n (steps_of outcome)))
+    × Appends was text (printed (take n (steps_in_plan outcome)))
 Did outcome files now was text files-rose spoiled sink-rose (Err stop) =
     (outcome ≡ Refuses stop) × Are now files × Appends was text []
 
 -- the outcome of a command whose steps are made of a value
-abbrev pub outcome_by : {X : Type 0} → (X → List Step) → Result X Stop → Outcome
+abbrev pub outcome_by : {X : Type 0} → (X → List CommandStep) → Result X Stop → CommandPlan
 outcome_by steps (Ok x) = Makes (steps x)
 outcome_by steps (Err s) = Refuses s
 
@@ -108,11 +108,11 @@ pub record FailsAtMostOnce (status before after : ℕ) : Type 0 where
   pub none : IsFalse ((status == 2) || ((status == 3) || (status == 9))) → after ≡ before
 
 -- what the sink took of a text
-abbrev pub Printed : Option (List ℕ) → Option (List ℕ) → Type 0 → List ℕ → Result (Unit {0}) Stop → Type 0
-Printed was text sink-rose piece (Ok done) = Appends was text piece
-Printed was text sink-rose piece (Err SinkFault) = sink-rose × (k : ℕ) × Appends was text (take k piece)
-Printed was text sink-rose piece (Err NoMemory) = text ≡ was
-Printed was text sink-rose piece (Err stop) = ⊥
+abbrev pub PrintedText : Option (List ℕ) → Option (List ℕ) → Type 0 → List ℕ → Result (Unit {0}) Stop → Type 0
+PrintedText was text sink-rose piece (Ok done) = Appends was text piece
+PrintedText was text sink-rose piece (Err SinkFault) = sink-rose × (k : ℕ) × Appends was text (take k piece)
+PrintedText was text sink-rose piece (Err NoMemory) = text ≡ was
+PrintedText was text sink-rose piece (Err stop) = ⊥
 
 -- how many calls of the sink have failed after a command that ended so:
 -- one more where the sink took no more, and else as many as before
@@ -130,7 +130,7 @@ line_failures SinkFault now before = before
 line_failures s now before = sink_failed now before
 
 -- And by the exit status, of the source: it failed once where that is told. The line of such a stop may be cut, or find no memory.
-pub record FailsOnce (status before after : ℕ) : Type 0 where
+pub record FailsOnceAt (status before after : ℕ) : Type 0 where
   pub once : (after ≡ before) ⊎ (after ≡ raised before)
   pub failed : status ≡ 2 → after ≡ raised before
   pub none : IsFalse ((status == 2) || ((status == 3) || (status == 9))) → after ≡ before

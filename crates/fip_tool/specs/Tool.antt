@@ -4,22 +4,22 @@ use Rattle.std.specs.Io.KnownBytes.{Consumes, IsAtEnd}
 use Rattle.host_io.specs.Contents.{Directory}
 use Rattle.fwu_formats.specs.Package.{Entry, payload, toc_of}
 use Rattle.fip_tables.specs.Answers.{decided}
-use Rattle.fip_words.specs.Order.{Asked, info, info_of_source, create, update, remove, unpack, manifest, capsule, repackage}
+use Rattle.fip_words.specs.Order.{FipAsked, info, info_of_source, create, update, remove, unpack, manifest, capsule, repackage}
 use Rattle.fip_tool.specs.Lines.{capsule_line, info_text, manifest_line, packed_line, unpacked_line, unpacked_name}
 use Rattle.fip_tool.specs.Ends.{EndedBy, exit_status}
-use Rattle.fip_tool.specs.Steps.{Did, Outcome, Refuses, Step, Writes, Prints, outcome_by}
+use Rattle.fip_tool.specs.Steps.{Did, CommandPlan, Refuses, CommandStep, Writes, Prints, outcome_by}
 use Rattle.fip_tool.specs.declared.lines.Format.{Format}
 use Rattle.fip_tool.specs.declared.lines.Format.TheVariants as format
 use Rattle.fip_making.specs.declared.stops.Stop.{Stop}
 use Rattle.fip_making.specs.declared.stops.Stop.TheVariants as stop
-use Rattle.fip_making.specs.Values.{StopsInTime, after, capsule_value, create_value, first_missing, given_table, is_named, manifest_value, package_in, remove_value, repackage_value, sized_table, unless_missing, update_value}
+use Rattle.fip_making.specs.Values.{StopsInTime, after, capsule_value, create_value, first_missing, given_table, is_named, manifest_value, package_read_in, remove_value, repackage_value, sized_table, unless_missing, update_value}
 
 -- ---- info
 
 unfoldable pub info_value : Directory → List ℕ → Result (List ℕ) Stop
 info_value files name = after (sized_table files name) (λ t. Ok (info_text t.0 t.1))
 
-abbrev pub prints : List ℕ → List Step
+abbrev pub prints : List ℕ → List CommandStep
 prints text = Prints text ∷ []
 
 unfoldable pub given_value : List ℕ → Result (List ℕ) Stop
@@ -27,14 +27,14 @@ given_value given = after (given_table given) (λ t. Ok (info_text t.0 t.1))
 
 -- ---- packages and capsules that are made
 
-abbrev pub encloses : List ℕ → ℕ × List ℕ → List Step
+abbrev pub encloses : List ℕ → ℕ × List ℕ → List CommandStep
 encloses out made = Writes out made.1 ∷ Prints (capsule_line made.0 (length made.1)) ∷ []
 
-abbrev pub packs : List ℕ → ℕ × List ℕ → List Step
+abbrev pub packs : List ℕ → ℕ × List ℕ → List CommandStep
 packs out made = Writes out made.1 ∷ Prints (packed_line made.0 (length made.1)) ∷ []
 
 -- the steps for a package or a capsule that was made
-abbrev pub puts : Format → List ℕ → ℕ × List ℕ → List Step
+abbrev pub puts : Format → List ℕ → ℕ × List ℕ → List CommandStep
 puts format.Package out = packs out
 puts format.Capsule out = encloses out
 
@@ -45,24 +45,24 @@ abbrev pub chosen : List (List ℕ) → List Entry → List Entry
 chosen [] entries = entries
 chosen (guid ∷ guids) entries = filter (is_named (guid ∷ guids)) entries
 
-abbrev pub unpack_steps : List ℕ → List ℕ → List Entry → List Step
+abbrev pub unpack_steps : List ℕ → List ℕ → List Entry → List CommandStep
 unpack_steps prefix bytes [] = []
 unpack_steps prefix bytes (e ∷ entries) =
     Writes (unpacked_name prefix e.guid) (payload bytes e) ∷ Prints (unpacked_line prefix e) ∷ unpack_steps prefix bytes entries
 
 unfoldable pub unpack_value : Directory → List ℕ → List (List ℕ) → Result (List ℕ × List Entry) Stop
 unpack_value files from guids =
-    after (package_in files from) (λ p. unless_missing (first_missing p.1 guids) (Ok (p.0, chosen guids p.1.entries)))
+    after (package_read_in files from) (λ p. unless_missing (first_missing p.1 guids) (Ok (p.0, chosen guids p.1.entries)))
 
 -- ---- manifests
 
-abbrev pub writes_manifest : List ℕ → ℕ → ℕ × List ℕ → List Step
+abbrev pub writes_manifest : List ℕ → ℕ → ℕ × List ℕ → List CommandStep
 writes_manifest out security made = Writes out made.1 ∷ Prints (manifest_line made.0 (length made.1) security) ∷ []
 
 -- ---- commands
 
 -- what the words ask for, done with these files
-abbrev pub command_outcome : Asked → Directory → Outcome
+abbrev pub command_outcome : FipAsked → Directory → CommandPlan
 command_outcome (info file) files = outcome_by prints (info_value files file)
 command_outcome info_of_source files = Refuses stop.Usage
 command_outcome (create align out parts) files = outcome_by (packs out) (create_value files align parts)
@@ -73,12 +73,12 @@ command_outcome (manifest out security rows) files = outcome_by (writes_manifest
 command_outcome (capsule from out) files = outcome_by (encloses out) (capsule_value files from)
 command_outcome (repackage align from out) files = outcome_by (packs out) (repackage_value files align from)
 
-abbrev pub outcome_of : Option Asked → Directory → Outcome
+abbrev pub outcome_of : Option FipAsked → Directory → CommandPlan
 outcome_of None files = Refuses stop.Usage
 outcome_of (Some asked) files = command_outcome asked files
 
 -- all but usage and a listing of the source ask for a file
-abbrev pub asks_files : Option Asked → Bool
+abbrev pub asks_files : Option FipAsked → Bool
 asks_files None = false
 asks_files (Some (info file)) = true
 asks_files (Some info_of_source) = false

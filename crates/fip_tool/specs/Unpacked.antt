@@ -23,7 +23,8 @@ pub record Unpacked {H O : Type 0} (h : files.Ghosts H) (o : sink.Ghosts O) (fro
   pub other : OnOk result (is_unpacked prefix from ≡ false → from ≢ unpacked_name prefix entry.guid)
   pub silent : h.contents files_before ≡ None → h.contents files_after ≡ None
   pub unspoiled : OnOk result (NoneUnwritten (h.writes files_before) (h.writes files_after))
-  pub texts : WritesTexts h o (λ texts. texts ≡ unpacked_line prefix entry ∷ []) result files_before files_after sink_before sink_after
+  pub texts : WritesTexts h o (λ texts. texts ≡ unpacked_line prefix entry ∷ []) result files_before files_after sink_before
+      sink_after
   -- its payload's file is made, and no other than the package asked for
   pub spares : (access : Access) → access ≢ Asks from → ((guid : List ℕ) → access ≢ Makes (unpacked_name prefix guid))
       → h.spares files_before files_after access

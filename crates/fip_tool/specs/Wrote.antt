@@ -2,10 +2,10 @@
 use Rattle.std.specs.Prelude.{◌≡◌, ◌⊎◌, ◌+◌, ◌<◌, ◌≤◌, ℕ, zero, suc, List, [], ◌++◌, Option, Some, None, Result, Ok, Err, length, take, drop}
 use Rattle.std.specs.Io.KnownBytes.{Appends}
 use Rattle.host_io.specs.Calls.{raised}
-use Rattle.fip_words.specs.Order.{Asked, info, info_of_source, create, update, remove, unpack, manifest, capsule, repackage}
+use Rattle.fip_words.specs.Order.{FipAsked, info, info_of_source, create, update, remove, unpack, manifest, capsule, repackage}
 use Rattle.fip_tool.specs.Ends.{Reported}
 use Rattle.fip_making.specs.Stops.{status_number}
-use Rattle.fip_tool.specs.Said.{IsTexts, half_of, joined}
+use Rattle.fip_tool.specs.Said.{IsTexts, half_of, joined_texts}
 use Rattle.fip_making.specs.Answers.{IsLate}
 use Rattle.fip_making.specs.declared.stops.Stop.{Stop}
 use Rattle.fip_making.specs.declared.stops.Stop.TheVariants.{FileFault, SinkFault}
@@ -24,7 +24,7 @@ raised_by (suc n) count = raised (raised_by n count)
 pub record WroteAll (T : List (List ℕ) → Type 0) (was text : Option (List ℕ)) (before after : ℕ) : Type 0 where
   pub texts : List (List ℕ)
   pub are : T texts
-  pub said : Appends was text (joined texts)
+  pub said : Appends was text (joined_texts texts)
   pub count : after ≡ raised_by (length texts) before
 
 -- how many files may be written whose text was not printed whole: none where a file's fault is told
@@ -33,9 +33,9 @@ files_ahead FileFault = 0
 files_ahead s = 1
 
 -- what stands behind the texts that were printed whole: a front of the next one where the sink failed, and else nothing
-abbrev pub IsRest : Stop → List ℕ → List (List ℕ) → Type 0
-IsRest SinkFault rest texts = (k : ℕ) × (rest ≡ half_of k texts)
-IsRest s rest texts = rest ≡ []
+abbrev pub IsRestOfTexts : Stop → List ℕ → List (List ℕ) → Type 0
+IsRestOfTexts SinkFault rest texts = (k : ℕ) × (rest ≡ half_of k texts)
+IsRestOfTexts s rest texts = rest ≡ []
 
 -- Before the stop s as many files were written as texts were printed, which are not all, or one more.
 pub record WroteSome (T : List (List ℕ) → Type 0) (s : Stop) (was text : Option (List ℕ)) (before after : ℕ) : Type 0 where
@@ -44,8 +44,8 @@ pub record WroteSome (T : List (List ℕ) → Type 0) (s : Stop) (was text : Opt
   pub printed : ℕ
   pub left : printed < length texts
   pub rest : List ℕ
-  pub rest_is : IsRest s rest (drop printed texts)
-  pub said : Appends was text (joined (take printed texts) ++ rest)
+  pub rest_is : IsRestOfTexts s rest (drop printed texts)
+  pub said : Appends was text (joined_texts (take printed texts) ++ rest)
   pub files : ℕ
   pub least : printed ≤ files
   pub most : files ≤ printed + files_ahead s
@@ -56,32 +56,32 @@ abbrev pub WroteNone : Option (List ℕ) → Option (List ℕ) → ℕ → ℕ �
 WroteNone was text before after = (after ≡ before) × Appends was text []
 
 -- By the result of a command, whose texts are these where all is done. Where it refuses, nothing is written.
-abbrev pub Wrote : (List (List ℕ) → Type 0) → Option (List ℕ) → Option (List ℕ) → ℕ → ℕ → Result (Unit {0}) Stop → Type 0
-Wrote T was text before after (Ok done) = WroteAll T was text before after
-Wrote T was text before after (Err s) = WroteNone was text before after ⊎ (IsLate s × WroteSome T s was text before after)
+abbrev pub CommandWrote : (List (List ℕ) → Type 0) → Option (List ℕ) → Option (List ℕ) → ℕ → ℕ → Result (Unit {0}) Stop → Type 0
+CommandWrote T was text before after (Ok done) = WroteAll T was text before after
+CommandWrote T was text before after (Err s) = WroteNone was text before after ⊎ (IsLate s × WroteSome T s was text before after)
 
 -- a listing writes nothing
-abbrev pub WroteFor : Option Asked → Option (List ℕ) → Option (List ℕ) → ℕ → ℕ → Result (Unit {0}) Stop → Type 0
+abbrev pub WroteFor : Option FipAsked → Option (List ℕ) → Option (List ℕ) → ℕ → ℕ → Result (Unit {0}) Stop → Type 0
 WroteFor None was text before after result = after ≡ before
 WroteFor (Some (info file)) was text before after result = after ≡ before
 WroteFor (Some info_of_source) was text before after result = after ≡ before
 WroteFor (Some (create align out parts)) was text before after result =
-    Wrote (IsTexts (create align out parts)) was text before after result
+    CommandWrote (IsTexts (create align out parts)) was text before after result
 WroteFor (Some (update align from out parts)) was text before after result =
-    Wrote (IsTexts (update align from out parts)) was text before after result
+    CommandWrote (IsTexts (update align from out parts)) was text before after result
 WroteFor (Some (remove align from out names)) was text before after result =
-    Wrote (IsTexts (remove align from out names)) was text before after result
+    CommandWrote (IsTexts (remove align from out names)) was text before after result
 WroteFor (Some (unpack from prefix names)) was text before after result =
-    Wrote (IsTexts (unpack from prefix names)) was text before after result
+    CommandWrote (IsTexts (unpack from prefix names)) was text before after result
 WroteFor (Some (manifest out security rows)) was text before after result =
-    Wrote (IsTexts (manifest out security rows)) was text before after result
+    CommandWrote (IsTexts (manifest out security rows)) was text before after result
 WroteFor (Some (capsule from out)) was text before after result =
-    Wrote (IsTexts (capsule from out)) was text before after result
+    CommandWrote (IsTexts (capsule from out)) was text before after result
 WroteFor (Some (repackage align from out)) was text before after result =
-    Wrote (IsTexts (repackage align from out)) was text before after result
+    CommandWrote (IsTexts (repackage align from out)) was text before after result
 
 -- And by the exit status. Where a command stopped, the line that tells why stands behind what it printed.
-abbrev pub WroteWith : Option Asked → Option (List ℕ) → Option (List ℕ) → Type 0 → ℕ → ℕ → ℕ → Type 0
+abbrev pub WroteWith : Option FipAsked → Option (List ℕ) → Option (List ℕ) → Type 0 → ℕ → ℕ → ℕ → Type 0
 WroteWith asked was text sink-rose before after status =
     ((status ≡ 0) × WroteFor asked was text before after (Ok tt))
     ⊎ ((s : Stop) × (now : Stop) × (printed : Option (List ℕ)) × WroteFor asked was printed before after (Err s)

@@ -1,10 +1,8 @@
 //! `info`: what a package has.
-ghost use Rattle.std.specs.Prelude.{◌≡◌, IfOk, List, Some, ℕ, IfErr};
-ghost use Rattle.host_io.specs.Contents.{Directory};
-ghost use Rattle.host_io.specs.Reads.{ReadsFile};
-ghost use Rattle.fip_making.specs.Refusals.{IsOfPackage};
+ghost use Rattle.std.specs.Prelude.{IfOk, List, ℕ};
+ghost use Rattle.fip_making.specs.Refusals.{IsPackageStop};
 ghost use Rattle.fip_tool.specs.Said.{IsListing};
-ghost use Rattle.fip_making.specs.Seen.{GivenToIn, GivesIn, ReadsOnlyIn, ReadsGiven};
+ghost use Rattle.fip_making.specs.Seen.{AsTold, GivenToIn, ReadsGiven, ReadsOne};
 ghost use Rattle.fip_making.specs.Values.{StopsInTime};
 ghost use Rattle.fip_tool.specs.Tool.{given_value, info_value};
 
@@ -15,13 +13,9 @@ use std::alloc::Global;
 
 /// What is printed of a package in a file.
 pub fn file_info<H: Files>(alloc: Global, files: &mut H, name: &str) -> Result<Vec<u8>, Stop>
-    ensures told { (told : Directory) → H.contents files.old ≡ Some told
-        → GivesIn H.Files (λ text. text.items) (info_value told name.now)
-        files.old files.new result }
+    ensures told { AsTold H.Files (λ told text. text.items) (λ told. info_value told name.now) files.old files.new result }
     ensures listed { IfOk result (λ text. IsListing text.items) }
-    ensures reads { ReadsOnlyIn H.Files files.old files.new result }
-    ensures files { ReadsFile H.Files name.now files.old files.new }
-    ensures refusals { IfErr result IsOfPackage }
+    ensures reads { ReadsOne H.Files name.now IsPackageStop files.old files.new result }
 {
     let (toc, size) = read_package(files, name)?;
     Ok(info_text(alloc, &toc, size)?)

@@ -1,6 +1,6 @@
 //! The commands that make packages: `create`, `remove` and `update`.
-ghost use Rattle.std.specs.Prelude.{map};
-ghost use Rattle.fip_words.specs.Order.{Asked, part_view};
+ghost use Rattle.std.specs.Prelude.{◌≡◌, map};
+ghost use Rattle.fip_words.specs.Order.{FipAsked, part_view};
 ghost use Rattle.fip_tool.specs.Done.{DoneWithFiles};
 
 use crate::lines::Format;
@@ -19,6 +19,15 @@ pub struct Remade<'a> {
     pub out: &'a str,
 }
 
+impl<'a> Remade<'a> {
+    /// The package of these words.
+    pub fn new(align: u32, from: &'a str, out: &'a str) -> Remade<'a>
+        ensures { (result.align ≡ align) × (result.from.now ≡ from.now) × (result.out.now ≡ out.now) }
+    {
+        Remade { align, from, out }
+    }
+}
+
 /// Writes a new package of named files to the file `out`, and prints its line.
 pub fn run_create<H: Files, O: Sink>(
     alloc: Global,
@@ -28,8 +37,7 @@ pub fn run_create<H: Files, O: Sink>(
     out: &str,
     named: &[FileWord<'_>],
 ) -> Result<(), Stop>
-    ensures { DoneWithFiles H.Files O.Sink
-        (Asked.create align out.now (map part_view named.now)) result
+    ensures { DoneWithFiles H.Files O.Sink (FipAsked.create align out.now (map part_view named.now)) result
         files.old files.new sink.old sink.new }
 {
     let made = created(alloc, files, align, named);
@@ -44,8 +52,7 @@ pub fn run_remove<H: Files, O: Sink>(
     remade: &Remade<'_>,
     guids: &[Guid],
 ) -> Result<(), Stop>
-    ensures { DoneWithFiles H.Files O.Sink
-        (Asked.remove remade.now.align remade.now.from.now remade.now.out.now guids.now) result
+    ensures { DoneWithFiles H.Files O.Sink (FipAsked.remove remade.now.align remade.now.from.now remade.now.out.now guids.now) result
         files.old files.new sink.old sink.new }
 {
     let made = removed(alloc, files, remade.align, remade.from, guids);
@@ -62,7 +69,7 @@ pub fn run_update<H: Files, O: Sink>(
     named: &[FileWord<'_>],
 ) -> Result<(), Stop>
     ensures { DoneWithFiles H.Files O.Sink
-        (Asked.update remade.now.align remade.now.from.now remade.now.out.now (map part_view named.now)) result
+        (FipAsked.update remade.now.align remade.now.from.now remade.now.out.now (map part_view named.now)) result
         files.old files.new sink.old sink.new }
 {
     let made = updated(alloc, files, remade.align, remade.from, named);

@@ -1,6 +1,6 @@
 //! The command that makes manifests: `manifest`.
 ghost use Rattle.std.specs.Prelude.{map};
-ghost use Rattle.fip_words.specs.Order.{Asked, image_view};
+ghost use Rattle.fip_words.specs.Order.{FipAsked, image_view};
 ghost use Rattle.fip_tool.specs.Done.{DoneWithFiles};
 
 use crate::lines::manifest_line;
@@ -19,8 +19,7 @@ pub fn run_manifest<H: Files, O: Sink>(
     security: u32,
     named: &[ImageWord],
 ) -> Result<(), Stop>
-    ensures { DoneWithFiles H.Files O.Sink
-        (Asked.manifest out.now security (map image_view named.now)) result
+    ensures { DoneWithFiles H.Files O.Sink (FipAsked.manifest out.now security (map image_view named.now)) result
         files.old files.new sink.old sink.new }
 {
     let (rows, bytes) = manifest(alloc, files, security, named)?;

@@ -74,8 +74,7 @@ fn line_of(alloc: Global, word: &[u8], what: &[u8]) -> Result<Vec<u8>, NoMemory>
 }
 
 fn no_entry_line(alloc: Global, guid: &Guid) -> Result<Vec<u8>, NoMemory>
-    ensures { IfOk result (λ line. line.items ≡ codes "no-entry " ++ guid_text guid.now ++ codes
-        "\n") }
+    ensures { IfOk result (λ line. line.items ≡ codes "no-entry " ++ guid_text guid.now ++ codes "\n") }
 {
     let mut line = Vec::from_slice(alloc, b"no-entry ")?;
     add_guid(&mut line, guid)?;
@@ -84,8 +83,7 @@ fn no_entry_line(alloc: Global, guid: &Guid) -> Result<Vec<u8>, NoMemory>
 }
 
 fn not_capsule_line(alloc: Global, fault: CapsuleFault) -> Result<Vec<u8>, NoMemory>
-    ensures { IfOk result (λ line. line.items ≡ codes "not-capsule " ++ decimal (capsule_fault_number fault)
-        ++ codes "\n") }
+    ensures { IfOk result (λ line. line.items ≡ codes "not-capsule " ++ decimal (capsule_fault_number fault) ++ codes "\n") }
 {
     let mut line = Vec::new(alloc);
     add_named(&mut line, b"not-capsule ", u64::from(fault.number()))?;

@@ -1,21 +1,19 @@
 //! The tool: it reads its words, does the command, and tells how it ended.
-ghost use Rattle.std.specs.Prelude.{◌==◌, if◌then◌else◌, ◌≡◌, ◌≢◌, ◌≤◌, ◌⊎◌, IsFalse, List, Option, Some, None, Ok, Err, ℕ, false, map, string_bytes, IfErr};
+ghost use Rattle.std.specs.Prelude.{◌==◌, if◌then◌else◌, ◌≡◌, ◌≢◌, ◌≤◌, ◌⊎◌, IsFalse, List, Some, None, Ok, Err, ℕ, false, map, string_bytes};
 ghost use Rattle.base_core.specs.Counts.{Rose};
-ghost use Rattle.fip_tool.specs.Names.{IsUnnamed};
+ghost use Rattle.fip_tool.specs.Names.{IsUnnamedBy};
 ghost use Rattle.host_io.specs.Access.{Access};
 ghost use Rattle.host_io.specs.Calls.{raised};
 ghost use Rattle.host_io.specs.Contents.{Directory};
 ghost use Rattle.host_io.specs.Once.{ReadsOnce};
 ghost use Rattle.host_io.specs.Reads.{ReadsFile};
-ghost use Rattle.fip_words.specs.Order.{Asked, asked, info_of_source, view};
+ghost use Rattle.fip_words.specs.Order.{FipAsked, asked, info_of_source, view};
 ghost use Rattle.fip_words.specs.Values.{is_unpacked};
-ghost use Rattle.fip_tool.specs.Refusals.{EndsFor, MayRefuse};
+ghost use Rattle.fip_tool.specs.Refusals.{EndsFor};
 ghost use Rattle.fip_tool.specs.Converted.{Converts};
-ghost use Rattle.fip_tool.specs.Done.{Done, DoneWithFiles, RefusesAlone};
-ghost use Rattle.fip_tool.specs.Said.{IsTexts};
-ghost use Rattle.fip_tool.specs.Seen.{EndedIn, EndedSourceIn, ReadSourceIn, ReportedIn, SaidWithIn, SaysIn, SinkAloneIn, ToldIn, WroteWithIn};
-ghost use Rattle.fip_tool.specs.Steps.{FailsAtMostOnce, FailsOnce, line_failures, sink_failed, sink_failures};
-ghost use Rattle.fip_making.specs.Answers.{source_failures};
+ghost use Rattle.fip_tool.specs.Done.{CommandDone, DoneWithFiles, DoneWithSource, RefusesAlone};
+ghost use Rattle.fip_tool.specs.Seen.{EndedIn, EndedSourceIn, ReportedIn, SaidWithIn, SinkAloneIn, ToldIn, WroteWithIn};
+ghost use Rattle.fip_tool.specs.Steps.{FailsAtMostOnce, FailsOnceAt, line_failures, sink_failed};
 ghost use Rattle.fip_tool.specs.Tool.{asks_files, outcome_of};
 ghost use Rattle.fip_making.specs.declared.stops.Stop.TheVariants as stop;
 ghost use Rattle.fip_making.specs.declared.stops.Stop.TheVariants.{SinkFault};
@@ -38,8 +36,7 @@ fn info<H: Files, O: Sink>(
     sink: &mut O,
     name: &str,
 ) -> Result<(), Stop>
-    ensures done { DoneWithFiles H.Files O.Sink (Asked.info name.now) result
-        files.old files.new sink.old sink.new }
+    ensures done { DoneWithFiles H.Files O.Sink (FipAsked.info name.now) result files.old files.new sink.old sink.new }
     ensures files { ReadsFile H.Files name.now files.old files.new }
 {
     let text = file_info(alloc, files, name)?;
@@ -51,16 +48,7 @@ fn info_of_source<I: Source, O: Sink>(
     source: &mut I,
     sink: &mut O,
 ) -> Result<(), Stop>
-    ensures listed { (told : Option Directory) → ReadSourceIn I.Source O.Sink told told
-        source.old source.new sink.old sink.new result }
-    ensures once { ReadsOnce I.Source source.old source.new }
-    ensures says { SaysIn O.Sink (IsTexts info_of_source) sink.old sink.new result }
-    ensures cause { result ≡ Err stop.FileFault → Rose (I.faults source.old) (I.faults source.new) }
-    ensures usage { result ≡ Err stop.Usage → ⊥ }
-    ensures later { O.faults sink.old ≤ O.faults sink.new }
-    ensures source_count { I.faults source.new ≡ source_failures result (I.faults source.old) }
-    ensures sink_count { O.faults sink.new ≡ sink_failures result (O.faults sink.old) }
-    ensures refusals { IfErr result (MayRefuse (Some info_of_source)) }
+    ensures { DoneWithSource I.Source O.Sink result source.old source.new sink.old sink.new }
 {
     let text = source_info(alloc, source)?;
     print(sink, text.as_slice())
@@ -70,8 +58,7 @@ fn info_of_source<I: Source, O: Sink>(
 fn tell<O: Sink>(alloc: Global, sink: &mut O, stop: Stop) -> Stop
     ensures told { ToldIn O.Sink stop sink.old sink.new result }
     ensures later { O.faults sink.old ≤ O.faults sink.new }
-    ensures sink_count { (stop ≡ SinkFault → ⊥) → O.faults sink.new ≡ sink_failed result
-        (O.faults sink.old) }
+    ensures sink_count { (stop ≡ SinkFault → ⊥) → O.faults sink.new ≡ sink_failed result (O.faults sink.old) }
 {
     match stop_line(alloc, &stop) {
         Ok(line) => match print(sink, line.as_slice()) {
@@ -103,8 +90,8 @@ fn command<H: Files, I: Source, O: Sink>(
     sink: &mut O,
 ) -> Result<(), Stop>
     requires other { (from prefix : List ℕ) → (names : List (List ℕ))
-        → view order.now ≡ Asked.unpack from prefix names → is_unpacked prefix from ≡ false }
-    ensures { Done H.Files I.Source O.Sink (Some (view order.now)) result
+        → view order.now ≡ FipAsked.unpack from prefix names → is_unpacked prefix from ≡ false }
+    ensures { CommandDone H.Files I.Source O.Sink (Some (view order.now)) result
         files.old files.new source.old source.new sink.old sink.new }
 {
     match order {
@@ -119,11 +106,7 @@ fn command<H: Files, I: Source, O: Sink>(
             out,
             parts,
         } => {
-            let remade = Remade {
-                align: *align,
-                from,
-                out,
-            };
+            let remade = Remade::new(*align, from, out);
             run_update(alloc, files, sink, &remade, parts.as_slice())
         }
         FipOrder::Remove {
@@ -132,11 +115,7 @@ fn command<H: Files, I: Source, O: Sink>(
             out,
             names,
         } => {
-            let remade = Remade {
-                align: *align,
-                from,
-                out,
-            };
+            let remade = Remade::new(*align, from, out);
             run_remove(alloc, files, sink, &remade, names.as_slice())
         }
         FipOrder::Unpack {
@@ -164,7 +143,7 @@ fn run<H: Files, I: Source, O: Sink>(
     source: &mut I,
     sink: &mut O,
 ) -> Result<(), Stop>
-    ensures { Done H.Files I.Source O.Sink (asked (map string_bytes words.now)) result
+    ensures { CommandDone H.Files I.Source O.Sink (asked (map string_bytes words.now)) result
         files.old files.new source.old source.new sink.old sink.new }
 {
     match fip_order(alloc, words) {
@@ -187,8 +166,7 @@ pub fn fip_top<H: Files, I: Source, O: Sink>(
 ) -> u8
     // What was done is the first ones of the command's steps. Only where a writing may have torn its file is that other than they
     // leave it.
-    ensures told { (told : Directory) → H.contents files.old ≡ Some told
-        → asked (map string_bytes words.now) ≢ Some info_of_source
+    ensures told { (told : Directory) → H.contents files.old ≡ Some told → asked (map string_bytes words.now) ≢ Some info_of_source
         → EndedIn H.Files O.Sink (outcome_of (asked (map string_bytes words.now)) told) told
         files.old files.new sink.old sink.new result }
     ensures source { asked (map string_bytes words.now) ≡ Some info_of_source
@@ -201,10 +179,8 @@ pub fn fip_top<H: Files, I: Source, O: Sink>(
         → Converts (asked (map string_bytes words.now)) told (H.contents files.new) }
     ensures sink { result ≡ 3 → Rose (O.faults sink.old) (O.faults sink.new) }
     // Whatever files and sink there are: the sink fails once at status 3 and is not asked again, and never at another status.
-    ensures sink_count { O.faults sink.new ≡
-        (if result == 3 then raised (O.faults sink.old) else O.faults sink.old) }
-    ensures cause { result ≡ 2 → H.contents files.old ≡ None
-        → Rose (H.faults files.old) (H.faults files.new)
+    ensures sink_count { O.faults sink.new ≡ (if result == 3 then raised (O.faults sink.old) else O.faults sink.old) }
+    ensures cause { result ≡ 2 → H.contents files.old ≡ None → Rose (H.faults files.old) (H.faults files.new)
         ⊎ Rose (I.faults source.old) (I.faults source.new) }
     // At most one call of the files fails, and none but at status 2, 3 and 9, whatever files there are.
     ensures file_count { FailsAtMostOnce result (H.faults files.old) (H.faults files.new) }
@@ -212,34 +188,28 @@ pub fn fip_top<H: Files, I: Source, O: Sink>(
     ensures sink_alone { result ≡ 3 → SinkAloneIn O.Sink (asked (map string_bytes words.now))
         sink.old sink.new (H.faults files.old) (H.faults files.new) }
     ensures source_alone { asked (map string_bytes words.now) ≡ Some info_of_source → result ≡ 3
-        → SinkAloneIn O.Sink (asked (map string_bytes words.now)) sink.old sink.new
-        (I.faults source.old) (I.faults source.new) }
+        → SinkAloneIn O.Sink (asked (map string_bytes words.now)) sink.old sink.new (I.faults source.old) (I.faults source.new) }
     // What is written, whatever files there are: each file once, with its line behind it, and nothing by a listing or a refusal.
-    ensures wrote { WroteWithIn H.Files O.Sink (asked (map string_bytes words.now))
-        files.old files.new sink.old sink.new result }
+    ensures wrote { WroteWithIn H.Files O.Sink (asked (map string_bytes words.now)) files.old files.new sink.old sink.new result }
     // Usage is answered exactly by the words, whatever files there are.
     ensures usage { result ≡ 1 → asked (map string_bytes words.now) ≡ None }
-    ensures words { asked (map string_bytes words.now) ≡ None → (result ≡ 1) ⊎ (result ≡ 3)
-        ⊎ (result ≡ 9) }
+    ensures words { asked (map string_bytes words.now) ≡ None → (result ≡ 1) ⊎ (result ≡ 3) ⊎ (result ≡ 9) }
     // No command answers a refusal of another one, whatever files there are.
     ensures refusals { EndsFor (asked (map string_bytes words.now)) result }
     // Nothing but a listing of the source reads it.
-    ensures source_stays { asked (map string_bytes words.now) ≢ Some info_of_source
-        → source.new ≡ source.old }
+    ensures source_stays { asked (map string_bytes words.now) ≢ Some info_of_source → source.new ≡ source.old }
     // No read of the source is made behind one that gave no bytes or failed, whatever source there is.
     ensures once { ReadsOnce I.Source source.old source.new }
     // In a listing of the source at most one call of it failed, and at status 2 one did, whatever source there is.
     ensures source_count { asked (map string_bytes words.now) ≡ Some info_of_source
-        → FailsOnce result (I.faults source.old) (I.faults source.new) }
+        → FailsOnceAt result (I.faults source.old) (I.faults source.new) }
     // Neither usage nor a listing of the source asks for a file, whatever files there are.
-    ensures files_stay { IsFalse (asks_files (asked (map string_bytes words.now)))
-        → files.new ≡ files.old }
+    ensures files_stay { IsFalse (asks_files (asked (map string_bytes words.now))) → files.new ≡ files.old }
     // No file is asked for, and none is made, but those that the words name, whatever files there are.
-    ensures spares { (access : Access) → IsUnnamed (asked (map string_bytes words.now)) access
+    ensures spares { (access : Access) → IsUnnamedBy (asked (map string_bytes words.now)) access
         → H.spares files.old files.new access }
     // A refusal makes no file, and asks for those alone that it comes by.
-    ensures alone { RefusesAlone H.Files (asked (map string_bytes words.now))
-        files.old files.new result }
+    ensures alone { RefusesAlone H.Files (asked (map string_bytes words.now)) files.old files.new result }
 {
     match run(alloc, words, files, source, sink) {
         Ok(()) => 0,

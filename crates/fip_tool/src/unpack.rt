@@ -2,7 +2,7 @@
 ghost use Rattle.std.specs.Prelude.{◌≡◌, ◌≢◌, ◌≤◌, ◌+◌, ◌++◌, ◌||◌, ◌==◌, All, IfOk, OnOk, List, Some, ℕ, codes, decimal, false, filter, length, map, string_bytes};
 ghost use Rattle.base_core.specs.Guid.{guid_text};
 ghost use Rattle.fip_tables.specs.Files.{Lacks, Tells};
-ghost use Rattle.fip_words.specs.Order.{Asked};
+ghost use Rattle.fip_words.specs.Order.{FipAsked};
 ghost use Rattle.fip_words.specs.Values.{is_unpacked};
 ghost use Rattle.host_io.specs.Access.{Access, Asks, Makes};
 ghost use Rattle.host_io.specs.Contents.{Directory};
@@ -25,8 +25,7 @@ use std::alloc::Global;
 // The file of a type's payload.
 fn file_name(alloc: Global, prefix: &str, guid: &Guid) -> Result<String, NoMemory>
     ensures name { IfOk result (λ name. string_bytes name ≡ unpacked_name prefix.now guid.now) }
-    ensures other { OnOk result ((from : List ℕ) → is_unpacked prefix.now from ≡ false
-        → from ≢ unpacked_name prefix.now guid.now) }
+    ensures other { OnOk result ((from : List ℕ) → is_unpacked prefix.now from ≡ false → from ≢ unpacked_name prefix.now guid.now) }
 {
     let mut text = [0; 36];
     guid.text(&mut text);
@@ -65,8 +64,7 @@ fn unpack_entry<H: Files, O: Sink>(
     requires stored { (bytes : List ℕ) → Tells (H.contents files.old) from.now bytes
         → entry.now.offset + entry.now.size ≤ length bytes }
     requires there { Lacks (H.contents files.old) from.now → ⊥ }
-    ensures { Unpacked H.Files O.Sink from.now prefix.now entry.now result
-        files.old files.new sink.old sink.new }
+    ensures { Unpacked H.Files O.Sink from.now prefix.now entry.now result files.old files.new sink.old sink.new }
 {
     let name = file_name(alloc, prefix, &entry.guid)?;
     let line = unpacked_line(alloc, entry, name.as_str())?;
@@ -112,16 +110,14 @@ fn unpack_entries<H: Files, O: Sink>(
         → All (λ e. e.offset + e.size ≤ length bytes) entries.now }
     requires there { Lacks (H.contents files.old) unpacked.now.from.now → ⊥ }
     ensures told { (told : Directory) → (bytes : List ℕ) → H.contents files.old ≡ Some told
-        → told unpacked.now.from.now ≡ Some bytes
-        → DidIn H.Files O.Sink (Makes (unpack_steps unpacked.now.prefix.now bytes
+        → told unpacked.now.from.now ≡ Some bytes → DidIn H.Files O.Sink (Makes (unpack_steps unpacked.now.prefix.now bytes
         (filter (λ e. (length unpacked.now.names.now == 0) || is_named unpacked.now.names.now e) entries.now))) told
         files.old files.new sink.old sink.new result }
     ensures texts { WritesTexts H.Files O.Sink (λ texts. texts ≡ map (unpacked_line unpacked.now.prefix.now)
         (filter (λ e. (length unpacked.now.names.now == 0) || is_named unpacked.now.names.now e) entries.now)) result
         files.old files.new sink.old sink.new }
     ensures spares { (access : Access) → access ≢ Asks unpacked.now.from.now
-        → ((guid : List ℕ) → access ≢ Makes (unpacked_name unpacked.now.prefix.now guid))
-        → H.spares files.old files.new access }
+        → ((guid : List ℕ) → access ≢ Makes (unpacked_name unpacked.now.prefix.now guid)) → H.spares files.old files.new access }
 {
     for entry in entries {
         if is_chosen(unpacked.names, entry) {
@@ -142,7 +138,7 @@ pub fn run_unpack<H: Files, O: Sink>(
     names: &[Guid],
 ) -> Result<(), Stop>
     requires other { is_unpacked prefix.now from.now ≡ false }
-    ensures { DoneWithFiles H.Files O.Sink (Asked.unpack from.now prefix.now names.now) result
+    ensures { DoneWithFiles H.Files O.Sink (FipAsked.unpack from.now prefix.now names.now) result
         files.old files.new sink.old sink.new }
 {
     let toc = table_with(files, from, names)?;

@@ -1,16 +1,15 @@
 //! A file that is made, and the line that is printed then.
-ghost use Rattle.std.specs.Prelude.{◌≡◌, ◌≢◌, ◌⊎◌, ◌≤◌, ◌∷◌, [], All, List, Some, None, Ok, Result, Err, IfErr, IfOk, OnOk, ℕ};
+ghost use Rattle.std.specs.Prelude.{◌≡◌, ◌≢◌, ◌≤◌, ◌∷◌, [], All, List, Some, None, Ok, Result, Err, IfErr, IfOk, OnOk, ℕ};
 ghost use Rattle.base_core.specs.Counts.{Rose};
 ghost use Rattle.host_io.specs.Access.{Access, Makes};
 ghost use Rattle.host_io.specs.Contents.{Directory};
 ghost use Rattle.host_io.specs.Joined.{HasPiece};
-ghost use Rattle.fip_tool.specs.Done.{WritesTexts};
-ghost use Rattle.fip_tool.specs.Said.{IsMadeLine};
-ghost use Rattle.fip_tool.specs.Seen.{DidIn, DidSince, SaysIn, WrittenIn, WroteIn};
-ghost use Rattle.fip_tool.specs.Steps.{FaultsOnce, Makes, Prints, Writes, outcome_by, sink_failures};
+ghost use Rattle.fip_tool.specs.Done.{PutsMade, WritesTexts};
+ghost use Rattle.fip_tool.specs.Seen.{DidIn, DidSince, WrittenIn};
+ghost use Rattle.fip_tool.specs.Steps.{FaultsOnce, Makes, Prints, Writes, outcome_by};
 ghost use Rattle.fip_making.specs.Answers.{Gives, IsLate};
 ghost use Rattle.fip_tool.specs.Torn.{NoneUnwritten};
-ghost use Rattle.fip_making.specs.Payloads.{IsWhole, joined_pieces, made_by};
+ghost use Rattle.fip_making.specs.Payloads.{IsWholeFile, joined_pieces, made_by};
 ghost use Rattle.fip_tool.specs.Tool.{puts};
 ghost use Rattle.fip_tool.specs.Wrote.{written_once};
 ghost use Rattle.fip_making.specs.declared.stops.Stop.{Stop};
@@ -65,13 +64,11 @@ pub fn join_and_print<H: Files, O: Sink>(
     line: &[u8],
 ) -> Result<(), Stop>
     requires { All (HasPiece (H.contents files.old)) file.now.pieces.now }
-    ensures told { (told : Directory) → H.contents files.old ≡ Some told
-        → DidIn H.Files O.Sink
+    ensures told { (told : Directory) → H.contents files.old ≡ Some told → DidIn H.Files O.Sink
         (Makes (Writes file.now.name.now (joined_pieces told file.now.frame.now file.now.pieces.now) ∷ Prints line.now ∷ []))
         told files.old files.new sink.old sink.new result }
     ensures spares { (access : Access) → access ≢ Makes file.now.name.now → H.spares files.old files.new access }
-    ensures texts { WritesTexts H.Files O.Sink (λ texts. texts ≡ line.now ∷ []) result
-        files.old files.new sink.old sink.new }
+    ensures texts { WritesTexts H.Files O.Sink (λ texts. texts ≡ line.now ∷ []) result files.old files.new sink.old sink.new }
     ensures unspoiled { OnOk result (NoneUnwritten (H.writes files.old) (H.writes files.new)) }
     ensures silent { H.contents files.old ≡ None → H.contents files.new ≡ None }
 {
@@ -88,28 +85,14 @@ pub fn put_made<H: Files, O: Sink>(
     out: &str,
     made: Result<Made<'_>, Stop>,
 ) -> Result<(), Stop>
-    requires { IfOk made (IsWhole (H.contents files.old)) }
+    requires { IfOk made (IsWholeFile (H.contents files.old)) }
     ensures told { (told : Directory) (value : Result (ℕ × List ℕ) Stop) (before : ℕ)
         → H.contents files.old ≡ Some told → before ≤ H.faults files.old
         → Gives (made_by told) (Rose before (H.faults files.old)) value made.entry
         → DidSince H.Files O.Sink before (outcome_by (puts format out.now) value) told
         files.old files.new sink.old sink.new result }
-    ensures says { (made.entry ≡ Err stop.SinkFault → ⊥)
-        → SaysIn O.Sink (IsMadeLine format made.entry) sink.old sink.new result }
     ensures spares { (access : Access) → access ≢ Makes out.now → H.spares files.old files.new access }
-    ensures file_count { (before : ℕ) → FaultsOnce before (H.faults files.old) made.entry
-        → FaultsOnce before (H.faults files.new) result }
-    ensures wrote { WroteIn H.Files O.Sink (IsMadeLine format made.entry)
-        files.old files.new sink.old sink.new result }
-    ensures cause { result ≡ Err stop.FileFault → (made.entry ≡ Err stop.FileFault)
-        ⊎ Rose (H.faults files.old) (H.faults files.new) }
-    ensures usage { result ≡ Err stop.Usage → made.entry ≡ Err stop.Usage }
-    ensures refusals { IfErr result (λ s. (made.entry ≡ Err s) ⊎ IsLate s) }
-    ensures kept { IfErr made.entry (λ s. files.new ≡ files.old) }
-    ensures later { H.faults files.old ≤ H.faults files.new }
-    ensures later_sink { O.faults sink.old ≤ O.faults sink.new }
-    ensures sink_count { (made.entry ≡ Err stop.SinkFault → ⊥) → O.faults sink.new ≡ sink_failures result
-        (O.faults sink.old) }
+    ensures puts { PutsMade H.Files O.Sink format made.entry result files.old files.new sink.old sink.new }
 {
     let made = match made {
         Ok(made) => made,

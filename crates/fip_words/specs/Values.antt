@@ -24,26 +24,26 @@ part_of text =
     (file_named p.1)) (name_of p.0)) (split_of 61 text)
 
 -- VERSION,FILE
-unfoldable pub version_of : List ℕ → Option (ℕ × List ℕ)
-version_of text =
+unfoldable pub version_word_of : List ℕ → Option (ℕ × List ℕ)
+version_word_of text =
     option_and_then (λ p. option_and_then (λ version. option_and_then (λ file. Some (version, file))
     (file_named p.1)) (number_read p.0)) (split_of 44 text)
 
 -- NAME,VERSION,FILE
-unfoldable pub row_of : List ℕ → Option NamedImage
-row_of text =
+unfoldable pub named_row_of : List ℕ → Option NamedImage
+named_row_of text =
     option_and_then (λ p. option_and_then (λ guid. option_and_then (λ v. Some (record { guid = guid; version = v.0; file = v.1 }))
-    (version_of p.1)) (name_of p.0)) (split_of 44 text)
+    (version_word_of p.1)) (name_of p.0)) (split_of 44 text)
 
 -- no type is named twice
 abbrev pub if_distinct : {X : Type 0} → (X → List ℕ) → List X → Option (List X)
 if_distinct guid xs = if are_distinct (map guid xs) then Some xs else None
 
-unfoldable pub parts_of : List (List ℕ) → Option (List NamedFile)
-parts_of texts = option_and_then (if_distinct (λ p. p.guid)) (each part_of texts)
+unfoldable pub named_parts_of : List (List ℕ) → Option (List NamedFile)
+named_parts_of texts = option_and_then (if_distinct (λ p. p.guid)) (each part_of texts)
 
-unfoldable pub rows_of : List (List ℕ) → Option (List NamedImage)
-rows_of texts = option_and_then (if_distinct (λ r. r.guid)) (each row_of texts)
+unfoldable pub named_rows_of : List (List ℕ) → Option (List NamedImage)
+named_rows_of texts = option_and_then (if_distinct (λ r. r.guid)) (each named_row_of texts)
 
 unfoldable pub names_of : List (List ℕ) → Option (List (List ℕ))
 names_of texts = option_and_then (if_distinct (λ guid. guid)) (each name_of texts)

@@ -6,7 +6,7 @@ ghost use Rattle.clap.specs.Words.{Text};
 ghost use Rattle.fip_words.specs.Commands.{fip_app};
 ghost use Rattle.fip_words.specs.Order.{asked, capsule_by, create_by, info_by, manifest_by, repackage_by, remove_by, unpack_by, update_by};
 ghost use Rattle.clap_words.specs.Plain.{IsPlain};
-ghost use Rattle.fip_words.specs.Values.{bin, file_named, is_unpacked, names_of, number_read, parts_of, rows_of};
+ghost use Rattle.fip_words.specs.Values.{bin, file_named, is_unpacked, names_of, number_read, named_parts_of, named_rows_of};
 ghost use Rattle.clap_words.specs.Words.{reads};
 
 /// The words name no command exactly where `clap` refuses them.
@@ -19,13 +19,13 @@ pub fn plain_words_are_taken()
     ensures info { (file : Text) → IsPlain file → asked (codes "info" ∷ file ∷ []) ≡ info_by (file_named file) }
     ensures source { asked (codes "info" ∷ codes "-" ∷ []) ≡ info_by (file_named (codes "-")) }
     ensures create { (out part : Text) → IsPlain out → IsPlain part
-        → asked (codes "create" ∷ out ∷ part ∷ []) ≡ create_by (Some 1) (file_named out) (parts_of (part ∷ [])) }
+        → asked (codes "create" ∷ out ∷ part ∷ []) ≡ create_by (Some 1) (file_named out) (named_parts_of (part ∷ [])) }
     ensures align { (align out part : Text) → IsPlain align → IsPlain out → IsPlain part
         → asked (codes "create" ∷ codes "--align" ∷ align ∷ out ∷ part ∷ [])
-        ≡ create_by (number_read align) (file_named out) (parts_of (part ∷ [])) }
+        ≡ create_by (number_read align) (file_named out) (named_parts_of (part ∷ [])) }
     ensures update { (from out part : Text) → IsPlain from → IsPlain out → IsPlain part
         → asked (codes "update" ∷ from ∷ out ∷ part ∷ [])
-        ≡ update_by (Some 1) (file_named from) (file_named out) (parts_of (part ∷ [])) }
+        ≡ update_by (Some 1) (file_named from) (file_named out) (named_parts_of (part ∷ [])) }
     ensures remove { (from out name : Text) → IsPlain from → IsPlain out → IsPlain name
         → asked (codes "remove" ∷ from ∷ out ∷ name ∷ [])
         ≡ remove_by (Some 1) (file_named from) (file_named out) (names_of (name ∷ [])) }
@@ -34,7 +34,7 @@ pub fn plain_words_are_taken()
         ≡ unpack_by (file_named from) (file_named prefix) (names_of (name ∷ [])) }
     ensures manifest { (out security row : Text) → IsPlain out → IsPlain security → IsPlain row
         → asked (codes "manifest" ∷ out ∷ security ∷ row ∷ [])
-        ≡ manifest_by (file_named out) (number_read security) (rows_of (row ∷ [])) }
+        ≡ manifest_by (file_named out) (number_read security) (named_rows_of (row ∷ [])) }
     ensures capsule { (from out : Text) → IsPlain from → IsPlain out
         → asked (codes "capsule" ∷ from ∷ out ∷ []) ≡ capsule_by (file_named from) (file_named out) }
     ensures package { (from out : Text) → IsPlain from → IsPlain out

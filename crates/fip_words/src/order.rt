@@ -1,8 +1,8 @@
 //! What the words ask for.
 ghost use Rattle.std.specs.Prelude.{codes, map, option_and_then, option_map, string_bytes};
 ghost use Rattle.clap.specs.Words.{first_of, found_of, rows_of, subcommand_rows_of};
-ghost use Rattle.clap_words.specs.Answers.{Answers, file_in, values_of};
-ghost use Rattle.fip_words.specs.Order.{align_in, asked, capsule_of, create_of, info_of, manifest_of, order_of, image_view, repackage_of, part_view, remove_of, unpack_of, update_of, view};
+ghost use Rattle.clap_words.specs.Answers.{GivesAsked, file_in, values_of};
+ghost use Rattle.fip_words.specs.Order.{align_in, asked, capsule_order_of, create_of, info_of, manifest_order_of, order_of, image_view, repackage_of, part_view, remove_of, unpack_of, update_of, view};
 ghost use Rattle.fip_words.specs.Values as value;
 
 use crate::commands::fip_command;
@@ -68,7 +68,7 @@ pub enum FipOrder<'a> {
 }
 
 fn given_align<'a>(found: &ArgMatches<'a>) -> Result<u32, UsageStop>
-    ensures { Answers (λ n. n) result (align_in (rows_of (found_of found.now))) }
+    ensures { GivesAsked (λ n. n) result (align_in (rows_of (found_of found.now))) }
 {
     match align_value(given(found, "align")) {
         Some(align) => Ok(align),
@@ -77,7 +77,7 @@ fn given_align<'a>(found: &ArgMatches<'a>) -> Result<u32, UsageStop>
 }
 
 fn given_number<'a>(found: &ArgMatches<'a>, id: &str) -> Result<u32, UsageStop>
-    ensures { Answers (λ n. n) result (option_and_then value.number_read (first_of id.now (rows_of (found_of found.now)))) }
+    ensures { GivesAsked (λ n. n) result (option_and_then value.number_read (first_of id.now (rows_of (found_of found.now)))) }
 {
     let Some(text) = given(found, id) else {
         return Err(UsageStop::Usage);
@@ -89,8 +89,8 @@ fn given_number<'a>(found: &ArgMatches<'a>, id: &str) -> Result<u32, UsageStop>
 }
 
 fn given_parts<'a>(alloc: Global, found: &ArgMatches<'a>) -> Result<Vec<FileWord<'a>>, UsageStop>
-    ensures { Answers (λ v. map part_view v.items) result
-        (value.parts_of (values_of (codes "parts") (rows_of (found_of found.now)))) }
+    ensures { GivesAsked (λ v. map part_view v.items) result
+        (value.named_parts_of (values_of (codes "parts") (rows_of (found_of found.now)))) }
 {
     match given_all(alloc, found, "parts") {
         Ok(texts) => parts(alloc, texts.as_slice()),
@@ -99,7 +99,7 @@ fn given_parts<'a>(alloc: Global, found: &ArgMatches<'a>) -> Result<Vec<FileWord
 }
 
 fn given_names<'a>(alloc: Global, found: &ArgMatches<'a>, id: &str) -> Result<Vec<Guid>, UsageStop>
-    ensures { Answers (λ v. v.items) result (value.names_of (values_of id.now (rows_of (found_of found.now)))) }
+    ensures { GivesAsked (λ v. v.items) result (value.names_of (values_of id.now (rows_of (found_of found.now)))) }
 {
     match given_all(alloc, found, id) {
         Ok(texts) => names(alloc, texts.as_slice()),
@@ -108,8 +108,8 @@ fn given_names<'a>(alloc: Global, found: &ArgMatches<'a>, id: &str) -> Result<Ve
 }
 
 fn given_rows<'a>(alloc: Global, found: &ArgMatches<'a>) -> Result<Vec<ImageWord<'a>>, UsageStop>
-    ensures { Answers (λ v. map image_view v.items) result
-        (value.rows_of (values_of (codes "rows") (rows_of (found_of found.now)))) }
+    ensures { GivesAsked (λ v. map image_view v.items) result
+        (value.named_rows_of (values_of (codes "rows") (rows_of (found_of found.now)))) }
 {
     match given_all(alloc, found, "rows") {
         Ok(texts) => rows(alloc, texts.as_slice()),
@@ -118,7 +118,7 @@ fn given_rows<'a>(alloc: Global, found: &ArgMatches<'a>) -> Result<Vec<ImageWord
 }
 
 fn info_order<'a>(found: &ArgMatches<'a>) -> Result<FipOrder<'a>, UsageStop>
-    ensures { Answers view result (info_of (rows_of (found_of found.now))) }
+    ensures { GivesAsked view result (info_of (rows_of (found_of found.now))) }
 {
     let file = given_file(found, "file")?;
     if is_word(file.as_bytes(), b"-") {
@@ -129,7 +129,7 @@ fn info_order<'a>(found: &ArgMatches<'a>) -> Result<FipOrder<'a>, UsageStop>
 }
 
 fn create_order<'a>(alloc: Global, found: &ArgMatches<'a>) -> Result<FipOrder<'a>, UsageStop>
-    ensures { Answers view result (create_of (rows_of (found_of found.now))) }
+    ensures { GivesAsked view result (create_of (rows_of (found_of found.now))) }
 {
     let align = given_align(found)?;
     let out = given_file(found, "out")?;
@@ -138,7 +138,7 @@ fn create_order<'a>(alloc: Global, found: &ArgMatches<'a>) -> Result<FipOrder<'a
 }
 
 fn update_order<'a>(alloc: Global, found: &ArgMatches<'a>) -> Result<FipOrder<'a>, UsageStop>
-    ensures { Answers view result (update_of (rows_of (found_of found.now))) }
+    ensures { GivesAsked view result (update_of (rows_of (found_of found.now))) }
 {
     let align = given_align(found)?;
     let from = given_file(found, "in")?;
@@ -153,7 +153,7 @@ fn update_order<'a>(alloc: Global, found: &ArgMatches<'a>) -> Result<FipOrder<'a
 }
 
 fn remove_order<'a>(alloc: Global, found: &ArgMatches<'a>) -> Result<FipOrder<'a>, UsageStop>
-    ensures { Answers view result (remove_of (rows_of (found_of found.now))) }
+    ensures { GivesAsked view result (remove_of (rows_of (found_of found.now))) }
 {
     let align = given_align(found)?;
     let from = given_file(found, "in")?;
@@ -168,7 +168,7 @@ fn remove_order<'a>(alloc: Global, found: &ArgMatches<'a>) -> Result<FipOrder<'a
 }
 
 fn unpack_order<'a>(alloc: Global, found: &ArgMatches<'a>) -> Result<FipOrder<'a>, UsageStop>
-    ensures { Answers view result (unpack_of (rows_of (found_of found.now))) }
+    ensures { GivesAsked view result (unpack_of (rows_of (found_of found.now))) }
 {
     let from = given_file(found, "in")?;
     let prefix = given_file(found, "prefix")?;
@@ -184,7 +184,7 @@ fn unpack_order<'a>(alloc: Global, found: &ArgMatches<'a>) -> Result<FipOrder<'a
 }
 
 fn manifest_order<'a>(alloc: Global, found: &ArgMatches<'a>) -> Result<FipOrder<'a>, UsageStop>
-    ensures { Answers view result (manifest_of (rows_of (found_of found.now))) }
+    ensures { GivesAsked view result (manifest_order_of (rows_of (found_of found.now))) }
 {
     let out = given_file(found, "out")?;
     let security = given_number(found, "security")?;
@@ -197,7 +197,7 @@ fn manifest_order<'a>(alloc: Global, found: &ArgMatches<'a>) -> Result<FipOrder<
 }
 
 fn capsule_order<'a>(found: &ArgMatches<'a>) -> Result<FipOrder<'a>, UsageStop>
-    ensures { Answers view result (capsule_of (rows_of (found_of found.now))) }
+    ensures { GivesAsked view result (capsule_order_of (rows_of (found_of found.now))) }
 {
     let from = given_file(found, "in")?;
     let out = given_file(found, "out")?;
@@ -205,7 +205,7 @@ fn capsule_order<'a>(found: &ArgMatches<'a>) -> Result<FipOrder<'a>, UsageStop>
 }
 
 fn package_order<'a>(found: &ArgMatches<'a>) -> Result<FipOrder<'a>, UsageStop>
-    ensures { Answers view result (repackage_of (rows_of (found_of found.now))) }
+    ensures { GivesAsked view result (repackage_of (rows_of (found_of found.now))) }
 {
     let align = given_align(found)?;
     let from = given_file(found, "in")?;
@@ -218,7 +218,7 @@ fn named_order<'a>(
     name: &str,
     found: &ArgMatches<'a>,
 ) -> Result<FipOrder<'a>, UsageStop>
-    ensures { Answers view result (order_of name.now (rows_of (found_of found.now))) }
+    ensures { GivesAsked view result (order_of name.now (rows_of (found_of found.now))) }
 {
     let name = name.as_bytes();
     if is_word(name, b"info") {
@@ -244,7 +244,7 @@ fn named_order<'a>(
 
 // The order of the matches.
 fn found_order<'a>(alloc: Global, found: &ArgMatches<'a>) -> Result<FipOrder<'a>, UsageStop>
-    ensures { Answers view result
+    ensures { GivesAsked view result
         (option_and_then (λ p. order_of p.0 p.1) (subcommand_rows_of found.now)) }
 {
     match found.subcommand() {
@@ -257,7 +257,7 @@ fn found_order<'a>(alloc: Global, found: &ArgMatches<'a>) -> Result<FipOrder<'a>
 /// them, where a value is not in its grammar, where a type is named twice, and for `unpack` where IN is a file that may be
 /// written.
 pub fn fip_order<'a>(alloc: Global, words: &'a [String]) -> Result<FipOrder<'a>, UsageStop>
-    ensures { Answers view result (asked (map string_bytes words.entry.now)) }
+    ensures { GivesAsked view result (asked (map string_bytes words.entry.now)) }
 {
     let command = match fip_command(alloc) {
         Ok(command) => command,

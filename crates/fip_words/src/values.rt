@@ -3,10 +3,10 @@ ghost use Rattle.std.specs.Prelude.{◌≡◌, IfOk, map, option_map};
 ghost use Rattle.std.specs.List.{list_any};
 ghost use Rattle.base_core.specs.Bytes.{same_bytes};
 ghost use Rattle.fwu_formats.specs.Layout.{are_distinct};
-ghost use Rattle.clap_words.specs.Answers.{Answers};
+ghost use Rattle.clap_words.specs.Answers.{GivesAsked};
 ghost use Rattle.clap_words.specs.Values.{each, name_of, split_of};
 ghost use Rattle.fip_words.specs.Order.{image_view, part_view};
-ghost use Rattle.fip_words.specs.Values.{align_of, is_lower_guid, is_unpacked, names_of, part_of, parts_of, row_of, rows_of, version_of};
+ghost use Rattle.fip_words.specs.Values.{align_of, is_lower_guid, is_unpacked, names_of, part_of, named_parts_of, named_row_of, named_rows_of, version_word_of};
 
 use base_core::Guid;
 use clap_words::{UsageStop, file_value, read_name, read_number};
@@ -52,9 +52,9 @@ fn read_part<'a>(text: &'a str) -> Option<FileWord<'a>>
     Some(FileWord { guid, file })
 }
 
-#[tactic(auto, unfolding(crate::specs::Values::version_of))]
+#[tactic(auto, unfolding(crate::specs::Values::version_word_of))]
 fn version_and_file<'a>(text: &'a str) -> Option<(u32, &'a str)>
-    ensures { option_map (λ v. (v.0, v.1.now)) result ≡ version_of text.entry.now }
+    ensures { option_map (λ v. (v.0, v.1.now)) result ≡ version_word_of text.entry.now }
 {
     let (version, file) = split_at_comma(text)?;
     let version = read_number(version)?;
@@ -62,9 +62,9 @@ fn version_and_file<'a>(text: &'a str) -> Option<(u32, &'a str)>
     Some((version, file))
 }
 
-#[tactic(auto, unfolding(crate::specs::Values::row_of))]
+#[tactic(auto, unfolding(crate::specs::Values::named_row_of))]
 fn read_row<'a>(text: &'a str) -> Option<ImageWord<'a>>
-    ensures { option_map image_view result ≡ row_of text.entry.now }
+    ensures { option_map image_view result ≡ named_row_of text.entry.now }
 {
     let (name, rest) = split_at_comma(text)?;
     let guid = read_name(name)?;
@@ -77,7 +77,7 @@ fn read_row<'a>(text: &'a str) -> Option<ImageWord<'a>>
 }
 
 fn each_part<'a>(alloc: Global, texts: &[&'a str]) -> Result<Vec<FileWord<'a>>, UsageStop>
-    ensures { Answers (λ v. map part_view v.items) result (each part_of (map (λ s. s.now) texts.now)) }
+    ensures { GivesAsked (λ v. map part_view v.items) result (each part_of (map (λ s. s.now) texts.now)) }
 {
     let mut parts = Vec::new(alloc);
     for text in texts {
@@ -92,7 +92,7 @@ fn each_part<'a>(alloc: Global, texts: &[&'a str]) -> Result<Vec<FileWord<'a>>, 
 }
 
 fn each_image<'a>(alloc: Global, texts: &[&'a str]) -> Result<Vec<ImageWord<'a>>, UsageStop>
-    ensures { Answers (λ v. map image_view v.items) result (each row_of (map (λ s. s.now) texts.now)) }
+    ensures { GivesAsked (λ v. map image_view v.items) result (each named_row_of (map (λ s. s.now) texts.now)) }
 {
     let mut rows = Vec::new(alloc);
     for text in texts {
@@ -107,7 +107,7 @@ fn each_image<'a>(alloc: Global, texts: &[&'a str]) -> Result<Vec<ImageWord<'a>>
 }
 
 fn each_name(alloc: Global, texts: &[&str]) -> Result<Vec<Guid>, UsageStop>
-    ensures { Answers (λ v. v.items) result (each name_of (map (λ s. s.now) texts.now)) }
+    ensures { GivesAsked (λ v. v.items) result (each name_of (map (λ s. s.now) texts.now)) }
 {
     let mut guids = Vec::new(alloc);
     for text in texts {
@@ -151,9 +151,9 @@ fn types_of_rows(alloc: Global, rows: &[ImageWord]) -> Result<Vec<Guid>, AllocEr
 }
 
 /// The parts that the words are. `Usage` comes exactly where one is no part, or a type is named twice.
-#[tactic(auto, unfolding(crate::specs::Values::parts_of))]
+#[tactic(auto, unfolding(crate::specs::Values::named_parts_of))]
 pub fn parts<'a>(alloc: Global, texts: &[&'a str]) -> Result<Vec<FileWord<'a>>, UsageStop>
-    ensures { Answers (λ v. map part_view v.items) result (parts_of (map (λ s. s.now) texts.now)) }
+    ensures { GivesAsked (λ v. map part_view v.items) result (named_parts_of (map (λ s. s.now) texts.now)) }
 {
     let parts = each_part(alloc, texts)?;
     let Ok(guids) = types_of_parts(alloc, parts.as_slice()) else {
@@ -167,9 +167,9 @@ pub fn parts<'a>(alloc: Global, texts: &[&'a str]) -> Result<Vec<FileWord<'a>>, 
 }
 
 /// The rows that the words are. `Usage` comes exactly where one is no row, or a type is named twice.
-#[tactic(auto, unfolding(crate::specs::Values::rows_of))]
+#[tactic(auto, unfolding(crate::specs::Values::named_rows_of))]
 pub fn rows<'a>(alloc: Global, texts: &[&'a str]) -> Result<Vec<ImageWord<'a>>, UsageStop>
-    ensures { Answers (λ v. map image_view v.items) result (rows_of (map (λ s. s.now) texts.now)) }
+    ensures { GivesAsked (λ v. map image_view v.items) result (named_rows_of (map (λ s. s.now) texts.now)) }
 {
     let rows = each_image(alloc, texts)?;
     let Ok(guids) = types_of_rows(alloc, rows.as_slice()) else {
@@ -185,7 +185,7 @@ pub fn rows<'a>(alloc: Global, texts: &[&'a str]) -> Result<Vec<ImageWord<'a>>, 
 /// The types that the words name. `Usage` comes exactly where one is no name, or a type is named twice.
 #[tactic(auto, unfolding(crate::specs::Values::names_of))]
 pub fn names(alloc: Global, texts: &[&str]) -> Result<Vec<Guid>, UsageStop>
-    ensures { Answers (λ v. v.items) result (names_of (map (λ s. s.now) texts.now)) }
+    ensures { GivesAsked (λ v. v.items) result (names_of (map (λ s. s.now) texts.now)) }
 {
     let guids = each_name(alloc, texts)?;
     if differ(guids.as_slice()) {

@@ -10,11 +10,11 @@ use Rattle.flash_format.specs.declared.stops.FormatStop.{FormatStop}
 use Rattle.flash_format.specs.declared.stops.FormatStop.TheVariants.{Input, ReadFailed, Flash}
 use Rattle.flash_commands.specs.Formatting.{format_status}
 use Rattle.host_io.specs.Printed.{Prints}
-use Rattle.flash_commands.specs.Showing.{HasCause}
+use Rattle.script_runs.specs.ByTable.{StopHasCause}
 use Rattle.flash_commands.proofs.ShowFlash.{has-cause}
 
 pub stop-cause : (r : Result Formatted FormatStop) (stop : FlashStop) (before mid after : Counts) → r ≡ Err (Flash stop) → Idles before mid → Spends (flash_result r) mid after → ReachesNone (flash_result r) mid after
-    → HasCause before after
+    → StopHasCause before after
 stop-cause r stop before mid after is idle spends reaches =
     has-cause stop before mid after idle
     (subst (λ (x : Result Formatted FormatStop). Spends (flash_result x) mid after) is spends)

@@ -13,7 +13,8 @@ use Rattle.fwu_model.specs.declared.kinds.Note.{Note}
 use Rattle.fwu_model.specs.declared.kinds.NoBoot.{NoBoot}
 use Rattle.script_runs.specs.ByTable.{Wakes}
 use Rattle.flash_commands.specs.Showing as show
-use Rattle.flash_commands.specs.Showing.{Finds, HasCause, ShowsNone, not_shown_line}
+use Rattle.script_runs.specs.ByTable.{StopHasCause}
+use Rattle.flash_commands.specs.Showing.{ShowFinds, ShowsNone, not_shown_line}
 
 fresh-sure : (guard image : List ℕ) (i : ℕ) → IsFalse (is_unsure (fresh guard image) i)
 unfolding is_unsure fresh
@@ -33,6 +34,9 @@ power-on-keeps old new clean is leaves =
 pub power-on-guards : (old new : Told) → new ≡ fresh old.guard new.now → new.guard ≡ old.guard
 unfolding fresh
 power-on-guards old new is = ap (λ (t : Told). t.guard) is
+
+pub wakes-guard : {old new : Told} → Wakes old new → new.guard ≡ old.guard
+wakes-guard {old = old} {new = new} wakes = power-on-guards old new wakes.fresh_is
 
 -- where no loss is armed, none is after a call that arms none
 pub kept-none : {T : Type 0} (result : Result T FlashStop) (old new : Option Arming) → old ≡ None → new ≡ arming_kept result old → new ≡ None
@@ -60,16 +64,16 @@ rose-later a b c later (inl less) = inl (omega (arith, later, less))
 rose-later a b c later (inr most) = inr most
 
 -- power comes back, and then the flash stops a call that reaches no armed loss
-pub has-cause : (stop : FlashStop) (before mid after : Counts) → Idles before mid → Spends {T = Unit {0}} (Err stop) mid after → ReachesNone {T = Unit {0}} (Err stop) mid after → HasCause before after
+pub has-cause : (stop : FlashStop) (before mid after : Counts) → Idles before mid → Spends {T = Unit {0}} (Err stop) mid after → ReachesNone {T = Unit {0}} (Err stop) mid after → StopHasCause before after
 has-cause flash_stop.Lost before mid after idle spends reaches = inr (rose-later before.cuts mid.cuts after.cuts (omega (arith, idle.cuts)) (reaches.lost refl))
 has-cause flash_stop.Failed before mid after idle spends reaches = inl (rose-later before.faults mid.faults after.faults (omega (arith, idle.faults)) (spends.failed refl))
 
 pub not-found : (known : Type 0) (image : List ℕ) (before after : Counts) (why : NoBoot) (status : ℕ) (noted : Note) (line : List ℕ)
-    → status ≡ 6 → noted ≡ note.Boot why → line ≡ not_shown_line why → (known → ShowsNone image why) → Finds known image before after status noted line
+    → status ≡ 6 → noted ≡ note.Boot why → line ≡ not_shown_line why → (known → ShowsNone image why) → ShowFinds known image before after status noted line
 not-found known image before after why status noted line s n l none =
-    subst (λ (x : ℕ). Finds known image before after x noted line) (sym s)
-    (subst (λ (x : Note). Finds known image before after 6 x line) (sym n)
-    (subst (λ (x : List ℕ). Finds known image before after 6 (note.Boot why) x) (sym l) (show.none why none)))
+    subst (λ (x : ℕ). ShowFinds known image before after x noted line) (sym s)
+    (subst (λ (x : Note). ShowFinds known image before after 6 x line) (sym n)
+    (subst (λ (x : List ℕ). ShowFinds known image before after 6 (note.Boot why) x) (sym l) (show.none why none)))
 
 -- power comes back, and what is there is read
 pub wakes-on : (old mid new : Told) → new ≡ mid → mid ≡ fresh old.guard mid.now → Leaves old mid.now → Wakes old new

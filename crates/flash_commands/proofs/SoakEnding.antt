@@ -25,11 +25,11 @@ use Rattle.gen_core.proofs.Naming.{rounds-have-packages}
 use Rattle.flash_core.specs.declared.flash.Flash.{Ghosts}
 use Rattle.agent_machine.specs.Fields.{Fields}
 use Rattle.script_turns.specs.declared.powered.Powered.{Powered}
-use Rattle.script_turns.specs.Powered.{Moment, at, device, moment_of, shown_on}
+use Rattle.script_turns.specs.Powered.{TurnMoment, at, device, moment_of, shown_on}
 use Rattle.host_io.specs.Printed.{Prints}
 use Rattle.script_turns.specs.Runs.{Ran}
 use Rattle.script_runs.specs.ByTable.{flash_fault_line}
-use Rattle.flash_commands.specs.Soaking.{Stands, goes, starved, ended, first_files, soak_files, stop_text}
+use Rattle.flash_commands.specs.Soaking.{SoakReached, goes, starved, ended, first_files, soak_files, stop_text}
 use Rattle.flash_commands.specs.SoakWays.{SoakEnds, all_done, lacking, stopped}
 use Rattle.script_runs.proofs.Shapes.{end-of}
 
@@ -51,7 +51,7 @@ pub soak-named : (seed register n : ℕ) → n < 4294967296 → register ≡ reg
 soak-named seed register n few is k d below =
     rounds-have-packages.named seed n k d few below ∙ ap (λ (x : ℕ). Some (round_package (get_or (rounds_from x 1 n) k d))) (sym is)
 
-pub tries-as : (tells : Bool) (seed : ℕ) (files : Directory) (name : List ℕ) (rows : List ImageRow) (blocks : ℕ) (old new : Moment) (r : Result Formatted FormatStop) → files ≡ first_files seed → name ≡ file_name 0
+pub tries-as : (tells : Bool) (seed : ℕ) (files : Directory) (name : List ℕ) (rows : List ImageRow) (blocks : ℕ) (old new : TurnMoment) (r : Result Formatted FormatStop) → files ≡ first_files seed → name ≡ file_name 0
     → rows ≡ soak_layout.rows → Tries passes_any tells (Some files) name (record { banks = 2; rows = rows }) blocks old new 0 0 r
     → Tries passes_any tells (Some (first_files seed)) (file_name 0) soak_layout blocks old new 0 0 r
 tries-as tells seed files name rows blocks old new r files_are name_is rows_are t =
@@ -61,8 +61,8 @@ tries-as tells seed files name rows blocks old new r files_are name_is rows_are 
 
 -- ---- by how it stands
 
-module _ (tells : Bool) (all : Directory) (calls : List Call) (journal : List Turn) (old new : Moment) (stand : ℕ) (noted : Note) (text : List ℕ) where
-  pub stands-ran : Stands tells all calls journal old new stand noted text → Ran passes_any tells (Some all) journal old new 0 0
+module _ (tells : Bool) (all : Directory) (calls : List Call) (journal : List Turn) (old new : TurnMoment) (stand : ℕ) (noted : Note) (text : List ℕ) where
+  pub stands-ran : SoakReached tells all calls journal old new stand noted text → Ran passes_any tells (Some all) journal old new 0 0
   stands-ran (goes zero_is quiet going) = going.ran
   stands-ran (starved nine quiet front less going) = going.ran
   stands-ran (ended front t is less ran none ends read status_is noted_is text_is) = ran
@@ -77,10 +77,10 @@ stop-printed c (reply.NotBooted why) stand status old new was are is ends failed
     subst (λ (k : ℕ). Prints (line c (reply.NotBooted why)) k status old new was are) is (stops (λ zero. absurd (omega (arith, is))) (λ five. absurd (omega (arith, is))) (λ nine. absurd (omega (arith, is))))
 stop-printed c other stand status old new was are is ends failed stops = absurd cc
 
-module _ (tells : Bool) (all : Directory) (rounds : ℕ) (calls : List Call) (journal : List Turn) (old new : Moment) (stand : ℕ) (noted : Note) (text : List ℕ) (status : ℕ) (taken_before taken_after : Option (List ℕ)) (faults_before faults_after : ℕ) where
+module _ (tells : Bool) (all : Directory) (rounds : ℕ) (calls : List Call) (journal : List Turn) (old new : TurnMoment) (stand : ℕ) (noted : Note) (text : List ℕ) (status : ℕ) (taken_before taken_after : Option (List ℕ)) (faults_before faults_after : ℕ) where
   pub ends-by : (stand ≡ 0 → Prints (soak_line rounds journal) 0 status taken_before taken_after faults_before faults_after) → (stand ≡ 9 → status ≡ 9) → (stand ≡ 9 → taken_after ≡ taken_before) → (stand ≡ 9 → faults_after ≡ faults_before)
       → (stand ≡ 5 → Prints flash_fault_line 5 status taken_before taken_after faults_before faults_after) → (stand ≢ 0 → stand ≢ 5 → stand ≢ 9 → Prints text stand status taken_before taken_after faults_before faults_after)
-      → Stands tells all calls journal old new stand noted text → SoakEnds rounds calls (end-of journal status noted) taken_before taken_after faults_before faults_after
+      → SoakReached tells all calls journal old new stand noted text → SoakEnds rounds calls (end-of journal status noted) taken_before taken_after faults_before faults_after
   ends-by whole nines same quietly failed stops (goes zero_is quiet going) = all_done going.calls_are going.none quiet (whole zero_is)
   ends-by whole nines same quietly failed stops (starved nine quiet front less going) =
       lacking (less.0, ap (λ (cs : List Call). cs ++ less.0) going.calls_are ∙ less.1) going.none quiet (nines nine) (same nine) (quietly nine)

@@ -28,8 +28,8 @@ use Rattle.gen_core.specs.declared.rounds.Ending.{Ending}
 use Rattle.gen_core.specs.declared.rounds.Ending.TheVariants as ending
 use Rattle.gen_core.specs.declared.rounds.Round.{Round}
 use Rattle.script_text.specs.Armable.{IsArmable}
-use Rattle.script_turns.specs.Powered.{Moment}
-use Rattle.flash_commands.specs.Soaking.{AgreeFor, GoesSoaking, IsArmableCut, Stands, file_of, starved, goes}
+use Rattle.script_turns.specs.Powered.{TurnMoment}
+use Rattle.flash_commands.specs.Soaking.{AgreeFor, GoesSoaking, IsArmableCut, SoakReached, only_file_of, starved, goes}
 use Rattle.flash_commands.proofs.SoakTurns.{prefix-same, stands-going, stands-longer, take-next}
 
 -- ---- the calls of a round
@@ -74,7 +74,7 @@ calls-armable rows r calls is cut =
 
 -- ---- the file of a round
 
-pub file-there : (name bytes : List ℕ) → file_of name bytes name ≡ Some bytes
+pub file-there : (name bytes : List ℕ) → only_file_of name bytes name ≡ Some bytes
 file-there name bytes = rw ((bytes_eq-Decides name name).1 refl) refl
 
 agree-cut : (one all : Directory) (cut : Option Cut) → IfSome cut (λ k. AgreeFor one all (call.Cut k.n k.k))
@@ -82,11 +82,11 @@ agree-cut one all None = tt
 agree-cut one all (Some k) = tt
 
 pub round-agrees : (rows : List ImageRow) (r : Round) (name bytes : List ℕ) (all : Directory) (cs : List Call) → cs ≡ round_calls rows r → name ≡ file_name r.number → bytes ≡ round_package r
-    → all (file_name r.number) ≡ Some (round_package r) → (c : Call) → Contains cs c → AgreeFor (file_of name bytes) all c
+    → all (file_name r.number) ≡ Some (round_package r) → (c : Call) → Contains cs c → AgreeFor (only_file_of name bytes) all c
 round-agrees rows r name bytes all cs calls_are name_is bytes_are there c in_it =
-    let here : file_of name bytes (file_name r.number) ≡ Some bytes = ap (file_of name bytes) (sym name_is) ∙ file-there name bytes in
-    All-contains (AgreeFor (file_of name bytes) all) (round_calls rows r) c
-    (round-all (AgreeFor (file_of name bytes) all) r rows (agree-cut (file_of name bytes) all r.cut) (here ∙ ap Some bytes_are ∙ sym there, bytes, here) tt (λ guid. tt) tt)
+    let here : only_file_of name bytes (file_name r.number) ≡ Some bytes = ap (only_file_of name bytes) (sym name_is) ∙ file-there name bytes in
+    All-contains (AgreeFor (only_file_of name bytes) all) (round_calls rows r) c
+    (round-all (AgreeFor (only_file_of name bytes) all) r rows (agree-cut (only_file_of name bytes) all r.cut) (here ∙ ap Some bytes_are ∙ sym there, bytes, here) tt (λ guid. tt) tt)
     (subst (λ (l : List Call). Contains l c) calls_are in_it)
 
 -- ---- a round that is drawn
@@ -159,27 +159,27 @@ module _ (x n i register : ℕ) (r : Round) (below : i < n) (left : drop i (roun
             ∙ ap (λ (l : List Call). done ++ l) (sym (flat_map-append f (take (i + 1) rounds) (drop (i + 1) rounds)) ∙ ap (flat_map f) (take-append-drop (i + 1) rounds)),
       )
 
-  module _ (tells : Bool) (all : Directory) (done : List Call) (journal : List Turn) (old new : Moment) (status : ℕ) (noted : Note) (text : List ℕ) where
-    pub rounds-on : Stands tells all ((done ++ flat_map (round_calls soak_layout.rows) (take i (rounds_from x 1 n))) ++ round_calls soak_layout.rows r) journal old new status noted text → status ≡ 0
+  module _ (tells : Bool) (all : Directory) (done : List Call) (journal : List Turn) (old new : TurnMoment) (status : ℕ) (noted : Note) (text : List ℕ) where
+    pub rounds-on : SoakReached tells all ((done ++ flat_map (round_calls soak_layout.rows) (take i (rounds_from x 1 n))) ++ round_calls soak_layout.rows r) journal old new status noted text → status ≡ 0
         → GoesSoaking tells all (done ++ flat_map (round_calls soak_layout.rows) (take (i + 1) (rounds_from x 1 n))) journal old new
     rounds-on stands zero_is =
         subst (λ (cs : List Call). GoesSoaking tells all cs journal old new) (calls-so-far done) (stands-going tells all _ journal old new status noted text zero_is stands)
 
-    pub rounds-end : Stands tells all ((done ++ flat_map (round_calls soak_layout.rows) (take i (rounds_from x 1 n))) ++ round_calls soak_layout.rows r) journal old new status noted text → (status ≡ 0 → ⊥)
-        → Stands tells all (done ++ flat_map (round_calls soak_layout.rows) (rounds_from x 1 n)) journal old new status noted text
+    pub rounds-end : SoakReached tells all ((done ++ flat_map (round_calls soak_layout.rows) (take i (rounds_from x 1 n))) ++ round_calls soak_layout.rows r) journal old new status noted text → (status ≡ 0 → ⊥)
+        → SoakReached tells all (done ++ flat_map (round_calls soak_layout.rows) (rounds_from x 1 n)) journal old new status noted text
     rounds-end stands other =
         stands-longer tells all _ (done ++ flat_map (round_calls soak_layout.rows) (rounds_from x 1 n)) journal old new status noted text
         (prefix-same _ (done ++ flat_map (round_calls soak_layout.rows) (take (i + 1) (rounds_from x 1 n))) (done ++ flat_map (round_calls soak_layout.rows) (rounds_from x 1 n)) (calls-so-far done) (rounds-front done)) other stands
 
 -- memory is wanting before more calls
-pub starved-before : (tells : Bool) (all : Directory) (done more : List Call) (journal : List Turn) (old mid : Moment) (text : List ℕ) → GoesSoaking tells all done journal old mid
-    → Stands tells all (done ++ more) journal old mid 9 note.Nothing text
+pub starved-before : (tells : Bool) (all : Directory) (done more : List Call) (journal : List Turn) (old mid : TurnMoment) (text : List ℕ) → GoesSoaking tells all done journal old mid
+    → SoakReached tells all (done ++ more) journal old mid 9 note.Nothing text
 starved-before tells all done more journal old mid text was = starved refl refl done (more, refl) was
 
 -- all rounds were done
-pub rounds-done : (tells : Bool) (all : Directory) (done : List Call) (x n i : ℕ) (journal : List Turn) (old mid : Moment) (text : List ℕ) → i ≡ n
+pub rounds-done : (tells : Bool) (all : Directory) (done : List Call) (x n i : ℕ) (journal : List Turn) (old mid : TurnMoment) (text : List ℕ) → i ≡ n
     → GoesSoaking tells all (done ++ flat_map (round_calls soak_layout.rows) (take i (rounds_from x 1 n))) journal old mid
-    → Stands tells all (done ++ flat_map (round_calls soak_layout.rows) (rounds_from x 1 n)) journal old mid 0 note.Nothing text
+    → SoakReached tells all (done ++ flat_map (round_calls soak_layout.rows) (rounds_from x 1 n)) journal old mid 0 note.Nothing text
 rounds-done tells all done x n i journal old mid text end was =
     goes refl refl
     (subst (λ (rs : List Round). GoesSoaking tells all (done ++ flat_map (round_calls soak_layout.rows) rs) journal old mid)

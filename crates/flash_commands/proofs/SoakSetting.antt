@@ -22,7 +22,7 @@ use Rattle.fwu_model.specs.State.{State, Bank, Move, bank, is_accepted, is_valid
 use Rattle.moves.specs.Moved.{IsReady}
 use Rattle.agent_machine.specs.Fields.{Fields}
 use Rattle.agent_machine.specs.Moment as agent
-use Rattle.script_turns.specs.Powered.{IsAt, Moment, SameDevice, Shows, kept_at}
+use Rattle.script_turns.specs.Powered.{IsAt, TurnMoment, SameDevice, ShowsCondition, kept_at}
 use Rattle.script_turns.specs.Replies.{Replies}
 use Rattle.script_turns.specs.Sending.{AnswersSend, IsTableOf, LacksSent, SendSays, SendsBy}
 use Rattle.script_turns.specs.Takes.{SendTakes, StopTakes, TakesBy}
@@ -78,7 +78,7 @@ module _ (E : Setting) (other : Directory) where
   ready-with : (t : Told) (s : State) → IsReady E t s → IsReady F t s
   ready-with t s is = record { calm = calm-with t s is.calm; guarded = is.guarded; one = is.one }
 
-  shows-with : (c : Condition) (on : Option Fields) (t : Told) → Shows E c on t → Shows F c on t
+  shows-with : (c : Condition) (on : Option Fields) (t : Told) → ShowsCondition E c on t → ShowsCondition F c on t
   shows-with c None t (off, leaves) = (off, leaves-with c.candidates t leaves)
   shows-with c (Some f) t is = record { state = is.state; one = is.one; layout = is.layout; shows = is.shows; ready = ready-with t is.state is.ready }
 
@@ -209,13 +209,13 @@ module _ (passes : List ℕ → Bool) (tells : Bool) (one all : Directory) where
   says-with name request (Some f) before r None now same says = says
   says-with name request (Some f) before r (Some g) now same says = answers-with name request r (kept_at tells f before) (kept_at tells g now) same says
 
-  read-with : (name : List ℕ) (f : Fields) (old new : Moment) → one name ≡ all name → SameDevice old new ⊎ StopTakes false (Some one) name f old new
+  read-with : (name : List ℕ) (f : Fields) (old new : TurnMoment) → one name ≡ all name → SameDevice old new ⊎ StopTakes false (Some one) name f old new
       → SameDevice old new ⊎ StopTakes false (Some all) name f old new
   read-with name f old new same (inl still) = inl still
   read-with name f old new same (inr by) =
       inr (record { toc = by.toc; table = table-with name (Ok by.toc) same by.table; entries = by.entries; sent = by.sent; spent = by.spent })
 
-  spent-with : (name : List ℕ) (f : Fields) (r : Reply) (old new : Moment) → one name ≡ all name → SendTakes false (Some one) name f r old new → SendTakes false (Some all) name f r old new
+  spent-with : (name : List ℕ) (f : Fields) (r : Reply) (old new : TurnMoment) → one name ≡ all name → SendTakes false (Some one) name f r old new → SendTakes false (Some all) name f r old new
   spent-with name f (reply.Sent images skipped) old new same by = record { toc = by.toc; table = table-with name (Ok by.toc) same by.table; spent = by.spent }
   spent-with name f (reply.SentPartial images skipped copied) old new same by = record { toc = by.toc; table = table-with name (Ok by.toc) same by.table; spent = by.spent }
   spent-with name f (reply.BadPackage g) old new same by = by
@@ -227,7 +227,7 @@ module _ (passes : List ℕ → Bool) (tells : Bool) (one all : Directory) where
   spent-with name f reply.ReadFault old new same by = read-with name f old new same by
   spent-with name f r old new same by = tt
 
-  takes-with : (c : Call) (on : Option Fields) (old : Moment) (r : Reply) (new : Moment) → AgreeFor one all c → TakesBy (Some one) c on old r new → TakesBy (Some all) c on old r new
+  takes-with : (c : Call) (on : Option Fields) (old : TurnMoment) (r : Reply) (new : TurnMoment) → AgreeFor one all c → TakesBy (Some one) c on old r new → TakesBy (Some all) c on old r new
   takes-with c None old r new agree takes = takes
   takes-with (call.Send name request) (Some f) old r new agree takes = spent-with name f r old new agree.0 takes
   takes-with call.Boot (Some f) old r new agree takes = takes
@@ -241,7 +241,7 @@ module _ (passes : List ℕ → Bool) (tells : Bool) (one all : Directory) where
   lacks-with (call.SendPartial name request) agree lacks = absurd agree
   lacks-with other agree lacks = absurd lacks
 
-  replies-with : (c : Call) (old : Moment) (t : Turn) (new : Moment) → AgreeFor one all c → Replies passes tells (Some one) c old t new → Replies passes tells (Some all) c old t new
+  replies-with : (c : Call) (old : TurnMoment) (t : Turn) (new : TurnMoment) → AgreeFor one all c → Replies passes tells (Some one) c old t new → Replies passes tells (Some all) c old t new
   replies-with (call.Send name request) old t new agree says = says-with name request old.on old.told t.reply new.on new.told agree.0 says
   replies-with call.Boot old t new agree says = says
   replies-with (call.Cut n k) old t new agree says = says
@@ -252,7 +252,7 @@ module _ (passes : List ℕ → Bool) (tells : Bool) (one all : Directory) where
   agree-back : (c : Call) → AgreeFor one all c → (files : Directory) → files ≡ all → AgreeFor one files c
   agree-back c agree files same = subst (λ (d : Directory). AgreeFor one d c) (sym same) agree
 
-  pub turns-with : (c : Call) (t : Turn) (old new : Moment) (was are : ℕ) → AgreeFor one all c → Turns passes tells (Some one) c t old new was are → Turns passes tells (Some all) c t old new was are
+  pub turns-with : (c : Call) (t : Turn) (old new : TurnMoment) (was are : ℕ) → AgreeFor one all c → Turns passes tells (Some one) c t old new was are → Turns passes tells (Some all) c t old new was are
   turns-with c t old new was are agree turned = record {
     call_is = turned.call_is;
     unnumbered = turned.unnumbered;

@@ -22,10 +22,10 @@ use Rattle.fwu_model.specs.Causes.{FileNotRead, status_by}
 use Rattle.fwu_model.specs.declared.kinds.Note.{Note}
 use Rattle.fwu_model.specs.declared.kinds.Note.TheVariants as note
 use Rattle.fwu_formats.specs.Digests.{passes_any}
-use Rattle.script_turns.specs.Powered.{Moment}
+use Rattle.script_turns.specs.Powered.{TurnMoment}
 use Rattle.script_turns.specs.Runs.{Ran, calls_of}
-use Rattle.script_runs.specs.Running.{Does}
-use Rattle.flash_commands.specs.Soaking.{AgreeFor, GoesSoaking, Stands, goes, starved, ended}
+use Rattle.script_runs.specs.Running.{DoesTurn}
+use Rattle.flash_commands.specs.Soaking.{AgreeFor, GoesSoaking, SoakReached, goes, starved, ended}
 use Rattle.script_runs.proofs.RunEnds.{on-at-zero}
 use Rattle.script_turns.proofs.RunTurns.{ran-none, ran-on}
 use Rattle.flash_commands.proofs.SoakSetting.{turns-with}
@@ -51,23 +51,23 @@ was-read one all call.Previous r agree unread is = unread is
 was-read one all c r agree unread is = agree
 
 -- nothing was done yet
-pub goes-none : (tells : Bool) (all : Directory) (old : Moment) → old.on ≡ None → GoesSoaking tells all [] [] old old
+pub goes-none : (tells : Bool) (all : Directory) (old : TurnMoment) → old.on ≡ None → GoesSoaking tells all [] [] old old
 goes-none tells all old off = record { ran = ran-none passes_any tells (Some all) old 0 off; calls_are = refl; none = refl }
 
-module _ (tells : Bool) (one all : Directory) (done : List Call) (c : Call) (journal after : List Turn) (old mid new : Moment) (status : ℕ) (noted : Note) (text : List ℕ) where
-  ran-more : GoesSoaking tells all done journal old mid → (s : Does passes_any tells (Some one) c journal after mid new 0 0 status noted text) → AgreeFor one all c → old.on ≡ None
+module _ (tells : Bool) (one all : Directory) (done : List Call) (c : Call) (journal after : List Turn) (old mid new : TurnMoment) (status : ℕ) (noted : Note) (text : List ℕ) where
+  ran-more : GoesSoaking tells all done journal old mid → (s : DoesTurn passes_any tells (Some one) c journal after mid new 0 0 status noted text) → AgreeFor one all c → old.on ≡ None
       → Ran passes_any tells (Some all) after old new 0 0
   ran-more was s agree off =
       subst (λ (ts : List Turn). Ran passes_any tells (Some all) ts old new 0 0) (sym s.kept)
       (ran-on passes_any tells (Some all) c s.turn journal old mid new 0 0 0 off was.ran was.none (turns-with passes_any tells one all c s.turn mid new 0 0 agree s.turns) s.fits)
 
-  calls-more : GoesSoaking tells all done journal old mid → (s : Does passes_any tells (Some one) c journal after mid new 0 0 status noted text) → calls_of after ≡ done ++ c ∷ []
+  calls-more : GoesSoaking tells all done journal old mid → (s : DoesTurn passes_any tells (Some one) c journal after mid new 0 0 status noted text) → calls_of after ≡ done ++ c ∷ []
   calls-more was s =
       ap calls_of s.kept ∙ map-append (λ (u : Turn). u.call) journal (s.turn ∷ []) ∙ ap (λ (xs : List Call). xs ++ s.turn.call ∷ []) was.calls_are
       ∙ ap (λ (x : Call). done ++ x ∷ []) s.turns.call_is
 
   -- one turn more, where the soak goes on
-  pub steps-on : GoesSoaking tells all done journal old mid → Does passes_any tells (Some one) c journal after mid new 0 0 status noted text → AgreeFor one all c → old.on ≡ None → status ≡ 0
+  pub steps-on : GoesSoaking tells all done journal old mid → DoesTurn passes_any tells (Some one) c journal after mid new 0 0 status noted text → AgreeFor one all c → old.on ≡ None → status ≡ 0
       → GoesSoaking tells all (done ++ c ∷ []) after old new
   steps-on was s agree off zero_is = record {
     ran = ran-more was s agree off;
@@ -78,8 +78,8 @@ module _ (tells : Bool) (one all : Directory) (done : List Call) (c : Call) (jou
   }
 
   -- and where it ends
-  pub steps-end : (calls : List Call) → GoesSoaking tells all done journal old mid → Does passes_any tells (Some one) c journal after mid new 0 0 status noted text → AgreeFor one all c → old.on ≡ None → (status ≡ 0 → ⊥)
-      → IsPrefixOf (done ++ c ∷ []) calls → Stands tells all calls after old new status noted text
+  pub steps-end : (calls : List Call) → GoesSoaking tells all done journal old mid → DoesTurn passes_any tells (Some one) c journal after mid new 0 0 status noted text → AgreeFor one all c → old.on ≡ None → (status ≡ 0 → ⊥)
+      → IsPrefixOf (done ++ c ∷ []) calls → SoakReached tells all calls after old new status noted text
   steps-end calls was s agree off other front =
       ended journal s.turn s.kept (front.0, ap (λ (xs : List Call). xs ++ front.0) (calls-more was s) ∙ front.1) (ran-more was s agree off) was.none
       (ends-otherwise s.turn.reply (λ zero_is. other (s.status_is ∙ zero_is))) (was-read one all c s.turn.reply agree s.turns.unread) s.status_is s.noted_is s.text_is
@@ -106,8 +106,8 @@ pub prefix-through : {X : Type 0} (xs ys zs : List X) → IsPrefixOf xs ys → I
 prefix-through xs ys zs first then = (first.0 ++ then.0, sym (append_assoc xs first.0 then.0) ∙ ap (λ l. l ++ then.0) first.1 ∙ then.1)
 
 -- what stands after some calls stands after more, unless it goes on
-pub stands-longer : (tells : Bool) (all : Directory) (calls more : List Call) (journal : List Turn) (old new : Moment) (status : ℕ) (noted : Note) (text : List ℕ) → IsPrefixOf calls more → (status ≡ 0 → ⊥)
-    → Stands tells all calls journal old new status noted text → Stands tells all more journal old new status noted text
+pub stands-longer : (tells : Bool) (all : Directory) (calls more : List Call) (journal : List Turn) (old new : TurnMoment) (status : ℕ) (noted : Note) (text : List ℕ) → IsPrefixOf calls more → (status ≡ 0 → ⊥)
+    → SoakReached tells all calls journal old new status noted text → SoakReached tells all more journal old new status noted text
 stands-longer tells all calls more journal old new status noted text front other (goes zero_is quiet going) = absurd (other zero_is)
 stands-longer tells all calls more journal old new status noted text front other (starved nine quiet some less going) = starved nine quiet some (prefix-through some calls more less front) going
 stands-longer tells all calls more journal old new status noted text front other (ended first t is less ran none ends read status_is noted_is text_is) =
@@ -120,8 +120,8 @@ status-some (reply.NotBooted why) ends zero_is = omega arith
 status-some r ends zero_is = false≢true ends
 
 -- at the status 0 it goes on, after all the calls
-pub stands-going : (tells : Bool) (all : Directory) (calls : List Call) (journal : List Turn) (old new : Moment) (status : ℕ) (noted : Note) (text : List ℕ) → status ≡ 0
-    → Stands tells all calls journal old new status noted text → GoesSoaking tells all calls journal old new
+pub stands-going : (tells : Bool) (all : Directory) (calls : List Call) (journal : List Turn) (old new : TurnMoment) (status : ℕ) (noted : Note) (text : List ℕ) → status ≡ 0
+    → SoakReached tells all calls journal old new status noted text → GoesSoaking tells all calls journal old new
 stands-going tells all calls journal old new status noted text zero_is (goes same quiet going) = going
 stands-going tells all calls journal old new status noted text zero_is (starved nine quiet some less going) = absurd (omega arith)
 stands-going tells all calls journal old new status noted text zero_is (ended first t is less ran none ends read status_is noted_is text_is) = absurd (status-some t.reply ends (sym status_is ∙ zero_is))
@@ -136,9 +136,9 @@ contains-at : (calls : List Call) (i : ℕ) (c : Call) → slice_get calls i ≡
 contains-at calls i c at =
     subst (λ (x : Call). Contains calls x) (get_or_from_slice_get calls i c c at) (Contains-get_or calls i c (slice_get_within calls i c at))
 
-module _ (tells : Bool) (one all : Directory) (done : List Call) (calls : List SoakCall) (i : ℕ) (x d : SoakCall) (c : Call) (journal after : List Turn) (old mid new : Moment) (status : ℕ) (noted : Note) (text : List ℕ) where
+module _ (tells : Bool) (one all : Directory) (done : List Call) (calls : List SoakCall) (i : ℕ) (x d : SoakCall) (c : Call) (journal after : List Turn) (old mid new : TurnMoment) (status : ℕ) (noted : Note) (text : List ℕ) where
   pub calls-on : i < length calls → x ≡ get_or calls i d → c ≡ soak_shown x → GoesSoaking tells all (done ++ take i (map soak_shown calls)) journal old mid
-      → Does passes_any tells (Some one) c journal after mid new 0 0 status noted text → ((a : Call) → Contains (map soak_shown calls) a → AgreeFor one all a) → old.on ≡ None → status ≡ 0
+      → DoesTurn passes_any tells (Some one) c journal after mid new 0 0 status noted text → ((a : Call) → Contains (map soak_shown calls) a → AgreeFor one all a) → old.on ≡ None → status ≡ 0
       → GoesSoaking tells all (done ++ take (i + 1) (map soak_shown calls)) after old new
   calls-on below is shown_is was s agree off zero_is =
       let at : slice_get (map soak_shown calls) i ≡ Some c = call-at calls i x d below is ∙ ap Some (sym shown_is) in
@@ -146,20 +146,20 @@ module _ (tells : Bool) (one all : Directory) (done : List Call) (calls : List S
       (steps-on tells one all (done ++ take i (map soak_shown calls)) c journal after old mid new status noted text was s (agree c (contains-at (map soak_shown calls) i c at)) off zero_is)
 
   pub calls-end : i < length calls → x ≡ get_or calls i d → c ≡ soak_shown x → GoesSoaking tells all (done ++ take i (map soak_shown calls)) journal old mid
-      → Does passes_any tells (Some one) c journal after mid new 0 0 status noted text → ((a : Call) → Contains (map soak_shown calls) a → AgreeFor one all a) → old.on ≡ None → (status ≡ 0 → ⊥)
-      → Stands tells all (done ++ map soak_shown calls) after old new status noted text
+      → DoesTurn passes_any tells (Some one) c journal after mid new 0 0 status noted text → ((a : Call) → Contains (map soak_shown calls) a → AgreeFor one all a) → old.on ≡ None → (status ≡ 0 → ⊥)
+      → SoakReached tells all (done ++ map soak_shown calls) after old new status noted text
   calls-end below is shown_is was s agree off other =
       let at : slice_get (map soak_shown calls) i ≡ Some c = call-at calls i x d below is ∙ ap Some (sym shown_is) in
       steps-end tells one all (done ++ take i (map soak_shown calls)) c journal after old mid new status noted text (done ++ map soak_shown calls) was s (agree c (contains-at (map soak_shown calls) i c at)) off other
       (prefix-same ((done ++ take i (map soak_shown calls)) ++ c ∷ []) (done ++ take (i + 1) (map soak_shown calls)) (done ++ map soak_shown calls) (behind-next Call done (map soak_shown calls) i c at) (front-of Call done (map soak_shown calls) (i + 1)))
 
-module _ (tells : Bool) (all : Directory) (done calls : List Call) (i : ℕ) (journal : List Turn) (old mid : Moment) (text : List ℕ) where
+module _ (tells : Bool) (all : Directory) (done calls : List Call) (i : ℕ) (journal : List Turn) (old mid : TurnMoment) (text : List ℕ) where
   -- memory is wanting for the next call
-  pub calls-starved : GoesSoaking tells all (done ++ take i calls) journal old mid → Stands tells all (done ++ calls) journal old mid 9 note.Nothing text
+  pub calls-starved : GoesSoaking tells all (done ++ take i calls) journal old mid → SoakReached tells all (done ++ calls) journal old mid 9 note.Nothing text
   calls-starved was = starved refl refl (done ++ take i calls) (front-of Call done calls i) was
 
   -- all were done
-  pub calls-done : i ≡ length calls → GoesSoaking tells all (done ++ take i calls) journal old mid → Stands tells all (done ++ calls) journal old mid 0 note.Nothing text
+  pub calls-done : i ≡ length calls → GoesSoaking tells all (done ++ take i calls) journal old mid → SoakReached tells all (done ++ calls) journal old mid 0 note.Nothing text
   calls-done end was =
       goes refl refl
       (subst (λ (xs : List Call). GoesSoaking tells all (done ++ xs) journal old mid) (ap (λ (n : ℕ). take n calls) end ∙ take-length calls) was)

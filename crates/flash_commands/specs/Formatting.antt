@@ -16,13 +16,13 @@ use Rattle.fwu_model.specs.Text.{format_line, no_boot_text}
 use Rattle.fwu_model.specs.declared.kinds.NoBoot.TheVariants as no_boot
 use Rattle.meta_layout.specs.Rows.{fitted}
 use Rattle.fip_tables.specs.Files.{Lacks, Tells}
-use Rattle.image_check.specs.Law.{may_start}
+use Rattle.image_check.specs.Law.{verdict_may_start}
 use Rattle.image_check.specs.Passed.{HasPassed}
 use Rattle.image_check.specs.declared.bank.Verdict.{Verdict}
 use Rattle.image_check.specs.declared.bank.Verdict.TheVariants as verdict
 use Rattle.flash_format.specs.Choosing.{refusal}
-use Rattle.flash_format.specs.Formatted.{HoldsImages, IsBlank, IsFormatted, IsInOrder, IsRefused, IsSpelled, IsUnlaid}
-use Rattle.flash_format.specs.Stops.{Answers, Finishes, IsEarly, IsOfBytes, IsOfLayout, LayoutBy, ReadsBy, flash_result, unread_in}
+use Rattle.flash_format.specs.Formatted.{HoldsImages, IsBlank, IsFormatted, IsInOrder, IsRefusedFormat, IsSpelled, IsUnlaid}
+use Rattle.flash_format.specs.Stops.{RefusesAs, FormatFinishes, IsEarlyStop, IsOfBytes, IsOfLayout, LayoutBy, ReadsFileBy, flash_result, unread_in}
 use Rattle.flash_format.specs.declared.formatting.Formatted.{Formatted}
 use Rattle.flash_format.specs.declared.stops.FormatStop.{FormatStop}
 use Rattle.flash_format.specs.declared.stops.FormatStop.TheVariants.{Input, ReadFailed, Flash}
@@ -30,12 +30,12 @@ use Rattle.flash_format.specs.declared.stops.InputFault.{InputFault}
 use Rattle.flash_format.specs.declared.stops.InputFault.TheVariants as fault
 use Rattle.fwu_words.specs.Order as ask
 use Rattle.fwu_words.specs.declared.orders.NewFlash.{NewFlash}
-use Rattle.script_turns.specs.Powered.{Moment}
-use Rattle.script_runs.specs.ByTable.{Wakes, flash_fault_line}
+use Rattle.script_turns.specs.Powered.{TurnMoment}
+use Rattle.script_runs.specs.ByTable.{StopHasCause, Wakes, flash_fault_line}
 use Rattle.script_runs.specs.Ending.{Device, PutsNone, World}
-use Rattle.script_runs.specs.Noted.{is_beyond, noted}
+use Rattle.script_runs.specs.Noted.{is_beyond_model, noted}
 use Rattle.host_io.specs.Printed.{Prints}
-use Rattle.flash_commands.specs.Showing.{HasCause, RefusedList}
+use Rattle.flash_commands.specs.Showing.{RefusedList}
 use Rattle.script_turns.specs.Turning.{NoneFalls}
 use Rattle.script_runs.specs.Ways.{Given, HasGoodList}
 use Rattle.script_runs.specs.declared.done.Note.{Note}
@@ -97,7 +97,7 @@ format_note (Err (Flash stop)) = note.Nothing
 -- The result r of formatting a flash of so many blocks, by the rows and banks L and the package of this name, and by a verifier of
 -- these manifests, from the moment old to new.
 pub record Tries (passes : List ℕ → Bool) (tells : Bool) (told : Option Directory) (name : List ℕ)
-    (L : Layout) (blocks : ℕ) (old new : Moment) (faults_before faults_after : ℕ)
+    (L : Layout) (blocks : ℕ) (old new : TurnMoment) (faults_before faults_after : ℕ)
     (r : Result Formatted FormatStop) : Type 0 where
   -- what is told after the power came, which is what was told where nothing was dirty
   pub mid : Told
@@ -106,16 +106,16 @@ pub record Tries (passes : List ℕ → Bool) (tells : Bool) (told : Option Dire
   pub woken : IsTrue tells → Wakes old.told mid
   -- what is refused before the flash is touched, exactly
   pub layout : LayoutBy (fitted L blocks) r
-  pub answers : (file : List ℕ) → Tells told name file → Answers (refusal L blocks file) r
+  pub answers : (file : List ℕ) → Tells told name file → RefusesAs (refusal L blocks file) r
   -- and on any files by some bytes, unless the file could not be read: a refusal before the flash is touched is one that they have,
   -- and else they are a package with each image
   pub some : IsOfBytes (fitted L blocks) r
-  pub untouched : IsEarly r → new.told ≡ mid
+  pub untouched : IsEarlyStop r → new.told ≡ mid
   -- a name that told files lack, and nothing was touched
   pub missing : Lacks told name → (IsOfLayout r ⊎ (r ≡ Err ReadFailed)) × (new.told ≡ mid)
   -- a file that could not be read, and why: nothing was touched, or there is no layout, whatever a loss leaves
   pub failed : r ≡ Err ReadFailed → IsTrue tells → (new.told ≡ mid) ⊎ IsUnlaid new.told
-  pub reads : ReadsBy told name faults_before faults_after r
+  pub reads : ReadsFileBy told name faults_before faults_after r
   -- no call of the files failed but the one that is told
   pub unread_once : faults_after ≤ faults_before + unread_in r
   -- formatted
@@ -126,21 +126,21 @@ pub record Tries (passes : List ℕ → Bool) (tells : Bool) (told : Option Dire
   pub spelled : IfOk r (λ done. IsTrue tells → IsSpelled done.layout new.told.now)
   -- refused for what is in bank 0
   pub refused : (found : Verdict) → r ≡ Err (Input (fault.Incomplete found)) → IsTrue tells
-      → IsRefused passes L found new.told.now
+      → IsRefusedFormat passes L found new.told.now
   -- on every device: for no verdict by which the bank may start, and for none without what was read that gives it
-  pub bad : (found : Verdict) → r ≡ Err (Input (fault.Incomplete found)) → (may_start found ≡ false)
+  pub bad : (found : Verdict) → r ≡ Err (Input (fault.Incomplete found)) → (verdict_may_start found ≡ false)
       × HasPassed passes L.rows 0 found
-  pub images : Finishes r (IsTrue tells → (file : List ℕ) (toc : Toc) → Tells told name file → toc_of file ≡ Ok toc
+  pub images : FormatFinishes r (IsTrue tells → (file : List ℕ) (toc : Toc) → Tells told name file → toc_of file ≡ Ok toc
       → HoldsImages L (images_of L.rows file toc) new.told.now)
   -- blocks 3 to 7 and the banks behind bank 0 are erased: no old mark, record of the counter or package is left
-  pub blank : Finishes r (IsTrue tells → IsBlank L new.told.now)
+  pub blank : FormatFinishes r (IsTrue tells → IsBlank L new.told.now)
   pub deserved : (found : Verdict) → r ≡ Err (Input (fault.Incomplete found)) → IsTrue tells
       → (file : List ℕ) (toc : Toc) → Tells told name file → toc_of file ≡ Ok toc
       → IsTrue (is_complete L.rows (images_of L.rows file toc))
       → IsTrue (passes (manifest_part (images_of L.rows file toc))) → ⊥
   -- either way nothing is dirty; and whatever the end, and whatever a loss leaves, block 0 alone was touched, or a layout stands
   -- only with both replicas, and the one that was asked for only on a flash that is formatted whole; and until a loss no other is
-  pub clean : Finishes r (IsTrue tells → NothingDirty new.told)
+  pub clean : FormatFinishes r (IsTrue tells → NothingDirty new.told)
   pub ordered : IsTrue tells → IsInOrder passes L mid new.told
   -- nothing changes beyond the last bank
   pub keeps : IsTrue tells → Keeps 0 (4096 * blocks_needed L) mid new.told
@@ -153,7 +153,7 @@ pub record Tries (passes : List ℕ → Bool) (tells : Bool) (told : Option Dire
   pub unarmed : new.armed ≡ None
   -- power is on unless the flash stopped it
   pub power : new.power ≡ is_ok (flash_result r)
-  pub stopped : (stop : FlashStop) → r ≡ Err (Flash stop) → HasCause old.counts new.counts
+  pub stopped : (stop : FlashStop) → r ≡ Err (Flash stop) → StopHasCause old.counts new.counts
 
 -- ---- what the command did
 
@@ -172,6 +172,6 @@ pub data Formats (passes : List ℕ → Bool) (device : Device) (g : Given) (nam
       → Prints (format_text r) (format_status r) status old.taken new.taken old.faults.sink new.faults.sink
       → said ≡ format_note r
       → Formats passes device g name L old new status said
-  list_refused : new.flash ≡ old.flash → IsFalse (is_beyond said)
+  list_refused : new.flash ≡ old.flash → IsFalse (is_beyond_model said)
       → RefusedList (ask.format L.banks L.rows name) g status (noted said) old new
       → Formats passes device g name L old new status said

@@ -1,7 +1,7 @@
 -- What the command `show` tells and prints.
-use Rattle.std.specs.Prelude.{if◌then◌else◌, not, ◌==◌, ◌≡◌, ◌⊎◌, ℕ, ◌+◌, ◌≤◌, ◌++◌, ◌∷◌, [], Bool, List, Option, Some, Ok}
+use Rattle.std.specs.Prelude.{if◌then◌else◌, not, ◌==◌, ◌≡◌, ℕ, ◌+◌, ◌≤◌, ◌++◌, ◌∷◌, [], Bool, List, Option, Some, Ok}
 use Rattle.std.specs.Prelude.{Err, IsTrue, codes}
-use Rattle.flash_core.specs.Counts.{Rose, all_stops}
+use Rattle.flash_core.specs.Counts.{all_stops}
 use Rattle.flash_core.specs.declared.flash.Counts.{Counts}
 use Rattle.fwu_model.specs.State.{Numbers}
 use Rattle.fwu_formats.specs.Layout.{Layout}
@@ -12,7 +12,7 @@ use Rattle.fwu_model.specs.declared.kinds.NoBoot.TheVariants as no_boot
 use Rattle.fwu_model.specs.declared.kinds.Note.{Note}
 use Rattle.fwu_model.specs.declared.kinds.Note.TheVariants as note
 use Rattle.early_boot.specs.Numbers.{AreNumbers, ShowsNumbers}
-use Rattle.script_runs.specs.ByTable.{Wakes, flash_fault_line}
+use Rattle.script_runs.specs.ByTable.{StopHasCause, Wakes, flash_fault_line}
 use Rattle.script_runs.specs.Ending.{PutsNone, World}
 use Rattle.host_io.specs.Printed.{Prints}
 use Rattle.script_runs.specs.Ways.{Given, HasGoodList, Refuses}
@@ -32,18 +32,14 @@ ShowsNone image no_boot.Metadata = (L : Layout) × (layout_seen image ≡ Ok L)
     × (deciding L image ≡ Option.None)
 ShowsNone image (no_boot.Bank active previous) = ⊥
 
--- why a flash stopped a command that arms no loss: it failed, or power was lost
-abbrev pub HasCause : Counts → Counts → Type 0
-HasCause before after = Rose before.faults after.faults ⊎ Rose before.cuts after.cuts
-
 -- What `show` found on a flash of which so much is told, with the status, the note and the line of that.
-pub data Finds (known : Type 0) (image : List ℕ) (before after : Counts) : ℕ → Note → List ℕ
+pub data ShowFinds (known : Type 0) (image : List ℕ) (before after : Counts) : ℕ → Note → List ℕ
     → Type 0 where
   numbers : (n : Numbers) → AreNumbers n → (known → ShowsNumbers image n)
-      → Finds known image before after 0 note.Nothing (shown_line n)
+      → ShowFinds known image before after 0 note.Nothing (shown_line n)
   none : (why : NoBoot) → (known → ShowsNone image why)
-      → Finds known image before after 6 (note.Boot why) (not_shown_line why)
-  stopped : HasCause before after → Finds known image before after 5 note.Nothing flash_fault_line
+      → ShowFinds known image before after 6 (note.Boot why) (not_shown_line why)
+  stopped : StopHasCause before after → ShowFinds known image before after 5 note.Nothing flash_fault_line
 
 -- how many stops of the flash this status tells
 abbrev pub stops_shown : ℕ → ℕ
@@ -65,7 +61,7 @@ pub data Showed (tells : Bool) (g : Given) (old new : World) (status : ℕ) (not
       → Showed tells g old new status noted
   found : HasGoodList g.list g.files → (planned : ℕ) (line : List ℕ)
       → (IsTrue tells → Wakes old.flash.told new.flash.told)
-      → Finds (IsTrue tells) new.flash.told.now old.flash.counts new.flash.counts planned noted line
+      → ShowFinds (IsTrue tells) new.flash.told.now old.flash.counts new.flash.counts planned noted line
       → all_stops new.flash.counts ≤ all_stops old.flash.counts + stops_shown planned
       → new.flash.power ≡ not (planned == 5)
       → Prints line planned status old.taken new.taken old.faults.sink new.faults.sink

@@ -7,20 +7,20 @@ use Rattle.gen_core.specs.Calls.{file_name, round_package}
 use Rattle.gen_core.specs.Rounds.{rounds_from}
 use Rattle.gen_core.specs.declared.rounds.Round.{Round}
 use Rattle.host_io.specs.Contents.{Directory}
-use Rattle.script_turns.specs.Powered.{Moment, moment_of}
+use Rattle.script_turns.specs.Powered.{TurnMoment, moment_of}
 use Rattle.script_runs.specs.Noted.{noted}
-use Rattle.flash_commands.specs.Soaking.{GoesSoaking, Stands}
+use Rattle.flash_commands.specs.Soaking.{GoesSoaking, SoakReached}
 use Rattle.script_runs.specs.declared.running.End.{End}
 use Rattle.script_runs.specs.declared.running.Run.{Run}
 
 -- these calls were done from here on, and none of them ended it
-abbrev pub GoesHere : {D : Type 0} {F : Ghosts D} → Directory → List Call → Moment → Run D F → Type 0
+abbrev pub GoesHere : {D : Type 0} {F : Ghosts D} → Directory → List Call → TurnMoment → Run D F → Type 0
 GoesHere {F = F} all calls old run = GoesSoaking F.tells all calls (turns run.journal) old (moment_of run.powered)
 
 -- it does these calls from here on, and stands so
-abbrev pub StandsHere : {D : Type 0} {F : Ghosts D} → Directory → List Call → Moment → Run D F → End → Type 0
+abbrev pub StandsHere : {D : Type 0} {F : Ghosts D} → Directory → List Call → TurnMoment → Run D F → End → Type 0
 StandsHere {F = F} all calls old run end =
-    Stands F.tells all calls (turns run.journal) old (moment_of run.powered) end.status (noted end.note)
+    SoakReached F.tells all calls (turns run.journal) old (moment_of run.powered) end.status (noted end.note)
     run.text.items
 
 -- the packages of so many rounds, drawn from this register, are among the files

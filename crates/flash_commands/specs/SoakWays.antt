@@ -19,10 +19,10 @@ use Rattle.flash_format.specs.declared.stops.InputFault.TheVariants as fault
 use Rattle.gen_core.specs.Calls.{file_name, soak_calls}
 use Rattle.gen_core.specs.Line.{soak_line, too_small_line}
 use Rattle.gen_core.specs.Setup.{is_too_small, soak_layout}
-use Rattle.script_turns.specs.Powered.{Moment, at}
+use Rattle.script_turns.specs.Powered.{TurnMoment, at}
 use Rattle.flash_commands.specs.Formatting.{Tries, format_note, format_status, format_text}
 use Rattle.script_runs.specs.Ending.{Device, Ending, PutsNone, World, in_model}
-use Rattle.script_runs.specs.Noted.{is_beyond, noted}
+use Rattle.script_runs.specs.Noted.{is_beyond_model, noted}
 use Rattle.host_io.specs.Printed.{Prints}
 use Rattle.script_turns.specs.Runs.{Ran, calls_of}
 use Rattle.flash_commands.specs.Showing.{RefusedList}
@@ -57,7 +57,7 @@ pub data SoakEnds (rounds : ℕ) (calls : List Call) (ending : Ending model.Note
 -- Nothing was done, since a list of digests was not read or is none, or for want of memory, or on a flash that is too small; or the
 -- flash was not formatted; or it was, and the turns ran from there on, with the packages of all rounds as files, by any manifest.
 pub data SoakWay (device : Device) (g : Given) (seed rounds : ℕ) (ending : Ending Note) (old new : World) : Type 0 where
-  list_refused : ending.journal ≡ [] → new.flash ≡ old.flash → IsFalse (is_beyond ending.noted)
+  list_refused : ending.journal ≡ [] → new.flash ≡ old.flash → IsFalse (is_beyond_model ending.noted)
       → RefusedList (ask.soak seed rounds) g ending.status (noted ending.noted) old new
       → SoakWay device g seed rounds ending old new
   starved : ending.journal ≡ [] → new.flash ≡ old.flash → ending.status ≡ 9 → ending.noted ≡ note.Nothing
@@ -77,12 +77,12 @@ pub data SoakWay (device : Device) (g : Given) (seed rounds : ℕ) (ending : End
       old.taken new.taken old.faults.sink new.faults.sink
       → SoakWay device g seed rounds ending old new
   ran : HasGoodList g.list g.files → IsFalse (is_too_small device.blocks)
-      → (done : Formatted) (start : Moment) (on : Option Fields)
+      → (done : Formatted) (start : TurnMoment) (on : Option Fields)
       → Tries passes_any device.tells (Some (first_files seed)) (file_name 0) soak_layout device.blocks
       old.flash start 0 0 (Ok done)
       → start.on ≡ None → start.power ≡ true
       → Ran passes_any device.tells (Some (soak_files seed rounds)) ending.journal start
       (at on new.flash.told new.flash.counts new.flash.armed new.flash.power) 0 0
       → SoakEnds rounds (soak_calls seed rounds) (in_model ending) old.taken new.taken old.faults.sink new.faults.sink
-      → IsFalse (is_beyond ending.noted)
+      → IsFalse (is_beyond_model ending.noted)
       → SoakWay device g seed rounds ending old new

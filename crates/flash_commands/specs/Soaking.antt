@@ -14,26 +14,23 @@ use Rattle.fwu_model.specs.declared.kinds.Note.{Note}
 use Rattle.fwu_model.specs.declared.kinds.Note.TheVariants as note
 use Rattle.fwu_formats.specs.Digests.{passes_any}
 use Rattle.gen_core.specs.Calls.{file_name, first_package, packages_of}
-use Rattle.gen_core.specs.Line.{Started, is_booted, is_fallback, is_lost, is_sent, started}
+use Rattle.gen_core.specs.Line.{LastStart, is_booted, is_fallback, is_lost, is_sent, started}
 use Rattle.gen_core.specs.Rounds.{soak_rounds}
 use Rattle.gen_core.specs.declared.line.Totals.{Totals}
 use Rattle.gen_core.specs.declared.rounds.Cut.{Cut}
-use Rattle.script_turns.specs.Powered.{Moment}
+use Rattle.script_turns.specs.Powered.{TurnMoment}
 use Rattle.script_turns.specs.Runs.{Ran, calls_of}
 use Rattle.script_runs.specs.ByTable.{flash_fault_line}
 
 -- ---- the totals, one turn after the other
 
-abbrev pub no_totals : Totals
-no_totals = record { turns = 0; boots = 0; losses = 0; fallbacks = 0; sends = 0; bank = 0; version = 0; counter = 0 }
-
 -- the numbers of the last boot so far
-abbrev pub started_of : Totals → Started
+abbrev pub started_of : Totals → LastStart
 started_of t = record { bank = t.bank; version = t.version; counter = t.counter }
 
 -- the totals with one turn more
-abbrev pub counted : Totals → Reply → Totals
-counted t r = record {
+abbrev pub counted_turn : Totals → Reply → Totals
+counted_turn t r = record {
   turns = t.turns + 1;
   boots = t.boots + cond (is_booted r) 1 0;
   losses = t.losses + cond (is_lost r) 1 0;
@@ -54,12 +51,12 @@ pub record AreWithin (t : Totals) : Type 0 where
 -- ---- files
 
 -- the one file of this name
-abbrev pub file_of : List ℕ → List ℕ → Directory
-file_of name bytes = bytes_in ((name, bytes) ∷ [])
+abbrev pub only_file_of : List ℕ → List ℕ → Directory
+only_file_of name bytes = bytes_in ((name, bytes) ∷ [])
 
 -- the file that the flash is formatted with
 abbrev pub first_files : ℕ → Directory
-first_files seed = file_of (file_name 0) (first_package seed)
+first_files seed = only_file_of (file_name 0) (first_package seed)
 
 -- the packages of all rounds
 abbrev pub soak_files : ℕ → ℕ → Directory
@@ -91,22 +88,23 @@ stop_line t = stop_text t.call t.reply
 -- ---- the turns so far
 
 -- These calls were done, in their order, and none of them ended the soak.
-pub record GoesSoaking (tells : Bool) (all : Directory) (calls : List Call) (journal : List Turn) (old new : Moment) : Type 0 where
+pub record GoesSoaking (tells : Bool) (all : Directory) (calls : List Call) (journal : List Turn)
+    (old new : TurnMoment) : Type 0 where
   pub ran : Ran passes_any tells (Some all) journal old new 0 0
   pub calls_are : calls_of journal ≡ calls
   pub none : IsFalse (list_any (λ (t : Turn). ends_run t.reply) journal)
 
 -- How a soak that does these calls stands:
 -- all were done; or memory was wanting for more than the first of them; or a turn ended it, whose line is in the text.
-pub data Stands (tells : Bool) (all : Directory) (calls : List Call) (journal : List Turn) (old new : Moment) (status : ℕ)
+pub data SoakReached (tells : Bool) (all : Directory) (calls : List Call) (journal : List Turn) (old new : TurnMoment) (status : ℕ)
     (noted : Note) (text : List ℕ) : Type 0 where
   goes : status ≡ 0 → noted ≡ note.Nothing → GoesSoaking tells all calls journal old new
-      → Stands tells all calls journal old new status noted text
+      → SoakReached tells all calls journal old new status noted text
   starved : status ≡ 9 → noted ≡ note.Nothing → (front : List Call) → IsPrefixOf front calls
       → GoesSoaking tells all front journal old new
-      → Stands tells all calls journal old new status noted text
+      → SoakReached tells all calls journal old new status noted text
   ended : (front : List Turn) (t : Turn) → journal ≡ front ++ t ∷ [] → IsPrefixOf (calls_of journal) calls
       → Ran passes_any tells (Some all) journal old new 0 0
       → IsFalse (list_any (λ (u : Turn). ends_run u.reply) front) → IsTrue (ends_run t.reply) → t.reply ≢ reply.ReadFault
       → status ≡ status_by t.reply → noted ≡ note_by t.reply → text ≡ line t.call t.reply
-      → Stands tells all calls journal old new status noted text
+      → SoakReached tells all calls journal old new status noted text

@@ -1,6 +1,5 @@
 //! The command `format`.
-ghost use Rattle.std.specs.Prelude.{◌≡◌, ◌≤◌, ℕ, List, [], Option, None, IsTrue, IsFalse, is_ok};
-ghost use Rattle.flash_format.specs.Stops.{flash_result};
+ghost use Rattle.std.specs.Prelude.{◌≡◌, ◌≤◌, ℕ, List, [], Option, None, IsTrue, IsFalse};
 ghost use Rattle.fwu_journal.specs.Shown.{turns};
 ghost use Rattle.script_turns.specs.Powered.{moment};
 ghost use Rattle.flash_commands.specs.Formatting.{Formats, Tries, format_note, format_status, layout_of};
@@ -54,11 +53,8 @@ pub fn try_format<D: Flash, H: Files, V: Verifier>(
     requires off { IsFalse (D.on flash.old) }
     requires unarmed { D.arming flash.old ≡ None }
     ensures tries { Tries (V.passes verifier.now) D.tells (H.contents files.old) name.now
-        (record { banks = banks; rows = rows.now }) (D.blocks flash.old)
-        (moment D.told D.counts D.arming D.on flash.old)
-        (moment D.told D.counts D.arming D.on flash.new) (H.faults files.old) (H.faults files.new)
-        result }
-    ensures power { D.on flash.new ≡ is_ok (flash_result result) }
+        (record { banks = banks; rows = rows.now }) (D.blocks flash.old) (moment D.told D.counts D.arming D.on flash.old)
+        (moment D.told D.counts D.arming D.on flash.new) (H.faults files.old) (H.faults files.new) result }
     ensures same { H.contents files.new ≡ H.contents files.old }
     ensures unwritten { H.writes files.new ≡ H.writes files.old }
     ensures later { H.faults files.old ≤ H.faults files.new }
@@ -83,8 +79,7 @@ pub fn format_flash<'a, D: Flash, H: Files, O: Sink, V: Verifier>(
 ) -> Done<D>
     requires off { IsFalse (D.on flash) }
     requires unarmed { D.arming flash ≡ None }
-    ensures formats { (script : Option (List ℕ)) (was are : ℕ)
-        → Formats (V.passes verifier.now) (device_of D.Flash flash)
+    ensures formats { (script : Option (List ℕ)) (was are : ℕ) → Formats (V.passes verifier.now) (device_of D.Flash flash)
         (without_list H.Files script files.old) wanted.entry.package.now (layout_of wanted.entry)
         (world_at D.Flash H.Files O.Sink was flash files.old sink.old)
         (world_at D.Flash H.Files O.Sink are result.flash files.new sink.new) result.status result.note }

@@ -10,9 +10,9 @@ ghost use Rattle.fwu_model.specs.Causes.{Faults};
 ghost use Rattle.script_turns.specs.Powered.{moment};
 ghost use Rattle.script_runs.specs.Ways.{Given, HasGoodList, moment_world};
 ghost use Rattle.script_runs.specs.ByTable.{Wakes};
-ghost use Rattle.script_runs.specs.Noted.{is_beyond, noted};
+ghost use Rattle.script_runs.specs.Noted.{is_beyond_model, noted};
 ghost use Rattle.script_turns.specs.Turning.{NoneFalls};
-ghost use Rattle.flash_commands.specs.Showing.{Finds, Showed, shown_line, not_shown_line, stops_shown};
+ghost use Rattle.flash_commands.specs.Showing.{ShowFinds, Showed, shown_line, not_shown_line, stops_shown};
 
 use early_boot::{Numbers, Unshown, read_numbers};
 use flash_core::Flash;
@@ -56,15 +56,11 @@ fn find<D: Flash>(flash: &mut D, text: &mut Vec<u8>) -> Found
     requires room { HasRoom text.old LINE_ROOM }
     requires empty { text.old.items ≡ [] }
     ensures woken { IsTrue D.tells → Wakes (D.told flash.old) (D.told flash.new) }
-    ensures finds { Finds (IsTrue D.tells) (D.told flash.new).now
+    ensures finds { ShowFinds (IsTrue D.tells) (D.told flash.new).now
         (D.counts flash.old) (D.counts flash.new) result.status (noted result.note) text.new.items }
-    ensures note { IsFalse (is_beyond result.note) }
-    ensures content { IsTrue D.tells → NothingDirty (D.told flash.old)
-        → D.told flash.new ≡ D.told flash.old }
-    ensures guard { IsTrue D.tells → (D.told flash.new).guard ≡ (D.told flash.old).guard }
+    ensures note { IsFalse (is_beyond_model result.note) }
     ensures counts { NoneFalls (D.counts flash.old) (D.counts flash.new) }
-    ensures once { all_stops (D.counts flash.new) ≤ all_stops (D.counts flash.old)
-        + stops_shown result.status }
+    ensures once { all_stops (D.counts flash.new) ≤ all_stops (D.counts flash.old) + stops_shown result.status }
     ensures made { (D.counts flash.new).made ≡ (D.counts flash.old).made }
     ensures unarmed { D.arming flash.new ≡ None }
     ensures power { D.on flash.new ≡ not (result.status == 5) }
@@ -110,13 +106,11 @@ fn not_found(text: &mut Vec<u8>, why: NoBoot) -> Found
 pub fn show<D: Flash, O: Sink>(alloc: Global, sink: &mut O, flash: D) -> Done<D>
     requires off { IsFalse (D.on flash) }
     requires unarmed { D.arming flash ≡ None }
-    ensures showed { (g : Given) (before after : Faults) → HasGoodList g.list g.files
-        → Showed D.tells g
+    ensures showed { (g : Given) (before after : Faults) → HasGoodList g.list g.files → Showed D.tells g
         (moment_world D.Flash O.Sink before flash sink.old)
         (moment_world D.Flash O.Sink after result.flash sink.new) result.status (noted result.note) }
-    ensures note { IsFalse (is_beyond result.note) }
-    ensures content { IsTrue D.tells → NothingDirty (D.told flash)
-        → D.told result.flash ≡ D.told flash }
+    ensures note { IsFalse (is_beyond_model result.note) }
+    ensures content { IsTrue D.tells → NothingDirty (D.told flash) → D.told result.flash ≡ D.told flash }
     ensures guard { IsTrue D.tells → (D.told result.flash).guard ≡ (D.told flash).guard }
     ensures no_turns { turns result.journal ≡ [] }
     ensures counts { NoneFalls (D.counts flash) (D.counts result.flash) }

@@ -1,27 +1,25 @@
 //! The command `soak`.
 ghost use Rattle.std.specs.Prelude.{◌≡◌, ◌≢◌, ◌≤◌, ℕ, List, [], None, IfOk, IsFalse, string_bytes};
-ghost use Rattle.fwu_journal.specs.Room.{HasRoom};
 ghost use Rattle.fwu_journal.specs.Shown.{HasRoomFor, turns};
-ghost use Rattle.fwu_journal.specs.declared.line.TheConstants.{LINE_ROOM};
 ghost use Rattle.fwu_model.specs.Call.{Call};
 ghost use Rattle.fwu_model.specs.Causes.{Faults};
 ghost use Rattle.gen_core.specs.Calls.{file_name, first_package};
 ghost use Rattle.gen_core.specs.Draws.{register_after};
 ghost use Rattle.gen_core.specs.Generated.{generated};
 ghost use Rattle.gen_core.specs.Line.{soak_line};
-ghost use Rattle.gen_core.specs.Rounds.{sizes_of};
+ghost use Rattle.gen_core.specs.Rounds.{sizes_in_round};
 ghost use Rattle.gen_core.specs.Setup.{is_too_small, soak_layout};
 ghost use Rattle.host_io.specs.Contents.{Directory};
-ghost use Rattle.script_turns.specs.Powered.{Moment, device, moment, moment_of};
+ghost use Rattle.script_turns.specs.Powered.{TurnMoment, device, moment, moment_of};
 ghost use Rattle.script_runs.specs.Done.{ending};
 ghost use Rattle.flash_commands.specs.Here.{SoaksWay};
 ghost use Rattle.script_runs.specs.Ending.{in_model};
 ghost use Rattle.script_runs.specs.Noted.{noted};
-ghost use Rattle.host_io.specs.Printed.{Prints};
+ghost use Rattle.script_runs.specs.Here.{PrintsTo};
 ghost use Rattle.flash_commands.specs.SoakWays.{SoakEnds};
 ghost use Rattle.script_runs.specs.ByTable.{flash_fault_line};
 ghost use Rattle.flash_commands.specs.SoakStands.{StandsHere};
-ghost use Rattle.flash_commands.specs.Soaking.{file_of, first_files};
+ghost use Rattle.flash_commands.specs.Soaking.{only_file_of, first_files};
 ghost use Rattle.script_runs.specs.Ways.{Given, HasGoodList};
 
 use crate::format_line::add_format_line;
@@ -50,7 +48,7 @@ struct Drawn {
 
 /// Draws the sizes of the package of number 0, and makes it.
 fn first_file(alloc: Global, register: &mut Lcg) -> Result<OneFile, NoMemory>
-    ensures file { IfOk result (λ f. file_of (string_bytes f.name) f.bytes.items ≡ first_files register.old) }
+    ensures file { IfOk result (λ f. only_file_of (string_bytes f.name) f.bytes.items ≡ first_files register.old) }
     ensures moves_on { register.new ≡ register_after 2 register.old }
 {
     let sizes = draw_sizes(register);
@@ -64,8 +62,7 @@ fn first_file(alloc: Global, register: &mut Lcg) -> Result<OneFile, NoMemory>
 /// Puts the line of the totals of a journal into the sink, and gives the exit status that comes of it. Where memory is wanting for
 /// the line, nothing is written.
 fn print_totals<O: Sink>(alloc: Global, journal: &Journal, rounds: u32, sink: &mut O) -> u8
-    ensures { Prints (soak_line rounds (turns journal.now)) 0 result (O.taken sink.old)
-        (O.taken sink.new) (O.faults sink.old) (O.faults sink.new) }
+    ensures { PrintsTo O.Sink (soak_line rounds (turns journal.now)) 0 result sink.old sink.new }
 {
     match totals(journal).line(alloc, rounds) {
         Ok(line) => put_line(sink, line.as_slice(), 0),
@@ -82,14 +79,10 @@ fn print_end<O: Sink>(
     rounds: u32,
     sink: &mut O,
 ) -> u8
-    ensures goes { stand ≡ 0 → Prints (soak_line rounds (turns journal.now)) 0 result
-        (O.taken sink.old) (O.taken sink.new) (O.faults sink.old) (O.faults sink.new) }
-    ensures starved { stand ≡ 9 → result ≡ 9 }
-    ensures untouched { stand ≡ 9 → sink.new ≡ sink.old }
-    ensures failed { stand ≡ 5 → Prints flash_fault_line 5 result (O.taken sink.old)
-        (O.taken sink.new) (O.faults sink.old) (O.faults sink.new) }
-    ensures stopped { stand ≢ 0 → stand ≢ 5 → stand ≢ 9 → Prints last.now stand result
-        (O.taken sink.old) (O.taken sink.new) (O.faults sink.old) (O.faults sink.new) }
+    ensures goes { stand ≡ 0 → PrintsTo O.Sink (soak_line rounds (turns journal.now)) 0 result sink.old sink.new }
+    ensures starved { stand ≡ 9 → (result ≡ 9) × (sink.new ≡ sink.old) }
+    ensures failed { stand ≡ 5 → PrintsTo O.Sink flash_fault_line 5 result sink.old sink.new }
+    ensures stopped { stand ≢ 0 → stand ≢ 5 → stand ≢ 9 → PrintsTo O.Sink last.now stand result sink.old sink.new }
 {
     if stand == 0 {
         print_totals(alloc, journal, rounds, sink)
@@ -111,9 +104,7 @@ fn finish<D: Flash, O: Sink>(
     rounds: u32,
     sink: &mut O,
 ) -> Done<D>
-    ensures ended { (all : Directory) (calls : List Call) (old : Moment)
-        → StandsHere all calls old run end
-        → SoakEnds rounds calls
+    ensures ended { (all : Directory) (calls : List Call) (old : TurnMoment) → StandsHere all calls old run end → SoakEnds rounds calls
         (in_model (ending result)) (O.taken sink.old) (O.taken sink.new) (O.faults sink.old) (O.faults sink.new) }
     ensures journal { result.journal ≡ run.journal }
     ensures note { result.note ≡ end.note }
@@ -143,13 +134,10 @@ fn format_and_soak<D: Flash, O: Sink>(
 ) -> Done<D>
     requires off { IsFalse (D.on flash) }
     requires unarmed { D.arming flash ≡ None }
-    requires no_turns { turns room.journal ≡ [] }
     requires turn_fits { HasRoomFor room.journal 1 }
-    requires no_text { room.text.items ≡ [] }
-    requires line_fits { HasRoom room.text LINE_ROOM }
     ensures way { (seed : ℕ) (g : Given) (before after : Faults) → HasGoodList g.list g.files
         → IsFalse (is_too_small (D.blocks flash)) → drawn.register ≡ register_after 2 seed
-        → file_of (string_bytes drawn.first.name) drawn.first.bytes.items ≡ first_files seed
+        → only_file_of (string_bytes drawn.first.name) drawn.first.bytes.items ≡ first_files seed
         → SoaksWay D.Flash O.Sink g seed rounds before after flash sink.old result sink.new }
     ensures later { O.faults sink.old ≤ O.faults sink.new }
     ensures size { D.blocks result.flash ≡ D.blocks flash }
@@ -157,7 +145,6 @@ fn format_and_soak<D: Flash, O: Sink>(
     let Drawn { first, register } = drawn;
     let mut first = first;
     let mut register = register;
-    let mut room = room;
     let mut flash = flash;
     let Ok(name) = file_name(alloc, 0) else {
         return refuse(alloc, sink, Refusal::NoMemory, flash);
@@ -178,13 +165,15 @@ fn format_and_soak<D: Flash, O: Sink>(
             finish(alloc, run, end, rounds, sink)
         }
         Err(_) => {
-            add_format_line(&mut room.text, &ended);
-            let status = put_line(sink, room.text.as_slice(), status_of(&ended));
+            let Room { journal, text } = room;
+            let mut text = text;
+            add_format_line(&mut text, &ended);
+            let status = put_line(sink, text.as_slice(), status_of(&ended));
             Done {
                 status,
                 note: note_of(&ended),
                 flash,
-                journal: room.journal,
+                journal,
             }
         }
     }

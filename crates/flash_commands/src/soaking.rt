@@ -11,10 +11,10 @@ ghost use Rattle.gen_core.specs.Setup.{soak_layout};
 ghost use Rattle.host_io.specs.Contents.{Directory};
 ghost use Rattle.script_text.specs.Armable.{IsArmable};
 ghost use Rattle.script_text.specs.Shown.{HasBuffer, shown};
-ghost use Rattle.script_turns.specs.Powered.{Moment, device, has_power, moment_of, shown_on};
-ghost use Rattle.script_runs.specs.Noted.{is_beyond};
+ghost use Rattle.script_turns.specs.Powered.{TurnMoment, device, has_power, moment_of, shown_on};
+ghost use Rattle.script_runs.specs.Noted.{is_beyond_model};
 ghost use Rattle.flash_commands.specs.SoakStands.{GoesHere, HasPackages, StandsHere};
-ghost use Rattle.flash_commands.specs.Soaking.{AgreeFor, IsArmableCut, file_of};
+ghost use Rattle.flash_commands.specs.Soaking.{AgreeFor, IsArmableCut, only_file_of};
 
 use crate::one_file::OneFile;
 use base_core::NoMemory;
@@ -52,17 +52,13 @@ fn do_calls<D: Flash>(
     requires powered { D.on (device run.old.powered) ≡ has_power run.old.powered }
     requires armable { All (λ c. IsArmable (soak_shown c)) calls.now }
     requires turns_fit { HasRoomFor run.old.journal (length calls.now) }
-    ensures stands { (all : Directory) (done : List Calls) (old : Moment)
-        → GoesHere all done old run.old
+    ensures stands { (all : Directory) (done : List Calls) (old : TurnMoment) → GoesHere all done old run.old
         → ((c : Calls) → Contains (map soak_shown calls.now) c
-        → AgreeFor (file_of (string_bytes files.old.name) files.old.bytes.items) all c)
-        → old.on ≡ None
+        → AgreeFor (only_file_of (string_bytes files.old.name) files.old.bytes.items) all c) → old.on ≡ None
         → StandsHere all (done ++ map soak_shown calls.now) old run.new result }
-    ensures note { IsFalse (is_beyond result.note) }
-    ensures powered { result.status ≡ 0
-        → D.on (device run.new.powered) ≡ has_power run.new.powered }
-    ensures size { D.blocks (device run.new.powered)
-        ≡ D.blocks (device run.old.powered) }
+    ensures note { IsFalse (is_beyond_model result.note) }
+    ensures powered { result.status ≡ 0 → D.on (device run.new.powered) ≡ has_power run.new.powered }
+    ensures size { D.blocks (device run.new.powered) ≡ D.blocks (device run.old.powered) }
 {
     for index in 0..calls.len() {
         let Ok(call) = call_of(alloc, calls[index]) else {
@@ -102,15 +98,12 @@ fn do_round<D: Flash>(alloc: Global, run: &mut Run<D>, round: &Round) -> End
     requires fit { IsTrue (fit_sizes soak_layout.rows round.now.sizes) }
     requires version { round.now.security ≤ 223 }
     requires armable { IfSome round.now.cut IsArmableCut }
-    ensures stands { (all : Directory) (done : List Calls) (old : Moment)
-        → GoesHere all done old run.old
+    ensures stands { (all : Directory) (done : List Calls) (old : TurnMoment) → GoesHere all done old run.old
         → all (file_name round.now.number) ≡ Some (round_package round.now) → old.on ≡ None
         → StandsHere all (done ++ round_calls soak_layout.rows round.now) old run.new result }
-    ensures note { IsFalse (is_beyond result.note) }
-    ensures powered { result.status ≡ 0
-        → D.on (device run.new.powered) ≡ has_power run.new.powered }
-    ensures size { D.blocks (device run.new.powered)
-        ≡ D.blocks (device run.old.powered) }
+    ensures note { IsFalse (is_beyond_model result.note) }
+    ensures powered { result.status ≡ 0 → D.on (device run.new.powered) ≡ has_power run.new.powered }
+    ensures size { D.blocks (device run.new.powered) ≡ D.blocks (device run.old.powered) }
 {
     let Ok(mut file) = round_file(alloc, round) else {
         return STARVED;
@@ -127,18 +120,12 @@ fn do_round<D: Flash>(alloc: Global, run: &mut Run<D>, round: &Round) -> End
 /// Does so many rounds, each drawn from the register as it comes.
 fn do_rounds<D: Flash>(alloc: Global, run: &mut Run<D>, register: &mut Lcg, rounds: u32) -> End
     requires powered { D.on (device run.old.powered) ≡ has_power run.old.powered }
-    ensures stands { (all : Directory) (done : List Calls) (old : Moment)
-        → GoesHere all done old run.old
-        → HasPackages all register.old rounds
-        → old.on ≡ None
-        → StandsHere all
-        (done ++ flat_map (round_calls soak_layout.rows) (rounds_from register.old 1 rounds)) old
-        run.new result }
-    ensures note { IsFalse (is_beyond result.note) }
-    ensures powered { result.status ≡ 0
-        → D.on (device run.new.powered) ≡ has_power run.new.powered }
-    ensures size { D.blocks (device run.new.powered)
-        ≡ D.blocks (device run.old.powered) }
+    ensures stands { (all : Directory) (done : List Calls) (old : TurnMoment) → GoesHere all done old run.old
+        → HasPackages all register.old rounds → old.on ≡ None → StandsHere all
+        (done ++ flat_map (round_calls soak_layout.rows) (rounds_from register.old 1 rounds)) old run.new result }
+    ensures note { IsFalse (is_beyond_model result.note) }
+    ensures powered { result.status ≡ 0 → D.on (device run.new.powered) ≡ has_power run.new.powered }
+    ensures size { D.blocks (device run.new.powered) ≡ D.blocks (device run.old.powered) }
 {
     for index in 0..rounds {
         let round = Round::draw(register, index + 1);
@@ -162,12 +149,10 @@ pub fn do_soak<D: Flash>(
     requires not_booted { shown_on run.old.powered ≡ None }
     requires no_turns { turns run.old.journal ≡ [] }
     requires turn_fits { HasRoomFor run.old.journal 1 }
-    ensures stands { (all : Directory)
-        → HasPackages all register.old rounds
-        → StandsHere all
+    ensures stands { (all : Directory) → HasPackages all register.old rounds → StandsHere all
         (call.Boot ∷ flat_map (round_calls soak_layout.rows) (rounds_from register.old 1 rounds))
         (moment_of run.old.powered) run.new result }
-    ensures note { IsFalse (is_beyond result.note) }
+    ensures note { IsFalse (is_beyond_model result.note) }
     ensures size { D.blocks (device run.new.powered) ≡ D.blocks (device run.old.powered) }
 {
     let end = do_call(alloc, run, Call::Boot, first, &AnyManifest);

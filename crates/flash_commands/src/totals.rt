@@ -2,7 +2,7 @@
 ghost use Rattle.std.specs.Prelude.{◌≡◌, ◌<◌};
 ghost use Rattle.fwu_journal.specs.Shown.{reply, turns};
 ghost use Rattle.gen_core.specs.Line.{totals_of};
-ghost use Rattle.flash_commands.specs.Soaking.{AreWithin, counted};
+ghost use Rattle.flash_commands.specs.Soaking.{AreWithin, counted_turn};
 
 use fwu_journal::{Journal, Reply};
 use gen_core::Totals;
@@ -23,7 +23,7 @@ const NONE: Totals = Totals {
 fn count(totals: &mut Totals, answer: &Reply)
     requires few { totals.old.turns < 18446744073709551615 }
     requires within { AreWithin totals.old }
-    ensures { totals.new ≡ counted totals.old (reply answer.now) }
+    ensures { totals.new ≡ counted_turn totals.old (reply answer.now) }
 {
     totals.turns += 1;
     match answer {

@@ -1,8 +1,9 @@
--- What a call that only reads a device leaves, whatever it is asked for.
-use Rattle.std.specs.Prelude.{◌≡◌, Result, is_ok, IsTrue}
+-- What a call leaves of a device: one that only reads, one that also writes, and one that writes in one place.
+use Rattle.std.specs.Prelude.{◌≡◌, ℕ, Result, is_ok, IsTrue, OnOk}
 use Rattle.flash_core.specs.declared.flash.Flash.{Ghosts}
 use Rattle.flash_core.specs.declared.flash.FlashStop.{FlashStop}
-use Rattle.flash_core.specs.Counts.{Spends, StaysUnarmed, ReachesNone, arming_kept}
+use Rattle.flash_core.specs.Counts.{Spends, StaysUnarmed, ReachesNone, arming_kept, lowered_by}
+use Rattle.flash_core.specs.May.{Keeps}
 
 -- Content and size stay, power is by the result, no loss is armed or reached, and each stop has its cause.
 pub record Reads {D X : Type 0} (g : Ghosts D) (result : Result X FlashStop) (old new : D) : Type 0 where
@@ -13,10 +14,18 @@ pub record Reads {D X : Type 0} (g : Ghosts D) (result : Result X FlashStop) (ol
   pub costs : Spends result (g.counts old) (g.counts new)
   pub reached : ReachesNone result (g.counts old) (g.counts new)
 
--- What each other call leaves: size stays, power is by the result, each stop has its cause, and where no loss was armed none is, and
--- none is reached.
+-- What each other call leaves: size stays, power is by the result, each stop has its cause, a loss leaves none armed, and where none
+-- was armed none is, and none is reached.
 pub record Goes {D X : Type 0} (g : Ghosts D) (result : Result X FlashStop) (old new : D) : Type 0 where
   pub power : g.on new ≡ is_ok result
   pub size : g.blocks new ≡ g.blocks old
   pub costs : Spends result (g.counts old) (g.counts new)
   pub unarmed : StaysUnarmed result (g.arming old) (g.arming new) (g.counts old) (g.counts new)
+
+-- Erases and programs of the bytes from one place to before another, at any exit.
+pub record WritesWithin {D X : Type 0} (g : Ghosts D) (low high count : ℕ) (result : Result X FlashStop) (old new : D) : Type 0 where
+  -- Outside these bytes nothing changes.
+  pub keeps : IsTrue g.tells → Keeps low high (g.told old) (g.told new)
+  pub goes : Goes g result old new
+  -- On every device: so many erases and programs, when done.
+  pub spent : OnOk result (g.arming new ≡ lowered_by count (g.arming old))

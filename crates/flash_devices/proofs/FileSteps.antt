@@ -7,7 +7,7 @@ use Rattle.base_core.specs.Bytes.{overwritten}
 use Rattle.flash_core.specs.declared.flash.Arming.{Arming}
 use Rattle.flash_core.specs.declared.flash.FlashStop.{FlashStop}
 use Rattle.flash_core.specs.declared.flash.FlashStop.TheVariants.{Lost, Failed}
-use Rattle.flash_devices.specs.ByteFiles.{FailsWithin, written_over, Writes}
+use Rattle.flash_devices.specs.ByteFiles.{FailsWithin, written_over, WritesBytes}
 use Rattle.flash_devices.specs.File.{to_write, LeavesFile}
 use Rattle.flash_devices.specs.Meters.{is_failed}
 
@@ -19,7 +19,7 @@ failed_as_told result write told old at place part whole is failed there same wi
 
 -- a failed write leaves some of the first bytes that were to be written
 pub failed_write : {T U E : Type 0} (result : Result T FlashStop) (write : Result U E) (arming : Option Arming) (at place : ℕ) (bytes part : List ℕ) (old new after : Option (List ℕ))
-    → result ≡ Err Failed → is_err write ≡ true → place ≡ at → part ≡ to_write arming bytes → after ≡ new → Writes write place part old new → LeavesFile result arming at bytes old after
+    → result ≡ Err Failed → is_err write ≡ true → place ≡ at → part ≡ to_write arming bytes → after ≡ new → WritesBytes write place part old new → LeavesFile result arming at bytes old after
 failed_write (Ok x) write arming at place bytes part old new after is failed there same stays writes = absurd (cc)
 failed_write (Err Lost) write arming at place bytes part old new after is failed there same stays writes = absurd (cc)
 failed_write (Err Failed) (Ok x) arming at place bytes part old new after is failed there same stays writes = absurd (false≢true failed)
@@ -38,6 +38,6 @@ unfolding overwritten
 overwritten_by_none at all = ap (λ (l : List ℕ). l ++ drop (at + 0) all) (append-nil (take at all)) ∙ ap (λ n. take at all ++ drop n all) (omega arith) ∙ take-append-drop at all
 
 -- an error that wrote nothing
-pub nothing_written : {T E : Type 0} (result : Result T E) (at : ℕ) (bytes all after : List ℕ) → is_err result ≡ true → after ≡ all → Writes result at bytes (Some all) (Some after)
+pub nothing_written : {T E : Type 0} (result : Result T E) (at : ℕ) (bytes all after : List ℕ) → is_err result ≡ true → after ≡ all → WritesBytes result at bytes (Some all) (Some after)
 nothing_written (Ok x) at bytes all after failed same = absurd (false≢true failed)
 nothing_written (Err e) at bytes all after failed same = (0, ap (λ (l : List ℕ). Some l) (same ∙ sym (overwritten_by_none at all)))

@@ -25,9 +25,9 @@ abbrev pub HoldsAt : ℕ → List ℕ → Option (List ℕ) → Type 0
 HoldsAt at bytes told = IfSome told (λ all. Lies at (length bytes) all × (bytes ≡ slice_range all at (at + length bytes)))
 
 -- all of these bytes were written, or after an error so many of the first
-abbrev pub Writes : {T E : Type 0} → Result T E → ℕ → List ℕ → Option (List ℕ) → Option (List ℕ) → Type 0
-Writes (Ok _) at bytes old new = new ≡ written_over at bytes old
-Writes (Err _) at bytes old new = (n : ℕ) × (new ≡ written_over at (take n bytes) old)
+abbrev pub WritesBytes : {T E : Type 0} → Result T E → ℕ → List ℕ → Option (List ℕ) → Option (List ℕ) → Type 0
+WritesBytes (Ok _) at bytes old new = new ≡ written_over at bytes old
+WritesBytes (Err _) at bytes old new = (n : ℕ) × (new ≡ written_over at (take n bytes) old)
 
 -- Where the file tells it, a call fails exactly where this is told.
 abbrev pub FailsAs : Option Bool → Bool → Type 0

@@ -1,6 +1,7 @@
 -- What a stop leaves to the next power-on of a memory device.
-use Rattle.std.specs.Prelude.{ℕ, Bool, false, ◌&&◌, if◌then◌else◌, Option, None, Some, slice_index}
-use Rattle.flash_core.specs.Told.{Told, Operation, is_within, finished}
+use Rattle.std.specs.Prelude.{ℕ, Bool, false, ◌&&◌, if◌then◌else◌, Option, None, Some, length, slice_index, ◌≡◌, ◌<◌}
+use Rattle.flash_core.specs.Told.{Told, Operation, is_within, finished, fresh}
+use Rattle.flash_core.specs.May.{Leaves, TookEffect}
 
 -- So many of the first bytes of the operation under way take effect,
 -- and the other dirty ranges go back to what was stable, or keep what is now.
@@ -22,3 +23,10 @@ abbrev pub left_at : Told → Loss → ℕ → ℕ
 left_at t loss i =
     if is_landed t.under loss.landed i then slice_index (finished t) i
     else (if loss.back && t.dirty i then slice_index t.stable i else slice_index t.now i)
+
+-- A power-on leaves this content, of which nothing is dirty or under way. An arming named so many bytes of the operation under way.
+pub record ComesBack (known : ℕ) (loss : Loss) (old new : Told) : Type 0 where
+  pub fresh_now : new ≡ fresh old.guard new.now
+  pub leaves : Leaves old new.now
+  pub effect : TookEffect old.under known new.now
+  pub bytes : (i : ℕ) → i < length old.now → slice_index new.now i ≡ left_at old loss i

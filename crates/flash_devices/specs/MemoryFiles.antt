@@ -19,6 +19,6 @@ abbrev pub fails_next : MemoryFile → Bool
 fails_next f = is_listed (fails_of f) (following (calls_of f))
 
 -- One more call, and the same ones are listed.
-pub record IsCalled (old new : MemoryFile) : Type 0 where
+pub record IsCalledOnce (old new : MemoryFile) : Type 0 where
   pub calls : calls_of new ≡ following (calls_of old)
   pub fails : fails_of new ≡ fails_of old

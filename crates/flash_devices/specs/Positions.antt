@@ -26,4 +26,5 @@ WritesFrom position bytes contents at taken old new = TakesAt position bytes con
 -- A call on this place that failed had sought it, or its seek failed and left a told position and told bytes.
 abbrev pub FailsFrom : {F : Type 0} → (F → Option ℕ) → (F → Option (List ℕ)) → ℕ → F → F → Type 0
 FailsFrom {F} position bytes at old new =
-    ((between : F) × IsSought position bytes at old between) ⊎ (StaysAt (position old) (position new) × Keeps (bytes old) (bytes new))
+    ((between : F) × IsSought position bytes at old between)
+    ⊎ (StaysAt (position old) (position new) × Keeps (bytes old) (bytes new))

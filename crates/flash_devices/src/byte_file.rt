@@ -7,7 +7,7 @@ use std::io::{self, Read, Seek, SeekFrom, Write};
 /// A file whose bytes are read and written at places, counted in bytes from its start.
 pub trait ByteFile {
     ghost use Rattle.std.specs.Prelude.{◌≡◌, ℕ, Bool, List, Option, IfOk, IfSome, OnOk, is_err, length};
-    ghost use Rattle.flash_devices.specs.ByteFiles.{FailsAs, FailsWithin, HoldsAt, Writes};
+    ghost use Rattle.flash_devices.specs.ByteFiles.{FailsAs, FailsWithin, HoldsAt, WritesBytes};
 
     /// Its bytes, where they are told.
     ghost content: { Self → Option (List ℕ) };
@@ -36,15 +36,13 @@ pub trait ByteFile {
     fn read_at(&mut self, at: u64, out: &mut [u8]) -> io::Result<()>
         ensures bytes { OnOk result (HoldsAt at out.new (content self.old)) }
         ensures same { content self.new ≡ content self.old }
-        ensures fails { FailsWithin (fails self.old) (content self.old) at (length out.old)
-            (is_err result) }
+        ensures fails { FailsWithin (fails self.old) (content self.old) at (length out.old) (is_err result) }
         ensures called { called self.old self.new };
 
     /// Writes over the bytes from a place on. After an error some of the first were written, or none.
     fn write_at(&mut self, at: u64, bytes: &[u8]) -> io::Result<()>
-        ensures writes { Writes result at bytes.now (content self.old) (content self.new) }
-        ensures fails { FailsWithin (fails self.old) (content self.old) at (length bytes.now)
-            (is_err result) }
+        ensures writes { WritesBytes result at bytes.now (content self.old) (content self.new) }
+        ensures fails { FailsWithin (fails self.old) (content self.old) at (length bytes.now) (is_err result) }
         ensures called { called self.old self.new };
 
     /// Puts what was written where a loss of power leaves it.
@@ -60,9 +58,9 @@ pub trait ByteFile {
 /// its place first, and then all bytes are read or written. A flush is a `sync_data`, and its error is
 /// the flush's. No clause says so, since none of a file of the system says what a sync did: it is tested.
 impl<F: Read + Write + Seek + OpenFile> ByteFile for F {
-    ghost use Rattle.std.specs.Prelude.{◌≡◌, ⊤, Option, IfOk, IfSome, IsErr, OnOk, OnErr, is_err, length};
+    ghost use Rattle.std.specs.Prelude.{◌≡◌, ⊤, IfOk, IfSome, OnOk, OnErr};
     ghost use Rattle.std.specs.Io.KnownBytes.{Keeps};
-    ghost use Rattle.flash_devices.specs.ByteFiles.{untold, FailsAs, FailsWithin, HoldsAt, Writes};
+    ghost use Rattle.flash_devices.specs.ByteFiles.{untold, WritesBytes};
     ghost use Rattle.flash_devices.specs.Positions.{ReadsFrom, WritesFrom, FailsFrom};
 
     ghost content = { λ _. untold };
@@ -78,18 +76,12 @@ impl<F: Read + Write + Seek + OpenFile> ByteFile for F {
     fn size(&mut self) -> io::Result<u64>
         ensures size { IfOk result (λ n.
             IfSome (size_of (F.stream_position self.old) (F.stream_bytes self.old)) (λ known. n ≡ known)) }
-        ensures length { IfOk result (λ n. IfSome untold (λ all. n ≡ length all)) }
-        ensures same { untold ≡ untold }
-        ensures fails { FailsAs None (is_err result) }
         ensures keeps { Keeps (F.stream_bytes self.old) (F.stream_bytes self.new) }
     {
         self.seek(SeekFrom::End(0))
     }
 
     fn read_at(&mut self, at: u64, out: &mut [u8]) -> io::Result<()>
-        ensures bytes { OnOk result (HoldsAt at out.new untold) }
-        ensures same { untold ≡ untold }
-        ensures fails { FailsWithin None untold at (length out.old) (is_err result) }
         ensures reads { OnOk result (ReadsFrom F.stream_position F.stream_bytes F.remaining at out.new self.old self.new) }
         ensures stops { OnErr result (FailsFrom F.stream_position F.stream_bytes at self.old self.new) }
     {
@@ -98,8 +90,7 @@ impl<F: Read + Write + Seek + OpenFile> ByteFile for F {
     }
 
     fn write_at(&mut self, at: u64, bytes: &[u8]) -> io::Result<()>
-        ensures writes { Writes result at bytes.now untold untold }
-        ensures fails { FailsWithin None untold at (length bytes.now) (is_err result) }
+        ensures writes { WritesBytes result at bytes.now untold untold }
         ensures takes { OnOk result (WritesFrom F.stream_position F.stream_bytes F.contents at bytes.now self.old self.new) }
         ensures stops { OnErr result (FailsFrom F.stream_position F.stream_bytes at self.old self.new) }
     {
@@ -108,9 +99,7 @@ impl<F: Read + Write + Seek + OpenFile> ByteFile for F {
     }
 
     fn flush(&mut self) -> io::Result<()>
-        ensures same { untold ≡ untold }
-        ensures fails { FailsAs None (is_err result) }
-        ensures keeps { Keeps (F.contents self.old) (F.contents self.new) }
+        ensures { Keeps (F.contents self.old) (F.contents self.new) }
     {
         Write::flush(self)?;
         self.sync_data()

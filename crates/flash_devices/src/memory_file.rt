@@ -1,6 +1,6 @@
-ghost use Rattle.std.specs.Prelude.{◌≡◌, ◌+◌, ◌≤◌, Some, IfOk, OnErr, OnOk, is_err, length};
-ghost use Rattle.flash_devices.specs.ByteFiles.{FailsAs, FailsWithin, HoldsAt, Lies, Writes};
-ghost use Rattle.flash_devices.specs.MemoryFiles.{bytes_of, calls_of, fails_next, fails_of, IsCalled};
+ghost use Rattle.std.specs.Prelude.{◌≡◌, ◌+◌, Some, IfOk, OnErr, OnOk, is_err, length};
+ghost use Rattle.flash_devices.specs.ByteFiles.{FailsAs, FailsWithin, HoldsAt, Lies, WritesBytes};
+ghost use Rattle.flash_devices.specs.MemoryFiles.{bytes_of, calls_of, fails_next, fails_of, IsCalledOnce};
 
 use crate::byte_file::ByteFile;
 use crate::images::put_in;
@@ -51,7 +51,7 @@ impl MemoryFile {
     /// One more call, which fails where it is listed.
     fn call(&mut self) -> io::Result<()>
         ensures fails { is_err result ≡ fails_next self.old }
-        ensures called { IsCalled self.old self.new }
+        ensures called { IsCalledOnce self.old self.new }
         ensures same { bytes_of self.new ≡ bytes_of self.old }
     {
         self.calls = self.calls.saturating_add(1);
@@ -69,16 +69,15 @@ impl ByteFile for MemoryFile {
 
     ghost fails = { λ f. Some (fails_next f) };
 
-    ghost called = { λ old new. IsCalled old new };
+    ghost called = { λ old new. IsCalledOnce old new };
 
-    ghost flushed = { λ old new. IsCalled old new };
+    ghost flushed = { λ old new. IsCalledOnce old new };
 
     fn size(&mut self) -> io::Result<u64>
         ensures size { IfOk result (λ n. n ≡ length (bytes_of self.old)) }
-        ensures length { IfOk result (λ n. n ≡ length (bytes_of self.old)) }
         ensures same { Some (bytes_of self.new) ≡ Some (bytes_of self.old) }
         ensures fails { FailsAs (Some (fails_next self.old)) (is_err result) }
-        ensures called { IsCalled self.old self.new }
+        ensures called { IsCalledOnce self.old self.new }
     {
         self.call()?;
         Ok(self.bytes.len() as u64)
@@ -87,9 +86,8 @@ impl ByteFile for MemoryFile {
     fn read_at(&mut self, at: u64, out: &mut [u8]) -> io::Result<()>
         ensures bytes { OnOk result (HoldsAt at out.new (Some (bytes_of self.old))) }
         ensures same { Some (bytes_of self.new) ≡ Some (bytes_of self.old) }
-        ensures fails { FailsWithin (Some (fails_next self.old)) (Some (bytes_of self.old))
-            at (length out.old) (is_err result) }
-        ensures called { IsCalled self.old self.new }
+        ensures fails { FailsWithin (Some (fails_next self.old)) (Some (bytes_of self.old)) at (length out.old) (is_err result) }
+        ensures called { IsCalledOnce self.old self.new }
     {
         self.call()?;
         let from = place(&self.bytes, at, out.len())?;
@@ -98,13 +96,11 @@ impl ByteFile for MemoryFile {
     }
 
     fn write_at(&mut self, at: u64, bytes: &[u8]) -> io::Result<()>
-        ensures writes { Writes result at bytes.now (Some (bytes_of self.old))
-            (Some (bytes_of self.new)) }
-        ensures fails { FailsWithin (Some (fails_next self.old)) (Some (bytes_of self.old))
-            at (length bytes.now) (is_err result) }
+        ensures writes { WritesBytes result at bytes.now (Some (bytes_of self.old)) (Some (bytes_of self.new)) }
+        ensures fails { FailsWithin (Some (fails_next self.old)) (Some (bytes_of self.old)) at (length bytes.now) (is_err result) }
         ensures unchanged { OnErr result (bytes_of self.new ≡ bytes_of self.old) }
         ensures inside { OnOk result (Lies at (length bytes.now) (bytes_of self.old)) }
-        ensures called { IsCalled self.old self.new }
+        ensures called { IsCalledOnce self.old self.new }
     {
         self.call()?;
         let from = place(&self.bytes, at, bytes.len())?;
@@ -115,8 +111,7 @@ impl ByteFile for MemoryFile {
     fn flush(&mut self) -> io::Result<()>
         ensures same { Some (bytes_of self.new) ≡ Some (bytes_of self.old) }
         ensures fails { FailsAs (Some (fails_next self.old)) (is_err result) }
-        ensures called { IsCalled self.old self.new }
-        ensures flushed { OnOk result (IsCalled self.old self.new) }
+        ensures called { IsCalledOnce self.old self.new }
     {
         self.call()
     }

@@ -5,10 +5,8 @@ use base_core::{BLOCK_BYTES, FEWEST_BLOCKS, MOST_BLOCKS};
 
 /// How many blocks make this many bytes, from 8 to 65,536.
 pub fn blocks_of(len: u64) -> Option<u32>
-    ensures some { IfSome result (λ b. (fewest_blocks ≤ b) × (b ≤ most_blocks) ×
-        (len ≡ block_bytes * b)) }
-    ensures none { IfNone result ((b : ℕ) → fewest_blocks ≤ b → b ≤ most_blocks →
-        len ≡ block_bytes * b → ⊥) }
+    ensures some { IfSome result (λ b. (fewest_blocks ≤ b) × (b ≤ most_blocks) × (len ≡ block_bytes * b)) }
+    ensures none { IfNone result ((b : ℕ) → fewest_blocks ≤ b → b ≤ most_blocks → len ≡ block_bytes * b → ⊥) }
 {
     if len % u64::from(BLOCK_BYTES) != 0 {
         return None;

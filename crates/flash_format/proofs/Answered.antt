@@ -8,8 +8,8 @@ use Rattle.std.specs.Prelude.{option_map}
 use Rattle.fip_tables.specs.Images.{AreImages, images_fault}
 use Rattle.fip_tables.specs.declared.images.ImageFault.{ImageFault}
 use Rattle.flash_format.specs.Choosing.{refusal_by, refused}
-use Rattle.flash_format.specs.Stops.{Answers, IsEarly, IsOfBytes}
-use Rattle.flash_format.specs.Table.{IsTable, IsTableOfBytes}
+use Rattle.flash_format.specs.Stops.{RefusesAs, IsEarlyStop, IsOfBytes}
+use Rattle.flash_format.specs.Table.{IsTableRead, IsTableOfBytes}
 use Rattle.flash_format.specs.declared.stops.InputFault.{InputFault}
 use Rattle.flash_format.specs.declared.stops.InputFault.TheVariants.{Layout as BadLayout, Package, Missing, TooLarge, Incomplete}
 use Rattle.flash_format.specs.declared.stops.FormatStop.{FormatStop}
@@ -18,12 +18,12 @@ use Rattle.flash_format.specs.declared.stops.FormatStop.TheVariants.{Input, Read
 -- ---- the table
 
 -- a file that could not be read
-unread : (T : Type 0) (o : Option InputFault) → Answers {T = T} o (Err ReadFailed)
+unread : (T : Type 0) (o : Option InputFault) → RefusesAs {T = T} o (Err ReadFailed)
 unread T (Some f) = inr refl
 unread T None = λ early. early
 
-by_table : (T : Type 0) (L : Layout) (answer : Result Toc FipFault) (stop : FormatStop) → IsTable answer (Err stop) → Answers {T = T} (refusal_by (Ok L) answer) (Err stop)
-by_table T L answer (Input (Package f)) is = subst (λ (a : Result Toc FipFault). Answers {T = T} (refusal_by (Ok L) a) (Err (Input (Package f)))) (sym is) (inl refl)
+by_table : (T : Type 0) (L : Layout) (answer : Result Toc FipFault) (stop : FormatStop) → IsTableRead answer (Err stop) → RefusesAs {T = T} (refusal_by (Ok L) answer) (Err stop)
+by_table T L answer (Input (Package f)) is = subst (λ (a : Result Toc FipFault). RefusesAs {T = T} (refusal_by (Ok L) a) (Err (Input (Package f)))) (sym is) (inl refl)
 by_table T L answer (Input (BadLayout f)) none = absurd none
 by_table T L answer (Input (Missing guid)) none = absurd none
 by_table T L answer (Input (TooLarge guid)) none = absurd none
@@ -40,14 +40,14 @@ pub of_chosen : (T : Type 0) (L : Layout) (toc : Toc) (entries : List Entry) (x 
 of_chosen T L toc entries x t chosen = record {
   bytes = t.bytes;
   short = t.short;
-  answer = subst (λ (a : Result Toc FipFault). Answers {T = T} (refusal_by (Ok L) a) (Ok x)) (sym t.table) (subst (λ (o : Option ImageFault). Answers {T = T} (option_map refused o) (Ok x)) (sym chosen.none) (λ early. early));
+  answer = subst (λ (a : Result Toc FipFault). RefusesAs {T = T} (refusal_by (Ok L) a) (Ok x)) (sym t.table) (subst (λ (o : Option ImageFault). RefusesAs {T = T} (option_map refused o) (Ok x)) (sym chosen.none) (λ early. early));
 }
 
 pub of_refused : (T : Type 0) (L : Layout) (toc : Toc) (fault : ImageFault) → IsTableOfBytes (Ok toc) → images_fault L.rows toc ≡ Some fault → IsOfBytes {T = T} (Ok L) (Err (Input (refused fault)))
 of_refused T L toc fault t is = record {
   bytes = t.bytes;
   short = t.short;
-  answer = subst (λ (a : Result Toc FipFault). Answers {T = T} (refusal_by (Ok L) a) (Err (Input (refused fault)))) (sym t.table) (subst (λ (o : Option ImageFault). Answers {T = T} (option_map refused o) (Err (Input (refused fault)))) (sym is) (inl refl));
+  answer = subst (λ (a : Result Toc FipFault). RefusesAs {T = T} (refusal_by (Ok L) a) (Err (Input (refused fault)))) (sym t.table) (subst (λ (o : Option ImageFault). RefusesAs {T = T} (option_map refused o) (Err (Input (refused fault)))) (sym is) (inl refl));
 }
 
 -- ---- no layout
@@ -58,15 +58,15 @@ of_fault T fault = record { bytes = []; short = omega arith; answer = inl refl }
 -- ---- what is done then
 
 -- it refuses nothing of what was given
-pub of_done : (T U : Type 0) (fits : Result Layout LayoutFault) (x : T) (result : Result U FormatStop) → IsOfBytes {T = T} fits (Ok x) → (IsEarly result → ⊥) → IsOfBytes fits result
+pub of_done : (T U : Type 0) (fits : Result Layout LayoutFault) (x : T) (result : Result U FormatStop) → IsOfBytes {T = T} fits (Ok x) → (IsEarlyStop result → ⊥) → IsOfBytes fits result
 of_done T U fits x result of none = record { bytes = of.bytes; short = of.short; answer = go (refusal_by fits (toc_of of.bytes)) of.answer }
   where
-    go : (o : Option InputFault) → Answers {T = T} o (Ok x) → Answers o result
+    go : (o : Option InputFault) → RefusesAs {T = T} o (Ok x) → RefusesAs o result
     go (Some fault) (inl e) = absurd cc
     go (Some fault) (inr e) = absurd cc
     go None a = none
 
-pub early_of : (T U : Type 0) (stop : FormatStop) → IsEarly {T = T} (Err stop) → IsEarly {T = U} (Err stop)
+pub early_of : (T U : Type 0) (stop : FormatStop) → IsEarlyStop {T = T} (Err stop) → IsEarlyStop {T = U} (Err stop)
 early_of T U (Input (BadLayout fault)) early = tt
 early_of T U (Input (Package fault)) early = tt
 early_of T U (Input (Missing guid)) early = tt
@@ -76,7 +76,7 @@ early_of T U ReadFailed early = early
 early_of T U (Flash stop) early = early
 
 -- the same stop of another result
-pub answers_stop : (T U : Type 0) (stop : FormatStop) (o : Option InputFault) → Answers {T = T} o (Err stop) → Answers {T = U} o (Err stop)
+pub answers_stop : (T U : Type 0) (stop : FormatStop) (o : Option InputFault) → RefusesAs {T = T} o (Err stop) → RefusesAs {T = U} o (Err stop)
 answers_stop T U stop (Some fault) (inl e) = inl cc
 answers_stop T U stop (Some fault) (inr e) = inr cc
 answers_stop T U stop None a = λ early. a (early_of U T stop early)

@@ -19,13 +19,13 @@ use Rattle.fwu_formats.proofs.SealLaws.{limits}
 use Rattle.fwu_model.proofs.Shown.{shown-are-formed}
 use Rattle.image_check.specs.declared.bank.Verdict.{Verdict}
 use Rattle.image_check.specs.declared.bank.Verdict.TheVariants.{Good}
-use Rattle.image_check.specs.Law.{may_start}
+use Rattle.image_check.specs.Law.{verdict_may_start}
 use Rattle.image_check.specs.Verdict.{verdict_on}
 use Rattle.image_check.proofs.Permitted.{good, permitted}
 use Rattle.moves.proofs.SamePackages.{package-same}
 use Rattle.moves.proofs.Packages.{package-held}
 use Rattle.fip_tables.specs.Images.{AreImages, no_entry, no_row}
-use Rattle.flash_format.specs.Formatted.{first_state, HoldsImages, IsFormatted, IsRefused}
+use Rattle.flash_format.specs.Formatted.{first_state, HoldsImages, IsFormatted, IsRefusedFormat}
 use Rattle.flash_format.specs.Places.{AllStand, Erased}
 use Rattle.flash_format.proofs.Pieces.{length-payload}
 use Rattle.flash_format.proofs.Ranges.{erased_stays, stands_whole}
@@ -75,8 +75,8 @@ module _ (passes : List ℕ → Bool) (L : Layout) (v : ℕ) (s t : Told) (fits 
 
 -- ---- a bank that isn't good
 
-pub refused : (passes : List ℕ → Bool) (L : Layout) (found : Verdict) (s t : Told) → t ≡ s → 32768 ≤ length s.now → Erased 0 32768 s.now → verdict_on passes 0 L s.now 0 ≡ found → may_start found ≡ false → IsRefused passes L found t.now
-refused passes L found s t same room erased is bad = subst (λ (u : Told). IsRefused passes L found u.now) (sym same) (record {
+pub refused : (passes : List ℕ → Bool) (L : Layout) (found : Verdict) (s t : Told) → t ≡ s → 32768 ≤ length s.now → Erased 0 32768 s.now → verdict_on passes 0 L s.now 0 ≡ found → verdict_may_start found ≡ false → IsRefusedFormat passes L found t.now
+refused passes L found s t same room erased is bad = subst (λ (u : Told). IsRefusedFormat passes L found u.now) (sym same) (record {
   blank = unlaid s.now (omega arith) (λ i above below. erased i above (omega arith));
   front = erased;
   found_is = is;
@@ -116,10 +116,10 @@ module _ (L : Layout) (file : List ℕ) (toc : Toc) (entries : List Entry) (chos
     }
 
 -- complete images that pass aren't refused
-pub not_refused : (passes : List ℕ → Bool) (L : Layout) (found : Verdict) (images : List (List ℕ)) (image : List ℕ) → IsTrue (fits_layout L) → IsRefused passes L found image → HoldsImages L images image → IsTrue (is_complete L.rows images)
+pub not_refused : (passes : List ℕ → Bool) (L : Layout) (found : Verdict) (images : List (List ℕ)) (image : List ℕ) → IsTrue (fits_layout L) → IsRefusedFormat passes L found image → HoldsImages L images image → IsTrue (is_complete L.rows images)
     → IsTrue (passes (manifest_part images)) → ⊥
 not_refused passes L found images image fits refused holds complete passed =
     let is = permitted (setting L passes) 0 image 0 (version images) fits (images, holds.held complete, and_from (leb 0 (version images)) (passes (manifest_part images)) (le-leb 0 (version images) (omega arith)) passed, refl) in
-    let starts : may_start found ≡ true = ap may_start (sym refused.found_is ∙ is) in
+    let starts : verdict_may_start found ≡ true = ap verdict_may_start (sym refused.found_is ∙ is) in
     let bad = refused.bad in
     absurd cc

@@ -13,7 +13,7 @@ use Rattle.meta_layout.specs.Rows.{fitted}
 use Rattle.flash_format.specs.Formatted.{HoldsImages}
 use Rattle.flash_format.specs.Places.{AllStand}
 use Rattle.flash_format.specs.Planned.{HasToc}
-use Rattle.flash_format.specs.Stops.{Finishes}
+use Rattle.flash_format.specs.Stops.{FormatFinishes}
 use Rattle.flash_format.specs.declared.stops.InputFault.TheVariants.{Layout as BadLayout, Package, Missing, TooLarge, Incomplete}
 use Rattle.flash_format.specs.declared.stops.FormatStop.{FormatStop}
 use Rattle.flash_format.specs.declared.stops.FormatStop.TheVariants.{Input, ReadFailed, Flash}
@@ -47,7 +47,7 @@ hold_given L K blocks file toc entries image fitted size has is stored stand =
     subst (λ (l : Layout). HoldsImages l (images_of l.rows file toc) image) fitted.is (subst (λ (t : Toc). HoldsImages K (images_of K.rows file t) image) same holds)
 
 -- a fact that follows
-pub finishes_more : (T : Type 0) (result : Result T FormatStop) (A B : Type 0) → (A → B) → Finishes result A → Finishes result B
+pub finishes_more : (T : Type 0) (result : Result T FormatStop) (A B : Type 0) → (A → B) → FormatFinishes result A → FormatFinishes result B
 finishes_more T (Ok x) A B f a = f a
 finishes_more T (Err (Input (BadLayout fault))) A B f a = tt
 finishes_more T (Err (Input (Package fault))) A B f a = tt
@@ -58,7 +58,7 @@ finishes_more T (Err ReadFailed) A B f a = tt
 finishes_more T (Err (Flash stop)) A B f a = tt
 
 -- the same stop of another result
-pub finishes_err : (T U : Type 0) (stop : FormatStop) (A B : Type 0) → (A → B) → Finishes {T = T} (Err stop) A → Finishes {T = U} (Err stop) B
+pub finishes_err : (T U : Type 0) (stop : FormatStop) (A B : Type 0) → (A → B) → FormatFinishes {T = T} (Err stop) A → FormatFinishes {T = U} (Err stop) B
 finishes_err T U (Input (BadLayout fault)) A B f a = tt
 finishes_err T U (Input (Package fault)) A B f a = tt
 finishes_err T U (Input (Missing guid)) A B f a = tt

@@ -11,7 +11,7 @@ use Rattle.fwu_formats.specs.Package.{Entry}
 use Rattle.fwu_formats.specs.Metadata.{meta_read, first_meta}
 use Rattle.fwu_model.specs.Replica.{BothHold, in_version}
 use Rattle.flash_format.specs.Cleared.{IsBare, OnlyErased}
-use Rattle.flash_format.specs.Formatted.{HasAtMost, IsBlank, IsInOrder, IsOrdered, IsUnlaid, IsWhole, bared, begun, filled}
+use Rattle.flash_format.specs.Formatted.{HasAtMost, IsBlank, IsInOrder, IsOrdered, IsUnlaid, IsWholeFormat, bared, begun, filled}
 use Rattle.flash_format.specs.Places.{AllStand, Erased}
 use Rattle.flash_format.proofs.Ranges.{erased_stays}
 use Rattle.flash_format.proofs.Recorded.{keeps_settled}
@@ -81,5 +81,5 @@ blank_left L s t image clean keeps blank leaves = record {
     at : (i : ℕ) → 12288 ≤ i → get_or image i 0 ≡ get_or s.now i 0
     at i above = leaves.sure i (keeps.sure i (inr above) (quiet_fresh 0 (i + 1) s clean i (omega arith) (omega arith))) ∙ keeps.now i (inr above)
 
-pub in_order_filled : (passes : List ℕ → Bool) (L : Layout) (r s t : Told) → NothingDirty s → Keeps 0 12288 s t → IsBlank L s.now → IsOrdered L t → IsWhole passes L t → HasAtMost L t.now → IsInOrder passes L r t
+pub in_order_filled : (passes : List ℕ → Bool) (L : Layout) (r s t : Told) → NothingDirty s → Keeps 0 12288 s t → IsBlank L s.now → IsOrdered L t → IsWholeFormat passes L t → HasAtMost L t.now → IsInOrder passes L r t
 in_order_filled passes L r s t clean keeps blank ordered whole seen = filled (λ image may. blank_left L s t image clean keeps blank may.leaves) ordered whole seen

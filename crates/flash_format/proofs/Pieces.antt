@@ -9,7 +9,7 @@ use Rattle.base_core.proofs.Images.{overwritten_inside, overwritten_above}
 use Rattle.flash_core.specs.Told.{Told, put}
 use Rattle.flash_core.proofs.Calls.{now-put}
 use Rattle.fwu_formats.specs.Package.{Entry, payload}
-use Rattle.flash_format.specs.Places.{Erased, Stands}
+use Rattle.flash_format.specs.Places.{Erased, HoldsThenErased}
 
 pub length-payload : (file : List ℕ) (e : Entry) → e.offset + e.size ≤ length file → length (payload file e) ≡ e.size
 length-payload file e stored = length-take-le e.size (drop e.offset file) (omega (arith, length-drop e.offset file, stored))
@@ -28,7 +28,7 @@ module _ (size : ℕ) (out old : List ℕ) (erased : old ≡ blank 4096) (filled
   pub piece_erased : (n : ℕ) → size ≤ n → Erased n 4096 (out ++ drop size old)
   piece_erased n le i above below = behind i (omega arith) below
 
-  pub piece_stands : (done : ℕ) (bytes : List ℕ) → out ≡ take size (drop done bytes) → (size < 4096 → length bytes ≤ done + size) → Stands 0 4096 (drop done bytes) (out ++ drop size old)
+  pub piece_stands : (done : ℕ) (bytes : List ℕ) → out ≡ take size (drop done bytes) → (size < 4096 → length bytes ≤ done + size) → HoldsThenErased 0 4096 (drop done bytes) (out ++ drop size old)
   piece_stands done bytes is last i below = ap (λ (k : ℕ). get_or (out ++ drop size old) k 0) (omega arith) ∙ at (cases_lt i size)
     where
       at : (i < size) ⊎ (size ≤ i) → get_or (out ++ drop size old) i 0 ≡ get_or (drop done bytes) i 255
@@ -41,8 +41,8 @@ module _ (size : ℕ) (out old : List ℕ) (erased : old ≡ blank 4096) (filled
 
 -- ---- a block that was erased, with so many bytes of the buffer programmed to its front
 
-pub piece_written : (b n : ℕ) (x bytes : List ℕ) (t : Told) → 4096 * b + 4096 ≤ length t.now → length bytes ≡ 4096 → n ≤ 4096 → Erased (4096 * b) (4096 * b + 4096) t.now → Erased n 4096 bytes → Stands 0 4096 x bytes
-    → Stands (4096 * b) 4096 x (put (4096 * b) (take n bytes) t).now
+pub piece_written : (b n : ℕ) (x bytes : List ℕ) (t : Told) → 4096 * b + 4096 ≤ length t.now → length bytes ≡ 4096 → n ≤ 4096 → Erased (4096 * b) (4096 * b + 4096) t.now → Erased n 4096 bytes → HoldsThenErased 0 4096 x bytes
+    → HoldsThenErased (4096 * b) 4096 x (put (4096 * b) (take n bytes) t).now
 piece_written b n x bytes t inside whole few erased rest stands i below = ap (λ (l : List ℕ). get_or l (4096 * b + i) 0) (now-put (4096 * b) (take n bytes) t) ∙ at (cases_lt i n)
   where
     size : length (take n bytes) ≡ n
@@ -68,7 +68,7 @@ piece_written b n x bytes t inside whole few erased rest stands i below = ap (λ
 -- ---- a slot
 
 -- one piece more
-pub stands_more : (first k : ℕ) (bytes image : List ℕ) → Stands (4096 * first) (4096 * k) bytes image → Stands (4096 * (first + k)) 4096 (drop (4096 * k) bytes) image → Stands (4096 * first) (4096 * (k + 1)) bytes image
+pub stands_more : (first k : ℕ) (bytes image : List ℕ) → HoldsThenErased (4096 * first) (4096 * k) bytes image → HoldsThenErased (4096 * (first + k)) 4096 (drop (4096 * k) bytes) image → HoldsThenErased (4096 * first) (4096 * (k + 1)) bytes image
 stands_more first k bytes image front piece i below = at (cases_lt i (4096 * k))
   where
     at : (i < 4096 * k) ⊎ (4096 * k ≤ i) → get_or image (4096 * first + i) 0 ≡ get_or bytes i 255

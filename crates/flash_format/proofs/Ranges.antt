@@ -10,7 +10,7 @@ use Rattle.base_core.proofs.Images.{overwritten_below, overwritten_inside}
 use Rattle.flash_core.specs.Told.{Told, put, written}
 use Rattle.flash_core.specs.May.{Keeps}
 use Rattle.flash_core.proofs.Calls.{keeps_put, keeps_halt, now-put}
-use Rattle.flash_format.specs.Places.{Erased, Stands}
+use Rattle.flash_format.specs.Places.{Erased, HoldsThenErased}
 
 -- ---- an erase or a program, whatever its result
 
@@ -57,14 +57,14 @@ erased_range at n image fits erased =
 
 -- ---- bytes that stand at a place, with erased ones behind them
 
-pub stands_stays : (at count low high : ℕ) (bytes : List ℕ) (s t : Told) → (at + count ≤ low) ⊎ (high ≤ at) → Keeps low high s t → Stands at count bytes s.now → Stands at count bytes t.now
+pub stands_stays : (at count low high : ℕ) (bytes : List ℕ) (s t : Told) → (at + count ≤ low) ⊎ (high ≤ at) → Keeps low high s t → HoldsThenErased at count bytes s.now → HoldsThenErased at count bytes t.now
 stands_stays at count low high bytes s t apart keeps stands i below = keeps.now (at + i) (outside apart) ∙ stands i below
   where
     outside : (at + count ≤ low) ⊎ (high ≤ at) → (at + i < low) ⊎ (high ≤ at + i)
     outside (inl l) = inl (omega arith)
     outside (inr r) = inr (omega arith)
 
-pub stands_whole : (at count : ℕ) (bytes image : List ℕ) → at + count ≤ length image → length bytes ≤ count → Stands at count bytes image → take count (drop at image) ≡ bytes ++ blank (count - length bytes)
+pub stands_whole : (at count : ℕ) (bytes image : List ℕ) → at + count ≤ length image → length bytes ≤ count → HoldsThenErased at count bytes image → take count (drop at image) ≡ bytes ++ blank (count - length bytes)
 stands_whole at count bytes image fits short stands =
     same_lists (take count (drop at image)) (bytes ++ blank (count - length bytes))
     (size ∙ omega (arith, length-append bytes (blank (count - length bytes)), length-blank (count - length bytes)))

@@ -16,7 +16,7 @@ use Rattle.fwu_formats.specs.Image.{layout_seen}
 use Rattle.fwu_model.specs.Replica.{BothHold, in_version}
 use Rattle.fwu_formats.proofs.MetaWritten.{meta-read}
 use Rattle.flash_format.specs.Formatted.{HasAtMost}
-use Rattle.flash_format.specs.Places.{Erased, Stands}
+use Rattle.flash_format.specs.Places.{Erased, HoldsThenErased}
 use Rattle.flash_format.proofs.Showing.{unlaid}
 use Rattle.flash_format.proofs.Ranges.{stands_whole}
 
@@ -46,7 +46,7 @@ clean_after A (Err e) t u is = tt
 
 -- ---- a block
 
-pub stands_put : (b : ℕ) (bytes : List ℕ) (t : Told) → 4096 * b + 4096 ≤ length t.now → length bytes ≤ 4096 → Erased (4096 * b) (4096 * b + 4096) t.now → Stands (4096 * b) 4096 bytes (put (4096 * b) bytes t).now
+pub stands_put : (b : ℕ) (bytes : List ℕ) (t : Told) → 4096 * b + 4096 ≤ length t.now → length bytes ≤ 4096 → Erased (4096 * b) (4096 * b + 4096) t.now → HoldsThenErased (4096 * b) 4096 bytes (put (4096 * b) bytes t).now
 stands_put b bytes t inside short erased i below = ap (λ (l : List ℕ). get_or l (4096 * b + i) 0) (now-put (4096 * b) bytes t) ∙ at (cases_lt i (length bytes))
   where
     fits : 4096 * b + length bytes ≤ length t.now
@@ -62,7 +62,7 @@ stands_put b bytes t inside short erased i below = ap (λ (l : List ℕ). get_or
         ∙ erased (4096 * b + i) (omega arith) (omega arith)
         ∙ sym (get_or_past bytes i 255 r)
 
-pub block_padded : (b : ℕ) (bytes image : List ℕ) → 4096 * b + 4096 ≤ length image → length bytes ≤ 4096 → Stands (4096 * b) 4096 bytes image → block b image ≡ padded bytes
+pub block_padded : (b : ℕ) (bytes image : List ℕ) → 4096 * b + 4096 ≤ length image → length bytes ≤ 4096 → HoldsThenErased (4096 * b) 4096 bytes image → block b image ≡ padded bytes
 unfolding block
 block_padded b bytes image inside short stands = stands_whole (4096 * b) 4096 bytes image inside short stands
 
@@ -101,7 +101,7 @@ pub at_most_written : {T E : Type 0} (result : Result T E) (L : Layout) (bytes :
     → ((n : ℕ) → blocks_needed L ≤ n → layout_of bytes n ≡ Ok L) → HasAtMost L (written result 0 bytes s).now
 at_most_written (Err e) L bytes blocks s size many enough erased whole reads = inl (subst (λ (image : List ℕ). IsErr (layout_seen image)) (sym (now-halt 0 bytes s)) (unlaid s.now (omega (arith, size, many)) erased))
 at_most_written (Ok x) L bytes blocks s size many enough erased whole reads =
-    let stands : Stands 0 4096 bytes (put 0 bytes s).now = stands_put 0 bytes s (omega (arith, size, many)) (omega (arith, whole)) (λ i above below. erased i above below) in
+    let stands : HoldsThenErased 0 4096 bytes (put 0 bytes s).now = stands_put 0 bytes s (omega (arith, size, many)) (omega (arith, whole)) (λ i above below. erased i above below) in
     let same : length (put 0 bytes s).now ≡ length s.now = ap length (now-put 0 bytes s) ∙ length-overwritten 0 bytes s.now (omega (arith, size, many, whole)) in
     let there = block_padded 0 bytes (put 0 bytes s).now (omega (arith, size, many, same)) (omega (arith, whole)) stands ∙ padded_whole bytes whole in
     inr (layout_read L bytes (put 0 bytes s).now blocks (same ∙ size) enough there reads)

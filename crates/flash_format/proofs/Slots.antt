@@ -8,7 +8,7 @@ use Rattle.flash_core.specs.May.{Keeps}
 use Rattle.fwu_formats.specs.Layout.{ImageRow, Layout, slot_total, start, slot_bytes}
 use Rattle.fwu_formats.specs.Package.{Entry, payload}
 use Rattle.fip_tables.specs.Images.{no_row, no_entry}
-use Rattle.flash_format.specs.Places.{Stands, AllStand}
+use Rattle.flash_format.specs.Places.{HoldsThenErased, AllStand}
 use Rattle.flash_format.proofs.Ranges.{stands_stays}
 
 module _ (rows : List ImageRow) (k : ℕ) (below : k < length rows) where
@@ -29,11 +29,11 @@ module _ (rows : List ImageRow) (k : ℕ) (below : k < length rows) where
 
 -- one image more
 pub all_stand_more : (L : Layout) (k : ℕ) (file : List ℕ) (entries : List Entry) (s t : Told) → k < length L.rows → Keeps (4096 * start L 0 k) (4096 * (start L 0 k + (get_or L.rows k no_row).slots)) s t
-    → AllStand k L file entries s.now → Stands (4096 * start L 0 k) (slot_bytes L k) (payload file (get_or entries k no_entry)) t.now → AllStand (k + 1) L file entries t.now
+    → AllStand k L file entries s.now → HoldsThenErased (4096 * start L 0 k) (slot_bytes L k) (payload file (get_or entries k no_entry)) t.now → AllStand (k + 1) L file entries t.now
 all_stand_more L k file entries s t below keeps before here j lt = at (cases_lt j k)
   where
-    at : (j < k) ⊎ (k ≤ j) → Stands (4096 * start L 0 j) (slot_bytes L j) (payload file (get_or entries j no_entry)) t.now
+    at : (j < k) ⊎ (k ≤ j) → HoldsThenErased (4096 * start L 0 j) (slot_bytes L j) (payload file (get_or entries j no_entry)) t.now
     at (inl l) =
         let ends = slots_before L.rows k below j l in
         stands_stays (4096 * start L 0 j) (slot_bytes L j) (4096 * start L 0 k) (4096 * (start L 0 k + (get_or L.rows k no_row).slots)) (payload file (get_or entries j no_entry)) s t (inl (omega (arith, ends))) keeps (before j l)
-    at (inr r) = let same : k ≡ j = omega arith in subst (λ (n : ℕ). Stands (4096 * start L 0 n) (slot_bytes L n) (payload file (get_or entries n no_entry)) t.now) same here
+    at (inr r) = let same : k ≡ j = omega arith in subst (λ (n : ℕ). HoldsThenErased (4096 * start L 0 n) (slot_bytes L n) (payload file (get_or entries n no_entry)) t.now) same here

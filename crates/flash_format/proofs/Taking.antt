@@ -7,12 +7,12 @@ use Rattle.fwu_formats.specs.Package.{Entry, Toc, entry_of, toc_of}
 use Rattle.fwu_formats.specs.declared.kinds.FipFault.{FipFault}
 use Rattle.fip_tables.specs.Images.{no_entry, no_row}
 use Rattle.flash_format.specs.Planned.{HasToc}
-use Rattle.flash_format.specs.Takes.{pieces_by, pieces_for, pieces_in, pieces_of}
+use Rattle.flash_format.specs.Takes.{pieces_by, pieces_for, pieces_in, block_pieces_of}
 use Rattle.flash_format.proofs.Given.{same_ok}
 
 -- one image more
-pub pieces_more : (entries : List Entry) (k : ℕ) → k < length entries → pieces_in (take (k + 1) entries) ≡ pieces_in (take k entries) + pieces_of (get_or entries k no_entry).size
-pieces_more entries k below = sum_by_more (λ (e : Entry). pieces_of e.size) entries k no_entry below
+pub pieces_more : (entries : List Entry) (k : ℕ) → k < length entries → pieces_in (take (k + 1) entries) ≡ pieces_in (take k entries) + block_pieces_of (get_or entries k no_entry).size
+pieces_more entries k below = sum_by_more (λ (e : Entry). block_pieces_of e.size) entries k no_entry below
 
 pub pieces_all : (entries : List Entry) (k : ℕ) → length entries ≤ k → pieces_in (take k entries) ≡ pieces_in entries
 pieces_all entries k all = ap pieces_in (take_all k entries all)
@@ -25,7 +25,7 @@ pieces_fit (row ∷ rows) [] count fit = absurd (omega (arith, count))
 pieces_fit (row ∷ rows) (e ∷ entries) count fit =
     let first : e.size ≤ 4096 * row.slots = fit 0 (omega arith) in
     let rest = pieces_fit rows entries (omega (arith, count)) (λ k below. fit (suc k) (omega (arith, below))) in
-    let pieces : pieces_in (e ∷ entries) ≡ pieces_of e.size + pieces_in entries = sum_by-cons (λ (x : Entry). pieces_of x.size) e entries in
+    let pieces : pieces_in (e ∷ entries) ≡ block_pieces_of e.size + pieces_in entries = sum_by-cons (λ (x : Entry). block_pieces_of x.size) e entries in
     let slots : slot_total (row ∷ rows) ≡ row.slots + slot_total rows = sum_by-cons (λ (r : ImageRow). r.slots) row rows in
     omega (arith, first, rest, pieces, slots)
 
@@ -37,7 +37,7 @@ pieces_chosen toc (row ∷ rows) [] count each = absurd (omega (arith, count))
 pieces_chosen toc (row ∷ rows) (e ∷ entries) count each =
     let first : entry_of toc row.guid ≡ Some e = each 0 (omega arith) in
     let rest = pieces_chosen toc rows entries (omega (arith, count)) (λ k below. each (suc k) (omega (arith, below))) in
-    sum_by-cons (λ (x : Entry). pieces_of x.size) e entries ∙ ap₂ (λ (m n : ℕ). m + n) (ap pieces_by (sym first)) rest
+    sum_by-cons (λ (x : Entry). block_pieces_of x.size) e entries ∙ ap₂ (λ (m n : ℕ). m + n) (ap pieces_by (sym first)) rest
     ∙ sym (sum_by-cons (λ (r : ImageRow). pieces_by (entry_of toc r.guid)) row rows)
 
 pub pieces_told : (file : List ℕ) (L : Layout) (entries : List Entry) (toc : Toc) → HasToc file L entries → toc_of file ≡ Ok toc → pieces_in entries ≡ pieces_for L.rows toc

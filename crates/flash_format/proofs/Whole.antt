@@ -10,7 +10,7 @@ use Rattle.fwu_formats.specs.Metadata.{first_meta}
 use Rattle.fwu_model.specs.Replica.{BothHold, in_version}
 use Rattle.image_check.specs.Verdict.{verdict_on}
 use Rattle.image_check.specs.declared.bank.Verdict.TheVariants.{Good}
-use Rattle.flash_format.specs.Formatted.{IsFormatted, IsOrdered, IsWhole}
+use Rattle.flash_format.specs.Formatted.{IsFormatted, IsOrdered, IsWholeFormat}
 use Rattle.flash_format.specs.Places.{Erased}
 use Rattle.flash_format.proofs.Formats.{formatted}
 
@@ -31,11 +31,11 @@ keeps_left low high s t image clean keeps leaves = record {
 }
 
 -- no loss leaves a layout
-pub whole_before : (passes : List ℕ → Bool) (L : Layout) (t : Told) → ((image : List ℕ) → May t image → IsErr (layout_seen image)) → IsWhole passes L t
+pub whole_before : (passes : List ℕ → Bool) (L : Layout) (t : Told) → ((image : List ℕ) → May t image → IsErr (layout_seen image)) → IsWholeFormat passes L t
 whole_before passes L t none image may is = absurd (err_not_ok (layout_seen image) L (none image may) is)
 
 -- bank 0 is good, and since then the records alone were touched
-pub whole_after : (passes : List ℕ → Bool) (L : Layout) (v : ℕ) (s t : Told) → IsTrue (fits_layout L) → 32768 ≤ length s.now → Erased 0 32768 s.now → NothingDirty s → verdict_on passes 0 L s.now 0 ≡ Good v → Keeps 0 12288 s t → IsOrdered L t → IsWhole passes L t
+pub whole_after : (passes : List ℕ → Bool) (L : Layout) (v : ℕ) (s t : Told) → IsTrue (fits_layout L) → 32768 ≤ length s.now → Erased 0 32768 s.now → NothingDirty s → verdict_on passes 0 L s.now 0 ≡ Good v → Keeps 0 12288 s t → IsOrdered L t → IsWholeFormat passes L t
 whole_after passes L v s t fits room erased clean is_good keeps ordered image may is = from (ordered image may)
   where
     from : IsErr (layout_seen image) ⊎ BothHold L (in_version 2 (first_meta L)) image → (n : ℕ) × IsFormatted passes L n (fresh t.guard image)

@@ -5,7 +5,7 @@ use Rattle.flash_core.specs.Told.{Told, NothingDirty, fresh}
 use Rattle.flash_core.specs.declared.flash.Flash.{Ghosts}
 use Rattle.flash_core.specs.May.{Keeps, May}
 use Rattle.flash_core.specs.Replaces.{padded}
-use Rattle.fwu_formats.specs.Layout.{Layout, blocks_needed, layout_bytes, slot_bytes, slot_total}
+use Rattle.fwu_formats.specs.Layout.{ImageRow, Layout, blocks_needed, layout_bytes, slot_bytes, slot_total}
 use Rattle.fwu_formats.specs.Metadata.{first_meta, replica_bytes}
 use Rattle.fwu_formats.specs.Manifest.{is_complete, manifest_part, version}
 use Rattle.fwu_formats.specs.Image.{layout_seen, package_in, slot}
@@ -16,11 +16,15 @@ use Rattle.fwu_model.specs.Sound.{Setting}
 use Rattle.fwu_formats.specs.declared.kinds.BankState.TheVariants.{Accepted, Invalid}
 use Rattle.flash_format.specs.Cleared.{OnlyErased}
 use Rattle.flash_format.specs.Places.{Erased}
-use Rattle.image_check.specs.Law.{may_start}
+use Rattle.image_check.specs.Law.{verdict_may_start}
 use Rattle.image_check.specs.Passed.{HasPassed}
 use Rattle.image_check.specs.Verdict.{verdict_on}
 use Rattle.image_check.specs.declared.bank.Verdict.{Verdict}
 use Rattle.image_check.specs.declared.bank.Verdict.TheVariants.{Good}
+
+-- the layout that so many banks and these rows ask for
+abbrev pub asked : ℕ → List ImageRow → Layout
+asked banks rows = record { banks = banks; rows = rows }
 
 -- a bank that holds an accepted package, and one that holds none
 abbrev pub full_bank : Layout → List (List ℕ) → Bank
@@ -82,12 +86,12 @@ pub record HoldsImages (L : Layout) (images : List (List ℕ)) (image : List ℕ
   pub held : IsTrue (is_complete L.rows images) → package_in L image 0 ≡ Some images
 
 -- the flash has no layout, and this is the verdict on bank 0, which isn't good
-pub record IsRefused (passes : List ℕ → Bool) (L : Layout) (found : Verdict) (image : List ℕ) : Type 0 where
+pub record IsRefusedFormat (passes : List ℕ → Bool) (L : Layout) (found : Verdict) (image : List ℕ) : Type 0 where
   pub blank : IsErr (layout_seen image)
   -- and the first eight blocks are erased
   pub front : Erased 0 (block_bytes * 8) image
   pub found_is : verdict_on passes 0 L image 0 ≡ found
-  pub bad : may_start found ≡ false
+  pub bad : verdict_may_start found ≡ false
 
 -- blocks 3 to 7 are erased, and so are the banks behind bank 0
 pub record IsBlank (L : Layout) (image : List ℕ) : Type 0 where
@@ -98,13 +102,22 @@ pub record IsBlank (L : Layout) (image : List ℕ) : Type 0 where
 abbrev pub HasAtMost : Layout → List ℕ → Type 0
 HasAtMost L image = IsErr (layout_seen image) ⊎ (layout_seen image ≡ Ok L)
 
+-- both replicas are those of the first metadata
+abbrev pub HoldFirst : Layout → List ℕ → Type 0
+HoldFirst L image = BothHold L (in_version 2 (first_meta L)) image
+
+-- both replicas are those of the first metadata, in its one spelling
+pub record AreFirst (L : Layout) (image : List ℕ) : Type 0 where
+  pub both : HoldFirst L image
+  pub spelled : HoldTwice (replica_bytes L (first_meta L)) image
+
 -- each image that the next power-on may leave has no layout, or both replicas
 abbrev pub IsOrdered : Layout → Told → Type 0
-IsOrdered L t = (image : List ℕ) → May t image → IsErr (layout_seen image) ⊎ BothHold L (in_version 2 (first_meta L)) image
+IsOrdered L t = (image : List ℕ) → May t image → IsErr (layout_seen image) ⊎ HoldFirst L image
 
 -- each image that the next power-on may leave with this layout is, with power on, a flash that was formatted
-abbrev pub IsWhole : (List ℕ → Bool) → Layout → Told → Type 0
-IsWhole passes L t = (image : List ℕ) → May t image → layout_seen image ≡ Ok L
+abbrev pub IsWholeFormat : (List ℕ → Bool) → Layout → Told → Type 0
+IsWholeFormat passes L t = (image : List ℕ) → May t image → layout_seen image ≡ Ok L
     → (v : ℕ) × IsFormatted passes L v (fresh t.guard image)
 
 -- What a format that led from s to t did is in order: block 0 is erased first, and the layout is written last.
@@ -115,5 +128,5 @@ pub data IsInOrder (passes : List ℕ → Bool) (L : Layout) (s t : Told) : Type
   bared : OnlyErased s t → ((image : List ℕ) → May t image → IsErr (layout_seen image)) → IsInOrder passes L s t
   -- each loss leaves blocks 3 to 7 and the banks behind bank 0 erased, a layout only with both replicas, and this one only on a
   -- flash that is formatted whole; and no other layout is there
-  filled : ((image : List ℕ) → May t image → IsBlank L image) → IsOrdered L t → IsWhole passes L t → HasAtMost L t.now
+  filled : ((image : List ℕ) → May t image → IsBlank L image) → IsOrdered L t → IsWholeFormat passes L t → HasAtMost L t.now
       → IsInOrder passes L s t

@@ -5,7 +5,7 @@ use Rattle.host_io.specs.Contents.{Directory}
 use Rattle.host_io.specs.Reads.{ReadsFile}
 use Rattle.host_io.specs.declared.files.Files.{Ghosts}
 use Rattle.fip_tables.specs.Files.{Lacks, Tells}
-use Rattle.image_check.specs.Law.{may_start}
+use Rattle.image_check.specs.Law.{verdict_may_start}
 use Rattle.image_check.specs.Passed.{HasPassed}
 use Rattle.image_check.specs.declared.bank.Verdict.{Verdict}
 use Rattle.meta_layout.specs.Rows.{fitted}
@@ -32,7 +32,7 @@ unread_in (Err ReadFailed) = 1
 unread_in other = 0
 
 -- No fault of the files falls, and the file could not be read only where they rose, or told files lack the name.
-pub record ReadsBy {T : Type 0} (told : Option Directory) (name : List ℕ) (before now : ℕ)
+pub record ReadsFileBy {T : Type 0} (told : Option Directory) (name : List ℕ) (before now : ℕ)
     (result : Result T FormatStop) : Type 0 where
   pub later : before ≤ now
   pub failed : result ≡ Err ReadFailed → Rose before now ⊎ Lacks told name
@@ -44,7 +44,7 @@ pub record ReadsPackage {H T : Type 0} (g : Ghosts H) (name : List ℕ) (result 
   -- On any files: no call of them failed but the one that is told.
   pub once : g.faults new ≤ g.faults old + unread_in result
   -- And that one has its cause.
-  pub cause : ReadsBy (g.contents old) name (g.faults old) (g.faults new) result
+  pub cause : ReadsFileBy (g.contents old) name (g.faults old) (g.faults new) result
 
 -- nothing that was given is refused
 abbrev pub RefusesNothing : {T : Type 0} → Result T FormatStop → Type 0
@@ -64,20 +64,20 @@ StopsEarly ReadFailed = ⊤
 StopsEarly (Flash stop) = ⊥
 
 -- a refusal by the layout, the package or an image: before the flash is touched
-abbrev pub IsEarly : {T : Type 0} → Result T FormatStop → Type 0
-IsEarly (Ok x) = ⊥
-IsEarly (Err (Input (BadLayout fault))) = ⊤
-IsEarly (Err (Input (Package fault))) = ⊤
-IsEarly (Err (Input (Missing guid))) = ⊤
-IsEarly (Err (Input (TooLarge guid))) = ⊤
-IsEarly (Err (Input (Incomplete verdict))) = ⊥
-IsEarly (Err ReadFailed) = ⊥
-IsEarly (Err (Flash stop)) = ⊥
+abbrev pub IsEarlyStop : {T : Type 0} → Result T FormatStop → Type 0
+IsEarlyStop (Ok x) = ⊥
+IsEarlyStop (Err (Input (BadLayout fault))) = ⊤
+IsEarlyStop (Err (Input (Package fault))) = ⊤
+IsEarlyStop (Err (Input (Missing guid))) = ⊤
+IsEarlyStop (Err (Input (TooLarge guid))) = ⊤
+IsEarlyStop (Err (Input (Incomplete verdict))) = ⊥
+IsEarlyStop (Err ReadFailed) = ⊥
+IsEarlyStop (Err (Flash stop)) = ⊥
 
 -- Where this is to be refused the result is that refusal, unless the file could not be read; else it is no such refusal.
-abbrev pub Answers : {T : Type 0} → Option InputFault → Result T FormatStop → Type 0
-Answers (Some fault) result = (result ≡ Err (Input fault)) ⊎ (result ≡ Err ReadFailed)
-Answers None result = IsEarly result → ⊥
+abbrev pub RefusesAs : {T : Type 0} → Option InputFault → Result T FormatStop → Type 0
+RefusesAs (Some fault) result = (result ≡ Err (Input fault)) ⊎ (result ≡ Err ReadFailed)
+RefusesAs None result = IsEarlyStop result → ⊥
 
 -- On any files: some bytes give this answer, on a flash that the layout fits or doesn't. So what is refused before the flash is
 -- touched is so by bytes that have that fault, or it is the layout's, and what isn't is so by a package with each image. Of a file
@@ -85,7 +85,7 @@ Answers None result = IsEarly result → ⊥
 pub record IsOfBytes {T : Type 0} (fits : Result Layout LayoutFault) (result : Result T FormatStop) : Type 0 where
   pub bytes : List ℕ
   pub short : length bytes < 2 ^ 64
-  pub answer : Answers (refusal_by fits (toc_of bytes)) result
+  pub answer : RefusesAs (refusal_by fits (toc_of bytes)) result
 
 abbrev pub IsOfLayout : {T : Type 0} → Result T FormatStop → Type 0
 IsOfLayout (Ok x) = ⊥
@@ -108,7 +108,7 @@ pub record RefusesInput {T : Type 0} (told : Option Directory) (name : List ℕ)
   -- By the layout, exactly.
   pub layout : LayoutBy (fitted L blocks) result
   -- And by the bytes of the file, exactly, where they are told.
-  pub answers : (file : List ℕ) → Tells told name file → Answers (refusal L blocks file) result
+  pub answers : (file : List ℕ) → Tells told name file → RefusesAs (refusal L blocks file) result
   -- On any files by some bytes, unless the file could not be read: those have that fault, or they are a package with each image.
   pub some : IsOfBytes (fitted L blocks) result
 
@@ -130,17 +130,17 @@ IfRefused result fact = (found : Verdict) → result ≡ Err (Input (Incomplete 
 -- On every device: why what is in the bank is refused.
 pub record IsByVerdict {T : Type 0} (passes : List ℕ → Bool) (rows : List ImageRow) (result : Result T FormatStop) : Type 0 where
   -- The bank may not start by the verdict.
-  pub bad : IfRefused result (λ found. may_start found ≡ false)
+  pub bad : IfRefused result (λ found. verdict_may_start found ≡ false)
   -- What was read gives it: a manifest that the verifier refuses, or one that passes.
   pub seen : IfRefused result (λ found. HasPassed passes rows 0 found)
 
 -- the fact, where the images were written: the flash was formatted, or what is in the bank was refused
-abbrev pub Finishes : {T : Type 0} → Result T FormatStop → Type 0 → Type 0
-Finishes (Ok x) fact = fact
-Finishes (Err (Input (BadLayout fault))) fact = ⊤
-Finishes (Err (Input (Package fault))) fact = ⊤
-Finishes (Err (Input (Missing guid))) fact = ⊤
-Finishes (Err (Input (TooLarge guid))) fact = ⊤
-Finishes (Err (Input (Incomplete verdict))) fact = fact
-Finishes (Err ReadFailed) fact = ⊤
-Finishes (Err (Flash stop)) fact = ⊤
+abbrev pub FormatFinishes : {T : Type 0} → Result T FormatStop → Type 0 → Type 0
+FormatFinishes (Ok x) fact = fact
+FormatFinishes (Err (Input (BadLayout fault))) fact = ⊤
+FormatFinishes (Err (Input (Package fault))) fact = ⊤
+FormatFinishes (Err (Input (Missing guid))) fact = ⊤
+FormatFinishes (Err (Input (TooLarge guid))) fact = ⊤
+FormatFinishes (Err (Input (Incomplete verdict))) fact = fact
+FormatFinishes (Err ReadFailed) fact = ⊤
+FormatFinishes (Err (Flash stop)) fact = ⊤

@@ -7,18 +7,18 @@ use Rattle.flash_format.specs.declared.stops.FormatStop.TheVariants.{Input, Read
 use Rattle.flash_format.specs.declared.stops.InputFault.TheVariants.{Package}
 
 -- the result is the answer of the bytes, unless the file could not be read
-abbrev pub IsTable : Result Toc FipFault → Result Toc FormatStop → Type 0
-IsTable answer (Ok toc) = answer ≡ Ok toc
-IsTable answer (Err (Input (Package fault))) = answer ≡ Err fault
-IsTable answer (Err (Input other)) = ⊥
-IsTable answer (Err ReadFailed) = ⊤
-IsTable answer (Err (Flash stop)) = ⊥
+abbrev pub IsTableRead : Result Toc FipFault → Result Toc FormatStop → Type 0
+IsTableRead answer (Ok toc) = answer ≡ Ok toc
+IsTableRead answer (Err (Input (Package fault))) = answer ≡ Err fault
+IsTableRead answer (Err (Input other)) = ⊥
+IsTableRead answer (Err ReadFailed) = ⊤
+IsTableRead answer (Err (Flash stop)) = ⊥
 
 -- on any files: it is the answer of some bytes, unless the file could not be read
 pub record IsTableOfBytes (result : Result Toc FormatStop) : Type 0 where
   pub bytes : List ℕ
   pub short : length bytes < 2 ^ 64
-  pub table : IsTable (toc_of bytes) result
+  pub table : IsTableRead (toc_of bytes) result
 
 -- a file that is no package, or could not be read, and nothing else, stops the reading
 abbrev pub StopsTable : Result Toc FormatStop → Type 0

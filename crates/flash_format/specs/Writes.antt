@@ -1,5 +1,5 @@
 -- What writing to a flash leaves, at any exit.
-use Rattle.std.specs.Prelude.{◌≡◌, ◌⊎◌, ℕ, Result, OnOk, IsTrue}
+use Rattle.std.specs.Prelude.{◌≡◌, ◌≤◌, ◌⊎◌, ℕ, Result, OnOk, IsTrue}
 use Rattle.base_core.specs.Block.{block_bytes}
 use Rattle.flash_core.specs.Calls.{Goes}
 use Rattle.flash_core.specs.Counts.{lowered_by}
@@ -10,13 +10,10 @@ use Rattle.flash_format.specs.Cleared.{IsBare, LeavesNoMore, OnlyErased}
 use Rattle.flash_format.specs.Stops.{RefusesNothing, flash_result}
 use Rattle.flash_format.specs.declared.stops.FormatStop.{FormatStop}
 
--- Erases and programs of the bytes from one place to before another.
-pub record WritesWithin {D T : Type 0} (g : Ghosts D) (low high count : ℕ) (result : Result T FlashStop) (old new : D) : Type 0 where
-  -- Outside these bytes nothing changes.
-  pub keeps : IsTrue g.tells → Keeps low high (g.told old) (g.told new)
-  pub goes : Goes g result old new
-  -- On every device: so many erases and programs, when done.
-  pub spent : OnOk result (g.arming new ≡ lowered_by count (g.arming old))
+-- Power is on, and the device has so many blocks.
+pub record IsReadyDevice {D : Type 0} (g : Ghosts D) (blocks : ℕ) (flash : D) : Type 0 where
+  pub on : IsTrue (g.on flash)
+  pub room : blocks ≤ g.blocks flash
 
 -- Programs of images into erased blocks, from one of them on, in the bytes from one place to before another.
 pub record WritesImages {D T : Type 0} (g : Ghosts D) (first low high count : ℕ)

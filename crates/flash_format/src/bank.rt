@@ -1,5 +1,5 @@
 //! Writing the images of a package into bank 0.
-ghost use Rattle.std.specs.Prelude.{◌+◌, ◌*◌, ◌≤◌, ℕ, List, length, IsTrue, OnOk};
+ghost use Rattle.std.specs.Prelude.{◌+◌, ◌*◌, ℕ, List, length, IsTrue, OnOk};
 ghost use Rattle.base_core.specs.Block.{block_bytes};
 ghost use Rattle.fwu_formats.specs.Layout.{blocks_needed, slot_total};
 ghost use Rattle.fip_tables.specs.Files.{Tells};
@@ -7,7 +7,7 @@ ghost use Rattle.flash_format.specs.Places.{Erased, AllStand};
 ghost use Rattle.flash_format.specs.Planned.{IsPlanned};
 ghost use Rattle.flash_format.specs.Stops.{ReadsPackage};
 ghost use Rattle.flash_format.specs.Takes.{pieces_in};
-ghost use Rattle.flash_format.specs.Writes.{WritesImages};
+ghost use Rattle.flash_format.specs.Writes.{IsReadyDevice, WritesImages};
 
 use crate::images::write_image;
 use crate::stops::FormatStop;
@@ -24,16 +24,14 @@ pub fn write_bank<D: Flash, H: Files>(
     name: &str,
     entries: &[Entry],
 ) -> Result<(), FormatStop>
-    requires on { IsTrue (D.on flash.old) }
-    requires inside { blocks_needed layout.now ≤ D.blocks flash.old }
+    requires ready { IsReadyDevice D.Flash (blocks_needed layout.now) flash.old }
     requires erased { IsTrue D.tells →
         Erased (block_bytes * 8) (block_bytes * (8 + slot_total layout.now.rows)) (D.told flash.old).now }
     requires planned { IsPlanned (H.contents files.old) name.now layout.now entries.now }
 
     ensures writes { WritesImages D.Flash 8 (block_bytes * 8) (block_bytes * (8 + slot_total layout.now.rows))
         (pieces_in entries.now) result flash.old flash.new }
-    ensures bytes { OnOk result (IsTrue D.tells → (file : List ℕ) →
-        Tells (H.contents files.old) name.now file
+    ensures bytes { OnOk result (IsTrue D.tells → (file : List ℕ) → Tells (H.contents files.old) name.now file
         → AllStand (length layout.now.rows) layout.now file entries.now (D.told flash.new).now) }
     ensures reads { ReadsPackage H.Files name.now result files.old files.new }
 {

@@ -4,7 +4,8 @@ ghost use Rattle.base_core.specs.Block.{block_bytes};
 ghost use Rattle.flash_core.specs.Told.{NothingDirty};
 ghost use Rattle.flash_format.specs.Cleared.{IsBare, OnlyErased};
 ghost use Rattle.flash_format.specs.Places.{Erased};
-ghost use Rattle.flash_format.specs.Writes.{ClearsFirst, WritesWithin};
+ghost use Rattle.flash_format.specs.Writes.{ClearsFirst, IsReadyDevice};
+ghost use Rattle.flash_core.specs.Calls.{WritesWithin};
 
 use flash_core::{Flash, FlashStop};
 
@@ -24,8 +25,7 @@ fn erase_layout<D: Flash>(flash: &mut D) -> Result<(), FlashStop>
 
 /// Erases the blocks from block 1 to before the count.
 fn erase_behind<D: Flash>(flash: &mut D, count: u32) -> Result<(), FlashStop>
-    requires on { IsTrue (D.on flash.old) }
-    requires inside { count ≤ D.blocks flash.old }
+    requires ready { IsReadyDevice D.Flash count flash.old }
     requires some { 1 ≤ count }
 
     ensures writes { WritesWithin D.Flash block_bytes (block_bytes * count) (count - 1) result flash.old flash.new }
@@ -40,8 +40,7 @@ fn erase_behind<D: Flash>(flash: &mut D, count: u32) -> Result<(), FlashStop>
 
 /// Erases the first blocks: block 0 with a barrier behind it, and then the others.
 pub fn erase_all<D: Flash>(flash: &mut D, count: u32) -> Result<(), FlashStop>
-    requires on { IsTrue (D.on flash.old) }
-    requires inside { count ≤ D.blocks flash.old }
+    requires ready { IsReadyDevice D.Flash count flash.old }
     requires some { 1 ≤ count }
 
     // on every device: one erase of each block

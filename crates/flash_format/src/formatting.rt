@@ -1,5 +1,5 @@
 //! Formatting a flash.
-ghost use Rattle.std.specs.Prelude.{◌≡◌, ◌⊎◌, ◌*◌, ◌≤◌, ℕ, List, Ok, Err, IfOk, OnOk, IsTrue};
+ghost use Rattle.std.specs.Prelude.{◌≡◌, ◌⊎◌, ◌*◌, ℕ, List, Ok, Err, IfOk, OnOk, IsTrue};
 ghost use Rattle.base_core.specs.Block.{block_bytes};
 ghost use Rattle.flash_core.specs.Calls.{Goes};
 ghost use Rattle.flash_core.specs.Counts.{lowered_by};
@@ -11,12 +11,13 @@ ghost use Rattle.fwu_model.specs.Answer.{images_of};
 ghost use Rattle.fwu_formats.specs.Manifest.{is_complete, manifest_part};
 ghost use Rattle.meta_layout.specs.Rows.{fitted};
 ghost use Rattle.fip_tables.specs.Files.{Lacks, Tells};
-ghost use Rattle.flash_format.specs.Formatted.{HasAtMost, HoldsImages, IsBlank, IsInOrder, IsMade, IsOrdered, IsRefused, IsUnlaid, IsWhole};
+ghost use Rattle.flash_format.specs.Formatted.{asked, HasAtMost, HoldsImages, IsBlank, IsInOrder, IsMade, IsOrdered, IsRefusedFormat, IsUnlaid, IsWholeFormat};
 ghost use Rattle.flash_format.specs.Places.{Erased};
 ghost use Rattle.flash_format.specs.Planned.{IsFilled, IsPlanned};
-ghost use Rattle.flash_format.specs.Stops.{flash_result, Finishes, IfRefused, IsByVerdict, IsEarly, IsOfLayout, ReadsPackage, RefusesBank, RefusesInput};
+ghost use Rattle.flash_format.specs.Stops.{flash_result, FormatFinishes, IfRefused, IsByVerdict, IsEarlyStop, IsOfLayout, ReadsPackage, RefusesBank, RefusesInput};
 ghost use Rattle.flash_format.specs.declared.stops.FormatStop.TheVariants.{ReadFailed as FileFailed};
-ghost use Rattle.flash_format.specs.Takes.{Takes, pieces_in, writes_of};
+ghost use Rattle.flash_format.specs.Takes.{FormatTakes, pieces_in, writes_to_format};
+ghost use Rattle.flash_format.specs.Writes.{IsReadyDevice};
 
 use crate::plan::Plan;
 use crate::planning::plan;
@@ -43,22 +44,19 @@ fn finish<D: Flash, V: Verifier>(
     layout: &Layout,
     verifier: &V,
 ) -> Result<u32, FormatStop>
-    requires on { IsTrue (D.on flash.old) }
-    requires inside { blocks_needed layout.now ≤ D.blocks flash.old }
+    requires ready { IsReadyDevice D.Flash (blocks_needed layout.now) flash.old }
     requires erased { IsTrue D.tells → Erased 0 (block_bytes * 8) (D.told flash.old).now }
 
     ensures made { IfOk result (λ version. IsMade D.Flash (V.passes verifier.now) layout.now version flash.new) }
     ensures at_most { IsTrue D.tells → HasAtMost layout.now (D.told flash.new).now }
     ensures refused { IfRefused result (λ found. IsTrue D.tells →
-        IsRefused (V.passes verifier.now) layout.now found (D.told flash.new).now) }
-    ensures clean { Finishes result (IsTrue D.tells → NothingDirty (D.told flash.old)
-        → NothingDirty (D.told flash.new)) }
+        IsRefusedFormat (V.passes verifier.now) layout.now found (D.told flash.new).now) }
+    ensures clean { FormatFinishes result (IsTrue D.tells → NothingDirty (D.told flash.old) → NothingDirty (D.told flash.new)) }
     ensures keeps { IsTrue D.tells → Keeps 0 (block_bytes * 3) (D.told flash.old) (D.told flash.new) }
     // Whatever a loss leaves, no layout is there before both replicas are, and this one only on a flash that is formatted.
-    ensures ordered { IsTrue D.tells → NothingDirty (D.told flash.old) →
-        IsOrdered layout.now (D.told flash.new) }
+    ensures ordered { IsTrue D.tells → NothingDirty (D.told flash.old) → IsOrdered layout.now (D.told flash.new) }
     ensures whole { IsTrue D.tells → NothingDirty (D.told flash.old) →
-        IsWhole (V.passes verifier.now) layout.now (D.told flash.new) }
+        IsWholeFormat (V.passes verifier.now) layout.now (D.told flash.new) }
     ensures goes { Goes D.Flash (flash_result result) flash.old flash.new }
     ensures spent { OnOk result (D.arming flash.new ≡ lowered_by 3 (D.arming flash.old)) }
     ensures worn { IfRefused result (λ found. D.arming flash.new ≡ D.arming flash.old) }
@@ -79,28 +77,25 @@ fn carry_out<D: Flash, H: Files, V: Verifier>(
     name: &str,
     verifier: &V,
 ) -> Result<u32, FormatStop>
-    requires on { IsTrue (D.on flash.old) }
-    requires inside { blocks_needed plan.now.layout ≤ D.blocks flash.old }
+    requires ready { IsReadyDevice D.Flash (blocks_needed plan.now.layout) flash.old }
     requires planned { IsPlanned (H.contents files.old) name.now plan.now.layout plan.now.entries }
 
     ensures made { IfOk result (λ version. IsMade D.Flash (V.passes verifier.now) plan.now.layout version flash.new) }
     ensures refused { IfRefused result (λ found. IsTrue D.tells →
-        IsRefused (V.passes verifier.now) plan.now.layout found (D.told flash.new).now) }
-    ensures filled { Finishes result (IsTrue D.tells →
+        IsRefusedFormat (V.passes verifier.now) plan.now.layout found (D.told flash.new).now) }
+    ensures filled { FormatFinishes result (IsTrue D.tells →
         IsFilled (H.contents files.old) name.now plan.now.layout plan.now.entries (D.told flash.new)) }
     ensures failed { result ≡ Err FileFailed → IsTrue D.tells → IsUnlaid (D.told flash.new) }
-    ensures keeps { IsTrue D.tells →
-        Keeps 0 (block_bytes * blocks_needed plan.now.layout) (D.told flash.old) (D.told flash.new) }
+    ensures keeps { IsTrue D.tells → Keeps 0 (block_bytes * blocks_needed plan.now.layout) (D.told flash.old) (D.told flash.new) }
     // At any exit block 0 goes first and the layout comes last, whatever a loss leaves.
-    ensures ordered { IsTrue D.tells →
-        IsInOrder (V.passes verifier.now) plan.now.layout (D.told flash.old) (D.told flash.new) }
+    ensures ordered { IsTrue D.tells → IsInOrder (V.passes verifier.now) plan.now.layout (D.told flash.old) (D.told flash.new) }
     ensures goes { Goes D.Flash (flash_result result) flash.old flash.new }
     ensures spent { OnOk result (D.arming flash.new
-        ≡ lowered_by (writes_of plan.now.layout (pieces_in plan.now.entries) 3) (D.arming flash.old)) }
+        ≡ lowered_by (writes_to_format plan.now.layout (pieces_in plan.now.entries) 3) (D.arming flash.old)) }
     ensures worn { IfRefused result (λ found. D.arming flash.new
-        ≡ lowered_by (writes_of plan.now.layout (pieces_in plan.now.entries) 0) (D.arming flash.old)) }
+        ≡ lowered_by (writes_to_format plan.now.layout (pieces_in plan.now.entries) 0) (D.arming flash.old)) }
     ensures refuses { IsByVerdict (V.passes verifier.now) plan.now.layout.rows result }
-    ensures stops { IsEarly result → ⊥ }
+    ensures stops { IsEarlyStop result → ⊥ }
     ensures reads { ReadsPackage H.Files name.now result files.old files.new }
 {
     let _rows = plan.layout.rows();
@@ -133,50 +128,44 @@ pub fn format<D: Flash, H: Files, V: Verifier>(
     requires { IsTrue (D.on flash.old) }
 
     // What is refused before the flash is touched.
-    ensures input { RefusesInput (H.contents files.old) name.now (record { banks = banks; rows = rows.now })
-        (D.blocks flash.old) result }
-    ensures untouched { IsEarly result → flash.new ≡ flash.old }
+    ensures input { RefusesInput (H.contents files.old) name.now (asked banks rows.now) (D.blocks flash.old) result }
+    ensures untouched { IsEarlyStop result → flash.new ≡ flash.old }
     // A file that could not be read: the flash is as it was, or has no layout, whatever a loss leaves.
-    ensures failed { result ≡ Err FileFailed → IsTrue D.tells →
-        (D.told flash.new ≡ D.told flash.old) ⊎ IsUnlaid (D.told flash.new) }
+    ensures failed { result ≡ Err FileFailed → IsTrue D.tells → D.told flash.new ≡ D.told flash.old ⊎ IsUnlaid (D.told flash.new) }
     // A name that told files lack gives a file that could not be read, unless there is no layout; and nothing was done.
     ensures missing { Lacks (H.contents files.old) name.now
         → (IsOfLayout result ⊎ (result ≡ Err FileFailed)) × (flash.new ≡ flash.old) }
     // Formatted: by the layout that was asked for.
-    ensures given { IfOk result (λ done. fitted (record { banks = banks; rows = rows.now })
-        (D.blocks flash.old) ≡ Ok done.layout) }
+    ensures given { IfOk result (λ done. fitted (asked banks rows.now) (D.blocks flash.old) ≡ Ok done.layout) }
     ensures made { IfOk result (λ done. IsMade D.Flash (V.passes verifier.now) done.layout done.version flash.new) }
     // Refused: the flash has no layout, and what it is refused for is the verdict on what bank 0 holds.
     ensures refused { IfRefused result (λ found. IsTrue D.tells →
-        IsRefused (V.passes verifier.now) (record { banks = banks; rows = rows.now }) found (D.told flash.new).now) }
+        IsRefusedFormat (V.passes verifier.now) (asked banks rows.now) found (D.told flash.new).now) }
     // Either way bank 0 holds the package's images, and they aren't refused where they are a complete package that passes.
-    ensures images { Finishes result (IsTrue D.tells → (file : List ℕ) (toc : Toc) →
+    ensures images { FormatFinishes result (IsTrue D.tells → (file : List ℕ) (toc : Toc) →
         Tells (H.contents files.old) name.now file → toc_of file ≡ Ok toc
-        → HoldsImages (record { banks = banks; rows = rows.now }) (images_of rows.now file toc) (D.told flash.new).now) }
-    ensures blank { Finishes result (IsTrue D.tells →
-        IsBlank (record { banks = banks; rows = rows.now }) (D.told flash.new).now) }
+        → HoldsImages (asked banks rows.now) (images_of rows.now file toc) (D.told flash.new).now) }
+    ensures blank { FormatFinishes result (IsTrue D.tells → IsBlank (asked banks rows.now) (D.told flash.new).now) }
     ensures deserved { IfRefused result (λ found. IsTrue D.tells → (file : List ℕ) (toc : Toc) →
         Tells (H.contents files.old) name.now file → toc_of file ≡ Ok toc
         → IsTrue (is_complete rows.now (images_of rows.now file toc))
         → IsTrue (V.passes verifier.now (manifest_part (images_of rows.now file toc))) → ⊥) }
     // Either way nothing is dirty, so that a loss leaves just what is there.
-    ensures clean { Finishes result (IsTrue D.tells → NothingDirty (D.told flash.new)) }
+    ensures clean { FormatFinishes result (IsTrue D.tells → NothingDirty (D.told flash.new)) }
     // At any exit, whatever a loss leaves: block 0 alone was touched, or a layout stands only with both replicas, and the one that
     // was asked for only on a flash that is formatted whole; and until a loss no other layout is there.
-    ensures ordered { IsTrue D.tells →
-        IsInOrder (V.passes verifier.now) (record { banks = banks; rows = rows.now })
+    ensures ordered { IsTrue D.tells → IsInOrder (V.passes verifier.now) (asked banks rows.now)
         (D.told flash.old) (D.told flash.new) }
     // Beyond the last bank nothing changes, at any exit.
-    ensures keeps { IsTrue D.tells →
-        Keeps 0 (block_bytes * blocks_needed (record { banks = banks; rows = rows.now }))
+    ensures keeps { IsTrue D.tells → Keeps 0 (block_bytes * blocks_needed (asked banks rows.now))
         (D.told flash.old) (D.told flash.new) }
     ensures goes { Goes D.Flash (flash_result result) flash.old flash.new }
     // On every device, in total: an erase for each block up to the last bank's end, and a program for each piece of an image, for
     // each replica and for the layout; where what is in the bank is refused, none for replicas and layout.
     ensures spent { IfOk result (λ done.
-        Takes (H.contents files.old) name.now done.layout 3 (D.arming flash.old) (D.arming flash.new)) }
-    ensures worn { IfRefused result (λ found. Takes (H.contents files.old) name.now
-        (record { banks = banks; rows = rows.now }) 0 (D.arming flash.old) (D.arming flash.new)) }
+        FormatTakes (H.contents files.old) name.now done.layout 3 (D.arming flash.old) (D.arming flash.new)) }
+    ensures worn { IfRefused result (λ found. FormatTakes (H.contents files.old) name.now
+        (asked banks rows.now) 0 (D.arming flash.old) (D.arming flash.new)) }
     ensures refuses { IsByVerdict (V.passes verifier.now) rows.now result }
     ensures reads { ReadsPackage H.Files name.now result files.old files.new }
 {

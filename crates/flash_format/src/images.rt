@@ -5,11 +5,11 @@ ghost use Rattle.host_io.specs.Causes.{HasCause};
 ghost use Rattle.fwu_formats.specs.Package.{payload};
 ghost use Rattle.host_io.specs.Reads.{ReadsFile};
 ghost use Rattle.fip_tables.specs.Files.{Tells};
-ghost use Rattle.flash_format.specs.Places.{Erased, Stands};
+ghost use Rattle.flash_format.specs.Places.{Erased, HoldsThenErased};
 ghost use Rattle.flash_format.specs.Planned.{IsStored};
 ghost use Rattle.flash_format.specs.Stops.{ReadsPackage};
-ghost use Rattle.flash_format.specs.Takes.{pieces_of};
-ghost use Rattle.flash_format.specs.Writes.{WritesImages};
+ghost use Rattle.flash_format.specs.Takes.{block_pieces_of};
+ghost use Rattle.flash_format.specs.Writes.{IsReadyDevice, WritesImages};
 
 use crate::stops::FormatStop;
 use base_core::{BLOCK_BYTES, GRANULE_BYTES};
@@ -34,7 +34,7 @@ fn read_piece<H: Files>(
     requires stored { IsStored (H.contents files.old) name.now entry.now }
 
     ensures bytes { OnOk result ((file : List ℕ) → Tells (H.contents files.old) name.now file →
-        Stands 0 block_bytes (drop done (payload file entry.now)) out.new) }
+        HoldsThenErased 0 block_bytes (drop done (payload file entry.now)) out.new) }
     ensures granules { IfOk result (λ n. n % granule_bytes ≡ 0) }
     ensures some { IfOk result (λ n. (0 < n) × (n ≤ block_bytes)) }
     ensures erased { IfOk result (λ n. Erased n block_bytes out.new) }
@@ -57,18 +57,15 @@ fn write_piece<D: Flash, H: Files>(
     entry: &Entry,
     done: u64,
 ) -> Result<(), FormatStop>
-    requires on { IsTrue (D.on flash.old) }
-    requires inside { block < D.blocks flash.old }
-    requires erased { IsTrue D.tells →
-        Erased (block_bytes * block) (block_bytes * block + block_bytes) (D.told flash.old).now }
+    requires ready { IsReadyDevice D.Flash (block + 1) flash.old }
+    requires erased { IsTrue D.tells → Erased (block_bytes * block) (block_bytes * block + block_bytes) (D.told flash.old).now }
     requires some { done < entry.now.size }
     requires stored { IsStored (H.contents files.old) name.now entry.now }
 
     ensures writes { WritesImages D.Flash block (block_bytes * block) (block_bytes * block + block_bytes) 1 result
         flash.old flash.new }
-    ensures bytes { OnOk result (IsTrue D.tells → (file : List ℕ) →
-        Tells (H.contents files.old) name.now file
-        → Stands (block_bytes * block) block_bytes (drop done (payload file entry.now)) (D.told flash.new).now) }
+    ensures bytes { OnOk result (IsTrue D.tells → (file : List ℕ) → Tells (H.contents files.old) name.now file
+        → HoldsThenErased (block_bytes * block) block_bytes (drop done (payload file entry.now)) (D.told flash.new).now) }
     ensures reads { ReadsPackage H.Files name.now result files.old files.new }
 {
     let mut bytes = [0xFF; BLOCK_BYTES as usize];
@@ -89,19 +86,16 @@ pub fn write_image<D: Flash, H: Files>(
     name: &str,
     entry: &Entry,
 ) -> Result<(), FormatStop>
-    requires on { IsTrue (D.on flash.old) }
-    requires inside { first + slots ≤ D.blocks flash.old }
-    requires erased { IsTrue D.tells →
-        Erased (block_bytes * first) (block_bytes * (first + slots)) (D.told flash.old).now }
+    requires ready { IsReadyDevice D.Flash (first + slots) flash.old }
+    requires erased { IsTrue D.tells → Erased (block_bytes * first) (block_bytes * (first + slots)) (D.told flash.old).now }
     requires fits { entry.now.size ≤ block_bytes * slots }
     requires stored { IsStored (H.contents files.old) name.now entry.now }
 
     // on every device: one program of each piece
     ensures writes { WritesImages D.Flash first (block_bytes * first) (block_bytes * (first + slots))
-        (pieces_of entry.now.size) result flash.old flash.new }
-    ensures bytes { OnOk result (IsTrue D.tells → (file : List ℕ) →
-        Tells (H.contents files.old) name.now file
-        → Stands (block_bytes * first) (block_bytes * slots) (payload file entry.now) (D.told flash.new).now) }
+        (block_pieces_of entry.now.size) result flash.old flash.new }
+    ensures bytes { OnOk result (IsTrue D.tells → (file : List ℕ) → Tells (H.contents files.old) name.now file
+        → HoldsThenErased (block_bytes * first) (block_bytes * slots) (payload file entry.now) (D.told flash.new).now) }
     ensures reads { ReadsPackage H.Files name.now result files.old files.new }
 {
     let pieces = ((entry.size + (PIECE - 1)) / PIECE) as u32;

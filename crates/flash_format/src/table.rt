@@ -3,7 +3,7 @@ ghost use Rattle.std.specs.Prelude.{◌≡◌, ◌+◌, ◌^◌, ◌<◌, ℕ, L
 ghost use Rattle.fwu_formats.specs.Package.{toc_of};
 ghost use Rattle.fip_tables.specs.Files.{Lacks, Tells};
 ghost use Rattle.flash_format.specs.Stops.{ReadsPackage};
-ghost use Rattle.flash_format.specs.Table.{IsTable, IsTableOfBytes, StopsTable};
+ghost use Rattle.flash_format.specs.Table.{IsTableRead, IsTableOfBytes, StopsTable};
 ghost use Rattle.flash_format.specs.declared.stops.FormatStop.TheVariants.{ReadFailed as FileFailed};
 
 use crate::stops::{FormatStop, InputFault};
@@ -13,8 +13,7 @@ use host_io::Files;
 /// The table of a package in a file, where there is one, or the package's first fault. Each payload ends below 2 ^ 64, whatever
 /// file it is.
 pub fn read_table<H: Files>(files: &mut H, name: &str) -> Result<Toc, FormatStop>
-    ensures told { (file : List ℕ) → Tells (H.contents files.old) name.now file →
-        IsTable (toc_of file) result }
+    ensures told { (file : List ℕ) → Tells (H.contents files.old) name.now file → IsTableRead (toc_of file) result }
     ensures some { IsTableOfBytes result }
     ensures stops { StopsTable result }
     // A name that told files lack is no package that is refused.

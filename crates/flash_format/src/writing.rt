@@ -1,5 +1,5 @@
 //! Writing the images of a plan, and testing them.
-ghost use Rattle.std.specs.Prelude.{◌≡◌, ◌+◌, ◌*◌, ◌≤◌, IsTrue, IfOk, OnOk};
+ghost use Rattle.std.specs.Prelude.{◌≡◌, ◌+◌, ◌*◌, IsTrue, IfOk, OnOk};
 ghost use Rattle.base_core.specs.Block.{block_bytes};
 ghost use Rattle.flash_core.specs.Calls.{Goes};
 ghost use Rattle.flash_core.specs.Counts.{lowered_by};
@@ -13,7 +13,7 @@ ghost use Rattle.flash_format.specs.Places.{Erased};
 ghost use Rattle.flash_format.specs.Planned.{IsFilled, IsPlanned};
 ghost use Rattle.flash_format.specs.Stops.{flash_result, IfRefused, IsByVerdict, ReadsPackage, RefusesBank, RefusesNothing};
 ghost use Rattle.flash_format.specs.Takes.{pieces_in};
-ghost use Rattle.flash_format.specs.Writes.{ClearsFirst};
+ghost use Rattle.flash_format.specs.Writes.{ClearsFirst, IsReadyDevice};
 
 use crate::bank::write_bank;
 use crate::erasing::erase_all;
@@ -32,15 +32,12 @@ pub fn fill<D: Flash, H: Files>(
     files: &mut H,
     name: &str,
 ) -> Result<(), FormatStop>
-    requires on { IsTrue (D.on flash.old) }
-    requires inside { blocks_needed plan.now.layout ≤ D.blocks flash.old }
+    requires ready { IsReadyDevice D.Flash (blocks_needed plan.now.layout) flash.old }
     requires planned { IsPlanned (H.contents files.old) name.now plan.now.layout plan.now.entries }
 
-    ensures keeps { IsTrue D.tells →
-        Keeps 0 (block_bytes * blocks_needed plan.now.layout) (D.told flash.old) (D.told flash.new) }
+    ensures keeps { IsTrue D.tells → Keeps 0 (block_bytes * blocks_needed plan.now.layout) (D.told flash.old) (D.told flash.new) }
     ensures clears { ClearsFirst D.Flash flash.old flash.new }
-    ensures erased { OnOk (flash_result result) (IsTrue D.tells →
-        Erased 0 (block_bytes * 8) (D.told flash.new).now) }
+    ensures erased { OnOk (flash_result result) (IsTrue D.tells → Erased 0 (block_bytes * 8) (D.told flash.new).now) }
     // A file that could not be read leaves it bare too.
     ensures bare { OnOk (flash_result result) (IsTrue D.tells → IsBare (D.told flash.new)) }
     ensures filled { OnOk result (IsTrue D.tells →
@@ -65,8 +62,7 @@ pub fn check_bank<D: Flash, V: Verifier>(
     layout: &Layout,
     verifier: &V,
 ) -> Result<u32, FormatStop>
-    requires on { IsTrue (D.on flash.old) }
-    requires inside { blocks_needed layout.now ≤ D.blocks flash.old }
+    requires { IsReadyDevice D.Flash (blocks_needed layout.now) flash.old }
 
     ensures good { IfOk result (λ version. IsTrue D.tells →
         verdict_on (V.passes verifier.now) 0 layout.now (D.told flash.old).now 0 ≡ Good version) }

@@ -1,5 +1,5 @@
 -- A boot, by what its device tells and by its steps.
-use Rattle.std.proofs.Common.{◌≡◌, ◌∙◌, ◌⊎◌, ◌≤◌, ◌*◌, inl, inr, refl, ap, sym, subst, ℕ, true, List, [], length, take, arith}
+use Rattle.std.proofs.Common.{◌≡◌, ◌∙◌, ◌⊎◌, ◌≤◌, ◌*◌, inl, inr, refl, ap, sym, subst, ℕ, true, List, [], All, length, take, arith}
 use Rattle.std.proofs.Common.{Some, None}
 use Rattle.std.specs.Prelude.{IsTrue}
 use Rattle.base_core.specs.Block.{block_bytes}
@@ -13,7 +13,7 @@ use Rattle.step_flash.specs.declared.flash.StepFlash.{StepFlash}
 use Rattle.step_flash.specs.declared.device.StepParts.{StepParts}
 use Rattle.step_flash.specs.declared.step.Step.{Step}
 use Rattle.step_flash.specs.Flash.{NotedBy, block_count, counts_of, flash_sizes, is_on, told_of, image_of, package_of}
-use Rattle.step_flash.specs.Guard.{guard_with, start, start_with}
+use Rattle.step_flash.specs.Guard.{guard_with, start_told, start_with}
 use Rattle.step_flash.specs.Stopped.{under_as}
 use Rattle.step_flash.specs.Steps.{AreDoable, run_with}
 use Rattle.step_flash.proofs.Causes.{never_lost}
@@ -21,7 +21,8 @@ use Rattle.step_flash.proofs.Guards.{told_is}
 use Rattle.fwu_c.specs.declared.report.Report.{Report}
 use Rattle.fwu_c.specs.Boots.{BootsBy}
 use Rattle.fwu_c.specs.Codes.{end_code}
-use Rattle.fwu_c.specs.Handed.{HandsOver, HasFlashSize, IsDeviceEnd, IsJustMade, IsStart, IsWithinWith, SameBut, is_idle}
+use Rattle.fwu_c.specs.Handed.{HandsOver, HasFlashSize, IsDeviceEnd, IsJustMade, IsStartOfSteps, IsWithinWith, LiesBefore, LiesOutside, SameBut, boot_reach, bounds_before, is_idle_number}
+use Rattle.fwu_c.specs.declared.handing.Bounds.{Bounds}
 use Rattle.fwu_c.specs.Reports.{ReportsEnd, ReportsStart}
 
 kept : (old t : Told) → t ≡ old → t.guard ≡ old.guard
@@ -109,15 +110,17 @@ made_new image file d made on is size = record {
 }
 
 -- it is over the image, with the package, and its steps lie within both
-pub record IsOver (image file : List ℕ) (d : StepFlash) (r : Report) (steps : List Step) (room : List ℕ) : Type 0 where
+pub record IsOver (image file : List ℕ) (d : StepFlash) (bounds : Bounds) (r : Report) (steps : List Step) (room : List ℕ) : Type 0 where
   pub left : told_of d ≡ under_as (told_of d).under (run_with file (take r.bytes room) (start_with image file) (take r.steps steps))
   pub within : IsWithinWith (length file) (length image) r steps room
   pub doable : AreDoable file (take r.bytes room) (start_with image file) (take r.steps steps)
+  pub places : All (LiesBefore bounds.reach) (take r.steps steps)
+  pub outside : All (LiesOutside bounds.first bounds.count) (take r.steps steps)
 
-pub over : (image file : List ℕ) (first d : StepFlash) (told r : Report) (steps : List Step) (room : List ℕ)
+pub over : (image file : List ℕ) (first d : StepFlash) (bounds : Bounds) (told r : Report) (steps : List Step) (room : List ℕ)
     → told_of first ≡ start_with image file → length image ≡ block_bytes * block_count first → block_count d ≡ block_count first
-    → (told_of d).guard ≡ (told_of first).guard → HandsOver d told r steps room → IsOver image file d r steps room
-over image file first d told r steps room made size same_size guard hands =
+    → (told_of d).guard ≡ (told_of first).guard → HandsOver d bounds told r steps room → IsOver image file d bounds r steps room
+over image file first d bounds told r steps room made size same_size guard hands =
     let guarded : (told_of d).guard ≡ guard_with image file = guard ∙ ap (λ (x : Told). x.guard) made ∙ start_guard image file in
     let both = told_is image file (image_of d) (package_of d) (take r.bytes room) (take r.steps steps) (told_of d) hands.left guarded in
     let whole : block_bytes * block_count d ≡ length image = ap (λ n. block_bytes * n) same_size ∙ sym size in
@@ -132,14 +135,16 @@ over image file first d told r steps room made size same_size guard hands =
       doable =
           subst (λ (f : List ℕ). AreDoable f (take r.bytes room) (start_with image f) (take r.steps steps)) both.1
           (subst (λ (i : List ℕ). AreDoable (package_of d) (take r.bytes room) (start_with i (package_of d)) (take r.steps steps)) both.0 hands.doable);
+      places = hands.places;
+      outside = hands.outside;
     }
 
 pub boots_by : (image : List ℕ) (first d : StepFlash) (e : Ended) (number : ℕ) (told r : Report) (steps : List Step) (room : List ℕ)
-    → told_of first ≡ start image → length image ≡ block_bytes * block_count first → block_count d ≡ block_count first
-    → BootEnds (λ m. passes_any m) (told_of first) e (told_of d) → HandsOver d told r steps room
+    → told_of first ≡ start_told image → length image ≡ block_bytes * block_count first → block_count d ≡ block_count first
+    → BootEnds (λ m. passes_any m) (told_of first) e (told_of d) → HandsOver d (bounds_before boot_reach) told r steps room
     → number ≡ end_code e → ReportsEnd e told → BootsBy image number r steps room
 boots_by image first d e number told r steps room made size same_size ends hands is reports =
-    let o = over image [] first d told r steps room made size same_size (guard_kept (told_of first) (told_of d) e ends.by_bytes) hands in
+    let o = over image [] first d (bounds_before boot_reach) told r steps room made size same_size (guard_kept (told_of first) (told_of d) e ends.by_bytes) hands in
     record {
       end = e;
       number_is = is;
@@ -148,6 +153,7 @@ boots_by image first d e number told r steps room made size same_size ends hands
       left = o.left;
       within = o.within;
       doable = o.doable;
+      places = o.places;
       reports = end_same e told r hands.same reports;
     }
 
@@ -158,10 +164,10 @@ of_image image other number r steps room same boots = subst (λ (i : List ℕ). 
 
 -- ---- where nothing was written
 
-pub began_as : (old t : Told) → IsStart old → t ≡ old → IsStart t
+pub began_as : (old t : Told) → IsStartOfSteps old → t ≡ old → IsStartOfSteps t
 began_as old t began same = (began.0, began.1, same ∙ began.2)
 
-pub boot_idle : (e : Ended) (old t : Told) → IsStart old → EndsByBytes (λ m. passes_any m) old e t → IsTrue (is_idle (end_code e)) → IsStart t
+pub boot_idle : (e : Ended) (old t : Told) → IsStartOfSteps old → EndsByBytes (λ m. passes_any m) old e t → IsTrue (is_idle_number (end_code e)) → IsStartOfSteps t
 boot_idle (booted b n) old t began ends idle = absurd (cc)
 boot_idle (bad_layout f) old t began ends idle = began_as old t began ends.1
 boot_idle no_metadata old t began ends idle = began_as old t began ends.3
@@ -170,7 +176,7 @@ boot_idle (lost n) old t began ends idle = absurd (cc)
 boot_idle (failed n) old t began ends idle = absurd (cc)
 
 -- no step makes of the device's image what it tells then
-pub none_noted : (d : StepFlash) (parts : StepParts) (steps : List Step) (room : List ℕ) → NotedBy d parts → IsStart (told_of d) → steps ≡ []
+pub none_noted : (d : StepFlash) (parts : StepParts) (steps : List Step) (room : List ℕ) → NotedBy d parts → IsStartOfSteps (told_of d) → steps ≡ []
     → told_of d ≡ under_as (told_of d).under (run_with (package_of d) room (start_with (image_of d) (package_of d)) steps)
 unfolding run_with fresh
 none_noted d parts steps room noted (image, file, made) empty =

@@ -26,7 +26,7 @@ use Rattle.early_boot.specs.Started.{Started, started_numbers, started_session}
 use Rattle.early_boot.specs.TakenUp.{RunsByNumbers, TakenUp, TakesByBytes, taken, bad_layout, no_metadata, not_started, stopped, TakeUpEnds}
 use Rattle.agent_machine.specs.declared.stop.Stop.{Stop}
 use Rattle.agent_machine.specs.declared.stop.Stop.TheVariants as stop
-use Rattle.agent_machine.specs.Meets.{Answers, GoesBy, IsRefused, IsSettingOf, IsStopped, Leaves, ShowsNext, flash_result}
+use Rattle.agent_machine.specs.Meets.{Answers, GoesBy, IsRefused, IsSettingOf, IsStopped, LeavesFlash, ShowsNext, flash_result}
 use Rattle.agent_machine.specs.Moment.{Moment, Shows}
 use Rattle.agent_machine.specs.Fields.{Fields}
 use Rattle.agent_machine.specs.Beside.{IsSparedByAll, KeepsSparedByAll, KeepsWhere}
@@ -37,10 +37,10 @@ use Rattle.step_flash.specs.declared.flash.StepFlash.{StepFlash}
 use Rattle.step_flash.specs.Flash.{block_count, counts_of, told_of}
 use Rattle.step_flash.proofs.Causes.{never_lost}
 use Rattle.flash_core.specs.Counts.{Spends}
-use Rattle.step_flash.specs.Guard.{start}
+use Rattle.step_flash.specs.Guard.{start_told}
 use Rattle.fwu_c.specs.declared.report.Report.{Report}
-use Rattle.fwu_c.specs.Calls.{AnswersBy, CallEnds, Called, CallsBy, CallsFrom, IsAccepted, IsCalled, IsNotTaken, MakesCall, Refuses, RepliesAs, ReportsCall, ReportsTakeUp, Takes, call_code, called, called_code, not_taken, status_code, stop_code, take_up_code}
-use Rattle.fwu_c.specs.Handed.{HandsOver, IsDeviceEnd, IsStart, SameBut, is_idle, starts_none}
+use Rattle.fwu_c.specs.Calls.{MovesByAnswer, CallEnds, Called, CallsBy, CallsFrom, IsAccepted, IsStepResult, IsNotTaken, MakesCall, RefusesCall, RepliesAs, ReportsCall, ReportsTakeUp, TakesUpBank, call_code, called, called_code, not_taken, status_code, stop_code, take_up_code}
+use Rattle.fwu_c.specs.Handed.{HandsOver, IsDeviceEnd, IsStartOfSteps, SameBut, bounds_before, call_reach, is_idle_number, starts_none}
 use Rattle.fwu_c.proofs.Booting.{began_as, over, start_same}
 
 -- ---- numbers
@@ -53,7 +53,7 @@ status_large status.Busy = omega arith
 status_large status.OutOfBounds = omega arith
 status_large status.NotAvailable = omega arith
 
-call_not_four : (result : Result (Unit {0}) Stop) → IsCalled result → call_code result ≡ 4 → ⊥
+call_not_four : (result : Result (Unit {0}) Stop) → IsStepResult result → call_code result ≡ 4 → ⊥
 call_not_four (Ok x) is e = omega (arith, e)
 call_not_four (Err (stop.Status st)) is e = omega (arith, e, status_large st)
 call_not_four (Err stop.Lost) is e = is
@@ -67,14 +67,14 @@ call_not_six (Err stop.Lost) e = omega (arith, e)
 call_not_six (Err stop.Fault) e = omega (arith, e)
 call_not_six (Err stop.Gone) e = omega (arith, e)
 
-call_not_seven : (result : Result (Unit {0}) Stop) → IsCalled result → call_code result ≡ 7 → ⊥
+call_not_seven : (result : Result (Unit {0}) Stop) → IsStepResult result → call_code result ≡ 7 → ⊥
 call_not_seven (Ok x) is e = omega (arith, e)
 call_not_seven (Err (stop.Status st)) is e = omega (arith, e, status_large st)
 call_not_seven (Err stop.Lost) is e = is
 call_not_seven (Err stop.Fault) is e = omega (arith, e)
 call_not_seven (Err stop.Gone) is e = is
 
-pub call_end_is : (result : Result (Unit {0}) Stop) → IsCalled result → IsDeviceEnd (call_code result)
+pub call_end_is : (result : Result (Unit {0}) Stop) → IsStepResult result → IsDeviceEnd (call_code result)
 call_end_is result is = (call_not_four result is, call_not_six result, call_not_seven result is)
 
 -- a bank that is not taken up has neither 6 nor 7
@@ -97,7 +97,7 @@ take_up_not e number is (inr seven) = elim (few_codes e) [
 ]
 
 pub take_up_end_is : (bank number : ℕ) (first left : StepFlash) (old told : Report)
-    → Refuses bank number first left old told → IsDeviceEnd number
+    → RefusesCall bank number first left old told → IsDeviceEnd number
 take_up_end_is bank number first left old told refuses =
     let is = sym refuses.number_is in
     (refuses.unlost, λ six. take_up_not refuses.end number is (inl six), λ seven. take_up_not refuses.end number is (inr seven))
@@ -131,7 +131,7 @@ take_up_same (stopped why) old new is same reports = tt
 
 -- ---- the call
 
-pub is_called : (result : Result (Unit {0}) Stop) → (result ≡ Err stop.Lost → ⊥) → (result ≡ Err stop.Gone → ⊥) → IsCalled result
+pub is_called : (result : Result (Unit {0}) Stop) → (result ≡ Err stop.Lost → ⊥) → (result ≡ Err stop.Gone → ⊥) → IsStepResult result
 is_called (Ok x) lost gone = tt
 is_called (Err (stop.Status st)) lost gone = tt
 is_called (Err stop.Lost) lost gone = lost refl
@@ -160,14 +160,14 @@ spared-of L bank f s t layout boot kept =
     subst (λ (l : Layout). KeepsWhere (IsSparedByAll l bank) s t) layout (subst (λ (b : ℕ). KeepsWhere (IsSparedByAll f.layout b) s t) boot kept)
 
 module _ (E : Setting) (s : State) (x : Session) (c : Call) (new : Moment) where
-  reply_by : (result : Result (Unit {0}) Stop) → IsCalled result → Answers (λ (value : Unit {0}) (reply : Reply). reply ≡ Success) result E s x c new → RepliesAs result (answer E s x c).reply
+  reply_by : (result : Result (Unit {0}) Stop) → IsStepResult result → Answers (λ (value : Unit {0}) (reply : Reply). reply ≡ Success) result E s x c new → RepliesAs result (answer E s x c).reply
   reply_by (Ok v) is by = by.0
   reply_by (Err (stop.Status st)) is by = by.0
   reply_by (Err stop.Lost) is by = absurd is
   reply_by (Err stop.Fault) is by = tt
   reply_by (Err stop.Gone) is by = absurd is
 
-  shown_by : (result : Result (Unit {0}) Stop) → IsCalled result → Answers (λ (value : Unit {0}) (reply : Reply). reply ≡ Success) result E s x c new
+  shown_by : (result : Result (Unit {0}) Stop) → IsStepResult result → Answers (λ (value : Unit {0}) (reply : Reply). reply ≡ Success) result E s x c new
       → (P : Type 0) → (is_ok (flash_result result) ≡ true → ShowsNext E s x c new → P) → OnOk (flash_result result) P
   shown_by (Ok v) is by P then = then refl by.1
   shown_by (Err (stop.Status st)) is by P then = then refl by.1
@@ -175,10 +175,10 @@ module _ (E : Setting) (s : State) (x : Session) (c : Call) (new : Moment) where
   shown_by (Err stop.Fault) is by P then = tt
   shown_by (Err stop.Gone) is by P then = absurd is
 
-module _ (c : Call) (b : Started) (result : Result (Unit {0}) Stop) (old new : Moment) (is : IsCalled result) (tells : IsTrue old.tells) (from : StartsFrom b old.fields)
+module _ (c : Call) (b : Started) (result : Result (Unit {0}) Stop) (old new : Moment) (is : IsStepResult result) (tells : IsTrue old.tells) (from : StartsFrom b old.fields)
     (exact : (E : Setting) (s : State) (x : Session) → IsSettingOf old.fields (λ m. passes_any m) E → Shows old s x
     → Answers (λ (value : Unit {0}) (reply : Reply). reply ≡ Success) result E s x c new)
-    (leaves : Leaves (flash_result result) (λ m. passes_any m) c old new)
+    (leaves : LeavesFlash (flash_result result) (λ m. passes_any m) c old new)
     (starts : (s : State) → IsShown old.fields.layout old.told.now s → Shows old s (started_session b))
     (sees : is_ok (flash_result result) ≡ true → (s : State) (x : Session) → Shows new s x → IsShown new.fields.layout new.told.now s)
     (refused : IsRefused result → new.told ≡ old.told) (again : IsAccepted c b → new.told ≡ old.told) where
@@ -210,13 +210,13 @@ setting_of : Layout → Setting
 setting_of L = record { layout = L; files = λ name. None; passes = λ m. passes_any m }
 
 module _ (image : List ℕ) (bank : ℕ) (c : Call) (b : Started) (result : Result (Unit {0}) Stop) (mid t : Told)
-    (takes : TakeUpEnds (λ m. passes_any m) bank (start image) (taken b) mid) (runs : RunsByNumbers (λ m. passes_any m) bank b (started_numbers b))
+    (takes : TakeUpEnds (λ m. passes_any m) bank (start_told image) (taken b) mid) (runs : RunsByNumbers (λ m. passes_any m) bank b (started_numbers b))
     (calls : CallsFrom c b result mid t) where
   guard_is : t.guard ≡ mid.guard
   unfolding setting_of
   guard_is = (calls.answers (setting_of b.layout) _ refl refl takes.by_bytes.shown).guard_is
 
-  does_both : (E : Setting) (s : State) → E.passes ≡ (λ m. passes_any m) → IsCalm E (start image) s → Guards 1 7 (start image)
+  does_both : (E : Setting) (s : State) → E.passes ≡ (λ m. passes_any m) → IsCalm E (start_told image) s → Guards 1 7 (start_told image)
       → Does (flash_result result) E s (migrate_moves s ++ (answer E (after s (migrate_moves s)) (On bank None no_handles) c).moves) t
   does_both E s test calm guards =
       let ready = takes.by_machine E s test calm guards in
@@ -224,18 +224,18 @@ module _ (image : List ℕ) (bank : ℕ) (c : Call) (b : Started) (result : Resu
       let layout : E.layout ≡ b.layout = same-Ok {F = LayoutFault} E.layout b.layout (sym calm.sound.layout ∙ takes.by_bytes.has_layout) in
       let now = ready.does.all.calm in
       let shown : IsShown b.layout mid.now next = record { layout = subst (λ (L : Layout). layout_seen mid.now ≡ Ok L) layout now.sound.layout; shows = now.shows } in
-      let by = subst (λ (x : Session). AnswersBy E next (answer E next x c) result mid t) ready.session (calls.answers E next layout test shown) in
+      let by = subst (λ (x : Session). MovesByAnswer E next (answer E next x c) result mid t) ready.session (calls.answers E next layout test shown) in
       does-then tt (flash_result result) E s (migrate_moves s) (answer E next (On bank None no_handles) c).moves mid t ready.does (λ at. by.does at)
 
   pub makes_call : MakesCall image bank c b result t
   makes_call = record { mid = mid; takes = takes; runs = runs; calls = calls; does = does_both }
 
 calls_by : (image : List ℕ) (bank : ℕ) (c : Call) (first d : StepFlash) (e : Called) (number : ℕ) (told r : Report) (steps : List Step) (room : List ℕ)
-    → told_of first ≡ start image → length image ≡ block_bytes * block_count first → block_count d ≡ block_count first
-    → (told_of d).guard ≡ (told_of first).guard → CallEnds image bank c e (told_of d) → HandsOver d told r steps room
+    → told_of first ≡ start_told image → length image ≡ block_bytes * block_count first → block_count d ≡ block_count first
+    → (told_of d).guard ≡ (told_of first).guard → CallEnds image bank c e (told_of d) → HandsOver d (bounds_before call_reach) told r steps room
     → number ≡ called_code e → ReportsCall e r → CallsBy image bank c number r steps room
 calls_by image bank c first d e number told r steps room made size same_size guard ends hands is reports =
-    let o = over image [] first d told r steps room made size same_size guard hands in
+    let o = over image [] first d (bounds_before call_reach) told r steps room made size same_size guard hands in
     record {
       end = e;
       number_is = is;
@@ -244,14 +244,15 @@ calls_by image bank c first d e number told r steps room made size same_size gua
       left = o.left;
       within = o.within;
       doable = o.doable;
+      places = o.places;
       reports = reports;
     }
 
 -- the bank was not taken up
 pub refused_by : (image : List ℕ) (bank : ℕ) (c : Call) (first d : StepFlash) (number given : ℕ) (old told r : Report)
     (steps : List Step) (room : List ℕ)
-    → told_of first ≡ start image → length image ≡ block_bytes * block_count first → Refuses bank given first d old told
-    → HandsOver d told r steps room → number ≡ given → CallsBy image bank c number r steps room
+    → told_of first ≡ start_told image → length image ≡ block_bytes * block_count first → RefusesCall bank given first d old told
+    → HandsOver d (bounds_before call_reach) told r steps room → number ≡ given → CallsBy image bank c number r steps room
 refused_by image bank c first d number given old told r steps room made size refuses hands is =
     calls_by image bank c first d (not_taken refuses.end) number told r steps room made size refuses.size
     (take_up_guard bank (told_of first) (told_of d) refuses.end refuses.ends.by_bytes)
@@ -261,8 +262,8 @@ refused_by image bank c first d number given old told r steps room made size ref
 -- it was, and the call was made
 pub called_by : (image : List ℕ) (bank : ℕ) (c : Call) (first mid d : StepFlash) (b : Started)
     (result : Result (Unit {0}) Stop) (number : ℕ) (old told r : Report) (steps : List Step) (room : List ℕ)
-    → told_of first ≡ start image → length image ≡ block_bytes * block_count first → block_count d ≡ block_count mid
-    → Takes bank b first mid old told → CallsFrom c b result (told_of mid) (told_of d) → HandsOver d told r steps room
+    → told_of first ≡ start_told image → length image ≡ block_bytes * block_count first → block_count d ≡ block_count mid
+    → TakesUpBank bank b first mid old told → CallsFrom c b result (told_of mid) (told_of d) → HandsOver d (bounds_before call_reach) told r steps room
     → number ≡ call_code result → CallsBy image bank c number r steps room
 called_by image bank c first mid d b result number old told r steps room made size same_size takes calls hands is =
     let from_image = subst (λ (x : Told). TakeUpEnds (λ m. passes_any m) bank x (taken b) (told_of mid)) made takes.ends in
@@ -277,8 +278,8 @@ call_of_image image other bank c number r steps room same by = subst (λ (i : Li
 
 -- ---- where nothing was written
 
-pub take_up_idle : (bank : ℕ) (e : TakenUp) (old t : Told) → IsStart old → TakesByBytes (λ m. passes_any m) bank old e t
-    → IsTrue (is_idle (take_up_code e)) → IsStart t
+pub take_up_idle : (bank : ℕ) (e : TakenUp) (old t : Told) → IsStartOfSteps old → TakesByBytes (λ m. passes_any m) bank old e t
+    → IsTrue (is_idle_number (take_up_code e)) → IsStartOfSteps t
 take_up_idle bank (taken b) old t began ends idle = absurd (cc)
 take_up_idle bank (bad_layout f) old t began ends idle = began_as old t began ends.1
 take_up_idle bank no_metadata old t began ends idle = began_as old t began ends.3

@@ -13,18 +13,18 @@ use Rattle.fwu_model.specs.Answer.{Answer, first_image_fault, images_of}
 use Rattle.moves.specs.Moved.{IsShown}
 use Rattle.early_boot.specs.Started.{Started, started_session}
 use Rattle.agent_machine.specs.Moment.{Moment, Shows}
-use Rattle.agent_machine.specs.Goes.{Goes}
+use Rattle.agent_machine.specs.Goes.{GoesByMoves}
 use Rattle.agent_calls.specs.Started.{StartsFrom}
 use Rattle.update_client.specs.declared.stops.Sent.{Sent}
 use Rattle.update_client.specs.declared.stops.SendStop.{SendStop}
 use Rattle.update_client.specs.declared.stops.SendStop.TheVariants.{MissingImage, ImageTooLarge, Begin, End, ReadFailed, Lost, Fault, Gone}
 use Rattle.update_client.specs.Halts.{flash_of}
-use Rattle.update_client.specs.Sends.{FaultsBy, GoneBy, Installs, IsEarly, IsInstalled, IsStopped, Sends, SendsBy, ended, send_answer}
+use Rattle.update_client.specs.Sends.{FaultsBy, GoneBy, Installs, IsEarlySend, IsInstalled, IsStoppedSend, Sends, SendEndsBy, ended_session, send_answer}
 use Rattle.package_files.specs.OneFile.{one_file}
 use Rattle.package_files.proofs.Alone.{finds_it}
 use Rattle.host_io.specs.Contents.{Directory}
 use Rattle.fwu_c.proofs.Calls.{spared-of}
-use Rattle.fwu_c.specs.Sendings.{AnswersBy, HasInstalled, IsSent, RepliesAs, SendsPackage}
+use Rattle.fwu_c.specs.Sendings.{MovesByAnswer, HasInstalled, IsSent, RepliesAs, SendsPackage}
 
 -- ---- what can't be answered
 
@@ -44,7 +44,7 @@ pub never_rose : Rose 0 0 → ⊥
 never_rose (inl more) = omega (arith, more)
 never_rose (inr full) = omega (arith, full)
 
-not_stopped : (result : Result Sent SendStop) → is_ok (flash_of result) ≡ true → IsStopped result → ⊥
+not_stopped : (result : Result Sent SendStop) → is_ok (flash_of result) ≡ true → IsStoppedSend result → ⊥
 not_stopped (Ok sent) ok stopped = stopped
 not_stopped (Err (MissingImage guid)) ok stopped = stopped
 not_stopped (Err (ImageTooLarge guid)) ok stopped = stopped
@@ -83,10 +83,10 @@ flash_done (Err stop) ok = absurd (cc)
 record Went (E : Setting) (a : Answer) (result : Result Sent SendStop) (old new : Moment) (s : State) : Type 0 where
   pub reply_is : RepliesAs result a.reply
   pub session : Session
-  pub goes : Goes E (flash_of result) old new s a.moves session
+  pub goes : GoesByMoves E (flash_of result) old new s a.moves session
 
 went : (E : Setting) (toc : Toc) (p : List (List ℕ)) (request : ℕ) (old new : Moment) (s : State) (x : Session) (result : Result Sent SendStop)
-    → IsSent result → SendsBy result E toc p request old new s x → Went E (send_answer E toc p request s x) result old new s
+    → IsSent result → SendEndsBy result E toc p request old new s x → Went E (send_answer E toc p request s x) result old new s
 went E toc p request old new s x (Ok sent) is by = record { reply_is = sym by.0; session = (send_answer E toc p request s x).next; goes = by.1 }
 went E toc p request old new s x (Err (MissingImage guid)) is by = record { reply_is = sym by.0; session = (send_answer E toc p request s x).next; goes = by.1 }
 went E toc p request old new s x (Err (ImageTooLarge guid)) is by = record { reply_is = sym by.0; session = (send_answer E toc p request s x).next; goes = by.1 }
@@ -94,7 +94,7 @@ went E toc p request old new s x (Err (Begin st)) is by = record { reply_is = sy
 went E toc p request old new s x (Err (End st)) is by = record { reply_is = sym by.0; session = (send_answer E toc p request s x).next; goes = by.1 }
 went E toc p request old new s x (Err ReadFailed) is by = absurd is
 went E toc p request old new s x (Err Lost) is by = absurd is
-went E toc p request old new s x (Err Fault) is by = record { reply_is = tt; session = ended x; goes = by.1 }
+went E toc p request old new s x (Err Fault) is by = record { reply_is = tt; session = ended_session x; goes = by.1 }
 went E toc p request old new s x (Err Gone) is by = absurd is
 
 pub held_there : (held : Directory) (name file : List ℕ) → held ≡ one_file name file → held name ≡ Some file
@@ -125,11 +125,11 @@ module _ (held : Directory) (file name : List ℕ) (request : ℕ) (b : Started)
   layout-after s shown = (by (setting_of b.layout) s refl refl shown).goes.stays.layout ∙ from.layout
 
   answers : (E : Setting) (s : State) → E.layout ≡ b.layout → E.passes ≡ (λ m. passes_any m) → IsShown b.layout old.told.now s
-      → AnswersBy E s (send_answer E toc (images_of b.layout.rows file toc) request s (started_session b)) result old.told new.told
+      → MovesByAnswer E s (send_answer E toc (images_of b.layout.rows file toc) request s (started_session b)) result old.told new.told
   answers E s same passes shown =
       let w = by E s same passes shown in
       let layout : new.fields.layout ≡ E.layout = layout-after s shown ∙ sym same in
-      subst (λ (p : List (List ℕ)). AnswersBy E s (send_answer E toc p request s (started_session b)) result old.told new.told) images-are (record {
+      subst (λ (p : List (List ℕ)). MovesByAnswer E s (send_answer E toc p request s (started_session b)) result old.told new.told) images-are (record {
         reply_is = w.reply_is;
         shows = on_done (flash_of result) (λ ok.
             subst (λ (L : Layout). IsShown L new.told.now (after s (send_answer E toc sends.images request s (started_session b)).moves)) layout
@@ -154,7 +154,7 @@ module _ (held : Directory) (file name : List ℕ) (request : ℕ) (b : Started)
               (subst (λ (L : Layout). IsInstalled i.images (replicate (length L.rows) (request == 0)) s i.now) layout i.installed);
         }
 
-    pub package_sent : FaultsBy (first_image_fault old.fields.layout.rows toc) result → (IsEarly result → new.told ≡ old.told)
+    pub package_sent : FaultsBy (first_image_fault old.fields.layout.rows toc) result → (IsEarlySend result → new.told ≡ old.told)
         → SendsPackage file request b result old.told new.told
     package_sent faults early = record {
       toc = toc;

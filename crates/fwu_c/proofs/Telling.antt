@@ -1,13 +1,15 @@
 -- What a call promises that tells steps, whatever it is asked for.
-use Rattle.std.proofs.Common.{◌≡◌, ◌∙◌, ◌⊎◌, ◌==◌, inl, inr, refl, ap, sym, subst, ℕ, Bool, List, length, arith}
+use Rattle.std.proofs.Common.{◌≡◌, ◌∙◌, ◌⊎◌, ◌==◌, inl, inr, refl, ap, sym, subst, ℕ, ◌≤◌, Bool, List, All, drop, length, take, arith}
+use Rattle.early_boot.specs.Started.{Started}
+use Rattle.fwu_c.specs.Reports.{ReportsStart}
 use Rattle.std.specs.Prelude.{◌↔◌, ◌||◌, IsTrue}
 use Rattle.step_flash.specs.declared.step.Step.{Step}
 use Rattle.fwu_c.specs.declared.report.Report.{Report}
 use Rattle.step_flash.specs.declared.flash.Unmade.{Unmade}
 use Rattle.step_flash.specs.declared.flash.Unmade.TheVariants.{NoFlash, NoMemory}
 use Rattle.step_flash.specs.Unmade.{IsUnmade}
-use Rattle.fwu_c.specs.Handed.{HasFlashSize, IsDeviceEnd, IsUntouched, KeepsReport, SameStart, TellsSteps}
-use Rattle.fwu_c.specs.Handed.{is_idle, starts_none, unmade_code}
+use Rattle.fwu_c.specs.Handed.{HasFlashSize, IsDeviceEnd, IsUntouched, KeepsReport, LiesBefore, SameStart, TellsSteps, update_reach}
+use Rattle.fwu_c.specs.Handed.{is_idle_number, starts_none, unmade_code}
 
 stays : (r : Report) (steps : List Step) (room : List ℕ) → IsUntouched r steps room r steps room
 stays r steps room = record { report_stays = refl; steps_stay = refl; room_stays = refl }
@@ -25,22 +27,28 @@ same_start r fault = record {
 }
 
 pub keeps_stays : (number : ℕ) (r : Report) → KeepsReport number r r
-keeps_stays number r = record { fault = λ other. refl; banks = λ idle. (refl, refl); start = λ none. same_start r r.layout_fault }
+keeps_stays number r = record {
+  fault = λ other. refl;
+  banks = λ idle. (refl, refl);
+  start = λ none. same_start r r.layout_fault;
+  stopped = λ five. inl (record { start = same_start r r.layout_fault; active = refl; previous = refl });
+}
 
-pub idle_starts : (number : ℕ) → IsTrue (is_idle number) → IsTrue (starts_none number)
+pub idle_starts : (number : ℕ) → IsTrue (is_idle_number number) → IsTrue (starts_none number)
 idle_starts number idle = ap (λ (b : Bool). b || number == 3) idle
 
 -- where a bank was started
 pub keeps_fault : (number : ℕ) (old new : Report) → new.layout_fault ≡ old.layout_fault → (IsTrue (starts_none number) → ⊥)
-    → KeepsReport number old new
-keeps_fault number old new same starts = record {
+    → (number ≡ 5 → (b : Started) × ReportsStart b new) → KeepsReport number old new
+keeps_fault number old new same starts told = record {
   fault = λ other. same;
   banks = λ idle. absurd (starts (idle_starts number idle));
   start = λ none. absurd (starts none);
+  stopped = λ five. inr (told five);
 }
 
 pub keeps_started : (old new : Report) → new.layout_fault ≡ old.layout_fault → KeepsReport 0 old new
-keeps_started old new same = keeps_fault 0 old new same (λ none. absurd (cc))
+keeps_started old new same = keeps_fault 0 old new same (λ none. absurd (cc)) (λ five. absurd (omega (arith, five)))
 
 -- where the layout is refused
 pub keeps_but_fault : (r : Report) (fault : ℕ) → KeepsReport 1 r (record r { layout_fault = fault })
@@ -48,7 +56,19 @@ keeps_but_fault r fault = record {
   fault = λ other. absurd (other refl);
   banks = λ idle. (refl, refl);
   start = λ none. same_start r fault;
+  stopped = λ five. absurd (omega (arith, five));
 }
+
+-- no step lies anywhere
+pub none_lie : (n reach : ℕ) (steps : List Step) → n ≡ 0 → All (LiesBefore reach) (take n steps)
+none_lie n reach steps none = subst (λ (i : ℕ). All (LiesBefore reach) (take i steps)) (sym none) (λ k d lt. absurd (omega (arith, lt)))
+
+-- steps that reach less far
+pub lie_further : (near far : ℕ) (steps : List Step) → near ≤ far → All (LiesBefore near) steps → All (LiesBefore far) steps
+lie_further near far steps more all = λ k d lt. elim (all k d lt) [
+  | inl barrier ↦ inl barrier
+  | inr place ↦ inr (place.0, omega (arith, place.1, more))
+]
 
 -- at 6 and 7 all stays as it was
 pub told_no_flash : (image : List ℕ) (r : Report) (steps : List Step) (room : List ℕ) → (HasFlashSize image → ⊥)
@@ -58,6 +78,8 @@ told_no_flash image r steps room none = record {
   idle = λ idle. absurd (cc);
   kept = keeps_stays 6 r;
   full = λ five. absurd (omega (arith, five));
+  spared = λ six seven. absurd (six refl);
+  behind = (refl, refl);
   no_flash = (λ six. none, λ not. refl);
   untouched = λ either. stays r steps room;
 }
@@ -69,6 +91,8 @@ told_no_room image r steps room is = record {
   idle = λ idle. absurd (cc);
   kept = keeps_stays 7 r;
   full = λ five. absurd (omega (arith, five));
+  spared = λ six seven. absurd (seven refl);
+  behind = (refl, refl);
   no_flash = (λ six. absurd (omega (arith, six)), λ not. absurd (not is));
   untouched = λ either. stays r steps room;
 }
@@ -89,13 +113,16 @@ unmade_by image NoMemory unmade =
 
 -- what a device handed over
 pub told_handed : (image : List ℕ) (result number : ℕ) (old : Report) (old_steps : List Step) (old_room : List ℕ) (new : Report) (steps : List Step)
-    (room : List ℕ) → HasFlashSize image → IsDeviceEnd number → (result ≡ number) ⊎ (result ≡ 7) → (IsTrue (is_idle result) → (new.steps ≡ 0) × (new.bytes ≡ 0))
-    → KeepsReport result old new → (result ≡ 5 → new.steps ≡ length old_steps) → (result ≡ 7 → IsUntouched old old_steps old_room new steps room)
+    (room : List ℕ) → HasFlashSize image → IsDeviceEnd number → (result ≡ number) ⊎ (result ≡ 7) → (IsTrue (is_idle_number result) → (new.steps ≡ 0) × (new.bytes ≡ 0))
+    → KeepsReport result old new → ((result ≡ 7 → ⊥) → All (LiesBefore update_reach) (take new.steps steps))
+    → (drop new.steps steps ≡ drop new.steps old_steps) × (drop new.bytes room ≡ drop new.bytes old_room) → (result ≡ 5 → new.steps ≡ length old_steps) → (result ≡ 7 → IsUntouched old old_steps old_room new steps room)
     → TellsSteps image result old old_steps old_room new steps room
-told_handed image result number old old_steps old_room new steps room is end (inl same) idle kept full untouched = record {
+told_handed image result number old old_steps old_room new steps room is end (inl same) idle kept spared behind full untouched = record {
   unlost = λ four. end.0 (sym same ∙ four);
   idle = idle;
   kept = kept;
+  spared = λ six seven. spared seven;
+  behind = behind;
   full = full;
   no_flash = (λ six. absurd (end.1 (sym same ∙ six)), λ not. absurd (not is));
   untouched = λ either. elim either [
@@ -103,10 +130,12 @@ told_handed image result number old old_steps old_room new steps room is end (in
     | inr seven ↦ untouched seven
   ];
 }
-told_handed image result number old old_steps old_room new steps room is end (inr seven) idle kept full untouched = record {
+told_handed image result number old old_steps old_room new steps room is end (inr seven) idle kept spared behind full untouched = record {
   unlost = λ four. omega (arith, four, seven);
   idle = idle;
   kept = kept;
+  spared = λ six seven. spared seven;
+  behind = behind;
   full = full;
   no_flash = (λ six. absurd (omega (arith, six, seven)), λ not. absurd (not is));
   untouched = λ either. untouched seven;

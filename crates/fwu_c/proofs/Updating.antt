@@ -1,5 +1,5 @@
 -- An update, by what its device tells and by its steps.
-use Rattle.std.proofs.Common.{◌≡◌, ◌∙◌, inl, refl, ℕ, ◌*◌, List, [], length, Option, Some, None, Ok, Err, ap, sym, subst, take, arith, get_or}
+use Rattle.std.proofs.Common.{drop, Bool, ◌≡◌, ◌∙◌, inl, refl, ℕ, ◌*◌, List, [], length, Option, Some, None, Ok, Err, ap, sym, subst, take, arith, get_or}
 use Rattle.std.proofs.Math.ListN.{get_or-map}
 use Rattle.std.specs.Prelude.{All, IsTrue, IsFalse}
 use Rattle.base_core.specs.Block.{block_bytes}
@@ -21,18 +21,22 @@ use Rattle.early_boot.specs.EndsBy.{BootEnds}
 use Rattle.step_flash.specs.declared.step.Step.{Step}
 use Rattle.step_flash.specs.declared.flash.StepFlash.{StepFlash}
 use Rattle.step_flash.specs.Flash.{block_count, told_of}
-use Rattle.step_flash.specs.Guard.{start, start_with}
+use Rattle.step_flash.specs.Guard.{start_told, start_with}
 use Rattle.step_flash.specs.Stopped.{under_as}
-use Rattle.step_flash.specs.Steps.{AreDoable, IsInsideWith, run_with}
+use Rattle.step_flash.specs.Steps.{AreDoable, IsInsideWith, room_bytes, run_with}
+use Rattle.step_flash.proofs.Room.{no_room_bytes}
 use Rattle.fwu_c.specs.declared.report.Report.{Report}
 use Rattle.fwu_c.specs.Codes.{end_code}
-use Rattle.fwu_c.specs.Handed.{HandsOver, HasFlashSize, IsDeviceEnd, TellsSteps, starts_none}
+use Rattle.fwu_c.specs.Handed.{HandsOver, HasFlashSize, IsDeviceEnd, TellsSteps, boot_reach, bounds_before, starts_none, update_reach}
 use Rattle.update_client.specs.declared.stops.SendStop.TheVariants.{MissingImage, ImageTooLarge, Begin, End, ReadFailed, Lost, Fault, Gone}
-use Rattle.fwu_c.specs.Sendings.{InstallsBy, IsOutcome, Outcome, outcome_code}
-use Rattle.fwu_c.specs.Updates.{Boots, IsNotBooted, IsOnTrial, StartsNone, UpdateEnds, Updated, UpdatesBy}
-use Rattle.fwu_c.specs.Updates.{on_trial, not_booted, tried, update_code, ReportsUpdate}
+use Rattle.fwu_c.specs.Sendings.{InstallsBy, IsOutcome, SendOutcome, outcome_code}
+use Rattle.fwu_c.specs.Updates.{ReportsBoot, IsNotBooted, IsOnTrial, ReportsNone, UpdateEnds, Updated, UpdatesBy}
+use Rattle.fwu_c.specs.Updates.{on_trial, not_booted, tried, update_bounds, update_code, ReportsUpdate, SparesInUse}
+use Rattle.agent_machine.specs.Moment.{Moment}
+use Rattle.fwu_c.specs.Agents.{BeginsAgent}
+use Rattle.fwu_c.specs.declared.handing.Bounds.{Bounds}
 use Rattle.fwu_c.proofs.SentPackage.{setting_of}
-use Rattle.fwu_c.proofs.Telling.{keeps_fault, told_handed}
+use Rattle.fwu_c.proofs.Telling.{keeps_fault, none_lie, told_handed}
 use Rattle.fwu_c.proofs.Booting.{code_few, end_same, guard_kept, over, start_same}
 
 -- ---- trials
@@ -73,14 +77,14 @@ none_by_metadata image L layout none = ap (λ r. seen_with image r) layout ∙ a
 pub no_trial : (image : List ℕ) → seen image ≡ None → IsOnTrial image → ⊥
 no_trial image none trial = let is = trial.1 in absurd (cc (none, is))
 
-pub start_now : (image : List ℕ) → (start image).now ≡ image
+pub start_now : (image : List ℕ) → (start_told image).now ≡ image
 unfolding fresh
 start_now image = refl
 
 -- ---- numbers
 
 -- a known outcome has none of the numbers 4 and 6
-outcome_not_four : (outcome : Outcome) → IsOutcome outcome → outcome_code outcome ≡ 4 → ⊥
+outcome_not_four : (outcome : SendOutcome) → IsOutcome outcome → outcome_code outcome ≡ 4 → ⊥
 outcome_not_four None is e = omega (arith, e)
 outcome_not_four (Some (Ok sent)) is e = omega (arith, e)
 outcome_not_four (Some (Err (MissingImage guid))) is e = omega (arith, e)
@@ -92,7 +96,7 @@ outcome_not_four (Some (Err Lost)) is e = is
 outcome_not_four (Some (Err Fault)) is e = omega (arith, e)
 outcome_not_four (Some (Err Gone)) is e = is
 
-outcome_not_six : (outcome : Outcome) → outcome_code outcome ≡ 6 → ⊥
+outcome_not_six : (outcome : SendOutcome) → outcome_code outcome ≡ 6 → ⊥
 outcome_not_six None e = omega (arith, e)
 outcome_not_six (Some (Ok sent)) e = omega (arith, e)
 outcome_not_six (Some (Err (MissingImage guid))) e = omega (arith, e)
@@ -104,7 +108,7 @@ outcome_not_six (Some (Err Lost)) e = omega (arith, e)
 outcome_not_six (Some (Err Fault)) e = omega (arith, e)
 outcome_not_six (Some (Err Gone)) e = omega (arith, e)
 
-outcome_not_seven : (outcome : Outcome) → IsOutcome outcome → outcome_code outcome ≡ 7 → ⊥
+outcome_not_seven : (outcome : SendOutcome) → IsOutcome outcome → outcome_code outcome ≡ 7 → ⊥
 outcome_not_seven None is e = omega (arith, e)
 outcome_not_seven (Some (Ok sent)) is e = omega (arith, e)
 outcome_not_seven (Some (Err (MissingImage guid))) is e = omega (arith, e)
@@ -116,7 +120,7 @@ outcome_not_seven (Some (Err Lost)) is e = is
 outcome_not_seven (Some (Err Fault)) is e = omega (arith, e)
 outcome_not_seven (Some (Err Gone)) is e = is
 
-pub outcome_starts : (outcome : Outcome) → IsTrue (starts_none (outcome_code outcome)) → ⊥
+pub outcome_starts : (outcome : SendOutcome) → IsTrue (starts_none (outcome_code outcome)) → ⊥
 outcome_starts None none = absurd (cc)
 outcome_starts (Some (Ok sent)) none = absurd (cc)
 outcome_starts (Some (Err (MissingImage guid))) none = absurd (cc)
@@ -128,33 +132,35 @@ outcome_starts (Some (Err Lost)) none = absurd (cc)
 outcome_starts (Some (Err Fault)) none = absurd (cc)
 outcome_starts (Some (Err Gone)) none = absurd (cc)
 
-pub outcome_end_is : (outcome : Outcome) → IsOutcome outcome → IsDeviceEnd (outcome_code outcome)
+pub outcome_end_is : (outcome : SendOutcome) → IsOutcome outcome → IsDeviceEnd (outcome_code outcome)
 outcome_end_is outcome is = (outcome_not_four outcome is, outcome_not_six outcome, outcome_not_seven outcome is)
 
 -- a boot that started none has none of these either
 none_not_six : (e : Ended) → IsNotBooted e → (end_code e ≡ 6 → ⊥) × (end_code e ≡ 7 → ⊥)
 none_not_six e is = let few = code_few e in (λ six. omega (arith, few, six), λ seven. omega (arith, few, seven))
 
-pub none_end_is : (number : ℕ) (first left : StepFlash) (old r : Report) → StartsNone number first left old r → IsDeviceEnd number
+pub none_end_is : (number : ℕ) (first left : StepFlash) (old r : Report) → ReportsNone number first left old r → IsDeviceEnd number
 none_end_is number first left old r none =
     let not = none_not_six none.end none.is in (none.unlost, λ six. not.0 (sym none.number_is ∙ six), λ seven. not.1 (sym none.number_is ∙ seven))
 
 -- an update is refused before it boots
 pub told_denied : (image : List ℕ) (old : Report) (old_steps : List Step) (old_room : List ℕ) (new : Report) (steps : List Step) (room : List ℕ)
-    → HasFlashSize image → new.layout_fault ≡ old.layout_fault → TellsSteps image 16 old old_steps old_room new steps room
-told_denied image old old_steps old_room new steps room is same =
+    → HasFlashSize image → new.layout_fault ≡ old.layout_fault → new.steps ≡ 0 → steps ≡ old_steps → room ≡ old_room
+    → TellsSteps image 16 old old_steps old_room new steps room
+told_denied image old old_steps old_room new steps room is same none same_steps same_room =
     told_handed image 16 16 old old_steps old_room new steps room is (λ four. omega (arith, four), λ six. omega (arith, six), λ seven. omega (arith, seven))
-    (inl refl) (λ idle. absurd (cc)) (keeps_fault 16 old new same (λ none. absurd (cc)))
+    (inl refl) (λ idle. absurd (cc)) (keeps_fault 16 old new same (λ none. absurd (cc)) (λ five. absurd (omega (arith, five))))
+    (λ not. none_lie new.steps update_reach steps none) (ap (λ (x : List Step). drop new.steps x) same_steps, ap (λ (x : List ℕ). drop new.bytes x) same_room)
     (λ five. absurd (omega (arith, five))) (λ seven. absurd (omega (arith, seven)))
 
 -- ---- the record
 
-updates_by : (image file : List ℕ) (request : ℕ) (first d : StepFlash) (e : Updated) (number : ℕ) (told r : Report) (steps : List Step) (room : List ℕ)
+updates_by : (image file : List ℕ) (request : ℕ) (first d : StepFlash) (bounds : Bounds) (e : Updated) (number : ℕ) (told r : Report) (steps : List Step) (room : List ℕ)
     → told_of first ≡ start_with image file → length image ≡ block_bytes * block_count first → block_count d ≡ block_count first
-    → (told_of d).guard ≡ (told_of first).guard → UpdateEnds image file request e (told_of d) → HandsOver d told r steps room
-    → number ≡ update_code e → ReportsUpdate e r → UpdatesBy image file request number r steps room
-updates_by image file request first d e number told r steps room made size same_size kept ends hands is reports =
-    let o = over image file first d told r steps room made size same_size kept hands in
+    → (told_of d).guard ≡ (told_of first).guard → UpdateEnds image file request e (told_of d) → HandsOver d bounds told r steps room
+    → SparesInUse e (take r.steps steps) → number ≡ update_code e → ReportsUpdate e r → UpdatesBy image file request number r steps room
+updates_by image file request first d bounds e number told r steps room made size same_size kept ends hands spared is reports =
+    let o = over image file first d bounds told r steps room made size same_size kept hands in
     record {
       end = e;
       number_is = is;
@@ -163,36 +169,52 @@ updates_by image file request first d e number told r steps room made size same_
       left = o.left;
       within = o.within;
       doable = o.doable;
+      spared = spared;
       reports = reports;
     }
+
+-- the bounds of an agent that begins with a bank are those by the bank
+pub bounds_begun : (b : Started) (m : Moment) (gone : Bool) (bounds : Bounds) → BeginsAgent b m gone
+    → bounds ≡ update_bounds m.fields.layout m.fields.boot → bounds ≡ update_bounds b.layout b.bank
+bounds_begun b m gone bounds begins is =
+    is ∙ ap (λ (L : Layout). update_bounds L m.fields.boot) begins.from.layout ∙ ap (λ (k : ℕ). update_bounds b.layout k) begins.from.boot
+
+pub bounds_agent : (b : Started) (m : Moment) (gone : Bool) (bounds : Bounds) → BeginsAgent b m gone
+    → bounds ≡ update_bounds b.layout b.bank → bounds ≡ update_bounds m.fields.layout m.fields.boot
+bounds_agent b m gone bounds begins is =
+    is ∙ ap (λ (L : Layout). update_bounds L b.bank) (sym begins.from.layout) ∙ ap (λ (k : ℕ). update_bounds m.fields.layout k) (sym begins.from.boot)
+
+pub handed_in : (d : StepFlash) (x y : Bounds) (told r : Report) (steps : List Step) (room : List ℕ) → x ≡ y → HandsOver d x told r steps room
+    → HandsOver d y told r steps room
+handed_in d x y told r steps room same hands = subst (λ (z : Bounds). HandsOver d z told r steps room) same hands
 
 -- the boot started no bank
 pub unbooted_by : (image file : List ℕ) (request : ℕ) (first d : StepFlash) (number given : ℕ) (old told r : Report)
     (steps : List Step) (room : List ℕ)
-    → told_of first ≡ start_with image file → length image ≡ block_bytes * block_count first → StartsNone given first d old told
-    → HandsOver d told r steps room → number ≡ given → UpdatesBy image file request number r steps room
+    → told_of first ≡ start_with image file → length image ≡ block_bytes * block_count first → ReportsNone given first d old told
+    → HandsOver d (bounds_before boot_reach) told r steps room → number ≡ given → UpdatesBy image file request number r steps room
 unbooted_by image file request first d number given old told r steps room made size none hands is =
-    updates_by image file request first d (not_booted none.end) number told r steps room made size none.size
+    updates_by image file request first d (bounds_before boot_reach) (not_booted none.end) number told r steps room made size none.size
     (guard_kept (told_of first) (told_of d) none.end none.boots.by_bytes)
-    (none.is, subst (λ (x : Told). BootEnds (λ m. passes_any m) x none.end (told_of d)) made none.boots) hands (is ∙ none.number_is)
+    (none.is, subst (λ (x : Told). BootEnds (λ m. passes_any m) x none.end (told_of d)) made none.boots) hands hands.places (is ∙ none.number_is)
     (end_same none.end told r hands.same none.reports)
 
 -- a sending keeps the guard, since the boot before it left a flash that shows a state
-guard_by : (file : List ℕ) (request : ℕ) (b : Started) (outcome : Outcome) (old t : Told) (s : State) → IsShown b.layout old.now s
+guard_by : (file : List ℕ) (request : ℕ) (b : Started) (outcome : SendOutcome) (old t : Told) (s : State) → IsShown b.layout old.now s
     → InstallsBy file request b outcome old t → t.guard ≡ old.guard
 guard_by file request b None old t s shown by = ap (λ (x : Told). x.guard) by.1
 guard_by file request b (Some result) old t s shown by = (by.answers (setting_of b.layout) s refl refl shown).guard_is
 
 -- a bank was started, and the package tried
-pub tried_by : (image file : List ℕ) (request : ℕ) (first mid d : StepFlash) (b : Started) (outcome : Outcome) (number : ℕ)
+pub tried_by : (image file : List ℕ) (request : ℕ) (first mid d : StepFlash) (b : Started) (outcome : SendOutcome) (number : ℕ)
     (old told r : Report) (steps : List Step) (room : List ℕ)
     → told_of first ≡ start_with image file → length image ≡ block_bytes * block_count first → block_count d ≡ block_count mid
-    → Boots b first mid old told → InstallsBy file request b outcome (told_of mid) (told_of d) → HandsOver d told r steps room
+    → ReportsBoot b first mid old told → InstallsBy file request b outcome (told_of mid) (told_of d) → HandsOver d (update_bounds b.layout b.bank) told r steps room
     → number ≡ outcome_code outcome → UpdatesBy image file request number r steps room
 tried_by image file request first mid d b outcome number old told r steps room made size same_size boots installs hands is =
     let bytes = boots.ends.by_bytes in
     let shown : IsShown b.layout (told_of mid).now bytes.shows.0 = record { layout = boots.layout; shows = bytes.shows.1 } in
-    updates_by image file request first d (tried b boots.numbers outcome) number told r steps room made size
+    updates_by image file request first d (update_bounds b.layout b.bank) (tried b boots.numbers outcome) number told r steps room made size
     (same_size ∙ boots.size)
     (guard_by file request b outcome (told_of mid) (told_of d) bytes.shows.0 shown installs
     ∙ guard_kept (told_of first) (told_of mid) (booted b boots.numbers) bytes)
@@ -200,7 +222,7 @@ tried_by image file request first mid d b outcome number old told r steps room m
       mid = told_of mid;
       boots = subst (λ (x : Told). BootEnds (λ m. passes_any m) x (booted b boots.numbers) (told_of mid)) made boots.ends;
       installs = installs;
-    }) hands is (start_same b told r hands.same boots.reports)
+    }) hands hands.outside is (start_same b told r hands.same boots.reports)
 
 -- nothing was tried
 pub denied_by : (image file : List ℕ) (request : ℕ) (r : Report) (steps : List Step) (room : List ℕ) → IsOnTrial image
@@ -208,6 +230,7 @@ pub denied_by : (image file : List ℕ) (request : ℕ) (r : Report) (steps : Li
 unfolding run_with fresh
 denied_by image file request r steps room trial none empty =
     let no_steps : take r.steps steps ≡ [] = ap (λ (n : ℕ). take n steps) none in
+    let no_bytes : room_bytes [] ≡ 0 = no_room_bytes in
     record {
       end = on_trial;
       number_is = refl;
@@ -218,8 +241,10 @@ denied_by image file request r steps room trial none empty =
         steps_fit = omega (arith, none);
         bytes_fit = omega (arith, empty);
         inside = subst (λ (ss : List Step). All (IsInsideWith (length file) r.bytes (length image)) ss) (sym no_steps) (λ k d lt. absurd (omega (arith, lt)));
+        theirs = empty ∙ sym no_bytes ∙ ap (λ (ss : List Step). room_bytes ss) (sym no_steps);
       };
       doable = subst (λ (ss : List Step). AreDoable file (take r.bytes room) (start_with image file) ss) (sym no_steps) tt;
+      spared = tt;
       reports = (none, empty);
     }
 

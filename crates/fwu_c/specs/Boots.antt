@@ -1,14 +1,14 @@
 -- What C is told of a boot.
-use Rattle.std.specs.Prelude.{◌≡◌, ℕ, List, [], length, take}
+use Rattle.std.specs.Prelude.{◌≡◌, ℕ, List, [], All, length, take}
 use Rattle.flash_core.specs.Told.{Told}
 use Rattle.fwu_formats.specs.Digests.{passes_any}
 use Rattle.early_boot.specs.Ends.{Ended}
 use Rattle.early_boot.specs.EndsBy.{BootEnds}
 use Rattle.step_flash.specs.declared.step.Step.{Step}
-use Rattle.step_flash.specs.Guard.{start}
+use Rattle.step_flash.specs.Guard.{start_told}
 use Rattle.step_flash.specs.Steps.{AreDoable, run}
 use Rattle.fwu_c.specs.Codes.{end_code}
-use Rattle.fwu_c.specs.Handed.{IsWithin}
+use Rattle.fwu_c.specs.Handed.{IsWithin, LiesBefore, boot_reach}
 use Rattle.fwu_c.specs.Reports.{ReportsEnd}
 use Rattle.fwu_c.specs.declared.report.Report.{Report}
 
@@ -18,10 +18,12 @@ pub record BootsBy (image : List ℕ) (number : ℕ) (r : Report) (steps : List 
   pub end : Ended
   pub number_is : number ≡ end_code end
   pub t : Told
-  pub ends : BootEnds (λ m. passes_any m) (start image) end t
-  pub left : t ≡ record (run (take r.bytes room) (start image) (take r.steps steps)) { under = t.under }
+  pub ends : BootEnds (λ m. passes_any m) (start_told image) end t
+  pub left : t ≡ record (run (take r.bytes room) (start_told image) (take r.steps steps)) { under = t.under }
   -- each step lies within the flash, and its bytes within those of the room; none is a copy
   pub within : IsWithin (length image) r steps room
   -- an erase takes a block; a program or a copy goes over whole granules, which are erased when its turn comes
-  pub doable : AreDoable [] (take r.bytes room) (start image) (take r.steps steps)
+  pub doable : AreDoable [] (take r.bytes room) (start_told image) (take r.steps steps)
+  -- each lies in blocks 1 to 6, and so in no bank
+  pub places : All (LiesBefore boot_reach) (take r.steps steps)
   pub reports : ReportsEnd end r

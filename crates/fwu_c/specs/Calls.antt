@@ -1,5 +1,5 @@
 -- What C is told of one call of the agent, in the session behind a boot of a bank.
-use Rattle.std.specs.Prelude.{◌≡◌, ◌≢◌, ℕ, ◌++◌, Bool, List, [], length, take, None, Some, Result, Ok, Err, OnOk, IsTrue, ⊤}
+use Rattle.std.specs.Prelude.{◌≡◌, ◌≢◌, ℕ, ◌++◌, Bool, List, [], All, length, take, None, Some, Result, Ok, Err, OnOk, IsTrue, ⊤}
 use Rattle.flash_core.specs.Told.{Told}
 use Rattle.flash_core.specs.May.{Guards}
 use Rattle.flash_core.specs.declared.flash.FlashStop.{FlashStop}
@@ -28,14 +28,14 @@ use Rattle.agent_machine.specs.Meets.{IsRefused, flash_result}
 use Rattle.step_flash.specs.declared.step.Step.{Step}
 use Rattle.step_flash.specs.declared.flash.StepFlash.{StepFlash}
 use Rattle.step_flash.specs.Flash.{block_count, told_of}
-use Rattle.step_flash.specs.Guard.{start}
+use Rattle.step_flash.specs.Guard.{start_told}
 use Rattle.step_flash.specs.Steps.{AreDoable, run}
 use Rattle.agent_calls.specs.Shown.{device, gone, moment}
 use Rattle.agent_calls.specs.declared.agent.Agent.{Agent}
 use Rattle.flash_core.specs.declared.flash.Flash.{Ghosts}
-use Rattle.fwu_c.specs.Agents.{BeginsWith}
+use Rattle.fwu_c.specs.Agents.{BeginsAgent}
 use Rattle.fwu_c.specs.Codes.{fault_code}
-use Rattle.fwu_c.specs.Handed.{IsWithin, KeepsReport}
+use Rattle.fwu_c.specs.Handed.{IsWithin, KeepsReport, LiesBefore, call_reach}
 use Rattle.fwu_c.specs.Reports.{ReportsStart}
 use Rattle.fwu_c.specs.declared.calling.AgentCall.{AgentCall}
 use Rattle.fwu_c.specs.declared.calling.AgentCall.TheVariants.{Accept, Previous}
@@ -84,7 +84,7 @@ ReportsTakeUp (bad_layout f) r = r.layout_fault ≡ fault_code f
 ReportsTakeUp other r = ⊤
 
 -- The bank was taken up, and is reported as a boot reports it.
-pub record Takes (bank : ℕ) (b : Started) (first left : StepFlash) (old r : Report) : Type 0 where
+pub record TakesUpBank (bank : ℕ) (b : Started) (first left : StepFlash) (old r : Report) : Type 0 where
   pub ends : TakeUpEnds (λ m. passes_any m) bank (told_of first) (taken b) (told_of left)
   pub runs : RunsByNumbers (λ m. passes_any m) bank b (started_numbers b)
   pub reports : ReportsStart b r
@@ -95,11 +95,11 @@ pub record Takes (bank : ℕ) (b : Started) (first left : StepFlash) (old r : Re
 -- for an agent
 pub record TakesUp (bank : ℕ) (first left : StepFlash) (m : Moment) (gone : Bool) (old r : Report) : Type 0 where
   pub began : Started
-  pub takes : Takes bank began first left old r
-  pub begins : BeginsWith began m gone
+  pub takes : TakesUpBank bank began first left old r
+  pub begins : BeginsAgent began m gone
 
 -- or it was not, and the device came back
-pub record Refuses (bank number : ℕ) (first left : StepFlash) (old r : Report) : Type 0 where
+pub record RefusesCall (bank number : ℕ) (first left : StepFlash) (old r : Report) : Type 0 where
   pub end : TakenUp
   pub is : IsNotTaken end
   pub number_is : number ≡ take_up_code end
@@ -118,10 +118,10 @@ call_of (Accept guid) = call.Accepts guid
 call_of Previous = call.Previous
 
 -- No power is lost on a device of steps, and no agent that was just started is gone.
-abbrev pub IsCalled : Result (Unit {0}) Stop → Type 0
-IsCalled (Err stop.Lost) = ⊥
-IsCalled (Err stop.Gone) = ⊥
-IsCalled other = ⊤
+abbrev pub IsStepResult : Result (Unit {0}) Stop → Type 0
+IsStepResult (Err stop.Lost) = ⊥
+IsStepResult (Err stop.Gone) = ⊥
+IsStepResult other = ⊤
 
 -- the machine's reply; at a stop of the flash there is none
 abbrev pub RepliesAs : Result (Unit {0}) Stop → Reply → Type 0
@@ -131,7 +131,7 @@ RepliesAs (Err stop.Fault) r = ⊤
 RepliesAs (Err other) r = ⊥
 
 -- From what a flash told to what it tells then, by an answer of the machine.
-pub record AnswersBy (E : Setting) (s : State) (a : Answer) (result : Result (Unit {0}) Stop) (old t : Told) : Type 0 where
+pub record MovesByAnswer (E : Setting) (s : State) (a : Answer) (result : Result (Unit {0}) Stop) (old t : Told) : Type 0 where
   pub reply_is : RepliesAs result a.reply
   -- done or refused, on any flash: it shows the state after all of the moves
   pub shows : OnOk (flash_result result) (IsShown E.layout t.now (after s a.moves))
@@ -150,7 +150,7 @@ IsAccepted other b = ⊥
 -- The call was made in the session behind a boot of the bank.
 pub record CallsFrom (c : Call) (b : Started) (result : Result (Unit {0}) Stop) (old t : Told) : Type 0 where
   pub answers : (E : Setting) (s : State) → E.layout ≡ b.layout → E.passes ≡ (λ m. passes_any m) → IsShown b.layout old.now s
-      → AnswersBy E s (answer E s (started_session b) c) result old t
+      → MovesByAnswer E s (answer E s (started_session b) c) result old t
   -- what is refused, and what is accepted again, changes nothing
   pub refused : IsRefused result → t ≡ old
   pub again : IsAccepted c b → t ≡ old
@@ -161,8 +161,8 @@ pub record CallsFrom (c : Call) (b : Started) (result : Result (Unit {0}) Stop) 
 pub record CalledBy {F : Ghosts StepFlash} (c : Call) (a : Agent StepFlash F) (left : StepFlash)
     (result : Result (Unit {0}) Stop) : Type 0 where
   -- where it began with a bank that a boot started
-  pub calls : (b : Started) → BeginsWith b (moment a) (gone a) → CallsFrom c b result (told_of (device a)) (told_of left)
-  pub ends : IsCalled result
+  pub calls : (b : Started) → BeginsAgent b (moment a) (gone a) → CallsFrom c b result (told_of (device a)) (told_of left)
+  pub ends : IsStepResult result
   pub size : block_count left ≡ block_count (device a)
 
 -- ---- all of it
@@ -182,17 +182,18 @@ called_code (called b result) = call_code result
 pub record MakesCall (image : List ℕ) (bank : ℕ) (c : Call) (b : Started) (result : Result (Unit {0}) Stop)
     (t : Told) : Type 0 where
   pub mid : Told
-  pub takes : TakeUpEnds (λ m. passes_any m) bank (start image) (taken b) mid
+  pub takes : TakeUpEnds (λ m. passes_any m) bank (start_told image) (taken b) mid
   -- also by the numbers that are told, and whether it is the fallback
   pub runs : RunsByNumbers (λ m. passes_any m) bank b (started_numbers b)
   pub calls : CallsFrom c b result mid t
   -- both, from a calm image: each loss leaves the state after a prefix of all the moves
-  pub does : (E : Setting) (s : State) → E.passes ≡ (λ m. passes_any m) → IsCalm E (start image) s → Guards 1 7 (start image)
+  pub does : (E : Setting) (s : State) → E.passes ≡ (λ m. passes_any m) → IsCalm E (start_told image) s
+      → Guards 1 7 (start_told image)
       → Does (flash_result result) E s
       (migrate_moves s ++ (answer E (after s (migrate_moves s)) (On bank None no_handles) c).moves) t
 
 abbrev pub CallEnds : List ℕ → ℕ → Call → Called → Told → Type 0
-CallEnds image bank c (not_taken e) t = IsNotTaken e × TakeUpEnds (λ m. passes_any m) bank (start image) e t
+CallEnds image bank c (not_taken e) t = IsNotTaken e × TakeUpEnds (λ m. passes_any m) bank (start_told image) e t
 CallEnds image bank c (called b result) t = MakesCall image bank c b result t
 
 -- each end has its own fields; the bank is told as a boot tells it, by the numbers before the call
@@ -208,11 +209,13 @@ pub record CallsBy (image : List ℕ) (bank : ℕ) (c : Call) (number : ℕ) (r 
   pub number_is : number ≡ called_code end
   pub t : Told
   pub ends : CallEnds image bank c end t
-  pub left : t ≡ record (run (take r.bytes room) (start image) (take r.steps steps)) { under = t.under }
+  pub left : t ≡ record (run (take r.bytes room) (start_told image) (take r.steps steps)) { under = t.under }
   -- each step lies within the flash, and its bytes within those of the room; none is a copy
   pub within : IsWithin (length image) r steps room
   -- an erase takes a block; a program or a copy goes over whole granules, which are erased when its turn comes
-  pub doable : AreDoable [] (take r.bytes room) (start image) (take r.steps steps)
+  pub doable : AreDoable [] (take r.bytes room) (start_told image) (take r.steps steps)
+  -- each lies in blocks 1 to 3, and so in no bank
+  pub places : All (LiesBefore call_reach) (take r.steps steps)
   pub reports : ReportsCall end r
 
 -- 6 and 7 tell nothing

@@ -9,9 +9,9 @@ use Rattle.fwu_formats.specs.declared.kinds.ManifestFault.{ManifestFault}
 use Rattle.fwu_c.specs.declared.packages.Place.{Place}
 
 -- the entry of a type, where the bytes are a package
-abbrev pub entry_in : List ℕ → Result Toc FipFault → Option Entry
-entry_in guid (Err f) = None
-entry_in guid (Ok toc) = entry_of toc guid
+abbrev pub entry_found : List ℕ → Result Toc FipFault → Option Entry
+entry_found guid (Err f) = None
+entry_found guid (Ok toc) = entry_of toc guid
 
 -- its place is told, where there is one; else the place stays
 abbrev pub TellsPlace : Option Entry → Place → Place → Type 0

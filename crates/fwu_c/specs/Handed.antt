@@ -1,5 +1,5 @@
 -- The steps of a device, as they were handed over.
-use Rattle.std.specs.Prelude.{◌≡◌, ◌≢◌, ◌↔◌, ◌⊎◌, ◌≤◌, ◌*◌, ◌==◌, ◌||◌, true, All, Bool, ℕ, List, IsTrue, length, take}
+use Rattle.std.specs.Prelude.{◌≡◌, ◌≢◌, ◌↔◌, ◌⊎◌, ◌≤◌, ◌+◌, ◌*◌, ◌==◌, ◌||◌, true, All, Bool, ℕ, List, IsTrue, drop, length, take}
 use Rattle.base_core.specs.Block.{block_bytes, fewest_blocks, most_blocks}
 use Rattle.flash_core.specs.Told.{Told}
 use Rattle.step_flash.specs.declared.step.Step.{Step}
@@ -9,12 +9,39 @@ use Rattle.step_flash.specs.declared.flash.Unmade.TheVariants.{NoFlash, NoMemory
 use Rattle.step_flash.specs.Flash.{block_count, image_of, is_on, package_of, told_of}
 use Rattle.step_flash.specs.Guard.{start_with}
 use Rattle.step_flash.specs.Stopped.{under_as}
-use Rattle.step_flash.specs.Steps.{AreDoable, IsInsideWith, run_with}
+use Rattle.step_flash.specs.Steps.{AreDoable, IsInsideWith, room_bytes, run_with}
+use Rattle.early_boot.specs.Started.{Started}
+use Rattle.fwu_c.specs.Reports.{ReportsStart}
 use Rattle.fwu_c.specs.declared.report.Report.{Report}
+use Rattle.fwu_c.specs.declared.handing.Bounds.{Bounds}
 
 -- nothing but the numbers of steps and of bytes changed
 abbrev pub SameBut : Report → Report → Type 0
 SameBut old new = new ≡ record old { steps = new.steps; bytes = new.bytes }
+
+-- A step is a barrier, or lies behind block 0 and ends before this byte of the flash.
+abbrev pub LiesBefore : ℕ → Step → Type 0
+LiesBefore reach s = (s.kind ≡ 3) ⊎ (block_bytes ≤ s.at) × (s.at + s.length ≤ reach)
+
+-- A step is a barrier, or lies before so many blocks or behind them.
+abbrev pub LiesOutside : ℕ → ℕ → Step → Type 0
+LiesOutside first count s = (s.kind ≡ 3) ⊎ (s.at + s.length ≤ block_bytes * first) ⊎ (block_bytes * (first + count) ≤ s.at)
+
+-- A boot writes blocks 1 to 6 alone: the replicas, the marks and the records of the counter. A call of the agent writes blocks 1 to 3
+-- alone: the replicas, and the marks of the starts on trial. So both spare each bank. Behind a boot an update writes a bank too, and
+-- spares that in use.
+abbrev pub boot_reach : ℕ
+boot_reach = 28672
+
+abbrev pub call_reach : ℕ
+call_reach = 16384
+
+abbrev pub update_reach : ℕ
+update_reach = 4294967295
+
+-- where no bank has to be spared beside
+abbrev pub bounds_before : ℕ → Bounds
+bounds_before reach = record { reach = reach; first = 0; count = 0 }
 
 -- The report counts steps and bytes that there are, and each of these steps lies within a flash of so many bytes. Its bytes lie
 -- within those that are counted, or those of a copy within a package of so many.
@@ -22,6 +49,8 @@ pub record IsWithinWith (file size : ℕ) (r : Report) (steps : List Step) (room
   pub steps_fit : r.steps ≤ length steps
   pub bytes_fit : r.bytes ≤ length room
   pub inside : All (IsInsideWith file r.bytes size) (take r.steps steps)
+  -- no byte is counted but those of the programs, each once
+  pub theirs : r.bytes ≡ room_bytes (take r.steps steps)
 
 -- where there is no package
 abbrev pub IsWithin : ℕ → Report → List Step → List ℕ → Type 0
@@ -29,7 +58,7 @@ IsWithin size r steps room = IsWithinWith 0 size r steps room
 
 -- The steps that are reported make of the device's image what it tells, beside an operation under way; and the rest of the report
 -- is what was to be told.
-pub record HandsOver (d : StepFlash) (told r : Report) (steps : List Step) (room : List ℕ) : Type 0 where
+pub record HandsOver (d : StepFlash) (bounds : Bounds) (told r : Report) (steps : List Step) (room : List ℕ) : Type 0 where
   pub left : told_of d
       ≡ under_as (told_of d).under
       (run_with (package_of d) (take r.bytes room) (start_with (image_of d) (package_of d)) (take r.steps steps))
@@ -37,14 +66,16 @@ pub record HandsOver (d : StepFlash) (told r : Report) (steps : List Step) (room
   -- each step can be done when its turn comes
   pub doable : AreDoable (package_of d) (take r.bytes room) (start_with (image_of d) (package_of d)) (take r.steps steps)
   pub same : SameBut told r
+  pub places : All (LiesBefore bounds.reach) (take r.steps steps)
+  pub outside : All (LiesOutside bounds.first bounds.count) (take r.steps steps)
 
 -- there is no layout or no metadata, or no boot started the bank
-abbrev pub is_idle : ℕ → Bool
-is_idle number = number == 1 || number == 2 || number == 21
+abbrev pub is_idle_number : ℕ → Bool
+is_idle_number number = number == 1 || number == 2 || number == 21
 
 -- what a device over some image and some package tells before its first step
-abbrev pub IsStart : Told → Type 0
-IsStart t = (image : List ℕ) × (file : List ℕ) × (t ≡ start_with image file)
+abbrev pub IsStartOfSteps : Told → Type 0
+IsStartOfSteps t = (image : List ℕ) × (file : List ℕ) × (t ≡ start_with image file)
 
 -- A device was just made over its image, with this package: it is on, has noted nothing, and lies over the whole image.
 pub record IsJustMade (file : List ℕ) (d : StepFlash) : Type 0 where
@@ -73,7 +104,7 @@ pub record HasFlashSize (image : List ℕ) : Type 0 where
 
 -- no bank is told as the one that is to be started
 abbrev pub starts_none : ℕ → Bool
-starts_none number = is_idle number || number == 3
+starts_none number = is_idle_number number || number == 3
 
 -- what a start writes but the banks
 pub record SameStart (old new : Report) : Type 0 where
@@ -85,12 +116,19 @@ pub record SameStart (old new : Report) : Type 0 where
   pub images : new.images ≡ old.images
   pub lengths : new.lengths ≡ old.lengths
 
+-- what a start writes, as it was before
+pub record SameStarts (old new : Report) : Type 0 where
+  pub start : SameStart old new
+  pub active : new.active ≡ old.active
+  pub previous : new.previous ≡ old.previous
+
 -- Of the report a number's own fields are written: the fault at 1, the banks at 3, and all but the fault where a bank was started.
--- At 5 only the fault is sure to stay.
 pub record KeepsReport (number : ℕ) (old new : Report) : Type 0 where
   pub fault : number ≢ 1 → new.layout_fault ≡ old.layout_fault
-  pub banks : IsTrue (is_idle number) → (new.active ≡ old.active) × (new.previous ≡ old.previous)
+  pub banks : IsTrue (is_idle_number number) → (new.active ≡ old.active) × (new.previous ≡ old.previous)
   pub start : IsTrue (starts_none number) → SameStart old new
+  -- at 5 none is written, or a start is told
+  pub stopped : number ≡ 5 → SameStarts old new ⊎ ((b : Started) × ReportsStart b new)
 
 -- What each call that tells steps promises, whatever it is asked for: of what C handed in, and has then.
 pub record TellsSteps (image : List ℕ) (number : ℕ) (old : Report) (old_steps : List Step) (old_room : List ℕ) (new : Report)
@@ -98,9 +136,13 @@ pub record TellsSteps (image : List ℕ) (number : ℕ) (old : Report) (old_step
   -- steps are told and not done, so no power is lost
   pub unlost : number ≢ 4
   -- where there is no layout or no metadata, or no boot started the bank, no step is told, and no byte
-  pub idle : IsTrue (is_idle number) → (new.steps ≡ 0) × (new.bytes ≡ 0)
+  pub idle : IsTrue (is_idle_number number) → (new.steps ≡ 0) × (new.bytes ≡ 0)
   -- of the other fields none is written but the number's own
   pub kept : KeepsReport number old new
+  -- no step that is told writes block 0, the layout
+  pub spared : number ≢ 6 → number ≢ 7 → All (LiesBefore update_reach) (take new.steps steps)
+  -- what stands behind those that are told stays as it was
+  pub behind : (drop new.steps steps ≡ drop new.steps old_steps) × (drop new.bytes room ≡ drop new.bytes old_room)
   -- at 5 as many steps are told as there is room for
   pub full : number ≡ 5 → new.steps ≡ length old_steps
   -- 6 comes of all bytes that are no flash, and of no others

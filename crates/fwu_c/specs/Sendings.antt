@@ -18,16 +18,16 @@ use Rattle.agent_calls.specs.declared.agent.Agent.{Agent}
 use Rattle.flash_core.specs.declared.flash.Flash.{Ghosts}
 use Rattle.step_flash.specs.declared.flash.StepFlash.{StepFlash}
 use Rattle.step_flash.specs.Flash.{block_count, told_of}
-use Rattle.fwu_c.specs.Agents.{BeginsWith}
+use Rattle.fwu_c.specs.Agents.{BeginsAgent}
 use Rattle.update_client.specs.declared.stops.Sent.{Sent}
 use Rattle.update_client.specs.declared.stops.SendStop.{SendStop}
 use Rattle.update_client.specs.declared.stops.SendStop.TheVariants.{MissingImage, ImageTooLarge, Begin, End, ReadFailed, Lost, Fault, Gone}
 use Rattle.update_client.specs.Halts.{flash_of}
-use Rattle.update_client.specs.Sends.{FaultsBy, IsEarly, IsInstalled, send_answer}
+use Rattle.update_client.specs.Sends.{FaultsBy, IsEarlySend, IsInstalled, send_answer}
 
 -- none where the bytes are no package
-abbrev pub Outcome : Type 0
-Outcome = Option (Result Sent SendStop)
+abbrev pub SendOutcome : Type 0
+SendOutcome = Option (Result Sent SendStop)
 
 -- No read of a package in memory fails, no power is lost on a device of steps, and no agent that was just started is gone.
 abbrev pub IsSent : Result Sent SendStop → Type 0
@@ -36,7 +36,7 @@ IsSent (Err Lost) = ⊥
 IsSent (Err Gone) = ⊥
 IsSent other = ⊤
 
-abbrev pub IsOutcome : Outcome → Type 0
+abbrev pub IsOutcome : SendOutcome → Type 0
 IsOutcome None = ⊤
 IsOutcome (Some result) = IsSent result
 
@@ -53,7 +53,7 @@ sent_code (Err Fault) = 5
 sent_code (Err Gone) = 7
 
 -- 18: no package
-abbrev pub outcome_code : Outcome → ℕ
+abbrev pub outcome_code : SendOutcome → ℕ
 outcome_code None = 18
 outcome_code (Some result) = sent_code result
 
@@ -68,7 +68,7 @@ RepliesAs (Err Fault) r = ⊤
 RepliesAs (Err other) r = ⊥
 
 -- From what a flash told to what it tells then, by an answer of the machine.
-pub record AnswersBy (E : Setting) (s : State) (a : Answer) (result : Result Sent SendStop) (old t : Told) : Type 0 where
+pub record MovesByAnswer (E : Setting) (s : State) (a : Answer) (result : Result Sent SendStop) (old t : Told) : Type 0 where
   pub reply_is : RepliesAs result a.reply
   -- done or refused, on any flash: it shows the state after all of the moves
   pub shows : OnOk (flash_of result) (IsShown E.layout t.now (after s a.moves))
@@ -91,24 +91,24 @@ pub record SendsPackage (file : List ℕ) (request : ℕ) (b : Started) (result 
   -- a missing or too large image comes exactly by the table and the layout
   pub faults : FaultsBy (first_image_fault b.layout.rows toc) result
   pub answers : (E : Setting) (s : State) → E.layout ≡ b.layout → E.passes ≡ (λ m. passes_any m) → IsShown b.layout old.now s
-      → AnswersBy E s (send_answer E toc (images_of b.layout.rows file toc) request s (started_session b)) result old t
+      → MovesByAnswer E s (send_answer E toc (images_of b.layout.rows file toc) request s (started_session b)) result old t
   -- where an image is missing or too large, and where the begin is refused, nothing changes
-  pub early : IsEarly result → t ≡ old
+  pub early : IsEarlySend result → t ≡ old
   pub installs : OnOk result ((s : State) → IsShown b.layout old.now s
       → HasInstalled b.layout (images_of b.layout.rows file toc) request s t)
   -- on any flash that shows a state, at any exit: nothing changed but blocks 1 to 3, and the bank that follows the one that was
   -- started
   pub keeps : (s : State) → IsShown b.layout old.now s → KeepsWhere (IsSparedByAll b.layout b.bank) old t
 
-abbrev pub InstallsBy : List ℕ → ℕ → Started → Outcome → Told → Told → Type 0
+abbrev pub InstallsBy : List ℕ → ℕ → Started → SendOutcome → Told → Told → Type 0
 InstallsBy file request b None old t = IsErr (toc_of file) × (t ≡ old)
 InstallsBy file request b (Some result) old t = SendsPackage file request b result old t
 
 -- What an agent made of a package, and the device that it left.
 pub record TriesBy {F : Ghosts StepFlash} (file : List ℕ) (request : ℕ) (a : Agent StepFlash F) (left : StepFlash)
-    (outcome : Outcome) : Type 0 where
+    (outcome : SendOutcome) : Type 0 where
   -- where it began with a bank that was started
-  pub installs : (b : Started) → BeginsWith b (moment a) (gone a)
+  pub installs : (b : Started) → BeginsAgent b (moment a) (gone a)
       → InstallsBy file request b outcome (told_of (device a)) (told_of left)
   pub ends : IsOutcome outcome
   pub size : block_count left ≡ block_count (device a)

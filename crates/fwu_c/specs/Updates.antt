@@ -1,5 +1,5 @@
 -- What C is told of an update.
-use Rattle.std.specs.Prelude.{◌≡◌, ◌≢◌, ℕ, Bool, List, length, take, Some, Ok, IsTrue, ⊤}
+use Rattle.std.specs.Prelude.{◌≡◌, ◌≢◌, ℕ, ◌+◌, All, Bool, List, length, take, Some, Ok, IsTrue, ⊤}
 use Rattle.flash_core.specs.Told.{Told}
 use Rattle.fwu_formats.specs.Digests.{passes_any}
 use Rattle.fwu_formats.specs.Image.{layout_seen}
@@ -14,16 +14,18 @@ use Rattle.step_flash.specs.declared.flash.StepFlash.{StepFlash}
 use Rattle.step_flash.specs.Flash.{block_count, told_of}
 use Rattle.step_flash.specs.Guard.{start_with}
 use Rattle.step_flash.specs.Steps.{AreDoable, run_with}
-use Rattle.fwu_c.specs.Agents.{BeginsWith}
+use Rattle.fwu_c.specs.Agents.{BeginsAgent}
 use Rattle.fwu_c.specs.Codes.{end_code}
-use Rattle.fwu_c.specs.Handed.{IsWithinWith, KeepsReport}
+use Rattle.fwu_formats.specs.Layout.{Layout, slot_total, start}
+use Rattle.fwu_c.specs.Handed.{IsWithinWith, KeepsReport, LiesBefore, LiesOutside, boot_reach, update_reach}
+use Rattle.fwu_c.specs.declared.handing.Bounds.{Bounds}
 use Rattle.fwu_c.specs.Reports.{ReportsEnd, ReportsStart}
-use Rattle.fwu_c.specs.Sendings.{Outcome, InstallsBy, outcome_code}
+use Rattle.fwu_c.specs.Sendings.{SendOutcome, InstallsBy, outcome_code}
 use Rattle.fwu_c.specs.declared.report.Report.{Report}
 
 -- 6 and 7 tell nothing
-abbrev pub IsAnswered : ℕ → Type 0
-IsAnswered number = (number ≢ 6) × (number ≢ 7)
+abbrev pub TellsAnswer : ℕ → Type 0
+TellsAnswer number = (number ≢ 6) × (number ≢ 7)
 
 -- the image shows an active bank that is on trial
 abbrev pub IsOnTrial : List ℕ → Type 0
@@ -36,7 +38,7 @@ pub data Updated : Type 0 where
   -- the boot in it started no bank, or was stopped
   not_booted : Ended → Updated
   -- a bank was started, and the package was tried
-  tried : Started → Numbers → Outcome → Updated
+  tried : Started → Numbers → SendOutcome → Updated
 
 abbrev pub update_code : Updated → ℕ
 update_code on_trial = 16
@@ -48,7 +50,7 @@ IsNotBooted (booted b n) = ⊥
 IsNotBooted other = ⊤
 
 -- A bank was started, and is reported as a boot reports it.
-pub record Boots (b : Started) (first left : StepFlash) (old r : Report) : Type 0 where
+pub record ReportsBoot (b : Started) (first left : StepFlash) (old r : Report) : Type 0 where
   pub numbers : Numbers
   pub ends : BootEnds (λ m. passes_any m) (told_of first) (booted b numbers) (told_of left)
   pub layout : layout_seen (told_of left).now ≡ Ok b.layout
@@ -60,11 +62,11 @@ pub record Boots (b : Started) (first left : StepFlash) (old r : Report) : Type 
 -- for an agent
 pub record BootsUp (first left : StepFlash) (m : Moment) (gone : Bool) (old r : Report) : Type 0 where
   pub began : Started
-  pub boots : Boots began first left old r
-  pub begins : BeginsWith began m gone
+  pub boots : ReportsBoot began first left old r
+  pub begins : BeginsAgent began m gone
 
 -- or none was, and the device came back
-pub record StartsNone (number : ℕ) (first left : StepFlash) (old r : Report) : Type 0 where
+pub record ReportsNone (number : ℕ) (first left : StepFlash) (old r : Report) : Type 0 where
   pub end : Ended
   pub is : IsNotBooted end
   pub number_is : number ≡ end_code end
@@ -76,7 +78,7 @@ pub record StartsNone (number : ℕ) (first left : StepFlash) (old r : Report) :
   pub size : block_count left ≡ block_count first
 
 -- the boot as the definitions say, and from what it leaves the sending
-pub record TriesPackage (image file : List ℕ) (request : ℕ) (b : Started) (n : Numbers) (outcome : Outcome)
+pub record TriesPackage (image file : List ℕ) (request : ℕ) (b : Started) (n : Numbers) (outcome : SendOutcome)
     (t : Told) : Type 0 where
   pub mid : Told
   pub boots : BootEnds (λ m. passes_any m) (start_with image file) (booted b n) mid
@@ -93,6 +95,16 @@ ReportsUpdate on_trial r = (r.steps ≡ 0) × (r.bytes ≡ 0)
 ReportsUpdate (not_booted e) r = ReportsEnd e r
 ReportsUpdate (tried b n outcome) r = ReportsStart b r
 
+-- where an update may write whose boot started this bank: anywhere behind block 0 but there
+abbrev pub update_bounds : Layout → ℕ → Bounds
+update_bounds L bank = record { reach = update_reach; first = start L bank 0; count = slot_total L.rows }
+
+-- Each step but a barrier lies outside the bank that the boot started. Where it started none each lies in blocks 1 to 6.
+abbrev pub SparesInUse : Updated → List Step → Type 0
+SparesInUse on_trial steps = ⊤
+SparesInUse (not_booted e) steps = All (LiesBefore boot_reach) steps
+SparesInUse (tried b n outcome) steps = All (LiesOutside (start b.layout b.bank 0) (slot_total b.layout.rows)) steps
+
 -- From the image it updates as the definitions say. What the flash then tells is what the steps make of the image, with the bytes
 -- of copies from the package. At 5 an erase or a program beyond them may be under way.
 pub record UpdatesBy (image file : List ℕ) (request number : ℕ) (r : Report) (steps : List Step) (room : List ℕ) : Type 0 where
@@ -105,4 +117,6 @@ pub record UpdatesBy (image file : List ℕ) (request number : ℕ) (r : Report)
   pub within : IsWithinWith (length file) (length image) r steps room
   -- an erase takes a block; a program or a copy goes over whole granules, which are erased when its turn comes
   pub doable : AreDoable file (take r.bytes room) (start_with image file) (take r.steps steps)
+  -- no step meets the bank in use
+  pub spared : SparesInUse end (take r.steps steps)
   pub reports : ReportsUpdate end r

@@ -9,11 +9,11 @@ ghost use Rattle.agent_machine.specs.Meets.{IsRefused, Meets};
 ghost use Rattle.agent_calls.specs.Shown.{AgentGoes, device, fields, gone, moment};
 ghost use Rattle.agent_calls.specs.Started.{StartsFrom};
 ghost use Rattle.step_flash.specs.Flash.{image_of, is_on, told_of};
-ghost use Rattle.fwu_c.specs.Calls.{CalledBy, CallsBy, IsAccepted, Refuses, Takes, TakesUp, TellsCall};
+ghost use Rattle.fwu_c.specs.Calls.{CalledBy, CallsBy, IsAccepted, RefusesCall, TakesUpBank, TakesUp, TellsCall};
 ghost use Rattle.fwu_c.specs.Calls.{call_code, call_of, status_code, stop_code};
 ghost use Rattle.fwu_c.specs.Handed.{IsJustMade, TellsSteps};
 
-use crate::handing::{hand_over, unmade_number};
+use crate::handing::{Bounds, CALL_REACH, End, hand_over, unmade_number};
 use crate::kept_agent::{agent_of, flash_from};
 use crate::layouts::fault_number;
 use crate::report::{Report, report_start};
@@ -93,8 +93,8 @@ fn taken_up<'a>(
     requires on { is_on flash ≡ true }
     requires room { block_bytes ≤ length block.old }
     ensures { IfSome result (λ end. MatchResult end
-        (λ b. Takes bank (started b.value) flash.entry (boot.device b.value) told.old told.new)
-        (λ e. Refuses bank e.1 flash.entry e.0 told.old told.new)) }
+        (λ b. TakesUpBank bank (started b.value) flash.entry (boot.device b.value) told.old told.new)
+        (λ e. RefusesCall bank e.1 flash.entry e.0 told.old told.new)) }
 {
     match take_up(
         flash,
@@ -132,7 +132,7 @@ fn agent_taken_up<'a>(
     requires room { block_bytes ≤ length block.old }
     ensures { IfSome result (λ end. MatchResult end
         (λ a. TakesUp bank flash.entry (device a.value) (moment a.value) (gone a.value) told.old told.new)
-        (λ e. Refuses bank e.1 flash.entry e.0 told.old told.new)) }
+        (λ e. RefusesCall bank e.1 flash.entry e.0 told.old told.new)) }
 {
     match taken_up(alloc, flash, bank, block, told) {
         Some(Ok(booted)) => match agent_of(alloc, booted) {
@@ -212,12 +212,22 @@ fn call_over(
 {
     let alloc = *block.allocator();
     let mut told = *report;
+    let bounds = Bounds {
+        reach: CALL_REACH,
+        first: 0,
+        count: 0,
+    };
     match agent_taken_up(alloc, flash, asked.bank, block, &mut told) {
         Some(Ok(agent)) => {
             let (flash, done) = called(agent, asked.call);
-            hand_over(flash, call_number(&done), &told, steps, room, report)
+            let number = call_number(&done);
+            let end = End { number, bounds };
+            hand_over(flash, end, &told, steps, room, report)
         }
-        Some(Err((flash, number))) => hand_over(flash, number, &told, steps, room, report),
+        Some(Err((flash, number))) => {
+            let end = End { number, bounds };
+            hand_over(flash, end, &told, steps, room, report)
+        }
         None => 7,
     }
 }

@@ -3,7 +3,7 @@ ghost use Rattle.std.specs.Prelude.{◌≡◌, IfSome};
 ghost use Rattle.agent_calls.specs.Shown.{device, gone, moment};
 ghost use Rattle.early_boot.specs.Started.{started};
 ghost use Rattle.early_boot.specs.Started as boot;
-ghost use Rattle.fwu_c.specs.Agents.{BeginsWith};
+ghost use Rattle.fwu_c.specs.Agents.{BeginsAgent};
 
 use agent_calls::Agent;
 use early_boot::Booted;
@@ -17,7 +17,7 @@ pub fn agent_of<'a>(
     alloc: Global,
     booted: Box<Booted<StepFlash<'a>>>,
 ) -> Option<Box<Agent<StepFlash<'a>>>>
-    ensures begins { IfSome result (λ a. BeginsWith (started booted.entry.value) (moment a.value) (gone a.value)) }
+    ensures begins { IfSome result (λ a. BeginsAgent (started booted.entry.value) (moment a.value) (gone a.value)) }
     ensures device { IfSome result (λ a. device a.value ≡ boot.device booted.entry.value) }
 {
     match Box::new(alloc, Agent::start(Box::into_inner(booted))) {

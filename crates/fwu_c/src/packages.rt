@@ -3,7 +3,7 @@ ghost use Rattle.std.specs.Prelude.{◌≡◌, ◌≤◌, is_some, unwrap_or};
 ghost use Rattle.fwu_formats.specs.Layout.{layout_of};
 ghost use Rattle.fwu_formats.specs.Package.{toc_of};
 ghost use Rattle.fwu_c.specs.Codes.{find_code, found_code};
-ghost use Rattle.fwu_c.specs.Found.{TellsPlace, entry_in, security_version};
+ghost use Rattle.fwu_c.specs.Found.{TellsPlace, entry_found, security_version};
 
 use base_core::Guid;
 use fip_tables::{Entry, StreamToc};
@@ -42,7 +42,7 @@ fn put_place(entry: Option<Entry>, place: &mut Place) -> u32
 #[unsafe(no_mangle)]
 pub extern "C" fn fwu_find(bytes: &[u8], guid: &[u8; 16], place: &mut Place) -> u32
     ensures code { result ≡ find_code guid.now (toc_of bytes.now) }
-    ensures place { TellsPlace (entry_in guid.now (toc_of bytes.now)) place.old place.new }
+    ensures place { TellsPlace (entry_found guid.now (toc_of bytes.now)) place.old place.new }
 {
     // the table is read where it stands: a fault that `feed` tells is told by `toc` again
     let mut stream = StreamToc::new();

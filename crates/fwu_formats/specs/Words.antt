@@ -37,8 +37,8 @@ bytes_of w = if is_word w (codes "-") then Some [] else if length w == 0 then No
 abbrev pub is_file : List ℕ → Bool
 is_file w = nat_le 1 (length w) && nat_le (length w) 255 && list_all (λ b. nat_le 0x21 b && nat_le b 0x7E) w
 
-abbrev pub file_of : List ℕ → Option (List ℕ)
-file_of w = if is_file w then Some w else None
+abbrev pub file_word_of : List ℕ → Option (List ℕ)
+file_word_of w = if is_file w then Some w else None
 
 -- the types that have a name
 abbrev pub named : List ℕ → Option (List ℕ)

@@ -35,9 +35,9 @@ reply (kind.Shown n) = model.Shown (numbers n)
 reply kind.NotUnderstood = model.NotUnderstood
 
 -- what bounds the reply's text: a read got no more bytes than one may ask for. All else is short by its type
-abbrev pub IsShort : model.Reply → Type 0
-IsShort (model.Got total bytes) = length bytes ≤ room_limit
-IsShort other = ⊤
+abbrev pub IsShortReply : model.Reply → Type 0
+IsShortReply (model.Got total bytes) = length bytes ≤ room_limit
+IsShortReply other = ⊤
 
 abbrev pub turn : Turn → model.Turn
 turn t = record { call = shown t.call; reply = reply t.reply; numbers = some_numbers numbers t.numbers }

@@ -1,7 +1,7 @@
 //! The printed line of a turn, in room that was made before. Nothing here takes memory.
 ghost use Rattle.fwu_model.specs.Text.{line};
 ghost use Rattle.fwu_journal.specs.Room.{Grows, HasRoom};
-ghost use Rattle.fwu_journal.specs.Shown.{IsShort, reply, turn};
+ghost use Rattle.fwu_journal.specs.Shown.{IsShortReply, reply, turn};
 
 use crate::adding::add;
 use crate::journal::Turn;
@@ -15,7 +15,7 @@ pub const LINE_ROOM: usize = 8_228;
 #[tactic(auto, unfolding(fwu_model::specs::Text::line))]
 pub fn add_line(text: &mut Vec<u8>, next: &Turn)
     requires room { HasRoom text.old LINE_ROOM }
-    requires short { IsShort (turn next.now).reply }
+    requires short { IsShortReply (turn next.now).reply }
     ensures { Grows text.old text.new (line (turn next.now).call (turn next.now).reply) }
 {
     add_call(text, &next.call);

@@ -4,7 +4,7 @@ ghost use Rattle.fwu_model.specs.Text.{no_boot_text, reply_text, status_text};
 ghost use Rattle.fwu_model.specs.Reply as model;
 ghost use Rattle.fwu_model.specs.Script.{room_limit};
 ghost use Rattle.fwu_journal.specs.Room.{Grows, HasRoom};
-ghost use Rattle.fwu_journal.specs.Shown.{IsShort, reply};
+ghost use Rattle.fwu_journal.specs.Shown.{IsShortReply, reply};
 
 use crate::adding::add;
 use crate::digits::add_bytes;
@@ -130,7 +130,7 @@ fn add_refused(text: &mut Vec<u8>, call: &[u8], status: Status)
 /// Adds a reply.
 pub fn add_reply(text: &mut Vec<u8>, next: &Reply)
     requires room { HasRoom text.old REPLY_ROOM }
-    requires short { IsShort (reply next.now) }
+    requires short { IsShortReply (reply next.now) }
     ensures grows { Grows text.old text.new (reply_text (reply next.now)) }
     ensures short { length (reply_text (reply next.now)) ≤ REPLY_ROOM }
 {

@@ -18,7 +18,7 @@ use Rattle.fwu_model.specs.Call as call
 use Rattle.fwu_model.specs.Reply.{Reply}
 use Rattle.fwu_model.specs.Reply as reply
 use Rattle.fwu_model.specs.declared.kinds.Status.TheVariants as status
-use Rattle.fwu_model.specs.Answer.{Answer, answered, refused, answer, answer_begin, answer_begin_partial, answer_open_write, answer_write, answer_commit, are_named, names_unknown, cannot_begin, begin_moves, copied_part, copied_parts, guid_of, image_held, held_package, opened, is_full, with_appended, appended, staged_bytes}
+use Rattle.fwu_model.specs.Answer.{Answer, answered, refused, answer, answer_begin, answer_begin_partial, answer_open_write, answer_write, answer_commit, are_named, names_unknown, cannot_begin, begin_moves, copied_part, copied_parts, type_of_image, image_held, held_package, opened, is_full, with_appended, appended, staged_bytes}
 use Rattle.fwu_model.specs.InRow.{replies_of, moves_of, session_of, is_done, ComeTo, piece_count, piece, copy_calls, copy_unless, begin_calls}
 use Rattle.fwu_model.specs.Law.{PartialBeginsAreCalls}
 use Rattle.fwu_model.proofs.Sessions.{nothing-at}
@@ -35,12 +35,12 @@ differs : (xs ys : List ℕ) → xs ≢ ys → same_bytes xs ys ≡ false
 differs xs ys ne = elim (cases_Bool (same_bytes xs ys)) [ inl e ↦ absurd (ne (same-is xs ys e)) | inr e ↦ e ]
 
 own-place : (rows : List ImageRow) (k : ℕ) → IsTrue (are_distinct (map (λ r. r.guid) rows)) → k < length rows
-    → position_or_len (λ (r : ImageRow). same_bytes r.guid (guid_of rows k)) rows ≡ k
+    → position_or_len (λ (r : ImageRow). same_bytes r.guid (type_of_image rows k)) rows ≡ k
 own-place rows k distinct lt =
-    position_or_len_is (λ (r : ImageRow). same_bytes r.guid (guid_of rows k)) rows k no_row (omega (arith, lt))
-    (λ j below. differs (guid_of rows j) (guid_of rows k) (other j below)) (λ there. same-self (guid_of rows k))
+    position_or_len_is (λ (r : ImageRow). same_bytes r.guid (type_of_image rows k)) rows k no_row (omega (arith, lt))
+    (λ j below. differs (type_of_image rows j) (type_of_image rows k) (other j below)) (λ there. same-self (type_of_image rows k))
   where
-    other : (j : ℕ) → j < k → guid_of rows j ≢ guid_of rows k
+    other : (j : ℕ) → j < k → type_of_image rows j ≢ type_of_image rows k
     other j below e =
         let len = length-map rows (λ (q : ImageRow). q.guid) in
         let far : j < length rows = omega (arith, below, lt) in
@@ -49,7 +49,7 @@ own-place rows k distinct lt =
         (get_or-map (λ (q : ImageRow). q.guid) rows j no_row [] far ∙ e ∙ sym (get_or-map (λ (q : ImageRow). q.guid) rows k no_row [] lt))
 
 finds-own : (rows : List ImageRow) (k : ℕ) → IsTrue (are_distinct (map (λ r. r.guid) rows)) → k < length rows
-    → find_image rows (guid_of rows k) ≡ Some k
+    → find_image rows (type_of_image rows k) ≡ Some k
 finds-own rows k distinct lt =
     ap (λ (i : ℕ). cond (ltb i (length rows)) (Some i) None) (own-place rows k distinct lt) ∙ ap (λ (b : Bool). cond b (Some k) None)
     (lt-ltb k (length rows) lt)
@@ -91,11 +91,11 @@ module _ (E : Setting) (s : State) where
     there : (front : List ℕ) → get_or (set parts k (Open front)) k Nothing ≡ Open front
     there front = get_or-set_same parts k (Open front) Nothing below
 
-    opens : find_image E.layout.rows (guid_of E.layout.rows k) ≡ Some k → get_or parts k Nothing ≡ Nothing
-        → answer E s (On boot (Some parts) no_handles) (call.OpenWrite (guid_of E.layout.rows k)) ≡ answered (reply.Opened 1) [] (writing [])
+    opens : find_image E.layout.rows (type_of_image E.layout.rows k) ≡ Some k → get_or parts k Nothing ≡ Nothing
+        → answer E s (On boot (Some parts) no_handles) (call.OpenWrite (type_of_image E.layout.rows k)) ≡ answered (reply.Opened 1) [] (writing [])
     unfolding answer answer_open_write
     opens found nothing =
-        let guid = guid_of E.layout.rows k in
+        let guid = type_of_image E.layout.rows k in
         let here = On boot (Some parts) no_handles in
         ap (λ (o : Option ℕ). answer_open_write E boot (Some parts) no_handles guid o) found
         ∙ ap (λ (x : Staged). cond (is_committed x) (refused status.Denied here) (cond (is_open x || is_full no_handles) (refused status.Busy here)
@@ -146,8 +146,8 @@ module _ (E : Setting) (s : State) where
           let past : length bytes ≤ 4096 * (0 + piece_count bytes) = omega (arith, count) in
           take_all (4096 * (0 + piece_count bytes)) bytes past
 
-      copy-reaches : find_image E.layout.rows (guid_of E.layout.rows k) ≡ Some k → get_or parts k Nothing ≡ Nothing
-          → Reaches (On boot (Some parts) no_handles) (copy_calls (guid_of E.layout.rows k) bytes) (On boot (Some (set parts k (Committed bytes true))) no_handles)
+      copy-reaches : find_image E.layout.rows (type_of_image E.layout.rows k) ≡ Some k → get_or parts k Nothing ≡ Nothing
+          → Reaches (On boot (Some parts) no_handles) (copy_calls (type_of_image E.layout.rows k) bytes) (On boot (Some (set parts k (Committed bytes true))) no_handles)
       copy-reaches found nothing =
           let end = On boot (Some (set parts k (Committed bytes true))) no_handles in
           let writing_all = subst (λ (l : List ℕ). Reaches (writing []) (map (λ j. call.Write 1 (piece bytes j)) (range_with_len 0 (piece_count bytes))) (writing l))
@@ -246,14 +246,14 @@ module _ (named : List Bool) (bytes : ℕ → List ℕ) where
     staged k = On boot (Some (copied_first named k bytes)) no_handles
 
     abbrev copy_at : ℕ → List Call
-    copy_at i = copy_unless (get_or named i true) (guid_of E.layout.rows i) (bytes i)
+    copy_at i = copy_unless (get_or named i true) (type_of_image E.layout.rows i) (bytes i)
 
     one-reaches : (k : ℕ) → k < length named → (b : Bool) → get_or named k true ≡ b
-        → Reaches E s (staged k) (copy_unless b (guid_of E.layout.rows k) (bytes k)) (staged (k + 1))
+        → Reaches E s (staged k) (copy_unless b (type_of_image E.layout.rows k) (bytes k)) (staged (k + 1))
     one-reaches k lt true is = subst (λ (ps : List Staged). Reaches E s (staged k) [] (On boot (Some ps) no_handles)) (sym (next-named k is)) Here
     one-reaches k lt false is =
         let within : k < length E.layout.rows = omega (arith, lt, many) in
-        subst (λ (ps : List Staged). Reaches E s (staged k) (copy_calls (guid_of E.layout.rows k) (bytes k)) (On boot (Some ps) no_handles))
+        subst (λ (ps : List Staged). Reaches E s (staged k) (copy_calls (type_of_image E.layout.rows k) (bytes k)) (On boot (Some ps) no_handles))
         (next-copied k is lt)
         (copy-reaches E s boot (copied_first named k bytes) k (omega (arith, lt, first-long k)) (bytes k) (fits k within)
         (finds-own E.layout.rows k distinct within) (first-at k k lt ∙ over k k (omega arith)))

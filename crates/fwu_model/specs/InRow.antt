@@ -9,7 +9,7 @@ use Rattle.fwu_model.specs.Call.{Call}
 use Rattle.fwu_model.specs.Call as call
 use Rattle.fwu_model.specs.Reply.{Reply}
 use Rattle.fwu_model.specs.Reply as reply
-use Rattle.fwu_model.specs.Answer.{Answer, answer, are_named, guid_of, image_held}
+use Rattle.fwu_model.specs.Answer.{Answer, answer, are_named, type_of_image, image_held}
 
 -- the replies to calls in a row, their moves, and the session after them
 abbrev pub replies_of : Setting → State → Session → List Call → List Reply
@@ -56,5 +56,5 @@ copy_unless named guid bytes = if named then [] else copy_calls guid bytes
 -- a begin, and then each image that isn't named is copied from the active bank, in the layout's order
 abbrev pub begin_calls : Setting → State → List (List ℕ) → List Call
 begin_calls E s types =
-    call.Begin 0 ∷ flat_map (λ i. copy_unless (slice_index_or (are_named E.layout.rows types) i true) (guid_of E.layout.rows i)
+    call.Begin 0 ∷ flat_map (λ i. copy_unless (slice_index_or (are_named E.layout.rows types) i true) (type_of_image E.layout.rows i)
     (image_held s s.active i)) (range_with_len 0 (length E.layout.rows))

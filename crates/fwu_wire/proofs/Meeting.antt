@@ -20,10 +20,10 @@ use Rattle.agent_machine.specs.CallGoes.{AgentAt, CallGoes}
 use Rattle.flash_core.specs.declared.flash.Flash.{Ghosts}
 use Rattle.agent_machine.specs.Moment.{Moment}
 use Rattle.agent_calls.specs.GoneBack.{SomePassed}
-use Rattle.agent_calls.specs.AnswersCall.{IsPrevious, IsReplyOf}
+use Rattle.agent_calls.specs.AnswersCall.{IsPreviousCall, IsReplyOf}
 use Rattle.fwu_wire.specs.Calls.{open_call}
 use Rattle.fwu_wire.specs.Replies.{replied}
-use Rattle.fwu_wire.specs.Taken.{CallMeets, IsRefusal, agents_answer, reply_in, said}
+use Rattle.fwu_wire.specs.Taken.{CallMeets, IsRefusalReply, agents_answer, reply_in, said}
 use Rattle.fwu_wire.specs.declared.replies.AgentReply.{AgentReply}
 use Rattle.fwu_wire.specs.declared.replies.AgentReply.TheVariants as wire
 use Rattle.fwu_wire.specs.declared.stops.Stop.{Stop}
@@ -39,7 +39,7 @@ here answer was now goes live is = let gone : IsTrue was = goes.gone.0 is in cc
 
 -- a call that isn't decided by a verdict
 pub meets-by : {T : Type 0} (Says : T → Reply → Type 0) (says : T → AgentReply) (answer : Result T agents.Stop) (bytes : List ℕ) (passes : List ℕ → Bool) (c : Call) (old new : Moment)
-    → (IsPrevious c → ⊥) → (answer ≡ Err agent_stop.Gone → ⊥)
+    → (IsPreviousCall c → ⊥) → (answer ≡ Err agent_stop.Gone → ⊥)
     → ((value : T) → answer ≡ Ok value → (q : Reply) → Says value q → IsReplyOf old.tells c q (replied (says value) bytes))
     → Meets Says answer passes c old new → CallMeets passes c (reply_in (said says answer) bytes) old new
 meets-by Says says (Ok value) bytes passes c old new other live same m = record {
@@ -66,7 +66,7 @@ meets-by Says says (Err agent_stop.Gone) bytes passes c old new other live same 
 
 -- what tells nothing but that it was done
 pub meets-done : (answer : Result (Unit {0}) agents.Stop) (bytes : List ℕ) (passes : List ℕ → Bool) (c : Call) (old new : Moment)
-    → (IsPrevious c → ⊥) → (answer ≡ Err agent_stop.Gone → ⊥) → ((q : Reply) → q ≡ reply.Success → IsReplyOf old.tells c q reply.Success)
+    → (IsPreviousCall c → ⊥) → (answer ≡ Err agent_stop.Gone → ⊥) → ((q : Reply) → q ≡ reply.Success → IsReplyOf old.tells c q reply.Success)
     → Meets (λ value q. q ≡ reply.Success) answer passes c old new → CallMeets passes c (reply_in (said (λ value. wire.Success) answer) bytes) old new
 meets-done answer bytes passes c old new other live same m =
     meets-by (λ value q. q ≡ reply.Success) (λ value. wire.Success) answer bytes passes c old new other live (λ value is q says. same q says) m
@@ -166,7 +166,7 @@ module _ {A D : Type 0} {g : Ghosts D} (old new : AgentAt A D) where
   goes-told (wire.Got total count) h = h
 
   -- a refusal leaves what the agent keeps
-  pub refused-by : (r : AgentReply) (bytes : List ℕ) → CallGoes g (agents_answer (Ok r)) old new → IsRefusal (replied r bytes) → new.fields ≡ old.fields
+  pub refused-by : (r : AgentReply) (bytes : List ℕ) → CallGoes g (agents_answer (Ok r)) old new → IsRefusalReply (replied r bytes) → new.fields ≡ old.fields
   refused-by (wire.Refused st) bytes h is = h.refused tt
   refused-by wire.Success bytes h is = absurd is
   refused-by (wire.Discovered state) bytes h is = absurd is

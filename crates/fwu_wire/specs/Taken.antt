@@ -5,13 +5,13 @@ use Rattle.fwu_model.specs.Reply.{Reply}
 use Rattle.fwu_model.specs.Reply as reply
 use Rattle.agent_machine.specs.declared.stop.Stop as agents
 use Rattle.agent_machine.specs.declared.stop.Stop.TheVariants as agent_stop
-use Rattle.agent_machine.specs.Meets.{Leaves, flash_result}
+use Rattle.agent_machine.specs.Meets.{LeavesFlash, flash_result}
 use Rattle.agent_machine.specs.Moment.{Moment}
 use Rattle.agent_calls.specs.AnswersCall.{AnswersCall}
 use Rattle.wire_frames.specs.declared.exchange.Admission.{Admission}
 use Rattle.wire_frames.specs.declared.exchange.Admission.TheVariants.{Acts, Repeats, Ignored}
-use Rattle.wire_frames.specs.Exchange.{Answered, admission, answered, written}
-use Rattle.wire_frames.specs.Frames.{frame, number_of, numbered}
+use Rattle.wire_frames.specs.Exchange.{LastAnswer, admission, answered, written}
+use Rattle.wire_frames.specs.Frames.{frame, request_number_of, numbered}
 use Rattle.fwu_wire.specs.Replies.{message, replied}
 use Rattle.fwu_wire.specs.declared.replies.AgentReply.{AgentReply}
 use Rattle.fwu_wire.specs.declared.replies.AgentReply.TheVariants as wire
@@ -29,9 +29,9 @@ agents_stop stop.Fault = agent_stop.Fault
 agents_stop stop.Gone = agent_stop.Gone
 
 -- whether the agent was stopped, as one of its calls tells it
-abbrev pub stopped_by : {T : Type 0} → Result T Stop → Result (Unit {0}) agents.Stop
-stopped_by (Ok value) = Ok tt
-stopped_by (Err why) = Err (agents_stop why)
+abbrev pub agent_stopped_by : {T : Type 0} → Result T Stop → Result (Unit {0}) agents.Stop
+agent_stopped_by (Ok value) = Ok tt
+agent_stopped_by (Err why) = Err (agents_stop why)
 
 -- ---- a call of the agent
 
@@ -57,20 +57,20 @@ reply_in (Err why) bytes = Err why
 -- The agent was called, and its answer or refusal is the machine's; or the flash stopped it.
 pub record CallMeets (passes : List ℕ → Bool) (c : Call) (result : Result Reply Stop) (old new : Moment) : Type 0 where
   pub answers : IfOk result (λ r. AnswersCall passes c r old new)
-  pub leaves : Leaves (flash_result (stopped_by result)) passes c old new
+  pub leaves : LeavesFlash (flash_result (agent_stopped_by result)) passes c old new
 
 -- ---- a request that acts
 
-abbrev pub IsRefusal : Reply → Type 0
-IsRefusal (reply.Refused st) = ⊤
-IsRefusal other = ⊥
+abbrev pub IsRefusalReply : Reply → Type 0
+IsRefusalReply (reply.Refused st) = ⊤
+IsRefusalReply other = ⊥
 
 -- The message is that of the machine's reply to the call. A refusal leaves what the agent keeps.
 pub record RepliesToCall (passes : List ℕ → Bool) (c : Call) (bytes : List ℕ) (old new : Moment) : Type 0 where
   pub reply : Reply
   pub message_is : bytes ≡ message reply
   pub answers : AnswersCall passes c reply old new
-  pub refused : IsRefusal reply → new.fields ≡ old.fields
+  pub refused : IsRefusalReply reply → new.fields ≡ old.fields
 
 -- The message of the reply to a request: to its call; or that of a request for no call, which does nothing.
 abbrev pub RepliesTo : (List ℕ → Bool) → Option Call → List ℕ → Moment → Moment → Type 0
@@ -80,7 +80,7 @@ RepliesTo passes (Some c) bytes old new = RepliesToCall passes c bytes old new
 -- what the flash has at any exit, and what a loss leaves of it
 abbrev pub LeavesBy : {T : Type 0} → Result T Stop → (List ℕ → Bool) → Option Call → Moment → Moment → Type 0
 LeavesBy result passes None old new = new ≡ old
-LeavesBy result passes (Some c) old new = Leaves (flash_result (stopped_by result)) passes c old new
+LeavesBy result passes (Some c) old new = LeavesFlash (flash_result (agent_stopped_by result)) passes c old new
 
 -- ---- any request
 
@@ -96,12 +96,12 @@ is_next Repeats = false
 is_next Ignored = false
 
 -- the request acts
-abbrev pub IsNext : Answered → List ℕ → Type 0
-IsNext a body = admission a.last (number_of body) ≡ Acts
+abbrev pub IsNextRequest : LastAnswer → List ℕ → Type 0
+IsNextRequest a body = admission a.last (request_number_of body) ≡ Acts
 
 -- A frame of n bytes was given for a request of this number, by the steps of the exchange: it is what is written for the request,
 -- where the frame of a request that acts is the one at the front of the buffer; and that one is kept.
-pub record GivesReply (number n : ℕ) (acted : Bool) (old new : Answered) (out : Buffers) : Type 0 where
+pub record GivesReply (number n : ℕ) (acted : Bool) (old new : LastAnswer) (out : Buffers) : Type 0 where
   pub whole : length (take n out.after) ≡ n
   pub writes : written old number (take n out.after) ≡ Some (take n out.after)
   pub keeps : new ≡ answered old number (take n out.after)
@@ -109,10 +109,10 @@ pub record GivesReply (number n : ℕ) (acted : Bool) (old new : Answered) (out 
 
 -- What is given for a request, by its number and what is kept: a reply; or nothing, and nothing changes. Or the agent is stopped, in
 -- a request that acts, and nothing is kept.
-abbrev pub Gives : ℕ → Result Taken Stop → Answered → Answered → Buffers → Type 0
-Gives number (Ok (taken.Reply n acted)) old new out = GivesReply number n acted old new out
-Gives number (Ok taken.Ignored) old new out = (admission old.last number ≡ Ignored) × (new ≡ old) × (out.after ≡ out.before)
-Gives number (Err why) old new out = (admission old.last number ≡ Acts) × (new ≡ old)
+abbrev pub GivesTaken : ℕ → Result Taken Stop → LastAnswer → LastAnswer → Buffers → Type 0
+GivesTaken number (Ok (taken.Reply n acted)) old new out = GivesReply number n acted old new out
+GivesTaken number (Ok taken.Ignored) old new out = (admission old.last number ≡ Ignored) × (new ≡ old) × (out.after ≡ out.before)
+GivesTaken number (Err why) old new out = (admission old.last number ≡ Acts) × (new ≡ old)
 
 -- the frame of a request that acted is that of its reply
 abbrev pub IsReply : (List ℕ → Bool) → Option Call → ℕ → Result Taken Stop → List ℕ → Moment → Moment → Type 0

@@ -2,12 +2,12 @@
 ghost use Rattle.std.specs.Prelude.{◌≡◌, ◌≤◌, IsFalse, IfOk, length, take};
 ghost use Rattle.agent_calls.specs.Shown.{AgentGoes, gone, moment};
 ghost use Rattle.wire_frames.specs.Exchange.{admission, none_yet};
-ghost use Rattle.wire_frames.specs.Frames.{IsBody, message_of, number_of};
+ghost use Rattle.wire_frames.specs.Frames.{IsBody, message_of, request_number_of};
 ghost use Rattle.fwu_model.specs.Reply as model;
 ghost use Rattle.fwu_wire.specs.Calls.{asks};
 ghost use Rattle.fwu_wire.specs.Replies.{message};
 ghost use Rattle.fwu_wire.specs.Served.{agent_of, exchange_of};
-ghost use Rattle.fwu_wire.specs.Taken.{Gives, IsNext, IsReply, LeavesBy, RepliesTo, stopped_by};
+ghost use Rattle.fwu_wire.specs.Taken.{GivesTaken, IsNextRequest, IsReply, LeavesBy, RepliesTo, agent_stopped_by};
 
 use crate::calling::call_agent;
 use crate::calls::call_of;
@@ -23,7 +23,7 @@ fn answer_none<D: Flash>(called: &mut Agent<D>, out: &mut [u8]) -> Result<usize,
     requires { 4104 ≤ length out.old }
     ensures replies { IfOk result (λ n. take n out.new ≡ message model.NotUnderstood) }
     ensures size { IfOk result (λ n. n ≡ 4) }
-    ensures goes { AgentGoes (stopped_by result) called.old called.new }
+    ensures goes { AgentGoes (agent_stopped_by result) called.old called.new }
     ensures still { called.new ≡ called.old }
 {
     called.showing();
@@ -50,7 +50,7 @@ fn answer<D: Flash, V: Verifier>(
         (moment called.old) (moment called.new) }
     ensures some { IfOk result (λ n. 4 ≤ n) }
     ensures few { IfOk result (λ n. n ≤ 4104) }
-    ensures goes { AgentGoes (stopped_by result) called.old called.new }
+    ensures goes { AgentGoes (agent_stopped_by result) called.old called.new }
 {
     match call_of(message) {
         Some(call) => match call_agent(called, &call, &mut out[8..], verifier) {
@@ -98,7 +98,7 @@ impl<D: Flash> Server<D> {
         requires some { 4 ≤ length message.now }
         requires room { 4112 ≤ length out.old }
         requires next { admission (exchange_of self.old).last number ≡ Admission.Acts }
-        ensures gives { Gives number result (exchange_of self.old) (exchange_of self.new)
+        ensures gives { GivesTaken number result (exchange_of self.old) (exchange_of self.new)
             (record { before = out.old; after = out.new }) }
         ensures reply { IsFalse (gone (agent_of self.old)) →
             IsReply (V.passes verifier.now) (asks message.now) number result out.new
@@ -106,7 +106,7 @@ impl<D: Flash> Server<D> {
         ensures leaves { IsFalse (gone (agent_of self.old)) →
             LeavesBy result (V.passes verifier.now) (asks message.now)
             (moment (agent_of self.old)) (moment (agent_of self.new)) }
-        ensures goes { AgentGoes (stopped_by result) (agent_of self.old) (agent_of self.new) }
+        ensures goes { AgentGoes (agent_stopped_by result) (agent_of self.old) (agent_of self.new) }
     {
         let size = match answer(&mut self.agent, message, &mut out[8..], verifier) {
             Ok(size) => size,
@@ -135,23 +135,23 @@ impl<D: Flash> Server<D> {
         requires body { IsBody request.now }
         requires room { 4112 ≤ length out.old }
         // By the number and what is kept: what is given, and what is kept then.
-        ensures gives { Gives (number_of request.now) result
+        ensures gives { GivesTaken (request_number_of request.now) result
             (exchange_of self.old) (exchange_of self.new)
             (record { before = out.old; after = out.new }) }
         // On any device: the reply to a request that acted is the machine's.
         ensures reply { IsFalse (gone (agent_of self.old)) →
             IsReply (V.passes verifier.now) (asks (message_of request.now))
-            (number_of request.now) result out.new
+            (request_number_of request.now) result out.new
             (moment (agent_of self.old)) (moment (agent_of self.new)) }
         // What the flash has after one that acts, whatever a loss leaves, and what each call promises,
         ensures leaves { IsFalse (gone (agent_of self.old)) →
-            IsNext (exchange_of self.old) request.now →
+            IsNextRequest (exchange_of self.old) request.now →
             LeavesBy result (V.passes verifier.now) (asks (message_of request.now))
             (moment (agent_of self.old)) (moment (agent_of self.new)) }
-        ensures goes { IsNext (exchange_of self.old) request.now →
-            AgentGoes (stopped_by result) (agent_of self.old) (agent_of self.new) }
+        ensures goes { IsNextRequest (exchange_of self.old) request.now →
+            AgentGoes (agent_stopped_by result) (agent_of self.old) (agent_of self.new) }
         // and that no other touches the agent.
-        ensures still { (IsNext (exchange_of self.old) request.now → ⊥) →
+        ensures still { (IsNextRequest (exchange_of self.old) request.now → ⊥) →
             agent_of self.new ≡ agent_of self.old }
     {
         let number = number_of(request);

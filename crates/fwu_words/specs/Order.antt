@@ -59,11 +59,11 @@ abbrev pub soak_by : Option ℕ → Option ℕ → Option Asked
 soak_by seed rounds = option_and_then (λ s. option_and_then (λ n. Some (soak s n)) rounds) seed
 
 -- the values of `soak`
-abbrev pub number_in : Text → List Row → Option ℕ
-number_in id rows = option_and_then number_read (first_of id rows)
+abbrev pub number_given : Text → List Row → Option ℕ
+number_given id rows = option_and_then number_read (first_of id rows)
 
 abbrev pub soak_of : List Row → Option Asked
-soak_of rows = soak_by (number_in (codes "seed") rows) (number_in (codes "rounds") rows)
+soak_of rows = soak_by (number_given (codes "seed") rows) (number_given (codes "rounds") rows)
 
 -- whether `--gpt` is given
 abbrev pub is_true : Option Text → Bool

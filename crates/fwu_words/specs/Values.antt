@@ -16,11 +16,11 @@ banks_of None = Some fewest_banks
 banks_of (Some text) = option_and_then if_banks (number_read text)
 
 -- NAME:SLOTS
-unfoldable pub row_of : List ℕ → Option ImageRow
-row_of text =
+unfoldable pub slots_row_of : List ℕ → Option ImageRow
+slots_row_of text =
     option_and_then (λ p. option_and_then (λ guid. option_and_then (λ slots. Some (record { guid = guid; slots = slots }))
     (number_read p.1)) (name_of p.0)) (split_of 58 text)
 
 -- LAYOUT: NAME:SLOTS once or more, parted by commas
 unfoldable pub rows_of : List ℕ → Option (List ImageRow)
-rows_of text = each row_of (slice_split (λ b. b == 44) text)
+rows_of text = each slots_row_of (slice_split (λ b. b == 44) text)

@@ -1,8 +1,8 @@
 //! What the words ask for.
 ghost use Rattle.std.specs.Prelude.{◌≡◌, if◌then◌else◌, map, option_and_then, string_bytes};
 ghost use Rattle.clap.specs.Words.{found_of, rows_of, subcommand_rows_of};
-ghost use Rattle.clap_words.specs.Answers.{Answers};
-ghost use Rattle.fwu_words.specs.Order.{asked, banks_in, format_of, is_partitioned, layout_in, number_in, order_of, soak_of, turns_of, view};
+ghost use Rattle.clap_words.specs.Answers.{GivesAsked};
+ghost use Rattle.fwu_words.specs.Order.{asked, banks_in, format_of, is_partitioned, layout_in, number_given, order_of, soak_of, turns_of, view};
 
 use crate::commands::fwu_command;
 use crate::values::{banks_value, layout_rows};
@@ -61,7 +61,7 @@ pub enum Order<'a> {
 }
 
 fn given_banks<'a>(found: &ArgMatches<'a>) -> Result<u32, UsageStop>
-    ensures { Answers (λ n. n) result (banks_in (rows_of (found_of found.now))) }
+    ensures { GivesAsked (λ n. n) result (banks_in (rows_of (found_of found.now))) }
 {
     match banks_value(given(found, "banks")) {
         Some(banks) => Ok(banks),
@@ -70,7 +70,7 @@ fn given_banks<'a>(found: &ArgMatches<'a>) -> Result<u32, UsageStop>
 }
 
 fn given_layout<'a>(alloc: Global, found: &ArgMatches<'a>) -> Result<Vec<ImageRow>, UsageStop>
-    ensures { Answers (λ v. v.items) result (layout_in (rows_of (found_of found.now))) }
+    ensures { GivesAsked (λ v. v.items) result (layout_in (rows_of (found_of found.now))) }
 {
     match given(found, "layout") {
         Some(text) => layout_rows(alloc, text),
@@ -79,7 +79,7 @@ fn given_layout<'a>(alloc: Global, found: &ArgMatches<'a>) -> Result<Vec<ImageRo
 }
 
 fn format_order<'a>(alloc: Global, found: &ArgMatches<'a>) -> Result<Order<'a>, UsageStop>
-    ensures { Answers view result (format_of (rows_of (found_of found.now))) }
+    ensures { GivesAsked view result (format_of (rows_of (found_of found.now))) }
 {
     let banks = given_banks(found)?;
     let rows = given_layout(alloc, found)?;
@@ -92,7 +92,7 @@ fn format_order<'a>(alloc: Global, found: &ArgMatches<'a>) -> Result<Order<'a>, 
 }
 
 fn given_number<'a>(found: &ArgMatches<'a>, id: &str) -> Result<u32, UsageStop>
-    ensures { Answers (λ n. n) result (number_in id.now (rows_of (found_of found.now))) }
+    ensures { GivesAsked (λ n. n) result (number_given id.now (rows_of (found_of found.now))) }
 {
     let Some(text) = given(found, id) else {
         return Err(UsageStop::Usage);
@@ -104,7 +104,7 @@ fn given_number<'a>(found: &ArgMatches<'a>, id: &str) -> Result<u32, UsageStop>
 }
 
 fn soak_order<'a>(found: &ArgMatches<'a>) -> Result<Order<'a>, UsageStop>
-    ensures { Answers view result (soak_of (rows_of (found_of found.now))) }
+    ensures { GivesAsked view result (soak_of (rows_of (found_of found.now))) }
 {
     let seed = given_number(found, "seed")?;
     let rounds = given_number(found, "rounds")?;
@@ -139,7 +139,7 @@ fn named_order<'a>(
     name: &str,
     found: &ArgMatches<'a>,
 ) -> Result<Order<'a>, UsageStop>
-    ensures { Answers view result (order_of name.now (rows_of (found_of found.now))) }
+    ensures { GivesAsked view result (order_of name.now (rows_of (found_of found.now))) }
 {
     let name = name.as_bytes();
     if is_word(name, b"run") {
@@ -161,7 +161,7 @@ fn named_order<'a>(
 
 // The order of the matches.
 fn found_order<'a>(alloc: Global, found: &ArgMatches<'a>) -> Result<Order<'a>, UsageStop>
-    ensures { Answers view result
+    ensures { GivesAsked view result
         (option_and_then (λ p. order_of p.0 p.1) (subcommand_rows_of found.now)) }
 {
     match found.subcommand() {
@@ -173,7 +173,7 @@ fn found_order<'a>(alloc: Global, found: &ArgMatches<'a>) -> Result<Order<'a>, U
 /// What the words, without the program's name, the flash and a list, ask for. `Usage` comes exactly where they ask for nothing:
 /// where `clap` refuses them, and where a value is not in its grammar.
 pub fn fwu_order<'a>(alloc: Global, words: &'a [String]) -> Result<Order<'a>, UsageStop>
-    ensures { Answers view result (asked (map string_bytes words.entry.now)) }
+    ensures { GivesAsked view result (asked (map string_bytes words.entry.now)) }
 {
     let command = match fwu_command(alloc) {
         Ok(command) => command,

@@ -1,9 +1,9 @@
 //! The values of the words: numbers of banks and layouts.
 ghost use Rattle.std.specs.Prelude.{◌≡◌, ◌==◌, IfOk, map, option_map};
 ghost use Rattle.std.specs.List.{slice_split};
-ghost use Rattle.clap_words.specs.Answers.{Answers};
+ghost use Rattle.clap_words.specs.Answers.{GivesAsked};
 ghost use Rattle.clap_words.specs.Values.{each, split_of};
-ghost use Rattle.fwu_words.specs.Values.{banks_of, row_of, rows_of};
+ghost use Rattle.fwu_words.specs.Values.{banks_of, slots_row_of, rows_of};
 
 use base_core::{FEWEST_BANKS, ImageRow, MOST_BANKS};
 use clap_words::{UsageStop, read_name, read_number};
@@ -31,9 +31,9 @@ fn split_at_colon<'a>(text: &'a str) -> Option<(&'a str, &'a str)>
     text.split_once(':')
 }
 
-#[tactic(auto, unfolding(crate::specs::Values::row_of))]
+#[tactic(auto, unfolding(crate::specs::Values::slots_row_of))]
 fn read_row(text: &str) -> Option<ImageRow>
-    ensures { result ≡ row_of text.now }
+    ensures { result ≡ slots_row_of text.now }
 {
     let (name, slots) = split_at_colon(text)?;
     let guid = read_name(name)?;
@@ -48,7 +48,7 @@ fn pieces<'a>(alloc: Global, text: &'a str) -> Result<Vec<&'a str>, AllocError>
 }
 
 fn each_row(alloc: Global, texts: &[&str]) -> Result<Vec<ImageRow>, UsageStop>
-    ensures { Answers (λ v. v.items) result (each row_of (map (λ s. s.now) texts.now)) }
+    ensures { GivesAsked (λ v. v.items) result (each slots_row_of (map (λ s. s.now) texts.now)) }
 {
     let mut rows = Vec::new(alloc);
     for text in texts {
@@ -65,7 +65,7 @@ fn each_row(alloc: Global, texts: &[&str]) -> Result<Vec<ImageRow>, UsageStop>
 /// The images of a layout. `Usage` comes exactly where a part is no `NAME:SLOTS`.
 #[tactic(auto, unfolding(crate::specs::Values::rows_of))]
 pub fn layout_rows(alloc: Global, text: &str) -> Result<Vec<ImageRow>, UsageStop>
-    ensures { Answers (λ v. v.items) result (rows_of text.now) }
+    ensures { GivesAsked (λ v. v.items) result (rows_of text.now) }
 {
     match pieces(alloc, text) {
         Ok(texts) => each_row(alloc, texts.as_slice()),

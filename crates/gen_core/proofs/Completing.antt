@@ -16,8 +16,8 @@ use Rattle.fwu_formats.proofs.SealLaws.{was_not_refused}
 use Rattle.fwu_formats.proofs.Tables.{tables-are-read}
 use Rattle.fip_tables.specs.Packing.{pack_fault}
 use Rattle.fip_tables.proofs.Again.{passed-is-read}
-use Rattle.gen_core.specs.Generated.{generated, generated_images, generated_parts, image_parts, manifest_for, parts_from, row_of}
-use Rattle.gen_core.specs.Law.{GeneratedAreComplete, Installs}
+use Rattle.gen_core.specs.Generated.{generated, generated_images, generated_parts, image_parts, manifest_for, parts_from, manifest_row_of}
+use Rattle.gen_core.specs.Law.{GeneratedAreComplete, InstallsPackage}
 use Rattle.gen_core.proofs.Making.{AreImages, FitSizes, guids_of, images-are, row-limits, sizes-fit}
 use Rattle.gen_core.proofs.Packing.{FitRows, fit-guids, fit-length, generated-fit, have-fields, manifest-length, parts-pass}
 use Rattle.gen_core.proofs.Installing.{entries-fit, images-found, none-missing, none-skipped}
@@ -28,7 +28,7 @@ use Rattle.base_core.proofs.Results.{same-Ok}
 
 -- each number has room in its field
 rows-have-room : (number : ℕ) (rs : List ImageRow) (ps : List Part) → number < 4294967296 → IsTrue (list_all is_row rs) → FitRows rs ps
-    → IsTrue (list_all is_manifest_row (map (row_of number) ps))
+    → IsTrue (list_all is_manifest_row (map (manifest_row_of number) ps))
 rows-have-room number [] [] low each fit = refl
 rows-have-room number [] (p ∷ ps) low each fit = absurd fit
 rows-have-room number (r ∷ rs) [] low each fit = absurd fit
@@ -37,7 +37,7 @@ rows-have-room number (r ∷ rs) (p ∷ ps) low each fit =
     let row = row-limits r own.0 in
     let most = row.most in
     let size = fit.0.size in
-    and_from (is_manifest_row (row_of number p)) (list_all is_manifest_row (map (row_of number) ps))
+    and_from (is_manifest_row (manifest_row_of number p)) (list_all is_manifest_row (map (manifest_row_of number) ps))
     (and_from ((length p.guid == 16) && ltb (length p.bytes) 4294967296 && ltb number 4294967296) (length (sha256 p.bytes) == 32)
     (and_from ((length p.guid == 16) && ltb (length p.bytes) 4294967296) (ltb number 4294967296)
     (and_from (length p.guid == 16) (ltb (length p.bytes) 4294967296) (eq-eqb (length p.guid) 16 (ap length fit.0.guid
@@ -46,27 +46,27 @@ rows-have-room number (r ∷ rs) (p ∷ ps) low each fit =
     (rows-have-room number rs ps low own.1 fit.1)
 
 rows-in-order : (number : ℕ) (rs : List ImageRow) (ps : List Part) → FitRows rs ps
-    → IsTrue (all_paired (λ i r. same_bytes i.guid r.guid) rs (map (row_of number) ps))
+    → IsTrue (all_paired (λ i r. same_bytes i.guid r.guid) rs (map (manifest_row_of number) ps))
 rows-in-order number [] [] fit = refl
 rows-in-order number [] (p ∷ ps) fit = absurd fit
 rows-in-order number (r ∷ rs) [] fit = absurd fit
 rows-in-order number (r ∷ rs) (p ∷ ps) fit =
-    and_from (same_bytes r.guid p.guid) (all_paired (λ i q. same_bytes i.guid q.guid) rs (map (row_of number) ps))
+    and_from (same_bytes r.guid p.guid) (all_paired (λ i q. same_bytes i.guid q.guid) rs (map (manifest_row_of number) ps))
     (subst (λ (g : List ℕ). IsTrue (same_bytes r.guid g)) (sym fit.0.guid) (same_refl r.guid)) (rows-in-order number rs ps fit.1)
 
 rows-within : (number : ℕ) (rs : List ImageRow) (ps : List Part) → FitRows rs ps
-    → IsTrue (all_paired (λ i r. leb r.size (4096 * i.slots)) rs (map (row_of number) ps))
+    → IsTrue (all_paired (λ i r. leb r.size (4096 * i.slots)) rs (map (manifest_row_of number) ps))
 rows-within number [] [] fit = refl
 rows-within number [] (p ∷ ps) fit = absurd fit
 rows-within number (r ∷ rs) [] fit = absurd fit
 rows-within number (r ∷ rs) (p ∷ ps) fit =
-    and_from (leb (length p.bytes) (4096 * r.slots)) (all_paired (λ i q. leb q.size (4096 * i.slots)) rs (map (row_of number) ps))
+    and_from (leb (length p.bytes) (4096 * r.slots)) (all_paired (λ i q. leb q.size (4096 * i.slots)) rs (map (manifest_row_of number) ps))
     (le-leb (length p.bytes) (4096 * r.slots) fit.0.size) (rows-within number rs ps fit.1)
 
-images-are-said : (number : ℕ) (ps : List Part) → IsTrue (all_paired is_image_of (map (row_of number) ps) (map (λ p. p.bytes) ps))
+images-are-said : (number : ℕ) (ps : List Part) → IsTrue (all_paired is_image_of (map (manifest_row_of number) ps) (map (λ p. p.bytes) ps))
 images-are-said number [] = refl
 images-are-said number (p ∷ ps) =
-    and_from (is_image_of (row_of number p) p.bytes) (all_paired is_image_of (map (row_of number) ps) (map (λ q. q.bytes) ps))
+    and_from (is_image_of (manifest_row_of number p) p.bytes) (all_paired is_image_of (map (manifest_row_of number) ps) (map (λ q. q.bytes) ps))
     (and_from (length p.bytes == length p.bytes) (same_bytes (sha256 p.bytes) (sha256 p.bytes)) (eq-eqb (length p.bytes) (length p.bytes) refl)
     (same_refl (sha256 p.bytes)))
     (images-are-said number ps)
@@ -114,7 +114,7 @@ module _ (r : ImageRow) (rows : List ImageRow) (sizes : List ℕ) (number securi
 
   suits : FitsImages (r ∷ rows) m
   suits = record {
-    count = omega (arith, length-map ps (row_of number), counted);
+    count = omega (arith, length-map ps (manifest_row_of number), counted);
     few = images.few;
     security = omega (arith, least);
     rows = rows-have-room number rows ps low each fits;
@@ -151,7 +151,7 @@ module _ (r : ImageRow) (rows : List ImageRow) (sizes : List ℕ) (number securi
 
 installs-parts : (rows : List ImageRow) (sizes : List ℕ) (number security : ℕ) → AreImages rows → FitSizes rows sizes
     → IsTrue (is_complete rows (generated_images rows sizes number security)) → version (generated_images rows sizes number security) ≡ security
-    → Installs rows (generated rows sizes number security) (generated_images rows sizes number security) security
+    → InstallsPackage rows (generated rows sizes number security) (generated_images rows sizes number security) security
 unfolding generated
 installs-parts rows sizes number security images fit complete is =
     let parts = generated_parts rows sizes number security in
@@ -174,7 +174,7 @@ installs-parts rows sizes number security images fit complete is =
 
 pub generated-install : (rows : List ImageRow) (sizes : List ℕ) (number security : ℕ) → AreImages rows → FitSizes rows sizes → number < 4294967296
     → security ≤ 223
-    → Installs rows (generated rows sizes number security) (generated_images rows sizes number security) security
+    → InstallsPackage rows (generated rows sizes number security) (generated_images rows sizes number security) security
 generated-install [] sizes number security images fit low least = absurd (let some = images.some in omega (arith, some))
 generated-install (r ∷ rows) sizes number security images fit low least =
     installs-parts (r ∷ rows) sizes number security images fit (are-complete r rows sizes number security images fit low least)

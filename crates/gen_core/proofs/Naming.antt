@@ -8,8 +8,8 @@ use Rattle.fwu_model.proofs.Staging.{same-is}
 use Rattle.gen_core.specs.Calls.{file_name, packages_of, round_package}
 use Rattle.gen_core.specs.Draws.{draw, drawn, register_after}
 use Rattle.gen_core.specs.Generated.{fit_sizes, generated_images}
-use Rattle.gen_core.specs.Law.{Installs, RoundsHavePackages}
-use Rattle.gen_core.specs.Rounds.{draws_of, round_of, rounds_from, security_of, sizes_of, soak_rounds}
+use Rattle.gen_core.specs.Law.{InstallsPackage, RoundsHavePackages}
+use Rattle.gen_core.specs.Rounds.{draws_of, round_of, rounds_from, security_in_round, sizes_in_round, soak_rounds}
 use Rattle.gen_core.specs.Setup.{soak_layout}
 use Rattle.gen_core.specs.declared.rounds.Round.{Round}
 use Rattle.gen_core.proofs.Making.{soak-images, soak-sizes_fit}
@@ -55,20 +55,20 @@ draw-below : (x number limit : ℕ) → 0 < limit → draw x number limit < limi
 unfolding drawn
 draw-below x number limit some = omega arith
 
-sizes-fit-soak : (x : ℕ) → IsTrue (fit_sizes soak_layout.rows (sizes_of x))
+sizes-fit-soak : (x : ℕ) → IsTrue (fit_sizes soak_layout.rows (sizes_in_round x))
 sizes-fit-soak x =
     let first = draw-below x 1 8193 (omega arith) in
     let second = draw-below x 2 16385 (omega arith) in
     soak-sizes_fit (draw x 1 8193) (draw x 2 16385) (omega (arith, first)) (omega (arith, second))
 
-security-low : (number lower : ℕ) → security_of number lower ≤ 223
+security-low : (number lower : ℕ) → security_in_round number lower ≤ 223
 security-low number lower = omega arith
 
 each-installs : (x number : ℕ) → number < 4294967296
-    → let r = round_of x number in Installs soak_layout.rows (round_package r) (generated_images soak_layout.rows r.sizes r.number r.security) r.security
+    → let r = round_of x number in InstallsPackage soak_layout.rows (round_package r) (generated_images soak_layout.rows r.sizes r.number r.security) r.security
 unfolding round_of
 each-installs x number low =
-    generated-are-complete soak_layout.rows (sizes_of x) number (security_of number (draw x 3 2)) soak-images (sizes-fit-soak x) low
+    generated-are-complete soak_layout.rows (sizes_in_round x) number (security_in_round number (draw x 3 2)) soak-images (sizes-fit-soak x) low
     (security-low number (draw x 3 2))
 
 pub rounds-have-packages : RoundsHavePackages
@@ -76,6 +76,6 @@ rounds-have-packages = record {
   named = λ seed n k d low lt.
       let at : 1 + k ≡ k + 1 = omega arith in
       ap (λ (m : ℕ). packages_of (soak_rounds seed n) (file_name m)) (sym at) ∙ named (register_after 2 seed) 1 n k d (omega (arith, low)) lt;
-  first = λ seed. generated-are-complete soak_layout.rows (sizes_of seed) 0 1 soak-images (sizes-fit-soak seed) (omega arith) (omega arith);
+  first = λ seed. generated-are-complete soak_layout.rows (sizes_in_round seed) 0 1 soak-images (sizes-fit-soak seed) (omega arith) (omega arith);
   each = each-installs;
 }

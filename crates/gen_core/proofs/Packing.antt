@@ -11,12 +11,12 @@ use Rattle.base_core.specs.Bytes.{le, same_bytes}
 use Rattle.fwu_formats.specs.Layout.{ImageRow, is_row, are_distinct, nil_guid}
 use Rattle.fwu_formats.specs.Manifest.{Manifest, all_paired, manifest_row_bytes, manifest_body, manifest_bytes, manifest_size, manifest_magic, form_of}
 use Rattle.fwu_formats.specs.Package.{Part}
-use Rattle.fip_tables.specs.Again.{has_fields}
+use Rattle.fip_tables.specs.Again.{part_has_fields}
 use Rattle.fip_tables.specs.Frame.{AreSixteen, last_end, table_end}
-use Rattle.fip_tables.specs.Packing.{is_alignment, is_nil, is_repeat, pack_fault, part_at}
+use Rattle.fip_tables.specs.Packing.{is_alignment, is_nil, is_repeat, pack_fault, packed_part_at}
 use Rattle.fip_tables.proofs.Firsts.{no-fault, none-repeats, none-shared, position-none}
 use Rattle.fip_tables.proofs.Plans.{packed-length}
-use Rattle.gen_core.specs.Generated.{image_parts, row_of, manifest_for, generated_parts}
+use Rattle.gen_core.specs.Generated.{image_parts, manifest_row_of, manifest_for, generated_parts}
 use Rattle.gen_core.proofs.Making.{AreImages, FitSizes, guids_of, is_within, row-limits, image-length, image_parts-length}
 use Rattle.base_core.proofs.Spelled.{same_sym}
 
@@ -62,16 +62,16 @@ image_parts-fit number i (r ∷ rows) (size ∷ sizes) e within =
 -- ---- the manifest
 
 rows-length : (number : ℕ) (rs : List ImageRow) (ps : List Part) → IsTrue (list_all is_row rs) → FitRows rs ps
-    → length (flat_map manifest_row_bytes (map (row_of number) ps)) ≡ 56 * length ps
+    → length (flat_map manifest_row_bytes (map (manifest_row_of number) ps)) ≡ 56 * length ps
 rows-length number [] [] each fit = refl
 rows-length number [] (p ∷ ps) each fit = absurd fit
 rows-length number (r ∷ rs) [] each fit = absurd fit
 rows-length number (r ∷ rs) (p ∷ ps) each fit =
     let own = and_parts (is_row r) (list_all is_row rs) each in
-    let row = row_of number p in
+    let row = manifest_row_of number p in
     let sixteen : length p.guid ≡ 16 = ap length fit.0.guid ∙ (row-limits r own.0).sixteen in
     let first = manifest_row_bytes row in
-    let others = flat_map manifest_row_bytes (map (row_of number) ps) in
+    let others = flat_map manifest_row_bytes (map (manifest_row_of number) ps) in
     let a = length-append p.guid (le 4 row.size) in
     let b = length-append (p.guid ++ le 4 row.size) (le 4 number) in
     let c = length-append ((p.guid ++ le 4 row.size) ++ le 4 number) (sha256 p.bytes) in
@@ -124,7 +124,7 @@ generated-fit (r ∷ rows) sizes number security images fit =
 -- ---- no fault
 
 other-type : (g : List ℕ) (ps : List Part) (k : ℕ) → IsFalse (list_any (same_bytes g) (map (λ p. p.guid) ps)) → k < length ps
-    → same_bytes (part_at ps k).guid g ≡ false
+    → same_bytes (packed_part_at ps k).guid g ≡ false
 other-type g [] k none lt = absurd (omega (arith, lt))
 other-type g (p ∷ ps) zero none lt = same_sym p.guid g ∙ (or_parts (same_bytes g p.guid) (list_any (same_bytes g) (map (λ q. q.guid) ps)) none).0
 other-type g (p ∷ ps) (suc k) none lt = other-type g ps k (or_parts (same_bytes g p.guid) (list_any (same_bytes g) (map (λ q. q.guid) ps)) none).1
@@ -135,10 +135,10 @@ no-repeat [] h k lt = absurd (omega (arith, lt))
 no-repeat (p ∷ ps) h zero lt = refl
 no-repeat (p ∷ ps) h (suc k) lt =
     let both = and_parts (not (list_any (same_bytes p.guid) (map (λ q. q.guid) ps))) (are_distinct (map (λ q. q.guid) ps)) h in
-    or_from (same_bytes (part_at ps k).guid p.guid) (is_repeat ps k) (other-type p.guid ps k (not-true _ both.0) (omega (arith, lt)))
+    or_from (same_bytes (packed_part_at ps k).guid p.guid) (is_repeat ps k) (other-type p.guid ps k (not-true _ both.0) (omega (arith, lt)))
     (no-repeat ps both.1 k (omega (arith, lt)))
 
-none-nil : (rs : List ImageRow) (ps : List Part) → IsTrue (list_all is_row rs) → FitRows rs ps → (k : ℕ) → k < length ps → is_nil (part_at ps k) ≡ false
+none-nil : (rs : List ImageRow) (ps : List Part) → IsTrue (list_all is_row rs) → FitRows rs ps → (k : ℕ) → k < length ps → is_nil (packed_part_at ps k) ≡ false
 none-nil [] [] each fit k lt = absurd (omega (arith, lt))
 none-nil [] (p ∷ ps) each fit k lt = absurd fit
 none-nil (r ∷ rs) [] each fit k lt = absurd fit
@@ -155,14 +155,14 @@ are-sixteen (r ∷ rs) (p ∷ ps) each fit =
     let own = and_parts (is_row r) (list_all is_row rs) each in
     (ap length fit.0.guid ∙ (row-limits r own.0).sixteen, are-sixteen rs ps own.1 fit.1)
 
-pub have-fields : (rs : List ImageRow) (ps : List Part) → IsTrue (list_all is_row rs) → FitRows rs ps → IsTrue (list_all has_fields ps)
+pub have-fields : (rs : List ImageRow) (ps : List Part) → IsTrue (list_all is_row rs) → FitRows rs ps → IsTrue (list_all part_has_fields ps)
 have-fields [] [] each fit = refl
 have-fields [] (p ∷ ps) each fit = absurd fit
 have-fields (r ∷ rs) [] each fit = absurd fit
 have-fields (r ∷ rs) (p ∷ ps) each fit =
     let own = and_parts (is_row r) (list_all is_row rs) each in
     let flags = fit.0.flags in
-    and_from (has_fields p) (list_all has_fields ps)
+    and_from (part_has_fields p) (list_all part_has_fields ps)
     (and_from (length p.guid == 16) (ltb p.flags 18446744073709551616) (eq-eqb (length p.guid) 16 (ap length fit.0.guid
     ∙ (row-limits r own.0).sixteen)) (lt-ltb p.flags 18446744073709551616 (omega (arith, flags))))
     (have-fields rs ps own.1 fit.1)

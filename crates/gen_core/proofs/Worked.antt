@@ -9,7 +9,7 @@ use Rattle.gen_core.specs.Calls.{soak_calls, round_calls}
 use Rattle.gen_core.specs.Draws.{register_after, step, drawn}
 use Rattle.gen_core.specs.Generated.{image_bytes}
 use Rattle.gen_core.specs.Line.{soak_line, totals_of}
-use Rattle.gen_core.specs.Rounds.{round_of, security_of, sizes_of}
+use Rattle.gen_core.specs.Rounds.{round_of, security_in_round, sizes_in_round}
 use Rattle.gen_core.specs.Setup.{soak_layout, is_too_small}
 use Rattle.gen_core.specs.declared.rounds.Ending.TheVariants.{Nothing}
 
@@ -33,7 +33,7 @@ large-enough = refl
 
 -- ---- draws
 
-first-sizes : sizes_of 1 ≡ 452 ∷ 5758 ∷ []
+first-sizes : sizes_in_round 1 ≡ 452 ∷ 5758 ∷ []
 unfolding step drawn
 first-sizes = refl
 
@@ -50,10 +50,10 @@ unfolding round_of step drawn
 first-round = refl
 
 -- it rises every eighth round, up to a limit
-securities : map (λ number. security_of number 0) (0 ∷ 7 ∷ 8 ∷ 1775 ∷ 1776 ∷ 4294967295 ∷ []) ≡ 1 ∷ 1 ∷ 2 ∷ 222 ∷ 223 ∷ 223 ∷ []
+securities : map (λ number. security_in_round number 0) (0 ∷ 7 ∷ 8 ∷ 1775 ∷ 1776 ∷ 4294967295 ∷ []) ≡ 1 ∷ 1 ∷ 2 ∷ 222 ∷ 223 ∷ 223 ∷ []
 securities = refl
 
-lower-securities : map (λ number. security_of number 1) (0 ∷ 8 ∷ 4294967295 ∷ []) ≡ 0 ∷ 1 ∷ 222 ∷ []
+lower-securities : map (λ number. security_in_round number 1) (0 ∷ 8 ∷ 4294967295 ∷ []) ≡ 0 ∷ 1 ∷ 222 ∷ []
 lower-securities = refl
 
 -- ---- calls

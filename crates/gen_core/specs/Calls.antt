@@ -5,7 +5,7 @@ use Rattle.fwu_formats.specs.Layout.{ImageRow}
 use Rattle.fwu_model.specs.Call.{Call}
 use Rattle.fwu_model.specs.Call as call
 use Rattle.gen_core.specs.Generated.{generated}
-use Rattle.gen_core.specs.Rounds.{sizes_of, soak_rounds}
+use Rattle.gen_core.specs.Rounds.{sizes_in_round, soak_rounds}
 use Rattle.gen_core.specs.Setup.{soak_layout}
 use Rattle.gen_core.specs.declared.rounds.Cut.{Cut}
 use Rattle.gen_core.specs.declared.rounds.Ending.{Ending}
@@ -43,7 +43,7 @@ soak_calls seed n = call.Boot ∷ flat_map (round_calls soak_layout.rows) (soak_
 
 -- the package that the flash is formatted with, of number 0
 abbrev pub first_package : ℕ → List ℕ
-first_package seed = generated soak_layout.rows (sizes_of seed) 0 1
+first_package seed = generated soak_layout.rows (sizes_in_round seed) 0 1
 
 abbrev pub round_package : Round → List ℕ
 round_package r = generated soak_layout.rows r.sizes r.number r.security

@@ -35,11 +35,11 @@ image_parts number i (r ∷ rows) (size ∷ sizes) =
     record { guid = r.guid; flags = 0; bytes = image_bytes number i size } ∷ image_parts number (i + 1) rows sizes
 
 -- what a manifest says of an image of this version
-abbrev pub row_of : ℕ → Part → Row
-row_of number p = record { guid = p.guid; size = length p.bytes; version = number; digest = sha256 p.bytes }
+abbrev pub manifest_row_of : ℕ → Part → Row
+manifest_row_of number p = record { guid = p.guid; size = length p.bytes; version = number; digest = sha256 p.bytes }
 
 abbrev pub manifest_for : ℕ → ℕ → List Part → Manifest
-manifest_for number security images = record { security = security; rows = map (row_of number) images }
+manifest_for number security images = record { security = security; rows = map (manifest_row_of number) images }
 
 -- the manifest, of a type of its own, and then the images of these rows
 abbrev pub parts_from : List ℕ → List ImageRow → List ℕ → ℕ → ℕ → List Part

@@ -6,13 +6,13 @@ use Rattle.fwu_formats.specs.Package.{Toc, toc_of}
 use Rattle.fwu_model.specs.Answer.{images_of, first_image_fault, skipped}
 use Rattle.gen_core.specs.Calls.{file_name, first_package, packages_of, round_package}
 use Rattle.gen_core.specs.Generated.{are_images, fit_sizes, generated, generated_images}
-use Rattle.gen_core.specs.Rounds.{round_of, sizes_of, soak_rounds}
+use Rattle.gen_core.specs.Rounds.{round_of, sizes_in_round, soak_rounds}
 use Rattle.gen_core.specs.Setup.{soak_layout}
 use Rattle.gen_core.specs.declared.rounds.Round.{Round}
 
 -- The file is a package that installs these images on a flash of these image rows: no image of the layout is missing or larger than
 -- its slot, no entry is skipped, and the images are complete, of this security version.
-pub record Installs (rows : List ImageRow) (file : List ℕ) (images : List (List ℕ)) (security : ℕ) : Type 0 where
+pub record InstallsPackage (rows : List ImageRow) (file : List ℕ) (images : List (List ℕ)) (security : ℕ) : Type 0 where
   pub toc : Toc
   pub table : toc_of file ≡ Ok toc
   pub whole : first_image_fault rows toc ≡ None
@@ -26,7 +26,7 @@ abbrev pub GeneratedAreComplete : Type 0
 GeneratedAreComplete =
     (rows : List ImageRow) (sizes : List ℕ) (number security : ℕ) → IsTrue (are_images rows) → IsTrue (fit_sizes rows sizes)
     → number < 4294967296 → security ≤ 223
-    → Installs rows (generated rows sizes number security) (generated_images rows sizes number security) security
+    → InstallsPackage rows (generated rows sizes number security) (generated_images rows sizes number security) security
 
 -- the images of a layout that fits are such
 abbrev pub LayoutsHaveImages : Type 0
@@ -37,6 +37,6 @@ LayoutsHaveImages = (L : Layout) → IsTrue (fits_layout L) → IsTrue (are_imag
 pub record RoundsHavePackages : Type 0 where
   pub named : (seed n k : ℕ) (d : Round) → n < 4294967296 → k < n
       → packages_of (soak_rounds seed n) (file_name (k + 1)) ≡ Some (round_package (slice_index_or (soak_rounds seed n) k d))
-  pub first : (seed : ℕ) → Installs soak_layout.rows (first_package seed) (generated_images soak_layout.rows (sizes_of seed) 0 1) 1
+  pub first : (seed : ℕ) → InstallsPackage soak_layout.rows (first_package seed) (generated_images soak_layout.rows (sizes_in_round seed) 0 1) 1
   pub each : (x number : ℕ) → number < 4294967296 → let r = round_of x number in
-      Installs soak_layout.rows (round_package r) (generated_images soak_layout.rows r.sizes r.number r.security) r.security
+      InstallsPackage soak_layout.rows (round_package r) (generated_images soak_layout.rows r.sizes r.number r.security) r.security

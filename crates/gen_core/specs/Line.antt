@@ -26,18 +26,18 @@ abbrev pub count_of : (Reply → Bool) → List Turn → ℕ
 count_of test journal = count_by (λ turn. test turn.reply) journal
 
 -- the numbers of the last boot that was answered with a bank
-pub record Started : Type 0 where
+pub record LastStart : Type 0 where
   pub bank : ℕ
   pub version : ℕ
   pub counter : ℕ
 
 -- the numbers of this reply where it is a boot's, else those of an earlier one
-abbrev pub started : Started → Reply → Started
+abbrev pub started : LastStart → Reply → LastStart
 started last (reply.Booted bank version trials counter fallback) = record { bank = bank; version = version; counter = counter }
 started last other = last
 
 -- each is 0 where no boot was answered with a bank
-abbrev pub last_started : List Turn → Started
+abbrev pub last_started : List Turn → LastStart
 last_started journal = fold (λ last turn. started last turn.reply) (record { bank = 0; version = 0; counter = 0 }) journal
 
 -- what the line tells of the turns that were done

@@ -7,12 +7,12 @@ use Rattle.gen_core.specs.declared.rounds.Ending.TheVariants.{Nothing, Boot, Acc
 use Rattle.gen_core.specs.declared.rounds.Round.{Round}
 
 -- the sizes in bytes of the two images behind the manifest
-abbrev pub sizes_of : ℕ → List ℕ
-sizes_of x = draw x 1 8193 ∷ draw x 2 16385 ∷ []
+abbrev pub sizes_in_round : ℕ → List ℕ
+sizes_in_round x = draw x 1 8193 ∷ draw x 2 16385 ∷ []
 
 -- the security version of a round's package: it rises by one every eight rounds, and is one lower where that was drawn
-abbrev pub security_of : ℕ → ℕ → ℕ
-security_of number lower = min 223 (1 + number / 8) - lower
+abbrev pub security_in_round : ℕ → ℕ → ℕ
+security_in_round number lower = min 223 (1 + number / 8) - lower
 
 -- of what the first draw is, and where it isn't zero with what the second is
 abbrev pub cut_of : ℕ → Option Cut
@@ -33,8 +33,8 @@ draws_of x = if draw x 5 32 == 0 then 6 else 7
 unfoldable pub round_of : ℕ → ℕ → Round
 round_of x number = record {
   number = number;
-  sizes = sizes_of x;
-  security = security_of number (draw x 3 2);
+  sizes = sizes_in_round x;
+  security = security_in_round number (draw x 3 2);
   acceptance = if draw x 4 4 == 0 then 0 else 1;
   cut = cut_of (register_after 4 x);
   ending = ending_of (draw x (draws_of x) 4);

@@ -1,8 +1,8 @@
 //! Packages that are made from a number.
 ghost use Rattle.std.specs.Prelude.{◌≡◌, ◌+◌, ◌*◌, ◌%◌, ◌<◌, ◌≤◌, ◌∷◌, All, IfOk, OnOk, IsTrue, length, map};
 ghost use Rattle.fwu_formats.specs.Manifest.{manifest_bytes, most_rows};
-ghost use Rattle.gen_core.specs.Generated.{are_images, fit_sizes, generated, generated_images, image_bytes, image_parts, manifest_for, parts_from, row_of};
-ghost use Rattle.gen_core.specs.Law.{Installs};
+ghost use Rattle.gen_core.specs.Generated.{are_images, fit_sizes, generated, generated_images, image_bytes, image_parts, manifest_for, parts_from, manifest_row_of};
+ghost use Rattle.gen_core.specs.Law.{InstallsPackage};
 ghost use Rattle.manifest_core.specs.Shown.{row};
 
 use base_core::{Guid, ImageRow, NoMemory};
@@ -59,7 +59,7 @@ fn images(
 /// What the manifest says of these images.
 fn manifest_rows(alloc: Global, images: &[Part], number: u32) -> Result<Vec<Row>, AllocError>
     requires small { All (λ p. length p.bytes ≤ 1048576) images.now }
-    ensures { IfOk result (λ rows. map row rows.items ≡ map (row_of number) images.now) }
+    ensures { IfOk result (λ rows. map row rows.items ≡ map (manifest_row_of number) images.now) }
 {
     let mut rows = Vec::new(alloc);
     for part in images {
@@ -139,7 +139,7 @@ pub fn package(
     ensures made { IfOk result (λ file. file.items ≡ generated rows.now sizes.now number security) }
     ensures installs { IfOk result (λ file.
         let images = generated_images rows.now sizes.now number security in
-        Installs rows.now file.items images security) }
+        InstallsPackage rows.now file.items images security) }
 {
     let parts = Parts {
         serial: SERIAL,

@@ -2,7 +2,7 @@
 ghost use Rattle.std.specs.Prelude.{◌≡◌, ◌<◌, ◌≤◌, ◌==◌, if◌then◌else◌, IsTrue};
 ghost use Rattle.gen_core.specs.Draws.{draw, register_after};
 ghost use Rattle.gen_core.specs.Generated.{fit_sizes};
-ghost use Rattle.gen_core.specs.Rounds.{cut_of, draws_of, ending_of, round_of, security_of, sizes_of};
+ghost use Rattle.gen_core.specs.Rounds.{cut_of, draws_of, ending_of, round_of, security_in_round, sizes_in_round};
 ghost use Rattle.gen_core.specs.Setup.{soak_layout};
 
 use crate::register::Lcg;
@@ -45,7 +45,7 @@ pub struct Round {
 
 /// Draws the sizes in bytes of two images: at most 8192 and 16384, the slots of `soak_rows`.
 pub fn draw_sizes(register: &mut Lcg) -> [u32; 2]
-    ensures sizes { result ≡ sizes_of register.old }
+    ensures sizes { result ≡ sizes_in_round register.old }
     ensures moves_on { register.new ≡ register_after 2 register.old }
     ensures fit { IsTrue (fit_sizes soak_layout.rows result) }
 {
@@ -57,7 +57,7 @@ pub fn draw_sizes(register: &mut Lcg) -> [u32; 2]
 /// The security version of a round's package: at most 223.
 fn security(number: u32, lower: u32) -> u32
     requires { lower < 2 }
-    ensures value { result ≡ security_of number lower }
+    ensures value { result ≡ security_in_round number lower }
     ensures least { result ≤ 223 }
 {
     (1 + number / 8).min(223) - lower

@@ -13,7 +13,7 @@ use Rattle.gpt_core.specs.declared.table.TableCopy.{TableCopy}
 use Rattle.gpt_core.specs.declared.table.TableCopy.TheVariants.{Primary, Backup}
 use Rattle.gpt_core.specs.declared.table.WhichTable.TheVariants.{Same, RepairPrimary, RepairBackup}
 pub use Rattle.gpt_core.specs.Table.{copy_from, copy_to}
-use Rattle.gpt_core.specs.Table.{Table, blocks_of, header_at, other, entries_at, number_in, has_fields, is_roomy, is_header, entries_in, table_of, checked, copy_in, same_table, DecidesTable, number_of}
+use Rattle.gpt_core.specs.Table.{Table, blocks_of, header_at, other, entries_at, number_in, header_has_fields, is_roomy, is_header, table_entries_in, partition_table_of, checked_table, copy_in, same_table, DecidesTable, entry_number_of}
 
 -- ---- a valid copy
 
@@ -23,8 +23,8 @@ if_some false o v e = absurd (cc)
 
 pub record Valid (copy : TableCopy) (blocks : ℕ) (image : List ℕ) (t : Table) : Type 0 where
   pub header : IsTrue (is_header copy blocks (block (header_at copy blocks) image))
-  pub checks : num_at 4 (block (header_at copy blocks) image) 88 ≡ crc (entries_in copy blocks (block (header_at copy blocks) image) image)
-  pub is : table_of (block (header_at copy blocks) image) (entries_in copy blocks (block (header_at copy blocks) image) image) ≡ t
+  pub checks : num_at 4 (block (header_at copy blocks) image) 88 ≡ crc (table_entries_in copy blocks (block (header_at copy blocks) image) image)
+  pub is : partition_table_of (block (header_at copy blocks) image) (table_entries_in copy blocks (block (header_at copy blocks) image) image) ≡ t
 
 pub some_is : {X : Type 0} (a b : X) → Some a ≡ Some b → a ≡ b
 some_is a b e = cc
@@ -33,15 +33,15 @@ pub valid_parts : (copy : TableCopy) (blocks : ℕ) (image : List ℕ) (t : Tabl
 unfolding copy_in
 valid_parts copy blocks image t e =
     let header = block (header_at copy blocks) image in
-    let outer = if_some (is_header copy blocks header) (checked header (entries_in copy blocks header image)) t e in
-    let inner = if_some (num_at 4 header 88 == crc (entries_in copy blocks header image)) (Some (table_of header (entries_in copy blocks header image))) t outer.1 in
+    let outer = if_some (is_header copy blocks header) (checked_table header (table_entries_in copy blocks header image)) t e in
+    let inner = if_some (num_at 4 header 88 == crc (table_entries_in copy blocks header image)) (Some (partition_table_of header (table_entries_in copy blocks header image))) t outer.1 in
     record { header = outer.0; checks = eqb-true _ _ inner.0; is = some_is _ _ inner.1 }
 
 pub valid_from : (copy : TableCopy) (blocks : ℕ) (image : List ℕ) (t : Table) → Valid copy blocks image t → copy_in copy blocks image ≡ Some t
 unfolding copy_in
 valid_from copy blocks image t valid =
     let header = block (header_at copy blocks) image in
-    rw (valid.header, eq-eqb (num_at 4 header 88) (crc (entries_in copy blocks header image)) valid.checks) (ap Some valid.is)
+    rw (valid.header, eq-eqb (num_at 4 header 88) (crc (table_entries_in copy blocks header image)) valid.checks) (ap Some valid.is)
 
 -- a block without a seal is no header
 pub none_unsealed : (copy : TableCopy) (blocks : ℕ) (image : List ℕ) → (Sealed (block (header_at copy blocks) image) → ⊥) → copy_in copy blocks image ≡ None
@@ -49,8 +49,8 @@ unfolding copy_in is_sealed
 none_unsealed copy blocks image none = elim (cases_Bool (is_header copy blocks (block (header_at copy blocks) image))) [
   | inl yes_ ↦
       let header = block (header_at copy blocks) image in
-      let first = and_parts (has_table_seal header && has_fields copy blocks header) (is_roomy blocks (number_in header)) yes_ in
-      let second = and_parts (has_table_seal header) (has_fields copy blocks header) first.0 in
+      let first = and_parts (has_table_seal header && header_has_fields copy blocks header) (is_roomy blocks (number_in header)) yes_ in
+      let second = and_parts (has_table_seal header) (header_has_fields copy blocks header) first.0 in
       absurd (none (or_right (has_own_seal header || has_v1_seal header) (has_table_seal header) second.0))
   | inr no_ ↦ rw no_ refl
 ]
@@ -62,7 +62,7 @@ pub record Roomy (blocks number : ℕ) : Type 0 where
 
 pub valid_roomy : (copy : TableCopy) (blocks : ℕ) (header : List ℕ) → IsTrue (is_header copy blocks header) → Roomy blocks (number_in header)
 valid_roomy copy blocks header h =
-    let room = (and_parts (has_table_seal header && has_fields copy blocks header) (is_roomy blocks (number_in header)) h).1 in
+    let room = (and_parts (has_table_seal header && header_has_fields copy blocks header) (is_roomy blocks (number_in header)) h).1 in
     let outer = and_parts (nat_le 1 (number_in header) && nat_le (number_in header) 128) (nat_le (3 + 2 * blocks_of (number_in header)) blocks) room in
     let inner = and_parts (nat_le 1 (number_in header)) (nat_le (number_in header) 128) outer.0 in
     record { some = leb-true _ _ inner.0; few = leb-true _ _ inner.1; apart = leb-true _ _ outer.1 }
@@ -109,8 +109,8 @@ module _ (copy : TableCopy) (blocks : ℕ) (image : List ℕ) (t : Table) (size 
   roomy : Roomy blocks (number_in head)
   roomy = valid_roomy copy blocks head parts.header
 
-  length_entries : length (entries_in copy blocks head image) ≡ number_in head * 128
-  unfolding entries_in
+  length_entries : length (table_entries_in copy blocks head image) ≡ number_in head * 128
+  unfolding table_entries_in
   length_entries =
       let at = 4096 * entries_at copy blocks (blocks_of (number_in head)) in
       let width : at + number_in head * 128 - at ≡ number_in head * 128 = omega arith in
@@ -119,29 +119,29 @@ module _ (copy : TableCopy) (blocks : ℕ) (image : List ℕ) (t : Table) (size 
       (omega (arith, length-drop at image, size, (entries_within copy blocks (blocks_of (number_in head)) roomy.apart).1, within_image copy blocks (blocks_of (number_in head)) roomy.apart))
 
   -- the number in the header is that of the table
-  pub number_is : number_in head ≡ number_of t
+  pub number_is : number_in head ≡ entry_number_of t
   number_is =
       let count = ap (λ (u : Table). length u.entries) parts.is in
       let entries = length_entries in
       let total : length t.entries ≡ number_in head * 128 = sym count ∙ entries in
       rw total (omega arith)
 
-  pub entries_whole : length t.entries ≡ number_of t * 128
+  pub entries_whole : length t.entries ≡ entry_number_of t * 128
   entries_whole =
       let count = ap (λ (u : Table). length u.entries) parts.is in
       let entries = length_entries in
       let total : length t.entries ≡ number_in head * 128 = sym count ∙ entries in
       total ∙ ap (λ n. n * 128) number_is
 
-  pub table_roomy : Roomy blocks (number_of t)
+  pub table_roomy : Roomy blocks (entry_number_of t)
   table_roomy = subst (Roomy blocks) number_is roomy
 
   pub copy_stays : (image' : List ℕ) → length image' ≡ length image
-      → ((i : ℕ) → copy_from copy blocks (blocks_of (number_of t)) ≤ i → i < copy_to copy blocks (blocks_of (number_of t)) → get_or image i 0 ≡ get_or image' i 0)
+      → ((i : ℕ) → copy_from copy blocks (blocks_of (entry_number_of t)) ≤ i → i < copy_to copy blocks (blocks_of (entry_number_of t)) → get_or image i 0 ≡ get_or image' i 0)
       → copy_in copy blocks image' ≡ Some t
-  unfolding copy_in entries_in
+  unfolding copy_in table_entries_in
   copy_stays image' size' same =
-      let e = blocks_of (number_of t) in
+      let e = blocks_of (entry_number_of t) in
       let hw = header_within copy blocks e table_roomy.apart in
       let ew = entries_within copy blocks e table_roomy.apart in
       let inside = within_image copy blocks e table_roomy.apart in
@@ -155,8 +155,8 @@ module _ (copy : TableCopy) (blocks : ℕ) (image : List ℕ) (t : Table) (size 
       let entries : slice_range image at (at + number_in head * 128) ≡ slice_range image' at (at + number_in head * 128) =
       range-same at (number_in head * 128) image image' (omega (arith, at_is, short, ew.1, inside, size)) size'
       (λ i low high. same i (omega (arith, low, at_is, ew.0)) (omega (arith, high, at_is, short, ew.1))) in
-      ap (λ (h : List ℕ). if is_header copy blocks h then checked h (entries_in copy blocks h image') else None) header
-      ∙ ap (λ (es : List ℕ). if is_header copy blocks head then checked head es else None) (sym entries)
+      ap (λ (h : List ℕ). if is_header copy blocks h then checked_table h (table_entries_in copy blocks h image') else None) header
+      ∙ ap (λ (es : List ℕ). if is_header copy blocks head then checked_table head es else None) (sym entries)
       ∙ valid
 
 -- ---- what decides

@@ -7,7 +7,7 @@ use Rattle.base_core.specs.Bytes.{num_at, part}
 use Rattle.base_core.specs.Crc.{crc}
 use Rattle.base_core.specs.Seal.{has_table_seal}
 use Rattle.gpt_core.specs.declared.table.TableCopy.{TableCopy}
-use Rattle.gpt_core.specs.Table.{Table, IsCopy, blocks_of, number_in, header_at, other, entries_at, has_start, has_places, has_fields, is_roomy, is_header, entries_in, copy_in}
+use Rattle.gpt_core.specs.Table.{Table, IsCopy, blocks_of, number_in, header_at, other, entries_at, has_start, has_places, header_has_fields, is_roomy, is_header, table_entries_in, copy_in}
 use Rattle.gpt_core.proofs.Copies.{valid_parts, valid_from, valid_roomy}
 
 table_same : (d d' : List ℕ) (f f' l l' : ℕ) (e e' : List ℕ) → d ≡ d' → f ≡ f' → l ≡ l' → e ≡ e'
@@ -15,12 +15,12 @@ table_same : (d d' : List ℕ) (f f' l l' : ℕ) (e e' : List ℕ) → d ≡ d' 
 table_same d d' f f' l l' e e' a b c h = rw (a, b, c, h) refl
 
 pub says : (copy : TableCopy) (blocks : ℕ) (image : List ℕ) (t : Table) → copy_in copy blocks image ≡ Some t → IsCopy copy blocks image t
-unfolding has_fields
+unfolding header_has_fields
 says copy blocks image t is =
     let header = block (header_at copy blocks) image in
     let valid = valid_parts copy blocks image t is in
-    let outer = and_parts (has_table_seal header && has_fields copy blocks header) (is_roomy blocks (number_in header)) valid.header in
-    let sealed = and_parts (has_table_seal header) (has_fields copy blocks header) outer.0 in
+    let outer = and_parts (has_table_seal header && header_has_fields copy blocks header) (is_roomy blocks (number_in header)) valid.header in
+    let sealed = and_parts (has_table_seal header) (header_has_fields copy blocks header) outer.0 in
     let fields = and_parts (has_start header && has_places copy blocks header) (num_at 4 header 84 == 128) sealed.1 in
     let both = and_parts (has_start header) (has_places copy blocks header) fields.0 in
     let start = and_parts ((num_at 4 header 8 == 65536) && (num_at 4 header 12 == 92)) (num_at 4 header 20 == 0) both.0 in
@@ -49,14 +49,14 @@ says copy blocks image t is =
     }
 
 pub said : (copy : TableCopy) (blocks : ℕ) (image : List ℕ) (t : Table) → IsCopy copy blocks image t → copy_in copy blocks image ≡ Some t
-unfolding has_fields
+unfolding header_has_fields
 said copy blocks image t c =
     let start = and_from _ _ (and_from _ _ (eq-eqb _ _ c.revision) (eq-eqb _ _ c.size)) (eq-eqb _ _ c.zero_field) in
     let places = and_from _ _ (and_from _ _ (eq-eqb _ _ c.own_place) (eq-eqb _ _ c.other_place)) (eq-eqb _ _ c.entry_place) in
     let fields = and_from _ _ (and_from _ _ start places) (eq-eqb _ _ c.entry_size) in
     let roomy = and_from _ _ (and_from _ _ (le-leb _ _ c.number.0) (le-leb _ _ c.number.1)) (le-leb _ _ c.apart) in
     let header : IsTrue (is_header copy blocks c.header) = and_from _ _ (and_from _ _ c.sealed fields) roomy in
-    let same : entries_in copy blocks (block (header_at copy blocks) image) image ≡ t.entries = ap (λ (h : List ℕ). entries_in copy blocks h image) c.stands ∙ c.entries in
+    let same : table_entries_in copy blocks (block (header_at copy blocks) image) image ≡ t.entries = ap (λ (h : List ℕ). table_entries_in copy blocks h image) c.stands ∙ c.entries in
     valid_from copy blocks image t (record {
       header = subst (λ (h : List ℕ). IsTrue (is_header copy blocks h)) (sym c.stands) header;
       checks = ap (λ (h : List ℕ). num_at 4 h 88) c.stands ∙ c.checks ∙ ap crc (sym same);

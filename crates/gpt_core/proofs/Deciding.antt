@@ -11,8 +11,8 @@ use Rattle.gpt_core.specs.declared.table.TableCopy.{TableCopy}
 use Rattle.gpt_core.specs.declared.table.TableCopy.TheVariants.{Primary, Backup}
 use Rattle.gpt_core.specs.declared.table.WhichTable.{WhichTable}
 use Rattle.gpt_core.specs.declared.table.WhichTable.TheVariants.{Same, RepairPrimary, RepairBackup}
-use Rattle.gpt_core.specs.Table.{Table, FitsTable, Finds, blocks_of, number_of, header_at, entries_at, copy_in, copy_from, copy_to, same_table, deciding, table_in_image, DecidesTable}
-use Rattle.gpt_core.specs.Repair.{Mends, HeadersGuarded, Ready, Steps, IsMended}
+use Rattle.gpt_core.specs.Table.{Table, FitsTable, TableFinds, blocks_of, entry_number_of, header_at, entries_at, copy_in, copy_from, copy_to, same_table, deciding_table, table_in_image, DecidesTable}
+use Rattle.gpt_core.specs.Repair.{MendsTable, HeadersGuarded, Ready, RepairSteps, IsMended}
 use Rattle.gpt_core.specs.Writes.{Spans}
 use Rattle.gpt_core.proofs.Copies.{some_is, same_table_refl, header_within, entries_within}
 use Rattle.gpt_core.proofs.Mending.{both_say}
@@ -33,20 +33,20 @@ same_is_table t u h =
 pair_is : (a b : Table) (v w : WhichTable) → ◌≡◌ {A = Option (Table × WhichTable)} (Some (a, v)) (Some (b, w)) → (a ≡ b) × (v ≡ w)
 pair_is a b v w is = let both = some_is {X = Table × WhichTable} (a, v) (b, w) is in (ap (λ (p : Table × WhichTable). p.0) both, ap (λ (p : Table × WhichTable). p.1) both)
 
-pub finds_from : (primary backup : Option Table) (t : Table) (which : WhichTable) → deciding primary backup ≡ Some (t, which) → Finds which t primary backup
+pub finds_from : (primary backup : Option Table) (t : Table) (which : WhichTable) → deciding_table primary backup ≡ Some (t, which) → TableFinds which t primary backup
 finds_from (Some a) (Some u) t which is = go (same_table a u) refl is
   where
-    go : (b : Bool) → same_table a u ≡ b → ◌≡◌ {A = Option (Table × WhichTable)} (Some (a, if b then Same else RepairBackup)) (Some (t, which)) → Finds which t (Some a) (Some u)
-    go true e same = let p = pair_is a t Same which same in subst (λ (k : WhichTable). Finds k t (Some a) (Some u)) p.1 (ap Some p.0, ap Some (sym (same_is_table a u e) ∙ p.0))
+    go : (b : Bool) → same_table a u ≡ b → ◌≡◌ {A = Option (Table × WhichTable)} (Some (a, if b then Same else RepairBackup)) (Some (t, which)) → TableFinds which t (Some a) (Some u)
+    go true e same = let p = pair_is a t Same which same in subst (λ (k : WhichTable). TableFinds k t (Some a) (Some u)) p.1 (ap Some p.0, ap Some (sym (same_is_table a u e) ∙ p.0))
     go false e same =
         let p = pair_is a t RepairBackup which same in
-        subst (λ (k : WhichTable). Finds k t (Some a) (Some u)) p.1
+        subst (λ (k : WhichTable). TableFinds k t (Some a) (Some u)) p.1
         (ap Some p.0, λ says. let one : u ≡ a = some_is u t says ∙ sym p.0 in false≢true (sym e ∙ subst (λ (v : Table). IsTrue (same_table a v)) (sym one) (same_table_refl a)))
-finds_from (Some a) None t which is = let p = pair_is a t RepairBackup which is in subst (λ (k : WhichTable). Finds k t (Some a) None) p.1 (ap Some p.0, λ says. absurd (cc))
-finds_from None (Some u) t which is = let p = pair_is u t RepairPrimary which is in subst (λ (k : WhichTable). Finds k t None (Some u)) p.1 (refl, ap Some p.0)
+finds_from (Some a) None t which is = let p = pair_is a t RepairBackup which is in subst (λ (k : WhichTable). TableFinds k t (Some a) None) p.1 (ap Some p.0, λ says. absurd (cc))
+finds_from None (Some u) t which is = let p = pair_is u t RepairPrimary which is in subst (λ (k : WhichTable). TableFinds k t None (Some u)) p.1 (refl, ap Some p.0)
 finds_from None None t which is = absurd (cc)
 
-pub mends_from : {T : Type 0} (result : Result T FlashStop) (blocks : ℕ) (t : Table) (u : Told) → Steps (IsMended blocks t) result blocks t u → Mends result blocks t u
+pub mends_from : {T : Type 0} (result : Result T FlashStop) (blocks : ℕ) (t : Table) (u : Told) → RepairSteps (IsMended blocks t) result blocks t u → MendsTable result blocks t u
 mends_from result blocks t u steps = record {
   stays = steps.stays;
   both = IfOk-weaker result _ _ (λ x done. done.0) steps.ok;
@@ -54,7 +54,7 @@ mends_from result blocks t u steps = record {
 }
 
 module _ (blocks : ℕ) (t : Table) (s : Told) (size : length s.now ≡ 4096 * blocks) (guarded : HeadersGuarded blocks s) where
-  pub mends_same : table_in_image blocks s.now ≡ Some (t, Same) → {T : Type 0} (x : T) → Mends {T = T} (Ok x) blocks t s
+  pub mends_same : table_in_image blocks s.now ≡ Some (t, Same) → {T : Type 0} (x : T) → MendsTable {T = T} (Ok x) blocks t s
   mends_same is x =
       let finds = finds_from (copy_in Primary blocks s.now) (copy_in Backup blocks s.now) t Same is in
       record {
@@ -74,11 +74,11 @@ module _ (blocks : ℕ) (t : Table) (s : Told) (size : length s.now ≡ 4096 * b
       record { nothing = guarded.nothing; size = size; guarded = guarded.backup; says = finds.0; decides = (RepairBackup, is) }
 
 -- the blocks that a repair writes lie in the copy
-pub inside_copy : (w : TableCopy) (blocks : ℕ) (t : Table) (header first n : ℕ) → FitsTable blocks t → header ≡ header_at w blocks → first ≡ entries_at w blocks (blocks_of (number_of t)) → n ≡ length t.entries
-    → Spans (copy_from w blocks (blocks_of (number_of t))) (copy_to w blocks (blocks_of (number_of t))) header first n
+pub inside_copy : (w : TableCopy) (blocks : ℕ) (t : Table) (header first n : ℕ) → FitsTable blocks t → header ≡ header_at w blocks → first ≡ entries_at w blocks (blocks_of (entry_number_of t)) → n ≡ length t.entries
+    → Spans (copy_from w blocks (blocks_of (entry_number_of t))) (copy_to w blocks (blocks_of (entry_number_of t))) header first n
 inside_copy w blocks t header first n fits h f is =
-    let e = blocks_of (number_of t) in
+    let e = blocks_of (entry_number_of t) in
     let hw = header_within w blocks e fits.apart in
     let ew = entries_within w blocks e fits.apart in
-    let whole : n ≡ number_of t * 128 = is ∙ fits.whole in
+    let whole : n ≡ entry_number_of t * 128 = is ∙ fits.whole in
     rw (h, f, whole) (record { header_low = hw.0; header_high = hw.1; first_low = ew.0; first_high = ew.1 })

@@ -9,7 +9,7 @@ use Rattle.gpt_core.specs.declared.table.WhichTable.TheVariants.{Same, RepairPri
 use Rattle.gpt_core.specs.Places.{byte_behind, through}
 use Rattle.gpt_core.specs.PlacesOf.{places_of}
 use Rattle.gpt_core.specs.Repair.{StaysBeside}
-use Rattle.gpt_core.specs.Table.{Table, blocks_of, number_of}
+use Rattle.gpt_core.specs.Table.{Table, blocks_of, entry_number_of}
 use Rattle.gpt_core.specs.View.{view_of}
 use Rattle.flash_core.proofs.OneCall.{sure_settled}
 use Rattle.gpt_core.proofs.Stepping.{image_is_now}
@@ -81,17 +81,17 @@ module _ (p : Places) (s u : Told) (low high : ℕ) (keeps : Keeps low high s u)
 pub repair-keeps : (blocks : ℕ) (t : Table) (which : WhichTable) (p : Places) (s u : Told) (image : List ℕ) → places_of blocks t ≡ Ok p → NothingDirty s → StaysBeside blocks t which s u → May u image → through p image ≡ through p s.now
 repair-keeps blocks t Same p s u image gives was beside may = ap (through p) (image_is_now s image was (subst (λ (v : Told). May v image) beside may))
 repair-keeps blocks t RepairPrimary p s u image gives was beside may =
-    image-kept p s u 4096 (4096 * (2 + blocks_of (number_of t))) beside was image may
-    (λ i below. inr (between blocks (blocks_of (number_of t)) p (places_within blocks t p gives) i below).low)
+    image-kept p s u 4096 (4096 * (2 + blocks_of (entry_number_of t))) beside was image may
+    (λ i below. inr (between blocks (blocks_of (entry_number_of t)) p (places_within blocks t p gives) i below).low)
 repair-keeps blocks t RepairBackup p s u image gives was beside may =
-    image-kept p s u (4096 * (blocks - 1 - blocks_of (number_of t))) (4096 * blocks) beside was image may
-    (λ i below. inl (between blocks (blocks_of (number_of t)) p (places_within blocks t p gives) i below).high)
+    image-kept p s u (4096 * (blocks - 1 - blocks_of (entry_number_of t))) (4096 * blocks) beside was image may
+    (λ i below. inl (between blocks (blocks_of (entry_number_of t)) p (places_within blocks t p gives) i below).high)
 
 pub repair-leaves : (blocks : ℕ) (t : Table) (which : WhichTable) (p : Places) (s u : Told) → places_of blocks t ≡ Ok p → NothingDirty s → NothingDirty u → StaysBeside blocks t which s u → view_of p u ≡ view_of p s
 repair-leaves blocks t Same p s u gives was clean beside = ap (view_of p) beside
 repair-leaves blocks t RepairPrimary p s u gives was clean beside =
-    view-kept p s u 4096 (4096 * (2 + blocks_of (number_of t))) beside was clean
-    (λ i below. inr (between blocks (blocks_of (number_of t)) p (places_within blocks t p gives) i below).low)
+    view-kept p s u 4096 (4096 * (2 + blocks_of (entry_number_of t))) beside was clean
+    (λ i below. inr (between blocks (blocks_of (entry_number_of t)) p (places_within blocks t p gives) i below).low)
 repair-leaves blocks t RepairBackup p s u gives was clean beside =
-    view-kept p s u (4096 * (blocks - 1 - blocks_of (number_of t))) (4096 * blocks) beside was clean
-    (λ i below. inl (between blocks (blocks_of (number_of t)) p (places_within blocks t p gives) i below).high)
+    view-kept p s u (4096 * (blocks - 1 - blocks_of (entry_number_of t))) (4096 * blocks) beside was clean
+    (λ i below. inl (between blocks (blocks_of (entry_number_of t)) p (places_within blocks t p gives) i below).high)

@@ -10,7 +10,7 @@ use Rattle.flash_core.specs.May.{May, Keeps}
 use Rattle.flash_core.proofs.Images.{length-overwritten}
 use Rattle.gpt_core.specs.declared.table.TableCopy.{TableCopy}
 use Rattle.gpt_core.specs.declared.table.TableCopy.TheVariants.{Primary, Backup}
-use Rattle.gpt_core.specs.Table.{Table, blocks_of, header_at, other, entries_at, copy_in, DecidesTable, BothSay, number_of}
+use Rattle.gpt_core.specs.Table.{Table, blocks_of, header_at, other, entries_at, copy_in, DecidesTable, BothSay, entry_number_of}
 use Rattle.flash_core.proofs.OneCall.{IsLeft, one_call_left, one_call_outside, sure_settled}
 use Rattle.gpt_core.proofs.Copies.{none_unsealed, copy_from, copy_to, header_within, entries_within, within_image, copies_apart, copy_stays, table_roomy, primary_decides, backup_decides}
 
@@ -40,35 +40,35 @@ call_done = Ok tt
 -- the copy w is written; the other one says the table
 module _ (w : TableCopy) (blocks : ℕ) (t : Table) where
   abbrev pub low : ℕ
-  low = copy_from w blocks (blocks_of (number_of t))
+  low = copy_from w blocks (blocks_of (entry_number_of t))
 
   abbrev pub high : ℕ
-  high = copy_to w blocks (blocks_of (number_of t))
+  high = copy_to w blocks (blocks_of (entry_number_of t))
 
   abbrev pub head_at : ℕ
   head_at = header_at w blocks
 
   module _ (image : List ℕ) (size : length image ≡ 4096 * blocks) (says : copy_in (other w) blocks image ≡ Some t) where
-    room : 3 + 2 * blocks_of (number_of t) ≤ blocks
+    room : 3 + 2 * blocks_of (entry_number_of t) ≤ blocks
     room = (table_roomy (other w) blocks image t size says).apart
 
     -- what changes nothing outside the copy w leaves the other one
     pub other_stays : (image' : List ℕ) → length image' ≡ length image → ((i : ℕ) → (i < low) ⊎ (high ≤ i) → get_or image' i 0 ≡ get_or image i 0) → copy_in (other w) blocks image' ≡ Some t
     other_stays image' size' outside =
         copy_stays (other w) blocks image t size says image' size'
-        (λ i above below. sym (outside i (apart i above below (copies_apart w blocks (blocks_of (number_of t)) room))))
+        (λ i above below. sym (outside i (apart i above below (copies_apart w blocks (blocks_of (entry_number_of t)) room))))
       where
-        apart : (i : ℕ) → copy_from (other w) blocks (blocks_of (number_of t)) ≤ i → i < copy_to (other w) blocks (blocks_of (number_of t))
-            → (high ≤ copy_from (other w) blocks (blocks_of (number_of t))) ⊎ (copy_to (other w) blocks (blocks_of (number_of t)) ≤ low) → (i < low) ⊎ (high ≤ i)
+        apart : (i : ℕ) → copy_from (other w) blocks (blocks_of (entry_number_of t)) ≤ i → i < copy_to (other w) blocks (blocks_of (entry_number_of t))
+            → (high ≤ copy_from (other w) blocks (blocks_of (entry_number_of t))) ⊎ (copy_to (other w) blocks (blocks_of (entry_number_of t)) ≤ low) → (i < low) ⊎ (high ≤ i)
         apart i above below (inl l) = inr (omega (arith, l, above))
         apart i above below (inr r) = inl (omega (arith, r, below))
 
     pub head_inside : 4096 * head_at + 4096 ≤ length image
-    head_inside = omega (arith, (header_within w blocks (blocks_of (number_of t)) room).1, within_image w blocks (blocks_of (number_of t)) room, size)
+    head_inside = omega (arith, (header_within w blocks (blocks_of (entry_number_of t)) room).1, within_image w blocks (blocks_of (entry_number_of t)) room, size)
 
     pub head_out : (i : ℕ) → (i < low) ⊎ (high ≤ i) → (i < 4096 * head_at) ⊎ (4096 * head_at + 4096 ≤ i)
-    head_out i (inl l) = inl (omega (arith, l, (header_within w blocks (blocks_of (number_of t)) room).0))
-    head_out i (inr r) = inr (omega (arith, r, (header_within w blocks (blocks_of (number_of t)) room).1))
+    head_out i (inl l) = inl (omega (arith, l, (header_within w blocks (blocks_of (entry_number_of t)) room).0))
+    head_out i (inr r) = inr (omega (arith, r, (header_within w blocks (blocks_of (entry_number_of t)) room).1))
 
   -- a blank header's block is no copy
   pub none_blank : (image : List ℕ) → block head_at image ≡ blank 4096 → copy_in w blocks image ≡ None
@@ -126,14 +126,14 @@ module _ (w : TableCopy) (blocks : ℕ) (t : Table) where
 
   -- THE LAW of the entries: while the header's block is blank, whatever is done to the entries, the table of the other copy decides.
   pub entries_step : (s u : Told) (image : List ℕ) → NothingDirty s → length s.now ≡ 4096 * blocks → copy_in (other w) blocks s.now ≡ Some t → block head_at s.now ≡ blank 4096
-      → Keeps (4096 * entries_at w blocks (blocks_of (number_of t))) (4096 * entries_at w blocks (blocks_of (number_of t)) + 4096 * blocks_of (number_of t)) s u → May u image → DecidesTable blocks t image
+      → Keeps (4096 * entries_at w blocks (blocks_of (entry_number_of t))) (4096 * entries_at w blocks (blocks_of (entry_number_of t)) + 4096 * blocks_of (entry_number_of t)) s u → May u image → DecidesTable blocks t image
   entries_step s u image nothing size says empty keeps may =
       decides_without w blocks image t
       (none_blank image (same_block head_at image s.now (omega (arith, head_inside s.now size says, same_size)) (sym same_size) (λ i a b. there i (head_apart w i a b)) ∙ empty))
       (other_stays s.now size says image same_size (λ i out. there i (wide i out)))
     where
       e : ℕ
-      e = blocks_of (number_of t)
+      e = blocks_of (entry_number_of t)
 
       apart : 3 + 2 * e ≤ blocks
       apart = room s.now size says

@@ -12,7 +12,7 @@ use Rattle.base_core.proofs.Seals.{table_from}
 use Rattle.flash_core.proofs.Images.{block-overwritten_front, length-overwritten, overwritten_below, overwritten_above}
 use Rattle.gpt_core.specs.declared.table.TableCopy.{TableCopy}
 use Rattle.gpt_core.specs.declared.table.TableCopy.TheVariants.{Primary, Backup}
-use Rattle.gpt_core.specs.Table.{Table, FitsTable, blocks_of, number_of, number_in, header_at, other, entries_at, has_start, has_places, has_fields, is_roomy, is_header, entries_in, table_of, header_lead, header_places, header_back, header_with, header_bytes}
+use Rattle.gpt_core.specs.Table.{Table, FitsTable, blocks_of, entry_number_of, number_in, header_at, other, entries_at, has_start, has_places, header_has_fields, is_roomy, is_header, table_entries_in, partition_table_of, header_lead, header_places, header_back, header_with, header_bytes}
 use Rattle.gpt_core.specs.Repair.{Spells}
 use Rattle.gpt_core.proofs.Copies.{valid_from, range-same, header_within, entries_within, within_image}
 use Rattle.base_core.proofs.Spelled.{num-le4, num-le8, crc-below}
@@ -119,13 +119,13 @@ module _ (w : TableCopy) (blocks : ℕ) (t : Table) (sum : ℕ) (z : List ℕ) (
   unfolding header_lead header_places
   last-is low = num-le8 t.last low
 
-  pub place-is : entries_at w blocks (blocks_of (number_of t)) < 18446744073709551616 → num_at 8 head 72 ≡ entries_at w blocks (blocks_of (number_of t))
+  pub place-is : entries_at w blocks (blocks_of (entry_number_of t)) < 18446744073709551616 → num_at 8 head 72 ≡ entries_at w blocks (blocks_of (entry_number_of t))
   unfolding header_back
-  place-is low = behind 0 8 ∙ num-le8 (entries_at w blocks (blocks_of (number_of t))) low
+  place-is low = behind 0 8 ∙ num-le8 (entries_at w blocks (blocks_of (entry_number_of t))) low
 
-  pub number-is : number_of t < 4294967296 → num_at 4 head 80 ≡ number_of t
+  pub number-is : entry_number_of t < 4294967296 → num_at 4 head 80 ≡ entry_number_of t
   unfolding header_back
-  number-is low = behind 8 4 ∙ num-le4 (number_of t) low
+  number-is low = behind 8 4 ∙ num-le4 (entry_number_of t) low
 
   pub entry-is : num_at 4 head 84 ≡ 128
   unfolding header_back
@@ -167,7 +167,7 @@ module _ (w : TableCopy) (blocks : ℕ) (t : Table) (is : FitsTable blocks t) (f
     checks = sum-is w blocks t sum zeros disk (crc-below (header_with w blocks t 0)) ∙ ap crc (sym (summed w blocks t sum zeros disk));
   })
 
-  number : number_in bytes ≡ number_of t
+  number : number_in bytes ≡ entry_number_of t
   number = number-is w blocks t sum zeros disk (omega (arith, is.number.1))
 
   low-header : (c : TableCopy) → header_at c blocks < 18446744073709551616
@@ -179,7 +179,7 @@ module _ (w : TableCopy) (blocks : ℕ) (t : Table) (is : FitsTable blocks t) (f
   low-entries Backup e = omega (arith, few)
 
   place : num_at 8 bytes 72 ≡ entries_at w blocks (blocks_of (number_in bytes))
-  place = place-is w blocks t sum zeros disk (low-entries w (blocks_of (number_of t))) ∙ ap (λ (n : ℕ). entries_at w blocks (blocks_of n)) (sym number)
+  place = place-is w blocks t sum zeros disk (low-entries w (blocks_of (entry_number_of t))) ∙ ap (λ (n : ℕ). entries_at w blocks (blocks_of n)) (sym number)
 
   start : IsTrue (has_start bytes)
   start =
@@ -191,23 +191,23 @@ module _ (w : TableCopy) (blocks : ℕ) (t : Table) (is : FitsTable blocks t) (f
       and_from _ _ (and_from _ _ (eq-eqb _ _ (own-is w blocks t sum zeros disk (low-header w))) (eq-eqb _ _ (other-is w blocks t sum zeros disk (low-header (other w)))))
       (eq-eqb _ _ place)
 
-  fields : IsTrue (has_fields w blocks bytes)
-  unfolding has_fields
+  fields : IsTrue (header_has_fields w blocks bytes)
+  unfolding header_has_fields
   fields =
       and_from _ _ (and_from _ _ start places) (eq-eqb _ _ (entry-is w blocks t sum zeros disk))
 
   roomy : IsTrue (is_roomy blocks (number_in bytes))
   roomy = subst (λ (n : ℕ). IsTrue (is_roomy blocks n)) (sym number)
-      (and_from _ _ (and_from _ _ (le-leb 1 (number_of t) is.number.0) (le-leb (number_of t) 128 is.number.1)) (le-leb (3 + 2 * blocks_of (number_of t)) blocks is.apart))
+      (and_from _ _ (and_from _ _ (le-leb 1 (entry_number_of t) is.number.0) (le-leb (entry_number_of t) 128 is.number.1)) (le-leb (3 + 2 * blocks_of (entry_number_of t)) blocks is.apart))
 
   header : IsTrue (is_header w blocks bytes)
   header = and_from _ _ (and_from _ _ seal fields) roomy
 
   -- THE LAW of the header: over an erased block, in take-front of the entries, it makes the copy say the table.
   pub spells : t.first < 18446744073709551616 → t.last < 18446744073709551616 → Spells w blocks t bytes
-  unfolding entries_in
+  unfolding table_entries_in
   spells low_first low_last image size empty stands =
-      let e = blocks_of (number_of t) in
+      let e = blocks_of (entry_number_of t) in
       let hw = header_within w blocks e is.apart in
       let ew = entries_within w blocks e is.apart in
       let inside = within_image w blocks e is.apart in
@@ -220,21 +220,21 @@ module _ (w : TableCopy) (blocks : ℕ) (t : Table) (is : FitsTable blocks t) (f
       ∙ append-nil bytes in
       let size' : length image' ≡ length image = length-overwritten at bytes image (omega (arith, length-bytes, long)) in
       let from = 4096 * entries_at w blocks e in
-      let count : length t.entries ≡ number_of t * 128 = is.whole in
+      let count : length t.entries ≡ entry_number_of t * 128 = is.whole in
       let entries : part image' from (from + length t.entries) ≡ t.entries =
       sym (range-same from (length t.entries) image image' (omega (arith, count, ew.1, inside, size)) size'
       (λ i low high. sym (outside image long i (clear w i low (omega (arith, high, count)))))) ∙ stands in
-      let same : entries_in w blocks bytes image' ≡ t.entries =
+      let same : table_entries_in w blocks bytes image' ≡ t.entries =
       ap (λ (n : ℕ). part image' (4096 * entries_at w blocks (blocks_of n)) (4096 * entries_at w blocks (blocks_of n) + n * 128)) number
       ∙ ap (λ (n : ℕ). part image' from (from + n)) (sym count) ∙ entries in
-      let same_in : entries_in w blocks (block (header_at w blocks) image') image' ≡ t.entries = ap (λ (h : List ℕ). entries_in w blocks h image') block_is ∙ same in
+      let same_in : table_entries_in w blocks (block (header_at w blocks) image') image' ≡ t.entries = ap (λ (h : List ℕ). table_entries_in w blocks h image') block_is ∙ same in
       valid_from w blocks image' t (record {
         header = subst (λ (h : List ℕ). IsTrue (is_header w blocks h)) (sym block_is) header;
         checks = ap (λ (h : List ℕ). num_at 4 h 88) block_is ∙ check-is w blocks t sum zeros disk ∙ ap crc (sym same_in);
-        is = ap (table_of (block (header_at w blocks) image')) same_in ∙ ap (λ (h : List ℕ). table_of h t.entries) block_is ∙ table_is;
+        is = ap (partition_table_of (block (header_at w blocks) image')) same_in ∙ ap (λ (h : List ℕ). partition_table_of h t.entries) block_is ∙ table_is;
       })
     where
-      table_is : table_of bytes t.entries ≡ t
+      table_is : partition_table_of bytes t.entries ≡ t
       table_is =
           let d = disk-is w blocks t sum zeros disk in
           let f = first-is w blocks t sum zeros disk low_first in
@@ -245,7 +245,7 @@ module _ (w : TableCopy) (blocks : ℕ) (t : Table) (is : FitsTable blocks t) (f
       outside image long i (inl l) = overwritten_below (4096 * header_at w blocks) bytes image (omega (arith, length-bytes, long)) i 0 l
       outside image long i (inr r) = overwritten_above (4096 * header_at w blocks) bytes image (omega (arith, length-bytes, long)) i 0 (omega (arith, length-bytes, r))
 
-      clear : (c : TableCopy) (i : ℕ) → 4096 * entries_at c blocks (blocks_of (number_of t)) ≤ i → i < 4096 * entries_at c blocks (blocks_of (number_of t)) + number_of t * 128
+      clear : (c : TableCopy) (i : ℕ) → 4096 * entries_at c blocks (blocks_of (entry_number_of t)) ≤ i → i < 4096 * entries_at c blocks (blocks_of (entry_number_of t)) + entry_number_of t * 128
           → (i < 4096 * header_at c blocks) ⊎ (4096 * header_at c blocks + 4096 ≤ i)
       clear Primary i low high = inr (omega (arith, low))
       clear Backup i low high = inl (omega (arith, low, high, is.apart))

@@ -14,8 +14,8 @@ use Rattle.flash_core.proofs.Images.{block-overwritten_front, length-overwritten
 use Rattle.gpt_core.specs.declared.table.TableCopy.{TableCopy}
 use Rattle.gpt_core.specs.declared.table.TableCopy.TheVariants.{Primary, Backup}
 use Rattle.gpt_core.proofs.Copies.{table_roomy, entries_whole, entries_within}
-use Rattle.gpt_core.specs.Table.{Table, blocks_of, number_of, header_at, entries_at, other, copy_in, DecidesTable}
-use Rattle.gpt_core.specs.Repair.{Ready, Cleared, Filled, Steps, IsMended}
+use Rattle.gpt_core.specs.Table.{Table, blocks_of, entry_number_of, header_at, entries_at, other, copy_in, DecidesTable}
+use Rattle.gpt_core.specs.Repair.{Ready, Cleared, Filled, RepairSteps, IsMended}
 use Rattle.flash_core.proofs.OneCall.{sure_settled}
 use Rattle.gpt_core.proofs.Mending.{decides_with, decides_without, both_say, low, high, head_at, other_stays, head_inside, none_blank, header_stopped, header_done, entries_step}
 
@@ -76,13 +76,13 @@ module _ (w : TableCopy) (blocks : ℕ) (t : Table) where
     decides_erased : DecidesTable blocks t (overwritten (4096 * header_at w blocks) (blank 4096) s.now)
     decides_erased = decides_without w blocks _ t (none_blank w blocks t _ erased) (says_done s ready (blank 4096) blank_short)
 
-    pub clear_stopped : {T : Type 0} (result : Result T FlashStop) → IsErr result → Steps (Cleared w blocks t) result blocks t (halt (4096 * header_at w blocks) (blank 4096) s)
+    pub clear_stopped : {T : Type 0} (result : Result T FlashStop) → IsErr result → RepairSteps (Cleared w blocks t) result blocks t (halt (4096 * header_at w blocks) (blank 4096) s)
     clear_stopped result err = record {
       stays = header_stopped w blocks t s (blank 4096) ready.nothing ready.size blank_short ready.guarded ready.says ready.decides (inl erased);
       ok = IfOk-from_err result _ err;
     }
 
-    pub clear_unsettled : {T : Type 0} (result : Result T FlashStop) → IsErr result → Steps (Cleared w blocks t) result blocks t (put (4096 * header_at w blocks) (blank 4096) s)
+    pub clear_unsettled : {T : Type 0} (result : Result T FlashStop) → IsErr result → RepairSteps (Cleared w blocks t) result blocks t (put (4096 * header_at w blocks) (blank 4096) s)
     clear_unsettled result err = record {
       stays = header_done w blocks t s (blank 4096) ready.nothing ready.size blank_short ready.guarded ready.says ready.decides (inl erased);
       ok = IfOk-from_err result _ err;
@@ -94,22 +94,22 @@ module _ (w : TableCopy) (blocks : ℕ) (t : Table) where
       empty = ap (block (header_at w blocks)) (now_is s ready (blank 4096) blank_short) ∙ erased;
     }
 
-    pub cleared : {T : Type 0} (x : T) → Steps {T = T} (Cleared w blocks t) (Ok x) blocks t (settle (put (4096 * header_at w blocks) (blank 4096) s))
+    pub cleared : {T : Type 0} (x : T) → RepairSteps {T = T} (Cleared w blocks t) (Ok x) blocks t (settle (put (4096 * header_at w blocks) (blank 4096) s))
     cleared x = record {
       stays = λ image may. subst (DecidesTable blocks t) (sym (image_is_now _ image (settle-fresh (put (4096 * header_at w blocks) (blank 4096) s)) may)) is_cleared.ready.decides;
       ok = is_cleared;
     }
 
     -- all exits of the erase and its barrier
-    pub clears : {T : Type 0} (result : Result T FlashStop) → Steps (Cleared w blocks t) result blocks t (settled result (put (4096 * header_at w blocks) (blank 4096) s))
+    pub clears : {T : Type 0} (result : Result T FlashStop) → RepairSteps (Cleared w blocks t) result blocks t (settled result (put (4096 * header_at w blocks) (blank 4096) s))
     clears (Ok x) = cleared x
     clears (Err e) = clear_unsettled (Err e) refl
 
   -- ---- the entries are written, whatever calls that takes
 
   module _ (s : Told) (cleared : Cleared w blocks t s) (v : Told)
-      (keeps : Keeps (4096 * entries_at w blocks (blocks_of (number_of t))) (4096 * entries_at w blocks (blocks_of (number_of t)) + 4096 * blocks_of (number_of t)) s v) where
-    pub fill_stopped : {T : Type 0} (result : Result T FlashStop) → IsErr result → Steps (Filled w blocks t) result blocks t v
+      (keeps : Keeps (4096 * entries_at w blocks (blocks_of (entry_number_of t))) (4096 * entries_at w blocks (blocks_of (entry_number_of t)) + 4096 * blocks_of (entry_number_of t)) s v) where
+    pub fill_stopped : {T : Type 0} (result : Result T FlashStop) → IsErr result → RepairSteps (Filled w blocks t) result blocks t v
     fill_stopped result err = record {
       stays = λ image may. entries_step w blocks t s v image cleared.ready.nothing cleared.ready.size cleared.ready.says cleared.empty keeps may;
       ok = IfOk-from_err result _ err;
@@ -120,11 +120,11 @@ module _ (w : TableCopy) (blocks : ℕ) (t : Table) where
         let long = head_inside w blocks t s.now cleared.ready.size cleared.ready.says in
         same_block (header_at w blocks) v.now s.now (omega (arith, long, keeps.size)) (sym keeps.size) (λ i a b. keeps.now i (head_out_of w i a b)) ∙ cleared.empty
       where
-        apart : 3 + 2 * blocks_of (number_of t) ≤ blocks
+        apart : 3 + 2 * blocks_of (entry_number_of t) ≤ blocks
         apart = (table_roomy (other w) blocks s.now t cleared.ready.size cleared.ready.says).apart
 
         head_out_of : (c : TableCopy) (i : ℕ) → 4096 * header_at c blocks ≤ i → i < 4096 * header_at c blocks + 4096
-            → (i < 4096 * entries_at c blocks (blocks_of (number_of t))) ⊎ (4096 * entries_at c blocks (blocks_of (number_of t)) + 4096 * blocks_of (number_of t) ≤ i)
+            → (i < 4096 * entries_at c blocks (blocks_of (entry_number_of t))) ⊎ (4096 * entries_at c blocks (blocks_of (entry_number_of t)) + 4096 * blocks_of (entry_number_of t) ≤ i)
         head_out_of Primary i a b = inl (omega (arith, b))
         head_out_of Backup i a b = inr (omega (arith, a, apart))
 
@@ -133,14 +133,14 @@ module _ (w : TableCopy) (blocks : ℕ) (t : Table) where
         other_stays w blocks t s.now cleared.ready.size cleared.ready.says v.now keeps.size
         (λ i out. keeps.now i (wide i out))
       where
-        apart : 3 + 2 * blocks_of (number_of t) ≤ blocks
+        apart : 3 + 2 * blocks_of (entry_number_of t) ≤ blocks
         apart = (table_roomy (other w) blocks s.now t cleared.ready.size cleared.ready.says).apart
 
-        wide : (i : ℕ) → (i < low w blocks t) ⊎ (high w blocks t ≤ i) → (i < 4096 * entries_at w blocks (blocks_of (number_of t))) ⊎ (4096 * entries_at w blocks (blocks_of (number_of t)) + 4096 * blocks_of (number_of t) ≤ i)
-        wide i (inl l) = inl (omega (arith, l, (entries_within w blocks (blocks_of (number_of t)) apart).0))
-        wide i (inr r) = inr (omega (arith, r, (entries_within w blocks (blocks_of (number_of t)) apart).1))
+        wide : (i : ℕ) → (i < low w blocks t) ⊎ (high w blocks t ≤ i) → (i < 4096 * entries_at w blocks (blocks_of (entry_number_of t))) ⊎ (4096 * entries_at w blocks (blocks_of (entry_number_of t)) + 4096 * blocks_of (entry_number_of t) ≤ i)
+        wide i (inl l) = inl (omega (arith, l, (entries_within w blocks (blocks_of (entry_number_of t)) apart).0))
+        wide i (inr r) = inr (omega (arith, r, (entries_within w blocks (blocks_of (entry_number_of t)) apart).1))
 
-    is_filled : part v.now (4096 * entries_at w blocks (blocks_of (number_of t))) (4096 * entries_at w blocks (blocks_of (number_of t)) + length t.entries) ≡ t.entries → Filled w blocks t (settle v)
+    is_filled : part v.now (4096 * entries_at w blocks (blocks_of (entry_number_of t))) (4096 * entries_at w blocks (blocks_of (entry_number_of t)) + length t.entries) ≡ t.entries → Filled w blocks t (settle v)
     is_filled held = record {
       cleared = record {
         ready = record {
@@ -152,11 +152,11 @@ module _ (w : TableCopy) (blocks : ℕ) (t : Table) where
         };
         empty = ap (block (header_at w blocks)) (now-settle v) ∙ same_head;
       };
-      entries = ap (λ (l : List ℕ). part l (4096 * entries_at w blocks (blocks_of (number_of t))) (4096 * entries_at w blocks (blocks_of (number_of t)) + length t.entries)) (now-settle v) ∙ held;
+      entries = ap (λ (l : List ℕ). part l (4096 * entries_at w blocks (blocks_of (entry_number_of t))) (4096 * entries_at w blocks (blocks_of (entry_number_of t)) + length t.entries)) (now-settle v) ∙ held;
     }
 
-    pub fills : {T : Type 0} (result : Result T FlashStop) → part v.now (4096 * entries_at w blocks (blocks_of (number_of t))) (4096 * entries_at w blocks (blocks_of (number_of t)) + length t.entries) ≡ t.entries
-        → Steps (Filled w blocks t) result blocks t (settled result v)
+    pub fills : {T : Type 0} (result : Result T FlashStop) → part v.now (4096 * entries_at w blocks (blocks_of (entry_number_of t))) (4096 * entries_at w blocks (blocks_of (entry_number_of t)) + length t.entries) ≡ t.entries
+        → RepairSteps (Filled w blocks t) result blocks t (settled result v)
     fills (Err e) held = fill_stopped (Err e) refl
     fills (Ok x) held =
         let filled = is_filled held in
@@ -172,19 +172,19 @@ module _ (w : TableCopy) (blocks : ℕ) (t : Table) where
     decides_spelled : DecidesTable blocks t (overwritten (4096 * header_at w blocks) bytes s.now)
     decides_spelled = decides_with w blocks _ t spelled (says_done s ready bytes short)
 
-    pub write_stopped : {T : Type 0} (result : Result T FlashStop) → IsErr result → Steps (IsMended blocks t) result blocks t (halt (4096 * header_at w blocks) bytes s)
+    pub write_stopped : {T : Type 0} (result : Result T FlashStop) → IsErr result → RepairSteps (IsMended blocks t) result blocks t (halt (4096 * header_at w blocks) bytes s)
     write_stopped result err = record {
       stays = header_stopped w blocks t s bytes ready.nothing ready.size short ready.guarded ready.says ready.decides (inr spelled);
       ok = IfOk-from_err result _ err;
     }
 
-    pub write_unsettled : {T : Type 0} (result : Result T FlashStop) → IsErr result → Steps (IsMended blocks t) result blocks t (put (4096 * header_at w blocks) bytes s)
+    pub write_unsettled : {T : Type 0} (result : Result T FlashStop) → IsErr result → RepairSteps (IsMended blocks t) result blocks t (put (4096 * header_at w blocks) bytes s)
     write_unsettled result err = record {
       stays = header_done w blocks t s bytes ready.nothing ready.size short ready.guarded ready.says ready.decides (inr spelled);
       ok = IfOk-from_err result _ err;
     }
 
-    pub writes : {T : Type 0} (result : Result T FlashStop) → Steps (IsMended blocks t) result blocks t (settled result (put (4096 * header_at w blocks) bytes s))
+    pub writes : {T : Type 0} (result : Result T FlashStop) → RepairSteps (IsMended blocks t) result blocks t (settled result (put (4096 * header_at w blocks) bytes s))
     writes (Err e) = write_unsettled (Err e) refl
     writes (Ok x) =
         let after = ready_after s ready bytes short decides_spelled in
@@ -196,25 +196,25 @@ module _ (w : TableCopy) (blocks : ℕ) (t : Table) where
 -- ---- the same by what a device tells after the calls
 
 module _ (w : TableCopy) (blocks : ℕ) (t : Table) (s u : Told) (b : ℕ) (at : b ≡ header_at w blocks) {T : Type 0} (result : Result T FlashStop) where
-  pub clear_halted : Ready w blocks t s → IsErr result → u ≡ halt (4096 * b) (blank 4096) s → Steps (Cleared w blocks t) result blocks t u
+  pub clear_halted : Ready w blocks t s → IsErr result → u ≡ halt (4096 * b) (blank 4096) s → RepairSteps (Cleared w blocks t) result blocks t u
   clear_halted ready err is =
-      subst (Steps (Cleared w blocks t) result blocks t) (sym (is ∙ ap (λ k. halt (4096 * k) (blank 4096) s) at)) (clear_stopped w blocks t s ready result err)
+      subst (RepairSteps (Cleared w blocks t) result blocks t) (sym (is ∙ ap (λ k. halt (4096 * k) (blank 4096) s) at)) (clear_stopped w blocks t s ready result err)
 
-  pub clear_over : Ready w blocks t s → u ≡ settled result (put (4096 * b) (blank 4096) s) → Steps (Cleared w blocks t) result blocks t u
+  pub clear_over : Ready w blocks t s → u ≡ settled result (put (4096 * b) (blank 4096) s) → RepairSteps (Cleared w blocks t) result blocks t u
   clear_over ready is =
-      subst (Steps (Cleared w blocks t) result blocks t) (sym (is ∙ ap (λ k. settled result (put (4096 * k) (blank 4096) s)) at)) (clears w blocks t s ready result)
+      subst (RepairSteps (Cleared w blocks t) result blocks t) (sym (is ∙ ap (λ k. settled result (put (4096 * k) (blank 4096) s)) at)) (clears w blocks t s ready result)
 
   module _ (filled : Filled w blocks t s) (bytes : List ℕ) (short : length bytes ≤ 4096) (spelled : copy_in w blocks (overwritten (4096 * b) bytes s.now) ≡ Some t) where
     spelled_at : copy_in w blocks (overwritten (4096 * header_at w blocks) bytes s.now) ≡ Some t
     spelled_at = ap (λ k. copy_in w blocks (overwritten (4096 * k) bytes s.now)) (sym at) ∙ spelled
 
-    pub write_halted : IsErr result → u ≡ halt (4096 * b) bytes s → Steps (IsMended blocks t) result blocks t u
+    pub write_halted : IsErr result → u ≡ halt (4096 * b) bytes s → RepairSteps (IsMended blocks t) result blocks t u
     write_halted err is =
-        subst (Steps (IsMended blocks t) result blocks t) (sym (is ∙ ap (λ k. halt (4096 * k) bytes s) at)) (write_stopped w blocks t s filled bytes short spelled_at result err)
+        subst (RepairSteps (IsMended blocks t) result blocks t) (sym (is ∙ ap (λ k. halt (4096 * k) bytes s) at)) (write_stopped w blocks t s filled bytes short spelled_at result err)
 
-    pub write_over : u ≡ settled result (put (4096 * b) bytes s) → Steps (IsMended blocks t) result blocks t u
+    pub write_over : u ≡ settled result (put (4096 * b) bytes s) → RepairSteps (IsMended blocks t) result blocks t u
     write_over is =
-        subst (Steps (IsMended blocks t) result blocks t) (sym (is ∙ ap (λ k. settled result (put (4096 * k) bytes s)) at)) (writes w blocks t s filled bytes short spelled_at result)
+        subst (RepairSteps (IsMended blocks t) result blocks t) (sym (is ∙ ap (λ k. settled result (put (4096 * k) bytes s)) at)) (writes w blocks t s filled bytes short spelled_at result)
 
 -- ---- but for the block nothing changes
 
@@ -233,22 +233,22 @@ module _ (b n : ℕ) (s u : Told) (bytes : List ℕ) (inside : b < n) (size : le
       by (Err e) = once
 
 -- the entries, by what a device tells after the calls
-module _ (w : TableCopy) (blocks : ℕ) (t : Table) (s v : Told) (first n : ℕ) (at : first ≡ entries_at w blocks (blocks_of (number_of t))) (count : n ≡ length t.entries) (cleared : Cleared w blocks t s)
+module _ (w : TableCopy) (blocks : ℕ) (t : Table) (s v : Told) (first n : ℕ) (at : first ≡ entries_at w blocks (blocks_of (entry_number_of t))) (count : n ≡ length t.entries) (cleared : Cleared w blocks t s)
     (keeps : Keeps (4096 * first) (4096 * first + 4096 * ((n + 4095) / 4096)) s v) where
-  keeps_at : Keeps (4096 * entries_at w blocks (blocks_of (number_of t))) (4096 * entries_at w blocks (blocks_of (number_of t)) + 4096 * blocks_of (number_of t)) s v
+  keeps_at : Keeps (4096 * entries_at w blocks (blocks_of (entry_number_of t))) (4096 * entries_at w blocks (blocks_of (entry_number_of t)) + 4096 * blocks_of (entry_number_of t)) s v
   keeps_at =
       let whole = count ∙ entries_whole (other w) blocks s.now t cleared.ready.size cleared.ready.says in
-      subst (λ k. Keeps (4096 * entries_at w blocks (blocks_of (number_of t))) (4096 * entries_at w blocks (blocks_of (number_of t)) + 4096 * ((k + 4095) / 4096)) s v) whole
+      subst (λ k. Keeps (4096 * entries_at w blocks (blocks_of (entry_number_of t))) (4096 * entries_at w blocks (blocks_of (entry_number_of t)) + 4096 * ((k + 4095) / 4096)) s v) whole
       (subst (λ k. Keeps (4096 * k) (4096 * k + 4096 * ((n + 4095) / 4096)) s v) at keeps)
 
-  pub entries_stopped : {T : Type 0} (result : Result T FlashStop) → IsErr result → Steps (Filled w blocks t) result blocks t v
+  pub entries_stopped : {T : Type 0} (result : Result T FlashStop) → IsErr result → RepairSteps (Filled w blocks t) result blocks t v
   entries_stopped result err = fill_stopped w blocks t s cleared v keeps_at result err
 
-  pub entries_over : {T : Type 0} (result : Result T FlashStop) (u : Told) → part v.now (4096 * first) (4096 * first + n) ≡ t.entries → u ≡ settled result v → Steps (Filled w blocks t) result blocks t u
+  pub entries_over : {T : Type 0} (result : Result T FlashStop) (u : Told) → part v.now (4096 * first) (4096 * first + n) ≡ t.entries → u ≡ settled result v → RepairSteps (Filled w blocks t) result blocks t u
   entries_over result u held is =
-      subst (Steps (Filled w blocks t) result blocks t) (sym is)
+      subst (RepairSteps (Filled w blocks t) result blocks t) (sym is)
       (fills w blocks t s cleared v keeps_at result
-      (subst (λ k. part v.now (4096 * entries_at w blocks (blocks_of (number_of t))) (4096 * entries_at w blocks (blocks_of (number_of t)) + k) ≡ t.entries) count
+      (subst (λ k. part v.now (4096 * entries_at w blocks (blocks_of (entry_number_of t))) (4096 * entries_at w blocks (blocks_of (entry_number_of t)) + k) ≡ t.entries) count
       (subst (λ k. part v.now (4096 * k) (4096 * k + n) ≡ t.entries) at held)))
 
 pub keeps_settled : {T : Type 0} (low high : ℕ) (s v u : Told) (result : Result T FlashStop) → Keeps low high s v → u ≡ settled result v → Keeps low high s u
@@ -256,5 +256,5 @@ keeps_settled low high s v u (Ok x) keeps is = subst (Keeps low high s) (sym is)
 keeps_settled low high s v u (Err e) keeps is = subst (Keeps low high s) (sym is) keeps
 
 -- what a step leaves of one goal is what it leaves of another, where it was stopped
-pub steps_stopped : {T U : Type 0} (P Q : Told → Type 0) (result : Result T FlashStop) (stopped : Result U FlashStop) (blocks : ℕ) (t : Table) (u : Told) → IsErr stopped → Steps P result blocks t u → Steps Q stopped blocks t u
+pub steps_stopped : {T U : Type 0} (P Q : Told → Type 0) (result : Result T FlashStop) (stopped : Result U FlashStop) (blocks : ℕ) (t : Table) (u : Told) → IsErr stopped → RepairSteps P result blocks t u → RepairSteps Q stopped blocks t u
 steps_stopped P Q result stopped blocks t u err steps = record { stays = steps.stays; ok = IfOk-from_err stopped _ err }

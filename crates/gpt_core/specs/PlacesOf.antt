@@ -6,7 +6,7 @@ use Rattle.gpt_core.specs.declared.layout.Places.{Places}
 use Rattle.gpt_core.specs.declared.layout.PlaceFault.{PlaceFault}
 use Rattle.gpt_core.specs.declared.layout.PlaceFault.TheVariants.{NoStore, Replicas, TooSmall}
 pub use Rattle.gpt_core.specs.declared.partitions.Partition.{Partition}
-use Rattle.gpt_core.specs.Table.{Table, number_of, blocks_of}
+use Rattle.gpt_core.specs.Table.{Table, entry_number_of, blocks_of}
 
 -- sixteen bytes of a table, whose first three fields are little-endian, in the order of a GUID's text
 abbrev pub in_text_order : List ℕ → List ℕ
@@ -30,7 +30,7 @@ partition_at entries i = record {
 
 -- the partitions of a type, in the order of their entries
 abbrev pub of_type : List ℕ → Table → List Partition
-of_type kind t = filter (λ q. same_bytes q.kind kind) (listed (number_of t) (partition_at t.entries))
+of_type kind t = filter (λ q. same_bytes q.kind kind) (listed (entry_number_of t) (partition_at t.entries))
 
 -- its first block isn't after its last one, and both are usable in a device of so many blocks,
 -- whose copies have so many blocks of entries
@@ -61,4 +61,4 @@ placed blocks entry_blocks stores replicas = Err NoStore
 
 -- the places in a device of so many blocks, or the first fault
 abbrev pub places_of : ℕ → Table → Result Places PlaceFault
-places_of blocks t = placed blocks (blocks_of (number_of t)) (of_type store_type t) (of_type metadata_type t)
+places_of blocks t = placed blocks (blocks_of (entry_number_of t)) (of_type store_type t) (of_type metadata_type t)

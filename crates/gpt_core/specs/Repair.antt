@@ -1,14 +1,15 @@
 -- What a repair of a table leaves.
 use Rattle.std.specs.Prelude.{◌≡◌, ℕ, ◌+◌, ◌-◌, ◌*◌, List, length, Some, IsTrue, Result, OnOk}
 use Rattle.base_core.specs.Block.{block_bytes, block, blank}
-use Rattle.base_core.specs.Bytes.{part, overwritten}
+use Rattle.base_core.specs.Bytes.{overwritten}
 use Rattle.flash_core.specs.declared.flash.FlashStop.{FlashStop}
 use Rattle.flash_core.specs.Told.{Told, NothingDirty, is_guarded}
 use Rattle.flash_core.specs.May.{May, Keeps}
 use Rattle.gpt_core.specs.declared.table.WhichTable.{WhichTable}
 use Rattle.gpt_core.specs.declared.table.WhichTable.TheVariants.{Same, RepairPrimary, RepairBackup}
 use Rattle.gpt_core.specs.declared.table.TableCopy.{TableCopy}
-use Rattle.gpt_core.specs.Table.{Table, blocks_of, number_of, header_at, entries_at, other, copy_in, DecidesTable, BothSay}
+use Rattle.gpt_core.specs.Writes.{HoldsFrom}
+use Rattle.gpt_core.specs.Table.{Table, blocks_of, entry_number_of, header_at, entries_at, other, copy_in, DecidesTable, BothSay}
 
 -- Nothing is dirty, and the blocks of both headers are guarded.
 pub record HeadersGuarded (blocks : ℕ) (s : Told) : Type 0 where
@@ -19,18 +20,18 @@ pub record HeadersGuarded (blocks : ℕ) (s : Told) : Type 0 where
 -- But for the copy that is repaired nothing changes, and where none is nothing at all.
 abbrev pub StaysBeside : ℕ → Table → WhichTable → Told → Told → Type 0
 StaysBeside blocks t Same s u = u ≡ s
-StaysBeside blocks t RepairPrimary s u = Keeps block_bytes (block_bytes * (2 + blocks_of (number_of t))) s u
-StaysBeside blocks t RepairBackup s u = Keeps (block_bytes * (blocks - 1 - blocks_of (number_of t))) (block_bytes * blocks) s u
+StaysBeside blocks t RepairPrimary s u = Keeps block_bytes (block_bytes * (2 + blocks_of (entry_number_of t))) s u
+StaysBeside blocks t RepairBackup s u = Keeps (block_bytes * (blocks - 1 - blocks_of (entry_number_of t))) (block_bytes * blocks) s u
 
 -- how many erases and programs a repair of a table with so many blocks of entries takes:
 -- each block of the copy is erased and programmed
-abbrev pub writes_of : WhichTable → ℕ → ℕ
-writes_of Same entry_blocks = 0
-writes_of RepairPrimary entry_blocks = 2 + 2 * entry_blocks
-writes_of RepairBackup entry_blocks = 2 + 2 * entry_blocks
+abbrev pub writes_to_mend : WhichTable → ℕ → ℕ
+writes_to_mend Same entry_blocks = 0
+writes_to_mend RepairPrimary entry_blocks = 2 + 2 * entry_blocks
+writes_to_mend RepairBackup entry_blocks = 2 + 2 * entry_blocks
 
 -- what a repair leaves, at any exit, of a device of so many blocks whose table this is
-pub record Mends {T : Type 0} (result : Result T FlashStop) (blocks : ℕ) (t : Table) (u : Told) : Type 0 where
+pub record MendsTable {T : Type 0} (result : Result T FlashStop) (blocks : ℕ) (t : Table) (u : Told) : Type 0 where
   -- in each image that a power-on may leave it decides
   pub stays : (image : List ℕ) → May u image → DecidesTable blocks t image
   -- when done, both copies say it, and nothing is dirty
@@ -55,12 +56,10 @@ pub record Cleared (w : TableCopy) (blocks : ℕ) (t : Table) (s : Told) : Type 
 -- and its entries are those of the table
 pub record Filled (w : TableCopy) (blocks : ℕ) (t : Table) (s : Told) : Type 0 where
   pub cleared : Cleared w blocks t s
-  pub entries : part s.now (block_bytes * entries_at w blocks (blocks_of (number_of t)))
-      (block_bytes * entries_at w blocks (blocks_of (number_of t)) + length t.entries)
-      ≡ t.entries
+  pub entries : HoldsFrom s.now (entries_at w blocks (blocks_of (entry_number_of t))) t.entries
 
 -- What a step leaves, at any exit: in each image the table decides; when done, P.
-pub record Steps {T : Type 0} (P : Told → Type 0) (result : Result T FlashStop) (blocks : ℕ) (t : Table) (u : Told) : Type 0 where
+pub record RepairSteps {T : Type 0} (P : Told → Type 0) (result : Result T FlashStop) (blocks : ℕ) (t : Table) (u : Told) : Type 0 where
   pub stays : (image : List ℕ) → May u image → DecidesTable blocks t image
   pub ok : OnOk result (P u)
 
@@ -71,25 +70,23 @@ IsMended blocks t u = BothSay blocks t u.now × NothingDirty u
 -- Where a device is ready for a copy with this header, the step clears the header's block.
 abbrev pub ClearsHeader : {T : Type 0} → ℕ → ℕ → Result T FlashStop → Told → Told → Type 0
 ClearsHeader blocks header result s u = (w : TableCopy) (t : Table) → header ≡ header_at w blocks → Ready w blocks t s
-    → Steps (Cleared w blocks t) result blocks t u
+    → RepairSteps (Cleared w blocks t) result blocks t u
 
 -- Where a copy with these entries, from this block on, is cleared, the step fills it.
 abbrev pub FillsEntries : {T : Type 0} → ℕ → ℕ → List ℕ → Result T FlashStop → Told → Told → Type 0
-FillsEntries blocks first bytes result s u = (w : TableCopy) (t : Table) → first ≡ entries_at w blocks (blocks_of (number_of t))
-    → bytes ≡ t.entries → Cleared w blocks t s → Steps (Filled w blocks t) result blocks t u
+FillsEntries blocks first bytes result s u = (w : TableCopy) (t : Table) → first ≡ entries_at w blocks (blocks_of (entry_number_of t))
+    → bytes ≡ t.entries → Cleared w blocks t s → RepairSteps (Filled w blocks t) result blocks t u
 
 -- Where a copy with this header is filled, and these bytes make it say the table, the step mends it.
 abbrev pub WritesHeader : {T : Type 0} → ℕ → ℕ → List ℕ → Result T FlashStop → Told → Told → Type 0
 WritesHeader blocks b bytes result s u = (w : TableCopy) (t : Table) → b ≡ header_at w blocks → Filled w blocks t s
-    → copy_in w blocks (overwritten (block_bytes * b) bytes s.now) ≡ Some t → Steps (IsMended blocks t) result blocks t u
+    → copy_in w blocks (overwritten (block_bytes * b) bytes s.now) ≡ Some t → RepairSteps (IsMended blocks t) result blocks t u
 
 -- These bytes are the header of copy w: over an erased block, in front of the table's entries, they make the copy say the table.
 abbrev pub Spells : TableCopy → ℕ → Table → List ℕ → Type 0
 Spells w blocks t bytes = (image : List ℕ) → length image ≡ block_bytes * blocks
     → block (header_at w blocks) image ≡ blank block_bytes
-    → part image (block_bytes * entries_at w blocks (blocks_of (number_of t)))
-    (block_bytes * entries_at w blocks (blocks_of (number_of t)) + length t.entries)
-    ≡ t.entries
+    → HoldsFrom image (entries_at w blocks (blocks_of (entry_number_of t))) t.entries
     → copy_in w blocks (overwritten (block_bytes * header_at w blocks) bytes image) ≡ Some t
 
 -- the copy that these bytes are written for, and the table
@@ -97,7 +94,7 @@ pub record Writing (blocks header first : ℕ) (head entries : List ℕ) (s : To
   pub w : TableCopy
   pub t : Table
   pub header_is : header ≡ header_at w blocks
-  pub first_is : first ≡ entries_at w blocks (blocks_of (number_of t))
+  pub first_is : first ≡ entries_at w blocks (blocks_of (entry_number_of t))
   pub entries_are : entries ≡ t.entries
   pub spells : Spells w blocks t head
   pub ready : Ready w blocks t s

@@ -67,8 +67,8 @@ pub record SpeaksOfBlocks (blocks entry_blocks : ℕ) (header : List ℕ) : Type
   pub number : entry_blocks ≡ blocks_of (number_in header)
 
 -- whether the fields of a header are those of this copy in a device of so many blocks
-unfoldable pub has_fields : TableCopy → ℕ → List ℕ → Bool
-has_fields copy blocks header = has_start header && has_places copy blocks header && (num_at 4 header 84 == 128)
+unfoldable pub header_has_fields : TableCopy → ℕ → List ℕ → Bool
+header_has_fields copy blocks header = has_start header && has_places copy blocks header && (num_at 4 header 84 == 128)
 
 -- It speaks of 1 to 128 entries, and with so many the blocks of both copies are apart.
 abbrev pub is_roomy : ℕ → ℕ → Bool
@@ -76,47 +76,47 @@ is_roomy blocks number = nat_le 1 number && nat_le number 128 && nat_le (3 + 2 *
 
 -- whether a block is the header of this copy in a device of so many blocks
 abbrev pub is_header : TableCopy → ℕ → List ℕ → Bool
-is_header copy blocks header = has_table_seal header && has_fields copy blocks header && is_roomy blocks (number_in header)
+is_header copy blocks header = has_table_seal header && header_has_fields copy blocks header && is_roomy blocks (number_in header)
 
 -- the entries that a header speaks of
-unfoldable pub entries_in : TableCopy → ℕ → List ℕ → List ℕ → List ℕ
-entries_in copy blocks header image =
+unfoldable pub table_entries_in : TableCopy → ℕ → List ℕ → List ℕ → List ℕ
+table_entries_in copy blocks header image =
     let at = block_bytes * entries_at copy blocks (blocks_of (number_in header)) in
     part image at (at + number_in header * 128)
 
-abbrev pub table_of : List ℕ → List ℕ → Table
-table_of header entries =
+abbrev pub partition_table_of : List ℕ → List ℕ → Table
+partition_table_of header entries =
     record { disk = part header 56 72; first = num_at 8 header 40; last = num_at 8 header 48; entries = entries }
 
 -- the table by a header and the entries that it speaks of, which have the header's checksum
-abbrev pub checked : List ℕ → List ℕ → Option Table
-checked header entries = if num_at 4 header 88 == crc entries then Some (table_of header entries) else None
+abbrev pub checked_table : List ℕ → List ℕ → Option Table
+checked_table header entries = if num_at 4 header 88 == crc entries then Some (partition_table_of header entries) else None
 
 -- what a copy says, where it is valid
 unfoldable pub copy_in : TableCopy → ℕ → List ℕ → Option Table
 copy_in copy blocks image =
     let header = block (header_at copy blocks) image in
-    if is_header copy blocks header then checked header (entries_in copy blocks header image) else None
+    if is_header copy blocks header then checked_table header (table_entries_in copy blocks header image) else None
 
 abbrev pub same_table : Table → Table → Bool
 same_table t u = same_bytes t.disk u.disk && (t.first == u.first) && (t.last == u.last) && same_bytes t.entries u.entries
 
 -- the table that decides, of what the copies say, and what is to be repaired:
 -- the primary decides where it is valid, else the backup
-abbrev pub deciding : Option Table → Option Table → Option (Table × WhichTable)
-deciding (Some t) (Some u) = Some (t, if same_table t u then Same else RepairBackup)
-deciding (Some t) None = Some (t, RepairBackup)
-deciding None (Some u) = Some (u, RepairPrimary)
-deciding None None = None
+abbrev pub deciding_table : Option Table → Option Table → Option (Table × WhichTable)
+deciding_table (Some t) (Some u) = Some (t, if same_table t u then Same else RepairBackup)
+deciding_table (Some t) None = Some (t, RepairBackup)
+deciding_table None (Some u) = Some (u, RepairPrimary)
+deciding_table None None = None
 
 abbrev pub table_in_image : ℕ → List ℕ → Option (Table × WhichTable)
-table_in_image blocks image = deciding (copy_in Primary blocks image) (copy_in Backup blocks image)
+table_in_image blocks image = deciding_table (copy_in Primary blocks image) (copy_in Backup blocks image)
 
 -- What the copies say where this table decides, and this is to be repaired.
-abbrev pub Finds : WhichTable → Table → Option Table → Option Table → Type 0
-Finds Same t primary backup = (primary ≡ Some t) × (backup ≡ Some t)
-Finds RepairPrimary t primary backup = (primary ≡ None) × (backup ≡ Some t)
-Finds RepairBackup t primary backup = (primary ≡ Some t) × (backup ≢ Some t)
+abbrev pub TableFinds : WhichTable → Table → Option Table → Option Table → Type 0
+TableFinds Same t primary backup = (primary ≡ Some t) × (backup ≡ Some t)
+TableFinds RepairPrimary t primary backup = (primary ≡ None) × (backup ≡ Some t)
+TableFinds RepairBackup t primary backup = (primary ≡ Some t) × (backup ≢ Some t)
 
 -- this table decides, whatever is to be repaired
 abbrev pub DecidesTable : ℕ → Table → List ℕ → Type 0
@@ -142,21 +142,21 @@ pub record IsCopy (copy : TableCopy) (blocks : ℕ) (image : List ℕ) (t : Tabl
   pub number : (1 ≤ number_in header) × (number_in header ≤ 128)
   pub entry_size : num_at 4 header 84 ≡ 128
   pub entry_place : num_at 8 header 72 ≡ entries_at copy blocks (blocks_of (number_in header))
-  pub entries : entries_in copy blocks header image ≡ t.entries
+  pub entries : table_entries_in copy blocks header image ≡ t.entries
   pub checks : num_at 4 header 88 ≡ crc t.entries
   pub apart : 3 + 2 * blocks_of (number_in header) ≤ blocks
 
 -- ---- writing
 
 -- how many entries a table has
-abbrev pub number_of : Table → ℕ
-number_of t = length t.entries / 128
+abbrev pub entry_number_of : Table → ℕ
+entry_number_of t = length t.entries / 128
 
 -- A table whose entries both copies have room for in a device of so many blocks.
 pub record FitsTable (blocks : ℕ) (t : Table) : Type 0 where
-  pub number : (1 ≤ number_of t) × (number_of t ≤ 128)
-  pub whole : length t.entries ≡ number_of t * 128
-  pub apart : 3 + 2 * blocks_of (number_of t) ≤ blocks
+  pub number : (1 ≤ entry_number_of t) × (entry_number_of t ≤ 128)
+  pub whole : length t.entries ≡ entry_number_of t * 128
+  pub apart : 3 + 2 * blocks_of (entry_number_of t) ≤ blocks
 
 -- the bytes of a header before its checksum
 unfoldable pub header_lead : List ℕ
@@ -170,7 +170,7 @@ header_places copy blocks t =
 -- and those behind the GUID
 unfoldable pub header_back : TableCopy → ℕ → Table → List ℕ
 header_back copy blocks t =
-    le 8 (entries_at copy blocks (blocks_of (number_of t))) ++ le 4 (number_of t) ++ le 4 128 ++ le 4 (crc t.entries)
+    le 8 (entries_at copy blocks (blocks_of (entry_number_of t))) ++ le 4 (entry_number_of t) ++ le 4 128 ++ le 4 (crc t.entries)
 
 -- the 92 bytes of a header with this checksum
 abbrev pub header_with : TableCopy → ℕ → Table → ℕ → List ℕ

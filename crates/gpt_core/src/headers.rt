@@ -1,7 +1,7 @@
 //! Headers of a table: whether a block is one, and where a copy stands.
 
 ghost use Rattle.std.specs.Prelude.{◌≡◌, ◌+◌, ◌≤◌, length};
-ghost use Rattle.gpt_core.specs.Table.{blocks_of, header_at, entries_at, other, has_start, has_places, has_fields, is_roomy, is_header, SpeaksOfBlocks};
+ghost use Rattle.gpt_core.specs.Table.{blocks_of, header_at, entries_at, other, has_start, has_places, header_has_fields, is_roomy, is_header, SpeaksOfBlocks};
 
 use crate::table::TableCopy;
 use base_core::{BLOCK_BYTES, is_table_sealed, le32_at, le64_at};
@@ -85,10 +85,10 @@ fn are_places(copy: TableCopy, blocks: u32, entry_blocks: u32, header: &[u8]) ->
 }
 
 /// Whether the fields of a header are those of this copy.
-#[tactic(auto, unfolding(crate::specs::Table::has_fields))]
+#[tactic(auto, unfolding(crate::specs::Table::header_has_fields))]
 fn are_fields(copy: TableCopy, blocks: u32, entry_blocks: u32, header: &[u8]) -> bool
     requires { SpeaksOfBlocks blocks entry_blocks header.now }
-    ensures { result ≡ has_fields copy blocks header.now }
+    ensures { result ≡ header_has_fields copy blocks header.now }
 {
     let start = is_start(header);
     let places = are_places(copy, blocks, entry_blocks, header);

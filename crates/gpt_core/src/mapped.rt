@@ -93,7 +93,6 @@ impl<D: Flash, K: Start> Mapped<D, K> {
             → out.new ≡ slice_range (through (places_of self.old) (D.told (device self.old)).now) at (at + length out.old)) }
         ensures places { places_of self.new ≡ places_of self.old }
         ensures reads { Reads D.Flash result (device self.old) (device self.new) }
-        ensures size { length out.new ≡ length out.old }
     {
         let place = self.places.byte(at);
         self.flash.read(place, out)
@@ -107,7 +106,6 @@ impl<D: Flash, K: Start> Mapped<D, K> {
             → out.new ≡ slice_range (through (places_of self.old) (D.told (device self.old)).now) at (at + length out.old)) }
         ensures places { places_of self.new ≡ places_of self.old }
         ensures reads { Reads D.Flash result (device self.old) (device self.new) }
-        ensures size { length out.new ≡ length out.old }
     {
         if out.is_empty() {
             return Ok(());

@@ -3,7 +3,7 @@
 ghost use Rattle.std.specs.Prelude.{◌≡◌, ◌⊎◌, ◌+◌, ◌*◌, ◌<◌, ◌≤◌, ◌&&◌, ◌||◌, [], ◌∷◌, ◌++◌, cond, Ok, Err, length, nat_le, IfOk, OnOk};
 ghost use Rattle.base_core.specs.Block.{fewest_blocks, most_blocks};
 ghost use Rattle.base_core.specs.Bytes.{num_at, same_bytes};
-ghost use Rattle.gpt_core.specs.Table.{Table as Said, FitsTable, blocks_of, number_of};
+ghost use Rattle.gpt_core.specs.Table.{Table as Said, FitsTable, blocks_of, entry_number_of};
 ghost use Rattle.gpt_core.specs.Places.{Fit};
 ghost use Rattle.gpt_core.specs.PlacesOf.{in_text_order, store_type, metadata_type, partition_at, of_type as of_type_in, is_usable, are_apart, size_of, are_large, placed, places_of};
 ghost use Rattle.gpt_core.specs.declared.layout.PlaceFault.{PlaceFault};
@@ -85,7 +85,6 @@ fn of_type(alloc: Global, table: &Table, kind: &[u8]) -> Result<Vec<Partition>, 
 
 /// Whether its first block isn't after its last one, and both are usable.
 fn is_usable_in(blocks: u32, entry_blocks: u32, partition: &Partition) -> bool
-    requires { entry_blocks ≤ 4 }
     ensures { result ≡ is_usable blocks entry_blocks partition.now }
 {
     let Partition { first, last, .. } = *partition;
@@ -103,27 +102,9 @@ fn are_apart_from(partition: &Partition, other: &Partition) -> bool
     partition.last < other.first || other.last < partition.first
 }
 
-/// Whether each of the three is usable.
-fn are_usable(
-    blocks: u32,
-    entry_blocks: u32,
-    store: &Partition,
-    zero: &Partition,
-    one: &Partition,
-) -> bool
-    requires { entry_blocks ≤ 4 }
-    ensures { result ≡ (is_usable blocks entry_blocks store.now
-        && is_usable blocks entry_blocks zero.now && is_usable blocks entry_blocks one.now) }
-{
-    is_usable_in(blocks, entry_blocks, store)
-        && is_usable_in(blocks, entry_blocks, zero)
-        && is_usable_in(blocks, entry_blocks, one)
-}
-
 /// Whether no two of the three have a block in common.
 fn are_all_apart(store: &Partition, zero: &Partition, one: &Partition) -> bool
-    ensures { result ≡ (are_apart store.now zero.now
-        && are_apart store.now one.now && are_apart zero.now one.now) }
+    ensures { result ≡ (are_apart store.now zero.now && are_apart store.now one.now && are_apart zero.now one.now) }
 {
     are_apart_from(store, zero) && are_apart_from(store, one) && are_apart_from(zero, one)
 }
@@ -139,6 +120,7 @@ fn is_sized(store: &Partition) -> bool
     7 <= more && more <= 65535
 }
 
+/// Whether each of the three is usable, no two share a block, and the store has a size that a flash may have.
 #[tactic(auto, unfolding(crate::specs::PlacesOf::are_large))]
 fn are_large_in(
     blocks: u32,
@@ -147,10 +129,11 @@ fn are_large_in(
     zero: &Partition,
     one: &Partition,
 ) -> bool
-    requires { entry_blocks ≤ 4 }
     ensures { result ≡ are_large blocks entry_blocks store.now zero.now one.now }
 {
-    are_usable(blocks, entry_blocks, store, zero, one)
+    is_usable_in(blocks, entry_blocks, store)
+        && is_usable_in(blocks, entry_blocks, zero)
+        && is_usable_in(blocks, entry_blocks, one)
         && are_all_apart(store, zero, one)
         && is_sized(store)
 }
@@ -176,7 +159,6 @@ fn place(
     stores: &[Partition],
     replicas: &[Partition],
 ) -> Result<Places, PlaceFault>
-    requires few { entry_blocks ≤ 4 }
     requires device { blocks ≤ most_blocks }
     requires counted { length replicas.now ≤ 128 }
     ensures { result ≡ placed blocks entry_blocks stores.now replicas.now }

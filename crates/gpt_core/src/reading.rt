@@ -6,7 +6,7 @@ ghost use Rattle.std.specs.Option.{ForSome};
 ghost use Rattle.base_core.specs.Block.{block_bytes};
 ghost use Rattle.base_core.specs.Bytes.{same_bytes, num_at};
 ghost use Rattle.gpt_core.specs.declared.table.TableCopy.{TableCopy};
-ghost use Rattle.gpt_core.specs.Table.{Table as Said, IsCopy, FitsTable, blocks_of, number_in, number_of, header_at, entries_at, is_header, entries_in, table_of, checked, copy_in, same_table, deciding, table_in_image};
+ghost use Rattle.gpt_core.specs.Table.{Table as Said, IsCopy, FitsTable, blocks_of, number_in, entry_number_of, header_at, entries_at, is_header, table_entries_in, partition_table_of, checked_table, copy_in, same_table, deciding_table, table_in_image};
 ghost use Rattle.gpt_core.specs.Reading.{flash_result, ReadsCopy};
 
 use crate::headers::{ENTRY_SIZE, blocks_for, entries_place, header_place, is_header_of};
@@ -109,7 +109,7 @@ fn read_entries<D: Flash>(
     requires header { IsTrue (is_header copy (D.blocks flash.old) header.now) }
 
     ensures bytes { IfOk result (λ v. IsTrue D.tells
-        → v.items ≡ entries_in copy (D.blocks flash.old) header.now (D.told flash.old).now) }
+        → v.items ≡ table_entries_in copy (D.blocks flash.old) header.now (D.told flash.old).now) }
     ensures count { IfOk result (λ v. length v.items ≡ number_in header.now * 128) }
     ensures reads { ReadsCopy D.Flash result flash.old flash.new }
 {
@@ -127,7 +127,7 @@ fn read_entries<D: Flash>(
 /// The table by a header and the entries that it speaks of.
 fn table_by(header: &[u8], entries: Vec<u8>) -> Table
     requires { 92 ≤ length header.now }
-    ensures { result ≡ table_of header.now entries.items }
+    ensures { result ≡ partition_table_of header.now entries.items }
 {
     let mut disk = [0; 16];
     disk.copy_from_slice(&header[56..72]);
@@ -142,7 +142,7 @@ fn table_by(header: &[u8], entries: Vec<u8>) -> Table
 /// The same, if the entries have the header's checksum.
 fn checked_by(header: &[u8], entries: Vec<u8>) -> Option<Table>
     requires { 92 ≤ length header.now }
-    ensures { result ≡ checked header.now entries.items }
+    ensures { result ≡ checked_table header.now entries.items }
 {
     if le32_at(header, 88) == crc32(entries.as_slice()) {
         Some(table_by(header, entries))
@@ -190,7 +190,7 @@ fn is_same(table: &Table, other: &Table) -> bool
 
 /// What is to be repaired, where the primary says a table.
 fn beside(table: &Table, backup: &Option<Table>) -> WhichTable
-    ensures { Some (table.now, result) ≡ deciding (Some table.now) backup.now }
+    ensures { Some (table.now, result) ≡ deciding_table (Some table.now) backup.now }
 {
     match backup {
         Some(other) if is_same(table, other) => WhichTable::Same,
@@ -200,7 +200,7 @@ fn beside(table: &Table, backup: &Option<Table>) -> WhichTable
 
 /// The table that decides, of what the copies say, and what is to be repaired.
 fn decide(primary: Option<Table>, backup: Option<Table>) -> Option<(Table, WhichTable)>
-    ensures { result ≡ deciding primary backup }
+    ensures { result ≡ deciding_table primary backup }
 {
     if let Some(table) = primary {
         let which = beside(&table, &backup);

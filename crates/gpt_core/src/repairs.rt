@@ -1,10 +1,9 @@
 //! Repairing a table.
 
-ghost use Rattle.flash_core.specs.Calls.{Goes};
+ghost use Rattle.flash_core.specs.Calls.{Goes, WritesWithin};
 ghost use Rattle.std.specs.Prelude.{◌≡◌, ℕ, List, Ok, ◌+◌, ◌-◌, ◌*◌, ◌<◌, ◌≤◌, Some, length, replicate, IsTrue, OnOk};
 ghost use Rattle.base_core.specs.Block.{block_bytes};
-ghost use Rattle.base_core.specs.Bytes.{le};
-ghost use Rattle.base_core.specs.Crc.{crc};
+ghost use Rattle.base_core.specs.Puts.{PutsBytes};
 ghost use Rattle.flash_core.specs.Counts.{lowered_by};
 ghost use Rattle.flash_core.specs.May.{May};
 ghost use Rattle.flash_core.specs.Told.{Told, NothingDirty, is_guarded};
@@ -12,11 +11,9 @@ ghost use Rattle.gpt_core.specs.declared.layout.Places.{Places};
 ghost use Rattle.gpt_core.specs.declared.table.WhichTable.{WhichTable};
 ghost use Rattle.gpt_core.specs.Places.{through};
 ghost use Rattle.gpt_core.specs.PlacesOf.{places_of};
-ghost use Rattle.gpt_core.specs.Puts.{PutsBytes};
 ghost use Rattle.gpt_core.specs.View.{view_of};
-ghost use Rattle.gpt_core.specs.Table.{Table as Said, FitsTable, blocks_of, number_of, header_at, other, entries_at, copy_in, DecidesTable, BothSay, header_lead, header_places, header_back, header_with, header_bytes, table_in_image, copy_from, copy_to};
-ghost use Rattle.gpt_core.specs.Repair.{Mends, HeadersGuarded, StaysBeside, Ready, Steps, IsMended, writes_of};
-ghost use Rattle.gpt_core.specs.Writes.{WritesWithin};
+ghost use Rattle.gpt_core.specs.Table.{Table as Said, FitsTable, blocks_of, entry_number_of, header_at, other, entries_at, copy_in, DecidesTable, BothSay, header_lead, header_places, header_back, header_with, header_bytes, table_in_image, copy_from, copy_to};
+ghost use Rattle.gpt_core.specs.Repair.{MendsTable, HeadersGuarded, StaysBeside, Ready, RepairSteps, IsMended, writes_to_mend};
 
 use crate::headers::{
     ENTRY_SIZE, HEADER_SIZE, REVISION, blocks_for, entries_place, header_place, other_copy,
@@ -24,7 +21,7 @@ use crate::headers::{
 use crate::reading::Table;
 use crate::steps::repair_copy;
 use crate::table::{TableCopy, WhichTable};
-use base_core::{BLOCK_BYTES, crc32, put_at, put_le32};
+use base_core::{BLOCK_BYTES, crc32, put, put_at, put4, put8};
 use flash_core::{Flash, FlashStop};
 
 /// A number, with what its type says of it.
@@ -46,8 +43,8 @@ fn size_of(guid: &[u8; 16]) -> usize
 
 /// How many entries a table has, with what its type says of it.
 fn number_in_table(table: &Table) -> u32
-    requires few { number_of table.now ≤ 128 }
-    ensures value { result ≡ number_of table.now }
+    requires few { entry_number_of table.now ≤ 128 }
+    ensures value { result ≡ entry_number_of table.now }
     ensures disk { length table.now.disk ≡ 16 }
     ensures first { table.now.first < 18446744073709551616 }
     ensures last { table.now.last < 18446744073709551616 }
@@ -58,33 +55,6 @@ fn number_in_table(table: &Table) -> u32
     (table.entries.len() / 128) as u32
 }
 
-/// Writes bytes at a place, and gives the place behind them.
-fn put(out: &mut [u8], at: usize, bytes: &[u8]) -> usize
-    requires { at + length bytes.now ≤ length out.old }
-    ensures { PutsBytes at (length bytes.now) bytes.now out.old out.new result }
-{
-    put_at(out, at, bytes);
-    at + bytes.len()
-}
-
-/// Writes a number as four bytes at a place, and gives the place behind them.
-#[tactic(auto, using(base_core::proofs::Spelled::four_spelled))]
-fn put_four(out: &mut [u8], at: usize, value: u32) -> usize
-    requires { at + 4 ≤ length out.old }
-    ensures { PutsBytes at 4 (le 4 value) out.old out.new result }
-{
-    put(out, at, &value.to_le_bytes())
-}
-
-/// Writes a number as eight bytes at a place, and gives the place behind them.
-#[tactic(auto, using(base_core::proofs::Spelled::eight_spelled))]
-fn put_eight(out: &mut [u8], at: usize, value: u64) -> usize
-    requires { at + 8 ≤ length out.old }
-    ensures { PutsBytes at 8 (le 8 value) out.old out.new result }
-{
-    put(out, at, &value.to_le_bytes())
-}
-
 /// The bytes of a header before its checksum.
 #[tactic(auto, unfolding(crate::specs::Table::header_lead))]
 fn put_lead(out: &mut [u8]) -> usize
@@ -92,8 +62,8 @@ fn put_lead(out: &mut [u8]) -> usize
     ensures { PutsBytes 0 16 header_lead out.old out.new result }
 {
     let named = put(out, 0, b"EFI PART".as_slice());
-    let revised = put_four(out, named, REVISION);
-    put_four(out, revised, HEADER_SIZE)
+    let revised = put4(out, named, REVISION);
+    put4(out, revised, HEADER_SIZE)
 }
 
 /// Those from the checksum to the disk's GUID.
@@ -102,11 +72,11 @@ fn put_places(out: &mut [u8], at: usize, copy: TableCopy, blocks: u32, table: &T
     requires some { 1 ≤ blocks }
     ensures { PutsBytes at 36 (header_places copy blocks table.now) out.old out.new result }
 {
-    let zero = put_four(out, at, 0);
-    let own = put_eight(out, zero, header_place(copy, blocks) as u64);
-    let beside = put_eight(out, own, header_place(other_copy(copy), blocks) as u64);
-    let first = put_eight(out, beside, table.first);
-    put_eight(out, first, table.last)
+    let zero = put4(out, at, 0);
+    let own = put8(out, zero, header_place(copy, blocks) as u64);
+    let beside = put8(out, own, header_place(other_copy(copy), blocks) as u64);
+    let first = put8(out, beside, table.first);
+    put8(out, first, table.last)
 }
 
 /// And those behind the GUID.
@@ -116,14 +86,14 @@ fn put_back(out: &mut [u8], at: usize, copy: TableCopy, blocks: u32, table: &Tab
     ensures { PutsBytes at 20 (header_back copy blocks table.now) out.old out.new result }
 {
     let number = number_in_table(table);
-    let place = put_eight(
+    let place = put8(
         out,
         at,
         entries_place(copy, blocks, blocks_for(number)) as u64,
     );
-    let count = put_four(out, place, number);
-    let entry = put_four(out, count, ENTRY_SIZE);
-    put_four(out, entry, crc32(table.entries.as_slice()))
+    let count = put4(out, place, number);
+    let entry = put4(out, count, ENTRY_SIZE);
+    put4(out, entry, crc32(table.entries.as_slice()))
 }
 
 /// The header of a copy with this checksum.
@@ -134,7 +104,7 @@ fn header_of(copy: TableCopy, blocks: u32, table: &Table, sum: u32) -> [u8; 92]
 {
     let mut out = [0; 92];
     let lead = put_lead(&mut out);
-    let summed = put_four(&mut out, lead, sum);
+    let summed = put4(&mut out, lead, sum);
     let placed = put_places(&mut out, summed, copy, blocks, table);
     let named = put(&mut out, placed, &table.disk);
     put_back(&mut out, named, copy, blocks, table);
@@ -172,12 +142,10 @@ fn mend<D: Flash>(
     requires room { block_bytes ≤ length buf.old }
 
     ensures steps { IsTrue D.tells → Ready copy (D.blocks flash.old) table.now (D.told flash.old)
-        → Steps (IsMended (D.blocks flash.old) table.now) result (D.blocks flash.old) table.now (D.told flash.new) }
-    ensures writes { WritesWithin D.Flash (copy_from copy (D.blocks flash.old) (blocks_of (number_of table.now)))
-        (copy_to copy (D.blocks flash.old) (blocks_of (number_of table.now))) (2 + 2 * blocks_of (number_of table.now))
-        result flash.old flash.new }
+        → RepairSteps (IsMended (D.blocks flash.old) table.now) result (D.blocks flash.old) table.now (D.told flash.new) }
+    ensures writes { let n = D.blocks flash.old in let k = blocks_of (entry_number_of table.now) in
+        WritesWithin D.Flash (copy_from copy n k) (copy_to copy n k) (2 + 2 * k) result flash.old flash.new }
     ensures settled { OnOk result (IsTrue D.tells → NothingDirty (D.told flash.new)) }
-    ensures buffer { length buf.new ≡ length buf.old }
 {
     let blocks = flash.blocks();
     let number = number_in_table(table);
@@ -202,16 +170,15 @@ pub fn repair_table<D: Flash>(
     requires read { IsTrue D.tells → table_in_image (D.blocks flash.old) (D.told flash.old).now ≡ Some (table.now, which) }
 
     ensures mends { IsTrue D.tells → HeadersGuarded (D.blocks flash.old) (D.told flash.old)
-        → Mends result (D.blocks flash.old) table.now (D.told flash.new) }
+        → MendsTable result (D.blocks flash.old) table.now (D.told flash.new) }
     ensures none { which ≡ WhichTable.Same → flash.new ≡ flash.old }
     ensures alone { IsTrue D.tells → StaysBeside (D.blocks flash.old) table.now which (D.told flash.old) (D.told flash.new) }
     // When done nothing is dirty, whatever is guarded.
-    ensures settled { OnOk result (IsTrue D.tells → NothingDirty (D.told flash.old)
-        → NothingDirty (D.told flash.new)) }
+    ensures settled { OnOk result (IsTrue D.tells → NothingDirty (D.told flash.old) → NothingDirty (D.told flash.new)) }
     ensures goes { Goes D.Flash result flash.old flash.new }
     // When done, as many erases and programs were done as the copy that is repaired asks for.
-    ensures spent { OnOk result (D.arming flash.new
-        ≡ lowered_by (writes_of which (blocks_of (number_of table.now))) (D.arming flash.old)) }
+    ensures spent { let writes = writes_to_mend which (blocks_of (entry_number_of table.now)) in
+        OnOk result (D.arming flash.new ≡ lowered_by writes (D.arming flash.old)) }
     ensures buffer { length buf.new ≡ length buf.old }
 {
     match which {
@@ -224,10 +191,8 @@ pub fn repair_table<D: Flash>(
 /// A repair of a table leaves the flash that its partitions are, in each image that a loss may leave and, where nothing is dirty
 /// afterwards, as it is told.
 pub fn repairs_leave_the_partitions()
-    ensures images { (blocks : ℕ) (t : Said) (which : WhichTable) (p : Places) (s u : Told)
-        (image : List ℕ) → places_of blocks t ≡ Ok p → NothingDirty s
-        → StaysBeside blocks t which s u → May u image → through p image ≡ through p s.now }
-    ensures view { (blocks : ℕ) (t : Said) (which : WhichTable) (p : Places) (s u : Told)
-        → places_of blocks t ≡ Ok p → NothingDirty s → NothingDirty u
-        → StaysBeside blocks t which s u → view_of p u ≡ view_of p s }
+    ensures images { (blocks : ℕ) (t : Said) (which : WhichTable) (p : Places) (s u : Told) (image : List ℕ) → places_of blocks t ≡ Ok p
+        → NothingDirty s → StaysBeside blocks t which s u → May u image → through p image ≡ through p s.now }
+    ensures view { (blocks : ℕ) (t : Said) (which : WhichTable) (p : Places) (s u : Told) → places_of blocks t ≡ Ok p
+        → NothingDirty s → NothingDirty u → StaysBeside blocks t which s u → view_of p u ≡ view_of p s }
 {}

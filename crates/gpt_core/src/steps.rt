@@ -1,14 +1,11 @@
 //! The steps of a repair of a table.
 
-ghost use Rattle.flash_core.specs.Calls.{Goes};
 ghost use Rattle.std.specs.Prelude.{◌⊎◌, ◌≡◌, ℕ, ◌+◌, ◌*◌, ◌<◌, ◌≤◌, length, IsTrue, OnOk};
 ghost use Rattle.base_core.specs.Block.{block_bytes, block, blank};
-ghost use Rattle.base_core.specs.Bytes.{part};
-ghost use Rattle.flash_core.specs.Counts.{lowered_by};
 ghost use Rattle.flash_core.specs.Told.{NothingDirty};
-ghost use Rattle.flash_core.specs.May.{Keeps};
-ghost use Rattle.gpt_core.specs.Repair.{ClearsHeader, FillsEntries, WritesHeader, IsMended, Steps, Writing};
-ghost use Rattle.gpt_core.specs.Writes.{end_of_blocks, blocks_filled, FitsBlock, FitsBlocks, Spans, WritesWithin};
+ghost use Rattle.gpt_core.specs.Repair.{ClearsHeader, FillsEntries, WritesHeader, IsMended, RepairSteps, Writing};
+ghost use Rattle.gpt_core.specs.Writes.{end_of_blocks, blocks_filled, FitsBlock, FitsBlocks, HoldsFrom, Spans};
+ghost use Rattle.flash_core.specs.Calls.{WritesWithin};
 
 use base_core::BLOCK_BYTES;
 use flash_core::{Flash, FlashStop};
@@ -43,8 +40,7 @@ fn write_block<D: Flash>(flash: &mut D, b: u32, bytes: &[u8]) -> Result<(), Flas
     requires on { IsTrue (D.on flash.old) }
     requires fits { FitsBlock (D.blocks flash.old) b bytes.now }
     ensures writes { WritesWithin D.Flash (block_bytes * b) (block_bytes * b + block_bytes) 2 result flash.old flash.new }
-    ensures written { OnOk result (IsTrue D.tells
-        → part (D.told flash.new).now (block_bytes * b) (block_bytes * b + length bytes.now) ≡ bytes.now) }
+    ensures written { OnOk result (IsTrue D.tells → HoldsFrom (D.told flash.new).now b bytes.now) }
 {
     flash.erase(b)?;
     flash.program(BLOCK_BYTES * b, bytes)
@@ -54,10 +50,9 @@ fn write_block<D: Flash>(flash: &mut D, b: u32, bytes: &[u8]) -> Result<(), Flas
 fn write_blocks<D: Flash>(flash: &mut D, first: u32, bytes: &[u8]) -> Result<(), FlashStop>
     requires on { IsTrue (D.on flash.old) }
     requires fits { FitsBlocks (D.blocks flash.old) first bytes.now }
-    ensures writes { WritesWithin D.Flash (block_bytes * first) (end_of_blocks first (length bytes.now)) (2 * blocks_filled (length bytes.now))
-        result flash.old flash.new }
-    ensures written { OnOk result (IsTrue D.tells
-        → part (D.told flash.new).now (block_bytes * first) (block_bytes * first + length bytes.now) ≡ bytes.now) }
+    ensures writes { let size = length bytes.now in WritesWithin D.Flash (block_bytes * first) (end_of_blocks first size)
+        (2 * blocks_filled size) result flash.old flash.new }
+    ensures written { OnOk result (IsTrue D.tells → HoldsFrom (D.told flash.new).now first bytes.now) }
 {
     if bytes.len() <= BLOCK_BYTES as usize {
         return write_block(flash, first, bytes);
@@ -73,8 +68,8 @@ pub fn write_entries<D: Flash>(flash: &mut D, first: u32, bytes: &[u8]) -> Resul
     requires fits { FitsBlocks (D.blocks flash.old) first bytes.now }
     ensures steps { IsTrue D.tells
         → FillsEntries (D.blocks flash.old) first bytes.now result (D.told flash.old) (D.told flash.new) }
-    ensures writes { WritesWithin D.Flash (block_bytes * first) (end_of_blocks first (length bytes.now)) (2 * blocks_filled (length bytes.now))
-        result flash.old flash.new }
+    ensures writes { let size = length bytes.now in WritesWithin D.Flash (block_bytes * first) (end_of_blocks first size)
+        (2 * blocks_filled size) result flash.old flash.new }
 {
     write_blocks(flash, first, bytes)?;
     flash.barrier()
@@ -94,12 +89,10 @@ pub fn repair_copy<D: Flash>(
     requires entries_fit { FitsBlocks (D.blocks flash.old) first entries.now }
     requires apart { (header < first) ⊎ (first + blocks_filled (length entries.now) ≤ header) }
     ensures steps { IsTrue D.tells → (x : Writing (D.blocks flash.old) header first head.now entries.now (D.told flash.old))
-        → Steps (IsMended (D.blocks flash.old) x.t) result (D.blocks flash.old) x.t (D.told flash.new) }
-    ensures keeps { (low high : ℕ) → Spans low high header first (length entries.now) → IsTrue D.tells
-        → Keeps low high (D.told flash.old) (D.told flash.new) }
+        → RepairSteps (IsMended (D.blocks flash.old) x.t) result (D.blocks flash.old) x.t (D.told flash.new) }
+    ensures writes { (low high : ℕ) → Spans low high header first (length entries.now)
+        → WritesWithin D.Flash low high (2 + 2 * blocks_filled (length entries.now)) result flash.old flash.new }
     ensures settled { OnOk result (IsTrue D.tells → NothingDirty (D.told flash.new)) }
-    ensures goes { Goes D.Flash result flash.old flash.new }
-    ensures spent { OnOk result (D.arming flash.new ≡ lowered_by (2 + 2 * blocks_filled (length entries.now)) (D.arming flash.old)) }
 {
     clear_header(flash, header)?;
     write_entries(flash, first, entries)?;

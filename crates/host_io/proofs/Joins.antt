@@ -13,28 +13,6 @@ abbrev pub AreJoined : Directory → List ℕ → List Piece → List ℕ → Li
 AreJoined files frame pieces bytes left i =
     bytes ++ joined left (map (chunk_in files) (drop i pieces)) ≡ joined frame (map (chunk_in files) pieces)
 
-pub next_joined : (files : Directory) (frame : List ℕ) (pieces : List Piece) (bytes more left rest : List ℕ) (i : ℕ) (p : Piece)
-    → i < length pieces → p ≡ get_or pieces i p
-    → more ≡ bytes ++ (take p.gap left ++ (chunk_in files p).bytes) → rest ≡ drop p.gap left
-    → AreJoined files frame pieces bytes left i → AreJoined files frame pieces more rest (i + 1)
-next_joined files frame pieces bytes more left rest i p lt is added cut before =
-    let f = chunk_in files in
-    let tail = map f (drop (i + 1) pieces) in
-    let split : drop i pieces ≡ p ∷ drop (i + 1) pieces = drop_more pieces i p lt ∙ ap (λ (q : Piece). q ∷ drop (i + 1) pieces) (sym is) in
-    let behind = joined (drop p.gap left) tail in
-    let here : bytes ++ joined left (map f (drop i pieces)) ≡ bytes ++ (take p.gap left ++ ((f p).bytes ++ behind)) =
-    ap (λ (ps : List Piece). bytes ++ joined left (map f ps)) split in
-    ap (λ (l : List ℕ). more ++ joined l tail) cut
-    ∙ ap (λ (l : List ℕ). l ++ behind) added
-    ∙ append_assoc bytes (take p.gap left ++ (f p).bytes) behind
-    ∙ ap (λ (l : List ℕ). bytes ++ l) (append_assoc (take p.gap left) (f p).bytes behind)
-    ∙ sym here ∙ before
-
-pub all_joined : (files : Directory) (frame : List ℕ) (pieces : List Piece) (bytes left : List ℕ) (i : ℕ) → length pieces ≤ i
-    → AreJoined files frame pieces bytes left i → bytes ++ left ≡ joined frame (map (chunk_in files) pieces)
-all_joined files frame pieces bytes left i le before =
-    ap (λ (ps : List Piece). bytes ++ joined left (map (chunk_in files) ps)) (sym (drop_all i pieces le)) ∙ before
-
 -- ---- what is written of them
 
 pub appends-more : (a b c : Option (List ℕ)) (m n k : ℕ) → AppendsSome a b m → AppendsSome b c n → k ≡ m + n → AppendsSome a c k
@@ -43,9 +21,6 @@ appends-more a b c m n k s t is = record {
   size = length-append s.bytes t.bytes ∙ omega (arith, s.size, t.size, is);
   added = appends_twice a b c s.bytes t.bytes s.added t.added;
 }
-
-pub appends-nothing : (a : Option (List ℕ)) → AppendsSome a a 0
-appends-nothing a = record { bytes = []; size = refl; added = appends_none a }
 
 -- the first pieces are written
 pub record JoinedSome (start now : Option (List ℕ)) (frame left : List ℕ) (pieces : List Piece) (i : ℕ) : Type 0 where

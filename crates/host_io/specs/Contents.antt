@@ -1,5 +1,5 @@
 -- What files and sinks hold, where they tell it.
-use Rattle.std.specs.Prelude.{◌≡◌, ◌≢◌, ◌≤◌, ◌+◌, ℕ, ⊤, List, [], ◌∷◌, ◌++◌, Option, Some, None, IsSome, IfSome, IsSomeAnd, if◌then◌else◌, length, take, drop, map, option_map, String, Vec, string_bytes}
+use Rattle.std.specs.Prelude.{◌≡◌, ◌≢◌, ◌≤◌, ◌+◌, ℕ, ⊤, List, [], ◌∷◌, ◌++◌, Option, Some, None, IsSome, IfSome, IsSomeAnd, if◌then◌else◌, length, take, drop, map, option_map, MatchResult, Result, String, Vec, string_bytes}
 use Rattle.std.specs.Global.{Global}
 use Rattle.std.specs.Str.{bytes_eq}
 use Rattle.std.specs.Io.KnownBytes.{Appends}
@@ -47,6 +47,10 @@ Holds (Some files) name bytes = files name ≡ Some bytes
 abbrev pub StopsAt : WriteStop → Option (List ℕ) → Option (List ℕ) → List ℕ → Type 0
 StopsAt Failed old new piece = (n : ℕ) × Appends old new (take n piece)
 StopsAt NoMemory old new piece = new ≡ old
+
+-- what a put with this result took: all of the piece, or where it stopped so much
+abbrev pub TakesBytes : {T : Type 0} → Result T WriteStop → Option (List ℕ) → Option (List ℕ) → List ℕ → Type 0
+TakesBytes result old new piece = MatchResult result (λ _. Appends old new piece) (λ stopped. StopsAt stopped old new piece)
 
 -- the files of a list of names with their bytes, where the first of a name counts
 abbrev pub bytes_in : List (List ℕ × List ℕ) → Directory

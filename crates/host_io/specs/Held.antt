@@ -1,6 +1,8 @@
 -- What is seen of the objects in memory.
-use Rattle.std.specs.Prelude.{ℕ, List}
+use Rattle.std.specs.Prelude.{◌≡◌, ℕ, List, Option, Some, Result}
 use Rattle.host_io.specs.Calls.{Calls}
+use Rattle.host_io.specs.Causes.{CountsCall}
+use Rattle.host_io.specs.Contents.{Directory, bytes_in}
 use Rattle.host_io.specs.declared.writes.Writes.{Writes}
 
 -- a source: the bytes that are left
@@ -18,6 +20,16 @@ pub record HeldFiles : Type 0 where
   pub files : List (List ℕ × List ℕ)
   pub calls : Calls
   pub writes : Writes
+
+-- the bytes of each name
+abbrev pub told : HeldFiles → Option Directory
+told held = Some (bytes_in held.files)
+
+-- a call that only reads them: it fails exactly where it is listed
+pub record ReadsHeld {T E : Type 0} (result : Result T E) (old new : HeldFiles) : Type 0 where
+  pub same : told new ≡ told old
+  pub unwritten : new.writes ≡ old.writes
+  pub call : CountsCall result old.calls new.calls
 
 -- an adapter: the reader or the writer that it goes to, and how many calls failed
 pub record Adapted (T : Type 0) : Type 0 where

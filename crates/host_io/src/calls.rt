@@ -1,9 +1,8 @@
 //! The numbered calls of an object in memory.
 
-ghost use Rattle.std.specs.Prelude.{◌≡◌, ◌↔◌, ◌+◌, ◌≤◌, IsErr, IsTrue};
-ghost use Rattle.base_core.specs.Counts.{Rose};
-ghost use Rattle.host_io.specs.Calls.{IsListed, counted, failed, passed, unused};
-ghost use Rattle.host_io.specs.Causes.{HasCause};
+ghost use Rattle.std.specs.Prelude.{◌≡◌, ◌↔◌, IsTrue};
+ghost use Rattle.host_io.specs.Calls.{IsListed, failed, passed, unused};
+ghost use Rattle.host_io.specs.Causes.{CountsCall, CountsFault};
 
 use crate::stops::Failed;
 use std::marker::Model;
@@ -52,9 +51,7 @@ impl CallCounter {
     /// Counts a call that failed.
     pub fn fail(&mut self) -> Failed
         ensures failed { self.new ≡ failed self.old }
-        ensures rose { Rose self.old.faults self.new.faults }
-        ensures later { self.old.faults ≤ self.new.faults }
-        ensures once { self.new.faults ≤ self.old.faults + 1 }
+        ensures fault { CountsFault self.old.faults self.new.faults }
     {
         self.made = self.made.saturating_add(1);
         self.faults = self.faults.saturating_add(1);
@@ -63,9 +60,7 @@ impl CallCounter {
 
     /// Counts a call, which fails exactly where it is listed.
     pub fn count(&mut self) -> Result<(), Failed>
-        ensures listed { IsErr result ↔ IsListed self.old }
-        ensures counted { self.new ≡ counted result self.old }
-        ensures cause { HasCause self.old.faults self.new.faults result }
+        ensures { CountsCall result self.old self.new }
     {
         if self.fails_next() {
             return Err(self.fail());

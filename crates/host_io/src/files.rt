@@ -9,7 +9,7 @@ pub trait Files {
     ghost use Rattle.std.specs.Prelude.{◌≡◌, ◌≢◌, ◌⊎◌, ◌+◌, ◌≤◌, ℕ, Bool, Option, Err, IfOk, OnOk, OnErr, is_some, length, vec_capacity, vec_len};
     ghost use Rattle.base_core.specs.Counts.{Rose};
     ghost use Rattle.host_io.specs.Access.{Access, Asks, Makes, Overwrites};
-    ghost use Rattle.host_io.specs.Calls.{CountsJoin, CountsWrite, as_write, failures, write_failures};
+    ghost use Rattle.host_io.specs.Calls.{CountsJoin, CountsWrite, as_write};
     ghost use Rattle.host_io.specs.Causes.{HasCause, HasWriteCause};
     ghost use Rattle.std.specs.List.{All};
     ghost use Rattle.host_io.specs.Contents.{AddsRange, ChangesOnly, Directory, HasRange, Holds, TellsRange, TellsSize};
@@ -43,7 +43,6 @@ pub trait Files {
         ensures size { IfOk result (TellsSize (contents self.old) name.now) }
         ensures same { contents self.new ≡ contents self.old }
         ensures cause { HasCause (faults self.old) (faults self.new) result }
-        ensures count { faults self.new ≡ failures result (faults self.old) }
         ensures unwritten { writes self.new ≡ writes self.old }
         ensures spares { (access : Access) → access ≢ Asks name.now → spares self.old self.new access };
 
@@ -53,7 +52,6 @@ pub trait Files {
         ensures bytes { OnOk result (TellsRange (contents self.old) name.now at out.new) }
         ensures same { contents self.new ≡ contents self.old }
         ensures cause { HasCause (faults self.old) (faults self.new) result }
-        ensures count { faults self.new ≡ failures result (faults self.old) }
         ensures unwritten { writes self.new ≡ writes self.old }
         ensures spares { (access : Access) → access ≢ Asks name.now → spares self.old self.new access };
 
@@ -68,13 +66,11 @@ pub trait Files {
     ) -> Result<(), Failed>
         requires range { HasRange (contents self.old) name.now at count }
         requires room { vec_len out.old + count ≤ vec_capacity out.old }
-        ensures bytes { OnOk result
-            (AddsRange (contents self.old) name.now at count out.old.items out.new.items) }
+        ensures bytes { OnOk result (AddsRange (contents self.old) name.now at count out.old.items out.new.items) }
         ensures unchanged { OnErr result (out.new.items ≡ out.old.items) }
         ensures capacity { vec_capacity out.old ≤ vec_capacity out.new }
         ensures same { contents self.new ≡ contents self.old }
         ensures cause { HasCause (faults self.old) (faults self.new) result }
-        ensures count { faults self.new ≡ failures result (faults self.old) }
         ensures unwritten { writes self.new ≡ writes self.old }
         ensures spares { (access : Access) → access ≢ Asks name.now → spares self.old self.new access };
 
@@ -86,7 +82,6 @@ pub trait Files {
         ensures others { ChangesOnly (contents self.old) (contents self.new) name.now }
         ensures memory { result ≡ Err stop.NoMemory → contents self.new ≡ contents self.old }
         ensures cause { HasWriteCause (faults self.old) (faults self.new) result }
-        ensures count { faults self.new ≡ write_failures result (faults self.old) }
         ensures writes { CountsWrite result (writes self.old) (writes self.new) }
         ensures stands { result ≡ Err stop.Failed → (contents self.new ≡ contents self.old)
             ⊎ Rose (writes self.old).torn (writes self.new).torn }
@@ -109,13 +104,11 @@ pub trait Files {
         pieces: &[Piece<'_>],
     ) -> Result<(), JoinStop>
         requires { All (HasPiece (contents self.old)) pieces.now }
-        ensures written { OnOk result (HoldsJoined (contents self.old) (contents self.new) name.now
-            frame.now pieces.now) }
+        ensures written { OnOk result (HoldsJoined (contents self.old) (contents self.new) name.now frame.now pieces.now) }
         ensures others { ChangesOnly (contents self.old) (contents self.new) name.now }
         ensures unread { result ≡ Err join.Unread → contents self.new ≡ contents self.old }
         ensures memory { result ≡ Err join.NoMemory → contents self.new ≡ contents self.old }
         ensures cause { HasWriteCause (faults self.old) (faults self.new) (as_write result) }
-        ensures count { faults self.new ≡ write_failures (as_write result) (faults self.old) }
         ensures writes { CountsJoin result (writes self.old) (writes self.new) }
         ensures stands { result ≡ Err join.Failed → (contents self.new ≡ contents self.old)
             ⊎ Rose (writes self.old).torn (writes self.new).torn }

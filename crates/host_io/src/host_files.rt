@@ -1,11 +1,10 @@
 //! The files of the system.
 
-ghost use Rattle.std.specs.Prelude.{◌≡◌, ⊤, ◌+◌, ◌≤◌, false, refl, None, Err, IsSome, IfOk, OnErr, OnOk, drop, length, take, vec_capacity, vec_len};
+ghost use Rattle.std.specs.Prelude.{◌≡◌, ◌+◌, ◌≤◌, false, refl, None, Err, IfOk, OnErr, OnOk, drop, length, take, vec_capacity, vec_len};
+ghost use Rattle.std.proofs.Common.{◌∙◌};
 ghost use Rattle.std.specs.Io.KnownBytes.{Appends};
-ghost use Rattle.base_core.specs.Counts.{Rose};
-ghost use Rattle.host_io.specs.Calls.{CountsJoin, CountsWrite, as_write, failed_once, failures, raised, torn_once, write_failures};
-ghost use Rattle.host_io.specs.Causes.{HasCause, HasWriteCause};
-ghost use Rattle.host_io.specs.Contents.{AddsRange};
+ghost use Rattle.host_io.specs.Calls.{CountsJoin, CountsWrite, as_write};
+ghost use Rattle.host_io.specs.Causes.{CountsFault, HasWriteCause};
 ghost use Rattle.host_io.specs.Joined.{AppendsJoined, AppendsPiece, AppendsSome};
 ghost use Rattle.host_io.specs.declared.stops.WriteStop.TheVariants as stop;
 
@@ -56,8 +55,7 @@ fn copy_piece<F: Read, W: Write>(
     room: &mut [u8],
     into: &mut W,
 ) -> Result<(), JoinStop>
-    ensures copied { OnOk result (AppendsSome (W.contents into.old) (W.contents into.new)
-        (length room.old)) }
+    ensures copied { OnOk result (AppendsSome (W.contents into.old) (W.contents into.new) (length room.old)) }
 {
     file.read_exact(room).map_err(|_| JoinStop::Unread)?;
     put(room, into)
@@ -142,37 +140,17 @@ impl<R: std::rt::Files> HostFiles<R> {
 
     // Counts a fault.
     fn fail(&mut self) -> Failed
-        ensures count { self.new.faults ≡ raised self.old.faults }
-        ensures inner { self.new.inner ≡ self.old.inner }
-        ensures unwritten { self.new.writes ≡ self.old.writes }
-        ensures rose { Rose self.old.faults self.new.faults }
-        ensures later { self.old.faults ≤ self.new.faults }
-        ensures once { self.new.faults ≤ self.old.faults + 1 }
+        ensures faults { self.new ≡ record self.old { faults = self.new.faults } }
+        ensures fault { CountsFault self.old.faults self.new.faults }
     {
         self.faults = self.faults.saturating_add(1);
         Failed
-    }
-
-    // Counts a write that left its file as it was.
-    fn refuse(&mut self) -> WriteStop
-        ensures failed { result ≡ stop.Failed }
-        ensures count { self.new.faults ≡ raised self.old.faults }
-        ensures writes { self.new.writes ≡ failed_once self.old.writes }
-        ensures inner { self.new.inner ≡ self.old.inner }
-        ensures rose { Rose self.old.faults self.new.faults }
-        ensures later { self.old.faults ≤ self.new.faults }
-        ensures once { self.new.faults ≤ self.old.faults + 1 }
-    {
-        self.fail();
-        self.writes.fail();
-        WriteStop::Failed
     }
 
     // Counts a joined write that ended so, and tore no file.
     fn count_write(&mut self, end: Result<(), JoinStop>) -> Result<(), JoinStop>
         ensures end { result ≡ end }
         ensures cause { HasWriteCause self.old.faults self.new.faults (as_write result) }
-        ensures count { self.new.faults ≡ write_failures (as_write result) self.old.faults }
         ensures writes { CountsJoin result self.old.writes self.new.writes }
         ensures inner { self.new.inner ≡ self.old.inner }
     {
@@ -182,26 +160,12 @@ impl<R: std::rt::Files> HostFiles<R> {
                 self.fail();
             }
             Err(JoinStop::Failed) => {
-                self.refuse();
+                self.fail();
+                self.writes.fail();
             }
             Err(JoinStop::NoMemory) => {}
         }
         end
-    }
-
-    // Counts a write that may have torn its file.
-    fn tear(&mut self) -> WriteStop
-        ensures failed { result ≡ stop.Failed }
-        ensures count { self.new.faults ≡ raised self.old.faults }
-        ensures writes { self.new.writes ≡ torn_once self.old.writes }
-        ensures inner { self.new.inner ≡ self.old.inner }
-        ensures rose { Rose self.old.faults self.new.faults }
-        ensures later { self.old.faults ≤ self.new.faults }
-        ensures once { self.new.faults ≤ self.old.faults + 1 }
-    {
-        self.fail();
-        self.writes.tear();
-        WriteStop::Failed
     }
 
     // The file, at this place. What is no regular file, and a place behind its end, is an error.
@@ -264,8 +228,7 @@ impl<R: std::rt::Files> HostFiles<R> {
         room: &mut [u8; ROOM],
         into: &mut W,
     ) -> Result<(), JoinStop>
-        ensures copied { OnOk result (AppendsSome (W.contents into.old) (W.contents into.new)
-            piece.now.count) }
+        ensures copied { OnOk result (AppendsSome (W.contents into.old) (W.contents into.new) piece.now.count) }
     {
         let mut file = self
             .open_at(piece.file, piece.at)
@@ -291,8 +254,7 @@ impl<R: std::rt::Files> HostFiles<R> {
         room: &mut [u8; ROOM],
         into: &mut W,
     ) -> Result<&'a [u8], JoinStop>
-        ensures added { OnOk result (AppendsPiece (W.contents into.old) (W.contents into.new)
-            frame.now piece.now) }
+        ensures added { OnOk result (AppendsPiece (W.contents into.old) (W.contents into.new) frame.now piece.now) }
         ensures left { IfOk result (λ left. left.now ≡ drop piece.now.gap frame.now) }
     {
         let (front, rest) = frame.split_at(piece.gap.min(frame.len()));
@@ -308,8 +270,7 @@ impl<R: std::rt::Files> HostFiles<R> {
         pieces: &[Piece<'_>],
         into: &mut W,
     ) -> Result<(), JoinStop>
-        ensures joined { OnOk result (AppendsJoined (W.contents into.old) (W.contents into.new)
-            frame.now pieces.now) }
+        ensures joined { OnOk result (AppendsJoined (W.contents into.old) (W.contents into.new) frame.now pieces.now) }
     {
         let mut room = [0; ROOM];
         let mut left = frame;
@@ -402,19 +363,24 @@ impl<R: std::rt::Files> HostFiles<R> {
     fn write_over(&mut self, name: &str, bytes: &[u8]) -> Result<(), WriteStop>
         ensures failed { OnErr result (result ≡ Err stop.Failed) }
         ensures cause { HasWriteCause self.old.faults self.new.faults result }
-        ensures count { self.new.faults ≡ write_failures result self.old.faults }
         ensures writes { CountsWrite result self.old.writes self.new.writes }
         ensures inner { self.new.inner ≡ self.old.inner }
     {
         let Ok(mut file) = fs::create(&self.rt, name) else {
-            return Err(self.refuse());
+            self.fail();
+            self.writes.fail();
+            return Err(WriteStop::Failed);
         };
         match self.fill_whole(&mut file, bytes) {
             Ok(()) => {
                 self.writes.pass();
                 Ok(())
             }
-            Err(_) => Err(self.tear()),
+            Err(_) => {
+                self.fail();
+                self.writes.tear();
+                Err(WriteStop::Failed)
+            }
         }
     }
 
@@ -438,27 +404,6 @@ impl<R: std::rt::Files> HostFiles<R> {
         let mut bytes = Vec::with_capacity(alloc, size_of(frame, pieces))?;
         self.join(frame, pieces, &mut bytes)?;
         Ok(bytes)
-    }
-
-    // Makes the file where it stands, from memory, since it may be among those of the pieces.
-    fn rewrite(
-        &mut self,
-        alloc: Global,
-        name: &str,
-        frame: &[u8],
-        pieces: &[Piece<'_>],
-    ) -> Result<(), JoinStop>
-        ensures cause { HasWriteCause self.old.faults self.new.faults (as_write result) }
-        ensures count { self.new.faults ≡ write_failures (as_write result) self.old.faults }
-        ensures writes { CountsJoin result self.old.writes self.new.writes }
-        ensures inner { self.new.inner ≡ self.old.inner }
-    {
-        match self.joined(alloc, frame, pieces) {
-            Ok(bytes) => self
-                .write_over(name, bytes.as_slice())
-                .map_err(|_| JoinStop::Failed),
-            Err(stop) => self.count_write(Err(stop)),
-        }
     }
 
     // A new file beside one of this name, and its own name, or none where none can be made. That all names
@@ -491,6 +436,21 @@ impl<R: std::rt::Files> HostFiles<R> {
         };
         self.replace(name, fresh.as_str(), &mut file, frame, pieces)
     }
+
+    // Makes the file by a new one. Where none can take its place, gives the bytes that it is to be made of
+    // where it stands: from memory, since it may be among those of the pieces.
+    fn make(
+        &self,
+        alloc: Global,
+        name: &str,
+        frame: &[u8],
+        pieces: &[Piece<'_>],
+    ) -> Result<Option<Vec<u8>>, JoinStop> {
+        if self.make_beside(alloc, name, frame, pieces)? {
+            return Ok(None);
+        }
+        Ok(Some(self.joined(alloc, frame, pieces)?))
+    }
 }
 
 impl<R: std::rt::Files> Files for HostFiles<R> {
@@ -504,20 +464,15 @@ impl<R: std::rt::Files> Files for HostFiles<R> {
 
     ghost writes = { λ f. f.writes };
 
-    ghost spares = { λ _ _ _. ⊤ };
+    /// What a call asks of the system no clause can tell. Each call goes to the same runtime.
+    ghost spares = { λ old new _. new.inner ≡ old.inner };
 
-    ghost at_rest = { λ _ _. tt };
+    ghost at_rest = { λ _ _. refl };
 
-    ghost joins = { λ _ _ _ _ _ _. tt };
+    ghost joins = { λ _ _ _ _ first next. next ∙ first };
 
-    /// Besides what the trait says, `Ok` always holds a size.
-    fn size(&mut self, name: &str) -> Result<Option<u64>, Failed>
-        ensures size { IfOk result (λ size. IsSome size) }
-        ensures cause { HasCause self.old.faults self.new.faults result }
-        ensures count { self.new.faults ≡ failures result self.old.faults }
-        ensures unwritten { self.new.writes ≡ self.old.writes }
-        ensures inner { self.new.inner ≡ self.old.inner }
-    {
+    /// `Ok` always holds a size.
+    fn size(&mut self, name: &str) -> Result<Option<u64>, Failed> {
         self.kept = None;
         match fs::metadata(&self.rt, name) {
             Ok(found) if found.is_file() => Ok(Some(found.len())),
@@ -525,12 +480,7 @@ impl<R: std::rt::Files> Files for HostFiles<R> {
         }
     }
 
-    fn read_at(&mut self, name: &str, at: u64, out: &mut [u8]) -> Result<(), Failed>
-        ensures cause { HasCause self.old.faults self.new.faults result }
-        ensures count { self.new.faults ≡ failures result self.old.faults }
-        ensures unwritten { self.new.writes ≡ self.old.writes }
-        ensures inner { self.new.inner ≡ self.old.inner }
-    {
+    fn read_at(&mut self, name: &str, at: u64, out: &mut [u8]) -> Result<(), Failed> {
         match self.fill(name, at, out) {
             Ok(()) => Ok(()),
             Err(_) => Err(self.fail()),
@@ -543,17 +493,7 @@ impl<R: std::rt::Files> Files for HostFiles<R> {
         at: u64,
         count: usize,
         out: &mut Vec<u8>,
-    ) -> Result<(), Failed>
-        requires room { vec_len out.old + count ≤ vec_capacity out.old }
-        ensures bytes { OnOk result
-            (AddsRange None name.now at count out.old.items out.new.items) }
-        ensures unchanged { OnErr result (out.new.items ≡ out.old.items) }
-        ensures capacity { vec_capacity out.old ≤ vec_capacity out.new }
-        ensures cause { HasCause self.old.faults self.new.faults result }
-        ensures count { self.new.faults ≡ failures result self.old.faults }
-        ensures unwritten { self.new.writes ≡ self.old.writes }
-        ensures inner { self.new.inner ≡ self.old.inner }
-    {
+    ) -> Result<(), Failed> {
         let before = out.len();
         match self.append(name, at, count, out) {
             Ok(()) => Ok(()),
@@ -568,7 +508,6 @@ impl<R: std::rt::Files> Files for HostFiles<R> {
     fn write_whole(&mut self, name: &str, bytes: &[u8]) -> Result<(), WriteStop>
         ensures failed { OnErr result (result ≡ Err stop.Failed) }
         ensures cause { HasWriteCause self.old.faults self.new.faults result }
-        ensures count { self.new.faults ≡ write_failures result self.old.faults }
         ensures writes { CountsWrite result self.old.writes self.new.writes }
         ensures inner { self.new.inner ≡ self.old.inner }
     {
@@ -592,16 +531,13 @@ impl<R: std::rt::Files> Files for HostFiles<R> {
         name: &str,
         frame: &[u8],
         pieces: &[Piece<'_>],
-    ) -> Result<(), JoinStop>
-        ensures cause { HasWriteCause self.old.faults self.new.faults (as_write result) }
-        ensures count { self.new.faults ≡ write_failures (as_write result) self.old.faults }
-        ensures writes { CountsJoin result self.old.writes self.new.writes }
-        ensures inner { self.new.inner ≡ self.old.inner }
-    {
+    ) -> Result<(), JoinStop> {
         self.kept = None;
-        match self.make_beside(alloc, name, frame, pieces) {
-            Ok(true) => self.count_write(Ok(())),
-            Ok(false) => self.rewrite(alloc, name, frame, pieces),
+        match self.make(alloc, name, frame, pieces) {
+            Ok(None) => self.count_write(Ok(())),
+            Ok(Some(bytes)) => self
+                .write_over(name, bytes.as_slice())
+                .map_err(|_| JoinStop::Failed),
             Err(stop) => self.count_write(Err(stop)),
         }
     }

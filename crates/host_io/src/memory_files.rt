@@ -2,9 +2,10 @@
 
 ghost use Rattle.std.specs.Prelude.{◌≡◌, ⊤, ◌≢◌, ◌↔◌, ◌+◌, ◌++◌, ◌≤◌, ℕ, true, refl, List, Some, Err, IsErr, IfOk, OnOk, OnErr, drop, length, map, option_map, take, vec_capacity, vec_len};
 ghost use Rattle.std.specs.List.{All};
-ghost use Rattle.host_io.specs.Calls.{IsListed, as_write, counted, failures, unused, write_counted, write_failures, writes_after};
-ghost use Rattle.host_io.specs.Causes.{HasCause, HasWriteCause};
+ghost use Rattle.host_io.specs.Calls.{as_write, unused, writes_after};
+ghost use Rattle.host_io.specs.Causes.{CountsWriting};
 ghost use Rattle.host_io.specs.Contents.{AddsRange, ChangesOnly, HasRange, Holds, TellsRange, TellsSize, bytes_in, pairs_of, place_in};
+ghost use Rattle.host_io.specs.Held.{ReadsHeld, told};
 ghost use Rattle.host_io.specs.Joined.{HasPiece, HoldsJoined, chunk_in, joined};
 ghost use Rattle.host_io.specs.declared.stops.JoinStop.TheVariants as join;
 ghost use Rattle.host_io.specs.declared.stops.WriteStop.TheVariants as stop;
@@ -157,7 +158,7 @@ impl Files for MemoryFiles {
 
     ghost steady = { λ _. refl };
 
-    ghost contents = { λ m. Some (bytes_in m.files) };
+    ghost contents = { told };
 
     ghost faults = { λ m. m.calls.faults };
 
@@ -171,13 +172,8 @@ impl Files for MemoryFiles {
 
     /// Besides what the trait says, it fails exactly at the listed calls.
     fn size(&mut self, name: &str) -> Result<Option<u64>, Failed>
-        ensures size { IfOk result (TellsSize (Some (bytes_in self.old.files)) name.now) }
-        ensures same { Some (bytes_in self.new.files) ≡ Some (bytes_in self.old.files) }
-        ensures cause { HasCause self.old.calls.faults self.new.calls.faults result }
-        ensures count { self.new.calls.faults ≡ failures result self.old.calls.faults }
-        ensures unwritten { self.new.writes ≡ self.old.writes }
-        ensures listed { IsErr result ↔ IsListed self.old.calls }
-        ensures calls { self.new.calls ≡ counted result self.old.calls }
+        ensures size { IfOk result (TellsSize (told self.old) name.now) }
+        ensures reads { ReadsHeld result self.old self.new }
     {
         self.calls.count()?;
         Ok(bytes_of(self.files.as_slice(), name).map(|bytes| bytes.len() as u64))
@@ -185,14 +181,9 @@ impl Files for MemoryFiles {
 
     /// Besides what the trait says, it fails exactly at the listed calls.
     fn read_at(&mut self, name: &str, at: u64, out: &mut [u8]) -> Result<(), Failed>
-        requires { HasRange (Some (bytes_in self.old.files)) name.now at (length out.old) }
-        ensures bytes { OnOk result (TellsRange (Some (bytes_in self.old.files)) name.now at out.new) }
-        ensures same { Some (bytes_in self.new.files) ≡ Some (bytes_in self.old.files) }
-        ensures cause { HasCause self.old.calls.faults self.new.calls.faults result }
-        ensures count { self.new.calls.faults ≡ failures result self.old.calls.faults }
-        ensures unwritten { self.new.writes ≡ self.old.writes }
-        ensures listed { IsErr result ↔ IsListed self.old.calls }
-        ensures calls { self.new.calls ≡ counted result self.old.calls }
+        requires { HasRange (told self.old) name.now at (length out.old) }
+        ensures bytes { OnOk result (TellsRange (told self.old) name.now at out.new) }
+        ensures reads { ReadsHeld result self.old self.new }
     {
         self.calls.count()?;
         if let Some(bytes) = bytes_of(self.files.as_slice(), name) {
@@ -210,18 +201,12 @@ impl Files for MemoryFiles {
         count: usize,
         out: &mut Vec<u8>,
     ) -> Result<(), Failed>
-        requires range { HasRange (Some (bytes_in self.old.files)) name.now at count }
+        requires range { HasRange (told self.old) name.now at count }
         requires room { vec_len out.old + count ≤ vec_capacity out.old }
-        ensures bytes { OnOk result
-            (AddsRange (Some (bytes_in self.old.files)) name.now at count out.old.items out.new.items) }
+        ensures bytes { OnOk result (AddsRange (told self.old) name.now at count out.old.items out.new.items) }
         ensures unchanged { OnErr result (out.new.items ≡ out.old.items) }
         ensures capacity { vec_capacity out.old ≤ vec_capacity out.new }
-        ensures same { Some (bytes_in self.new.files) ≡ Some (bytes_in self.old.files) }
-        ensures cause { HasCause self.old.calls.faults self.new.calls.faults result }
-        ensures count { self.new.calls.faults ≡ failures result self.old.calls.faults }
-        ensures unwritten { self.new.writes ≡ self.old.writes }
-        ensures listed { IsErr result ↔ IsListed self.old.calls }
-        ensures calls { self.new.calls ≡ counted result self.old.calls }
+        ensures reads { ReadsHeld result self.old self.new }
     {
         self.calls.count()?;
         if let Some(bytes) = bytes_of(self.files.as_slice(), name) {
@@ -234,16 +219,11 @@ impl Files for MemoryFiles {
     /// Besides what the trait says, it fails exactly at the listed calls, and then changes nothing. A
     /// call that finds no memory has no number.
     fn write_whole(&mut self, name: &str, bytes: &[u8]) -> Result<(), WriteStop>
-        ensures written { OnOk result (Holds (Some (bytes_in self.new.files)) name.now bytes.now) }
-        ensures others { ChangesOnly (Some (bytes_in self.old.files))
-            (Some (bytes_in self.new.files)) name.now }
-        ensures memory { result ≡ Err stop.NoMemory →
-            Some (bytes_in self.new.files) ≡ Some (bytes_in self.old.files) }
-        ensures cause { HasWriteCause self.old.calls.faults self.new.calls.faults result }
-        ensures count { self.new.calls.faults ≡ write_failures result self.old.calls.faults }
+        ensures written { OnOk result (Holds (told self.new) name.now bytes.now) }
+        ensures others { ChangesOnly (told self.old) (told self.new) name.now }
+        ensures memory { result ≡ Err stop.NoMemory → told self.new ≡ told self.old }
         ensures writes { self.new.writes ≡ writes_after result self.old.writes }
-        ensures listed { (result ≡ Err stop.Failed) ↔ IsListed self.old.calls }
-        ensures calls { self.new.calls ≡ write_counted result self.old.calls }
+        ensures call { CountsWriting result self.old.calls self.new.calls }
         ensures unchanged { OnErr result (self.new.files ≡ self.old.files) }
     {
         if self.calls.fails_next() {
@@ -266,19 +246,13 @@ impl Files for MemoryFiles {
         frame: &[u8],
         pieces: &[Piece<'_>],
     ) -> Result<(), JoinStop>
-        requires { All (HasPiece (Some (bytes_in self.old.files))) pieces.now }
-        ensures written { OnOk result (HoldsJoined (Some (bytes_in self.old.files))
-            (Some (bytes_in self.new.files)) name.now frame.now pieces.now) }
-        ensures others { ChangesOnly (Some (bytes_in self.old.files))
-            (Some (bytes_in self.new.files)) name.now }
+        requires { All (HasPiece (told self.old)) pieces.now }
+        ensures written { OnOk result (HoldsJoined (told self.old) (told self.new) name.now frame.now pieces.now) }
+        ensures others { ChangesOnly (told self.old) (told self.new) name.now }
         ensures read { result ≡ Err join.Unread → ⊥ }
-        ensures memory { result ≡ Err join.NoMemory →
-            Some (bytes_in self.new.files) ≡ Some (bytes_in self.old.files) }
-        ensures cause { HasWriteCause self.old.calls.faults self.new.calls.faults (as_write result) }
-        ensures count { self.new.calls.faults ≡ write_failures (as_write result) self.old.calls.faults }
+        ensures memory { result ≡ Err join.NoMemory → told self.new ≡ told self.old }
         ensures writes { self.new.writes ≡ writes_after (as_write result) self.old.writes }
-        ensures listed { (result ≡ Err join.Failed) ↔ IsListed self.old.calls }
-        ensures calls { self.new.calls ≡ write_counted (as_write result) self.old.calls }
+        ensures call { CountsWriting (as_write result) self.old.calls self.new.calls }
         ensures unchanged { OnErr result (self.new.files ≡ self.old.files) }
     {
         if self.calls.fails_next() {

@@ -1,11 +1,10 @@
 //! A place for bytes.
 
-ghost use Rattle.std.specs.Prelude.{◌≡◌, ◌↔◌, ◌+◌, ◌<◌, ◌≤◌, ℕ, Bool, true, refl, List, Option, Some, Err, IfOk, MatchResult, OnErr, is_some, length};
-ghost use Rattle.std.specs.Io.KnownBytes.{Appends, Keeps, WriteAppends};
-ghost use Rattle.base_core.specs.Counts.{Rose};
-ghost use Rattle.host_io.specs.Calls.{IsListed, failures, raised, unused, write_counted, write_failures};
-ghost use Rattle.host_io.specs.Causes.{HasCause, HasWriteCause};
-ghost use Rattle.host_io.specs.Contents.{StopsAt};
+ghost use Rattle.std.specs.Prelude.{◌≡◌, ◌<◌, ◌≤◌, ℕ, Bool, true, refl, List, Option, Some, Err, IfOk, OnErr, is_some, length};
+ghost use Rattle.std.specs.Io.KnownBytes.{Keeps, WriteAppends};
+ghost use Rattle.host_io.specs.Calls.{unused};
+ghost use Rattle.host_io.specs.Causes.{CountsFault, CountsWriting, HasCause, HasWriteCause};
+ghost use Rattle.host_io.specs.Contents.{TakesBytes};
 ghost use Rattle.host_io.specs.declared.stops.WriteStop.TheVariants as stop;
 
 use crate::calls::CallCounter;
@@ -29,11 +28,8 @@ pub trait Sink {
 
     /// Adds the bytes at the end. After `Failed` a front of them was added, after `NoMemory` none.
     fn put(&mut self, bytes: &[u8]) -> Result<(), WriteStop>
-        ensures bytes { MatchResult result (λ _. Appends (taken self.old)
-            (taken self.new) bytes.now)
-            (λ stopped. StopsAt stopped (taken self.old) (taken self.new) bytes.now) }
-        ensures cause { HasWriteCause (faults self.old) (faults self.new) result }
-        ensures count { faults self.new ≡ write_failures result (faults self.old) };
+        ensures bytes { TakesBytes result (taken self.old) (taken self.new) bytes.now }
+        ensures cause { HasWriteCause (faults self.old) (faults self.new) result };
 
     /// The bytes that were taken are told at each time, or never.
     ghost steady: { (s : Self) → is_some (taken s) ≡ tells };
@@ -85,13 +81,8 @@ impl Sink for MemorySink {
     /// Besides what the trait says, it fails exactly at the listed calls, and then takes nothing. A
     /// call that finds no memory has no number.
     fn put(&mut self, bytes: &[u8]) -> Result<(), WriteStop>
-        ensures bytes { MatchResult result (λ _. Appends (Some self.old.taken)
-            (Some self.new.taken) bytes.now)
-            (λ stopped. StopsAt stopped (Some self.old.taken) (Some self.new.taken) bytes.now) }
-        ensures cause { HasWriteCause self.old.calls.faults self.new.calls.faults result }
-        ensures count { self.new.calls.faults ≡ write_failures result self.old.calls.faults }
-        ensures listed { (result ≡ Err stop.Failed) ↔ IsListed self.old.calls }
-        ensures calls { self.new.calls ≡ write_counted result self.old.calls }
+        ensures bytes { TakesBytes result (Some self.old.taken) (Some self.new.taken) bytes.now }
+        ensures call { CountsWriting result self.old.calls self.new.calls }
         ensures same { OnErr result (self.new.taken ≡ self.old.taken) }
     {
         if self.calls.fails_next() {
@@ -131,10 +122,7 @@ impl<W: Write> StdSink<W> {
     // Counts a fault.
     fn fail(&mut self) -> Failed
         ensures inner { self.new.inner ≡ self.old.inner }
-        ensures count { self.new.faults ≡ raised self.old.faults }
-        ensures rose { Rose self.old.faults self.new.faults }
-        ensures later { self.old.faults ≤ self.new.faults }
-        ensures once { self.new.faults ≤ self.old.faults + 1 }
+        ensures fault { CountsFault self.old.faults self.new.faults }
     {
         self.faults = self.faults.saturating_add(1);
         Failed
@@ -143,10 +131,8 @@ impl<W: Write> StdSink<W> {
     // Writes a front of the piece, of one byte at least.
     fn write_some(&mut self, piece: &[u8]) -> Result<usize, Failed>
         ensures some { IfOk result (λ count. (0 < count) × (count ≤ length piece.now)) }
-        ensures bytes { WriteAppends (W.contents self.old.inner)
-            (W.contents self.new.inner) result piece.now }
+        ensures bytes { WriteAppends (W.contents self.old.inner) (W.contents self.new.inner) result piece.now }
         ensures cause { HasCause self.old.faults self.new.faults result }
-        ensures count { self.new.faults ≡ failures result self.old.faults }
     {
         match write_again(&mut self.writer, piece) {
             Ok(count) if count > 0 => Ok(count),
@@ -158,7 +144,6 @@ impl<W: Write> StdSink<W> {
     fn flush(&mut self) -> Result<(), Failed>
         ensures bytes { Keeps (W.contents self.old.inner) (W.contents self.new.inner) }
         ensures cause { HasCause self.old.faults self.new.faults result }
-        ensures count { self.new.faults ≡ failures result self.old.faults }
     {
         match flush_again(&mut self.writer) {
             Ok(()) => Ok(()),
@@ -179,13 +164,9 @@ impl<W: SteadyWrite> Sink for StdSink<W> {
 
     /// Besides what the trait says, each `Err` is `Failed`, also where the writer had no memory.
     fn put(&mut self, bytes: &[u8]) -> Result<(), WriteStop>
-        ensures bytes { MatchResult result
-            (λ _. Appends (W.contents self.old.inner) (W.contents self.new.inner) bytes.now)
-            (λ stopped. StopsAt stopped
-            (W.contents self.old.inner) (W.contents self.new.inner) bytes.now) }
+        ensures bytes { TakesBytes result (W.contents self.old.inner) (W.contents self.new.inner) bytes.now }
         ensures failed { OnErr result (result ≡ Err stop.Failed) }
         ensures cause { HasWriteCause self.old.faults self.new.faults result }
-        ensures count { self.new.faults ≡ write_failures result self.old.faults }
     {
         let mut rest = bytes;
         while !rest.is_empty() {

@@ -1,10 +1,10 @@
 //! Bytes that come in pieces.
 
-ghost use Rattle.std.specs.Prelude.{◌≡◌, ◌↔◌, ◌≤◌, ◌++◌, ◌∷◌, [], ⊤, ℕ, Bool, true, refl, List, Option, Some, IsErr, drop, is_some, length};
+ghost use Rattle.std.specs.Prelude.{◌≡◌, ◌≤◌, ◌++◌, ◌∷◌, [], ⊤, ℕ, Bool, true, refl, List, Option, Some, drop, is_some, length};
 ghost use Rattle.std.specs.Io.{ReadsAtMost};
 ghost use Rattle.std.specs.Io.KnownBytes.{ReadConsumes};
-ghost use Rattle.host_io.specs.Calls.{IsListed, counted, failures, gave, unused};
-ghost use Rattle.host_io.specs.Causes.{HasCause};
+ghost use Rattle.host_io.specs.Calls.{gave, unused};
+ghost use Rattle.host_io.specs.Causes.{CountsCall, HasCause};
 
 use crate::calls::CallCounter;
 use crate::retries::read_again;
@@ -35,7 +35,6 @@ pub trait Source {
         ensures bound { ReadsAtMost result out.new }
         ensures bytes { ReadConsumes (left self.old) (left self.new) result out.new }
         ensures cause { HasCause (faults self.old) (faults self.new) result }
-        ensures count { faults self.new ≡ failures result (faults self.old) }
         ensures made { reads self.old self.new (gave result ∷ []) };
 
     /// The bytes that are left are told at each time, or never.
@@ -99,10 +98,7 @@ impl Source for MemorySource {
     fn read(&mut self, out: &mut [u8]) -> Result<usize, Failed>
         ensures bound { ReadsAtMost result out.new }
         ensures bytes { ReadConsumes (Some self.old.left) (Some self.new.left) result out.new }
-        ensures cause { HasCause self.old.calls.faults self.new.calls.faults result }
-        ensures count { self.new.calls.faults ≡ failures result self.old.calls.faults }
-        ensures listed { IsErr result ↔ IsListed self.old.calls }
-        ensures calls { self.new.calls ≡ counted result self.old.calls }
+        ensures call { CountsCall result self.old.calls self.new.calls }
     {
         self.calls.count()?;
         let rest = &self.bytes[self.at..];

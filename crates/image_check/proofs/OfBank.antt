@@ -5,7 +5,7 @@ use Rattle.std.proofs.lemmas.Bool.{and_parts}
 use Rattle.std.proofs.lemmas.List.{take-take, length-take-le, length-drop}
 use Rattle.std.proofs.lemmas.List.Sums.{sum_by_more_le}
 use Rattle.std.proofs.lemmas.List.FromFn.{length-map-range_with_len, get_or-map-range_with_len}
-use Rattle.std.specs.Prelude.{IsTrue}
+use Rattle.std.specs.Prelude.{IsTrue, slice_range}
 use Rattle.std.specs.List.{list_all}
 use Rattle.base_core.specs.Bytes.{num_at, same_bytes}
 use Rattle.sha2.specs.Sha256.{sha256}
@@ -19,7 +19,7 @@ use Rattle.fwu_formats.proofs.Spell.{num_front}
 use Rattle.manifest_core.proofs.InTurn.{of_front}
 use Rattle.manifest_core.proofs.Passed.{manifest_passed, sizes_fit}
 use Rattle.image_check.specs.Found.{is_good, place, by_version, found, front_of}
-use Rattle.image_check.specs.Verdict.{lowest_bad, by_manifest, has_image, verdict_on}
+use Rattle.image_check.specs.Verdict.{lowest_bad, by_manifest, package_has_image, verdict_on}
 use Rattle.image_check.proofs.Sums.{total_more_le}
 use Rattle.image_check.proofs.Lowest.{same_bad}
 
@@ -131,7 +131,7 @@ module _ (passes : List ℕ → Bool) (counter : ℕ) (image : List ℕ) (L : La
         ∙ get_or-map-range_with_len (λ (j : ℕ). take (get_or m.rows j none_said).size (slot L image bank (j + 1))) 0 (length m.rows) i i [] (omega (arith, within, count)) (omega arith)
         ∙ ap (λ (r : Row). take r.size (slot L image bank (i + 1))) (row-is i within)
 
-    each : (i : ℕ) → i < length rows - 1 → is_good image rows first whole i ≡ has_image m parts i
+    each : (i : ℕ) → i < length rows - 1 → is_good image rows first whole i ≡ package_has_image m parts i
     each i within =
         let next : i + 1 < length rows = omega (arith, within) in
         let fit : (row_at whole i).size ≤ 4096 * (get_or rows (i + 1) no_row).slots = sizes_fit rows whole m.security whole-size (ap version_of (manifest-same ∙ h)) i no_row next in
@@ -140,10 +140,10 @@ module _ (passes : List ℕ → Bool) (counter : ℕ) (image : List ℕ) (L : La
         ∙ ap (is_image_of (row_at whole i)) (sym (image-is i within))
         ∙ ap (λ (r : Row). is_image_of r (get_or parts (i + 1) [])) (sym (row-is i within))
 
-    bads : lowest_bad (is_good image rows first whole) 0 (length rows - 1) ≡ lowest_bad (has_image m parts) 0 (length m.rows)
+    bads : lowest_bad (is_good image rows first whole) 0 (length rows - 1) ≡ lowest_bad (package_has_image m parts) 0 (length m.rows)
     bads =
-        same_bad (is_good image rows first whole) (has_image m parts) 0 (length rows - 1) (λ i low high. each i (omega (arith, high)))
-        ∙ ap (λ (n : ℕ). lowest_bad (has_image m parts) 0 n) (sym count)
+        same_bad (is_good image rows first whole) (package_has_image m parts) 0 (length rows - 1) (λ i low high. each i (omega (arith, high)))
+        ∙ ap (λ (n : ℕ). lowest_bad (package_has_image m parts) 0 n) (sym count)
 
     asked : take (manifest_size (length m.rows)) front ≡ whole
     asked = ap (λ (n : ℕ). take (manifest_size n) front) count ∙ whole-is
@@ -151,7 +151,7 @@ module _ (passes : List ℕ → Bool) (counter : ℕ) (image : List ℕ) (L : La
     of-package : by_version (passes whole) counter (lowest_bad (is_good image rows first whole) 0 (length rows - 1)) (Ok m.security) ≡ by_manifest passes counter L image bank (Ok m)
     of-package =
         ap (λ (bad : Option ℕ). by_version (passes whole) counter bad (Ok m.security)) bads
-        ∙ ap (λ (b : List ℕ). by_version (passes b) counter (lowest_bad (has_image m parts) 0 (length m.rows)) (Ok m.security)) (sym asked)
+        ∙ ap (λ (b : List ℕ). by_version (passes b) counter (lowest_bad (package_has_image m parts) 0 (length m.rows)) (Ok m.security)) (sym asked)
 
   by-cases : (r : Result Manifest ManifestFault) → manifest_of rows front ≡ r
       → by_version (passes whole) counter (lowest_bad (is_good image rows first whole) 0 (length rows - 1)) (version_of r) ≡ by_manifest passes counter L image bank r
@@ -164,6 +164,13 @@ module _ (passes : List ℕ → Bool) (counter : ℕ) (image : List ℕ) (L : La
   found_is =
       ap (λ (r : Result Manifest ManifestFault). by_version (passes whole) counter (lowest_bad (is_good image rows first whole) 0 (length rows - 1)) (version_of r)) manifest-same
       ∙ by-cases (manifest_of rows front) refl
+
+-- what was read there is the front
+pub front_read : (image : List ℕ) (rows : List ImageRow) (first : ℕ) (out : List ℕ) (asked : ℕ) → out ≡ slice_range image (4096 * first) (4096 * first + asked)
+    → asked ≡ manifest_size (length rows - 1) → out ≡ front_of image rows first
+front_read image rows first out asked told size =
+    let span : 4096 * first + asked - 4096 * first ≡ manifest_size (length rows - 1) = omega (arith, size) in
+    told ∙ ap (λ (n : ℕ). take n (drop (4096 * first) image)) span
 
 -- a layout's bank has a block
 pub some_blocks : (L : Layout) → IsTrue (fits_layout L) → 1 ≤ slot_total L.rows

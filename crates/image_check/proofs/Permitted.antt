@@ -16,8 +16,8 @@ use Rattle.fwu_formats.proofs.Spell.{num_front}
 use Rattle.manifest_core.proofs.InTurn.{of_front}
 use Rattle.manifest_core.proofs.Passed.{manifest_passed}
 use Rattle.image_check.specs.declared.bank.Verdict.TheVariants as verdict
-use Rattle.image_check.specs.Verdict.{lowest_bad, by_images, by_manifest, has_image, verdict_on}
-use Rattle.image_check.specs.Law.{GoodIsHeld, GoodIsPermitted, PermittedIsGood, may_start}
+use Rattle.image_check.specs.Verdict.{lowest_bad, by_images, by_manifest, package_has_image, verdict_on}
+use Rattle.image_check.specs.Law.{GoodIsHeld, GoodIsPermitted, PermittedIsGood, verdict_may_start}
 use Rattle.image_check.specs.declared.bank.Verdict.{Verdict}
 use Rattle.image_check.proofs.OfBank.{none_said}
 
@@ -73,7 +73,7 @@ module _ (L : Layout) (image : List ℕ) (bank : ℕ) (fits : IsTrue (fits_layou
   unfolding version
   version-is = ap (λ (k : Manifest). k.security) says
 
-  complete-is : is_complete L.rows parts ≡ is_none (lowest_bad (has_image m parts) 0 (length m.rows))
+  complete-is : is_complete L.rows parts ≡ is_none (lowest_bad (package_has_image m parts) 0 (length m.rows))
   unfolding is_complete
   complete-is =
       let limit = limits L fits in
@@ -84,7 +84,7 @@ module _ (L : Layout) (image : List ℕ) (bank : ℕ) (fits : IsTrue (fits_layou
       let sized : eqb (length (take (manifest_size (length m.rows)) front)) size ≡ true = eq-eqb _ _ (ap length manifest-is ∙ length-take-le size front long) in
       rw (all, ok, sized)
       (ap (λ (k : Manifest). all_paired is_image_of k.rows rest) says
-      ∙ paired-lowest is_image_of none_said [] (has_image m parts) 0 m.rows rest rest-long
+      ∙ paired-lowest is_image_of none_said [] (package_has_image m parts) 0 m.rows rest rest-long
       (λ j below. ap (λ (n : ℕ). is_image_of (get_or m.rows n none_said) (get_or parts (n + 1) [])) (omega arith) ∙ ap (λ (n : ℕ). is_image_of (get_or m.rows j none_said) (get_or parts n [])) (add-one j)))
 
 -- ---- what a good verdict says
@@ -117,7 +117,7 @@ module _ (E : Setting) (counter : ℕ) (image : List ℕ) (bank v : ℕ) (fits :
   from-good (Err f) h e = absurd cc
   from-good (Ok m) h e =
       let p = images_in E.layout image bank m in
-      let g = good-parts (E.passes (manifest_part p)) (lowest_bad (has_image m p) 0 (length m.rows)) counter m.security v e in
+      let g = good-parts (E.passes (manifest_part p)) (lowest_bad (package_has_image m p) 0 (length m.rows)) counter m.security v e in
       let whole : is_complete E.layout.rows p ≡ true = complete-is E.layout image bank fits m h ∙ ap is_none g.none in
       let says = version-is E.layout image bank fits m h in
       let enough : counter ≤ version p = omega (arith, says, ltb-false m.security counter g.enough) in
@@ -134,7 +134,7 @@ module _ (E : Setting) (counter : ℕ) (image : List ℕ) (bank v : ℕ) (fits :
       let same : q ≡ p = same_Some q p f in
       let both = and_parts (leb counter (version q)) _ (subst (λ (x : List (List ℕ)). IsTrue (is_permitted E counter x)) (sym same) permitted) in
       let says = version-is E.layout image bank fits m h in
-      good-from (E.passes (manifest_part q)) (lowest_bad (has_image m q) 0 (length m.rows)) counter m.security v (record {
+      good-from (E.passes (manifest_part q)) (lowest_bad (package_has_image m q) 0 (length m.rows)) counter m.security v (record {
         passed = both.1;
         none = none-is _ (sym (complete-is E.layout image bank fits m h) ∙ whole);
         enough = le-ltb m.security counter (omega (arith, says, leb-true counter (version q) both.0));
@@ -152,7 +152,7 @@ permitted E counter image bank v fits h = from-permitted E counter image bank v 
 
 -- ---- the same as a test
 
-started : (w : Verdict) → may_start w ≡ true → (v : ℕ) × (w ≡ verdict.Good v)
+started : (w : Verdict) → verdict_may_start w ≡ true → (v : ℕ) × (w ≡ verdict.Good v)
 started (verdict.Good v) h = (v, refl)
 started verdict.BadManifest h = absurd cc
 started verdict.NotAccepted h = absurd cc
@@ -167,7 +167,7 @@ pub held : GoodIsHeld
 held E counter image bank fits =
     let w = verdict_on E.passes counter E.layout image bank in
     let o = package_in E.layout image bank in
-    elim (cases_Bool (may_start w)) [
+    elim (cases_Bool (verdict_may_start w)) [
       | inl yes-good ↦
           let said = started w yes-good in
           let h = good E counter image bank said.0 fits said.1 in
@@ -177,7 +177,7 @@ held E counter image bank fits =
             | inl holds ↦
                 let h = held-parts E counter o holds in
                 let says = permitted E counter image bank (version h.0) fits (h.0, h.1, h.2, refl) in
-                let yes-good : may_start w ≡ true = ap may_start says in
+                let yes-good : verdict_may_start w ≡ true = ap verdict_may_start says in
                 absurd cc
             | inr holds-not ↦ not-good ∙ sym holds-not
           ]

@@ -10,7 +10,7 @@ use Rattle.fwu_formats.specs.Manifest.{Manifest, manifest_of, manifest_at, manif
 use Rattle.fwu_formats.specs.declared.kinds.ManifestFault.{ManifestFault}
 use Rattle.manifest_core.specs.Shown.{version_of}
 use Rattle.manifest_core.proofs.Passed.{manifest_passed}
-use Rattle.image_check.specs.Found.{FitSlots}
+use Rattle.image_check.specs.Found.{ManifestFitsSlots}
 use Rattle.image_check.specs.Passed.{HasImage, HasImages, HasPackage, HasPackageBy, IsManifest}
 
 -- the images that the rows from k on have
@@ -42,7 +42,7 @@ module _ (rows : List ImageRow) (manifest : List ℕ) (some : 1 ≤ length rows)
       by-cases (Ok m) e = refl
       by-cases (Err f) e = absurd cc
 
-  module _ (passes : List ℕ → Bool) (v : ℕ) (passed : IsTrue (passes manifest)) (sizes : FitSlots rows manifest) (each : HasImages manifest (length rows - 1) None) where
+  module _ (passes : List ℕ → Bool) (v : ℕ) (passed : IsTrue (passes manifest)) (sizes : ManifestFitsSlots rows manifest) (each : HasImages manifest (length rows - 1) None) where
     of-manifest : (r : Result Manifest ManifestFault) → manifest_of rows manifest ≡ r → version_of r ≡ Ok v → HasPackageBy passes rows manifest v
     unfolding is_complete version
     of-manifest (Err f) h e = absurd cc

@@ -1,30 +1,23 @@
 -- What lanes that hash the images of a bank side by side have taken in.
-use Rattle.std.proofs.Common.{◌≡◌, ℕ, zero, suc, ◌+◌, ◌-◌, ◌*◌, ◌%◌, ◌<◌, ◌≤◌, List, ◌++◌, length, take, drop, sym, ap, ap₂, ◌∙◌, subst, arith, take-add, Ok, Option, Some, length-append}
+use Rattle.std.proofs.Common.{◌≡◌, ℕ, zero, suc, ◌+◌, ◌-◌, ◌<◌, ◌≤◌, List, ◌++◌, length, take, drop, sym, ap, ap₂, ◌∙◌, arith, take-add, Ok, Option, length-append}
 use Rattle.std.proofs.lemmas.List.{drop-drop}
 use Rattle.std.specs.Option.{ForSome}
 use Rattle.std.specs.Prelude.{IsTrue, slice_range}
-use Rattle.base_core.specs.Block.{block_bytes}
 use Rattle.flash_core.specs.Told.{Told}
 use Rattle.flash_core.specs.declared.flash.Flash.{Ghosts}
 use Rattle.flash_core.specs.Calls.{Reads}
-use Rattle.sha256_lanes.specs.Holding.{Holds, HoldsInLane}
+use Rattle.sha256_lanes.specs.Holding.{GoesOnAs, HoldsInLane}
 use Rattle.sha256_lanes.specs.declared.alone.Message.{Message}
 use Rattle.sha256_lanes.specs.declared.lanes.Lanes.{Lanes}
-use Rattle.image_check.specs.declared.side.Job.{Job}
-use Rattle.image_check.specs.Taken.{HasTaken, HaveTaken, IsInLane, left}
+use Rattle.image_check.specs.declared.image.Images.{Images}
+use Rattle.image_check.specs.declared.image.Job.{Job}
+use Rattle.image_check.specs.Taken.{HasTaken, IsBegun}
 
--- nothing but reads was done so far, and each lane has taken in so many bytes more
-pub record HasTakenIn {D : Type 0} (g : Ghosts D) (old new : D) (lanes : Lanes) (jobs : List (Option Job)) (count more : ℕ) : Type 0 where
-  pub small : more ≤ count
-  pub whole : more % 64 ≡ 0
-  pub reads : Reads {X = Unit {0}} g (Ok tt) old new
-  pub each : HaveTaken g old jobs lanes more
-
--- and one message alone
+-- nothing but reads was done so far, and a message has taken in so many bytes of a range
 pub record HasGoneOn {D : Type 0} (g : Ghosts D) (old new : D) (message : Message) (at count done : ℕ) : Type 0 where
   pub small : done ≤ count
   pub reads : Reads {X = Unit {0}} g (Ok tt) old new
-  pub taken : HasTaken g old at done (Holds message)
+  pub taken : HasTaken g old at done (GoesOnAs message)
 
 -- what is done of a range, and one more piece of it
 pub joined : (image piece : List ℕ) (at done n : ℕ) → piece ≡ slice_range image (at + done) (at + done + n) → take done (drop at image) ++ piece ≡ take (done + n) (drop at image)
@@ -52,26 +45,14 @@ taken_more g d at holds next piece done n taken size told adds = record {
 }
 
 -- one more piece in a lane
-pub lane_more : {D : Type 0} (g : Ghosts D) (d mid : D) (job : Option Job) (j : ℕ) (lanes next : Lanes) (piece : List ℕ) (taken asked n : ℕ)
-    → ForSome job (λ o. HasTaken g d o.at (o.done + taken) (HoldsInLane j lanes)) → length piece ≡ n → asked ≡ n
-    → (IsTrue g.tells → g.told mid ≡ g.told d)
-    → ForSome job (λ o. IsTrue g.tells → piece ≡ slice_range (g.told mid).now (o.at + (o.done + taken)) (o.at + (o.done + taken) + asked))
+pub lane_more : {D : Type 0} (g : Ghosts D) (d mid : D) (images : Images) (o : Option Job) (j : ℕ) (lanes next : Lanes) (piece : List ℕ) (asked n : ℕ)
+    → ForSome o (IsBegun g d images (HoldsInLane j lanes)) → length piece ≡ n → asked ≡ n → (IsTrue g.tells → g.told mid ≡ g.told d)
+    → ForSome o (λ job. IsTrue g.tells → piece ≡ slice_range (g.told mid).now (job.at + job.done) (job.at + job.done + asked))
     → ((m : List ℕ) → HoldsInLane j lanes m → HoldsInLane j next (m ++ piece))
-    → ForSome job (λ o. HasTaken g d o.at (o.done + (taken + n)) (HoldsInLane j next))
-lane_more g d mid job j lanes next piece taken asked n before size same_size same told adds = λ o is.
-    let e : o.done + taken + n ≡ o.done + (taken + n) = omega arith in
-    subst (λ (k : ℕ). HasTaken g d o.at k (HoldsInLane j next)) e
-    (taken_more g d o.at (HoldsInLane j lanes) (HoldsInLane j next) piece (o.done + taken) n (before o is) size
-    (λ tells. piece_told (g.told d) (g.told mid) piece o.at (o.done + taken) asked n (told o is tells) same_size (same tells)) adds)
-
--- what a lane reads next lies in its image, and that on the device
-pub read_inside : {D : Type 0} (g : Ghosts D) (d : D) (lanes : Lanes) (j : ℕ) (o : Option Job) (job : Job) (count taken n blocks : ℕ)
-    → ForSome o (IsInLane g d lanes j) → count ≤ left o → o ≡ Some job → taken + n ≤ count → blocks ≡ g.blocks d
-    → job.at + (job.done + taken) + n ≤ block_bytes * blocks
-read_inside g d lanes j o job count taken n blocks each enough is fits same =
-    let there = each job is in
-    let more : count ≤ job.size - job.done = subst (λ (x : Option Job). count ≤ left x) is enough in
-    omega (arith, there.small, there.inside, more, fits, same)
+    → ForSome o (λ job. HasTaken g d job.at (job.done + n) (HoldsInLane j next))
+lane_more g d mid images o j lanes next piece asked n begun size same_size same told adds = λ job is.
+    taken_more g d job.at (HoldsInLane j lanes) (HoldsInLane j next) piece job.done n (begun job is).taken size
+    (λ tells. piece_told (g.told d) (g.told mid) piece job.at job.done asked n (told job is tells) same_size (same tells)) adds
 
 -- the same from a hasher that holds the same
 pub taken_by : {D : Type 0} (g : Ghosts D) (d : D) (at done : ℕ) (holds next : List ℕ → Type 0) → ((m : List ℕ) → holds m → next m)

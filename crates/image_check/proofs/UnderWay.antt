@@ -1,23 +1,22 @@
 -- What lanes at work keep, from one step to the next.
-use Rattle.std.proofs.Common.{◌≡◌, ◌≢◌, ℕ, zero, suc, ◌+◌, ◌-◌, ◌*◌, ◌<◌, ◌≤◌, true, Bool, List, [], ◌∷◌, length, take, drop, slice_index_or, slice_set, Option, Some, None, refl, sym, ap, ap₂, ◌∙◌, subst, arith, inl, inr}
+use Rattle.std.proofs.Common.{◌≡◌, ◌≢◌, ℕ, zero, suc, ◌+◌, ◌-◌, ◌*◌, ◌%◌, ◌<◌, ◌≤◌, true, false, Bool, List, [], ◌∷◌, length, slice_index_or, slice_set, Option, Some, None, refl, sym, ap, ◌∙◌, subst, arith, inl, inr, Ok}
 use Rattle.std.proofs.lemmas.Bool.{cases_eq, cases_lt}
 use Rattle.std.proofs.lemmas.List.{get_or-set_other, get_or-set_same}
 use Rattle.std.specs.Option.{ForSome}
-use Rattle.std.specs.Prelude.{IsTrue, IsFalse}
+use Rattle.std.specs.Prelude.{IsTrue, IfSome}
 use Rattle.base_core.specs.Block.{block_bytes}
-use Rattle.base_core.specs.Bytes.{same_bytes}
-use Rattle.sha2.specs.Sha256.{sha256}
+use Rattle.flash_core.specs.Calls.{Reads}
 use Rattle.flash_core.specs.Told.{Told}
 use Rattle.flash_core.specs.declared.flash.Flash.{Ghosts}
 use Rattle.fwu_formats.specs.Layout.{ImageRow, no_row, slot_total}
-use Rattle.fwu_formats.specs.Manifest.{manifest_size, row_at}
 use Rattle.sha256_lanes.specs.Holding.{HoldsInLane}
 use Rattle.sha256_lanes.specs.declared.lanes.Lanes.{Lanes}
-use Rattle.image_check.specs.Found.{FitSlots, is_good, place}
-use Rattle.image_check.specs.Passed.{HasImage}
-use Rattle.image_check.specs.Taken.{AreInLanes, AreOfManifest, HasNoLane, HasRow, HasTaken, IsInLane, IsOfRow, IsUnderWay, gone_on, has_digest, job_at, left}
-use Rattle.image_check.specs.declared.side.Job.{Job}
+use Rattle.image_check.specs.Found.{place}
+use Rattle.image_check.specs.Taken.{AreReadable, HasNoLane, HasRow, HasTaken, HaveGoneOn, HaveStepped, IsBegun, IsFoundAt, IsLowestBad, IsPieceOfJobs, IsUnderWay, gone_on, is_good_in, job_at, left, new_job}
+use Rattle.image_check.specs.declared.image.Images.{Images}
+use Rattle.image_check.specs.declared.image.Job.{Job}
 use Rattle.image_check.specs.declared.side.Work.{Work}
+use Rattle.image_check.proofs.Lowest.{none_found, one_found}
 use Rattle.image_check.proofs.Sums.{total_more, total_more_le}
 use Rattle.image_check.proofs.Taken.{taken_by, taken_here}
 
@@ -29,12 +28,14 @@ within_lanes [] j job is = absurd cc
 within_lanes (o ∷ jobs) zero job is = omega arith
 within_lanes (o ∷ jobs) (suc j) job is = let more = within_lanes jobs j job is in omega arith
 
+-- when one lane is free, each other has what it had
+freed_at : (jobs : List (Option Job)) (j : ℕ) (was : Job) → job_at jobs j ≡ Some was → job_at (slice_set jobs j None) j ≡ None
+freed_at jobs j was is = get_or-set_same jobs j None None (within_lanes jobs j was is)
+
 -- an image that a lane has when another is free, it had before
 kept : (jobs : List (Option Job)) (j i : ℕ) (was job : Job) → job_at jobs j ≡ Some was → job_at (slice_set jobs j None) i ≡ Some job → job_at jobs i ≡ Some job
 kept jobs j i was job is then = elim (cases_eq i j) [
-  | inl same ↦
-      let none : job_at (slice_set jobs j None) i ≡ None = ap (job_at (slice_set jobs j None)) same ∙ get_or-set_same jobs j None None (within_lanes jobs j was is) in
-      absurd cc
+  | inl same ↦ let none : job_at (slice_set jobs j None) i ≡ None = ap (job_at (slice_set jobs j None)) same ∙ freed_at jobs j was is in absurd cc
   | inr other ↦ sym (get_or-set_other jobs j i None None other) ∙ then
 ]
 
@@ -46,201 +47,248 @@ freed jobs j k was is ne free i lt has = elim (cases_eq i j) [
   | inr other ↦ free i lt (subst (HasRow k) (sym (get_or-set_other jobs j i None None other)) has)
 ]
 
--- a fact that does not speak of how much is taken in
-pub moved_all : (P : Job → Type 0) (count : ℕ) (o : Option Job) → ((job : Job) → P job → P (record job { done = job.done + count }))
-    → ForSome o P → (job : Job) → gone_on count o ≡ Some job → P job
-moved_all P count None keeps each job e = absurd cc
-moved_all P count (Some was) keeps each job e =
-    let same : record was { done = was.done + count } ≡ job = cc in
-    subst P same (keeps was (each was refl))
-
 row_moved : (k count : ℕ) (o : Option Job) → HasRow k o → HasRow k (gone_on count o)
 row_moved k count None has = has
 row_moved k count (Some job) has = has
 
-in_lane_here : {D : Type 0} (g : Ghosts D) (old new : D) (lanes : Lanes) (j : ℕ) (job : Job) → (IsTrue g.tells → g.told new ≡ g.told old)
-    → g.blocks new ≡ g.blocks old → IsInLane g old lanes j job → IsInLane g new lanes j job
-in_lane_here g old new lanes j job same size there = record {
-  small = there.small;
-  inside = subst (λ (b : ℕ). job.at + job.size ≤ block_bytes * b) (sym size) there.inside;
-  taken = taken_here g old new job.at job.done (HoldsInLane j lanes) same there.taken;
-}
-
 -- a lane that took in so many bytes more
-pub lane_gone_on : {D : Type 0} (g : Ghosts D) (old new : D) (lanes after : Lanes) (j count : ℕ) (o : Option Job) → ForSome o (IsInLane g old lanes j)
-    → ForSome o (λ job. HasTaken g old job.at (job.done + count) (HoldsInLane j after)) → count ≤ left o
-    → (IsTrue g.tells → g.told new ≡ g.told old) → g.blocks new ≡ g.blocks old → (job : Job) → gone_on count o ≡ Some job → IsInLane g new after j job
-lane_gone_on g old new lanes after j count None before more enough same size job e = absurd cc
-lane_gone_on g old new lanes after j count (Some was) before more enough same size job e =
-    let is : record was { done = was.done + count } ≡ job = cc in
-    let there = before was refl in
-    subst (IsInLane g new after j) is (record {
+lane_gone_on : {D : Type 0} (g : Ghosts D) (d : D) (images : Images) (was now : List ℕ → Type 0) (count : ℕ) (o : Option Job)
+    → ForSome o (IsBegun g d images was) → ForSome o (λ job. HasTaken g d job.at (job.done + count) now) → count ≤ left o
+    → (job : Job) → gone_on count o ≡ Some job → IsBegun g d images now job
+lane_gone_on g d images was now count None before more enough job e = absurd cc
+lane_gone_on g d images was now count (Some first) before more enough job e =
+    let is : record first { done = first.done + count } ≡ job = cc in
+    let there = before first refl in
+    subst (IsBegun g d images now) is (record {
+      within = there.within;
+      at = there.at;
+      size = there.size;
       small = omega (arith, there.small, enough);
-      inside = subst (λ (b : ℕ). was.at + was.size ≤ block_bytes * b) (sym size) there.inside;
-      taken = taken_here g old new was.at (was.done + count) (HoldsInLane j after) same (more was refl);
+      taken = more first refl;
     })
 
--- ---- all images
-
-pub of_manifest : (rows : List ImageRow) (first : ℕ) (manifest : List ℕ) (jobs : List (Option Job)) → length rows ≤ 16
-    → manifest_size (length rows - 1) ≤ length manifest → ((j : ℕ) → j < 4 → ForSome (job_at jobs j) (IsOfRow rows first manifest)) → AreOfManifest manifest jobs
-of_manifest rows first manifest jobs few long each = λ j lt job is.
-    let of = each j lt job is in
-    let within = of.within in
-    record { few = omega arith; within = omega arith; size = of.size }
-
--- what a lane finds of its image
-job_good : (image : List ℕ) (rows : List ImageRow) (first : ℕ) (manifest : List ℕ) (job : Job) → IsOfRow rows first manifest job
-    → has_digest image job (row_at manifest job.row) ≡ is_good image rows first manifest job.row
-job_good image rows first manifest job of =
-    ap₂ (λ (s a : ℕ). same_bytes (sha256 (take s (drop a image))) (row_at manifest job.row).digest) of.size of.at
-
 -- the room that an image has
-pub block_fits : (rows : List ImageRow) (first block next blocks : ℕ) → next + 1 < length rows → block ≡ place rows first (next + 1)
-    → first + slot_total rows ≤ blocks → block + (slice_index_or rows (next + 1) no_row).slots ≤ blocks
-block_fits rows first block next blocks within begins inside = omega (arith, total_more_le rows (next + 1) no_row within, begins, inside)
+pub block_fits : {D : Type 0} (g : Ghosts D) (d : D) (images : Images) (any : ImageRow) (block next : ℕ) → AreReadable g d images
+    → next + 1 < length images.rows.now → block ≡ place images.rows.now images.first (next + 1)
+    → block + (slice_index_or images.rows.now (next + 1) any).slots ≤ g.blocks d
+block_fits g d images any block next readable within begins =
+    omega (arith, total_more_le images.rows.now (next + 1) any within, begins, readable.there.inside)
 
-pub image_fits : (rows : List ImageRow) (manifest : List ℕ) (first block next blocks : ℕ) → next + 1 < length rows → block ≡ place rows first (next + 1)
-    → first + slot_total rows ≤ blocks → FitSlots rows manifest → block_bytes * block + (row_at manifest next).size ≤ block_bytes * blocks
-image_fits rows manifest first block next blocks within begins inside fits =
-    omega (arith, block_fits rows first block next blocks within begins inside, fits next no_row within)
+pub job_inside : {D : Type 0} (g : Ghosts D) (d : D) (images : Images) (holds : List ℕ → Type 0) (job : Job) → AreReadable g d images → IsBegun g d images holds job
+    → job.at + job.size ≤ block_bytes * g.blocks d
+job_inside g d images holds job readable begun =
+    let within : job.row + 1 < length images.rows.now = omega (arith, begun.within) in
+    let fits = block_fits g d images no_row (place images.rows.now images.first (job.row + 1)) job.row readable within refl in
+    omega (arith, fits, begun.at, begun.size, readable.sizes job.row no_row within)
 
-module _ {D : Type 0} (g : Ghosts D) (rows : List ImageRow) (first : ℕ) (manifest : List ℕ) where
-  abbrev good_at : D → ℕ → Bool
-  good_at d k = is_good (g.told d).now rows first manifest k
+-- the same from a hasher that holds the same
+pub begun_by : {D : Type 0} (g : Ghosts D) (d : D) (images : Images) (holds next : List ℕ → Type 0) (job : Job) → ((m : List ℕ) → holds m → next m)
+    → IsBegun g d images holds job → IsBegun g d images next job
+begun_by g d images holds next job keeps there = record {
+  within = there.within;
+  at = there.at;
+  size = there.size;
+  small = there.small;
+  taken = taken_by g d job.at job.done holds next keeps there.taken;
+}
 
-  -- before any image
-  pub nothing_yet : (d : D) (work : Work) → work.bad ≡ length rows - 1 → work.next ≡ 0 → ((j : ℕ) → j < 4 → job_at work.jobs j ≡ None)
-      → work.block ≡ place rows first 1 → IsUnderWay g d rows first manifest work
-  nothing_yet d work bad next none block = record {
-    most = omega arith;
-    bad = λ tells under. absurd (omega (arith, under, bad));
-    good = λ tells k below low free. absurd (omega (arith, below, next));
-    images = λ k below low free. absurd (omega (arith, below, next));
-    rows_are = λ j lt job is. let no : job_at work.jobs j ≡ None = none j lt in absurd cc;
-    lanes_are = λ j lt job is. let no : job_at work.jobs j ≡ None = none j lt in absurd cc;
-    begins = block ∙ ap (λ (n : ℕ). place rows first (n + 1)) (sym next);
+-- before anything of an image is taken in
+pub begun_new : {D : Type 0} (g : Ghosts D) (d : D) (images : Images) (holds : List ℕ → Type 0) (k block : ℕ) → k + 1 < length images.rows.now
+    → block ≡ place images.rows.now images.first (k + 1) → holds [] → IsBegun g d images holds (new_job images k block)
+begun_new g d images holds k block within begins empty = record {
+  within = omega (arith, within);
+  at = ap (λ (b : ℕ). block_bytes * b) begins;
+  size = refl;
+  small = omega arith;
+  taken = record { bytes = []; size = refl; held = empty; told = λ tells. refl };
+}
+
+-- ---- after reads
+
+module _ {D : Type 0} (g : Ghosts D) (old new : D) (same : IsTrue g.tells → g.told new ≡ g.told old) (images : Images) where
+  pub found_here : (k : ℕ) (good : Bool) → IsFoundAt g old images k good → IsFoundAt g new images k good
+  found_here k good found = record {
+    told = λ tells. found.told tells ∙ ap (λ (t : Told). is_good_in t.now images k) (sym (same tells));
+    some = found.some;
   }
 
-  -- a device that tells the same
-  pub under_way_here : (old new : D) (work : Work) → (IsTrue g.tells → g.told new ≡ g.told old) → g.blocks new ≡ g.blocks old
-      → IsUnderWay g old rows first manifest work → IsUnderWay g new rows first manifest work
-  under_way_here old new work same size way = record {
+  begun_here : (holds : List ℕ → Type 0) (job : Job) → IsBegun g old images holds job → IsBegun g new images holds job
+  begun_here holds job begun = record {
+    within = begun.within;
+    at = begun.at;
+    size = begun.size;
+    small = begun.small;
+    taken = taken_here g old new job.at job.done holds same begun.taken;
+  }
+
+module _ {D X : Type 0} (g : Ghosts D) (x : X) (old new : D) (reads : Reads g (Ok x) old new) where
+  pub readable_after : (images : Images) → AreReadable g old images → AreReadable g new images
+  readable_after images readable =
+      let there = readable.there in
+      record {
+        there = record {
+          on = reads.power;
+          some = there.some;
+          few = there.few;
+          manifest = there.manifest;
+          inside = subst (λ (b : ℕ). images.first + slot_total images.rows.now ≤ b) (sym reads.size) there.inside;
+        };
+        sizes = readable.sizes;
+      }
+
+  pub under_way_after : (work : Work) → IsUnderWay g old work → IsUnderWay g new work
+  under_way_after work way = record {
+    readable = readable_after work.images way.readable;
     most = way.most;
-    bad = λ tells under. subst (λ (t : Told). IsFalse (is_good t.now rows first manifest work.bad)) (sym (same tells)) (way.bad tells under);
-    good = λ tells k below low free. subst (λ (t : Told). IsTrue (is_good t.now rows first manifest k)) (sym (same tells)) (way.good tells k below low free);
-    images = way.images;
-    rows_are = way.rows_are;
-    lanes_are = λ j lt job is. in_lane_here g old new work.lanes j job same size (way.lanes_are j lt job is);
+    bad = λ under. found_here g old new reads.content work.images work.bad false (way.bad under);
+    good = λ k below low free. found_here g old new reads.content work.images k true (way.good k below low free);
+    lanes_are = λ j lt job is. begun_here g old new reads.content work.images (HoldsInLane j work.lanes) job (way.lanes_are j lt job is);
     begins = way.begins;
   }
+
+  pub stepped_after : (work after : Work) → HaveStepped g old work after → HaveStepped g new work after
+  stepped_after work after step =
+      record { under_way = under_way_after after step.under_way; images = step.images; next = step.next; bad = step.bad; free = step.free }
+
+-- ---- all lanes
+
+-- the lane with the fewest bytes left, and how many all lanes take in next; none where it has no image, or is at its last block
+pub record IsNextPiece (jobs : List (Option Job)) (j size : ℕ) : Type 0 where
+  pub lane : j < 4
+  pub least : (i : ℕ) → i < 4 → left (job_at jobs j) ≤ left (job_at jobs i)
+  pub whole : size % 64 ≡ 0
+  pub few : size ≤ block_bytes
+  pub within : IfSome (job_at jobs j) (λ job. 0 < size → job.done + size < job.size)
+  pub none : job_at jobs j ≡ None → size ≡ 0
+
+left_less : (size : ℕ) (o : Option Job) → 0 < size → IfSome o (λ job. 0 < size → job.done + size < job.size) → (o ≡ None → size ≡ 0)
+    → left (gone_on size o) < left o
+left_less size None some within none = absurd (omega (arith, some, none refl))
+left_less size (Some job) some within none = omega (arith, some, within some)
+
+-- the fewest bytes that are left are fewer then
+pub next_less : (jobs after : List (Option Job)) (j size next : ℕ) → IsNextPiece jobs j size → 0 < size → HaveGoneOn size jobs after
+    → ((i : ℕ) → i < 4 → left (job_at after next) ≤ left (job_at after i)) → left (job_at after next) < left (job_at jobs j)
+next_less jobs after j size next piece some gone least =
+    omega (arith, least j piece.lane, ap left (gone j piece.lane), left_less size (job_at jobs j) some piece.within piece.none)
+
+-- before any image
+pub nothing_yet : {D : Type 0} (g : Ghosts D) (d : D) (work : Work) → AreReadable g d work.images → work.bad ≡ length work.images.rows.now - 1 → work.next ≡ 0
+    → ((j : ℕ) → j < 4 → job_at work.jobs j ≡ None) → work.block ≡ place work.images.rows.now work.images.first 1 → IsUnderWay g d work
+nothing_yet g d work readable bad next none block = record {
+  readable = readable;
+  most = omega arith;
+  bad = λ under. absurd (omega (arith, under, bad));
+  good = λ k below low free. absurd (omega (arith, below, next));
+  lanes_are = λ j lt job is. let no : job_at work.jobs j ≡ None = none j lt in absurd cc;
+  begins = block ∙ ap (λ (n : ℕ). place work.images.rows.now work.images.first (n + 1)) (sym next);
+}
+
+module _ {D : Type 0} (g : Ghosts D) (d : D) (work : Work) (way : IsUnderWay g d work) where
+  -- what a lane reads next lies in its image, and that on the device
+  pub piece_inside : (size j : ℕ) (job : Job) → IsPieceOfJobs work.jobs size → j < 4 → job_at work.jobs j ≡ Some job → job.at + job.done + size ≤ block_bytes * g.blocks d
+  piece_inside size j job piece lt is =
+      let there = way.lanes_are j lt job is in
+      let enough : size ≤ job.size - job.done = subst (λ (o : Option Job). size ≤ left o) is (piece.enough j lt) in
+      omega (arith, enough, there.small, job_inside g d work.images (HoldsInLane j work.lanes) job way.readable there)
 
   -- the lanes took in so many bytes more
-  pub all_moved : (d : D) (work new : Work) (count : ℕ) → new.next ≡ work.next → new.block ≡ work.block → new.bad ≡ work.bad
-      → ((j : ℕ) → j < 4 → job_at new.jobs j ≡ gone_on count (job_at work.jobs j)) → AreInLanes g d new.jobs new.lanes
-      → IsUnderWay g d rows first manifest work → IsUnderWay g d rows first manifest new
-  all_moved d work new count next block bad moved lanes way = record {
-    most = omega (arith, bad, way.most);
-    bad = λ tells under. subst (λ (k : ℕ). IsFalse (is_good (g.told d).now rows first manifest k)) (sym bad) (way.bad tells (omega (arith, under, bad)));
-    good = λ tells k below low free. way.good tells k (omega (arith, below, next)) (omega (arith, low, bad)) (not_before k free);
-    images = λ k below low free. way.images k (omega (arith, below, next)) (omega (arith, low, bad)) (not_before k free);
-    rows_are = λ j lt job is.
-        moved_all (IsOfRow rows first manifest) count (job_at work.jobs j) (λ was of. record { within = of.within; at = of.at; size = of.size }) (way.rows_are j lt) job
-        (sym (moved j lt) ∙ is);
-    lanes_are = lanes;
-    begins = block ∙ way.begins ∙ ap (λ (n : ℕ). place rows first (n + 1)) (sym next);
+  pub moved : (lanes : Lanes) (jobs : List (Option Job)) (count : ℕ) → HaveGoneOn count work.jobs jobs → ((j : ℕ) → j < 4 → count ≤ left (job_at work.jobs j))
+      → ((j : ℕ) → j < 4 → ForSome (job_at work.jobs j) (λ job. HasTaken g d job.at (job.done + count) (HoldsInLane j lanes)))
+      → HaveStepped g d work (record work { lanes = lanes; jobs = jobs })
+  moved lanes jobs count gone enough taken = record {
+    under_way = record {
+      readable = way.readable;
+      most = way.most;
+      bad = way.bad;
+      good = λ k below low free. way.good k below low (λ i lt has. free i lt (subst (HasRow k) (sym (gone i lt)) (row_moved k count (job_at work.jobs i) has)));
+      lanes_are = λ j lt job is.
+          lane_gone_on g d work.images (HoldsInLane j work.lanes) (HoldsInLane j lanes) count (job_at work.jobs j) (way.lanes_are j lt) (taken j lt) (enough j lt) job
+          (sym (gone j lt) ∙ is);
+      begins = way.begins;
+    };
+    images = refl;
+    next = refl;
+    bad = omega arith;
+    free = λ j lt none. gone j lt ∙ ap (gone_on count) none;
   }
-    where
-      not_before : (k : ℕ) → HasNoLane k new.jobs → HasNoLane k work.jobs
-      not_before k free i lt has = free i lt (subst (HasRow k) (sym (moved i lt)) (row_moved k count (job_at work.jobs i) has))
 
   -- the image of a lane is judged, and the lane is free
-  pub settled : (d : D) (work : Work) (j : ℕ) (job : Job) (after : ℕ) → j < 4 → job_at work.jobs j ≡ Some job
-      → after ≤ work.bad → (after < work.bad → after ≡ job.row)
-      → (IsTrue g.tells → after < work.bad → IsFalse (has_digest (g.told d).now job (row_at manifest job.row)))
-      → (IsTrue g.tells → job.row < after → IsTrue (has_digest (g.told d).now job (row_at manifest job.row)))
-      → (job.row < after → HasImage (row_at manifest job.row)) → IsUnderWay g d rows first manifest work
-      → IsUnderWay g d rows first manifest (record { lanes = work.lanes; jobs = slice_set work.jobs j None; next = work.next; block = work.block; bad = after })
-  settled d work j job after lt is less at bad good some way = record {
-    most = omega (arith, less, way.most);
-    bad = λ tells under. elim (cases_lt after work.bad) [
-      | inl lower ↦ ap (good_at d) (at lower) ∙ sym found ∙ bad tells lower
-      | inr over ↦ let same : after ≡ work.bad = omega arith in ap (good_at d) same ∙ way.bad tells (omega (arith, under, same))
+  pub settled : (j : ℕ) (job : Job) (after : ℕ) → job_at work.jobs j ≡ Some job → after ≤ work.bad
+      → (after < work.bad → (after ≡ job.row) × IsFoundAt g d work.images job.row false) → (job.row < after → IsFoundAt g d work.images job.row true)
+      → HaveStepped g d work (record work { jobs = slice_set work.jobs j None; bad = after })
+  settled j job after is less bad good = record {
+    under_way = record {
+      readable = way.readable;
+      most = omega (arith, less, way.most);
+      bad = λ under. elim (cases_lt after work.bad) [
+        | inl lower ↦ let found = bad lower in subst (λ (k : ℕ). IsFoundAt g d work.images k false) (sym found.0) found.1
+        | inr over ↦
+            let same : after ≡ work.bad = omega arith in
+            subst (λ (k : ℕ). IsFoundAt g d work.images k false) (sym same) (way.bad (omega (arith, under, same)))
+      ];
+      good = λ k below low free. elim (cases_eq k job.row) [
+        | inl same ↦ subst (λ (r : ℕ). IsFoundAt g d work.images r true) (sym same) (good (omega (arith, low, same)))
+        | inr other ↦ way.good k below (omega (arith, low, less)) (freed work.jobs j k job is other free)
+      ];
+      lanes_are = λ i low other then. way.lanes_are i low other (kept work.jobs j i job other is then);
+      begins = way.begins;
+    };
+    images = refl;
+    next = refl;
+    bad = less;
+    free = λ i lt none. elim (cases_eq i j) [
+      | inl same ↦ ap (job_at (slice_set work.jobs j None)) same ∙ freed_at work.jobs j job is
+      | inr other ↦ get_or-set_other work.jobs j i None None other ∙ none
     ];
-    good = λ tells k below low free. elim (cases_eq k job.row) [
-      | inl same ↦ ap (good_at d) same ∙ sym found ∙ good tells (omega (arith, low, same))
-      | inr other ↦ way.good tells k below (omega (arith, low, less)) (freed work.jobs j k job is other free)
-    ];
-    images = λ k below low free. elim (cases_eq k job.row) [
-      | inl same ↦ subst (λ (r : ℕ). HasImage (row_at manifest r)) (sym same) (some (omega (arith, low, same)))
-      | inr other ↦ way.images k below (omega (arith, low, less)) (freed work.jobs j k job is other free)
-    ];
-    rows_are = λ i low other then. way.rows_are i low other (kept work.jobs j i job other is then);
-    lanes_are = λ i low other then. way.lanes_are i low other (kept work.jobs j i job other is then);
-    begins = way.begins;
   }
-    where
-      found : has_digest (g.told d).now job (row_at manifest job.row) ≡ is_good (g.told d).now rows first manifest job.row
-      found = job_good (g.told d).now rows first manifest job (way.rows_are j lt job is)
 
   -- a free lane took the next image
-  pub begun : (d : D) (work new : Work) (j : ℕ) → j < 4 → IsUnderWay g d rows first manifest work → job_at work.jobs j ≡ None → work.next + 1 < length rows
-      → job_at new.jobs j ≡ Some (record { row = work.next; at = block_bytes * work.block; size = (row_at manifest work.next).size; done = 0 })
-      → ((i : ℕ) → i ≢ j → job_at new.jobs i ≡ job_at work.jobs i) → HoldsInLane j new.lanes []
-      → ((i : ℕ) → i < 4 → i ≢ j → (m : List ℕ) → HoldsInLane i work.lanes m → HoldsInLane i new.lanes m)
-      → new.next ≡ work.next + 1 → new.block ≡ work.block + (slice_index_or rows (work.next + 1) no_row).slots → new.bad ≡ work.bad
-      → block_bytes * work.block + (row_at manifest work.next).size ≤ block_bytes * g.blocks d → IsUnderWay g d rows first manifest new
-  begun d work new j lt way none within taken others empty lanes next block bad inside = record {
-    most = omega (arith, bad, way.most);
-    bad = λ tells under. ap (good_at d) bad ∙ way.bad tells (omega (arith, under, bad));
-    good = λ tells k below low free. elim (cases_eq k work.next) [
+  pub begun : (j : ℕ) (lanes : Lanes) (jobs : List (Option Job)) (block : ℕ) (any : ImageRow) → j < 4 → job_at work.jobs j ≡ None → work.next + 1 < length work.images.rows.now
+      → job_at jobs j ≡ Some (new_job work.images work.next work.block) → ((i : ℕ) → i ≢ j → job_at jobs i ≡ job_at work.jobs i) → HoldsInLane j lanes []
+      → ((i : ℕ) → i < 4 → i ≢ j → (m : List ℕ) → HoldsInLane i work.lanes m → HoldsInLane i lanes m)
+      → block ≡ work.block + (slice_index_or work.images.rows.now (work.next + 1) any).slots
+      → IsUnderWay g d (record work { lanes = lanes; jobs = jobs; next = work.next + 1; block = block })
+  begun j lanes jobs block any lt none within taken others empty keeps next_block = record {
+    readable = way.readable;
+    most = way.most;
+    bad = way.bad;
+    good = λ k below low free. elim (cases_eq k work.next) [
       | inl same ↦ absurd (free j lt (subst (HasRow k) (sym taken) (sym same)))
-      | inr other ↦ way.good tells k (omega (arith, below, next, other)) (omega (arith, low, bad)) (not_before k free)
-    ];
-    images = λ k below low free. elim (cases_eq k work.next) [
-      | inl same ↦ absurd (free j lt (subst (HasRow k) (sym taken) (sym same)))
-      | inr other ↦ way.images k (omega (arith, below, next, other)) (omega (arith, low, bad)) (not_before k free)
-    ];
-    rows_are = λ i low job is. elim (cases_eq i j) [
-      | inl same ↦ subst (IsOfRow rows first manifest) (this i job same is)
-          (record { within = omega (arith, within); at = ap (λ (b : ℕ). block_bytes * b) way.begins; size = refl })
-      | inr other ↦ way.rows_are i low job (sym (others i other) ∙ is)
+      | inr other ↦ way.good k (omega (arith, below, other)) low (not_before k free)
     ];
     lanes_are = λ i low job is. elim (cases_eq i j) [
-      | inl same ↦ subst (IsInLane g d new.lanes i) (this i job same is) (record {
-        small = omega arith;
-        inside = inside;
-        taken = record { bytes = []; size = refl; held = subst (λ (k : ℕ). HoldsInLane k new.lanes []) (sym same) empty; told = λ tells. refl };
-      })
+      | inl same ↦
+          subst (IsBegun g d work.images (HoldsInLane i lanes)) (this i job same is)
+          (begun_new g d work.images (HoldsInLane i lanes) work.next work.block within way.begins (subst (λ (k : ℕ). HoldsInLane k lanes []) (sym same) empty))
       | inr other ↦
-          let there = way.lanes_are i low job (sym (others i other) ∙ is) in
-          record {
-            small = there.small;
-            inside = there.inside;
-            taken = taken_by g d job.at job.done (HoldsInLane i work.lanes) (HoldsInLane i new.lanes) (lanes i low other) there.taken;
-          }
+          begun_by g d work.images (HoldsInLane i work.lanes) (HoldsInLane i lanes) job (keeps i low other) (way.lanes_are i low job (sym (others i other) ∙ is))
     ];
-    begins =
-        let more = total_more rows (work.next + 1) no_row within in
-        let at : place rows first (new.next + 1) ≡ place rows first (work.next + 1 + 1) = ap (λ (n : ℕ). place rows first (n + 1)) next in
-        omega (arith, at, more, way.begins, block);
+    begins = let more = total_more work.images.rows.now (work.next + 1) any within in omega (arith, more, way.begins, next_block);
   }
     where
-      this : (i : ℕ) (job : Job) → i ≡ j → job_at new.jobs i ≡ Some job
-          → record { row = work.next; at = block_bytes * work.block; size = (row_at manifest work.next).size; done = 0 } ≡ job
-      this i job same is = let here = sym taken ∙ sym (ap (job_at new.jobs) same) ∙ is in cc
+      this : (i : ℕ) (job : Job) → i ≡ j → job_at jobs i ≡ Some job → new_job work.images work.next work.block ≡ job
+      this i job same is = let here = sym taken ∙ sym (ap (job_at jobs) same) ∙ is in cc
 
-      not_before : (k : ℕ) → HasNoLane k new.jobs → HasNoLane k work.jobs
+      not_before : (k : ℕ) → HasNoLane k jobs → HasNoLane k work.jobs
       not_before k free i low has = elim (cases_eq i j) [
         | inl same ↦ subst (HasRow k) (ap (job_at work.jobs) same ∙ none) has
         | inr other ↦ free i low (subst (HasRow k) (sym (others i other)) has)
       ]
 
   -- in the end each image below the lowest bad one was judged
-  module _ (d : D) (work : Work) (way : IsUnderWay g d rows first manifest work) (all : work.bad ≤ work.next)
+  module _ (old : D) (images : Images) (same : IsTrue g.tells → g.told old ≡ g.told d) (is : work.images ≡ images) (all : work.bad ≤ work.next)
       (free : (i : ℕ) → i < 4 → job_at work.jobs i ≡ None) where
-    pub all_good : IsTrue g.tells → (k : ℕ) → k < work.bad → is_good (g.told d).now rows first manifest k ≡ true
-    all_good tells k low = way.good tells k (omega (arith, all, low)) low (λ i lt has. subst (HasRow k) (free i lt) has)
+    back : (k : ℕ) (good : Bool) → IsFoundAt g d work.images k good → IsFoundAt g old images k good
+    back k good found = found_here g d old same images k good (subst (λ (i : Images). IsFoundAt g d i k good) is found)
 
-    pub all_images : (k : ℕ) → k < work.bad → HasImage (row_at manifest k)
-    all_images k low = way.images k (omega (arith, all, low)) low (λ i lt has. subst (HasRow k) (free i lt) has)
+    all_good : (k : ℕ) → k < work.bad → IsFoundAt g old images k true
+    all_good k low = back k true (way.good k (omega (arith, all, low)) low (λ i lt has. subst (HasRow k) (free i lt) has))
+
+    pub lowest_some : work.bad < length images.rows.now - 1 → IsLowestBad g old images (Some (work.bad + 1))
+    lowest_some under =
+        let count = ap (λ (i : Images). length i.rows.now) is in
+        one_found g old images work.bad under all_good (back work.bad false (way.bad (omega (arith, under, count))))
+
+    pub lowest_none : length images.rows.now - 1 ≤ work.bad → IsLowestBad g old images None
+    lowest_none over = none_found g old images (λ k low. all_good k (omega (arith, low, over)))

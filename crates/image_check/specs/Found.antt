@@ -22,8 +22,8 @@ is_good image rows first manifest k =
     same_bytes (sha256 (take row.size (drop (block_bytes * place rows first (k + 1)) image))) row.digest
 
 -- what the manifest says of each image fits its slot
-abbrev pub FitSlots : List ImageRow → List ℕ → Type 0
-FitSlots rows manifest = (k : ℕ) (d : ImageRow) → k + 1 < length rows
+abbrev pub ManifestFitsSlots : List ImageRow → List ℕ → Type 0
+ManifestFitsSlots rows manifest = (k : ℕ) (d : ImageRow) → k + 1 < length rows
     → (row_at manifest k).size ≤ block_bytes * (slice_index_or rows (k + 1) d).slots
 
 -- by the manifest's version or fault, whether it is accepted, and the lowest bad image

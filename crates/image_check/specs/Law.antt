@@ -22,13 +22,13 @@ PermittedIsGood = (E : Setting) (counter : ℕ) (image : List ℕ) (bank v : ℕ
     → HoldsPermitted E counter image bank v → verdict_on E.passes counter E.layout image bank ≡ Good v
 
 -- the bank may be started
-abbrev pub may_start : Verdict → Bool
-may_start (Good v) = true
-may_start BadManifest = false
-may_start NotAccepted = false
-may_start (BadImage image) = false
-may_start (BelowCounter v counter) = false
+abbrev pub verdict_may_start : Verdict → Bool
+verdict_may_start (Good v) = true
+verdict_may_start BadManifest = false
+verdict_may_start NotAccepted = false
+verdict_may_start (BadImage image) = false
+verdict_may_start (BelowCounter v counter) = false
 
 abbrev pub GoodIsHeld : Type 0
 GoodIsHeld = (E : Setting) (counter : ℕ) (image : List ℕ) (bank : ℕ) → IsTrue (fits_layout E.layout)
-    → may_start (verdict_on E.passes counter E.layout image bank) ≡ holds_permitted E counter (package_in E.layout image bank)
+    → verdict_may_start (verdict_on E.passes counter E.layout image bank) ≡ holds_permitted E counter (package_in E.layout image bank)

@@ -3,15 +3,11 @@ use Rattle.std.specs.Prelude.{◌≡◌, ◌+◌, ◌-◌, ◌≤◌, ◌<◌, �
 use Rattle.sha2.specs.Sha256.{sha256}
 use Rattle.fwu_formats.specs.Layout.{ImageRow}
 use Rattle.fwu_formats.specs.Manifest.{Row, manifest_of, manifest_part, manifest_size, row_at, is_complete, is_image_of, version}
-use Rattle.image_check.specs.Found.{FitSlots}
+use Rattle.image_check.specs.Found.{ManifestFitsSlots}
 use Rattle.image_check.specs.declared.bank.Verdict.{Verdict}
 use Rattle.image_check.specs.declared.bank.Verdict.TheVariants as verdict
 
 -- ---- of the images
-
--- some bytes of this length have this digest
-abbrev pub IsDigestOf : ℕ → List ℕ → Type 0
-IsDigestOf count digest = (bytes : List ℕ) × (length bytes ≡ count) × (digest ≡ sha256 bytes)
 
 -- some image is what the row says
 abbrev pub HasImage : Row → Type 0
@@ -41,7 +37,7 @@ pub record HasPackage (passes : List ℕ → Bool) (rows : List ImageRow) (v : �
 pub record HasPackageBy (passes : List ℕ → Bool) (rows : List ImageRow) (manifest : List ℕ) (v : ℕ) : Type 0 where
   pub others : List (List ℕ)
   pub complete : IsTrue (is_complete rows (manifest ∷ others))
-  pub sizes : FitSlots rows manifest
+  pub sizes : ManifestFitsSlots rows manifest
   pub version_is : version (manifest ∷ others) ≡ v
   pub passed : IsTrue (passes manifest)
 

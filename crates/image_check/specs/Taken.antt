@@ -1,25 +1,74 @@
--- What lanes have that hash the images of a bank side by side.
-use Rattle.std.specs.Prelude.{◌≡◌, ℕ, ◌+◌, ◌-◌, ◌*◌, ◌<◌, ◌≤◌, Bool, List, length, take, drop, Option, Some, None, slice_index_or, IsTrue, IsFalse}
+-- What is known of the images of a bank that are hashed, alone or side by side in lanes.
+use Rattle.std.specs.Prelude.{◌≡◌, ℕ, ◌+◌, ◌-◌, ◌*◌, ◌%◌, ◌<◌, ◌≤◌, Bool, true, false, List, length, take, drop, Option, Some, None, slice_index_or, IsTrue}
 use Rattle.std.specs.Option.{ForSome}
 use Rattle.base_core.specs.Block.{block_bytes}
-use Rattle.base_core.specs.Bytes.{same_bytes}
 use Rattle.base_core.specs.Limits.{most_images}
-use Rattle.sha2.specs.Sha256.{sha256}
 use Rattle.flash_core.specs.declared.flash.Flash.{Ghosts}
-use Rattle.fwu_formats.specs.Layout.{ImageRow}
-use Rattle.fwu_formats.specs.Manifest.{Row, field_place, row_at, row_size}
+use Rattle.fwu_formats.specs.Layout.{slot_total}
+use Rattle.fwu_formats.specs.Manifest.{manifest_size, row_at}
 use Rattle.sha256_lanes.specs.Holding.{HoldsInLane}
-use Rattle.sha256_lanes.specs.declared.lanes.Lanes.{Lanes}
-use Rattle.image_check.specs.Found.{is_good, place}
-use Rattle.image_check.specs.Passed.{HasImage}
-use Rattle.image_check.specs.declared.side.Job.{Job}
+use Rattle.image_check.specs.Found.{ManifestFitsSlots, is_good, place}
+use Rattle.image_check.specs.Passed.{HasImage, HasImages}
+use Rattle.image_check.specs.Verdict.{lowest_bad}
+use Rattle.image_check.specs.declared.image.Images.{Images}
+use Rattle.image_check.specs.declared.image.Job.{Job}
 use Rattle.image_check.specs.declared.side.Work.{Work}
 
 -- the fewest bytes of a buffer in which images are hashed side by side: a block for each lane
 abbrev pub lanes_bytes : ℕ
 lanes_bytes = 4 * block_bytes
 
--- ---- of one lane
+-- ---- the images of a bank
+
+-- the device is on and has the bank's slots, and the manifest is of a length for its rows
+pub record AreThere {D : Type 0} (g : Ghosts D) (d : D) (images : Images) : Type 0 where
+  pub on : IsTrue (g.on d)
+  pub some : 1 ≤ length images.rows.now
+  pub few : length images.rows.now ≤ most_images
+  pub manifest : length images.manifest.now ≡ manifest_size (length images.rows.now - 1)
+  pub inside : images.first + slot_total images.rows.now ≤ g.blocks d
+
+-- and each image fits its slot
+pub record AreReadable {D : Type 0} (g : Ghosts D) (d : D) (images : Images) : Type 0 where
+  pub there : AreThere g d images
+  pub sizes : ManifestFitsSlots images.rows.now images.manifest.now
+
+-- whether image k + 1 has the digest that row k says, by the content of a flash
+abbrev pub is_good_in : List ℕ → Images → ℕ → Bool
+is_good_in image images k = is_good image images.rows.now images.first images.manifest.now k
+
+-- What is found of image k + 1: that, on a device that tells; and on every device what was read of a good one has the digest of its row.
+pub record IsFoundAt {D : Type 0} (g : Ghosts D) (d : D) (images : Images) (k : ℕ) (good : Bool) : Type 0 where
+  pub told : IsTrue g.tells → good ≡ is_good_in (g.told d).now images k
+  pub some : IsTrue good → HasImage (row_at images.manifest.now k)
+
+-- the same of all images
+pub record IsLowestBad {D : Type 0} (g : Ghosts D) (d : D) (images : Images) (bad : Option ℕ) : Type 0 where
+  pub told : IsTrue g.tells → bad ≡ lowest_bad (is_good_in (g.told d).now images) 0 (length images.rows.now - 1)
+  pub some : HasImages images.manifest.now (length images.rows.now - 1) bad
+
+-- ---- an image that is hashed
+
+-- the image of row k, which begins at this block
+abbrev pub new_job : Images → ℕ → ℕ → Job
+new_job images k block = record { row = k; at = block_bytes * block; size = (row_at images.manifest.now k).size; done = 0 }
+
+-- what is held are so many bytes, and on a device that tells, those that stand there from this byte on
+pub record HasTaken {D : Type 0} (g : Ghosts D) (d : D) (at count : ℕ) (holds : List ℕ → Type 0) : Type 0 where
+  pub bytes : List ℕ
+  pub size : length bytes ≡ count
+  pub held : holds bytes
+  pub told : IsTrue g.tells → bytes ≡ take count (drop at (g.told d).now)
+
+-- The image is that of its row, and its first bytes are taken in.
+pub record IsBegun {D : Type 0} (g : Ghosts D) (d : D) (images : Images) (holds : List ℕ → Type 0) (job : Job) : Type 0 where
+  pub within : job.row < length images.rows.now - 1
+  pub at : job.at ≡ block_bytes * place images.rows.now images.first (job.row + 1)
+  pub size : job.size ≡ (row_at images.manifest.now job.row).size
+  pub small : job.done ≤ job.size
+  pub taken : HasTaken g d job.at job.done holds
+
+-- ---- the lanes
 
 -- the image that lane j works on
 abbrev pub job_at : List (Option Job) → ℕ → Option Job
@@ -35,47 +84,14 @@ abbrev pub gone_on : ℕ → Option Job → Option Job
 gone_on count None = None
 gone_on count (Some job) = Some (record job { done = job.done + count })
 
--- what is held are so many bytes, and on a device that tells, those that stand there from this byte on
-pub record HasTaken {D : Type 0} (g : Ghosts D) (d : D) (at count : ℕ) (holds : List ℕ → Type 0) : Type 0 where
-  pub bytes : List ℕ
-  pub size : length bytes ≡ count
-  pub held : holds bytes
-  pub told : IsTrue g.tells → bytes ≡ take count (drop at (g.told d).now)
+abbrev pub HaveGoneOn : ℕ → List (Option Job) → List (Option Job) → Type 0
+HaveGoneOn count jobs after = (j : ℕ) → j < 4 → job_at after j ≡ gone_on count (job_at jobs j)
 
--- each lane has taken in so many bytes more of its image than its job says
-abbrev pub HaveTaken : {D : Type 0} → Ghosts D → D → List (Option Job) → Lanes → ℕ → Type 0
-HaveTaken g d jobs lanes more = (j : ℕ) → j < 4
-    → ForSome (job_at jobs j) (λ job. HasTaken g d job.at (job.done + more) (HoldsInLane j lanes))
-
--- lane j has taken in the first bytes of its image
-pub record IsInLane {D : Type 0} (g : Ghosts D) (d : D) (lanes : Lanes) (j : ℕ) (job : Job) : Type 0 where
-  pub small : job.done ≤ job.size
-  pub inside : job.at + job.size ≤ block_bytes * g.blocks d
-  pub taken : HasTaken g d job.at job.done (HoldsInLane j lanes)
-
-abbrev pub AreInLanes : {D : Type 0} → Ghosts D → D → List (Option Job) → Lanes → Type 0
-AreInLanes g d jobs lanes = (j : ℕ) → j < 4 → ForSome (job_at jobs j) (IsInLane g d lanes j)
-
--- ---- of all images
-
--- the image is that of a row: there it begins, and this is its length
-pub record IsOfRow (rows : List ImageRow) (first : ℕ) (manifest : List ℕ) (job : Job) : Type 0 where
-  pub within : job.row < length rows - 1
-  pub at : job.at ≡ block_bytes * place rows first (job.row + 1)
-  pub size : job.size ≡ (row_at manifest job.row).size
-
--- the manifest has a row for it, of this length
-pub record IsOfManifest (manifest : List ℕ) (job : Job) : Type 0 where
-  pub few : job.row ≤ most_images
-  pub within : field_place row_size job.row ≤ length manifest
-  pub size : job.size ≡ (row_at manifest job.row).size
-
-abbrev pub AreOfManifest : List ℕ → List (Option Job) → Type 0
-AreOfManifest manifest jobs = (j : ℕ) → j < 4 → ForSome (job_at jobs j) (IsOfManifest manifest)
-
--- the bytes that stand where the image does have the digest of this row
-abbrev pub has_digest : List ℕ → Job → Row → Bool
-has_digest image job row = same_bytes (sha256 (take job.size (drop job.at image))) row.digest
+-- each lane can take in so many bytes at once
+pub record IsPieceOfJobs (jobs : List (Option Job)) (size : ℕ) : Type 0 where
+  pub whole : size % 64 ≡ 0
+  pub few : size ≤ block_bytes
+  pub enough : (j : ℕ) → j < 4 → size ≤ left (job_at jobs j)
 
 -- the lane has image k
 abbrev pub HasRow : ℕ → Option Job → Type 0
@@ -87,14 +103,18 @@ abbrev pub HasNoLane : ℕ → List (Option Job) → Type 0
 HasNoLane k jobs = (j : ℕ) → j < 4 → HasRow k (job_at jobs j) → ⊥
 
 -- Each image below the next that no lane has is good, or not below the lowest that was found bad.
--- What was read of a good one has the digest of its row, on every device.
-pub record IsUnderWay {D : Type 0} (g : Ghosts D) (d : D) (rows : List ImageRow) (first : ℕ) (manifest : List ℕ) (work : Work)
-    : Type 0 where
-  pub most : work.bad ≤ length rows - 1
-  pub bad : IsTrue g.tells → work.bad < length rows - 1 → IsFalse (is_good (g.told d).now rows first manifest work.bad)
-  pub good : IsTrue g.tells → (k : ℕ) → k < work.next → k < work.bad → HasNoLane k work.jobs
-      → IsTrue (is_good (g.told d).now rows first manifest k)
-  pub images : (k : ℕ) → k < work.next → k < work.bad → HasNoLane k work.jobs → HasImage (row_at manifest k)
-  pub rows_are : (j : ℕ) → j < 4 → ForSome (job_at work.jobs j) (IsOfRow rows first manifest)
-  pub lanes_are : AreInLanes g d work.jobs work.lanes
-  pub begins : work.block ≡ place rows first (work.next + 1)
+pub record IsUnderWay {D : Type 0} (g : Ghosts D) (d : D) (work : Work) : Type 0 where
+  pub readable : AreReadable g d work.images
+  pub most : work.bad ≤ length work.images.rows.now - 1
+  pub bad : work.bad < length work.images.rows.now - 1 → IsFoundAt g d work.images work.bad false
+  pub good : (k : ℕ) → k < work.next → k < work.bad → HasNoLane k work.jobs → IsFoundAt g d work.images k true
+  pub lanes_are : (j : ℕ) → j < 4 → ForSome (job_at work.jobs j) (IsBegun g d work.images (HoldsInLane j work.lanes))
+  pub begins : work.block ≡ place work.images.rows.now work.images.first (work.next + 1)
+
+-- The work went on, but no lane took another image. A free lane is still free.
+pub record HaveStepped {D : Type 0} (g : Ghosts D) (d : D) (work after : Work) : Type 0 where
+  pub under_way : IsUnderWay g d after
+  pub images : after.images ≡ work.images
+  pub next : after.next ≡ work.next
+  pub bad : after.bad ≤ work.bad
+  pub free : (j : ℕ) → j < 4 → job_at work.jobs j ≡ None → job_at after.jobs j ≡ None

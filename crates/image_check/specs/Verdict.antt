@@ -21,14 +21,14 @@ by_images counter version None = by_counter counter version
 by_images counter version (Some image) = verdict.BadImage image
 
 -- whether image j + 1 of the package is what row j says
-abbrev pub has_image : Manifest → List (List ℕ) → ℕ → Bool
-has_image m p j =
+abbrev pub package_has_image : Manifest → List (List ℕ) → ℕ → Bool
+package_has_image m p j =
     is_image_of (slice_index_or m.rows j (record { guid = []; size = 0; version = 0; digest = [] })) (slice_index_or p (j + 1) [])
 
 abbrev pub by_package : (List ℕ → Bool) → ℕ → Manifest → List (List ℕ) → Verdict
 by_package passes counter m p =
     if not (passes (manifest_part p)) then verdict.NotAccepted
-    else by_images counter m.security (lowest_bad (has_image m p) 0 (length m.rows))
+    else by_images counter m.security (lowest_bad (package_has_image m p) 0 (length m.rows))
 
 abbrev pub by_manifest : (List ℕ → Bool) → ℕ → Layout → List ℕ → ℕ → Result Manifest ManifestFault → Verdict
 by_manifest passes counter L image bank (Err e) = verdict.BadManifest

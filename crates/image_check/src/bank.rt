@@ -1,18 +1,19 @@
 //! The verdict on a bank.
-ghost use Rattle.std.specs.Prelude.{◌≡◌, ◌+◌, ◌-◌, ◌<◌, ◌≤◌, ℕ, Bool, List, length, take, IsTrue, IfOk};
+ghost use Rattle.std.specs.Prelude.{◌≡◌, ◌-◌, ◌<◌, ◌≤◌, ℕ, Bool, List, length, take, IsTrue, IfOk};
 ghost use Rattle.base_core.specs.Block.{block_bytes};
 ghost use Rattle.flash_core.specs.Calls.{Reads};
-ghost use Rattle.fwu_formats.specs.Layout.{slot_total, blocks_needed, start};
+ghost use Rattle.fwu_formats.specs.Layout.{blocks_needed, start};
 ghost use Rattle.fwu_formats.specs.Manifest as model;
 ghost use Rattle.fwu_formats.specs.Layout.{ImageRow as Row};
 ghost use Rattle.manifest_core.specs.Sizes.{most_manifest_bytes};
 ghost use Rattle.image_check.specs.Passed.{HasPackage, HasPackageBy, HasPassed, IsVerdictBy};
 ghost use Rattle.image_check.specs.Found.{found, front_of};
+ghost use Rattle.image_check.specs.Taken.{AreThere};
 ghost use Rattle.image_check.specs.Verdict.{by_counter, verdict_on};
-ghost use Rattle.base_core.specs.Limits.{most_images};
 
+use crate::image::Images;
 use crate::images::first_bad;
-use base_core::{BLOCK_BYTES, ImageRow};
+use base_core::BLOCK_BYTES;
 use flash_core::{Flash, FlashStop};
 use manifest_core::{MOST_MANIFEST_BYTES, manifest_size, test};
 use meta_layout::Layout;
@@ -47,78 +48,46 @@ fn of_counter(version: u32, counter: u32) -> Verdict
 /// The verdict on a bank that has this manifest at its front.
 fn check_manifest<D: Flash, V: Verifier>(
     flash: &mut D,
-    rows: &[ImageRow],
-    first: u32,
-    manifest: &[u8],
+    images: &Images<'_>,
     counter: u32,
     buf: &mut [u8],
     verifier: &V,
 ) -> Result<Verdict, FlashStop>
-    requires on { IsTrue (D.on flash.old) }
-    requires room { 0 < length buf.old }
-    requires some { 1 ≤ length rows.now }
-    requires few { length rows.now ≤ most_images }
-    requires manifest { length manifest.now ≡ model.manifest_size (length rows.now - 1) }
-    requires inside { first + slot_total rows.now ≤ D.blocks flash.old }
+    requires room { block_bytes ≤ length buf.old }
+    requires there { AreThere D.Flash flash.old images.now }
     ensures verdict { IfOk result (λ verdict. IsTrue D.tells →
-        verdict ≡ found (V.passes verifier.now) counter (D.told flash.old).now rows.now first manifest.now) }
-    ensures passed { IfOk result (HasPassed (V.passes verifier.now) rows.now counter) }
-    ensures by_manifest { IfOk result (IsVerdictBy (V.passes verifier.now) rows.now manifest.now) }
+        verdict ≡ found (V.passes verifier.now) counter (D.told flash.old).now images.now.rows.now images.now.first
+        images.now.manifest.now) }
+    ensures passed { IfOk result (HasPassed (V.passes verifier.now) images.now.rows.now counter) }
+    ensures by_manifest { IfOk result (IsVerdictBy (V.passes verifier.now) images.now.rows.now images.now.manifest.now) }
     ensures reads { Reads D.Flash result flash.old flash.new }
 {
-    let version = match test(manifest, rows) {
+    let version = match test(images.manifest, images.rows) {
         Ok(version) => version,
         Err(_) => return Ok(Verdict::BadManifest),
     };
-    if !verifier.accepts(manifest) {
+    if !verifier.accepts(images.manifest) {
         return Ok(Verdict::NotAccepted);
     }
-    match first_bad(flash, rows, first, manifest, buf)? {
+    match first_bad(flash, images, buf)? {
         Some(image) => Ok(Verdict::BadImage { image }),
         None => Ok(of_counter(version, counter)),
     }
 }
 
-/// The verdict on a bank that begins at this block, with its manifest at the front of a buffer.
-fn check_at<D: Flash, V: Verifier>(
-    flash: &mut D,
-    rows: &[ImageRow],
-    first: u32,
-    counter: u32,
-    front: &mut [u8],
-    buf: &mut [u8],
-    verifier: &V,
-) -> Result<Verdict, FlashStop>
-    requires on { IsTrue (D.on flash.old) }
-    requires front { most_manifest_bytes ≤ length front.old }
-    requires room { 0 < length buf.old }
-    requires some { 1 ≤ length rows.now }
-    requires few { length rows.now ≤ most_images }
-    requires block { first < D.blocks flash.old }
-    requires inside { first + slot_total rows.now ≤ D.blocks flash.old }
-    ensures verdict { IfOk result (λ verdict. IsTrue D.tells →
-        verdict ≡ found (V.passes verifier.now) counter (D.told flash.old).now rows.now first
-        (front_of (D.told flash.old).now rows.now first)) }
-    ensures passed { IfOk result (HasPassed (V.passes verifier.now) rows.now counter) }
-    ensures by_manifest { let manifest = take (model.manifest_size (length rows.now - 1)) front.new in
-        IfOk result (IsVerdictBy (V.passes verifier.now) rows.now manifest) }
-    ensures manifest { let manifest = take (model.manifest_size (length rows.now - 1)) front.new in
-        IfOk result (λ verdict. IsTrue D.tells → manifest ≡ front_of (D.told flash.old).now rows.now first) }
-    ensures front { length front.new ≡ length front.old }
-    ensures reads { Reads D.Flash result flash.old flash.new }
-{
-    let manifest = &mut front[..manifest_size(rows)];
-    flash.read(BLOCK_BYTES * first, manifest)?;
-    check_manifest(flash, rows, first, manifest, counter, buf, verifier)
+/// Which bank of a layout is checked, and the anti-rollback counter that its version may not be below.
+#[derive(Clone, Copy, Drop)]
+pub struct Asked<'a> {
+    pub layout: &'a Layout,
+    pub bank: u32,
+    pub counter: u32,
 }
 
 /// The verdict on a bank as `check` gives it, and what was read of the bank's manifest, by which it is: that is left at the front
 /// of `front`, which has room for the largest. The images are read through `buf`, as there.
 pub fn check_keeping_manifest<D: Flash, V: Verifier>(
     flash: &mut D,
-    layout: &Layout,
-    bank: u32,
-    counter: u32,
+    asked: &Asked<'_>,
     front: &mut [u8],
     buf: &mut [u8],
     verifier: &V,
@@ -126,24 +95,32 @@ pub fn check_keeping_manifest<D: Flash, V: Verifier>(
     requires on { IsTrue (D.on flash.old) }
     requires front { most_manifest_bytes ≤ length front.old }
     requires room { block_bytes ≤ length buf.old }
-    requires fits { blocks_needed layout.now ≤ D.blocks flash.old }
-    requires bank { bank < layout.now.banks }
+    requires fits { blocks_needed asked.now.layout.now ≤ D.blocks flash.old }
+    requires bank { asked.now.bank < asked.now.layout.now.banks }
     ensures verdict { IfOk result (λ verdict. IsTrue D.tells →
-        verdict ≡ verdict_on (V.passes verifier.now) counter layout.now (D.told flash.old).now bank) }
-    ensures passed { IfOk result (HasPassed (V.passes verifier.now) layout.now.rows counter) }
+        verdict ≡ verdict_on (V.passes verifier.now) asked.now.counter asked.now.layout.now (D.told flash.old).now asked.now.bank) }
+    ensures passed { IfOk result (HasPassed (V.passes verifier.now) asked.now.layout.now.rows asked.now.counter) }
     // On every device the verdict is by the manifest that is kept: it is none, or it is refused, or it passes, with an image for
     // each row or for each before the bad one.
-    ensures by_manifest { let manifest = take (model.manifest_size (length layout.now.rows - 1)) front.new in
-        IfOk result (IsVerdictBy (V.passes verifier.now) layout.now.rows manifest) }
-    ensures manifest { let manifest = take (model.manifest_size (length layout.now.rows - 1)) front.new in
+    ensures by_manifest { let manifest = take (model.manifest_size (length asked.now.layout.now.rows - 1)) front.new in
+        IfOk result (IsVerdictBy (V.passes verifier.now) asked.now.layout.now.rows manifest) }
+    ensures manifest { let manifest = take (model.manifest_size (length asked.now.layout.now.rows - 1)) front.new in
         IfOk result (λ verdict. IsTrue D.tells →
-        manifest ≡ front_of (D.told flash.old).now layout.now.rows (start layout.now bank 0)) }
+        manifest ≡ front_of (D.told flash.old).now asked.now.layout.now.rows (start asked.now.layout.now asked.now.bank 0)) }
     ensures front { length front.new ≡ length front.old }
     ensures reads { Reads D.Flash result flash.old flash.new }
 {
+    let layout = asked.layout;
     let rows = layout.rows();
-    let first = layout.start(bank, 0);
-    check_at(flash, rows, first, counter, front, buf, verifier)
+    let first = layout.start(asked.bank, 0);
+    let size = manifest_size(rows);
+    flash.read(BLOCK_BYTES * first, &mut front[..size])?;
+    let images = Images {
+        rows,
+        first,
+        manifest: &front[..size],
+    };
+    check_manifest(flash, &images, asked.counter, buf, verifier)
 }
 
 /// The verdict on a bank, by what the flash holds. The bank's manifest stands at the front of the slot of image 0, and
@@ -170,5 +147,10 @@ pub fn check<D: Flash, V: Verifier>(
     ensures reads { Reads D.Flash result flash.old flash.new }
 {
     let mut front = [0; MOST_MANIFEST_BYTES];
-    check_keeping_manifest(flash, layout, bank, counter, &mut front, buf, verifier)
+    let asked = Asked {
+        layout,
+        bank,
+        counter,
+    };
+    check_keeping_manifest(flash, &asked, &mut front, buf, verifier)
 }

@@ -2,10 +2,11 @@
 #![tactic(auto)]
 
 mod bank;
+mod image;
 mod images;
 mod laws;
 mod side;
 
-pub use bank::{Verdict, check, check_keeping_manifest};
+pub use bank::{Asked, Verdict, check, check_keeping_manifest};
 pub use laws::good_is_permitted;
 pub use side::LANES_BYTES;

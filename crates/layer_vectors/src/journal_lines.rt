@@ -1,6 +1,6 @@
 //! Printed lines that no script gets.
 
-ghost use Rattle.fwu_journal.specs.Shown.{IsShort, reply as shown_reply};
+ghost use Rattle.fwu_journal.specs.Shown.{IsShortReply, reply as shown_reply};
 
 use crate::fixtures::are_bytes;
 use fwu_journal::{LINE_ROOM, Reply, Turn, add_line};
@@ -11,7 +11,7 @@ use std::process::Abort;
 
 // The call and its reply have this line.
 fn has_line(rt: &impl Abort, alloc: Global, call: Call, reply: Reply, wanted: &str)
-    requires { IsShort (shown_reply reply) }
+    requires { IsShortReply (shown_reply reply) }
 {
     let mut text = Vec::with_capacity(alloc, LINE_ROOM).expect(rt, "memory");
     let turn = Turn {

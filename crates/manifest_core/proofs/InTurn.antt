@@ -9,7 +9,7 @@ use Rattle.fwu_formats.specs.Layout.{ImageRow}
 use Rattle.fwu_formats.specs.Manifest.{Manifest, manifest_of, manifest_at, manifest_size, manifest_magic, row_at, has_form, is_version_too_high, all_paired}
 use Rattle.fwu_formats.specs.declared.kinds.ManifestFault.{ManifestFault}
 use Rattle.fwu_formats.specs.declared.kinds.ManifestFault.TheVariants as fault
-use Rattle.manifest_core.specs.Shown.{version_of, is_named, is_within}
+use Rattle.manifest_core.specs.Shown.{version_of, is_named, fits_slot}
 use Rattle.fwu_formats.proofs.Spell.{num_front}
 
 -- the first fault, where tests after the first one are to be true
@@ -43,7 +43,7 @@ pub by_tests : (images : List ImageRow) (bytes : List ℕ) → version_of (manif
     let whole = take (manifest_size count) bytes in
     let rows = listed (num_at 4 whole 12) (row_at whole) in
     outcome (nat_lt (length bytes) (manifest_size count)) (num_at 4 bytes 0 == manifest_magic) (has_form bytes) (is_version_too_high bytes) (num_at 4 bytes 12 == count)
-    (all_paired is_named (drop 1 images) rows) (all_paired is_within (drop 1 images) rows)
+    (all_paired is_named (drop 1 images) rows) (all_paired fits_slot (drop 1 images) rows)
     (same_bytes (drop (16 + 56 * count) whole) (sha256 (take (16 + 56 * count) bytes))) (num_at 4 whole 8))
 unfolding manifest_of
 by_tests images bytes = version_outcome _ _ _ _ _ _ _ _ (manifest_at (take (manifest_size (length images - 1)) bytes))
@@ -86,7 +86,7 @@ pub whole_is : (rows others : List ImageRow) (whole : List ℕ) → others ≡ d
     → (magic form passes count order room digest : Bool)
     → magic ≡ (num_at 4 whole 0 == manifest_magic) → form ≡ has_form whole → passes ≡ is_version_too_high whole → count ≡ (num_at 4 whole 12 == length others)
     → order ≡ all_paired is_named others (listed (length others) (row_at whole))
-    → room ≡ all_paired is_within others (listed (length others) (row_at whole))
+    → room ≡ all_paired fits_slot others (listed (length others) (row_at whole))
     → digest ≡ same_bytes (drop (16 + 56 * length others) whole) (sha256 (take (16 + 56 * length others) whole))
     → outcome false magic form passes count order room digest (num_at 4 whole 8) ≡ version_of (manifest_of rows whole)
 whole_is rows others whole are size magic form passes count order room digest ea eb ec ed ee ef eg =
@@ -99,7 +99,7 @@ whole_is rows others whole are size magic form passes count order room digest ea
     let images : drop 1 rows ≡ others = sym are in
     let here = counted false (num_at 4 whole 0 == manifest_magic) (has_form whole) (is_version_too_high whole) (num_at 4 whole 12) n
     (λ k. all_paired is_named others (listed k (row_at whole)))
-    (λ k. all_paired is_within others (listed k (row_at whole)))
+    (λ k. all_paired fits_slot others (listed k (row_at whole)))
     (same_bytes (drop (16 + 56 * n) whole) (sha256 (take (16 + 56 * n) whole))) (num_at 4 whole 8) in
     rw (ea, eb, ec, ed, ee, ef, eg) (sym here ∙ sym (by_tests rows whole ∙ rw (count_is, all, long, images) refl))
 

@@ -8,7 +8,7 @@ use Rattle.base_core.specs.Bytes.{num_at, listed}
 use Rattle.fwu_formats.specs.Layout.{ImageRow}
 use Rattle.fwu_formats.specs.Manifest.{Row, Manifest, manifest_of, manifest_at, manifest_size, row_at, all_paired}
 use Rattle.fwu_formats.specs.declared.kinds.ManifestFault.{ManifestFault}
-use Rattle.manifest_core.specs.Shown.{version_of, is_within, row}
+use Rattle.manifest_core.specs.Shown.{version_of, fits_slot, row}
 use Rattle.manifest_core.specs.declared.rows.Row.{Row as SpecRow}
 use Rattle.std.proofs.lemmas.List.FromFn.{length-map-range_with_len}
 use Rattle.fwu_formats.proofs.Spell.{num_front}
@@ -70,7 +70,7 @@ sizes_fit rows whole v size e k d within =
     let same : num_at 4 front 12 ≡ num_at 4 whole 12 = num_front 4 12 _ whole (omega arith) in
     let rest = drop 1 rows in
     let rest-long = length-drop 1 rows in
-    let here = leb-true _ _ (paired_at is_within (row_at front) rest 0 (num_at 4 front 12) k d parts.fits (omega arith) (omega arith)) in
+    let here = leb-true _ _ (paired_at fits_slot (row_at front) rest 0 (num_at 4 front 12) k d parts.fits (omega arith) (omega arith)) in
     let row : get_or rest k d ≡ get_or rows (k + 1) d = get_or-drop 1 rows k d ∙ ap (λ (i : ℕ). get_or rows i d) (omega arith) in
     let slots : (get_or rest k d).slots ≡ (get_or rows (k + 1) d).slots = ap (λ (r : ImageRow). r.slots) row in
     let field : num_at 4 front (32 + 56 * (0 + k)) ≡ num_at 4 whole (32 + 56 * k) = ap (λ (i : ℕ). num_at 4 front (32 + 56 * i)) (omega arith) ∙ num_front 4 (32 + 56 * k) _ whole (omega arith) in

@@ -23,15 +23,15 @@ abbrev pub is_named : ImageRow → model.Row → Bool
 is_named i r = same_bytes i.guid r.guid
 
 -- the image fits its slot
-abbrev pub is_within : ImageRow → model.Row → Bool
-is_within i r = nat_le r.size (block_bytes * i.slots)
+abbrev pub fits_slot : ImageRow → model.Row → Bool
+fits_slot i r = nat_le r.size (block_bytes * i.slots)
 
 -- The manifest has a row for each image but the first, of its type and within its slot: it is neither of a wrong count, nor of a
 -- wrong order, nor too large.
 pub record Suits (images : List ImageRow) (m : model.Manifest) : Type 0 where
   pub count : length m.rows + 1 ≡ length images
   pub order : IsTrue (model.all_paired is_named (drop 1 images) m.rows)
-  pub sizes : IsTrue (model.all_paired is_within (drop 1 images) m.rows)
+  pub sizes : IsTrue (model.all_paired fits_slot (drop 1 images) m.rows)
 
 -- the bytes are no manifest, with this fault, or memory was wanting
 abbrev pub IsStopOf : Result model.Manifest ManifestFault → ManifestStop → Type 0

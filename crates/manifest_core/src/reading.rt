@@ -5,7 +5,7 @@ ghost use Rattle.base_core.specs.Bytes.{num_at, same_bytes, listed};
 ghost use Rattle.base_core.specs.Limits.{most_images};
 ghost use Rattle.sha2.specs.Sha256.{sha256};
 ghost use Rattle.fwu_formats.specs.Manifest as model;
-ghost use Rattle.manifest_core.specs.Shown.{version_of, is_named, is_within};
+ghost use Rattle.manifest_core.specs.Shown.{version_of, is_named, fits_slot};
 
 use crate::sizes::{manifest_size, row_place};
 use base_core::{BLOCK_BYTES, Guid, ImageRow, le32_at};
@@ -94,7 +94,7 @@ fn is_in_order(bytes: &[u8], images: &[ImageRow]) -> bool
 fn fits_slots(bytes: &[u8], images: &[ImageRow]) -> bool
     requires few { length images.now ≤ most_images }
     requires room { model.row_place (length images.now) ≤ length bytes.now }
-    ensures { result ≡ model.all_paired is_within images.now (listed (length images.now)
+    ensures { result ≡ model.all_paired fits_slot images.now (listed (length images.now)
         (model.row_at bytes.now)) }
 {
     for j in 0..images.len() {

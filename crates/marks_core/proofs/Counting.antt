@@ -10,7 +10,7 @@ use Rattle.flash_core.specs.May.{Keeps}
 use Rattle.flash_core.proofs.Calls.{keeps_same, keeps_put, keeps_halt, keeps_settle, now-put, now-settle, settle-fresh}
 use Rattle.fwu_formats.specs.Image.{is_blank, marks, is_tidy}
 use Rattle.fwu_formats.proofs.Marks.{marks-are-counted}
-use Rattle.marks_core.specs.Marks.{IsNext, CountsOnce, Adds}
+use Rattle.marks_core.specs.Marks.{IsNextMark, CountsOnce, Adds}
 use Rattle.marks_core.proofs.Granules.{granule-overwritten, granule_kept, granule_left}
 
 -- the count of a block by its granules
@@ -25,7 +25,7 @@ pub blank_at_count : (image : List ℕ) (b limit n : ℕ) → n ≡ marks image 
 blank_at_count image b limit n is lt = subst (λ k. IsTrue (is_blank (granule b k image))) (sym is) (marks-are-counted.at image b limit (omega (arith, is, lt)))
 
 -- an image that differs in one granule, behind the marks
-module _ (old image : List ℕ) (b at limit : ℕ) (next : IsNext old b at limit) (same : (j : ℕ) → j < limit → (j ≡ at → ⊥) → granule b j image ≡ granule b j old) where
+module _ (old image : List ℕ) (b at limit : ℕ) (next : IsNextMark old b at limit) (same : (j : ℕ) → j < limit → (j ≡ at → ⊥) → granule b j image ≡ granule b j old) where
   before : (k : ℕ) → k < at → IsFalse (is_blank (granule b k image))
   before k lt =
       ap is_blank (same k (omega (arith, lt, next.below)) (λ e. omega (arith, lt, e)))

@@ -9,7 +9,7 @@ use Rattle.flash_core.specs.May.{May, Keeps, Quiet}
 use Rattle.fwu_formats.specs.Image.{is_blank, marks, is_tidy}
 
 -- A mark may go to this place of a block: it is the count, below the limit, and up to the limit no mark follows it.
-pub record IsNext (image : List ℕ) (b at limit : ℕ) : Type 0 where
+pub record IsNextMark (image : List ℕ) (b at limit : ℕ) : Type 0 where
   pub below : at < limit
   pub few : limit ≤ 256
   pub count : marks image b limit ≡ at
@@ -25,11 +25,11 @@ pub record Adds {T : Type 0} (result : Result T FlashStop) (b at : ℕ) (s t : T
   -- but for its granule nothing changes
   pub keeps : Keeps (block_bytes * b + granule_bytes * at) (block_bytes * b + granule_bytes * at + granule_bytes) s t
   -- an image that a power-on may leave has the old count or one more
-  pub either : (limit : ℕ) → IsNext s.now b at limit → Quiet (block_bytes * b) (block_bytes * b + block_bytes) s
+  pub either : (limit : ℕ) → IsNextMark s.now b at limit → Quiet (block_bytes * b) (block_bytes * b + block_bytes) s
       → (image : List ℕ) → May t image → CountsOnce image b at limit
   -- when done, its granule is zero, the count is one more, and nothing is dirty
   pub written : OnOk result (granule b at t.now ≡ replicate granule_bytes 0)
-  pub one_more : (limit : ℕ) → IsNext s.now b at limit → OnOk result (marks t.now b limit ≡ at + 1)
+  pub one_more : (limit : ℕ) → IsNextMark s.now b at limit → OnOk result (marks t.now b limit ≡ at + 1)
   pub stable : OnOk result (NothingDirty t)
 
 -- what clearing a block leaves, at any exit

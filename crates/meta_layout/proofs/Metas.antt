@@ -57,10 +57,10 @@ module _ (L : Layout) (block : List ℕ) (size : ℕ) (sum : Bool) where
     one-ok good fits r so = let e : (num_at 4 block 0 == crc (part block 4 (meta_size_v1 L))) ≡ true = summed-one ∙ good in rw (e, fits, so) refl
 
 module _ (L : Layout) (block : List ℕ) where
-  pub two-value : (active previous banks : ℕ) (states : List BankState) (bits : List (List Bool))
-      → active ≡ num_at 4 block 8 → previous ≡ num_at 4 block 12 → banks ≡ L.banks → states ≡ listed banks (state_from block) → bits ≡ listed L.banks (bits_from L 0x28 block)
+  pub two-value : (active previous : ℕ) (states : List BankState) (bits : List (List Bool))
+      → active ≡ num_at 4 block 8 → previous ≡ num_at 4 block 12 → states ≡ listed L.banks (state_from block) → bits ≡ listed L.banks (bits_from L 0x28 block)
       → (let r : MetaRead = record { form = 2; meta = record { active = active; previous = previous; states = states; bits = bits } } in r ≡ record { form = 2; meta = meta_at L block })
-  two-value active previous banks states bits ea ep eb es ebits = rw (es, ebits, ea, ep, eb) refl
+  two-value active previous states bits ea ep es ebits = rw (es, ebits, ea, ep) refl
 
   pub one-value : (active previous : ℕ) (states : List BankState) (bits : List (List Bool))
       → active ≡ num_at 4 block 8 → previous ≡ num_at 4 block 12 → states ≡ listed L.banks (state_at_v1 L block) → bits ≡ listed L.banks (bits_at_v1 L block)

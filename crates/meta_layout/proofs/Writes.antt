@@ -3,16 +3,15 @@ use Rattle.std.proofs.Common.{◌%◌, IsTrue, map, ◌≡◌, ℕ, ◌+◌, ◌
 use Rattle.std.proofs.Math.Seq.{take-append-add}
 use Rattle.std.proofs.lemmas.List.{take-replicate, length-replicate, take_all, drop-replicate, get_or_default, length-drop, drop_all, drop-take, drop-append-le, length-take-le, drop_at, take_more}
 use Rattle.std.specs.Prelude.{flat_map}
-use Rattle.fwu_formats.specs.Metadata.{Meta, meta_size, entry_size, state_byte, fits_meta, entry_bytes}
+use Rattle.fwu_formats.specs.Metadata.{Meta, meta_size, entry_size, state_byte, fits_meta, entry_bytes, entries_bytes, meta_body}
 use Rattle.fwu_formats.specs.declared.kinds.BankState.{BankState}
 use Rattle.fwu_formats.specs.declared.kinds.BankState.TheVariants.{Invalid}
 use Rattle.meta_layout.proofs.Fits.{meta-fits, row-length}
-use Rattle.meta_layout.specs.Entries.{HasBits, entry_of, front_bytes}
+use Rattle.meta_layout.specs.Entries.{HasBits, meta_entry_of, state_bytes, front_bytes, rest_bytes}
 use Rattle.base_core.specs.Bytes.{overwritten, le, part, listed}
 use Rattle.base_core.specs.Crc.{crc}
 use Rattle.fwu_formats.specs.Layout.{ImageRow, Layout, nil_guid, row_bytes, layout_magic, layout_size, layout_body}
 use Rattle.fwu_formats.proofs.OneSpelling.{map-last}
-pub use Rattle.base_core.proofs.Images.{put_front as front}
 
 pub three : (first a b c : List ℕ) → ((first ++ a) ++ b) ++ c ≡ first ++ ((a ++ b) ++ c)
 three first a b c = simp append_assoc
@@ -81,7 +80,7 @@ has-bits L m image banks fit same lt =
     }
 
 pub entry-bytes : (L : Layout) (m : Meta) (image : ℕ) (row : ImageRow) (rows : List ImageRow) (banks : ℕ)
-    → row ≡ get_or rows image row → rows ≡ L.rows → image < length rows → banks ≡ L.banks → entry_of banks row.guid m image ≡ entry_bytes L m image
+    → row ≡ get_or rows image row → rows ≡ L.rows → image < length rows → banks ≡ L.banks → meta_entry_of banks row.guid m image ≡ entry_bytes L m image
 entry-bytes L m image row rows banks is same lt count =
     let none : ImageRow = record { guid = nil_guid; slots = 0 } in
     let guid : row.guid ≡ (get_or L.rows image none).guid =
@@ -98,15 +97,15 @@ states-more states i v s first before after lt is byte small so next =
 pub unused : (banks : ℕ) → banks ≤ 4 → (let four : List ℕ = 255 ∷ 255 ∷ 255 ∷ 255 ∷ [] in take (4 - banks) (drop banks four) ≡ replicate (4 - banks) 255)
 unused banks h = ap (λ (l : List ℕ). take (4 - banks) l) (drop-replicate banks 4 255) ∙ take_all (4 - banks) (replicate (4 - banks) 255) (omega (arith, length-replicate {A = ℕ} (4 - banks) 255))
 
-pub front-is : (L : Layout) (m : Meta) (size banks : ℕ) (a b c d e f g h : List ℕ)
+pub front-is : (L : Layout) (m : Meta) (size : ℕ) (a b c d e f g : List ℕ)
     → a ≡ le 4 2 → b ≡ a ++ le 4 m.active → c ≡ b ++ le 4 m.previous → d ≡ c ++ le 4 size → e ≡ d ++ le 2 0x20 → f ≡ e ++ le 2 0
-    → g ≡ f ++ map state_byte m.states → h ≡ g ++ replicate (4 - banks) 0xFF → size ≡ meta_size L → banks ≡ L.banks → h ≡ front_bytes L m
-front-is L m size banks a b c d e f g h ea eb ec ed ee ef eg eh sized banked = rw (eh, eg, ef, ee, ed, ec, eb, ea, sized, banked) refl
+    → g ≡ f ++ state_bytes m.states → size ≡ meta_size L → g ≡ front_bytes L m
+front-is L m size a b c d e f g ea eb ec ed ee ef eg sized = rw (eg, ef, ee, ed, ec, eb, ea, sized) refl
 
 pub rest-is : (L : Layout) (banks images entry : ℕ) (z a b c d e f : List ℕ)
     → a ≡ z ++ le 4 0 → b ≡ a ++ le 1 banks → c ≡ b ++ le 1 0 → d ≡ c ++ le 2 images → e ≡ d ++ le 2 entry → f ≡ e ++ le 2 24
-    → banks ≡ L.banks → images ≡ length L.rows → entry ≡ entry_size L → f ≡ z ++ le 4 0 ++ le 1 L.banks ++ le 1 0 ++ le 2 (length L.rows) ++ le 2 (entry_size L) ++ le 2 24
-rest-is L banks images entry z a b c d e f ea eb ec ed ee ef banked counted sized = rw (ef, ee, ed, ec, eb, ea, sized, counted, banked) refl
+    → banks ≡ L.banks → images ≡ length L.rows → entry ≡ entry_size L → f ≡ z ++ rest_bytes L
+rest-is L banks images entry z a b c d e f ea eb ec ed ee ef banked counted sized = rw (ef, ee, ed, ec, eb, ea, sized, counted, banked) (simp append_assoc)
 
 -- bytes with so many 0xFF behind them, cut from a longer run of these
 pub padded : (bytes out : List ℕ) (size more room : ℕ) → length bytes ≡ size → size + more ≤ room → out ≡ bytes ++ replicate (room - size) 0xFF → take (size + more) out ≡ bytes ++ replicate more 0xFF
@@ -114,3 +113,14 @@ padded bytes out size more room is fits so =
     let n : size + more ≡ length bytes + more = omega (arith, is) in
     ap (take (size + more)) so ∙ ap (λ (k : ℕ). take k (bytes ++ replicate (room - size) 0xFF)) n ∙ take-append-add bytes (replicate (room - size) 0xFF) more
     ∙ ap (λ l. bytes ++ l) (take-replicate more (room - size) 0xFF (omega (arith, fits)))
+
+nine : (f m p r1 r2 r3 r4 r5 r6 : List ℕ) → (f ++ (m ++ p)) ++ (r1 ++ r2 ++ r3 ++ r4 ++ r5 ++ r6) ≡ f ++ m ++ p ++ r1 ++ r2 ++ r3 ++ r4 ++ r5 ++ r6
+nine f m p r1 r2 r3 r4 r5 r6 = simp append_assoc
+
+-- the parts of version 2 are its bytes from place 4 on
+pub body-two : (L : Layout) (m : Meta) → length m.states ≡ L.banks → (front_bytes L m ++ rest_bytes L) ++ entries_bytes L m ≡ meta_body L m
+body-two L m count =
+    ap (λ n. ((le 4 2 ++ le 4 m.active ++ le 4 m.previous ++ le 4 (meta_size L) ++ le 2 0x20 ++ le 2 0) ++ (map state_byte m.states ++ replicate (4 - n) 0xFF)) ++ rest_bytes L ++ entries_bytes L m) count
+    ∙ ap (λ l. l ++ entries_bytes L m)
+    (nine (le 4 2 ++ le 4 m.active ++ le 4 m.previous ++ le 4 (meta_size L) ++ le 2 0x20 ++ le 2 0) (map state_byte m.states) (replicate (4 - L.banks) 0xFF)
+    (le 4 0) (le 1 L.banks) (le 1 0) (le 2 (length L.rows)) (le 2 (entry_size L)) (le 2 24))

@@ -3,7 +3,7 @@ use Rattle.std.specs.Prelude.{◌≡◌, ℕ, ◌+◌, ◌*◌, ◌<◌, ◌&&�
 use Rattle.std.specs.List.{list_all, range_with_len}
 use Rattle.base_core.specs.Bytes.{le, num_at, same_bytes, listed}
 use Rattle.fwu_formats.specs.Layout.{Layout, nil_guid}
-use Rattle.fwu_formats.specs.Metadata.{Meta, meta_size, state_byte, bit_number, bit_at, entry_place, has_bank_entry, state_of_byte, bits_v1, state_at_v1, bits_from}
+use Rattle.fwu_formats.specs.Metadata.{Meta, meta_size, entry_size, state_byte, bit_number, bit_at, entry_place, has_bank_entry, state_of_byte, bits_v1, state_at_v1, bits_from}
 use Rattle.fwu_formats.specs.declared.kinds.BankState.{BankState}
 
 -- what an entry at a place says of the banks
@@ -40,16 +40,21 @@ abbrev pub bank_bytes : List ℕ → Meta → ℕ → ℕ → List ℕ
 bank_bytes guid m image bank = guid ++ le 4 (bit_number (bit_at m bank image)) ++ le 4 0
 
 -- the entry of an image of a type
-abbrev pub entry_of : ℕ → List ℕ → Meta → ℕ → List ℕ
-entry_of banks guid m image = guid ++ nil_guid ++ flat_map (bank_bytes guid m image) (listed banks (λ bank. bank))
+abbrev pub meta_entry_of : ℕ → List ℕ → Meta → ℕ → List ℕ
+meta_entry_of banks guid m image = guid ++ nil_guid ++ flat_map (bank_bytes guid m image) (listed banks (λ bank. bank))
 
 -- the metadata has a bit for the image in each of so many banks
 pub record HasBits (m : Meta) (banks image : ℕ) : Type 0 where
   pub count : length m.bits ≡ banks
   pub within : (bank : ℕ) → bank < banks → image < length (slice_index_or m.bits bank [])
 
--- the body's bytes before the fields that the layout gives
+-- the states of at most four banks, and 0xFF behind them
+abbrev pub state_bytes : List BankState → List ℕ
+state_bytes states = map state_byte states ++ replicate (4 - length states) 0xFF
+
+-- the body's bytes before the fields that the layout gives, and these fields
 abbrev pub front_bytes : Layout → Meta → List ℕ
-front_bytes L m =
-    le 4 2 ++ le 4 m.active ++ le 4 m.previous ++ le 4 (meta_size L) ++ le 2 0x20 ++ le 2 0 ++ map state_byte m.states
-    ++ replicate (4 - L.banks) 0xFF
+front_bytes L m = (le 4 2 ++ le 4 m.active ++ le 4 m.previous ++ le 4 (meta_size L) ++ le 2 0x20 ++ le 2 0) ++ state_bytes m.states
+
+abbrev pub rest_bytes : Layout → List ℕ
+rest_bytes L = le 4 0 ++ le 1 L.banks ++ le 1 0 ++ le 2 (length L.rows) ++ le 2 (entry_size L) ++ le 2 24

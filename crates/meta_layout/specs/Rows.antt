@@ -11,8 +11,8 @@ abbrev pub no_row : ImageRow
 no_row = record { guid = nil_guid; slots = 0 }
 
 -- the row that a layout block has at an index
-abbrev pub row_at : List ℕ → ℕ → ImageRow
-row_at block i = record { guid = take 16 (drop (32 + 24 * i) block); slots = num_at 4 block (48 + 24 * i) }
+abbrev pub layout_row_at : List ℕ → ℕ → ImageRow
+layout_row_at block i = record { guid = take 16 (drop (32 + 24 * i) block); slots = num_at 4 block (48 + 24 * i) }
 
 -- the last field of a row is zero
 abbrev pub has_zero : List ℕ → ℕ → Bool

@@ -1,17 +1,15 @@
 //! The entries of images in a metadata block: their places, and whether they are as they must be.
-ghost use Rattle.std.specs.Prelude.{◌≡◌, ◌+◌, ◌*◌, ◌<◌, ◌≤◌, ◌&&◌, ◌==◌, nat_lt, length, drop, take};
-ghost use Rattle.std.specs.List.{list_all, range_with_len};
-ghost use Rattle.base_core.specs.Limits.{most_banks};
-ghost use Rattle.base_core.specs.Bytes.{num_at};
+ghost use Rattle.std.specs.Prelude.{◌≡◌, ◌+◌, ◌*◌, ◌^◌, ◌<◌, ◌≤◌, length};
 ghost use Rattle.fwu_formats.specs.Metadata.{entry_size, entry_place, has_bank_entry, has_entries};
 ghost use Rattle.meta_layout.specs.Entries.{has_bank_entries, has_entry_at};
 
+use crate::block::MetaBlock;
 use crate::layout::Layout;
 use base_core::{Guid, le32_at};
 
 /// Where an image's entry begins, if the first begins at a place.
 pub fn entry_at(layout: &Layout, from: usize, image: usize) -> usize
-    requires near { from ≤ 64 }
+    requires near { from < 2 ^ 63 }
     requires below { image < length layout.now.rows }
     ensures place { result ≡ entry_place layout.now from image }
     ensures room { result + entry_size layout.now ≤ from + length layout.now.rows * entry_size layout.now }
@@ -34,8 +32,7 @@ fn is_bank_entry(guid: &Guid, block: &[u8], at: usize) -> bool
 }
 
 fn are_bank_entries(guid: &Guid, block: &[u8], at: usize, banks: usize) -> bool
-    requires few { banks ≤ most_banks }
-    requires room { at + 32 + 24 * banks ≤ length block.now }
+    requires { at + 32 + 24 * banks ≤ length block.now }
     ensures { result ≡ has_bank_entries guid.now block.now at banks }
 {
     for bank in 0..banks {
@@ -47,8 +44,7 @@ fn are_bank_entries(guid: &Guid, block: &[u8], at: usize, banks: usize) -> bool
 }
 
 fn is_entry(guid: &Guid, block: &[u8], at: usize, banks: usize) -> bool
-    requires few { banks ≤ most_banks }
-    requires room { at + 32 + 24 * banks ≤ length block.now }
+    requires { at + 32 + 24 * banks ≤ length block.now }
     ensures { result ≡ has_entry_at guid.now block.now at banks }
 {
     let typed = Guid::at(block, at).is(guid);
@@ -58,16 +54,16 @@ fn is_entry(guid: &Guid, block: &[u8], at: usize, banks: usize) -> bool
 }
 
 /// Whether each image has the entry that it must have.
-pub fn are_entries(layout: &Layout, from: usize, block: &[u8]) -> bool
-    requires near { from ≤ 64 }
-    requires room { from + length layout.now.rows * entry_size layout.now ≤ length block.now }
-    ensures { result ≡ has_entries layout.now from block.now }
+pub fn are_entries(block: &MetaBlock, from: usize) -> bool
+    requires { from ≤ 40 }
+    ensures { result ≡ has_entries block.now.layout.now from block.now.bytes.now }
 {
+    let layout = block.layout;
     let rows = layout.rows();
     for image in 0..rows.len() {
         let row = &rows[image];
         let at = entry_at(layout, from, image);
-        if !is_entry(&row.guid, block, at, layout.banks() as usize) {
+        if !is_entry(&row.guid, block.bytes, at, layout.banks() as usize) {
             return false;
         }
     }

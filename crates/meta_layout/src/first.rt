@@ -1,6 +1,6 @@
 //! The metadata after a format.
-ghost use Rattle.std.specs.Prelude.{◌≡◌, ◌+◌, ◌-◌, ◌<◌, ◌≤◌, ◌∷◌, true, false, replicate, IsTrue};
-ghost use Rattle.base_core.specs.Limits.{most_banks, most_images};
+ghost use Rattle.std.specs.Prelude.{◌≡◌, ◌-◌, ◌≤◌, ◌∷◌, true, false, length, replicate, IsTrue};
+ghost use Rattle.base_core.specs.Limits.{most_images};
 ghost use Rattle.fwu_formats.specs.Metadata.{first_meta, fits_meta};
 ghost use Rattle.fwu_formats.specs.declared.kinds.BankState.TheVariants.{Invalid, Accepted};
 
@@ -20,11 +20,10 @@ fn same_bits(count: usize, bit: bool) -> Bits
     bits
 }
 
-fn first_states(banks: usize) -> States
-    requires low { 1 ≤ banks }
-    requires high { banks ≤ most_banks }
-    ensures { result ≡ Accepted ∷ replicate (banks - 1) Invalid }
+fn first_states(layout: &Layout) -> States
+    ensures { result ≡ Accepted ∷ replicate (layout.now.banks - 1) Invalid }
 {
+    let banks = layout.banks();
     let mut states = States::new();
     states.push(BankState::Accepted);
     for done in 0..banks - 1 {
@@ -33,12 +32,12 @@ fn first_states(banks: usize) -> States
     states
 }
 
-fn first_bits(banks: usize, images: usize) -> BankBits
-    requires low { 1 ≤ banks }
-    requires high { banks ≤ most_banks }
-    requires few { images ≤ most_images }
-    ensures { result ≡ replicate images true ∷ replicate (banks - 1) (replicate images false) }
+fn first_bits(layout: &Layout) -> BankBits
+    ensures { let images = length layout.now.rows in
+        result ≡ replicate images true ∷ replicate (layout.now.banks - 1) (replicate images false) }
 {
+    let banks = layout.banks();
+    let images = layout.rows().len();
     let mut bits = BankBits::new();
     bits.push(same_bits(images, true));
     for done in 0..banks - 1 {
@@ -54,8 +53,7 @@ impl Meta {
         ensures value { result ≡ record { form = 2; meta = first_meta layout.now } }
         ensures fits { IsTrue (fits_meta layout.now result.meta) }
     {
-        let banks = layout.banks() as usize;
-        let images = layout.rows().len();
-        Meta::of(2, 0, 0, first_states(banks), first_bits(banks, images))
+        layout.fits();
+        Meta::of(2, 0, 0, first_states(layout), first_bits(layout))
     }
 }

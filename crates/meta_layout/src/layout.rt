@@ -7,13 +7,14 @@ ghost use Rattle.fwu_formats.specs.Layout.{are_zero, fits_layout, blocks_needed,
 ghost use Rattle.fwu_formats.specs.Places.{first_bank_block};
 ghost use Rattle.meta_layout.specs.Rows.{has_row_zeros, fitted};
 
-use crate::bytes::is_checked;
+use crate::bytes::{is_checked, seal};
 use crate::lists::Rows;
-use crate::put::{put, put4, seal};
 use crate::rows::{
     are_apart, are_rows, find_row, has_zero_rows, put_rows, rows_in, rows_of, slot_sum,
 };
-use base_core::{FEWEST_BANKS, FEWEST_IMAGES, Guid, ImageRow, MOST_BANKS, MOST_IMAGES, le32_at};
+use base_core::{
+    FEWEST_BANKS, FEWEST_IMAGES, Guid, ImageRow, MOST_BANKS, MOST_IMAGES, le32_at, put, put4,
+};
 use fwu_formats::{FIRST_BANK_BLOCK, LayoutFault};
 use std::marker::Model;
 
@@ -41,8 +42,7 @@ fn has_zero_gap(block: &[u8]) -> bool
 
 /// Whether the fields of the block that have to be zero are zero.
 fn are_rest_zero(block: &[u8], count: usize) -> bool
-    requires small { count ≤ most_images }
-    requires room { 32 + 24 * count ≤ length block.now }
+    requires { 32 + 24 * count ≤ length block.now }
     ensures { result ≡ (are_zero (take 12 (drop 20 block.now)) && has_row_zeros block.now count) }
 {
     has_zero_gap(block) && has_zero_rows(block, count)
@@ -214,8 +214,7 @@ impl Layout {
     pub fn write(&self, out: &mut [u8])
         requires { block_bytes ≤ length out.old }
         ensures spelled { out.new ≡ layout_bytes self.now ++ replicate (length out.old - layout_size self.now) 0xFF }
-        ensures read_again { (blocks : ℕ) → blocks_needed self.now ≤ blocks →
-            layout_of out.new blocks ≡ Ok self.now }
+        ensures read_again { (blocks : ℕ) → blocks_needed self.now ≤ blocks → layout_of out.new blocks ≡ Ok self.now }
     {
         let size = 32 + 24 * self.rows().len();
         self.put_body(&mut out[4..]);

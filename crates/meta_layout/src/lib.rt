@@ -2,6 +2,7 @@
 //! blocks are read exactly, with the first fault, and written in their one spelling. Nothing here takes memory.
 #![tactic(auto)]
 
+mod block;
 mod bytes;
 mod entries;
 mod fields;
@@ -9,7 +10,6 @@ mod first;
 mod layout;
 mod lists;
 mod meta;
-mod put;
 mod read;
 mod rows;
 mod write;

@@ -19,9 +19,8 @@ pub struct Bits {
 
 impl Model for Bits {
     ghost use Rattle.std.specs.Prelude.{◌-◌, ◌++◌, List, Bool, false, length, take, replicate};
-    ghost use Rattle.std.proofs.Common.{ap, ◌∙◌};
     ghost use Rattle.base_core.specs.Limits.{most_images};
-    ghost use Rattle.meta_layout.specs.Padded.{IsPadded, length-padded, array-padded};
+    ghost use Rattle.meta_layout.specs.Padded.{IsPadded, padded-made};
 
     ghost Value = { List Bool };
 
@@ -31,10 +30,7 @@ impl Model for Bits {
 
     ghost inverse = { λ bits. record { count = length bits; bits = bits ++ replicate (most_images - length bits) false } };
 
-    ghost inverse_ok = { λ b is.
-        ap (λ n. record { count = n; bits = take b.count b.bits ++ replicate (most_images - length (take b.count b.bits)) false })
-        (length-padded most_images false b.count b.bits is)
-        ∙ ap (λ l. record { count = b.count; bits = l }) (array-padded most_images false b.count b.bits is) };
+    ghost inverse_ok = { λ b is. padded-made (λ n l. record { count = n; bits = l }) is };
 }
 
 impl Bits {
@@ -111,11 +107,10 @@ pub struct States {
 
 impl Model for States {
     ghost use Rattle.std.specs.Prelude.{◌-◌, ◌++◌, List, length, take, replicate};
-    ghost use Rattle.std.proofs.Common.{ap, ◌∙◌};
     ghost use Rattle.fwu_formats.specs.declared.kinds.BankState.{BankState};
     ghost use Rattle.fwu_formats.specs.declared.kinds.BankState.TheVariants.{Invalid};
     ghost use Rattle.base_core.specs.Limits.{most_banks};
-    ghost use Rattle.meta_layout.specs.Padded.{IsPadded, length-padded, array-padded};
+    ghost use Rattle.meta_layout.specs.Padded.{IsPadded, padded-made};
 
     ghost Value = { List BankState };
 
@@ -123,12 +118,9 @@ impl Model for States {
 
     ghost invariant = { λ s. IsPadded most_banks Invalid s.count s.states };
 
-    ghost inverse = { λ states. record { count = length states; states = states ++ replicate (most_banks - length states) Invalid } };
+    ghost inverse = { λ list. record { count = length list; states = list ++ replicate (most_banks - length list) Invalid } };
 
-    ghost inverse_ok = { λ s is.
-        ap (λ n. record { count = n; states = take s.count s.states ++ replicate (most_banks - length (take s.count s.states)) Invalid })
-        (length-padded most_banks Invalid s.count s.states is)
-        ∙ ap (λ l. record { count = s.count; states = l }) (array-padded most_banks Invalid s.count s.states is) };
+    ghost inverse_ok = { λ s is. padded-made (λ n l. record { count = n; states = l }) is };
 }
 
 impl States {
@@ -188,9 +180,8 @@ pub struct BankBits {
 
 impl Model for BankBits {
     ghost use Rattle.std.specs.Prelude.{◌-◌, ◌++◌, List, [], Bool, length, take, replicate};
-    ghost use Rattle.std.proofs.Common.{ap, ◌∙◌};
     ghost use Rattle.base_core.specs.Limits.{most_banks};
-    ghost use Rattle.meta_layout.specs.Padded.{IsPadded, length-padded, array-padded};
+    ghost use Rattle.meta_layout.specs.Padded.{IsPadded, padded-made};
 
     ghost Value = { List (List Bool) };
 
@@ -200,10 +191,7 @@ impl Model for BankBits {
 
     ghost inverse = { λ banks. record { count = length banks; banks = banks ++ replicate (most_banks - length banks) [] } };
 
-    ghost inverse_ok = { λ b is.
-        ap (λ n. record { count = n; banks = take b.count b.banks ++ replicate (most_banks - length (take b.count b.banks)) [] })
-        (length-padded most_banks [] b.count b.banks is)
-        ∙ ap (λ l. record { count = b.count; banks = l }) (array-padded most_banks [] b.count b.banks is) };
+    ghost inverse_ok = { λ b is. padded-made (λ n l. record { count = n; banks = l }) is };
 }
 
 impl BankBits {
@@ -278,10 +266,9 @@ pub struct Rows {
 
 impl Model for Rows {
     ghost use Rattle.std.specs.Prelude.{◌-◌, ◌++◌, List, length, take, replicate};
-    ghost use Rattle.std.proofs.Common.{ap, ◌∙◌};
     ghost use Rattle.base_core.specs.declared.rows.ImageRow.{ImageRow};
     ghost use Rattle.base_core.specs.Limits.{most_images};
-    ghost use Rattle.meta_layout.specs.Padded.{IsPadded, length-padded, array-padded};
+    ghost use Rattle.meta_layout.specs.Padded.{IsPadded, padded-made};
     ghost use Rattle.meta_layout.specs.Rows.{no_row};
 
     ghost Value = { List ImageRow };
@@ -292,10 +279,7 @@ impl Model for Rows {
 
     ghost inverse = { λ rows. record { count = length rows; rows = rows ++ replicate (most_images - length rows) no_row } };
 
-    ghost inverse_ok = { λ r is.
-        ap (λ n. record { count = n; rows = take r.count r.rows ++ replicate (most_images - length (take r.count r.rows)) no_row })
-        (length-padded most_images no_row r.count r.rows is)
-        ∙ ap (λ l. record { count = r.count; rows = l }) (array-padded most_images no_row r.count r.rows is) };
+    ghost inverse_ok = { λ r is. padded-made (λ n l. record { count = n; rows = l }) is };
 }
 
 impl Rows {

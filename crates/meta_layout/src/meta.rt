@@ -1,6 +1,6 @@
 //! The metadata of a firmware store as a value: its parts, told and set.
-ghost use Rattle.std.specs.Prelude.{◌≡◌, ◌<◌, ◌≤◌, ◌==◌, [], length, slice_index_or, slice_set, ◌↔◌, IsTrue};
-ghost use Rattle.fwu_formats.specs.Layout.{Layout as LayoutValue};
+ghost use Rattle.std.specs.Prelude.{◌≡◌, ◌<◌, ◌==◌, [], length, slice_index_or, slice_set, ◌↔◌, IsTrue};
+ghost use Rattle.fwu_formats.specs.Layout.{Layout as LaidOut};
 ghost use Rattle.fwu_formats.specs.Metadata.{fits_meta, state_at, bit_at};
 
 use crate::lists::{BankBits, Bits, States};
@@ -132,8 +132,7 @@ impl Meta {
     /// Sets the active bank, and changes nothing else. It stays metadata of a layout that has the bank.
     pub fn set_active(&mut self, bank: u32)
         ensures set { self.new ≡ record self.old { meta = record self.old.meta { active = bank } } }
-        ensures fits { (L : LayoutValue) → bank < L.banks → IsTrue (fits_meta L self.old.meta) →
-            IsTrue (fits_meta L self.new.meta) }
+        ensures fits { (L : LaidOut) → bank < L.banks → IsTrue (fits_meta L self.old.meta) → IsTrue (fits_meta L self.new.meta) }
     {
         self.active = bank;
     }
@@ -141,8 +140,7 @@ impl Meta {
     /// Sets the bank that was active before, and changes nothing else. It stays metadata of a layout that has the bank.
     pub fn set_previous(&mut self, bank: u32)
         ensures set { self.new ≡ record self.old { meta = record self.old.meta { previous = bank } } }
-        ensures fits { (L : LayoutValue) → bank < L.banks → IsTrue (fits_meta L self.old.meta) →
-            IsTrue (fits_meta L self.new.meta) }
+        ensures fits { (L : LaidOut) → bank < L.banks → IsTrue (fits_meta L self.old.meta) → IsTrue (fits_meta L self.new.meta) }
     {
         self.previous = bank;
     }
@@ -150,10 +148,9 @@ impl Meta {
     /// Sets the state of a bank, and changes nothing else.
     pub fn set_state(&mut self, bank: u32, state: BankState)
         requires { bank < length self.old.meta.states }
-        ensures set { self.new ≡
-            record self.old { meta = record self.old.meta { states = slice_set self.old.meta.states bank state } } }
-        ensures fits { (L : LayoutValue) → IsTrue (fits_meta L self.old.meta) →
-            IsTrue (fits_meta L self.new.meta) }
+        ensures set { let states = slice_set self.old.meta.states bank state in
+            self.new ≡ record self.old { meta = record self.old.meta { states = states } } }
+        ensures fits { (L : LaidOut) → IsTrue (fits_meta L self.old.meta) → IsTrue (fits_meta L self.new.meta) }
     {
         self.states.set(bank as usize, state);
     }
@@ -162,13 +159,9 @@ impl Meta {
     pub fn set_bit(&mut self, bank: u32, image: u32, on: bool)
         requires below { bank < length self.old.meta.bits }
         requires within { image < length (slice_index_or self.old.meta.bits bank []) }
-        ensures set { self.new ≡ record self.old {
-          meta = record self.old.meta {
-            bits = slice_set self.old.meta.bits bank (slice_set (slice_index_or self.old.meta.bits bank []) image on);
-          };
-        } }
-        ensures fits { (L : LayoutValue) → IsTrue (fits_meta L self.old.meta) →
-            IsTrue (fits_meta L self.new.meta) }
+        ensures set { let row = slice_set (slice_index_or self.old.meta.bits bank []) image on in
+            self.new ≡ record self.old { meta = record self.old.meta { bits = slice_set self.old.meta.bits bank row } } }
+        ensures fits { (L : LaidOut) → IsTrue (fits_meta L self.old.meta) → IsTrue (fits_meta L self.new.meta) }
     {
         self.bits.set(bank as usize, image as usize, on);
     }
@@ -176,12 +169,9 @@ impl Meta {
     /// Sets, for each image in a bank, whether it was accepted, and changes nothing else.
     pub fn set_bits(&mut self, bank: u32, bits: Bits)
         requires { bank < length self.old.meta.bits }
-        ensures set { self.new ≡ record self.old {
-          meta = record self.old.meta { bits = slice_set self.old.meta.bits bank bits };
-        } }
-        ensures fits { (L : LayoutValue) → length bits ≡ length L.rows →
-            IsTrue (fits_meta L self.old.meta) →
-            IsTrue (fits_meta L self.new.meta) }
+        ensures set { self.new ≡ record self.old { meta = record self.old.meta { bits = slice_set self.old.meta.bits bank bits } } }
+        ensures fits { (L : LaidOut) → length bits ≡ length L.rows → IsTrue (fits_meta L self.old.meta)
+            → IsTrue (fits_meta L self.new.meta) }
     {
         self.bits.set_bank(bank as usize, bits);
     }

@@ -1,9 +1,10 @@
 //! Metadata blocks read exactly, in version 2 and in version 1.
-ghost use Rattle.std.specs.Prelude.{◌≡◌, ◌<◌, ◌≤◌, length, IfOk, IsTrue};
+ghost use Rattle.std.specs.Prelude.{◌≡◌, ◌<◌, IfOk, IsTrue};
 ghost use Rattle.base_core.specs.Bytes.{listed};
-ghost use Rattle.fwu_formats.specs.Metadata.{meta_size, state_v1, bits_v1, state_at_v1, read_v2, read_v1, meta_of, fits_meta};
+ghost use Rattle.fwu_formats.specs.Metadata.{state_v1, bits_v1, state_at_v1, read_v2, read_v1, meta_of, fits_meta};
 ghost use Rattle.meta_layout.specs.Entries.{bits_at_v1};
 
+use crate::block::MetaBlock;
 use crate::bytes::is_checked;
 use crate::fields::{
     all_bits_at, bits_at, entries_size, fits_version_one, fits_version_two, states_at,
@@ -47,86 +48,85 @@ fn counted_bits(state: BankState, bits: Bits) -> Bits
     }
 }
 
-fn implied_state_at(layout: &Layout, block: &[u8], bank: usize) -> BankState
-    requires below { bank < layout.now.banks }
-    requires room { meta_size layout.now ≤ length block.now }
-    ensures { result ≡ state_at_v1 layout.now block.now bank }
+fn implied_state_at(block: &MetaBlock, bank: usize) -> BankState
+    requires { bank < block.now.layout.now.banks }
+    ensures { result ≡ state_at_v1 block.now.layout.now block.now.bytes.now bank }
 {
-    layout.fits();
-    let bits = bits_at(layout, 0x10, block, bank);
-    implied_state(le32_at(block, 8), le32_at(block, 12), bank as u32, &bits)
+    block.layout.fits();
+    let bits = bits_at(block, 0x10, bank);
+    implied_state(
+        le32_at(block.bytes, 8),
+        le32_at(block.bytes, 12),
+        bank as u32,
+        &bits,
+    )
 }
 
-fn counted_bits_at(layout: &Layout, block: &[u8], bank: usize) -> Bits
-    requires below { bank < layout.now.banks }
-    requires room { meta_size layout.now ≤ length block.now }
-    ensures { result ≡ bits_at_v1 layout.now block.now bank }
+fn counted_bits_at(block: &MetaBlock, bank: usize) -> Bits
+    requires { bank < block.now.layout.now.banks }
+    ensures { result ≡ bits_at_v1 block.now.layout.now block.now.bytes.now bank }
 {
-    let state = implied_state_at(layout, block, bank);
-    let bits = bits_at(layout, 0x10, block, bank);
+    let state = implied_state_at(block, bank);
+    let bits = bits_at(block, 0x10, bank);
     counted_bits(state, bits)
 }
 
-fn implied_states(layout: &Layout, block: &[u8]) -> States
-    requires { meta_size layout.now ≤ length block.now }
-    ensures { result ≡ listed layout.now.banks (state_at_v1 layout.now block.now) }
+fn implied_states(block: &MetaBlock) -> States
+    ensures { let L = block.now.layout.now in result ≡ listed L.banks (state_at_v1 L block.now.bytes.now) }
 {
-    let banks = layout.banks() as usize;
+    let banks = block.layout.banks() as usize;
     let mut states = States::new();
     for bank in 0..banks {
-        states.push(implied_state_at(layout, block, bank));
+        states.push(implied_state_at(block, bank));
     }
     states
 }
 
-fn all_counted_bits(layout: &Layout, block: &[u8]) -> BankBits
-    requires { meta_size layout.now ≤ length block.now }
-    ensures { result ≡ listed layout.now.banks (bits_at_v1 layout.now block.now) }
+fn all_counted_bits(block: &MetaBlock) -> BankBits
+    ensures { let L = block.now.layout.now in result ≡ listed L.banks (bits_at_v1 L block.now.bytes.now) }
 {
-    let banks = layout.banks() as usize;
+    let banks = block.layout.banks() as usize;
     let mut all = BankBits::new();
     for bank in 0..banks {
-        all.push(counted_bits_at(layout, block, bank));
+        all.push(counted_bits_at(block, bank));
     }
     all
 }
 
-fn read_version_two(layout: &Layout, block: &[u8]) -> Result<Meta, MetaFault>
-    requires { meta_size layout.now ≤ length block.now }
-    ensures { result ≡ read_v2 layout.now block.now }
+fn read_version_two(block: &MetaBlock) -> Result<Meta, MetaFault>
+    ensures { result ≡ read_v2 block.now.layout.now block.now.bytes.now }
 {
-    let size = 40 + entries_size(layout);
-    if le32_at(block, 16) as usize != size {
+    let size = 40 + entries_size(block.layout);
+    if le32_at(block.bytes, 16) as usize != size {
         return Err(MetaFault::BadSize);
     }
-    if !is_checked(block, size) {
+    if !is_checked(block.bytes, size) {
         return Err(MetaFault::BadCrc);
     }
-    if !fits_version_two(layout, block) {
+    if !fits_version_two(block) {
         return Err(MetaFault::BadField);
     }
-    let active = le32_at(block, 8);
-    let previous = le32_at(block, 12);
-    let states = states_at(block, layout.banks() as usize);
-    let bits = all_bits_at(layout, 0x28, block);
+    let active = le32_at(block.bytes, 8);
+    let previous = le32_at(block.bytes, 12);
+    let states = states_at(block);
+    let bits = all_bits_at(block, 0x28);
     Ok(Meta::of(2, active, previous, states, bits))
 }
 
-fn read_version_one(layout: &Layout, block: &[u8]) -> Result<Meta, MetaFault>
-    requires { meta_size layout.now ≤ length block.now }
-    ensures { result ≡ read_v1 layout.now block.now }
+fn read_version_one(block: &MetaBlock) -> Result<Meta, MetaFault>
+    ensures { result ≡ read_v1 block.now.layout.now block.now.bytes.now }
 {
-    let size = 16 + entries_size(layout);
-    if !is_checked(block, size) {
+    let size = 16 + entries_size(block.layout);
+    if !is_checked(block.bytes, size) {
         return Err(MetaFault::BadCrc);
     }
-    if !fits_version_one(layout, block) {
+    if !fits_version_one(block) {
         return Err(MetaFault::BadField);
     }
-    let active = le32_at(block, 8);
-    let previous = le32_at(block, 12);
-    let states = implied_states(layout, block);
-    let bits = all_counted_bits(layout, block);
+    let active = le32_at(block.bytes, 8);
+    let previous = le32_at(block.bytes, 12);
+    let states = implied_states(block);
+    let bits = all_counted_bits(block);
     Ok(Meta::of(1, active, previous, states, bits))
 }
 
@@ -137,11 +137,15 @@ fn read_either(layout: &Layout, block: &[u8]) -> Result<Meta, MetaFault>
         return Err(MetaFault::Short);
     }
     let version = le32_at(block, 4);
+    let held = MetaBlock {
+        layout,
+        bytes: block,
+    };
     if version == 2 {
-        return read_version_two(layout, block);
+        return read_version_two(&held);
     }
     if version == 1 {
-        return read_version_one(layout, block);
+        return read_version_one(&held);
     }
     Err(MetaFault::NotTwo)
 }

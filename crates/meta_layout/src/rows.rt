@@ -1,14 +1,14 @@
 //! The image rows of a layout: their limits, and their bytes in the layout block.
-ghost use Rattle.std.specs.Prelude.{◌≡◌, ◌+◌, ◌*◌, ◌≤◌, ◌++◌, length, take, drop, map, flat_map, IsTrue};
+ghost use Rattle.std.specs.Prelude.{◌≡◌, ◌+◌, ◌*◌, ◌≤◌, length, map, flat_map, IsTrue};
 ghost use Rattle.std.specs.List.{list_all, list_any};
 ghost use Rattle.base_core.specs.Bytes.{same_bytes, listed};
 ghost use Rattle.base_core.specs.Limits.{most_images, most_slots};
+ghost use Rattle.base_core.specs.Puts.{PutsBytes};
 ghost use Rattle.fwu_formats.specs.Layout.{dir_guid, is_row, find_image, slot_total, are_distinct, row_bytes};
-ghost use Rattle.meta_layout.specs.Rows.{row_at, has_row_zeros};
+ghost use Rattle.meta_layout.specs.Rows.{layout_row_at, has_row_zeros};
 
 use crate::lists::Rows;
-use crate::put::{put, put4};
-use base_core::{Guid, ImageRow, MOST_SLOTS, le32_at};
+use base_core::{Guid, ImageRow, MOST_SLOTS, le32_at, put, put4};
 
 /// The type of the image directory, 46575544-4952-4543-544f-525900000001 (own format). No image of a layout has it.
 pub fn directory_guid() -> Guid
@@ -22,7 +22,7 @@ pub fn directory_guid() -> Guid
 /// The row that a layout block has at an index.
 fn row_in(block: &[u8], index: usize) -> ImageRow
     requires { 56 + 24 * index ≤ length block.now }
-    ensures { result ≡ row_at block.now index }
+    ensures { result ≡ layout_row_at block.now index }
 {
     ImageRow {
         guid: Guid::at(block, 32 + 24 * index),
@@ -34,7 +34,7 @@ fn row_in(block: &[u8], index: usize) -> ImageRow
 pub fn rows_in(block: &[u8], count: usize) -> Rows
     requires small { count ≤ most_images }
     requires room { 32 + 24 * count ≤ length block.now }
-    ensures { result ≡ listed count (row_at block.now) }
+    ensures { result ≡ listed count (layout_row_at block.now) }
 {
     let mut rows = Rows::new();
     for index in 0..count {
@@ -45,8 +45,7 @@ pub fn rows_in(block: &[u8], count: usize) -> Rows
 
 /// Whether the last field of each of the first rows is zero.
 pub fn has_zero_rows(block: &[u8], count: usize) -> bool
-    requires small { count ≤ most_images }
-    requires room { 32 + 24 * count ≤ length block.now }
+    requires { 32 + 24 * count ≤ length block.now }
     ensures { result ≡ has_row_zeros block.now count }
 {
     for index in 0..count {
@@ -128,8 +127,7 @@ pub fn find_row(rows: &[ImageRow], guid: &Guid) -> Option<usize>
 
 fn put_row(out: &mut [u8], at: usize, row: &ImageRow) -> usize
     requires { at + 24 ≤ length out.old }
-    ensures next { result ≡ at + 24 }
-    ensures front { take result out.new ≡ take at out.old ++ row_bytes row.now }
+    ensures { PutsBytes at 24 (row_bytes row.now) out.old out.new result }
 {
     let guid = put(out, at, row.guid.bytes());
     let slots = put4(out, guid, row.slots);
@@ -138,10 +136,8 @@ fn put_row(out: &mut [u8], at: usize, row: &ImageRow) -> usize
 
 /// Writes the rows' bytes at a place, and gives the place behind them.
 pub fn put_rows(out: &mut [u8], at: usize, rows: &[ImageRow]) -> usize
-    requires few { length rows.now ≤ most_images }
-    requires room { at + 24 * length rows.now ≤ length out.old }
-    ensures next { result ≡ at + 24 * length rows.now }
-    ensures front { take result out.new ≡ take at out.old ++ flat_map row_bytes rows.now }
+    requires { at + 24 * length rows.now ≤ length out.old }
+    ensures { PutsBytes at (24 * length rows.now) (flat_map row_bytes rows.now) out.old out.new result }
 {
     let mut end = at;
     for index in 0..rows.len() {

@@ -1,15 +1,16 @@
 //! Metadata blocks written, in version 2 and in version 1.
-ghost use Rattle.std.specs.Prelude.{◌≡◌, ◌+◌, ◌*◌, ◌<◌, ◌≤◌, ◌++◌, ◌-◌, ◌%◌, Ok, IsTrue, length, take, map, replicate, flat_map};
-ghost use Rattle.base_core.specs.Limits.{most_banks, most_images};
-ghost use Rattle.base_core.specs.Bytes.{le, listed};
+ghost use Rattle.std.specs.Prelude.{◌≡◌, ◌+◌, ◌*◌, ◌≤◌, ◌++◌, ◌-◌, ◌%◌, Ok, IsTrue, length, take, replicate};
+ghost use Rattle.base_core.specs.Puts.{PutsBytes};
+ghost use Rattle.base_core.specs.Bytes.{le};
 ghost use Rattle.fwu_formats.specs.Metadata.{bit_number, state_byte, entry_size, entries_bytes, fits_meta, meta_size, meta_size_v1, meta_body, meta_body_v1, meta_bytes, meta_bytes_v1, meta_of, replica_bytes, IsSayableInV1};
-ghost use Rattle.meta_layout.specs.Entries.{bank_bytes, entry_of, front_bytes, replica_size, HasBits};
+ghost use Rattle.meta_layout.specs.Entries.{meta_entry_of, state_bytes, front_bytes, rest_bytes, replica_size, HasBits};
 
+use crate::bytes::seal;
 use crate::fields::entries_size;
 use crate::layout::Layout;
+use crate::lists::States;
 use crate::meta::Meta;
-use crate::put::{put, put1, put2, put4, seal};
-use base_core::Guid;
+use base_core::{Guid, put, put1, put2, put4};
 use fwu_formats::BankState;
 
 fn bit_value(bit: bool) -> u32
@@ -20,76 +21,40 @@ fn bit_value(bit: bool) -> u32
 
 fn put_bank(out: &mut [u8], at: usize, guid: &Guid, bit: bool) -> usize
     requires { at + 24 ≤ length out.old }
-    ensures next { result ≡ at + 24 }
-    ensures front { take result out.new ≡
-        take at out.old ++ (guid.now ++ le 4 (bit_number bit) ++ le 4 0) }
+    ensures { PutsBytes at 24 (guid.now ++ le 4 (bit_number bit) ++ le 4 0) out.old out.new result }
 {
     let typed = put(out, at, guid.bytes());
     let value = put4(out, typed, bit_value(bit));
     put4(out, value, 0)
 }
 
-fn put_banks(
-    out: &mut [u8],
-    at: usize,
-    guid: &Guid,
-    meta: &Meta,
-    image: usize,
-    banks: usize,
-) -> usize
-    requires few { banks ≤ most_banks }
-    requires small { image < most_images }
-    requires room { at + 24 * banks ≤ length out.old }
+fn put_entry(out: &mut [u8], at: usize, guid: &Guid, meta: &Meta, image: u32, banks: u32) -> usize
+    requires room { at + 32 + 24 * banks ≤ length out.old }
     requires bits { HasBits meta.now.meta banks image }
-    ensures next { result ≡ at + 24 * banks }
-    ensures front { take result out.new ≡
-        take at out.old ++ flat_map (bank_bytes guid.now meta.now.meta image)
-        (listed banks (λ bank. bank)) }
+    ensures { PutsBytes at (32 + 24 * banks) (meta_entry_of banks guid.now meta.now.meta image) out.old out.new result }
 {
-    let mut end = at;
+    let nil = Guid::nil();
+    let typed = put(out, at, guid.bytes());
+    let mut end = put(out, typed, nil.bytes());
     for bank in 0..banks {
-        let bit = meta.bit(bank as u32, image as u32);
+        let bit = meta.bit(bank, image);
         end = put_bank(out, end, guid, bit);
     }
     end
 }
 
-fn put_entry(
-    out: &mut [u8],
-    at: usize,
-    guid: &Guid,
-    meta: &Meta,
-    image: usize,
-    banks: usize,
-) -> usize
-    requires few { banks ≤ most_banks }
-    requires small { image < most_images }
-    requires room { at + 32 + 24 * banks ≤ length out.old }
-    requires bits { HasBits meta.now.meta banks image }
-    ensures next { result ≡ at + (32 + 24 * banks) }
-    ensures front { take result out.new ≡
-        take at out.old ++ entry_of banks guid.now meta.now.meta image }
-{
-    let nil = Guid::nil();
-    let typed = put(out, at, guid.bytes());
-    let placed = put(out, typed, nil.bytes());
-    put_banks(out, placed, guid, meta, image, banks)
-}
-
-pub fn put_entries(out: &mut [u8], at: usize, layout: &Layout, meta: &Meta) -> usize
-    requires near { at ≤ 64 }
+fn put_entries(out: &mut [u8], at: usize, layout: &Layout, meta: &Meta) -> usize
     requires room { at + length layout.now.rows * entry_size layout.now ≤ length out.old }
     requires fit { IsTrue (fits_meta layout.now meta.now.meta) }
-    ensures next { result ≡ at + length layout.now.rows * entry_size layout.now }
-    ensures front { take result out.new ≡
-        take at out.old ++ entries_bytes layout.now meta.now.meta }
+    ensures { let L = layout.now in
+        PutsBytes at (length L.rows * entry_size L) (entries_bytes L meta.now.meta) out.old out.new result }
 {
     let rows = layout.rows();
-    let banks = layout.banks() as usize;
+    let banks = layout.banks();
     let mut end = at;
     for image in 0..rows.len() {
         let row = &rows[image];
-        end = put_entry(out, end, &row.guid, meta, image, banks);
+        end = put_entry(out, end, &row.guid, meta, image as u32, banks);
     }
     end
 }
@@ -104,38 +69,25 @@ fn byte_of(state: BankState) -> u8
     }
 }
 
-fn put_states(out: &mut [u8], at: usize, meta: &Meta, banks: usize) -> usize
-    requires few { banks ≤ most_banks }
-    requires room { at + 4 ≤ length out.old }
-    requires count { length meta.now.meta.states ≡ banks }
-    ensures next { result ≡ at + banks }
-    ensures front { take result out.new ≡ take at out.old ++ map state_byte meta.now.meta.states }
+/// Four bytes: the states, and 0xFF behind them.
+fn put_states(out: &mut [u8], at: usize, states: &States) -> usize
+    requires { at + 4 ≤ length out.old }
+    ensures { PutsBytes at 4 (state_bytes states.now) out.old out.new result }
 {
+    let banks = states.len();
     let mut end = at;
     for bank in 0..banks {
-        let state = meta.state(bank as u32);
+        let state = states.get(bank);
         end = put1(out, end, byte_of(state));
     }
-    end
-}
-
-fn put_unused(out: &mut [u8], at: usize, banks: usize) -> usize
-    requires few { banks ≤ most_banks }
-    requires room { at + 4 ≤ length out.old }
-    ensures next { result ≡ at + (4 - banks) }
-    ensures front { take result out.new ≡ take at out.old ++ replicate (4 - banks) 0xFF }
-{
     let unused = [0xFF; 4];
-    put(out, at, &unused[banks..])
+    put(out, end, &unused[banks..])
 }
 
 fn put_front(out: &mut [u8], layout: &Layout, meta: &Meta) -> usize
-    requires room { 36 ≤ length out.old }
-    requires fit { IsTrue (fits_meta layout.now meta.now.meta) }
-    ensures next { result ≡ 24 }
-    ensures front { take result out.new ≡ front_bytes layout.now meta.now.meta }
+    requires { 36 ≤ length out.old }
+    ensures { PutsBytes 0 24 (front_bytes layout.now meta.now.meta) out.old out.new result }
 {
-    let banks = layout.banks() as usize;
     let size = 40 + entries_size(layout) as u32;
     let a = put4(out, 0, 2);
     let b = put4(out, a, meta.active());
@@ -143,16 +95,12 @@ fn put_front(out: &mut [u8], layout: &Layout, meta: &Meta) -> usize
     let d = put4(out, c, size);
     let e = put2(out, d, 0x20);
     let f = put2(out, e, 0);
-    let g = put_states(out, f, meta, banks);
-    put_unused(out, g, banks)
+    put_states(out, f, meta.states())
 }
 
 fn put_rest(out: &mut [u8], at: usize, layout: &Layout) -> usize
     requires { at + 12 ≤ length out.old }
-    ensures next { result ≡ at + 12 }
-    ensures front { take result out.new ≡
-        take at out.old ++ le 4 0 ++ le 1 layout.now.banks ++ le 1 0 ++ le 2 (length layout.now.rows)
-        ++ le 2 (entry_size layout.now) ++ le 2 24 }
+    ensures { PutsBytes at 12 (rest_bytes layout.now) out.old out.new result }
 {
     let banks = layout.banks();
     let images = layout.rows().len();
@@ -213,10 +161,9 @@ impl Meta {
         requires room { meta_size layout.now ≤ length out.old }
         requires fits { IsTrue (fits_meta layout.now self.now.meta) }
         ensures spelled { out.new ≡ meta_bytes layout.now self.now.meta ++ replicate (length out.old - meta_size layout.now) 0xFF }
-        ensures replica { replica_size layout.now ≤ length out.old →
-            take (replica_size layout.now) out.new ≡ replica_bytes layout.now self.now.meta }
-        ensures read_again { meta_of layout.now out.new ≡
-            Ok (record { form = 2; meta = self.now.meta }) }
+        ensures replica { let size = replica_size layout.now in
+            size ≤ length out.old → take size out.new ≡ replica_bytes layout.now self.now.meta }
+        ensures read_again { meta_of layout.now out.new ≡ Ok (record { form = 2; meta = self.now.meta }) }
     {
         let size = 40 + entries_size(layout);
         put_version_two(&mut out[4..], layout, self);
@@ -230,9 +177,8 @@ impl Meta {
         requires fits { IsTrue (fits_meta layout.now self.now.meta) }
         ensures spelled { out.new ≡ meta_bytes_v1 layout.now self.now.meta
             ++ replicate (length out.old - meta_size_v1 layout.now) 0xFF }
-        ensures read_again { IsSayableInV1 layout.now self.now.meta →
-            meta_size layout.now ≤ length out.old →
-            meta_of layout.now out.new ≡ Ok (record { form = 1; meta = self.now.meta }) }
+        ensures read_again { IsSayableInV1 layout.now self.now.meta → meta_size layout.now ≤ length out.old
+            → meta_of layout.now out.new ≡ Ok (record { form = 1; meta = self.now.meta }) }
     {
         let size = 16 + entries_size(layout);
         put_version_one(&mut out[4..], layout, self);

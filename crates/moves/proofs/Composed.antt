@@ -84,10 +84,6 @@ does-nothing (Err stop) E s t ready = record { each = calm-stays E t s ready.cal
 pub does-idle : {T : Type 0} (result : Result T FlashStop) (E : Setting) (s : State) (ms : List Move) (t : Told) → IsErr result → IsCalm E t s → Does result E s ms t
 does-idle result E s ms t err calm = does-stopped result result E s [] ms t err (record { each = calm-stays E t s calm; all = IfOk-from_err result (λ x. IsReady E t s) err })
 
--- a call's result with another value
-pub does-as : {T U : Type 0} (x : T) (y : U) (E : Setting) (s : State) (ms : List Move) (t : Told) → Does {T = T} (Ok x) E s ms t → Does {T = U} (Ok y) E s ms t
-does-as x y E s ms t does = record { each = does.each; all = does.all }
-
 -- ---- the start, and after a loss
 
 -- a sound flash with nothing dirty is ready, where replica 1 holds what decides

@@ -20,7 +20,7 @@ use Rattle.marks_core.specs.Marks.{Clears}
 use Rattle.replicas.specs.Stores.{Stores}
 use Rattle.moves.specs.Moved.{IsReady, Does, IsShown, ShowsAfter, GuardedBy}
 use Rattle.fwu_model.specs.MoveMetas.{meta_after, meta_in}
-use Rattle.moves.specs.Law.{Done}
+use Rattle.moves.specs.Law.{CallResult}
 use Rattle.moves.specs.StoreLaw.{EndsBy}
 use Rattle.moves.proofs.Agree.{no_meta, Agrees, front-kept, decides-agrees}
 use Rattle.moves.proofs.Beside.{both-beside}
@@ -87,7 +87,7 @@ module _ (L : Layout) (state : State) (p : List (List ℕ)) (bits : List Bool) (
     shown-cleared : IsShown L c.now state
     shown-cleared = clear-shows {T = Unit {0}} (Ok tt) s c state accepted clears L shown
 
-    module _ (result : Done) (t : Told) (stores : Stores result L (meta_after m (Switch u p bits)) c t) where
+    module _ (result : CallResult) (t : Told) (stores : Stores result L (meta_after m (Switch u p bits)) c t) where
       switch-seen : ShowsAfter result L state (Switch u p bits ∷ []) t
       switch-seen = switch-shows result L c t state m shown-cleared decided-cleared p bits package-cleared (λ v. blank-marks c.now 3 clears.erased) stores
 
@@ -109,7 +109,7 @@ module _ (L : Layout) (state : State) (p : List (List ℕ)) (bits : List Bool) (
           let path : ◌≡◌ {A = Setting} (record { layout = L; files = E.files; passes = E.passes }) E = ap (λ (l : Layout). record { layout = l; files = E.files; passes = E.passes }) (sym same) in
           subst (λ (e : Setting). Does result e state (Switch u p bits ∷ []) t) path (switch-here E.files E.passes permitted (subst (λ (e : Setting). IsCalm e s state) (sym path) calm) guards)
 
-  unclear-done : (given result : Done) (E : Setting) (t : Told) → IsErr result → E.layout ≡ L → IsCalm E s state → Guards 1 7 s → Clears given 3 s t → Does result E state (Switch u p bits ∷ []) t
+  unclear-done : (given result : CallResult) (E : Setting) (t : Told) → IsErr result → E.layout ≡ L → IsCalm E s state → Guards 1 7 s → Clears given 3 s t → Does result E state (Switch u p bits ∷ []) t
   unclear-done given result E t err same calm guards clears =
       does-stopped given result E state [] (Switch u p bits ∷ []) t err (clear-does given s t state accepted clears E (ready-calm E same calm guards))
 

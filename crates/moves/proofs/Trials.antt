@@ -15,14 +15,14 @@ use Rattle.fwu_model.specs.Sound.{Setting}
 use Rattle.fwu_model.specs.Seen.{IsTidy, state_of}
 use Rattle.fwu_model.specs.Headline.{ShowsOneOf}
 use Rattle.fwu_model.proofs.Banks.{sound-trial}
-use Rattle.marks_core.specs.Marks.{Adds, IsNext, CountsOnce}
+use Rattle.marks_core.specs.Marks.{Adds, IsNextMark, CountsOnce}
 use Rattle.moves.specs.Moved.{IsReady, IsShown, Does, ShowsAfter}
 use Rattle.moves.proofs.Agree.{Agrees, agrees-now, beside-shows, counter-agrees, shown-meta, shown-counter}
 use Rattle.moves.proofs.Beside.{active-valid, marks-are-trials, beside-agrees, beside-ready}
 use Rattle.moves.proofs.Calm.{calm-shown, calm-sound, calm-tidy, one-of}
 
 -- the next mark may go where the trials say
-pub next-trial : (L : Layout) (now : List ℕ) (state : State) (at : ℕ) → IsShown L now state → IsTidy now state → IsTrue (is_valid (bank state state.active).state) → at ≡ state.trials → at < trial_limit → IsNext now 3 at trial_limit
+pub next-trial : (L : Layout) (now : List ℕ) (state : State) (at : ℕ) → IsShown L now state → IsTidy now state → IsTrue (is_valid (bank state state.active).state) → at ≡ state.trials → at < trial_limit → IsNextMark now 3 at trial_limit
 next-trial L now state at shown tidy valid at_is below = record { below = below; few = omega arith; count = marks-are-trials L now state shown valid ∙ sym at_is; tidy = tidy valid }
 
 -- by the count of its marks, an image shows the state with so many trials

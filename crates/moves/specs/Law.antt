@@ -24,28 +24,28 @@ use Rattle.replicas.specs.Repairs.{Repairs}
 use Rattle.moves.specs.Moved.{IsReady, Does, IsShown, ShowsAfter, GuardedBy, repair_moves}
 
 -- the result of a call without a value
-abbrev pub Done : Type 0
-Done = Result (Unit {0}) FlashStop
+abbrev pub CallResult : Type 0
+CallResult = Result (Unit {0}) FlashStop
 
 -- ---- calls in a row
 
 -- Calls that do moves, one after the other.
 pub record CallsCompose : Type 0 where
   -- a call that stopped did a prefix of whatever was to follow
-  pub stopped : (given result : Done) (E : Setting) (s : State) (ms ns : List Move) (t : Told) → IsErr result → Does given E s ms t
+  pub stopped : (given result : CallResult) (E : Setting) (s : State) (ms ns : List Move) (t : Told) → IsErr result → Does given E s ms t
       → Does result E s (ms ++ ns) t
   -- a call that is done, and the next one from the state that it left
-  pub next : (result : Done) (E : Setting) (s : State) (ms ns : List Move) (m t : Told) → Does {T = Unit {0}} (Ok tt) E s ms m
+  pub next : (result : CallResult) (E : Setting) (s : State) (ms ns : List Move) (m t : Told) → Does {T = Unit {0}} (Ok tt) E s ms m
       → (IsReady E m (after s ms) → Does result E (after s ms) ns t) → Does result E s (ms ++ ns) t
   -- a call that stopped before it wrote
-  pub idle : (result : Done) (E : Setting) (s : State) (ms : List Move) (t : Told) → IsErr result → IsCalm E t s
+  pub idle : (result : CallResult) (E : Setting) (s : State) (ms : List Move) (t : Told) → IsErr result → IsCalm E t s
       → Does result E s ms t
 
 -- Power that comes back after a call, with no chance met, gives a flash that is calm at a state after some of its moves.
 -- A repair makes it ready again.
 abbrev pub LossesLeaveCalm : Type 0
 LossesLeaveCalm =
-    (result : Done) (E : Setting) (s : State) (ms : List Move) (old new : Told) → Does result E s ms old
+    (result : CallResult) (E : Setting) (s : State) (ms : List Move) (old new : Told) → Does result E s ms old
     → new ≡ fresh old.guard new.now → May old new.now
     → (x : State) × Contains (prefixes s ms) x × IsCalm E new x
 
@@ -62,21 +62,21 @@ StartsAreReady =
 -- the state before or after it, and when done the flash is ready.
 abbrev pub RepairsDo : Type 0
 RepairsDo =
-    (result : Done) (which : Which) (r : MetaRead) (s t : Told) (E : Setting) (state : State) (L : Layout) → IsCalm E s state
+    (result : CallResult) (which : Which) (r : MetaRead) (s t : Told) (E : Setting) (state : State) (L : Layout) → IsCalm E s state
     → Guards 1 7 s → layout_seen s.now ≡ Ok L → Loads L which r s.now → Repairs result L r s t
     → Does result E state (repair_moves which) t
 
 -- a mark for one more start of the active bank on trial
 abbrev pub TrialsDo : Type 0
 TrialsDo =
-    (result : Done) (s t : Told) (state : State) (at : ℕ) → IsTrue (is_valid (bank state state.active).state) → at ≡ state.trials
+    (result : CallResult) (s t : Told) (state : State) (at : ℕ) → IsTrue (is_valid (bank state state.active).state) → at ≡ state.trials
     → at < trial_limit → Adds result 3 at s t → (E : Setting) → IsReady E s state
     → Does result E state (Trial ∷ []) t
 
 -- a record of the version that the active bank holds, which is accepted
 abbrev pub RaisesDo : Type 0
 RaisesDo =
-    (result : Done) (v : ℕ) (s t : Told) (state : State) → Raises result v s t → (E : Setting) → IsReady E s state
+    (result : CallResult) (v : ℕ) (s t : Told) (state : State) → Raises result v s t → (E : Setting) → IsReady E s state
     → IsTrue (is_accepted (bank state state.active).state) → v ≡ version (booted_package state state.active)
     → Does result E state (RaiseTo v ∷ []) t
 
@@ -84,10 +84,10 @@ RaisesDo =
 
 -- the state after the repair, or after the migration
 pub record RepairsShow : Type 0 where
-  pub shows : (result : Done) (which : Which) (r : MetaRead) (s t : Told) (L : Layout) (state : State) → IsShown L s.now state
+  pub shows : (result : CallResult) (which : Which) (r : MetaRead) (s t : Told) (L : Layout) (state : State) → IsShown L s.now state
       → Loads L which r s.now → Repairs result L r s t → ShowsAfter result L state (repair_moves which) t
   -- the marks stay as tidy as they are, at any exit
-  pub tidy : (result : Done) (which : Which) (r : MetaRead) (s t : Told) (L : Layout) (state : State) → Repairs result L r s t
+  pub tidy : (result : CallResult) (which : Which) (r : MetaRead) (s t : Told) (L : Layout) (state : State) → Repairs result L r s t
       → IsTidy s.now state → IsTidy t.now (after state (repair_moves which))
 
 -- what else a boot has read stays as it was, at any exit
@@ -98,11 +98,11 @@ pub record RepairsKeep {T : Type 0} (result : Result T FlashStop) (r : MetaRead)
 
 -- so every repair
 abbrev pub RepairsKeepCounts : Type 0
-RepairsKeepCounts = (result : Done) (r : MetaRead) (s t : Told) (L : Layout) → Repairs result L r s t → RepairsKeep result r s t L
+RepairsKeepCounts = (result : CallResult) (r : MetaRead) (s t : Told) (L : Layout) → Repairs result L r s t → RepairsKeep result r s t L
 
 -- one more trial, where the marks are tidy, so that the next one counts
 pub record TrialsShow : Type 0 where
-  pub shows : (result : Done) (s t : Told) (state : State) (at : ℕ) → IsTrue (is_valid (bank state state.active).state)
+  pub shows : (result : CallResult) (s t : Told) (state : State) (at : ℕ) → IsTrue (is_valid (bank state state.active).state)
       → at ≡ state.trials → at < trial_limit → Adds result 3 at s t
       → (L : Layout) → IsShown L s.now state → IsTidy s.now state → ShowsAfter result L state (Trial ∷ []) t
   -- while a bank is on trial, its trials are the marks
@@ -111,16 +111,16 @@ pub record TrialsShow : Type 0 where
 
 -- the new counter
 abbrev pub RaisesShow : Type 0
-RaisesShow = (result : Done) (v : ℕ) (s t : Told) (state : State) → Raises result v s t → (L : Layout) → IsShown L s.now state
+RaisesShow = (result : CallResult) (v : ℕ) (s t : Told) (state : State) → Raises result v s t → (L : Layout) → IsShown L s.now state
     → ShowsAfter result L state (RaiseTo v ∷ []) t
 
 -- ---- on any flash at rest, sound or not: a stop harms nothing in use, and an answer leaves the flash at rest
 
 -- the writes of a boot
 pub record WritesStayGuarded : Type 0 where
-  pub repair : (result : Done) (L : Layout) (s t : Told) → layout_seen s.now ≡ Ok L → IsAtRest s → (which : Which) (r : MetaRead)
+  pub repair : (result : CallResult) (L : Layout) (s t : Told) → layout_seen s.now ≡ Ok L → IsAtRest s → (which : Which) (r : MetaRead)
       → Loads L which r s.now → Repairs result L r s t → GuardedBy result t
-  pub trial : (result : Done) (L : Layout) (s t : Told) → layout_seen s.now ≡ Ok L → IsAtRest s → (at : ℕ) → at < trial_limit
+  pub trial : (result : CallResult) (L : Layout) (s t : Told) → layout_seen s.now ≡ Ok L → IsAtRest s → (at : ℕ) → at < trial_limit
       → Adds result 3 at s t → GuardedBy result t
-  pub raise : (result : Done) (L : Layout) (s t : Told) → layout_seen s.now ≡ Ok L → IsAtRest s → (v : ℕ) → Raises result v s t
+  pub raise : (result : CallResult) (L : Layout) (s t : Told) → layout_seen s.now ≡ Ok L → IsAtRest s → (v : ℕ) → Raises result v s t
       → GuardedBy result t

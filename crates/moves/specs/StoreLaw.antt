@@ -16,7 +16,7 @@ use Rattle.marks_core.specs.Marks.{Clears}
 use Rattle.replicas.specs.Stores.{Stores}
 use Rattle.moves.specs.Moved.{IsReady, Does, IsShown, ShowsAfter, GuardedBy}
 use Rattle.fwu_model.specs.MoveMetas.{meta_after, meta_in}
-use Rattle.moves.specs.Law.{Done}
+use Rattle.moves.specs.Law.{CallResult}
 
 -- ---- metadata
 
@@ -42,7 +42,7 @@ MovesKeepFit = (L : Layout) (m : Meta) → IsTrue (fits_meta L m) → MetadataSt
 -- ---- from a ready flash, with each loss
 
 -- a store of the metadata of a move does this move
-pub record StoresDo (result : Done) (E : Setting) (s t : Told) (state : State) : Type 0 where
+pub record StoresDo (result : CallResult) (E : Setting) (s t : Told) (state : State) : Type 0 where
   pub free : IsTrue (is_accepted (bank state state.active).state)
       → Stores result E.layout (meta_after (meta_in state) (Free (update_bank state))) s t
       → Does result E state (Free (update_bank state) ∷ []) t
@@ -63,27 +63,27 @@ pub record StoresDo (result : Done) (E : Setting) (s t : Told) (state : State) :
 
 -- so every store
 abbrev pub StoresDoMoves : Type 0
-StoresDoMoves = (result : Done) (E : Setting) (s t : Told) (state : State) → IsReady E s state → state.form ≡ 2
+StoresDoMoves = (result : CallResult) (E : Setting) (s t : Told) (state : State) → IsReady E s state → state.form ≡ 2
     → StoresDo result E s t state
 
 -- The whole way to a switch, from a flash that shows a state:
 -- the marks are cleared, or that is stopped, and then the metadata is stored.
 pub record EndsBy (L : Layout) (state : State) (p : List (List ℕ)) (bits : List Bool) (s : Told) : Type 0 where
   -- stopped as the marks are cleared
-  pub unclear : (given result : Done) (E : Setting) (t : Told) → IsErr result → E.layout ≡ L → IsCalm E s state → Guards 1 7 s
+  pub unclear : (given result : CallResult) (E : Setting) (t : Told) → IsErr result → E.layout ≡ L → IsCalm E s state → Guards 1 7 s
       → Clears given 3 s t
       → Does result E state (Switch (update_bank state) p bits ∷ []) t
   -- on a calm flash, with each loss
-  pub does : (result : Done) (E : Setting) (m t : Told) → E.layout ≡ L → IsTrue (is_permitted E state.counter p) → IsCalm E s state
+  pub does : (result : CallResult) (E : Setting) (m t : Told) → E.layout ≡ L → IsTrue (is_permitted E state.counter p) → IsCalm E s state
       → Guards 1 7 s → Clears {T = Unit {0}} (Ok tt) 3 s m
       → Stores result L (meta_after (meta_in state) (Switch (update_bank state) p bits)) m t
       → Does result E state (Switch (update_bank state) p bits ∷ []) t
   -- on any flash, when done
-  pub shows : (result : Done) (m t : Told) → Clears {T = Unit {0}} (Ok tt) 3 s m
+  pub shows : (result : CallResult) (m t : Told) → Clears {T = Unit {0}} (Ok tt) 3 s m
       → Stores result L (meta_after (meta_in state) (Switch (update_bank state) p bits)) m t
       → ShowsAfter result L state (Switch (update_bank state) p bits ∷ []) t
   -- on any flash at rest
-  pub guarded : (result : Done) (m t : Told) → IsAtRest s → Clears {T = Unit {0}} (Ok tt) 3 s m
+  pub guarded : (result : CallResult) (m t : Told) → IsAtRest s → Clears {T = Unit {0}} (Ok tt) 3 s m
       → Stores result L (meta_after (meta_in state) (Switch (update_bank state) p bits)) m t
       → GuardedBy result t
 
@@ -105,7 +105,7 @@ BarriersKeepReady = (E : Setting) (s : Told) (state : State) → IsReady E s sta
 
 -- the trial marks cleared while the active bank is accepted are no move
 abbrev pub ClearsDo : Type 0
-ClearsDo = (result : Done) (s t : Told) (state : State) → IsTrue (is_accepted (bank state state.active).state)
+ClearsDo = (result : CallResult) (s t : Told) (state : State) → IsTrue (is_accepted (bank state state.active).state)
     → Clears result 3 s t → (E : Setting) → IsReady E s state → Does result E state [] t
 
 -- whatever is written in an invalid bank, and whatever the exit
@@ -118,7 +118,7 @@ StagingKeepsReady =
 -- ---- on any flash that shows a state
 
 -- a store that is done shows the state after the move
-pub record StoresShow (result : Done) (L : Layout) (s t : Told) (state : State) : Type 0 where
+pub record StoresShow (result : CallResult) (L : Layout) (s t : Told) (state : State) : Type 0 where
   pub free : Stores result L (meta_after (meta_in state) (Free (update_bank state))) s t
       → ShowsAfter result L state (Free (update_bank state) ∷ []) t
   pub accept : (image : ℕ) → IsFalse (is_invalid (bank state state.active).state)
@@ -132,12 +132,12 @@ pub record StoresShow (result : Done) (L : Layout) (s t : Told) (state : State) 
 
 -- so every store
 abbrev pub StoresShowMoves : Type 0
-StoresShowMoves = (result : Done) (L : Layout) (s t : Told) (state : State) → IsShown L s.now state → state.form ≡ 2
+StoresShowMoves = (result : CallResult) (L : Layout) (s t : Told) (state : State) → IsShown L s.now state → state.form ≡ 2
     → StoresShow result L s t state
 
 -- what else is no move, at any exit
 pub record OthersShowNothing : Type 0 where
-  pub clear : (result : Done) (s t : Told) (state : State) → IsTrue (is_accepted (bank state state.active).state)
+  pub clear : (result : CallResult) (s t : Told) (state : State) → IsTrue (is_accepted (bank state state.active).state)
       → Clears result 3 s t → (L : Layout) → IsShown L s.now state → IsShown L t.now state
   pub staging : (L : Layout) (s t : Told) (state : State) (u : ℕ) → IsTrue (is_invalid (bank state u).state)
       → Keeps (block_bytes * start L u 0) (block_bytes * start L (u + 1) 0) s t → IsShown L s.now state → IsShown L t.now state
@@ -159,10 +159,10 @@ QuietBy L m t = (b : ℕ) → b < L.banks → IsFalse (is_invalid (state_at m b)
 -- a stop harms nothing in use, and an answer leaves the flash at rest
 pub record OthersStayGuarded : Type 0 where
   -- where replica 1 holds what decides, and the banks in use by the new metadata are quiet
-  pub store : (result : Done) (L : Layout) (s t : Told) → layout_seen s.now ≡ Ok L → IsAtRest s → (old : MetaRead) (new : Meta)
+  pub store : (result : CallResult) (L : Layout) (s t : Told) → layout_seen s.now ≡ Ok L → IsAtRest s → (old : MetaRead) (new : Meta)
       → deciding L s.now ≡ Some old → meta_read L (block 2 s.now) ≡ Some old → Stores result L new s t
       → QuietBy L new s → GuardedBy result t
-  pub clear : (result : Done) (L : Layout) (s t : Told) → layout_seen s.now ≡ Ok L → IsAtRest s → Clears result 3 s t
+  pub clear : (result : CallResult) (L : Layout) (s t : Told) → layout_seen s.now ≡ Ok L → IsAtRest s → Clears result 3 s t
       → GuardedBy result t
   pub staging : (L : Layout) (s t : Told) (state : State) (u : ℕ) → IsShown L s.now state → IsAtRest s
       → IsTrue (is_invalid (bank state u).state) → Keeps (block_bytes * start L u 0) (block_bytes * start L (u + 1) 0) s t

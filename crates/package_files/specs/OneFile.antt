@@ -7,5 +7,5 @@ use Rattle.package_files.specs.declared.files.PackageFiles.{PackageFiles}
 abbrev pub one_file : List ℕ → List ℕ → Directory
 one_file name bytes = bytes_in ((name, bytes) ∷ [])
 
-abbrev pub directory : PackageFiles → Directory
-directory f = one_file f.name.now f.bytes.now
+abbrev pub package_directory : PackageFiles → Directory
+package_directory f = one_file f.name.now f.bytes.now

@@ -1,6 +1,6 @@
 //! One file whose bytes lie in memory.
 ghost use Rattle.std.specs.Prelude.{◌≡◌, ⊤, true, refl, Some, option_map};
-ghost use Rattle.package_files.specs.OneFile.{directory};
+ghost use Rattle.package_files.specs.OneFile.{package_directory};
 
 use host_io::{Failed, Files, JoinStop, Piece, WriteStop};
 use std::alloc::Global;
@@ -19,14 +19,14 @@ impl<'a> PackageFiles<'a> {
 
     /// The files that have these bytes under this name, and no other file.
     pub fn new(name: &'a str, bytes: &'a [u8]) -> PackageFiles<'a>
-        ensures { directory result ≡ one_file name.now bytes.now }
+        ensures { package_directory result ≡ one_file name.now bytes.now }
     {
         PackageFiles { name, bytes }
     }
 
     /// The bytes of a name.
     fn find(&self, name: &str) -> Option<&'a [u8]>
-        ensures { option_map (λ bytes. bytes.now) result ≡ directory self.now name.now }
+        ensures { option_map (λ bytes. bytes.now) result ≡ package_directory self.now name.now }
     {
         if self.name == name {
             Some(self.bytes)
@@ -41,7 +41,7 @@ impl<'a> Files for PackageFiles<'a> {
 
     ghost steady = { λ _. refl };
 
-    ghost contents = { λ f. Some (directory f) };
+    ghost contents = { λ f. Some (package_directory f) };
 
     ghost faults = { λ _. 0 };
 

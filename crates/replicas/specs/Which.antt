@@ -25,12 +25,12 @@ Finds MigrateZero r zero one = (zero ≡ Some r) × (r.form ≡ 1)
 Finds MigrateOne r zero one = (zero ≡ None) × (one ≡ Some r) × (r.form ≡ 1)
 
 -- in which version metadata is read for which this is to be done
-abbrev pub form_of : Which → ℕ
-form_of Same = 2
-form_of RepairZero = 2
-form_of RepairOne = 2
-form_of MigrateZero = 1
-form_of MigrateOne = 1
+abbrev pub form_read_of : Which → ℕ
+form_read_of Same = 2
+form_read_of RepairZero = 2
+form_read_of RepairOne = 2
+form_read_of MigrateZero = 1
+form_read_of MigrateOne = 1
 
 -- this metadata of the layout decides in the image, and this is to be done
 pub record Loads (L : Layout) (which : Which) (r : MetaRead) (image : List ℕ) : Type 0 where
@@ -51,6 +51,6 @@ pub record Found {D : Type 0} (g : Ghosts D) (L : Layout) (result : Result (Meta
   pub none : IsErrOf result NoMetadata → IsTrue g.tells → deciding L (g.told old).now ≡ None
   -- on any device: it is of the layout, and of the version for which this is to be done
   pub fits : IfOk result (λ r. IsTrue (fits_meta L r.0.meta))
-  pub form : IfOk result (λ r. r.0.form ≡ form_of r.1)
+  pub form : IfOk result (λ r. r.0.form ≡ form_read_of r.1)
   -- nothing is written
   pub reads : Reads g (flash_result result) old new

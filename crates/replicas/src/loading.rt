@@ -4,7 +4,7 @@ ghost use Rattle.std.specs.Option.{ForSome};
 ghost use Rattle.base_core.specs.Block.{block, block_bytes};
 ghost use Rattle.flash_core.specs.Calls.{Reads};
 ghost use Rattle.fwu_formats.specs.Metadata.{fits_meta, meta_read};
-ghost use Rattle.replicas.specs.Which.{HasForm, Finds, Found, form_of};
+ghost use Rattle.replicas.specs.Which.{HasForm, Finds, Found, form_read_of};
 
 use crate::which::{ReplicaStop, Which};
 use base_core::BLOCK_BYTES;
@@ -23,8 +23,7 @@ pub fn read_replica<D: Flash>(
     requires inside { b < D.blocks flash.old }
     requires room { length buf.old ≡ block_bytes }
 
-    ensures value { IfOk result (λ r. IsTrue D.tells →
-        r ≡ meta_read layout.now (block b (D.told flash.old).now)) }
+    ensures value { IfOk result (λ r. IsTrue D.tells → r ≡ meta_read layout.now (block b (D.told flash.old).now)) }
     ensures form { IfOk result (λ r. ForSome r HasForm) }
     ensures fits { IfOk result (λ r. ForSome r (λ m. IsTrue (fits_meta layout.now m.meta))) }
     ensures reads { Reads D.Flash result flash.old flash.new }
@@ -43,7 +42,7 @@ fn decide(zero: Option<Meta>, one: Option<Meta>) -> Option<(Meta, Which)>
     requires one_form { ForSome one HasForm }
 
     ensures some { IfSome result (λ r. Finds r.1 r.0 zero one) }
-    ensures form { IfSome result (λ r. r.0.form ≡ form_of r.1) }
+    ensures form { IfSome result (λ r. r.0.form ≡ form_read_of r.1) }
     ensures none { IfNone result ((zero ≡ None) × (one ≡ None)) }
 {
     let Some(meta) = zero else {

@@ -27,8 +27,7 @@ fn holds<D: Flash>(
     requires on { IsTrue (D.on flash.old) }
     requires room { length buf.old ≡ block_bytes }
 
-    ensures held { IfOk result (λ held. IsTrue D.tells → IsTrue held ↔
-        (meta_read layout.now (block 2 (D.told flash.old).now) ≡
+    ensures held { IfOk result (λ held. IsTrue D.tells → IsTrue held ↔ (meta_read layout.now (block 2 (D.told flash.old).now) ≡
         Some (in_version 2 meta.now.meta))) }
     ensures reads { Reads D.Flash result flash.old flash.new }
     ensures buffer { length buf.new ≡ length buf.old }
@@ -54,8 +53,7 @@ fn is_half_migrated<D: Flash>(
     requires room { length buf.old ≡ block_bytes }
 
     ensures held { IfOk result (λ half. IsTrue D.tells → which ≡ MigrateZero → IsTrue half ↔
-        (meta_read layout.now (block 2 (D.told flash.old).now) ≡
-        Some (in_version 2 meta.now.meta))) }
+        (meta_read layout.now (block 2 (D.told flash.old).now) ≡ Some (in_version 2 meta.now.meta))) }
     ensures migrates { IfOk result (λ half. IsTrue half → which ≡ MigrateZero) }
     ensures none { which ≡ Same → flash.new ≡ flash.old }
     ensures reads { Reads D.Flash result flash.old flash.new }
@@ -81,13 +79,10 @@ fn migrate_zero<D: Flash>(
     requires layout { IsTrue (fits_layout layout.now) }
     requires spelled { bytes.now ≡ replica_bytes layout.now meta.now.meta }
     requires of_layout { IsTrue (fits_meta layout.now meta.now.meta) }
-    requires loaded { IsTrue D.tells →
-        Loads layout.now MigrateZero meta.now (D.told flash.old).now }
-    requires lacks { IsTrue D.tells →
-        meta_read layout.now (block 2 (D.told flash.old).now) ≢ Some (in_version 2 meta.now.meta) }
+    requires loaded { IsTrue D.tells → Loads layout.now MigrateZero meta.now (D.told flash.old).now }
+    requires lacks { IsTrue D.tells → meta_read layout.now (block 2 (D.told flash.old).now) ≢ Some (in_version 2 meta.now.meta) }
 
-    ensures repairs { IsTrue D.tells →
-        Repairs result layout.now meta.now (D.told flash.old) (D.told flash.new) }
+    ensures repairs { IsTrue D.tells → Repairs result layout.now meta.now (D.told flash.old) (D.told flash.new) }
     ensures goes { Goes D.Flash result flash.old flash.new }
     ensures spent { OnOk result (TakesBoth (D.arming flash.old) (D.arming flash.new)) }
 {
@@ -110,8 +105,7 @@ pub fn repair<D: Flash>(
     requires room { block_bytes ≤ length buf.old }
     requires loaded { IsTrue D.tells → Loads layout.now which meta.now (D.told flash.old).now }
 
-    ensures repairs { IsTrue D.tells →
-        Repairs result layout.now meta.now (D.told flash.old) (D.told flash.new) }
+    ensures repairs { IsTrue D.tells → Repairs result layout.now meta.now (D.told flash.old) (D.told flash.new) }
     // on every device: where both replicas hold it in version 2, nothing is called
     ensures none { which ≡ Same → flash.new ≡ flash.old }
     ensures goes { Goes D.Flash result flash.old flash.new }

@@ -19,12 +19,10 @@ pub fn write_both<D: Flash>(flash: &mut D, bytes: &[u8]) -> Result<(), FlashStop
     requires some { 0 < length bytes.now }
     requires fits { length bytes.now ≤ block_bytes }
 
-    ensures writes { IsTrue D.tells →
-        WritesBoth result (padded bytes.now) (D.told flash.old) (D.told flash.new) }
+    ensures writes { IsTrue D.tells → WritesBoth result (padded bytes.now) (D.told flash.old) (D.told flash.new) }
     ensures goes { Goes D.Flash result flash.old flash.new }
     // on every device: two erases and two programs
-    ensures spent { OnOk result (D.arming flash.new
-        ≡ lowered (lowered (lowered (lowered (D.arming flash.old))))) }
+    ensures spent { OnOk result (D.arming flash.new ≡ lowered (lowered (lowered (lowered (D.arming flash.old))))) }
 {
     replace(flash, FIRST_REPLICA, bytes)?;
     replace(flash, SECOND_REPLICA, bytes)
@@ -60,12 +58,10 @@ pub fn store<D: Flash>(
     requires fits { IsTrue (fits_meta layout.now meta.now.meta) }
     requires room { block_bytes ≤ length buf.old }
 
-    ensures stores { IsTrue D.tells →
-        Stores result layout.now meta.now.meta (D.told flash.old) (D.told flash.new) }
+    ensures stores { IsTrue D.tells → Stores result layout.now meta.now.meta (D.told flash.old) (D.told flash.new) }
     ensures goes { Goes D.Flash result flash.old flash.new }
     // on every device: two erases and two programs
-    ensures spent { OnOk result (D.arming flash.new
-        ≡ lowered (lowered (lowered (lowered (D.arming flash.old))))) }
+    ensures spent { OnOk result (D.arming flash.new ≡ lowered (lowered (lowered (lowered (D.arming flash.old))))) }
     ensures buffer { length buf.new ≡ length buf.old }
 {
     let size = spell(layout, meta, buf);

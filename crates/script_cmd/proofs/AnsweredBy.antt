@@ -7,7 +7,9 @@ use Rattle.fwu_formats.specs.Digests.{passes_any}
 use Rattle.fwu_formats.specs.Layout.{ImageRow}
 use Rattle.fwu_model.specs.Causes.{Faults, may_fail_before}
 use Rattle.fwu_model.specs.Reply.{Turn}
-use Rattle.fwu_model.specs.Wrote.{script_asked, usage_line}
+use Rattle.fwu_model.specs.Asked as model
+use Rattle.fwu_model.specs.Asked.{script_asked}
+use Rattle.fwu_model.specs.Wrote.{usage_line}
 use Rattle.fwu_model.specs.declared.kinds.Note.TheVariants as model_note
 use Rattle.fwu_words.specs.Order.{Asked, turns_of}
 use Rattle.fwu_words.specs.Order as ask
@@ -16,12 +18,12 @@ use Rattle.fwu_words.specs.declared.orders.Place.TheVariants as place
 use Rattle.fwu_words.specs.declared.orders.ScriptFrom.{ScriptFrom}
 use Rattle.fwu_words.specs.declared.orders.ScriptFrom.TheVariants as origin
 use Rattle.host_io.specs.Contents.{Directory}
-use Rattle.script_turns.specs.Powered.{Moment}
+use Rattle.script_turns.specs.Powered.{TurnMoment}
 use Rattle.script_cmd.specs.Answered.{Answered}
-use Rattle.script_cmd.specs.Asking.{asks_beyond, asks_files, asks_run, asks_source, leaves_on, RunsOrNone, over_table}
-use Rattle.script_runs.specs.Refusing.{plainly, plain_of, text_of}
+use Rattle.script_cmd.specs.Asking.{asks_beyond, asks_files, asks_source, leaves_on, RunsOrNone, over_table}
+use Rattle.script_runs.specs.Refusing.{in_short, plain_of, text_of}
 use Rattle.script_cmd.specs.FormattedBy.{FormattedBy}
-use Rattle.script_runs.specs.Noted.{is_beyond, noted}
+use Rattle.script_runs.specs.Noted.{is_beyond_model, noted}
 use Rattle.script_cmd.specs.Promises.{given_to}
 use Rattle.host_io.specs.Printed.{Prints}
 use Rattle.script_turns.specs.Runs.{calls_of, sends_none}
@@ -81,10 +83,16 @@ no-other : (from : ScriptFrom) (at : Place) (other : Asked) → is_turns other �
 no-other from at other none is = false≢true (sym none ∙ ap is_turns (sym (same_Some (turns_of from at) other is)) ∙ asks-turns from at)
 
 -- a script of the source alone reads it and files, and a flash behind a table alone has more notes
-of-source : (from : ScriptFrom) (at : Place) → asks_run (Some (turns_of from at)) ≡ true → from ≡ origin.Source
+boot-not-source : model.Boot ≡ model.Source → ⊥
+boot-not-source e = cc
+
+none-not-source : model.NoScript ≡ model.Source → ⊥
+none-not-source e = cc
+
+of-source : (from : ScriptFrom) (at : Place) → in_short (Some (turns_of from at)) ≡ model.Source → from ≡ origin.Source
 of-source origin.Source at runs = refl
-of-source origin.Boot place.Flash runs = absurd (false≢true runs)
-of-source origin.Boot place.Partitions runs = absurd (false≢true runs)
+of-source origin.Boot place.Flash runs = absurd (boot-not-source runs)
+of-source origin.Boot place.Partitions runs = absurd (boot-not-source runs)
 
 of-boot : (from : ScriptFrom) (at : Place) → asks_source (Some (turns_of from at)) ≡ false → from ≡ origin.Boot
 of-boot origin.Source place.Flash none = absurd (false≢true (sym none))
@@ -107,7 +115,7 @@ left-off origin.Source place.Partitions = refl
 left-off origin.Boot place.Flash = refl
 left-off origin.Boot place.Partitions = refl
 
-module _ (passes : List ℕ → Bool) (tells : Bool) (blocks : ℕ) (told : Option Directory) (left : Option (List ℕ)) (journal : List Turn) (status : ℕ) (said : Note) (old new : Moment) (taken_before taken_after : Option (List ℕ)) (faults_before faults_after : Faults) where
+module _ (passes : List ℕ → Bool) (tells : Bool) (blocks : ℕ) (told : Option Directory) (left : Option (List ℕ)) (journal : List Turn) (status : ℕ) (said : Note) (old new : TurnMoment) (taken_before taken_after : Option (List ℕ)) (faults_before faults_after : Faults) where
   -- the way on the device, and the way behind its table
   turns-way : (from : ScriptFrom) (at : Place) → RunsOrNone (Some (turns_of from at))
       → WayAt at passes (device-of tells blocks) (Some (plain_of from)) (record { list = None; files = told; script = text_of from left }) (end-of journal status said) (world-of old taken_before faults_before) (world-of new taken_after faults_after)
@@ -127,12 +135,12 @@ module _ (passes : List ℕ → Bool) (tells : Bool) (blocks : ℕ) (told : Opti
   turns-by-table origin.Boot place.Partitions plain over went =
       subst (λ (a : Asked). WayByTable passes (device-of tells blocks) (Some a) (given_to (inputs-of (Some a) None told left)) (end-of journal status said) (world-of old taken_before faults_before) (world-of new taken_after faults_after)) (same_Some ask.boot plain over) went
 
-module _ {H I : Type 0} {passes : List ℕ → Bool} {tells : Bool} {blocks : ℕ} {told : Option Directory} {left rest : Option (List ℕ)} {journal : List Turn} {status : ℕ} {said : Note} {old new : Moment} {taken_before taken_after : Option (List ℕ)} {faults_before faults_after : Faults} {files files_after : H} {source source_after : I} where
+module _ {H I : Type 0} {passes : List ℕ → Bool} {tells : Bool} {blocks : ℕ} {told : Option Directory} {left rest : Option (List ℕ)} {journal : List Turn} {status : ℕ} {said : Note} {old new : TurnMoment} {taken_before taken_after : Option (List ℕ)} {faults_before faults_after : Faults} {files files_after : H} {source source_after : I} where
   -- the turns of a script, wherever it is from and wherever they take place
   pub answered-turns : (from : ScriptFrom) (at : Place) (asked : Option Asked) → asked ≡ Some (turns_of from at)
       → WayAt at passes (device-of tells blocks) (Some (plain_of from)) (record { list = None; files = told; script = text_of from left }) (end-of journal status said) (world-of old taken_before faults_before) (world-of new taken_after faults_after)
       → (status ≡ 0 → from ≡ origin.Source → IfSome rest (λ r. r ≡ [])) → ReadsInTime left rest → FailsOnce journal status faults_before.source faults_after.source → (IsTrue (sends_none (calls_of journal)) → files_after ≡ files)
-      → (files_after ≡ files → faults_after.files ≡ faults_before.files) → (from ≡ origin.Boot → files_after ≡ files) → (from ≡ origin.Boot → source_after ≡ source) → (at ≡ place.Flash → IsFalse (is_beyond said)) → Later faults_before faults_after
+      → (files_after ≡ files → faults_after.files ≡ faults_before.files) → (from ≡ origin.Boot → files_after ≡ files) → (from ≡ origin.Boot → source_after ≡ source) → (at ≡ place.Flash → IsFalse (is_beyond_model said)) → Later faults_before faults_after
       → Answered passes (device-of tells blocks) (inputs-of asked None told left) (end-of journal status said) (world-of old taken_before faults_before) (world-of new taken_after faults_after) rest files files_after source source_after
   answered-turns from at asked is went whole timely once unsent counts kept stays quiet later = subst (λ (a : Option Asked). Answered passes (device-of tells blocks) (inputs-of a None told left) (end-of journal status said) (world-of old taken_before faults_before) (world-of new taken_after faults_after) rest files files_after source source_after) (sym is) (record {
     way = λ runs. turns-way passes tells blocks told left journal status said old new taken_before taken_after faults_before faults_after from at runs went;
@@ -141,8 +149,7 @@ module _ {H I : Type 0} {passes : List ℕ → Bool} {tells : Bool} {blocks : �
     formats = λ banks rows file other. absurd (no-other from at (ask.format banks rows file) refl other);
     soaks = λ seed rounds other. absurd (no-other from at (ask.soak seed rounds) refl other);
     serves = λ other. absurd (no-other from at ask.serve refl other);
-    read_to_end = λ zero runs. whole zero (of-source from at (ap asks_run runs));
-    read_to_end_by_table = λ zero runs. whole zero (of-source from at (ap asks_run runs));
+    read_to_end = λ zero runs. whole zero (of-source from at runs);
     power = λ leaves zero. absurd (false≢true (sym (left-off from at) ∙ leaves));
     source = λ none. stays (of-boot from at none);
     list_first = λ none. absurd (none no-list-named);
@@ -158,7 +165,7 @@ module _ {H I : Type 0} {passes : List ℕ → Bool} {tells : Bool} {blocks : �
   })
 
   pub answered-show : (asked : Option Asked) → asked ≡ Some ask.show → ShowedBy tells (record { list = None; files = told; script = left }) (end-of journal status (noted said)) (world-of old taken_before faults_before) (world-of new taken_after faults_after)
-      → (status ≡ 0 → IsTrue new.power) → files_after ≡ files → faults_after.files ≡ faults_before.files → source_after ≡ source → IsFalse (is_beyond said) → Later faults_before faults_after
+      → (status ≡ 0 → IsTrue new.power) → files_after ≡ files → faults_after.files ≡ faults_before.files → source_after ≡ source → IsFalse (is_beyond_model said) → Later faults_before faults_after
       → Answered passes (device-of tells blocks) (inputs-of asked None told left) (end-of journal status said) (world-of old taken_before faults_before) (world-of new taken_after faults_after) rest files files_after source source_after
   answered-show asked is showed on kept counted stays quiet later = subst (λ (a : Option Asked). Answered passes (device-of tells blocks) (inputs-of a None told left) (end-of journal status said) (world-of old taken_before faults_before) (world-of new taken_after faults_after) rest files files_after source source_after) (sym is) (record {
     way = λ runs. absurd runs;
@@ -167,13 +174,12 @@ module _ {H I : Type 0} {passes : List ℕ → Bool} {tells : Bool} {blocks : �
     formats = λ banks rows file other. absurd cc;
     soaks = λ seed rounds other. absurd cc;
     serves = λ other. absurd cc;
-    read_to_end = λ zero other. absurd cc;
-    read_to_end_by_table = λ zero other. absurd cc;
+    read_to_end = λ zero other. absurd (none-not-source other);
     power = λ leaves zero. on zero;
     source = λ other. stays;
     list_first = λ none. stays;
-    in_time = λ runs. absurd (false≢true runs);
-    source_count = λ runs. absurd (false≢true runs);
+    in_time = λ runs. absurd (none-not-source runs);
+    source_count = λ runs. absurd (none-not-source runs);
     files = λ unlisted other. kept;
     unsent = λ unlisted other none. kept;
     list_alone = λ other none whole. counted;
@@ -195,13 +201,12 @@ module _ {H I : Type 0} {passes : List ℕ → Bool} {tells : Bool} {blocks : �
     formats = formatted;
     soaks = λ seed rounds other. absurd cc;
     serves = λ other. absurd cc;
-    read_to_end = λ zero other. absurd cc;
-    read_to_end_by_table = λ zero other. absurd cc;
+    read_to_end = λ zero other. absurd (none-not-source other);
     power = λ leaves zero. on zero;
     source = λ other. stays;
     list_first = λ none. stays;
-    in_time = λ runs. absurd (false≢true runs);
-    source_count = λ runs. absurd (false≢true runs);
+    in_time = λ runs. absurd (none-not-source runs);
+    source_count = λ runs. absurd (none-not-source runs);
     files = λ unlisted other. absurd (false≢true (sym other));
     unsent = λ unlisted other none. absurd (false≢true (sym other));
     list_alone = λ other none whole. absurd (false≢true (sym other));
@@ -223,13 +228,12 @@ module _ {H I : Type 0} {passes : List ℕ → Bool} {tells : Bool} {blocks : �
     formats = λ banks rows file other. absurd cc;
     soaks = soaked;
     serves = λ other. absurd cc;
-    read_to_end = λ zero other. absurd cc;
-    read_to_end_by_table = λ zero other. absurd cc;
+    read_to_end = λ zero other. absurd (none-not-source other);
     power = λ leaves zero. absurd (false≢true leaves);
     source = λ other. stays;
     list_first = λ none. stays;
-    in_time = λ runs. absurd (false≢true runs);
-    source_count = λ runs. absurd (false≢true runs);
+    in_time = λ runs. absurd (none-not-source runs);
+    source_count = λ runs. absurd (none-not-source runs);
     files = λ unlisted other. kept;
     unsent = λ unlisted other none. kept;
     list_alone = λ other none whole. counted;
@@ -240,7 +244,7 @@ module _ {H I : Type 0} {passes : List ℕ → Bool} {tells : Bool} {blocks : �
   })
 
   pub answered-serve : (asked : Option Asked) → asked ≡ Some ask.serve → ServeWay passes tells (record { list = None; files = told; script = left }) (end-of journal status (noted said)) (world-of old taken_before faults_before) (world-of new taken_after faults_after) rest
-      → files_after ≡ files → faults_after.files ≡ faults_before.files → IsFalse (is_beyond said) → Later faults_before faults_after
+      → files_after ≡ files → faults_after.files ≡ faults_before.files → IsFalse (is_beyond_model said) → Later faults_before faults_after
       → Answered passes (device-of tells blocks) (inputs-of asked None told left) (end-of journal status said) (world-of old taken_before faults_before) (world-of new taken_after faults_after) rest files files_after source source_after
   answered-serve asked is served kept counted quiet later = subst (λ (a : Option Asked). Answered passes (device-of tells blocks) (inputs-of a None told left) (end-of journal status said) (world-of old taken_before faults_before) (world-of new taken_after faults_after) rest files files_after source source_after) (sym is) (record {
     way = λ runs. absurd runs;
@@ -249,13 +253,12 @@ module _ {H I : Type 0} {passes : List ℕ → Bool} {tells : Bool} {blocks : �
     formats = λ banks rows file other. absurd cc;
     soaks = λ seed rounds other. absurd cc;
     serves = λ same. served;
-    read_to_end = λ zero other. absurd cc;
-    read_to_end_by_table = λ zero other. absurd cc;
+    read_to_end = λ zero other. absurd (none-not-source other);
     power = λ leaves zero. absurd (false≢true leaves);
     source = λ other. absurd (false≢true (sym other));
     list_first = λ none. absurd (none no-list-named);
-    in_time = λ runs. absurd (false≢true runs);
-    source_count = λ runs. absurd (false≢true runs);
+    in_time = λ runs. absurd (none-not-source runs);
+    source_count = λ runs. absurd (none-not-source runs);
     files = λ unlisted other. kept;
     unsent = λ unlisted other none. kept;
     list_alone = λ other none whole. counted;
@@ -270,14 +273,13 @@ module _ {H I : Type 0} {passes : List ℕ → Bool} {tells : Bool} {blocks : �
       → files_after ≡ files → faults_after.files ≡ faults_before.files → source_after ≡ source → rest ≡ left → faults_after.source ≡ faults_before.source → Later faults_before faults_after
       → Answered passes (device-of tells blocks) (inputs-of asked list told left) (end-of journal status said) (world-of old taken_before faults_before) (world-of new taken_after faults_after) rest files files_after source source_after
   answered-usage asked list words good none same is prints kept counted stays unread once later = record {
-    way = λ runs. refused-by passes tells journal status (noted said) old new taken_before taken_after asked (record { list = list; files = told; script = script_asked (plainly asked) left }) faults_before faults_after 1 usage_line model_note.Nothing none same (ap noted is) (way.usage good words) prints;
+    way = λ runs. refused-by passes tells journal status (noted said) old new taken_before taken_after asked (record { list = list; files = told; script = script_asked (in_short asked) left }) faults_before faults_after 1 usage_line model_note.Nothing none same (ap noted is) (way.usage good words) prints;
     by_table = λ plain over. absurd (not-over asked None plain words refl over);
     shows = λ other. absurd (none-some ask.show asked words other);
     formats = λ banks rows file other. absurd (none-some (ask.format banks rows file) asked words other);
     soaks = λ seed rounds other. absurd (none-some (ask.soak seed rounds) asked words other);
     serves = λ other. absurd (none-some ask.serve asked words other);
-    read_to_end = λ zero other. absurd (none-some ask.run asked words other);
-    read_to_end_by_table = λ zero other. absurd (none-some ask.run_partitioned asked words other);
+    read_to_end = λ zero other. absurd (not-done usage_line 1 status taken_before taken_after faults_before.sink faults_after.sink (λ one. absurd (omega arith)) prints zero);
     power = λ leaves zero. absurd (not-done usage_line 1 status taken_before taken_after faults_before.sink faults_after.sink (λ one. absurd (omega arith)) prints zero);
     source = λ other. stays;
     list_first = λ lacks. stays;
@@ -286,7 +288,7 @@ module _ {H I : Type 0} {passes : List ℕ → Bool} {tells : Bool} {blocks : �
     files = λ unlisted other. kept;
     unsent = λ unlisted other unsent. kept;
     list_alone = λ other unsent whole. counted;
-    note = λ other. ap is_beyond is;
+    note = λ other. ap is_beyond_model is;
     later_files = later.files;
     later_source = later.source;
     later_sink = later.sink;
@@ -298,14 +300,13 @@ module _ {H I : Type 0} {passes : List ℕ → Bool} {tells : Bool} {blocks : �
       → Answered passes (device-of tells blocks) (inputs-of asked list told left) (end-of journal status said) (world-of old taken_before faults_before) (world-of new taken_after faults_after) rest files files_after source source_after
   answered-starved asked list none same unarmed nine is stuck kept stays unread once later = record {
     way = λ runs. way.starved none same nine (ap noted is) stuck;
-    by_table = λ plain over. table-starved passes tells blocks journal status said old new taken_before taken_after (Some plain) (record { list = list; files = told; script = script_asked (plainly (Some plain)) left }) faults_before faults_after none same nine is stuck;
+    by_table = λ plain over. table-starved passes tells blocks journal status said old new taken_before taken_after (Some plain) (record { list = list; files = told; script = script_asked (in_short (Some plain)) left }) faults_before faults_after none same nine is stuck;
     shows = λ words. starved-shows tells (record { list = list; files = told; script = left }) old new status (noted said) journal taken_before taken_after faults_before faults_after same unarmed none nine (ap noted is) stuck;
     formats = λ banks rows file words.
         starved-formats passes tells (record { list = list; files = told; script = left }) file (record { banks = banks; rows = rows }) blocks old new status said journal taken_before taken_after faults_before faults_after same unarmed none is nine stuck;
     soaks = λ seed rounds words. soak.starved none same nine is stuck;
     serves = λ words. serve.starved none same (unread, once) nine (ap noted is) stuck;
     read_to_end = λ zero words. absurd (omega (arith, zero, nine));
-    read_to_end_by_table = λ zero words. absurd (omega (arith, zero, nine));
     power = λ leaves zero. absurd (omega (arith, zero, nine));
     source = λ other. stays;
     list_first = λ lacks. stays;
@@ -314,7 +315,7 @@ module _ {H I : Type 0} {passes : List ℕ → Bool} {tells : Bool} {blocks : �
     files = λ unlisted other. kept unlisted;
     unsent = λ unlisted other unsent. kept unlisted;
     list_alone = λ other unsent whole. absurd (false≢true (sym whole ∙ ap may_fail_before nine));
-    note = λ other. ap is_beyond is;
+    note = λ other. ap is_beyond_model is;
     later_files = later.files;
     later_source = later.source;
     later_sink = later.sink;
@@ -322,28 +323,27 @@ module _ {H I : Type 0} {passes : List ℕ → Bool} {tells : Bool} {blocks : �
 
   -- a list was refused, whatever is asked for
   pub answered-refused : (asked : Option Asked) (name : List ℕ) (planned : ℕ) (line : List ℕ) (met : Note)
-      → ((script : Option (List ℕ)) (a : Option Asked) → Refuses a (record { list = Some name; files = told; script = script }) faults_before faults_after planned (noted met) line) → planned ≢ 0 → IsFalse (is_beyond met)
+      → ((script : Option (List ℕ)) (a : Option Asked) → Refuses a (record { list = Some name; files = told; script = script }) faults_before faults_after planned (noted met) line) → planned ≢ 0 → IsFalse (is_beyond_model met)
       → journal ≡ [] → new ≡ old → old.armed ≡ None → said ≡ met → Prints line planned status taken_before taken_after faults_before.sink faults_after.sink → (IsFalse (may_fail_before status) → faults_after.files ≡ faults_before.files)
       → source_after ≡ source → rest ≡ left → faults_after.source ≡ faults_before.source → Later faults_before faults_after
       → Answered passes (device-of tells blocks) (inputs-of asked (Some name) told left) (end-of journal status said) (world-of old taken_before faults_before) (world-of new taken_after faults_after) rest files files_after source source_after
   answered-refused asked name planned line met why some beyond none same unarmed is prints counted stays unread once later = record {
     way = λ runs.
-        refused-by passes tells journal status (noted said) old new taken_before taken_after asked (record { list = Some name; files = told; script = script_asked (plainly asked) left }) faults_before faults_after planned line (noted met) none same (ap noted is)
-        (why (script_asked (plainly asked) left) asked) prints;
+        refused-by passes tells journal status (noted said) old new taken_before taken_after asked (record { list = Some name; files = told; script = script_asked (in_short asked) left }) faults_before faults_after planned line (noted met) none same (ap noted is)
+        (why (script_asked (in_short asked) left) asked) prints;
     by_table = λ plain over.
-        table-refused passes tells blocks journal status said old new taken_before taken_after (Some plain) (record { list = Some name; files = told; script = script_asked (plainly (Some plain)) left }) faults_before faults_after planned line met none same is some beyond
-        (why (script_asked (plainly (Some plain)) left) (Some plain)) prints;
+        table-refused passes tells blocks journal status said old new taken_before taken_after (Some plain) (record { list = Some name; files = told; script = script_asked (in_short (Some plain)) left }) faults_before faults_after planned line met none same is some beyond
+        (why (script_asked (in_short (Some plain)) left) (Some plain)) prints;
     shows = λ words.
         refused-shows tells (record { list = Some name; files = told; script = left }) old new status (noted said) journal taken_before taken_after faults_before faults_after planned line (noted met) same unarmed none (ap noted is) (why left (Some ask.show)) prints;
     formats = λ banks rows file words.
         refused-formats passes tells (record { list = Some name; files = told; script = left }) file (record { banks = banks; rows = rows }) blocks old new status said journal taken_before taken_after faults_before faults_after planned line (noted met) same unarmed none
-        (ap is_beyond is ∙ beyond) (ap noted is) (why left (Some (ask.format banks rows file))) prints;
+        (ap is_beyond_model is ∙ beyond) (ap noted is) (why left (Some (ask.format banks rows file))) prints;
     soaks = λ seed rounds words.
-        refused-soaks tells (record { list = Some name; files = told; script = left }) seed rounds blocks journal status said old new taken_before taken_after faults_before faults_after planned line (noted met) none same (ap is_beyond is ∙ beyond) (ap noted is)
+        refused-soaks tells (record { list = Some name; files = told; script = left }) seed rounds blocks journal status said old new taken_before taken_after faults_before faults_after planned line (noted met) none same (ap is_beyond_model is ∙ beyond) (ap noted is)
         (why left (Some (ask.soak seed rounds))) prints;
     serves = λ words. refused-serves passes tells (record { list = Some name; files = told; script = left }) old new status (noted said) journal taken_before taken_after faults_before faults_after planned line (noted met) rest none same (ap noted is) (why left (Some ask.serve)) prints unread once;
     read_to_end = λ zero words. absurd (not-done line planned status taken_before taken_after faults_before.sink faults_after.sink some prints zero);
-    read_to_end_by_table = λ zero words. absurd (not-done line planned status taken_before taken_after faults_before.sink faults_after.sink some prints zero);
     power = λ leaves zero. absurd (not-done line planned status taken_before taken_after faults_before.sink faults_after.sink some prints zero);
     source = λ other. stays;
     list_first = λ lacks. stays;
@@ -352,7 +352,7 @@ module _ {H I : Type 0} {passes : List ℕ → Bool} {tells : Bool} {blocks : �
     files = λ unlisted other. absurd cc;
     unsent = λ unlisted other unsent. absurd cc;
     list_alone = λ other unsent whole. counted whole;
-    note = λ other. ap is_beyond is ∙ beyond;
+    note = λ other. ap is_beyond_model is ∙ beyond;
     later_files = later.files;
     later_source = later.source;
     later_sink = later.sink;
@@ -366,16 +366,15 @@ module _ {H I : Type 0} {passes : List ℕ → Bool} {tells : Bool} {blocks : �
   answered-with-list asked name mid_told mid mid_files a same good counted at_source at_sink unarmed =
       let later : faults_before.files ≤ mid.files = omega arith in
       record {
-        way = λ runs. with-list passes tells journal status (noted said) old new taken_before taken_after asked mid_told told name (script_asked (plainly asked) left) faults_before mid faults_after same good later at_source at_sink (a.way runs);
+        way = λ runs. with-list passes tells journal status (noted said) old new taken_before taken_after asked mid_told told name (script_asked (in_short asked) left) faults_before mid faults_after same good later at_source at_sink (a.way runs);
         by_table = λ plain over.
-            table-with-list passes tells blocks journal status said old new taken_before taken_after (Some plain) mid_told told name (script_asked (plainly (Some plain)) left) faults_before mid faults_after same good later at_source at_sink (a.by_table plain over);
+            table-with-list passes tells blocks journal status said old new taken_before taken_after (Some plain) mid_told told name (script_asked (in_short (Some plain)) left) faults_before mid faults_after same good later at_source at_sink (a.by_table plain over);
         shows = λ words. shows-with-list tells mid_told told name left old new status (noted said) journal taken_before taken_after faults_before mid faults_after good later at_source at_sink (a.shows words);
         formats = λ banks rows file words.
             formats-with-list passes tells mid_told told name left file (record { banks = banks; rows = rows }) blocks old new status said journal taken_before taken_after faults_before mid faults_after same good counted at_source at_sink unarmed (a.formats banks rows file words);
         soaks = λ seed rounds words. soaks-with-list tells mid_told told name left seed rounds blocks journal status said old new taken_before taken_after faults_before mid faults_after good later at_source at_sink (a.soaks seed rounds words);
         serves = λ words. serves-with-list passes tells mid_told told name left old new status (noted said) journal taken_before taken_after faults_before mid faults_after rest same good counted at_source at_sink (a.serves words);
         read_to_end = a.read_to_end;
-        read_to_end_by_table = a.read_to_end_by_table;
         power = a.power;
         source = a.source;
         list_first = λ lacks. absurd (lacks good);

@@ -66,7 +66,7 @@ no-metadata-is-none passes inputs end old new t turns clean boots is p =
 
 pub usage-reads-no-source : UsageReadsNoSource
 usage-reads-no-source passes tells inputs end old new p =
-    elim (p.ends.not_read refl refl) [ inl source ↦ absurd (false≢true source.0) | inr list ↦ list ]
+    elim (p.ends.not_read refl refl) [ inl source ↦ absurd (let never = source.0 in cc) | inr list ↦ list ]
 
 pub missing-list-is-none : MissingListIsNone
 missing-list-is-none name files passes lacks has =

@@ -9,7 +9,7 @@ use Rattle.fwu_model.specs.Reply as reply
 use Rattle.early_boot.specs.EndsBy.{StartsPermitted}
 use Rattle.early_boot.specs.Ends.{Ended, booted, bad_layout, no_metadata, no_bank, lost, failed}
 use Rattle.image_check.specs.Passed.{HasPackage}
-use Rattle.script_turns.specs.Powered.{Moment}
+use Rattle.script_turns.specs.Powered.{TurnMoment}
 use Rattle.script_turns.specs.Boots.{numbers_of_end, reply_of_end}
 use Rattle.script_turns.specs.Replies.{Replies}
 use Rattle.script_turns.specs.Turning.{Turns}
@@ -36,7 +36,7 @@ module _ (passes : List ℕ → Bool) (t : Turn) (bank version trials counter : 
   by-end (lost n) said told permitted = let both = sym said ∙ is in absurd cc
   by-end (failed n) said told permitted = let both = sym said ∙ is in absurd cc
 
-  by-turn : (tells : Bool) (files : Option Directory) (old new : Moment) (was are : ℕ) → t.call ≡ call.Boot → Turns passes tells files t.call t old new was are
+  by-turn : (tells : Bool) (files : Option Directory) (old new : TurnMoment) (was are : ℕ) → t.call ≡ call.Boot → Turns passes tells files t.call t old new was are
       → IsOfPackage passes t version
   by-turn tells files old new was are boots turns =
       let said : Replies passes tells files call.Boot old t new = subst (λ (c : Call). Replies passes tells files c old t new) boots turns.replies in
@@ -47,7 +47,7 @@ same-turn t u e = cc
 
 module _ (passes : List ℕ → Bool) (tells : Bool) (files : Option Directory) (t : Turn) (bank version trials counter : ℕ) (fallback : Bool)
     (boots : t.call ≡ call.Boot) (is : t.reply ≡ reply.Booted bank version trials counter fallback) where
-  by-journal : (journal : List Turn) (n : ℕ) (old new : Moment) (was are : ℕ) → Follows passes tells files journal old new was are → slice_get journal n ≡ Some t
+  by-journal : (journal : List Turn) (n : ℕ) (old new : TurnMoment) (was are : ℕ) → Follows passes tells files journal old new was are → slice_get journal n ≡ Some t
       → IsOfPackage passes t version
   by-journal [] n old new was are follows at = absurd cc
   by-journal (u ∷ turns) zero old new was are follows at =

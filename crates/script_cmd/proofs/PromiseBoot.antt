@@ -18,7 +18,8 @@ use Rattle.fwu_model.specs.Call as call
 use Rattle.fwu_model.specs.Reply.{Reply, Turn}
 use Rattle.fwu_model.specs.Reply as reply
 use Rattle.fwu_model.specs.Script.{script_of, is_too_long}
-use Rattle.fwu_model.specs.Wrote.{may_lack, script_asked}
+use Rattle.fwu_model.specs.Asked.{script_asked}
+use Rattle.fwu_model.specs.Wrote.{may_lack}
 use Rattle.fwu_model.specs.Causes.{LossesAreCounted, Faults, may_fail_before, is_lost, status_by, note_by}
 use Rattle.fwu_formats.specs.declared.kinds.LayoutFault.{LayoutFault}
 use Rattle.fwu_model.specs.declared.kinds.NoBoot.TheVariants as no_boot
@@ -29,11 +30,11 @@ use Rattle.early_boot.specs.EndsBy.{Chose}
 use Rattle.host_io.specs.Contents.{Directory}
 use Rattle.fwu_words.specs.Order.{Asked}
 use Rattle.fwu_words.specs.Order as ask
-use Rattle.script_runs.specs.Refusing.{plainly}
+use Rattle.script_runs.specs.Refusing.{in_short}
 use Rattle.script_turns.specs.Booted.{BootsFrom, ChoseBank, ChoseNone}
-use Rattle.script_cmd.specs.BootWord.{BootsBy}
-use Rattle.script_turns.specs.Powered.{Moment, at}
-use Rattle.script_runs.specs.Running.{Ended, status_of_last, note_of_last, last_turn}
+use Rattle.script_cmd.specs.BootWord.{BootWordBy}
+use Rattle.script_turns.specs.Powered.{TurnMoment, at}
+use Rattle.script_runs.specs.Running.{ScriptEnded, status_of_last, note_of_last, last_turn}
 use Rattle.script_turns.specs.Runs.{Ran, calls_of}
 use Rattle.script_runs.specs.Ways.{Given, Refuses, usage, not_read, list_not_read, too_long, bad_script, bad_list, starved, refused, ran}
 use Rattle.script_cmd.specs.Promises.{given_to, WaysBoot}
@@ -69,7 +70,7 @@ module _ (passes : List ℕ → Bool) (image : List ℕ) (status : ℕ) (noted :
   says : (r : Reply) → t.reply ≡ r → (status ≡ status_by r) × (noted ≡ note_by r)
   says r is = (status_is ∙ ap status_by is, noted_is ∙ ap note_by is)
 
-  by-bank : (b v trials counter : ℕ) (fallback : Bool) → t.reply ≡ reply.Booted b v trials counter fallback → ChoseBank passes image b v → BootsBy passes image status noted journal
+  by-bank : (b v trials counter : ℕ) (fallback : Bool) → t.reply ≡ reply.Booted b v trials counter fallback → ChoseBank passes image b v → BootWordBy passes image status noted journal
   by-bank b v trials counter fallback replied x = record {
     no_layout = λ f e. absurd (no-both f x.layout e x.chose.has_layout);
     no_metadata = λ L is none. absurd (no-decision L x.state is x.chose.shows none);
@@ -94,7 +95,7 @@ module _ (passes : List ℕ → Bool) (image : List ℕ) (status : ℕ) (noted :
         );
   }
 
-  by-layout : (f : LayoutFault) → t.reply ≡ reply.NotBooted (no_boot.Layout f) → layout_seen image ≡ Err f → BootsBy passes image status noted journal
+  by-layout : (f : LayoutFault) → t.reply ≡ reply.NotBooted (no_boot.Layout f) → layout_seen image ≡ Err f → BootWordBy passes image status noted journal
   by-layout f replied e = record {
     no_layout = λ k is.
         let h = says (reply.NotBooted (no_boot.Layout f)) replied in
@@ -104,7 +105,7 @@ module _ (passes : List ℕ → Bool) (image : List ℕ) (status : ℕ) (noted :
     bank = λ E s k is test shows some. absurd (no-both f E.layout e is);
   }
 
-  by-metadata : t.reply ≡ reply.NotBooted no_boot.Metadata → (L : Layout) → layout_seen image ≡ Ok L → deciding L image ≡ None → BootsBy passes image status noted journal
+  by-metadata : t.reply ≡ reply.NotBooted no_boot.Metadata → (L : Layout) → layout_seen image ≡ Ok L → deciding L image ≡ None → BootWordBy passes image status noted journal
   by-metadata replied L has nothing =
       let undecided : (M : Layout) → layout_seen image ≡ Ok M → deciding M image ≡ None = λ M is. subst (λ (K : Layout). deciding K image ≡ None) (same-Ok L M (sym has ∙ is)) nothing in
       record {
@@ -114,7 +115,7 @@ module _ (passes : List ℕ → Bool) (image : List ℕ) (status : ℕ) (noted :
         bank = λ E s k is test shows some. absurd (no-decision E.layout s is shows (undecided E.layout is));
       }
 
-  by-none : (active previous : ℕ) → t.reply ≡ reply.NotBooted (no_boot.Bank active previous) → ChoseNone passes image active previous → BootsBy passes image status noted journal
+  by-none : (active previous : ℕ) → t.reply ≡ reply.NotBooted (no_boot.Bank active previous) → ChoseNone passes image active previous → BootWordBy passes image status noted journal
   by-none active previous replied x = record {
     no_layout = λ f e. absurd (no-both f x.layout e x.chose.has_layout);
     no_metadata = λ L is none. absurd (no-decision L x.state is x.chose.shows none);
@@ -131,7 +132,7 @@ module _ (passes : List ℕ → Bool) (image : List ℕ) (status : ℕ) (noted :
         absurd (cc);
   }
 
-  by-reply : (r : Reply) → t.reply ≡ r → BootsFrom passes image r → r ≢ reply.Lost → r ≢ reply.Fault → BootsBy passes image status noted journal
+  by-reply : (r : Reply) → t.reply ≡ r → BootsFrom passes image r → r ≢ reply.Lost → r ≢ reply.Fault → BootWordBy passes image status noted journal
   by-reply (reply.Booted b v trials counter fallback) is h lost fault = by-bank b v trials counter fallback is h
   by-reply (reply.NotBooted (no_boot.Layout f)) is h lost fault = by-layout f is h
   by-reply (reply.NotBooted no_boot.Metadata) is h lost fault = by-metadata is h.0 h.1 h.2
@@ -167,10 +168,10 @@ not-lost t before after (inl counted) cuts reached is =
 not-lost t before after (inr (inl top)) cuts reached is = cuts (inr top)
 not-lost t before after (inr (inr top)) cuts reached is = reached (inr top)
 
-module _ (passes : List ℕ → Bool) (tells : Bool) (files : Option Directory) (status : ℕ) (noted : Note) (old : Moment) (from to : ℕ) where
-  by-turn : (t : Turn) (turns : List Turn) (new : Moment) → Ran passes tells files (t ∷ turns) old new from to → Ended (call.Boot ∷ []) (t ∷ turns) status noted
+module _ (passes : List ℕ → Bool) (tells : Bool) (files : Option Directory) (status : ℕ) (noted : Note) (old : TurnMoment) (from to : ℕ) where
+  by-turn : (t : Turn) (turns : List Turn) (new : TurnMoment) → Ran passes tells files (t ∷ turns) old new from to → ScriptEnded (call.Boot ∷ []) (t ∷ turns) status noted
       → IsTrue tells → NothingDirty old.told → IsFalse (may_lack status) → (Rose old.counts.faults new.counts.faults → ⊥) → (Rose old.counts.cuts new.counts.cuts → ⊥) → (Rose old.counts.reached new.counts.reached → ⊥)
-      → BootsBy passes old.told.now status noted (t ∷ turns)
+      → BootWordBy passes old.told.now status noted (t ∷ turns)
   by-turn t turns new did ended told clean lacks faults cuts reached =
       let one = one-boot t turns ended.calls.0 ended.calls.1 in
       let last : last_turn (t ∷ turns) ≡ Some t = ap (λ (ts : List Turn). last_turn (t ∷ ts)) one.1 in
@@ -178,9 +179,9 @@ module _ (passes : List ℕ → Bool) (tells : Bool) (files : Option Directory) 
       by-reply passes old.told.now status noted (t ∷ turns) t refl (ended.status_is lacks ∙ ap status_of_last last) (ended.noted_is ∙ ap note_of_last last)
       t.reply refl (did.first told clean t refl one.0) lost (λ is. faults (did.fault_turns t (0, omega arith, refl) is))
 
-  by-journal : (journal : List Turn) (new : Moment) → Ran passes tells files journal old new from to → Ended (call.Boot ∷ []) journal status noted
+  by-journal : (journal : List Turn) (new : TurnMoment) → Ran passes tells files journal old new from to → ScriptEnded (call.Boot ∷ []) journal status noted
       → IsTrue tells → NothingDirty old.told → IsFalse (may_lack status) → (Rose old.counts.faults new.counts.faults → ⊥) → (Rose old.counts.cuts new.counts.cuts → ⊥) → (Rose old.counts.reached new.counts.reached → ⊥)
-      → BootsBy passes old.told.now status noted journal
+      → BootWordBy passes old.told.now status noted journal
   by-journal [] new did ended told clean lacks faults cuts reached = let none = ended.all_calls (ended.status_is lacks) in absurd (cc)
   by-journal (t ∷ turns) new did ended told clean lacks faults cuts reached = by-turn t turns new did ended told clean lacks faults cuts reached
 
@@ -205,6 +206,6 @@ ways-boot passes tells inputs end old new (refused planned line empty same why p
     absurd (false≢true (sym fails ∙ by-plan line planned end.status old.taken new.taken old.faults.sink new.faults.sink prints (λ k. may_fail_before k || (k == 13)) refl refl
     (no-refusal inputs.asked g old.faults new.faults planned end.noted line boot (boot-script inputs.asked inputs.source boot) why)))
 ways-boot passes tells inputs end old new (ran calls on from good asks has before turns ended printed) told clean boot fails faults cuts reached =
-    let is = (some-at (script_asked (plainly inputs.asked) inputs.source) (λ b. (is_too_long b ≡ false) × (script_of b ≡ Ok calls)) (codes "boot\n") has (boot-script inputs.asked inputs.source boot)).1 in
+    let is = (some-at (script_asked (in_short inputs.asked) inputs.source) (λ b. (is_too_long b ≡ false) × (script_of b ≡ Ok calls)) (codes "boot\n") has (boot-script inputs.asked inputs.source boot)).1 in
     let same : calls ≡ call.Boot ∷ [] = same-calls calls (call.Boot ∷ []) (sym is ∙ boot-is-script) in
-    by-journal passes tells inputs.files end.status end.noted old.flash from new.faults.files end.journal (at on new.flash.told new.flash.counts new.flash.armed new.flash.power) turns (subst (λ (c : List Call). Ended c end.journal end.status end.noted) same ended) told clean (whole end.status fails) faults cuts reached
+    by-journal passes tells inputs.files end.status end.noted old.flash from new.faults.files end.journal (at on new.flash.told new.flash.counts new.flash.armed new.flash.power) turns (subst (λ (c : List Call). ScriptEnded c end.journal end.status end.noted) same ended) told clean (whole end.status fails) faults cuts reached

@@ -10,23 +10,24 @@ use Rattle.fwu_model.specs.Call.{Call}
 use Rattle.fwu_model.specs.Reply.{Reply, Turn}
 use Rattle.fwu_model.specs.Reply as reply
 use Rattle.fwu_model.specs.Run.{ends_run}
+use Rattle.fwu_model.specs.Asked as model
 use Rattle.fwu_model.specs.Script.{script_of, is_too_long}
 use Rattle.fwu_formats.specs.Digests.{digests_of}
 use Rattle.fwu_model.specs.Allow.{list_bytes}
 use Rattle.fwu_model.specs.Wrote.{may_lack, IsBadScript, IsBadList}
-use Rattle.fwu_model.specs.Causes.{EndsAs, Faults, LossesAreCounted, LacksList, NotRead, NotedAlone, RefusesList, may_end_before, may_fail_before, has_note, runs_script, reads_source, status_by, note_by}
+use Rattle.fwu_model.specs.Causes.{EndsAs, Faults, LossesAreCounted, LacksList, NotRead, NotedAlone, RefusesList, may_end_before, may_fail_before, has_note, status_by, note_by}
 use Rattle.fwu_model.specs.Causes as noted_alone
 use Rattle.host_io.specs.Contents.{Directory}
 use Rattle.fwu_words.specs.Order.{Asked}
-use Rattle.script_runs.specs.Refusing.{plainly}
-use Rattle.script_turns.specs.Powered.{Moment, at}
+use Rattle.script_runs.specs.Refusing.{in_short}
+use Rattle.script_turns.specs.Powered.{TurnMoment, at}
 use Rattle.script_runs.specs.Ending.{Ending, World}
 use Rattle.host_io.specs.Printed.{Prints, all, front, nothing}
-use Rattle.script_runs.specs.Running.{Ended, Printed, status_of_last, note_of_last, last_turn}
+use Rattle.script_runs.specs.Running.{ScriptEnded, Printed, status_of_last, note_of_last, last_turn}
 use Rattle.script_turns.specs.Runs.{Ran}
 use Rattle.script_runs.specs.Ways.{Given, HasGoodList, AsksTurns, HasCalls, Refuses, usage, not_read, list_not_read, too_long, bad_script, bad_list, starved, refused, ran}
 use Rattle.script_cmd.specs.Promises.{EndsHold, WaysEnd}
-use Rattle.script_runs.proofs.PromiseWords.{asks-none, asks-turns, asks-run, same-calls}
+use Rattle.script_runs.proofs.PromiseWords.{asks-turns, same-calls}
 use Rattle.script_runs.proofs.TopPrints.{raised-rose, printed-plan, by-plan, printed-rose}
 use Rattle.script_turns.proofs.RunTurns.{not-read-around}
 use Rattle.script_cmd.proofs.PromiseTurns.{last-get, is_ran, none-ended, ran-at, ran-status, lack-cases, some-from, some-at}
@@ -60,17 +61,17 @@ module _ (asked : Option Asked) (g : Given) (faults_before faults_after : Faults
   why-planned planned noted line (bad_script n good asks short bad) = (refl, (λ e. omega arith), (λ e. omega arith))
   why-planned planned noted line (bad_list n some there bad) = (refl, (λ e. omega arith), (λ e. omega arith))
 
-  why-usage : (planned : ℕ) (noted : Note) (line : List ℕ) → Refuses asked g faults_before faults_after planned noted line → planned ≡ 1 → IsFalse (runs_script (plainly asked))
-  why-usage planned noted line (usage good is) e = asks-none asked is
+  why-usage : (planned : ℕ) (noted : Note) (line : List ℕ) → Refuses asked g faults_before faults_after planned noted line → planned ≡ 1 → in_short asked ≡ model.NoScript
+  why-usage planned noted line (usage good is) e = ap in_short is
   why-usage planned noted line (not_read good run rose) e = absurd (omega arith)
   why-usage planned noted line (list_not_read some why) e = absurd (omega arith)
   why-usage planned noted line (too_long good run long) e = absurd (omega arith)
   why-usage planned noted line (bad_script n good asks short bad) e = absurd (omega arith)
   why-usage planned noted line (bad_list n some there bad) e = absurd (omega arith)
 
-  why-not_read : (planned : ℕ) (noted : Note) (line : List ℕ) → Refuses asked g faults_before faults_after planned noted line → planned ≡ 2 → NotRead (plainly asked) g.list g.files faults_before faults_after
+  why-not_read : (planned : ℕ) (noted : Note) (line : List ℕ) → Refuses asked g faults_before faults_after planned noted line → planned ≡ 2 → NotRead (in_short asked) g.list g.files faults_before faults_after
   why-not_read planned noted line (usage good is) e = absurd (omega arith)
-  why-not_read planned noted line (not_read good run rose) e = inl (asks-run asked run, rose)
+  why-not_read planned noted line (not_read good run rose) e = inl (ap in_short run, rose)
   why-not_read planned noted line (list_not_read some why) e = inr (some, why)
   why-not_read planned noted line (too_long good run long) e = absurd (omega arith)
   why-not_read planned noted line (bad_script n good asks short bad) e = absurd (omega arith)
@@ -84,11 +85,11 @@ module _ (asked : Option Asked) (g : Given) (faults_before faults_after : Faults
   why-script planned noted line (bad_script n good asks short bad) e = (n, refl, bad)
   why-script planned noted line (bad_list n some there bad) e = absurd (omega arith)
 
-  why-long : (planned : ℕ) (noted : Note) (line : List ℕ) → Refuses asked g faults_before faults_after planned noted line → planned ≡ 8 → IsTrue (reads_source (plainly asked)) × IfSome g.script (λ bytes. IsTrue (is_too_long bytes))
+  why-long : (planned : ℕ) (noted : Note) (line : List ℕ) → Refuses asked g faults_before faults_after planned noted line → planned ≡ 8 → (in_short asked ≡ model.Source) × IfSome g.script (λ bytes. IsTrue (is_too_long bytes))
   why-long planned noted line (usage good is) e = absurd (omega arith)
   why-long planned noted line (not_read good run rose) e = absurd (omega arith)
   why-long planned noted line (list_not_read some why) e = absurd (omega arith)
-  why-long planned noted line (too_long good run long) e = (asks-run asked run, long)
+  why-long planned noted line (too_long good run long) e = (ap in_short run, long)
   why-long planned noted line (bad_script n good asks short bad) e = absurd (omega arith)
   why-long planned noted line (bad_list n some there bad) e = absurd (omega arith)
 
@@ -149,17 +150,17 @@ module _ (asked : Option Asked) (g : Given) (faults_before faults_after : Faults
   alone planned noted line status taken_before taken_after low high (bad_list n some there bad) p =
       noted_alone.BadList n (by-plan line planned status taken_before taken_after low high p (λ k. (k == 13) || ((k == 3) || (k == 9))) refl refl refl) some bad
 
-  bad-words : (planned : ℕ) (noted : Note) (line : List ℕ) → Refuses asked g faults_before faults_after planned noted line → IsFalse (runs_script (plainly asked)) → IsTrue ((planned == 1) || (may_fail_before planned || (planned == 13)))
+  bad-words : (planned : ℕ) (noted : Note) (line : List ℕ) → Refuses asked g faults_before faults_after planned noted line → in_short asked ≡ model.NoScript → IsTrue ((planned == 1) || (may_fail_before planned || (planned == 13)))
   bad-words planned noted line (usage good is) e = refl
-  bad-words planned noted line (not_read good run rose) e = absurd (false≢true (sym e ∙ asks-turns asked (inl run)))
+  bad-words planned noted line (not_read good run rose) e = absurd (asks-turns asked (inl run) e)
   bad-words planned noted line (list_not_read some why) e = refl
-  bad-words planned noted line (too_long good run long) e = absurd (false≢true (sym e ∙ asks-turns asked (inl run)))
-  bad-words planned noted line (bad_script n good asks short bad) e = absurd (false≢true (sym e ∙ asks-turns asked asks))
+  bad-words planned noted line (too_long good run long) e = absurd (asks-turns asked (inl run) e)
+  bad-words planned noted line (bad_script n good asks short bad) e = absurd (asks-turns asked asks e)
   bad-words planned noted line (bad_list n some there bad) e = refl
 
-  longer : (planned : ℕ) (noted : Note) (line : List ℕ) → Refuses asked g faults_before faults_after planned noted line → IsTrue (runs_script (plainly asked)) → (bytes : List ℕ) → g.script ≡ Some bytes → IsTrue (is_too_long bytes)
+  longer : (planned : ℕ) (noted : Note) (line : List ℕ) → Refuses asked g faults_before faults_after planned noted line → in_short asked ≢ model.NoScript → (bytes : List ℕ) → g.script ≡ Some bytes → IsTrue (is_too_long bytes)
       → IsTrue ((planned == 8) || (may_fail_before planned || (planned == 13)))
-  longer planned noted line (usage good is) runs bytes told e = absurd (false≢true (sym (asks-none asked is) ∙ runs))
+  longer planned noted line (usage good is) runs bytes told e = absurd (runs (ap in_short is))
   longer planned noted line (not_read good run rose) runs bytes told e = refl
   longer planned noted line (list_not_read some why) runs bytes told e = refl
   longer planned noted line (too_long good run long) runs bytes told e = refl
@@ -167,9 +168,9 @@ module _ (asked : Option Asked) (g : Given) (faults_before faults_after : Faults
       absurd (false≢true (sym (some-at g.script (λ b. is_too_long b ≡ false) bytes short told) ∙ e))
   longer planned noted line (bad_list n some there bad) runs bytes told e = refl
 
-  no-script : (planned : ℕ) (noted : Note) (line : List ℕ) → Refuses asked g faults_before faults_after planned noted line → IsTrue (runs_script (plainly asked))
+  no-script : (planned : ℕ) (noted : Note) (line : List ℕ) → Refuses asked g faults_before faults_after planned noted line → in_short asked ≢ model.NoScript
       → IsTrue ((planned == 4) || ((planned == 8) || (may_fail_before planned || (planned == 13))))
-  no-script planned noted line (usage good is) runs = absurd (false≢true (sym (asks-none asked is) ∙ runs))
+  no-script planned noted line (usage good is) runs = absurd (runs (ap in_short is))
   no-script planned noted line (not_read good run rose) runs = refl
   no-script planned noted line (list_not_read some why) runs = refl
   no-script planned noted line (too_long good run long) runs = refl
@@ -179,7 +180,7 @@ module _ (asked : Option Asked) (g : Given) (faults_before faults_after : Faults
   -- ---- nothing ran
 
   module _ (status : ℕ) (noted : Note) (counts : Counts) where
-    starved-ends : status ≡ 9 → noted ≡ note.Nothing → EndsAs (plainly asked) g.list g.files g.script status noted [] counts counts faults_before faults_after
+    starved-ends : status ≡ 9 → noted ≡ note.Nothing → EndsAs (in_short asked) g.list g.files g.script status noted [] counts counts faults_before faults_after
     starved-ends nine quiet =
         let holds = λ (f : ℕ → Bool) (h : IsTrue (f 9)). subst (λ (k : ℕ). IsTrue (f k)) (sym nine) h in
         record {
@@ -208,7 +209,7 @@ module _ (asked : Option Asked) (g : Given) (faults_before faults_after : Faults
         }
 
     pub refused-ends : (planned : ℕ) (line : List ℕ) (taken_before taken_after : Option (List ℕ)) → Refuses asked g faults_before faults_after planned noted line → Prints line planned status taken_before taken_after faults_before.sink faults_after.sink
-        → EndsAs (plainly asked) g.list g.files g.script status noted [] counts counts faults_before faults_after
+        → EndsAs (in_short asked) g.list g.files g.script status noted [] counts counts faults_before faults_after
     refused-ends planned line taken_before taken_after why prints =
         let known = why-planned planned noted line why in
         let holds = by-plan line planned status taken_before taken_after faults_before.sink faults_after.sink prints in
@@ -251,8 +252,8 @@ all-from : {X : Type 0} (f : X → Bool) (xs : List X) → ((n : ℕ) (x : X) �
 all-from f [] h = refl
 all-from f (x ∷ xs) h = and_from (f x) (list_all f xs) (h 0 x refl) (all-from f xs (λ n y is. h (suc n) y is))
 
-module _ (passes : List ℕ → Bool) (tells : Bool) (asked : Option Asked) (g : Given) (journal : List Turn) (status : ℕ) (noted : Note) (old new : Moment) (taken_before taken_after : Option (List ℕ)) (faults_before faults_after : Faults) (calls : List Call) (from : ℕ)
-    (before : faults_before.files ≤ from) (turns : Ran passes tells g.files journal old new from faults_after.files) (ended : Ended calls journal status noted) where
+module _ (passes : List ℕ → Bool) (tells : Bool) (asked : Option Asked) (g : Given) (journal : List Turn) (status : ℕ) (noted : Note) (old new : TurnMoment) (taken_before taken_after : Option (List ℕ)) (faults_before faults_after : Faults) (calls : List Call) (from : ℕ)
+    (before : faults_before.files ≤ from) (turns : Ran passes tells g.files journal old new from faults_after.files) (ended : ScriptEnded calls journal status noted) where
   is : IsTrue (is_ran status)
   is = ran-status calls journal status noted ended
 
@@ -292,12 +293,12 @@ module _ (passes : List ℕ → Bool) (tells : Bool) (asked : Option Asked) (g :
       ]
 
   ran-ends : HasGoodList g.list g.files → AsksTurns asked → HasCalls g.script calls → Printed journal status taken_before taken_after faults_before.sink faults_after.sink
-      → EndsAs (plainly asked) g.list g.files g.script status noted journal old.counts new.counts faults_before faults_after
+      → EndsAs (in_short asked) g.list g.files g.script status noted journal old.counts new.counts faults_before faults_after
   ran-ends good asks has printed = record {
     does = some-from g.script _ (λ bytes told others reads.
         let same : calls ≡ others = same-calls calls others (sym (has-calls bytes told).1 ∙ reads) in
         record { calls = (ended.calls.0, ended.calls.1 ∙ same); all_calls = λ zero_is. ended.all_calls zero_is ∙ same });
-    untouched = λ empty. ap (λ (m : Moment). m.counts) (turns.untouched empty);
+    untouched = λ empty. ap (λ (m : TurnMoment). m.counts) (turns.untouched empty);
     made = turns.made;
     lost_turns = turns.lost_turns;
     fault_turns = turns.fault_turns;
@@ -315,7 +316,7 @@ module _ (passes : List ℕ → Bool) (tells : Bool) (asked : Option Asked) (g :
     too_long = λ e. absurd (false≢true (ran-at status 8 is e));
     lacks_list = λ lacks. absurd (good.there lacks);
     refuses_list = some-from (list_bytes g.list g.files) _ (λ bytes told n bad. absurd (good-list asked g faults_before faults_after good bytes n told bad));
-    refuses_words = λ words. absurd (false≢true (sym words ∙ asks-turns asked asks));
+    refuses_words = λ words. absurd (asks-turns asked asks words);
     refuses_longer = λ runs. some-from g.script _ (λ bytes told long. absurd (false≢true (sym (has-calls bytes told).0 ∙ long)));
     refuses_script = λ runs. some-from g.script _ (λ bytes told n bad. let both = sym (has-calls bytes told).1 ∙ bad in absurd (cc));
     sink_fault = λ three. raised-rose faults_before.sink faults_after.sink (printed.count.failed three);
@@ -327,10 +328,10 @@ module _ (passes : List ℕ → Bool) (tells : Bool) (asked : Option Asked) (g :
 -- ---- whichever way
 
 module _ (asked : Option Asked) (g : Given) (end : Ending Note) (old new : World) where
-  none-ends : end.journal ≡ [] → new.flash ≡ old.flash → EndsAs (plainly asked) g.list g.files g.script end.status end.noted [] old.flash.counts old.flash.counts old.faults new.faults → EndsHold asked g end old new
+  none-ends : end.journal ≡ [] → new.flash ≡ old.flash → EndsAs (in_short asked) g.list g.files g.script end.status end.noted [] old.flash.counts old.flash.counts old.faults new.faults → EndsHold asked g end old new
   none-ends empty same h =
       subst (λ (j : List Turn). EndsHold asked g (record end { journal = j }) old new) (sym empty)
-      (subst (λ (m : Moment). EndsHold asked g (record end { journal = [] }) old (record new { flash = m })) (sym same) h)
+      (subst (λ (m : TurnMoment). EndsHold asked g (record end { journal = [] }) old (record new { flash = m })) (sym same) h)
 
 pub ways-end : WaysEnd
 ways-end passes tells asked g end old new (starved empty same nine quiet stuck) =

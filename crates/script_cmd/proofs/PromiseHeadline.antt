@@ -13,7 +13,9 @@ use Rattle.fwu_model.specs.Seen.{SoundFlash}
 use Rattle.fwu_model.specs.Call.{Call}
 use Rattle.fwu_model.specs.Call as call
 use Rattle.fwu_model.specs.Reply.{Turn}
-use Rattle.fwu_model.specs.Wrote.{may_lack, script_asked}
+use Rattle.fwu_model.specs.Asked as model
+use Rattle.fwu_model.specs.Asked.{script_asked}
+use Rattle.fwu_model.specs.Wrote.{may_lack}
 use Rattle.fwu_model.specs.Run.{Condition, start_of}
 use Rattle.fwu_model.specs.Contract.{Premises, Asks, ByScript, ByBoot}
 use Rattle.fwu_model.specs.Headline.{Headline, IsPrefixOf, LeavesOneOf}
@@ -24,9 +26,9 @@ use Rattle.fwu_model.proofs.Frame.{calm-stays, start-is-calm}
 use Rattle.fwu_model.proofs.Selects.{runs-select}
 use Rattle.fwu_formats.proofs.Read.{layout-fits}
 use Rattle.fwu_words.specs.Order.{Asked}
-use Rattle.script_runs.specs.Refusing.{plainly}
-use Rattle.script_turns.specs.Powered.{Moment, Shows, at}
-use Rattle.script_runs.specs.Running.{Ended}
+use Rattle.script_runs.specs.Refusing.{in_short}
+use Rattle.script_turns.specs.Powered.{TurnMoment, ShowsCondition, at}
+use Rattle.script_runs.specs.Running.{ScriptEnded}
 use Rattle.script_turns.specs.Runs.{Ran, StartsSound, calls_of}
 use Rattle.script_runs.specs.Ways.{HasCalls, starved, refused, ran}
 use Rattle.script_cmd.specs.Promises.{given_to, HeadlineHolds, WaysKeepTheHeadline, outcome}
@@ -38,9 +40,9 @@ use Rattle.script_cmd.proofs.PromiseEnds.{why-planned}
 
 -- ---- the calls
 
-asked-calls : (words : List (List ℕ)) (source : Option (List ℕ)) (calls mine : List Call) → Asks words source calls → HasCalls (script_asked words source) mine → mine ≡ calls
-asked-calls words source calls mine (ByScript is) has = same-calls mine calls (sym has.1 ∙ is)
-asked-calls words source calls mine ByBoot has = same-calls mine (call.Boot ∷ []) (sym has.1 ∙ boot-is-script)
+asked-calls : (asked : model.ScriptAsked) (source : Option (List ℕ)) (calls mine : List Call) → Asks asked source calls → HasCalls (script_asked asked source) mine → mine ≡ calls
+asked-calls asked source calls mine (ByScript is) has = same-calls mine calls (sym has.1 ∙ is)
+asked-calls asked source calls mine ByBoot has = same-calls mine (call.Boot ∷ []) (sym has.1 ∙ boot-is-script)
 
 -- ---- the start
 
@@ -51,13 +53,13 @@ pub fits : (E : Setting) (t : Told) → SoundFlash E t.now → IsTrue (fits_layo
 fits E t sound = layout-fits (block 0 t.now) (length t.now / 4096) E.layout sound.layout
 
 -- what the flash of a run may show after a loss
-pub left-by : (E : Setting) (c : Condition) (on : Option Fields) (t : Told) → Shows E c on t → LeavesOneOf E c.candidates t
+pub left-by : (E : Setting) (c : Condition) (on : Option Fields) (t : Told) → ShowsCondition E c on t → LeavesOneOf E c.candidates t
 left-by E c None t shows = shows.1
 left-by E c (Some f) t shows = subst (λ (states : List State). LeavesOneOf E states t) (sym shows.one) (calm-stays E t shows.state shows.ready.calm)
 
 -- ---- from a sound flash
 
-module _ (passes : List ℕ → Bool) (tells : Bool) (files : Option (List ℕ → Option (List ℕ))) (status : ℕ) (old : Moment) (told : IsTrue tells) (E : Setting) (start : State) (calls : List Call) where
+module _ (passes : List ℕ → Bool) (tells : Bool) (files : Option (List ℕ → Option (List ℕ))) (status : ℕ) (old : TurnMoment) (told : IsTrue tells) (E : Setting) (start : State) (calls : List Call) where
   none-head : (status ≡ 0 → [] ≡ calls) → Premises E start old.told files passes old.counts old.counts → Headline E start (outcome calls [] status old old)
   none-head all given = record {
     calls = (calls, refl);
@@ -70,15 +72,15 @@ module _ (passes : List ℕ → Bool) (tells : Bool) (files : Option (List ℕ �
   }
 
   -- no turn ran
-  pub idle-head : (journal : List Turn) (new : Moment) → journal ≡ [] → new ≡ old → (status ≡ 0 → [] ≡ calls) → Premises E start old.told files passes old.counts new.counts
+  pub idle-head : (journal : List Turn) (new : TurnMoment) → journal ≡ [] → new ≡ old → (status ≡ 0 → [] ≡ calls) → Premises E start old.told files passes old.counts new.counts
       → Headline E start (outcome calls journal status old new)
   idle-head journal new empty same all given =
       subst (λ (j : List Turn). Headline E start (outcome calls j status old new)) (sym empty)
-      (subst (λ (m : Moment). Headline E start (outcome calls [] status old m)) (sym same)
-      (none-head all (subst (λ (m : Moment). Premises E start old.told files passes old.counts m.counts) same given)))
+      (subst (λ (m : TurnMoment). Headline E start (outcome calls [] status old m)) (sym same)
+      (none-head all (subst (λ (m : TurnMoment). Premises E start old.told files passes old.counts m.counts) same given)))
 
   -- the turns do the first of these calls
-  pub ran-head : (journal : List Turn) (new : Moment) (on : Option Fields) (from to : ℕ) → IsPrefixOf (calls_of journal) calls → (status ≡ 0 → calls_of journal ≡ calls)
+  pub ran-head : (journal : List Turn) (new : TurnMoment) (on : Option Fields) (from to : ℕ) → IsPrefixOf (calls_of journal) calls → (status ≡ 0 → calls_of journal ≡ calls)
       → Ran passes tells files journal old (at on new.told new.counts new.armed new.power) from to → Premises E start old.told files passes old.counts new.counts
       → Headline E start (outcome calls journal status old new)
   ran-head journal new on from to front all turns given =
@@ -101,19 +103,19 @@ abbrev no-faults : Faults
 no-faults = record { files = 0; source = 0; sink = 0 }
 
 -- the headline, of what it speaks of alone
-abbrev HoldsFor : (List ℕ → Bool) → Bool → Option Asked → Option (List ℕ → Option (List ℕ)) → Option (List ℕ) → List Turn → ℕ → Moment → Moment → Type 0
+abbrev HoldsFor : (List ℕ → Bool) → Bool → Option Asked → Option (List ℕ → Option (List ℕ)) → Option (List ℕ) → List Turn → ℕ → TurnMoment → TurnMoment → Type 0
 HoldsFor passes tells asked files source journal status old new =
     HeadlineHolds passes tells (inputs-of asked None files source) (end-of journal status note.Nothing) (world-of old None no-faults) (world-of new None no-faults)
 
-module _ (passes : List ℕ → Bool) (tells : Bool) (asked : Option Asked) (files : Option (List ℕ → Option (List ℕ))) (source : Option (List ℕ)) (status : ℕ) (old : Moment) where
-  none-keeps : (journal : List Turn) (new : Moment) → journal ≡ [] → new ≡ old → status ≢ 0 → HoldsFor passes tells asked files source journal status old new
+module _ (passes : List ℕ → Bool) (tells : Bool) (asked : Option Asked) (files : Option (List ℕ → Option (List ℕ))) (source : Option (List ℕ)) (status : ℕ) (old : TurnMoment) where
+  none-keeps : (journal : List Turn) (new : TurnMoment) → journal ≡ [] → new ≡ old → status ≢ 0 → HoldsFor passes tells asked files source journal status old new
   none-keeps journal new empty same not_done told E start calls given asks =
       idle-head passes tells files status old told E start calls journal new empty same (λ e. absurd (not_done e)) given
 
-  ran-keeps : (journal : List Turn) (noted : Note) (new : Moment) (mine : List Call) (on : Option Fields) (from to : ℕ) → HasCalls (script_asked (plainly asked) source) mine
-      → Ran passes tells files journal old (at on new.told new.counts new.armed new.power) from to → Ended mine journal status noted → HoldsFor passes tells asked files source journal status old new
+  ran-keeps : (journal : List Turn) (noted : Note) (new : TurnMoment) (mine : List Call) (on : Option Fields) (from to : ℕ) → HasCalls (script_asked (in_short asked) source) mine
+      → Ran passes tells files journal old (at on new.told new.counts new.armed new.power) from to → ScriptEnded mine journal status noted → HoldsFor passes tells asked files source journal status old new
   ran-keeps journal noted new mine on from to has turns ended told E start calls given asks =
-      let same : mine ≡ calls = asked-calls (plainly asked) source calls mine asks has in
+      let same : mine ≡ calls = asked-calls (in_short asked) source calls mine asks has in
       ran-head passes tells files status old told E start calls journal new on from to (ended.calls.0, ended.calls.1 ∙ same) (λ e. ended.all_calls e ∙ same) turns given
 
 pub ways-keep-the-headline : WaysKeepTheHeadline

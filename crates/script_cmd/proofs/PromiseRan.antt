@@ -1,5 +1,5 @@
 -- What holds of the turns of a run, whichever way it ended.
-use Rattle.std.proofs.Common.{◌≡◌, ◌≢◌, ◌≤◌, ℕ, Bool, true, false, List, [], Contains, Option, Some, None, IsTrue, slice_get, refl, sym, ap, subst, arith}
+use Rattle.std.proofs.Common.{◌≡◌, ◌≢◌, ◌≤◌, ℕ, Bool, true, false, List, [], Contains, Option, Some, None, IsTrue, slice_get, inl, refl, sym, ap, subst, arith}
 use Rattle.std.proofs.lemmas.Bool.{false≢true}
 use Rattle.flash_core.specs.Told.{Told, NothingDirty}
 use Rattle.flash_core.specs.May.{Guards}
@@ -9,26 +9,26 @@ use Rattle.fwu_model.specs.declared.kinds.Note.{Note}
 use Rattle.fwu_words.specs.Order.{Asked}
 use Rattle.agent_machine.specs.Fields.{Fields}
 use Rattle.host_io.specs.Contents.{Directory}
-use Rattle.script_turns.specs.Powered.{IsSafe, Moment, SameDevice, at}
+use Rattle.script_turns.specs.Powered.{IsSafe, TurnMoment, SameDevice, at}
 use Rattle.script_turns.specs.Runs.{Ran, RunsFree}
 use Rattle.script_runs.specs.Ending.{Ending, World}
 use Rattle.script_runs.specs.Ways.{Given, Way, starved, refused, ran}
-use Rattle.script_cmd.specs.Promises.{LeavesDevice, RanHolds, WaysBootFirst, WaysGuard, WaysLeaveTheDevice, WaysReply}
+use Rattle.script_cmd.specs.Promises.{RunLeaves, RanHolds, WaysBootFirst, WaysGuard, WaysLeaveTheDevice, WaysReply}
 use Rattle.flash_commands.proofs.ShowFlash.{clean-sure}
 
 -- ---- the device
 
-same-device : (old : Moment) → SameDevice old old
+same-device : (old : TurnMoment) → SameDevice old old
 same-device old = record { told = refl; counts = refl; armed = refl; power = refl }
 
-free-none : (old : Moment) → old.armed ≡ None → RunsFree [] old old
+free-none : (old : TurnMoment) → old.armed ≡ None → RunsFree [] old old
 free-none old unarmed = record { armed = unarmed; reached = refl; lost = λ t in_it is. absurd (no-turn t in_it) }
   where
     no-turn : (t : Turn) → Contains [] t → ⊥
     no-turn t (k, below, is) = omega arith
 
-none-leaves : (tells : Bool) (old : Moment) → LeavesDevice tells [] old old
-none-leaves tells old = record { untouched = λ none. same-device old; power = refl; once = omega arith; guard = λ told. refl; free = λ unarmed none. free-none old unarmed }
+none-leaves : (tells : Bool) (old : TurnMoment) → RunLeaves tells [] old old
+none-leaves tells old = record { untouched = λ none. same-device old; power = refl; once = omega arith; guard = λ told. refl; free = λ unarmed none. free-none old unarmed; due = inl (omega arith) }
 
 -- ---- what a loss may harm
 
@@ -66,7 +66,7 @@ none-holds passes tells files old new = record {
 pub idle-holds : (passes : List ℕ → Bool) (tells : Bool) (files : Option Directory) (journal : List Turn) (old new : World) → journal ≡ [] → new.flash ≡ old.flash → RanHolds passes tells files journal old new
 idle-holds passes tells files journal old new empty same =
     subst (λ (turns : List Turn). RanHolds passes tells files turns old new) (sym empty)
-    (subst (λ (m : Moment). RanHolds passes tells files [] old (record new { flash = m })) (sym same) (none-holds passes tells files old new))
+    (subst (λ (m : TurnMoment). RanHolds passes tells files [] old (record new { flash = m })) (sym same) (none-holds passes tells files old new))
 
 -- ---- turns ran
 
@@ -77,13 +77,14 @@ ran-holds passes tells files journal on from to old new before after turns = rec
   device = record {
     untouched = λ empty.
         let same = turns.untouched empty in
-        record { told = ap (λ (m : Moment). m.told) same; counts = ap (λ (m : Moment). m.counts) same; armed = ap (λ (m : Moment). m.armed) same; power = ap (λ (m : Moment). m.power) same };
+        record { told = ap (λ (m : TurnMoment). m.told) same; counts = ap (λ (m : TurnMoment). m.counts) same; armed = ap (λ (m : TurnMoment). m.armed) same; power = ap (λ (m : TurnMoment). m.power) same };
     power = turns.power;
     once = turns.once;
     guard = turns.guard;
     free = λ unarmed none.
         let ran_free = turns.free unarmed none in
         record { armed = ran_free.armed; reached = ran_free.reached; lost = ran_free.lost };
+    due = turns.due;
   };
   first = turns.first;
   guarded = λ told clean guards. safe-guarded new.flash.power new.flash.told (turns.safe told clean guards);

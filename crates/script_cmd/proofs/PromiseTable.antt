@@ -19,10 +19,10 @@ use Rattle.fwu_model.specs.Causes.{IsServed}
 use Rattle.fwu_model.specs.Contract.{Premises}
 use Rattle.fwu_model.specs.Headline.{Headline, made_after}
 use Rattle.script_runs.specs.declared.done.Note.{Note}
-use Rattle.script_runs.specs.Refusing.{plainly}
+use Rattle.script_runs.specs.Refusing.{in_short}
 use Rattle.script_runs.specs.ByTable.{Starts, StopsMending, Wakes, lacked_by, lacked_in, lacked_of, seen_at}
 use Rattle.script_runs.specs.Noted.{noted}
-use Rattle.script_turns.specs.Powered.{Moment}
+use Rattle.script_turns.specs.Powered.{TurnMoment}
 use Rattle.script_cmd.specs.Promises.{given_to, outcome}
 use Rattle.script_cmd.specs.PromisesByTable.{CompleteByTable, HeadlineByTable, KeepsFlash, KeptByTable, PromisedByTable, RunsByTable, TableGives}
 use Rattle.script_runs.specs.Ending.{Device, Ending, World, in_model}
@@ -58,7 +58,7 @@ module _ (passes : List ℕ → Bool) (device : Device) (inputs : Inputs) (end :
   not-begun (inl some) none other = some none
   not-begun (inr zero_is) none other = other zero_is
 
-  start-seen : (p : Places) (start : Moment) → Starts device.tells device.blocks old.flash p start → IsTrue device.tells → NothingDirty old.flash.told → view_of p start.told ≡ view_of p old.flash.told
+  start-seen : (p : Places) (start : TurnMoment) → Starts device.tells device.blocks old.flash p start → IsTrue device.tells → NothingDirty old.flash.told → view_of p start.told ≡ view_of p old.flash.told
   start-seen p start starts told clean =
       repair-leaves device.blocks starts.has.table starts.has.which p starts.woken start.told starts.has.gives (woken-clean old.flash.told starts.woken (starts.wakes told)) (starts.clean told) (starts.beside told)
       ∙ ap (view_of p) (woken-same old.flash.told starts.woken clean (starts.wakes told))
@@ -79,7 +79,7 @@ module _ (passes : List ℕ → Bool) (device : Device) (inputs : Inputs) (end :
   }
 
   -- the places of the run are those of the table that was handed in
-  module _ (told : IsTrue device.tells) (clean : NothingDirty old.flash.told) (p q : Places) (start : Moment) (starts : Starts device.tells device.blocks old.flash q start) (gives : TableGives device.blocks old.flash.told.now p) where
+  module _ (told : IsTrue device.tells) (clean : NothingDirty old.flash.told) (p q : Places) (start : TurnMoment) (starts : Starts device.tells device.blocks old.flash q start) (gives : TableGives device.blocks old.flash.told.now p) where
     found-places : q ≡ p
     found-places =
         let there : table_in_image device.blocks old.flash.told.now ≡ Some (starts.has.table, starts.has.which) = subst (λ (image : List ℕ). table_in_image device.blocks image ≡ Some (starts.has.table, starts.has.which)) (woken-now old.flash.told starts.woken clean (starts.wakes told)) (starts.has.decides told) in
@@ -99,7 +99,7 @@ module _ (passes : List ℕ → Bool) (device : Device) (inputs : Inputs) (end :
         })
 
   -- the same headline, counted from where the device was handed in
-  headline-from : (E : Setting) (s : State) (calls : List Call) (p : Places) (start : Moment) → start.counts.made ≡ old.flash.counts.made → Headline E s (outcome calls end.journal end.status (seen_at p start) (seen_at p new.flash))
+  headline-from : (E : Setting) (s : State) (calls : List Call) (p : Places) (start : TurnMoment) → start.counts.made ≡ old.flash.counts.made → Headline E s (outcome calls end.journal end.status (seen_at p start) (seen_at p new.flash))
       → Headline E s (outcome calls end.journal end.status (seen_at p old.flash) (seen_at p new.flash))
   headline-from E s calls p start made holds = record {
     calls = holds.calls;
@@ -121,11 +121,11 @@ module _ (passes : List ℕ → Bool) (device : Device) (inputs : Inputs) (end :
 
   -- ---- all is done
 
-  served-from : (calls : List Call) (p q : Places) (start : Moment) (script : List ℕ) → old.flash.counts.faults ≤ start.counts.faults
-      → IsServed (outcome calls end.journal end.status (seen_at p old.flash) (seen_at p new.flash)) (plainly inputs.asked) inputs.list inputs.files script old.faults new.faults
-      → IsServed (outcome calls end.journal end.status (seen_at q start) (seen_at q new.flash)) (plainly inputs.asked) inputs.list inputs.files script old.faults new.faults
+  served-from : (calls : List Call) (p q : Places) (start : TurnMoment) (script : List ℕ) → old.flash.counts.faults ≤ start.counts.faults
+      → IsServed (outcome calls end.journal end.status (seen_at p old.flash) (seen_at p new.flash)) (in_short inputs.asked) inputs.list inputs.files script old.faults new.faults
+      → IsServed (outcome calls end.journal end.status (seen_at q start) (seen_at q new.flash)) (in_short inputs.asked) inputs.list inputs.files script old.faults new.faults
   served-from calls p q start script later served = record {
-    words_are = served.words_are;
+    runs = served.runs;
     script_is = served.script_is;
     short = served.short;
     list_is = served.list_is;
@@ -197,7 +197,7 @@ module _ (passes : List ℕ → Bool) (device : Device) (inputs : Inputs) (end :
     kept-stopped woken wakes (inr stops) = kept-mending woken wakes stops
 
   kept-by-table : Ends → KeptByTable device end old.flash new.flash
-  kept-by-table (untouched none same other beyond w) told p clean gives empty some = kept-same p clean gives new.flash.told (subst (λ (m : Moment). NothingDirty m.told) (sym same) clean) (ap (λ (m : Moment). m.told.now) same)
+  kept-by-table (untouched none same other beyond w) told p clean gives empty some = kept-same p clean gives new.flash.told (subst (λ (m : TurnMoment). NothingDirty m.told) (sym same) clean) (ap (λ (m : TurnMoment). m.told.now) same)
   kept-by-table (starved calls reads none looks nine quiet same) told p clean gives empty some = kept-woken p clean gives new.flash.told (looks.wakes told)
   kept-by-table (lacked calls why reads none looks lacks noted_is prints) told p clean gives empty some = kept-woken p clean gives new.flash.told (looks.wakes told)
   kept-by-table (stopped calls reads none stops noted_is prints) told p clean gives empty some = kept-stopped p clean gives stops.woken (stops.wakes told) (stops.left told)

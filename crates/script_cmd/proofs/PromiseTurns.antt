@@ -6,7 +6,7 @@ use Rattle.fwu_model.specs.Reply as reply
 use Rattle.fwu_model.specs.declared.kinds.Note.{Note}
 use Rattle.fwu_model.specs.Wrote.{may_lack, ends_early}
 use Rattle.fwu_model.specs.Causes.{status_by}
-use Rattle.script_runs.specs.Running.{status_of_last, last_turn, Ended}
+use Rattle.script_runs.specs.Running.{status_of_last, last_turn, ScriptEnded}
 use Rattle.fwu_model.specs.Call.{Call}
 
 -- ---- the last turn
@@ -39,7 +39,7 @@ lack-cases status lacks = elim (or_cases (status == 3) (status == 9) lacks) [
   | inr e ↦ inr (eqb-true status 9 e)
 ]
 
-pub ran-status : (script : List Call) (journal : List Turn) (status : ℕ) (noted : Note) → Ended script journal status noted → IsTrue (is_ran status)
+pub ran-status : (script : List Call) (journal : List Turn) (status : ℕ) (noted : Note) → ScriptEnded script journal status noted → IsTrue (is_ran status)
 ran-status script journal status noted ended =
     elim (cases_Bool (may_lack status)) [
       | inl lacks ↦ elim (lack-cases status lacks) [
@@ -54,7 +54,7 @@ ran-status script journal status noted ended =
     by-last (Some t) is status_is = subst (λ (k : ℕ). IsTrue (is_ran k)) (sym status_is) (reply-status t.reply)
 
 -- without a turn the turns of a script end with 0
-pub none-ended : (script : List Call) (journal : List Turn) (status : ℕ) (noted : Note) → journal ≡ [] → status ≢ 0 → Ended script journal status noted → ⊥
+pub none-ended : (script : List Call) (journal : List Turn) (status : ℕ) (noted : Note) → journal ≡ [] → status ≢ 0 → ScriptEnded script journal status noted → ⊥
 none-ended script journal status noted none other ended = elim (cases_Bool (may_lack status)) [
   | inl lacks ↦ ended.some lacks none
   | inr whole ↦ other (ended.status_is whole ∙ ap (λ (j : List Turn). status_of_last (last_turn j)) none)

@@ -14,7 +14,7 @@ use Rattle.fwu_model.specs.Wrote.{Wrote, StopsAlone, may_lack, not_read_line, us
 use Rattle.fwu_words.specs.Order.{Asked}
 use Rattle.script_runs.specs.Ending.{World}
 use Rattle.host_io.specs.Printed.{Prints, all, front, nothing}
-use Rattle.script_runs.specs.Running.{Writes}
+use Rattle.script_runs.specs.Running.{WritesLines}
 use Rattle.script_runs.specs.Ways.{Given, Refuses, usage, not_read, list_not_read, too_long, bad_script, bad_list, starved, refused, ran}
 use Rattle.script_cmd.specs.Promises.{WroteHolds, WaysWrite}
 use Rattle.script_runs.proofs.Shapes.{end-of}
@@ -28,7 +28,7 @@ appended (Some xs) (Some ys) piece before is appends = ap Some (appends ∙ ap (
 module _ (Alone : ℕ → Note → List ℕ → Type 0) (script list : Option (List ℕ)) (status : ℕ) (noted : Note) where
   -- ---- turns ran
 
-  wrote-turns : (journal : List Turn) (w : List ℕ) → IsTrue (is_ran status) → (journal ≡ [] → status ≡ 2 → ⊥) → Writes journal status w → Wrote Alone script list status noted journal w
+  wrote-turns : (journal : List Turn) (w : List ℕ) → IsTrue (is_ran status) → (journal ≡ [] → status ≡ 2 → ⊥) → WritesLines journal status w → Wrote Alone script list status noted journal w
   unfolding text
   wrote-turns journal w is begun writes = record {
     nothing_ran = λ early. absurd (early-not-ran status early is);

@@ -11,10 +11,10 @@ use Rattle.fwu_model.specs.Headline.{IsPrefixOf}
 use Rattle.fwu_model.specs.Reply.{Reply, Turn}
 use Rattle.fwu_model.specs.Reply as reply
 use Rattle.fwu_wire.specs.Replies.{message}
-use Rattle.script_turns.specs.Powered.{Moment}
+use Rattle.script_turns.specs.Powered.{TurnMoment}
 use Rattle.script_turns.specs.Runs.{calls_of}
 use Rattle.wire_frames.specs.Exchange.{admission}
-use Rattle.wire_frames.specs.Frames.{frame, frames, number_of, numbered}
+use Rattle.wire_frames.specs.Frames.{frame, frames, request_number_of, numbered}
 use Rattle.wire_frames.specs.Stream.{StopsReading}
 use Rattle.wire_frames.specs.declared.exchange.Admission.{Admission}
 use Rattle.wire_frames.specs.declared.exchange.Admission.TheVariants.{Acts, Repeats, Ignored}
@@ -24,12 +24,12 @@ use Rattle.wire_frames.proofs.Once.{Admits, admits}
 use Rattle.wire_frames.proofs.Once as once
 use Rattle.serving.specs.Acting.{OneStop}
 use Rattle.serving.specs.Acting as acts
-use Rattle.serving.specs.Ends.{IsEarly, end_by, end_of_stop, status_of}
-use Rattle.serving.specs.Going.{Goes, ServeEnds, TakesFrames, at_the_end, at_a_request}
+use Rattle.serving.specs.Ends.{IsEarlyEnd, end_by, end_of_stop, status_of}
+use Rattle.serving.specs.Going.{ServesRequests, ServeEnds, TakesFrames, at_the_end, at_a_request}
 use Rattle.serving.specs.Scene.{At, Port, RunAt, Scene, begin_at, unasked}
 use Rattle.serving.specs.Serving.{Puts, ServesAgain, ServesBy, ServesNew, ServesOne, answered, stopped}
-use Rattle.serving.specs.Starting.{Serves, not_started, started}
-use Rattle.serving.specs.Written.{Answers, answered_numbers, calls_for, frame_of, messages_of, written}
+use Rattle.serving.specs.Starting.{ServesFrom, not_started, started}
+use Rattle.serving.specs.Written.{AnswersRequests, answered_numbers, calls_for, frame_of, messages_of, written}
 use Rattle.serving.specs.declared.ends.ServeEnd.{ServeEnd}
 use Rattle.serving.specs.declared.ends.ServeEnd.TheVariants as end
 use Rattle.serving.proofs.Snoc.{frame-last, length-messages, messages-more}
@@ -52,7 +52,7 @@ not-sink (reply.NotBooted why) is = cc
 not-sink reply.Lost is = cc
 not-sink other is = cc
 
-early-some : (e : ServeEnd) → IsEarly e → status_of e ≡ 0 → ⊥
+early-some : (e : ServeEnd) → IsEarlyEnd e → status_of e ≡ 0 → ⊥
 early-some end.End early is = early
 early-some end.ReadFailed early is = omega arith
 early-some end.SinkFailed early is = omega arith
@@ -106,7 +106,7 @@ idle stream rest e journal before after same ends fails some = record {
   some = some;
 }
 
-by-stop : (E : Scene) (start : Moment) (sink : Port) (new : At) (e : ServeEnd) (stream rest : Option (List ℕ)) → OneStop E call.Boot e (begin_at start) new.run → new.sink ≡ sink → Account stream rest e new.run.journal sink.bytes new.sink.bytes
+by-stop : (E : Scene) (start : TurnMoment) (sink : Port) (new : At) (e : ServeEnd) (stream rest : Option (List ℕ)) → OneStop E call.Boot e (begin_at start) new.run → new.sink ≡ sink → Account stream rest e new.run.journal sink.bytes new.sink.bytes
 by-stop E start sink new e stream rest (acts.starved is still) same =
     idle stream rest e new.run.journal sink.bytes new.sink.bytes (ap (λ (p : Port). p.bytes) same) (λ x. cc) (λ x. cc) (λ differs. absurd (differs is))
 by-stop E start sink new e stream rest (acts.ended t one by) same =
@@ -124,7 +124,7 @@ record Last (e : ServeEnd) (turns : List Turn) (old new : At) : Type 0 where
   none : e ≢ end.SinkFailed → part ≡ []
   front : e ≡ end.SinkFailed → (n : ℕ) × (part ≡ take n (last_frame (turns ++ more)))
 
-put-last : (e : ServeEnd) (turns more : List Turn) (old new : At) (piece : List ℕ) → IsEarly e → new.run.journal ≡ old.run.journal ++ more → piece ≡ last_frame (turns ++ more) → Puts piece (Err e) old.sink new.sink → Last e turns old new
+put-last : (e : ServeEnd) (turns more : List Turn) (old new : At) (piece : List ℕ) → IsEarlyEnd e → new.run.journal ≡ old.run.journal ++ more → piece ≡ last_frame (turns ++ more) → Puts piece (Err e) old.sink new.sink → Last e turns old new
 put-last e turns more old new piece early kept is_frame (all is bytes same) = absurd (early-some e early is)
 put-last e turns more old new piece early kept is_frame (front is n bytes later once) = record {
   more = more;
@@ -174,7 +174,7 @@ frame-of-last turns t number bytes is bytes_are =
     ∙ ap (λ (l : List (List ℕ)). frame_of l number) (sym (messages-more turns t))
     ∙ ap (λ (n : ℕ). frame_of (messages_of (turns ++ t ∷ [])) n) count
 
-new-last : (E : Scene) (number : ℕ) (c : Call) (e : ServeEnd) (turns : List Turn) (old new : At) → IsEarly e → number ≡ length turns + 1 → ServesNew E number c old new (Err e) → Last e turns old new
+new-last : (E : Scene) (number : ℕ) (c : Call) (e : ServeEnd) (turns : List Turn) (old new : At) → IsEarlyEnd e → number ≡ length turns + 1 → ServesNew E number c old new (Err e) → Last e turns old new
 new-last E number c e turns old new early is (answered bytes one exchange puts) =
     put-last e turns (one.turn ∷ []) old new (frame (numbered number bytes)) early one.one.kept (frame-of-last turns one.turn number bytes is one.bytes_are) puts
 new-last E number c e turns old new early is (stopped why stops_by same_end exchange same) =
@@ -183,10 +183,10 @@ new-last E number c e turns old new early is (stopped why stops_by same_end exch
 no-answer : (e : ServeEnd) → ◌≡◌ {A = Result (Unit {0}) ServeEnd} (Err e) (Ok tt) → ⊥
 no-answer e is = cc
 
-one-last : (E : Scene) (body : List ℕ) (e : ServeEnd) (bodies : List (List ℕ)) (turns : List Turn) (old new : At) → IsEarly e → Answers bodies turns old.exchange → Admits old.exchange.last (number_of body) → ServesOne E body old new (Err e)
+one-last : (E : Scene) (body : List ℕ) (e : ServeEnd) (bodies : List (List ℕ)) (turns : List Turn) (old new : At) → IsEarlyEnd e → AnswersRequests bodies turns old.exchange → Admits old.exchange.last (request_number_of body) → ServesOne E body old new (Err e)
     → Last e turns old new
 one-last E body e bodies turns old new early answers (once.next so number) serves =
-    new-last E (number_of body) _ e turns old new early (omega (arith, number, answers.count)) (subst (λ (a : Admission). ServesBy a E body old new (Err e)) so serves)
+    new-last E (request_number_of body) _ e turns old new early (omega (arith, number, answers.count)) (subst (λ (a : Admission). ServesBy a E body old new (Err e)) so serves)
 one-last E body e bodies turns old new early answers (once.again so number some) serves =
     let puts : ServesAgain old new (Err e) = subst (λ (a : Admission). ServesBy a E body old new (Err e)) so serves in
     put-last e turns [] old new old.exchange.reply early (ap (λ (r : RunAt). r.journal) puts.run ∙ sym (append-nil old.run.journal))
@@ -208,9 +208,9 @@ nothing-left (Some xs) is = is
 
 -- ---- requests were served
 
-module _ (E : Scene) (t : Turn) (start : Moment) (old new : At) (e : ServeEnd) (from to : Port) (bodies : List (List ℕ)) where
+module _ (E : Scene) (t : Turn) (start : TurnMoment) (old new : At) (e : ServeEnd) (from to : Port) (bodies : List (List ℕ)) where
   -- and no further frame was read
-  at-end : (mid : Option (List ℕ)) → Goes E (t ∷ []) start bodies old new → TakesFrames bodies from.bytes mid → (e ≡ end.End → IfSome from.bytes (λ s. s ≡ frames bodies) × IfSome to.bytes (λ l. l ≡ [])) → (e ≡ end.SinkFailed → ⊥)
+  at-end : (mid : Option (List ℕ)) → ServesRequests E (t ∷ []) start bodies old new → TakesFrames bodies from.bytes mid → (e ≡ end.End → IfSome from.bytes (λ s. s ≡ frames bodies) × IfSome to.bytes (λ l. l ≡ [])) → (e ≡ end.SinkFailed → ⊥)
       → Account from.bytes to.bytes e new.run.journal old.sink.bytes new.sink.bytes
   at-end mid goes takes ends fails =
       let behind : drop 1 new.run.journal ≡ goes.turns = ap (drop 1) goes.journal_is in
@@ -230,7 +230,7 @@ module _ (E : Scene) (t : Turn) (start : Moment) (old new : At) (e : ServeEnd) (
         some = λ differs none. let all_of : new.run.journal ≡ t ∷ goes.turns = goes.journal_is in cc;
       }
 
-  by-stream : (mid : Option (List ℕ)) (taken : ℕ) (why : FrameStop) → Goes E (t ∷ []) start bodies old new → TakesFrames bodies from.bytes mid → StopsReading why (length (frames bodies)) taken mid to.bytes → e ≡ end_of_stop why
+  by-stream : (mid : Option (List ℕ)) (taken : ℕ) (why : FrameStop) → ServesRequests E (t ∷ []) start bodies old new → TakesFrames bodies from.bytes mid → StopsReading why (length (frames bodies)) taken mid to.bytes → e ≡ end_of_stop why
       → Account from.bytes to.bytes e new.run.journal old.sink.bytes new.sink.bytes
   by-stream mid taken stop.End goes takes stops is =
       at-end mid goes takes
@@ -241,13 +241,13 @@ module _ (E : Scene) (t : Turn) (start : Moment) (old new : At) (e : ServeEnd) (
   by-stream mid taken stop.BadFrame goes takes stops is = at-end mid goes takes (λ x. absurd (cc)) (λ x. cc)
 
   -- or the next request ended it
-  by-request : (body : List ℕ) (mid : At) (goes : Goes E (t ∷ []) start bodies old mid) → TakesFrames (bodies ++ body ∷ []) from.bytes to.bytes → IsEarly e → Last e goes.turns mid new
+  by-request : (body : List ℕ) (mid : At) (goes : ServesRequests E (t ∷ []) start bodies old mid) → TakesFrames (bodies ++ body ∷ []) from.bytes to.bytes → IsEarlyEnd e → Last e goes.turns mid new
       → Account from.bytes to.bytes e new.run.journal old.sink.bytes new.sink.bytes
   by-request body mid goes takes early last =
       let all_of : new.run.journal ≡ t ∷ (goes.turns ++ last.more) = last.journal_is ∙ ap (λ (j : List Turn). j ++ last.more) goes.journal_is in
       let behind : drop 1 new.run.journal ≡ goes.turns ++ last.more = ap (drop 1) all_of in
       let two : frames (bodies ++ body ∷ []) ≡ frames bodies ++ frames (body ∷ []) = flat_map-append frame bodies (body ∷ []) in
-      let goes_on : e ≡ end.End → ⊥ = λ is. subst IsEarly is early in
+      let goes_on : e ≡ end.End → ⊥ = λ is. subst IsEarlyEnd is early in
       record {
         bodies = bodies;
         turns = goes.turns;
@@ -264,13 +264,13 @@ module _ (E : Scene) (t : Turn) (start : Moment) (old new : At) (e : ServeEnd) (
         some = λ differs none. cc;
       }
 
-by-ends : (E : Scene) (t : Turn) (start : Moment) (old new : At) (e : ServeEnd) (from to : Port) → ServeEnds E (t ∷ []) start old new e from to → Account from.bytes to.bytes e new.run.journal old.sink.bytes new.sink.bytes
+by-ends : (E : Scene) (t : Turn) (start : TurnMoment) (old new : At) (e : ServeEnd) (from to : Port) → ServeEnds E (t ∷ []) start old new e from to → Account from.bytes to.bytes e new.run.journal old.sink.bytes new.sink.bytes
 by-ends E t start old new e from to (at_the_end bodies mid why goes takes there is) = by-stream E t start old new e from to bodies mid there.taken why goes takes there.stops is
 by-ends E t start old new e from to (at_a_request bodies body mid goes takes count one early) =
     by-request E t start old new e from to bodies body mid goes takes early
-    (one-last E body e bodies goes.turns mid new early goes.answers (admits mid.exchange.last (number_of body)) one)
+    (one-last E body e bodies goes.turns mid new early goes.answers (admits mid.exchange.last (request_number_of body)) one)
 
-pub account : (E : Scene) (start : Moment) (sink : Port) (new : At) (e : ServeEnd) (from to : Port) → Serves E start sink new e from to → Account from.bytes to.bytes e new.run.journal sink.bytes new.sink.bytes
+pub account : (E : Scene) (start : TurnMoment) (sink : Port) (new : At) (e : ServeEnd) (from to : Port) → ServesFrom E start sink new e from to → Account from.bytes to.bytes e new.run.journal sink.bytes new.sink.bytes
 account E start sink new e from to (not_started stops exchange same unread) = by-stop E start sink new e from.bytes to.bytes stops same
 account E start sink new e from to (started t mid one on ends) = by-ends E t start (unasked mid sink) new e from to ends
 
@@ -285,12 +285,12 @@ request-later E body old new e Acts (stopped why stops_by same_end exchange same
 request-later E body old new e Repeats puts = later old.exchange.reply 0 (status_of e) old.sink.bytes new.sink.bytes old.sink.faults new.sink.faults puts.puts
 request-later E body old new e Ignored both = absurd (no-answer e both.1)
 
-ends-later : (E : Scene) (first : List Turn) (start : Moment) (old new : At) (e : ServeEnd) (from to : Port) → ServeEnds E first start old new e from to → old.sink.faults ≤ new.sink.faults
+ends-later : (E : Scene) (first : List Turn) (start : TurnMoment) (old new : At) (e : ServeEnd) (from to : Port) → ServeEnds E first start old new e from to → old.sink.faults ≤ new.sink.faults
 ends-later E first start old new e from to (at_the_end bodies mid why goes takes there is) = omega (arith, goes.quiet)
 ends-later E first start old new e from to (at_a_request bodies body mid goes takes count one early) =
-    let more = request-later E body mid new e (admission mid.exchange.last (number_of body)) one in
+    let more = request-later E body mid new e (admission mid.exchange.last (request_number_of body)) one in
     omega (arith, goes.quiet, more)
 
-pub sink-later : (E : Scene) (start : Moment) (sink : Port) (new : At) (e : ServeEnd) (from to : Port) → Serves E start sink new e from to → sink.faults ≤ new.sink.faults
+pub sink-later : (E : Scene) (start : TurnMoment) (sink : Port) (new : At) (e : ServeEnd) (from to : Port) → ServesFrom E start sink new e from to → sink.faults ≤ new.sink.faults
 sink-later E start sink new e from to (not_started stops exchange same unread) = stop-quiet sink new.sink same
 sink-later E start sink new e from to (started t mid one on ends) = ends-later E (t ∷ []) start (unasked mid sink) new e from to ends

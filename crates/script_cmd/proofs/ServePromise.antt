@@ -7,7 +7,7 @@ use Rattle.std.proofs.lemmas.List.Elements.{Contains-get_or}
 use Rattle.host_io.specs.Printed.{Prints, all, front, nothing}
 use Rattle.wire_frames.specs.Frames.{Splits, frames}
 use Rattle.serving.specs.Ends.{status_of}
-use Rattle.serving.specs.Holds.{Cause, IsQuiet}
+use Rattle.serving.specs.Holds.{Cause, IsQuietServing}
 use Rattle.serving.specs.Scene.{Port, port, scene}
 use Rattle.serving.specs.Written.{answered_numbers, messages_of, written}
 use Rattle.serving.specs.declared.ends.ServeEnd.{ServeEnd}
@@ -26,7 +26,7 @@ use Rattle.fwu_words.specs.Order as ask
 use Rattle.script_turns.specs.Runs.{calls_of}
 use Rattle.script_runs.specs.Ending.{Ending, World}
 use Rattle.script_cmd.specs.Promises.{RanHolds}
-use Rattle.script_cmd.specs.ServeWays.{ServeWay, ServesSource, Unread, left_at, list_refused, note_of, served, sink_of, starved}
+use Rattle.script_cmd.specs.ServeWays.{ServeWay, ServesSource, Unread, left_by_serving, list_refused, note_of, served, sink_of, starved}
 use Rattle.script_cmd.specs.ServedBy.{ServedBy, ServedComplete, ServedEnds, ServedHeadline, ServedWrites, TakesAtMost, WroteFrames, WroteLine, may_end_serving}
 use Rattle.script_cmd.specs.Granted.{RefusesBadList}
 use Rattle.script_runs.specs.Ways.{Given, Refuses, bad_list, bad_script, list_not_read, not_read, too_long, usage}
@@ -127,7 +127,7 @@ module _ (g : Given) (ending : Ending Note) (old new : World) (rest : Option (Li
         no_other = list-status may_end_serving refl refl refl refl;
         at_end = λ is. absurd (list-other 0 refl is);
         whole = λ is. absurd (list-other 0 refl is);
-        not_read = λ is. elim (ends.not_read is refl) [ inl source ↦ absurd (false≢true source.0) | inr list ↦ inr (none, list.0, list.1) ];
+        not_read = λ is. elim (ends.not_read is refl) [ inl source ↦ absurd (let never = source.0 in cc) | inr list ↦ inr (none, list.0, list.1) ];
         read_all = λ unless. unread.1;
         sink_fault = ends.sink_fault;
         flash_fault = λ is. absurd (list-other 5 refl is);
@@ -206,10 +206,10 @@ module _ (passes : List ℕ → Bool) (tells : Bool) (g : Given) (ending : Endin
   to = port rest new.faults.source
 
   done : Account g.script rest e ending.journal old.taken new.taken
-  done = account (scene passes tells g.files old.faults.files) old.flash (sink_of old) (left_at by.on by.exchange ending.journal new) e from to by.serves
+  done = account (scene passes tells g.files old.faults.files) old.flash (sink_of old) (left_by_serving by.on by.exchange ending.journal new) e from to by.serves
 
-  cause-at : (x : ServeEnd) → e ≡ x → Cause x old.flash (sink_of old) (left_at by.on by.exchange ending.journal new) from to
-  cause-at x same = subst (λ (y : ServeEnd). Cause y old.flash (sink_of old) (left_at by.on by.exchange ending.journal new) from to) same by.holds.cause
+  cause-at : (x : ServeEnd) → e ≡ x → Cause x old.flash (sink_of old) (left_by_serving by.on by.exchange ending.journal new) from to
+  cause-at x same = subst (λ (y : ServeEnd). Cause y old.flash (sink_of old) (left_by_serving by.on by.exchange ending.journal new) from to) same by.holds.cause
 
   served-ends : ServedEnds g ending old new rest
   served-ends = record {
@@ -270,7 +270,7 @@ module _ (passes : List ℕ → Bool) (tells : Bool) (g : Given) (ending : Endin
 
   completes : ServedComplete passes tells g ending old new
   completes told E start bodies given stream are few grants no_source =
-      let quiet : IsQuiet old.flash (sink_of old) (left_at by.on by.exchange ending.journal new) e from to = record {
+      let quiet : IsQuietServing old.flash (sink_of old) (left_by_serving by.on by.exchange ending.journal new) e from to = record {
         booted = boots told E start given;
         no_fault = grants.no_fault;
         no_cut = grants.no_cut;

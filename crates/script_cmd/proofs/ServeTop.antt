@@ -10,12 +10,12 @@ use Rattle.fwu_words.specs.Order as ask
 use Rattle.host_io.specs.Contents.{Directory}
 use Rattle.host_io.specs.Printed.{Prints}
 use Rattle.agent_machine.specs.Fields.{Fields}
-use Rattle.wire_frames.specs.Exchange.{Answered}
-use Rattle.serving.specs.Holds.{Holds}
+use Rattle.wire_frames.specs.Exchange.{LastAnswer}
+use Rattle.serving.specs.Holds.{ServingHolds}
 use Rattle.serving.specs.Scene.{port, scene}
-use Rattle.serving.specs.Starting.{Serves}
+use Rattle.serving.specs.Starting.{ServesFrom}
 use Rattle.serving.specs.declared.ends.ServeEnd.{ServeEnd}
-use Rattle.script_turns.specs.Powered.{Moment, at}
+use Rattle.script_turns.specs.Powered.{TurnMoment, at}
 use Rattle.script_runs.specs.Ending.{World}
 use Rattle.script_cmd.specs.ServeWays.{ServeWay, ServesSource, list_refused, served, sink_of, starved}
 use Rattle.script_runs.specs.Ways.{HasGoodList, Given, Refuses}
@@ -23,7 +23,7 @@ use Rattle.script_runs.proofs.Shapes.{end-of, world-of}
 use Rattle.script_runs.proofs.TopWays.{refuses}
 
 -- a list was refused, and nothing else was done
-pub refused-serves : (passes : List ℕ → Bool) (tells : Bool) (g : Given) (old new : Moment) (status : ℕ) (noted : Note) (journal : List Turn) (taken_before taken_after : Option (List ℕ)) (faults_before faults_after : Faults) (planned : ℕ) (line : List ℕ) (n : Note)
+pub refused-serves : (passes : List ℕ → Bool) (tells : Bool) (g : Given) (old new : TurnMoment) (status : ℕ) (noted : Note) (journal : List Turn) (taken_before taken_after : Option (List ℕ)) (faults_before faults_after : Faults) (planned : ℕ) (line : List ℕ) (n : Note)
     (rest : Option (List ℕ)) → journal ≡ [] → new ≡ old → noted ≡ n → Refuses (Some ask.serve) g faults_before faults_after planned n line → Prints line planned status taken_before taken_after faults_before.sink faults_after.sink
     → rest ≡ g.script → faults_after.source ≡ faults_before.source
     → ServeWay passes tells g (end-of journal status noted) (world-of old taken_before faults_before) (world-of new taken_after faults_after) rest
@@ -36,7 +36,7 @@ faults-same a b files source sink =
     let second : record a { files = b.files } ≡ record b { sink = a.sink } = ap (λ (n : ℕ). record { files = b.files; source = n; sink = a.sink }) source in
     first ∙ second ∙ ap (λ (n : ℕ). record b { sink = n }) sink
 
-module _ (passes : List ℕ → Bool) (tells : Bool) (told files : Option Directory) (name : List ℕ) (script : Option (List ℕ)) (old new : Moment) (status : ℕ) (noted : Note) (journal : List Turn) (taken_before taken_after : Option (List ℕ)) (first faults_before faults_after : Faults)
+module _ (passes : List ℕ → Bool) (tells : Bool) (told files : Option Directory) (name : List ℕ) (script : Option (List ℕ)) (old new : TurnMoment) (status : ℕ) (noted : Note) (journal : List Turn) (taken_before taken_after : Option (List ℕ)) (first faults_before faults_after : Faults)
     (rest : Option (List ℕ)) where
   -- what is served without a list is served behind one that was read and is one
   pub serves-with-list : told ≡ files → HasGoodList (Some name) files → faults_before.files ≡ first.files → first.source ≡ faults_before.source → first.sink ≡ faults_before.sink
@@ -72,18 +72,18 @@ pub at-device : {D : Type 0} (told : D → Told) (counts : D → Counts) (arming
     → at was (told old) (counts old) (arming old) (on old) ≡ at is (told new) (counts new) (arming new) (on new)
 at-device told counts arming on was is old new same device = ap₂ (λ f d. at f (told d) (counts d) (arming d) (on d)) same device
 
-moved : (P : Moment → Moment → Type 0) {start begin last end : Moment} → start ≡ begin → last ≡ end → P start last → P begin end
-moved P {start} {begin} {last} {end} begins ends p = subst (λ (m : Moment). P m end) begins (subst (λ (m : Moment). P start m) ends p)
+moved : (P : TurnMoment → TurnMoment → Type 0) {start begin last end : TurnMoment} → start ≡ begin → last ≡ end → P start last → P begin end
+moved P {start} {begin} {last} {end} begins ends p = subst (λ (m : TurnMoment). P m end) begins (subst (λ (m : TurnMoment). P start m) ends p)
 
 -- a serving from this moment to that one
-pub serves-source : (passes : List ℕ → Bool) (tells : Bool) (files : Option Directory) (stream rest : Option (List ℕ)) (e : ServeEnd) (journal : List Turn) (exchange : Answered) (old new : World) (start last : Moment) → start ≡ old.flash
+pub serves-source : (passes : List ℕ → Bool) (tells : Bool) (files : Option Directory) (stream rest : Option (List ℕ)) (e : ServeEnd) (journal : List Turn) (exchange : LastAnswer) (old new : World) (start last : TurnMoment) → start ≡ old.flash
     → last ≡ at last.on new.flash.told new.flash.counts new.flash.armed new.flash.power
-    → Serves (scene passes tells files old.faults.files) start (sink_of old) (record { run = record { moment = last; journal = journal }; exchange = exchange; sink = sink_of new }) e (port stream old.faults.source) (port rest new.faults.source)
-    → Holds (scene passes tells files old.faults.files) start (sink_of old) (record { run = record { moment = last; journal = journal }; exchange = exchange; sink = sink_of new }) e (port stream old.faults.source) (port rest new.faults.source)
+    → ServesFrom (scene passes tells files old.faults.files) start (sink_of old) (record { run = record { moment = last; journal = journal }; exchange = exchange; sink = sink_of new }) e (port stream old.faults.source) (port rest new.faults.source)
+    → ServingHolds (scene passes tells files old.faults.files) start (sink_of old) (record { run = record { moment = last; journal = journal }; exchange = exchange; sink = sink_of new }) e (port stream old.faults.source) (port rest new.faults.source)
     → ServesSource passes tells files stream e journal old new rest
 serves-source passes tells files stream rest e journal exchange old new start last begins ends serves holds = record {
   on = last.on;
   exchange = exchange;
-  serves = moved (λ (b l : Moment). Serves (scene passes tells files old.faults.files) b (sink_of old) (record { run = record { moment = l; journal = journal }; exchange = exchange; sink = sink_of new }) e (port stream old.faults.source) (port rest new.faults.source)) begins ends serves;
-  holds = moved (λ (b l : Moment). Holds (scene passes tells files old.faults.files) b (sink_of old) (record { run = record { moment = l; journal = journal }; exchange = exchange; sink = sink_of new }) e (port stream old.faults.source) (port rest new.faults.source)) begins ends holds;
+  serves = moved (λ (b l : TurnMoment). ServesFrom (scene passes tells files old.faults.files) b (sink_of old) (record { run = record { moment = l; journal = journal }; exchange = exchange; sink = sink_of new }) e (port stream old.faults.source) (port rest new.faults.source)) begins ends serves;
+  holds = moved (λ (b l : TurnMoment). ServingHolds (scene passes tells files old.faults.files) b (sink_of old) (record { run = record { moment = l; journal = journal }; exchange = exchange; sink = sink_of new }) e (port stream old.faults.source) (port rest new.faults.source)) begins ends holds;
 }

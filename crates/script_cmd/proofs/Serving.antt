@@ -22,7 +22,6 @@ serving passes device inputs ending old new rest fb fa sb sa a = record {
   soaks = λ seed rounds is. soaked-by _ _ seed rounds _ _ _ (a.soaks seed rounds is);
   serves = λ is. served-by _ _ _ _ _ _ _ (a.serves is);
   read_to_end = a.read_to_end;
-  read_to_end_by_table = a.read_to_end_by_table;
   power = a.power;
   source = a.source;
   list_first = a.list_first;

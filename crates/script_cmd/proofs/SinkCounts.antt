@@ -21,7 +21,7 @@ use Rattle.host_io.specs.Printed.{FailsAtThree}
 use Rattle.script_cmd.specs.Promises.{given_to}
 use Rattle.script_cmd.specs.ServeWays.{ServeWay}
 use Rattle.script_cmd.specs.ServeWays as serve
-use Rattle.flash_commands.specs.Showing.{Finds, RefusedList, Showed}
+use Rattle.flash_commands.specs.Showing.{ShowFinds, RefusedList, Showed}
 use Rattle.flash_commands.specs.Showing as show
 use Rattle.flash_commands.specs.SoakWays.{SoakEnds, SoakWay}
 use Rattle.flash_commands.specs.SoakWays as soak
@@ -45,7 +45,7 @@ refused-other asked g before after planned noted line (way.too_long good is long
 refused-other asked g before after planned noted line (way.bad_script n good asks short bad) three = absurd (omega arith)
 refused-other asked g before after planned noted line (way.bad_list n some there bad) three = absurd (omega arith)
 
-found-other : (known : Type 0) (image : List ℕ) (before after : Counts) (planned : ℕ) (noted : model.Note) (line : List ℕ) → Finds known image before after planned noted line → planned ≢ 3
+found-other : (known : Type 0) (image : List ℕ) (before after : Counts) (planned : ℕ) (noted : model.Note) (line : List ℕ) → ShowFinds known image before after planned noted line → planned ≢ 3
 found-other known image before after planned noted line (show.numbers n are shows) three = absurd (omega arith)
 found-other known image before after planned noted line (show.none why shows) three = absurd (omega arith)
 found-other known image before after planned noted line (show.stopped cause) three = absurd (omega arith)

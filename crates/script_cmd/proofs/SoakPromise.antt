@@ -33,18 +33,18 @@ use Rattle.agent_machine.specs.Fields.{Fields}
 use Rattle.meta_layout.specs.Rows.{fitted}
 use Rattle.flash_format.specs.Choosing.{refusal, refused as refused_input}
 use Rattle.flash_format.specs.Formatted.{HoldsImages, IsFormatted, first_state}
-use Rattle.flash_format.specs.Stops.{Answers, IsEarly}
+use Rattle.flash_format.specs.Stops.{RefusesAs, IsEarlyStop}
 use Rattle.flash_format.specs.declared.formatting.Formatted.{Formatted}
 use Rattle.flash_format.specs.declared.stops.FormatStop.{FormatStop}
 use Rattle.flash_format.specs.declared.stops.FormatStop.TheVariants.{Input, ReadFailed, Flash}
 use Rattle.flash_format.specs.declared.stops.InputFault.{InputFault}
 use Rattle.flash_format.specs.declared.stops.InputFault.TheVariants as fault
 use Rattle.gen_core.specs.Calls.{file_name, first_package, soak_calls}
-use Rattle.gen_core.specs.Law.{Installs}
+use Rattle.gen_core.specs.Law.{InstallsPackage}
 use Rattle.gen_core.specs.Line.{soak_line, too_small_line}
 use Rattle.gen_core.specs.Setup.{is_too_small, soak_layout}
 use Rattle.gen_core.proofs.Naming.{rounds-have-packages}
-use Rattle.script_turns.specs.Powered.{Moment, at}
+use Rattle.script_turns.specs.Powered.{TurnMoment, at}
 use Rattle.script_turns.specs.Turning.{NoneFalls}
 use Rattle.script_runs.specs.Ending.{Device, Ending, World, in_model}
 use Rattle.flash_commands.specs.Formatting.{Formats, Tries, format_status, format_text}
@@ -53,7 +53,7 @@ use Rattle.flash_commands.specs.Formatting as format
 use Rattle.script_runs.specs.Noted.{noted}
 use Rattle.host_io.specs.Printed.{Prints, all, front, nothing}
 use Rattle.script_turns.specs.Runs.{Ran, RunsTo, calls_of}
-use Rattle.flash_commands.specs.Showing.{HasCause}
+use Rattle.script_runs.specs.ByTable.{StopHasCause}
 use Rattle.script_cmd.specs.Granted.{RefusesBadList}
 use Rattle.script_cmd.specs.Soaked.{HasSoakList, RunsSoak, SoakedBy, first_images, soak_setting}
 use Rattle.flash_commands.specs.Soaking.{first_files, soak_files, stop_line}
@@ -78,8 +78,8 @@ layout-is : (L M : Layout) (blocks : ℕ) → fitted L blocks ≡ Ok M → M ≡
 unfolding fitted
 layout-is L M blocks is = either (not (fits_layout L)) _ _ _ L M is
 
-module _ (tells : Bool) (seed blocks : ℕ) (old start : Moment) (done : Formatted) (t : Tries passes_any tells (Some (first_files seed)) (file_name 0) soak_layout blocks old start 0 0 (Ok done)) (told : IsTrue tells) where
-  installs : Installs soak_layout.rows (first_package seed) (first_images seed) 1
+module _ (tells : Bool) (seed blocks : ℕ) (old start : TurnMoment) (done : Formatted) (t : Tries passes_any tells (Some (first_files seed)) (file_name 0) soak_layout blocks old start 0 0 (Ok done)) (told : IsTrue tells) where
+  installs : InstallsPackage soak_layout.rows (first_package seed) (first_images seed) 1
   installs = rounds-have-packages.first seed
 
   formatted-as-soak : IsFormatted passes_any soak_layout done.version start.told
@@ -106,7 +106,7 @@ module _ (tells : Bool) (seed blocks : ℕ) (old start : Moment) (done : Formatt
       let flash = formatted-as-soak.sound (soak_setting seed n) refl refl in
       subst (Sound (soak_setting seed n)) (same_Some flash.state (first_state soak_layout (first_images seed)) (sym flash.shows ∙ first-shown)) flash.sound
 
-  module _ (n : ℕ) (journal : List Turn) (on : Option Fields) (new : Moment) (guards : Guards 1 7 old.told) (no_chance : Rose old.counts.chances new.counts.chances → ⊥)
+  module _ (n : ℕ) (journal : List Turn) (on : Option Fields) (new : TurnMoment) (guards : Guards 1 7 old.told) (no_chance : Rose old.counts.chances new.counts.chances → ⊥)
       (turns : Ran passes_any tells (Some (soak_files seed n)) journal start (at on new.told new.counts new.armed new.power) 0 0) where
     first-runs : RunsTo (soak_setting seed n) (first_state soak_layout (first_images seed)) journal start (at on new.told new.counts new.armed new.power)
     first-runs =
@@ -249,10 +249,10 @@ formattable seed blocks large =
       permitted = refl;
     }
 
-early-none : (r : Result Formatted FormatStop) (asks : Option InputFault) → asks ≡ None → Answers asks r → IsEarly r → ⊥
-early-none r asks none answers = subst (λ (o : Option InputFault). Answers o r) none answers
+early-none : (r : Result Formatted FormatStop) (asks : Option InputFault) → asks ≡ None → RefusesAs asks r → IsEarlyStop r → ⊥
+early-none r asks none answers = subst (λ (o : Option InputFault). RefusesAs o r) none answers
 
-no-input : (tells : Bool) (seed blocks : ℕ) (old new : Moment) (f : InputFault) → IsTrue tells → IsFalse (is_too_small blocks) → Tries passes_any tells (Some (first_files seed)) (file_name 0) soak_layout blocks old new 0 0 (Err (Input f)) → ⊥
+no-input : (tells : Bool) (seed blocks : ℕ) (old new : TurnMoment) (f : InputFault) → IsTrue tells → IsFalse (is_too_small blocks) → Tries passes_any tells (Some (first_files seed)) (file_name 0) soak_layout blocks old new 0 0 (Err (Input f)) → ⊥
 no-input tells seed blocks old new (fault.Layout f) told large t = let can = formattable seed blocks large in early-none _ _ can.fits (t.answers can.file can.is_there) tt
 no-input tells seed blocks old new (fault.Package f) told large t = let can = formattable seed blocks large in early-none _ _ can.fits (t.answers can.file can.is_there) tt
 no-input tells seed blocks old new (fault.Missing guid) told large t = let can = formattable seed blocks large in early-none _ _ can.fits (t.answers can.file can.is_there) tt
@@ -328,7 +328,7 @@ module _ (device : Device) (g : Given) (seed n : ℕ) (end : Ending Note) (old n
   fives (not_formatted good large none ReadFailed t is prints) five = absurd (not-plan (format_text (Err ReadFailed)) 2 end.status 5 old.taken new.taken old.faults.sink new.faults.sink prints five (λ e. omega arith) refl)
   fives (not_formatted good large none (Flash stop) t is prints) five = by (t.stopped stop refl)
     where
-      by : HasCause old.flash.counts new.flash.counts → Rose old.flash.counts.faults new.flash.counts.faults ⊎ ((end.journal ≡ []) × Rose old.flash.counts.cuts new.flash.counts.cuts)
+      by : StopHasCause old.flash.counts new.flash.counts → Rose old.flash.counts.faults new.flash.counts.faults ⊎ ((end.journal ≡ []) × Rose old.flash.counts.cuts new.flash.counts.cuts)
       by (inl rose) = inl rose
       by (inr cut) = inr (none, cut)
   fives (ran good large done start on t off power turns (all_done calls none quiet prints) beyond) five = absurd (not-plan (soak_line n end.journal) 0 end.status 5 old.taken new.taken old.faults.sink new.faults.sink prints five (λ e. omega arith) refl)
@@ -350,14 +350,14 @@ module _ (device : Device) (g : Given) (seed n : ℕ) (end : Ending Note) (old n
   none-made none same = subst (λ (ts : List Turn). new.flash.counts.made ≡ made_after old.flash.counts.made (cuts_in ts)) (sym none) same
 
   mades : SoakWay device g seed n end old new → new.flash.counts.made ≡ made_after old.flash.counts.made (cuts_in end.journal)
-  mades (list_refused none same quiet refused) = none-made none (ap (λ (m : Moment). m.counts.made) same)
-  mades (starved none same nine is stuck) = none-made none (ap (λ (m : Moment). m.counts.made) same)
-  mades (too_small good small none same is prints) = none-made none (ap (λ (m : Moment). m.counts.made) same)
+  mades (list_refused none same quiet refused) = none-made none (ap (λ (m : TurnMoment). m.counts.made) same)
+  mades (starved none same nine is stuck) = none-made none (ap (λ (m : TurnMoment). m.counts.made) same)
+  mades (too_small good small none same is prints) = none-made none (ap (λ (m : TurnMoment). m.counts.made) same)
   mades (not_formatted good large none stop t is prints) = none-made none t.made
   mades (ran good large done start on t off power turns ends quiet) = turns.made ∙ ap (λ (k : ℕ). made_after k (cuts_in end.journal)) t.made
 
   none-fall : new.flash ≡ old.flash → NoneFalls old.flash.counts new.flash.counts
-  none-fall same = subst (λ (m : Moment). NoneFalls old.flash.counts m.counts) (sym same) (record { faults = omega arith; cuts = omega arith; reached = omega arith; chances = omega arith })
+  none-fall same = subst (λ (m : TurnMoment). NoneFalls old.flash.counts m.counts) (sym same) (record { faults = omega arith; cuts = omega arith; reached = omega arith; chances = omega arith })
 
   falls : SoakWay device g seed n end old new → NoneFalls old.flash.counts new.flash.counts
   falls (list_refused none same quiet refused) = none-fall same
@@ -372,9 +372,9 @@ module _ (device : Device) (g : Given) (seed n : ℕ) (end : Ending Note) (old n
   }
 
   guards-stay : SoakWay device g seed n end old new → IsTrue device.tells → new.flash.told.guard ≡ old.flash.told.guard
-  guards-stay (list_refused none same quiet refused) told = ap (λ (m : Moment). m.told.guard) same
-  guards-stay (starved none same nine is stuck) told = ap (λ (m : Moment). m.told.guard) same
-  guards-stay (too_small good small none same is prints) told = ap (λ (m : Moment). m.told.guard) same
+  guards-stay (list_refused none same quiet refused) told = ap (λ (m : TurnMoment). m.told.guard) same
+  guards-stay (starved none same nine is stuck) told = ap (λ (m : TurnMoment). m.told.guard) same
+  guards-stay (too_small good small none same is prints) told = ap (λ (m : TurnMoment). m.told.guard) same
   guards-stay (not_formatted good large none stop t is prints) told = t.guard told
   guards-stay (ran good large done start on t off power turns ends quiet) told = turns.guard told ∙ t.guard told
 

@@ -7,8 +7,8 @@ use Rattle.host_io.specs.Contents.{Directory}
 use Rattle.fwu_words.specs.Order.{Asked}
 use Rattle.fwu_words.specs.Order as ask
 use Rattle.gen_core.specs.Calls.{soak_calls}
-use Rattle.script_turns.specs.Powered.{Moment}
-use Rattle.script_runs.specs.Noted.{is_beyond, noted}
+use Rattle.script_turns.specs.Powered.{TurnMoment}
+use Rattle.script_runs.specs.Noted.{is_beyond_model, noted}
 use Rattle.host_io.specs.Printed.{Prints}
 use Rattle.flash_commands.specs.SoakWays.{SoakWay, SoakEnds, list_refused, starved, too_small, not_formatted, ran}
 use Rattle.script_runs.specs.Ways.{Given, HasGoodList, Refuses}
@@ -17,7 +17,7 @@ use Rattle.script_runs.proofs.Shapes.{device-of, end-of, world-of}
 use Rattle.script_runs.proofs.TopWays.{refuses}
 
 -- what is asked is one command
-pub soak-as : (tells : Bool) (g : Given) (blocks : ℕ) (journal : List Turn) (status : ℕ) (said : Note) (old new : Moment) (taken_before taken_after : Option (List ℕ)) (faults_before faults_after : Faults)
+pub soak-as : (tells : Bool) (g : Given) (blocks : ℕ) (journal : List Turn) (status : ℕ) (said : Note) (old new : TurnMoment) (taken_before taken_after : Option (List ℕ)) (faults_before faults_after : Faults)
     (asked : Option Asked) (a seed b rounds : ℕ) → asked ≡ Some (ask.soak a b) → asked ≡ Some (ask.soak seed rounds)
     → SoakWay (device-of tells blocks) g a b (end-of journal status said) (world-of old taken_before faults_before) (world-of new taken_after faults_after) → SoakWay (device-of tells blocks) g seed rounds (end-of journal status said) (world-of old taken_before faults_before) (world-of new taken_after faults_after)
 soak-as tells g blocks journal status said old new taken_before taken_after faults_before faults_after asked a seed b rounds by is way =
@@ -26,15 +26,15 @@ soak-as tells g blocks journal status said old new taken_before taken_after faul
     subst (λ (n : ℕ). SoakWay (device-of tells blocks) g seed n (end-of journal status said) (world-of old taken_before faults_before) (world-of new taken_after faults_after)) same-rounds
     (subst (λ (x : ℕ). SoakWay (device-of tells blocks) g x b (end-of journal status said) (world-of old taken_before faults_before) (world-of new taken_after faults_after)) same-seed way)
 
-module _ (tells : Bool) (g : Given) (seed n blocks : ℕ) (journal : List Turn) (status : ℕ) (said : Note) (old new : Moment) (taken_before taken_after : Option (List ℕ)) (faults_before faults_after : Faults) where
+module _ (tells : Bool) (g : Given) (seed n blocks : ℕ) (journal : List Turn) (status : ℕ) (said : Note) (old new : TurnMoment) (taken_before taken_after : Option (List ℕ)) (faults_before faults_after : Faults) where
   -- a list was refused, and nothing else was done
-  pub refused-soaks : (planned : ℕ) (line : List ℕ) (told : model.Note) → journal ≡ [] → new ≡ old → IsFalse (is_beyond said) → noted said ≡ told
+  pub refused-soaks : (planned : ℕ) (line : List ℕ) (told : model.Note) → journal ≡ [] → new ≡ old → IsFalse (is_beyond_model said) → noted said ≡ told
       → Refuses (Some (ask.soak seed n)) g faults_before faults_after planned told line → Prints line planned status taken_before taken_after faults_before.sink faults_after.sink
       → SoakWay (device-of tells blocks) g seed n (end-of journal status said) (world-of old taken_before faults_before) (world-of new taken_after faults_after)
   refused-soaks planned line told none same quiet is why prints =
       list_refused none same quiet (planned, line, subst (λ (x : model.Note). Refuses (Some (ask.soak seed n)) g faults_before faults_after planned x line) (sym is) why, prints)
 
-module _ (tells : Bool) (told files : Option Directory) (name : List ℕ) (script : Option (List ℕ)) (seed n blocks : ℕ) (journal : List Turn) (status : ℕ) (said : Note) (old new : Moment) (taken_before taken_after : Option (List ℕ)) (first faults_before faults_after : Faults) where
+module _ (tells : Bool) (told files : Option Directory) (name : List ℕ) (script : Option (List ℕ)) (seed n blocks : ℕ) (journal : List Turn) (status : ℕ) (said : Note) (old new : TurnMoment) (taken_before taken_after : Option (List ℕ)) (first faults_before faults_after : Faults) where
   -- what is done without a list is done behind one that was read and is one
   pub soaks-with-list : HasGoodList (Some name) files → first.files ≤ faults_before.files → first.source ≡ faults_before.source → first.sink ≡ faults_before.sink
       → SoakWay (device-of tells blocks) (record { list = None; files = told; script = script }) seed n (end-of journal status said) (world-of old taken_before faults_before) (world-of new taken_after faults_after)

@@ -10,7 +10,7 @@ use Rattle.fwu_model.specs.declared.kinds.Note.{Note}
 use Rattle.fwu_model.specs.declared.kinds.NoBoot.{NoBoot}
 use Rattle.fwu_model.specs.declared.kinds.NoBoot.TheVariants as no_boot
 use Rattle.fip_tables.specs.Files.{Tells, Lacks}
-use Rattle.flash_format.specs.Stops.{Answers, IsEarly}
+use Rattle.flash_format.specs.Stops.{RefusesAs, IsEarlyStop}
 use Rattle.flash_format.specs.declared.formatting.Formatted.{Formatted}
 use Rattle.flash_format.specs.declared.stops.FormatStop.{FormatStop}
 use Rattle.flash_format.specs.declared.stops.FormatStop.TheVariants.{Input, ReadFailed, Flash}
@@ -19,11 +19,12 @@ use Rattle.flash_format.specs.declared.stops.InputFault.TheVariants as fault
 use Rattle.host_io.specs.Contents.{Directory}
 use Rattle.fwu_words.specs.Order.{Asked}
 use Rattle.fwu_words.specs.Order as ask
-use Rattle.script_turns.specs.Powered.{Moment}
+use Rattle.script_turns.specs.Powered.{TurnMoment}
 use Rattle.script_runs.specs.Noted.{noted}
 use Rattle.host_io.specs.Printed.{Prints, all, front, nothing}
 use Rattle.script_runs.specs.Ways.{Given, Refuses, bad_list, bad_script, list_not_read, not_read, too_long, usage}
-use Rattle.flash_commands.specs.Showing.{Finds, HasCause, RefusedList, Showed, ShowsNone}
+use Rattle.flash_commands.specs.Showing.{ShowFinds, RefusedList, Showed, ShowsNone}
+use Rattle.script_runs.specs.ByTable.{StopHasCause}
 use Rattle.script_cmd.specs.ShowedBy.{HasMetadata}
 use Rattle.script_cmd.specs.Granted.{IsGranted}
 use Rattle.flash_commands.specs.Showing as show
@@ -55,7 +56,7 @@ granted asked g before after faults_before faults_after planned noted line runs 
 
 module _ (g : Given) (before after : Counts) (status : ℕ) (taken_before taken_after : Option (List ℕ)) (faults_before faults_after : Faults) where
   -- a flash with metadata shows its numbers
-  found : (known : Type 0) (image : List ℕ) (planned : ℕ) (told : Note) (line : List ℕ) → known → HasMetadata image → IsGranted g before after faults_before faults_after → Finds known image before after planned told line
+  found : (known : Type 0) (image : List ℕ) (planned : ℕ) (told : Note) (line : List ℕ) → known → HasMetadata image → IsGranted g before after faults_before faults_after → ShowFinds known image before after planned told line
       → Prints line planned status taken_before taken_after faults_before.sink faults_after.sink → (status ≡ 0) ⊎ (status ≡ 9)
   found known image planned told line knows has grants (show.numbers n are shows) prints = printed line status taken_before taken_after faults_before.sink faults_after.sink grants.no_sink_fault prints
   found known image planned told line knows has grants (show.none why none) prints = absurd (no why (none knows))
@@ -67,13 +68,13 @@ module _ (g : Given) (before after : Counts) (status : ℕ) (taken_before taken_
   found known image planned told line knows has grants (show.stopped (inl fault)) prints = absurd (grants.no_fault fault)
   found known image planned told line knows has grants (show.stopped (inr cut)) prints = absurd (grants.no_cut cut)
 
-  pub show-completes : (tells : Bool) (old new : Moment) (told : Note) → old.counts ≡ before → new.counts ≡ after → Showed tells g (world-of old taken_before faults_before) (world-of new taken_after faults_after) status told
+  pub show-completes : (tells : Bool) (old new : TurnMoment) (told : Note) → old.counts ≡ before → new.counts ≡ after → Showed tells g (world-of old taken_before faults_before) (world-of new taken_after faults_after) status told
       → IsTrue tells → NothingDirty old.told → HasMetadata old.told.now → IsGranted g before after faults_before faults_after → (status ≡ 0) ⊎ (status ≡ 9)
   show-completes tells old new told first last (show.starved is quiet same none) knows clean has grants = inr is
   show-completes tells old new told first last (show.found good planned line wakes finds once power prints) knows clean has grants =
       found (IsTrue tells) new.told.now planned told line knows (subst (λ (t : Told). HasMetadata t.now) (sym (wakes-clean old.told new.told clean (wakes knows))) has) grants
-      (subst (λ (x : Counts). Finds (IsTrue tells) new.told.now x after planned told line) first
-      (subst (λ (x : Counts). Finds (IsTrue tells) new.told.now old.counts x planned told line) last finds)) prints
+      (subst (λ (x : Counts). ShowFinds (IsTrue tells) new.told.now x after planned told line) first
+      (subst (λ (x : Counts). ShowFinds (IsTrue tells) new.told.now old.counts x planned told line) last finds)) prints
   show-completes tells old new told first last (show.list_refused same refused) knows clean has grants = absurd (granted ask.show g before after faults_before faults_after refused.0 told refused.1 (λ is. cc) (λ is. cc) grants refused.2)
 
 -- a name that is told isn't lacking
@@ -81,10 +82,10 @@ there : (told : Option Directory) (name file : List ℕ) → Tells told name fil
 there None name file tells lacks = lacks
 there (Some files) name file tells lacks = cc
 
-not-refused : (r : Result Formatted FormatStop) (asks : Option InputFault) → asks ≡ None → Answers asks r → IsEarly r → ⊥
-not-refused r asks none answers = subst (λ (o : Option InputFault). Answers o r) none answers
+not-refused : (r : Result Formatted FormatStop) (asks : Option InputFault) → asks ≡ None → RefusesAs asks r → IsEarlyStop r → ⊥
+not-refused r asks none answers = subst (λ (o : Option InputFault). RefusesAs o r) none answers
 
-module _ (passes : List ℕ → Bool) (g : Given) (name : List ℕ) (L : Layout) (blocks : ℕ) (old new : Moment) (status : ℕ) (said : Said) (taken_before taken_after : Option (List ℕ)) (faults_before faults_after : Faults) where
+module _ (passes : List ℕ → Bool) (g : Given) (name : List ℕ) (L : Layout) (blocks : ℕ) (old new : TurnMoment) (status : ℕ) (said : Said) (taken_before taken_after : Option (List ℕ)) (faults_before faults_after : Faults) where
   tried : (r : Result Formatted FormatStop) → IsFormattable passes g.files name L blocks → IsGranted g old.counts new.counts faults_before faults_after
       → Tries passes true g.files name L blocks old new faults_before.files faults_after.files r → Prints (format_text r) (format_status r) status taken_before taken_after faults_before.sink faults_after.sink → (status ≡ 0) ⊎ (status ≡ 9)
   tried (Ok done) can grants tries prints = printed (format_text (Ok done)) status taken_before taken_after faults_before.sink faults_after.sink grants.no_sink_fault prints
@@ -100,7 +101,7 @@ module _ (passes : List ℕ → Bool) (g : Given) (name : List ℕ) (L : Layout)
       unread (inr lacks) = there g.files name can.file can.is_there lacks
   tried (Err (Flash stop)) can grants tries prints = absurd (stopped (tries.stopped stop refl))
     where
-      stopped : HasCause old.counts new.counts → ⊥
+      stopped : StopHasCause old.counts new.counts → ⊥
       stopped (inl fault) = grants.no_fault fault
       stopped (inr cut) = grants.no_cut cut
 

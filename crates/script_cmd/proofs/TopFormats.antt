@@ -18,8 +18,8 @@ use Rattle.fwu_words.specs.Order.{Asked}
 use Rattle.fwu_words.specs.Order as ask
 use Rattle.flash_commands.specs.Formatting.{Formats, Tries, format_status, format_text, list_refused, starved, tried}
 use Rattle.script_cmd.specs.FormattedBy.{FormattedBy}
-use Rattle.script_turns.specs.Powered.{Moment}
-use Rattle.script_runs.specs.Noted.{is_beyond, noted}
+use Rattle.script_turns.specs.Powered.{TurnMoment}
+use Rattle.script_runs.specs.Noted.{is_beyond_model, noted}
 use Rattle.script_cmd.specs.Granted.{RefusesBadList}
 use Rattle.host_io.specs.Printed.{Prints}
 use Rattle.script_runs.specs.Ways.{Given, HasGoodList, Refuses, bad_list, bad_script, list_not_read, not_read, too_long, usage}
@@ -47,26 +47,26 @@ list-planned asked g faults_before faults_after planned told line runs boots (ba
 some-planned : (planned : ℕ) → IsTrue (may_fail_before planned || (planned == 13)) → planned ≡ 0 → ⊥
 some-planned planned is zero = false≢true (subst (λ (k : ℕ). IsTrue (may_fail_before k || (k == 13))) zero is)
 
-module _ (passes : List ℕ → Bool) (tells : Bool) (g : Given) (file : List ℕ) (L : Layout) (blocks : ℕ) (old new : Moment) (status : ℕ) (said : Note) (journal : List Turn) (taken_before taken_after : Option (List ℕ)) (faults_before faults_after : Faults) where
+module _ (passes : List ℕ → Bool) (tells : Bool) (g : Given) (file : List ℕ) (L : Layout) (blocks : ℕ) (old new : TurnMoment) (status : ℕ) (said : Note) (journal : List Turn) (taken_before taken_after : Option (List ℕ)) (faults_before faults_after : Faults) where
   lists : Formats passes (device-of tells blocks) g file L (world-of old taken_before faults_before) (world-of new taken_after faults_after) status said → RefusesBadList g old new status faults_before faults_after
   lists (starved nine is same none) = starved-list g old new status faults_before faults_after same nine
   lists (tried good r t prints is) = good-list-kept g old new status faults_before faults_after good
   lists (list_refused same quiet refused) = refused-list g old new status faults_before faults_after (ask.format L.banks L.rows file) (noted said) taken_before taken_after same refused
 
   made-none : Formats passes (device-of tells blocks) g file L (world-of old taken_before faults_before) (world-of new taken_after faults_after) status said → new.counts.made ≡ old.counts.made
-  made-none (starved nine is same none) = ap (λ (m : Moment). m.counts.made) same
+  made-none (starved nine is same none) = ap (λ (m : TurnMoment). m.counts.made) same
   made-none (tried good r t prints is) = t.made
-  made-none (list_refused same quiet refused) = ap (λ (m : Moment). m.counts.made) same
+  made-none (list_refused same quiet refused) = ap (λ (m : TurnMoment). m.counts.made) same
 
   arms-none : old.armed ≡ None → Formats passes (device-of tells blocks) g file L (world-of old taken_before faults_before) (world-of new taken_after faults_after) status said → new.armed ≡ None
-  arms-none unarmed (starved nine is same none) = ap (λ (m : Moment). m.armed) same ∙ unarmed
+  arms-none unarmed (starved nine is same none) = ap (λ (m : TurnMoment). m.armed) same ∙ unarmed
   arms-none unarmed (tried good r t prints is) = t.unarmed
-  arms-none unarmed (list_refused same quiet refused) = ap (λ (m : Moment). m.armed) same ∙ unarmed
+  arms-none unarmed (list_refused same quiet refused) = ap (λ (m : TurnMoment). m.armed) same ∙ unarmed
 
   guards : Formats passes (device-of tells blocks) g file L (world-of old taken_before faults_before) (world-of new taken_after faults_after) status said → IsTrue tells → new.told.guard ≡ old.told.guard
-  guards (starved nine is same none) told = ap (λ (m : Moment). m.told.guard) same
+  guards (starved nine is same none) told = ap (λ (m : TurnMoment). m.told.guard) same
   guards (tried good r t prints is) told = t.guard told
-  guards (list_refused same quiet refused) told = ap (λ (m : Moment). m.told.guard) same
+  guards (list_refused same quiet refused) told = ap (λ (m : TurnMoment). m.told.guard) same
 
   -- a package that told files lack
   unread : (r : Result Formatted FormatStop) (M : Layout) → fitted L blocks ≡ Ok M → LayoutBy (fitted L blocks) r → IsOfLayout r ⊎ (r ≡ Err ReadFailed) → format_status r ≡ 2
@@ -110,7 +110,7 @@ module _ (passes : List ℕ → Bool) (tells : Bool) (g : Given) (file : List �
   }
 
   -- a list was refused, and nothing else was done
-  pub refused-formats : (planned : ℕ) (line : List ℕ) (n : model.Note) → new ≡ old → old.armed ≡ None → journal ≡ [] → IsFalse (is_beyond said) → noted said ≡ n
+  pub refused-formats : (planned : ℕ) (line : List ℕ) (n : model.Note) → new ≡ old → old.armed ≡ None → journal ≡ [] → IsFalse (is_beyond_model said) → noted said ≡ n
       → Refuses (Some (ask.format L.banks L.rows file)) g faults_before faults_after planned n line → Prints line planned status taken_before taken_after faults_before.sink faults_after.sink
       → FormattedBy passes (device-of tells blocks) g file L (end-of journal status said) (world-of old taken_before faults_before) (world-of new taken_after faults_after)
   refused-formats planned line n same unarmed none quiet is why prints =
@@ -126,7 +126,7 @@ pub none-some : {A : Type 0} (x : A) (o : Option A) → o ≡ None → o ≡ Som
 none-some x o none some = cc
 
 -- what is asked is one command
-pub formatted-as : (passes : List ℕ → Bool) (tells : Bool) (g : Given) (blocks : ℕ) (old new : Moment) (status : ℕ) (said : Note) (journal : List Turn) (taken_before taken_after : Option (List ℕ)) (faults_before faults_after : Faults)
+pub formatted-as : (passes : List ℕ → Bool) (tells : Bool) (g : Given) (blocks : ℕ) (old new : TurnMoment) (status : ℕ) (said : Note) (journal : List Turn) (taken_before taken_after : Option (List ℕ)) (faults_before faults_after : Faults)
     (asked : Option Asked) (b banks : ℕ) (items rows : List ImageRow) (f file : List ℕ) → asked ≡ Some (ask.format b items f) → asked ≡ Some (ask.format banks rows file) → old.armed ≡ None → journal ≡ []
     → Formats passes (device-of tells blocks) g f (record { banks = b; rows = items }) (world-of old taken_before faults_before) (world-of new taken_after faults_after) status said
     → FormattedBy passes (device-of tells blocks) g file (record { banks = banks; rows = rows }) (end-of journal status said) (world-of old taken_before faults_before) (world-of new taken_after faults_after)
@@ -140,7 +140,7 @@ formatted-as passes tells g blocks old new status said journal taken_before take
     (subst (λ (l : List ℕ). Formats passes (device-of tells blocks) g l (record { banks = b; rows = items }) (world-of old taken_before faults_before) (world-of new taken_after faults_after) status said) same-file formats)) in
     by-formats passes tells g file (record { banks = banks; rows = rows }) blocks old new status said journal taken_before taken_after faults_before faults_after unarmed none here
 
-module _ (passes : List ℕ → Bool) (tells : Bool) (told files : Option Directory) (name : List ℕ) (script : Option (List ℕ)) (file : List ℕ) (L : Layout) (blocks : ℕ) (old new : Moment) (status : ℕ) (said : Note) (journal : List Turn) (taken_before taken_after : Option (List ℕ)) (first faults_before faults_after : Faults) where
+module _ (passes : List ℕ → Bool) (tells : Bool) (told files : Option Directory) (name : List ℕ) (script : Option (List ℕ)) (file : List ℕ) (L : Layout) (blocks : ℕ) (old new : TurnMoment) (status : ℕ) (said : Note) (journal : List Turn) (taken_before taken_after : Option (List ℕ)) (first faults_before faults_after : Faults) where
   -- what is formatted without a list is formatted behind one that was read and is one
   pub formats-with-list : told ≡ files → HasGoodList (Some name) files → faults_before.files ≡ first.files → first.source ≡ faults_before.source → first.sink ≡ faults_before.sink → old.armed ≡ None
       → FormattedBy passes (device-of tells blocks) (record { list = None; files = told; script = script }) file L (end-of journal status said) (world-of old taken_before faults_before) (world-of new taken_after faults_after)

@@ -14,7 +14,7 @@ use Rattle.fwu_words.specs.Order.{asked}
 use Rattle.fwu_words.specs.Allow.{NamesList, NamesNone}
 use Rattle.script_cmd.specs.Asking.{asked_after, asked_with_list}
 use Rattle.script_runs.proofs.TopPrints.{by-plan}
-use Rattle.script_turns.specs.Powered.{Moment}
+use Rattle.script_turns.specs.Powered.{TurnMoment}
 use Rattle.host_io.specs.Printed.{Prints}
 use Rattle.script_cmd.specs.ByList.{ByList, HasPasses, IsIdle, ReadsList, StandsIn, may_lack_list}
 use Rattle.script_runs.specs.Ways.{HasGoodList}
@@ -97,10 +97,10 @@ by-list Has Idle P Q goes (inl (passes, has, p)) = inl (passes, has, goes passes
 by-list Has Idle P Q goes (inr (idle, all)) = inr (idle, λ passes. goes passes (all passes))
 
 -- nothing was done, for want of memory or for a line that stands alone
-pub idles : (journal : List Turn) (status : ℕ) (old new : Moment) → journal ≡ [] → new ≡ old → status ≡ 9 → IsIdle journal status old new
+pub idles : (journal : List Turn) (status : ℕ) (old new : TurnMoment) → journal ≡ [] → new ≡ old → status ≡ 9 → IsIdle journal status old new
 idles journal status old new none same nine = record { no_turns = none; same = same; status_is = subst (λ (n : ℕ). IsTrue (may_lack_list n)) (sym nine) refl }
 
-pub idles-at : (journal : List Turn) (status : ℕ) (old new : Moment) (line : List ℕ) (planned : ℕ) (taken_before taken_after : Option (List ℕ)) (faults_before faults_after : ℕ) → journal ≡ [] → new ≡ old → IsTrue (may_lack_list planned)
+pub idles-at : (journal : List Turn) (status : ℕ) (old new : TurnMoment) (line : List ℕ) (planned : ℕ) (taken_before taken_after : Option (List ℕ)) (faults_before faults_after : ℕ) → journal ≡ [] → new ≡ old → IsTrue (may_lack_list planned)
     → Prints line planned status taken_before taken_after faults_before faults_after → IsIdle journal status old new
 idles-at journal status old new line planned taken_before taken_after faults_before faults_after none same lacks prints =
     record { no_turns = none; same = same; status_is = by-plan line planned status taken_before taken_after faults_before faults_after prints may_lack_list refl refl lacks }

@@ -11,7 +11,7 @@ use Rattle.fwu_model.specs.declared.kinds.Note.TheVariants as note
 use Rattle.host_io.specs.Contents.{Directory}
 use Rattle.fwu_words.specs.Order.{Asked}
 use Rattle.fwu_words.specs.Order as ask
-use Rattle.script_turns.specs.Powered.{Moment}
+use Rattle.script_turns.specs.Powered.{TurnMoment}
 use Rattle.host_io.specs.Printed.{Prints}
 use Rattle.script_turns.specs.Turning.{NoneFalls}
 use Rattle.script_runs.specs.Ways.{Given, HasGoodList, Refuses}
@@ -30,7 +30,7 @@ falls-none counts = record { faults = le_refl counts.faults; cuts = le_refl coun
 
 -- ---- a bad list
 
-module _ (g : Given) (old new : Moment) (status : ℕ) (faults_before faults_after : Faults) where
+module _ (g : Given) (old new : TurnMoment) (status : ℕ) (faults_before faults_after : Faults) where
   pub starved-list : new ≡ old → status ≡ 9 → RefusesBadList g old new status faults_before faults_after
   starved-list same nine = record {
     lacking = λ lacks. (same, subst (λ (k : ℕ). IsTrue (may_fail_before k)) (sym nine) refl);
@@ -51,7 +51,7 @@ module _ (g : Given) (old new : Moment) (status : ℕ) (faults_before faults_aft
 
 -- ---- by how it ended
 
-module _ (tells : Bool) (g : Given) (old new : Moment) (status : ℕ) (noted : Note) (journal : List Turn) (taken_before taken_after : Option (List ℕ)) (faults_before faults_after : Faults) where
+module _ (tells : Bool) (g : Given) (old new : TurnMoment) (status : ℕ) (noted : Note) (journal : List Turn) (taken_before taken_after : Option (List ℕ)) (faults_before faults_after : Faults) where
   lists : Showed tells g (world-of old taken_before faults_before) (world-of new taken_after faults_after) status noted → RefusesBadList g old new status faults_before faults_after
   lists (starved nine quiet same none) = starved-list g old new status faults_before faults_after same nine
   lists (list_refused same refused) = refused-list g old new status faults_before faults_after ask.show noted taken_before taken_after same refused
@@ -74,8 +74,8 @@ module _ (tells : Bool) (g : Given) (old new : Moment) (status : ℕ) (noted : N
   -- nothing was done
   idle-shows : Showed tells g (world-of old taken_before faults_before) (world-of new taken_after faults_after) status noted → new ≡ old → old.armed ≡ None → journal ≡ [] → ShowedBy tells g (end-of journal status noted) (world-of old taken_before faults_before) (world-of new taken_after faults_after)
   idle-shows showed same unarmed none =
-      showed-by showed (λ told clean. ap (λ (m : Moment). m.told) same) (λ told. ap (λ (m : Moment). m.told.guard) same) none
-      (subst (λ (m : Moment). NoneFalls old.counts m.counts) (sym same) (falls-none old.counts)) (ap (λ (m : Moment). m.counts.made) same) (ap (λ (m : Moment). m.armed) same ∙ unarmed)
+      showed-by showed (λ told clean. ap (λ (m : TurnMoment). m.told) same) (λ told. ap (λ (m : TurnMoment). m.told.guard) same) none
+      (subst (λ (m : TurnMoment). NoneFalls old.counts m.counts) (sym same) (falls-none old.counts)) (ap (λ (m : TurnMoment). m.counts.made) same) (ap (λ (m : TurnMoment). m.armed) same ∙ unarmed)
 
   -- a list was refused
   pub refused-shows : (planned : ℕ) (line : List ℕ) (n : Note) → new ≡ old → old.armed ≡ None → journal ≡ [] → noted ≡ n → Refuses (Some ask.show) g faults_before faults_after planned n line → Prints line planned status taken_before taken_after faults_before.sink faults_after.sink
@@ -87,7 +87,7 @@ module _ (tells : Bool) (g : Given) (old new : Moment) (status : ℕ) (noted : N
   pub starved-shows : new ≡ old → old.armed ≡ None → journal ≡ [] → status ≡ 9 → noted ≡ note.Nothing → (taken_after ≡ taken_before) × (faults_after.sink ≡ faults_before.sink) → ShowedBy tells g (end-of journal status noted) (world-of old taken_before faults_before) (world-of new taken_after faults_after)
   starved-shows same unarmed none nine quiet stuck = idle-shows (starved nine quiet same stuck) same unarmed none
 
-module _ (tells : Bool) (told files : Option Directory) (name : List ℕ) (script : Option (List ℕ)) (old new : Moment) (status : ℕ) (noted : Note) (journal : List Turn) (taken_before taken_after : Option (List ℕ)) (first faults_before faults_after : Faults) where
+module _ (tells : Bool) (told files : Option Directory) (name : List ℕ) (script : Option (List ℕ)) (old new : TurnMoment) (status : ℕ) (noted : Note) (journal : List Turn) (taken_before taken_after : Option (List ℕ)) (first faults_before faults_after : Faults) where
   -- what is shown without a list is shown behind one that was read and is one
   pub shows-with-list : HasGoodList (Some name) files → first.files ≤ faults_before.files → first.source ≡ faults_before.source → first.sink ≡ faults_before.sink
       → ShowedBy tells (record { list = None; files = told; script = script }) (end-of journal status noted) (world-of old taken_before faults_before) (world-of new taken_after faults_after)

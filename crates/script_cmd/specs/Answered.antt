@@ -1,13 +1,15 @@
 -- What is done for what the words ask for, by each command.
 use Rattle.std.specs.Prelude.{◌≡◌, ◌≤◌, ℕ, Bool, List, [], Option, Some, None, IfSome, IsTrue, IsFalse}
 use Rattle.fwu_formats.specs.Layout.{ImageRow}
+use Rattle.fwu_model.specs.Asked as model
 use Rattle.fwu_model.specs.Causes.{may_fail_before}
 use Rattle.fwu_words.specs.Order.{Asked}
 use Rattle.fwu_words.specs.Order as ask
-use Rattle.script_cmd.specs.Asking.{asks_beyond, asks_files, asks_package, asks_run, asks_source, leaves_on, RunsOrNone, over_table}
+use Rattle.script_cmd.specs.Asking.{asks_beyond, asks_files, asks_package, asks_source, leaves_on, RunsOrNone, over_table}
 use Rattle.script_runs.specs.Ending.{Device, Ending, World, in_model}
 use Rattle.script_cmd.specs.FormattedBy.{FormattedBy}
-use Rattle.script_runs.specs.Noted.{is_beyond}
+use Rattle.script_runs.specs.Noted.{is_beyond_model}
+use Rattle.script_runs.specs.Refusing.{in_short}
 use Rattle.script_cmd.specs.Promises.{given_to}
 use Rattle.script_turns.specs.Runs.{calls_of, sends_none}
 use Rattle.script_cmd.specs.ServeWays.{ServeWay}
@@ -35,15 +37,14 @@ pub record Answered {H I : Type 0} (passes : List ℕ → Bool) (device : Device
   pub soaks : (seed rounds : ℕ) → inputs.asked ≡ Some (ask.soak seed rounds)
       → SoakWay device (given_all inputs) seed rounds ending old new
   pub serves : inputs.asked ≡ Some ask.serve → ServeWay passes device.tells (given_all inputs) (in_model ending) old new rest
-  pub read_to_end : ending.status ≡ 0 → inputs.asked ≡ Some ask.run → IfSome rest (λ r. r ≡ [])
-  pub read_to_end_by_table : ending.status ≡ 0 → inputs.asked ≡ Some ask.run_partitioned
-      → IfSome rest (λ r. r ≡ [])
+  -- a script of the source is read to its end
+  pub read_to_end : ending.status ≡ 0 → in_short inputs.asked ≡ model.Source → IfSome rest (λ r. r ≡ [])
   pub power : IsTrue (leaves_on inputs.asked) → ending.status ≡ 0 → IsTrue new.flash.power
   -- only `run` and `serve` read the source, and not behind a list that told files lack, or that is none
   pub source : IsFalse (asks_source inputs.asked) → source_after ≡ source_before
   pub list_first : (HasGoodList inputs.list inputs.files → ⊥) → source_after ≡ source_before
-  pub in_time : IsTrue (asks_run inputs.asked) → ReadsInTime inputs.source rest
-  pub source_count : IsTrue (asks_run inputs.asked)
+  pub in_time : in_short inputs.asked ≡ model.Source → ReadsInTime inputs.source rest
+  pub source_count : in_short inputs.asked ≡ model.Source
       → FailsOnce ending.journal ending.status old.faults.source new.faults.source
   -- only `run`, `format` and a list read files, and where no turn is a `send`, `run` does not
   pub files : inputs.list ≡ None → IsFalse (asks_files inputs.asked) → files_after ≡ files_before
@@ -52,7 +53,7 @@ pub record Answered {H I : Type 0} (passes : List ℕ → Bool) (device : Device
   -- then no other file than the list is asked for
   pub list_alone : IsFalse (asks_package inputs.asked) → IsTrue (sends_none (calls_of ending.journal))
       → IsFalse (may_fail_before ending.status) → new.faults.files ≡ old.faults.files
-  pub note : IsFalse (asks_beyond inputs.asked) → IsFalse (is_beyond ending.noted)
+  pub note : IsFalse (asks_beyond inputs.asked) → IsFalse (is_beyond_model ending.noted)
   -- no count of failures falls
   pub later_files : old.faults.files ≤ new.faults.files
   pub later_source : old.faults.source ≤ new.faults.source

@@ -2,7 +2,7 @@
 use Rattle.std.specs.Prelude.{◌≡◌, ◌⊎◌, ℕ, ⊤, Bool, true, false, ◌||◌, ◌==◌, List, [], Option, Some, None, Ok, IsTrue}
 use Rattle.fwu_model.specs.Reply.{Turn}
 use Rattle.fwu_formats.specs.Digests.{digests_of, passes_any, passes_listed}
-use Rattle.script_turns.specs.Powered.{Moment}
+use Rattle.script_turns.specs.Powered.{TurnMoment}
 
 -- the file of this name has these bytes, where the files are told
 abbrev pub StandsIn : Option (List ℕ → Option (List ℕ)) → List ℕ → List ℕ → Type 0
@@ -31,7 +31,7 @@ abbrev pub may_lack_list : ℕ → Bool
 may_lack_list status = (status == 1) || ((status == 2) || ((status == 3) || ((status == 9) || (status == 13))))
 
 -- nothing was done
-pub record IsIdle (journal : List Turn) (status : ℕ) (old new : Moment) : Type 0 where
+pub record IsIdle (journal : List Turn) (status : ℕ) (old new : TurnMoment) : Type 0 where
   pub no_turns : journal ≡ []
   pub same : new ≡ old
   pub status_is : IsTrue (may_lack_list status)

@@ -2,7 +2,7 @@
 use Rattle.std.specs.Prelude.{◌≡◌, ℕ, Err, IfSome, IsSome, IsTrue}
 use Rattle.flash_core.specs.Counts.{Rose}
 use Rattle.flash_core.specs.declared.flash.Counts.{Counts}
-use Rattle.script_turns.specs.Powered.{Moment}
+use Rattle.script_turns.specs.Powered.{TurnMoment}
 use Rattle.script_runs.specs.Ways.{Given}
 use Rattle.fwu_formats.specs.Digests.{digests_of}
 use Rattle.fwu_model.specs.Allow.{list_bytes}
@@ -11,7 +11,7 @@ use Rattle.fwu_model.specs.Wrote.{IsBadList}
 
 -- A list that told files lack is answered by 2, and one with a bad line by 13, or 2 where it could not be read; the sink may fail
 -- at that line, or memory be wanting. And nothing was done.
-pub record RefusesBadList (g : Given) (old new : Moment) (status : ℕ)
+pub record RefusesBadList (g : Given) (old new : TurnMoment) (status : ℕ)
     (faults_before faults_after : Faults) : Type 0 where
   pub lacking : LacksList g.files g.list → (new ≡ old) × IsTrue (may_fail_before status)
   pub bad : IfSome (list_bytes g.list g.files) (λ bytes. (n : ℕ) → digests_of bytes ≡ Err n

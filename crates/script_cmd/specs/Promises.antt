@@ -15,27 +15,28 @@ use Rattle.fwu_model.specs.Allow.{list_bytes}
 use Rattle.fwu_model.specs.Calm.{IsAtRest, IsGuarded}
 use Rattle.fwu_model.specs.Contract.{Premises, Asks}
 use Rattle.fwu_model.specs.Headline.{Headline, Outcome}
-use Rattle.fwu_model.specs.Wrote.{Wrote, script_asked}
+use Rattle.fwu_model.specs.Asked.{script_asked}
+use Rattle.fwu_model.specs.Wrote.{Wrote}
 use Rattle.fwu_model.specs.Causes.{EndsAs, IsServed, cuts_in, may_fail_before}
 use Rattle.fwu_model.specs.declared.kinds.Note.{Note}
 use Rattle.fwu_words.specs.Order.{Asked}
 use Rattle.fwu_words.specs.Order as ask
-use Rattle.script_runs.specs.Refusing.{plainly}
-use Rattle.script_cmd.specs.BootWord.{BootsBy}
+use Rattle.script_runs.specs.Refusing.{in_short}
+use Rattle.script_cmd.specs.BootWord.{BootWordBy}
 use Rattle.script_runs.specs.Ending.{Ending, World}
 use Rattle.script_turns.specs.Booted.{BootsFrom}
-use Rattle.script_turns.specs.Powered.{Moment, SameDevice, at}
-use Rattle.script_turns.specs.Runs.{Follows, RunsFree, power_left, stops_of}
+use Rattle.script_turns.specs.Powered.{TurnMoment, SameDevice, at}
+use Rattle.script_turns.specs.Runs.{Follows, LossesAreDue, RunsFree, power_left, stops_of}
 use Rattle.script_runs.specs.Ways.{Given, Refuses, Way}
 use Rattle.script_cmd.specs.Handed.{Inputs}
 
 -- what the program was given to read, with the script that its words and its source give
 abbrev pub given_to : Inputs → Given
 given_to inputs =
-    record { list = inputs.list; files = inputs.files; script = script_asked (plainly inputs.asked) inputs.source }
+    record { list = inputs.list; files = inputs.files; script = script_asked (in_short inputs.asked) inputs.source }
 
 -- what it was asked for, and what it left
-abbrev pub outcome : List Call → List Turn → ℕ → Moment → Moment → Outcome
+abbrev pub outcome : List Call → List Turn → ℕ → TurnMoment → TurnMoment → Outcome
 outcome calls journal status old new =
     record {
       calls = calls;
@@ -52,7 +53,7 @@ abbrev pub HeadlineHolds : (List ℕ → Bool) → Bool → Inputs → Ending No
 HeadlineHolds passes tells inputs ending old new =
     IsTrue tells → (E : Setting) (start : State) (calls : List Call)
     → Premises E start old.flash.told inputs.files passes old.flash.counts new.flash.counts
-    → Asks (plainly inputs.asked) inputs.source calls
+    → Asks (in_short inputs.asked) inputs.source calls
     → Headline E start (outcome calls ending.journal ending.status old.flash new.flash)
 
 -- what the sink took, where it tells that
@@ -65,7 +66,7 @@ WroteHolds asked g ending old new =
 -- why it ended as it did
 abbrev pub EndsHold : Option Asked → Given → Ending Note → World → World → Type 0
 EndsHold asked g ending old new =
-    EndsAs (plainly asked) g.list g.files g.script ending.status ending.noted ending.journal
+    EndsAs (in_short asked) g.list g.files g.script ending.status ending.noted ending.journal
     old.flash.counts new.flash.counts old.faults new.faults
 
 -- What each turn did, on any device, one after the other from the device as it was handed in to what is left of it: its reply, what
@@ -84,32 +85,34 @@ pub record RepliesHold (passes : List ℕ → Bool) (tells : Bool) (files : Opti
 
 -- The one command `boot`, on any flash with nothing dirty, where no failure and no loss stopped it,
 -- and the list had no bad line, goes by the bytes.
-abbrev pub BootWordHolds : (List ℕ → Bool) → Bool → Option Asked → Ending Note → Moment → Moment → Type 0
+abbrev pub BootWordHolds : (List ℕ → Bool) → Bool → Option Asked → Ending Note → TurnMoment → TurnMoment → Type 0
 BootWordHolds passes tells asked ending old new =
     IsTrue tells → NothingDirty old.told → asked ≡ Some ask.boot
     → IsFalse (may_fail_before ending.status || (ending.status == 13))
     → (Rose old.counts.faults new.counts.faults → ⊥) → (Rose old.counts.cuts new.counts.cuts → ⊥)
     → (Rose old.counts.reached new.counts.reached → ⊥)
-    → BootsBy passes old.told.now ending.status ending.noted ending.journal
+    → BootWordBy passes old.told.now ending.status ending.noted ending.journal
 
 -- What a run does to any device: where no turn ran it is as it was; its power is by the replies; no failure and no loss is counted
--- but those that its turns tell; the same blocks are guarded; and where no turn is a `cut`, no armed loss is reached.
-pub record LeavesDevice (tells : Bool) (journal : List Turn) (old new : Moment) : Type 0 where
+-- but those that its turns tell; the same blocks are guarded; where no turn is a `cut`, no armed loss is reached; and no `cut` gives
+-- more than one lost turn.
+pub record RunLeaves (tells : Bool) (journal : List Turn) (old new : TurnMoment) : Type 0 where
   pub untouched : journal ≡ [] → SameDevice old new
   pub power : new.power ≡ power_left old.power journal
   pub once : all_stops new.counts ≤ all_stops old.counts + stops_of journal
   pub guard : IsTrue tells → new.told.guard ≡ old.told.guard
   pub free : old.armed ≡ None → cuts_in journal ≡ 0 → RunsFree journal old new
+  pub due : LossesAreDue journal old new
 
 -- on any flash with nothing dirty a first turn that is a boot goes by the bytes
-abbrev pub FirstHolds : (List ℕ → Bool) → Bool → List Turn → Moment → Type 0
+abbrev pub FirstHolds : (List ℕ → Bool) → Bool → List Turn → TurnMoment → Type 0
 FirstHolds passes tells journal old =
     IsTrue tells → NothingDirty old.told → (t : Turn) → slice_get journal 0 ≡ Some t
     → t.call ≡ call.Boot → BootsFrom passes old.told.now t.reply
 
 -- on any flash with nothing dirty, no loss then harms what is in use, even where a seal came about by chance; and with power
 -- nothing dirty or under way meets blocks 0 to 7
-abbrev pub GuardedHolds : Bool → Moment → Moment → Type 0
+abbrev pub GuardedHolds : Bool → TurnMoment → TurnMoment → Type 0
 GuardedHolds tells old new =
     IsTrue tells → NothingDirty old.told → Guards 1 7 old.told → IsGuarded new.told
     × (IsTrue new.power → IsAtRest new.told)
@@ -121,7 +124,7 @@ pub record RanHolds (passes : List ℕ → Bool) (tells : Bool) (files : Option 
   -- there, and with which numbers it begins. While off all else is answered `off`. What an armed loss counts of the turn is known.
   pub replies : RepliesHold passes tells files journal old new
   -- For every device: where no turn ran it is as it was, and its power is by the replies.
-  pub device : LeavesDevice tells journal old.flash new.flash
+  pub device : RunLeaves tells journal old.flash new.flash
   -- On any flash with nothing dirty, sound or not: a first turn that is a boot goes by the bytes.
   pub first : FirstHolds passes tells journal old.flash
   -- From a flash with nothing dirty, sound or not: no loss may harm what is in use, and with power it is at rest.
@@ -132,9 +135,9 @@ abbrev pub CompleteHolds : (List ℕ → Bool) → Bool → Inputs → Ending No
 CompleteHolds passes tells inputs ending old new =
     IsTrue tells → (E : Setting) (start : State) (calls : List Call) (script : List ℕ)
     → Premises E start old.flash.told inputs.files passes old.flash.counts new.flash.counts
-    → Asks (plainly inputs.asked) inputs.source calls
-    → script_asked (plainly inputs.asked) inputs.source ≡ Some script
-    → IsServed (outcome calls ending.journal ending.status old.flash new.flash) (plainly inputs.asked)
+    → Asks (in_short inputs.asked) inputs.source calls
+    → script_asked (in_short inputs.asked) inputs.source ≡ Some script
+    → IsServed (outcome calls ending.journal ending.status old.flash new.flash) (in_short inputs.asked)
     inputs.list inputs.files script old.faults new.faults
     → (ending.status ≡ 0) ⊎ (ending.status ≡ 9)
 
@@ -162,7 +165,7 @@ abbrev pub WaysLeaveTheDevice : Type 0
 WaysLeaveTheDevice =
     (passes : List ℕ → Bool) (tells : Bool) (asked : Option Asked) (g : Given) (ending : Ending Note) (old new : World)
     → Way passes tells asked g ending old new
-    → LeavesDevice tells ending.journal old.flash new.flash
+    → RunLeaves tells ending.journal old.flash new.flash
 
 abbrev pub WaysBootFirst : Type 0
 WaysBootFirst =

@@ -17,12 +17,12 @@ use Rattle.fwu_model.specs.Sound.{Setting}
 use Rattle.fwu_model.specs.Causes.{IsServed}
 use Rattle.fwu_model.specs.Contract.{Premises, Asks}
 use Rattle.fwu_model.specs.Headline.{Headline}
-use Rattle.fwu_model.specs.Wrote.{script_asked}
+use Rattle.fwu_model.specs.Asked.{script_asked}
 use Rattle.script_runs.specs.declared.done.Note.{Note}
-use Rattle.script_runs.specs.Refusing.{plainly}
+use Rattle.script_runs.specs.Refusing.{in_short}
 use Rattle.script_runs.specs.ByTable.{Starts, seen_at}
 use Rattle.script_runs.specs.Ending.{Device, Ending, World, in_model}
-use Rattle.script_turns.specs.Powered.{Moment}
+use Rattle.script_turns.specs.Powered.{TurnMoment}
 use Rattle.script_cmd.specs.Promises.{Promised, given_to, outcome}
 use Rattle.script_cmd.specs.Handed.{Inputs}
 use Rattle.script_runs.specs.WaysByTable.{WayByTable}
@@ -31,7 +31,7 @@ use Rattle.script_runs.specs.WaysByTable.{WayByTable}
 pub record RunsByTable (passes : List ℕ → Bool) (device : Device) (inputs : Inputs) (ending : Ending Note)
     (old new : World) : Type 0 where
   pub places : Places
-  pub start : Moment
+  pub start : TurnMoment
   pub starts : Starts device.tells device.blocks old.flash places start
   -- no turn changed anything besides the three partitions, and nothing there is unsure
   pub beside : IsTrue device.tells → Beside places start.told new.flash.told
@@ -50,12 +50,12 @@ pub record TableGives (blocks : ℕ) (image : List ℕ) (p : Places) : Type 0 wh
   pub gives : places_of blocks table ≡ Ok p
 
 -- from a sound flash behind a valid table the headline, for the calls that are asked for
-abbrev pub HeadlineByTable : (List ℕ → Bool) → Device → Inputs → Ending Note → Moment → Moment → Type 0
+abbrev pub HeadlineByTable : (List ℕ → Bool) → Device → Inputs → Ending Note → TurnMoment → TurnMoment → Type 0
 HeadlineByTable passes device inputs ending old new =
     IsTrue device.tells → (p : Places) (E : Setting) (start : State) (calls : List Call)
     → NothingDirty old.told → TableGives device.blocks old.told.now p
     → Premises E start (view_of p old.told) inputs.files passes old.counts new.counts
-    → Asks (plainly inputs.asked) inputs.source calls → (ending.journal ≢ []) ⊎ (ending.status ≡ 0)
+    → Asks (in_short inputs.asked) inputs.source calls → (ending.journal ≢ []) ⊎ (ending.status ≡ 0)
     → Headline E start (outcome calls ending.journal ending.status (seen_at p old) (seen_at p new))
 
 -- Where no turn ran and not all was done, the flash behind a valid table is the same in each image that a loss may
@@ -65,7 +65,7 @@ pub record KeepsFlash (blocks : ℕ) (p : Places) (table : Table) (old new : Tol
   pub decides : HeadersGuarded blocks old → (image : List ℕ) → May new image
       → DecidesTable blocks table image
 
-abbrev pub KeptByTable : Device → Ending Note → Moment → Moment → Type 0
+abbrev pub KeptByTable : Device → Ending Note → TurnMoment → TurnMoment → Type 0
 KeptByTable device ending old new =
     IsTrue device.tells → (p : Places) → NothingDirty old.told → (gives : TableGives device.blocks old.told.now p)
     → ending.journal ≡ [] → ending.status ≢ 0 → KeepsFlash device.blocks p gives.table old.told new.told
@@ -77,9 +77,9 @@ CompleteByTable passes device inputs ending old new =
     IsTrue device.tells → (p : Places) (E : Setting) (start : State) (calls : List Call) (script : List ℕ)
     → NothingDirty old.flash.told → TableGives device.blocks old.flash.told.now p
     → Premises E start (view_of p old.flash.told) inputs.files passes old.flash.counts new.flash.counts
-    → Asks (plainly inputs.asked) inputs.source calls → script_asked (plainly inputs.asked) inputs.source ≡ Some script
+    → Asks (in_short inputs.asked) inputs.source calls → script_asked (in_short inputs.asked) inputs.source ≡ Some script
     → IsServed (outcome calls ending.journal ending.status (seen_at p old.flash) (seen_at p new.flash))
-    (plainly inputs.asked) inputs.list inputs.files script old.faults new.faults
+    (in_short inputs.asked) inputs.list inputs.files script old.faults new.faults
     → (ending.journal ≡ [] → Rose old.flash.counts.cuts new.flash.counts.cuts → ⊥)
     → (ending.status ≡ 0) ⊎ (ending.status ≡ 9)
 

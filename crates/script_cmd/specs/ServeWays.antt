@@ -7,11 +7,11 @@ use Rattle.fwu_words.specs.Order as ask
 use Rattle.agent_machine.specs.Fields.{Fields}
 use Rattle.host_io.specs.Contents.{Directory}
 use Rattle.script_turns.specs.Powered.{at}
-use Rattle.wire_frames.specs.Exchange.{Answered}
+use Rattle.wire_frames.specs.Exchange.{LastAnswer}
 use Rattle.serving.specs.Ends.{status_of}
-use Rattle.serving.specs.Holds.{Holds}
+use Rattle.serving.specs.Holds.{ServingHolds}
 use Rattle.serving.specs.Scene.{At, Port, port, scene}
-use Rattle.serving.specs.Starting.{Serves}
+use Rattle.serving.specs.Starting.{ServesFrom}
 use Rattle.serving.specs.declared.ends.ServeEnd.{ServeEnd}
 use Rattle.serving.specs.declared.ends.ServeEnd.TheVariants as end
 use Rattle.script_runs.specs.Ending.{Ending, PutsNone, World}
@@ -27,8 +27,8 @@ abbrev pub sink_of : World → Port
 sink_of w = port w.taken w.faults.sink
 
 -- what a serving leaves: what the agent keeps at last, and the last reply, come to the turns and the world
-abbrev pub left_at : Option Fields → Answered → List Turn → World → At
-left_at on exchange journal new =
+abbrev pub left_by_serving : Option Fields → LastAnswer → List Turn → World → At
+left_by_serving on exchange journal new =
     record {
       run = record { moment = at on new.flash.told new.flash.counts new.flash.armed new.flash.power; journal = journal };
       exchange = exchange;
@@ -39,12 +39,14 @@ left_at on exchange journal new =
 pub record ServesSource (passes : List ℕ → Bool) (tells : Bool) (files : Option Directory) (stream : Option (List ℕ))
     (e : ServeEnd) (journal : List Turn) (old new : World) (rest : Option (List ℕ)) : Type 0 where
   pub on : Option Fields
-  pub exchange : Answered
+  pub exchange : LastAnswer
   -- what was taken, done and written
-  pub serves : Serves (scene passes tells files old.faults.files) old.flash (sink_of old) (left_at on exchange journal new) e
+  pub serves : ServesFrom (scene passes tells files old.faults.files) old.flash (sink_of old)
+      (left_by_serving on exchange journal new) e
       (port stream old.faults.source) (port rest new.faults.source)
   -- that its turns are a run, and why it ended so
-  pub holds : Holds (scene passes tells files old.faults.files) old.flash (sink_of old) (left_at on exchange journal new) e
+  pub holds : ServingHolds (scene passes tells files old.faults.files) old.flash (sink_of old)
+      (left_by_serving on exchange journal new) e
       (port stream old.faults.source) (port rest new.faults.source)
 
 -- nothing was read of the source

@@ -22,7 +22,7 @@ use Rattle.fwu_model.specs.declared.kinds.NoBoot.{NoBoot}
 use Rattle.fwu_model.specs.declared.kinds.Note.{Note}
 use Rattle.fwu_model.specs.declared.kinds.Note.TheVariants as note
 use Rattle.fwu_words.specs.Order as ask
-use Rattle.script_turns.specs.Powered.{Moment}
+use Rattle.script_turns.specs.Powered.{TurnMoment}
 use Rattle.script_turns.specs.Runs.{calls_of}
 use Rattle.script_runs.specs.Ending.{Ending, World}
 use Rattle.script_cmd.specs.Promises.{RanHolds, outcome}
@@ -33,7 +33,7 @@ use Rattle.script_runs.specs.Ways.{Given, Refuses}
 -- ---- the turns
 
 -- from a sound flash the turns are those of the machine
-abbrev pub ServedHeadline : (List ℕ → Bool) → Bool → Option Directory → Ending Note → Moment → Moment → Type 0
+abbrev pub ServedHeadline : (List ℕ → Bool) → Bool → Option Directory → Ending Note → TurnMoment → TurnMoment → Type 0
 ServedHeadline passes tells files ending old new =
     IsTrue tells → (E : Setting) (start : State) → Premises E start old.told files passes old.counts new.counts
     → Headline E start (outcome (calls_of ending.journal) ending.journal ending.status old new)

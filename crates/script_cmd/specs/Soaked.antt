@@ -14,9 +14,9 @@ use Rattle.fwu_model.specs.Wrote.{IsBadList}
 use Rattle.gen_core.specs.Calls.{soak_calls}
 use Rattle.gen_core.specs.Generated.{generated_images}
 use Rattle.gen_core.specs.Line.{soak_line}
-use Rattle.gen_core.specs.Rounds.{sizes_of}
+use Rattle.gen_core.specs.Rounds.{sizes_in_round}
 use Rattle.gen_core.specs.Setup.{is_too_small, soak_layout}
-use Rattle.script_turns.specs.Powered.{Moment}
+use Rattle.script_turns.specs.Powered.{TurnMoment}
 use Rattle.script_turns.specs.Turning.{NoneFalls}
 use Rattle.script_runs.specs.Ending.{Device, Ending, World}
 use Rattle.script_cmd.specs.Promises.{outcome}
@@ -33,12 +33,12 @@ soak_setting seed n = record { layout = soak_layout; files = soak_files seed n; 
 
 -- the images that the flash is formatted with
 abbrev pub first_images : ℕ → List (List ℕ)
-first_images seed = generated_images soak_layout.rows (sizes_of seed) 0 1
+first_images seed = generated_images soak_layout.rows (sizes_in_round seed) 0 1
 
 -- The flash was formatted with the first package, and from there on the turns are a run of the machine, of the first calls of the
 -- soak, all of them at the status 0.
-pub record RunsSoak (seed n : ℕ) (journal : List Turn) (status : ℕ) (new : Moment) : Type 0 where
-  pub start : Moment
+pub record RunsSoak (seed n : ℕ) (journal : List Turn) (status : ℕ) (new : TurnMoment) : Type 0 where
+  pub start : TurnMoment
   pub formatted : IsFormatted passes_any soak_layout 1 start.told
   pub run : Headline (soak_setting seed n) (first_state soak_layout (first_images seed))
       (outcome (soak_calls seed n) journal status start new)

@@ -33,8 +33,7 @@ pub fn answer_with<D: Flash, H: Files, I: Source, O: Sink, V: Verifier>(
     requires off { IsFalse (D.on flash) }
     requires unarmed { D.arming flash ≡ None }
     ensures answers { Answered (V.passes verifier.now) (device_of D.Flash flash)
-        (unlisted H.Files I.Source (map string_bytes words.now) files.old source.old)
-        (ending result)
+        (unlisted H.Files I.Source (map string_bytes words.now) files.old source.old) (ending result)
         (world D.Flash H.Files I.Source O.Sink flash files.old source.old sink.old)
         (world D.Flash H.Files I.Source O.Sink result.flash files.new source.new sink.new)
         (I.left source.new) files.old files.new source.old source.new }
@@ -94,8 +93,7 @@ pub fn answer<D: Flash, H: Files, I: Source, O: Sink>(
     requires off { IsFalse (D.on flash) }
     requires unarmed { D.arming flash ≡ None }
     ensures answers { AnswersHere D.Flash H.Files I.Source O.Sink
-        (HasPasses (asks_list (map string_bytes words.now)) (list_name (map string_bytes words.now))
-        (H.contents files.old))
+        (HasPasses (asks_list (map string_bytes words.now)) (list_name (map string_bytes words.now)) (H.contents files.old))
         (listed H.Files I.Source (map string_bytes words.now) files.old source.old)
         flash files.old source.old sink.old result files.new source.new sink.new }
     ensures same_files { H.contents files.new ≡ H.contents files.old }

@@ -4,7 +4,7 @@ ghost use Rattle.host_io.specs.Once.{ReadsOnce};
 ghost use Rattle.script_runs.specs.Done.{ending};
 ghost use Rattle.script_runs.specs.Ending.{in_model};
 ghost use Rattle.flash_commands.specs.Here.{without_list};
-ghost use Rattle.script_runs.specs.Noted.{is_beyond, noted};
+ghost use Rattle.script_runs.specs.Noted.{is_beyond_model, noted};
 ghost use Rattle.script_cmd.specs.ServeWays.{ServeWay, note_of};
 ghost use Rattle.script_cmd.specs.Here.{world};
 
@@ -19,7 +19,7 @@ use verify_core::Verifier;
 /// What is noted of how a serving ended.
 fn note_of(end: ServeEnd) -> Note
     ensures noted { noted result ≡ note_of end }
-    ensures note { IsFalse (is_beyond result) }
+    ensures note { IsFalse (is_beyond_model result) }
 {
     match end {
         ServeEnd::NotBooted(why) => Note::Boot(why),
@@ -45,10 +45,9 @@ pub fn serve_source<D: Flash, H: Files, I: Source, O: Sink, V: Verifier>(
     ensures way { ServeWay (V.passes verifier.now) D.tells
         (without_list H.Files (I.left source.old) files.old) (in_model (ending result))
         (world D.Flash H.Files I.Source O.Sink flash files.old source.old sink.old)
-        (world D.Flash H.Files I.Source O.Sink result.flash files.new source.new sink.new)
-        (I.left source.new) }
+        (world D.Flash H.Files I.Source O.Sink result.flash files.new source.new sink.new) (I.left source.new) }
     ensures files { files.new ≡ files.old }
-    ensures note { IsFalse (is_beyond result.note) }
+    ensures note { IsFalse (is_beyond_model result.note) }
     ensures later_source { I.faults source.old ≤ I.faults source.new }
     ensures once { ReadsOnce I.Source source.old source.new }
     ensures later_sink { O.faults sink.old ≤ O.faults sink.new }

@@ -16,14 +16,15 @@ use verify_core::Verifier;
 
 /// Does what the words behind the name of the flash ask for, by a verifier that says whose manifests pass.
 ///
-/// `run` reads the source to its end, reads the script, and only then does its lines in order; `boot` is the script of the one
-/// line `boot`. Each line that is a call is one turn, which is kept in the journal and printed in one piece. A line of `send`
-/// reads the file that it names, and no other line reads one. Where that file can't be read, the flash failed or nothing could be
-/// booted, the run ends after the line of that turn, by the status 2, 5 or 6. `show` prints what the flash shows. `format` makes
-/// a layout and stores a package. The room for all turns and for the longest line is made before the first turn, and status 9
-/// with an empty journal means that there was none. `soak` formats the flash and does rounds of updates and power cuts that are
-/// drawn from a number, by any manifest, and prints one line; it makes room for its turns round by round. `serve` boots, and then
-/// answers each request of the source by a frame before it reads on; it makes room for its turns one by one, and prints no line.
+/// This is how the body goes; what is promised of it, the clauses say. `run` reads the source to its end, reads the script, and
+/// only then does its lines in order; `boot` is the script of the one line `boot`. Each line that is a call is one turn, which is
+/// kept in the journal and printed in one piece. A line of `send` reads the file that it names, and no other line reads one. Where
+/// that file can't be read, the flash failed or nothing could be booted, the run ends after the line of that turn, by the status 2,
+/// 5 or 6. `show` prints what the flash shows. `format` makes a layout and stores a package. The room for all turns and for the
+/// longest line is made before the first turn, and status 9 with an empty journal means that there was none. `soak` formats the
+/// flash and does rounds of updates and power cuts that are drawn from a number, by any manifest, and prints one line; it makes room
+/// for its turns round by round. `serve` boots, and then answers each request of the source by a frame before it reads on; it makes
+/// room for its turns one by one, and prints no line.
 pub fn fwu_top_with<D: Flash, H: Files, I: Source, O: Sink, V: Verifier>(
     alloc: Global,
     words: &[String],
@@ -37,8 +38,7 @@ pub fn fwu_top_with<D: Flash, H: Files, I: Source, O: Sink, V: Verifier>(
     requires unarmed { D.arming flash ≡ None }
 
     ensures serves { Serves (V.passes verifier.now) (device_of D.Flash flash)
-        (unlisted H.Files I.Source (map string_bytes words.now) files.old source.old)
-        (ending result)
+        (unlisted H.Files I.Source (map string_bytes words.now) files.old source.old) (ending result)
         (world D.Flash H.Files I.Source O.Sink flash files.old source.old sink.old)
         (world D.Flash H.Files I.Source O.Sink result.flash files.new source.new sink.new)
         (I.left source.new) files.old files.new source.old source.new }
@@ -68,8 +68,7 @@ pub fn fwu_top<D: Flash, H: Files, I: Source, O: Sink>(
 
     // By the manifests that the list has; where no list was read nothing was done, and it holds whichever pass.
     ensures serves { ServesByList (map string_bytes words.now) (device_of D.Flash flash)
-        (listed H.Files I.Source (map string_bytes words.now) files.old source.old)
-        (ending result)
+        (listed H.Files I.Source (map string_bytes words.now) files.old source.old) (ending result)
         (world D.Flash H.Files I.Source O.Sink flash files.old source.old sink.old)
         (world D.Flash H.Files I.Source O.Sink result.flash files.new source.new sink.new)
         (I.left source.new) files.old files.new source.old source.new }

@@ -1,29 +1,26 @@
--- The words that ask for turns, and the scripts that they ask for.
-use Rattle.std.proofs.Common.{◌≡◌, ℕ, false, List, [], ◌∷◌, Option, Some, None, Ok, refl, ap, inl, inr, IsTrue, IsFalse}
+-- What asks for turns, and the scripts that are asked for.
+use Rattle.std.proofs.Common.{◌≡◌, ◌≢◌, ℕ, false, List, [], ◌∷◌, Option, Some, Ok, refl, sym, ap, ◌∙◌, inl, inr}
 use Rattle.std.specs.Prelude.{Result, codes}
 use Rattle.fwu_model.specs.Call.{Call}
 use Rattle.fwu_model.specs.Call as call
 use Rattle.fwu_model.specs.Script.{script_of, line_of, is_too_long}
-use Rattle.fwu_model.specs.Wrote.{script_asked}
-use Rattle.fwu_model.specs.Causes.{runs_script, reads_source}
+use Rattle.fwu_model.specs.Asked as model
+use Rattle.fwu_model.specs.Asked.{script_asked}
 use Rattle.fwu_words.specs.Order.{Asked}
 use Rattle.fwu_words.specs.Order as ask
-use Rattle.script_runs.specs.Refusing.{plainly}
+use Rattle.script_runs.specs.Refusing.{in_short}
 use Rattle.script_runs.specs.Ways.{AsksTurns}
 
--- ---- the words
+-- ---- what is asked
 
-pub asks-none : (asked : Option Asked) → asked ≡ None → IsFalse (runs_script (plainly asked))
-asks-none asked is = ap (λ (a : Option Asked). runs_script (plainly a)) is
+pub asks-turns : (asked : Option Asked) → AsksTurns asked → in_short asked ≢ model.NoScript
+asks-turns asked is none = elim is [ inl run ↦ source-some (sym (ap in_short run) ∙ none) | inr boot ↦ boot-some (sym (ap in_short boot) ∙ none) ]
+  where
+    source-some : model.Source ≡ model.NoScript → ⊥
+    source-some e = cc
 
-pub asks-turns : (asked : Option Asked) → AsksTurns asked → IsTrue (runs_script (plainly asked))
-asks-turns asked is = elim is [
-  | inl run ↦ ap (λ (a : Option Asked). runs_script (plainly a)) run
-  | inr boot ↦ ap (λ (a : Option Asked). runs_script (plainly a)) boot
-]
-
-pub asks-run : (asked : Option Asked) → asked ≡ Some ask.run → IsTrue (reads_source (plainly asked))
-asks-run asked is = ap (λ (a : Option Asked). reads_source (plainly a)) is
+    boot-some : model.Boot ≡ model.NoScript → ⊥
+    boot-some e = cc
 
 -- ---- the script of `boot`
 
@@ -40,8 +37,5 @@ boot-is-short = refl
 
 -- ---- the script that is asked for
 
-pub boot-script : (asked : Option Asked) (source : Option (List ℕ)) → asked ≡ Some ask.boot → script_asked (plainly asked) source ≡ Some (codes "boot\n")
-boot-script asked source is = ap (λ (a : Option Asked). script_asked (plainly a) source) is
-
-pub run-script : (asked : Option Asked) (source : Option (List ℕ)) → asked ≡ Some ask.run → script_asked (plainly asked) source ≡ source
-run-script asked source is = ap (λ (a : Option Asked). script_asked (plainly a) source) is
+pub boot-script : (asked : Option Asked) (source : Option (List ℕ)) → asked ≡ Some ask.boot → script_asked (in_short asked) source ≡ Some (codes "boot\n")
+boot-script asked source is = ap (λ (a : Option Asked). script_asked (in_short a) source) is

@@ -12,8 +12,8 @@ use Rattle.fwu_words.specs.declared.orders.Place.TheVariants as place
 use Rattle.fwu_words.specs.declared.orders.ScriptFrom.{ScriptFrom}
 use Rattle.fwu_words.specs.declared.orders.ScriptFrom.TheVariants as origin
 use Rattle.host_io.specs.Printed.{Prints}
-use Rattle.script_turns.specs.Powered.{Moment}
-use Rattle.script_runs.specs.Noted.{is_beyond, noted}
+use Rattle.script_turns.specs.Powered.{TurnMoment}
+use Rattle.script_runs.specs.Noted.{is_beyond_model, noted}
 use Rattle.script_runs.specs.Refusing.{LacksScript, plain_of, refusal_line, refusal_note, refusal_status, text_of, bad, starved, too_long, unread}
 use Rattle.script_runs.specs.Sourced.{FailsOnce}
 use Rattle.script_runs.specs.Ways.{AsksTurns, Given, HasGoodList, Way}
@@ -53,13 +53,13 @@ planned-some why.Stopped zero = absurd (omega arith)
 planned-some why.NoMemory zero = absurd (omega arith)
 
 -- what is noted then the definitions note too
-pub lacks-quiet : (from : ScriptFrom) (left : Option (List ℕ)) (before after : ℕ) (met : Refusal) (said : Note) → LacksScript from left before after met → said ≡ refusal_note met → IsFalse (is_beyond said)
-lacks-quiet from left before after met said (unread is once) told = ap is_beyond told
-lacks-quiet from left before after met said (too_long is long once) told = ap is_beyond told
-lacks-quiet from left before after met said (bad n short wrong once) told = ap is_beyond told
-lacks-quiet from left before after met said (starved once) told = ap is_beyond told
+pub lacks-quiet : (from : ScriptFrom) (left : Option (List ℕ)) (before after : ℕ) (met : Refusal) (said : Note) → LacksScript from left before after met → said ≡ refusal_note met → IsFalse (is_beyond_model said)
+lacks-quiet from left before after met said (unread is once) told = ap is_beyond_model told
+lacks-quiet from left before after met said (too_long is long once) told = ap is_beyond_model told
+lacks-quiet from left before after met said (bad n short wrong once) told = ap is_beyond_model told
+lacks-quiet from left before after met said (starved once) told = ap is_beyond_model told
 
-module _ (passes : List ℕ → Bool) (tells : Bool) (blocks : ℕ) (journal : List Turn) (status : ℕ) (said : Note) (old new : Moment) (taken_before taken_after : Option (List ℕ)) (from : ScriptFrom) (g : Given) (left : Option (List ℕ)) (was are : Faults) where
+module _ (passes : List ℕ → Bool) (tells : Bool) (blocks : ℕ) (journal : List Turn) (status : ℕ) (said : Note) (old new : TurnMoment) (taken_before taken_after : Option (List ℕ)) (from : ScriptFrom) (g : Given) (left : Option (List ℕ)) (was are : Faults) where
   -- where there is no script, nothing was done, and the line of that was put
   way-lacks : (met : Refusal) → HasGoodList g.list g.files → LacksScript from left was.source are.source met → journal ≡ [] → new ≡ old → said ≡ refusal_note met
       → Prints (refusal_line met) (refusal_status met) status taken_before taken_after was.sink are.sink → (met ≡ why.NoMemory → (status ≡ 9) × (taken_after ≡ taken_before) × (are.sink ≡ was.sink))

@@ -19,11 +19,25 @@ use Rattle.fwu_model.specs.Run.{ends_run}
 use Rattle.fwu_model.specs.Text.{line, text, call_word, reply_text}
 use Rattle.fwu_model.specs.Wrote.{may_lack}
 use Rattle.fwu_model.specs.Causes.{status_by, note_by}
-use Rattle.script_turns.specs.Powered.{Moment}
+use Rattle.script_turns.specs.Powered.{FitsMachine, TurnMoment}
+use Rattle.script_turns.specs.Turning.{Turns}
 use Rattle.host_io.specs.Printed.{FailsAtThree, Prints, all, front, nothing}
-use Rattle.script_runs.specs.Running.{Does, Steps, Ended, Writes, Printed, last_turn, status_of_last, note_of_last}
+use Rattle.script_runs.specs.Running.{DoesTurn, ScriptEnded, WritesLines, Printed, last_turn, status_of_last, note_of_last}
 use Rattle.script_turns.specs.Runs.{Ran, calls_of}
 use Rattle.script_turns.proofs.RunTurns.{ran-none, ran-on}
+
+-- ---- one turn
+
+-- What one turn leaves: it does the call c, it is kept, and its line was printed with this status.
+pub record Steps (passes : List ℕ → Bool) (tells : Bool) (files : Option Directory) (c : Call)
+    (before after : List Turn) (old new : TurnMoment) (from to : ℕ) (status : ℕ) (noted : Note)
+    (taken_before taken_after : Option (List ℕ)) (faults_before faults_after : ℕ) : Type 0 where
+  pub turn : Turn
+  pub turns : Turns passes tells files c turn old new from to
+  pub fits : FitsMachine tells new
+  pub kept : after ≡ before ++ turn ∷ []
+  pub prints : Prints (line turn.call turn.reply) (status_by turn.reply) status taken_before taken_after faults_before faults_after
+  pub noted_is : noted ≡ note_by turn.reply
 
 -- ---- the statuses of replies
 
@@ -95,11 +109,6 @@ module _ (piece : List ℕ) (plan status : ℕ) (old new : Option (List ℕ)) (w
 counts-from : (status was am are : ℕ) → am ≡ was → FailsAtThree status am are → FailsAtThree status was are
 counts-from status was am are same = subst (λ (n : ℕ). FailsAtThree status n are) same
 
--- a list of no length is empty
-pub none-left : {X : Type 0} (xs : List X) → length xs ≡ 0 → xs ≡ []
-none-left [] none = refl
-none-left (x ∷ xs) none = absurd (omega (arith, none))
-
 -- ---- the last turn
 
 last-push : (journal : List Turn) (t : Turn) → last_turn (journal ++ t ∷ []) ≡ Some t
@@ -135,7 +144,7 @@ some-push journal t empty = let len = ap length empty in omega (arith, len, leng
 
 module _ (script : List Call) (n : ℕ) (c : Call) (journal : List Turn) (t : Turn) (status : ℕ) (noted : Note) (taken mids takes : Option (List ℕ)) (was am are : ℕ) where
   ended-by : calls_of journal ≡ take n script → slice_get script n ≡ Some c → t.call ≡ c → Prints (line t.call t.reply) (status_by t.reply) status mids takes am are → noted ≡ note_by t.reply → status ≢ 0
-      → Ended script (journal ++ t ∷ []) status noted
+      → ScriptEnded script (journal ++ t ∷ []) status noted
   ended-by calls at is prints noted_is other = record {
     calls = (drop (n + 1) script, ap (λ (xs : List Call). xs ++ drop (n + 1) script) (calls-more script n c t journal calls at is) ∙ take-append-drop (n + 1) script);
     all_calls = λ zero_is. absurd (other zero_is);
@@ -147,7 +156,7 @@ module _ (script : List Call) (n : ℕ) (c : Call) (journal : List Turn) (t : Tu
   more-bytes : (piece before : List ℕ) → mids ≡ Some (before ++ text journal) → Appends mids takes piece → takes ≡ Some (before ++ (text journal ++ piece))
   more-bytes piece before is appends = appended mids takes piece (before ++ text journal) is appends ∙ ap Some (append_assoc before (text journal) piece)
 
-  whole-by : (before : List ℕ) → mids ≡ Some (before ++ text journal) → Prints (line t.call t.reply) (status_by t.reply) status mids takes am are → (w : List ℕ) × (takes ≡ Some (before ++ w)) × Writes (journal ++ t ∷ []) status w
+  whole-by : (before : List ℕ) → mids ≡ Some (before ++ text journal) → Prints (line t.call t.reply) (status_by t.reply) status mids takes am are → (w : List ℕ) × (takes ≡ Some (before ++ w)) × WritesLines (journal ++ t ∷ []) status w
   whole-by before is (all planned bytes later) = (
     text journal ++ line t.call t.reply,
     more-bytes (line t.call t.reply) before is bytes,
@@ -190,8 +199,8 @@ module _ (script : List Call) (n : ℕ) (c : Call) (journal : List Turn) (t : Tu
 -- ---- going on
 
 -- a turn whose line was put into the sink
-pub steps-printed : {passes : List ℕ → Bool} {tells : Bool} {files : Option Directory} {c : Call} {before after : List Turn} {old new : Moment} {from to plan : ℕ} {noted : Note} {text piece : List ℕ} {status : ℕ} {taken takes : Option (List ℕ)} {was are : ℕ}
-    → Does passes tells files c before after old new from to plan noted text → piece ≡ text → Prints piece plan status taken takes was are → Steps passes tells files c before after old new from to status noted taken takes was are
+pub steps-printed : {passes : List ℕ → Bool} {tells : Bool} {files : Option Directory} {c : Call} {before after : List Turn} {old new : TurnMoment} {from to plan : ℕ} {noted : Note} {text piece : List ℕ} {status : ℕ} {taken takes : Option (List ℕ)} {was are : ℕ}
+    → DoesTurn passes tells files c before after old new from to plan noted text → piece ≡ text → Prints piece plan status taken takes was are → Steps passes tells files c before after old new from to status noted taken takes was are
 steps-printed {piece = piece} {status = status} {taken = taken} {takes = takes} {was = was} {are = are} does is prints = record {
   turn = does.turn;
   turns = does.turns;
@@ -202,20 +211,20 @@ steps-printed {piece = piece} {status = status} {taken = taken} {takes = takes} 
 }
 
 -- what a turn leaves with these files, with files that are told the same
-pub steps-told : (passes : List ℕ → Bool) (tells : Bool) (told files : Option Directory) (c : Call) (before after : List Turn) (old new : Moment) (from to : ℕ) (status : ℕ) (noted : Note) (taken takes : Option (List ℕ)) (was are : ℕ)
+pub steps-told : (passes : List ℕ → Bool) (tells : Bool) (told files : Option Directory) (c : Call) (before after : List Turn) (old new : TurnMoment) (from to : ℕ) (status : ℕ) (noted : Note) (taken takes : Option (List ℕ)) (was are : ℕ)
     → told ≡ files → Steps passes tells told c before after old new from to status noted taken takes was are → Steps passes tells files c before after old new from to status noted taken takes was are
 steps-told passes tells told files c before after old new from to status noted taken takes was are same steps =
     subst (λ (f : Option Directory). Steps passes tells f c before after old new from to status noted taken takes was are) same steps
 
 -- A run that goes on: the first n calls of its script were done, none of their turns ended it, and the sink took all lines.
-pub record GoesOn (passes : List ℕ → Bool) (tells : Bool) (files : Option Directory) (script : List Call) (n : ℕ) (journal : List Turn) (old new : Moment) (from to : ℕ) (taken takes : Option (List ℕ)) (was are : ℕ) : Type 0 where
+pub record GoesOn (passes : List ℕ → Bool) (tells : Bool) (files : Option Directory) (script : List Call) (n : ℕ) (journal : List Turn) (old new : TurnMoment) (from to : ℕ) (taken takes : Option (List ℕ)) (was are : ℕ) : Type 0 where
   pub ran : Ran passes tells files journal old new from to
   pub calls : calls_of journal ≡ take n script
   pub on : IsFalse (list_any (λ (t : Turn). ends_run t.reply) journal)
   pub bytes : (before : List ℕ) → taken ≡ Some before → takes ≡ Some (before ++ text journal)
   pub quiet : are ≡ was
 
-module _ (passes : List ℕ → Bool) (tells : Bool) (files : Option Directory) (script : List Call) (old : Moment) (from : ℕ) (taken : Option (List ℕ)) (was : ℕ) where
+module _ (passes : List ℕ → Bool) (tells : Bool) (files : Option Directory) (script : List Call) (old : TurnMoment) (from : ℕ) (taken : Option (List ℕ)) (was : ℕ) where
   pub goes-none : old.on ≡ None → GoesOn passes tells files script 0 [] old old from from taken taken was was
   unfolding text
   goes-none off = record {
@@ -226,7 +235,7 @@ module _ (passes : List ℕ → Bool) (tells : Bool) (files : Option Directory) 
     quiet = refl;
   }
 
-  module _ (n : ℕ) (c : Call) (journal after : List Turn) (mid new : Moment) (through to : ℕ) (status : ℕ) (noted : Note) (mids takes : Option (List ℕ)) (am are : ℕ) where
+  module _ (n : ℕ) (c : Call) (journal after : List Turn) (mid new : TurnMoment) (through to : ℕ) (status : ℕ) (noted : Note) (mids takes : Option (List ℕ)) (am are : ℕ) where
     goes-push : old.on ≡ None → GoesOn passes tells files script n journal old mid from through taken mids was am → slice_get script n ≡ Some c → (step : Steps passes tells files c journal after mid new through to status noted mids takes am are) → status ≡ 0
         → GoesOn passes tells files script (n + 1) (journal ++ step.turn ∷ []) old new from to taken takes was are
     goes-push off goes at step zero_is =
@@ -248,9 +257,9 @@ module _ (passes : List ℕ → Bool) (tells : Bool) (files : Option Directory) 
     pub ends-ran : old.on ≡ None → GoesOn passes tells files script n journal old mid from through taken mids was am → Steps passes tells files c journal after mid new through to status noted mids takes am are → Ran passes tells files after old new from to
     ends-ran off goes step = subst (λ (j : List Turn). Ran passes tells files j old new from to) (sym step.kept) (ran-on passes tells files c step.turn journal old mid new from through to off goes.ran goes.on step.turns step.fits)
 
-    pub ends-by : GoesOn passes tells files script n journal old mid from through taken mids was am → slice_get script n ≡ Some c → Steps passes tells files c journal after mid new through to status noted mids takes am are → status ≢ 0 → Ended script after status noted
+    pub ends-by : GoesOn passes tells files script n journal old mid from through taken mids was am → slice_get script n ≡ Some c → Steps passes tells files c journal after mid new through to status noted mids takes am are → status ≢ 0 → ScriptEnded script after status noted
     ends-by goes at step other =
-        subst (λ (j : List Turn). Ended script j status noted) (sym step.kept)
+        subst (λ (j : List Turn). ScriptEnded script j status noted) (sym step.kept)
         (ended-by script n c journal step.turn status noted taken mids takes was am are goes.calls at step.turns.call_is step.prints step.noted_is other)
 
     pub ends-printed : GoesOn passes tells files script n journal old mid from through taken mids was am → Steps passes tells files c journal after mid new through to status noted mids takes am are → Printed after status taken takes was are
@@ -258,8 +267,8 @@ module _ (passes : List ℕ → Bool) (tells : Bool) (files : Option Directory) 
         subst (λ (j : List Turn). Printed j status taken takes was are) (sym step.kept)
         (printed-by script n c journal step.turn status noted taken mids takes was am are goes.bytes goes.quiet step.prints)
 
-  module _ (journal : List Turn) (new : Moment) (to : ℕ) (takes : Option (List ℕ)) (are : ℕ) where
-    pub all-ended : GoesOn passes tells files script (length script) journal old new from to taken takes was are → Ended script journal 0 note.Nothing
+  module _ (journal : List Turn) (new : TurnMoment) (to : ℕ) (takes : Option (List ℕ)) (are : ℕ) where
+    pub all-ended : GoesOn passes tells files script (length script) journal old new from to taken takes was are → ScriptEnded script journal 0 note.Nothing
     all-ended goes =
         let last = last-on journal goes.on in
         let calls : calls_of journal ≡ script = goes.calls ∙ take-length script in

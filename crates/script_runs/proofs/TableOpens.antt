@@ -8,10 +8,10 @@ use Rattle.flash_core.specs.May.{NoChance}
 use Rattle.gpt_core.specs.declared.layout.Places.{Places}
 use Rattle.gpt_core.specs.declared.table.WhichTable.{WhichTable}
 use Rattle.gpt_core.specs.PlacesOf.{places_of}
-use Rattle.gpt_core.specs.Repair.{HeadersGuarded, Mends, StaysBeside}
+use Rattle.gpt_core.specs.Repair.{HeadersGuarded, MendsTable, StaysBeside}
 use Rattle.gpt_core.specs.Table.{Table, FitsTable, table_in_image}
 use Rattle.script_runs.specs.ByTable.{Starts, StopsBefore, Waits, Wakes}
-use Rattle.script_turns.specs.Powered.{Moment}
+use Rattle.script_turns.specs.Powered.{TurnMoment}
 use Rattle.script_turns.proofs.RunTurns.{rose-after, rose-before}
 
 -- ---- power that came
@@ -33,7 +33,7 @@ woken-same old mid clean wakes = wakes.fresh_is ∙ ap (fresh old.guard) (woken-
 
 -- ---- what was counted
 
-pub waits-idle : (old mid : Moment) → Idles old.counts mid.counts → mid.counts.made ≡ old.counts.made → mid.armed ≡ old.armed → old.armed ≡ None → Waits 0 old mid
+pub waits-idle : (old mid : TurnMoment) → Idles old.counts mid.counts → mid.counts.made ≡ old.counts.made → mid.armed ≡ old.armed → old.armed ≡ None → Waits 0 old mid
 waits-idle old mid idles made armed none = record {
   falls = record { faults = omega (arith, idles.faults); cuts = omega (arith, idles.cuts); reached = omega (arith, idles.reached); chances = idles.chances };
   once = omega (arith, idles.faults, idles.cuts, idles.reached);
@@ -42,7 +42,7 @@ waits-idle old mid idles made armed none = record {
   armed = armed ∙ none;
 }
 
-pub waits-then : (stops : ℕ) (old mid new : Moment) → Waits 0 old mid → Waits stops mid new → Waits stops old new
+pub waits-then : (stops : ℕ) (old mid new : TurnMoment) → Waits 0 old mid → Waits stops mid new → Waits stops old new
 waits-then stops old mid new first then = record {
   falls = record {
     faults = let a = first.falls.faults in let b = then.falls.faults in omega arith;
@@ -60,7 +60,7 @@ chance-later : (old mid new : ℕ) (N : Type 0) → mid ≤ new → Rose old mid
 chance-later old mid new N later (inl rose) = inl (rose-after old mid new later rose)
 chance-later old mid new N later (inr none) = inr none
 
-cause-before : (old mid new : Moment) → Waits 0 old mid → Rose mid.counts.faults new.counts.faults ⊎ Rose mid.counts.cuts new.counts.cuts
+cause-before : (old mid new : TurnMoment) → Waits 0 old mid → Rose mid.counts.faults new.counts.faults ⊎ Rose mid.counts.cuts new.counts.cuts
     → Rose old.counts.faults new.counts.faults ⊎ Rose old.counts.cuts new.counts.cuts
 cause-before old mid new waits (inl fault) = inl (rose-before old.counts.faults mid.counts.faults new.counts.faults waits.falls.faults fault)
 cause-before old mid new waits (inr cut) = inr (rose-before old.counts.cuts mid.counts.cuts new.counts.cuts waits.falls.cuts cut)
@@ -68,7 +68,7 @@ cause-before old mid new waits (inr cut) = inr (rose-before old.counts.cuts mid.
 -- ---- a repair, done or stopped
 
 -- from where power came, by what the search found and the repair did
-module _ (stops : ℕ) (tells : Bool) (blocks m n : ℕ) (old mid found new : Moment) (table : Table) (which : WhichTable) (mid_size : m ≡ blocks) (found_size : n ≡ m)
+module _ (stops : ℕ) (tells : Bool) (blocks m n : ℕ) (old mid found new : TurnMoment) (table : Table) (which : WhichTable) (mid_size : m ≡ blocks) (found_size : n ≡ m)
     (wakes : IsTrue tells → Wakes old.told mid.told) (woke : Waits 0 old mid) (looked : Waits 0 mid found) (mended : Waits stops found new) (same : IsTrue tells → found.told ≡ mid.told)
     (decides : IsTrue tells → table_in_image m mid.told.now ≡ Some (table, which)) where
   waited : Waits stops old new
@@ -84,12 +84,12 @@ module _ (stops : ℕ) (tells : Bool) (blocks m n : ℕ) (old mid found new : Mo
   beside-here beside told =
       subst (λ (t : Told). StaysBeside blocks table which t new.told) (same told) (subst (λ (k : ℕ). StaysBeside k table which found.told new.told) size beside)
 
-  mends-here : (result : Result (Unit {0}) FlashStop) → (HeadersGuarded n found.told → Mends result n table new.told) → IsTrue tells → HeadersGuarded blocks mid.told → Mends result blocks table new.told
+  mends-here : (result : Result (Unit {0}) FlashStop) → (HeadersGuarded n found.told → MendsTable result n table new.told) → IsTrue tells → HeadersGuarded blocks mid.told → MendsTable result blocks table new.told
   mends-here result mends told =
-      subst (λ (t : Told). HeadersGuarded blocks t → Mends result blocks table new.told) (same told) (subst (λ (k : ℕ). HeadersGuarded k found.told → Mends result k table new.told) size mends)
+      subst (λ (t : Told). HeadersGuarded blocks t → MendsTable result blocks table new.told) (same told) (subst (λ (k : ℕ). HeadersGuarded k found.told → MendsTable result k table new.told) size mends)
 
   pub starts-from : stops ≡ 0 → (p : Places) → FitsTable m table → places_of m table ≡ Ok p → (IsTrue tells → Rose old.counts.chances mid.counts.chances ⊎ NoChance old.told mid.told.now)
-      → (IsTrue tells → HeadersGuarded n found.told → Mends {T = Unit {0}} (Ok tt) n table new.told) → (IsTrue tells → StaysBeside n table which found.told new.told)
+      → (IsTrue tells → HeadersGuarded n found.told → MendsTable {T = Unit {0}} (Ok tt) n table new.told) → (IsTrue tells → StaysBeside n table which found.told new.told)
       → (IsTrue tells → NothingDirty found.told → NothingDirty new.told) → new.on ≡ None → new.power ≡ true → Starts tells blocks old p new
   starts-from none p fits gives chance mends beside clean not_booted power = record {
     woken = mid.told;
@@ -113,7 +113,7 @@ module _ (stops : ℕ) (tells : Bool) (blocks m n : ℕ) (old mid found new : Mo
       later-chances : mid.counts.chances ≤ new.counts.chances
       later-chances = let a = looked.falls.chances in let b = mended.falls.chances in omega arith
 
-  pub stops-from : stops ≡ 1 → (stop : FlashStop) → (IsTrue tells → HeadersGuarded n found.told → Mends {T = Unit {0}} (Err stop) n table new.told) → (IsTrue tells → StaysBeside n table which found.told new.told)
+  pub stops-from : stops ≡ 1 → (stop : FlashStop) → (IsTrue tells → HeadersGuarded n found.told → MendsTable {T = Unit {0}} (Err stop) n table new.told) → (IsTrue tells → StaysBeside n table which found.told new.told)
       → Rose found.counts.faults new.counts.faults ⊎ Rose found.counts.cuts new.counts.cuts → new.power ≡ false → StopsBefore tells blocks old new
   stops-from one stop mends beside cause off = record {
     woken = mid.told;

@@ -10,8 +10,8 @@ use Rattle.script_runs.specs.declared.done.Note.{Note}
 use Rattle.script_runs.specs.declared.done.Note.TheVariants as note
 use Rattle.script_runs.specs.declared.done.NoTable.{NoTable}
 use Rattle.script_runs.specs.ByTable.{Looks, StopsBefore, flash_fault_line, lacked_in, no_table_line, seen_at}
-use Rattle.script_runs.specs.Noted.{is_beyond, noted}
-use Rattle.script_turns.specs.Powered.{Moment, at}
+use Rattle.script_runs.specs.Noted.{is_beyond_model, noted}
+use Rattle.script_turns.specs.Powered.{TurnMoment, at}
 use Rattle.host_io.specs.Printed.{Prints, all, front, nothing}
 use Rattle.script_runs.specs.Running.{Printed}
 use Rattle.script_runs.specs.Ways.{Given, HasGoodList, Refuses}
@@ -25,31 +25,31 @@ not-nothing line planned status taken_before taken_after faults_before faults_af
 not-nothing line planned status taken_before taken_after faults_before faults_after some (front three n appends later rose) zero_is = absurd (omega arith)
 not-nothing line planned status taken_before taken_after faults_before faults_after some (nothing nine same later) zero_is = absurd (omega arith)
 
-module _ (passes : List ℕ → Bool) (tells : Bool) (blocks : ℕ) (journal : List Turn) (status : ℕ) (said : Note) (old new : Moment) (taken_before taken_after : Option (List ℕ)) where
+module _ (passes : List ℕ → Bool) (tells : Bool) (blocks : ℕ) (journal : List Turn) (status : ℕ) (said : Note) (old new : TurnMoment) (taken_before taken_after : Option (List ℕ)) where
   -- nothing was touched, and the line of the cause was put
-  pub table-refused : (asked : Option Asked) (g : Given) (faults_before faults_after : Faults) (planned : ℕ) (line : List ℕ) (told : Note) → journal ≡ [] → new ≡ old → said ≡ told → planned ≢ 0 → IsFalse (is_beyond told)
+  pub table-refused : (asked : Option Asked) (g : Given) (faults_before faults_after : Faults) (planned : ℕ) (line : List ℕ) (told : Note) → journal ≡ [] → new ≡ old → said ≡ told → planned ≢ 0 → IsFalse (is_beyond_model told)
       → Refuses asked g faults_before faults_after planned (noted told) line → Prints line planned status taken_before taken_after faults_before.sink faults_after.sink → WayByTable passes (device-of tells blocks) asked g (end-of journal status said) (world-of old taken_before faults_before) (world-of new taken_after faults_after)
   table-refused asked g faults_before faults_after planned line told none same is some beyond why prints =
-      untouched none same (not-nothing line planned status taken_before taken_after faults_before.sink faults_after.sink some prints) (subst (λ (n : Note). IsFalse (is_beyond n)) (sym is) beyond)
+      untouched none same (not-nothing line planned status taken_before taken_after faults_before.sink faults_after.sink some prints) (subst (λ (n : Note). IsFalse (is_beyond_model n)) (sym is) beyond)
       (refused-by passes tells journal status (noted said) old new taken_before taken_after asked g faults_before faults_after planned line (noted told) none same (ap noted is) why prints)
 
   -- nothing was touched for want of memory
   pub table-starved : (asked : Option Asked) (g : Given) (faults_before faults_after : Faults) → journal ≡ [] → new ≡ old → status ≡ 9 → said ≡ note.Nothing → (taken_after ≡ taken_before) × (faults_after.sink ≡ faults_before.sink) → WayByTable passes (device-of tells blocks) asked g (end-of journal status said) (world-of old taken_before faults_before) (world-of new taken_after faults_after)
   table-starved asked g faults_before faults_after none same nine is quiet =
-      untouched none same (λ zero_is. absurd (omega arith)) (ap is_beyond is) (way.starved none same nine (ap noted is) quiet)
+      untouched none same (λ zero_is. absurd (omega arith)) (ap is_beyond_model is) (way.starved none same nine (ap noted is) quiet)
 
   -- by where the search for the flash left the device
-  pub lacked-way : (asked : Option Asked) (g : Given) (faults_before faults_after : Faults) (mid : Moment) (calls : List Call) (why : NoTable) → ReadsScript asked g calls → journal ≡ [] → Looks tells old mid
+  pub lacked-way : (asked : Option Asked) (g : Given) (faults_before faults_after : Faults) (mid : TurnMoment) (calls : List Call) (why : NoTable) → ReadsScript asked g calls → journal ≡ [] → Looks tells old mid
       → (IsTrue tells → lacked_in blocks mid.told.now ≡ Some why) → new ≡ mid → said ≡ note.NoTable why → Prints (no_table_line why) 10 status taken_before taken_after faults_before.sink faults_after.sink
       → WayByTable passes (device-of tells blocks) asked g (end-of journal status said) (world-of old taken_before faults_before) (world-of new taken_after faults_after)
   lacked-way asked g faults_before faults_after mid calls why reads none looks lacks same is prints =
-      lacked calls why reads none (subst (Looks tells old) (sym same) looks) (λ told. subst (λ (m : Moment). lacked_in blocks m.told.now ≡ Some why) (sym same) (lacks told)) is prints
+      lacked calls why reads none (subst (Looks tells old) (sym same) looks) (λ told. subst (λ (m : TurnMoment). lacked_in blocks m.told.now ≡ Some why) (sym same) (lacks told)) is prints
 
-  pub stopped-way : (asked : Option Asked) (g : Given) (faults_before faults_after : Faults) (mid : Moment) (calls : List Call) → ReadsScript asked g calls → journal ≡ [] → StopsBefore tells blocks old mid → new ≡ mid
+  pub stopped-way : (asked : Option Asked) (g : Given) (faults_before faults_after : Faults) (mid : TurnMoment) (calls : List Call) → ReadsScript asked g calls → journal ≡ [] → StopsBefore tells blocks old mid → new ≡ mid
       → said ≡ note.Nothing → Prints flash_fault_line 5 status taken_before taken_after faults_before.sink faults_after.sink → WayByTable passes (device-of tells blocks) asked g (end-of journal status said) (world-of old taken_before faults_before) (world-of new taken_after faults_after)
   stopped-way asked g faults_before faults_after mid calls reads none stops same is prints = stopped calls reads none (subst (StopsBefore tells blocks old) (sym same) stops) is prints
 
-  pub starved-way : (asked : Option Asked) (g : Given) (faults_before faults_after : Faults) (mid : Moment) (calls : List Call) → ReadsScript asked g calls → journal ≡ [] → Looks tells old mid → new ≡ mid → status ≡ 9
+  pub starved-way : (asked : Option Asked) (g : Given) (faults_before faults_after : Faults) (mid : TurnMoment) (calls : List Call) → ReadsScript asked g calls → journal ≡ [] → Looks tells old mid → new ≡ mid → status ≡ 9
       → said ≡ note.Nothing → (taken_after ≡ taken_before) × (faults_after.sink ≡ faults_before.sink) → WayByTable passes (device-of tells blocks) asked g (end-of journal status said) (world-of old taken_before faults_before) (world-of new taken_after faults_after)
   starved-way asked g faults_before faults_after mid calls reads none looks same nine is quiet = starved calls reads none (subst (Looks tells old) (sym same) looks) nine is quiet
 

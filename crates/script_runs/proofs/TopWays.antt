@@ -11,7 +11,7 @@ use Rattle.host_io.specs.Contents.{Directory}
 use Rattle.fwu_model.specs.declared.kinds.Note.{Note}
 use Rattle.fwu_words.specs.Order.{Asked, asked}
 use Rattle.script_runs.proofs.Shapes.{end-of, world-of}
-use Rattle.script_turns.specs.Powered.{Moment, at}
+use Rattle.script_turns.specs.Powered.{TurnMoment, at}
 use Rattle.host_io.specs.Printed.{Prints}
 use Rattle.script_runs.specs.Running.{Printed}
 use Rattle.script_turns.specs.Runs.{Ran}
@@ -43,11 +43,11 @@ refuses asked told files name script first faults_before faults_after planned no
 refuses asked told files name script first faults_before faults_after planned noted line good later source (bad_list n some there bad) = let no : false ≡ true = some in absurd (false_true no)
 
 -- turns with these files are turns with files that are told the same
-pub ran-told : (passes : List ℕ → Bool) (tells : Bool) (files told : Option Directory) (journal : List Turn) (old new : Moment) (from to : ℕ) → files ≡ told → Ran passes tells told journal old new from to
+pub ran-told : (passes : List ℕ → Bool) (tells : Bool) (files told : Option Directory) (journal : List Turn) (old new : TurnMoment) (from to : ℕ) → files ≡ told → Ran passes tells told journal old new from to
     → Ran passes tells files journal old new from to
 ran-told passes tells files told journal old new from to same did = subst (λ (f : Option Directory). Ran passes tells f journal old new from to) (sym same) did
 
-module _ (passes : List ℕ → Bool) (tells : Bool) (journal : List Turn) (status : ℕ) (noted : Note) (old new : Moment) (taken_before taken_after : Option (List ℕ)) where
+module _ (passes : List ℕ → Bool) (tells : Bool) (journal : List Turn) (status : ℕ) (noted : Note) (old new : TurnMoment) (taken_before taken_after : Option (List ℕ)) where
   -- nothing ran, and the line of the cause was put
   pub refused-by : (asked : Option Asked) (g : Given) (faults_before faults_after : Faults) (planned : ℕ) (line : List ℕ) (told : Note) → journal ≡ [] → new ≡ old → noted ≡ told → Refuses asked g faults_before faults_after planned told line
       → Prints line planned status taken_before taken_after faults_before.sink faults_after.sink → Way passes tells asked g (end-of journal status noted) (world-of old taken_before faults_before) (world-of new taken_after faults_after)

@@ -2,6 +2,7 @@
 use Rattle.std.specs.Prelude.{◌≡◌, ◌⊎◌, ℕ, ◌+◌, ◌≤◌, Bool, true, false, List, [], ◌∷◌, ◌++◌, Option, Some, None, Result, Ok, Err}
 use Rattle.std.specs.Prelude.{IsTrue, codes, decimal}
 use Rattle.flash_core.specs.Counts.{Rose, all_stops}
+use Rattle.flash_core.specs.declared.flash.Counts.{Counts}
 use Rattle.flash_core.specs.Told.{Told, NothingDirty, fresh}
 use Rattle.flash_core.specs.May.{Leaves, May, NoChance}
 use Rattle.gpt_core.specs.declared.layout.Places.{Places}
@@ -10,17 +11,17 @@ use Rattle.gpt_core.specs.declared.layout.PlaceFault.TheVariants as fault
 use Rattle.gpt_core.specs.declared.table.WhichTable.{WhichTable}
 use Rattle.gpt_core.specs.Table.{Table, FitsTable, DecidesTable, table_in_image}
 use Rattle.gpt_core.specs.PlacesOf.{places_of}
-use Rattle.gpt_core.specs.Repair.{HeadersGuarded, Mends, StaysBeside}
+use Rattle.gpt_core.specs.Repair.{HeadersGuarded, MendsTable, StaysBeside}
 use Rattle.gpt_core.specs.View.{view_of}
 use Rattle.script_runs.specs.declared.done.NoTable.{NoTable}
 use Rattle.script_runs.specs.declared.done.NoTable.TheVariants as no
 use Rattle.script_runs.specs.declared.opening.Unopened.{Unopened}
 use Rattle.script_runs.specs.declared.opening.Unopened.TheVariants as unopened
-use Rattle.script_turns.specs.Powered.{Moment, at}
+use Rattle.script_turns.specs.Powered.{TurnMoment, at}
 use Rattle.script_turns.specs.Turning.{NoneFalls}
 
 -- what is known of the flash that a device has at these places
-abbrev pub seen_at : Places → Moment → Moment
+abbrev pub seen_at : Places → TurnMoment → TurnMoment
 seen_at p m = at m.on (view_of p m.told) m.counts m.armed m.power
 
 -- ---- what a table lacks
@@ -52,13 +53,17 @@ flash_fault_line = codes "flash-fault\n"
 
 -- ---- before a run
 
+-- why a flash stopped where no loss is armed: it failed, or power was lost
+abbrev pub StopHasCause : Counts → Counts → Type 0
+StopHasCause before after = Rose before.faults after.faults ⊎ Rose before.cuts after.cuts
+
 -- Power came to a device that was off, and left this.
 pub record Wakes (old mid : Told) : Type 0 where
   pub fresh_is : mid ≡ fresh old.guard mid.now
   pub leaves : Leaves old mid.now
 
 -- No count fell, no loss was armed and none is, and so no armed loss was reached; and no more stops are counted than these.
-pub record Waits (stops : ℕ) (old new : Moment) : Type 0 where
+pub record Waits (stops : ℕ) (old new : TurnMoment) : Type 0 where
   pub falls : NoneFalls old.counts new.counts
   pub once : all_stops new.counts ≤ all_stops old.counts + stops
   pub made : new.counts.made ≡ old.counts.made
@@ -66,7 +71,7 @@ pub record Waits (stops : ℕ) (old new : Moment) : Type 0 where
   pub armed : new.armed ≡ None
 
 -- Power came to it, and nothing was written.
-pub record Looks (tells : Bool) (old new : Moment) : Type 0 where
+pub record Looks (tells : Bool) (old new : TurnMoment) : Type 0 where
   pub wakes : IsTrue tells → Wakes old.told new.told
   pub waits : Waits 0 old new
   pub power : new.power ≡ true
@@ -82,8 +87,8 @@ pub record HasPlaces (tells : Bool) (blocks : ℕ) (t : Told) (p : Places) : Typ
 
 -- Power came to a device, its table was read and repaired, and the flash behind it has these places: here a run
 -- begins.
-pub record Starts (tells : Bool) (blocks : ℕ) (old : Moment) (p : Places)
-    (start : Moment) : Type 0 where
+pub record Starts (tells : Bool) (blocks : ℕ) (old : TurnMoment) (p : Places)
+    (start : TurnMoment) : Type 0 where
   pub woken : Told
   pub wakes : IsTrue tells → Wakes old.told woken
   pub chance : IsTrue tells
@@ -92,7 +97,7 @@ pub record Starts (tells : Bool) (blocks : ℕ) (old : Moment) (p : Places)
   -- where both headers are guarded, both copies now say the table, and it decides in each image that a loss
   -- may leave
   pub mends : IsTrue tells → HeadersGuarded blocks woken
-      → Mends {T = Unit {0}} (Ok tt) blocks has.table start.told
+      → MendsTable {T = Unit {0}} (Ok tt) blocks has.table start.told
   -- but for the copy that was repaired nothing changed
   pub beside : IsTrue tells → StaysBeside blocks has.table has.which woken start.told
   pub clean : IsTrue tells → NothingDirty start.told
@@ -111,13 +116,13 @@ pub record StopsMending (blocks : ℕ) (woken new : Told) : Type 0 where
   pub beside : StaysBeside blocks table which woken new
 
 -- Power was lost or the flash failed before the first turn, at the reading of the table or at its repair.
-pub record StopsBefore (tells : Bool) (blocks : ℕ) (old new : Moment) : Type 0 where
+pub record StopsBefore (tells : Bool) (blocks : ℕ) (old new : TurnMoment) : Type 0 where
   pub woken : Told
   pub wakes : IsTrue tells → Wakes old.told woken
   pub left : IsTrue tells → (new.told ≡ woken) ⊎ StopsMending blocks woken new.told
   pub waits : Waits 1 old new
   pub off : new.power ≡ false
-  pub cause : Rose old.counts.faults new.counts.faults ⊎ Rose old.counts.cuts new.counts.cuts
+  pub cause : StopHasCause old.counts new.counts
 
 -- whether the device is on after this result
 abbrev pub goes_on : {T : Type 0} → Result T Unopened → Bool
@@ -134,7 +139,7 @@ stops_opened (Err unopened.Stopped) = 1
 stops_opened (Err unopened.NoMemory) = 0
 
 -- What looking for the flash behind a table leaves, by its result.
-abbrev pub Opens : Bool → ℕ → Moment → Moment → Result Places Unopened → Type 0
+abbrev pub Opens : Bool → ℕ → TurnMoment → TurnMoment → Result Places Unopened → Type 0
 Opens tells blocks old new (Ok p) = Starts tells blocks old p new
 Opens tells blocks old new (Err (unopened.Lacks why)) = Looks tells old new
     × (IsTrue tells → lacked_in blocks new.told.now ≡ Some why)

@@ -3,7 +3,7 @@ use Rattle.std.specs.Prelude.{◌≡◌, ℕ, Bool, List, Option}
 use Rattle.fwu_model.specs.Causes.{Faults}
 use Rattle.fwu_model.specs.Reply.{Turn}
 use Rattle.fwu_model.specs.declared.kinds.Note as model
-use Rattle.script_turns.specs.Powered.{Moment}
+use Rattle.script_turns.specs.Powered.{TurnMoment}
 use Rattle.script_runs.specs.Noted.{noted}
 use Rattle.script_runs.specs.declared.done.Note.{Note}
 
@@ -20,7 +20,7 @@ in_model ending = record { journal = ending.journal; status = ending.status; not
 -- What is compared before and after a command: the flash, what the sink took, where it tells that, and what the files, the source
 -- and the sink count.
 pub record World : Type 0 where
-  pub flash : Moment
+  pub flash : TurnMoment
   pub taken : Option (List ℕ)
   pub faults : Faults
 

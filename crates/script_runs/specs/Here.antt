@@ -5,6 +5,7 @@ use Rattle.flash_core.specs.declared.flash.Flash as flash
 use Rattle.host_io.specs.declared.files.Files as files
 use Rattle.host_io.specs.declared.source.Source as source
 use Rattle.host_io.specs.declared.sink.Sink as sink
+use Rattle.host_io.specs.Printed.{Prints}
 use Rattle.fwu_model.specs.Causes.{Faults}
 use Rattle.fwu_words.specs.Order.{Asked}
 use Rattle.fwu_words.specs.declared.orders.Place.{Place}
@@ -14,6 +15,10 @@ use Rattle.script_runs.specs.Refusing.{plain_of, text_of}
 use Rattle.script_runs.specs.Ways.{Given, device_of, moment_world}
 use Rattle.script_runs.specs.WaysByTable.{WayAt}
 use Rattle.script_runs.specs.declared.done.Done.{Done}
+
+-- what a line that was put into this sink makes of a status
+abbrev pub PrintsTo : {O : Type 0} → sink.Ghosts O → List ℕ → ℕ → ℕ → O → O → Type 0
+PrintsTo o piece planned status old new = Prints piece planned status (o.taken old) (o.taken new) (o.faults old) (o.faults new)
 
 -- one of the ways of a run at this place; what else counts failures did so before and after
 abbrev pub GoesAt : {D H O : Type 0} → Place → flash.Ghosts D → files.Ghosts H → sink.Ghosts O → (List ℕ → Bool) → Option Asked

@@ -15,10 +15,10 @@ noted (note.Input fault) = model_note.Nothing
 noted (note.NoTable why) = model_note.Nothing
 
 -- what the definitions don't note: only `format` and `soak` note what was given, and only `--gpt` what a partition table lacks
-abbrev pub is_beyond : Note → Bool
-is_beyond note.Nothing = false
-is_beyond (note.BadLine n) = false
-is_beyond (note.BadList n) = false
-is_beyond (note.Boot why) = false
-is_beyond (note.Input fault) = true
-is_beyond (note.NoTable why) = true
+abbrev pub is_beyond_model : Note → Bool
+is_beyond_model note.Nothing = false
+is_beyond_model (note.BadLine n) = false
+is_beyond_model (note.BadList n) = false
+is_beyond_model (note.Boot why) = false
+is_beyond_model (note.Input fault) = true
+is_beyond_model (note.NoTable why) = true

@@ -1,15 +1,16 @@
 -- Why a run has no first turn, with the status, the line and the note of that; and why there is no script to run.
-use Rattle.std.specs.Prelude.{◌≡◌, ℕ, List, [], Option, Some, IfSome, IsTrue, ◌∷◌, None, codes}
+use Rattle.std.specs.Prelude.{◌≡◌, ℕ, List, [], Option, Some, IfSome, IsTrue, None}
+use Rattle.fwu_model.specs.Asked as model
+use Rattle.fwu_model.specs.Asked.{script_asked}
 use Rattle.fwu_model.specs.Script.{is_too_long}
-use Rattle.fwu_model.specs.Wrote.{IsBadScript, bad_list_line, bad_script_line, not_read_line, script_asked, too_long_line}
-use Rattle.fwu_model.specs.Wrote.{usage_line}
+use Rattle.fwu_model.specs.Wrote.{IsBadScript, bad_list_line, bad_script_line, not_read_line, too_long_line, usage_line}
 use Rattle.fwu_words.specs.Order.{Asked}
 use Rattle.fwu_words.specs.Order as ask
 use Rattle.fwu_words.specs.declared.orders.ScriptFrom.{ScriptFrom}
 use Rattle.fwu_words.specs.declared.orders.ScriptFrom.TheVariants as origin
 use Rattle.host_io.specs.Calls.{raised}
 use Rattle.script_runs.specs.ByTable.{flash_fault_line, no_table_line}
-use Rattle.script_runs.specs.Ways.{IsShort}
+use Rattle.script_runs.specs.Ways.{IsShortScript}
 use Rattle.script_runs.specs.declared.done.Note.{Note}
 use Rattle.script_runs.specs.declared.done.Note.TheVariants as note
 use Rattle.script_runs.specs.declared.refusing.Refusal.{Refusal}
@@ -47,17 +48,17 @@ refusal_note (why.NoTable lack) = note.NoTable lack
 refusal_note why.Stopped = note.Nothing
 refusal_note why.NoMemory = note.Nothing
 
--- a command by its word alone, and no word where nothing is asked for
-abbrev pub plainly : Option Asked → List (List ℕ)
-plainly None = []
-plainly (Some ask.run) = codes "run" ∷ []
-plainly (Some ask.run_partitioned) = codes "run" ∷ []
-plainly (Some ask.boot) = codes "boot" ∷ []
-plainly (Some ask.boot_partitioned) = codes "boot" ∷ []
-plainly (Some ask.show) = codes "show" ∷ []
-plainly (Some (ask.format banks rows file)) = codes "format" ∷ []
-plainly (Some (ask.soak seed rounds)) = codes "soak" ∷ []
-plainly (Some ask.serve) = codes "serve" ∷ []
+-- what is asked, as the definitions of a run have it
+abbrev pub in_short : Option Asked → model.ScriptAsked
+in_short None = model.NoScript
+in_short (Some ask.run) = model.Source
+in_short (Some ask.run_partitioned) = model.Source
+in_short (Some ask.boot) = model.Boot
+in_short (Some ask.boot_partitioned) = model.Boot
+in_short (Some ask.show) = model.NoScript
+in_short (Some (ask.format banks rows file)) = model.NoScript
+in_short (Some (ask.soak seed rounds)) = model.NoScript
+in_short (Some ask.serve) = model.NoScript
 
 -- ---- the script
 
@@ -68,13 +69,13 @@ plain_of origin.Boot = ask.boot
 
 -- the text of the script, where it is told: what the source tells, or that of one boot
 abbrev pub text_of : ScriptFrom → Option (List ℕ) → Option (List ℕ)
-text_of from left = script_asked (plainly (Some (plain_of from))) left
+text_of from left = script_asked (in_short (Some (plain_of from))) left
 
 -- Why there is no script to run, of a source that tells this and has counted these failures. Only a read that failed is counted.
 pub data LacksScript (from : ScriptFrom) (left : Option (List ℕ)) (before after : ℕ) : Refusal → Type 0 where
   unread : from ≡ origin.Source → after ≡ raised before → LacksScript from left before after why.Unread
   too_long : from ≡ origin.Source → IfSome left (λ bytes. IsTrue (is_too_long bytes)) → after ≡ before
       → LacksScript from left before after why.TooLong
-  bad : (n : ℕ) → IsShort (text_of from left) → IsBadScript (text_of from left) n → after ≡ before
+  bad : (n : ℕ) → IsShortScript (text_of from left) → IsBadScript (text_of from left) n → after ≡ before
       → LacksScript from left before after (why.BadScript n)
   starved : after ≡ before → LacksScript from left before after why.NoMemory

@@ -9,34 +9,28 @@ use Rattle.fwu_model.specs.Causes.{status_by, note_by}
 use Rattle.fwu_model.specs.Wrote.{LacksLast, StopsInLast, may_lack}
 use Rattle.fwu_model.specs.declared.kinds.Note.{Note}
 use Rattle.fwu_model.specs.declared.kinds.Note.TheVariants as note
-use Rattle.script_turns.specs.Powered.{Fits, Moment}
+use Rattle.script_turns.specs.Powered.{FitsMachine, TurnMoment}
 use Rattle.script_turns.specs.Turning.{Turns}
-use Rattle.script_turns.specs.Runs.{calls_of}
-use Rattle.host_io.specs.Printed.{FailsAtThree, Prints}
+use Rattle.script_turns.specs.Runs.{calls_of, sends_none}
+use Rattle.host_io.specs.Printed.{FailsAtThree}
+use Rattle.host_io.specs.declared.files.Files as files
+use Rattle.host_io.specs.declared.sink.Sink as sink
+use Rattle.script_runs.specs.Ending.{Ending}
+use Rattle.script_runs.specs.Noted.{is_beyond_model, noted}
+use Rattle.script_runs.specs.declared.done.Note as own
 
 -- ---- one turn
 
 -- What one turn leaves: it does the call c, it is kept, its line is in the text, and the status and the note are by its reply.
-pub record Does (passes : List ℕ → Bool) (tells : Bool) (files : Option Directory) (c : Call)
-    (before after : List Turn) (old new : Moment) (from to : ℕ) (status : ℕ) (noted : Note) (text : List ℕ) : Type 0 where
+pub record DoesTurn (passes : List ℕ → Bool) (tells : Bool) (files : Option Directory) (c : Call)
+    (before after : List Turn) (old new : TurnMoment) (from to : ℕ) (status : ℕ) (noted : Note) (text : List ℕ) : Type 0 where
   pub turn : Turn
   pub turns : Turns passes tells files c turn old new from to
-  pub fits : Fits tells new
+  pub fits : FitsMachine tells new
   pub kept : after ≡ before ++ turn ∷ []
   pub status_is : status ≡ status_by turn.reply
   pub noted_is : noted ≡ note_by turn.reply
   pub text_is : text ≡ line turn.call turn.reply
-
--- What one turn leaves: it does the call c, it is kept, and its line was printed with this status.
-pub record Steps (passes : List ℕ → Bool) (tells : Bool) (files : Option Directory) (c : Call)
-    (before after : List Turn) (old new : Moment) (from to : ℕ) (status : ℕ) (noted : Note)
-    (taken_before taken_after : Option (List ℕ)) (faults_before faults_after : ℕ) : Type 0 where
-  pub turn : Turn
-  pub turns : Turns passes tells files c turn old new from to
-  pub fits : Fits tells new
-  pub kept : after ≡ before ++ turn ∷ []
-  pub prints : Prints (line turn.call turn.reply) (status_by turn.reply) status taken_before taken_after faults_before faults_after
-  pub noted_is : noted ≡ note_by turn.reply
 
 -- ---- how a run ended
 
@@ -55,7 +49,7 @@ last_turn (t ∷ []) = Some t
 last_turn (t ∷ u ∷ turns) = last_turn (u ∷ turns)
 
 -- Its turns are those of the script up to one that ended it, and of the whole script at status 0.
-pub record Ended (script : List Call) (journal : List Turn) (status : ℕ)
+pub record ScriptEnded (script : List Call) (journal : List Turn) (status : ℕ)
     (noted : Note) : Type 0 where
   pub calls : IsPrefixOf (calls_of journal) script
   pub all_calls : status ≡ 0 → calls_of journal ≡ script
@@ -65,7 +59,7 @@ pub record Ended (script : List Call) (journal : List Turn) (status : ℕ)
   pub some : IsTrue (may_lack status) → journal ≢ []
 
 -- what was written: the lines of all turns, or where the sink failed or found no memory those of all but the last
-pub record Writes (journal : List Turn) (status : ℕ) (w : List ℕ) : Type 0 where
+pub record WritesLines (journal : List Turn) (status : ℕ) (w : List ℕ) : Type 0 where
   pub whole : IsFalse (may_lack status) → w ≡ text journal
   pub front : status ≡ 3 → StopsInLast journal w
   pub none : status ≡ 9 → LacksLast journal w
@@ -75,6 +69,21 @@ pub record Writes (journal : List Turn) (status : ℕ) (w : List ℕ) : Type 0 w
 pub record Printed (journal : List Turn) (status : ℕ) (old new : Option (List ℕ))
     (faults_before faults_after : ℕ) : Type 0 where
   pub bytes : (before : List ℕ) → old ≡ Some before → (w : List ℕ) × (new ≡ Some (before ++ w))
-      × Writes journal status w
+      × WritesLines journal status w
   pub later : faults_before ≤ faults_after
   pub count : FailsAtThree status faults_before faults_after
+
+-- How a run of a script ended, and what the sink took of its lines.
+pub record EndsRun {O : Type 0} (o : sink.Ghosts O) (script : List Call) (ending : Ending own.Note) (old new : O) : Type 0 where
+  pub ended : ScriptEnded script ending.journal ending.status (noted ending.noted)
+  -- it notes nothing that the definitions don't
+  pub plain : IsFalse (is_beyond_model ending.noted)
+  pub printed : Printed ending.journal ending.status (o.taken old) (o.taken new) (o.faults old) (o.faults new)
+
+-- What a run of a script leaves of the files: what they tell, and that none is written.
+pub record KeepsFiles {H : Type 0} (h : files.Ghosts H) (script : List Call) (journal : List Turn) (old new : H) : Type 0 where
+  pub same : h.contents new ≡ h.contents old
+  pub unwritten : h.writes new ≡ h.writes old
+  -- where the script sends nothing, or no turn is a `send`, no file was read
+  pub unread : IsTrue (sends_none script) → new ≡ old
+  pub unsent : IsTrue (sends_none (calls_of journal)) → new ≡ old

@@ -17,7 +17,7 @@ use Rattle.flash_core.specs.declared.flash.Flash as flash
 use Rattle.host_io.specs.declared.sink.Sink as sink
 use Rattle.script_runs.specs.Ending.{Device, Ending, PutsNone, World}
 use Rattle.host_io.specs.Printed.{Prints}
-use Rattle.script_runs.specs.Running.{Ended, Printed}
+use Rattle.script_runs.specs.Running.{ScriptEnded, Printed}
 use Rattle.script_turns.specs.Runs.{Ran}
 
 -- what the program was given to read: the list's name, the told files, and the script that is told
@@ -37,8 +37,8 @@ pub record HasGoodList (list : Option (List ℕ))
   pub good : IfSome (list_bytes list files) (λ bytes. (n : ℕ) → digests_of bytes ≡ Err n → ⊥)
 
 -- the asked script, where it is told, is within the limits of a script
-abbrev pub IsShort : Option (List ℕ) → Type 0
-IsShort script = IfSome script (λ bytes. is_too_long bytes ≡ false)
+abbrev pub IsShortScript : Option (List ℕ) → Type 0
+IsShortScript script = IfSome script (λ bytes. is_too_long bytes ≡ false)
 
 -- Why nothing ran, with the status, the note and the line of that. A fault of the list comes before the others.
 pub data Refuses (asked : Option Asked) (g : Given) (faults_before faults_after : Faults) : ℕ → Note
@@ -54,7 +54,7 @@ pub data Refuses (asked : Option Asked) (g : Given) (faults_before faults_after 
   too_long : HasGoodList g.list g.files → asked ≡ Some ask.run
       → IfSome g.script (λ bytes. IsTrue (is_too_long bytes))
       → Refuses asked g faults_before faults_after 8 note.Nothing too_long_line
-  bad_script : (n : ℕ) → HasGoodList g.list g.files → AsksTurns asked → IsShort g.script
+  bad_script : (n : ℕ) → HasGoodList g.list g.files → AsksTurns asked → IsShortScript g.script
       → IsBadScript g.script n
       → Refuses asked g faults_before faults_after 4 (note.BadLine n) (bad_script_line n)
   bad_list : (n : ℕ) → IsSome g.list → (LacksList g.files g.list → ⊥)
@@ -93,6 +93,6 @@ pub data Way (passes : List ℕ → Bool) (tells : Bool) (asked : Option Asked) 
       → old.faults.files ≤ from
       → Ran passes tells g.files ending.journal old.flash
       (at on new.flash.told new.flash.counts new.flash.armed new.flash.power) from new.faults.files
-      → Ended calls ending.journal ending.status ending.noted
+      → ScriptEnded calls ending.journal ending.status ending.noted
       → Printed ending.journal ending.status old.taken new.taken old.faults.sink new.faults.sink
       → Way passes tells asked g ending old new

@@ -12,10 +12,10 @@ use Rattle.script_runs.specs.declared.done.Note.TheVariants as note
 use Rattle.script_runs.specs.declared.done.NoTable.{NoTable}
 use Rattle.script_runs.specs.ByTable.{Looks, Starts, StopsBefore, flash_fault_line, lacked_in, no_table_line, seen_at}
 use Rattle.script_runs.specs.Ending.{Device, Ending, PutsNone, World, in_model}
-use Rattle.script_runs.specs.Noted.{is_beyond, noted}
-use Rattle.script_turns.specs.Powered.{Moment, at}
+use Rattle.script_runs.specs.Noted.{is_beyond_model, noted}
+use Rattle.script_turns.specs.Powered.{TurnMoment, at}
 use Rattle.host_io.specs.Printed.{Prints}
-use Rattle.script_runs.specs.Running.{Ended, Printed}
+use Rattle.script_runs.specs.Running.{ScriptEnded, Printed}
 use Rattle.script_turns.specs.Runs.{Ran}
 use Rattle.script_runs.specs.Ways.{AsksTurns, Given, HasCalls, HasGoodList, Way}
 
@@ -30,7 +30,7 @@ pub record ReadsScript (asked : Option Asked) (g : Given) (calls : List Call) : 
 -- the table's places.
 pub data WayByTable (passes : List ℕ → Bool) (device : Device) (asked : Option Asked) (g : Given)
     (ending : Ending Note) (old new : World) : Type 0 where
-  untouched : ending.journal ≡ [] → new.flash ≡ old.flash → ending.status ≢ 0 → IsFalse (is_beyond ending.noted)
+  untouched : ending.journal ≡ [] → new.flash ≡ old.flash → ending.status ≢ 0 → IsFalse (is_beyond_model ending.noted)
       → Way passes device.tells asked g (in_model ending) old new
       → WayByTable passes device asked g ending old new
   starved : (calls : List Call) → ReadsScript asked g calls → ending.journal ≡ []
@@ -47,13 +47,13 @@ pub data WayByTable (passes : List ℕ → Bool) (device : Device) (asked : Opti
       → StopsBefore device.tells device.blocks old.flash new.flash → ending.noted ≡ note.Nothing
       → Prints flash_fault_line 5 ending.status old.taken new.taken old.faults.sink new.faults.sink
       → WayByTable passes device asked g ending old new
-  ran : (calls : List Call) (p : Places) (start : Moment) (on : Option Fields) (from : ℕ)
+  ran : (calls : List Call) (p : Places) (start : TurnMoment) (on : Option Fields) (from : ℕ)
       → ReadsScript asked g calls → Starts device.tells device.blocks old.flash p start
       → old.faults.files ≤ from
       → Ran passes device.tells g.files ending.journal (seen_at p start)
       (seen_at p (at on new.flash.told new.flash.counts new.flash.armed new.flash.power)) from new.faults.files
       → (IsTrue device.tells → Beside p start.told new.flash.told)
-      → Ended calls ending.journal ending.status (noted ending.noted) → IsFalse (is_beyond ending.noted)
+      → ScriptEnded calls ending.journal ending.status (noted ending.noted) → IsFalse (is_beyond_model ending.noted)
       → Printed ending.journal ending.status old.taken new.taken old.faults.sink new.faults.sink
       → WayByTable passes device asked g ending old new
 

@@ -6,7 +6,7 @@ ghost use Rattle.fwu_journal.specs.Shown.{turns};
 ghost use Rattle.fwu_words.specs.declared.orders.Place.TheVariants as place;
 ghost use Rattle.fwu_words.specs.declared.orders.ScriptFrom.TheVariants as origin;
 ghost use Rattle.script_runs.specs.Here.{GoesFor};
-ghost use Rattle.script_runs.specs.Noted.{is_beyond};
+ghost use Rattle.script_runs.specs.Noted.{is_beyond_model};
 ghost use Rattle.script_runs.specs.Sourced.{FailsOnce, ReadsInTime};
 ghost use Rattle.script_runs.specs.Ways.{Given, HasGoodList};
 ghost use Rattle.script_turns.specs.Runs.{calls_of, sends_none};
@@ -39,18 +39,16 @@ pub fn run_turns<D: Flash, H: Files, I: Source, O: Sink, V: Verifier>(
         → g.files ≡ H.contents files.old → was.files ≤ H.faults files.old
         → GoesFor order D.Flash H.Files I.Source O.Sink (V.passes verifier.now) g was are
         flash source.old sink.old result files.new source.new sink.new }
-    ensures note { order.place ≡ place.Flash → IsFalse (is_beyond result.note) }
+    ensures note { order.place ≡ place.Flash → IsFalse (is_beyond_model result.note) }
     // What it reads: for one boot neither the source nor a file, and a file only for a `send`.
     ensures boot_source { order.from ≡ origin.Boot → source.new ≡ source.old }
     ensures boot_files { order.from ≡ origin.Boot → files.new ≡ files.old }
     ensures unsent { IsTrue (sends_none (calls_of (turns result.journal))) → files.new ≡ files.old }
     ensures same_files { H.contents files.new ≡ H.contents files.old }
     ensures unwritten { H.writes files.new ≡ H.writes files.old }
-    ensures read_to_end { result.status ≡ 0 → order.from ≡ origin.Source
-        → IfSome (I.left source.new) (λ rest. rest ≡ []) }
+    ensures read_to_end { result.status ≡ 0 → order.from ≡ origin.Source → IfSome (I.left source.new) (λ rest. rest ≡ []) }
     ensures in_time { ReadsInTime (I.left source.old) (I.left source.new) }
-    ensures source_count { FailsOnce (turns result.journal) result.status (I.faults source.old)
-        (I.faults source.new) }
+    ensures source_count { FailsOnce (turns result.journal) result.status (I.faults source.old) (I.faults source.new) }
     ensures later_files { H.faults files.old ≤ H.faults files.new }
     ensures later_source { I.faults source.old ≤ I.faults source.new }
     ensures later_sink { O.faults sink.old ≤ O.faults sink.new }

@@ -1,12 +1,12 @@
 //! The flash that a device has behind a GUID partition table: the table is read and repaired before a run.
-ghost use Rattle.std.specs.Prelude.{◌≡◌, ◌≤◌, ◌⊎◌, Some, None, Ok, Err, IfOk, OnOk, IsErr, IsTrue, IsFalse, is_ok};
-ghost use Rattle.flash_core.specs.Counts.{Rose, Spends, StaysUnarmed, stops_in};
+ghost use Rattle.std.specs.Prelude.{◌≡◌, ◌≤◌, Some, None, Ok, Err, IfOk, OnOk, IsErr, IsTrue, IsFalse, is_ok};
+ghost use Rattle.flash_core.specs.Counts.{Spends, StaysUnarmed, stops_in};
 ghost use Rattle.flash_core.specs.Told.{NothingDirty};
 ghost use Rattle.gpt_core.specs.Places.{Fit};
 ghost use Rattle.gpt_core.specs.PlacesOf.{places_of};
-ghost use Rattle.gpt_core.specs.Repair.{HeadersGuarded, Mends, StaysBeside};
+ghost use Rattle.gpt_core.specs.Repair.{HeadersGuarded, MendsTable, StaysBeside};
 ghost use Rattle.gpt_core.specs.Table.{FitsTable, table_in_image};
-ghost use Rattle.script_runs.specs.ByTable.{Opens, Waits, goes_on, lacked_by, lacked_in, stops_opened};
+ghost use Rattle.script_runs.specs.ByTable.{StopHasCause, Opens, Waits, goes_on, lacked_by, lacked_in, stops_opened};
 ghost use Rattle.script_turns.specs.Powered.{moment};
 
 use crate::done::NoTable;
@@ -32,41 +32,13 @@ struct Found {
     places: Places,
 }
 
-/// Reads the table of a device that is on.
-fn read<D: Flash>(alloc: Global, flash: &mut D) -> Result<(Table, WhichTable), Unopened>
-    requires on { IsTrue (D.on flash.old) }
-    requires unarmed { D.arming flash.old ≡ None }
-    ensures table { IfOk result (λ r. IsTrue D.tells
-        → table_in_image (D.blocks flash.old) (D.told flash.old).now ≡ Some r) }
-    ensures fits { IfOk result (λ r. FitsTable (D.blocks flash.old) r.0) }
-    ensures lacks { (why : NoTable) → result ≡ Err (Unopened.Lacks why) → IsTrue D.tells
-        → lacked_in (D.blocks flash.old) (D.told flash.old).now ≡ Some why }
-    ensures content { IsTrue D.tells → D.told flash.new ≡ D.told flash.old }
-    ensures power { D.on flash.new ≡ goes_on result }
-    ensures waits { Waits (stops_opened result)
-        (moment D.told D.counts D.arming D.on flash.old)
-        (moment D.told D.counts D.arming D.on flash.new) }
-    ensures cause { result ≡ Err Unopened.Stopped
-        → Rose (D.counts flash.old).faults (D.counts flash.new).faults
-        ⊎ Rose (D.counts flash.old).cuts (D.counts flash.new).cuts }
-    ensures size { D.blocks flash.new ≡ D.blocks flash.old }
-{
-    match read_table(alloc, flash) {
-        Ok(found) => Ok(found),
-        Err(GptStop::NoTable) => Err(Unopened::Lacks(NoTable::Table)),
-        Err(GptStop::Flash(_)) => Err(Unopened::Stopped),
-        Err(GptStop::NoMemory) => Err(Unopened::NoMemory),
-    }
-}
-
 /// The places that a table gives in a device of so many blocks.
 fn place(alloc: Global, table: &Table, blocks: u32) -> Result<Places, Unopened>
     requires fits { FitsTable blocks table.now }
     requires device { blocks ≤ 65536 }
     ensures gives { IfOk result (λ p. places_of blocks table.now ≡ Ok p) }
     ensures fit { IfOk result (λ p. Fit blocks p) }
-    ensures lacks { (why : NoTable) → result ≡ Err (Unopened.Lacks why)
-        → lacked_by (places_of blocks table.now) ≡ Some why }
+    ensures lacks { (why : NoTable) → result ≡ Err (Unopened.Lacks why) → lacked_by (places_of blocks table.now) ≡ Some why }
     ensures power { IsTrue (goes_on result) }
 {
     match places(alloc, table, blocks) {
@@ -91,17 +63,16 @@ fn find<D: Flash>(alloc: Global, flash: &mut D) -> Result<Found, Unopened>
         → lacked_in (D.blocks flash.old) (D.told flash.old).now ≡ Some why }
     ensures content { IsTrue D.tells → D.told flash.new ≡ D.told flash.old }
     ensures power { D.on flash.new ≡ goes_on result }
-    ensures waits { Waits (stops_opened result)
-        (moment D.told D.counts D.arming D.on flash.old)
+    ensures waits { Waits (stops_opened result) (moment D.told D.counts D.arming D.on flash.old)
         (moment D.told D.counts D.arming D.on flash.new) }
-    ensures cause { result ≡ Err Unopened.Stopped
-        → Rose (D.counts flash.old).faults (D.counts flash.new).faults
-        ⊎ Rose (D.counts flash.old).cuts (D.counts flash.new).cuts }
+    ensures cause { result ≡ Err Unopened.Stopped → StopHasCause (D.counts flash.old) (D.counts flash.new) }
     ensures size { D.blocks flash.new ≡ D.blocks flash.old }
 {
-    let (table, which) = match read(alloc, flash) {
+    let (table, which) = match read_table(alloc, flash) {
         Ok(found) => found,
-        Err(why) => return Err(why),
+        Err(GptStop::NoTable) => return Err(Unopened::Lacks(NoTable::Table)),
+        Err(GptStop::Flash(_)) => return Err(Unopened::Stopped),
+        Err(GptStop::NoMemory) => return Err(Unopened::NoMemory),
     };
     match place(alloc, &table, flash.blocks()) {
         Ok(places) => Ok(Found {
@@ -121,18 +92,14 @@ fn mend<D: Flash>(flash: &mut D, found: &Found) -> Result<(), FlashStop>
     requires read { IsTrue D.tells → table_in_image (D.blocks flash.old) (D.told flash.old).now
         ≡ Some (found.now.table, found.now.which) }
     ensures mends { IsTrue D.tells → HeadersGuarded (D.blocks flash.old) (D.told flash.old)
-        → Mends result (D.blocks flash.old) found.now.table (D.told flash.new) }
-    ensures beside { IsTrue D.tells
-        → StaysBeside (D.blocks flash.old) found.now.table found.now.which (D.told flash.old)
+        → MendsTable result (D.blocks flash.old) found.now.table (D.told flash.new) }
+    ensures beside { IsTrue D.tells → StaysBeside (D.blocks flash.old) found.now.table found.now.which (D.told flash.old)
         (D.told flash.new) }
-    ensures clean { OnOk result (IsTrue D.tells → NothingDirty (D.told flash.old)
-        → NothingDirty (D.told flash.new)) }
+    ensures clean { OnOk result (IsTrue D.tells → NothingDirty (D.told flash.old) → NothingDirty (D.told flash.new)) }
     ensures power { D.on flash.new ≡ is_ok result }
-    ensures waits { Waits (stops_in result)
-        (moment D.told D.counts D.arming D.on flash.old)
+    ensures waits { Waits (stops_in result) (moment D.told D.counts D.arming D.on flash.old)
         (moment D.told D.counts D.arming D.on flash.new) }
-    ensures cause { IsErr result → Rose (D.counts flash.old).faults (D.counts flash.new).faults
-        ⊎ Rose (D.counts flash.old).cuts (D.counts flash.new).cuts }
+    ensures cause { IsErr result → StopHasCause (D.counts flash.old) (D.counts flash.new) }
     ensures size { D.blocks flash.new ≡ D.blocks flash.old }
 {
     let mut buffer = [0; 4096];
@@ -144,8 +111,7 @@ fn mend<D: Flash>(flash: &mut D, found: &Found) -> Result<(), FlashStop>
 pub fn open<D: Flash>(alloc: Global, flash: &mut D) -> Result<Places, Unopened>
     requires off { IsFalse (D.on flash.old) }
     requires unarmed { D.arming flash.old ≡ None }
-    ensures opens { Opens D.tells (D.blocks flash.old)
-        (moment D.told D.counts D.arming D.on flash.old)
+    ensures opens { Opens D.tells (D.blocks flash.old) (moment D.told D.counts D.arming D.on flash.old)
         (moment D.told D.counts D.arming D.on flash.new) result }
     ensures fit { IfOk result (λ p. Fit (D.blocks flash.new) p) }
     ensures size { D.blocks flash.new ≡ D.blocks flash.old }

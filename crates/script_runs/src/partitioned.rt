@@ -11,9 +11,9 @@ ghost use Rattle.gpt_core.specs.Mapped.{device, places_of};
 ghost use Rattle.gpt_core.specs.Places.{Fit};
 ghost use Rattle.script_runs.specs.ByTable.{seen_at};
 ghost use Rattle.script_runs.specs.Here.{GoesAt};
-ghost use Rattle.script_runs.specs.Noted.{is_beyond, noted};
+ghost use Rattle.script_runs.specs.Done.{ending};
 ghost use Rattle.script_turns.specs.Powered.{at, moment};
-ghost use Rattle.script_runs.specs.Running.{Ended, Printed};
+ghost use Rattle.script_runs.specs.Running.{EndsRun, KeepsFiles};
 ghost use Rattle.script_turns.specs.Runs.{Ran, calls_of, sends_none};
 ghost use Rattle.script_runs.specs.Ways.{Given};
 ghost use Rattle.script_runs.specs.WaysByTable.{ReadsScript};
@@ -39,8 +39,7 @@ fn unmapped<D: Flash, K: Start>(done: Done<Mapped<D, K>>) -> Done<D>
     ensures device { result.flash ≡ device done.flash }
     ensures places { places_of done.flash ≡ K.at }
     ensures size { D.blocks result.flash ≡ K.blocks }
-    ensures beside { IsTrue D.tells → NothingDirty K.was
-        → Beside K.at K.was (D.told result.flash) }
+    ensures beside { IsTrue D.tells → NothingDirty K.was → Beside K.at K.was (D.told result.flash) }
 {
     let Done {
         status,
@@ -83,16 +82,9 @@ fn run_mapped<D: Flash, K: Start, H: Files, O: Sink, V: Verifier>(
         (turns result.journal) (seen_at opened.places (moment D.told D.counts D.arming D.on opened.flash))
         (seen_at opened.places (at on (D.told result.flash) (D.counts result.flash)
         (D.arming result.flash) (D.on result.flash))) (H.faults files.old) (H.faults files.new) }
-    ensures same_files { H.contents files.new ≡ H.contents files.old }
-    ensures unwritten { H.writes files.new ≡ H.writes files.old }
-    ensures files { IsTrue (sends_none ready.script) → files.new ≡ files.old }
-    ensures unsent { IsTrue (sends_none (calls_of (turns result.journal)))
-        → files.new ≡ files.old }
     ensures beside { IsTrue D.tells → Beside opened.places (D.told opened.flash) (D.told result.flash) }
-    ensures ended { Ended ready.script (turns result.journal) result.status (noted result.note) }
-    ensures note { IsFalse (is_beyond result.note) }
-    ensures printed { Printed (turns result.journal) result.status (O.taken sink.old)
-        (O.taken sink.new) (O.faults sink.old) (O.faults sink.new) }
+    ensures ends { EndsRun O.Sink ready.script (ending result) sink.old sink.new }
+    ensures keeps { KeepsFiles H.Files ready.script (turns result.journal) files.old files.new }
     ensures size { D.blocks result.flash ≡ D.blocks opened.flash }
 {
     let Opened { flash, places } = opened;
@@ -114,16 +106,9 @@ fn run_at<D: Flash, H: Files, O: Sink, V: Verifier>(
         (turns result.journal) (seen_at opened.places (moment D.told D.counts D.arming D.on opened.flash))
         (seen_at opened.places (at on (D.told result.flash) (D.counts result.flash)
         (D.arming result.flash) (D.on result.flash))) (H.faults files.old) (H.faults files.new) }
-    ensures same_files { H.contents files.new ≡ H.contents files.old }
-    ensures unwritten { H.writes files.new ≡ H.writes files.old }
-    ensures files { IsTrue (sends_none ready.script) → files.new ≡ files.old }
-    ensures unsent { IsTrue (sends_none (calls_of (turns result.journal)))
-        → files.new ≡ files.old }
     ensures beside { IsTrue D.tells → Beside opened.places (D.told opened.flash) (D.told result.flash) }
-    ensures ended { Ended ready.script (turns result.journal) result.status (noted result.note) }
-    ensures note { IsFalse (is_beyond result.note) }
-    ensures printed { Printed (turns result.journal) result.status (O.taken sink.old)
-        (O.taken sink.new) (O.faults sink.old) (O.faults sink.new) }
+    ensures ends { EndsRun O.Sink ready.script (ending result) sink.old sink.new }
+    ensures keeps { KeepsFiles H.Files ready.script (turns result.journal) files.old files.new }
     ensures size { D.blocks result.flash ≡ D.blocks opened.flash }
 {
     run_mapped::<D, Brand, H, O, V>(alloc, ready, files, sink, opened, verifier)
@@ -142,8 +127,7 @@ pub fn run_by_table<D: Flash, H: Files, O: Sink, V: Verifier>(
     requires off { IsFalse (D.on flash) }
     requires unarmed { D.arming flash ≡ None }
     ensures way { (asked : Option Asked) (g : Given) (before after : Faults)
-        → ReadsScript asked g ready.script → g.files ≡ H.contents files.old
-        → before.files ≤ H.faults files.old
+        → ReadsScript asked g ready.script → g.files ≡ H.contents files.old → before.files ≤ H.faults files.old
         → GoesAt place.Partitions D.Flash H.Files O.Sink (V.passes verifier.now) asked g before after flash sink.old
         result files.new sink.new }
     ensures later { O.faults sink.old ≤ O.faults sink.new }
@@ -151,8 +135,7 @@ pub fn run_by_table<D: Flash, H: Files, O: Sink, V: Verifier>(
     ensures same_files { H.contents files.new ≡ H.contents files.old }
     ensures unwritten { H.writes files.new ≡ H.writes files.old }
     ensures files { IsTrue (sends_none ready.script) → files.new ≡ files.old }
-    ensures unsent { IsTrue (sends_none (calls_of (turns result.journal)))
-        → files.new ≡ files.old }
+    ensures unsent { IsTrue (sends_none (calls_of (turns result.journal))) → files.new ≡ files.old }
     ensures size { D.blocks result.flash ≡ D.blocks flash }
 {
     let mut flash = flash;

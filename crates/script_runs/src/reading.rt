@@ -1,7 +1,6 @@
 //! The script that is to run, with the room for its turns. It is there before the flash is touched.
 ghost use Rattle.std.specs.Prelude.{◌≡◌, ◌≤◌, ℕ, List, [], Some, Err, IfOk, OnOk, IsTrue, length, false};
 ghost use Rattle.std.specs.Io.KnownBytes.{IsAtEnd};
-ghost use Rattle.flash_core.specs.Counts.{Rose};
 ghost use Rattle.fwu_model.specs.Script.{is_too_long};
 ghost use Rattle.host_io.specs.Once.{ReadsOnce};
 ghost use Rattle.fwu_words.specs.declared.orders.ScriptFrom.TheVariants as origin;
@@ -27,17 +26,12 @@ pub enum SourceStop {
 
 /// Reads a script's text to the source's end, or to the first byte with which it is too long.
 pub fn read_source<I: Source>(alloc: Global, source: &mut I) -> Result<Vec<u8>, SourceStop>
-    ensures whole { IfOk result
-        (λ text. (rest : List ℕ) → I.left source.old ≡ Some rest
+    ensures whole { IfOk result (λ text. (rest : List ℕ) → I.left source.old ≡ Some rest
         → (text.items ≡ rest) × (I.left source.new ≡ Some [])) }
     ensures end { OnOk result (IsAtEnd (I.left source.new)) }
-    ensures short { IfOk result
-        (λ text. (is_too_long text.items ≡ false) × (length text.items ≤ 4194304)) }
-    ensures long { result ≡ Err SourceStop.TooLong → (rest : List ℕ) → I.left source.old ≡ Some rest
-        → IsTrue (is_too_long rest) }
+    ensures short { IfOk result (λ text. (is_too_long text.items ≡ false) × (length text.items ≤ 4194304)) }
+    ensures long { result ≡ Err SourceStop.TooLong → (rest : List ℕ) → I.left source.old ≡ Some rest → IsTrue (is_too_long rest) }
     ensures later { I.faults source.old ≤ I.faults source.new }
-    ensures failed { result ≡ Err SourceStop.Failed
-        → Rose (I.faults source.old) (I.faults source.new) }
     ensures in_time { ReadsInTime (I.left source.old) (I.left source.new) }
     ensures count { I.faults source.new ≡ read_failures result (I.faults source.old) }
     ensures once { ReadsOnce I.Source source.old source.new }

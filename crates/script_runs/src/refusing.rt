@@ -2,7 +2,7 @@
 ghost use Rattle.std.specs.Prelude.{◌≡◌, []};
 ghost use Rattle.fwu_journal.specs.Shown.{turns};
 ghost use Rattle.fwu_model.specs.Wrote.{bad_list_line, bad_script_line};
-ghost use Rattle.host_io.specs.Printed.{Prints};
+ghost use Rattle.script_runs.specs.Here.{PrintsTo};
 ghost use Rattle.script_runs.specs.ByTable.{no_table_line};
 ghost use Rattle.script_runs.specs.Refusing.{refusal_line, refusal_note, refusal_status};
 
@@ -48,8 +48,7 @@ fn note_of(why: Refusal) -> Note
 
 /// Puts the line of a script whose first bad line this is.
 fn put_bad_script<O: Sink>(alloc: Global, sink: &mut O, line: u32) -> u8
-    ensures { Prints (bad_script_line line) 4 result (O.taken sink.old) (O.taken sink.new)
-        (O.faults sink.old) (O.faults sink.new) }
+    ensures { PrintsTo O.Sink (bad_script_line line) 4 result sink.old sink.new }
 {
     match format!(in alloc; "bad-script {line}\n") {
         Ok(text) => put_line(sink, text.as_bytes(), 4),
@@ -59,8 +58,7 @@ fn put_bad_script<O: Sink>(alloc: Global, sink: &mut O, line: u32) -> u8
 
 /// Puts the line of a list of digests whose first bad line this is.
 fn put_bad_list<O: Sink>(alloc: Global, sink: &mut O, line: u64) -> u8
-    ensures { Prints (bad_list_line line) 13 result (O.taken sink.old) (O.taken sink.new)
-        (O.faults sink.old) (O.faults sink.new) }
+    ensures { PrintsTo O.Sink (bad_list_line line) 13 result sink.old sink.new }
 {
     match format!(in alloc; "bad-list {line}\n") {
         Ok(text) => put_line(sink, text.as_bytes(), 13),
@@ -70,8 +68,7 @@ fn put_bad_list<O: Sink>(alloc: Global, sink: &mut O, line: u64) -> u8
 
 /// Puts the line of a device without a flash behind its partition table.
 fn put_no_table<O: Sink>(alloc: Global, sink: &mut O, lack: NoTable) -> u8
-    ensures { Prints (no_table_line lack) 10 result (O.taken sink.old) (O.taken sink.new)
-        (O.faults sink.old) (O.faults sink.new) }
+    ensures { PrintsTo O.Sink (no_table_line lack) 10 result sink.old sink.new }
 {
     match lack {
         NoTable::Table => put_line(sink, b"gpt no-table\n", 10),
@@ -88,8 +85,7 @@ fn put_no_table<O: Sink>(alloc: Global, sink: &mut O, lack: NoTable) -> u8
 /// script, 5 for a stop, 8 for a script that is too long, 10 without a flash behind the table, 13 for a bad list; 3 where the sink
 /// failed. Where memory is wanting, for the line too, nothing is put and it is 9.
 fn put_refusal<O: Sink>(alloc: Global, sink: &mut O, why: Refusal) -> u8
-    ensures prints { Prints (refusal_line why) (refusal_status why) result (O.taken sink.old)
-        (O.taken sink.new) (O.faults sink.old) (O.faults sink.new) }
+    ensures prints { PrintsTo O.Sink (refusal_line why) (refusal_status why) result sink.old sink.new }
     ensures starved { why ≡ Refusal.NoMemory → (result ≡ 9) × (sink.new ≡ sink.old) }
 {
     match why {
@@ -106,8 +102,7 @@ fn put_refusal<O: Sink>(alloc: Global, sink: &mut O, why: Refusal) -> u8
 
 /// Ends a run that has no first turn: puts the line of the refusal, and does nothing else.
 pub fn refuse<D: Flash, O: Sink>(alloc: Global, sink: &mut O, why: Refusal, flash: D) -> Done<D>
-    ensures prints { Prints (refusal_line why) (refusal_status why) result.status (O.taken sink.old)
-        (O.taken sink.new) (O.faults sink.old) (O.faults sink.new) }
+    ensures prints { PrintsTo O.Sink (refusal_line why) (refusal_status why) result.status sink.old sink.new }
     ensures starved { why ≡ Refusal.NoMemory → (result.status ≡ 9) × (sink.new ≡ sink.old) }
     ensures note { result.note ≡ refusal_note why }
     ensures flash { result.flash ≡ flash }

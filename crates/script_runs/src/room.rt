@@ -13,15 +13,15 @@ use std::alloc::{AllocError, Global};
 pub struct Room {
     pub journal: Journal,
     pub text: Vec<u8>,
+    ghost no_turns: { turns journal ≡ [] },
+    ghost no_text: { text.items ≡ [] },
+    ghost line_fits: { HasRoom text LINE_ROOM },
 }
 
 impl Room {
     /// Takes the memory for all.
     pub fn make(alloc: Global, count: usize) -> Result<Room, AllocError>
-        ensures no_turns { IfOk result (λ room. turns room.journal ≡ []) }
-        ensures turns_fit { IfOk result (λ room. HasRoomFor room.journal count) }
-        ensures no_text { IfOk result (λ room. room.text.items ≡ []) }
-        ensures line_fits { IfOk result (λ room. HasRoom room.text LINE_ROOM) }
+        ensures { IfOk result (λ room. HasRoomFor room.journal count) }
     {
         Ok(Room {
             journal: Journal::with_room(alloc, count)?,
@@ -30,12 +30,10 @@ impl Room {
     }
 }
 
-/// A script, and the room for all its turns and for the line of each.
+/// A script, and the room for all its turns.
 #[derive(Drop)]
 pub struct Ready {
     pub script: Script,
     pub room: Room,
-    ghost no_turns: { length (turns room.journal) ≡ 0 },
     ghost turns_fit: { HasRoomFor room.journal (length script) },
-    ghost line_fits: { HasRoom room.text LINE_ROOM },
 }

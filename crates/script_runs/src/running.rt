@@ -6,11 +6,12 @@ ghost use Rattle.fwu_model.specs.Text.{line};
 ghost use Rattle.script_text.specs.Armable.{IsArmable};
 ghost use Rattle.script_text.specs.Shown.{HasBuffer, shown};
 ghost use Rattle.fwu_journal.specs.Room.{HasRoom};
-ghost use Rattle.fwu_journal.specs.Shown.{HasRoomFor, IsShort, reply, turn as shown_turn, turns};
+ghost use Rattle.fwu_journal.specs.Shown.{HasRoomFor, IsShortReply, reply, turn as shown_turn, turns};
 ghost use Rattle.fwu_journal.specs.declared.line.TheConstants.{LINE_ROOM};
 ghost use Rattle.script_turns.specs.Powered.{at, device, has_power, moment, moment_of, shown_on};
-ghost use Rattle.script_runs.specs.Noted.{is_beyond, noted};
-ghost use Rattle.script_runs.specs.Running.{Does, Ended, Printed};
+ghost use Rattle.script_runs.specs.Noted.{is_beyond_model, noted};
+ghost use Rattle.script_runs.specs.Running.{DoesTurn, EndsRun, KeepsFiles};
+ghost use Rattle.script_runs.specs.Done.{ending};
 ghost use Rattle.script_turns.specs.Runs.{Ran, calls_of, sends_none};
 ghost use Rattle.fwu_model.specs.Run.{is_send};
 
@@ -37,7 +38,6 @@ pub struct Run<D: Flash> {
 impl<D: Flash> Run<D> {
     /// A run that begins in this room, on a flash as it is.
     pub fn new(room: Room, start: Powered<D>) -> Run<D>
-        requires line_fits { HasRoom room.text LINE_ROOM }
         ensures powered { result.powered ≡ start }
         ensures journal { result.journal ≡ room.journal }
     {
@@ -104,7 +104,7 @@ pub fn status_of(last: &Reply) -> u8
 /// The note after a last turn with this reply.
 pub fn note_of(last: &Reply) -> Note
     ensures noted { noted result ≡ note_by (reply last.now) }
-    ensures note { IsFalse (is_beyond result) }
+    ensures note { IsFalse (is_beyond_model result) }
 {
     match last {
         Reply::NotBooted(why) => Note::Boot(*why),
@@ -115,11 +115,11 @@ pub fn note_of(last: &Reply) -> Note
 /// Writes the line of a turn, and tells how the run stands by it.
 fn write_turn(text: &mut Vec<u8>, next: &Turn) -> End
     requires line_fits { LINE_ROOM ≤ vec_capacity text.old }
-    requires short { IsShort (shown_turn next.now).reply }
+    requires short { IsShortReply (shown_turn next.now).reply }
     ensures text { text.new.items ≡ line (shown_turn next.now).call (shown_turn next.now).reply }
     ensures status { result.status ≡ status_by (shown_turn next.now).reply }
     ensures noted { noted result.note ≡ note_by (shown_turn next.now).reply }
-    ensures note { IsFalse (is_beyond result.note) }
+    ensures note { IsFalse (is_beyond_model result.note) }
     ensures line_fits { LINE_ROOM ≤ vec_capacity text.new }
 {
     text.clear();
@@ -142,15 +142,12 @@ pub fn do_call<D: Flash, H: Files, V: Verifier>(
     requires armable { IsArmable (shown call) }
     requires buffer { HasBuffer call }
     requires turn_fits { HasRoomFor run.old.journal 1 }
-    ensures does { Does (V.passes verifier.now) D.tells (H.contents files.old) (shown call)
-        (turns run.old.journal) (turns run.new.journal)
-        (moment_of run.old.powered) (moment_of run.new.powered)
-        (H.faults files.old) (H.faults files.new) result.status (noted result.note)
-        run.new.text.items }
-    ensures note { IsFalse (is_beyond result.note) }
+    ensures does { DoesTurn (V.passes verifier.now) D.tells (H.contents files.old) (shown call)
+        (turns run.old.journal) (turns run.new.journal) (moment_of run.old.powered) (moment_of run.new.powered)
+        (H.faults files.old) (H.faults files.new) result.status (noted result.note) run.new.text.items }
+    ensures note { IsFalse (is_beyond_model result.note) }
     // Where the run goes on.
-    ensures powered { result.status ≡ 0
-        → D.on (device run.new.powered) ≡ has_power run.new.powered }
+    ensures powered { result.status ≡ 0 → D.on (device run.new.powered) ≡ has_power run.new.powered }
     ensures turns_fit { (n : ℕ) → HasRoomFor run.old.journal (n + 1) → HasRoomFor run.new.journal n }
     ensures size { D.blocks (device run.new.powered) ≡ D.blocks (device run.old.powered) }
     ensures same_files { H.contents files.new ≡ H.contents files.old }
@@ -182,17 +179,9 @@ pub fn run_script<D: Flash, H: Files, O: Sink, V: Verifier>(
         (turns result.journal) (moment D.told D.counts D.arming D.on (device start))
         (at on (D.told result.flash) (D.counts result.flash) (D.arming result.flash)
         (D.on result.flash)) (H.faults files.old) (H.faults files.new) }
-    ensures ended { Ended ready.script (turns result.journal) result.status (noted result.note) }
-    ensures note { IsFalse (is_beyond result.note) }
-    ensures printed { Printed (turns result.journal) result.status (O.taken sink.old)
-        (O.taken sink.new) (O.faults sink.old) (O.faults sink.new) }
+    ensures ends { EndsRun O.Sink ready.script (ending result) sink.old sink.new }
     ensures size { D.blocks result.flash ≡ D.blocks (device start) }
-    ensures same_files { H.contents files.new ≡ H.contents files.old }
-    ensures unwritten { H.writes files.new ≡ H.writes files.old }
-    ensures files { IsTrue (sends_none ready.script) → files.new ≡ files.old }
-    // Where no turn is a `send`, no file was read.
-    ensures unsent { IsTrue (sends_none (calls_of (turns result.journal)))
-        → files.new ≡ files.old }
+    ensures keeps { KeepsFiles H.Files ready.script (turns result.journal) files.old files.new }
 {
     let Ready { script, room } = ready;
     let mut run = Run::new(room, start);

@@ -11,10 +11,6 @@ pub five_words : (w a b c : List ℕ) (others : List (List ℕ)) → 0 < length 
 five_words w a b c [] some = absurd (omega (arith, some))
 five_words w a b c (d ∷ more) some = refl
 
--- a line that begins with another word
-pub other_words : (w a : List ℕ) (others : List (List ℕ)) → is_word w (codes "begin") ≡ false → call_of_words (w ∷ a ∷ others) ≡ call_of_others (w ∷ a ∷ others)
-other_words w a others not = ap (λ (b : Bool). cond b (begin_call (a ∷ others)) (call_of_others (w ∷ a ∷ others))) not
-
 pub begin_words : (w : List ℕ) (names : List (List ℕ)) → 0 < length names → is_word w (codes "begin") ≡ true → call_of_words (w ∷ names) ≡ begin_call names
 begin_words w [] some is = absurd (omega (arith, some))
 begin_words w (a ∷ others) some is = ap (λ (b : Bool). cond b (begin_call (a ∷ others)) (call_of_others (w ∷ a ∷ others))) is

@@ -8,7 +8,7 @@ use Rattle.std.proofs.lemmas.Option.{cond_some}
 use Rattle.base_core.specs.Bytes.{same_bytes}
 use Rattle.fwu_model.specs.Call.{Call}
 use Rattle.fwu_model.specs.Call as call
-use Rattle.fwu_formats.specs.Words.{is_word, digits_value, named, number_of, number_up_to, bytes_of, file_of, request_of, at_least_one}
+use Rattle.fwu_formats.specs.Words.{is_word, digits_value, named, number_of, number_up_to, bytes_of, file_word_of, request_of, at_least_one}
 use Rattle.fwu_model.specs.Script.{both, open_call, simple_call, call_of_three, call_of_words, line_of, after_line, calls_from, script_lines, script_of, call_of_four, call_of_others, begin_call, names_limit, types_of}
 use Rattle.script_text.specs.Armable.{IsArmable}
 use Rattle.script_text.specs.Law.{CutsAreArmable, CallsHaveLines}
@@ -107,11 +107,11 @@ sound_three w a b =
     (choice (is_word w (codes "write")) _ _ (sound_both call.Write (λ _ _. tt) (number_of a) (bytes_of b))
     (choice (is_word w (codes "read")) _ _ (sound_both call.Read (λ _ _. tt) (number_of a) (number_up_to 4096 b))
     (choice (is_word w (codes "commit")) _ _ (sound_both call.Commit (λ _ _. tt) (number_of a) (request_of b))
-    (choice (is_word w (codes "send")) _ _ (sound_both call.Send (λ _ _. tt) (file_of a) (request_of b))
+    (choice (is_word w (codes "send")) _ _ (sound_both call.Send (λ _ _. tt) (file_word_of a) (request_of b))
     (choice (is_word w (codes "cut")) _ _ (sound_cut (number_of a) (number_of b) (number_fits a)) tt)))))
 
 sound_four : (w a b c : List ℕ) → Sound (call_of_four w a b c)
-sound_four w a b c = choice (is_word w (codes "send") && is_word c (codes "partial")) _ _ (sound_both call.SendPartial (λ _ _. tt) (file_of a) (request_of b)) tt
+sound_four w a b c = choice (is_word w (codes "send") && is_word c (codes "partial")) _ _ (sound_both call.SendPartial (λ _ _. tt) (file_word_of a) (request_of b)) tt
 
 sound_others : (words : List (List ℕ)) → Sound (call_of_others words)
 sound_others [] = tt

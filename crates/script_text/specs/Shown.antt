@@ -48,9 +48,9 @@ LineHasBuffer (line.Call call) = HasBuffer call
 LineHasBuffer line.Bad = Unit {0}
 
 -- this line is the first bad one, or memory was wanting
-abbrev pub IsFaultOf : Result (List model.Call) ℕ → ScriptFault → Type 0
-IsFaultOf r (BadLine n) = r ≡ Err n
-IsFaultOf r NoMemory = Unit {0}
+abbrev pub IsScriptFault : Result (List model.Call) ℕ → ScriptFault → Type 0
+IsScriptFault r (BadLine n) = r ≡ Err n
+IsScriptFault r NoMemory = Unit {0}
 
 -- the line is empty, or a comment
 abbrev pub is_nothing : List ℕ → Bool

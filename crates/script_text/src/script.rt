@@ -4,7 +4,7 @@ ghost use Rattle.std.specs.List.{cons_option};
 ghost use Rattle.fwu_model.specs.Call as call;
 ghost use Rattle.fwu_model.specs.Script.{script_lines, script_of};
 ghost use Rattle.script_text.specs.Armable.{IsArmable};
-ghost use Rattle.script_text.specs.Shown.{HasBuffer, IsFaultOf, shown};
+ghost use Rattle.script_text.specs.Shown.{HasBuffer, IsScriptFault, shown};
 
 use crate::call::Call;
 use crate::line::{Line, read_line};
@@ -110,7 +110,7 @@ fn push_call(calls: &mut Vec<Call>, call: Option<Call>) -> Result<(), AllocError
 pub fn read_script(alloc: Global, bytes: &[u8]) -> Result<Script, ScriptFault>
     requires { length bytes.now ≤ 4194304 }
     ensures ok { IfOk result (λ calls. script_of bytes.now ≡ Ok calls) }
-    ensures fault { IfErr result (λ fault. IsFaultOf (script_of bytes.now) fault) }
+    ensures fault { IfErr result (λ fault. IsScriptFault (script_of bytes.now) fault) }
     ensures few { IfOk result (λ calls. length calls ≤ length (script_lines bytes.now)) }
     ensures armable { IfOk result (All IsArmable) }
 {

@@ -3,7 +3,7 @@ ghost use Rattle.std.specs.Prelude.{◌≡◌, ◌==◌, ◌++◌, [], IfOk, IfS
 ghost use Rattle.std.specs.List.{cons_option, slice_split};
 ghost use Rattle.base_core.specs.Block.{block_bytes};
 ghost use Rattle.fwu_model.specs.Call as call;
-ghost use Rattle.fwu_formats.specs.Words.{at_least_one, bytes_of, file_of, named, number_of, number_up_to, request_of};
+ghost use Rattle.fwu_formats.specs.Words.{at_least_one, bytes_of, file_word_of, named, number_of, number_up_to, request_of};
 ghost use Rattle.fwu_model.specs.Script.{begin_call, both, open_call, room_limit};
 ghost use Rattle.script_text.specs.Shown.{HasBuffer, shown};
 
@@ -105,7 +105,7 @@ pub fn commit_of(handle: &[u8], request: &[u8]) -> Option<Call>
 
 /// The name of a file, where a word is one.
 fn file_named(alloc: Global, name: &[u8]) -> Result<Option<String>, NoMemory>
-    ensures named { IfOk result (λ found. option_map string_bytes found ≡ file_of name.now) }
+    ensures named { IfOk result (λ found. option_map string_bytes found ≡ file_word_of name.now) }
 {
     if !is_file_name(name) {
         return Ok(None);
@@ -122,7 +122,7 @@ fn file_named(alloc: Global, name: &[u8]) -> Result<Option<String>, NoMemory>
 /// `send` with the name of a file and `now` or `trial`.
 pub fn send_of(alloc: Global, name: &[u8], request: &[u8]) -> Result<Option<Call>, NoMemory>
     ensures call { IfOk result (λ found. option_map shown found
-        ≡ both call.Send (file_of name.now) (request_of request.now)) }
+        ≡ both call.Send (file_word_of name.now) (request_of request.now)) }
     ensures buffer { IfOk result (λ found. IfSome found HasBuffer) }
 {
     let Some(name) = file_named(alloc, name)? else {
@@ -137,7 +137,7 @@ pub fn send_of(alloc: Global, name: &[u8], request: &[u8]) -> Result<Option<Call
 /// `send` with the name of a file, `now` or `trial`, and `partial`.
 pub fn send_partial_of(alloc: Global, name: &[u8], request: &[u8]) -> Result<Option<Call>, NoMemory>
     ensures call { IfOk result (λ found. option_map shown found
-        ≡ both call.SendPartial (file_of name.now) (request_of request.now)) }
+        ≡ both call.SendPartial (file_word_of name.now) (request_of request.now)) }
     ensures buffer { IfOk result (λ found. IfSome found HasBuffer) }
 {
     let Some(name) = file_named(alloc, name)? else {

@@ -3,7 +3,9 @@ use Rattle.std.proofs.Common.{◌≡◌, ◌≢◌, Contains, ℕ, ◌+◌, ◌�
 use Rattle.std.specs.Prelude.{◌⊎◌, Result, Ok, is_some, is_ok}
 use Rattle.std.specs.List.{list_any}
 use Rattle.flash_core.specs.declared.flash.Counts.{Counts}
+use Rattle.std.specs.Prelude.{IsErrOf}
 use Rattle.flash_core.specs.declared.flash.FlashStop.{FlashStop}
+use Rattle.flash_core.specs.declared.flash.FlashStop.TheVariants as flash_stop
 use Rattle.flash_core.specs.declared.flash.Arming.{Arming}
 use Rattle.flash_core.specs.Counts.{ReachesNone, Rose, Spends, StaysUnarmed, all_stops, stops_in}
 use Rattle.flash_core.specs.Told.{Told, NothingDirty, fresh, is_unsure}
@@ -29,10 +31,10 @@ use Rattle.agent_machine.specs.Moment as agent
 use Rattle.early_boot.specs.Started.{Started, started_session}
 use Rattle.early_boot.specs.Ends.{Ended, booted, bad_layout, no_metadata, no_bank, lost, failed, stop_of}
 use Rattle.early_boot.specs.EndsBy.{BootEnds, EndsByBytes, EndsByMachine, IdleEnd, StartsReady, StopsWith, StartedBy, StartsPermitted, TakesBoot, TakesByBytes}
-use Rattle.script_turns.specs.Powered.{Moment, IsAt, IsSafe, kept_at}
+use Rattle.script_turns.specs.Powered.{TurnMoment, IsAt, IsSafe, kept_at}
 use Rattle.script_turns.specs.Booted.{BootsFrom}
 use Rattle.script_turns.specs.Replies.{LeavesOn, power_after}
-use Rattle.script_turns.specs.Takes.{BootsBy, StaysFree, TakesBy, stop_told}
+use Rattle.script_turns.specs.Takes.{BootTakes, StaysFree, TakesBy, stop_told}
 use Rattle.script_turns.specs.Turning.{NoneFalls, Turns, PowersOn, GetsPower, IsOnAfter, ShowsStarted, boot_turn, reply_of_end}
 
 -- ---- the guard
@@ -204,7 +206,7 @@ record Waits (old was : Counts) : Type 0 where
 waits-none : (was : Counts) → Waits was was
 waits-none was = record { falls = record { faults = omega arith; cuts = omega arith; reached = omega arith; chances = omega arith }; once = omega arith; made = refl }
 
-waits : (tells : Bool) (on : Option Fields) (old mid : Moment) → GetsPower tells on old mid → Waits old.counts mid.counts
+waits : (tells : Bool) (on : Option Fields) (old mid : TurnMoment) → GetsPower tells on old mid → Waits old.counts mid.counts
 waits tells None old mid has = record {
   falls = record { faults = omega (arith, has.idles.faults); cuts = omega (arith, has.idles.cuts); reached = omega (arith, has.idles.reached); chances = has.idles.chances };
   once = omega (arith, has.idles.faults, has.idles.cuts, has.idles.reached);
@@ -249,22 +251,25 @@ module _ (old was are : Counts) (waiting : Waits old was) where
 reaches-then : {T : Type 0} (result : Result T FlashStop) (old was are : Counts) → old.cuts ≤ was.cuts → was.reached ≡ old.reached → ReachesNone result was are → ReachesNone result old are
 reaches-then result old was are cuts reached none = record { same = none.same ∙ reached; lost = λ h. rose-later old.cuts was.cuts are.cuts cuts (none.lost h) }
 
-armed-had : (tells : Bool) (on : Option Fields) (old mid : Moment) → GetsPower tells on old mid → mid.armed ≡ old.armed
+armed-had : (tells : Bool) (on : Option Fields) (old mid : TurnMoment) → GetsPower tells on old mid → mid.armed ≡ old.armed
 armed-had tells None old mid has = has.armed
 armed-had tells (Some f) old mid has = has.armed
 
-reached-had : (tells : Bool) (on : Option Fields) (old mid : Moment) → GetsPower tells on old mid → mid.counts.reached ≡ old.counts.reached
+reached-had : (tells : Bool) (on : Option Fields) (old mid : TurnMoment) → GetsPower tells on old mid → mid.counts.reached ≡ old.counts.reached
 reached-had tells None old mid has = has.idles.reached
 reached-had tells (Some f) old mid has = ap (λ (c : Counts). c.reached) has.counts
 
-boots-spent : (e : Ended) (old mid new : Moment) → mid.armed ≡ old.armed → TakesBoot e mid.armed new.armed → BootsBy (reply_of_end e) old new
+boots-spent : (e : Ended) (old mid new : TurnMoment) → mid.armed ≡ old.armed → TakesBoot e mid.armed new.armed → BootTakes (reply_of_end e) old new
 boots-spent e old mid new armed spent = record { end = e; reply_is = refl; spent = subst (λ (a : Option Arming). TakesBoot e a new.armed) armed spent }
 
-boots-free : (e : Ended) (old mid new : Moment) → mid.armed ≡ old.armed → old.counts.cuts ≤ mid.counts.cuts → mid.counts.reached ≡ old.counts.reached
+boots-free : (e : Ended) (old mid new : TurnMoment) → mid.armed ≡ old.armed → old.counts.cuts ≤ mid.counts.cuts → mid.counts.reached ≡ old.counts.reached
     → StaysUnarmed (stop_of e) mid.armed new.armed mid.counts new.counts → StaysFree (reply_of_end e) old new
-boots-free e old mid new armed cuts reached unarmed none =
-    let free = unarmed (armed ∙ none) in
-    (free.0, subst (λ (x : Result (Unit {0}) FlashStop). ReachesNone x old.counts new.counts) (stop-of-reply e) (reaches-then (stop_of e) old.counts mid.counts new.counts cuts reached free.1))
+boots-free e old mid new armed cuts reached unarmed = record {
+  spent = λ lost. unarmed.spent (subst (λ (x : Result (Unit {0}) FlashStop). IsErrOf x flash_stop.Lost) (sym (stop-of-reply e)) lost);
+  free = λ none.
+      let free = unarmed.free (armed ∙ none) in
+      (free.0, subst (λ (x : Result (Unit {0}) FlashStop). ReachesNone x old.counts new.counts) (stop-of-reply e) (reaches-then (stop_of e) old.counts mid.counts new.counts cuts reached free.1));
+}
 
 -- ---- the flash that boots
 
@@ -298,16 +303,16 @@ safe-guards : (power : Bool) (t : Told) → IsSafe power t → Guards 1 7 t
 safe-guards true t safe = safe.guard
 safe-guards false t safe = safe.0
 
-guard-had : (tells : Bool) (on : Option Fields) (old mid : Moment) → IsTrue tells → GetsPower tells on old mid → mid.told.guard ≡ old.told.guard
+guard-had : (tells : Bool) (on : Option Fields) (old mid : TurnMoment) → IsTrue tells → GetsPower tells on old mid → mid.told.guard ≡ old.told.guard
 guard-had tells None old mid told has = fresh-guard old.told mid.told (has.clean told)
 guard-had tells (Some f) old mid told has = same-told old.told mid.told has.told
 
-rests-had : (tells : Bool) (on : Option Fields) (old mid : Moment) → IsTrue tells → GetsPower tells on old mid → mid.power ≡ true → IsSafe old.power old.told → IsAtRest mid.told
+rests-had : (tells : Bool) (on : Option Fields) (old mid : TurnMoment) → IsTrue tells → GetsPower tells on old mid → mid.power ≡ true → IsSafe old.power old.told → IsAtRest mid.told
 rests-had tells None old mid told has power safe = fresh-rests old.told mid.told (has.clean told) (safe-guards old.power old.told safe)
 rests-had tells (Some f) old mid told has power safe =
     subst IsAtRest (sym has.told) (subst (λ (b : Bool). IsSafe b old.told) (sym has.power ∙ power) safe)
 
-bytes-had : (tells : Bool) (on : Option Fields) (old mid : Moment) → IsTrue tells → GetsPower tells on old mid → NothingDirty old.told → mid.told.now ≡ old.told.now
+bytes-had : (tells : Bool) (on : Option Fields) (old mid : TurnMoment) → IsTrue tells → GetsPower tells on old mid → NothingDirty old.told → mid.told.now ≡ old.told.now
 bytes-had tells None old mid told has clean = same-bytes old.told mid.told clean (has.leaves told)
 bytes-had tells (Some f) old mid told has clean = ap (λ (t : Told). t.now) has.told
 
@@ -317,7 +322,7 @@ record Begins (E : Setting) (c : Condition) (t : Told) : Type 0 where
   found : Contains c.candidates state
   calm : IsCalm E t state
 
-begins : (tells : Bool) (on : Option Fields) (old mid : Moment) (last : ℕ) → IsTrue tells → GetsPower tells on old mid → (E : Setting) (c : Condition) → IsAt E c on old.told
+begins : (tells : Bool) (on : Option Fields) (old mid : TurnMoment) (last : ℕ) → IsTrue tells → GetsPower tells on old mid → (E : Setting) (c : Condition) → IsAt E c on old.told
     → mid.counts.chances ≤ last → (Rose old.counts.chances last → ⊥) → Begins E c mid.told
 begins tells None old mid last told has E c is le none =
     let may : May old.told mid.told.now = record { leaves = has.leaves told; no_chance = no-chance (has.chance told) } in
@@ -338,7 +343,7 @@ begins tells (Some f) old mid last told has E c is le none =
 -- ---- the turn
 
 -- The boot of a flash with power ended so.
-pub record EndsTurn (passes : List ℕ → Bool) (tells : Bool) (e : Ended) (mid new : Moment) : Type 0 where
+pub record EndsTurn (passes : List ℕ → Bool) (tells : Bool) (e : Ended) (mid new : TurnMoment) : Type 0 where
   pub on_is : IsOnAfter e new.on
   pub leaves : LeavesOn (reply_of_end e) new.on
   pub shows : IsTrue tells → ShowsStarted tells e new.on new.told
@@ -352,7 +357,7 @@ pub record EndsTurn (passes : List ℕ → Bool) (tells : Bool) (e : Ended) (mid
   pub unarmed : StaysUnarmed (stop_of e) mid.armed new.armed mid.counts new.counts
   pub ends : IsTrue tells → BootEnds passes mid.told e new.told
 
-module _ (passes : List ℕ → Bool) (tells : Bool) (files : Option Directory) (faults : ℕ) (e : Ended) (old mid new : Moment) (power : mid.power ≡ true)
+module _ (passes : List ℕ → Bool) (tells : Bool) (files : Option Directory) (faults : ℕ) (e : Ended) (old mid new : TurnMoment) (power : mid.power ≡ true)
     (ended : EndsTurn passes tells e mid new) where
   boots-by : (on : Option Fields) → old.on ≡ on → GetsPower tells on old mid → Turns passes tells files call.Boot (boot_turn e) old new faults faults
   boots-by on on_is has =
@@ -402,7 +407,7 @@ module _ (passes : List ℕ → Bool) (tells : Bool) (files : Option Directory) 
             subst (λ (image : List ℕ). BootsFrom passes image (reply_of_end e)) (bytes-had tells on old mid told has clean) (boots-from passes e mid.told new.told (ended.ends told).by_bytes);
       }
     where
-      spends : BootsBy (reply_of_end e) old new
+      spends : BootTakes (reply_of_end e) old new
       spends = boots-spent e old mid new (armed-had tells on old mid has) ended.spent
 
       takes : (o : Option Fields) → TakesBy files call.Boot o old (reply_of_end e) new

@@ -22,19 +22,19 @@ use Rattle.agent_machine.specs.Meets.{IsDone, IsRefused, flash_result}
 use Rattle.agent_machine.specs.Stored.{TakesStore}
 use Rattle.agent_calls.specs.declared.agent.Agent.{Agent}
 use Rattle.agent_calls.specs.Shown.{device, fields}
-use Rattle.script_turns.specs.Powered.{Moment, SameDevice, at}
-use Rattle.script_turns.specs.Takes.{AcceptsBy, BeginsBy, BeginsOver, CommitsBy, IsStoredBy, IsSwitchedBy, ReadsBy, WritesBy}
+use Rattle.script_turns.specs.Powered.{TurnMoment, SameDevice, at}
+use Rattle.script_turns.specs.Takes.{AcceptsBy, BeginsBy, BeginsOver, CommitsBy, IsStoredBy, IsSwitchedBy, ReadTakes, WritesBy}
 use Rattle.script_turns.specs.Calls.{on_by, reply_by}
 
 -- the device of an agent, with what is kept
-abbrev pub with : {D : Type 0} {F : Ghosts D} → Option Fields → Agent D F → Moment
+abbrev pub with : {D : Type 0} {F : Ghosts D} → Option Fields → Agent D F → TurnMoment
 with {F = F} on a = at on (F.told (device a)) (F.counts (device a)) (F.arming (device a)) (F.on (device a))
 
 -- the reply of a call whose answer tells nothing but that it was done
 abbrev pub done_reply : Result (Unit {0}) Stop → Reply
 done_reply result = reply_by (λ value. reply.Success) result
 
-pub stores-by : (result : Result (Unit {0}) Stop) (f g : Fields) (old new : Moment) → OnOk result (TakesStore f.meta g.meta old.armed new.armed) → (IsRefused result → new.armed ≡ old.armed)
+pub stores-by : (result : Result (Unit {0}) Stop) (f g : Fields) (old new : TurnMoment) → OnOk result (TakesStore f.meta g.meta old.armed new.armed) → (IsRefused result → new.armed ≡ old.armed)
     → IsStoredBy (done_reply result) f (on_by result g) old new
 stores-by (Ok value) f g old new spent refused = spent
 stores-by (Err (stop.Status st)) f g old new spent refused = refused tt
@@ -42,7 +42,7 @@ stores-by (Err stop.Lost) f g old new spent refused = tt
 stores-by (Err stop.Fault) f g old new spent refused = tt
 stores-by (Err stop.Gone) f g old new spent refused = tt
 
-pub accepts-by : (result : Result (Unit {0}) Stop) (f g : Fields) (old new : Moment) → OnOk result (TakesStore f.meta g.meta old.armed new.armed) → (IsRefused result → SameDevice old new)
+pub accepts-by : (result : Result (Unit {0}) Stop) (f g : Fields) (old new : TurnMoment) → OnOk result (TakesStore f.meta g.meta old.armed new.armed) → (IsRefused result → SameDevice old new)
     → AcceptsBy (done_reply result) f (on_by result g) old new
 accepts-by (Ok value) f g old new spent refused = spent
 accepts-by (Err (stop.Status st)) f g old new spent refused = refused tt
@@ -51,7 +51,7 @@ accepts-by (Err stop.Fault) f g old new spent refused = tt
 accepts-by (Err stop.Gone) f g old new spent refused = tt
 
 -- a begin, by what it wrote
-pub begins-by : (result : Result (Unit {0}) Stop) (f : Fields) (old new : Moment) → OnOk result (TakesWrites (writes_to_begin f) old.armed new.armed)
+pub begins-by : (result : Result (Unit {0}) Stop) (f : Fields) (old new : TurnMoment) → OnOk result (TakesWrites (writes_to_begin f) old.armed new.armed)
     → (IsRefused result → SameDevice old new) → BeginsBy (done_reply result) f old new
 begins-by (Ok value) f old new spent refused = spent
 begins-by (Err (stop.Status st)) f old new spent refused = refused tt
@@ -60,7 +60,7 @@ begins-by (Err stop.Fault) f old new spent refused = tt
 begins-by (Err stop.Gone) f old new spent refused = tt
 
 -- a partial begin
-pub begins-over : (result : Result (Unit {0}) Stop) (types : List (List ℕ)) (f : Fields) (old new : Moment)
+pub begins-over : (result : Result (Unit {0}) Stop) (types : List (List ℕ)) (f : Fields) (old new : TurnMoment)
     → OnOk result (TakesWrites (writes_to_begin f + writes_to_copy (are_named f.layout.rows types) f.lengths (length f.layout.rows)) old.armed new.armed)
     → (IsRefused result → SameDevice old new) → BeginsOver (done_reply result) types f old new
 begins-over (Ok value) types f old new spent refused = spent
@@ -70,11 +70,11 @@ begins-over (Err stop.Fault) types f old new spent refused = tt
 begins-over (Err stop.Gone) types f old new spent refused = tt
 
 -- what was written by the image of a handle
-abbrev Appends : Result (Unit {0}) Stop → Fields → ℕ → List ℕ → Moment → Moment → Type 0
+abbrev Appends : Result (Unit {0}) Stop → Fields → ℕ → List ℕ → TurnMoment → TurnMoment → Type 0
 Appends result f number bytes old new = (image : ℕ) → handle_kept f.session (number - 1) ≡ handle.Writes image
     → SpendsArming (flash_result result) (writes_to_append (size_of (part_at f.session image)) (length bytes)) old.armed new.armed old.counts new.counts
 
-pub writes-by : (result : Result (Unit {0}) Stop) (f : Fields) (number : ℕ) (bytes : List ℕ) (old new : Moment) → (result ≡ Err stop.Gone → ⊥)
+pub writes-by : (result : Result (Unit {0}) Stop) (f : Fields) (number : ℕ) (bytes : List ℕ) (old new : TurnMoment) → (result ≡ Err stop.Gone → ⊥)
     → (IsDone result → Appends result f number bytes old new) → (IsRefused result → SameDevice old new) → WritesBy (done_reply result) f number bytes old new
 writes-by (Ok value) f number bytes old new here spent refused = spent tt
 writes-by (Err (stop.Status st)) f number bytes old new here spent refused = refused tt
@@ -82,11 +82,11 @@ writes-by (Err stop.Lost) f number bytes old new here spent refused = spent tt
 writes-by (Err stop.Fault) f number bytes old new here spent refused = spent tt
 writes-by (Err stop.Gone) f number bytes old new here spent refused = absurd (here refl)
 
-abbrev Finishes : Result (Unit {0}) Stop → Fields → ℕ → Moment → Moment → Type 0
+abbrev Finishes : Result (Unit {0}) Stop → Fields → ℕ → TurnMoment → TurnMoment → Type 0
 Finishes result f number old new = (image : ℕ) → IsWriter f number image
     → SpendsArming (flash_result result) (writes_to_finish (size_of (part_at f.session image))) old.armed new.armed old.counts new.counts
 
-pub commits-by : (result : Result (Unit {0}) Stop) (f : Fields) (number : ℕ) (old new : Moment) → Finishes result f number old new → (((image : ℕ) → IsWriter f number image → ⊥) → SameDevice old new)
+pub commits-by : (result : Result (Unit {0}) Stop) (f : Fields) (number : ℕ) (old new : TurnMoment) → Finishes result f number old new → (((image : ℕ) → IsWriter f number image → ⊥) → SameDevice old new)
     → CommitsBy (done_reply result) f number old new
 commits-by (Ok value) f number old new spent still = record { spent = spent; still = still }
 commits-by (Err (stop.Status st)) f number old new spent still = record { spent = spent; still = still }
@@ -94,7 +94,7 @@ commits-by (Err stop.Lost) f number old new spent still = record { spent = spent
 commits-by (Err stop.Fault) f number old new spent still = record { spent = spent; still = still }
 commits-by (Err stop.Gone) f number old new spent still = record { spent = spent; still = still }
 
-pub switches-by : (result : Result (Unit {0}) Stop) (old new : Moment) → OnOk result (TakesSwitch old.armed new.armed) → (IsRefused result → SameDevice old new)
+pub switches-by : (result : Result (Unit {0}) Stop) (old new : TurnMoment) → OnOk result (TakesSwitch old.armed new.armed) → (IsRefused result → SameDevice old new)
     → IsSwitchedBy (done_reply result) old new
 switches-by (Ok value) old new spent refused = spent
 switches-by (Err (stop.Status st)) old new spent refused = refused tt
@@ -106,8 +106,8 @@ switches-by (Err stop.Gone) old new spent refused = tt
 abbrev pub got : List ℕ → ℕ × ℕ → Reply
 got out value = reply.Got value.1 (take value.0 out)
 
-pub reads-by : (result : Result (ℕ × ℕ) Stop) (out : List ℕ) (old new : Moment) → new.armed ≡ arming_kept (flash_result result) old.armed
-    → ReachesNone (flash_result result) old.counts new.counts → ReadsBy (reply_by (got out) result) old new
+pub reads-by : (result : Result (ℕ × ℕ) Stop) (out : List ℕ) (old new : TurnMoment) → new.armed ≡ arming_kept (flash_result result) old.armed
+    → ReachesNone (flash_result result) old.counts new.counts → ReadTakes (reply_by (got out) result) old new
 reads-by (Ok value) out old new armed reached = record { armed = armed; reached = reached }
 reads-by (Err (stop.Status st)) out old new armed reached = record { armed = armed; reached = reached }
 reads-by (Err stop.Lost) out old new armed reached = record { armed = armed; reached = reached }

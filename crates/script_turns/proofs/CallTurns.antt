@@ -37,9 +37,9 @@ use Rattle.agent_machine.specs.Fields.{Fields, total_of}
 use Rattle.agent_machine.specs.Beside.{KeepsSpared, KeepsSparedByAll}
 use Rattle.agent_machine.proofs.Beside.{spared-once}
 use Rattle.agent_machine.specs.Moment as agent
-use Rattle.agent_machine.specs.Meets.{Answers, IsDone, IsSettingOf, Leaves, ShowsNext, Stays, flash_result}
-use Rattle.script_turns.specs.Powered.{Moment, IsAt, IsSafe, at, kept_at}
-use Rattle.agent_calls.specs.AnswersCall.{AnswersCall, GoesBackBy, IsDecided, IsPrevious, IsReplyOf, PermitsBack}
+use Rattle.agent_machine.specs.Meets.{Answers, IsDone, IsSettingOf, LeavesFlash, ShowsNext, Stays, flash_result}
+use Rattle.script_turns.specs.Powered.{TurnMoment, IsAt, IsSafe, at, kept_at}
+use Rattle.agent_calls.specs.AnswersCall.{AnswersCall, GoesBackBy, IsDecided, IsPreviousCall, IsReplyOf, PermitsBack}
 use Rattle.script_turns.specs.Replies.{AnswersBegin, AnswersTo, CallSays, IsFlashStop, Replies, power_after}
 use Rattle.script_turns.specs.Takes.{TakesOn, stop_told}
 use Rattle.script_turns.specs.Calls.{is_agents, is_composed, on_by, reply_by}
@@ -75,7 +75,7 @@ never-cuts : (c : Call) (r : Reply) (armed : Option Arming) → IsTrue (is_agent
 never-cuts (call.Cut n k) r armed agents = absurd cc
 never-cuts other r armed agents = tt
 
-replies-of : (passes : List ℕ → Bool) (tells : Bool) (files : Option Directory) (c : Call) (f : Fields) (old new : Moment) (r : Reply) → IsTrue (is_agents c) → old.on ≡ Some f
+replies-of : (passes : List ℕ → Bool) (tells : Bool) (files : Option Directory) (c : Call) (f : Fields) (old new : TurnMoment) (r : Reply) → IsTrue (is_agents c) → old.on ≡ Some f
     → CallSays passes tells c old.on old.told r new.on new.told → Replies passes tells files c old (quiet_turn c r) new
 replies-of passes tells files (call.Send name request) f old new r agents on says = absurd cc
 replies-of passes tells files (call.SendPartial name request) f old new r agents on says = absurd cc
@@ -151,7 +151,7 @@ record Left (result : Result (Unit {0}) FlashStop) (passes : List ℕ → Bool) 
   stays : Stays old new
 
 left-by : {result : Result (Unit {0}) FlashStop} {passes : List ℕ → Bool} {c : Call} {old new : agent.Moment} → IsMetaAfter c old.fields new.fields.meta
-    → Leaves result passes c old new → Left result passes c old new
+    → LeavesFlash result passes c old new → Left result passes c old new
 left-by {old = old} {new = new} after leaves = record {
   does = leaves.does;
   guarded = leaves.guarded;
@@ -347,9 +347,9 @@ pub record Called {T : Type 0} (says : T → Reply) (result : Result T Stop) (pa
   pub here : result ≡ Err stop.Gone → ⊥
   pub exact : (E : Setting) (s : State) (x : Session) → IsSettingOf old.fields passes E → agent.Shows old s x → IsDecided old.tells c
       → Answers (λ value q. IsReplyOf old.tells c q (says value)) result E s x c new
-  pub back : IsPrevious c → (s : State) (x : Session) → agent.Shows old s x → GoesBackAs says result s x new
-  pub permitted : IsPrevious c → (value : T) → result ≡ Ok value → PermitsBack passes (says value) old.fields
-  pub leaves : Leaves (flash_result result) passes c old new
+  pub back : IsPreviousCall c → (s : State) (x : Session) → agent.Shows old s x → GoesBackAs says result s x new
+  pub permitted : IsPreviousCall c → (value : T) → result ≡ Ok value → PermitsBack passes (says value) old.fields
+  pub leaves : LeavesFlash (flash_result result) passes c old new
 
 -- a refusal is the machine's, of each call
 refused-reply : (tells : Bool) (c : Call) (q : Reply) (st : Status) → q ≡ reply.Refused st → IsReplyOf tells c q (reply.Refused st)

@@ -24,15 +24,15 @@ use Rattle.agent_machine.specs.Meets.{Answers, GoesBack, GoesBy, IsDone, IsGot, 
 use Rattle.fwu_formats.specs.Metadata.{MetaRead}
 use Rattle.script_turns.specs.Deciding.{IsMetaAfter}
 use Rattle.agent_calls.specs.declared.agent.Agent.{Agent}
-use Rattle.agent_calls.specs.AnswersCall.{IsPrevious, IsReplyOf}
+use Rattle.agent_calls.specs.AnswersCall.{IsPreviousCall, IsReplyOf}
 use Rattle.agent_calls.specs.Copies.{BeginsPartly}
 use Rattle.agent_calls.specs.GoneBack.{SomePassed}
 use Rattle.fwu_model.specs.Answer.{are_named}
 use Rattle.agent_calls.specs.Shown.{AgentGoes, device, fields, gone, moment}
-use Rattle.fwu_journal.specs.Shown.{IsShort, turn}
+use Rattle.fwu_journal.specs.Shown.{IsShortReply, turn}
 use Rattle.script_text.specs.Shown.{shown}
 use Rattle.script_text.specs.declared.call.Call.TheVariants as variant
-use Rattle.script_turns.specs.Powered.{Moment, SameDevice}
+use Rattle.script_turns.specs.Powered.{TurnMoment, SameDevice}
 use Rattle.script_turns.specs.Stage.{on_where}
 use Rattle.script_turns.specs.Takes.{TakesOn}
 use Rattle.script_turns.specs.Calls.{is_there, moment_where, on_by, open_call, reply_by}
@@ -58,7 +58,7 @@ answers-as Says Tells (Err stop.Fault) E s x c new says answers = tt
 answers-as Says Tells (Err stop.Gone) E s x c new says answers = tt
 
 pub called : {T : Type 0} (Says : T → Reply → Type 0) (says : T → Reply) (result : Result T Stop) (passes : List ℕ → Bool) (c : Call) (old new : agent.Moment)
-    → IsTrue (is_single c) → (IsPrevious c → ⊥) → ((value : T) → IsFalse (is_stop (says value))) → (result ≡ Err stop.Gone → ⊥)
+    → IsTrue (is_single c) → (IsPreviousCall c → ⊥) → ((value : T) → IsFalse (is_stop (says value))) → (result ≡ Err stop.Gone → ⊥)
     → ((value : T) → result ≡ Ok value → (q : Reply) → Says value q → IsReplyOf old.tells c q (says value))
     → Meets Says result passes c old new → Called says result passes c old new
 called Says says result passes c old new agents other never here same meets = record {
@@ -106,7 +106,7 @@ called-read tells result passes handle room out old new told here fits meets =
     (λ value is q says. subst (λ (b : Bool). IsReplyOf b (call.Read handle room) q (got out value)) (sym told) (got-of tells handle room out value q (fits-at result out value fits is) says)) meets
 
 -- what tells nothing but that it was done
-pub called-done : (result : Result (Unit {0}) Stop) (passes : List ℕ → Bool) (c : Call) (old new : agent.Moment) → IsTrue (is_single c) → (IsPrevious c → ⊥)
+pub called-done : (result : Result (Unit {0}) Stop) (passes : List ℕ → Bool) (c : Call) (old new : agent.Moment) → IsTrue (is_single c) → (IsPreviousCall c → ⊥)
     → ((q : Reply) → q ≡ reply.Success → IsReplyOf old.tells c q reply.Success) → (result ≡ Err stop.Gone → ⊥)
     → Meets (λ value q. q ≡ reply.Success) result passes c old new → Called (λ value. reply.Success) result passes c old new
 called-done result passes c old new agents other same here meets =
@@ -120,7 +120,7 @@ called-open result passes guid op.Read old new here meets =
 called-open result passes guid op.Write old new here meets =
     called (λ handle q. q ≡ reply.Opened handle) (λ handle. reply.Opened handle) result passes (call.OpenWrite guid) old new refl (λ previous. previous) (λ handle. refl) here (λ handle is q says. says) meets
 
-pub takes-open : (files : Option Directory) (guid : List ℕ) (o : Op) (f : Fields) (old : Moment) (r : Reply) (new : Moment) → SameDevice old new → TakesOn files (open_call guid o) f old r new
+pub takes-open : (files : Option Directory) (guid : List ℕ) (o : Op) (f : Fields) (old : TurnMoment) (r : Reply) (new : TurnMoment) → SameDevice old new → TakesOn files (open_call guid o) f old r new
 takes-open files guid op.Read f old r new same = same
 takes-open files guid op.Write f old r new same = same
 
@@ -185,7 +185,7 @@ not-gone result was true goes live there = either (goes.later.0 refl)
 
 -- An agent that isn't gone, its call, and the agent and the turn after it.
 module _ {D T : Type 0} {F : Ghosts D} (a b : Agent D F) (done : AgentTurn) (result : Result T Stop) (live : IsFalse (gone a)) (goes : AgentGoes result a b) where
-  pub leaves-by : done.here ≡ is_there result → IsShort (turn done.turn).reply → LeavesAgent done a b
+  pub leaves-by : done.here ≡ is_there result → IsShortReply (turn done.turn).reply → LeavesAgent done a b
   leaves-by here_is short = record {
     device = record {
       powered = λ on. goes.power live ∙ on-where-there result (never-gone result _ _ goes.gone live) ∙ sym here_is;
@@ -216,7 +216,7 @@ module _ {D T : Type 0} {F : Ghosts D} (a b : Agent D F) (done : AgentTurn) (res
 module _ {D : Type 0} {F : Ghosts D} (a b : Agent D F) (done : AgentTurn) (result : Result (Unit {0}) Stop) (live : IsFalse (gone a)) (goes : AgentGoes result a b) where
   -- of what tells nothing but that it was done
   pub turns-done : (passes : List ℕ → Bool) (c : Call) → turn done.turn ≡ quiet_turn c (done_reply result) → done.here ≡ is_there result
-      → IsMetaAfter c (fields a) (fields b).meta → IsTrue (is_single c) → (IsPrevious c → ⊥) → ((q : Reply) → q ≡ reply.Success → IsReplyOf F.tells c q reply.Success)
+      → IsMetaAfter c (fields a) (fields b).meta → IsTrue (is_single c) → (IsPreviousCall c → ⊥) → ((q : Reply) → q ≡ reply.Success → IsReplyOf F.tells c q reply.Success)
       → Meets (λ value q. q ≡ reply.Success) result passes c (moment a) (moment b)
       → ((files : Option Directory) → TakesOn files c (fields a) (with (Some (fields a)) a) (done_reply result) (with (on_by result (fields b)) b))
       → IsCallTurn passes c done a b

@@ -12,7 +12,7 @@ use Rattle.fwu_model.specs.State.{State}
 use Rattle.moves.specs.Moved.{IsShown}
 use Rattle.flash_core.specs.Told.{Told}
 use Rattle.std.specs.Prelude.{Option, Some, None, is_some}
-use Rattle.script_turns.specs.Powered.{Fits, IsHeld, IsSeen, kept_at, moment_in, moment_of, the}
+use Rattle.script_turns.specs.Powered.{FitsMachine, IsHeld, IsSeen, kept_at, moment_in, moment_of, the}
 use Rattle.script_turns.specs.Stage.{on_where}
 use Rattle.script_turns.specs.declared.powered.Powered.{Powered}
 use Rattle.script_turns.specs.declared.stage.Stage.{Stage}
@@ -37,13 +37,13 @@ fits-where tells true f t shows seen held g e = (
 )
 fits-where tells false f t shows seen held g e = absurd cc
 
-pub fits-stage : {D : Type 0} {F : Ghosts D} (s : Stage D F) → Fits F.tells (moment_in s)
+pub fits-stage : {D : Type 0} {F : Ghosts D} (s : Stage D F) → FitsMachine F.tells (moment_in s)
 fits-stage (stage.Off flash) = λ f e. absurd cc
 fits-stage (stage.Fresh fresh) = λ f e. absurd cc
 fits-stage {F = F} (stage.On live) = λ f e.
     fits-where F.tells live.here (of_agent.fields live.agent) (F.told (of_agent.device live.agent)) live.shows live.seen (λ here told. (live.agent.knows (live.not_gone here) told).both) f e
 
-pub fitting : {D : Type 0} {F : Ghosts D} (p : Powered D F) → Fits F.tells (moment_of p)
+pub fitting : {D : Type 0} {F : Ghosts D} (p : Powered D F) → FitsMachine F.tells (moment_of p)
 fitting p = fits-stage (the p.inside p.there)
 
 -- a flash by the stage that it has inside

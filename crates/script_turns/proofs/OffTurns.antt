@@ -15,14 +15,14 @@ use Rattle.fwu_model.specs.Answer.{answer}
 use Rattle.fwu_model.specs.Run.{Condition, Step, Idle, is_boot, is_off, moved_on, HasNumbers}
 use Rattle.fwu_model.specs.Headline.{IsCut}
 use Rattle.script_turns.specs.Needs.{needs_bank}
-use Rattle.script_turns.specs.Powered.{Moment, at, IsAt, SameDevice}
+use Rattle.script_turns.specs.Powered.{TurnMoment, at, IsAt, SameDevice}
 use Rattle.script_turns.specs.Replies.{Replies}
-use Rattle.script_turns.specs.Takes.{Takes}
+use Rattle.script_turns.specs.Takes.{TakesByCall}
 use Rattle.script_turns.specs.Turning.{Makes, Turns, quiet_turn}
-use Rattle.script_turns.proofs.Quiets.{stays-free}
+use Rattle.flash_core.proofs.Unarmed.{unarmed_none}
 
 module _ (passes : List ℕ → Bool) (tells : Bool) (files : Option Directory) (t : Told) (cs : Counts) (armed : Option Arming) (power : Bool) (was : ℕ) where
-  abbrev here : Moment
+  abbrev here : TurnMoment
   here = at None t cs armed power
 
   -- what goes by the call
@@ -30,7 +30,7 @@ module _ (passes : List ℕ → Bool) (tells : Bool) (files : Option Directory) 
     made : Makes c cs.made cs.made
     cut : IsCut (Some (quiet_turn c reply.IsOff)) armed
     replies : Replies passes tells files c here (quiet_turn c reply.IsOff) here
-    takes : Takes files c here reply.IsOff here
+    takes : TakesByCall files c here reply.IsOff here
     no_boot : IsFalse (is_boot c)
     numbers : HasNumbers (quiet_turn c reply.IsOff)
     answers : (E : Setting) (s : State) → reply.IsOff ≡ (answer E s Off c).reply
@@ -55,7 +55,7 @@ module _ (passes : List ℕ → Bool) (tells : Bool) (files : Option Directory) 
     counts = record { faults = omega arith; cuts = omega arith; reached = omega arith; chances = omega arith };
     made = leaves.made;
     armed = leaves.cut;
-    free = λ no. stays-free armed cs;
+    free = λ no. unarmed_none tt armed cs;
     lost = λ e. absurd cc;
     failed = λ e. absurd cc;
     once = omega arith;

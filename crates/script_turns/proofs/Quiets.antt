@@ -3,6 +3,7 @@ use Rattle.std.proofs.Common.{◌≡◌, ◌≢◌, Contains, ℕ, ◌≤◌, Bo
 use Rattle.std.specs.Prelude.{MatchBool, IsSome, IsNone, Ok}
 use Rattle.host_io.specs.Contents.{Directory}
 use Rattle.fwu_formats.specs.Metadata.{Meta}
+use Rattle.flash_core.proofs.Unarmed.{unarmed_none}
 use Rattle.flash_core.specs.declared.flash.Arming.{Arming}
 use Rattle.flash_core.specs.declared.flash.Counts.{Counts}
 use Rattle.flash_core.specs.Counts.{StaysUnarmed, all_stops}
@@ -22,11 +23,11 @@ use Rattle.fwu_model.specs.Causes.{is_cut}
 use Rattle.agent_machine.specs.Fields.{Fields}
 use Rattle.agent_machine.specs.Moment as agent
 use Rattle.agent_machine.proofs.Beside.{spared-told}
-use Rattle.script_turns.specs.Powered.{Moment, SameDevice, IsAt, IsSafe, kept_at, numbers_kept}
+use Rattle.script_turns.specs.Powered.{TurnMoment, SameDevice, IsAt, IsSafe, kept_at, numbers_kept}
 use Rattle.script_turns.specs.Replies.{Replies, no_call_reply, power_after, show_reply}
 use Rattle.script_turns.specs.Sending.{LacksSent}
 use Rattle.script_turns.specs.Calls.{is_agents}
-use Rattle.script_turns.specs.Takes.{StaysFree, Takes, TakesBy}
+use Rattle.script_turns.specs.Takes.{StaysFree, TakesByCall, TakesBy}
 use Rattle.script_turns.specs.Turning.{Arms, Makes, NoneFalls, Turns, quiet_turn}
 
 -- What the machine answers to the call, by what the agent keeps: with this reply it does nothing.
@@ -35,7 +36,7 @@ AnswersBy what r None t = (E : Setting) (s : State) → r ≡ (answer E s Off wh
 AnswersBy what r (Some f) t = (E : Setting) (s : State) (x : Session) → agent.Shows (kept_at true f t) s x → answer E s x what ≡ answered r [] x
 
 -- The call is no boot, the reply no stop, and what is kept and told stays.
-pub record IsQuiet (tells : Bool) (files : Option Directory) (what : Call) (r : Reply) (old new : Moment) : Type 0 where
+pub record IsQuiet (tells : Bool) (files : Option Directory) (what : Call) (r : Reply) (old new : TurnMoment) : Type 0 where
   pub no_boot : IsFalse (is_boot what)
   pub no_send : IsFalse (is_send what)
   pub no_agents : IsFalse (is_agents what)
@@ -49,12 +50,8 @@ pub record IsQuiet (tells : Bool) (files : Option Directory) (what : Call) (r : 
   pub free : IsFalse (is_cut what) → StaysFree r old new
   pub power : new.power ≡ old.power
   pub keeps_power : power_after old.power r ≡ old.power
-  pub takes : Takes files what old r new
+  pub takes : TakesByCall files what old r new
   pub answers : AnswersBy what r old.on old.told
-
--- where nothing is done nothing is armed or reached
-pub stays-free : (armed : Option Arming) (cs : Counts) → StaysUnarmed {T = Unit {0}} (Ok tt) armed armed cs cs
-stays-free armed cs none = (none, record { same = refl; lost = λ is. absurd cc })
 
 -- only what is sent can be lacking
 pub lacks-none : (files : Option Directory) (c : Call) → IsFalse (is_send c) → LacksSent files c → ⊥
@@ -111,7 +108,7 @@ module _ (what : Call) (r : Reply) (no_boot : IsFalse (is_boot what)) (no_stop :
           subst (λ (k : Bool). IsTrue (k || not (is_off c.session))) (sym no_boot)
           (subst (λ (session : Session). IsTrue (not (is_off session))) (sym is.shows.shows.means) refl)
 
-pub quiet-turns : (passes : List ℕ → Bool) (tells : Bool) (files : Option Directory) (what : Call) (r : Reply) (old new : Moment) (faults : ℕ)
+pub quiet-turns : (passes : List ℕ → Bool) (tells : Bool) (files : Option Directory) (what : Call) (r : Reply) (old new : TurnMoment) (faults : ℕ)
     → IsQuiet tells files what r old new → Replies passes tells files what old (quiet_turn what r) new → Turns passes tells files what (quiet_turn what r) old new faults faults
 quiet-turns passes tells files what r old new faults quiet replied = record {
   call_is = refl;
@@ -185,18 +182,18 @@ show-power : (on : Option Fields) (power : Bool) → power_after power (show_rep
 show-power None power = refl
 show-power (Some f) power = refl
 
-pub same-device : (m : Moment) → SameDevice m m
+pub same-device : (m : TurnMoment) → SameDevice m m
 same-device m = record { told = refl; counts = refl; armed = refl; power = refl }
 
-show-free : (on : Option Fields) (m : Moment) → StaysFree (show_reply on) m m
-show-free None m = stays-free m.armed m.counts
-show-free (Some f) m = stays-free m.armed m.counts
+show-free : (on : Option Fields) (m : TurnMoment) → StaysFree (show_reply on) m m
+show-free None m = unarmed_none tt m.armed m.counts
+show-free (Some f) m = unarmed_none tt m.armed m.counts
 
-show-takes : (files : Option Directory) (on : Option Fields) (m : Moment) → TakesBy files call.Show on m (show_reply on) m
+show-takes : (files : Option Directory) (on : Option Fields) (m : TurnMoment) → TakesBy files call.Show on m (show_reply on) m
 show-takes files None m = same-device m
 show-takes files (Some f) m = same-device m
 
-pub show-turns : (passes : List ℕ → Bool) (tells : Bool) (files : Option Directory) (m : Moment) (faults : ℕ)
+pub show-turns : (passes : List ℕ → Bool) (tells : Bool) (files : Option Directory) (m : TurnMoment) (faults : ℕ)
     → Turns passes tells files call.Show (quiet_turn call.Show (show_reply m.on)) m m faults faults
 show-turns passes tells files m faults = quiet-turns passes tells files call.Show (show_reply m.on) m m faults (record {
   no_boot = refl;
@@ -239,15 +236,15 @@ no_call-power : (on : Option Fields) (power : Bool) → power_after power (no_ca
 no_call-power None power = refl
 no_call-power (Some f) power = refl
 
-no_call-free : (on : Option Fields) (m : Moment) → StaysFree (no_call_reply on) m m
-no_call-free None m = stays-free m.armed m.counts
-no_call-free (Some f) m = stays-free m.armed m.counts
+no_call-free : (on : Option Fields) (m : TurnMoment) → StaysFree (no_call_reply on) m m
+no_call-free None m = unarmed_none tt m.armed m.counts
+no_call-free (Some f) m = unarmed_none tt m.armed m.counts
 
-no_call-takes : (files : Option Directory) (on : Option Fields) (m : Moment) → TakesBy files call.NoCall on m (no_call_reply on) m
+no_call-takes : (files : Option Directory) (on : Option Fields) (m : TurnMoment) → TakesBy files call.NoCall on m (no_call_reply on) m
 no_call-takes files None m = same-device m
 no_call-takes files (Some f) m = same-device m
 
-pub no_call-turns : (passes : List ℕ → Bool) (tells : Bool) (files : Option Directory) (m : Moment) (faults : ℕ)
+pub no_call-turns : (passes : List ℕ → Bool) (tells : Bool) (files : Option Directory) (m : TurnMoment) (faults : ℕ)
     → Turns passes tells files call.NoCall (quiet_turn call.NoCall (no_call_reply m.on)) m m faults faults
 no_call-turns passes tells files m faults = quiet-turns passes tells files call.NoCall (no_call_reply m.on) m m faults (record {
   no_boot = refl;
@@ -278,11 +275,11 @@ cut-answers : (n k : ℕ) (on : Option Fields) (t : Told) → AnswersBy (call.Cu
 cut-answers n k None t = λ E s. sym (ap (λ (a : Answer). a.reply) (cut-on n k E s Off))
 cut-answers n k (Some f) t = λ E s x shows. cut-on n k E s x
 
-cut-takes : (files : Option Directory) (n k : ℕ) (on : Option Fields) (old new : Moment) → TakesBy files (call.Cut n k) on old reply.CutOk new
+cut-takes : (files : Option Directory) (n k : ℕ) (on : Option Fields) (old new : TurnMoment) → TakesBy files (call.Cut n k) on old reply.CutOk new
 cut-takes files n k None old new = tt
 cut-takes files n k (Some f) old new = tt
 
-pub cut-turns : (passes : List ℕ → Bool) (tells : Bool) (files : Option Directory) (n k : ℕ) (old new : Moment) (faults : ℕ) → Arms tells n k old new
+pub cut-turns : (passes : List ℕ → Bool) (tells : Bool) (files : Option Directory) (n k : ℕ) (old new : TurnMoment) (faults : ℕ) → Arms tells n k old new
     → Turns passes tells files (call.Cut n k) (quiet_turn (call.Cut n k) reply.CutOk) old new faults faults
 cut-turns passes tells files n k old new faults arms = quiet-turns passes tells files (call.Cut n k) reply.CutOk old new faults (record {
   no_boot = refl;

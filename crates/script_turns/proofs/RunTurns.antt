@@ -1,6 +1,6 @@
 -- A run of turns, and one turn more.
 use Rattle.std.proofs.Common.{◌≡◌, ◌⊎◌, ℕ, zero, suc, ◌+◌, ◌-◌, ◌*◌, ◌<◌, ◌≤◌, min, Bool, true, false, cond, List, [], ◌∷◌, ◌++◌, length, Option, Some, None, refl, sym, ap, subst, ◌∙◌, inl, inr, IsTrue, IsFalse, Contains, add-one, arith, length-append}
-use Rattle.std.specs.List.{slice_get, list_any, count_by}
+use Rattle.std.specs.List.{slice_get, list_any}
 use Rattle.std.proofs.Math.Seq.{get_or-append_seam}
 use Rattle.std.proofs.lemmas.Bool.{cases_Bool, cases_lt, false≢true, or_parts}
 use Rattle.std.proofs.lemmas.Option.{same_Some, slice_get-get_or, slice_get_within}
@@ -23,16 +23,16 @@ use Rattle.fwu_model.specs.Reply as reply
 use Rattle.fwu_model.specs.Calm.{IsGuarded}
 use Rattle.fwu_model.specs.Run.{Condition, start_of, arming_after, ends_run, Step, Answered, Idle, Stopped, StoppedEarly}
 use Rattle.fwu_model.specs.Headline.{ArmedBy, IsCut, made_after}
-use Rattle.fwu_model.specs.Causes.{FileNotRead, LossesAreCounted, cuts_in, greatest, is_cut, is_lost}
+use Rattle.fwu_model.specs.Causes.{FileNotRead, LossesAreCounted, cuts_in, greatest, is_cut, is_lost, losses_in}
 use Rattle.fwu_model.proofs.Runs.{runs-grow}
 use Rattle.fwu_model.proofs.Frame.{calm-stays, start-is-calm}
 use Rattle.script_turns.specs.Booted.{BootsFrom}
 use Rattle.agent_machine.specs.Fields.{Fields}
-use Rattle.script_turns.specs.Powered.{Fits, Moment, IsSafe, Shows}
-use Rattle.script_turns.specs.Replies.{power_after}
+use Rattle.script_turns.specs.Powered.{FitsMachine, TurnMoment, IsSafe, ShowsCondition}
+use Rattle.script_turns.specs.Replies.{Replies, power_after}
 use Rattle.script_turns.specs.Takes.{StaysFree, stop_told}
 use Rattle.script_turns.specs.Turning.{Makes, NoneFalls, Turns}
-use Rattle.script_turns.specs.Runs.{Follows, Ran, RunsFree, RunsTo, power_left, stops_of}
+use Rattle.script_turns.specs.Runs.{Follows, LossesAreDue, Ran, RunsFree, RunsTo, armings_left, power_left, stops_of}
 
 -- ---- the places of a list with one element more
 
@@ -83,7 +83,7 @@ is-lost reply.Lost is = refl
 is-lost other is = absurd (false≢true is)
 
 module _ (t : Turn) (journal : List Turn) (old mid new : Counts) where
-  lost-more : count_by (λ (x : Turn). is_lost x.reply) (journal ++ t ∷ []) ≡ count_by (λ (x : Turn). is_lost x.reply) journal + cond (is_lost t.reply) 1 0
+  lost-more : losses_in (journal ++ t ∷ []) ≡ losses_in journal + cond (is_lost t.reply) 1 0
   lost-more = sum_by-append (λ (x : Turn). cond (is_lost x.reply) 1 0) journal (t ∷ []) ∙ omega arith
 
   losses-on : NoneFalls mid new → (t.reply ≡ reply.Lost → Rose mid.cuts new.cuts ⊎ Rose mid.reached new.reached) → LossesAreCounted journal old mid → LossesAreCounted (journal ++ t ∷ []) old new
@@ -95,18 +95,18 @@ module _ (t : Turn) (journal : List Turn) (old mid new : Counts) where
       kept other =
           let cuts = falls.cuts in
           let reached = falls.reached in
-          let more = lost-more ∙ ap (λ (b : Bool). count_by (λ (x : Turn). is_lost x.reply) journal + cond b 1 0) other in
+          let more = lost-more ∙ ap (λ (b : Bool). losses_in journal + cond b 1 0) other in
           inl (omega (arith, more))
 
       counted : is_lost t.reply ≡ true → Rose mid.cuts new.cuts ⊎ Rose mid.reached new.reached → LossesAreCounted (journal ++ t ∷ []) old new
       counted is (inl (inl more)) =
           let reached = falls.reached in
-          let sums = lost-more ∙ ap (λ (b : Bool). count_by (λ (x : Turn). is_lost x.reply) journal + cond b 1 0) is in
+          let sums = lost-more ∙ ap (λ (b : Bool). losses_in journal + cond b 1 0) is in
           inl (omega (arith, sums))
       counted is (inl (inr top)) = inr (inl top)
       counted is (inr (inl more)) =
           let cuts = falls.cuts in
-          let sums = lost-more ∙ ap (λ (b : Bool). count_by (λ (x : Turn). is_lost x.reply) journal + cond b 1 0) is in
+          let sums = lost-more ∙ ap (λ (b : Bool). losses_in journal + cond b 1 0) is in
           inl (omega (arith, sums))
       counted is (inr (inr top)) = inr (inr top)
 
@@ -164,9 +164,9 @@ none-cut journal t none = (omega (arith, cuts-more journal t, none), uncut (is_c
 lost-told : (r : Reply) → r ≡ reply.Lost → IsErrOf (stop_told r) flash_stop.Lost
 lost-told r is = subst (λ (x : Reply). IsErrOf (stop_told x) flash_stop.Lost) (sym is) refl
 
-free-on : (t : Turn) (journal : List Turn) (old mid new : Moment) → NoneFalls old.counts mid.counts → NoneFalls mid.counts new.counts → StaysFree t.reply mid new → RunsFree journal old mid → RunsFree (journal ++ t ∷ []) old new
+free-on : (t : Turn) (journal : List Turn) (old mid new : TurnMoment) → NoneFalls old.counts mid.counts → NoneFalls mid.counts new.counts → StaysFree t.reply mid new → RunsFree journal old mid → RunsFree (journal ++ t ∷ []) old new
 free-on t journal old mid new before behind free was =
-    let turned = free was.armed in
+    let turned = free.free was.armed in
     record {
       armed = turned.0;
       reached = turned.1.same ∙ was.reached;
@@ -175,6 +175,66 @@ free-on t journal old mid new before behind free was =
         | inr last ↦ rose-before old.counts.cuts mid.counts.cuts new.counts.cuts before.cuts (turned.1.lost (lost-told t.reply (ap (λ (x : Turn). x.reply) last ∙ is)))
       ];
     }
+
+few-left : (a : Option Arming) → armings_left a ≤ 1
+few-left None = omega arith
+few-left (Some a) = omega arith
+
+-- a turn takes an armed loss, or one that is counted, if it is lost; and it arms one, if it is a `cut`
+due-on : (t : Turn) (journal : List Turn) (old mid new : TurnMoment) → NoneFalls mid.counts new.counts
+    → (IsTrue (is_cut t.call) → IsFalse (is_lost t.reply)) → (IsFalse (is_cut t.call) → StaysFree t.reply mid new)
+    → LossesAreDue journal old mid → LossesAreDue (journal ++ t ∷ []) old new
+due-on t journal old mid new falls quiet free (inr top) = let cuts = falls.cuts in inr (omega arith)
+due-on t journal old mid new falls quiet free (inl sum) = elim (one-more (is_cut t.call) (is_lost t.reply) refl refl) [
+  | inl less ↦ let losses = lost-more t journal old.counts mid.counts new.counts in let cuts = cuts-more journal t in inl (omega (arith, losses, cuts, less, sum))
+  | inr top ↦ inr top
+]
+  where
+    one-more : (c l : Bool) → is_cut t.call ≡ c → is_lost t.reply ≡ l
+        → (cond (is_lost t.reply) 1 0 + armings_left new.armed + mid.counts.cuts ≤ cond (is_cut t.call) 1 0 + armings_left mid.armed + new.counts.cuts)
+        ⊎ (greatest ≤ new.counts.cuts)
+    one-more true true is lost = absurd (false≢true (sym (quiet is) ∙ lost))
+    one-more true false is other =
+        let arms = ap {B = ℕ} (λ (b : Bool). cond b 1 0) is in
+        let loses = ap {B = ℕ} (λ (b : Bool). cond b 1 0) other in
+        inl (omega (arith, arms, loses, few-left new.armed, falls.cuts))
+    one-more false true is lost = by mid.armed refl
+      where
+        by : (a : Option Arming) → mid.armed ≡ a
+            → (cond (is_lost t.reply) 1 0 + armings_left new.armed + mid.counts.cuts ≤ cond (is_cut t.call) 1 0 + armings_left mid.armed + new.counts.cuts)
+            ⊎ (greatest ≤ new.counts.cuts)
+        by None none =
+            let gone = (free is).free none in
+            let left = ap armings_left gone.0 in
+            let loses = ap {B = ℕ} (λ (b : Bool). cond b 1 0) lost in
+            elim (gone.1.lost (lost-told t.reply (is-lost t.reply lost))) [
+              | inl more ↦ inl (omega (arith, left, loses, more))
+              | inr top ↦ inr top
+            ]
+        by (Some a) some =
+            let left = ap armings_left ((free is).spent (lost-told t.reply (is-lost t.reply lost))) in
+            let had = ap armings_left some in
+            let loses = ap {B = ℕ} (λ (b : Bool). cond b 1 0) lost in
+            inl (omega (arith, left, had, loses, falls.cuts))
+    one-more false false is other = by mid.armed refl
+      where
+        by : (a : Option Arming) → mid.armed ≡ a
+            → (cond (is_lost t.reply) 1 0 + armings_left new.armed + mid.counts.cuts ≤ cond (is_cut t.call) 1 0 + armings_left mid.armed + new.counts.cuts)
+            ⊎ (greatest ≤ new.counts.cuts)
+        by None none =
+            let left = ap armings_left ((free is).free none).0 in
+            let loses = ap {B = ℕ} (λ (b : Bool). cond b 1 0) other in
+            inl (omega (arith, left, loses, falls.cuts))
+        by (Some a) some =
+            let had = ap armings_left some in
+            let loses = ap {B = ℕ} (λ (b : Bool). cond b 1 0) other in
+            inl (omega (arith, had, loses, few-left new.armed, falls.cuts))
+
+-- a `cut` is answered as one, so that it isn't lost
+quiet-cut : (passes : List ℕ → Bool) (tells : Bool) (files : Option Directory) (c : Call) (t : Turn) (old new : TurnMoment)
+    → Replies passes tells files c old t new → IsTrue (is_cut c) → IsFalse (is_lost t.reply)
+quiet-cut passes tells files (call.Cut n k) t old new replies is = ap is_lost replies.0
+quiet-cut passes tells files other t old new replies is = absurd (false≢true is)
 
 -- the armings of a journal, and of one turn more
 made-by : (n before mid after : ℕ) (what : Call) → Makes what mid after → mid ≡ made_after before n → after ≡ made_after before (n + cond (is_cut what) 1 0)
@@ -205,24 +265,25 @@ not-read-around files low was are high other before after not_read = absurd not_
 
 module _ (passes : List ℕ → Bool) (tells : Bool) (files : Option Directory) where
   -- what a turn does, behind what those before it did
-  follows-on : (journal : List Turn) (t : Turn) (old mid new : Moment) (from through to : ℕ) → Follows passes tells files journal old mid from through → Turns passes tells files t.call t mid new through to
-      → Fits tells new → Follows passes tells files (journal ++ t ∷ []) old new from to
+  follows-on : (journal : List Turn) (t : Turn) (old mid new : TurnMoment) (from through to : ℕ) → Follows passes tells files journal old mid from through → Turns passes tells files t.call t mid new through to
+      → FitsMachine tells new → Follows passes tells files (journal ++ t ∷ []) old new from to
   follows-on [] t old mid new from through to (same, none) turned fits = (
     new,
     to,
-    subst (λ (m : Moment). Turns passes tells files t.call t m new from to) same (subst (λ (k : ℕ). Turns passes tells files t.call t mid new k to) none turned),
+    subst (λ (m : TurnMoment). Turns passes tells files t.call t m new from to) same (subst (λ (k : ℕ). Turns passes tells files t.call t mid new k to) none turned),
     fits,
     (refl, refl),
   )
   follows-on (u ∷ turns) t old mid new from through to (next, k, first, is, rest) turned fits =
       (next, k, first, is, follows-on turns t next mid new k through to rest turned fits)
 
-  pub ran-none : (old : Moment) (from : ℕ) → old.on ≡ None → Ran passes tells files [] old old from from
+  pub ran-none : (old : TurnMoment) (from : ℕ) → old.on ≡ None → Ran passes tells files [] old old from from
   ran-none old from off = record {
     counts = falls-same old.counts;
     once = omega arith;
     free = λ unarmed none. record { armed = unarmed; reached = refl; lost = λ t in_it is. absurd (no-turn t in_it) };
     lost_turns = inl (omega arith);
+    due = inl (omega arith);
     fault_turns = λ t in_it is. absurd (no-turn t in_it);
     unread_turns = λ t in_it is. absurd (no-turn t in_it);
     later = omega arith;
@@ -236,7 +297,7 @@ module _ (passes : List ℕ → Bool) (tells : Bool) (files : Option Directory) 
       runs = refl;
       is_at = record {
         guard = sound.guarded;
-        shows = subst (λ (on : Option Fields). Shows E (start_of start) on old.told) (sym off)
+        shows = subst (λ (on : Option Fields). ShowsCondition E (start_of start) on old.told) (sym off)
             (refl, calm-stays E old.told start (start-is-calm E old.told start sound.clean sound.sound sound.shows));
       };
       armed = record { made = refl; last = tt };
@@ -249,7 +310,7 @@ module _ (passes : List ℕ → Bool) (tells : Bool) (files : Option Directory) 
       no-turn : (t : Turn) → Contains [] t → ⊥
       no-turn t (k, below, is) = omega arith
 
-  run-on : (E : Setting) (start : State) (c : Call) (t : Turn) (journal : List Turn) (old mid new : Moment) (through to : ℕ) → IsTrue tells → E.passes ≡ passes → files ≡ Some E.files → NoneFalls old.counts mid.counts
+  run-on : (E : Setting) (start : State) (c : Call) (t : Turn) (journal : List Turn) (old mid new : TurnMoment) (through to : ℕ) → IsTrue tells → E.passes ≡ passes → files ≡ Some E.files → NoneFalls old.counts mid.counts
       → IsFalse (list_any (λ (x : Turn). ends_run x.reply) journal) → Turns passes tells files c t mid new through to → (Rose mid.counts.chances new.counts.chances → ⊥) → RunsTo E start journal old mid → RunsTo E start (journal ++ t ∷ []) old new
   run-on E start c t journal old mid new through to told passes_are files_are falls none turned no_chance was =
       let step = turned.step told E was.last passes_are files_are was.is_at no_chance in
@@ -261,14 +322,14 @@ module _ (passes : List ℕ → Bool) (tells : Bool) (files : Option Directory) 
             (subst (λ (x : Call). Makes x mid.counts.made new.counts.made) (sym turned.call_is) turned.made) turned.armed;
       }
 
-  first-on : (c : Call) (t : Turn) (journal : List Turn) (old mid new : Moment) (from through to : ℕ) → old.on ≡ None → Ran passes tells files journal old mid from through
+  first-on : (c : Call) (t : Turn) (journal : List Turn) (old mid new : TurnMoment) (from through to : ℕ) → old.on ≡ None → Ran passes tells files journal old mid from through
       → Turns passes tells files c t mid new through to
       → IsTrue tells → NothingDirty old.told → (u : Turn) → slice_get (journal ++ t ∷ []) 0 ≡ Some u → u.call ≡ call.Boot → BootsFrom passes old.told.now u.reply
   first-on c t [] old mid new from through to off ran turned told clean u is boots =
       let same = ran.untouched refl in
       let turn_is = same_Some t u is in
-      let first = turned.boots told (ap (λ (x : Moment). x.on) same ∙ off) (subst (λ (x : Moment). NothingDirty x.told) (sym same) clean) (sym turned.call_is ∙ ap (λ (x : Turn). x.call) turn_is ∙ boots) in
-      subst (λ (x : Turn). BootsFrom passes old.told.now x.reply) turn_is (subst (λ (x : Moment). BootsFrom passes x.told.now t.reply) same first)
+      let first = turned.boots told (ap (λ (x : TurnMoment). x.on) same ∙ off) (subst (λ (x : TurnMoment). NothingDirty x.told) (sym same) clean) (sym turned.call_is ∙ ap (λ (x : Turn). x.call) turn_is ∙ boots) in
+      subst (λ (x : Turn). BootsFrom passes old.told.now x.reply) turn_is (subst (λ (x : TurnMoment). BootsFrom passes x.told.now t.reply) same first)
   first-on c t (x ∷ xs) old mid new from through to off ran turned told clean u is boots = ran.first told clean u is boots
 
   ends-on : (t : Turn) (journal : List Turn) → IsFalse (list_any (λ (x : Turn). ends_run x.reply) journal) → (n : ℕ) (u : Turn) → slice_get (journal ++ t ∷ []) n ≡ Some u → IsTrue (ends_run u.reply)
@@ -281,14 +342,17 @@ module _ (passes : List ℕ → Bool) (tells : Bool) (files : Option Directory) 
         | inr behind ↦ omega (arith, len, below)
       ]
 
-  pub ran-on : (c : Call) (t : Turn) (journal : List Turn) (old mid new : Moment) (from through to : ℕ) → old.on ≡ None → Ran passes tells files journal old mid from through
-      → IsFalse (list_any (λ (x : Turn). ends_run x.reply) journal) → Turns passes tells files c t mid new through to → Fits tells new
+  pub ran-on : (c : Call) (t : Turn) (journal : List Turn) (old mid new : TurnMoment) (from through to : ℕ) → old.on ≡ None → Ran passes tells files journal old mid from through
+      → IsFalse (list_any (λ (x : Turn). ends_run x.reply) journal) → Turns passes tells files c t mid new through to → FitsMachine tells new
       → Ran passes tells files (journal ++ t ∷ []) old new from to
   ran-on c t journal old mid new from through to off ran none turned fits = record {
     counts = falls-on old.counts mid.counts new.counts ran.counts turned.counts;
     once = omega (arith, ran.once, turned.once, stops-more journal t);
     free = λ unarmed none. free-on t journal old mid new ran.counts turned.counts (turned.free (ap is_cut (sym turned.call_is) ∙ (none-cut journal t none).1)) (ran.free unarmed (none-cut journal t none).0);
     lost_turns = losses-on t journal old.counts mid.counts new.counts turned.counts turned.lost ran.lost_turns;
+    due = due-on t journal old mid new turned.counts
+        (λ is. quiet-cut passes tells files c t mid new turned.replies (ap is_cut (sym turned.call_is) ∙ is))
+        (λ no. turned.free (ap is_cut (sym turned.call_is) ∙ no)) ran.due;
     fault_turns = λ u in_it is. elim (Contains-push_cases journal t u in_it) [
       | inl before ↦ rose-after old.counts.faults mid.counts.faults new.counts.faults turned.counts.faults (ran.fault_turns u before is)
       | inr last ↦ rose-before old.counts.faults mid.counts.faults new.counts.faults ran.counts.faults (turned.failed (ap (λ (x : Turn). x.reply) last ∙ is))

@@ -25,7 +25,7 @@ use Rattle.fwu_model.specs.Call.{Call}
 use Rattle.fwu_model.specs.Call as call
 use Rattle.fwu_model.specs.Reply.{Reply, Turn}
 use Rattle.fwu_model.specs.Reply as reply
-use Rattle.fwu_model.specs.Answer.{Answer, answer, answered, answer_send, answer_send_partial, bits_over, first_image_fault, guid_of, has_image, image_held, images_of, images_over, install_unless, partial_fault, payload_or, send_file, send_file_over, send_unless, sent_over, skipped, table_in}
+use Rattle.fwu_model.specs.Answer.{Answer, answer, answered, answer_send, answer_send_partial, bits_over, first_image_fault, type_of_image, has_image, image_held, images_of, images_over, install_unless, partial_fault, payload_or, send_file, send_file_over, send_unless, sent_over, skipped, table_in}
 use Rattle.fwu_model.specs.Calm.{IsAtRest}
 use Rattle.fwu_model.specs.Causes.{FileNotRead, LacksFile}
 use Rattle.fwu_model.specs.Headline.{IsCut, LeavesOneOf}
@@ -37,7 +37,7 @@ use Rattle.agent_machine.specs.Beside.{KeepsSparedByAll}
 use Rattle.agent_machine.specs.Fields.{Fields}
 use Rattle.agent_machine.proofs.Beside.{spared-same}
 use Rattle.std.proofs.lemmas.Option.{same_Some}
-use Rattle.agent_machine.specs.Goes.{Goes}
+use Rattle.agent_machine.specs.Goes.{GoesByMoves}
 use Rattle.agent_machine.specs.Meets.{Stays}
 use Rattle.agent_machine.specs.Moment as agent
 use Rattle.agent_machine.specs.Machine.{state_in, session_in}
@@ -47,24 +47,24 @@ use Rattle.update_client.specs.declared.stops.Sent.{Sent}
 use Rattle.update_client.specs.declared.stops.SendStop.{SendStop}
 use Rattle.update_client.specs.declared.stops.SendStop.TheVariants.{MissingImage, ImageTooLarge, Begin, End, ReadFailed, Lost, Fault, Gone}
 use Rattle.update_client.specs.Halts.{flash_of}
-use Rattle.update_client.specs.Pieces.{ReadsBy, unread_in}
+use Rattle.update_client.specs.Pieces.{ReadsPieceBy, unread_in}
 use Rattle.update_client.specs.Choosing.{no_row}
-use Rattle.update_client.specs.Sends.{AnswersBy, IsEarly, Sends, SendsBy, ended, send_answer}
+use Rattle.update_client.specs.Sends.{AnswersBy, IsEarlySend, Sends, SendEndsBy, ended_session, send_answer}
 use Rattle.update_client.specs.Partial.{GoesAs, SendsOver, WasBegun, over_answer}
 use Rattle.base_core.specs.Block.{block_bytes}
 use Rattle.agent_calls.specs.Takes.{Takes as TakesWrites}
-use Rattle.update_client.specs.Takes.{OnRefusedEnd, OnUnread, SendTakes as TakesSent, UnreadTakes}
+use Rattle.update_client.specs.Takes.{OnRefusedEnd, OnUnread, DoneSendTakes as TakesSent, UnreadTakes}
 use Rattle.agent_calls.specs.declared.agent.Agent.{Agent}
 use Rattle.agent_calls.specs.Shown.{fields}
 use Rattle.script_turns.specs.Calls.{is_composed, moment_where}
 use Rattle.script_turns.specs.Stage.{on_where}
-use Rattle.script_turns.specs.Powered.{Moment, at, kept_at, IsAt, IsSafe}
+use Rattle.script_turns.specs.Powered.{TurnMoment, at, kept_at, IsAt, IsSafe}
 use Rattle.script_turns.specs.Replies.{Replies, power_after}
 use Rattle.script_turns.specs.Sending.{AnswersSend, IsTableOf, LacksSent, SendSays, SendsAs, TellsBegun, done_reply, is_answered, on_sent, send_call, sent_reply}
-use Rattle.script_turns.specs.Takes.{AreSent, SendTakes, StaysFree, TakesOn, stop_told, unread_told, writes_before, writes_of}
+use Rattle.script_turns.specs.Takes.{AreSent, SendTakes, StaysFree, TakesOn, stop_told, unread_told, writes_before, writes_to_send}
 use Rattle.script_turns.specs.Turning.{Makes, NoneFalls, Turns, quiet_turn}
 use Rattle.script_turns.proofs.CallTakes.{with}
-use Rattle.script_turns.proofs.Quiets.{stays-free}
+use Rattle.flash_core.proofs.Unarmed.{unarmed_none}
 
 -- ---- the call
 
@@ -95,13 +95,13 @@ lacks-sent : (partly : Bool) (files : Option Directory) (name : List ℕ) (reque
 lacks-sent false files name request lacks = lacks
 lacks-sent true files name request lacks = lacks
 
-replies-as : (partly : Bool) (passes : List ℕ → Bool) (tells : Bool) (files : Option Directory) (name : List ℕ) (request : ℕ) (old new : Moment) (r : Reply)
+replies-as : (partly : Bool) (passes : List ℕ → Bool) (tells : Bool) (files : Option Directory) (name : List ℕ) (request : ℕ) (old new : TurnMoment) (r : Reply)
     → SendSays partly passes tells files name request old.on old.told r new.on new.told
     → Replies passes tells files (send_call partly name request) old (quiet_turn (send_call partly name request) r) new
 replies-as false passes tells files name request old new r says = says
 replies-as true passes tells files name request old new r says = says
 
-takes-as : (partly : Bool) (files : Option Directory) (name : List ℕ) (request : ℕ) (f : Fields) (old : Moment) (r : Reply) (new : Moment)
+takes-as : (partly : Bool) (files : Option Directory) (name : List ℕ) (request : ℕ) (f : Fields) (old : TurnMoment) (r : Reply) (new : TurnMoment)
     → SendTakes partly files name f r old new → TakesOn files (send_call partly name request) f old r new
 takes-as false files name request f old r new takes = takes
 takes-as true files name request f old r new takes = takes
@@ -134,10 +134,10 @@ over-same : (rows : List ImageRow) (file : List ℕ) (toc : Toc) (bytes others :
     → ((i : ℕ) → i < length rows → has_image toc (get_or rows i no_row) ≡ false → bytes i ≡ others i) → images_over rows file toc bytes ≡ images_over rows file toc others
 unfolding images_over
 over-same rows file toc bytes others same =
-    listed-same (λ i. payload_or file (bytes i) (entry_of toc (guid_of rows i))) (λ i. payload_or file (others i) (entry_of toc (guid_of rows i))) (length rows) []
-    (λ i below. part i below (entry_of toc (guid_of rows i)) refl)
+    listed-same (λ i. payload_or file (bytes i) (entry_of toc (type_of_image rows i))) (λ i. payload_or file (others i) (entry_of toc (type_of_image rows i))) (length rows) []
+    (λ i below. part i below (entry_of toc (type_of_image rows i)) refl)
   where
-    part : (i : ℕ) → i < length rows → (o : Option Entry) → entry_of toc (guid_of rows i) ≡ o → payload_or file (bytes i) o ≡ payload_or file (others i) o
+    part : (i : ℕ) → i < length rows → (o : Option Entry) → entry_of toc (type_of_image rows i) ≡ o → payload_or file (bytes i) o ≡ payload_or file (others i) o
     part i below (Some e) is = refl
     part i below None is = same i below (ap (λ (o : Option Entry). is_some o) is)
 
@@ -194,12 +194,12 @@ GoesBy partly (Err (MissingImage guid)) a E old new s x = AnswersBy (reply.Missi
 GoesBy partly (Err (ImageTooLarge guid)) a E old new s x = AnswersBy (reply.TooLarge guid) a E old new s
 GoesBy partly (Err (Begin st)) a E old new s x = AnswersBy (reply.BeginRefused st) a E old new s
 GoesBy partly (Err (End st)) a E old new s x = AnswersBy (reply.EndRefused st) a E old new s
-GoesBy partly (Err ReadFailed) a E old new s x = Goes E (Ok tt) old new s (answer E s x (call.Begin 0)).moves (ended x)
-GoesBy partly (Err Lost) a E old new s x = Goes E (Err flash_stop.Lost) old new s a.moves (ended x)
-GoesBy partly (Err Fault) a E old new s x = Goes E (Err flash_stop.Failed) old new s a.moves (ended x)
+GoesBy partly (Err ReadFailed) a E old new s x = GoesByMoves E (Ok tt) old new s (answer E s x (call.Begin 0)).moves (ended_session x)
+GoesBy partly (Err Lost) a E old new s x = GoesByMoves E (Err flash_stop.Lost) old new s a.moves (ended_session x)
+GoesBy partly (Err Fault) a E old new s x = GoesByMoves E (Err flash_stop.Failed) old new s a.moves (ended_session x)
 GoesBy partly (Err Gone) a E old new s x = ⊥
 
-goes-whole : (result : Result Sent SendStop) (E : Setting) (toc : Toc) (p : List (List ℕ)) (request : ℕ) (old new : agent.Moment) (s : State) (x : Session) → SendsBy result E toc p request old new s x
+goes-whole : (result : Result Sent SendStop) (E : Setting) (toc : Toc) (p : List (List ℕ)) (request : ℕ) (old new : agent.Moment) (s : State) (x : Session) → SendEndsBy result E toc p request old new s x
     → GoesBy false result (send_answer E toc p request s x) E old new s x
 goes-whole (Ok sent) E toc p request old new s x h = h
 goes-whole (Err (MissingImage guid)) E toc p request old new s x h = h
@@ -381,7 +381,7 @@ module _ (E : Setting) (from : Condition) (partly : Bool) (name : List ℕ) (req
 -- ---- a file without a table
 
 module _ (partly : Bool) (passes : List ℕ → Bool) (tells : Bool) (files : Option Directory) (name : List ℕ) (request : ℕ) (f : Fields) (t : Told) (cs : Counts) (armed : Option Arming) (power : Bool) (was are : ℕ) (later : was ≤ are) where
-  abbrev here : Moment
+  abbrev here : TurnMoment
   here = at (Some f) t cs armed power
 
   nothing-falls : NoneFalls cs cs
@@ -432,7 +432,7 @@ module _ (partly : Bool) (passes : List ℕ → Bool) (tells : Bool) (files : Op
     counts = nothing-falls;
     made = makes-none partly name request _ _ refl;
     armed = never-cuts partly name request reply.ReadFault armed;
-    free = λ no. stays-free armed cs;
+    free = λ no. unarmed_none tt armed cs;
     lost = λ e. absurd cc;
     failed = λ e. absurd cc;
     once = omega arith;
@@ -617,7 +617,7 @@ module _ (partly : Bool) (passes : List ℕ → Bool) (tells : Bool) (files : Op
   powers (Err Gone) = refl
 
   -- what was done to the device
-  done-takes : (kind : Bool) (sent : Sent) (toc : Toc) (from to : Moment) → IsTableOf files name (Ok toc) → TakesSent (writes_of kind f toc) from.armed to.armed
+  done-takes : (kind : Bool) (sent : Sent) (toc : Toc) (from to : TurnMoment) → IsTableOf files name (Ok toc) → TakesSent (writes_to_send kind f toc) from.armed to.armed
       → SendTakes kind files name f (done_reply kind sent) from to
   done-takes false sent toc from to table takes = record { toc = toc; table = table; spent = takes }
   done-takes true sent toc from to table takes = record { toc = toc; table = table; spent = takes }
@@ -627,8 +627,8 @@ module _ (partly : Bool) (passes : List ℕ → Bool) (tells : Bool) (files : Op
   unread_takes toc = (entries : List Entry) × AreSent partly f.layout.rows toc entries × UnreadTakes (writes_before partly f toc) block_bytes entries armed arming
 
   pub sent-takes : (result : Result Sent SendStop) (power : Bool) (toc : Toc) → power ≡ is_ok (flash_of result)
-      → (IsEarly result → (u ≡ t) × (ds ≡ cs) × (arming ≡ armed)) → IsTableOf files name (Ok toc) → OnOk result (TakesSent (writes_of partly f toc) armed arming)
-      → OnRefusedEnd result (TakesWrites (writes_of partly f toc) armed arming) → OnUnread result (unread_takes toc)
+      → (IsEarlySend result → (u ≡ t) × (ds ≡ cs) × (arming ≡ armed)) → IsTableOf files name (Ok toc) → OnOk result (TakesSent (writes_to_send partly f toc) armed arming)
+      → OnRefusedEnd result (TakesWrites (writes_to_send partly f toc) armed arming) → OnUnread result (unread_takes toc)
       → SendTakes partly files name f (sent_reply partly result) (at (Some f) t cs armed true) (at (on_sent result g) u ds arming power)
   sent-takes (Ok sent) power toc powered same table takes refused unread = done-takes partly sent toc _ _ table takes
   sent-takes (Err (MissingImage guid)) power toc powered same table takes refused unread = let d = same tt in record { told = d.0; counts = d.1; armed = d.2; power = powered }
@@ -656,7 +656,7 @@ module _ (partly : Bool) (passes : List ℕ → Bool) (tells : Bool) (files : Op
   -- the turn of a sending that ended, on a device that has power
   pub sent-turn : (result : Result Sent SendStop) (power : Bool) → power ≡ is_ok (flash_of result) → (result ≡ Err Gone → ⊥) → (Lacks files name → ⊥)
       → Sending partly files name request passes result old new → ∥ agent.Showing old ∥₁ → (IsTrue tells → agent.Showing old)
-      → Spends (flash_of result) cs ds → ReadsBy was are result
+      → Spends (flash_of result) cs ds → ReadsPieceBy was are result
       → SendTakes partly files name f (sent_reply partly result) (at (Some f) t cs armed true) (at (on_sent result g) u ds arming power)
       → StaysFree (sent_reply partly result) (at (Some f) t cs armed true) (at (on_sent result g) u ds arming power)
       → Turns passes tells files (send_call partly name request) (quiet_turn (send_call partly name request) (sent_reply partly result)) (at (Some f) t cs armed true) (at (on_sent result g) u ds arming power) was are
@@ -719,16 +719,16 @@ moment-sent a there result is = ap (λ (h : Bool). moment_where h a) is ∙ ap (
     kept (Err Fault) f = refl
     kept (Err Gone) f = refl
 
-pub with-power : (m : Moment) → IsTrue m.power → m ≡ at m.on m.told m.counts m.armed true
+pub with-power : (m : TurnMoment) → IsTrue m.power → m ≡ at m.on m.told m.counts m.armed true
 with-power m power = ap (λ (on : Bool). at m.on m.told m.counts m.armed on) power
 
 -- the same turn from and to the same
-pub turns-as : {passes : List ℕ → Bool} {tells : Bool} {files : Option Directory} {c : Call} {was are : ℕ} (t given : Turn) (old from new to : Moment)
+pub turns-as : {passes : List ℕ → Bool} {tells : Bool} {files : Option Directory} {c : Call} {was are : ℕ} (t given : Turn) (old from new to : TurnMoment)
     → t ≡ given → old ≡ from → new ≡ to → Turns passes tells files c given from to was are → Turns passes tells files c t old new was are
 turns-as {passes = passes} {tells = tells} {files = files} {c = c} {was = was} {are = are} t given old from new to turn_is old_is new_is turns =
     subst (λ (x : Turn). Turns passes tells files c x old new was are) (sym turn_is)
-    (subst (λ (m : Moment). Turns passes tells files c given m new was are) (sym old_is)
-    (subst (λ (m : Moment). Turns passes tells files c given from m was are) (sym new_is) turns))
+    (subst (λ (m : TurnMoment). Turns passes tells files c given m new was are) (sym old_is)
+    (subst (λ (m : TurnMoment). Turns passes tells files c given from m was are) (sym new_is) turns))
 
 pub lacks-file : (files : Option Directory) (name : List ℕ) → Lacks files name → LacksFile files name
 lacks-file None name lacks = lacks

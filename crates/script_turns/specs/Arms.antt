@@ -3,7 +3,7 @@ use Rattle.std.specs.Prelude.{◌≡◌, ℕ, ◌+◌, ◌≤◌, min, Bool, Som
 use Rattle.flash_core.specs.declared.flash.Counts.{Counts}
 use Rattle.flash_core.specs.Counts.{all_stops}
 use Rattle.fwu_model.specs.Causes.{greatest}
-use Rattle.script_turns.specs.Powered.{Moment}
+use Rattle.script_turns.specs.Powered.{TurnMoment}
 
 -- no count of failures, losses or chances falls
 pub record NoneFalls (old new : Counts) : Type 0 where
@@ -14,7 +14,7 @@ pub record NoneFalls (old new : Counts) : Type 0 where
 
 -- A loss was armed: what the agent keeps, what is told and the power stay, one arming more was made, and no failure and no loss was
 -- counted.
-pub record Arms (tells : Bool) (n k : ℕ) (old new : Moment) : Type 0 where
+pub record Arms (tells : Bool) (n k : ℕ) (old new : TurnMoment) : Type 0 where
   pub on_is : new.on ≡ old.on
   pub same : IsTrue tells → new.told ≡ old.told
   pub counts : NoneFalls old.counts new.counts

@@ -12,7 +12,7 @@ use Rattle.agent_calls.specs.Started.{StartsFrom}
 use Rattle.early_boot.specs.Started.{started_reply}
 use Rattle.early_boot.specs.Ends.{Ended, booted, bad_layout, no_metadata, no_bank, lost, failed}
 use Rattle.early_boot.specs.EndsBy.{BootEnds, IdleEnd, StartedBy, StartsPermitted, TakesBoot, TakesByBytes}
-use Rattle.script_turns.specs.Powered.{Moment, SameDevice}
+use Rattle.script_turns.specs.Powered.{TurnMoment, SameDevice}
 
 abbrev pub reply_of_end : Ended → Reply
 reply_of_end (booted b n) = started_reply b
@@ -44,7 +44,7 @@ IsOnAfter (failed n) on = on ≡ None
 -- ---- a flash that is to boot has power
 
 -- No bank was started on it: power came back, or was there with nothing dirty.
-pub record PowersOn (tells : Bool) (old new : Moment) : Type 0 where
+pub record PowersOn (tells : Bool) (old new : TurnMoment) : Type 0 where
   pub idles : Idles old.counts new.counts
   pub made : new.counts.made ≡ old.counts.made
   pub armed : new.armed ≡ old.armed
@@ -53,20 +53,19 @@ pub record PowersOn (tells : Bool) (old new : Moment) : Type 0 where
   pub chance : IsTrue tells → Rose old.counts.chances new.counts.chances ⊎ NoChance old.told new.told.now
 
 -- by what its agent kept: a flash on which a bank was started is as it was
-abbrev pub GetsPower : Bool → Option Fields → Moment → Moment → Type 0
+abbrev pub GetsPower : Bool → Option Fields → TurnMoment → TurnMoment → Type 0
 GetsPower tells None old new = PowersOn tells old new
 GetsPower tells (Some f) old new = SameDevice old new
 
 -- ---- all of it
 
--- The flash had power, and its boot ended so. On any device a boot that found no layout or no metadata wrote nothing, and one that
--- started a bank wrote no more than the repair and the count of the start; and what was started may be, by the numbers at entry,
--- with the counter and the trials that they make, and is of a version that some complete package has whose manifest passes, not
--- below the counter, with images of the lengths that are told. These numbers, also those of a stop, are numbers of a flash. Where
--- the content is told, the end is that of the bytes, sound or not, and so are what was written and how much nearer an armed loss
--- came.
-pub record BootsAs (passes : List ℕ → Bool) (tells : Bool) (old : Moment) (t : Turn) (new : Moment) : Type 0 where
-  pub mid : Moment
+-- The flash had power, and its boot ended so. On any device an armed loss came nearer by no more than the repair and the count of the
+-- start; by none where the boot found no layout or no metadata. What was started may be, by the numbers at entry, with the counter and
+-- the trials that they make. It is of a version that some complete package has whose manifest passes, not below the counter, with
+-- images of the lengths that are told. These numbers, also those of a stop, are numbers of a flash. Where the content is told, the end
+-- is that of the bytes, sound or not, and so are what was written and how much nearer an armed loss came.
+pub record BootsAs (passes : List ℕ → Bool) (tells : Bool) (old : TurnMoment) (t : Turn) (new : TurnMoment) : Type 0 where
+  pub mid : TurnMoment
   pub has : GetsPower tells old.on old mid
   pub end : Ended
   pub reply_is : t.reply ≡ reply_of_end end

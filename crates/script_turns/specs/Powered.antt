@@ -49,7 +49,7 @@ numbers_kept f = record {
 }
 
 -- what is known of a device between two turns
-pub record Moment : Type 0 where
+pub record TurnMoment : Type 0 where
   -- what the agent keeps, where a bank was started on the flash
   pub on : Option Fields
   pub told : Told
@@ -58,24 +58,24 @@ pub record Moment : Type 0 where
   -- whether it has power
   pub power : Bool
 
-abbrev pub at : Option Fields → Told → Counts → Option Arming → Bool → Moment
+abbrev pub at : Option Fields → Told → Counts → Option Arming → Bool → TurnMoment
 at on told counts armed power = record { on = on; told = told; counts = counts; armed = armed; power = power }
 
 -- A device on which no bank was started, or whose agent is not asked.
 abbrev pub moment : {D : Type 0} → (D → Told) → (D → Counts) → (D → Option Arming) → (D → Bool) → D
-    → Moment
+    → TurnMoment
 moment told counts arming power flash = at None (told flash) (counts flash) (arming flash) (power flash)
 
-abbrev pub moment_in : {D : Type 0} {F : Ghosts D} → Stage D F → Moment
+abbrev pub moment_in : {D : Type 0} {F : Ghosts D} → Stage D F → TurnMoment
 moment_in {F = F} s =
     at (stage.shown_on s) (F.told (stage.device s)) (F.counts (stage.device s)) (F.arming (stage.device s)) (F.on (stage.device s))
 
 -- a flash between two turns
-abbrev pub moment_of : {D : Type 0} {F : Ghosts D} → Powered D F → Moment
+abbrev pub moment_of : {D : Type 0} {F : Ghosts D} → Powered D F → TurnMoment
 moment_of p = moment_in (the p.inside p.there)
 
 -- the device is as it was
-pub record SameDevice (old new : Moment) : Type 0 where
+pub record SameDevice (old new : TurnMoment) : Type 0 where
   pub told : new.told ≡ old.told
   pub counts : new.counts ≡ old.counts
   pub armed : new.armed ≡ old.armed
@@ -94,8 +94,8 @@ abbrev pub IsHeld : Bool → Fields → Told → Type 0
 IsHeld tells f t = IsTrue tells → BothHold f.layout f.meta t.now
 
 -- what the agent keeps fits some machine, where a bank was started, and the flash shows it, by two replicas
-abbrev pub Fits : Bool → Moment → Type 0
-Fits tells m = (f : Fields) → m.on ≡ Some f
+abbrev pub FitsMachine : Bool → TurnMoment → Type 0
+FitsMachine tells m = (f : Fields) → m.on ≡ Some f
     → ∥ agent.Showing (kept_at tells f m.told) ∥₁ × IsSeen tells f m.told × IsHeld tells f m.told
 
 -- ---- the condition of a run, on a flash that tells its content
@@ -109,13 +109,13 @@ pub record IsOn (E : Setting) (c : Condition) (f : Fields) (t : Told) : Type 0 w
   pub ready : IsReady E t state
 
 -- While off, the flash may show the candidates and no other state, whatever a loss leaves.
-abbrev pub Shows : Setting → Condition → Option Fields → Told → Type 0
-Shows E c None t = (c.session ≡ Off) × LeavesOneOf E c.candidates t
-Shows E c (Some f) t = IsOn E c f t
+abbrev pub ShowsCondition : Setting → Condition → Option Fields → Told → Type 0
+ShowsCondition E c None t = (c.session ≡ Off) × LeavesOneOf E c.candidates t
+ShowsCondition E c (Some f) t = IsOn E c f t
 
 pub record IsAt (E : Setting) (c : Condition) (on : Option Fields) (t : Told) : Type 0 where
   pub guard : Guards 1 7 t
-  pub shows : Shows E c on t
+  pub shows : ShowsCondition E c on t
 
 -- ---- what a loss may harm, on any flash
 

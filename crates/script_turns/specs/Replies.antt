@@ -16,7 +16,7 @@ use Rattle.agent_machine.specs.Meets.{IsSettingOf, Stays}
 use Rattle.agent_machine.specs.Moment as agent
 use Rattle.agent_calls.specs.Partly.{begins_over}
 use Rattle.agent_calls.specs.AnswersCall.{AnswersCall}
-use Rattle.script_turns.specs.Powered.{Moment, kept_at, numbers_kept}
+use Rattle.script_turns.specs.Powered.{TurnMoment, kept_at, numbers_kept}
 use Rattle.script_turns.specs.Arms.{Arms}
 use Rattle.script_turns.specs.Boots.{BootsAs}
 use Rattle.script_turns.specs.Sending.{SendSays}
@@ -96,7 +96,7 @@ CallSays passes tells c (Some f) before r (Some g) now = AnswersTo passes c r (k
 -- ---- a turn
 
 -- What a turn of this call says, and that it leaves the agent so.
-abbrev pub Replies : (List ℕ → Bool) → Bool → Option Directory → Call → Moment → Turn → Moment → Type 0
+abbrev pub Replies : (List ℕ → Bool) → Bool → Option Directory → Call → TurnMoment → Turn → TurnMoment → Type 0
 Replies passes tells files call.Boot old t new = LeavesOn t.reply new.on × BootsAs passes tells old t new
 Replies passes tells files call.Show old t new = (t.reply ≡ show_reply old.on) × (new.on ≡ old.on)
 Replies passes tells files call.NoCall old t new = (t.reply ≡ no_call_reply old.on) × (new.on ≡ old.on)

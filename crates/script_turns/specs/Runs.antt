@@ -1,7 +1,8 @@
 -- What a run of turns did so far.
 use Rattle.std.specs.List.{list_all}
-use Rattle.std.specs.Prelude.{not, ◌≡◌, ℕ, ◌+◌, ◌≤◌, Bool, List, [], ◌∷◌, length, map, sum_by, Option, Some, None, IsTrue}
+use Rattle.std.specs.Prelude.{not, ◌≡◌, ◌⊎◌, ℕ, ◌+◌, ◌≤◌, Bool, List, [], ◌∷◌, length, map, sum_by, Option, Some, None, IsTrue}
 use Rattle.std.specs.Prelude.{Contains, slice_get}
+use Rattle.flash_core.specs.declared.flash.Arming.{Arming}
 use Rattle.flash_core.specs.Counts.{Rose, all_stops, stops_in}
 use Rattle.flash_core.specs.Told.{NothingDirty}
 use Rattle.flash_core.specs.May.{Guards}
@@ -15,8 +16,8 @@ use Rattle.fwu_model.specs.Reply.{Turn}
 use Rattle.fwu_model.specs.Reply as reply
 use Rattle.fwu_model.specs.Run.{Condition, Runs, ends_run, is_send}
 use Rattle.fwu_model.specs.Headline.{ArmedBy, made_after}
-use Rattle.fwu_model.specs.Causes.{FileNotRead, LossesAreCounted, cuts_in}
-use Rattle.script_turns.specs.Powered.{Fits, Moment, IsAt, IsSafe}
+use Rattle.fwu_model.specs.Causes.{FileNotRead, LossesAreCounted, cuts_in, greatest, losses_in}
+use Rattle.script_turns.specs.Powered.{FitsMachine, TurnMoment, IsAt, IsSafe}
 use Rattle.script_turns.specs.Booted.{BootsFrom}
 use Rattle.script_turns.specs.Replies.{power_after}
 use Rattle.script_turns.specs.Takes.{stop_told}
@@ -40,15 +41,15 @@ power_left power (t ∷ turns) = power_left (power_after power t.reply) turns
 
 -- The turns of a journal, one after the other, from a device and the files' faults to those that they leave.
 -- After each of them an agent that is there fits some machine, on any device.
-abbrev pub Follows : (List ℕ → Bool) → Bool → Option Directory → List Turn → Moment → Moment → ℕ → ℕ → Type 0
+abbrev pub Follows : (List ℕ → Bool) → Bool → Option Directory → List Turn → TurnMoment → TurnMoment → ℕ → ℕ → Type 0
 Follows passes tells files [] old new from to = (new ≡ old) × (to ≡ from)
 Follows passes tells files (t ∷ turns) old new from to =
-    (mid : Moment) × (n : ℕ) × Turns passes tells files t.call t old mid from n × Fits tells mid
+    (mid : TurnMoment) × (n : ℕ) × Turns passes tells files t.call t old mid from n × FitsMachine tells mid
     × Follows passes tells files turns mid new n to
 
 -- a flash from which the headline holds: sound, with nothing dirty, and guarded at the front
 pub record StartsSound (E : Setting) (start : State) (passes : List ℕ → Bool)
-    (old : Moment) : Type 0 where
+    (old : TurnMoment) : Type 0 where
   pub clean : NothingDirty old.told
   pub sound : SoundFlash E old.told.now
   pub shows : seen old.told.now ≡ Some start
@@ -57,21 +58,33 @@ pub record StartsSound (E : Setting) (start : State) (passes : List ℕ → Bool
 
 -- the machine's run leads to a condition that the flash is at
 pub record RunsTo (E : Setting) (start : State) (journal : List Turn)
-    (old new : Moment) : Type 0 where
+    (old new : TurnMoment) : Type 0 where
   pub last : Condition
   pub runs : Runs E start journal last
   pub is_at : IsAt E last new.on new.told
   pub armed : ArmedBy last journal old.counts new.counts new.armed
 
 -- No loss was armed and no turn is a `cut`: none is armed, none was reached, and a turn is lost only to a loss that none armed.
-pub record RunsFree (journal : List Turn) (old new : Moment) : Type 0 where
+pub record RunsFree (journal : List Turn) (old new : TurnMoment) : Type 0 where
   pub armed : new.armed ≡ None
   pub reached : new.counts.reached ≡ old.counts.reached
   pub lost : (t : Turn) → Contains journal t → t.reply ≡ reply.Lost → Rose old.counts.cuts new.counts.cuts
 
+-- how many losses a device has armed
+abbrev pub armings_left : Option Arming → ℕ
+armings_left None = 0
+armings_left (Some arming) = 1
+
+-- Each lost turn came of a loss that a `cut` armed, each `cut` of one lost turn at most, or of a loss that no arming made and that the
+-- device counted; or this count stands at the greatest number.
+abbrev pub LossesAreDue : List Turn → TurnMoment → TurnMoment → Type 0
+LossesAreDue journal old new =
+    (losses_in journal + armings_left new.armed + old.counts.cuts ≤ cuts_in journal + armings_left old.armed + new.counts.cuts)
+    ⊎ (greatest ≤ new.counts.cuts)
+
 -- The turns of the journal were done, from a device that was off and unarmed. The files' faults were some, and are some.
 pub record Ran (passes : List ℕ → Bool) (tells : Bool) (files : Option Directory)
-    (journal : List Turn) (old new : Moment) (from to : ℕ) : Type 0 where
+    (journal : List Turn) (old new : TurnMoment) (from to : ℕ) : Type 0 where
   pub counts : NoneFalls old.counts new.counts
   -- no failure and no loss is counted but those that the turns tell
   pub once : all_stops new.counts ≤ all_stops old.counts + stops_of journal
@@ -79,6 +92,7 @@ pub record Ran (passes : List ℕ → Bool) (tells : Bool) (files : Option Direc
   pub made : new.counts.made ≡ made_after old.counts.made (cuts_in journal)
   pub free : old.armed ≡ None → cuts_in journal ≡ 0 → RunsFree journal old new
   pub lost_turns : LossesAreCounted journal old.counts new.counts
+  pub due : LossesAreDue journal old new
   pub fault_turns : (t : Turn) → Contains journal t → t.reply ≡ reply.Fault
       → Rose old.counts.faults new.counts.faults
   pub unread_turns : (t : Turn) → Contains journal t → t.reply ≡ reply.ReadFault

@@ -13,11 +13,11 @@ use Rattle.script_turns.specs.declared.tables.TableStop.{TableStop}
 use Rattle.script_turns.specs.declared.tables.TableStop.TheVariants.{Package, Capsule, ReadFailed}
 
 -- it is the table, or what `send` answers to the file, unless the file could not be read
-abbrev pub IsAnswer : Result Toc Reply → Result Toc TableStop → Type 0
-IsAnswer found (Ok toc) = found ≡ Ok toc
-IsAnswer found (Err (Package f)) = found ≡ Err (reply.BadPackage f)
-IsAnswer found (Err (Capsule f)) = found ≡ Err (reply.BadCapsule f)
-IsAnswer found (Err ReadFailed) = Unit {0}
+abbrev pub IsTableAnswer : Result Toc Reply → Result Toc TableStop → Type 0
+IsTableAnswer found (Ok toc) = found ≡ Ok toc
+IsTableAnswer found (Err (Package f)) = found ≡ Err (reply.BadPackage f)
+IsTableAnswer found (Err (Capsule f)) = found ≡ Err (reply.BadCapsule f)
+IsTableAnswer found (Err ReadFailed) = Unit {0}
 
 -- how many calls of the files failed, by a result that tells it
 abbrev pub unread_in : {T : Type 0} → Result T TableStop → ℕ
@@ -36,7 +36,7 @@ pub record HasTableCause {T : Type 0} (files : Option Directory) (name : List �
 pub record ReadsTable {H : Type 0} (g : Ghosts H) (answer : List ℕ → Result Toc Reply) (name : List ℕ)
     (result : Result Toc TableStop) (old new : H) : Type 0 where
   -- where the file's bytes are told, it is their table, or what `send` answers to them
-  pub told : (file : List ℕ) → Tells (g.contents old) name file → IsAnswer (answer file) result
+  pub told : (file : List ℕ) → Tells (g.contents old) name file → IsTableAnswer (answer file) result
   pub found : IfOk result (λ toc. HoldsPayloads (g.contents old) name toc.entries)
   pub missing : Lacks (g.contents old) name → result ≡ Err ReadFailed
   pub reads : ReadsFile g name old new

@@ -1,4 +1,5 @@
--- What an armed loss counts of a turn, on any device.
+-- What an armed loss counts of a turn, on any device. Where a device tells no content, "did nothing" and "wrote nothing" say that its
+-- counts, its power and the armed loss stay: where no loss is armed, that bounds no erase and no program.
 use Rattle.std.specs.Prelude.{◌≡◌, ◌⊎◌, ℕ, ◌+◌, ◌-◌, Bool, true, false, List, length, Option, Some, None, Result, Ok, Err, ⊤}
 use Rattle.flash_core.specs.declared.flash.FlashStop.{FlashStop}
 use Rattle.flash_core.specs.declared.flash.FlashStop.TheVariants as flash_stop
@@ -15,7 +16,7 @@ use Rattle.agent_machine.specs.Ends.{IsWriter, TakesSwitch}
 use Rattle.agent_machine.specs.Stored.{TakesStore}
 use Rattle.agent_calls.specs.Takes.{Takes as TakesWrites, writes_to_begin, writes_to_copy}
 use Rattle.update_client.specs.Choosing.{AreChosen}
-use Rattle.update_client.specs.Takes.{SendTakes as TakesSent, UnreadTakes, writes_sent}
+use Rattle.update_client.specs.Takes.{DoneSendTakes as TakesSent, UnreadTakes, writes_sent}
 use Rattle.update_client.specs.Partial.{present, writes_copied, writes_over}
 use Rattle.fwu_model.specs.Answer.{are_named}
 use Rattle.fwu_model.specs.Call.{Call}
@@ -25,7 +26,7 @@ use Rattle.fwu_model.specs.Reply as reply
 use Rattle.early_boot.specs.Ends.{Ended}
 use Rattle.early_boot.specs.EndsBy.{TakesBoot}
 use Rattle.script_turns.specs.Boots.{reply_of_end}
-use Rattle.script_turns.specs.Powered.{Moment, SameDevice}
+use Rattle.script_turns.specs.Powered.{TurnMoment, SameDevice}
 use Rattle.script_turns.specs.Sending.{IsTableOf}
 
 -- how the flash's own calls tell of a turn with this reply
@@ -40,55 +41,55 @@ unread_told reply.ReadFault = 1
 unread_told other = 0
 
 -- where no loss was armed, none is, and none was reached
-abbrev pub StaysFree : Reply → Moment → Moment → Type 0
+abbrev pub StaysFree : Reply → TurnMoment → TurnMoment → Type 0
 StaysFree r old new = StaysUnarmed (stop_told r) old.armed new.armed old.counts new.counts
 
 -- A begin that is done stored the metadata, or wrote nothing where the update bank was invalid already. A refused one did nothing.
-abbrev pub BeginsBy : Reply → Fields → Moment → Moment → Type 0
+abbrev pub BeginsBy : Reply → Fields → TurnMoment → TurnMoment → Type 0
 BeginsBy reply.Success f old new = TakesWrites (writes_to_begin f) old.armed new.armed
 BeginsBy (reply.Refused st) f old new = SameDevice old new
 BeginsBy other f old new = ⊤
 
 -- A partial begin that is done wrote what a begin writes, and each image that is copied, and no other. A refused one did nothing.
-abbrev pub BeginsOver : Reply → List (List ℕ) → Fields → Moment → Moment → Type 0
+abbrev pub BeginsOver : Reply → List (List ℕ) → Fields → TurnMoment → TurnMoment → Type 0
 BeginsOver reply.Success types f old new = TakesWrites (writes_to_begin f
     + writes_to_copy (are_named f.layout.rows types) f.lengths (length f.layout.rows)) old.armed new.armed
 BeginsOver (reply.Refused st) types f old new = SameDevice old new
 BeginsOver other types f old new = ⊤
 
 -- an accept stored the metadata, or has it as it was and wrote nothing; a refused one did nothing
-abbrev pub AcceptsBy : Reply → Fields → Option Fields → Moment → Moment → Type 0
+abbrev pub AcceptsBy : Reply → Fields → Option Fields → TurnMoment → TurnMoment → Type 0
 AcceptsBy reply.Success f (Some g) old new = TakesStore f.meta g.meta old.armed new.armed
 AcceptsBy (reply.Refused st) f on old new = SameDevice old new
 AcceptsBy other f on old new = ⊤
 
 -- so of going back, but that a refused one may have read the flash
-abbrev pub IsStoredBy : Reply → Fields → Option Fields → Moment → Moment → Type 0
+abbrev pub IsStoredBy : Reply → Fields → Option Fields → TurnMoment → TurnMoment → Type 0
 IsStoredBy reply.Success f (Some g) old new = TakesStore f.meta g.meta old.armed new.armed
 IsStoredBy (reply.Refused st) f on old new = new.armed ≡ old.armed
 IsStoredBy other f on old new = ⊤
 
 -- what a write through a handle wrote, by the image of the handle; a refused one did nothing
-abbrev pub WritesBy : Reply → Fields → ℕ → List ℕ → Moment → Moment → Type 0
+abbrev pub WritesBy : Reply → Fields → ℕ → List ℕ → TurnMoment → TurnMoment → Type 0
 WritesBy (reply.Refused st) f number bytes old new = SameDevice old new
 WritesBy r f number bytes old new = (image : ℕ) → handle_kept f.session (number - 1) ≡ handle.Writes image
     → SpendsArming (stop_told r) (writes_to_append (size_of (part_at f.session image)) (length bytes))
     old.armed new.armed old.counts new.counts
 
 -- what ending an image wrote, by the image of the handle; where it writes none, nothing was done
-pub record CommitsBy (r : Reply) (f : Fields) (number : ℕ) (old new : Moment) : Type 0 where
+pub record CommitsBy (r : Reply) (f : Fields) (number : ℕ) (old new : TurnMoment) : Type 0 where
   pub spent : (image : ℕ) → IsWriter f number image
       → SpendsArming (stop_told r) (writes_to_finish (size_of (part_at f.session image))) old.armed new.armed old.counts new.counts
   pub still : ((image : ℕ) → IsWriter f number image → ⊥) → SameDevice old new
 
 -- a switch is an erase of the marks, or none, and a store; a refused end did nothing
-abbrev pub IsSwitchedBy : Reply → Moment → Moment → Type 0
+abbrev pub IsSwitchedBy : Reply → TurnMoment → TurnMoment → Type 0
 IsSwitchedBy reply.Success old new = TakesSwitch old.armed new.armed
 IsSwitchedBy (reply.Refused st) old new = SameDevice old new
 IsSwitchedBy other old new = ⊤
 
 -- A read writes nothing, and reaches no armed loss. A loss that no arming made clears the arming.
-pub record ReadsBy (r : Reply) (old new : Moment) : Type 0 where
+pub record ReadTakes (r : Reply) (old new : TurnMoment) : Type 0 where
   pub armed : new.armed ≡ arming_kept (stop_told r) old.armed
   pub reached : ReachesNone (stop_told r) old.counts new.counts
 
@@ -101,9 +102,9 @@ abbrev pub writes_partly : Fields → Toc → ℕ
 writes_partly f toc = writes_to_begin f + writes_over block_bytes f.layout.rows f.lengths toc
 
 -- by whether it is partial
-abbrev pub writes_of : Bool → Fields → Toc → ℕ
-writes_of false f toc = writes_whole f toc
-writes_of true f toc = writes_partly f toc
+abbrev pub writes_to_send : Bool → Fields → Toc → ℕ
+writes_to_send false f toc = writes_whole f toc
+writes_to_send true f toc = writes_partly f toc
 
 -- those of its begin, and of the copies of a partial one
 abbrev pub writes_before : Bool → Fields → Toc → ℕ
@@ -116,19 +117,19 @@ AreSent false rows toc entries = AreChosen rows toc entries
 AreSent true rows toc entries = entries ≡ present rows toc
 
 -- by some table, that of the file where it is told: so many, and those of the switch
-pub record SentTakes (files : Option Directory) (name : List ℕ) (writes : Toc → ℕ) (old new : Moment) : Type 0 where
+pub record SentTakes (files : Option Directory) (name : List ℕ) (writes : Toc → ℕ) (old new : TurnMoment) : Type 0 where
   pub toc : Toc
   pub table : IsTableOf files name (Ok toc)
   pub spent : TakesSent (writes toc) old.armed new.armed
 
 -- so many, and no switch
-pub record EndTakes (files : Option Directory) (name : List ℕ) (writes : Toc → ℕ) (old new : Moment) : Type 0 where
+pub record EndTakes (files : Option Directory) (name : List ℕ) (writes : Toc → ℕ) (old new : TurnMoment) : Type 0 where
   pub toc : Toc
   pub table : IsTableOf files name (Ok toc)
   pub spent : TakesWrites (writes toc) old.armed new.armed
 
 -- those of the begin, of the first images, and of the first pieces of the next one, of which a further one could not be read
-pub record StopTakes (partial : Bool) (files : Option Directory) (name : List ℕ) (f : Fields) (old new : Moment) : Type 0 where
+pub record StopTakes (partial : Bool) (files : Option Directory) (name : List ℕ) (f : Fields) (old new : TurnMoment) : Type 0 where
   pub toc : Toc
   pub table : IsTableOf files name (Ok toc)
   pub entries : List Entry
@@ -138,34 +139,35 @@ pub record StopTakes (partial : Bool) (files : Option Directory) (name : List �
 -- A sending that is done takes the erases and programs of its writes and of the switch, and no other. One whose end is refused takes
 -- those of its writes alone, and one whose file could not be read those up to that read. What was refused before anything was sent
 -- did nothing.
-abbrev pub SendTakes : Bool → Option Directory → List ℕ → Fields → Reply → Moment → Moment → Type 0
-SendTakes partial files name f (reply.Sent images skipped) old new = SentTakes files name (writes_of partial f) old new
-SendTakes partial files name f (reply.SentPartial images skipped copied) old new = SentTakes files name (writes_of partial f) old new
+abbrev pub SendTakes : Bool → Option Directory → List ℕ → Fields → Reply → TurnMoment → TurnMoment → Type 0
+SendTakes partial files name f (reply.Sent images skipped) old new = SentTakes files name (writes_to_send partial f) old new
+SendTakes partial files name f (reply.SentPartial images skipped copied) old new =
+    SentTakes files name (writes_to_send partial f) old new
 SendTakes partial files name f (reply.BadPackage g) old new = SameDevice old new
 SendTakes partial files name f (reply.BadCapsule g) old new = SameDevice old new
 SendTakes partial files name f (reply.Missing guid) old new = SameDevice old new
 SendTakes partial files name f (reply.TooLarge guid) old new = SameDevice old new
 SendTakes partial files name f (reply.BeginRefused st) old new = SameDevice old new
-SendTakes partial files name f (reply.EndRefused st) old new = EndTakes files name (writes_of partial f) old new
+SendTakes partial files name f (reply.EndRefused st) old new = EndTakes files name (writes_to_send partial f) old new
 SendTakes partial files name f reply.ReadFault old new = SameDevice old new ⊎ StopTakes partial files name f old new
 SendTakes partial files name f other old new = ⊤
 
 -- A boot comes as much nearer an armed loss as an end with this reply does: by the repair of the metadata, and by what the start of
 -- a bank is counted as. A loss that is armed stays so while power comes back.
-pub record BootsBy (r : Reply) (old new : Moment) : Type 0 where
+pub record BootTakes (r : Reply) (old new : TurnMoment) : Type 0 where
   pub end : Ended
   pub reply_is : r ≡ reply_of_end end
   pub spent : TakesBoot end old.armed new.armed
 
 -- by what the agent kept
-abbrev pub TakesOn : Option Directory → Call → Fields → Moment → Reply → Moment → Type 0
+abbrev pub TakesOn : Option Directory → Call → Fields → TurnMoment → Reply → TurnMoment → Type 0
 TakesOn files call.Discover f old r new = SameDevice old new
 TakesOn files (call.Begin n) f old r new = BeginsBy r f old new
 TakesOn files (call.BeginPartial types) f old r new = BeginsOver r types f old new
 TakesOn files (call.OpenRead guid) f old r new = SameDevice old new
 TakesOn files (call.OpenWrite guid) f old r new = SameDevice old new
 TakesOn files (call.Write number bytes) f old r new = WritesBy r f number bytes old new
-TakesOn files (call.Read number room) f old r new = ReadsBy r old new
+TakesOn files (call.Read number room) f old r new = ReadTakes r old new
 TakesOn files (call.Commit number request) f old r new = CommitsBy r f number old new
 TakesOn files call.End f old r new = IsSwitchedBy r old new
 TakesOn files call.Cancel f old r new = SameDevice old new
@@ -173,25 +175,26 @@ TakesOn files (call.Accepts guid) f old r new = AcceptsBy r f new.on old new
 TakesOn files call.Previous f old r new = IsStoredBy r f new.on old new
 TakesOn files (call.Send name request) f old r new = SendTakes false files name f r old new
 TakesOn files (call.SendPartial name request) f old r new = SendTakes true files name f r old new
-TakesOn files call.Boot f old r new = BootsBy r old new
+TakesOn files call.Boot f old r new = BootTakes r old new
 TakesOn files (call.Cut n k) f old r new = ⊤
 TakesOn files call.Show f old r new = SameDevice old new
 TakesOn files call.NoCall f old r new = SameDevice old new
 
 -- no flash that is off is touched but by a boot and a `cut`
-abbrev pub TakesOff : Call → Moment → Reply → Moment → Type 0
-TakesOff call.Boot old r new = BootsBy r old new
+abbrev pub TakesOff : Call → TurnMoment → Reply → TurnMoment → Type 0
+TakesOff call.Boot old r new = BootTakes r old new
 TakesOff (call.Cut n k) old r new = ⊤
 TakesOff other old r new = SameDevice old new
 
-abbrev pub TakesBy : Option Directory → Call → Option Fields → Moment → Reply → Moment → Type 0
+abbrev pub TakesBy : Option Directory → Call → Option Fields → TurnMoment → Reply → TurnMoment → Type 0
 TakesBy files c None old r new = TakesOff c old r new
 TakesBy files c (Some f) old r new = TakesOn files c f old r new
 
-abbrev pub Takes : Option Directory → Call → Moment → Reply → Moment → Type 0
-Takes files c old r new = TakesBy files c old.on old r new
+abbrev pub TakesByCall : Option Directory → Call → TurnMoment → Reply → TurnMoment → Type 0
+TakesByCall files c old r new = TakesBy files c old.on old r new
 
 -- and a file that is not there, or could not be read before anything was sent, leaves the device as it is
-pub record TakesTurn (files : Option Directory) (c : Call) (old : Moment) (r : Reply) (new : Moment) (was are : ℕ) : Type 0 where
-  pub by_call : Takes files c old r new
+pub record TakesTurn (files : Option Directory) (c : Call) (old : TurnMoment) (r : Reply) (new : TurnMoment)
+    (was are : ℕ) : Type 0 where
+  pub by_call : TakesByCall files c old r new
   pub unread : r ≡ reply.ReadFault → (Rose was are → ⊥) → SameDevice old new

@@ -7,21 +7,21 @@ use Rattle.host_io.specs.declared.files.Files as files
 use Rattle.fwu_model.specs.Call.{Call}
 use Rattle.fwu_model.specs.Reply.{Turn}
 use Rattle.fwu_model.specs.Run.{ends_run, is_send}
-use Rattle.fwu_journal.specs.Shown.{IsShort, turn}
+use Rattle.fwu_journal.specs.Shown.{IsShortReply, turn}
 use Rattle.agent_calls.specs.declared.agent.Agent.{Agent}
 use Rattle.agent_calls.specs.Shown as of_agent
 use Rattle.early_boot.specs.Ends.{Ended}
 use Rattle.script_turns.specs.declared.stage.Stage.{Stage}
 use Rattle.script_turns.specs.declared.turned.AgentTurn.{AgentTurn}
 use Rattle.script_turns.specs.Calls.{moment_where}
-use Rattle.script_turns.specs.Powered.{Moment, moment_in}
+use Rattle.script_turns.specs.Powered.{TurnMoment, moment_in}
 use Rattle.script_turns.specs.Replies.{LeavesOn}
 use Rattle.script_turns.specs.Sending.{IsUnnamed}
 use Rattle.script_turns.specs.Stage.{device, has_power, shown_on}
 use Rattle.script_turns.specs.Turning.{IsOnAfter, ShowsStarted, Turns, reply_of_end}
 
 -- the turn does this call whatever the files hold, and no call of theirs fails
-abbrev pub TurnsAlone : (List ℕ → Bool) → Bool → Call → Turn → Moment → Moment → Type 0
+abbrev pub TurnsAlone : (List ℕ → Bool) → Bool → Call → Turn → TurnMoment → TurnMoment → Type 0
 TurnsAlone passes tells c t old new = (files : Option Directory) (faults : ℕ) → Turns passes tells files c t old new faults faults
 
 -- so the turn of an agent that is there
@@ -37,16 +37,16 @@ IsTurnWith {F = F} g passes c done old new was are =
     (g.faults was) (g.faults are)
 
 -- how a turn leaves the device, and that its reply fits a line
-pub record LeavesDevice {D : Type 0} (F : Ghosts D) (t : Turn) (here : Bool) (old new : D) : Type 0 where
+pub record TurnLeaves {D : Type 0} (F : Ghosts D) (t : Turn) (here : Bool) (old new : D) : Type 0 where
   -- where the run goes on, it has power exactly where an agent or a flash that is on is there
   pub powered : IsFalse (ends_run t.reply) → F.on new ≡ here
   pub size : F.blocks new ≡ F.blocks old
   -- the printed line of the turn has room for what a read got
-  pub short : IsShort t.reply
+  pub short : IsShortReply t.reply
 
 -- how it leaves an agent that was there
 pub record LeavesAgent {D : Type 0} {F : Ghosts D} (done : AgentTurn) (old new : Agent D F) : Type 0 where
-  pub device : LeavesDevice F (turn done.turn) done.here (of_agent.device old) (of_agent.device new)
+  pub device : TurnLeaves F (turn done.turn) done.here (of_agent.device old) (of_agent.device new)
   -- no stop of the flash has ended it, if it is there
   pub here : IsTrue done.here → IsFalse (of_agent.gone new)
 
@@ -54,7 +54,7 @@ pub record LeavesAgent {D : Type 0} {F : Ghosts D} (done : AgentTurn) (old new :
 pub record IsStageTurn {D H : Type 0} {F : Ghosts D} (g : files.Ghosts H) (passes : List ℕ → Bool) (c : Call) (t : Turn)
     (old new : Stage D F) (was are : H) : Type 0 where
   pub turns : Turns passes F.tells (g.contents was) c t (moment_in old) (moment_in new) (g.faults was) (g.faults are)
-  pub leaves : LeavesDevice F t (has_power new) (device old) (device new)
+  pub leaves : TurnLeaves F t (has_power new) (device old) (device new)
   pub reads : ReadsFiles g (IsUnnamed c) was are
   -- no call but a sending changes the files, and none does where no bank is on
   pub files : IsFalse (is_send c) → are ≡ was

@@ -18,7 +18,7 @@ use Rattle.agent_machine.specs.Fields.{Fields}
 use Rattle.agent_machine.specs.Moment as agent
 use Rattle.early_boot.specs.Started.{started_session}
 use Rattle.early_boot.specs.Ends.{Ended, booted, bad_layout, no_metadata, no_bank, lost, failed}
-use Rattle.script_turns.specs.Powered.{Moment, IsAt, IsSafe, kept_at}
+use Rattle.script_turns.specs.Powered.{TurnMoment, IsAt, IsSafe, kept_at}
 use Rattle.script_turns.specs.Booted.{BootsFrom}
 use Rattle.script_turns.specs.Calls.{is_agents, is_composed}
 use Rattle.script_turns.specs.Deciding.{DecidesAfter}
@@ -36,7 +36,7 @@ Makes other before after = after ≡ before
 -- The turn t does the call c, by a verifier of these manifests, on a device that tells its content or not, with files that are told
 -- or not. The files' faults were some, and are some.
 pub record Turns (passes : List ℕ → Bool) (tells : Bool) (files : Option Directory) (c : Call) (t : Turn)
-    (old new : Moment) (was are : ℕ) : Type 0 where
+    (old new : TurnMoment) (was are : ℕ) : Type 0 where
   pub call_is : t.call ≡ c
   -- a boot alone tells the numbers that the flash held
   pub unnumbered : IsFalse (is_boot c) → t.numbers ≡ None

@@ -6,10 +6,10 @@ ghost use Rattle.early_boot.specs.Started.{started, started_reply};
 ghost use Rattle.early_boot.specs.Started.{device as booted_device};
 ghost use Rattle.early_boot.specs.Ends.{device_of, ended, some_numbers};
 ghost use Rattle.early_boot.specs.Ends.{booted as booted_to};
-ghost use Rattle.fwu_journal.specs.Shown.{IsShort, reply, turn};
+ghost use Rattle.fwu_journal.specs.Shown.{IsShortReply, reply, turn};
 ghost use Rattle.script_turns.specs.Stage.{device, has_power, shown_on};
 ghost use Rattle.script_turns.specs.Powered.{moment, moment_in};
-ghost use Rattle.script_turns.specs.Turned.{LeavesBooted, LeavesDevice, TurnsAlone};
+ghost use Rattle.script_turns.specs.Turned.{LeavesBooted, TurnLeaves, TurnsAlone};
 ghost use Rattle.script_turns.specs.Turning.{GetsPower, boot_turn};
 
 use crate::stage::{Live, Stage};
@@ -85,7 +85,7 @@ fn was_booted<D: Flash>(booted: Booted<D>, read: Numbers) -> Booting<D>
 fn turned_by<D: Flash>(end: BootEnd<D>) -> Booting<D>
     ensures turn { turn result.turn ≡ boot_turn (ended end) }
     ensures leaves { LeavesBooted (ended end) (device_of end) result.stage }
-    ensures short { IsShort (turn result.turn).reply }
+    ensures short { IsShortReply (turn result.turn).reply }
 {
     match end {
         BootEnd::Booted(booted, read) => was_booted(booted, read),
@@ -141,7 +141,7 @@ pub(crate) fn boot_turn<D: Flash, V: Verifier>(stage: Stage<D>, verifier: &V) ->
     requires { D.on (device stage) ≡ has_power stage }
     ensures turns { TurnsAlone (V.passes verifier.now) D.tells call.Boot (turn result.turn)
         (moment_in stage) (moment_in result.stage) }
-    ensures leaves { LeavesDevice D.Flash (turn result.turn) (has_power result.stage) (device stage) (device result.stage) }
+    ensures leaves { TurnLeaves D.Flash (turn result.turn) (has_power result.stage) (device stage) (device result.stage) }
 {
     turned_by(boot(with_power(stage), verifier))
 }

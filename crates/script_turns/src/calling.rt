@@ -4,7 +4,7 @@ ghost use Rattle.base_core.specs.Block.{block_bytes};
 ghost use Rattle.fwu_model.specs.Call as call;
 ghost use Rattle.fwu_model.specs.Reply as model;
 ghost use Rattle.agent_calls.specs.Shown.{gone};
-ghost use Rattle.fwu_journal.specs.Shown.{IsShort, turn};
+ghost use Rattle.fwu_journal.specs.Shown.{IsShortReply, turn};
 ghost use Rattle.script_text.specs.Shown.{HasBuffer, shown};
 ghost use Rattle.script_turns.specs.Calls.{is_agents, is_there, open_call, reply_by, stop_reply};
 ghost use Rattle.script_turns.specs.Turned.{IsCallTurn, LeavesAgent};
@@ -23,7 +23,7 @@ use verify_core::Verifier;
 fn refused(call: Call, stop: Stop) -> AgentTurn
     ensures turn { turn result.turn ≡ quiet_turn (shown call) (stop_reply stop) }
     ensures here { result.here ≡ is_there {T = Unit {0}} (Err stop) }
-    ensures short { IsShort (turn result.turn).reply }
+    ensures short { IsShortReply (turn result.turn).reply }
 {
     match stop {
         Stop::Status(status) => answered(call, Reply::Refused(status)),
@@ -39,7 +39,7 @@ fn done(call: Call, answer: Result<(), Stop>) -> AgentTurn
     ensures turn { turn result.turn ≡ quiet_turn (shown call)
         (reply_by (λ value. model.Success) answer) }
     ensures here { result.here ≡ is_there answer }
-    ensures short { IsShort (turn result.turn).reply }
+    ensures short { IsShortReply (turn result.turn).reply }
 {
     match answer {
         Ok(()) => answered(call, Reply::Success),

@@ -3,7 +3,7 @@ ghost use Rattle.std.specs.Prelude.{◌≡◌, ◌≤◌, ℕ, Bool, List};
 ghost use Rattle.early_boot.specs.Numbers.{numbers};
 ghost use Rattle.agent_calls.specs.Shown.{fields};
 ghost use Rattle.fwu_model.specs.Call as call;
-ghost use Rattle.fwu_journal.specs.Shown.{IsShort, reply, turn};
+ghost use Rattle.fwu_journal.specs.Shown.{IsShortReply, reply, turn};
 ghost use Rattle.script_turns.specs.Stage.{device, has_power, shown_on};
 ghost use Rattle.script_turns.specs.Powered.{moment_in, numbers_kept};
 ghost use Rattle.script_turns.specs.Replies.{no_call_reply, show_reply};
@@ -37,7 +37,7 @@ fn numbers_of<D: Flash>(agent: &Agent<D>) -> Numbers
 /// What `show` answers: the numbers, or `off` where no bank was started.
 fn shown_by<D: Flash>(stage: &Stage<D>) -> Reply
     ensures value { reply result ≡ show_reply (shown_on stage.now) }
-    ensures short { IsShort (reply result) }
+    ensures short { IsShortReply (reply result) }
 {
     match stage {
         Stage::On(live) if live.here => Reply::Shown(numbers_of(&live.agent)),
@@ -49,7 +49,7 @@ fn shown_by<D: Flash>(stage: &Stage<D>) -> Reply
 pub(crate) fn show_turn<D: Flash>(stage: &Stage<D>) -> Turn
     ensures turns { (passes : List ℕ → Bool)
         → TurnsAlone passes D.tells call.Show (turn result) (moment_in stage.now) (moment_in stage.now) }
-    ensures short { IsShort (turn result).reply }
+    ensures short { IsShortReply (turn result).reply }
 {
     turn_of(Call::Show, shown_by(stage))
 }
@@ -57,7 +57,7 @@ pub(crate) fn show_turn<D: Flash>(stage: &Stage<D>) -> Turn
 /// What a request for no call is answered: nothing is done, but a bank must have been started.
 fn not_understood<D: Flash>(stage: &Stage<D>) -> Reply
     ensures value { reply result ≡ no_call_reply (shown_on stage.now) }
-    ensures short { IsShort (reply result) }
+    ensures short { IsShortReply (reply result) }
 {
     match stage {
         Stage::On(live) if live.here => Reply::NotUnderstood,
@@ -69,7 +69,7 @@ fn not_understood<D: Flash>(stage: &Stage<D>) -> Reply
 pub(crate) fn no_call_turn<D: Flash>(stage: &Stage<D>) -> Turn
     ensures turns { (passes : List ℕ → Bool)
         → TurnsAlone passes D.tells call.NoCall (turn result) (moment_in stage.now) (moment_in stage.now) }
-    ensures short { IsShort (turn result).reply }
+    ensures short { IsShortReply (turn result).reply }
 {
     turn_of(Call::NoCall, not_understood(stage))
 }
@@ -97,7 +97,7 @@ pub(crate) fn cut_turn<D: Flash>(stage: &mut Stage<D>, n: u32, k: u32) -> Turn
     ensures has { has_power stage.new ≡ has_power stage.old }
     ensures power { D.on (device stage.new) ≡ D.on (device stage.old) }
     ensures size { D.blocks (device stage.new) ≡ D.blocks (device stage.old) }
-    ensures short { IsShort (turn result).reply }
+    ensures short { IsShortReply (turn result).reply }
 {
     arm(stage, n, k);
     turn_of(Call::Cut { n, k }, Reply::CutOk)

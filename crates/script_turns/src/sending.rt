@@ -2,7 +2,7 @@
 ghost use Rattle.std.specs.Prelude.{◌≡◌, Ok, string_bytes, IsFalse, true, false};
 ghost use Rattle.host_io.specs.Reads.{ReadsFile};
 ghost use Rattle.agent_calls.specs.Shown.{gone};
-ghost use Rattle.fwu_journal.specs.Shown.{IsShort, reply, turn};
+ghost use Rattle.fwu_journal.specs.Shown.{IsShortReply, reply, turn};
 ghost use Rattle.script_text.specs.Shown.{shown};
 ghost use Rattle.update_client.specs.Packages.{HoldsPayloads};
 ghost use Rattle.script_turns.specs.Sending.{IsTableOf, done_reply, is_answered, send_call, sent_reply};
@@ -37,7 +37,7 @@ fn send_call(name: String, request: u32, partial: bool) -> Call
 /// What is told of a sending that was done: of a partial one also how many images were copied.
 fn done_reply(sent: &Sent, partial: bool) -> Reply
     ensures value { reply result ≡ done_reply partial sent.now }
-    ensures short { IsShort (reply result) }
+    ensures short { IsShortReply (reply result) }
 {
     let Sent {
         images,
@@ -58,7 +58,7 @@ fn done_reply(sent: &Sent, partial: bool) -> Reply
 /// What a sending is answered that was done, refused or stopped.
 fn sent_reply(sent: &Result<Sent, SendStop>, partial: bool) -> Reply
     ensures value { reply result ≡ sent_reply partial sent.now }
-    ensures short { IsShort (reply result) }
+    ensures short { IsShortReply (reply result) }
 {
     match sent {
         Ok(sent) => done_reply(sent, partial),
@@ -88,7 +88,7 @@ fn is_answered(sent: &Result<Sent, SendStop>) -> bool
 fn sent_turn(call: Call, sent: &Result<Sent, SendStop>, partial: bool) -> AgentTurn
     ensures turn { turn result.turn ≡ quiet_turn (shown call) (sent_reply partial sent.now) }
     ensures here { result.here ≡ is_answered sent.now }
-    ensures short { IsShort (turn result.turn).reply }
+    ensures short { IsShortReply (turn result.turn).reply }
 {
     if is_answered(sent) {
         answered(call, sent_reply(sent, partial))

@@ -5,14 +5,14 @@ ghost use Rattle.fwu_model.specs.Call as call;
 ghost use Rattle.fwu_model.specs.Reply as reply;
 ghost use Rattle.fwu_model.specs.Run.{ends_run, is_boot, is_send};
 ghost use Rattle.agent_calls.specs.Shown.{device as agent_device, gone};
-ghost use Rattle.fwu_journal.specs.Shown.{IsShort, turn};
+ghost use Rattle.fwu_journal.specs.Shown.{IsShortReply, turn};
 ghost use Rattle.script_text.specs.Armable.{IsArmable};
 ghost use Rattle.script_text.specs.Shown.{HasBuffer, shown};
 ghost use Rattle.script_turns.specs.Needs.{needs_bank};
-ghost use Rattle.script_turns.specs.Powered.{Fits, device, has_power, moment_of, shown_on};
+ghost use Rattle.script_turns.specs.Powered.{FitsMachine, device, has_power, moment_of, shown_on};
 ghost use Rattle.script_turns.specs.Sending.{IsUnnamed, LacksSent};
 ghost use Rattle.script_turns.specs.Stage.{device as flash_of, has_power as is_powered};
-ghost use Rattle.script_turns.specs.Turned.{IsStageTurn, IsTurnWith, LeavesAgent, LeavesDevice, TurnsAlone};
+ghost use Rattle.script_turns.specs.Turned.{IsStageTurn, IsTurnWith, LeavesAgent, TurnLeaves, TurnsAlone};
 ghost use Rattle.script_turns.specs.Turning.{Turns};
 
 use crate::booting::{Booting, boot_turn};
@@ -130,7 +130,7 @@ fn boot_in<D: Flash, V: Verifier>(powered: &mut Powered<D>, verifier: &V) -> Tur
     requires { D.on (device powered.old) ≡ has_power powered.old }
     ensures turns { TurnsAlone (V.passes verifier.now) D.tells call.Boot (turn result)
         (moment_of powered.old) (moment_of powered.new) }
-    ensures leaves { LeavesDevice D.Flash (turn result) (has_power powered.new) (device powered.old) (device powered.new) }
+    ensures leaves { TurnLeaves D.Flash (turn result) (has_power powered.new) (device powered.old) (device powered.new) }
 {
     let Some(stage) = mem::replace(&mut powered.inside, None) else {
         unreachable!()
@@ -159,7 +159,7 @@ pub fn turn<D: Flash, H: Files, V: Verifier>(
         (turn result) (moment_of powered.old) (moment_of powered.new)
         (H.faults files.old) (H.faults files.new) }
     // On any device: an agent that is there fits some machine.
-    ensures fits { Fits D.tells (moment_of powered.new) }
+    ensures fits { FitsMachine D.tells (moment_of powered.new) }
     // Where the run goes on.
     ensures powered { IsFalse (ends_run (turn result).reply)
         → D.on (device powered.new) ≡ has_power powered.new }
@@ -170,7 +170,7 @@ pub fn turn<D: Flash, H: Files, V: Verifier>(
     // A file that is not there.
     ensures missing { LacksSent (H.contents files.old) (shown call)
         → IsSome (shown_on powered.old) → (turn result).reply ≡ reply.ReadFault }
-    ensures short { IsShort (turn result).reply }
+    ensures short { IsShortReply (turn result).reply }
 {
     match call {
         Call::Boot => boot_in(powered, verifier),

@@ -10,7 +10,7 @@ use Rattle.serving.specs.Acting.{ActsOn, OneReply, OneTurn, ended}
 use Rattle.serving.specs.Ends.{end_by}
 use Rattle.serving.specs.Scene.{At, RunAt, Scene}
 use Rattle.serving.specs.Serving.{Puts, ServesNew, answered}
-use Rattle.serving.specs.Starting.{Boots}
+use Rattle.serving.specs.Starting.{ServeBoots}
 use Rattle.serving.specs.declared.ends.ServeEnd.{ServeEnd}
 
 pub acts-by : (E : Scene) (c : Call) (t : Turn) (old new : RunAt) (out : List ℕ) (result : Result ℕ ServeEnd) → OneTurn E c t old new → IfOk result (λ n. end_by t.reply ≡ Ok tt)
@@ -25,6 +25,6 @@ new-answered E number size c old new result sub out one whole kept puts =
     answered (take size sub) one (kept ∙ ap (λ (l : List ℕ). record { last = number; reply = l }) whole) (subst (λ (l : List ℕ). Puts l result old.sink new.sink) whole puts)
 
 -- a boot, by its reply
-pub boots-by : (E : Scene) (t : Turn) (old new : RunAt) (result : Result (Unit {0}) ServeEnd) → OneTurn E call.Boot t old new → result ≡ end_by t.reply → Boots E old new result
+pub boots-by : (E : Scene) (t : Turn) (old new : RunAt) (result : Result (Unit {0}) ServeEnd) → OneTurn E call.Boot t old new → result ≡ end_by t.reply → ServeBoots E old new result
 boots-by E t old new (Ok value) one is = (t, one, sym is)
 boots-by E t old new (Err e) one is = ended t one (sym is)

@@ -17,25 +17,25 @@ use Rattle.fwu_model.specs.Reply.{Reply, Turn}
 use Rattle.fwu_model.specs.Reply as reply
 use Rattle.fwu_model.specs.Run.{ends_run, is_refused_boot}
 use Rattle.fwu_model.specs.declared.kinds.NoBoot.{NoBoot}
-use Rattle.script_turns.specs.Powered.{Fits, Moment}
+use Rattle.script_turns.specs.Powered.{FitsMachine, TurnMoment}
 use Rattle.script_turns.specs.Turning.{NoneFalls}
 use Rattle.script_turns.proofs.RunTurns.{rose-before}
 use Rattle.wire_frames.specs.declared.exchange.Admission.{Admission}
 use Rattle.wire_frames.specs.declared.exchange.Admission.TheVariants.{Acts, Repeats, Ignored}
 use Rattle.wire_frames.specs.declared.stream.FrameStop.{FrameStop}
 use Rattle.wire_frames.specs.declared.stream.FrameStop.TheVariants as stop
-use Rattle.wire_frames.specs.Frames.{frames, message_of, number_of}
+use Rattle.wire_frames.specs.Frames.{frames, message_of, request_number_of}
 use Rattle.wire_frames.specs.Stream.{StopsReading, most_bytes, stop_faults}
 use Rattle.wire_frames.proofs.Readings.{one-reading}
 use Rattle.wire_frames.proofs.Stopping.{stops-stream}
 use Rattle.serving.specs.Acting.{OneStop, OneTurn, ended, starved}
-use Rattle.serving.specs.Ends.{IsEarly, end_by, end_of_stop, status_of}
-use Rattle.serving.specs.Going.{Goes, ServeEnds, StopsThere, TakesFrames, at_a_request, at_the_end}
-use Rattle.serving.specs.Holds.{Cause, EndsWith, FailsAtRead, Holds, IsComplete, RefusesBoot, StopsBy, TakesWithin, end_behind}
+use Rattle.serving.specs.Ends.{IsEarlyEnd, end_by, end_of_stop, status_of}
+use Rattle.serving.specs.Going.{ServesRequests, ServeEnds, StopsThere, TakesFrames, at_a_request, at_the_end}
+use Rattle.serving.specs.Holds.{Cause, EndsWith, FailsAtRead, ServingHolds, IsCompleteServing, RefusesBoot, StopsBy, TakesWithin, end_behind}
 use Rattle.serving.specs.Requests.{called}
 use Rattle.serving.specs.Scene.{At, Port, RanIn, RunAt, Scene, begin_at, port, unasked}
 use Rattle.serving.specs.Serving.{ServesBy, ServesNew, answered, stopped}
-use Rattle.serving.specs.Starting.{Serves, not_started, started}
+use Rattle.serving.specs.Starting.{ServesFrom, not_started, started}
 use Rattle.serving.specs.declared.ends.ServeEnd.{ServeEnd}
 use Rattle.serving.specs.declared.ends.ServeEnd.TheVariants as end
 use Rattle.serving.proofs.OneMore.{Stands, StopsPut, at_memory, at_sink, put-stops, stands-on, stands-still}
@@ -137,8 +137,8 @@ some-behind : (rest : List ℕ) → 1 ≤ length rest → end.BadFrame ≡ end_b
 some-behind [] some = absurd (omega (arith, some))
 some-behind (b ∷ rest) some = refl
 
-module _ (start : Moment) (sink : Port) (new : At) (from to : Port) where
-  pub complete : (e : ServeEnd) → Cause e start sink new from to → IsComplete start sink new e from to
+module _ (start : TurnMoment) (sink : Port) (new : At) (from to : Port) where
+  pub complete : (e : ServeEnd) → Cause e start sink new from to → IsCompleteServing start sink new e from to
   complete end.End cause quiet stream bodies rest told splits few =
       let by = cause stream told in
       inl (ap end_behind (one-reading stream by.0 bodies [] rest by.1 splits).1)
@@ -156,7 +156,7 @@ module _ (start : Moment) (sink : Port) (new : At) (from to : Port) where
 
 -- ---- why it ended
 
-module _ (E : Scene) (start : Moment) (off : start.on ≡ None) (sink : Port) (from to : Port) where
+module _ (E : Scene) (start : TurnMoment) (off : start.on ≡ None) (sink : Port) (from to : Port) where
   -- by a turn
   turn-cause : (first : List Turn) (c : Call) (t : Turn) (mid : RunAt) (new : At) (e : ServeEnd) → Stands E first start mid → Stands E first start new.run → OneTurn E c t mid new.run → ((why : NoBoot) → t.reply ≡ reply.NotBooted why → RefusesBoot new.run.journal why)
       → end_by t.reply ≡ Err e → Cause e start sink new from to
@@ -192,8 +192,8 @@ module _ (E : Scene) (start : Moment) (off : start.on ≡ None) (sink : Port) (f
   -- a turn of a request starts no bank, and so none is refused
   unrefused : (c : Call) (t : Turn) (mid : RunAt) (new : At) → RanIn E mid.journal start mid.moment → IsTrue (is_asked c) → OneTurn E c t mid new.run → (why : NoBoot) → t.reply ≡ reply.NotBooted why → RefusesBoot new.run.journal why
   unrefused c t mid new ran asked one why is =
-      let here : Fits E.tells start = λ f on. absurd (cc) in
-      let fits : Fits E.tells mid.moment = fits-last E.passes E.tells E.files mid.journal start mid.moment E.faults E.faults here ran.follows in
+      let here : FitsMachine E.tells start = λ f on. absurd (cc) in
+      let fits : FitsMachine E.tells mid.moment = fits-last E.passes E.tells E.files mid.journal start mid.moment E.faults E.faults here ran.follows in
       absurd (false≢true (sym (requested-other E.passes E.tells E.files c t mid.moment new.run.moment E.faults E.faults asked fits one.turns) ∙ ap is_refused_boot is))
 
   stop-stands : (first : List Turn) (c : Call) (mid new : RunAt) (e : ServeEnd) → Stands E first start mid → IsFalse (list_any (λ (x : Turn). ends_run x.reply) mid.journal) → OneStop E c e mid new → Stands E first start new
@@ -216,7 +216,7 @@ module _ (E : Scene) (start : Moment) (off : start.on ≡ None) (sink : Port) (f
 
   -- what is said besides
   holds-by : (first : List Turn) (new : At) (e : ServeEnd) → Stands E first start new.run → ((t : Turn) → slice_get new.run.journal 0 ≡ Some t → t.call ≡ call.Boot) → Cause e start sink new from to
-      → FailsAtThree (status_of e) sink.faults new.sink.faults → FailsAtRead e from.faults to.faults → TakesWithin e from.bytes to.bytes → Holds E start sink new e from to
+      → FailsAtThree (status_of e) sink.faults new.sink.faults → FailsAtRead e from.faults to.faults → TakesWithin e from.bytes to.bytes → ServingHolds E start sink new e from to
   holds-by first new e stands boots cause in_sink in_source in_bytes = record {
     ran = stands.ran;
     boots = boots;
@@ -235,17 +235,17 @@ module _ (E : Scene) (start : Moment) (off : start.on ≡ None) (sink : Port) (f
         subst (λ (u : Turn). u.call ≡ call.Boot) same boots
 
     module _ (first : RunAt) (new : At) (e : ServeEnd) where
-      end-holds : (bodies : List (List ℕ)) (mid : Option (List ℕ)) (why : FrameStop) → Goes E (boot ∷ []) start bodies (unasked first sink) new → TakesFrames bodies from.bytes mid
-          → StopsThere why (length (frames bodies)) (port mid from.faults) to → e ≡ end_of_stop why → Holds E start sink new e from to
+      end-holds : (bodies : List (List ℕ)) (mid : Option (List ℕ)) (why : FrameStop) → ServesRequests E (boot ∷ []) start bodies (unasked first sink) new → TakesFrames bodies from.bytes mid
+          → StopsThere why (length (frames bodies)) (port mid from.faults) to → e ≡ end_of_stop why → ServingHolds E start sink new e from to
       end-holds bodies mid why goes takes there is =
           let stands = stands-of E (boot ∷ []) start bodies (unasked first sink) new goes in
           let by : StopsBy why from = λ stream told. (bodies, stops-stream stream bodies mid to.bytes there.taken why takes.each (subst (λ (o : Option (List ℕ)). Consumes o mid (frames bodies)) told takes.consumed) there.stops) in
-          subst (λ (x : ServeEnd). Holds E start sink new x from to) (sym is)
+          subst (λ (x : ServeEnd). ServingHolds E start sink new x from to) (sym is)
           (holds-by (boot ∷ []) new (end_of_stop why) stands (boots-first new stands) (read-cause new why there.count by)
           (subst (λ (n : ℕ). FailsAtThree (status_of (end_of_stop why)) sink.faults n) (sym goes.quiet) (stop-sink why sink.faults))
           (stop-source why from.faults to.faults there.count there.later) (stop-takes bodies from.bytes mid to.bytes there.taken takes there.few why there.stops))
 
-      module _ (bodies : List (List ℕ)) (body : List ℕ) (mid : At) (goes : Goes E (boot ∷ []) start bodies (unasked first sink) mid) (takes : TakesFrames (bodies ++ body ∷ []) from.bytes to.bytes) (quiet : to.faults ≡ from.faults) (early : IsEarly e) where
+      module _ (bodies : List (List ℕ)) (body : List ℕ) (mid : At) (goes : ServesRequests E (boot ∷ []) start bodies (unasked first sink) mid) (takes : TakesFrames (bodies ++ body ∷ []) from.bytes to.bytes) (quiet : to.faults ≡ from.faults) (early : IsEarlyEnd e) where
         stood : Stands E (boot ∷ []) start mid.run
         stood = stands-of E (boot ∷ []) start bodies (unasked first sink) mid goes
 
@@ -253,13 +253,13 @@ module _ (E : Scene) (start : Moment) (off : start.on ≡ None) (sink : Port) (f
         few other = takes-few e from.bytes to.bytes (frames (bodies ++ body ∷ [])) takes.consumed takes.few other
 
         -- a frame that was not all put
-        put-holds : Stands E (boot ∷ []) start new.run → StopsPut e mid.sink.faults new.sink.faults → Holds E start sink new e from to
+        put-holds : Stands E (boot ∷ []) start new.run → StopsPut e mid.sink.faults new.sink.faults → ServingHolds E start sink new e from to
         put-holds stands stops =
             let at_first : StopsPut e sink.faults new.sink.faults = subst (λ (n : ℕ). StopsPut e n new.sink.faults) goes.quiet stops in
             holds-by (boot ∷ []) new e stands (boots-first new stands) (put-cause new e at_first) (put-sink e sink.faults new.sink.faults at_first)
             (subst (λ (n : ℕ). FailsAtRead e from.faults n) (sym quiet) (put-source e sink.faults new.sink.faults from.faults at_first)) (few (put-long e sink.faults new.sink.faults at_first))
 
-        new-holds : (number : ℕ) (c : Call) → IsTrue (is_asked c) → ServesNew E number c mid new (Err e) → Holds E start sink new e from to
+        new-holds : (number : ℕ) (c : Call) → IsTrue (is_asked c) → ServesNew E number c mid new (Err e) → ServingHolds E start sink new e from to
         new-holds number c asked (answered bytes one exchange_is puts) =
             put-holds (stands-on E (boot ∷ []) start c one.turn mid.run new.run off stood goes.none one.one) (put-stops _ e mid.sink new.sink puts early)
         new-holds number c asked (stopped x stop_of is same_exchange same) =
@@ -269,19 +269,19 @@ module _ (E : Scene) (start : Moment) (off : start.on ≡ None) (sink : Port) (f
             holds-by (boot ∷ []) new e stands (boots-first new stands) (stop-cause (boot ∷ []) c mid.run new e stood stands (λ t one. unrefused c t mid.run new goes.ran asked one) stop_is)
             (sink-still e sink.faults new.sink.faults blame (ap (λ (p : Port). p.faults) same ∙ goes.quiet)) (source-still e from.faults to.faults blame quiet) (few blame.long)
 
-        one-holds : (a : Admission) → ServesBy a E body mid new (Err e) → Holds E start sink new e from to
-        one-holds Acts serves = new-holds (number_of body) (called (message_of body)) (called-asked (message_of body)) serves
+        one-holds : (a : Admission) → ServesBy a E body mid new (Err e) → ServingHolds E start sink new e from to
+        one-holds Acts serves = new-holds (request_number_of body) (called (message_of body)) (called-asked (message_of body)) serves
         one-holds Repeats serves = put-holds (stands-still E (boot ∷ []) start mid.run new.run stood serves.run) (put-stops mid.exchange.reply e mid.sink new.sink serves.puts early)
         one-holds Ignored serves = absurd (cc)
 
-      ends-hold : ServeEnds E (boot ∷ []) start (unasked first sink) new e from to → Holds E start sink new e from to
+      ends-hold : ServeEnds E (boot ∷ []) start (unasked first sink) new e from to → ServingHolds E start sink new e from to
       ends-hold (at_the_end bodies mid why goes takes there is) = end-holds bodies mid why goes takes there is
       ends-hold (at_a_request bodies body mid goes takes quiet serves early) = one-holds bodies body mid goes takes quiet early _ serves
 
   no-first : (t : Turn) → slice_get [] 0 ≡ Some t → t.call ≡ call.Boot
   no-first t is = absurd (cc)
 
-  pub serves-holds : (new : At) (e : ServeEnd) → Serves E start sink new e from to → Holds E start sink new e from to
+  pub serves-holds : (new : At) (e : ServeEnd) → ServesFrom E start sink new e from to → ServingHolds E start sink new e from to
   serves-holds new e (not_started stop_is exchange_is same rest) =
       let none = stands-none E start off in
       let stands = stop-stands [] call.Boot (begin_at start) new.run e none refl stop_is in

@@ -13,10 +13,10 @@ use Rattle.fwu_model.specs.Causes.{FileNotRead, cuts_in, is_cut}
 use Rattle.fwu_model.specs.Reply.{Reply, Turn}
 use Rattle.fwu_model.specs.Reply as reply
 use Rattle.fwu_model.specs.Run.{ends_run, is_send}
-use Rattle.script_turns.specs.Powered.{Moment}
+use Rattle.script_turns.specs.Powered.{TurnMoment}
 use Rattle.script_turns.proofs.RunTurns.{ran-on}
 use Rattle.serving.specs.Acting.{OneTurn}
-use Rattle.serving.specs.Ends.{IsEarly, end_by, status_after, status_of}
+use Rattle.serving.specs.Ends.{IsEarlyEnd, end_by, status_after, status_of}
 use Rattle.serving.specs.Scene.{Port, RanIn, RunAt, Scene}
 use Rattle.serving.specs.Serving.{Puts}
 use Rattle.serving.specs.declared.ends.ServeEnd.{ServeEnd}
@@ -68,13 +68,13 @@ uncut-more journal t none uncut =
     omega (arith, sums, none, zero_is)
 
 -- What is known of a journal behind its first turns, however the last of its turns ended.
-pub record Stands (E : Scene) (first : List Turn) (start : Moment) (now : RunAt) : Type 0 where
+pub record Stands (E : Scene) (first : List Turn) (start : TurnMoment) (now : RunAt) : Type 0 where
   pub turns : List Turn
   pub journal_is : now.journal ≡ first ++ turns
   pub ran : RanIn E now.journal start now.moment
   pub uncut : cuts_in now.journal ≡ 0
 
-module _ (E : Scene) (first : List Turn) (start : Moment) where
+module _ (E : Scene) (first : List Turn) (start : TurnMoment) where
   pub stands-on : (c : Call) (t : Turn) (mid new : RunAt) → start.on ≡ None → Stands E first start mid → IsFalse (list_any (λ (x : Turn). ends_run x.reply) mid.journal) → OneTurn E c t mid new → Stands E first start new
   stands-on c t mid new off was none one = record {
     turns = was.turns ++ t ∷ [];
@@ -96,7 +96,7 @@ put-all piece result old new (all is took same) goes = (took, same)
 put-all piece result old new (front three n took later one) goes = let zero_is : status_after result ≡ 0 = ap status_after goes in absurd (omega (arith, three, zero_is))
 put-all piece result old new (nothing nine none same) goes = let zero_is : status_after result ≡ 0 = ap status_after goes in absurd (omega (arith, nine, zero_is))
 
-early-some : (e : ServeEnd) → IsEarly e → status_of e ≡ 0 → ⊥
+early-some : (e : ServeEnd) → IsEarlyEnd e → status_of e ≡ 0 → ⊥
 early-some end.End early is = early
 early-some other early is = omega (arith, is)
 
@@ -113,7 +113,7 @@ pub data StopsPut (e : ServeEnd) (before after : ℕ) : Type 0 where
   at_sink : e ≡ end.SinkFailed → after ≡ raised before → StopsPut e before after
   at_memory : e ≡ end.NoMemory → after ≡ before → StopsPut e before after
 
-pub put-stops : (piece : List ℕ) (e : ServeEnd) (old new : Port) → Puts piece (Err e) old new → IsEarly e → StopsPut e old.faults new.faults
+pub put-stops : (piece : List ℕ) (e : ServeEnd) (old new : Port) → Puts piece (Err e) old new → IsEarlyEnd e → StopsPut e old.faults new.faults
 put-stops piece e old new (all is took same) early = absurd (early-some e early is)
 put-stops piece e old new (front three n took later one) early = at_sink (at-three e three) one
 put-stops piece e old new (nothing nine none same) early = at_memory (at-nine e nine) same

@@ -24,7 +24,7 @@ use Rattle.host_io.specs.Contents.{Directory}
 use Rattle.agent_calls.specs.AnswersCall.{AnswersCall, GoesBackBy, IsGotLike}
 use Rattle.agent_machine.specs.Fields.{Fields}
 use Rattle.agent_machine.specs.Moment as agent
-use Rattle.script_turns.specs.Powered.{Fits, Moment, kept_at}
+use Rattle.script_turns.specs.Powered.{FitsMachine, TurnMoment, kept_at}
 use Rattle.script_turns.specs.Replies.{AnswersTo, CallSays, IsFlashStop, Replies, no_call_reply}
 use Rattle.script_turns.specs.Runs.{Follows}
 use Rattle.script_turns.specs.Turning.{Turns}
@@ -232,7 +232,7 @@ no-call-other : (on : Option Fields) → IsOther (no_call_reply on)
 no-call-other None = refl
 no-call-other (Some f) = refl
 
-module _ (passes : List ℕ → Bool) (tells : Bool) (files : Option Directory) (old new : Moment) (t : Turn) (fits : (f : Fields) → old.on ≡ Some f → ∥ agent.Showing (kept_at tells f old.told) ∥₁) where
+module _ (passes : List ℕ → Bool) (tells : Bool) (files : Option Directory) (old new : TurnMoment) (t : Turn) (fits : (f : Fields) → old.on ≡ Some f → ∥ agent.Showing (kept_at tells f old.told) ∥₁) where
   other-replies : (c : Call) → IsTrue (is_asked c) → Replies passes tells files c old t new → IsOther t.reply
   other-replies call.Boot asked says = absurd cc
   other-replies call.Show asked says = absurd cc
@@ -243,12 +243,12 @@ module _ (passes : List ℕ → Bool) (tells : Bool) (files : Option Directory) 
   other-replies (call.BeginPartial types) asked says = absurd cc
   other-replies c asked says = other-says passes tells c old.on new.on old.told new.told t.reply (λ m n a. a) asked fits says
 
-pub requested-other : (passes : List ℕ → Bool) (tells : Bool) (files : Option Directory) (c : Call) (t : Turn) (old new : Moment) (was are : ℕ) → IsTrue (is_asked c) → Fits tells old → Turns passes tells files c t old new was are
+pub requested-other : (passes : List ℕ → Bool) (tells : Bool) (files : Option Directory) (c : Call) (t : Turn) (old new : TurnMoment) (was are : ℕ) → IsTrue (is_asked c) → FitsMachine tells old → Turns passes tells files c t old new was are
     → IsFalse (is_refused_boot t.reply)
 requested-other passes tells files c t old new was are asked fits turns = other-replies passes tells files old new t (λ f on. (fits f on).0) c asked turns.replies
 
 -- ---- behind a run
 
-pub fits-last : (passes : List ℕ → Bool) (tells : Bool) (files : Option Directory) (journal : List Turn) (old new : Moment) (from to : ℕ) → Fits tells old → Follows passes tells files journal old new from to → Fits tells new
-fits-last passes tells files [] old new from to fits is = subst (Fits tells) (sym is.0) fits
+pub fits-last : (passes : List ℕ → Bool) (tells : Bool) (files : Option Directory) (journal : List Turn) (old new : TurnMoment) (from to : ℕ) → FitsMachine tells old → Follows passes tells files journal old new from to → FitsMachine tells new
+fits-last passes tells files [] old new from to fits is = subst (FitsMachine tells) (sym is.0) fits
 fits-last passes tells files (t ∷ turns) old new from to fits (mid, n, turned, next, rest) = fits-last passes tells files turns mid new n to next rest

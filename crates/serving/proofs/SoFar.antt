@@ -4,12 +4,12 @@ use Rattle.std.specs.Io.KnownBytes.{Consumes}
 use Rattle.std.proofs.KnownBytes.{Consumes-nil, Consumes-trans}
 use Rattle.std.proofs.lemmas.List.Concat.{flat_map-append}
 use Rattle.fwu_model.specs.Reply.{Turn}
-use Rattle.script_turns.specs.Powered.{Moment}
+use Rattle.script_turns.specs.Powered.{TurnMoment}
 use Rattle.wire_frames.specs.Frames.{AreBodies, IsBody, frame, frames}
 use Rattle.wire_frames.specs.Stream.{ReadsFrame, StopsReading, most_bytes, stop_faults}
 use Rattle.wire_frames.specs.declared.stream.FrameStop.{FrameStop}
-use Rattle.serving.specs.Ends.{IsEarly, end_of_stop}
-use Rattle.serving.specs.Going.{Goes, GoesOn, ServeEnds}
+use Rattle.serving.specs.Ends.{IsEarlyEnd, end_of_stop}
+use Rattle.serving.specs.Going.{ServesRequests, GoesOn, ServeEnds}
 use Rattle.serving.specs.Scene.{At, Port, Scene}
 use Rattle.serving.specs.Serving.{ServesOne}
 use Rattle.serving.specs.declared.ends.ServeEnd.{ServeEnd}
@@ -30,7 +30,7 @@ pub record SoFar (E : Scene) (old now : At) (from to : Port) (read : ℕ) : Type
   pub count : read ≡ length (frames bodies)
   pub few : read ≤ most_bytes
   pub quiet : to.faults ≡ from.faults
-  pub goes : (first : List Turn) (start : Moment) → start.on ≡ None → Goes E first start [] old old → Goes E first start bodies old now
+  pub goes : (first : List Turn) (start : TurnMoment) → start.on ≡ None → ServesRequests E first start [] old old → ServesRequests E first start bodies old now
 
 module _ (E : Scene) (old : At) (from : Port) where
   pub so-far-none : (read : ℕ) → read ≡ 0 → read ≤ most_bytes → SoFar E old old from from read
@@ -57,7 +57,7 @@ module _ (E : Scene) (old : At) (from : Port) where
         goes = λ first start off none. one-on E first start off was.bodies body old now new (was.goes first start off none) result serves goes;
       }
 
-      pub ends-at : (new : At) (e : ServeEnd) → rest.faults ≡ mid.faults → reads ≤ most_bytes → ServesOne E body now new (Err e) → IsEarly e → GoesOn E old new e from rest
+      pub ends-at : (new : At) (e : ServeEnd) → rest.faults ≡ mid.faults → reads ≤ most_bytes → ServesOne E body now new (Err e) → IsEarlyEnd e → GoesOn E old new e from rest
       ends-at new e quiet few serves early first start off none =
           ServeEnds.at_a_request was.bodies body now (was.goes first start off none)
           (record { each = bodies-more was.bodies body was.each frame_is.is; consumed = consumed-more; few = subst (λ (n : ℕ). n ≤ most_bytes) count-more few })

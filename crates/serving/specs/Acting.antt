@@ -5,7 +5,7 @@ use Rattle.fwu_model.specs.Causes.{is_cut}
 use Rattle.fwu_model.specs.Reply.{Turn}
 use Rattle.fwu_model.specs.Run.{is_send}
 use Rattle.fwu_wire.specs.Replies.{message}
-use Rattle.script_turns.specs.Powered.{Fits}
+use Rattle.script_turns.specs.Powered.{FitsMachine}
 use Rattle.serving.specs.Ends.{end_by}
 use Rattle.serving.specs.Scene.{RunAt, Scene, TurnsIn}
 use Rattle.serving.specs.declared.ends.ServeEnd.{ServeEnd}
@@ -14,7 +14,7 @@ use Rattle.serving.specs.declared.ends.ServeEnd.TheVariants as end
 -- One turn was done, and is kept. It reads no file, and arms no loss of power.
 pub record OneTurn (E : Scene) (c : Call) (t : Turn) (old new : RunAt) : Type 0 where
   pub turns : TurnsIn E c t old.moment new.moment
-  pub fits : Fits E.tells new.moment
+  pub fits : FitsMachine E.tells new.moment
   pub unsent : IsFalse (is_send c)
   pub uncut : IsFalse (is_cut c)
   pub kept : new.journal ≡ old.journal ++ t ∷ []

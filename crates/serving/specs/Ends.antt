@@ -24,9 +24,9 @@ status_after (Ok value) = 0
 status_after (Err e) = status_of e
 
 -- before its source was at its end
-abbrev pub IsEarly : ServeEnd → Type 0
-IsEarly end.End = ⊥
-IsEarly other = ⊤
+abbrev pub IsEarlyEnd : ServeEnd → Type 0
+IsEarlyEnd end.End = ⊥
+IsEarlyEnd other = ⊤
 
 -- by a turn with this reply, or that it goes on. No turn of a serving reads a file
 abbrev pub end_by : Reply → Result (Unit {0}) ServeEnd

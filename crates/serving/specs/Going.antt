@@ -5,26 +5,27 @@ use Rattle.std.specs.Io.KnownBytes.{Appends, Consumes}
 use Rattle.fwu_model.specs.Causes.{cuts_in}
 use Rattle.fwu_model.specs.Reply.{Turn}
 use Rattle.fwu_model.specs.Run.{ends_run}
-use Rattle.script_turns.specs.Powered.{Moment}
+use Rattle.script_turns.specs.Powered.{TurnMoment}
 use Rattle.wire_frames.specs.Frames.{AreBodies, frames}
 use Rattle.wire_frames.specs.Stream.{StopsReading, most_bytes, stop_faults}
 use Rattle.wire_frames.specs.declared.stream.FrameStop.{FrameStop}
-use Rattle.serving.specs.Ends.{IsEarly, end_of_stop}
+use Rattle.serving.specs.Ends.{IsEarlyEnd, end_of_stop}
 use Rattle.serving.specs.Scene.{At, Port, RanIn, Scene, port}
 use Rattle.serving.specs.Serving.{ServesOne}
-use Rattle.serving.specs.Written.{Answers, answered_numbers, messages_of, written}
+use Rattle.serving.specs.Written.{AnswersRequests, answered_numbers, messages_of, written}
 use Rattle.serving.specs.declared.ends.ServeEnd.{ServeEnd}
 
 -- These requests were served, behind the first turns of the journal, and none of them ended the serving. The turns are a run from
 -- the start. The requests that act have one turn each, and its reply was written for each of them, and again for each repeat.
-pub record Goes (E : Scene) (first : List Turn) (start : Moment) (bodies : List (List ℕ)) (old new : At) : Type 0 where
+pub record ServesRequests (E : Scene) (first : List Turn) (start : TurnMoment) (bodies : List (List ℕ))
+    (old new : At) : Type 0 where
   pub turns : List Turn
   pub journal_is : new.run.journal ≡ first ++ turns
   pub ran : RanIn E new.run.journal start new.run.moment
   pub none : IsFalse (list_any (λ (t : Turn). ends_run t.reply) new.run.journal)
   -- no loss of power was armed
   pub uncut : cuts_in new.run.journal ≡ 0
-  pub answers : Answers bodies turns new.exchange
+  pub answers : AnswersRequests bodies turns new.exchange
   pub took : Appends old.sink.bytes new.sink.bytes (written (messages_of turns) (answered_numbers 0 bodies))
   pub quiet : new.sink.faults ≡ old.sink.faults
 
@@ -43,17 +44,19 @@ pub record StopsThere (why : FrameStop) (read : ℕ) (old new : Port) : Type 0 w
   pub later : old.faults ≤ new.faults
 
 -- How a serving ends: these requests were served, and no further frame could be read; or they were, and the next one ended it.
-pub data ServeEnds (E : Scene) (first : List Turn) (start : Moment) (old new : At) (e : ServeEnd) (from to : Port) : Type 0 where
+pub data ServeEnds (E : Scene) (first : List Turn) (start : TurnMoment) (old new : At) (e : ServeEnd)
+    (from to : Port) : Type 0 where
   at_the_end : (bodies : List (List ℕ)) (mid : Option (List ℕ)) (why : FrameStop)
-      → Goes E first start bodies old new → TakesFrames bodies from.bytes mid
+      → ServesRequests E first start bodies old new → TakesFrames bodies from.bytes mid
       → StopsThere why (length (frames bodies)) (port mid from.faults) to → e ≡ end_of_stop why
       → ServeEnds E first start old new e from to
   at_a_request : (bodies : List (List ℕ)) (body : List ℕ) (mid : At)
-      → Goes E first start bodies old mid → TakesFrames (bodies ++ body ∷ []) from.bytes to.bytes → to.faults ≡ from.faults
-      → ServesOne E body mid new (Err e) → IsEarly e
+      → ServesRequests E first start bodies old mid → TakesFrames (bodies ++ body ∷ []) from.bytes to.bytes
+      → to.faults ≡ from.faults
+      → ServesOne E body mid new (Err e) → IsEarlyEnd e
       → ServeEnds E first start old new e from to
 
 -- The requests of a source are served: so of every run that was begun on a flash on which no bank was started.
 abbrev pub GoesOn : Scene → At → At → ServeEnd → Port → Port → Type 0
-GoesOn E old new e from to = (first : List Turn) (start : Moment) → start.on ≡ None → Goes E first start [] old old
+GoesOn E old new e from to = (first : List Turn) (start : TurnMoment) → start.on ≡ None → ServesRequests E first start [] old old
     → ServeEnds E first start old new e from to

@@ -9,7 +9,7 @@ use Rattle.fwu_model.specs.Causes.{cuts_in}
 use Rattle.fwu_model.specs.Reply.{Reply, Turn}
 use Rattle.fwu_model.specs.Reply as reply
 use Rattle.fwu_model.specs.declared.kinds.NoBoot.{NoBoot}
-use Rattle.script_turns.specs.Powered.{Moment}
+use Rattle.script_turns.specs.Powered.{TurnMoment}
 use Rattle.wire_frames.specs.Frames.{Splits}
 use Rattle.wire_frames.specs.Stream.{StopsStream, most_bytes}
 use Rattle.wire_frames.specs.declared.stream.FrameStop.{FrameStop}
@@ -40,12 +40,12 @@ pub record RefusesBoot (journal : List Turn) (why : NoBoot) : Type 0 where
   pub reply_is : turn.reply ≡ reply.NotBooted why
 
 -- A loss of power is counted. Where none was armed at first, it is none that was armed.
-pub record IsLost (old new : Moment) : Type 0 where
+pub record IsLost (old new : TurnMoment) : Type 0 where
   pub counted : Rose old.counts.cuts new.counts.cuts ⊎ Rose old.counts.reached new.counts.reached
   pub unarmed : old.armed ≡ None → Rose old.counts.cuts new.counts.cuts
 
 -- Want of memory has no other cause.
-abbrev pub Cause : ServeEnd → Moment → Port → At → Port → Port → Type 0
+abbrev pub Cause : ServeEnd → TurnMoment → Port → At → Port → Port → Type 0
 Cause end.End start sink new from to = StopsBy stop.End from
 Cause end.ReadFailed start sink new from to = Rose from.faults to.faults
 Cause end.SinkFailed start sink new from to = Rose sink.faults new.sink.faults
@@ -60,7 +60,7 @@ Cause end.PowerLost start sink new from to = EndsWith new.run.journal reply.Lost
 -- ---- where nothing fails
 
 -- A bank was started, none of the flash, the source and the sink failed, no loss was armed, and no power was lost.
-pub record IsQuiet (start : Moment) (sink : Port) (new : At) (e : ServeEnd) (from to : Port) : Type 0 where
+pub record IsQuietServing (start : TurnMoment) (sink : Port) (new : At) (e : ServeEnd) (from to : Port) : Type 0 where
   pub booted : (why : NoBoot) → e ≢ end.NotBooted why
   pub no_fault : Rose start.counts.faults new.run.moment.counts.faults → ⊥
   pub no_cut : Rose start.counts.cuts new.run.moment.counts.cuts → ⊥
@@ -74,8 +74,8 @@ end_behind [] = end.End
 end_behind (b ∷ rest) = end.BadFrame
 
 -- Where nothing fails, a serving ends as the bytes of the source say, or memory was wanting.
-abbrev pub IsComplete : Moment → Port → At → ServeEnd → Port → Port → Type 0
-IsComplete start sink new e from to = IsQuiet start sink new e from to
+abbrev pub IsCompleteServing : TurnMoment → Port → At → ServeEnd → Port → Port → Type 0
+IsCompleteServing start sink new e from to = IsQuietServing start sink new e from to
     → (stream : List ℕ) (bodies : List (List ℕ)) (rest : List ℕ) → from.bytes ≡ Some stream → Splits stream bodies rest
     → length stream ≤ most_bytes → (e ≡ end_behind rest) ⊎ (e ≡ end.NoMemory)
 
@@ -95,7 +95,7 @@ pub record TakesWithin (e : ServeEnd) (old new : Option (List ℕ)) : Type 0 whe
   pub too_long : (e ≡ end.TooLong) ↔ (most_bytes < length given)
 
 -- Its turns are a run from the start, on any device, and the first of them is a boot. Its end has a cause.
-pub record Holds (E : Scene) (start : Moment) (sink : Port) (new : At) (e : ServeEnd) (from to : Port) : Type 0 where
+pub record ServingHolds (E : Scene) (start : TurnMoment) (sink : Port) (new : At) (e : ServeEnd) (from to : Port) : Type 0 where
   pub ran : RanIn E new.run.journal start new.run.moment
   pub boots : (t : Turn) → slice_get new.run.journal 0 ≡ Some t → t.call ≡ call.Boot
   pub uncut : cuts_in new.run.journal ≡ 0
@@ -103,4 +103,4 @@ pub record Holds (E : Scene) (start : Moment) (sink : Port) (new : At) (e : Serv
   pub sink_count : FailsAtThree (status_of e) sink.faults new.sink.faults
   pub source_count : FailsAtRead e from.faults to.faults
   pub given : TakesWithin e from.bytes to.bytes
-  pub complete : IsComplete start sink new e from to
+  pub complete : IsCompleteServing start sink new e from to

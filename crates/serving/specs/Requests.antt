@@ -17,7 +17,7 @@ abbrev pub called : List ℕ → model.Call
 called message = call_or_none (asks message)
 
 -- A read has its buffer, no file is read, and no loss of power is armed.
-pub record IsServed (c : Call) : Type 0 where
+pub record IsServedCall (c : Call) : Type 0 where
   pub buffer : HasBuffer c
   pub unsent : IsFalse (is_send (shown c))
   pub uncut : IsFalse (is_cut (shown c))

@@ -9,10 +9,10 @@ use Rattle.verify_core.specs.declared.verifier.Verifier as verifier
 use Rattle.fwu_model.specs.Call.{Call}
 use Rattle.fwu_model.specs.Reply.{Turn}
 use Rattle.fwu_journal.specs.Shown.{turns}
-use Rattle.script_turns.specs.Powered.{Moment, moment_of}
+use Rattle.script_turns.specs.Powered.{TurnMoment, moment_of}
 use Rattle.script_turns.specs.Runs.{Ran}
 use Rattle.script_turns.specs.Turning.{Turns}
-use Rattle.wire_frames.specs.Exchange.{Answered, none_yet}
+use Rattle.wire_frames.specs.Exchange.{LastAnswer, none_yet}
 use Rattle.serving.specs.declared.serving.Serving.{Serving}
 
 -- The verifier's test of a manifest, whether the device tells its content, the files where they are told, and how many of their
@@ -30,10 +30,10 @@ abbrev pub scene_of : {V D H : Type 0} → verifier.Ghosts V → Ghosts D → fi
 scene_of v d h by of = scene (v.passes by) d.tells (h.contents of) (h.faults of)
 
 -- a turn of such a serving, and a run of turns: no call of the files fails
-abbrev pub TurnsIn : Scene → Call → Turn → Moment → Moment → Type 0
+abbrev pub TurnsIn : Scene → Call → Turn → TurnMoment → TurnMoment → Type 0
 TurnsIn E c t old new = Turns E.passes E.tells E.files c t old new E.faults E.faults
 
-abbrev pub RanIn : Scene → List Turn → Moment → Moment → Type 0
+abbrev pub RanIn : Scene → List Turn → TurnMoment → TurnMoment → Type 0
 RanIn E journal old new = Ran E.passes E.tells E.files journal old new E.faults E.faults
 
 -- A sink, or a source: the bytes that it took, or has left, where they are told, and how many of its calls have failed.
@@ -52,20 +52,20 @@ source_port i s = port (i.left s) (i.faults s)
 
 -- a run between two turns: the flash, and its turns so far
 pub record RunAt : Type 0 where
-  pub moment : Moment
+  pub moment : TurnMoment
   pub journal : List Turn
 
 abbrev pub run_of : {D : Type 0} {F : Ghosts D} → Serving D F → RunAt
 run_of s = record { moment = moment_of s.powered; journal = turns s.journal }
 
 -- one without turns
-abbrev pub begin_at : Moment → RunAt
+abbrev pub begin_at : TurnMoment → RunAt
 begin_at start = record { moment = start; journal = [] }
 
 -- A serving between two requests: its run, the number and the reply of the last request that acted, and the sink.
 pub record At : Type 0 where
   pub run : RunAt
-  pub exchange : Answered
+  pub exchange : LastAnswer
   pub sink : Port
 
 abbrev pub at : {D : Type 0} {F : Ghosts D} → Serving D F → Port → At

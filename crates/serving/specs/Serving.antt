@@ -5,7 +5,7 @@ use Rattle.fwu_model.specs.Call.{Call}
 use Rattle.wire_frames.specs.declared.exchange.Admission.{Admission}
 use Rattle.wire_frames.specs.declared.exchange.Admission.TheVariants.{Acts, Repeats, Ignored}
 use Rattle.wire_frames.specs.Exchange.{admission}
-use Rattle.wire_frames.specs.Frames.{frame, message_of, number_of, numbered}
+use Rattle.wire_frames.specs.Frames.{frame, message_of, request_number_of, numbered}
 use Rattle.serving.specs.Acting.{OneReply, OneStop}
 use Rattle.serving.specs.Ends.{status_after}
 use Rattle.serving.specs.Requests.{called}
@@ -33,9 +33,9 @@ pub record ServesAgain (old new : At) (result : Result (Unit {0}) ServeEnd) : Ty
 
 -- a request, by what becomes of it
 abbrev pub ServesBy : Admission → Scene → List ℕ → At → At → Result (Unit {0}) ServeEnd → Type 0
-ServesBy Acts E body old new result = ServesNew E (number_of body) (called (message_of body)) old new result
+ServesBy Acts E body old new result = ServesNew E (request_number_of body) (called (message_of body)) old new result
 ServesBy Repeats E body old new result = ServesAgain old new result
 ServesBy Ignored E body old new result = (new ≡ old) × (result ≡ Ok tt)
 
 abbrev pub ServesOne : Scene → List ℕ → At → At → Result (Unit {0}) ServeEnd → Type 0
-ServesOne E body old new result = ServesBy (admission old.exchange.last (number_of body)) E body old new result
+ServesOne E body old new result = ServesBy (admission old.exchange.last (request_number_of body)) E body old new result

@@ -5,8 +5,8 @@ use Rattle.fwu_model.specs.Call.{Call}
 use Rattle.fwu_model.specs.Reply.{Turn}
 use Rattle.wire_frames.specs.declared.exchange.Admission.{Admission}
 use Rattle.wire_frames.specs.declared.exchange.Admission.TheVariants.{Acts, Repeats, Ignored}
-use Rattle.wire_frames.specs.Exchange.{Answered, admission}
-use Rattle.wire_frames.specs.Frames.{frame, message_of, number_of, numbered}
+use Rattle.wire_frames.specs.Exchange.{LastAnswer, admission}
+use Rattle.wire_frames.specs.Frames.{frame, message_of, request_number_of, numbered}
 use Rattle.fwu_wire.specs.Replies.{message}
 use Rattle.serving.specs.Requests.{called}
 
@@ -19,7 +19,7 @@ last_by Repeats last number = last
 last_by Ignored last number = last
 
 abbrev pub last_next : ℕ → List ℕ → ℕ
-last_next last body = last_by (admission last (number_of body)) last (number_of body)
+last_next last body = last_by (admission last (request_number_of body)) last (request_number_of body)
 
 -- and after all of them
 abbrev pub last_after : ℕ → List (List ℕ) → ℕ
@@ -35,7 +35,7 @@ act_by Ignored body = []
 -- the requests that act: repeats and ignored ones are taken out
 abbrev pub acting : ℕ → List (List ℕ) → List (List ℕ)
 acting last [] = []
-acting last (body ∷ bodies) = act_by (admission last (number_of body)) body ++ acting (last_next last body) bodies
+acting last (body ∷ bodies) = act_by (admission last (request_number_of body)) body ++ acting (last_next last body) bodies
 
 -- the number of the frame that is written for a request
 abbrev pub number_by : Admission → ℕ → ℕ → List ℕ
@@ -47,7 +47,8 @@ number_by Ignored last number = []
 abbrev pub answered_numbers : ℕ → List (List ℕ) → List ℕ
 answered_numbers last [] = []
 answered_numbers last (body ∷ bodies) =
-    number_by (admission last (number_of body)) last (number_of body) ++ answered_numbers (last_next last body) bodies
+    number_by (admission last (request_number_of body)) last (request_number_of body) ++ answered_numbers (last_next last body)
+    bodies
 
 -- ---- the replies
 
@@ -70,7 +71,7 @@ abbrev pub calls_for : List (List ℕ) → List Call
 calls_for bodies = map (λ (b : List ℕ). called (message_of b)) (acting 0 bodies)
 
 -- These requests were answered: each that acts by its turn, and what is kept is the last one's frame.
-pub record Answers (bodies : List (List ℕ)) (turns : List Turn) (a : Answered) : Type 0 where
+pub record AnswersRequests (bodies : List (List ℕ)) (turns : List Turn) (a : LastAnswer) : Type 0 where
   pub calls_are : map (λ (t : Turn). t.call) turns ≡ calls_for bodies
   pub last : a.last ≡ last_after 0 bodies
   pub count : length turns ≡ a.last

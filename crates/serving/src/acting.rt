@@ -1,13 +1,13 @@
 //! A request that acts, as a turn.
 ghost use Rattle.std.specs.Prelude.{◌≡◌, ◌≤◌, Ok, Err, IfOk, IfErr, length, take};
 ghost use Rattle.script_text.specs.Shown.{shown};
-ghost use Rattle.fwu_journal.specs.Shown.{HasRoomFor, IsShort, reply};
+ghost use Rattle.fwu_journal.specs.Shown.{HasRoomFor, IsShortReply, reply};
 ghost use Rattle.fwu_wire.specs.Replies.{message};
 ghost use Rattle.script_turns.specs.Powered.{device, has_power};
 ghost use Rattle.serving.specs.Acting.{ActsOn};
 ghost use Rattle.serving.specs.Ends.{end_by};
 ghost use Rattle.serving.specs.Leaves.{LeavesServing};
-ghost use Rattle.serving.specs.Requests.{IsServed, called};
+ghost use Rattle.serving.specs.Requests.{IsServedCall, called};
 ghost use Rattle.serving.specs.Scene.{run_of, scene_of};
 
 use crate::answers::put_answer;
@@ -25,7 +25,7 @@ use verify_core::Verifier;
 /// Writes the message of a turn's reply, and gives its size in bytes; or tells how the turn ends the serving.
 fn answer(out: &mut [u8], last: &Reply) -> Result<usize, ServeEnd>
     requires room { 4104 ≤ length out.old }
-    requires short { IsShort (reply last.now) }
+    requires short { IsShortReply (reply last.now) }
     ensures goes { IfOk result (λ n. end_by (reply last.now) ≡ Ok tt) }
     ensures few { IfOk result (λ n. n ≤ 4104) }
     ensures bytes { IfOk result (λ n. take n out.new ≡ message (reply last.now)) }
@@ -45,7 +45,7 @@ fn do_turn<D: Flash, H: Files, V: Verifier>(
     verifier: &V,
 ) -> Result<usize, ServeEnd>
     requires powered { D.on (device serving.old.powered) ≡ has_power serving.old.powered }
-    requires served { IsServed call }
+    requires served { IsServedCall call }
     requires turn_fits { HasRoomFor serving.old.journal 1 }
     requires room { 4104 ≤ length out.old }
 

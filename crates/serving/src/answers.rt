@@ -1,7 +1,7 @@
 //! The bytes of a turn's reply.
 ghost use Rattle.std.specs.Prelude.{◌≡◌, ◌≤◌, length, take};
 ghost use Rattle.fwu_model.specs.Reply as model;
-ghost use Rattle.fwu_journal.specs.Shown.{IsShort, reply};
+ghost use Rattle.fwu_journal.specs.Shown.{IsShortReply, reply};
 ghost use Rattle.fwu_wire.specs.Replies.{message};
 
 use fwu_journal::Reply;
@@ -29,7 +29,7 @@ fn put_got(out: &mut [u8], total: u32, bytes: &[u8]) -> usize
 #[tactic(auto, unfolding(fwu_wire::specs::Replies::message))]
 pub fn put_answer(out: &mut [u8], answer: &Reply) -> usize
     requires room { 4104 ≤ length out.old }
-    requires short { IsShort (reply answer.now) }
+    requires short { IsShortReply (reply answer.now) }
     ensures few { result ≤ 4104 }
     ensures bytes { take result out.new ≡ message (reply answer.now) }
 {

@@ -3,7 +3,7 @@ ghost use Rattle.std.specs.Prelude.{◌≡◌, ◌≤◌, IfOk, length};
 ghost use Rattle.script_text.specs.Shown.{shown as script_shown};
 ghost use Rattle.fwu_wire.specs.Calls.{shown};
 ghost use Rattle.fwu_wire.specs.Fitting.{AsksWithin};
-ghost use Rattle.serving.specs.Requests.{IsServed, called};
+ghost use Rattle.serving.specs.Requests.{IsServedCall, called};
 
 use base_core::NoMemory;
 use fwu_wire::{AgentCall, call_of};
@@ -30,7 +30,7 @@ fn copied(alloc: Global, bytes: &[u8]) -> Result<Vec<u8>, NoMemory>
 fn run_call(alloc: Global, call: &AgentCall) -> Result<Call, NoMemory>
     requires { AsksWithin call.now }
     ensures call { IfOk result (λ c. script_shown c ≡ shown call.now) }
-    ensures served { IfOk result IsServed }
+    ensures served { IfOk result IsServedCall }
 {
     match *call {
         AgentCall::Discover => Ok(Call::Discover),
@@ -64,7 +64,7 @@ fn run_call(alloc: Global, call: &AgentCall) -> Result<Call, NoMemory>
 pub fn request_of(alloc: Global, message: &[u8]) -> Result<Call, NoMemory>
     requires { 4 ≤ length message.now }
     ensures called { IfOk result (λ call. script_shown call ≡ called message.now) }
-    ensures served { IfOk result IsServed }
+    ensures served { IfOk result IsServedCall }
 {
     match call_of(message) {
         Some(call) => run_call(alloc, &call),

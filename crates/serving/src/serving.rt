@@ -2,8 +2,8 @@
 ghost use Rattle.std.specs.Prelude.{◌≡◌, IfErr};
 ghost use Rattle.host_io.specs.Once.{ReadsOnce};
 ghost use Rattle.script_turns.specs.Powered.{device, has_power};
-ghost use Rattle.wire_frames.specs.Frames.{IsBody, message_of, number_of};
-ghost use Rattle.serving.specs.Ends.{IsEarly};
+ghost use Rattle.wire_frames.specs.Frames.{IsBody, message_of, request_number_of};
+ghost use Rattle.serving.specs.Ends.{IsEarlyEnd};
 ghost use Rattle.serving.specs.Going.{GoesOn};
 ghost use Rattle.serving.specs.Leaves.{LeavesServing};
 ghost use Rattle.serving.specs.Requests.{called};
@@ -32,7 +32,7 @@ pub struct Serving<D: Flash> {
 /// Puts a frame into the sink, in one piece.
 fn put<O: Sink>(sink: &mut O, frame: &[u8]) -> Result<(), ServeEnd>
     ensures puts { Puts frame.now result (sink_port O.Sink sink.old) (sink_port O.Sink sink.new) }
-    ensures ends { IfErr result IsEarly }
+    ensures ends { IfErr result IsEarlyEnd }
 {
     match sink.put(frame) {
         Ok(()) => Ok(()),
@@ -54,9 +54,9 @@ fn serve_new<D: Flash, H: Files, O: Sink, V: Verifier>(
     requires body { IsBody body.now }
 
     ensures serves { ServesNew (scene_of V.Verifier D.Flash H.Files verifier.now files.old)
-        (number_of body.now) (called (message_of body.now))
+        (request_number_of body.now) (called (message_of body.now))
         (at serving.old (sink_port O.Sink sink.old)) (at serving.new (sink_port O.Sink sink.new)) result }
-    ensures ends { IfErr result IsEarly }
+    ensures ends { IfErr result IsEarlyEnd }
     ensures leaves { LeavesServing result serving.old serving.new files.old files.new }
 {
     let mut out = [0; FRAME_BYTES];
@@ -85,7 +85,7 @@ fn serve_one<D: Flash, H: Files, O: Sink, V: Verifier>(
 
     ensures serves { ServesOne (scene_of V.Verifier D.Flash H.Files verifier.now files.old) body.now
         (at serving.old (sink_port O.Sink sink.old)) (at serving.new (sink_port O.Sink sink.new)) result }
-    ensures ends { IfErr result IsEarly }
+    ensures ends { IfErr result IsEarlyEnd }
     ensures leaves { LeavesServing result serving.old serving.new files.old files.new }
 {
     match serving.exchange.admit(number_of(body)) {

@@ -2,10 +2,10 @@
 ghost use Rattle.std.specs.Prelude.{◌≡◌, None};
 ghost use Rattle.host_io.specs.Once.{ReadsOnce};
 ghost use Rattle.script_turns.specs.Powered.{device, has_power, moment_of, shown_on};
-ghost use Rattle.serving.specs.Holds.{Holds};
+ghost use Rattle.serving.specs.Holds.{ServingHolds};
 ghost use Rattle.serving.specs.Leaves.{LeavesServing};
 ghost use Rattle.serving.specs.Scene.{at, run_of, scene_of, sink_port, source_port};
-ghost use Rattle.serving.specs.Starting.{Boots, Serves};
+ghost use Rattle.serving.specs.Starting.{ServeBoots, ServesFrom};
 
 use crate::ends::{ServeEnd, end_by};
 use crate::serving::{Serving, serve_all};
@@ -34,7 +34,7 @@ fn boot<D: Flash, H: Files, V: Verifier>(
 ) -> Result<(), ServeEnd>
     requires powered { D.on (device serving.old.powered) ≡ has_power serving.old.powered }
 
-    ensures boots { Boots (scene_of V.Verifier D.Flash H.Files verifier.now files.old)
+    ensures boots { ServeBoots (scene_of V.Verifier D.Flash H.Files verifier.now files.old)
         (run_of serving.old) (run_of serving.new) result }
     ensures exchange { serving.new.exchange ≡ serving.old.exchange }
     ensures leaves { LeavesServing result serving.old serving.new files.old files.new }
@@ -60,11 +60,11 @@ pub fn serve<D: Flash, H: Files, I: Source, O: Sink, V: Verifier>(
     requires not_booted { shown_on start ≡ None }
 
     // What was taken, done and written.
-    ensures serves { Serves (scene_of V.Verifier D.Flash H.Files verifier.now files.old) (moment_of start)
+    ensures serves { ServesFrom (scene_of V.Verifier D.Flash H.Files verifier.now files.old) (moment_of start)
         (sink_port O.Sink sink.old) (at result.serving (sink_port O.Sink sink.new)) result.end
         (source_port I.Source source.old) (source_port I.Source source.new) }
     // What holds however it ended, and why it ended so.
-    ensures holds { Holds (scene_of V.Verifier D.Flash H.Files verifier.now files.old) (moment_of start)
+    ensures holds { ServingHolds (scene_of V.Verifier D.Flash H.Files verifier.now files.old) (moment_of start)
         (sink_port O.Sink sink.old) (at result.serving (sink_port O.Sink sink.new)) result.end
         (source_port I.Source source.old) (source_port I.Source source.new) }
     // No read of the source is made behind one that gave no bytes or failed.

@@ -10,13 +10,13 @@ unfoldable pub IsOfBlocks : List ℕ → List ℕ → Type 0
 IsOfBlocks h m = (length m % 64 ≡ 0) × IsAbsorbed initial_hash_256 h [] m
 
 -- the hash values of the four messages, word by word
-abbrev pub state_of : Lanes → List (List ℕ)
-state_of s = s.h0 ∷ s.h1 ∷ s.h2 ∷ s.h3 ∷ s.h4 ∷ s.h5 ∷ s.h6 ∷ s.h7 ∷ []
+abbrev pub hash_values_of : Lanes → List (List ℕ)
+hash_values_of s = s.h0 ∷ s.h1 ∷ s.h2 ∷ s.h3 ∷ s.h4 ∷ s.h5 ∷ s.h6 ∷ s.h7 ∷ []
 
 -- lane j of the hasher s holds the message m, which is of whole blocks
 abbrev pub HoldsInLane : ℕ → Lanes → List ℕ → Type 0
-HoldsInLane j s m = IsOfBlocks (lane j (state_of s)) m
+HoldsInLane j s m = IsOfBlocks (lane j (hash_values_of s)) m
 
 -- a message that goes on alone is m, which is of whole blocks
-abbrev pub Holds : Message → List ℕ → Type 0
-Holds s m = IsOfBlocks s.words m
+abbrev pub GoesOnAs : Message → List ℕ → Type 0
+GoesOnAs s m = IsOfBlocks s.words m

@@ -2,7 +2,7 @@
 
 ghost use Rattle.std.specs.Prelude.{◌≡◌, ℕ, ◌++◌, ◌%◌, ◌^◌, List, length};
 ghost use Rattle.sha2.specs.Sha256.{sha256};
-ghost use Rattle.sha256_lanes.specs.Holding.{Holds, IsOfBlocks};
+ghost use Rattle.sha256_lanes.specs.Holding.{GoesOnAs, IsOfBlocks};
 
 use crate::last::{digest_bytes, last_blocks};
 use crate::one_block::compress;
@@ -18,7 +18,7 @@ impl Message {
     /// Adds a piece of whole blocks.
     pub fn absorb(&mut self, piece: &[u8])
         requires { length piece.now % 64 ≡ 0 }
-        ensures { (m : List ℕ) → Holds self.old m → Holds self.new (m ++ piece.now) }
+        ensures { (m : List ℕ) → GoesOnAs self.old m → GoesOnAs self.new (m ++ piece.now) }
     {
         let mut words = self.words;
         absorb_blocks(&mut words, piece);
@@ -27,8 +27,7 @@ impl Message {
 
     /// The digest of the message with this rest behind it, which have so many bytes together, modulo 2^64.
     pub fn finish(&self, rest: &[u8], total: u64) -> [u8; 32]
-        ensures { (m : List ℕ) → total ≡ length (m ++ rest.now) % 2 ^ 64 → Holds self.now m
-            → result ≡ sha256 (m ++ rest.now) }
+        ensures { (m : List ℕ) → total ≡ length (m ++ rest.now) % 2 ^ 64 → GoesOnAs self.now m → result ≡ sha256 (m ++ rest.now) }
     {
         let mut words = self.words;
         let whole = rest.len() - rest.len() % 64;

@@ -8,8 +8,7 @@ use crate::lanes::Lanes;
 
 /// The digest of each of four messages. What they all have is hashed side by side, and the rest of each alone.
 pub fn digests(a: &[u8], b: &[u8], c: &[u8], d: &[u8]) -> [[u8; 32]; 4]
-    ensures { (j : ℕ) → j < 4
-        → slice_index_or result j [] ≡ sha256 (of_four a.now b.now c.now d.now j) }
+    ensures { (j : ℕ) → j < 4 → slice_index_or result j [] ≡ sha256 (of_four a.now b.now c.now d.now j) }
 {
     let least = a.len().min(b.len()).min(c.len().min(d.len()));
     let common = least - least % 64;

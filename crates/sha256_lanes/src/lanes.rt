@@ -2,8 +2,8 @@
 
 ghost use Rattle.std.specs.Prelude.{◌≡◌, ◌≢◌, ℕ, ◌++◌, ◌%◌, ◌^◌, ◌<◌, List, [], length, slice_index};
 ghost use Rattle.sha2.specs.Sha256.{sha256};
-ghost use Rattle.sha256_lanes.specs.Holding.{Holds, HoldsInLane, IsOfBlocks, state_of};
-ghost use Rattle.sha256_lanes.specs.Lanes.{lane, of_four};
+ghost use Rattle.sha256_lanes.specs.Holding.{GoesOnAs, HoldsInLane, IsOfBlocks, hash_values_of};
+ghost use Rattle.sha256_lanes.specs.Lanes.{ArePieces, lane, of_four};
 
 use crate::alone::Message;
 use crate::consts::INITIAL_HASH;
@@ -42,7 +42,7 @@ impl Lanes {
     }
 
     fn state(&self) -> [u32x4; 8]
-        ensures { result ≡ state_of self.now }
+        ensures { result ≡ hash_values_of self.now }
     {
         [
             self.h0, self.h1, self.h2, self.h3, self.h4, self.h5, self.h6, self.h7,
@@ -51,10 +51,7 @@ impl Lanes {
 
     /// Adds a piece to each message. The pieces are of one length, of whole blocks.
     pub fn absorb(&mut self, a: &[u8], b: &[u8], c: &[u8], d: &[u8])
-        requires whole { length a.now % 64 ≡ 0 }
-        requires b { length b.now ≡ length a.now }
-        requires c { length c.now ≡ length a.now }
-        requires d { length d.now ≡ length a.now }
+        requires { ArePieces a.now b.now c.now d.now }
         ensures { (j : ℕ) → j < 4 → (m : List ℕ) → HoldsInLane j self.old m
             → HoldsInLane j self.new (m ++ of_four a.now b.now c.now d.now j) }
     {
@@ -89,7 +86,7 @@ impl Lanes {
     /// The message of lane j, to go on alone.
     pub fn message(&self, j: usize) -> Message
         requires { j < 4 }
-        ensures { (m : List ℕ) → HoldsInLane j self.now m → Holds result m }
+        ensures { (m : List ℕ) → HoldsInLane j self.now m → GoesOnAs result m }
     {
         Message {
             words: words_of(&self.state(), j),
@@ -108,10 +105,7 @@ impl Lanes {
 
 // Takes in the blocks of a piece of each message.
 fn absorb_blocks(state: &mut [u32x4; 8], a: &[u8], b: &[u8], c: &[u8], d: &[u8])
-    requires whole { length a.now % 64 ≡ 0 }
-    requires b { length b.now ≡ length a.now }
-    requires c { length c.now ≡ length a.now }
-    requires d { length d.now ≡ length a.now }
+    requires { ArePieces a.now b.now c.now d.now }
     ensures { (j : ℕ) → j < 4 → (m : List ℕ) → IsOfBlocks (lane j state.old) m
         → IsOfBlocks (lane j state.new) (m ++ of_four a.now b.now c.now d.now j) }
 {

@@ -25,8 +25,7 @@ pub(crate) fn last_blocks(left: &[u8], total: u64) -> ([u8; 128], usize)
     requires { length left.now < 64 }
     ensures whole { result.1 % 64 ≡ 0 }
     ensures fits { result.1 ≤ 128 }
-    ensures padded { total % 64 ≡ length left.now
-        → take result.1 result.0 ≡ left.now ++ padding total }
+    ensures padded { total % 64 ≡ length left.now → take result.1 result.0 ≡ left.now ++ padding total }
 {
     let size = size_of_last(left.len());
     let mut end = [0u8; 128];

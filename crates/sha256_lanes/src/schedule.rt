@@ -2,7 +2,7 @@
 
 ghost use Rattle.std.specs.Prelude.{◌≡◌, ℕ, ◌+◌, ◌*◌, ◌<◌, ◌≤◌, length, slice_index};
 ghost use Rattle.sha2.specs.Sha256.{next_word, schedule, word_at};
-ghost use Rattle.sha256_lanes.specs.Lanes.{lane, of_four};
+ghost use Rattle.sha256_lanes.specs.Lanes.{AreBlocks, lane, of_four};
 
 use crate::words::{add, small_sigma0, small_sigma1};
 use std::simd::u32x4;
@@ -19,10 +19,7 @@ pub(crate) fn word_at(block: &[u8], at: usize) -> u32
 // The words that the blocks begin with; the others are zero.
 #[inline(always)]
 fn first_words(a: &[u8], b: &[u8], c: &[u8], d: &[u8]) -> [u32x4; 64]
-    requires a { length a.now ≡ 64 }
-    requires b { length b.now ≡ 64 }
-    requires c { length c.now ≡ 64 }
-    requires d { length d.now ≡ 64 }
+    requires { AreBlocks a.now b.now c.now d.now }
     ensures { (j : ℕ) → j < 4 → (t : ℕ) → t < 16
         → slice_index (lane j result) t ≡ word_at (of_four a.now b.now c.now d.now j) (4 * t) }
 {
@@ -42,8 +39,7 @@ fn first_words(a: &[u8], b: &[u8], c: &[u8], d: &[u8]) -> [u32x4; 64]
 // W t of each message from the words before it.
 #[inline(always)]
 fn next_word(w: &[u32x4; 64], t: usize) -> u32x4
-    requires after { 16 ≤ t }
-    requires within { t < 64 }
+    requires { (16 ≤ t) × (t < 64) }
     ensures { (j : ℕ) → j < 4 → slice_index result j ≡ next_word (lane j w.now) t }
 {
     let near = add(small_sigma1(w[t - 2]), w[t - 7]);
@@ -53,10 +49,7 @@ fn next_word(w: &[u32x4; 64], t: usize) -> u32x4
 // W 0, …, W 63 of each message's block.
 #[inline(always)]
 pub(crate) fn words_of_block(a: &[u8], b: &[u8], c: &[u8], d: &[u8]) -> [u32x4; 64]
-    requires a { length a.now ≡ 64 }
-    requires b { length b.now ≡ 64 }
-    requires c { length c.now ≡ 64 }
-    requires d { length d.now ≡ 64 }
+    requires { AreBlocks a.now b.now c.now d.now }
     ensures { (j : ℕ) → j < 4 → lane j result ≡ schedule (of_four a.now b.now c.now d.now j) 48 }
 {
     let mut w = first_words(a, b, c, d);

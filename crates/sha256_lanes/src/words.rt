@@ -15,9 +15,7 @@ pub(crate) fn add(x: u32x4, y: u32x4) -> u32x4
 
 #[inline(always)]
 fn xor_three(x: u32x4, y: u32x4, z: u32x4) -> u32x4
-    ensures { (j : ℕ) → j < 4
-        → slice_index result j
-        ≡ bit_xor (bit_xor (slice_index x j) (slice_index y j)) (slice_index z j) }
+    ensures { (j : ℕ) → j < 4 → slice_index result j ≡ bit_xor (bit_xor (slice_index x j) (slice_index y j)) (slice_index z j) }
 {
     x ^ y ^ z
 }
@@ -40,16 +38,14 @@ fn rotate_right(x: u32x4, by: u32) -> u32x4
 
 #[inline(always)]
 pub(crate) fn ch(x: u32x4, y: u32x4, z: u32x4) -> u32x4
-    ensures { (j : ℕ) → j < 4
-        → slice_index result j ≡ ch (slice_index x j) (slice_index y j) (slice_index z j) }
+    ensures { (j : ℕ) → j < 4 → slice_index result j ≡ ch (slice_index x j) (slice_index y j) (slice_index z j) }
 {
     (x & y) ^ (!x & z)
 }
 
 #[inline(always)]
 pub(crate) fn maj(x: u32x4, y: u32x4, z: u32x4) -> u32x4
-    ensures { (j : ℕ) → j < 4
-        → slice_index result j ≡ maj (slice_index x j) (slice_index y j) (slice_index z j) }
+    ensures { (j : ℕ) → j < 4 → slice_index result j ≡ maj (slice_index x j) (slice_index y j) (slice_index z j) }
 {
     (x & y) ^ (x & z) ^ (y & z)
 }

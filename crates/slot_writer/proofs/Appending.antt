@@ -9,7 +9,7 @@ use Rattle.flash_core.specs.declared.flash.FlashStop.{FlashStop}
 use Rattle.flash_core.specs.Told.{Told, settle, settled}
 use Rattle.flash_core.specs.May.{Keeps}
 use Rattle.flash_core.proofs.Calls.{keeps_same, keeps_wider, keeps_then, keeps_settle, now-settle, settle-fresh}
-use Rattle.slot_writer.specs.Slots.{Programs, Appends, Finishes, IsBlankAhead, blocks_for, done_of, bytes_in}
+use Rattle.slot_writer.specs.Slots.{Programs, Appends, FinishesImage, IsBlankAhead, blocks_for, done_of, bytes_in}
 
 take-split : (a n : ℕ) (xs : List ℕ) → take (a + n) xs ≡ take a xs ++ take n (drop a xs)
 take-split a n xs = sym (take-append-drop a (take (a + n) xs)) ∙ ap₂ (λ (x y : List ℕ). x ++ y) (take-take a (a + n) xs (omega arith)) (drop-take a n xs)
@@ -175,7 +175,7 @@ module _ (first size n : ℕ) (rest last : List ℕ) (s m : Told) (n_is : n ≡ 
   idle_here : size % 16 ≡ 0 → m ≡ s
   idle_here none = programs.idle (omega (arith, padded-size, n_is, none))
 
-  pub finished-by : (result : Result (Unit {0}) FlashStop) → Finishes result first size rest s (settled result m)
+  pub finished-by : (result : Result (Unit {0}) FlashStop) → FinishesImage result first size rest s (settled result m)
   finished-by (Ok u) = record {
     keeps = keeps_settle _ _ s m keeps_here;
     idle = λ none. ap settle (idle_here none);
@@ -186,7 +186,7 @@ module _ (first size n : ℕ) (rest last : List ℕ) (s m : Told) (n_is : n ≡ 
   finished-by (Err stop) = record { keeps = keeps_here; idle = idle_here; written = tt; padded = tt; stable = tt }
 
 pub stopped-finishes : {T U : Type 0} (given : Result T FlashStop) (result : Result U FlashStop) (first size n : ℕ) (rest last : List ℕ) (s t : Told)
-    → IsErr result → n ≡ 16 * ((size % 16 + 15) / 16) → n ≤ length last → Programs given first (done_of size) (take n last) s t → Finishes result first size rest s t
+    → IsErr result → n ≡ 16 * ((size % 16 + 15) / 16) → n ≤ length last → Programs given first (done_of size) (take n last) s t → FinishesImage result first size rest s t
 stopped-finishes given result first size n rest last s t err n_is within programs =
     let count : length (take n last) ≡ n = length-take-le n last within in
     record {

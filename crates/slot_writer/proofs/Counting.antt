@@ -4,19 +4,8 @@ use Rattle.std.proofs.lemmas.Bool.Decides.{nat_tests}
 use Rattle.slot_writer.specs.Slots.{blocks_for, done_of}
 use Rattle.slot_writer.specs.Writes.{writes_behind, writes_to_append, writes_to_finish}
 
-pub behind-none : (done : ℕ) → writes_behind done 0 ≡ 0
-behind-none done = refl
-
 pub behind-some : (done n : ℕ) → 0 < n → writes_behind done n ≡ (blocks_for (done + n) - blocks_for done) + 1
 behind-some done n some = grind (arith, nat_tests)
-
--- nothing was kept
-pub appends-whole : (size n : ℕ) → size % 16 ≡ 0 → writes_behind size (n - n % 16) ≡ writes_to_append size n
-appends-whole size n granule = grind (arith, nat_tests)
-
--- no granule is filled
-pub appends-kept : (size n : ℕ) → 0 < size % 16 → size % 16 + n < 16 → 0 ≡ writes_to_append size n
-appends-kept size n some few = grind (arith, nat_tests)
 
 -- a granule is filled, and the other bytes come behind it
 pub appends-filled : (size room n m : ℕ) → 0 < size % 16 → room ≡ 16 - size % 16 → n ≡ room + m → writes_behind (done_of size) 16 + writes_behind (done_of size + 16) (m - m % 16) ≡ writes_to_append size n

@@ -4,20 +4,6 @@ use Rattle.std.proofs.lemmas.List.{length-take-le, length-drop, drop-drop}
 use Rattle.std.proofs.Math.Seq.{drop-append-add}
 use Rattle.slot_writer.specs.Slots.{done_of, kept_of}
 
--- nothing was kept
-pub kept-whole : (size : ℕ) (rest bytes left : List ℕ) → size % 16 ≡ 0 → take (length bytes % 16) left ≡ drop (length bytes - length bytes % 16) bytes → take ((size + length bytes) % 16) left ≡ kept_of size rest bytes
-kept-whole size rest bytes left granule e =
-    ap (λ (k : ℕ). take k left) (omega (arith, granule)) ∙ e
-    ∙ ap₂ (λ (k j : ℕ). drop k (take j rest ++ bytes)) (omega (arith, granule)) (sym granule)
-
--- no granule is filled
-pub kept-few : (size : ℕ) (rest bytes left : List ℕ) → size % 16 + length bytes < 16 → take (size % 16 + length bytes) left ≡ take (size % 16) rest ++ bytes → take ((size + length bytes) % 16) left ≡ kept_of size rest bytes
-kept-few size rest bytes left few e =
-    ap (λ (k : ℕ). take k left) (omega (arith, few)) ∙ e ∙ ap (λ (k : ℕ). drop k (take (size % 16) rest ++ bytes)) none
-  where
-    none : 0 ≡ done_of (size + length bytes) - done_of size
-    none = omega (arith, few)
-
 -- a granule is filled
 pub kept-filled : (size room : ℕ) (rest bytes left : List ℕ) → 0 < size % 16 → room ≡ 16 - size % 16 → room ≤ length bytes → length rest ≡ 16
     → take (length (drop room bytes) % 16) left ≡ drop (length (drop room bytes) - length (drop room bytes) % 16) (drop room bytes) → take ((size + length bytes) % 16) left ≡ kept_of size rest bytes

@@ -57,7 +57,7 @@ pub record Appends {T : Type 0} (result : Result T FlashStop) (first size : ℕ)
   pub stable : t.stable ≡ s.stable
 
 -- what ending an image of this length leaves, at any exit
-pub record Finishes {T : Type 0} (result : Result T FlashStop) (first size : ℕ) (rest : List ℕ) (s t : Told) : Type 0 where
+pub record FinishesImage {T : Type 0} (result : Result T FlashStop) (first size : ℕ) (rest : List ℕ) (s t : Told) : Type 0 where
   -- nothing changes before the kept bytes, nor behind the block that they reach
   pub keeps : Keeps (block_bytes * first + done_of size) (block_bytes * (first + blocks_for size)) s t
   -- where nothing is kept, nothing is written

@@ -1,21 +1,19 @@
 -- How many erases and programs writing an image takes, as an armed loss counts them.
-use Rattle.std.specs.Prelude.{if◌then◌else◌, ◌==◌, ◌&&◌, nat_lt, nat_le, ◌≡◌, ℕ, ◌+◌, ◌-◌, ◌*◌, ◌/◌, ◌%◌, ◌<◌, ◌≤◌, Option, None, Result, OnOk, IsErrOf}
+use Rattle.std.specs.Prelude.{if◌then◌else◌, ◌==◌, ◌&&◌, nat_lt, nat_le, ◌≡◌, ℕ, ◌+◌, ◌-◌, ◌*◌, ◌/◌, ◌%◌, ◌<◌, ◌≤◌, Option, Result, OnOk}
 use Rattle.std.specs.Option.{ForSome}
 use Rattle.base_core.specs.Block.{granule_bytes}
 use Rattle.flash_core.specs.declared.flash.Arming.{Arming}
 use Rattle.flash_core.specs.declared.flash.Counts.{Counts}
 use Rattle.flash_core.specs.declared.flash.FlashStop.{FlashStop}
-use Rattle.flash_core.specs.declared.flash.FlashStop.TheVariants.{Lost}
 use Rattle.flash_core.specs.Counts.{StaysUnarmed, lowered_by}
 use Rattle.slot_writer.specs.Slots.{blocks_for, done_of}
 
 -- What a call of so many erases and programs leaves of an arming, on every device: when done, each of them took one off, and none
--- was the armed one; a loss clears it; where nothing was armed, none was reached.
+-- was the armed one.
 pub record SpendsArming {T : Type 0} (result : Result T FlashStop) (writes : ℕ) (armed arming : Option Arming)
     (old new : Counts) : Type 0 where
   pub lowered : OnOk result (arming ≡ lowered_by writes armed)
   pub passed : OnOk result (ForSome armed (λ a. 1 ≤ a.n → writes < a.n))
-  pub lost : IsErrOf result Lost → arming ≡ None
   pub unarmed : StaysUnarmed result armed arming old new
 
 -- one program of bytes behind those that are done, if there are any, and an erase of each block that they reach first

@@ -2,7 +2,7 @@
 ghost use Rattle.std.specs.Prelude.{◌≡◌, ◌+◌, ◌-◌, ◌*◌, ◌/◌, ◌%◌, ◌<◌, ◌≤◌, ◌++◌, length, take, IsTrue, OnOk, replicate, drop};
 ghost use Rattle.base_core.specs.Block.{granule_bytes};
 ghost use Rattle.flash_core.specs.Calls.{Goes};
-ghost use Rattle.slot_writer.specs.Slots.{Appends, Erases, Finishes, IsBlankAhead, Programs, blocks_for, done_of, kept_of};
+ghost use Rattle.slot_writer.specs.Slots.{Appends, Erases, FinishesImage, IsBlankAhead, Programs, blocks_for, done_of, kept_of};
 ghost use Rattle.slot_writer.specs.Writes.{SpendsArming, writes_behind, writes_to_append, writes_to_finish};
 
 use base_core::{BLOCK_BYTES, GRANULE_BYTES};
@@ -25,8 +25,7 @@ fn erase_blocks<D: Flash>(flash: &mut D, first: u32, end: u32) -> Result<(), Fla
     requires inside { end ≤ D.blocks flash.old }
     requires order { first ≤ end }
 
-    ensures erases { IsTrue D.tells →
-        Erases result first end (D.told flash.old) (D.told flash.new) }
+    ensures erases { IsTrue D.tells → Erases result first end (D.told flash.old) (D.told flash.new) }
     ensures goes { Goes D.Flash result flash.old flash.new }
     ensures arming { SpendsArming result (end - first) (D.arming flash.old) (D.arming flash.new)
         (D.counts flash.old) (D.counts flash.new) }
@@ -53,8 +52,7 @@ fn program_behind<D: Flash>(
     requires inside { first + blocks_for (done + length bytes.now) ≤ D.blocks flash.old }
     requires ahead { IsTrue D.tells → IsBlankAhead first done (D.told flash.old).now }
 
-    ensures programs { IsTrue D.tells →
-        Programs result first done bytes.now (D.told flash.old) (D.told flash.new) }
+    ensures programs { IsTrue D.tells → Programs result first done bytes.now (D.told flash.old) (D.told flash.new) }
     ensures still { length bytes.now ≡ 0 → flash.new ≡ flash.old }
     ensures goes { Goes D.Flash result flash.old flash.new }
     ensures arming { SpendsArming result (writes_behind done (length bytes.now))
@@ -91,11 +89,8 @@ fn append_whole<D: Flash>(
     requires inside { first + blocks_for (size + length bytes.now) ≤ D.blocks flash.old }
     requires ahead { IsTrue D.tells → IsBlankAhead first size (D.told flash.old).now }
 
-    ensures appends { IsTrue D.tells →
-        Appends result first size rest.old bytes.now rest.new
-        (D.told flash.old) (D.told flash.new) }
-    ensures kept { OnOk result
-        (take (length bytes.now % granule_bytes) rest.new
+    ensures appends { IsTrue D.tells → Appends result first size rest.old bytes.now rest.new (D.told flash.old) (D.told flash.new) }
+    ensures kept { OnOk result (take (length bytes.now % granule_bytes) rest.new
         ≡ drop (length bytes.now - length bytes.now % granule_bytes) bytes.now) }
     ensures still { length bytes.now < granule_bytes → flash.new ≡ flash.old }
     ensures goes { Goes D.Flash result flash.old flash.new }
@@ -127,12 +122,9 @@ pub fn append<D: Flash>(
     requires inside { first + blocks_for (size + length bytes.now) ≤ D.blocks flash.old }
     requires ahead { IsTrue D.tells → IsBlankAhead first (done_of size) (D.told flash.old).now }
 
-    ensures appends { IsTrue D.tells →
-        Appends result first size rest.old bytes.now rest.new
-        (D.told flash.old) (D.told flash.new) }
+    ensures appends { IsTrue D.tells → Appends result first size rest.old bytes.now rest.new (D.told flash.old) (D.told flash.new) }
     // on every device: the bytes that are kept, and how many erases and programs were made
-    ensures kept { OnOk result
-        (take ((size + length bytes.now) % granule_bytes) rest.new ≡ kept_of size rest.old bytes.now) }
+    ensures kept { OnOk result (take ((size + length bytes.now) % granule_bytes) rest.new ≡ kept_of size rest.old bytes.now) }
     // on every device: it is not touched where no granule becomes whole
     ensures still { done_of (size + length bytes.now) ≡ done_of size → flash.new ≡ flash.old }
     ensures arming { SpendsArming result (writes_to_append size (length bytes.now))
@@ -187,8 +179,7 @@ pub fn finish<D: Flash>(
     requires inside { first + blocks_for size ≤ D.blocks flash.old }
     requires ahead { IsTrue D.tells → IsBlankAhead first (done_of size) (D.told flash.old).now }
 
-    ensures finishes { IsTrue D.tells →
-        Finishes result first size rest.now (D.told flash.old) (D.told flash.new) }
+    ensures finishes { IsTrue D.tells → FinishesImage result first size rest.now (D.told flash.old) (D.told flash.new) }
     // on every device: how many erases and programs were made
     ensures arming { SpendsArming result (writes_to_finish size)
         (D.arming flash.old) (D.arming flash.new) (D.counts flash.old) (D.counts flash.new) }

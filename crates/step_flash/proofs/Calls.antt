@@ -49,6 +49,14 @@ put_noted None true at bytes r next idle is e = ap (under_as None) e
 put_noted None false at bytes r next idle is e = absurd (cc)
 put_noted (Some op) live at bytes r next idle is e = absurd (cc)
 
+-- a barrier was noted
+pub settle_noted : (u : Option Operation) (live : Bool) (r next : Told) → u ≡ None → live ≡ true → next ≡ settle r
+    → under_as u (back_on live next) ≡ settle (under_as u (back_on live r))
+unfolding settle fresh
+settle_noted None true r next idle is e = ap (under_as None) e
+settle_noted None false r next idle is e = absurd (cc)
+settle_noted (Some op) live r next idle is e = absurd (cc)
+
 -- before the first step
 pub start_idle : (image file : List ℕ) → under_as None (start_with image file) ≡ start_with image file
 unfolding fresh

@@ -1,14 +1,20 @@
 -- What a device tells, by its image and its steps.
-use Rattle.std.specs.Prelude.{◌≡◌, if◌then◌else◌, ℕ, Bool, true, false, List, Option, Some, None, is_none}
+use Rattle.std.specs.Prelude.{◌≡◌, ◌⊎◌, if◌then◌else◌, ℕ, ◌+◌, ◌++◌, ◌∷◌, [], Bool, true, false, List, Option, Some, None, is_none, min, slice_range, length}
+use Rattle.std.specs.Prelude.{Result, is_ok, IsErrOf, IsTrue, OnErr, OnOk}
 use Rattle.std.proofs.Common.{refl}
-use Rattle.flash_core.specs.Told.{Told, IsSound, fresh, settle}
+use Rattle.flash_core.specs.Told.{Told, IsSound, fresh, settle, settled, written}
+use Rattle.flash_core.specs.May.{Leaves, NoChance, TookEffect}
+use Rattle.flash_core.specs.Counts.{Fires, Idles, ReachesNone, Rose, Spends, arming_kept, arming_spent, landed_of}
 use Rattle.flash_core.specs.declared.flash.Arming.{Arming}
 use Rattle.flash_core.specs.declared.flash.Counts.{Counts}
+use Rattle.flash_core.specs.declared.flash.FlashStop.{FlashStop}
+use Rattle.flash_core.specs.declared.flash.FlashStop.TheVariants.{Failed}
 use Rattle.step_flash.specs.declared.device.StepDevice.{StepDevice}
 use Rattle.step_flash.specs.declared.device.StepParts.{StepParts}
+use Rattle.step_flash.specs.declared.step.Step.{Step}
 use Rattle.step_flash.specs.declared.stopped.Stopped.{Stopped}
 use Rattle.step_flash.specs.Guard.{start_with}
-use Rattle.step_flash.specs.Steps.{run_with}
+use Rattle.step_flash.specs.Steps.{NotesBytes, run_with}
 use Rattle.step_flash.specs.Stopped.{under_as, under_of}
 
 abbrev pub is_on : StepDevice → Bool
@@ -44,6 +50,14 @@ back_on live t = if live then t else settle t
 abbrev pub told_of : StepDevice → Told
 told_of d = under_as (under_of d.stopped) (back_on d.live (after_steps d))
 
+-- the steps that are noted, in their order
+abbrev pub steps_of : StepDevice → List Step
+steps_of d = d.steps.items
+
+-- the bytes of the programs that are no copies
+abbrev pub room_of : StepDevice → List ℕ
+room_of d = d.room.items
+
 abbrev pub arming_of : StepDevice → Option Arming
 arming_of d = d.arming
 
@@ -57,6 +71,90 @@ NotedBy d parts =
     told_of d
     ≡ under_as (told_of d).under
     (run_with (package_of d) parts.room.items (start_with (image_of d) (package_of d)) parts.steps.items)
+
+-- ---- what is noted: each call that is done is one step, behind those that were noted before
+
+-- no step was noted, and none was changed or taken out
+pub record KeepsSteps (old new : StepDevice) : Type 0 where
+  pub steps : steps_of new ≡ steps_of old
+  pub room : room_of new ≡ room_of old
+
+-- An erase or a barrier that was done is this step, behind those before. At a stop no step is noted.
+pub record NotesStep (step : Step) (result : Result (Unit {0}) FlashStop) (old new : StepDevice) : Type 0 where
+  pub noted : OnOk result (steps_of new ≡ steps_of old ++ step ∷ [])
+  pub room : room_of new ≡ room_of old
+  pub stopped : OnErr result (KeepsSteps old new)
+
+-- A program that was done is one step, a copy where its bytes were found in the package. At a stop no step is noted.
+pub record NotesProgram (at : ℕ) (bytes : List ℕ) (result : Result (Unit {0}) FlashStop) (old new : StepDevice) : Type 0 where
+  pub noted : OnOk result (NotesBytes (package_of old) at bytes (steps_of old) (room_of old) (steps_of new) (room_of new))
+  pub stopped : OnErr result (KeepsSteps old new)
+
+-- ---- what each call promises as the trait has it
+
+pub record ReadsImage (at : ℕ) (was out : List ℕ) (result : Result (Unit {0}) FlashStop) (old new : StepDevice) : Type 0 where
+  pub bytes : OnOk result (IsTrue true → out ≡ slice_range (told_of old).now at (at + length was))
+  pub content : IsTrue true → told_of new ≡ told_of old
+  pub power : is_on new ≡ is_ok result
+  pub size : block_count new ≡ block_count old
+  pub arming : arming_of new ≡ arming_kept result (arming_of old)
+  pub counts : Spends result (counts_of old) (counts_of new)
+  pub reached : ReachesNone result (counts_of old) (counts_of new)
+
+-- an erase or a program of these bytes
+pub record Writes (at : ℕ) (bytes : List ℕ) (result : Result (Unit {0}) FlashStop) (old new : StepDevice) : Type 0 where
+  pub content : IsTrue true → told_of new ≡ written result at bytes (told_of old)
+  pub power : is_on new ≡ is_ok result
+  pub size : block_count new ≡ block_count old
+  pub arming : arming_of new ≡ arming_spent result (arming_of old)
+  pub counts : Spends result (counts_of old) (counts_of new)
+  pub reached : Fires result (arming_of old) (counts_of old) (counts_of new)
+  pub landed : 0 ≡ landed_of result (arming_of old)
+
+-- a barrier
+pub record SettlesImage (result : Result (Unit {0}) FlashStop) (old new : StepDevice) : Type 0 where
+  pub content : IsTrue true → told_of new ≡ settled result (told_of old)
+  pub power : is_on new ≡ is_ok result
+  pub size : block_count new ≡ block_count old
+  pub arming : arming_of new ≡ arming_kept result (arming_of old)
+  pub counts : Spends result (counts_of old) (counts_of new)
+  pub reached : ReachesNone result (counts_of old) (counts_of new)
+
+-- a loss is armed
+pub record ArmsLoss (n k : ℕ) (old new : StepDevice) : Type 0 where
+  pub content : IsTrue true → told_of new ≡ told_of old
+  pub power : is_on new ≡ is_on old
+  pub size : block_count new ≡ block_count old
+  pub arming : arming_of new ≡ Some (record { n = n; k = k })
+  pub made : (counts_of new).made ≡ min ((counts_of old).made + 1) 18446744073709551615
+  pub counts : Idles (counts_of old) (counts_of new)
+
+-- power comes back
+pub record ComesBackOn (old new : StepDevice) : Type 0 where
+  pub fresh_is : IsTrue true → told_of new ≡ fresh (told_of old).guard (told_of new).now
+  pub leaves : IsTrue true → Leaves (told_of old) (told_of new).now
+  pub chance : IsTrue true → Rose (counts_of old).chances (counts_of new).chances ⊎ NoChance (told_of old) (told_of new).now
+  pub effect : IsTrue true → TookEffect (told_of old).under 0 (told_of new).now
+  pub power : IsTrue (is_on new)
+  pub size : block_count new ≡ block_count old
+  pub arming : arming_of new ≡ arming_of old
+  pub made : (counts_of new).made ≡ (counts_of old).made
+  pub counts : Idles (counts_of old) (counts_of new)
+
+-- A call failed, and power went. This is told then, and no step was noted.
+pub record Fails (told : Told) (result : Result (Unit {0}) FlashStop) (old new : StepDevice) : Type 0 where
+  pub stop : IsErrOf result Failed
+  pub content : told_of new ≡ told
+  pub power : is_on new ≡ is_ok result
+  pub size : block_count new ≡ block_count old
+  pub arming : arming_of new ≡ arming_of old
+  pub counts : Spends result (counts_of old) (counts_of new)
+  pub kept : KeepsSteps old new
+
+-- What was noted is handed out as it is: the steps, in their order, and the room.
+pub record IsGivenOut (d : StepDevice) (parts : StepParts) : Type 0 where
+  pub steps : parts.steps.items ≡ steps_of d
+  pub room : parts.room.items ≡ room_of d
 
 -- ---- what is told fits the device
 

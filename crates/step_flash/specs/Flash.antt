@@ -5,7 +5,9 @@ use Rattle.base_core.specs.Block.{fewest_blocks, most_blocks}
 use Rattle.flash_core.specs.Told.{Told, IsSound}
 use Rattle.flash_core.specs.declared.flash.Arming.{Arming}
 use Rattle.flash_core.specs.declared.flash.Counts.{Counts}
+use Rattle.step_flash.specs.declared.device.StepDevice.{StepDevice}
 use Rattle.step_flash.specs.declared.device.StepParts.{StepParts}
+use Rattle.step_flash.specs.declared.step.Step.{Step}
 use Rattle.step_flash.specs.declared.flash.StepFlash.{StepFlash}
 use Rattle.step_flash.specs.Device as device
 
@@ -44,6 +46,18 @@ counts_of d = device.counts_of d.device.value
 -- What is told is what these steps leave, beside an operation that is under way.
 abbrev pub NotedBy : StepFlash → StepParts → Type 0
 NotedBy d parts = device.NotedBy d.device.value parts
+
+-- the device in its own memory, of which the calls' promises speak
+abbrev pub device_in : StepFlash → StepDevice
+device_in d = d.device.value
+
+-- the steps that are noted, in their order
+abbrev pub steps_of : StepFlash → List Step
+steps_of d = device.steps_of d.device.value
+
+-- the bytes of the programs that are no copies
+abbrev pub room_of : StepFlash → List ℕ
+room_of d = device.room_of d.device.value
 
 -- ---- what each device promises of itself
 

@@ -28,5 +28,5 @@ abbrev pub start_with : List ℕ → List ℕ → Told
 start_with image file = fresh (guard_with image file) image
 
 -- where there is no package
-abbrev pub start : List ℕ → Told
-start image = start_with image []
+abbrev pub start_told : List ℕ → Told
+start_told image = start_with image []

@@ -1,6 +1,6 @@
 -- What steps do to a flash.
 use Rattle.std.specs.Prelude.{◌≡◌, ◌⊎◌, ⊤, ℕ, Bool, ◌+◌, ◌%◌, ◌<◌, ◌≤◌, ◌==◌, if◌then◌else◌}
-use Rattle.std.specs.Prelude.{List, [], ◌∷◌, fold, slice_range, length}
+use Rattle.std.specs.Prelude.{List, [], ◌∷◌, ◌++◌, fold, slice_range, length}
 use Rattle.std.specs.Coded.{×_prop, Unit-prop}
 use denote.Struct.Props as logic
 use Rattle.base_core.specs.Block.{blank, block_bytes, granule_bytes}
@@ -25,6 +25,19 @@ source_of file room s = if is_copy s then file else room
 abbrev pub bytes_of : List ℕ → List ℕ → Step → List ℕ
 bytes_of file room s = if is_erase s then blank block_bytes else slice_range (source_of file room s) s.from (s.from + s.length)
 
+-- the step that an erase, a barrier, a program of so many bytes or a copy is noted as
+abbrev pub erase_step : ℕ → Step
+erase_step at = record { kind = 1; at = at; length = block_bytes; from = 0 }
+
+abbrev pub barrier_step : Step
+barrier_step = record { kind = 3; at = 0; length = 0; from = 0 }
+
+abbrev pub program_step : ℕ → ℕ → ℕ → Step
+program_step at n from = record { kind = 2; at = at; length = n; from = from }
+
+abbrev pub copy_step : ℕ → ℕ → ℕ → Step
+copy_step at n from = record { kind = 4; at = at; length = n; from = from }
+
 -- what a flash tells after one step
 abbrev pub run_step : List ℕ → List ℕ → Told → Step → Told
 run_step file room t s = if is_barrier s then settle t else put s.at (bytes_of file room s) t
@@ -32,6 +45,13 @@ run_step file room t s = if is_barrier s then settle t else put s.at (bytes_of f
 -- what a flash tells after the steps, in their order
 unfoldable pub run_with : List ℕ → List ℕ → Told → List Step → Told
 run_with file room t steps = fold (run_step file room) t steps
+
+-- how many bytes of the room the programs have that are no copies
+abbrev pub bytes_in_room : Step → ℕ
+bytes_in_room s = if s.kind == 2 then s.length else 0
+
+unfoldable pub room_bytes : List Step → ℕ
+room_bytes steps = fold (λ n s. n + bytes_in_room s) 0 steps
 
 -- where there is no package
 abbrev pub run : List ℕ → Told → List Step → Told
@@ -54,6 +74,13 @@ IsInside room size s = IsInsideWith 0 room size s
 pub record StandsAt (file : List ℕ) (from : ℕ) (bytes : List ℕ) : Type 0 where
   pub fits : from + length bytes ≤ length file
   pub is : slice_range file from (from + length bytes) ≡ bytes
+
+-- One program was noted as one step: a copy of bytes that stand in the package, and the room stays; or a program of bytes that
+-- were put behind the others of the room.
+abbrev pub NotesBytes : List ℕ → ℕ → List ℕ → List Step → List ℕ → List Step → List ℕ → Type 0
+NotesBytes file at bytes steps room new_steps new_room =
+    ((from : ℕ) × StandsAt file from bytes × (new_steps ≡ steps ++ copy_step at (length bytes) from ∷ []) × (new_room ≡ room))
+    ⊎ (new_steps ≡ steps ++ program_step at (length bytes) (length room) ∷ []) × (new_room ≡ room ++ bytes)
 
 -- So many bytes can be programmed from a place on, on a flash that tells so: whole granules, one at least, which are erased.
 pub record TakesProgram (t : Told) (at n : ℕ) : Type 0 where

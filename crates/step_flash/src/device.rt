@@ -5,14 +5,14 @@ ghost use Rattle.base_core.specs.Block.{blank, block_bytes, fewest_blocks, most_
 ghost use Rattle.flash_core.specs.Told.{Told, IsSound};
 ghost use Rattle.flash_core.specs.Counts.{lowered};
 ghost use Rattle.step_flash.specs.Guard.{start_with};
-ghost use Rattle.step_flash.specs.Steps.{AreDoable, IsInsideWith, one_proof, run_step, run_with, source_of};
+ghost use Rattle.step_flash.specs.Steps.{AreDoable, IsInsideWith, one_proof, room_bytes, run_step, run_with, source_of};
 
 use crate::lent_file::LentFile;
 use crate::overlay::overlay;
 use crate::step::{BARRIER, COPY, ERASE, Step, note_barrier, note_erase, note_program};
 use crate::stopped::Stopped;
 use base_core::{BLOCK_BYTES, FEWEST_BLOCKS, MOST_BLOCKS};
-use flash_core::{Arming, Flash, FlashStop};
+use flash_core::{Arming, FlashStop};
 use std::alloc::Global;
 
 static BLANK: [u8; 4096] = [0xFF; 4096];
@@ -40,6 +40,7 @@ pub(crate) struct StepDevice<'a> {
     ghost doable: { AreDoable file.bytes.now room.items
         (start_with image.now file.bytes.now) steps.items } by { one_proof _ _ _ _ },
     ghost few: { length steps.items ≤ most },
+    ghost theirs: { length room.items ≡ room_bytes steps.items },
     ghost idle: { IsTrue on → IsTrue (is_none stopped) },
     ghost ahead: { ForSome arming (λ armed. 1 ≤ armed.n) },
     ghost sound: { IsSound blocks true
@@ -115,13 +116,12 @@ fn lay(step: &Step, file: &[u8], room: &[u8], blocks: u32, at: usize, out: &mut 
 }
 
 impl<'a> StepDevice<'a> {
-    ghost use Rattle.std.specs.Prelude.{◌≡◌, true, None, ◌+◌, ◌*◌, ◌≤◌, All, length, is_ok, slice_range};
-    ghost use Rattle.std.specs.Prelude.{ℕ, IfSome, IfNone, IsTrue, IsErrOf};
+    ghost use Rattle.std.specs.Prelude.{◌≡◌, true, None, [], ◌+◌, ◌*◌, ◌≤◌, All, length, slice_range};
+    ghost use Rattle.std.specs.Prelude.{ℕ, IfSome, IfNone, IsTrue};
     ghost use Rattle.flash_core.specs.Told.{halt};
-    ghost use Rattle.flash_core.specs.Counts.{Spends, IsDue};
-    ghost use Rattle.flash_core.specs.declared.flash.FlashStop.TheVariants.{Failed};
+    ghost use Rattle.flash_core.specs.Counts.{IsDue};
     ghost use Rattle.step_flash.specs.Device.{is_on, is_live, block_count, image_of, package_of, after_steps, told_of};
-    ghost use Rattle.step_flash.specs.Device.{arming_of, counts_of, most_of, NotedBy};
+    ghost use Rattle.step_flash.specs.Device.{arming_of, most_of, steps_of, Fails, IsGivenOut, NotedBy};
 
     /// The device over an image, with a package and the places that are tried in it.
     pub(crate) fn new(
@@ -132,6 +132,7 @@ impl<'a> StepDevice<'a> {
         places: &'a [usize],
     ) -> Option<StepDevice<'a>>
         ensures content { IfSome result (λ d. told_of d ≡ start_with image.now file.now) }
+        ensures steps { IfSome result (λ d. steps_of d ≡ []) }
         ensures power { IfSome result (λ d. is_on d ≡ true) }
         ensures unarmed { IfSome result (λ d. arming_of d ≡ None) }
         ensures image { IfSome result (λ d. image_of d ≡ image.now) }
@@ -167,12 +168,14 @@ impl<'a> StepDevice<'a> {
 
     /// The steps that were noted, in their order.
     pub(crate) fn into_parts(self) -> StepParts
+        ensures given { IsGivenOut self.entry result }
         ensures noted { IsTrue (is_live self.entry) → NotedBy self.entry result }
         ensures inside { All (IsInsideWith (length (package_of self.entry)) (length result.room.items)
             (block_bytes * block_count self.entry)) result.steps.items }
         ensures doable { AreDoable (package_of self.entry) result.room.items
             (start_with (image_of self.entry) (package_of self.entry)) result.steps.items }
         ensures few { length result.steps.items ≤ most_of self.entry }
+        ensures theirs { length result.room.items ≡ room_bytes result.steps.items }
     {
         StepParts {
             steps: self.steps,
@@ -193,12 +196,7 @@ impl<'a> StepDevice<'a> {
 
     /// A call fails, and power goes.
     fn failed(&mut self) -> Result<(), FlashStop>
-        ensures stop { IsErrOf result Failed }
-        ensures power { is_on self.new ≡ is_ok result }
-        ensures size { block_count self.new ≡ block_count self.old }
-        ensures arming { arming_of self.new ≡ arming_of self.old }
-        ensures counts { Spends result (counts_of self.old) (counts_of self.new) }
-        ensures content { told_of self.new ≡ told_of self.old }
+        ensures { Fails (told_of self.old) result self.old self.new }
     {
         self.on = false;
         self.faults = self.faults.saturating_add(1);
@@ -208,12 +206,7 @@ impl<'a> StepDevice<'a> {
     /// An erase or a program fails, and power goes.
     fn stop(&mut self, at: u32, bytes: &[u8]) -> Result<(), FlashStop>
         requires on { IsTrue (is_on self.old) }
-        ensures stop { IsErrOf result Failed }
-        ensures power { is_on self.new ≡ is_ok result }
-        ensures size { block_count self.new ≡ block_count self.old }
-        ensures arming { arming_of self.new ≡ arming_of self.old }
-        ensures counts { Spends result (counts_of self.old) (counts_of self.new) }
-        ensures content { told_of self.new ≡ halt at bytes.now (told_of self.old) }
+        ensures { Fails (halt at bytes.now (told_of self.old)) result self.old self.new }
     {
         self.on = false;
         self.stopped = Some(Stopped::new(at, bytes));
@@ -240,39 +233,30 @@ fn lowered(arming: Option<Arming>) -> Option<Arming>
     })
 }
 
-impl<'a> Flash for StepDevice<'a> {
-    ghost use Rattle.std.specs.Prelude.{true};
-    ghost use Rattle.step_flash.specs.Device.{is_on, block_count, told_of, arming_of, counts_of, device_sound};
+impl<'a> StepDevice<'a> {
+    ghost use Rattle.std.specs.Prelude.{◌≡◌, ◌+◌, ◌*◌, ◌<◌, ◌≤◌, length, IsTrue, IsFalse};
+    ghost use Rattle.base_core.specs.Block.{blank};
+    ghost use Rattle.step_flash.specs.Device.{ArmsLoss, KeepsSteps, NotesProgram, NotesStep, ComesBackOn, ReadsImage, SettlesImage, Writes, is_on, block_count, told_of};
+    ghost use Rattle.step_flash.specs.Steps.{TakesProgram, barrier_step, erase_step};
 
-    ghost on = { λ d. is_on d };
-
-    ghost blocks = { λ d. block_count d };
-
-    ghost tells = { true };
-
-    ghost told = { λ d. told_of d };
-
-    ghost landed = { λ d. 0 };
-
-    ghost arming = { λ d. arming_of d };
-
-    ghost counts = { λ d. counts_of d };
-
-    ghost sizes = { λ d. d.sizes };
-
-    ghost sound = { λ d _. device_sound d };
-
-    ghost ahead = { λ d. d.ahead };
-
-    fn blocks(&self) -> u32 {
+    pub(crate) fn blocks(&self) -> u32
+        ensures { result ≡ block_count self.now }
+    {
         self.blocks
     }
 
-    fn is_on(&self) -> bool {
+    pub(crate) fn is_on(&self) -> bool
+        ensures { result ≡ is_on self.now }
+    {
         self.on
     }
 
-    fn read(&mut self, at: u32, out: &mut [u8]) -> Result<(), FlashStop> {
+    pub(crate) fn read(&mut self, at: u32, out: &mut [u8]) -> Result<(), FlashStop>
+        requires on { IsTrue (is_on self.old) }
+        requires inside { at + length out.old ≤ block_bytes * block_count self.old }
+        ensures reads { ReadsImage at out.old out.new result self.old self.new }
+        ensures kept { KeepsSteps self.old self.new }
+    {
         if !self.live {
             return self.failed();
         }
@@ -280,7 +264,12 @@ impl<'a> Flash for StepDevice<'a> {
         Ok(())
     }
 
-    fn erase(&mut self, block: u32) -> Result<(), FlashStop> {
+    pub(crate) fn erase(&mut self, block: u32) -> Result<(), FlashStop>
+        requires on { IsTrue (is_on self.old) }
+        requires inside { block < block_count self.old }
+        ensures writes { Writes (block_bytes * block) (blank block_bytes) result self.old self.new }
+        ensures noted { NotesStep (erase_step (block_bytes * block)) result self.old self.new }
+    {
         let at = BLOCK_BYTES * block;
         if !self.is_ready() || !note_erase(&mut self.steps, self.most, at) {
             return self.stop(at, blank_block());
@@ -289,7 +278,13 @@ impl<'a> Flash for StepDevice<'a> {
         Ok(())
     }
 
-    fn program(&mut self, at: u32, bytes: &[u8]) -> Result<(), FlashStop> {
+    pub(crate) fn program(&mut self, at: u32, bytes: &[u8]) -> Result<(), FlashStop>
+        requires on { IsTrue (is_on self.old) }
+        requires takes { TakesProgram (told_of self.old) at (length bytes.now) }
+        requires inside { at + length bytes.now ≤ block_bytes * block_count self.old }
+        ensures writes { Writes at bytes.now result self.old self.new }
+        ensures noted { NotesProgram at bytes.now result self.old self.new }
+    {
         if !self.is_ready()
             || !note_program(
                 &mut self.steps,
@@ -306,19 +301,30 @@ impl<'a> Flash for StepDevice<'a> {
         Ok(())
     }
 
-    fn barrier(&mut self) -> Result<(), FlashStop> {
+    pub(crate) fn barrier(&mut self) -> Result<(), FlashStop>
+        requires on { IsTrue (is_on self.old) }
+        ensures settles { SettlesImage result self.old self.new }
+        ensures noted { NotesStep barrier_step result self.old self.new }
+    {
         if !self.live || !note_barrier(&mut self.steps, self.most) {
             return self.failed();
         }
         Ok(())
     }
 
-    fn arm(&mut self, n: u32, k: u32) {
+    pub(crate) fn arm(&mut self, n: u32, k: u32)
+        requires { 1 ≤ n }
+        ensures arms { ArmsLoss n k self.old self.new }
+        ensures kept { KeepsSteps self.old self.new }
+    {
         self.arming = Some(Arming { n, k });
         self.made = self.made.saturating_add(1);
     }
 
-    fn power_on(&mut self) {
+    pub(crate) fn power_on(&mut self)
+        ensures back { ComesBackOn self.old self.new }
+        ensures kept { KeepsSteps self.old self.new }
+    {
         self.on = true;
         self.live = false;
         self.stopped = None;

@@ -1,10 +1,11 @@
 //! The flash, as its callers hold it.
-ghost use Rattle.std.specs.Prelude.{◌≡◌, ◌≤◌, None, true, ◌*◌, All, IfErr, IfOk, IsTrue, length};
-ghost use Rattle.base_core.specs.Block.{block_bytes};
-ghost use Rattle.step_flash.specs.Flash.{NotedBy, arming_of, block_count, counts_of, image_of, is_live, is_on};
+ghost use Rattle.std.specs.Prelude.{◌≡◌, ◌<◌, ◌≤◌, ◌+◌, ◌*◌, ◌%◌, None, true, [], All, IfErr, IfOk, IsFalse, IsTrue, length, slice_range};
+ghost use Rattle.base_core.specs.Block.{blank, block_bytes, granule_bytes};
+ghost use Rattle.step_flash.specs.Device.{ArmsLoss, IsGivenOut, KeepsSteps, NotesProgram, NotesStep, ComesBackOn, ReadsImage, SettlesImage, Writes};
+ghost use Rattle.step_flash.specs.Flash.{device_in, steps_of, NotedBy, arming_of, block_count, counts_of, image_of, is_live, is_on};
 ghost use Rattle.step_flash.specs.Flash.{flash_sizes, flash_sound, flash_ahead, most_of, package_of, told_of};
-ghost use Rattle.step_flash.specs.Guard.{start, start_with};
-ghost use Rattle.step_flash.specs.Steps.{AreDoable, IsInsideWith};
+ghost use Rattle.step_flash.specs.Guard.{start_told, start_with};
+ghost use Rattle.step_flash.specs.Steps.{AreDoable, IsInsideWith, barrier_step, erase_step, room_bytes};
 ghost use Rattle.step_flash.specs.Unmade.{IsUnmade};
 
 use crate::device::{StepDevice, StepParts};
@@ -36,7 +37,8 @@ pub enum Unmade {
 impl<'a> StepFlash<'a> {
     /// The flash over an image, with no package, which is on, with nothing dirty, and notes so many steps at most.
     pub fn new(alloc: Global, image: &'a [u8], most: usize) -> Result<StepFlash<'a>, Unmade>
-        ensures content { IfOk result (λ d. told_of d ≡ start image.now) }
+        ensures content { IfOk result (λ d. told_of d ≡ start_told image.now) }
+        ensures steps { IfOk result (λ d. steps_of d ≡ []) }
         ensures power { IfOk result (λ d. is_on d ≡ true) }
         ensures unarmed { IfOk result (λ d. arming_of d ≡ None) }
         ensures image { IfOk result (λ d. image_of d ≡ image.now) }
@@ -60,6 +62,7 @@ impl<'a> StepFlash<'a> {
         places: &'a [usize],
     ) -> Result<StepFlash<'a>, Unmade>
         ensures content { IfOk result (λ d. told_of d ≡ start_with image.now file.now) }
+        ensures steps { IfOk result (λ d. steps_of d ≡ []) }
         ensures power { IfOk result (λ d. is_on d ≡ true) }
         ensures unarmed { IfOk result (λ d. arming_of d ≡ None) }
         ensures image { IfOk result (λ d. image_of d ≡ image.now) }
@@ -87,6 +90,8 @@ impl<'a> StepFlash<'a> {
     // kept apart, as `with_package` is
     #[inline(never)]
     pub fn into_parts(self) -> StepParts
+        // Each call is one of these steps: see the calls of the trait.
+        ensures given { IsGivenOut (device_in self.entry) result }
         ensures noted { IsTrue (is_live self.entry) → NotedBy self.entry result }
         ensures inside { All (IsInsideWith (length (package_of self.entry)) (length result.room.items)
             (block_bytes * block_count self.entry)) result.steps.items }
@@ -94,6 +99,8 @@ impl<'a> StepFlash<'a> {
         ensures doable { AreDoable (package_of self.entry) result.room.items
             (start_with (image_of self.entry) (package_of self.entry)) result.steps.items }
         ensures few { length result.steps.items ≤ most_of self.entry }
+        // The room has the bytes of the programs that are no copies, each once.
+        ensures theirs { length result.room.items ≡ room_bytes result.steps.items }
     {
         Box::into_inner(self.device).into_parts()
     }
@@ -128,27 +135,58 @@ impl<'a> Flash for StepFlash<'a> {
         self.device.is_on()
     }
 
-    fn read(&mut self, at: u32, out: &mut [u8]) -> Result<(), FlashStop> {
+    fn read(&mut self, at: u32, out: &mut [u8]) -> Result<(), FlashStop>
+        requires on { IsTrue (is_on self.old) }
+        requires inside { at + length out.old ≤ block_bytes * block_count self.old }
+        ensures reads { ReadsImage at out.old out.new result (device_in self.old) (device_in self.new) }
+        ensures kept { KeepsSteps (device_in self.old) (device_in self.new) }
+    {
         self.device.read(at, out)
     }
 
-    fn erase(&mut self, block: u32) -> Result<(), FlashStop> {
+    fn erase(&mut self, block: u32) -> Result<(), FlashStop>
+        requires on { IsTrue (is_on self.old) }
+        requires inside { block < block_count self.old }
+        ensures writes { Writes (block_bytes * block) (blank block_bytes) result (device_in self.old) (device_in self.new) }
+        ensures noted { NotesStep (erase_step (block_bytes * block)) result (device_in self.old) (device_in self.new) }
+    {
         self.device.erase(block)
     }
 
-    fn program(&mut self, at: u32, bytes: &[u8]) -> Result<(), FlashStop> {
+    fn program(&mut self, at: u32, bytes: &[u8]) -> Result<(), FlashStop>
+        requires on { IsTrue (is_on self.old) }
+        requires place { at % granule_bytes ≡ 0 }
+        requires granules { length bytes.now % granule_bytes ≡ 0 }
+        requires some { 0 < length bytes.now }
+        requires inside { at + length bytes.now ≤ block_bytes * block_count self.old }
+        requires blank { IsTrue true → slice_range (told_of self.old).now at (at + length bytes.now) ≡ blank (length bytes.now) }
+        ensures writes { Writes at bytes.now result (device_in self.old) (device_in self.new) }
+        ensures noted { NotesProgram at bytes.now result (device_in self.old) (device_in self.new) }
+    {
         self.device.program(at, bytes)
     }
 
-    fn barrier(&mut self) -> Result<(), FlashStop> {
+    fn barrier(&mut self) -> Result<(), FlashStop>
+        requires on { IsTrue (is_on self.old) }
+        ensures settles { SettlesImage result (device_in self.old) (device_in self.new) }
+        ensures noted { NotesStep barrier_step result (device_in self.old) (device_in self.new) }
+    {
         self.device.barrier()
     }
 
-    fn arm(&mut self, n: u32, k: u32) {
+    fn arm(&mut self, n: u32, k: u32)
+        requires { 1 ≤ n }
+        ensures arms { ArmsLoss n k (device_in self.old) (device_in self.new) }
+        ensures kept { KeepsSteps (device_in self.old) (device_in self.new) }
+    {
         self.device.arm(n, k);
     }
 
-    fn power_on(&mut self) {
+    fn power_on(&mut self)
+        requires { IsFalse (is_on self.old) }
+        ensures back { ComesBackOn (device_in self.old) (device_in self.new) }
+        ensures kept { KeepsSteps (device_in self.old) (device_in self.new) }
+    {
         self.device.power_on();
     }
 }

@@ -1,8 +1,6 @@
 //! Steps, and the noting of one.
-ghost use Rattle.std.specs.Prelude.{◌≡◌, ℕ, List, ◌+◌, ◌%◌, ◌<◌, ◌≤◌, All, length, IsTrue, IsFalse};
-ghost use Rattle.base_core.specs.Block.{blank, block_bytes};
-ghost use Rattle.flash_core.specs.Told.{Told, put, settle};
-ghost use Rattle.step_flash.specs.Steps.{AreDoable, IsInsideWith, StandsAt, TakesProgram, run_with};
+ghost use Rattle.std.specs.Prelude.{◌≡◌, ◌++◌, ◌∷◌, [], ◌≤◌, length, IsTrue, IsFalse};
+ghost use Rattle.step_flash.specs.Steps.{NotesBytes, barrier_step, copy_step, erase_step, program_step};
 
 use crate::lent_file::LentFile;
 use base_core::BLOCK_BYTES;
@@ -34,14 +32,8 @@ pub struct Step {
 }
 
 /// Notes an erase: whether there was room for it.
-#[tactic(auto, unfolding(crate::specs::Steps::run_with))]
 pub(crate) fn note_erase(steps: &mut Vec<Step>, most: usize, at: u32) -> bool
-    ensures noted { IsTrue result → (t : Told) → (file room : List ℕ)
-        → run_with file room t steps.new.items ≡ put at (blank block_bytes) (run_with file room t steps.old.items) }
-    ensures inside { IsTrue result → (file room size : ℕ) → at + block_bytes ≤ size
-        → All (IsInsideWith file room size) steps.old.items → All (IsInsideWith file room size) steps.new.items }
-    ensures doable { IsTrue result → (t : Told) → (file room : List ℕ) → at % block_bytes ≡ 0
-        → AreDoable file room t steps.old.items → AreDoable file room t steps.new.items }
+    ensures noted { IsTrue result → steps.new.items ≡ steps.old.items ++ erase_step at ∷ [] }
     ensures few { length steps.old.items ≤ most → length steps.new.items ≤ most }
     ensures same { IsFalse result → steps.new.items ≡ steps.old.items }
 {
@@ -60,14 +52,7 @@ pub(crate) fn note_erase(steps: &mut Vec<Step>, most: usize, at: u32) -> bool
 
 /// Notes a program whose bytes stand in the package from a place on: whether there was room for it.
 fn note_copy(steps: &mut Vec<Step>, most: usize, at: u32, from: u32, bytes: &[u8]) -> bool
-    ensures noted { IsTrue result → (t : Told) → (file room : List ℕ) → StandsAt file from bytes.now
-        → run_with file room t steps.new.items ≡ put at bytes.now (run_with file room t steps.old.items) }
-    ensures inside { IsTrue result → (file room size : ℕ) → at + length bytes.now ≤ size → 0 < length bytes.now
-        → from + length bytes.now ≤ file
-        → All (IsInsideWith file room size) steps.old.items → All (IsInsideWith file room size) steps.new.items }
-    ensures doable { IsTrue result → (t : Told) → (file room : List ℕ)
-        → TakesProgram (run_with file room t steps.old.items) at (length bytes.now)
-        → AreDoable file room t steps.old.items → AreDoable file room t steps.new.items }
+    ensures noted { IsTrue result → steps.new.items ≡ steps.old.items ++ copy_step at (length bytes.now) from ∷ [] }
     ensures few { length steps.old.items ≤ most → length steps.new.items ≤ most }
     ensures same { IsFalse result → steps.new.items ≡ steps.old.items }
 {
@@ -89,16 +74,9 @@ fn note_copy(steps: &mut Vec<Step>, most: usize, at: u32, from: u32, bytes: &[u8
 
 /// Notes a program whose bytes are put into the room: whether there was room for it and them.
 fn note_bytes(steps: &mut Vec<Step>, room: &mut Vec<u8>, most: usize, at: u32, bytes: &[u8]) -> bool
-    ensures noted { IsTrue result → (t : Told) → (file : List ℕ) → (size : ℕ)
-        → All (IsInsideWith (length file) (length room.old.items) size) steps.old.items
-        → run_with file room.new.items t steps.new.items ≡ put at bytes.now (run_with file room.old.items t steps.old.items) }
-    ensures inside { IsTrue result → (file size : ℕ) → at + length bytes.now ≤ size
-        → All (IsInsideWith file (length room.old.items) size) steps.old.items
-        → All (IsInsideWith file (length room.new.items) size) steps.new.items }
-    ensures doable { IsTrue result → (t : Told) → (file : List ℕ) → (size : ℕ)
-        → All (IsInsideWith (length file) (length room.old.items) size) steps.old.items
-        → TakesProgram (run_with file room.old.items t steps.old.items) at (length bytes.now)
-        → AreDoable file room.old.items t steps.old.items → AreDoable file room.new.items t steps.new.items }
+    ensures noted { IsTrue result →
+        (steps.new.items ≡ steps.old.items ++ program_step at (length bytes.now) (length room.old.items) ∷ [])
+        × (room.new.items ≡ room.old.items ++ bytes.now) }
     ensures few { length steps.old.items ≤ most → length steps.new.items ≤ most }
     ensures same { IsFalse result → (steps.new.items ≡ steps.old.items) × (room.new.items ≡ room.old.items) }
 {
@@ -134,18 +112,8 @@ pub(crate) fn note_program(
     at: u32,
     bytes: &[u8],
 ) -> bool
-    ensures noted { IsTrue result → (t : Told) → (size : ℕ)
-        → All (IsInsideWith (length file.old.bytes.now) (length room.old.items) size) steps.old.items
-        → run_with file.old.bytes.now room.new.items t steps.new.items
-        ≡ put at bytes.now (run_with file.old.bytes.now room.old.items t steps.old.items) }
-    ensures inside { IsTrue result → (size : ℕ) → at + length bytes.now ≤ size → 0 < length bytes.now
-        → All (IsInsideWith (length file.old.bytes.now) (length room.old.items) size) steps.old.items
-        → All (IsInsideWith (length file.old.bytes.now) (length room.new.items) size) steps.new.items }
-    ensures doable { IsTrue result → (t : Told) → (size : ℕ)
-        → All (IsInsideWith (length file.old.bytes.now) (length room.old.items) size) steps.old.items
-        → TakesProgram (run_with file.old.bytes.now room.old.items t steps.old.items) at (length bytes.now)
-        → AreDoable file.old.bytes.now room.old.items t steps.old.items
-        → AreDoable file.old.bytes.now room.new.items t steps.new.items }
+    ensures noted { IsTrue result →
+        NotesBytes file.old.bytes.now at bytes.now steps.old.items room.old.items steps.new.items room.new.items }
     ensures few { length steps.old.items ≤ most → length steps.new.items ≤ most }
     ensures same { IsFalse result → (steps.new.items ≡ steps.old.items) × (room.new.items ≡ room.old.items) }
     ensures file { file.new.bytes.now ≡ file.old.bytes.now }
@@ -157,14 +125,8 @@ pub(crate) fn note_program(
 }
 
 /// Notes a barrier: whether there was room for it.
-#[tactic(auto, unfolding(crate::specs::Steps::run_with))]
 pub(crate) fn note_barrier(steps: &mut Vec<Step>, most: usize) -> bool
-    ensures noted { IsTrue result → (t : Told) → (file room : List ℕ)
-        → run_with file room t steps.new.items ≡ settle (run_with file room t steps.old.items) }
-    ensures inside { IsTrue result → (file room size : ℕ)
-        → All (IsInsideWith file room size) steps.old.items → All (IsInsideWith file room size) steps.new.items }
-    ensures doable { IsTrue result → (t : Told) → (file room : List ℕ)
-        → AreDoable file room t steps.old.items → AreDoable file room t steps.new.items }
+    ensures noted { IsTrue result → steps.new.items ≡ steps.old.items ++ barrier_step ∷ [] }
     ensures few { length steps.old.items ≤ most → length steps.new.items ≤ most }
     ensures same { IsFalse result → steps.new.items ≡ steps.old.items }
 {

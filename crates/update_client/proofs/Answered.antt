@@ -9,7 +9,7 @@ use Rattle.fwu_model.specs.State.{State}
 use Rattle.fwu_model.specs.Sound.{Setting}
 use Rattle.fwu_model.specs.Session.{Session, Off, On, Staged, Handle}
 use Rattle.fwu_model.specs.Call as call
-use Rattle.fwu_model.specs.Answer.{Answer, answer, answer_send_partial, bits_over, guid_of, has_image, image_held, images_over, install_unless, partial_fault, payload_or, send_file_over, send_over, sent_over, table_in}
+use Rattle.fwu_model.specs.Answer.{Answer, answer, answer_send_partial, bits_over, type_of_image, has_image, image_held, images_over, install_unless, partial_fault, payload_or, send_file_over, send_over, sent_over, table_in}
 use Rattle.fip_tables.specs.Files.{Lacks, Tells}
 use Rattle.agent_machine.specs.Moment.{Moment, Shows}
 use Rattle.update_client.specs.declared.stops.Sent.{Sent}
@@ -29,13 +29,13 @@ images-same : (rows : List ImageRow) (file : List ℕ) (toc : Toc) (bytes others
     → images_over rows file toc bytes ≡ images_over rows file toc others
 unfolding images_over
 images-same rows file toc bytes others same =
-    let f = λ (i : ℕ). payload_or file (bytes i) (entry_of toc (guid_of rows i)) in
-    let g = λ (i : ℕ). payload_or file (others i) (entry_of toc (guid_of rows i)) in
+    let f = λ (i : ℕ). payload_or file (bytes i) (entry_of toc (type_of_image rows i)) in
+    let g = λ (i : ℕ). payload_or file (others i) (entry_of toc (type_of_image rows i)) in
     let long = length-map-range_with_len f 0 (length rows) in
     ext_get_or [] (images_over rows file toc bytes) (images_over rows file toc others) (long ∙ sym (length-map-range_with_len g 0 (length rows))) (λ i below.
     let lt : i < length rows = omega (arith, below, long) in
     get_or-map-range_with_len f 0 (length rows) i i [] lt (omega arith)
-    ∙ payload-same file (bytes i) (others i) (entry_of toc (guid_of rows i)) (same i lt)
+    ∙ payload-same file (bytes i) (others i) (entry_of toc (type_of_image rows i)) (same i lt)
     ∙ sym (get_or-map-range_with_len g 0 (length rows) i i [] lt (omega arith)))
 
 -- ---- the machine's answer to the call

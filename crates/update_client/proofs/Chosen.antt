@@ -17,7 +17,7 @@ use Rattle.fip_tables.specs.Images.{ArePresent as AreThere}
 use Rattle.fip_tables.proofs.Chosen.{found_has}
 use Rattle.update_client.specs.declared.stops.SendStop.{SendStop}
 use Rattle.update_client.specs.Choosing.{AreChosen, refused_as, refused_image}
-use Rattle.update_client.specs.Partial.{ArePresent}
+use Rattle.update_client.specs.Partial.{AreSendable}
 
 abbrev reply_of : ImageFault → Reply
 reply_of (Missing guid) = reply.Missing guid
@@ -88,7 +88,7 @@ pub all-refused : (rows : List ImageRow) (toc : Toc) (fault : ImageFault) (stop 
     → refused_image (first_image_fault rows toc) ≡ Some stop
 all-refused rows toc fault stop is said = refused-by (first_image_fault rows toc) (images_fault rows toc) fault stop (same-fault rows toc) is said
 
-pub present-chosen : (rows : List ImageRow) (toc : Toc) (entries : List Entry) → AreThere rows toc entries → ArePresent rows toc entries
+pub present-chosen : (rows : List ImageRow) (toc : Toc) (entries : List Entry) → AreThere rows toc entries → AreSendable rows toc entries
 present-chosen rows toc entries are = record {
   none = same-partial rows toc ∙ ap (option_map reply_of) are.none;
   entries_are = are.entries_are;

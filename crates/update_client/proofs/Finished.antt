@@ -15,7 +15,7 @@ use Rattle.agent_machine.specs.declared.stop.Stop.{Stop}
 use Rattle.agent_machine.specs.declared.stop.Stop.TheVariants as stop
 use Rattle.agent_machine.specs.Moment.{Moment, Shows}
 use Rattle.agent_machine.specs.Meets.{GoesBy}
-use Rattle.agent_machine.specs.Goes.{Goes}
+use Rattle.agent_machine.specs.Goes.{GoesByMoves}
 use Rattle.agent_machine.proofs.Going.{goes-then}
 use Rattle.agent_machine.proofs.CallGoing.{MeetsAs, call-goes, call-replies, call-stopped}
 use Rattle.update_client.specs.declared.stops.SendStop.TheVariants.{End, Lost, Fault}
@@ -23,7 +23,7 @@ use Rattle.std.specs.List.{list_all}
 use Rattle.agent_machine.specs.Filling.{between}
 use Rattle.update_client.specs.Halts.{Halts, stopped_as}
 use Rattle.update_client.proofs.WrittenPiece.{call-halts, no-success}
-use Rattle.update_client.specs.Finishes.{Finishes, FinishesBy, end_moves}
+use Rattle.update_client.specs.Finishes.{FinishesSend, FinishesBy, end_moves}
 use Rattle.update_client.proofs.Staging.{end-answer, end-answers, cancel-answers}
 
 abbrev of : Unit {0} → Reply
@@ -50,26 +50,26 @@ module _ (passes : List ℕ → Bool) (old mid : Moment) where
       let is = end-answers E s boot parts all in
       let replied : reply.Success ≡ (end-answer E s boot parts (may_install E s (staged_package parts))).reply = call-replies E of
       (Ok tt) call.End old mid s x layout shows m reply.Success refl ∙ ap (λ (a : Answer). a.reply) is in
-      let goes = subst (λ (a : Answer). Goes E (Ok tt) old mid s a.moves a.next) is
+      let goes = subst (λ (a : Answer). GoesByMoves E (Ok tt) old mid s a.moves a.next) is
       (call-goes E of (Ok tt) call.End old mid s x layout shows m reply.Success refl) in
       by-test (may_install E s (staged_package parts)) replied goes
     where
       by-test : (b : Bool) → reply.Success ≡ (end-answer E s boot parts b).reply
-          → Goes E (Ok tt) old mid s (end-answer E s boot parts b).moves (end-answer E s boot parts b).next
-          → (b ≡ true) × Goes E (Ok tt) old mid s (cond b (Switch (update_bank s) (staged_package parts) (staged_bits parts) ∷ []) []) (On boot None no_handles)
+          → GoesByMoves E (Ok tt) old mid s (end-answer E s boot parts b).moves (end-answer E s boot parts b).next
+          → (b ≡ true) × GoesByMoves E (Ok tt) old mid s (cond b (Switch (update_bank s) (staged_package parts) (staged_bits parts) ∷ []) []) (On boot None no_handles)
       by-test true replied goes = (refl, goes)
       by-test false replied goes = absurd cc
 
   pub finish-lost : MeetsAs of (Err stop.Lost) passes call.End old mid → FinishesBy passes (Err Lost) old mid
   finish-lost meets E s boot parts layout verifier all shows =
-      subst (λ (ms : List Move). Goes E (Err flash_stop.Lost) old mid s ms (On boot None no_handles))
+      subst (λ (ms : List Move). GoesByMoves E (Err flash_stop.Lost) old mid s ms (On boot None no_handles))
       (ap (λ (a : Answer). a.moves) (end-answers E s boot parts all) ∙ moves-are E s boot parts)
       (call-stopped E of (Err stop.Lost) call.End old mid s (between boot parts) layout shows (by-passes (Err stop.Lost) E verifier meets) refl
       (On boot None no_handles))
 
   pub finish-failed : MeetsAs of (Err stop.Fault) passes call.End old mid → FinishesBy passes (Err Fault) old mid
   finish-failed meets E s boot parts layout verifier all shows =
-      subst (λ (ms : List Move). Goes E (Err flash_stop.Failed) old mid s ms (On boot None no_handles))
+      subst (λ (ms : List Move). GoesByMoves E (Err flash_stop.Failed) old mid s ms (On boot None no_handles))
       (ap (λ (a : Answer). a.moves) (end-answers E s boot parts all) ∙ moves-are E s boot parts)
       (call-stopped E of (Err stop.Fault) call.End old mid s (between boot parts) layout shows (by-passes (Err stop.Fault) E verifier meets) refl
       (On boot None no_handles))
@@ -80,21 +80,21 @@ module _ (passes : List ℕ → Bool) (old mid : Moment) where
       → list_all is_committed parts ≡ true
       → Shows old s (between boot parts)
       → (st ≡ status.AuthFail) × (may_install E s (staged_package parts) ≡ false)
-      × Goes E (Ok tt) old mid s (end_moves E s (staged_package parts) (staged_bits parts)) (between boot parts)
+      × GoesByMoves E (Ok tt) old mid s (end_moves E s (staged_package parts) (staged_bits parts)) (between boot parts)
   end-refused st meets E s boot parts layout verifier all shows =
       let m = by-passes (Err (stop.Status st)) E verifier meets in
       let x = between boot parts in
       let is = end-answers E s boot parts all in
       let replied : reply.Refused st ≡ (end-answer E s boot parts (may_install E s (staged_package parts))).reply = call-replies E of
       (Err (stop.Status st)) call.End old mid s x layout shows m (reply.Refused st) refl ∙ ap (λ (a : Answer). a.reply) is in
-      let goes = subst (λ (a : Answer). Goes E (Ok tt) old mid s a.moves a.next) is
+      let goes = subst (λ (a : Answer). GoesByMoves E (Ok tt) old mid s a.moves a.next) is
       (call-goes E of (Err (stop.Status st)) call.End old mid s x layout shows m (reply.Refused st) refl) in
       by-test (may_install E s (staged_package parts)) replied goes
     where
       by-test : (b : Bool) → reply.Refused st ≡ (end-answer E s boot parts b).reply
-          → Goes E (Ok tt) old mid s (end-answer E s boot parts b).moves (end-answer E s boot parts b).next
+          → GoesByMoves E (Ok tt) old mid s (end-answer E s boot parts b).moves (end-answer E s boot parts b).next
           → (st ≡ status.AuthFail) × (b ≡ false)
-          × Goes E (Ok tt) old mid s (cond b (Switch (update_bank s) (staged_package parts) (staged_bits parts) ∷ []) []) (between boot parts)
+          × GoesByMoves E (Ok tt) old mid s (cond b (Switch (update_bank s) (staged_package parts) (staged_bits parts) ∷ []) []) (between boot parts)
       by-test true replied goes = absurd cc
       by-test false replied goes = (cc, refl, goes)
 
@@ -117,13 +117,13 @@ module _ (passes : List ℕ → Bool) (old mid new : Moment) (st : Status) (ends
   finish-refused cancels E s boot parts layout verifier all shows =
       let one = end-refused passes old mid st ends E s boot parts layout verifier all shows in
       let ms = end_moves E s (staged_package parts) (staged_bits parts) in
-      let two = subst (λ (a : Answer). Goes E (Ok tt) mid new (after s ms) a.moves a.next)
+      let two = subst (λ (a : Answer). GoesByMoves E (Ok tt) mid new (after s ms) a.moves a.next)
       (cancel-answers E (after s ms) boot parts no_handles)
       (call-goes E of (Ok tt) call.Cancel mid new (after s ms) (between boot parts) (layout ∙ sym one.2.stays.layout) one.2.shows
       (cancels E.passes) reply.Success refl) in (
         one.0,
         one.1,
-        subst (λ (l : List Move). Goes E (Ok tt) old new s l (On boot None no_handles)) (append-nil ms)
+        subst (λ (l : List Move). GoesByMoves E (Ok tt) old new s l (On boot None no_handles)) (append-nil ms)
             (goes-then E (Ok tt) old mid new s ms [] (between boot parts) (On boot None no_handles) one.2 two),
       )
 
@@ -142,13 +142,13 @@ module _ (passes : List ℕ → Bool) (old mid new : Moment) (st : Status) (ends
       by-halt halt E s boot parts one.2 two
     where
       by-halt : (halt : Stop) (E : Setting) (s : State) (boot : ℕ) (parts : List Staged)
-          → Goes E (Ok tt) old mid s (end_moves E s (staged_package parts) (staged_bits parts)) (between boot parts)
+          → GoesByMoves E (Ok tt) old mid s (end_moves E s (staged_package parts) (staged_bits parts)) (between boot parts)
           → Halts {T = Unit {0}} (Err (stopped_as halt)) E mid new (after s (end_moves E s (staged_package parts) (staged_bits parts))) boot (On boot None no_handles)
-          → Finishes (Err (stopped_as halt)) E old new s boot (staged_package parts) (staged_bits parts)
-      by-halt stop.Lost E s boot parts one two = subst (λ (l : List Move). Goes E (Err flash_stop.Lost) old new s l (On boot None no_handles))
+          → FinishesSend (Err (stopped_as halt)) E old new s boot (staged_package parts) (staged_bits parts)
+      by-halt stop.Lost E s boot parts one two = subst (λ (l : List Move). GoesByMoves E (Err flash_stop.Lost) old new s l (On boot None no_handles))
           (append-nil (end_moves E s (staged_package parts) (staged_bits parts))) (goes-then E (Err flash_stop.Lost) old mid new s (end_moves E s (staged_package parts) (staged_bits parts)) []
           (between boot parts) (On boot None no_handles) one two)
-      by-halt stop.Fault E s boot parts one two = subst (λ (l : List Move). Goes E (Err flash_stop.Failed) old new s l (On boot None no_handles))
+      by-halt stop.Fault E s boot parts one two = subst (λ (l : List Move). GoesByMoves E (Err flash_stop.Failed) old new s l (On boot None no_handles))
           (append-nil (end_moves E s (staged_package parts) (staged_bits parts))) (goes-then E (Err flash_stop.Failed) old mid new s (end_moves E s (staged_package parts) (staged_bits parts)) []
           (between boot parts) (On boot None no_handles) one two)
       by-halt (stop.Status q) E s boot parts one two = absurd two

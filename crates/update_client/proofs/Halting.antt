@@ -5,14 +5,14 @@ use Rattle.fwu_model.specs.State.{State}
 use Rattle.fwu_model.specs.Sound.{Setting}
 use Rattle.fwu_model.specs.Session.{Session, On}
 use Rattle.agent_machine.specs.Moment.{Moment}
-use Rattle.agent_machine.specs.Goes.{Goes}
+use Rattle.agent_machine.specs.Goes.{GoesByMoves}
 use Rattle.agent_machine.proofs.Going.{goes-then}
 use Rattle.update_client.specs.declared.stops.SendStop.{SendStop}
 use Rattle.update_client.specs.declared.stops.SendStop.TheVariants.{MissingImage, ImageTooLarge, Begin, End, ReadFailed, Lost, Fault, Gone}
 use Rattle.update_client.specs.Halts.{Halts}
 
 -- what was done before a call that halts
-pub halts-after : {T : Type 0} (result : Result T SendStop) (E : Setting) (old mid new : Moment) (s : State) (boot : ℕ) (x y : Session) → Goes E
+pub halts-after : {T : Type 0} (result : Result T SendStop) (E : Setting) (old mid new : Moment) (s : State) (boot : ℕ) (x y : Session) → GoesByMoves E
     (Ok tt) old mid s [] x → Halts result E mid new s boot y → Halts result E old new s boot y
 halts-after (Ok v) E old mid new s boot x y first next = goes-then E (Ok tt) old mid new s [] [] x y first next
 halts-after (Err ReadFailed) E old mid new s boot x y first next = record {

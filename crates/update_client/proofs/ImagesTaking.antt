@@ -17,7 +17,7 @@ use Rattle.agent_machine.specs.Moment.{Moment}
 use Rattle.update_client.specs.Pieces.{WritesFirst, WritesImage}
 use Rattle.update_client.specs.Images.{SendsFirst, no_entry, sent_parts}
 use Rattle.update_client.specs.Choosing.{no_row}
-use Rattle.update_client.specs.Takes.{PieceTakes, FirstTake, ImageTakes, ImagesTake, writes_in, writes_of_entry, writes_sent}
+use Rattle.update_client.specs.Takes.{PayloadPieceTakes, FirstTake, ImageTakes, ImagesTake, writes_in, writes_of_entry, writes_sent}
 use Rattle.agent_calls.specs.Takes.{Takes, piece_at, pieces_of, writes_of_image, writes_of_pieces}
 use Rattle.agent_calls.proofs.Pieces.{Pieces, next-piece, pieces-all, pieces-more, pieces-none}
 use Rattle.agent_calls.proofs.Taking.{takes-none, takes-then}
@@ -32,7 +32,7 @@ use Rattle.update_client.proofs.SentImages.{take-next}
 -- a write by the handle that writes the image
 pub piece-takes : (at n : ℕ) (old : Moment) (armed arming : Option Arming)
     → ((image : ℕ) → handle_kept old.fields.session 0 ≡ Writes image
-    → arming ≡ lowered_by (writes_to_append (size_of (part_at old.fields.session image)) n) armed) → PieceTakes at n old armed arming
+    → arming ≡ lowered_by (writes_to_append (size_of (part_at old.fields.session image)) n) armed) → PayloadPieceTakes at n old armed arming
 piece-takes at n old armed arming lowered s boot parts image before below count shows =
     let size : size_of (part_at old.fields.session image) ≡ at = written old s boot parts image before below shows ∙ count in
     lowered image (writer old s boot parts image before below shows)
@@ -55,7 +55,7 @@ first-taken-none size e m armed some = record {
 
 pub first-taken-more : (told : Option Directory) (name : List ℕ) (size : ℕ) (e : Entry) (at n : ℕ) (old mid : Moment) (a b c : Option Arming)
     → at < e.size → n ≡ piece_at size e.size at
-    → WritesFirst told name e at old mid → FirstTaken size e at old a b → PieceTakes at n mid b c → FirstTaken size e (at + n) old a c
+    → WritesFirst told name e at old mid → FirstTaken size e at old a b → PayloadPieceTakes at n mid b c → FirstTaken size e (at + n) old a c
 first-taken-more told name size e at n old mid a b c more is first front piece =
     let here : at ≡ size * front.count = next-piece size e.size at front.count front.pieces more in
     let same : writes_to_append at n ≡ writes_to_append (size * front.count) (piece_at size e.size (size * front.count)) =

@@ -18,13 +18,13 @@ use Rattle.agent_machine.specs.declared.stop.Stop.{Stop}
 use Rattle.agent_machine.specs.declared.stop.Stop.TheVariants as stop
 use Rattle.agent_machine.specs.Moment.{Moment, Shows}
 use Rattle.agent_machine.specs.Meets.{GoesBy, IsStopped}
-use Rattle.agent_machine.specs.Goes.{Goes}
+use Rattle.agent_machine.specs.Goes.{GoesByMoves}
 use Rattle.update_client.specs.declared.stops.SendStop.{SendStop}
 use Rattle.update_client.specs.declared.stops.SendStop.TheVariants.{MissingImage, ImageTooLarge, Begin, End, ReadFailed, Lost, Fault, Gone}
 use Rattle.agent_machine.specs.Filling.{between}
 use Rattle.update_client.specs.Halts.{Halts, is_unread}
 use Rattle.update_client.specs.Images.{SendsImages, sent_parts}
-use Rattle.update_client.specs.Finishes.{Finishes, FinishesBy, InstallsImages, end_moves}
+use Rattle.update_client.specs.Finishes.{FinishesSend, FinishesBy, InstallsImages, end_moves}
 use Rattle.agent_machine.proofs.Going.{goes-then, goes-stopped}
 use Rattle.agent_machine.proofs.CallGoing.{MeetsAs, call-goes, call-replies}
 use Rattle.update_client.proofs.Staging.{cancel-answers}
@@ -75,7 +75,7 @@ success u = reply.Success
 
 finishes-after : (result : Result (Unit {0}) SendStop) (E : Setting) (old mid new : Moment) (s : State) (boot : ℕ) (x : Session) (p : List (List ℕ))
     (bits : List Bool)
-    → Goes E (Ok tt) old mid s [] x → Finishes result E mid new s boot p bits → Finishes result E old new s boot p bits
+    → GoesByMoves E (Ok tt) old mid s [] x → FinishesSend result E mid new s boot p bits → FinishesSend result E old new s boot p bits
 finishes-after (Ok v) E old mid new s boot x p bits first next = (
   next.0,
   goes-then E (Ok tt) old mid new s [] (end_moves E s p bits) x
@@ -95,7 +95,7 @@ finishes-after (Err Gone) E old mid new s boot x p bits first next = absurd next
 
 -- at a stop of the flash nothing is said of the session, and what was to follow may be named
 pub stopped-at : (e : FlashStop) (E : Setting) (old new : Moment) (s : State) (ms ns : List Move) (y z : Session)
-    → Goes E (Err e) old new s ms y → Goes E (Err e) old new s (ms ++ ns) z
+    → GoesByMoves E (Err e) old new s ms y → GoesByMoves E (Err e) old new s (ms ++ ns) z
 stopped-at e E old new s ms ns y z goes =
     let all = goes-stopped E (Err e) old new s ms ns y y refl goes in
     record { shows = tt; does = all.does; guarded = all.guarded; keeps = all.keeps; stays = all.stays }
@@ -142,7 +142,7 @@ module _ (told : Option Directory) (name : List ℕ) (entries : List Entry) (req
     goes = λ E s boot parts places layout verifier are whole shows.
         let still = sent.goes E s boot parts places layout are shows in
         let there = On boot (Some still.parts) still.handles in
-        let last = subst (λ (a : Answer). Goes E (Ok tt) mid new s a.moves a.next) (cancel-answers E s boot still.parts still.handles)
+        let last = subst (λ (a : Answer). GoesByMoves E (Ok tt) mid new s a.moves a.next) (cancel-answers E s boot still.parts still.handles)
         (call-goes E success (Ok tt) call.Cancel mid new s there (layout ∙ sym still.goes.stays.layout) still.goes.shows
         (cancels E.passes) reply.Success refl) in
         goes-then E (Ok tt) old mid new s [] [] there (On boot None no_handles) still.goes last;
@@ -180,7 +180,7 @@ interrupted told name entries request passes old new halt other sent = record {
   where
     by-stop : (halt : SendStop) (E : Setting) (s : State) (boot : ℕ) → is_unread halt ≡ false → (p : List (List ℕ)) (bits : List Bool) (y : Session)
         → Halts {T = Unit {0}} (Err halt) E old new s boot y
-        → Finishes (Err halt) E old new s boot p bits
+        → FinishesSend (Err halt) E old new s boot p bits
     by-stop Lost E s boot other p bits y h = stopped-at flash_stop.Lost E old new s [] (end_moves E s p bits) y (On boot None no_handles) h
     by-stop Fault E s boot other p bits y h = stopped-at flash_stop.Failed E old new s [] (end_moves E s p bits) y (On boot None no_handles) h
     by-stop ReadFailed E s boot other p bits y h = absurd cc

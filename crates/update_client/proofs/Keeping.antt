@@ -15,7 +15,7 @@ use Rattle.agent_calls.specs.Shown.{AgentGoes, SpentBy, device, gone}
 use Rattle.update_client.specs.declared.stops.SendStop.{SendStop}
 use Rattle.update_client.specs.declared.stops.SendStop.TheVariants.{MissingImage, ImageTooLarge, Begin, End, ReadFailed, Lost, Fault, Gone}
 use Rattle.update_client.specs.Halts.{StopsEnd, StopsWithin, flash_of, stopped_as}
-use Rattle.update_client.specs.Pieces.{KeepsBeside, ReadsBy}
+use Rattle.update_client.specs.Pieces.{KeepsBeside, ReadsPieceBy}
 use Rattle.update_client.proofs.Spending.{stop-spent}
 
 -- ---- which stop it is
@@ -30,11 +30,11 @@ stops-stopped T U stop.Gone was now here goes = absurd (gone-here (goes.gone.0 r
     gone-here : IsTrue was → ⊥
     gone-here is = cc
 
-reads-done : {T : Type 0} (x : T) (n : ℕ) → ReadsBy {T = T} n n (Ok x)
+reads-done : {T : Type 0} (x : T) (n : ℕ) → ReadsPieceBy {T = T} n n (Ok x)
 reads-done x n = record { later = omega arith; once = omega arith; failed = λ e. absurd cc }
 
 -- no stop of the agent is a failed read
-reads-stopped : (T : Type 0) (q : Stop) (n : ℕ) → ReadsBy {T = T} n n (Err (stopped_as q))
+reads-stopped : (T : Type 0) (q : Stop) (n : ℕ) → ReadsPieceBy {T = T} n n (Err (stopped_as q))
 reads-stopped T (stop.Status st) n = record { later = omega arith; once = omega arith; failed = λ e. absurd cc }
 reads-stopped T stop.Lost n = record { later = omega arith; once = omega arith; failed = λ e. absurd cc }
 reads-stopped T stop.Fault n = record { later = omega arith; once = omega arith; failed = λ e. absurd cc }
@@ -52,7 +52,7 @@ stops-ended T (Err Lost) stops = tt
 stops-ended T (Err Fault) stops = tt
 stops-ended T (Err Gone) stops = stops
 
-reads-ended : (T : Type 0) (r : Result T SendStop) (n : ℕ) → StopsEnd r → ReadsBy n n r
+reads-ended : (T : Type 0) (r : Result T SendStop) (n : ℕ) → StopsEnd r → ReadsPieceBy n n r
 reads-ended T (Ok x) n stops = reads-done x n
 reads-ended T (Err (MissingImage guid)) n stops = absurd stops
 reads-ended T (Err (ImageTooLarge guid)) n stops = absurd stops
@@ -86,7 +86,7 @@ module _ {D H : Type 0} {F : flash.Ghosts D} (g : Ghosts H) (at_rest : (f : H) (
     spent = none-spent F (gone a) (device a) here power;
     buffer = long;
     files = reads;
-    reads = subst (λ (n : ℕ). ReadsBy {T = Unit {0}} n (g.faults f) (Ok tt)) same (reads-done tt (g.faults f));
+    reads = subst (λ (n : ℕ). ReadsPieceBy {T = Unit {0}} n (g.faults f) (Ok tt)) same (reads-done tt (g.faults f));
   }
 
   -- a call of the agent
@@ -132,7 +132,7 @@ module _ {D H : Type 0} {F : flash.Ghosts D} (g : Ghosts H) (at_rest : (f : H) (
         spent = spent-then first.spent next.spent;
         buffer = next.buffer ∙ first.buffer;
         files = reads-then g _ joins e f h first.files next.files;
-        reads = subst (λ (n : ℕ). ReadsBy n (g.faults h) result) same next.reads;
+        reads = subst (λ (n : ℕ). ReadsPieceBy n (g.faults h) result) same next.reads;
       }
 
   -- what was done, whatever it gave

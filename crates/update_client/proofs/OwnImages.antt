@@ -13,7 +13,7 @@ use Rattle.fwu_formats.specs.Package.{Entry, Toc, has_guid}
 use Rattle.fwu_model.specs.Sound.{Setting}
 use Rattle.fwu_model.proofs.Staging.{same-self, same-is, distinct-at}
 use Rattle.update_client.specs.Choosing.{AreChosen, no_row}
-use Rattle.update_client.specs.Images.{AreImages, no_entry}
+use Rattle.update_client.specs.Images.{AreUnstaged, no_entry}
 
 abbrev pub guid_in : List ImageRow → ℕ → List ℕ
 guid_in rows k = (get_or rows k no_row).guid
@@ -56,7 +56,7 @@ found-has guid (x ∷ xs) e is = by-test (has_guid guid x) (find (has_guid guid)
 pub are-images : (E : Setting) (toc : Toc) (entries : List Entry) → IsTrue (are_distinct (map (λ r. r.guid) E.layout.rows))
     → ((k : ℕ) → slot_bytes E.layout k ≡ 4096 * (get_or E.layout.rows k no_row).slots)
     → AreChosen E.layout.rows toc entries
-    → AreImages E entries (range_with_len 0 (length E.layout.rows)) (replicate (length E.layout.rows) Nothing)
+    → AreUnstaged E entries (range_with_len 0 (length E.layout.rows)) (replicate (length E.layout.rows) Nothing)
 are-images E toc entries distinct slots chosen = record {
   count = length-range_with_len 0 (length E.layout.rows) ∙ sym chosen.count;
   below = λ k lt. omega (arith, place k lt, chosen.count, lt, length-replicate (length E.layout.rows) Nothing);

@@ -15,9 +15,9 @@ use Rattle.fwu_model.specs.Reply.{Reply}
 use Rattle.fwu_model.specs.Reply as reply
 use Rattle.update_client.specs.Choosing.{no_row}
 use Rattle.fwu_model.specs.Answer.{copied_part, first_size_fault, has_image, or_else, sent_over, size_fault, skipped}
-use Rattle.update_client.specs.Images.{AreImages, no_entry}
+use Rattle.update_client.specs.Images.{AreUnstaged, no_entry}
 use Rattle.update_client.proofs.OwnImages.{found-has, guid_in, own-image}
-use Rattle.update_client.specs.Partial.{ArePresent, kept_parts, places, present}
+use Rattle.update_client.specs.Partial.{AreSendable, kept_parts, places, present}
 
 -- ---- how many they are
 
@@ -171,9 +171,9 @@ sizes-fit (r ∷ rows) toc i e none lt is = by-place (λ j less it. sizes-fit ro
 pub are-present : (E : Setting) (toc : Toc) (bytes : ℕ → List ℕ) (entries : List Entry) → IsTrue (are_distinct (map (λ r. r.guid) E.layout.rows))
     → ((k : ℕ) → slot_bytes E.layout k ≡ 4096 * (get_or E.layout.rows k no_row).slots)
     → first_size_fault E.layout.rows toc ≡ None → entries ≡ present E.layout.rows toc
-    → AreImages E entries (places toc 0 E.layout.rows) (kept_parts toc bytes 0 E.layout.rows)
+    → AreUnstaged E entries (places toc 0 E.layout.rows) (kept_parts toc bytes 0 E.layout.rows)
 are-present E toc bytes entries distinct slots none is =
-    subst (λ (es : List Entry). AreImages E es (places toc 0 E.layout.rows) (kept_parts toc bytes 0 E.layout.rows)) (sym is) (record {
+    subst (λ (es : List Entry). AreUnstaged E es (places toc 0 E.layout.rows) (kept_parts toc bytes 0 E.layout.rows)) (sym is) (record {
       count = places-long toc 0 E.layout.rows;
       below = λ k lt. let p = placed toc 0 E.layout.rows k lt in omega (arith, p.below, p.place, kept-long toc bytes 0 E.layout.rows);
       found = λ k lt.
@@ -201,7 +201,7 @@ or-none : (b : Bool) (o : Option Reply) (g : List ℕ) → cond b o (Some (reply
 or-none true o g h = (refl, h)
 or-none false o g h = absurd cc
 
-pub present-fit : (rows : List ImageRow) (toc : Toc) (entries : List Entry) → ArePresent rows toc entries → first_size_fault rows toc ≡ None
+pub present-fit : (rows : List ImageRow) (toc : Toc) (entries : List Entry) → AreSendable rows toc entries → first_size_fault rows toc ≡ None
 present-fit rows toc entries are = (or-none (list_any (has_image toc) rows) (first_size_fault rows toc) (get_or rows 0 no_row).guid are.none).1
 
 -- what holds of each entry of a table holds of each of them
@@ -219,11 +219,11 @@ distinct L fit = (and_parts _ (are_distinct (map (λ (r : ImageRow). r.guid) L.r
 pub rows-found : (L : Layout) (i : ℕ) → IsTrue (fits_layout L) → i < length L.rows → is_some (find_image L.rows (get_or L.rows i no_row).guid) ≡ true
 rows-found L i fit lt = ap (λ (o : Option ℕ). is_some o) (own-image L.rows i (distinct L fit) lt)
 
-pub placed-in : (E : Setting) (L : Layout) (toc : Toc) (bytes : ℕ → List ℕ) (entries : List Entry) → E.layout ≡ L → IsTrue (fits_layout L) → ArePresent L.rows toc entries
-    → AreImages E entries (places toc 0 L.rows) (kept_parts toc bytes 0 L.rows)
+pub placed-in : (E : Setting) (L : Layout) (toc : Toc) (bytes : ℕ → List ℕ) (entries : List Entry) → E.layout ≡ L → IsTrue (fits_layout L) → AreSendable L.rows toc entries
+    → AreUnstaged E entries (places toc 0 L.rows) (kept_parts toc bytes 0 L.rows)
 placed-in E L toc bytes entries layout fit are =
-    subst (λ (M : Layout). AreImages E entries (places toc 0 M.rows) (kept_parts toc bytes 0 M.rows)) layout
-    (let here = subst (λ (M : Layout). ArePresent M.rows toc entries) (sym layout) are in
+    subst (λ (M : Layout). AreUnstaged E entries (places toc 0 M.rows) (kept_parts toc bytes 0 M.rows)) layout
+    (let here = subst (λ (M : Layout). AreSendable M.rows toc entries) (sym layout) are in
     are-present E toc bytes entries (distinct E.layout (subst (λ (M : Layout). IsTrue (fits_layout M)) (sym layout) fit)) (λ k. refl)
     (present-fit E.layout.rows toc entries here) here.entries_are)
 

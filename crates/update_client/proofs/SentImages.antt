@@ -14,7 +14,7 @@ use Rattle.agent_machine.specs.Filling.{between, filled}
 use Rattle.update_client.proofs.Staging.{sent-long, sent-next, sent-other}
 use Rattle.update_client.specs.Halts.{Halts}
 use Rattle.update_client.specs.Pieces.{SendsImage}
-use Rattle.update_client.specs.Images.{AreImages, SendsFirst, SendsImages, no_entry, sent_parts}
+use Rattle.update_client.specs.Images.{AreUnstaged, SendsFirst, SendsImages, no_entry, sent_parts}
 use Rattle.update_client.proofs.Halting.{halts-after}
 
 pub take-next : (l : List Entry) (k : ℕ) → k < length l → take (k + 1) l ≡ take k l ++ get_or l k no_entry ∷ []
@@ -38,7 +38,7 @@ module _ (told : Option Directory) (name : List ℕ) (entries : List Entry) (req
   e = get_or entries k no_entry
 
   next : (result : Result (Unit {0}) SendStop) (image : SendsImage told name e request result mid new) (E : Setting) (s : State) (boot : ℕ)
-      (parts : List Staged) (places : List ℕ) → E.layout ≡ old.fields.layout → AreImages E entries places parts → Shows old s (between boot parts)
+      (parts : List Staged) (places : List ℕ) → E.layout ≡ old.fields.layout → AreUnstaged E entries places parts → Shows old s (between boot parts)
       → Halts result E old new s boot (between boot (sent_parts parts (first.images ++ image.bytes ∷ []) places (request == 0)))
   next result image E s boot parts places layout are shows =
       let one = first.goes E s boot parts places layout are shows in

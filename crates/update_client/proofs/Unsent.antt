@@ -19,7 +19,7 @@ use Rattle.update_client.specs.declared.stops.SendStop.TheVariants.{MissingImage
 use Rattle.update_client.specs.Choosing.{refused_image}
 use Rattle.update_client.specs.Halts.{StopsEnd, is_unread, stopped_as, unbegun_as}
 use Rattle.update_client.specs.Images.{SendsFirst, SendsImages, no_entry, sent_parts}
-use Rattle.update_client.specs.Takes.{FrontTakes, ImageStarts, ImagesStart, ImagesTake, OnRefusedEnd, OnUnread, writes_in, writes_up_to}
+use Rattle.update_client.specs.Takes.{PayloadFrontTakes, ImageStarts, ImagesStart, ImagesTake, OnRefusedEnd, OnUnread, writes_in, writes_up_to}
 use Rattle.update_client.proofs.ImagesTaking.{FirstTaken}
 use Rattle.update_client.proofs.Staging.{sent-long, sent-other}
 use Rattle.update_client.proofs.WholeSending.{early-cases}
@@ -118,7 +118,7 @@ end-of T (Err st) P Q by is = end-then T T st P Q by is
 
 -- a read failed behind the first pieces
 pub front-takes : (size : ℕ) (e : Entry) (at : ℕ) (old : Moment) (a b c : Option Arming) → at < e.size → c ≡ b → FirstTaken size e at old a b
-    → FrontTakes size e old a c
+    → PayloadFrontTakes size e old a c
 front-takes size e at old a b c more same front =
     let here : at ≡ size * front.count = next-piece size e.size at front.count front.pieces more in
     record {
@@ -132,7 +132,7 @@ front-takes size e at old a b c more same front =
 -- of an image that was opened
 pub image-starts : (size : ℕ) (e : Entry) (h : ℕ) (old opened : Moment) (a b c : Option Arming)
     → ((passes : List ℕ → Bool) → MeetsAs {T = ℕ} (λ k. reply.Opened k) (Ok h) passes (call.OpenWrite e.guid) old opened) → b ≡ a
-    → FrontTakes size e opened b c → ImageStarts size e old a c
+    → PayloadFrontTakes size e opened b c → ImageStarts size e old a c
 image-starts size e h old opened a b c opens still front = record {
   pieces = front.pieces;
   more = front.more;

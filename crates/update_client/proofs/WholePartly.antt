@@ -27,7 +27,7 @@ use Rattle.update_client.specs.Takes.{ImagesTake, writes_in}
 use Rattle.update_client.proofs.ImagesTaking.{images-taken}
 use Rattle.agent_calls.specs.Takes.{Takes}
 use Rattle.agent_machine.specs.Meets.{IsSettingOf, flash_result}
-use Rattle.agent_machine.specs.Goes.{Goes}
+use Rattle.agent_machine.specs.Goes.{GoesByMoves}
 use Rattle.agent_machine.proofs.Going.{goes-then, goes-nothing}
 use Rattle.agent_machine.specs.Filling.{between}
 use Rattle.agent_calls.specs.Partly.{begins_over}
@@ -38,10 +38,10 @@ use Rattle.update_client.specs.declared.stops.Sent.{Sent}
 use Rattle.update_client.specs.declared.stops.SendStop.{SendStop}
 use Rattle.update_client.specs.declared.stops.SendStop.TheVariants.{MissingImage, ImageTooLarge, Begin, End, ReadFailed, Lost, Fault, Gone}
 use Rattle.update_client.specs.Choosing.{no_row, refused_image}
-use Rattle.update_client.specs.Finishes.{Finishes, InstallsImages, end_moves}
+use Rattle.update_client.specs.Finishes.{FinishesSend, InstallsImages, end_moves}
 use Rattle.update_client.specs.Halts.{unbegun_as}
-use Rattle.update_client.specs.Images.{AreImages, sent_parts}
-use Rattle.update_client.specs.Sends.{AnswersBy, IsBegun}
+use Rattle.update_client.specs.Images.{AreUnstaged, sent_parts}
+use Rattle.update_client.specs.Sends.{AnswersBy, AllowsBegin}
 use Rattle.update_client.specs.Partial.{AreWhole, GoesAs, WasBegun, IsCountedOver, SendsOver, kept_parts, over_answer, over_images, places, present, types_of}
 use Rattle.update_client.proofs.Installed.{told_value, told-is, stopped-at}
 use Rattle.update_client.proofs.Staging.{begin-answers, begun-keeps, begun-may}
@@ -85,7 +85,7 @@ module _ (E : Setting) (s : State) (boot : ℕ) (staging : Option (List Staged))
       by-test false = sym (append-nil (begin_moves s))
 
   -- a begin of all images isn't refused either
-  is-begun : cannot_begin s boot staging ≡ false → IsBegun E s x
+  is-begun : cannot_begin s boot staging ≡ false → AllowsBegin E s x
   is-begun can = ap (λ (w : Answer). w.reply) (begin-answers E s boot staging handles (length E.layout.rows) refl) ∙ ap
       (λ (t : Bool). (cond t (refused status.Denied x) (answered reply.Success (begin_moves s) (between boot (replicate (length E.layout.rows) Nothing)))).reply) can
 
@@ -102,55 +102,55 @@ module _ (E : Setting) (s : State) (boot : ℕ) (staging : Option (List Staged))
         (cond u (refused status.Unknown x) (answered reply.Success (begin_moves s) (between boot now)))) known
 
     begin-refused : (st : Status) (old new : Moment) → (begins_over E s x types bytes).reply ≡ reply.Refused st
-        → Goes E (Ok tt) old new s (begins_over E s x types bytes).moves (begins_over E s x types bytes).next
+        → GoesByMoves E (Ok tt) old new s (begins_over E s x types bytes).moves (begins_over E s x types bytes).next
         → AnswersBy (reply.BeginRefused st) a E old new s
     begin-refused st old new replied goes =
         by-test (cannot_begin s boot staging) (λ t. answer-at true (may_install E s p) t refl) (sym (ap (λ (w : Answer). w.reply) begin-is) ∙ replied)
-        (subst (λ (w : Answer). Goes E (Ok tt) old new s w.moves w.next) begin-is goes)
+        (subst (λ (w : Answer). GoesByMoves E (Ok tt) old new s w.moves w.next) begin-is goes)
       where
         by-test : (t : Bool) → (t ≡ true → a ≡ answered (reply.BeginRefused status.Denied) [] x) → (begun_by t).reply ≡ reply.Refused st
-            → Goes E (Ok tt) old new s (begun_by t).moves (begun_by t).next → AnswersBy (reply.BeginRefused st) a E old new s
+            → GoesByMoves E (Ok tt) old new s (begun_by t).moves (begun_by t).next → AnswersBy (reply.BeginRefused st) a E old new s
         by-test true is replied goes =
             let denied : st ≡ status.Denied = cc in (
               ap reply.BeginRefused denied ∙ sym (ap (λ (w : Answer). w.reply) (is refl)),
-              subst (λ (w : Answer). Goes E (Ok tt) old new s w.moves w.next) (sym (is refl)) goes,
+              subst (λ (w : Answer). GoesByMoves E (Ok tt) old new s w.moves w.next) (sym (is refl)) goes,
             )
         by-test false is replied goes = absurd cc
 
     begin-stopped : (e : FlashStop) (old new : Moment) (y : Session) → (begins_over E s x types bytes).reply ≡ reply.Success
-        → Goes E (Err e) old new s (begins_over E s x types bytes).moves y
-        → IsBegun E s x × Goes E (Err e) old new s a.moves (On boot None no_handles)
+        → GoesByMoves E (Err e) old new s (begins_over E s x types bytes).moves y
+        → AllowsBegin E s x × GoesByMoves E (Err e) old new s a.moves (On boot None no_handles)
     begin-stopped e old new y replied goes =
         by-test (cannot_begin s boot staging) refl (sym (ap (λ (w : Answer). w.reply) begin-is) ∙ replied)
-        (subst (λ (w : Answer). Goes E (Err e) old new s w.moves y) begin-is goes)
+        (subst (λ (w : Answer). GoesByMoves E (Err e) old new s w.moves y) begin-is goes)
       where
-        by-test : (t : Bool) → cannot_begin s boot staging ≡ t → (begun_by t).reply ≡ reply.Success → Goes E (Err e) old new s (begun_by t).moves y
-            → IsBegun E s x × Goes E (Err e) old new s a.moves (On boot None no_handles)
+        by-test : (t : Bool) → cannot_begin s boot staging ≡ t → (begun_by t).reply ≡ reply.Success → GoesByMoves E (Err e) old new s (begun_by t).moves y
+            → AllowsBegin E s x × GoesByMoves E (Err e) old new s a.moves (On boot None no_handles)
         by-test true is replied goes = absurd cc
         by-test false is replied goes = (
           is-begun is,
-          subst (λ (ms : List Move). Goes E (Err e) old new s ms (On boot None no_handles)) (sym (begun-moves is))
+          subst (λ (ms : List Move). GoesByMoves E (Err e) old new s ms (On boot None no_handles)) (sym (begun-moves is))
               (stopped-at e E old new s (begin_moves s) rest y (On boot None no_handles) goes),
         )
 
     begin-done : (old mid : Moment) → (begins_over E s x types bytes).reply ≡ reply.Success
-        → Goes E (Ok tt) old mid s (begins_over E s x types bytes).moves (begins_over E s x types bytes).next
-        → (cannot_begin s boot staging ≡ false) × Goes E (Ok tt) old mid s (begin_moves s) (between boot now)
+        → GoesByMoves E (Ok tt) old mid s (begins_over E s x types bytes).moves (begins_over E s x types bytes).next
+        → (cannot_begin s boot staging ≡ false) × GoesByMoves E (Ok tt) old mid s (begin_moves s) (between boot now)
     begin-done old mid replied goes =
         by-test (cannot_begin s boot staging) (sym (ap (λ (w : Answer). w.reply) begin-is) ∙ replied)
-        (subst (λ (w : Answer). Goes E (Ok tt) old mid s w.moves w.next) begin-is goes)
+        (subst (λ (w : Answer). GoesByMoves E (Ok tt) old mid s w.moves w.next) begin-is goes)
       where
-        by-test : (t : Bool) → (begun_by t).reply ≡ reply.Success → Goes E (Ok tt) old mid s (begun_by t).moves (begun_by t).next
-            → (t ≡ false) × Goes E (Ok tt) old mid s (begin_moves s) (between boot now)
+        by-test : (t : Bool) → (begun_by t).reply ≡ reply.Success → GoesByMoves E (Ok tt) old mid s (begun_by t).moves (begun_by t).next
+            → (t ≡ false) × GoesByMoves E (Ok tt) old mid s (begin_moves s) (between boot now)
         by-test true replied goes = absurd cc
         by-test false replied goes = (refl, goes)
 
   -- ---- begun, and the images were sent into the staging
   module _ (old m1 new : Moment) (can : cannot_begin s boot staging ≡ false) (y : Session)
-      (begun : Goes E (Ok tt) old m1 s (begin_moves s) y) where
+      (begun : GoesByMoves E (Ok tt) old m1 s (begin_moves s) y) where
     whole : (result : Result (Unit {0}) FlashStop) (ms : List Move)
-        → Goes E result m1 new (after s (begin_moves s)) ms (On boot None no_handles)
-        → Goes E result old new s (begin_moves s ++ ms) (On boot None no_handles)
+        → GoesByMoves E result m1 new (after s (begin_moves s)) ms (On boot None no_handles)
+        → GoesByMoves E result old new s (begin_moves s ++ ms) (On boot None no_handles)
     whole result ms last = goes-then E result old m1 new s (begin_moves s) ms y (On boot None no_handles) begun last
 
     same-moves : end_moves E (after s (begin_moves s)) p bits ≡ rest
@@ -164,42 +164,42 @@ module _ (E : Setting) (s : State) (boot : ℕ) (staging : Option (List Staged))
     all-moves : begin_moves s ++ end_moves E (after s (begin_moves s)) p bits ≡ a.moves
     all-moves = ap (λ (ms : List Move). begin_moves s ++ ms) same-moves ∙ sym (begun-moves can)
 
-    sent-done : Finishes (Ok tt) E m1 new (after s (begin_moves s)) boot p bits → AnswersBy done a E old new s
+    sent-done : FinishesSend (Ok tt) E m1 new (after s (begin_moves s)) boot p bits → AnswersBy done a E old new s
     sent-done last =
         let is = answer-at false true can (sym (begun-may E s p) ∙ last.0) in (
           sym (ap (λ (w : Answer). w.reply) is),
-          subst (λ (z : Session). Goes E (Ok tt) old new s a.moves z) (sym (ap (λ (w : Answer). w.next) is))
-              (subst (λ (ms : List Move). Goes E (Ok tt) old new s ms (On boot None no_handles)) all-moves
+          subst (λ (z : Session). GoesByMoves E (Ok tt) old new s a.moves z) (sym (ap (λ (w : Answer). w.next) is))
+              (subst (λ (ms : List Move). GoesByMoves E (Ok tt) old new s ms (On boot None no_handles)) all-moves
               (whole (Ok tt) (end_moves E (after s (begin_moves s)) p bits) last.1)),
         )
 
-    sent-refused : (st : Status) → Finishes (Err (End st)) E m1 new (after s (begin_moves s)) boot p bits → AnswersBy (reply.EndRefused st) a E old new s
+    sent-refused : (st : Status) → FinishesSend (Err (End st)) E m1 new (after s (begin_moves s)) boot p bits → AnswersBy (reply.EndRefused st) a E old new s
     sent-refused st last =
         let is = answer-at false false can (sym (begun-may E s p) ∙ last.1) in (
           ap reply.EndRefused last.0 ∙ sym (ap (λ (w : Answer). w.reply) is),
-          subst (λ (z : Session). Goes E (Ok tt) old new s a.moves z) (sym (ap (λ (w : Answer). w.next) is))
-              (subst (λ (ms : List Move). Goes E (Ok tt) old new s ms (On boot None no_handles)) all-moves
+          subst (λ (z : Session). GoesByMoves E (Ok tt) old new s a.moves z) (sym (ap (λ (w : Answer). w.next) is))
+              (subst (λ (ms : List Move). GoesByMoves E (Ok tt) old new s ms (On boot None no_handles)) all-moves
               (whole (Ok tt) (end_moves E (after s (begin_moves s)) p bits) last.2)),
         )
 
     sent-stopped : (e : FlashStop)
-        → Goes E (Err e) m1 new (after s (begin_moves s)) (end_moves E (after s (begin_moves s)) p bits) (On boot None no_handles)
-        → IsBegun E s x × Goes E (Err e) old new s a.moves (On boot None no_handles)
+        → GoesByMoves E (Err e) m1 new (after s (begin_moves s)) (end_moves E (after s (begin_moves s)) p bits) (On boot None no_handles)
+        → AllowsBegin E s x × GoesByMoves E (Err e) old new s a.moves (On boot None no_handles)
     sent-stopped e last = (
       is-begun can,
-      subst (λ (ms : List Move). Goes E (Err e) old new s ms (On boot None no_handles)) all-moves
+      subst (λ (ms : List Move). GoesByMoves E (Err e) old new s ms (On boot None no_handles)) all-moves
           (whole (Err e) (end_moves E (after s (begin_moves s)) p bits) last),
     )
 
-    sent-unread : Finishes (Err ReadFailed) E m1 new (after s (begin_moves s)) boot p bits
-        → IsBegun E s x × Goes E (Ok tt) old new s (answer E s x (call.Begin 0)).moves (On boot None no_handles)
+    sent-unread : FinishesSend (Err ReadFailed) E m1 new (after s (begin_moves s)) boot p bits
+        → AllowsBegin E s x × GoesByMoves E (Ok tt) old new s (answer E s x (call.Begin 0)).moves (On boot None no_handles)
     sent-unread last =
         let moves : (answer E s x (call.Begin 0)).moves ≡ begin_moves s =
         ap (λ (w : Answer). w.moves) (begin-answers E s boot staging handles (length E.layout.rows) refl)
         ∙ ap (λ (t : Bool). (cond t (refused status.Denied x) (answered reply.Success (begin_moves s) (between boot (replicate (length E.layout.rows) Nothing)))).moves) can in
-        (is-begun can, subst (λ (ms : List Move). Goes E (Ok tt) old new s ms (On boot None no_handles)) (append-nil (begin_moves s) ∙ sym moves) (whole (Ok tt) [] last))
+        (is-begun can, subst (λ (ms : List Move). GoesByMoves E (Ok tt) old new s ms (On boot None no_handles)) (append-nil (begin_moves s) ∙ sym moves) (whole (Ok tt) [] last))
 
-    sent-halted : (halt : SendStop) → Finishes (Err halt) E m1 new (after s (begin_moves s)) boot p bits → GoesAs (Err halt) a E old new s x
+    sent-halted : (halt : SendStop) → FinishesSend (Err halt) E m1 new (after s (begin_moves s)) boot p bits → GoesAs (Err halt) a E old new s x
     sent-halted (End st) last = sent-refused st last
     sent-halted ReadFailed last = sent-unread last
     sent-halted Lost last = sent-stopped flash_stop.Lost last
@@ -220,7 +220,7 @@ never-off m s shows = is-on shows.means
 -- a partial begin goes by the machine's answer
 begun-goes : (old m1 : Moment) (types : List (List ℕ)) (named : List Bool) (passes : List ℕ → Bool) (q : Result (Unit {0}) Stop) → (q ≡ Err stop.Gone → ⊥)
     → (begins : BeginsPartly types named passes q old m1) (E : Setting) (s : State) (x : Session) → IsSettingOf old.fields passes E → Shows old s x
-    → Goes E (flash_result q) old m1 s (begins_over E s x types begins.bytes).moves (begins_over E s x types begins.bytes).next
+    → GoesByMoves E (flash_result q) old m1 s (begins_over E s x types begins.bytes).moves (begins_over E s x types begins.bytes).next
 begun-goes old m1 types named passes (Ok u) there begins E s x setting shows = record {
   shows = (begins.exact E s x setting shows).1;
   does = λ tells ready. begins.does E s x setting shows tells ready;
@@ -342,7 +342,7 @@ module _ (told : Option Directory) (name : List ℕ) (toc : Toc) (request : ℕ)
         by-stop : (k : Stop) (E : Setting) (s : State) (boot : ℕ) (staging : Option (List Staged)) (handles : List Handle) (p : List (List ℕ)) (bits : List Bool)
             (done : Reply) → names_unknown E.layout.rows types ≡ false → (k ≡ stop.Gone → ⊥)
             → AnswersAs (Err k) (begins_over E s (On boot staging handles) types begins.bytes) s new
-            → Goes E (flash_result {T = Unit {0}} (Err k)) old new s (begins_over E s (On boot staging handles) types begins.bytes).moves
+            → GoesByMoves E (flash_result {T = Unit {0}} (Err k)) old new s (begins_over E s (On boot staging handles) types begins.bytes).moves
             (begins_over E s (On boot staging handles) types begins.bytes).next
             → GoesAs (Err (unbegun_as k)) (install_package E s boot staging handles p bits done) E old new s (On boot staging handles)
         by-stop (stop.Status st) E s boot staging handles p bits done unknown there answers goes =
@@ -366,7 +366,7 @@ module _ (told : Option Directory) (name : List ℕ) (toc : Toc) (request : ℕ)
 
     -- begun, and the images were sent into the staging
     module _ (entries : List Entry) (m1 new : Moment) (are : entries ≡ present rows toc) (begins : BeginsPartly types (are_named rows types) passes (Ok tt) old m1)
-        (placed : (E : Setting) → E.layout ≡ old.fields.layout → AreImages E entries (places toc 0 rows) (kept_parts toc begins.bytes 0 rows)) where
+        (placed : (E : Setting) → E.layout ≡ old.fields.layout → AreUnstaged E entries (places toc 0 rows) (kept_parts toc begins.bytes 0 rows)) where
       abbrev bit : Bool
       bit = request == 0
 
@@ -390,8 +390,8 @@ module _ (told : Option Directory) (name : List ℕ) (toc : Toc) (request : ℕ)
         -- the begin, and how it ends after it
         ends : (E : Setting) (s : State) (boot : ℕ) (staging : Option (List Staged)) (handles : List Handle) → IsSettingOf old.fields passes E
             → Shows old s (On boot staging handles)
-            → (cannot_begin s boot staging ≡ false) × Goes E (Ok tt) old m1 s (begin_moves s) (between boot (kept_parts toc begins.bytes 0 rows))
-            × Finishes result E m1 new (after s (begin_moves s)) boot p (bits_over E.layout.rows toc request)
+            → (cannot_begin s boot staging ≡ false) × GoesByMoves E (Ok tt) old m1 s (begin_moves s) (between boot (kept_parts toc begins.bytes 0 rows))
+            × FinishesSend result E m1 new (after s (begin_moves s)) boot p (bits_over E.layout.rows toc request)
         ends E s boot staging handles setting shows =
             let x = On boot staging handles in
             let answers = begins.exact E s x setting shows in
@@ -399,7 +399,7 @@ module _ (told : Option Directory) (name : List ℕ) (toc : Toc) (request : ℕ)
             (begun-goes old m1 types (are_named rows types) passes (Ok tt) (λ e. no-gone e) begins E s x setting shows) in
             let parts : copied_parts (are_named E.layout.rows types) begins.bytes ≡ kept_parts toc begins.bytes 0 rows =
             ap (λ (L : Layout). copied_parts (are_named L.rows types) begins.bytes) setting.layout ∙ copied-is rows toc begins.bytes in
-            let goes = subst (λ (ps : List Staged). Goes E (Ok tt) old m1 s (begin_moves s) (between boot ps)) parts begun.1 in
+            let goes = subst (λ (ps : List Staged). GoesByMoves E (Ok tt) old m1 s (begin_moves s) (between boot ps)) parts begun.1 in
             let w = after s (begin_moves s) in
             let bits : staged_bits sent ≡ bits_over E.layout.rows toc request =
             ap (λ (ps : List Staged). staged_bits ps) sent-is ∙ done-bits toc begins.bytes bit 0 rows inst.images long
@@ -409,8 +409,8 @@ module _ (told : Option Directory) (name : List ℕ) (toc : Toc) (request : ℕ)
             ∙ done-committed toc begins.bytes bit 0 rows inst.images in (
               begun.0,
               goes,
-              subst (λ (bs : List Bool). Finishes result E m1 new w boot p bs) bits
-                  (subst (λ (q : List (List ℕ)). Finishes result E m1 new w boot q (staged_bits sent)) packed
+              subst (λ (bs : List Bool). FinishesSend result E m1 new w boot p bs) bits
+                  (subst (λ (q : List (List ℕ)). FinishesSend result E m1 new w boot q (staged_bits sent)) packed
                   (inst.goes E w boot (kept_parts toc begins.bytes 0 rows) (places toc 0 rows) (setting.layout ∙ sym goes.stays.layout) setting.verifier
                   (placed E setting.layout) committed goes.shows)),
             )
@@ -464,7 +464,7 @@ module _ (told : Option Directory) (name : List ℕ) (toc : Toc) (request : ℕ)
       -- what some writes of the installing take of an armed loss, wherever a machine is shown
       pub over-some : (writes : ℕ) (armed sent : Option Arming)
           → ((E : Setting) (s : State) (boot : ℕ) (parts : List Staged) (sent_to : List ℕ) → E.layout ≡ m1.fields.layout
-          → AreImages E entries sent_to parts → Shows m1 s (between boot parts) → Takes writes armed sent) → Showing old → Takes writes armed sent
+          → AreUnstaged E entries sent_to parts → Shows m1 s (between boot parts) → Takes writes armed sent) → Showing old → Takes writes armed sent
       over-some writes armed sent images one = by-session one.state one.session one.shows
         where
           E : Setting
@@ -481,7 +481,7 @@ module _ (told : Option Directory) (name : List ℕ) (toc : Toc) (request : ℕ)
               let answers = begins.exact E s x setting shows in
               let begun = begin-done E s boot staging handles [] [] reply.Success types begins.bytes known old m1 answers.0
               (begun-goes old m1 types (are_named rows types) passes (Ok tt) (λ e. no-gone e) begins E s x setting shows) in
-              let goes = subst (λ (ps : List Staged). Goes E (Ok tt) old m1 s (begin_moves s) (between boot ps)) (copied-is rows toc begins.bytes) begun.1 in
+              let goes = subst (λ (ps : List Staged). GoesByMoves E (Ok tt) old m1 s (begin_moves s) (between boot ps)) (copied-is rows toc begins.bytes) begun.1 in
               images E (after s (begin_moves s)) boot (kept_parts toc begins.bytes 0 rows) (places toc 0 rows) (sym goes.stays.layout) (placed E refl) goes.shows
 
       -- and all of them

@@ -27,7 +27,7 @@ use Rattle.fwu_formats.specs.Metadata.{Meta}
 use Rattle.agent_machine.specs.Fields.{target}
 use Rattle.agent_machine.specs.Moment.{Moment, Shows, Showing}
 use Rattle.agent_machine.specs.Meets.{GoesBy, IsStopped}
-use Rattle.agent_machine.specs.Goes.{Goes}
+use Rattle.agent_machine.specs.Goes.{GoesByMoves}
 use Rattle.update_client.specs.declared.stops.Sent.{Sent}
 use Rattle.update_client.specs.declared.stops.SendStop.{SendStop}
 use Rattle.update_client.specs.declared.stops.SendStop.TheVariants.{MissingImage, ImageTooLarge, Begin, End, ReadFailed, Lost, Fault, Gone}
@@ -37,9 +37,9 @@ use Rattle.update_client.specs.Halts.{unbegun_as}
 use Rattle.update_client.specs.Choosing.{AreChosen, refused_image, no_row, no_entry}
 use Rattle.update_client.specs.Takes.{ImagesTake, writes_in, writes_sent}
 use Rattle.agent_calls.specs.Takes.{Takes}
-use Rattle.update_client.specs.Images.{AreImages, sent_parts}
-use Rattle.update_client.specs.Finishes.{Finishes, InstallsImages, end_moves}
-use Rattle.update_client.specs.Sends.{Installs, IsBegun, IsInstalled, IsSwitched, Sends, SendsBy, send_answer}
+use Rattle.update_client.specs.Images.{AreUnstaged, sent_parts}
+use Rattle.update_client.specs.Finishes.{FinishesSend, InstallsImages, end_moves}
+use Rattle.update_client.specs.Sends.{Installs, AllowsBegin, IsInstalled, IsSwitched, Sends, SendEndsBy, send_answer}
 use Rattle.agent_machine.proofs.Going.{goes-then, goes-nothing}
 use Rattle.agent_machine.proofs.CallGoing.{MeetsAs, call-goes, call-replies, call-stopped}
 use Rattle.update_client.proofs.Staging.{begin-answers, begun-keeps, begun-may, whole-bits, whole-package, whole-committed}
@@ -91,54 +91,54 @@ module _ (E : Setting) (toc : Toc) (p : List (List ℕ)) (request : ℕ) (s : St
     -- begin was refused
     begin-refused : (st : Status) (old new : Moment) → E.layout ≡ old.fields.layout → Shows old s (On boot staging handles)
         → MeetsAs of (Err (stop.Status st)) E.passes (call.Begin 0) old new
-        → SendsBy (Err (Begin st)) E toc p request old new s (On boot staging handles)
+        → SendEndsBy (Err (Begin st)) E toc p request old new s (On boot staging handles)
     begin-refused st old new layout shows meets =
         let x = On boot staging handles in
         let is = begin-answers E s boot staging handles (length E.layout.rows) refl in
         let replied = call-replies E of (Err (stop.Status st)) (call.Begin 0) old new s x layout shows meets (reply.Refused st) refl ∙ ap
         (λ (w : Answer). w.reply) is in
-        let goes = subst (λ (w : Answer). Goes E (Ok tt) old new s w.moves w.next) is
+        let goes = subst (λ (w : Answer). GoesByMoves E (Ok tt) old new s w.moves w.next) is
         (call-goes E of (Err (stop.Status st)) (call.Begin 0) old new s x layout shows meets (reply.Refused st) refl) in
         by-test (cannot_begin s boot staging) (λ t. answer-at true (may_install E s p) t refl) replied goes
       where
         by-test : (t : Bool) → (t ≡ true → send_answer E toc p request s (On boot staging handles) ≡ answered (reply.BeginRefused status.Denied) []
             (On boot staging handles))
-            → reply.Refused st ≡ (begun_by t).reply → Goes E (Ok tt) old new s (begun_by t).moves (begun_by t).next
-            → SendsBy (Err (Begin st)) E toc p request old new s (On boot staging handles)
+            → reply.Refused st ≡ (begun_by t).reply → GoesByMoves E (Ok tt) old new s (begun_by t).moves (begun_by t).next
+            → SendEndsBy (Err (Begin st)) E toc p request old new s (On boot staging handles)
         by-test true is replied goes =
             let denied : st ≡ status.Denied = cc in (
               ap reply.BeginRefused denied ∙ sym (ap (λ (w : Answer). w.reply) (is refl)),
               subst
-                  (λ (w : Answer). Goes E (Ok tt) old new s w.moves w.next) (sym (is refl)) goes,
+                  (λ (w : Answer). GoesByMoves E (Ok tt) old new s w.moves w.next) (sym (is refl)) goes,
             )
         by-test false is replied goes = absurd cc
 
     -- begin was stopped by the flash
-    begin-stopped : (e : FlashStop) (old new : Moment) (y : Session) → IsBegun E s (On boot staging handles)
-        → Goes E (Err e) old new s (answer E s (On boot staging handles) (call.Begin 0)).moves y
-        → IsBegun E s (On boot staging handles)
-        × Goes E (Err e) old new s (send_answer E toc p request s (On boot staging handles)).moves (On boot None no_handles)
+    begin-stopped : (e : FlashStop) (old new : Moment) (y : Session) → AllowsBegin E s (On boot staging handles)
+        → GoesByMoves E (Err e) old new s (answer E s (On boot staging handles) (call.Begin 0)).moves y
+        → AllowsBegin E s (On boot staging handles)
+        × GoesByMoves E (Err e) old new s (send_answer E toc p request s (On boot staging handles)).moves (On boot None no_handles)
     begin-stopped e old new y begun goes = (
       begun,
-      by-test (cannot_begin s boot staging) refl (subst (λ (w : Answer). Goes E (Err e) old new s w.moves y)
+      by-test (cannot_begin s boot staging) refl (subst (λ (w : Answer). GoesByMoves E (Err e) old new s w.moves y)
           (begin-answers E s boot staging handles (length E.layout.rows) refl) goes),
     )
       where
-        by-test : (t : Bool) → cannot_begin s boot staging ≡ t → Goes E (Err e) old new s (begun_by t).moves y
-            → Goes E (Err e) old new s (send_answer E toc p request s (On boot staging handles)).moves (On boot None no_handles)
+        by-test : (t : Bool) → cannot_begin s boot staging ≡ t → GoesByMoves E (Err e) old new s (begun_by t).moves y
+            → GoesByMoves E (Err e) old new s (send_answer E toc p request s (On boot staging handles)).moves (On boot None no_handles)
         by-test true is goes = stopped-at e E old new s [] (send_answer E toc p request s (On boot staging handles)).moves y (On boot None no_handles) goes
-        by-test false is goes = subst (λ (ms : List Move). Goes E (Err e) old new s ms (On boot None no_handles)) (sym (begun-moves is))
+        by-test false is goes = subst (λ (ms : List Move). GoesByMoves E (Err e) old new s ms (On boot None no_handles)) (sym (begun-moves is))
             (stopped-at e E old new s (begin_moves s) (rest_moves E s p request) y (On boot None no_handles) goes)
 
     -- begun, and the images were sent into the staging
     module _ (old m1 new : Moment) (can : cannot_begin s boot staging ≡ false)
-        (begun : Goes E (Ok tt) old m1 s (begin_moves s) (between boot (replicate (length E.layout.rows) Nothing))) where
+        (begun : GoesByMoves E (Ok tt) old m1 s (begin_moves s) (between boot (replicate (length E.layout.rows) Nothing))) where
       abbrev bits : List Bool
       bits = replicate (length E.layout.rows) (request == 0)
 
       whole : (result : Result (Unit {0}) FlashStop) (ms : List Move)
-          → Goes E result m1 new (after s (begin_moves s)) ms (On boot None no_handles)
-          → Goes E result old new s (begin_moves s ++ ms) (On boot None no_handles)
+          → GoesByMoves E result m1 new (after s (begin_moves s)) ms (On boot None no_handles)
+          → GoesByMoves E result old new s (begin_moves s ++ ms) (On boot None no_handles)
       whole result ms last = goes-then E result old m1 new s (begin_moves s) ms (between boot (replicate (length E.layout.rows) Nothing))
           (On boot None no_handles) begun last
 
@@ -155,55 +155,55 @@ module _ (E : Setting) (toc : Toc) (p : List (List ℕ)) (request : ℕ) (s : St
       all-moves = ap (λ (ms : List Move). begin_moves s ++ ms) same-moves ∙ sym (begun-moves can)
 
       sent-done : (sent : Sent) → sent.images ≡ length E.layout.rows → sent.skipped ≡ skipped E.layout.rows toc
-          → Finishes (Ok tt) E m1 new (after s (begin_moves s)) boot p bits
-          → SendsBy (Ok sent) E toc p request old new s (On boot staging handles)
+          → FinishesSend (Ok tt) E m1 new (after s (begin_moves s)) boot p bits
+          → SendEndsBy (Ok sent) E toc p request old new s (On boot staging handles)
       sent-done sent images others last =
           let is = answer-at false true can (sym (begun-may E s p) ∙ last.0) in (
             ap (λ (n : ℕ). reply.Sent n sent.skipped) images ∙ ap (reply.Sent (length E.layout.rows)) others ∙ sym (ap (λ (w : Answer). w.reply) is),
-            subst (λ (y : Session). Goes E (Ok tt) old new s (send_answer E toc p request s (On boot staging handles)).moves y)
+            subst (λ (y : Session). GoesByMoves E (Ok tt) old new s (send_answer E toc p request s (On boot staging handles)).moves y)
                 (sym (ap (λ (w : Answer). w.next) is))
-                (subst (λ (ms : List Move). Goes E (Ok tt) old new s ms (On boot None no_handles)) all-moves
+                (subst (λ (ms : List Move). GoesByMoves E (Ok tt) old new s ms (On boot None no_handles)) all-moves
                 (whole (Ok tt) (end_moves E (after s (begin_moves s)) p bits) last.1)),
           )
 
-      sent-refused : (st : Status) → Finishes (Err (End st)) E m1 new (after s (begin_moves s)) boot p bits
-          → SendsBy (Err (End st)) E toc p request old new s (On boot staging handles)
+      sent-refused : (st : Status) → FinishesSend (Err (End st)) E m1 new (after s (begin_moves s)) boot p bits
+          → SendEndsBy (Err (End st)) E toc p request old new s (On boot staging handles)
       sent-refused st last =
           let is = answer-at false false can (sym (begun-may E s p) ∙ last.1) in (
             ap reply.EndRefused last.0 ∙ sym (ap (λ (w : Answer). w.reply) is),
-            subst (λ (y : Session). Goes E (Ok tt) old new s (send_answer E toc p request s (On boot staging handles)).moves y)
+            subst (λ (y : Session). GoesByMoves E (Ok tt) old new s (send_answer E toc p request s (On boot staging handles)).moves y)
                 (sym (ap (λ (w : Answer). w.next) is))
-                (subst (λ (ms : List Move). Goes E (Ok tt) old new s ms (On boot None no_handles)) all-moves
+                (subst (λ (ms : List Move). GoesByMoves E (Ok tt) old new s ms (On boot None no_handles)) all-moves
                 (whole (Ok tt) (end_moves E (after s (begin_moves s)) p bits) last.2)),
           )
 
       -- so the begin is not refused
-      is-begun : IsBegun E s (On boot staging handles)
+      is-begun : AllowsBegin E s (On boot staging handles)
       is-begun = ap (λ (w : Answer). w.reply) (begin-answers E s boot staging handles (length E.layout.rows) refl)
           ∙ ap (λ (t : Bool). (begun_by t).reply) can
 
       sent-stopped : (e : FlashStop)
-          → Goes E (Err e) m1 new (after s (begin_moves s)) (end_moves E (after s (begin_moves s)) p bits) (On boot None no_handles)
-          → IsBegun E s (On boot staging handles)
-          × Goes E (Err e) old new s (send_answer E toc p request s (On boot staging handles)).moves (On boot None no_handles)
+          → GoesByMoves E (Err e) m1 new (after s (begin_moves s)) (end_moves E (after s (begin_moves s)) p bits) (On boot None no_handles)
+          → AllowsBegin E s (On boot staging handles)
+          × GoesByMoves E (Err e) old new s (send_answer E toc p request s (On boot staging handles)).moves (On boot None no_handles)
       sent-stopped e last = (
         is-begun,
-        subst (λ (ms : List Move). Goes E (Err e) old new s ms (On boot None no_handles)) all-moves
+        subst (λ (ms : List Move). GoesByMoves E (Err e) old new s ms (On boot None no_handles)) all-moves
             (whole (Err e) (end_moves E (after s (begin_moves s)) p bits) last),
       )
 
-      sent-unread : Finishes (Err ReadFailed) E m1 new (after s (begin_moves s)) boot p bits
-          → SendsBy (Err ReadFailed) E toc p request old new s (On boot staging handles)
+      sent-unread : FinishesSend (Err ReadFailed) E m1 new (after s (begin_moves s)) boot p bits
+          → SendEndsBy (Err ReadFailed) E toc p request old new s (On boot staging handles)
       sent-unread last =
           let moves : (answer E s (On boot staging handles) (call.Begin 0)).moves ≡ begin_moves s =
           ap (λ (w : Answer). w.moves) (begin-answers E s boot staging handles (length E.layout.rows) refl) ∙ ap
           (λ (t : Bool). (begun_by t).moves) can in (
             is-begun,
-            subst (λ (ms : List Move). Goes E (Ok tt) old new s ms (On boot None no_handles)) (append-nil (begin_moves s) ∙ sym moves) (whole (Ok tt) [] last),
+            subst (λ (ms : List Move). GoesByMoves E (Ok tt) old new s ms (On boot None no_handles)) (append-nil (begin_moves s) ∙ sym moves) (whole (Ok tt) [] last),
           )
 
-      sent-halted : (halt : SendStop) → Finishes (Err halt) E m1 new (after s (begin_moves s)) boot p bits
-          → SendsBy (Err halt) E toc p request old new s (On boot staging handles)
+      sent-halted : (halt : SendStop) → FinishesSend (Err halt) E m1 new (after s (begin_moves s)) boot p bits
+          → SendEndsBy (Err halt) E toc p request old new s (On boot staging handles)
       sent-halted (End st) last = sent-refused st last
       sent-halted ReadFailed last = sent-unread last
       sent-halted Lost last = sent-stopped flash_stop.Lost last
@@ -217,22 +217,22 @@ module _ (E : Setting) (toc : Toc) (p : List (List ℕ)) (request : ℕ) (s : St
 begin-done : (E : Setting) (old mid : Moment) (s : State) (boot : ℕ) (staging : Option (List Staged)) (handles : List Handle)
     → E.layout ≡ old.fields.layout → Shows old s (On boot staging handles)
     → MeetsAs of (Ok tt) E.passes (call.Begin 0) old mid
-    → (cannot_begin s boot staging ≡ false) × Goes E (Ok tt) old mid s (begin_moves s) (between boot (replicate (length E.layout.rows) Nothing))
+    → (cannot_begin s boot staging ≡ false) × GoesByMoves E (Ok tt) old mid s (begin_moves s) (between boot (replicate (length E.layout.rows) Nothing))
 begin-done E old mid s boot staging handles layout shows meets =
     let x = On boot staging handles in
     let is = begin-answers E s boot staging handles (length E.layout.rows) refl in
     by-test (cannot_begin s boot staging) (call-replies E of (Ok tt) (call.Begin 0) old mid s x layout shows meets reply.Success refl ∙ ap
     (λ (a : Answer). a.reply) is)
-    (subst (λ (a : Answer). Goes E (Ok tt) old mid s a.moves a.next) is
+    (subst (λ (a : Answer). GoesByMoves E (Ok tt) old mid s a.moves a.next) is
     (call-goes E of (Ok tt) (call.Begin 0) old mid s x layout shows meets reply.Success refl))
   where
     by-test : (b : Bool) → reply.Success ≡ (cond b (refused status.Denied (On boot staging handles))
         (answered reply.Success (begin_moves s) (between boot (replicate (length E.layout.rows) Nothing)))).reply
-        → Goes E (Ok tt) old mid s (cond b (refused status.Denied (On boot staging handles))
+        → GoesByMoves E (Ok tt) old mid s (cond b (refused status.Denied (On boot staging handles))
         (answered reply.Success (begin_moves s) (between boot (replicate (length E.layout.rows) Nothing)))).moves
         (cond b (refused status.Denied (On boot staging handles)) (answered reply.Success (begin_moves s)
         (between boot (replicate (length E.layout.rows) Nothing)))).next
-        → (b ≡ false) × Goes E (Ok tt) old mid s (begin_moves s) (between boot (replicate (length E.layout.rows) Nothing))
+        → (b ≡ false) × GoesByMoves E (Ok tt) old mid s (begin_moves s) (between boot (replicate (length E.layout.rows) Nothing))
     by-test true replied goes = absurd cc
     by-test false replied goes = (refl, goes)
 
@@ -297,30 +297,30 @@ module _ (told : Option Directory) (name : List ℕ) (toc : Toc) (request : ℕ)
       at-fault : (E : Setting) (s : State) (boot : ℕ) (staging : Option (List Staged)) (handles : List Handle) (r : Reply)
           → E.layout ≡ old.fields.layout → Shows old s (On boot staging handles) → fault ≡ Some r
           → (r ≡ (send_answer E toc told_images request s (On boot staging handles)).reply)
-          × Goes E (Ok tt) old old s (send_answer E toc told_images request s (On boot staging handles)).moves
+          × GoesByMoves E (Ok tt) old old s (send_answer E toc told_images request s (On boot staging handles)).moves
           (send_answer E toc told_images request s (On boot staging handles)).next
       at-fault E s boot staging handles r layout shows is =
           let here : send_answer E toc told_images request s (On boot staging handles) ≡ answered r [] (On boot staging handles) =
           ap (λ (o : Option Reply). send_unless o E s boot staging handles told_images request (skipped E.layout.rows toc)) (fault-in E (Some r) layout is) in (
             sym (ap (λ (w : Answer). w.reply) here),
-            subst (λ (w : Answer). Goes E (Ok tt) old old s w.moves w.next) (sym here)
+            subst (λ (w : Answer). GoesByMoves E (Ok tt) old old s w.moves w.next) (sym here)
                 (goes-nothing E old s (On boot staging handles) shows),
           )
 
       by-session : (halt : SendStop) (E : Setting) (s : State) (x : Session) → E.layout ≡ old.fields.layout → Shows old s x
-          → refused_image fault ≡ Some halt → SendsBy (Err halt) E toc told_images request old old s x
+          → refused_image fault ≡ Some halt → SendEndsBy (Err halt) E toc told_images request old old s x
       by-session halt E s Off layout shows it = absurd (never-off old s shows)
       by-session halt E s (On boot staging handles) layout shows it = elim (early-cases fault halt it) [
-        | inl m ↦ subst (λ (h : SendStop). SendsBy (Err h) E toc told_images request old old s (On boot staging handles)) (sym m.1)
+        | inl m ↦ subst (λ (h : SendStop). SendEndsBy (Err h) E toc told_images request old old s (On boot staging handles)) (sym m.1)
             (at-fault E s boot staging handles (reply.Missing m.0) layout shows m.2)
-        | inr l ↦ subst (λ (h : SendStop). SendsBy (Err h) E toc told_images request old old s (On boot staging handles)) (sym l.1)
+        | inr l ↦ subst (λ (h : SendStop). SendEndsBy (Err h) E toc told_images request old old s (On boot staging handles)) (sym l.1)
             (at-fault E s boot staging handles (reply.TooLarge l.0) layout shows l.2)
       ]
 
   -- begin was refused, or stopped by the flash
   pub sends-unbegun : (halt : Stop) (new : Moment) (was now : Bool) → fault ≡ None → IsFalse was
       → GoesBy {T = Unit {0}} (Err halt) was now → ((v : List ℕ → Bool) → MeetsAs of (Err halt) v (call.Begin 0) old new)
-      → (IsStopped {T = Unit {0}} (Err halt) → (E : Setting) (s : State) (x : Session) → E.layout ≡ old.fields.layout → Shows old s x → IsBegun E s x)
+      → (IsStopped {T = Unit {0}} (Err halt) → (E : Setting) (s : State) (x : Session) → E.layout ≡ old.fields.layout → Shows old s x → AllowsBegin E s x)
       → Sends told name toc request passes (Err (unbegun_as halt)) old new
   sends-unbegun halt new was now none here goes meets begun = record {
     images = told_images;
@@ -333,8 +333,8 @@ module _ (told : Option Directory) (name : List ℕ) (toc : Toc) (request : ℕ)
 
       by-stop : (halt : Stop) (E : Setting) (s : State) (x : Session) → E.layout ≡ old.fields.layout → Shows old s x
           → GoesBy {T = Unit {0}} (Err halt) was now → MeetsAs of (Err halt) E.passes (call.Begin 0) old new
-          → (IsStopped {T = Unit {0}} (Err halt) → IsBegun E s x)
-          → SendsBy (Err (unbegun_as halt)) E toc told_images request old new s x
+          → (IsStopped {T = Unit {0}} (Err halt) → AllowsBegin E s x)
+          → SendEndsBy (Err (unbegun_as halt)) E toc told_images request old new s x
       by-stop halt E s Off layout shows goes meets begun = absurd (never-off old s shows)
       by-stop (stop.Status st) E s (On boot staging handles) layout shows goes meets begun =
           begin-refused E toc told_images request s boot staging handles (fault-in E None layout none) st old new layout shows meets
@@ -363,27 +363,27 @@ module _ (told : Option Directory) (name : List ℕ) (toc : Toc) (request : ℕ)
       abbrev places : List ℕ
       places = range_with_len 0 n
 
-      are : AreImages E entries places (replicate n Nothing)
+      are : AreUnstaged E entries places (replicate n Nothing)
       are = are-images E toc entries (distinct E.layout (subst (λ (L : Layout). IsTrue (fits_layout L)) (sym layout) fit)) (λ k. refl) chosen-in
 
       -- the staging has all images of the layout
       finishes-in : (result : Result (Unit {0}) SendStop) (inst : InstallsImages told name entries request passes result m1 new) (s : State)
           (boot : ℕ) → E.passes ≡ passes
-          → Goes E (Ok tt) old m1 s (begin_moves s) (between boot (replicate n Nothing))
-          → Finishes result E m1 new (after s (begin_moves s)) boot inst.images (replicate n (request == 0))
+          → GoesByMoves E (Ok tt) old m1 s (begin_moves s) (between boot (replicate n Nothing))
+          → FinishesSend result E m1 new (after s (begin_moves s)) boot inst.images (replicate n (request == 0))
       finishes-in result inst s boot verifier begun =
           let bit = request == 0 in
           let all : length inst.images ≡ n = inst.count ∙ chosen-in.count in
           let w = after s (begin_moves s) in
-          subst (λ (bits : List Bool). Finishes result E m1 new w boot inst.images bits) (whole-bits n bit inst.images all)
-          (subst (λ (p : List (List ℕ)). Finishes result E m1 new w boot p (staged_bits (sent_parts (replicate n Nothing) inst.images places bit)))
+          subst (λ (bits : List Bool). FinishesSend result E m1 new w boot inst.images bits) (whole-bits n bit inst.images all)
+          (subst (λ (p : List (List ℕ)). FinishesSend result E m1 new w boot p (staged_bits (sent_parts (replicate n Nothing) inst.images places bit)))
           (whole-package n bit inst.images all)
           (inst.goes E w boot (replicate n Nothing) places (layout ∙ sym begun.stays.layout) verifier are (whole-committed n bit inst.images all) begun.shows))
 
     -- what some writes of the installing take of an armed loss, wherever a machine is shown
     pub sends-some : (writes : ℕ) (armed sent : Option Arming)
         → ((E : Setting) (s : State) (boot : ℕ) (parts : List Staged) (places : List ℕ) → E.layout ≡ m1.fields.layout
-        → AreImages E entries places parts → Shows m1 s (between boot parts) → Takes writes armed sent) → Showing old → Takes writes armed sent
+        → AreUnstaged E entries places parts → Shows m1 s (between boot parts) → Takes writes armed sent) → Showing old → Takes writes armed sent
     sends-some writes armed sent images one = by-session one.state one.session one.shows
       where
         E : Setting
@@ -414,7 +414,7 @@ module _ (told : Option Directory) (name : List ℕ) (toc : Toc) (request : ℕ)
     }
       where
         by-session : (E : Setting) (s : State) (x : Session) → E.layout ≡ old.fields.layout → E.passes ≡ passes → Shows old s x
-            → SendsBy (Ok sent) E toc inst.images request old new s x
+            → SendEndsBy (Ok sent) E toc inst.images request old new s x
         by-session E s Off layout verifier shows = absurd (never-off old s shows)
         by-session E s (On boot staging handles) layout verifier shows =
             let one = begin-done E old m1 s boot staging handles layout shows (begins E.passes) in
@@ -431,7 +431,7 @@ module _ (told : Option Directory) (name : List ℕ) (toc : Toc) (request : ℕ)
     }
       where
         by-session : (E : Setting) (s : State) (x : Session) → E.layout ≡ old.fields.layout → E.passes ≡ passes → Shows old s x
-            → SendsBy (Err halt) E toc inst.images request old new s x
+            → SendEndsBy (Err halt) E toc inst.images request old new s x
         by-session E s Off layout verifier shows = absurd (never-off old s shows)
         by-session E s (On boot staging handles) layout verifier shows =
             let one = begin-done E old m1 s boot staging handles layout shows (begins E.passes) in

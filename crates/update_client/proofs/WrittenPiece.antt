@@ -19,7 +19,7 @@ use Rattle.agent_machine.specs.declared.stop.Stop.{Stop}
 use Rattle.agent_machine.specs.declared.stop.Stop.TheVariants as stop
 use Rattle.agent_machine.specs.Moment.{Moment, Shows}
 use Rattle.agent_machine.specs.Meets.{GoesBy}
-use Rattle.agent_machine.specs.Goes.{Goes}
+use Rattle.agent_machine.specs.Goes.{GoesByMoves}
 use Rattle.agent_machine.proofs.Going.{goes-nothing, goes-then}
 use Rattle.agent_machine.proofs.CallGoing.{MeetsAs, call-goes, call-replies, call-stopped}
 use Rattle.update_client.specs.declared.stops.SendStop.{SendStop}
@@ -57,7 +57,7 @@ piece-written told name e at n m new bytes count some inside read meets = record
   goes = λ E s boot parts image before layout below size room shows.
       let x = within boot parts image before in
       let fits : length before + length bytes ≤ slot_bytes E.layout image = omega (arith, size, count, inside, room) in
-      subst (λ (w : Answer). Goes E (Ok tt) m new s w.moves w.next) (write-answers E s boot parts image below before bytes fits)
+      subst (λ (w : Answer). GoesByMoves E (Ok tt) m new s w.moves w.next) (write-answers E s boot parts image below before bytes fits)
       (call-goes E (λ _. reply.Success) (Ok tt) (call.Write 1 bytes) m new s x layout shows (meets E.passes) reply.Success refl);
 }
 
@@ -73,15 +73,15 @@ call-halts U of stop.Gone E c old new s x y z r boot was now layout shows is oth
     gone-here : IsTrue was → ⊥
     gone-here is = cc
 call-halts U of stop.Lost E c old new s x y z r boot was now layout shows is other here goes meets =
-    subst (λ (w : Answer). Goes E (Err flash_stop.Lost) old new s w.moves z) is (call-stopped E of (Err stop.Lost) c old new s x layout shows meets refl z)
+    subst (λ (w : Answer). GoesByMoves E (Err flash_stop.Lost) old new s w.moves z) is (call-stopped E of (Err stop.Lost) c old new s x layout shows meets refl z)
 call-halts U of stop.Fault E c old new s x y z r boot was now layout shows is other here goes meets =
-    subst (λ (w : Answer). Goes E (Err flash_stop.Failed) old new s w.moves z) is (call-stopped E of (Err stop.Fault) c old new s x layout shows meets refl z)
+    subst (λ (w : Answer). GoesByMoves E (Err flash_stop.Failed) old new s w.moves z) is (call-stopped E of (Err stop.Fault) c old new s x layout shows meets refl z)
 
 -- and where it is done
 pub call-done : {T : Type 0} (of : T → Reply) (v : T) (E : Setting) (c : Call) (old new : Moment) (s : State) (x y : Session) (r : Reply)
     → E.layout ≡ old.fields.layout → Shows old s x
-    → answer E s x c ≡ answered r [] y → MeetsAs of (Ok v) E.passes c old new → Goes E (Ok tt) old new s [] y
-call-done of v E c old new s x y r layout shows is meets = subst (λ (w : Answer). Goes E (Ok tt) old new s w.moves w.next) is
+    → answer E s x c ≡ answered r [] y → MeetsAs of (Ok v) E.passes c old new → GoesByMoves E (Ok tt) old new s [] y
+call-done of v E c old new s x y r layout shows is meets = subst (λ (w : Answer). GoesByMoves E (Ok tt) old new s w.moves w.next) is
     (call-goes E of (Ok v) c old new s x layout shows meets (of v) refl)
 
 pub no-success : (q : Status) → reply.Refused q ≢ reply.Success
@@ -113,7 +113,7 @@ pub image-opened : (guid : List ℕ) (h : ℕ) (old new : Moment)
     → ((passes : List ℕ → Bool) → MeetsAs {T = ℕ} (λ k. reply.Opened k) (Ok h) passes (call.OpenWrite guid) old new)
     → (E : Setting) (s : State) (boot : ℕ) (parts : List Staged) (image : ℕ) → E.layout ≡ old.fields.layout
     → image < length parts → find_image E.layout.rows guid ≡ Some image
-    → get_or parts image Nothing ≡ Nothing → Shows old s (between boot parts) → Goes E (Ok tt) old new s [] (within boot parts image [])
+    → get_or parts image Nothing ≡ Nothing → Shows old s (between boot parts) → GoesByMoves E (Ok tt) old new s [] (within boot parts image [])
 image-opened guid h old new meets E s boot parts image layout below found none shows =
     call-done (λ (k : ℕ). reply.Opened k) h E (call.OpenWrite guid) old new s (between boot parts) (within boot parts image [])
     (reply.Opened 1) layout shows (open-answers E s boot parts image guid found none) (meets E.passes)
@@ -155,7 +155,7 @@ module _ (told : Option Directory) (name : List ℕ) (e : Entry) (request h : �
   written : (E : Setting) (s : State) (boot : ℕ) (parts : List Staged) (image : ℕ) → E.layout ≡ old.fields.layout
       → image < length parts → find_image E.layout.rows e.guid ≡ Some image
       → e.size ≤ slot_bytes E.layout image → get_or parts image Nothing ≡ Nothing → Shows old s (between boot parts)
-      → Goes E (Ok tt) old mid s [] (within boot parts image wrote.bytes)
+      → GoesByMoves E (Ok tt) old mid s [] (within boot parts image wrote.bytes)
   written E s boot parts image layout below found room none shows =
       let one = image-opened e.guid h old opened opens E s boot parts image layout below found none shows in
       goes-then E (Ok tt) old opened mid s [] [] (within boot parts image []) (within boot parts image wrote.bytes) one

@@ -11,33 +11,33 @@ use Rattle.fwu_model.specs.Session.{On, Staged, is_committed, no_handles}
 use Rattle.fwu_model.specs.Answer.{may_install, staged_bits, staged_package}
 use Rattle.fwu_model.specs.declared.kinds.Status.TheVariants.{AuthFail}
 use Rattle.agent_machine.specs.Moment.{Moment, Shows}
-use Rattle.agent_machine.specs.Goes.{Goes}
+use Rattle.agent_machine.specs.Goes.{GoesByMoves}
 use Rattle.update_client.specs.declared.stops.SendStop.{SendStop}
 use Rattle.update_client.specs.declared.stops.SendStop.TheVariants.{End, ReadFailed, Lost, Fault}
 use Rattle.agent_machine.specs.Filling.{between}
-use Rattle.update_client.specs.Images.{AreImages, sent_parts}
+use Rattle.update_client.specs.Images.{AreUnstaged, sent_parts}
 
 abbrev pub end_moves : Setting → State → List (List ℕ) → List Bool → List Move
 end_moves E s p bits = if may_install E s p then Switch (update_bank s) p bits ∷ [] else []
 
 -- installed; or refused and cancelled; or a read failed, and it was cancelled; or stopped by the flash
-abbrev pub Finishes : Result (Unit {0}) SendStop → Setting → Moment → Moment → State → ℕ → List (List ℕ) → List Bool → Type 0
-Finishes (Ok x) E old new s boot p bits = (may_install E s p ≡ true)
-    × Goes E (Ok tt) old new s (end_moves E s p bits) (On boot None no_handles)
-Finishes (Err (End st)) E old new s boot p bits = (st ≡ AuthFail) × (may_install E s p ≡ false)
-    × Goes E (Ok tt) old new s (end_moves E s p bits) (On boot None no_handles)
-Finishes (Err ReadFailed) E old new s boot p bits = Goes E (Ok tt) old new s [] (On boot None no_handles)
-Finishes (Err Lost) E old new s boot p bits =
-    Goes E (Err flash_stop.Lost) old new s (end_moves E s p bits) (On boot None no_handles)
-Finishes (Err Fault) E old new s boot p bits =
-    Goes E (Err flash_stop.Failed) old new s (end_moves E s p bits) (On boot None no_handles)
-Finishes (Err other) E old new s boot p bits = ⊥
+abbrev pub FinishesSend : Result (Unit {0}) SendStop → Setting → Moment → Moment → State → ℕ → List (List ℕ) → List Bool → Type 0
+FinishesSend (Ok x) E old new s boot p bits = (may_install E s p ≡ true)
+    × GoesByMoves E (Ok tt) old new s (end_moves E s p bits) (On boot None no_handles)
+FinishesSend (Err (End st)) E old new s boot p bits = (st ≡ AuthFail) × (may_install E s p ≡ false)
+    × GoesByMoves E (Ok tt) old new s (end_moves E s p bits) (On boot None no_handles)
+FinishesSend (Err ReadFailed) E old new s boot p bits = GoesByMoves E (Ok tt) old new s [] (On boot None no_handles)
+FinishesSend (Err Lost) E old new s boot p bits =
+    GoesByMoves E (Err flash_stop.Lost) old new s (end_moves E s p bits) (On boot None no_handles)
+FinishesSend (Err Fault) E old new s boot p bits =
+    GoesByMoves E (Err flash_stop.Failed) old new s (end_moves E s p bits) (On boot None no_handles)
+FinishesSend (Err other) E old new s boot p bits = ⊥
 
 -- A staging is ended in which all images are committed.
 abbrev pub FinishesBy : (List ℕ → Bool) → Result (Unit {0}) SendStop → Moment → Moment → Type 0
 FinishesBy passes result old new = (E : Setting) (s : State) (boot : ℕ) (parts : List Staged)
     → E.layout ≡ old.fields.layout → E.passes ≡ passes → list_all is_committed parts ≡ true → Shows old s (between boot parts)
-    → Finishes result E old new s boot (staged_package parts) (staged_bits parts)
+    → FinishesSend result E old new s boot (staged_package parts) (staged_bits parts)
 
 -- The images are sent into a staging that lacks just them, and it ends.
 pub record InstallsImages (told : Option Directory) (name : List ℕ) (entries : List Entry) (request : ℕ) (passes : List ℕ → Bool)
@@ -46,6 +46,6 @@ pub record InstallsImages (told : Option Directory) (name : List ℕ) (entries :
   pub count : length images ≡ length entries
   pub read : (file : List ℕ) → Tells told name file → images ≡ map (payload file) entries
   pub goes : (E : Setting) (s : State) (boot : ℕ) (parts : List Staged) (places : List ℕ) → E.layout ≡ old.fields.layout
-      → E.passes ≡ passes → AreImages E entries places parts
+      → E.passes ≡ passes → AreUnstaged E entries places parts
       → let now = sent_parts parts images places (request == 0) in list_all is_committed now ≡ true
-      → Shows old s (between boot parts) → Finishes result E old new s boot (staged_package now) (staged_bits now)
+      → Shows old s (between boot parts) → FinishesSend result E old new s boot (staged_package now) (staged_bits now)

@@ -8,7 +8,7 @@ use Rattle.fwu_model.specs.Session.{Session, On, Staged, Handle}
 use Rattle.agent_machine.specs.declared.stop.Stop.{Stop}
 use Rattle.agent_machine.specs.declared.stop.Stop.TheVariants as stop
 use Rattle.agent_machine.specs.Moment.{Moment}
-use Rattle.agent_machine.specs.Goes.{Goes}
+use Rattle.agent_machine.specs.Goes.{GoesByMoves}
 use Rattle.update_client.specs.declared.stops.SendStop.{SendStop}
 use Rattle.update_client.specs.declared.stops.SendStop.TheVariants.{MissingImage, ImageTooLarge, Begin, End, ReadFailed, Lost, Fault, Gone}
 
@@ -46,14 +46,14 @@ flash_of (Err Gone) = Ok tt
 pub record StillStaging (E : Setting) (old new : Moment) (s : State) (boot : ℕ) : Type 0 where
   pub parts : List Staged
   pub handles : List Handle
-  pub goes : Goes E (Ok tt) old new s [] (On boot (Some parts) handles)
+  pub goes : GoesByMoves E (Ok tt) old new s [] (On boot (Some parts) handles)
 
 -- Calls within a staging: done, and then the session is this one; or a read failed; or the flash stopped it. None is refused.
 abbrev pub Halts : {T : Type 0} → Result T SendStop → Setting → Moment → Moment → State → ℕ → Session → Type 0
-Halts (Ok x) E old new s boot y = Goes E (Ok tt) old new s [] y
+Halts (Ok x) E old new s boot y = GoesByMoves E (Ok tt) old new s [] y
 Halts (Err ReadFailed) E old new s boot y = StillStaging E old new s boot
-Halts (Err Lost) E old new s boot y = Goes E (Err flash_stop.Lost) old new s [] y
-Halts (Err Fault) E old new s boot y = Goes E (Err flash_stop.Failed) old new s [] y
+Halts (Err Lost) E old new s boot y = GoesByMoves E (Err flash_stop.Lost) old new s [] y
+Halts (Err Fault) E old new s boot y = GoesByMoves E (Err flash_stop.Failed) old new s [] y
 Halts (Err other) E old new s boot y = ⊥
 
 -- the stops of calls within a staging, on any device: no image is at fault, and no begin was refused

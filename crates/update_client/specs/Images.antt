@@ -8,7 +8,7 @@ use Rattle.fwu_model.specs.Sound.{Setting}
 use Rattle.fip_tables.specs.Files.{Tells}
 pub use Rattle.fip_tables.specs.Images.{no_entry}
 use Rattle.agent_machine.specs.Moment.{Moment, Shows}
-use Rattle.agent_machine.specs.Goes.{Goes}
+use Rattle.agent_machine.specs.Goes.{GoesByMoves}
 use Rattle.update_client.specs.declared.stops.SendStop.{SendStop}
 use Rattle.fwu_model.specs.Session.{Staged, Nothing}
 use Rattle.agent_machine.specs.Filling.{between, filled}
@@ -22,7 +22,7 @@ sent_parts parts (bytes ∷ images) (place ∷ places) bit = sent_parts (filled 
 
 -- The entries are those of these images of the layout. Nothing is staged of them, no two are the same, and each payload fits
 -- its slot.
-pub record AreImages (E : Setting) (entries : List Entry) (places : List ℕ) (parts : List Staged) : Type 0 where
+pub record AreUnstaged (E : Setting) (entries : List Entry) (places : List ℕ) (parts : List Staged) : Type 0 where
   pub count : length places ≡ length entries
   pub below : (k : ℕ) → k < length entries → slice_index_or places k 0 < length parts
   pub found : (k : ℕ) → k < length entries
@@ -39,8 +39,8 @@ pub record SendsFirst (told : Option Directory) (name : List ℕ) (entries : Lis
   pub count : length images ≡ k
   pub read : (file : List ℕ) → Tells told name file → images ≡ map (payload file) (take k entries)
   pub goes : (E : Setting) (s : State) (boot : ℕ) (parts : List Staged) (places : List ℕ) → E.layout ≡ old.fields.layout
-      → AreImages E entries places parts → Shows old s (between boot parts)
-      → Goes E (Ok tt) old new s [] (between boot (sent_parts parts images places (request == 0)))
+      → AreUnstaged E entries places parts → Shows old s (between boot parts)
+      → GoesByMoves E (Ok tt) old new s [] (between boot (sent_parts parts images places (request == 0)))
 
 -- all were, or that was stopped
 pub record SendsImages (told : Option Directory) (name : List ℕ) (entries : List Entry) (request : ℕ)
@@ -49,5 +49,5 @@ pub record SendsImages (told : Option Directory) (name : List ℕ) (entries : Li
   pub count : OnOk result (length images ≡ length entries)
   pub read : OnOk result ((file : List ℕ) → Tells told name file → images ≡ map (payload file) entries)
   pub goes : (E : Setting) (s : State) (boot : ℕ) (parts : List Staged) (places : List ℕ) → E.layout ≡ old.fields.layout
-      → AreImages E entries places parts → Shows old s (between boot parts)
+      → AreUnstaged E entries places parts → Shows old s (between boot parts)
       → Halts result E old new s boot (between boot (sent_parts parts images places (request == 0)))

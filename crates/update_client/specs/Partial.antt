@@ -12,7 +12,7 @@ use Rattle.update_client.specs.declared.stops.SendStop.{SendStop}
 use Rattle.update_client.specs.declared.stops.SendStop.TheVariants.{MissingImage, ImageTooLarge, Begin, End, ReadFailed, Lost, Fault, Gone}
 pub use Rattle.fip_tables.specs.Images.{present}
 use Rattle.update_client.specs.Choosing.{no_row, refused_image}
-use Rattle.update_client.specs.Sends.{AnswersBy, IsBegun, IsInstalled, ended}
+use Rattle.update_client.specs.Sends.{AnswersBy, AllowsBegin, IsInstalled, ended_session}
 use Rattle.flash_core.specs.declared.flash.FlashStop.TheVariants as flash_stop
 use Rattle.host_io.specs.Contents.{Directory}
 use Rattle.fip_tables.specs.Files.{Tells}
@@ -21,7 +21,7 @@ use Rattle.fwu_model.specs.Sound.{Setting}
 use Rattle.fwu_model.specs.Call as call
 use Rattle.agent_machine.specs.Fields.{Fields, total_of}
 use Rattle.agent_machine.specs.Moment.{Moment, Shows}
-use Rattle.agent_machine.specs.Goes.{Goes}
+use Rattle.agent_machine.specs.Goes.{GoesByMoves}
 use Rattle.update_client.specs.declared.stops.Sent.{Sent}
 
 -- ---- which entries are sent
@@ -30,13 +30,13 @@ abbrev pub types_of : List Entry → List (List ℕ)
 types_of entries = map (λ (e : Entry). e.guid) entries
 
 -- they are chosen where it has one at all and none is too large
-pub record ArePresent (rows : List ImageRow) (toc : Toc) (entries : List Entry) : Type 0 where
+pub record AreSendable (rows : List ImageRow) (toc : Toc) (entries : List Entry) : Type 0 where
   pub none : partial_fault rows toc ≡ None
   pub entries_are : entries ≡ present rows toc
 
-abbrev pub ChoosesPresent : List ImageRow → Toc → Result (List Entry) SendStop → Type 0
-ChoosesPresent rows toc (Ok entries) = ArePresent rows toc entries
-ChoosesPresent rows toc (Err fault) = refused_image (partial_fault rows toc) ≡ Some fault
+abbrev pub SendsPresent : List ImageRow → Toc → Result (List Entry) SendStop → Type 0
+SendsPresent rows toc (Ok entries) = AreSendable rows toc entries
+SendsPresent rows toc (Err fault) = refused_image (partial_fault rows toc) ≡ Some fault
 
 -- ---- what is staged, of the images from one of these numbers on
 
@@ -74,9 +74,10 @@ GoesAs (Err (MissingImage guid)) a E old new s x = AnswersBy (reply.Missing guid
 GoesAs (Err (ImageTooLarge guid)) a E old new s x = AnswersBy (reply.TooLarge guid) a E old new s
 GoesAs (Err (Begin st)) a E old new s x = AnswersBy (reply.BeginRefused st) a E old new s
 GoesAs (Err (End st)) a E old new s x = AnswersBy (reply.EndRefused st) a E old new s
-GoesAs (Err ReadFailed) a E old new s x = IsBegun E s x × Goes E (Ok tt) old new s (answer E s x (call.Begin 0)).moves (ended x)
-GoesAs (Err Lost) a E old new s x = IsBegun E s x × Goes E (Err flash_stop.Lost) old new s a.moves (ended x)
-GoesAs (Err Fault) a E old new s x = IsBegun E s x × Goes E (Err flash_stop.Failed) old new s a.moves (ended x)
+GoesAs (Err ReadFailed) a E old new s x = AllowsBegin E s x × GoesByMoves E (Ok tt) old new s
+    (answer E s x (call.Begin 0)).moves (ended_session x)
+GoesAs (Err Lost) a E old new s x = AllowsBegin E s x × GoesByMoves E (Err flash_stop.Lost) old new s a.moves (ended_session x)
+GoesAs (Err Fault) a E old new s x = AllowsBegin E s x × GoesByMoves E (Err flash_stop.Failed) old new s a.moves (ended_session x)
 GoesAs (Err Gone) a E old new s x = ⊥
 
 -- the begin was done, and the flash stopped nothing behind it

@@ -12,7 +12,7 @@ use Rattle.fwu_model.specs.Sound.{Setting}
 use Rattle.fwu_model.specs.Session.{Staged, Nothing}
 use Rattle.fip_tables.specs.Files.{Tells}
 use Rattle.agent_machine.specs.Moment.{Moment, Shows}
-use Rattle.agent_machine.specs.Goes.{Goes}
+use Rattle.agent_machine.specs.Goes.{GoesByMoves}
 use Rattle.agent_calls.specs.declared.agent.Agent.{Agent}
 use Rattle.agent_calls.specs.Shown.{SpentBy}
 use Rattle.update_client.specs.declared.stops.SendStop.{SendStop}
@@ -39,7 +39,7 @@ pub record WritesFirst (told : Option Directory) (name : List ℕ) (e : Entry) (
   pub goes : (E : Setting) (s : State) (boot : ℕ) (parts : List Staged) (image : ℕ) → E.layout ≡ old.fields.layout
       → image < length parts
       → e.size ≤ slot_bytes E.layout image → Shows old s (within boot parts image [])
-      → Goes E (Ok tt) old new s [] (within boot parts image bytes)
+      → GoesByMoves E (Ok tt) old new s [] (within boot parts image bytes)
 
 -- a payload was read and written whole
 pub record WritesImage (told : Option Directory) (name : List ℕ) (e : Entry) (result : Result (Unit {0}) SendStop)
@@ -58,7 +58,7 @@ unread_in (Err ReadFailed) = 1
 unread_in other = 0
 
 -- a read fails only where the files' faults rose, and no call of the files failed but the one that is told
-pub record ReadsBy {T : Type 0} (before now : ℕ) (result : Result T SendStop) : Type 0 where
+pub record ReadsPieceBy {T : Type 0} (before now : ℕ) (result : Result T SendStop) : Type 0 where
   pub later : before ≤ now
   pub once : now ≤ before + unread_in result
   pub failed : result ≡ Err ReadFailed → Rose before now
@@ -75,7 +75,7 @@ pub record KeepsBeside {D H T : Type 0} {F : flash.Ghosts D} (g : Ghosts H) (nam
   -- the file of this name alone is asked for, and none is written
   pub files : ReadsFile g name from to
   -- a read fails only where the count of faults rose, and no call of the files failed but the one that is told
-  pub reads : ReadsBy (g.faults from) (g.faults to) result
+  pub reads : ReadsPieceBy (g.faults from) (g.faults to) result
 
 -- an image of which nothing was staged was opened, written and committed
 pub record SendsImage (told : Option Directory) (name : List ℕ) (e : Entry) (request : ℕ) (result : Result (Unit {0}) SendStop)

@@ -14,7 +14,7 @@ use Rattle.fwu_model.specs.Answer.{Answer, answer, answered, first_image_fault, 
 use Rattle.fip_tables.specs.Files.{Tells}
 use Rattle.agent_machine.specs.Fields.{Fields, target}
 use Rattle.agent_machine.specs.Moment.{Moment, Shows}
-use Rattle.agent_machine.specs.Goes.{Goes}
+use Rattle.agent_machine.specs.Goes.{GoesByMoves}
 use Rattle.update_client.specs.declared.stops.Sent.{Sent}
 use Rattle.update_client.specs.declared.stops.SendStop.{SendStop}
 use Rattle.update_client.specs.declared.stops.SendStop.TheVariants.{MissingImage, ImageTooLarge, Begin, End, ReadFailed, Lost, Fault, Gone}
@@ -26,38 +26,39 @@ send_answer E toc p request s (On boot staging handles) =
     send_unless (first_image_fault E.layout.rows toc) E s boot staging handles p request (skipped E.layout.rows toc)
 
 -- the session without a staging and a handle
-abbrev pub ended : Session → Session
-ended Off = Off
-ended (On boot staging handles) = On boot None no_handles
+abbrev pub ended_session : Session → Session
+ended_session Off = Off
+ended_session (On boot staging handles) = On boot None no_handles
 
 -- the reply is the machine's, and so are the moves and the session after them
 abbrev pub AnswersBy : Reply → Answer → Setting → Moment → Moment → State → Type 0
-AnswersBy r a E old new s = (r ≡ a.reply) × Goes E (Ok tt) old new s a.moves a.next
+AnswersBy r a E old new s = (r ≡ a.reply) × GoesByMoves E (Ok tt) old new s a.moves a.next
 
 -- the machine doesn't refuse a begin
-abbrev pub IsBegun : Setting → State → Session → Type 0
-IsBegun E s x = (answer E s x (call.Begin 0)).reply ≡ reply.Success
+abbrev pub AllowsBegin : Setting → State → Session → Type 0
+AllowsBegin E s x = (answer E s x (call.Begin 0)).reply ≡ reply.Success
 
 -- An answer or a refusal is the machine's, with all its moves; a failed read leaves those of a begin, and no staging; at a stop of
 -- the flash each loss leaves a prefix of the moves. Neither comes where a begin is refused. An agent that is there is never
 -- answered to be gone.
-abbrev pub SendsBy : Result Sent SendStop → Setting → Toc → List (List ℕ) → ℕ → Moment → Moment → State → Session → Type 0
-SendsBy (Ok sent) E toc p request old new s x =
+abbrev pub SendEndsBy : Result Sent SendStop → Setting → Toc → List (List ℕ) → ℕ → Moment → Moment → State → Session → Type 0
+SendEndsBy (Ok sent) E toc p request old new s x =
     AnswersBy (reply.Sent sent.images sent.skipped) (send_answer E toc p request s x) E old new s
-SendsBy (Err (MissingImage guid)) E toc p request old new s x =
+SendEndsBy (Err (MissingImage guid)) E toc p request old new s x =
     AnswersBy (reply.Missing guid) (send_answer E toc p request s x) E old new s
-SendsBy (Err (ImageTooLarge guid)) E toc p request old new s x =
+SendEndsBy (Err (ImageTooLarge guid)) E toc p request old new s x =
     AnswersBy (reply.TooLarge guid) (send_answer E toc p request s x) E old new s
-SendsBy (Err (Begin st)) E toc p request old new s x =
+SendEndsBy (Err (Begin st)) E toc p request old new s x =
     AnswersBy (reply.BeginRefused st) (send_answer E toc p request s x) E old new s
-SendsBy (Err (End st)) E toc p request old new s x = AnswersBy (reply.EndRefused st) (send_answer E toc p request s x) E old new s
-SendsBy (Err ReadFailed) E toc p request old new s x =
-    IsBegun E s x × Goes E (Ok tt) old new s (answer E s x (call.Begin 0)).moves (ended x)
-SendsBy (Err Lost) E toc p request old new s x =
-    IsBegun E s x × Goes E (Err flash_stop.Lost) old new s (send_answer E toc p request s x).moves (ended x)
-SendsBy (Err Fault) E toc p request old new s x =
-    IsBegun E s x × Goes E (Err flash_stop.Failed) old new s (send_answer E toc p request s x).moves (ended x)
-SendsBy (Err Gone) E toc p request old new s x = ⊥
+SendEndsBy (Err (End st)) E toc p request old new s x = AnswersBy (reply.EndRefused st) (send_answer E toc p request s x) E old
+    new s
+SendEndsBy (Err ReadFailed) E toc p request old new s x =
+    AllowsBegin E s x × GoesByMoves E (Ok tt) old new s (answer E s x (call.Begin 0)).moves (ended_session x)
+SendEndsBy (Err Lost) E toc p request old new s x =
+    AllowsBegin E s x × GoesByMoves E (Err flash_stop.Lost) old new s (send_answer E toc p request s x).moves (ended_session x)
+SendEndsBy (Err Fault) E toc p request old new s x =
+    AllowsBegin E s x × GoesByMoves E (Err flash_stop.Failed) old new s (send_answer E toc p request s x).moves (ended_session x)
+SendEndsBy (Err Gone) E toc p request old new s x = ⊥
 
 -- What a sending says of an agent that isn't gone, on any device: there are images, those of the file where it is told, and each
 -- machine that the agent shows goes by the sending of them.
@@ -66,7 +67,7 @@ pub record Sends (told : Option Directory) (name : List ℕ) (toc : Toc) (reques
   pub images : List (List ℕ)
   pub read : (file : List ℕ) → Tells told name file → images ≡ images_of old.fields.layout.rows file toc
   pub goes : (E : Setting) (s : State) (x : Session) → E.layout ≡ old.fields.layout → E.passes ≡ passes → Shows old s x
-      → SendsBy result E toc images request old new s x
+      → SendEndsBy result E toc images request old new s x
 
 -- ---- when done
 
@@ -110,19 +111,19 @@ FaultsBy fault (Err (MissingImage guid)) = fault ≡ Some (reply.Missing guid)
 FaultsBy fault (Err (ImageTooLarge guid)) = fault ≡ Some (reply.TooLarge guid)
 FaultsBy fault other = fault ≡ None
 
-abbrev pub IsStopped : Result Sent SendStop → Type 0
-IsStopped (Err Lost) = ⊤
-IsStopped (Err Fault) = ⊤
-IsStopped other = ⊥
+abbrev pub IsStoppedSend : Result Sent SendStop → Type 0
+IsStoppedSend (Err Lost) = ⊤
+IsStoppedSend (Err Fault) = ⊤
+IsStoppedSend other = ⊥
 
-abbrev pub IsEarly : Result Sent SendStop → Type 0
-IsEarly (Err (MissingImage guid)) = ⊤
-IsEarly (Err (ImageTooLarge guid)) = ⊤
-IsEarly (Err (Begin st)) = ⊤
-IsEarly (Err Gone) = ⊤
-IsEarly other = ⊥
+abbrev pub IsEarlySend : Result Sent SendStop → Type 0
+IsEarlySend (Err (MissingImage guid)) = ⊤
+IsEarlySend (Err (ImageTooLarge guid)) = ⊤
+IsEarlySend (Err (Begin st)) = ⊤
+IsEarlySend (Err Gone) = ⊤
+IsEarlySend other = ⊥
 
 -- Gone comes exactly where the agent is gone and no image has a fault; and a stop makes it gone
 pub record GoneBy (fault : Option Reply) (result : Result Sent SendStop) (was now : Bool) : Type 0 where
   pub gone : (result ≡ Err Gone) ↔ (IsTrue was × (fault ≡ None))
-  pub later : IsTrue now ↔ (IsTrue was ⊎ IsStopped result)
+  pub later : IsTrue now ↔ (IsTrue was ⊎ IsStoppedSend result)

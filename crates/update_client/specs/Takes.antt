@@ -12,7 +12,7 @@ use Rattle.agent_machine.specs.Ends.{TakesSwitch}
 use Rattle.agent_machine.specs.Moment.{Moment, Shows}
 use Rattle.agent_machine.specs.Filling.{between, within}
 use Rattle.agent_calls.specs.Takes.{Takes, pieces_of, writes_of_image, writes_of_pieces}
-use Rattle.update_client.specs.Images.{AreImages, no_entry}
+use Rattle.update_client.specs.Images.{AreUnstaged, no_entry}
 use Rattle.update_client.specs.declared.stops.SendStop.{SendStop}
 use Rattle.update_client.specs.declared.stops.SendStop.TheVariants.{End, ReadFailed}
 
@@ -31,14 +31,14 @@ writes_sent size [] toc = 0
 writes_sent size (row ∷ rows) toc = writes_of_entry size (entry_of toc row.guid) + writes_sent size rows toc
 
 -- A sending that is done: so many erases and programs up to its end, and those of the switch.
-abbrev pub SendTakes : ℕ → Option Arming → Option Arming → Type 0
-SendTakes writes armed arming = TakesSwitch (lowered_by writes armed) arming
+abbrev pub DoneSendTakes : ℕ → Option Arming → Option Arming → Type 0
+DoneSendTakes writes armed arming = TakesSwitch (lowered_by writes armed) arming
 
 -- ---- within a staging, in which no image is at fault
 
 -- so many bytes more of an image, behind those before
-abbrev pub PieceTakes : ℕ → ℕ → Moment → Option Arming → Option Arming → Type 0
-PieceTakes at n old armed arming = (s : State) (boot : ℕ) (parts : List Staged) (image : ℕ) (before : List ℕ)
+abbrev pub PayloadPieceTakes : ℕ → ℕ → Moment → Option Arming → Option Arming → Type 0
+PayloadPieceTakes at n old armed arming = (s : State) (boot : ℕ) (parts : List Staged) (image : ℕ) (before : List ℕ)
     → image < length parts → length before ≡ at → Shows old s (within boot parts image before)
     → Takes (writes_to_append at n) armed arming
 
@@ -59,7 +59,7 @@ ImageTakes size e old armed arming = (E : Setting) (s : State) (boot : ℕ) (par
 -- the first images
 abbrev pub ImagesTake : ℕ → List Entry → ℕ → Moment → Option Arming → Option Arming → Type 0
 ImagesTake size entries k old armed arming = (E : Setting) (s : State) (boot : ℕ) (parts : List Staged) (places : List ℕ)
-    → E.layout ≡ old.fields.layout → AreImages E entries places parts → Shows old s (between boot parts)
+    → E.layout ≡ old.fields.layout → AreUnstaged E entries places parts → Shows old s (between boot parts)
     → Takes (writes_in size (take k entries)) armed arming
 
 -- all of them, and the switch that makes their bank active
@@ -81,7 +81,7 @@ OnUnread (Err ReadFailed) P = P
 OnUnread other P = ⊤
 
 -- the first pieces of a payload, which has a further one
-pub record FrontTakes (size : ℕ) (e : Entry) (old : Moment) (armed arming : Option Arming) : Type 0 where
+pub record PayloadFrontTakes (size : ℕ) (e : Entry) (old : Moment) (armed arming : Option Arming) : Type 0 where
   pub pieces : ℕ
   pub more : size * pieces < e.size
   pub takes : FirstTake size e pieces old armed arming
@@ -107,7 +107,7 @@ pub record ImagesStart (size : ℕ) (entries : List Entry) (old : Moment) (armed
   pub below : images < length entries
   pub more : size * pieces < (slice_index_or entries images no_entry).size
   pub takes : (E : Setting) (s : State) (boot : ℕ) (parts : List Staged) (places : List ℕ)
-      → E.layout ≡ old.fields.layout → AreImages E entries places parts → Shows old s (between boot parts)
+      → E.layout ≡ old.fields.layout → AreUnstaged E entries places parts → Shows old s (between boot parts)
       → Takes (writes_up_to size entries images pieces) armed arming
 
 -- ---- by its result
@@ -116,7 +116,7 @@ pub record ImagesStart (size : ℕ) (entries : List Entry) (old : Moment) (armed
 pub record PayloadTakesBy {T : Type 0} (result : Result T SendStop) (size : ℕ) (e : Entry) (old : Moment)
     (armed arming : Option Arming) : Type 0 where
   pub done : OnOk result (FirstTake size e (pieces_of size e.size) old armed arming)
-  pub unread : OnUnread result (FrontTakes size e old armed arming)
+  pub unread : OnUnread result (PayloadFrontTakes size e old armed arming)
 
 -- an image
 pub record ImageTakesBy {T : Type 0} (result : Result T SendStop) (size : ℕ) (e : Entry) (old : Moment)
@@ -151,7 +151,7 @@ pub record UnreadTakes (writes size : ℕ) (entries : List Entry) (armed arming 
 pub record SendTakesBy {T : Type 0} (result : Result T SendStop) (writes begun size : ℕ) (IsSent : List Entry → Type 0)
     (armed arming : Option Arming) : Type 0 where
   -- when done, those up to the end, and those of the end's switch
-  pub done : OnOk result (SendTakes writes armed arming)
+  pub done : OnOk result (DoneSendTakes writes armed arming)
   -- where the end is refused, so many but for the switch
   pub unswitched : OnRefusedEnd result (Takes writes armed arming)
   -- where the file could not be read, those up to that read, and none behind it

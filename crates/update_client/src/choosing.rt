@@ -3,7 +3,7 @@ ghost use Rattle.std.specs.Prelude.{◌≡◌, ◌<◌, ◌≤◌, length};
 ghost use Rattle.fwu_formats.specs.Layout.{find_image};
 ghost use Rattle.fwu_model.specs.Answer.{skipped as others_in};
 ghost use Rattle.update_client.specs.Choosing.{Chooses, refused_as};
-ghost use Rattle.update_client.specs.Partial.{ChoosesPresent};
+ghost use Rattle.update_client.specs.Partial.{SendsPresent};
 
 use crate::stops::SendStop;
 use base_core::{Guid, ImageRow};
@@ -35,7 +35,7 @@ pub fn choose(rows: &[ImageRow], toc: &Toc) -> Result<ImageEntries, SendStop>
 pub fn choose_present(rows: &[ImageRow], toc: &Toc) -> Result<ImageEntries, SendStop>
     requires some { 0 < length rows.now }
     requires few { length rows.now ≤ 16 }
-    ensures { ChoosesPresent rows.now toc.now result }
+    ensures { SendsPresent rows.now toc.now result }
 {
     match present_images_of(rows, toc) {
         Ok(entries) => Ok(entries),

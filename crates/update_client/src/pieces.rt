@@ -5,7 +5,7 @@ ghost use Rattle.agent_calls.specs.Takes.{piece_at};
 ghost use Rattle.update_client.specs.Halts.{stopped_as, unbegun_as, is_unread as was_unread};
 ghost use Rattle.update_client.specs.Packages.{HoldsPayload};
 ghost use Rattle.update_client.specs.Pieces.{KeepsBeside, WritesImage, WritesPiece};
-ghost use Rattle.update_client.specs.Takes.{OnUnread, PayloadTakesBy, PieceTakes};
+ghost use Rattle.update_client.specs.Takes.{OnUnread, PayloadTakesBy, PayloadPieceTakes};
 
 use crate::packages::Payload;
 use crate::stops::SendStop;
@@ -62,7 +62,7 @@ fn write_piece<D: Flash, H: Files>(
     ensures wrote { WritesPiece (H.contents files.old) payload.now.name.now payload.now.entry.now at result
         (moment agent.old) (moment agent.new) }
     ensures piece { IfOk result (λ n. n ≡ piece_at (length buf.old) payload.now.entry.now.size at) }
-    ensures takes { IfOk result (λ n. PieceTakes at n (moment agent.old)
+    ensures takes { IfOk result (λ n. PayloadPieceTakes at n (moment agent.old)
         (D.arming (device agent.old)) (D.arming (device agent.new))) }
     ensures unsent { OnUnread result (agent.new ≡ agent.old) }
     ensures keeps { KeepsBeside H.Files payload.now.name.now result agent.old agent.new files.old files.new

@@ -9,8 +9,8 @@ ghost use Rattle.host_io.specs.Reads.{ReadsFile};
 ghost use Rattle.agent_calls.specs.Shown.{device, fields, gone, moment};
 ghost use Rattle.update_client.specs.Halts.{flash_of};
 ghost use Rattle.update_client.specs.Packages.{HoldsPayloads};
-ghost use Rattle.update_client.specs.Pieces.{ReadsBy};
-ghost use Rattle.update_client.specs.Sends.{FaultsBy, GoneBy, Installs, IsCounted, IsEarly, IsSwitched, Sends};
+ghost use Rattle.update_client.specs.Pieces.{ReadsPieceBy};
+ghost use Rattle.update_client.specs.Sends.{FaultsBy, GoneBy, Installs, IsCounted, IsEarlySend, IsSwitched, Sends};
 ghost use Rattle.agent_calls.specs.Takes.{writes_to_begin};
 ghost use Rattle.update_client.specs.Choosing.{AreChosen};
 ghost use Rattle.update_client.specs.Takes.{SendTakesBy, writes_sent};
@@ -69,8 +69,8 @@ pub fn send<D: Flash, H: Files, V: Verifier>(
     // A missing or too large image comes exactly by the table and the layout, on any agent.
     ensures faults { FaultsBy (first_image_fault (fields agent.old).layout.rows toc.now) result }
     // It, a refused begin and Gone leave everything as it was.
-    ensures untouched { IsEarly result → agent.new ≡ agent.old }
-    ensures unread { IsEarly result → files.new ≡ files.old }
+    ensures untouched { IsEarlySend result → agent.new ≡ agent.old }
+    ensures unread { IsEarlySend result → files.new ≡ files.old }
     // Gone comes exactly on an agent that is gone, where no image is missing or too large.
     ensures gone { GoneBy (first_image_fault (fields agent.old).layout.rows toc.now) result
         (gone agent.old) (gone agent.new) }
@@ -83,7 +83,7 @@ pub fn send<D: Flash, H: Files, V: Verifier>(
         (AreChosen f.layout.rows toc.now) (D.arming (device agent.old)) (D.arming (device agent.new)) }
     ensures buffer { length buf.new ≡ length buf.old }
     ensures files { ReadsFile H.Files name.now files.old files.new }
-    ensures reads { ReadsBy (H.faults files.old) (H.faults files.new) result }
+    ensures reads { ReadsPieceBy (H.faults files.old) (H.faults files.new) result }
 {
     let entries = choose(agent.rows(), toc)?;
     let images = agent.rows().len() as u32;

@@ -5,9 +5,9 @@ use Rattle.verify_core.specs.declared.list.ListFault.{ListFault}
 use Rattle.verify_core.specs.declared.list.ListFault.TheVariants.{BadLine, NoMemory}
 
 -- this line is the first bad one, or memory was wanting
-abbrev pub IsFaultOf : Result (List (List ℕ)) ℕ → ListFault → Type 0
-IsFaultOf r (BadLine n) = r ≡ Err n
-IsFaultOf r NoMemory = Unit {0}
+abbrev pub IsListFault : Result (List (List ℕ)) ℕ → ListFault → Type 0
+IsListFault r (BadLine n) = r ≡ Err n
+IsListFault r NoMemory = Unit {0}
 
 -- the digest that a text's first line is, where it has its end
 abbrev pub first_digest : List ℕ → Option (List ℕ)

@@ -3,7 +3,7 @@ ghost use Rattle.std.specs.Prelude.{◌≡◌, ◌==◌, ◌∷◌, ◌++◌, �
 ghost use Rattle.std.specs.List.{list_any};
 ghost use Rattle.base_core.specs.Bytes.{same_bytes};
 ghost use Rattle.fwu_formats.specs.Digests.{digests_of, digest_of, passes_listed};
-ghost use Rattle.verify_core.specs.Shown.{IsFaultOf, first_digest};
+ghost use Rattle.verify_core.specs.Shown.{IsListFault, first_digest};
 
 use crate::verifier::Verifier;
 use hex::FromHex;
@@ -119,7 +119,7 @@ impl DigestList {
     /// The first other line is the fault, and so is a last line without its end. The empty file is the empty list.
     pub fn read(alloc: Global, bytes: &[u8]) -> Result<DigestList, ListFault>
         ensures ok { IfOk result (λ list. digests_of bytes.now ≡ Ok list) }
-        ensures fault { IfErr result (λ fault. IsFaultOf (digests_of bytes.now) fault) }
+        ensures fault { IfErr result (λ fault. IsListFault (digests_of bytes.now) fault) }
     {
         let mut list = DigestList::new(alloc);
         let mut rest = bytes;

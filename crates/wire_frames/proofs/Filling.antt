@@ -6,7 +6,7 @@ use Rattle.std.proofs.lemmas.List.{length-take-le, take_all, take_at}
 use Rattle.base_core.specs.Bytes.{le, num, num_at}
 use Rattle.wire_frames.specs.declared.stream.Cut.{Cut}
 use Rattle.wire_frames.specs.declared.stream.Cut.TheVariants as cut
-use Rattle.wire_frames.specs.Frames.{IsPartial, frame}
+use Rattle.wire_frames.specs.Frames.{IsPartialFrame, frame}
 use Rattle.wire_frames.specs.Stream.{CutsShort, ReadsFrame, StopsReading, stop_by}
 
 -- the front of a buffer, with bytes that came behind it
@@ -47,7 +47,7 @@ reads-frame head out rest body n taken mid now a b c four spelled some few size 
 -- ---- what is cut short
 
 -- what was taken of a piece that was cut short
-pub stops-by : (why : Cut) (bytes got : List ℕ) (taken mid now : ℕ) (between : Bool) (a b c : Option (List ℕ)) → Consumes a b bytes → CutsShort why got mid now b c → mid ≡ taken + length bytes → IsPartial (bytes ++ got)
+pub stops-by : (why : Cut) (bytes got : List ℕ) (taken mid now : ℕ) (between : Bool) (a b c : Option (List ℕ)) → Consumes a b bytes → CutsShort why got mid now b c → mid ≡ taken + length bytes → IsPartialFrame (bytes ++ got)
     → (between ≡ true → bytes ++ got ≡ []) → (between ≡ false → 1 ≤ length (bytes ++ got)) → StopsReading (stop_by why between) taken now a c
 stops-by cut.Ended bytes got taken mid now true a b c first s sum part none some =
     let all = Consumes-trans a b s.mid bytes got first s.came in
@@ -69,7 +69,7 @@ stops-by cut.Failed bytes got taken mid now between a b c first s sum part none 
     (bytes ++ got, part, subst (Consumes a c) (append-nil (bytes ++ got)) (Consumes-trans a s.mid c (bytes ++ got) [] all s.ends), omega (arith, sum, count, length-append bytes got))
 
 -- a length, and fewer bytes than it says
-pub partial-body : (head got : List ℕ) (n : ℕ) → length head ≡ 4 → n ≡ num_at 4 head 0 → 8 ≤ n → n ≤ 4108 → length got < n → IsPartial (head ++ got)
+pub partial-body : (head got : List ℕ) (n : ℕ) → length head ≡ 4 → n ≡ num_at 4 head 0 → 8 ≤ n → n ≤ 4108 → length got < n → IsPartialFrame (head ++ got)
 partial-body head got n four is some few less =
     let same : num_at 4 (head ++ got) 0 ≡ n = ap num (take_at head got 4 four ∙ sym (take_all 4 head (omega (arith, four)))) ∙ sym is in
     let long = length-append head got in

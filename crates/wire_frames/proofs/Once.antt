@@ -7,10 +7,10 @@ use Rattle.std.proofs.lemmas.Option.{same_Some, slice_get-map, slice_get_within}
 use Rattle.std.proofs.lemmas.List.{append-nil, length_push, map-append, take-append-le}
 use Rattle.wire_frames.specs.declared.exchange.Admission.{Admission}
 use Rattle.wire_frames.specs.declared.exchange.Admission.TheVariants.{Acts, Repeats, Ignored}
-use Rattle.wire_frames.specs.Frames.{body_of, frame, number_of, numbered}
+use Rattle.wire_frames.specs.Frames.{body_of, frame, request_number_of, numbered}
 use Rattle.wire_frames.specs.Exchange.{admission, answered_by, written_by}
 use Rattle.wire_frames.specs.Asking.{fits, may_ask, next_frame}
-use Rattle.wire_frames.specs.Events.{ActsAtMostOnce, Event, Asks, Again, Request_comes, Reply_comes, IsFrontOf, Pair, World, acts, asks, answers, closes, gives_again, happens, reply_comes, request_comes, requests_of, run, sent, serves, start, stops}
+use Rattle.wire_frames.specs.Events.{ActsAtMostOnce, Event, Asks, Again, Request_comes, Reply_comes, IsFrontOf, Pair, WireWorld, acts, asks, answers, closes, gives_again, happens, reply_comes, request_comes, requests_of, run, sent, serves, start_world, stops}
 use Rattle.wire_frames.proofs.Numbers.{body-frame, number-numbered}
 use Rattle.wire_frames.proofs.Places.{get-cases, get-keeps, get-seam, get-taken, take-next}
 
@@ -42,40 +42,40 @@ admits last number = elim (cases_Bool (number == last + 1)) [ inl is ↦ next (a
 -- ---- what holds
 
 -- a request that was asked, by its place
-pub record WasAsked (w : World) (request : List ℕ) : Type 0 where
+pub record WasAsked (w : WireWorld) (request : List ℕ) : Type 0 where
   pub place : ℕ
   pub at : slice_get w.asked place ≡ Some request
 
 -- a frame is the reply to a request that acted
-pub record WasAnswered (w : World) (bytes : List ℕ) : Type 0 where
+pub record WasAnswered (w : WireWorld) (bytes : List ℕ) : Type 0 where
   pub place : ℕ
   pub pair : Pair
   pub at : slice_get w.acted place ≡ Some pair
   pub is : bytes ≡ frame pair.reply
 
 -- the last one that was asked is open, and its frame is kept
-pub record IsOpen (w : World) : Type 0 where
+pub record IsOpen (w : WireWorld) : Type 0 where
   pub some : 1 ≤ w.client.last
   pub last : slice_get w.asked (w.client.last - 1) ≡ Some (body_of w.client.request)
   pub behind : length w.taken + 1 ≡ w.client.last
 
 -- the request that was stopped is the one behind those that acted
-pub record IsStopped (w : World) : Type 0 where
+pub record IsStopped (w : WireWorld) : Type 0 where
   pub request : List ℕ
   pub one : w.stopped ≡ request ∷ []
   pub at : slice_get w.asked w.server.last ≡ Some request
 
-pub record Holds (w : World) : Type 0 where
+pub record Holds (w : WireWorld) : Type 0 where
   pub few : w.client.last ≤ 4294967295
   pub count : length w.asked ≡ w.client.last
-  pub numbers : (n : ℕ) (request : List ℕ) → slice_get w.asked n ≡ Some request → number_of request ≡ n + 1
+  pub numbers : (n : ℕ) (request : List ℕ) → slice_get w.asked n ≡ Some request → request_number_of request ≡ n + 1
   pub opened : w.client.is_open ≡ true → IsOpen w
   pub idle : w.client.is_open ≡ false → length w.taken ≡ w.client.last
   pub requests : (k : ℕ) (bytes : List ℕ) → slice_get w.requests k ≡ Some bytes → WasAsked w (body_of bytes)
   pub acted : requests_of w.acted ≡ take w.server.last w.asked
   pub long : length w.acted ≡ w.server.last
   pub behind : w.server.last ≤ length w.asked
-  pub answers : (n : ℕ) (p : Pair) → slice_get w.acted n ≡ Some p → number_of p.reply ≡ n + 1
+  pub answers : (n : ℕ) (p : Pair) → slice_get w.acted n ≡ Some p → request_number_of p.reply ≡ n + 1
   pub kept : 1 ≤ w.server.last → WasAnswered w w.server.reply
   pub replies : (k : ℕ) (bytes : List ℕ) → slice_get w.replies k ≡ Some bytes → WasAnswered w bytes
   pub taken : w.taken ≡ take (length w.taken) w.acted
@@ -84,7 +84,7 @@ pub record Holds (w : World) : Type 0 where
   pub quiet : w.gone ≡ false → w.stopped ≡ []
 
 -- at first
-starts : Holds start
+starts : Holds start_world
 starts = record {
   few = omega arith;
   count = refl;
@@ -106,14 +106,14 @@ starts = record {
 
 -- ---- the client asks
 
-module _ (w : World) (h : Holds w) where
+module _ (w : WireWorld) (h : Holds w) where
   asks-on : (message : List ℕ) → may_ask w.client ≡ true → Holds (asks w message)
   asks-on message may =
       let parts = and_parts (not w.client.is_open) (nat_lt w.client.last 4294967295) may in
       let free : w.client.last < 4294967295 = ltb-true w.client.last 4294967295 parts.1 in
       let waits : w.client.is_open ≡ false = not-true w.client.is_open parts.0 in
       let body : List ℕ = body_of (next_frame w.client message) in
-      let number : number_of body ≡ w.client.last + 1 = ap number_of (body-frame (numbered (w.client.last + 1) message)) ∙ number-numbered (w.client.last + 1) message (omega (arith, free)) in
+      let number : request_number_of body ≡ w.client.last + 1 = ap request_number_of (body-frame (numbered (w.client.last + 1) message)) ∙ number-numbered (w.client.last + 1) message (omega (arith, free)) in
       let count = h.count in
       let more : length (w.asked ++ body ∷ []) ≡ w.client.last + 1 = length_push w.asked body ∙ ap (λ (n : ℕ). n + 1) count in
       record {
@@ -135,9 +135,9 @@ module _ (w : World) (h : Holds w) where
         quiet = h.quiet;
       }
     where
-      numbered-so : (body : List ℕ) → number_of body ≡ w.client.last + 1 → (n : ℕ) (request : List ℕ) → ((slice_get w.asked n ≡ Some request) ⊎ ((n ≡ length w.asked) × (body ≡ request))) → number_of request ≡ n + 1
+      numbered-so : (body : List ℕ) → request_number_of body ≡ w.client.last + 1 → (n : ℕ) (request : List ℕ) → ((slice_get w.asked n ≡ Some request) ⊎ ((n ≡ length w.asked) × (body ≡ request))) → request_number_of request ≡ n + 1
       numbered-so body number n request (inl was) = h.numbers n request was
-      numbered-so body number n request (inr this) = ap number_of (sym this.1) ∙ number ∙ ap (λ (k : ℕ). k + 1) (sym h.count ∙ sym this.0)
+      numbered-so body number n request (inr this) = ap request_number_of (sym this.1) ∙ number ∙ ap (λ (k : ℕ). k + 1) (sym h.count ∙ sym this.0)
 
       came : (body : List ℕ) (k : ℕ) (bytes : List ℕ) → slice_get (next_frame w.client message ∷ w.requests) k ≡ Some bytes → WasAsked (asks w message) (body_of bytes)
       came body zero bytes is = record {
@@ -210,13 +210,13 @@ module _ (w : World) (h : Holds w) where
       halts (inr s) = inr (record { request = s.request; one = s.one; at = s.at })
 
   -- the next request stands behind those that acted
-  next-at : (request : List ℕ) → WasAsked w request → number_of request ≡ w.server.last + 1 → slice_get w.asked w.server.last ≡ Some request
+  next-at : (request : List ℕ) → WasAsked w request → request_number_of request ≡ w.server.last + 1 → slice_get w.asked w.server.last ≡ Some request
   next-at request r number =
       let place : r.place ≡ w.server.last = let n = h.numbers r.place request r.at in omega (arith, n, number) in
       ap (slice_get w.asked) (sym place) ∙ r.at
 
   -- the flash stops it
-  stops-on : (request : List ℕ) → WasAsked w request → number_of request ≡ w.server.last + 1 → Holds (record w { gone = true; stopped = request ∷ [] })
+  stops-on : (request : List ℕ) → WasAsked w request → request_number_of request ≡ w.server.last + 1 → Holds (record w { gone = true; stopped = request ∷ [] })
   stops-on request r number = record {
     few = h.few;
     count = h.count;
@@ -237,9 +237,9 @@ module _ (w : World) (h : Holds w) where
   }
 
   -- It acts. Nothing was stopped so far.
-  acts-on : (request reply : List ℕ) → WasAsked w request → number_of request ≡ w.server.last + 1 → number_of reply ≡ number_of request → w.stopped ≡ []
+  acts-on : (request reply : List ℕ) → WasAsked w request → request_number_of request ≡ w.server.last + 1 → request_number_of reply ≡ request_number_of request → w.stopped ≡ []
       → Holds (record w {
-        server = record { last = number_of request; reply = frame reply };
+        server = record { last = request_number_of request; reply = frame reply };
         replies = frame reply ∷ w.replies;
         acted = w.acted ++ record { request = request; reply = reply } ∷ [];
       })
@@ -269,12 +269,12 @@ module _ (w : World) (h : Holds w) where
         quiet = λ is. none;
       }
     where
-      answered-so : (n : ℕ) (p : Pair) → ((slice_get w.acted n ≡ Some p) ⊎ ((n ≡ length w.acted) × (record { request = request; reply = reply } ≡ p))) → number_of p.reply ≡ n + 1
+      answered-so : (n : ℕ) (p : Pair) → ((slice_get w.acted n ≡ Some p) ⊎ ((n ≡ length w.acted) × (record { request = request; reply = reply } ≡ p))) → request_number_of p.reply ≡ n + 1
       answered-so n p (inl was) = h.answers n p was
-      answered-so n p (inr this) = ap (λ (q : Pair). number_of q.reply) (sym this.1) ∙ own ∙ number ∙ ap (λ (k : ℕ). k + 1) (sym h.long ∙ sym this.0)
+      answered-so n p (inr this) = ap (λ (q : Pair). request_number_of q.reply) (sym this.1) ∙ own ∙ number ∙ ap (λ (k : ℕ). k + 1) (sym h.long ∙ sym this.0)
 
       came : (k : ℕ) (bytes : List ℕ) → slice_get (frame reply ∷ w.replies) k ≡ Some bytes → WasAnswered (record w {
-        server = record { last = number_of request; reply = frame reply };
+        server = record { last = request_number_of request; reply = frame reply };
         replies = frame reply ∷ w.replies;
         acted = w.acted ++ record { request = request; reply = reply } ∷ [];
       }) bytes
@@ -288,38 +288,38 @@ module _ (w : World) (h : Holds w) where
 
   -- by its number
   answers-on : (request message : List ℕ) → WasAsked w request → w.stopped ≡ [] → Holds (answers w request message)
-  answers-on request message r none = by (admits w.server.last (number_of request))
+  answers-on request message r none = by (admits w.server.last (request_number_of request))
     where
       reply : List ℕ
-      reply = numbered (number_of request) message
+      reply = numbered (request_number_of request) message
 
-      after : Admission → World
+      after : Admission → WireWorld
       after a = record w {
-        server = answered_by a w.server (number_of request) (frame reply);
+        server = answered_by a w.server (request_number_of request) (frame reply);
         replies = sent w.replies (written_by a w.server (frame reply));
         acted = acts a w.acted request reply;
       }
 
-      by : Admits w.server.last (number_of request) → Holds (after (admission w.server.last (number_of request)))
+      by : Admits w.server.last (request_number_of request) → Holds (after (admission w.server.last (request_number_of request)))
       by (next is number) =
           let within = slice_get_within w.asked w.server.last request (next-at request r number) in
           let few = h.few in
           let count = h.count in
           subst (λ (a : Admission). Holds (after a)) (sym is)
-          (acts-on request reply r number (number-numbered (number_of request) message (omega (arith, number, within, few, count))) none)
+          (acts-on request reply r number (number-numbered (request_number_of request) message (omega (arith, number, within, few, count))) none)
       by (again is number some) = subst (λ (a : Admission). Holds (after a)) (sym is) (gives-on some)
       by (other is) = subst (λ (a : Admission). Holds (after a)) (sym is) h
 
   serves-on : (gone : Bool) (request : List ℕ) (message : Option (List ℕ)) → w.gone ≡ gone → WasAsked w request → Holds (serves gone w request message)
-  serves-on true request message is r = by (admits w.server.last (number_of request))
+  serves-on true request message is r = by (admits w.server.last (request_number_of request))
     where
-      by : Admits w.server.last (number_of request) → Holds (gives_again (admission w.server.last (number_of request)) w)
+      by : Admits w.server.last (request_number_of request) → Holds (gives_again (admission w.server.last (request_number_of request)) w)
       by (next so number) = subst (λ (a : Admission). Holds (gives_again a w)) (sym so) h
       by (again so number some) = subst (λ (a : Admission). Holds (gives_again a w)) (sym so) (gives-on some)
       by (other so) = subst (λ (a : Admission). Holds (gives_again a w)) (sym so) h
-  serves-on false request None is r = by (admits w.server.last (number_of request))
+  serves-on false request None is r = by (admits w.server.last (request_number_of request))
     where
-      by : Admits w.server.last (number_of request) → Holds (stops (admission w.server.last (number_of request)) w request)
+      by : Admits w.server.last (request_number_of request) → Holds (stops (admission w.server.last (request_number_of request)) w request)
       by (next so number) = subst (λ (a : Admission). Holds (stops a w request)) (sym so) (stops-on request r number)
       by (again so number some) = subst (λ (a : Admission). Holds (stops a w request)) (sym so) (gives-on some)
       by (other so) = subst (λ (a : Admission). Holds (stops a w request)) (sym so) h
@@ -332,13 +332,13 @@ module _ (w : World) (h : Holds w) where
   -- ---- a reply comes
 
   -- it is that of the open request
-  closes-on : (bytes : List ℕ) → WasAnswered w bytes → w.client.is_open ≡ true → number_of (body_of bytes) ≡ w.client.last
+  closes-on : (bytes : List ℕ) → WasAnswered w bytes → w.client.is_open ≡ true → request_number_of (body_of bytes) ≡ w.client.last
       → Holds (record w { client = record w.client { is_open = false }; taken = w.taken ++ record { request = body_of w.client.request; reply = body_of bytes } ∷ [] })
   closes-on bytes r waits number =
       let o = h.opened waits in
       let reply_is : body_of bytes ≡ r.pair.reply = ap body_of r.is ∙ body-frame r.pair.reply in
       let own = h.answers r.place r.pair r.at in
-      let place : r.place + 1 ≡ w.client.last = sym own ∙ ap number_of (sym reply_is) ∙ number in
+      let place : r.place + 1 ≡ w.client.last = sym own ∙ ap request_number_of (sym reply_is) ∙ number in
       let behind = o.behind in
       let at_taken : r.place ≡ length w.taken = omega (arith, place, behind) in
       let asked_at : slice_get w.asked r.place ≡ Some r.pair.request =
@@ -379,7 +379,7 @@ module _ (w : World) (h : Holds w) where
   reply-on which None is = h
   reply-on which (Some bytes) is = by (cases_Bool (fits w.client (body_of bytes)))
     where
-      after : Bool → World
+      after : Bool → WireWorld
       after b = record w {
         client = cond b (record w.client { is_open = false }) w.client;
         taken = closes b w.taken (body_of w.client.request) (body_of bytes);
@@ -387,10 +387,10 @@ module _ (w : World) (h : Holds w) where
 
       by : (fits w.client (body_of bytes) ≡ true) ⊎ (fits w.client (body_of bytes) ≡ false) → Holds (after (fits w.client (body_of bytes)))
       by (inl fit) =
-          let parts = and_parts w.client.is_open (nat_le 4 (length (body_of bytes)) && (number_of (body_of bytes) == w.client.last)) fit in
-          let later = and_parts (nat_le 4 (length (body_of bytes))) (number_of (body_of bytes) == w.client.last) parts.1 in
+          let parts = and_parts w.client.is_open (nat_le 4 (length (body_of bytes)) && (request_number_of (body_of bytes) == w.client.last)) fit in
+          let later = and_parts (nat_le 4 (length (body_of bytes))) (request_number_of (body_of bytes) == w.client.last) parts.1 in
           subst (λ (b : Bool). Holds (after b)) (sym fit)
-          (closes-on bytes (h.replies which bytes is) parts.0 (eqb-true (number_of (body_of bytes)) w.client.last later.1))
+          (closes-on bytes (h.replies which bytes is) parts.0 (eqb-true (request_number_of (body_of bytes)) w.client.last later.1))
       by (inr differs) = subst (λ (b : Bool). Holds (after b)) (sym differs) h
 
   -- ---- all that may happen
@@ -431,9 +431,9 @@ module _ (w : World) (h : Holds w) where
       turn (inl waits) = let b = (h.opened waits).behind in let c = h.count in omega (arith, b, c)
       turn (inr idle) = let b = h.idle idle in let c = h.count in omega (arith, b, c)
 
-runs-on : (events : List Event) (w : World) → Holds w → Holds (run events w)
+runs-on : (events : List Event) (w : WireWorld) → Holds w → Holds (run events w)
 runs-on [] w h = h
 runs-on (e ∷ events) w h = runs-on events (happens w e) (happens-on w h e)
 
-pub at-most-once : (events : List Event) → ActsAtMostOnce (run events start)
-at-most-once events = so (run events start) (runs-on events start starts)
+pub at-most-once : (events : List Event) → ActsAtMostOnce (run events start_world)
+at-most-once events = so (run events start_world) (runs-on events start_world starts)

@@ -2,7 +2,7 @@
 use Rattle.std.specs.Prelude.{◌≡◌, ℕ, ◌+◌, Bool, true, false, not, ◌==◌, nat_lt, nat_le, ◌&&◌, if◌then◌else◌, List, [], length, IsTrue, IsFalse}
 use Rattle.wire_frames.specs.declared.client.Asked.{Asked}
 use Rattle.wire_frames.specs.declared.client.Asked.TheVariants.{Frame, Waiting}
-use Rattle.wire_frames.specs.Frames.{frame, number_of, numbered}
+use Rattle.wire_frames.specs.Frames.{frame, request_number_of, numbered}
 use Rattle.wire_frames.specs.Fronts.{PutsFront}
 
 -- the number of the last request, whether it is open, and its frame. At first that is 0, none, and no frame
@@ -31,14 +31,14 @@ asked a message = record { last = a.last + 1; is_open = true; request = next_fra
 
 -- a reply is that of the open request
 abbrev pub fits : Asking → List ℕ → Bool
-fits a reply = a.is_open && (nat_le 4 (length reply) && (number_of reply == a.last))
+fits a reply = a.is_open && (nat_le 4 (length reply) && (request_number_of reply == a.last))
 
 -- after a reply, which closes the open request where it fits
 abbrev pub closed : Asking → List ℕ → Asking
 closed a reply = if fits a reply then record a { is_open = false } else a
 
 -- What an asking does: the frame is kept, and written to the front; or nothing changes.
-abbrev pub Asks : Asked → Asking → Asking → List ℕ → List ℕ → List ℕ → Type 0
-Asks (Frame size) old new message before after =
+abbrev pub AsksFrame : Asked → Asking → Asking → List ℕ → List ℕ → List ℕ → Type 0
+AsksFrame (Frame size) old new message before after =
     IsTrue (may_ask old) × (new ≡ asked old message) × PutsFront size new.request before after
-Asks Waiting old new message before after = IsFalse (may_ask old) × (new ≡ old) × (after ≡ before)
+AsksFrame Waiting old new message before after = IsFalse (may_ask old) × (new ≡ old) × (after ≡ before)

@@ -4,7 +4,7 @@ use Rattle.std.specs.Io.KnownBytes.{Consumes, IsAtEnd}
 use Rattle.host_io.specs.Calls.{raised}
 use Rattle.host_io.specs.Once.{ReadsBytes, ReadsOnce}
 use Rattle.host_io.specs.declared.source.Source.{Ghosts}
-use Rattle.wire_frames.specs.Frames.{AreBodies, HasBadLength, IsBody, IsPartial, Splits, frame, frames}
+use Rattle.wire_frames.specs.Frames.{AreBodies, HasBadLength, IsBody, IsPartialFrame, Splits, frame, frames}
 use Rattle.wire_frames.specs.declared.stream.Cut.{Cut}
 use Rattle.wire_frames.specs.declared.stream.Cut.TheVariants as cut
 use Rattle.wire_frames.specs.declared.stream.Short.{Short}
@@ -76,12 +76,12 @@ abbrev pub StopsReading : FrameStop → ℕ → ℕ → Option (List ℕ) → Op
 StopsReading stop.End taken now old new = Consumes old new [] × IsAtEnd new × (now ≡ taken)
 StopsReading stop.BadFrame taken now old new =
     (bytes : List ℕ) × Consumes old new bytes × (now ≡ taken + length bytes)
-    × ((HasBadLength bytes × (length bytes ≡ 4)) ⊎ (IsPartial bytes × (1 ≤ length bytes) × IsAtEnd new))
+    × ((HasBadLength bytes × (length bytes ≡ 4)) ⊎ (IsPartialFrame bytes × (1 ≤ length bytes) × IsAtEnd new))
 StopsReading stop.TooLong taken now old new =
-    (bytes : List ℕ) × (b : ℕ) × IsPartial bytes × Consumes old new (bytes ++ b ∷ [])
+    (bytes : List ℕ) × (b : ℕ) × IsPartialFrame bytes × Consumes old new (bytes ++ b ∷ [])
     × (now ≡ taken + length bytes) × (now ≡ most_bytes)
 StopsReading stop.Failed taken now old new =
-    (bytes : List ℕ) × IsPartial bytes × Consumes old new bytes × (now ≡ taken + length bytes)
+    (bytes : List ℕ) × IsPartialFrame bytes × Consumes old new bytes × (now ≡ taken + length bytes)
 
 abbrev pub stop_faults : {T : Type 0} → Result T FrameStop → ℕ → ℕ
 stop_faults (Ok value) before = before

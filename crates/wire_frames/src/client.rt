@@ -1,7 +1,7 @@
 //! The side that asks.
 ghost use Rattle.std.specs.Prelude.{◌≡◌, ◌≤◌, IsTrue, length};
 ghost use Rattle.wire_frames.specs.Asking.{asked, asked_none, closed, fits, may_ask};
-ghost use Rattle.wire_frames.specs.Asking.{Asks};
+ghost use Rattle.wire_frames.specs.Asking.{AsksFrame};
 ghost use Rattle.wire_frames.specs.Fronts.{PutsFront};
 
 use crate::frames::{number_of, put_message};
@@ -59,7 +59,7 @@ impl Client {
         requires some { 4 ≤ length request.now }
         requires few { length request.now ≤ 4104 }
         requires room { 4112 ≤ length out.old }
-        ensures { Asks result self.old self.new request.now out.old out.new }
+        ensures { AsksFrame result self.old self.new request.now out.old out.new }
     {
         if self.waits || self.last == u32::MAX {
             return Asked::Waiting;

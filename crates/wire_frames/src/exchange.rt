@@ -26,9 +26,9 @@ pub struct Exchange {
 }
 
 impl Model for Exchange {
-    ghost use Rattle.wire_frames.specs.Exchange.{Answered};
+    ghost use Rattle.wire_frames.specs.Exchange.{LastAnswer};
 
-    ghost Value = { Answered };
+    ghost Value = { LastAnswer };
 
     ghost view = { λ e. record { last = e.last; reply = e.reply } };
 }

@@ -1,7 +1,7 @@
 //! Frames: the length of a body, and the body. Numbers are little-endian, of four bytes.
 ghost use Rattle.std.specs.Prelude.{◌≡◌, ◌+◌, ◌<◌, ◌≤◌, ◌++◌, ℕ, List, length};
 ghost use Rattle.base_core.specs.Bytes.{le};
-ghost use Rattle.wire_frames.specs.Frames.{frame, number_of, numbered};
+ghost use Rattle.wire_frames.specs.Frames.{frame, request_number_of, numbered};
 ghost use Rattle.wire_frames.specs.Fronts.{PutsFront};
 
 use base_core::{le32_at, put_at, put_le32};
@@ -21,7 +21,7 @@ pub const FRAME_BYTES: usize = LENGTH_BYTES + MOST_BODY_BYTES;
 /// The number of a request or a reply, which its body begins with.
 pub fn number_of(body: &[u8]) -> u32
     requires { 4 ≤ length body.now }
-    ensures { result ≡ number_of body.now }
+    ensures { result ≡ request_number_of body.now }
 {
     le32_at(body, 0)
 }

@@ -1,6 +1,6 @@
 use Rattle.std.proofs.Common.{◌≡◌, ◌∙◌, ◌+◌, ◌*◌, ◌++◌, ap, arith, rules, sym, length, ℕ, List, Some}
 use Rattle.fip_tables.specs.declared.faults.PackFault.{PackFault}
-use Rattle.capsule_tables.specs.Making.{front_bytes, headers_bytes, heads_bytes, places_bytes}
+use Rattle.capsule_tables.specs.Making.{capsule_front_bytes, headers_bytes, heads_bytes, places_bytes}
 use Rattle.capsule_tables.proofs.Frames.{frame-joined, frame-size, front-low, gaps-count}
 use Rattle.capsule_tables.proofs.MadeFaults.{no-fault, same-fault, shared, too-large}
 use Rattle.capsule_tables.proofs.making.capsule_frame.Goals as goal
@@ -24,9 +24,9 @@ gaps_of-requires c =
     let os = c.args.parts.now in
     let size = c.in_ok-size.ensures.size.0 in
     let small = c.in_ok-size.ensures.size.1 in
-    let front : c.add_places.new.bytes.items ≡ front_bytes os =
+    let front : c.add_places.new.bytes.items ≡ capsule_front_bytes os =
     c.in_ok-add_places.ensures ∙ ap (λ (xs : List ℕ). xs ++ places_bytes (8 + 8 * length os) os) (c.in_ok-bytes.ensures ∙ ap (λ (n : ℕ). headers_bytes n (length os)) size) in
-    let long : c.len.result ≡ length (front_bytes os) = c.len.ensures ∙ c.add_places.new.bytes.ok.0 ∙ ap length front in
+    let long : c.len.result ≡ length (capsule_front_bytes os) = c.len.ensures ∙ c.add_places.new.bytes.ok.0 ∙ ap length front in
     omega (arith, long, front-low os, size, small)
 
 pub returns-clause-frame : goal.returns-clause-frame
@@ -34,9 +34,9 @@ returns-clause-frame c =
     let os = c.args.parts.now in
     let size = c.in_ok-size.ensures.size.0 in
     let small = c.in_ok-size.ensures.size.1 in
-    let front : c.add_places.new.bytes.items ≡ front_bytes os =
+    let front : c.add_places.new.bytes.items ≡ capsule_front_bytes os =
     c.in_ok-add_places.ensures ∙ ap (λ (xs : List ℕ). xs ++ places_bytes (8 + 8 * length os) os) (c.in_ok-bytes.ensures ∙ ap (λ (n : ℕ). headers_bytes n (length os)) size) in
-    let long : c.len.result ≡ length (front_bytes os) = c.len.ensures ∙ c.add_places.new.bytes.ok.0 ∙ ap length front in
+    let long : c.len.result ≡ length (capsule_front_bytes os) = c.len.ensures ∙ c.add_places.new.bytes.ok.0 ∙ ap length front in
     let are = c.in_ok-check_parts.ensures.ok.outlines in
     record {
       filled = frame-joined os _ _ c.len.result are (omega (arith, size, small))

@@ -4,7 +4,7 @@ use Rattle.host_io.specs.Joined.{joined}
 use Rattle.fip_tables.specs.Frame.{chunks}
 use Rattle.fip_tables.specs.Packing.{AreOutlines, zeroed}
 use Rattle.fip_tables.specs.declared.faults.PackStop.{PackStop}
-use Rattle.capsule_tables.specs.Making.{IsMadeOf, make_fault}
+use Rattle.capsule_tables.specs.Making.{IsCapsuleOf, make_fault}
 use Rattle.capsule_tables.proofs.MadeZeros.{same-make_fault, types-of}
 use Rattle.capsule_tables.proofs.ReadAgain.{made-is-read}
 use Rattle.capsule_tables.proofs.making.make_capsule.Goals as goal
@@ -33,7 +33,7 @@ returns-clause-read_again c =
     let items : List Part = c.args.parts.now.parts.items in
     let all : c.as_slice.result.now ≡ map zeroed items = c.as_slice.ensures.value ∙ c.in_ok-all.ensures ∙ ap (map zeroed) c.as_slice-payloads.ensures.value in
     let none = sym (same-make_fault items) ∙ ap make_fault (sym all) ∙ c.in_ok-frame.ensures.fault.fits in
-    subst (IsMadeOf items) (sym (returns-clause-ok c)) (made-is-read items none (types-of items (subst AreOutlines all c.in_ok-frame.ensures.frame.outlines)))
+    subst (IsCapsuleOf items) (sym (returns-clause-ok c)) (made-is-read items none (types-of items (subst AreOutlines all c.in_ok-frame.ensures.frame.outlines)))
 
 pub returns-clause-fault : goal.returns-clause-fault
 returns-clause-fault c =

@@ -1,8 +1,6 @@
-use Rattle.std.proofs.Common.{sym, ap, subst, ◌∙◌}
+use Rattle.std.proofs.Common.{sym, subst}
 use Rattle.early_boot.specs.declared.showing.Shown.{Shown}
 use Rattle.early_boot.specs.Knows.{KnowsStarted}
-use Rattle.early_boot.specs.Mending.{mended}
-use Rattle.early_boot.specs.Started.{Started, device}
 use Rattle.early_boot.specs.Tells.{started_as}
 use Rattle.early_boot.specs.TakenUp.{IsTakeUp, TakenUp, device_left, taken, unshown_as}
 use Rattle.early_boot.proofs.TakenUp.{knows-at, none-take-up, refused-at, stopped-take-up, taken-at}
@@ -18,12 +16,12 @@ returns-in-Err g c =
           (none-take-up g.D.Flash passes c.args.bank c.args.flash c.read_shown.new.flash c.in-Err.why c.in-Err.ensures.reads c.in-Err.ensures.nothing));
     }
 
-pub of-requires-clause-knows : goal.of-requires-clause-knows
-of-requires-clause-knows g c tells =
+pub invariant_of-booted-clause-knows : goal.invariant_of-booted-clause-knows
+invariant_of-booted-clause-knows g c tells =
     let passes = g.V.Verifier.passes c.args.verifier.now in
     let chosen = c.in-Ok-Some.chosen in
     subst (λ (x : Shown). KnowsStarted (started_as x chosen) (g.D.Flash.told c.check_and_mend.new.flash)) (sym c.mended.ensures)
-    (knows-at g.D.Flash passes c.args.bank c.args.flash c.read_shown.new.flash c.check_and_mend.new.flash c.in-Ok.shown c.in-Ok.ensures.reads c.in-Ok.ensures.shows c.in-Ok.ensures.fits
+    (knows-at g.D.Flash passes c.args.bank c.args.flash c.read_shown.new.flash c.check_and_mend.new.flash c.in-Ok.shown c.in-Ok.ensures.reads c.in-Ok.ensures.shown
     c.in-Ok-Some.field-0 chosen c.in-Ok-Some.field-0-is c.in-Ok-Some.ensures.running c.in-Ok-Some.ensures.mends tells)
 
 pub returns-in-Ok-Some : goal.returns-in-Ok-Some
@@ -32,11 +30,9 @@ returns-in-Ok-Some g c =
     let chosen = c.in-Ok-Some.chosen in
     record {
       takes =
-          subst (λ (b : Started). IsTakeUp g.D.Flash passes c.args.bank c.args.flash (taken b) (device c.of.result)) (sym (c.of.ensures.started ∙ ap (λ (x : Shown). started_as x chosen) c.mended.ensures))
-          (subst (λ d. IsTakeUp g.D.Flash passes c.args.bank c.args.flash (taken (started_as (mended c.in-Ok.shown) chosen)) d) (sym c.of.ensures.device)
-          (taken-at g.D.Flash passes c.args.bank c.args.flash c.read_shown.new.flash c.check_and_mend.new.flash c.in-Ok.shown c.in-Ok.ensures.reads c.in-Ok.ensures.shows c.in-Ok.ensures.fits
-          c.in-Ok-Some.field-0 chosen c.in-Ok-Some.field-0-is c.in-Ok-Some.ensures.running c.in-Ok-Some.ensures.mends c.in-Ok-Some.ensures.goes c.in-Ok-Some.ensures.spent c.in-Ok-Some.ensures.once
-          c.in-Ok-Some.ensures.permitted c.in-Ok-Some.ensures.of c.in-Ok-Some.ensures.may c.in-Ok.ensures.fit c.in-Ok.ensures.few c.in-Ok.ensures.none));
+          subst (λ (x : Shown). IsTakeUp g.D.Flash passes c.args.bank c.args.flash (taken (started_as x chosen)) c.check_and_mend.new.flash) (sym c.mended.ensures)
+          (taken-at g.D.Flash passes c.args.bank c.args.flash c.read_shown.new.flash c.check_and_mend.new.flash c.in-Ok.shown c.in-Ok.ensures.reads c.in-Ok.ensures.shown
+          c.in-Ok-Some.field-0 chosen c.in-Ok-Some.field-0-is c.in-Ok-Some.ensures.running c.in-Ok-Some.ensures.mends c.in-Ok-Some.ensures.goes c.in-Ok-Some.ensures.spent c.in-Ok-Some.ensures.once c.in-Ok-Some.ensures.found);
     }
 
 pub returns-in-Ok-None : goal.returns-in-Ok-None
@@ -44,7 +40,7 @@ returns-in-Ok-None g c =
     let passes = g.V.Verifier.passes c.args.verifier.now in
     record {
       takes =
-          refused-at g.D.Flash passes c.args.bank c.args.flash c.read_shown.new.flash c.check_and_mend.new.flash c.in-Ok.shown c.in-Ok.ensures.reads c.in-Ok.ensures.shows c.in-Ok.ensures.fits
+          refused-at g.D.Flash passes c.args.bank c.args.flash c.read_shown.new.flash c.check_and_mend.new.flash c.in-Ok.shown c.in-Ok.ensures.reads c.in-Ok.ensures.shown
           c.in-Ok-None.field-0 c.in-Ok-None.field-0-is c.in-Ok-None.ensures.goes c.in-Ok-None.ensures.spent c.in-Ok-None.ensures.running c.in-Ok-None.ensures.mends;
     }
 
@@ -53,6 +49,6 @@ returns-in-Err-check_and_mend g c =
     let passes = g.V.Verifier.passes c.args.verifier.now in
     record {
       takes =
-          stopped-take-up g.D.Flash passes c.args.bank c.args.flash c.read_shown.new.flash c.check_and_mend.new.flash c.in-Ok.shown c.in-Ok.ensures.reads c.in-Ok.ensures.shows c.in-Ok.ensures.fits
+          stopped-take-up g.D.Flash passes c.args.bank c.args.flash c.read_shown.new.flash c.check_and_mend.new.flash c.in-Ok.shown c.in-Ok.ensures.reads c.in-Ok.ensures.shown
           c.in-Err-check_and_mend.stop c.in-Err-check_and_mend.ensures.goes c.in-Err-check_and_mend.ensures.mends;
     }

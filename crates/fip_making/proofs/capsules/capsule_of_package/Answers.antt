@@ -1,15 +1,14 @@
 use Rattle.std.proofs.Common.{◌∙◌, [], List, Some, ap, length, map, subst, sym, refl}
 use Rattle.std.specs.List.{All}
 use Rattle.fwu_formats.specs.Package.{Entry, Toc}
-use Rattle.fip_making.specs.Payloads.{HasEntry, made_by}
+use Rattle.fip_making.specs.Payloads.{HasEntry, bytes_in, made_by}
 use Rattle.fip_making.specs.Values.{enclose_value, kept_part}
 use Rattle.fip_making.proofs.Conversions.{capsule-err, capsule-of}
 use Rattle.fip_making.proofs.PartLemmas.{gives-same}
 use Rattle.fip_making.proofs.Repacking.{has-entries, opened}
 use Rattle.fip_making.proofs.Tables.{gives-err, if-ok-as}
-use Rattle.fip_making.proofs.ReadsBy.{reads-asked, reads-stopped, reads-then}
-use Rattle.fip_making.proofs.Refusing.{if-err-as, package-of-enclosing, packing-of-enclosing}
-use Rattle.fip_making.specs.Refusals.{IsOfEnclosing, IsOfPacking}
+use Rattle.fip_making.proofs.ReadsBy.{alone-asked, alone-stopped}
+use Rattle.fip_making.proofs.Refusing.{package-of-enclosing, packing-of-enclosing}
 use Rattle.fip_making.proofs.Stopped.{handed-on}
 use Rattle.fip_making.proofs.capsules.capsule_of_package.Goals as goal
 
@@ -17,15 +16,15 @@ pub returns-clause-whole : goal.returns-clause-whole
 returns-clause-whole g c =
     let entries = c.as_slice.ensures ∙ ap (λ (t : Toc). t.entries) c.toc.view_is in
     c.capsule_of_entries.ensures.whole _ (subst (All (HasEntry (g.H.Files.contents c.table_with.new.files) c.args.from.now)) (sym entries)
-    (has-entries _ _ c.args.from.now [] c.in_ok-toc.toc c.table_with.ensures.reads.same (λ told e. c.in_ok-toc.ensures.told told e)))
+    (has-entries _ _ c.args.from.now [] c.in_ok-toc.toc c.table_with.ensures.reads.only.same (λ told e. c.in_ok-toc.ensures.told told e)))
 
 pub returns-clause-told : goal.returns-clause-told
 returns-clause-told g c = λ told e.
     let o = opened told c.args.from.now [] c.in_ok-toc.toc (c.in_ok-toc.ensures.told told e) in
     let entries = c.as_slice.ensures ∙ ap (λ (t : Toc). t.entries) c.toc.view_is in
     gives-same (made_by told) _ _ _ _ c.capsule_of_entries.result (λ r. absurd r)
-    (capsule-of told c.args.from.now c.in_ok-toc.toc o ∙ ap (λ (es : List Entry). enclose_value (map (kept_part o.bytes) es)) (sym entries))
-    (c.capsule_of_entries.ensures.told told o.bytes o.is (subst (All (HasEntry (Some told) c.args.from.now)) (sym entries)
+    (capsule-of told c.args.from.now c.in_ok-toc.toc o ∙ ap (λ (es : List Entry). enclose_value (map (kept_part (bytes_in told c.args.from.now)) es)) (sym entries))
+    (c.capsule_of_entries.ensures.told told (subst (All (HasEntry (Some told) c.args.from.now)) (sym entries)
     (has-entries _ (Some told) c.args.from.now [] c.in_ok-toc.toc (sym e) (λ d k. c.in_ok-toc.ensures.told d k))))
 
 pub returns-clause-count : goal.returns-clause-count
@@ -39,15 +38,9 @@ returns-in_err-toc-clause-told g c =
     gives-err (λ (t : Toc). t) (made_by told) _ _ _ _ c.in_err-toc.field-0.0 (λ r. r) (capsule-err told c.args.from.now _) (c.in_err-toc.ensures.told told e))
 
 pub returns-clause-reads : goal.returns-clause-reads
-returns-clause-reads g c = reads-then c.table_with.ensures.reads.same c.in_ok-toc.ensures.reads.quiet (reads-asked c.capsule_of_entries.result refl refl c.capsule_of_entries.ensures.asks)
+returns-clause-reads g c = alone-asked packing-of-enclosing c.in_ok-toc.ensures.reads c.capsule_of_entries.result c.capsule_of_entries.ensures.asks
 
 pub returns-in_err-toc-clause-reads : goal.returns-in_err-toc-clause-reads
 returns-in_err-toc-clause-reads g c =
-    rw (handed-on c.from_residual.result c.in_err-toc.field-0.0 c.from_residual.ensures.1) (reads-stopped refl refl c.in_err-toc.ensures.reads)
-
-pub returns-clause-refusals : goal.returns-clause-refusals
-returns-clause-refusals g c = if-err-as c.capsule_of_entries.result IsOfPacking IsOfEnclosing packing-of-enclosing c.capsule_of_entries.ensures.refusals
-
-pub returns-in_err-toc-clause-refusals : goal.returns-in_err-toc-clause-refusals
-returns-in_err-toc-clause-refusals g c =
-    rw (handed-on c.from_residual.result c.in_err-toc.field-0.0 c.from_residual.ensures.1) (package-of-enclosing c.in_err-toc.field-0.0 (c.in_err-toc.ensures.unnamed refl))
+    rw (handed-on c.from_residual.result c.in_err-toc.field-0.0 c.from_residual.ensures.1)
+    (alone-stopped (package-of-enclosing c.in_err-toc.field-0.0 (c.in_err-toc.ensures.unnamed refl)) c.in_err-toc.ensures.reads)

@@ -1,24 +1,23 @@
-use Rattle.std.proofs.Common.{Some, refl, sym}
+use Rattle.std.proofs.Common.{Some, sym}
 use Rattle.fwu_formats.specs.Package.{Toc}
 use Rattle.fip_making.specs.Payloads.{made_by}
 use Rattle.fip_making.proofs.Conversions.{has-items, opened-capsule, package-err, package-of}
 use Rattle.fip_making.proofs.PartLemmas.{gives-same}
 use Rattle.fip_making.proofs.Tables.{gives-err, if-ok-as}
-use Rattle.fip_making.proofs.ReadsBy.{reads-asked, reads-stopped, reads-then}
-use Rattle.fip_making.proofs.Refusing.{capsule-of-packaging, if-err-as, packing-of-packaging}
-use Rattle.fip_making.specs.Refusals.{IsOfPackaging, IsOfPacking}
+use Rattle.fip_making.proofs.ReadsBy.{alone-asked, alone-stopped}
+use Rattle.fip_making.proofs.Refusing.{capsule-of-packaging, packing-of-packaging}
 use Rattle.fip_making.proofs.Stopped.{handed-on}
 use Rattle.fip_making.proofs.capsules.package_of_capsule.Goals as goal
 
 pub returns-clause-whole : goal.returns-clause-whole
-returns-clause-whole g c = c.package_of_items.ensures.whole _ (has-items _ _ c.args.from.now c.in_ok-toc.toc c.read_enclosed.ensures.reads.same (λ told e. c.in_ok-toc.ensures.told told e))
+returns-clause-whole g c = c.package_of_items.ensures.whole _ (has-items _ _ c.args.from.now c.in_ok-toc.toc c.read_enclosed.ensures.reads.only.same (λ told e. c.in_ok-toc.ensures.told told e))
 
 pub returns-clause-told : goal.returns-clause-told
 returns-clause-told g c = λ told e.
     let o = opened-capsule told c.args.from.now c.in_ok-toc.toc (c.in_ok-toc.ensures.told told e) in
     gives-same (made_by told) _ _ _ _ c.package_of_items.result (λ r. absurd r)
     (package-of told c.args.align c.args.from.now c.in_ok-toc.toc o)
-    (c.package_of_items.ensures.told told o.bytes o.is (has-items _ (Some told) c.args.from.now c.in_ok-toc.toc (sym e) (λ d k. c.in_ok-toc.ensures.told d k)))
+    (c.package_of_items.ensures.told told (has-items _ (Some told) c.args.from.now c.in_ok-toc.toc (sym e) (λ d k. c.in_ok-toc.ensures.told d k)))
 
 pub returns-clause-count : goal.returns-clause-count
 returns-clause-count g c = if-ok-as c.package_of_items.result _ _ (λ m e. (c.in_ok-toc.toc, c.in_ok-toc.ensures.table, e)) c.package_of_items.ensures.count
@@ -29,15 +28,9 @@ returns-in_err-toc-clause-told g c =
     gives-err (λ (t : Toc). t) (made_by told) _ _ _ _ c.in_err-toc.field-0.0 (λ r. r) (package-err told c.args.align c.args.from.now _) (c.in_err-toc.ensures.told told e))
 
 pub returns-clause-reads : goal.returns-clause-reads
-returns-clause-reads g c = reads-then c.read_enclosed.ensures.reads.same c.in_ok-toc.ensures.reads.quiet (reads-asked c.package_of_items.result refl refl c.package_of_items.ensures.asks)
+returns-clause-reads g c = alone-asked packing-of-packaging c.in_ok-toc.ensures.reads c.package_of_items.result c.package_of_items.ensures.asks
 
 pub returns-in_err-toc-clause-reads : goal.returns-in_err-toc-clause-reads
 returns-in_err-toc-clause-reads g c =
-    rw (handed-on c.from_residual.result c.in_err-toc.field-0.0 c.from_residual.ensures.1) (reads-stopped refl refl c.in_err-toc.ensures.reads)
-
-pub returns-clause-refusals : goal.returns-clause-refusals
-returns-clause-refusals g c = if-err-as c.package_of_items.result IsOfPacking IsOfPackaging packing-of-packaging c.package_of_items.ensures.refusals
-
-pub returns-in_err-toc-clause-refusals : goal.returns-in_err-toc-clause-refusals
-returns-in_err-toc-clause-refusals g c =
-    rw (handed-on c.from_residual.result c.in_err-toc.field-0.0 c.from_residual.ensures.1) (capsule-of-packaging c.in_err-toc.field-0.0 c.in_err-toc.ensures.refusals)
+    rw (handed-on c.from_residual.result c.in_err-toc.field-0.0 c.from_residual.ensures.1)
+    (alone-stopped (capsule-of-packaging c.in_err-toc.field-0.0 c.in_err-toc.ensures.reads.refusals.0) c.in_err-toc.ensures.reads)

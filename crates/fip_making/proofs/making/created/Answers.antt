@@ -1,4 +1,4 @@
-use Rattle.std.proofs.Common.{◌≡◌, ◌∙◌, List, Vec, ℕ, Some, ap, length, map, subst, sym, refl}
+use Rattle.std.proofs.Common.{◌≡◌, ◌∙◌, List, Vec, ℕ, Some, ap, length, map, subst, sym}
 use Rattle.std.specs.Prelude.{IfOk}
 use Rattle.std.specs.Global.{Global}
 use Rattle.fip_words.specs.Order.{part_view}
@@ -8,13 +8,13 @@ use Rattle.fip_making.specs.declared.payloads.Payload.{Payload}
 use Rattle.fip_making.proofs.PartLemmas.{create-err, create-of, gives-same}
 use Rattle.fip_making.proofs.Packings.{there-of-files}
 use Rattle.fip_making.proofs.Tables.{gives-err}
-use Rattle.fip_making.proofs.ReadsBy.{reads-asked, reads-stopped, reads-then}
+use Rattle.fip_making.proofs.ReadsBy.{alone-asked, alone-stopped}
 use Rattle.fip_making.proofs.Refusing.{late-of-packing}
 use Rattle.fip_making.proofs.making.created.Goals as goal
 
 pub returns-in-Ok-clause-whole : goal.returns-in-Ok-clause-whole
 returns-in-Ok-clause-whole g c =
-    c.packed.ensures.whole _ (there-of-files _ _ c.in-Ok.payloads.items c.as_slice.result.now c.payloads_of_files.ensures.reads.same c.as_slice.ensures.value c.in-Ok.ensures.there)
+    c.packed.ensures.whole _ (there-of-files _ _ c.in-Ok.payloads.items c.as_slice.result.now c.payloads_of_files.ensures.reads.only.same c.as_slice.ensures.value c.in-Ok.ensures.there)
 
 pub returns-in-Ok-clause-told : goal.returns-in-Ok-clause-told
 returns-in-Ok-clause-told g c = λ told e.
@@ -32,10 +32,7 @@ returns-in-Ok-clause-count g c =
     subst (λ (n : ℕ). IfOk c.packed.result (λ m. m.count ≡ n)) (ap length c.as_slice.ensures.value ∙ c.in-Ok.ensures.count) c.packed.ensures.count
 
 pub returns-in-Ok-clause-reads : goal.returns-in-Ok-clause-reads
-returns-in-Ok-clause-reads g c = reads-then c.payloads_of_files.ensures.reads.same c.in-Ok.ensures.reads.quiet (reads-asked c.packed.result refl refl c.packed.ensures.asks)
+returns-in-Ok-clause-reads g c = alone-asked (λ s own. own) c.in-Ok.ensures.reads c.packed.result c.packed.ensures.asks
 
 pub returns-in-Err-clause-reads : goal.returns-in-Err-clause-reads
-returns-in-Err-clause-reads g c = reads-stopped refl refl c.in-Err.ensures.reads
-
-pub returns-in-Err-clause-refusals : goal.returns-in-Err-clause-refusals
-returns-in-Err-clause-refusals g c = late-of-packing c.in-Err.stop c.in-Err.ensures.late
+returns-in-Err-clause-reads g c = alone-stopped (late-of-packing c.in-Err.stop c.in-Err.ensures.reads.refusals) c.in-Err.ensures.reads

@@ -1,24 +1,23 @@
-use Rattle.std.proofs.Common.{Some, refl, sym}
+use Rattle.std.proofs.Common.{Some, sym}
 use Rattle.fwu_formats.specs.Package.{Toc}
 use Rattle.fip_making.specs.Payloads.{made_by}
 use Rattle.fip_making.proofs.PartLemmas.{gives-same}
 use Rattle.fip_making.proofs.Repacking.{has-entries, opened, remove-err, remove-of}
 use Rattle.fip_making.proofs.Tables.{gives-err, if-ok-as}
-use Rattle.fip_making.proofs.ReadsBy.{reads-asked, reads-stopped, reads-then}
-use Rattle.fip_making.proofs.Refusing.{entries-of-repacking, if-err-as, packing-of-repacking}
-use Rattle.fip_making.specs.Refusals.{IsOfPacking, IsOfRepacking}
+use Rattle.fip_making.proofs.ReadsBy.{alone-asked, alone-stopped}
+use Rattle.fip_making.proofs.Refusing.{entries-of-repacking, packing-of-repacking}
 use Rattle.fip_making.proofs.Stopped.{handed-on}
 use Rattle.fip_making.proofs.making.removed.Goals as goal
 
 pub returns-clause-whole : goal.returns-clause-whole
-returns-clause-whole g c = c.without.ensures.whole _ (has-entries _ _ c.args.from.now c.args.guids.now c.in_ok-toc.toc c.table_with.ensures.reads.same (λ told e. c.in_ok-toc.ensures.told told e))
+returns-clause-whole g c = c.without.ensures.whole _ (has-entries _ _ c.args.from.now c.args.guids.now c.in_ok-toc.toc c.table_with.ensures.reads.only.same (λ told e. c.in_ok-toc.ensures.told told e))
 
 pub returns-clause-told : goal.returns-clause-told
 returns-clause-told g c = λ told e.
     let o = opened told c.args.from.now c.args.guids.now c.in_ok-toc.toc (c.in_ok-toc.ensures.told told e) in
     gives-same (made_by told) _ _ _ _ c.without.result (λ r. absurd r)
     (remove-of told c.args.align c.args.from.now c.args.guids.now c.in_ok-toc.toc o)
-    (c.without.ensures.told told o.bytes o.is (has-entries _ (Some told) c.args.from.now c.args.guids.now c.in_ok-toc.toc (sym e) (λ d k. c.in_ok-toc.ensures.told d k)))
+    (c.without.ensures.told told (has-entries _ (Some told) c.args.from.now c.args.guids.now c.in_ok-toc.toc (sym e) (λ d k. c.in_ok-toc.ensures.told d k)))
 
 pub returns-clause-count : goal.returns-clause-count
 returns-clause-count g c = if-ok-as c.without.result _ _ (λ m e. (c.in_ok-toc.toc, c.in_ok-toc.ensures.table, c.in_ok-toc.ensures.all, e)) c.without.ensures.count
@@ -29,15 +28,9 @@ returns-in_err-toc-clause-told g c =
     gives-err (λ (t : Toc). t) (made_by told) _ _ _ _ c.in_err-toc.field-0.0 (λ r. r) (remove-err told c.args.align c.args.from.now c.args.guids.now _) (c.in_err-toc.ensures.told told e))
 
 pub returns-clause-reads : goal.returns-clause-reads
-returns-clause-reads g c = reads-then c.table_with.ensures.reads.same c.in_ok-toc.ensures.reads.quiet (reads-asked c.without.result refl refl c.without.ensures.asks)
+returns-clause-reads g c = alone-asked packing-of-repacking c.in_ok-toc.ensures.reads c.without.result c.without.ensures.asks
 
 pub returns-in_err-toc-clause-reads : goal.returns-in_err-toc-clause-reads
 returns-in_err-toc-clause-reads g c =
-    rw (handed-on c.from_residual.result c.in_err-toc.field-0.0 c.from_residual.ensures.1) (reads-stopped refl refl c.in_err-toc.ensures.reads)
-
-pub returns-clause-refusals : goal.returns-clause-refusals
-returns-clause-refusals g c = if-err-as c.without.result IsOfPacking IsOfRepacking packing-of-repacking c.without.ensures.refusals
-
-pub returns-in_err-toc-clause-refusals : goal.returns-in_err-toc-clause-refusals
-returns-in_err-toc-clause-refusals g c =
-    rw (handed-on c.from_residual.result c.in_err-toc.field-0.0 c.from_residual.ensures.1) (entries-of-repacking c.in_err-toc.field-0.0 c.in_err-toc.ensures.refusals)
+    rw (handed-on c.from_residual.result c.in_err-toc.field-0.0 c.from_residual.ensures.1)
+    (alone-stopped (entries-of-repacking c.in_err-toc.field-0.0 c.in_err-toc.ensures.reads.refusals.0) c.in_err-toc.ensures.reads)

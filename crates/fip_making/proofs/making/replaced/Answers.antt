@@ -1,48 +1,48 @@
-use Rattle.std.proofs.Common.{◌≡◌, ◌∙◌, ◌+◌, ◌≤◌, All, List, Option, ℕ, Some, ap, length, map, subst, sym, refl}
+use Rattle.std.proofs.Common.{◌≡◌, ◌∙◌, All, List, Option, ℕ, Some, ap, length, map, subst, sym}
 use Rattle.std.specs.Prelude.{IfOk}
 use Rattle.host_io.specs.Contents.{Directory}
-use Rattle.fip_tables.specs.Files.{Lacks, Tells}
 use Rattle.fwu_formats.specs.Package.{Entry, Toc}
 use Rattle.fip_words.specs.Order.{part_view}
-use Rattle.fip_making.specs.Payloads.{HasEntry, made_by, part_told}
+use Rattle.fip_making.specs.Payloads.{HasEntry, bytes_in, made_by, part_told}
 use Rattle.fip_making.specs.Values.{parts_in}
-use Rattle.fip_making.proofs.Packings.{entries-there, there-of-files}
+use Rattle.fip_making.proofs.Packings.{there-of-files}
 use Rattle.fip_making.proofs.PartLemmas.{gives-same}
 use Rattle.fip_making.proofs.Repacking.{replaced-value}
-use Rattle.fip_making.proofs.ReadsBy.{reads-asked, reads-stopped, reads-then}
+use Rattle.fip_making.proofs.ReadsBy.{alone-asked, alone-stopped}
 use Rattle.fip_making.proofs.Refusing.{late-of-packing}
 use Rattle.fip_making.proofs.making.replaced.Goals as goal
 
 -- the entries' payloads, in files that stayed as they were
-entries-in : (start now : Option Directory) (name : List ℕ) (es entries : List Entry) → now ≡ start → es ≡ entries → (Lacks start name → ⊥)
-    → ((bytes : List ℕ) → Tells start name bytes → All (λ e. e.offset + e.size ≤ length bytes) entries) → All (HasEntry now name) es
-entries-in start now name es entries same is there stored =
-    subst (All (HasEntry now name)) (sym is) (subst (λ (o : Option Directory). All (HasEntry o name) entries) (sym same) (entries-there start name entries there stored))
+entries-in : (start now : Option Directory) (name : List ℕ) (es entries : List Entry) → now ≡ start → es ≡ entries → All (HasEntry start name) entries → All (HasEntry now name) es
+entries-in start now name es entries same is all =
+    subst (All (HasEntry now name)) (sym is) (subst (λ (o : Option Directory). All (HasEntry o name) entries) (sym same) all)
 
 pub returns-in-Ok-clause-whole : goal.returns-in-Ok-clause-whole
 returns-in-Ok-clause-whole g c =
     let entries = c.as_slice-entries.ensures ∙ ap (λ (t : Toc). t.entries) c.toc.view_is in
-    c.repacked.ensures.whole _ (there-of-files _ _ c.in-Ok.new.items c.as_slice.result.now c.payloads_of_files.ensures.reads.same c.as_slice.ensures.value c.in-Ok.ensures.there)
-    (entries-in _ _ c.args.from.now c.as_slice-entries.result.now c.args.toc.now.entries c.payloads_of_files.ensures.reads.same entries c.requires.there c.requires.stored)
+    let same = c.payloads_of_files.ensures.reads.only.same in
+    c.repacked.ensures.whole _ (
+      there-of-files _ _ c.in-Ok.new.items c.as_slice.result.now same c.as_slice.ensures.value c.in-Ok.ensures.there,
+      entries-in _ _ c.args.from.now c.as_slice-entries.result.now c.args.toc.now.entries same entries c.requires,
+    )
 
 pub returns-in-Ok-clause-told : goal.returns-in-Ok-clause-told
-returns-in-Ok-clause-told g c = λ told bytes e is.
+returns-in-Ok-clause-told g c = λ told e.
     let entries = c.as_slice-entries.ensures ∙ ap (λ (t : Toc). t.entries) c.toc.view_is in
     gives-same (made_by told) _ _ _ _ c.repacked.result (λ r. absurd r)
-    (replaced-value (parts_in told (map part_view c.args.named.now)) c.args.toc.now.serial c.args.toc.now.flags c.args.align bytes (map (part_told told) c.as_slice.result.now) (map (part_told told) c.in-Ok.new.items) c.as_slice-entries.result.now c.args.toc.now.entries
-    (c.in-Ok.ensures.told told e) (ap (map (part_told told)) c.as_slice.ensures.value) entries)
-    (c.repacked.ensures.told told bytes is (there-of-files _ (Some told) c.in-Ok.new.items c.as_slice.result.now (sym e) c.as_slice.ensures.value c.in-Ok.ensures.there)
-    (entries-in _ (Some told) c.args.from.now c.as_slice-entries.result.now c.args.toc.now.entries (sym e) entries c.requires.there c.requires.stored))
+    (replaced-value (parts_in told (map part_view c.args.named.now)) c.args.toc.now.serial c.args.toc.now.flags c.args.align (bytes_in told c.args.from.now) (map (part_told told) c.as_slice.result.now)
+    (map (part_told told) c.in-Ok.new.items) c.as_slice-entries.result.now c.args.toc.now.entries (c.in-Ok.ensures.told told e) (ap (map (part_told told)) c.as_slice.ensures.value) entries)
+    (c.repacked.ensures.told told (
+      there-of-files _ (Some told) c.in-Ok.new.items c.as_slice.result.now (sym e) c.as_slice.ensures.value c.in-Ok.ensures.there,
+      entries-in _ (Some told) c.args.from.now c.as_slice-entries.result.now c.args.toc.now.entries (sym e) entries c.requires,
+    ))
 
 pub returns-in-Ok-clause-count : goal.returns-in-Ok-clause-count
 returns-in-Ok-clause-count g c =
     subst (λ (n : ℕ). IfOk c.repacked.result (λ m. m.count ≡ n)) (ap length (c.as_slice-entries.ensures ∙ ap (λ (t : Toc). t.entries) c.toc.view_is)) c.repacked.ensures.count
 
 pub returns-in-Ok-clause-reads : goal.returns-in-Ok-clause-reads
-returns-in-Ok-clause-reads g c = reads-then c.payloads_of_files.ensures.reads.same c.in-Ok.ensures.reads.quiet (reads-asked c.repacked.result refl refl c.repacked.ensures.asks)
+returns-in-Ok-clause-reads g c = alone-asked (λ s own. own) c.in-Ok.ensures.reads c.repacked.result c.repacked.ensures.asks
 
 pub returns-in-Err-clause-reads : goal.returns-in-Err-clause-reads
-returns-in-Err-clause-reads g c = reads-stopped refl refl c.in-Err.ensures.reads
-
-pub returns-in-Err-clause-refusals : goal.returns-in-Err-clause-refusals
-returns-in-Err-clause-refusals g c = late-of-packing c.in-Err.stop c.in-Err.ensures.late
+returns-in-Err-clause-reads g c = alone-stopped (late-of-packing c.in-Err.stop c.in-Err.ensures.reads.refusals) c.in-Err.ensures.reads

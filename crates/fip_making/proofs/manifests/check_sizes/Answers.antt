@@ -1,15 +1,16 @@
-use Rattle.std.proofs.Common.{subst, ◌≢◌, ◌≡◌, ◌∙◌, Bool, Ok, Some, List, ap, arith, map, sym}
-use Rattle.host_io.specs.Access.{Asks}
-use Rattle.host_io.proofs.Reading.{reads-then as reads-after, reads-wider}
+use Rattle.std.proofs.Common.{◌≡◌, ◌∙◌, Bool, Ok, Some, List, ap, arith, map, sym}
 use Rattle.std.proofs.lemmas.List.{take_all}
 use Rattle.std.specs.Prelude.{◌||◌}
 use Rattle.host_io.specs.Contents.{Directory}
 use Rattle.fip_words.specs.Order.{image_view}
 use Rattle.fip_words.specs.declared.values.ImageWord.{ImageWord}
 use Rattle.fip_making.specs.Values.{nothing}
-use Rattle.fip_making.proofs.ManifestLemmas.{gives-same, longs-more-at, longs_value, sizes-of, sizes-stopped-at}
+use Rattle.fip_making.proofs.ManifestLemmas.{longs-more-at, longs_value, sizes-of, sizes-stopped-at}
+use Rattle.fip_making.proofs.PartLemmas.{gives-same}
 use Rattle.fip_making.proofs.Tables.{gives-err, rose-still}
-use Rattle.fip_making.proofs.ReadsBy.{reads-stopped}
+use Rattle.fip_making.proofs.ReadsBy.{alone-asked, alone-done, alone-then, alone-then-stopped, alone-wider, one-spared}
+use Rattle.fip_making.specs.Answers.{IsLate}
+use Rattle.fip_making.specs.Refusals.{IsManifestStop}
 use Rattle.fip_making.proofs.Stopped.{handed-on}
 use Rattle.fip_making.proofs.Refusing.{late-of-manifest}
 use Rattle.fip_making.proofs.manifests.check_sizes.Goals.{then-is_long, else-is_long}
@@ -27,10 +28,8 @@ loop-one-preserved g c =
     let more = λ (told : Directory) (e : g.H.Files.contents c.args.files.now ≡ Some told).
     longs-more-at told c.args.named.now c.loop-one.one-index c.one-item.result c.loop-one-test.true c.one-item.is c.loop-one.is_long c.in_ok-more.more (c.loop-one.invariant.so-far told e)
     (c.in_ok-more.ensures.told told (c.loop-one.invariant.files.same ∙ e)) in record {
-      files = reads-after g.H.Files _ g.met.H.Files.joins _ _ _ c.loop-one.invariant.files
-          (reads-wider g.H.Files _ _ (λ access other. subst (λ (w : ImageWord). access ≢ Asks w.file.now) (sym c.one-item.is)
-          (other c.loop-one.one-index c.one-item.result c.loop-one-test.true)) _ _ c.is_long_file.ensures.files);
-      quiet = c.in_ok-more.ensures.reads.quiet ∙ c.loop-one.invariant.quiet;
+      files = (alone-then {IsOwn = IsLate} g.met.H.Files.joins c.loop-one.invariant.files c.loop-one.invariant.quiet (λ s late. late) (alone-wider (one-spared (λ (w : ImageWord). w.file.now) _ _ _ c.one-item.is c.loop-one-test.true) c.in_ok-more.ensures.reads)).files;
+      quiet = c.in_ok-more.ensures.reads.only.quiet ∙ c.loop-one.invariant.quiet;
       so-far = λ told e.
           more told e
           ∙ elim c.if-is_long.branch [
@@ -46,15 +45,10 @@ returns-clause-told g c = λ told e.
     (sizes-of told c.args.named.now c.loop-one.is_long (ap (λ (l : List ImageWord). longs_value told (map image_view l)) (sym all) ∙ c.loop-one.invariant.so-far told e))
     c.check_count.ensures.value
 
+pub returns-clause-reads : goal.returns-clause-reads
+returns-clause-reads g c = alone-asked (λ s own. own) (alone-done {IsOwn = IsManifestStop} {x = tt {0}} c.loop-one.invariant.files c.loop-one.invariant.quiet) c.check_count.result c.check_count.ensures.asks
+
 pub returns-in_err-more-clause-reads : goal.returns-in_err-more-clause-reads
 returns-in_err-more-clause-reads g c =
-    rw (handed-on c.from_residual.result c.in_err-more.field-0.0 c.from_residual.ensures.1) (reads-stopped c.loop-one.invariant.files.same c.loop-one.invariant.quiet c.in_err-more.ensures.reads)
-
-pub returns-in_err-more-clause-refusals : goal.returns-in_err-more-clause-refusals
-returns-in_err-more-clause-refusals g c = rw (handed-on c.from_residual.result c.in_err-more.field-0.0 c.from_residual.ensures.1) (late-of-manifest c.in_err-more.field-0.0 c.in_err-more.ensures.late)
-
-pub returns-in_err-more-clause-files : goal.returns-in_err-more-clause-files
-returns-in_err-more-clause-files g c =
-    reads-after g.H.Files _ g.met.H.Files.joins _ _ _ c.loop-one.invariant.files
-    (reads-wider g.H.Files _ _ (λ access other. subst (λ (w : ImageWord). access ≢ Asks w.file.now) (sym c.one-item.is)
-    (other c.loop-one.one-index c.one-item.result c.loop-one-test.true)) _ _ c.is_long_file.ensures.files)
+    rw (handed-on c.from_residual.result c.in_err-more.field-0.0 c.from_residual.ensures.1)
+    (alone-then-stopped g.met.H.Files.joins c.loop-one.invariant.files c.loop-one.invariant.quiet late-of-manifest (alone-wider (one-spared (λ (w : ImageWord). w.file.now) _ _ _ c.one-item.is c.loop-one-test.true) c.in_err-more.ensures.reads))

@@ -1,7 +1,7 @@
 use Rattle.std.proofs.Common.{ℕ, Bool, refl}
 use Rattle.fip_words.specs.Order.{image_view}
 use Rattle.fip_making.proofs.ManifestLemmas.{long-made, long-stopped}
-use Rattle.fip_making.proofs.ReadsBy.{reads-stopped}
+use Rattle.fip_making.proofs.ReadsBy.{alone-done, alone-stopped}
 use Rattle.fip_making.proofs.Stopped.{handed-on}
 use Rattle.fip_making.proofs.Tables.{gives-err}
 use Rattle.fip_making.proofs.manifests.is_long_file.Goals as goal
@@ -14,6 +14,9 @@ returns-in_err-size_of-clause-told g c =
     rw (handed-on c.from_residual.result c.in_err-size_of.field-0.0 c.from_residual.ensures.1) (λ told e.
     gives-err (λ (n : ℕ). n) (λ (long : Bool). long) _ _ _ _ c.in_err-size_of.field-0.0 (λ r. r) (long-stopped told (image_view c.args.named.now) _) (c.in_err-size_of.ensures.told told e))
 
+pub returns-clause-reads : goal.returns-clause-reads
+returns-clause-reads g c = alone-done c.size_of.ensures.reads.files c.in_ok-size_of.ensures.reads.only.quiet
+
 pub returns-in_err-size_of-clause-reads : goal.returns-in_err-size_of-clause-reads
 returns-in_err-size_of-clause-reads g c =
-    rw (handed-on c.from_residual.result c.in_err-size_of.field-0.0 c.from_residual.ensures.1) (reads-stopped refl refl c.in_err-size_of.ensures.reads)
+    rw (handed-on c.from_residual.result c.in_err-size_of.field-0.0 c.from_residual.ensures.1) (alone-stopped c.in_err-size_of.ensures.reads.refusals.0 c.in_err-size_of.ensures.reads)

@@ -1,10 +1,10 @@
 use Rattle.fip_words.specs.Order.{image_view}
 use Rattle.manifest_core.specs.Shown.{row}
-use Rattle.std.proofs.Common.{Vec, ℕ, option_map, refl}
+use Rattle.std.proofs.Common.{Vec, ℕ, option_map}
 use Rattle.std.specs.Global.{Global}
 use Rattle.fip_making.proofs.ManifestLemmas.{row-made, row-stopped}
 use Rattle.fip_making.proofs.Tables.{gives-err}
-use Rattle.fip_making.proofs.ReadsBy.{reads-done, reads-stopped}
+use Rattle.fip_making.proofs.ReadsBy.{alone-done, alone-stopped}
 use Rattle.fip_making.proofs.Stopped.{handed-on}
 use Rattle.fip_making.proofs.manifests.row_of_file.Goals as goal
 
@@ -18,8 +18,8 @@ returns-in_err-image-clause-told g c =
     gives-err (λ (v : Vec ℕ Global). v.items) (option_map row) _ _ _ _ c.in_err-image.field-0.0 (λ r. r) (row-stopped told (image_view c.args.named.now) _) (c.in_err-image.ensures.told told e))
 
 pub returns-clause-reads : goal.returns-clause-reads
-returns-clause-reads g c = reads-done c.read_file.ensures.reads.same c.in_ok-image.ensures.reads.quiet
+returns-clause-reads g c = alone-done c.read_file.ensures.reads.files c.in_ok-image.ensures.reads.only.quiet
 
 pub returns-in_err-image-clause-reads : goal.returns-in_err-image-clause-reads
 returns-in_err-image-clause-reads g c =
-    rw (handed-on c.from_residual.result c.in_err-image.field-0.0 c.from_residual.ensures.1) (reads-stopped refl refl c.in_err-image.ensures.reads)
+    rw (handed-on c.from_residual.result c.in_err-image.field-0.0 c.from_residual.ensures.1) (alone-stopped c.in_err-image.ensures.reads.refusals c.in_err-image.ensures.reads)

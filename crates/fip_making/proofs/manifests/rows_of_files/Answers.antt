@@ -1,6 +1,4 @@
-use Rattle.std.proofs.Common.{subst, ◌≢◌, ◌≡◌, ◌∙◌, Ok, Option, List, Vec, ap, map, option_map, arith, sym, take}
-use Rattle.host_io.specs.Access.{Asks}
-use Rattle.host_io.proofs.Reading.{reads-then as reads-after, reads-wider}
+use Rattle.std.proofs.Common.{◌≡◌, ◌∙◌, Ok, Option, List, Vec, ap, map, option_map, arith, sym, take}
 use Rattle.std.proofs.lemmas.List.{take_all}
 use Rattle.std.specs.Global.{Global}
 use Rattle.fwu_formats.specs.Manifest.{Row}
@@ -9,7 +7,8 @@ use Rattle.fip_words.specs.declared.values.ImageWord.{ImageWord}
 use Rattle.manifest_core.specs.Shown.{row}
 use Rattle.manifest_core.specs.declared.rows.Row.{Row as CodeRow}
 use Rattle.fip_making.proofs.ManifestLemmas.{count-more, rows-more-at, rows_value, seen-more, stopped-at}
-use Rattle.fip_making.proofs.ReadsBy.{reads-done, reads-starved, reads-stopped}
+use Rattle.fip_making.proofs.ReadsBy.{alone-done, alone-starved, alone-then, alone-then-stopped, alone-wider, one-spared}
+use Rattle.fip_making.specs.Answers.{IsLate}
 use Rattle.fip_making.proofs.Tables.{gives-err, rose-still}
 use Rattle.fip_making.proofs.Stopped.{handed-on}
 use Rattle.fip_making.specs.declared.stops.Stop.TheVariants as stop
@@ -24,10 +23,8 @@ returns-in_err-more-clause-told g c =
 
 pub loop-one-preserved : goal.loop-one-preserved
 loop-one-preserved g c = record {
-  files = reads-after g.H.Files _ g.met.H.Files.joins _ _ _ c.loop-one.invariant.files
-      (reads-wider g.H.Files _ _ (λ access other. subst (λ (w : ImageWord). access ≢ Asks w.file.now) (sym c.one-item.is)
-      (other c.loop-one.one-index c.one-item.result c.loop-one-test.true)) _ _ c.row_of_file.ensures.files);
-  quiet = c.in_ok-more.ensures.reads.quiet ∙ c.loop-one.invariant.quiet;
+  files = (alone-then {IsOwn = IsLate} g.met.H.Files.joins c.loop-one.invariant.files c.loop-one.invariant.quiet (λ s late. late) (alone-wider (one-spared (λ (w : ImageWord). w.file.now) _ _ _ c.one-item.is c.loop-one-test.true) c.in_ok-more.ensures.reads)).files;
+  quiet = c.in_ok-more.ensures.reads.only.quiet ∙ c.loop-one.invariant.quiet;
   count = count-more (λ v. v.items) c.loop-one.rows c.in_ok-rows.rows c.in_ok-more.more c.loop-one.one-index c.in_ok-rows.ensures c.loop-one.invariant.count;
   so-far = λ told e.
       rows-more-at told c.args.named.now c.loop-one.one-index c.one-item.result c.loop-one-test.true c.one-item.is
@@ -42,24 +39,15 @@ returns-clause-told g c = λ told e.
     ap (λ (l : List ImageWord). rows_value told (map image_view l)) (sym all) ∙ c.loop-one.invariant.so-far told e
 
 pub returns-clause-reads : goal.returns-clause-reads
-returns-clause-reads g c = reads-done c.loop-one.invariant.files.same c.loop-one.invariant.quiet
+returns-clause-reads g c = alone-done c.loop-one.invariant.files c.loop-one.invariant.quiet
 
 pub returns-in_err-more-clause-reads : goal.returns-in_err-more-clause-reads
 returns-in_err-more-clause-reads g c =
-    rw (handed-on c.from_residual.result c.in_err-more.field-0.0 c.from_residual.ensures.1) (reads-stopped c.loop-one.invariant.files.same c.loop-one.invariant.quiet c.in_err-more.ensures.reads)
+    rw (handed-on c.from_residual.result c.in_err-more.field-0.0 c.from_residual.ensures.1)
+    (alone-then-stopped g.met.H.Files.joins c.loop-one.invariant.files c.loop-one.invariant.quiet (λ s late. late) (alone-wider (one-spared (λ (w : ImageWord). w.file.now) _ _ _ c.one-item.is c.loop-one-test.true) c.in_err-more.ensures.reads))
 
 pub returns-in_err-rows-clause-reads : goal.returns-in_err-rows-clause-reads
 returns-in_err-rows-clause-reads g c =
-    rw (handed-on c.from_residual-in_err-rows.result stop.NoMemory c.from_residual-in_err-rows.ensures.1) (reads-starved (c.row_of_file.ensures.reads.same ∙ c.loop-one.invariant.files.same) (c.in_ok-more.ensures.reads.quiet ∙ c.loop-one.invariant.quiet))
-
-pub returns-in_err-more-clause-files : goal.returns-in_err-more-clause-files
-returns-in_err-more-clause-files g c =
-    reads-after g.H.Files _ g.met.H.Files.joins _ _ _ c.loop-one.invariant.files
-    (reads-wider g.H.Files _ _ (λ access other. subst (λ (w : ImageWord). access ≢ Asks w.file.now) (sym c.one-item.is)
-    (other c.loop-one.one-index c.one-item.result c.loop-one-test.true)) _ _ c.row_of_file.ensures.files)
-
-pub returns-in_err-rows-clause-files : goal.returns-in_err-rows-clause-files
-returns-in_err-rows-clause-files g c =
-    reads-after g.H.Files _ g.met.H.Files.joins _ _ _ c.loop-one.invariant.files
-    (reads-wider g.H.Files _ _ (λ access other. subst (λ (w : ImageWord). access ≢ Asks w.file.now) (sym c.one-item.is)
-    (other c.loop-one.one-index c.one-item.result c.loop-one-test.true)) _ _ c.row_of_file.ensures.files)
+    let read = alone-wider (one-spared (λ (w : ImageWord). w.file.now) _ _ _ c.one-item.is c.loop-one-test.true) c.in_ok-more.ensures.reads in
+    rw (handed-on c.from_residual-in_err-rows.result stop.NoMemory c.from_residual-in_err-rows.ensures.1)
+    (alone-then g.met.H.Files.joins c.loop-one.invariant.files c.loop-one.invariant.quiet (λ s late. late) (alone-starved tt read.files read.only.quiet))

@@ -2,7 +2,7 @@ use Rattle.std.proofs.Common.{◌≡◌, ◌∙◌, ◌≤◌, ◌+◌, All, Lis
 use Rattle.std.proofs.lemmas.List.{length-append, map-append, take_all, take_more}
 use Rattle.std.proofs.lemmas.List.Elements.{All-get_or}
 use Rattle.fwu_formats.specs.Package.{Entry, Part}
-use Rattle.fip_making.specs.Payloads.{HasEntry, IsThere, part_told}
+use Rattle.fip_making.specs.Payloads.{HasEntry, IsThere, bytes_in, part_told}
 use Rattle.fip_making.specs.Values.{updated_part}
 use Rattle.fip_making.proofs.Packings.{one-more-there}
 use Rattle.fip_making.proofs.payloads.payloads_of_entries.Goals as goal
@@ -15,21 +15,21 @@ loop-entry-preserved c =
     let i = c.loop-entry.entry-index in
     let es = c.args.entries.now in
     let here : take (i + 1) es ≡ take i es ++ (e ∷ []) = take_more es i e c.loop-entry-test.true ∙ ap (λ (x : Entry). take i es ++ (x ∷ [])) (sym c.entry-item.is) in record {
-      told = λ told bytes is.
-          let part = updated_part bytes (map (part_told told) c.args.new.now) in
+      told = λ told.
+          let part = updated_part (bytes_in told c.args.from.now) (map (part_told told) c.args.new.now) in
           ap (map (part_told told)) more ∙ map-append (part_told told) c.loop-entry.payloads.items (p ∷ [])
-          ∙ ap (λ (xs : List Part). xs ++ (part_told told p ∷ [])) (c.loop-entry.invariant.told told bytes is)
-          ∙ ap (λ (x : Part). map part (take i es) ++ (x ∷ [])) (c.payload_of_entry.ensures.told told bytes is)
+          ∙ ap (λ (xs : List Part). xs ++ (part_told told p ∷ [])) (c.loop-entry.invariant.told told)
+          ∙ ap (λ (x : Part). map part (take i es) ++ (x ∷ [])) (c.payload_of_entry.ensures.told told)
           ∙ sym (ap (map part) here ∙ map-append part (take i es) (e ∷ []));
-      there = λ told all has.
+      there = λ told has.
           subst (All (IsThere told)) (sym more)
-          (one-more-there (IsThere told) c.loop-entry.payloads.items p (c.loop-entry.invariant.there told all has)
-          (c.payload_of_entry.ensures.there told all (subst (HasEntry told c.args.from.now) (sym c.entry-item.is) (All-get_or (HasEntry told c.args.from.now) es i e c.loop-entry-test.true has))));
+          (one-more-there (IsThere told) c.loop-entry.payloads.items p (c.loop-entry.invariant.there told has)
+          (c.payload_of_entry.ensures.there told (has.0, subst (HasEntry told c.args.from.now) (sym c.entry-item.is) (All-get_or (HasEntry told c.args.from.now) es i e c.loop-entry-test.true has.1))));
       count = omega (arith, ap length more, length-append c.loop-entry.payloads.items (p ∷ []), c.loop-entry.invariant.count);
     }
 
 pub returns-clause-told : goal.returns-clause-told
-returns-clause-told c = λ told bytes is.
+returns-clause-told c = λ told.
     let far : length c.args.entries.now ≤ c.loop-entry.entry-index = omega (arith, c.loop-entry-test.false) in
-    c.loop-entry.invariant.told told bytes is
-    ∙ ap (map (updated_part bytes (map (part_told told) c.args.new.now))) (take_all c.loop-entry.entry-index c.args.entries.now far)
+    c.loop-entry.invariant.told told
+    ∙ ap (map (updated_part (bytes_in told c.args.from.now) (map (part_told told) c.args.new.now))) (take_all c.loop-entry.entry-index c.args.entries.now far)

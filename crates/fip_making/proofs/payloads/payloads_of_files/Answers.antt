@@ -1,6 +1,4 @@
-use Rattle.std.proofs.Common.{◌≢◌, ◌∙◌, All, Ok, Option, List, Vec, [], ◌∷◌, ap, arith, sym, subst, length, map, take, ◌≡◌}
-use Rattle.host_io.specs.Access.{Asks}
-use Rattle.host_io.proofs.Reading.{reads-then as reads-after, reads-wider}
+use Rattle.std.proofs.Common.{◌∙◌, All, Ok, Option, List, Vec, [], ◌∷◌, ap, arith, sym, subst, length, map, take, ◌≡◌}
 use Rattle.std.proofs.lemmas.List.{length-append, take_all}
 use Rattle.std.specs.Global.{Global}
 use Rattle.host_io.specs.Contents.{Directory}
@@ -8,7 +6,8 @@ use Rattle.fip_making.specs.Payloads.{IsThere, part_told}
 use Rattle.fip_making.specs.declared.payloads.Payload.{Payload}
 use Rattle.fip_making.proofs.Packings.{more-payloads, one-more-there}
 use Rattle.fip_making.proofs.PartLemmas.{stopped-at}
-use Rattle.fip_making.proofs.ReadsBy.{reads-done, reads-starved, reads-stopped}
+use Rattle.fip_making.proofs.ReadsBy.{alone-done, alone-starved, alone-then, alone-then-stopped, alone-wider, one-spared}
+use Rattle.fip_making.specs.Answers.{IsLate}
 use Rattle.fip_making.proofs.Tables.{gives-err, rose-still}
 use Rattle.fip_making.specs.Values.{parts_in}
 use Rattle.fip_words.specs.Order.{part_view}
@@ -24,10 +23,8 @@ returns-in-Err-clause-told g c = λ told e.
 pub loop-one-preserved : goal.loop-one-preserved
 loop-one-preserved g c =
     let more = c.in-Ok-push.ensures.items in record {
-      files = reads-after g.H.Files _ g.met.H.Files.joins _ _ _ c.loop-one.invariant.files
-          (reads-wider g.H.Files _ _ (λ access other. subst (λ (w : FileWord). access ≢ Asks w.file.now) (sym c.one-item.is)
-          (other c.loop-one.one-index c.one-item.result c.loop-one-test.true)) _ _ c.payload_of_file.ensures.files);
-      quiet = c.in-Ok.ensures.reads.quiet ∙ c.loop-one.invariant.quiet;
+      files = (alone-then {IsOwn = IsLate} g.met.H.Files.joins c.loop-one.invariant.files c.loop-one.invariant.quiet (λ s late. late) (alone-wider (one-spared (λ (w : FileWord). w.file.now) _ _ _ c.one-item.is c.loop-one-test.true) c.in-Ok.ensures.reads)).files;
+      quiet = c.in-Ok.ensures.reads.only.quiet ∙ c.loop-one.invariant.quiet;
       count = omega (arith, ap length more, length-append c.loop-one.payloads.items (c.in-Ok.payload ∷ []), c.loop-one.invariant.count);
       there = subst (All (IsThere (g.H.Files.contents c.args.files.now))) (sym more)
           (one-more-there (IsThere (g.H.Files.contents c.args.files.now)) c.loop-one.payloads.items c.in-Ok.payload c.loop-one.invariant.there
@@ -45,23 +42,12 @@ returns-clause-told g c = λ told e.
     ap (λ (l : List FileWord). parts_in told (map part_view l)) (sym all) ∙ c.loop-one.invariant.so-far told e
 
 pub returns-clause-reads : goal.returns-clause-reads
-returns-clause-reads g c = reads-done c.loop-one.invariant.files.same c.loop-one.invariant.quiet
+returns-clause-reads g c = alone-done c.loop-one.invariant.files c.loop-one.invariant.quiet
 
 pub returns-in-Err-clause-reads : goal.returns-in-Err-clause-reads
-returns-in-Err-clause-reads g c = reads-stopped c.loop-one.invariant.files.same c.loop-one.invariant.quiet c.in-Err.ensures.reads
+returns-in-Err-clause-reads g c = alone-then-stopped g.met.H.Files.joins c.loop-one.invariant.files c.loop-one.invariant.quiet (λ s late. late) (alone-wider (one-spared (λ (w : FileWord). w.file.now) _ _ _ c.one-item.is c.loop-one-test.true) c.in-Err.ensures.reads)
 
 pub returns-in-Err-push-clause-reads : goal.returns-in-Err-push-clause-reads
 returns-in-Err-push-clause-reads g c =
-    reads-starved (c.payload_of_file.ensures.reads.same ∙ c.loop-one.invariant.files.same) (c.in-Ok.ensures.reads.quiet ∙ c.loop-one.invariant.quiet)
-
-pub returns-in-Err-clause-files : goal.returns-in-Err-clause-files
-returns-in-Err-clause-files g c =
-    reads-after g.H.Files _ g.met.H.Files.joins _ _ _ c.loop-one.invariant.files
-    (reads-wider g.H.Files _ _ (λ access other. subst (λ (w : FileWord). access ≢ Asks w.file.now) (sym c.one-item.is)
-    (other c.loop-one.one-index c.one-item.result c.loop-one-test.true)) _ _ c.payload_of_file.ensures.files)
-
-pub returns-in-Err-push-clause-files : goal.returns-in-Err-push-clause-files
-returns-in-Err-push-clause-files g c =
-    reads-after g.H.Files _ g.met.H.Files.joins _ _ _ c.loop-one.invariant.files
-    (reads-wider g.H.Files _ _ (λ access other. subst (λ (w : FileWord). access ≢ Asks w.file.now) (sym c.one-item.is)
-    (other c.loop-one.one-index c.one-item.result c.loop-one-test.true)) _ _ c.payload_of_file.ensures.files)
+    let read = alone-wider (one-spared (λ (w : FileWord). w.file.now) _ _ _ c.one-item.is c.loop-one-test.true) c.in-Ok.ensures.reads in
+    alone-then g.met.H.Files.joins c.loop-one.invariant.files c.loop-one.invariant.quiet (λ s late. late) (alone-starved tt read.files read.only.quiet)

@@ -8,7 +8,7 @@ returns-in_err-count-clause-source g c =
     rw (handed-on c.from_residual.result stop.FileFault c.from_residual.ensures.1) (record {
       once = once-one g.I.Source c.args.source.now c.read.new.self _ c.in_err-count.ensures.made;
       later = c.in_err-count.ensures.cause.later;
-      count = c.in_err-count.ensures.count;
+      count = c.in_err-count.ensures.cause.count;
       usage = λ e. cc;
       sink = λ e. cc;
       refusals = tt;
@@ -18,7 +18,7 @@ pub returns-in-Ok-clause-source : goal.returns-in-Ok-clause-source
 returns-in-Ok-clause-source g c = record {
   once = once-one g.I.Source c.args.source.now c.read.new.self _ c.in_ok-count.ensures.made;
   later = c.in_ok-count.ensures.cause.later;
-  count = c.in_ok-count.ensures.count;
+  count = c.in_ok-count.ensures.cause.count;
   usage = λ e. cc;
   sink = λ e. cc;
   refusals = tt;
@@ -28,7 +28,7 @@ pub returns-in-Err-clause-source : goal.returns-in-Err-clause-source
 returns-in-Err-clause-source g c = record {
   once = once-one g.I.Source c.args.source.now c.read.new.self _ c.in_ok-count.ensures.made;
   later = c.in_ok-count.ensures.cause.later;
-  count = c.in_ok-count.ensures.count;
+  count = c.in_ok-count.ensures.cause.count;
   usage = λ e. cc;
   sink = λ e. cc;
   refusals = tt;

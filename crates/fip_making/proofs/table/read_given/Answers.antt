@@ -6,6 +6,8 @@ use Rattle.fip_making.proofs.SourceFaults.{ended-quiet}
 use Rattle.fip_making.proofs.Tables.{rose-from}
 use Rattle.fip_making.specs.Source.{FedSome}
 use Rattle.fip_making.specs.Answers.{source_failed}
+use Rattle.fip_making.specs.Refusals.{IsOfSource, Unstarved}
+use Rattle.fip_making.proofs.Refusing.{if-err-as, never-starved}
 use Rattle.fip_making.proofs.Stopped.{handed-on}
 use Rattle.fip_making.proofs.table.read_given.Goals as goal
 
@@ -64,7 +66,7 @@ returns-then-some-eq0-clause-source g c =
       count = e.count ∙ c.loop-count.invariant.read.none ∙ ended-quiet c.ended.result _ c.ended.ensures.asks.file;
       usage = c.ended.ensures.asks.usage;
       sink = c.ended.ensures.asks.sink;
-      refusals = c.ended.ensures.refusals;
+      refusals = if-err-as c.ended.result (Unstarved IsOfSource) IsOfSource (λ s own. own.0) c.ended.ensures.asks.refusals;
     }
 
 pub returns-clause-source : goal.returns-clause-source
@@ -76,3 +78,6 @@ returns-clause-source g c = record {
   sink = λ e. cc;
   refusals = tt;
 }
+
+pub returns-then-some-eq0-clause-memory : goal.returns-then-some-eq0-clause-memory
+returns-then-some-eq0-clause-memory g c = never-starved IsOfSource c.ended.result c.ended.ensures.asks.refusals

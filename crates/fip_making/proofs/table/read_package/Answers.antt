@@ -1,11 +1,12 @@
-use Rattle.std.proofs.Common.{◌∙◌, refl}
+use Rattle.std.proofs.Common.{◌∙◌}
 use Rattle.host_io.proofs.Reading.{reads-then as reads-after}
-use Rattle.fip_making.proofs.ReadsBy.{reads-no-table, reads-stopped}
+use Rattle.fip_making.proofs.ReadsBy.{alone-done, alone-stopped, alone-then, reads-no-table}
+use Rattle.fip_making.specs.Refusals.{IsPackageStop, Unstarved}
 use Rattle.fip_making.proofs.Repacking.{ends-below}
 use Rattle.fip_making.proofs.Tables.{gives-err, size-err, sized, table-ok, table-stop, tells}
 use Rattle.fip_making.proofs.Stopped.{handed-on}
 use Rattle.fip_making.proofs.Refusing.{late-of-package, toc-needs-none, toc-of-package}
-use Rattle.fip_making.specs.Stops.{stopped_by}
+use Rattle.fip_making.specs.Stops.{stop_of_table}
 use Rattle.fip_making.proofs.table.read_package.Goals as goal
 
 pub returns-in_err-size-clause-told : goal.returns-in_err-size-clause-told
@@ -16,43 +17,37 @@ returns-in_err-size-clause-told g c =
 pub returns-clause-told : goal.returns-clause-told
 returns-clause-told g c = λ told e.
     let s = sized told c.args.name.now c.in_ok-size.size (c.in_ok-size.ensures.told told e) in
-    let is = c.in_ok-toc.ensures.told s.0 (tells _ told c.args.name.now s.0 (c.size_of.ensures.reads.same ∙ e) s.1) in
+    let is = c.in_ok-toc.ensures.told s.0 (tells _ told c.args.name.now s.0 (c.size_of.ensures.reads.only.same ∙ e) s.1) in
     table-ok told c.args.name.now s.0 c.in_ok-size.size c.in_ok-toc.toc s.1 s.2 is
 
 pub returns-in_err-toc-clause-told : goal.returns-in_err-toc-clause-told
 returns-in_err-toc-clause-told g c = λ told e.
     let s = sized told c.args.name.now c.in_ok-size.size (c.in_ok-size.ensures.told told e) in
-    rw (handed-on c.from_residual-in_err-toc.result (stopped_by c.in_err-toc.field-0.0) c.from_residual-in_err-toc.ensures.1)
-    (table-stop told c.args.name.now s.0 _ _ _ _ c.in_err-toc.field-0.0 c.size_of.ensures.reads.later (c.size_of.ensures.reads.same ∙ e) s.1
-    (c.in_err-toc.ensures.told s.0 (tells _ told c.args.name.now s.0 (c.size_of.ensures.reads.same ∙ e) s.1)) c.in_err-toc.ensures.cause.failed)
+    rw (handed-on c.from_residual-in_err-toc.result (stop_of_table c.in_err-toc.field-0.0) c.from_residual-in_err-toc.ensures.1)
+    (table-stop told c.args.name.now s.0 _ _ _ _ c.in_err-toc.field-0.0 c.size_of.ensures.reads.only.later (c.size_of.ensures.reads.only.same ∙ e) s.1
+    (c.in_err-toc.ensures.told s.0 (tells _ told c.args.name.now s.0 (c.size_of.ensures.reads.only.same ∙ e) s.1)) c.in_err-toc.ensures.cause.failed)
 
 pub returns-clause-ends : goal.returns-clause-ends
 returns-clause-ends g c = let s = c.in_ok-toc.ensures.some in ends-below s.bytes c.in_ok-toc.toc s.short s.answer
 
+pub returns-clause-reads : goal.returns-clause-reads
+returns-clause-reads g c =
+    alone-then g.met.H.Files.joins c.size_of.ensures.reads.files c.in_ok-size.ensures.reads.only.quiet (λ s own. own)
+    (alone-done {IsOwn = Unstarved IsPackageStop} c.in_ok-toc.ensures.reads c.in_ok-toc.ensures.cause.done)
+
 pub returns-in_err-size-clause-reads : goal.returns-in_err-size-clause-reads
 returns-in_err-size-clause-reads g c =
-    rw (handed-on c.from_residual.result c.in_err-size.field-0.0 c.from_residual.ensures.1) (reads-stopped refl refl c.in_err-size.ensures.reads)
+    let own = c.in_err-size.ensures.reads.refusals in
+    rw (handed-on c.from_residual.result c.in_err-size.field-0.0 c.from_residual.ensures.1) (alone-stopped (late-of-package c.in_err-size.field-0.0 own.0, own.1) c.in_err-size.ensures.reads)
 
 pub returns-in_err-toc-clause-reads : goal.returns-in_err-toc-clause-reads
 returns-in_err-toc-clause-reads g c =
-    rw (handed-on c.from_residual-in_err-toc.result (stopped_by c.in_err-toc.field-0.0) c.from_residual-in_err-toc.ensures.1) (reads-no-table c.in_err-toc.field-0.0 c.size_of.ensures.reads.same c.in_err-toc.ensures.reads.same c.in_ok-size.ensures.reads.quiet c.in_err-toc.ensures.cause)
+    let e = c.in_err-toc in
+    rw (handed-on c.from_residual-in_err-toc.result (stop_of_table e.field-0.0) c.from_residual-in_err-toc.ensures.1) (record {
+      only = reads-no-table e.field-0.0 c.size_of.ensures.reads.only.same e.ensures.reads.same c.in_ok-size.ensures.reads.only.quiet e.ensures.cause;
+      files = reads-after g.H.Files _ g.met.H.Files.joins _ _ _ c.size_of.ensures.reads.files e.ensures.reads;
+      refusals = (toc-of-package e.field-0.0, toc-needs-none e.field-0.0);
+    })
 
 pub returns-clause-table : goal.returns-clause-table
 returns-clause-table g c = let s = c.in_ok-toc.ensures.some in (s.bytes, s.answer)
-
-pub returns-in_err-size-clause-refusals : goal.returns-in_err-size-clause-refusals
-returns-in_err-size-clause-refusals g c = rw (handed-on c.from_residual.result c.in_err-size.field-0.0 c.from_residual.ensures.1) (late-of-package c.in_err-size.field-0.0 c.in_err-size.ensures.late)
-
-pub returns-in_err-toc-clause-refusals : goal.returns-in_err-toc-clause-refusals
-returns-in_err-toc-clause-refusals g c = rw (handed-on c.from_residual-in_err-toc.result (stopped_by c.in_err-toc.field-0.0) c.from_residual-in_err-toc.ensures.1) (toc-of-package c.in_err-toc.field-0.0)
-
-pub returns-in_err-toc-clause-memory : goal.returns-in_err-toc-clause-memory
-returns-in_err-toc-clause-memory g c = rw (handed-on c.from_residual-in_err-toc.result (stopped_by c.in_err-toc.field-0.0) c.from_residual-in_err-toc.ensures.1) (λ e. toc-needs-none c.in_err-toc.field-0.0 cc)
-
-pub returns-clause-files : goal.returns-clause-files
-returns-clause-files g c =
-    reads-after g.H.Files _ g.met.H.Files.joins _ _ _ c.size_of.ensures.files c.read_toc.ensures.reads
-
-pub returns-in_err-toc-clause-files : goal.returns-in_err-toc-clause-files
-returns-in_err-toc-clause-files g c =
-    reads-after g.H.Files _ g.met.H.Files.joins _ _ _ c.size_of.ensures.files c.read_toc.ensures.reads

@@ -2,7 +2,7 @@ use Rattle.std.proofs.Common.{◌∙◌, ◌++◌, ap, ℕ, List}
 use Rattle.base_core.proofs.Spelled.{eight_spelled}
 use Rattle.base_core.specs.Bytes.{le}
 use Rattle.fwu_formats.specs.Package.{Entry}
-use Rattle.fip_tables.specs.Frame.{entry_bytes}
+use Rattle.fip_tables.specs.Frame.{toc_entry_bytes}
 use Rattle.fip_tables.proofs.Plans.{appended}
 use Rattle.fip_tables.proofs.frame.add_entry.Goals as goal
 
@@ -15,4 +15,4 @@ returns-clause-added c =
     (c.in_ok-extend_from_slice-2.ensures.items ∙ ap (λ (x : List ℕ). c.extend_from_slice.new.self.items ++ x) (c.to_le_bytes.ensures ∙ eight_spelled e.offset))
     (c.in_ok-extend_from_slice-3.ensures.items ∙ ap (λ (x : List ℕ). c.extend_from_slice-2.new.self.items ++ x) (c.to_le_bytes-2.ensures ∙ eight_spelled e.size))
     (c.in_ok-extend_from_slice-4.ensures.items ∙ ap (λ (x : List ℕ). c.extend_from_slice-3.new.self.items ++ x) (c.to_le_bytes-3.ensures ∙ eight_spelled e.flags))
-    ∙ ap (λ (x : Entry). v ++ entry_bytes x) c.entry.view_is
+    ∙ ap (λ (x : Entry). v ++ toc_entry_bytes x) c.entry.view_is

@@ -25,7 +25,6 @@ returns g c =
     let made = c.package_of_capsule-made in
     let put = c.put_made.ensures in
     done-made format.Package c.args.out.now (λ told. repackage_value told c.args.align c.args.from.now) (λ told. refl) (texts-are c.args.align c.args.from.now c.args.out.now made.result made.ensures.count) (λ w. w) late-of-packaging
-    made.ensures.reads made.ensures.files made.ensures.told made.ensures.refusals
-    put.told put.says put.wrote put.file_count put.cause put.usage put.refusals put.later put.later_sink put.sink_count
-    (λ access other. g.met.H.Files.joins _ _ _ access (made.ensures.files.spares access other.0) (put.spares access other.1))
-    put.kept (if-err-all made.result (λ s. RefusesAlone g.H.Files (Some (repackage c.args.align c.args.from.now c.args.out.now)) c.args.files.now made.new.files (status_number s)) (λ s refuses access other. made.ensures.files.spares access (other)))
+    made.ensures.reads (λ s own. own) made.ensures.told put.told put.puts
+    (λ access other. g.met.H.Files.joins _ _ _ access (made.ensures.reads.files.spares access other.0) (put.spares access other.1))
+    (if-err-all made.result (λ s. RefusesAlone g.H.Files (Some (repackage c.args.align c.args.from.now c.args.out.now)) c.args.files.now made.new.files (status_number s)) (λ s refuses access other. made.ensures.reads.files.spares access (other)))

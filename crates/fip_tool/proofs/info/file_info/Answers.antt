@@ -1,8 +1,9 @@
-use Rattle.std.proofs.Common.{Vec, ℕ, refl}
+use Rattle.std.proofs.Common.{Vec, ℕ}
 use Rattle.std.specs.Global.{Global}
 use Rattle.fip_making.proofs.Tables.{gives-err}
 use Rattle.fip_tool.proofs.Listings.{info-err, info-made}
-use Rattle.fip_making.proofs.ReadsBy.{reads-stopped}
+use Rattle.fip_making.proofs.ReadsBy.{alone-done, alone-starved, alone-stopped}
+use Rattle.fip_making.specs.declared.stops.Stop.TheVariants as stop
 use Rattle.fip_making.proofs.Stopped.{handed-on}
 use Rattle.fip_tool.proofs.info.file_info.Goals as goal
 
@@ -18,6 +19,13 @@ returns-in_err-toc-clause-told g c =
     rw (handed-on c.from_residual.result c.in_err-toc.field-0.0 c.from_residual.ensures.1) (λ told e.
     gives-err (λ t. t) (λ (text : Vec ℕ Global). text.items) _ _ _ _ c.in_err-toc.field-0.0 (λ r. r) (info-err told c.args.name.now _) (c.in_err-toc.ensures.told told e))
 
+pub returns-clause-reads : goal.returns-clause-reads
+returns-clause-reads g c = alone-done c.read_package.ensures.reads.files c.in_ok-toc.ensures.reads.only.quiet
+
 pub returns-in_err-toc-clause-reads : goal.returns-in_err-toc-clause-reads
 returns-in_err-toc-clause-reads g c =
-    rw (handed-on c.from_residual.result c.in_err-toc.field-0.0 c.from_residual.ensures.1) (reads-stopped refl refl c.in_err-toc.ensures.reads)
+    rw (handed-on c.from_residual.result c.in_err-toc.field-0.0 c.from_residual.ensures.1) (alone-stopped c.in_err-toc.ensures.reads.refusals.0 c.in_err-toc.ensures.reads)
+
+pub returns-in_err-info_text-clause-reads : goal.returns-in_err-info_text-clause-reads
+returns-in_err-info_text-clause-reads g c =
+    rw (handed-on c.from_residual-in_err-info_text.result stop.NoMemory c.from_residual-in_err-info_text.ensures.1) (alone-starved tt c.read_package.ensures.reads.files c.in_ok-toc.ensures.reads.only.quiet)

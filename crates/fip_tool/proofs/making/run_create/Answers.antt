@@ -28,7 +28,6 @@ returns g c =
     let made = c.created-made in
     let put = c.put_made.ensures in
     done-made format.Package c.args.out.now (λ told. create_value told c.args.align (map part_view c.args.named.now)) (λ told. refl) (texts-are c.args.align c.args.out.now made.result c.args.named.now made.ensures.count) (λ w. w) late-of-packing
-    made.ensures.reads made.ensures.files made.ensures.told made.ensures.refusals
-    put.told put.says put.wrote put.file_count put.cause put.usage put.refusals put.later put.later_sink put.sink_count
-    (λ access other. g.met.H.Files.joins _ _ _ access (made.ensures.files.spares access (of-map (λ (p : NamedFile). access ≢ Asks p.file) part_view c.args.named.now other.0)) (put.spares access other.1))
-    put.kept (if-err-all made.result (λ s. RefusesAlone g.H.Files (Some (create c.args.align c.args.out.now (map part_view c.args.named.now))) c.args.files.now made.new.files (status_number s)) (λ s refuses access other. made.ensures.files.spares access (of-map (λ (p : NamedFile). access ≢ Asks p.file) part_view c.args.named.now other)))
+    made.ensures.reads (λ s own. own) made.ensures.told put.told put.puts
+    (λ access other. g.met.H.Files.joins _ _ _ access (made.ensures.reads.files.spares access (of-map (λ (p : NamedFile). access ≢ Asks p.file) part_view c.args.named.now other.0)) (put.spares access other.1))
+    (if-err-all made.result (λ s. RefusesAlone g.H.Files (Some (create c.args.align c.args.out.now (map part_view c.args.named.now))) c.args.files.now made.new.files (status_number s)) (λ s refuses access other. made.ensures.reads.files.spares access (of-map (λ (p : NamedFile). access ≢ Asks p.file) part_view c.args.named.now other)))

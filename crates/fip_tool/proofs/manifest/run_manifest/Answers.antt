@@ -17,7 +17,8 @@ use Rattle.fip_tool.proofs.Did.{no-memory-yet, refused}
 use Rattle.fip_tool.proofs.DoneWith.{done-texts, done-unread}
 use Rattle.fip_tool.proofs.WritingLemmas.{manifest-written}
 use Rattle.fip_tool.proofs.NamedFiles.{of-map}
-use Rattle.fip_making.proofs.ReadsBy.{reads-starved}
+use Rattle.fip_making.proofs.ReadsBy.{alone-starved}
+use Rattle.fip_making.specs.Refusals.{IsManifestStop}
 use Rattle.fip_making.proofs.Refusing.{late-of-manifest}
 use Rattle.fip_making.proofs.Stopped.{handed-on}
 use Rattle.fip_making.proofs.Tables.{rose-from}
@@ -32,35 +33,35 @@ returns g c =
     let line = c.as_slice.ensures.value ∙ c.in_ok-line.ensures in
     let lined = line ∙ ap (λ (n : ℕ). manifest_line n c.len.result c.args.security) (c.in_ok-rows.ensures.count ∙ sym (length-map c.args.named.now image_view)) in
     done-texts (texts-behind (λ texts. texts ≡ c.as_slice.result.now ∷ []) (IsTexts (asks.manifest c.args.out.now c.args.security (map image_view c.args.named.now)))
-    (λ texts t. (c.len.result, t ∙ ap (λ (l : List ℕ). l ∷ []) lined)) c.in_ok-rows.ensures.reads.quiet c.manifest.ensures.files.unwritten put.texts)
+    (λ texts t. (c.len.result, t ∙ ap (λ (l : List ℕ). l ∷ []) lined)) c.in_ok-rows.ensures.reads.only.quiet c.manifest.ensures.reads.files.unwritten put.texts)
     (λ w. w) late-of-manifest
     (λ told e.
     manifest-written told c.args.out.now c.args.security _ (c.in_ok-rows.rows, c.in_ok-rows.bytes.items) c.as_slice-bytes.result.now c.as_slice.result.now _ _ _ _ _ _ _ _ c.join_and_print.result
     (c.in_ok-rows.ensures.told told e) c.as_slice-bytes.ensures.value (line ∙ ap (λ (n : ℕ). manifest_line c.in_ok-rows.rows n c.args.security) long)
-    (λ r. rose-from _ _ _ c.manifest.ensures.reads.later r) (λ r. tears-since (g.H.Files.writes c.join_and_print.new.files) c.manifest.ensures.files.unwritten r)
-    (put.told told (c.manifest.ensures.reads.same ∙ e)))
+    (λ r. rose-from _ _ _ c.manifest.ensures.reads.only.later r) (λ r. tears-since (g.H.Files.writes c.join_and_print.new.files) c.manifest.ensures.reads.files.unwritten r)
+    (put.told told (c.manifest.ensures.reads.only.same ∙ e)))
     (λ access other.
-    g.met.H.Files.joins _ _ _ access (c.manifest.ensures.files.spares access (of-map (λ (r : NamedImage). access ≢ Asks r.file) image_view c.args.named.now other.0)) (put.spares access other.1))
+    g.met.H.Files.joins _ _ _ access (c.manifest.ensures.reads.files.spares access (of-map (λ (r : NamedImage). access ≢ Asks r.file) image_view c.args.named.now other.0)) (put.spares access other.1))
 
 pub returns-in_err-rows : goal.returns-in_err-rows
 returns-in_err-rows g c =
     let e = c.in_err-rows.ensures in
-    rw (handed-on c.from_residual.result c.in_err-rows.field-0.0 c.from_residual.ensures.1) (done-unread c.in_err-rows.field-0.0 e.reads e.files
+    rw (handed-on c.from_residual.result c.in_err-rows.field-0.0 c.from_residual.ensures.1) (done-unread c.in_err-rows.field-0.0 e.reads
     (λ access other. of-map (λ (r : NamedImage). access ≢ Asks r.file) image_view c.args.named.now other.0)
     (λ access other. of-map (λ (r : NamedImage). access ≢ Asks r.file) image_view c.args.named.now other)
     (λ told is.
     refused (writes_manifest c.args.out.now c.args.security) (λ (m : ℕ × Vec ℕ Global). (m.0, m.1.items)) (manifest_value told c.args.security (map image_view c.args.named.now)) told _ _ _ _ _ _ c.in_err-rows.field-0.0
-    (e.told told is) (e.reads.same ∙ is) refl)
-    e.refusals)
+    (e.told told is) (e.reads.only.same ∙ is) refl)
+    e.reads.refusals)
 
 pub returns-in_err-line : goal.returns-in_err-line
 returns-in_err-line g c =
     let e = c.manifest.ensures in
-    rw (handed-on c.from_residual-in_err-line.result stop.NoMemory c.from_residual-in_err-line.ensures.1) (done-unread {X = Unit {0}} stop.NoMemory (reads-starved e.reads.same c.in_ok-rows.ensures.reads.quiet) e.files
+    rw (handed-on c.from_residual-in_err-line.result stop.NoMemory c.from_residual-in_err-line.ensures.1) (done-unread {X = Unit {0}} {IsOwn = IsManifestStop} stop.NoMemory (alone-starved tt e.reads.files c.in_ok-rows.ensures.reads.only.quiet)
     (λ access other. of-map (λ (r : NamedImage). access ≢ Asks r.file) image_view c.args.named.now other.0)
     (λ access other. of-map (λ (r : NamedImage). access ≢ Asks r.file) image_view c.args.named.now other)
     (λ told is.
     no-memory-yet (outcome_by (writes_manifest c.args.out.now c.args.security) (manifest_value told c.args.security (map image_view c.args.named.now))) told _ _ _
     (Rose (g.H.Files.faults c.args.files.now) (g.H.Files.faults c.manifest.new.files)) (MayTear (g.H.Files.writes c.args.files.now) (g.H.Files.writes c.manifest.new.files)) (Rose (g.O.Sink.faults c.args.sink.now) (g.O.Sink.faults c.args.sink.now))
-    (e.reads.same ∙ is) refl)
+    (e.reads.only.same ∙ is) refl)
     tt)

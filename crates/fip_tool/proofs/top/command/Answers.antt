@@ -1,4 +1,4 @@
-use Rattle.std.proofs.Common.{Some, ap, map, refl, sym, ◌∙◌}
+use Rattle.std.proofs.Common.{List, Some, ℕ, ap, map, refl, sym, ◌∙◌}
 use Rattle.fip_words.specs.Order.{image_view, part_view, view}
 use Rattle.fip_words.specs.Order as asks
 use Rattle.fip_tool.proofs.DoneBy.{done-of-source, done-with-files}
@@ -13,8 +13,7 @@ returns-in-Info g c =
 
 pub returns-in-InfoOfSource : goal.returns-in-InfoOfSource
 returns-in-InfoOfSource g c =
-    let e = c.info_of_source.ensures in
-    done-of-source (ap (λ o. Some (view o)) c.in-InfoOfSource.is) (e.listed (g.H.Files.contents c.args.files.now)) e.once e.says e.cause e.usage e.later e.source_count e.sink_count e.refusals (g.met.H.Files.at_rest c.args.files.now)
+    done-of-source (ap (λ o. Some (view o)) c.in-InfoOfSource.is) c.info_of_source.ensures (g.met.H.Files.at_rest c.args.files.now)
 
 pub returns-in-Create : goal.returns-in-Create
 returns-in-Create g c =
@@ -26,15 +25,23 @@ returns-in-Create g c =
 pub returns-in-Update : goal.returns-in-Update
 returns-in-Update g c =
     let o = c.in-Update in
-    done-with-files g.met.I.Source.at_rest (asks.update o.align o.from.now o.out.now (map part_view c.as_slice-in-Update.result.now))
-    (ap (λ o. Some (view o)) o.is ∙ ap (λ parts. Some (asks.update o.align o.from.now o.out.now (map part_view parts))) (sym c.as_slice-in-Update.ensures.value)) refl
+    let r = c.new-remade in
+    done-with-files g.met.I.Source.at_rest (asks.update r.result.align r.result.from.now r.result.out.now (map part_view c.as_slice-in-Update.result.now))
+    (ap (λ o. Some (view o)) o.is ∙ ap (λ parts. Some (asks.update o.align o.from.now o.out.now (map part_view parts))) (sym c.as_slice-in-Update.ensures.value)
+    ∙ ap (λ (n : ℕ). Some (asks.update n o.from.now o.out.now (map part_view c.as_slice-in-Update.result.now))) (sym r.ensures.0)
+    ∙ ap (λ (f : List ℕ). Some (asks.update r.result.align f o.out.now (map part_view c.as_slice-in-Update.result.now))) (sym r.ensures.1)
+    ∙ ap (λ (f : List ℕ). Some (asks.update r.result.align r.result.from.now f (map part_view c.as_slice-in-Update.result.now))) (sym r.ensures.2)) refl
     c.run_update.ensures
 
 pub returns-in-Remove : goal.returns-in-Remove
 returns-in-Remove g c =
     let o = c.in-Remove in
-    done-with-files g.met.I.Source.at_rest (asks.remove o.align o.from.now o.out.now c.as_slice-in-Remove.result.now)
-    (ap (λ o. Some (view o)) o.is ∙ ap (λ names. Some (asks.remove o.align o.from.now o.out.now names)) (sym c.as_slice-in-Remove.ensures.value)) refl
+    let r = c.new-remade-in-Remove in
+    done-with-files g.met.I.Source.at_rest (asks.remove r.result.align r.result.from.now r.result.out.now c.as_slice-in-Remove.result.now)
+    (ap (λ o. Some (view o)) o.is ∙ ap (λ names. Some (asks.remove o.align o.from.now o.out.now names)) (sym c.as_slice-in-Remove.ensures.value)
+    ∙ ap (λ (n : ℕ). Some (asks.remove n o.from.now o.out.now c.as_slice-in-Remove.result.now)) (sym r.ensures.0)
+    ∙ ap (λ (f : List ℕ). Some (asks.remove r.result.align f o.out.now c.as_slice-in-Remove.result.now)) (sym r.ensures.1)
+    ∙ ap (λ (f : List ℕ). Some (asks.remove r.result.align r.result.from.now f c.as_slice-in-Remove.result.now)) (sym r.ensures.2)) refl
     c.run_remove.ensures
 
 pub returns-in-Unpack : goal.returns-in-Unpack

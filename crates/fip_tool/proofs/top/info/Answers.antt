@@ -3,7 +3,7 @@ use Rattle.std.specs.Global.{Global}
 use Rattle.host_io.specs.Access.{Access, Asks}
 use Rattle.host_io.specs.declared.writes.Writes.{Writes}
 use Rattle.fip_words.specs.Order as asks
-use Rattle.fip_making.specs.Refusals.{IsOfPackage}
+use Rattle.fip_making.specs.Refusals.{IsPackageStop}
 use Rattle.fip_tool.specs.Said.{IsTexts}
 use Rattle.fip_tool.specs.Seen.{PrintedIn}
 use Rattle.fip_making.specs.Answers.{IsLate}
@@ -22,14 +22,14 @@ returns-clause-done g c =
     let read = c.in_ok-text.ensures in
     let put = c.print.ensures in
     let printed = subst (λ (l : List ℕ). PrintedIn g.O.Sink l c.args.sink.now c.print.new.sink c.print.result) c.as_slice.ensures.value put.printed in record {
-      told = λ told e. printed-text (info_value told c.args.name.now) c.in_ok-text.text.items told _ _ _ _ _ _ _ (read.told told e) (read.reads.same ∙ e) printed;
+      told = λ told e. printed-text (info_value told c.args.name.now) c.in_ok-text.text.items told _ _ _ _ _ _ _ (read.told told e) (read.reads.only.same ∙ e) printed;
       says = says-printed (IsTexts (asks.info c.args.name.now)) c.in_ok-text.text.items _ _ _ c.print.result (c.in_ok-text.text.items, read.listed, refl) printed;
-      wrote = ap (λ (w : Writes). w.done) read.files.unwritten;
-      file_count = faults-none read.reads.quiet;
+      wrote = ap (λ (w : Writes). w.done) read.reads.files.unwritten;
+      file_count = faults-none read.reads.only.quiet;
       cause = λ e none. absurd (rw e at put.printed);
       usage = put.usage;
-      refusals = if-err-as c.print.result IsLate IsOfPackage late-of-package put.late;
-      spares = read.files.spares;
+      refusals = if-err-as c.print.result IsLate IsPackageStop late-of-package put.late;
+      spares = read.reads.files.spares;
       alone = late-alone c.print.result (λ s. (access : Access) → access ≢ Asks c.args.name.now → g.H.Files.spares c.args.files.now c.file_info.new.files access) put.late;
       later = put.later;
       sink_count = put.count;
@@ -38,6 +38,12 @@ returns-clause-done g c =
 pub returns-in_err-text-clause-done : goal.returns-in_err-text-clause-done
 returns-in_err-text-clause-done g c =
     let e = c.in_err-text.ensures in
-    rw (handed-on c.from_residual.result c.in_err-text.field-0.0 c.from_residual.ensures.1) (done-unread c.in_err-text.field-0.0 e.reads e.files (λ access other. other) (λ access other. other)
-    (λ told is. refused prints (λ (v : Vec ℕ Global). v.items) (info_value told c.args.name.now) told _ _ _ _ _ _ c.in_err-text.field-0.0 (e.told told is) (e.reads.same ∙ is) refl)
-    e.refusals)
+    rw (handed-on c.from_residual.result c.in_err-text.field-0.0 c.from_residual.ensures.1) (done-unread c.in_err-text.field-0.0 e.reads (λ access other. other) (λ access other. other)
+    (λ told is. refused prints (λ (v : Vec ℕ Global). v.items) (info_value told c.args.name.now) told _ _ _ _ _ _ c.in_err-text.field-0.0 (e.told told is) (e.reads.only.same ∙ is) refl)
+    e.reads.refusals)
+
+pub returns-clause-files : goal.returns-clause-files
+returns-clause-files g c = c.file_info.ensures.reads.files
+
+pub returns-in_err-text-clause-files : goal.returns-in_err-text-clause-files
+returns-in_err-text-clause-files g c = c.file_info.ensures.reads.files

@@ -1,8 +1,8 @@
 use Rattle.std.proofs.Common.{Option, Some, ap, map, sym, subst, ◌∙◌, string_bytes}
-use Rattle.fip_words.specs.Order.{Asked}
+use Rattle.fip_words.specs.Order.{FipAsked}
 use Rattle.fip_tool.proofs.DoneBy.{done-starved, done-usage}
 use Rattle.fip_tool.proofs.UnpackWords.{asked-is-other}
-use Rattle.fip_tool.specs.Done.{Done}
+use Rattle.fip_tool.specs.Done.{CommandDone}
 use Rattle.fip_tool.proofs.top.run.Goals as goal
 
 pub command-requires : goal.command-requires
@@ -10,7 +10,7 @@ command-requires g c = record { other = λ from prefix names e. asked-is-other f
 
 pub returns-in-Ok : goal.returns-in-Ok
 returns-in-Ok g c =
-    subst (λ (a : Option Asked). Done g.H.Files g.I.Source g.O.Sink a c.command.result c.args.files.now c.command.new.files c.args.source.now c.command.new.source c.args.sink.now c.command.new.sink)
+    subst (λ (a : Option FipAsked). CommandDone g.H.Files g.I.Source g.O.Sink a c.command.result c.args.files.now c.command.new.files c.args.source.now c.command.new.source c.args.sink.now c.command.new.sink)
     (sym c.in-Ok.ensures) c.command.ensures
 
 pub returns-in-Err-Usage : goal.returns-in-Err-Usage

@@ -6,7 +6,7 @@ use Rattle.std.specs.Prelude.{◌==◌, ◌||◌}
 use Rattle.std.proofs.lemmas.List.Elements.{All-get_or}
 use Rattle.fwu_formats.specs.Package.{Entry}
 use Rattle.fip_tool.specs.Lines.{unpacked_line}
-use Rattle.fip_tool.specs.Said.{joined}
+use Rattle.fip_tool.specs.Said.{joined_texts}
 use Rattle.fip_making.specs.Values.{is_named}
 use Rattle.fip_tool.proofs.Texts.{said-more, says-behind}
 use Rattle.fip_tool.proofs.FileFaults.{faults-none, faults-then}
@@ -97,7 +97,7 @@ loop-entry-preserved g c =
             said =
                 let p = λ (e : Entry). (length c.args.unpacked.now.names.now == 0) || is_named c.args.unpacked.now.names.now e in
                 let same = next-passed p c.args.entries.now c.loop-entry.entry-index c.entry-item.result c.loop-entry-test.true (sym c.entry-item.is) (sym c.is_chosen.ensures ∙ w.if-is_chosen.false) in
-                subst (λ (l : List Entry). Appends (g.O.Sink.taken c.args.sink.now) (g.O.Sink.taken c.loop-entry.sink) (joined (map (unpacked_line c.args.unpacked.now.prefix.now) l))) (sym same) c.loop-entry.invariant.said;
+                subst (λ (l : List Entry). Appends (g.O.Sink.taken c.args.sink.now) (g.O.Sink.taken c.loop-entry.sink) (joined_texts (map (unpacked_line c.args.unpacked.now.prefix.now) l))) (sym same) c.loop-entry.invariant.said;
             so-far = λ told bytes is stored.
                 step-passed c.args.unpacked.now.prefix.now c.args.unpacked.now.from.now bytes (λ e. (length c.args.unpacked.now.names.now == 0) || is_named c.args.unpacked.now.names.now e) c.args.entries.now c.loop-entry.entry-index told _
                 c.entry-item.result c.loop-entry-test.true (sym c.entry-item.is) _ _
@@ -140,7 +140,7 @@ returns-clause-texts g c =
     let start = (g.H.Files.writes c.args.files.now).done in
     let so-far = c.loop-entry.invariant in
     let all = take_all c.loop-entry.entry-index c.args.entries.now (omega (arith, c.loop-entry-test.false)) in
-    let said = subst (λ (l : List Entry). Appends (g.O.Sink.taken c.args.sink.now) (g.O.Sink.taken c.loop-entry.sink) (joined (map line (filter p l)))) all so-far.said in record {
+    let said = subst (λ (l : List Entry). Appends (g.O.Sink.taken c.args.sink.now) (g.O.Sink.taken c.loop-entry.sink) (joined_texts (map line (filter p l)))) all so-far.said in record {
       says = (map line (filter p c.args.entries.now), refl, said);
       wrote = record {
         texts = map line (filter p c.args.entries.now);

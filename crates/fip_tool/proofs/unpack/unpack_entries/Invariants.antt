@@ -4,7 +4,7 @@ use Rattle.std.specs.Io.KnownBytes.{Appends}
 use Rattle.host_io.specs.Access.{Access, Asks, Makes}
 use Rattle.host_io.specs.Contents.{Directory}
 use Rattle.fip_tool.specs.Lines.{unpacked_line, unpacked_name}
-use Rattle.fip_tool.specs.Said.{joined}
+use Rattle.fip_tool.specs.Said.{joined_texts}
 use Rattle.fip_tool.specs.Torn.{NoneUnwritten}
 use Rattle.fip_making.specs.Values.{is_named}
 use Rattle.fip_tool.specs.Wrote.{raised_by}
@@ -21,7 +21,7 @@ invariant-loop-entry g l = record {
   wrote : (g.H.Files.writes l.files).done ≡ raised_by (length (filter (λ e. (length l.unpacked.names.now == 0) || is_named l.unpacked.names.now e) (take l.entry-index l.entries))) (g.H.Files.writes l.fn.files).done;
   later_sink : g.O.Sink.faults l.fn.sink ≤ g.O.Sink.faults l.sink;
   sink_count : g.O.Sink.faults l.sink ≡ g.O.Sink.faults l.fn.sink;
-  said : Appends (g.O.Sink.taken l.fn.sink) (g.O.Sink.taken l.sink) (joined (map (unpacked_line l.unpacked.prefix.now) (filter (λ e. (length l.unpacked.names.now == 0) || is_named l.unpacked.names.now e) (take l.entry-index l.entries))));
+  said : Appends (g.O.Sink.taken l.fn.sink) (g.O.Sink.taken l.sink) (joined_texts (map (unpacked_line l.unpacked.prefix.now) (filter (λ e. (length l.unpacked.names.now == 0) || is_named l.unpacked.names.now e) (take l.entry-index l.entries))));
   so-far : (told : Directory) (bytes : List ℕ) → g.H.Files.contents l.fn.files ≡ Some told → told l.unpacked.from.now ≡ Some bytes
       → IsUnpacking l.unpacked.prefix.now l.unpacked.from.now bytes (filter (λ e. (length l.unpacked.names.now == 0) || is_named l.unpacked.names.now e) (take l.entry-index l.entries)) told (g.H.Files.contents l.files) (g.O.Sink.taken l.fn.sink) (g.O.Sink.taken l.sink);
 }

@@ -15,7 +15,7 @@ returns-clause-formats g c = λ script source sources.
 
 pub returns-clause-power : goal.returns-clause-power
 returns-clause-power g c zero =
-    c.try_format-ended.ensures.power ∙ format-done c.try_format-ended.result (sym c.status_of.ensures ∙ done-planned _ _ _ _ _ _ _ c.put_line-status.ensures zero)
+    c.try_format-ended.ensures.tries.power ∙ format-done c.try_format-ended.result (sym c.status_of.ensures ∙ done-planned _ _ _ _ _ _ _ c.put_line-status.ensures zero)
 
 -- no memory for the line
 

@@ -45,7 +45,7 @@ returns-clause-tries g c =
       counts = none-falls _ (counts old) (counts mid) (counts new) c.power_on.ensures.counts e.goes.costs;
       once = stops-then _ (counts old) (counts mid) (counts new) c.power_on.ensures.counts e.goes.costs;
       made = e.goes.costs.made ∙ c.power_on.ensures.made;
-      unarmed = (e.goes.unarmed (c.power_on.ensures.arming ∙ c.requires.unarmed)).0;
+      unarmed = (e.goes.unarmed.free (c.power_on.ensures.arming ∙ c.requires.unarmed)).0;
       power = e.goes.power;
-      stopped = λ stop is. stop-cause _ stop (counts old) (counts mid) (counts new) is c.power_on.ensures.counts e.goes.costs (e.goes.unarmed (c.power_on.ensures.arming ∙ c.requires.unarmed)).1;
+      stopped = λ stop is. stop-cause _ stop (counts old) (counts mid) (counts new) is c.power_on.ensures.counts e.goes.costs (e.goes.unarmed.free (c.power_on.ensures.arming ∙ c.requires.unarmed)).1;
     })

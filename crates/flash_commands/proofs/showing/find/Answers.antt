@@ -5,33 +5,17 @@ use Rattle.fwu_model.specs.declared.kinds.NoBoot.TheVariants as no_boot
 use Rattle.early_boot.specs.Numbers.{numbers as read, ShowsNumbers}
 use Rattle.script_runs.specs.Noted.{noted}
 use Rattle.flash_commands.specs.Showing as show
-use Rattle.flash_commands.specs.Showing.{Finds, ShowsNone, shown_line, not_shown_line}
+use Rattle.flash_commands.specs.Showing.{ShowFinds, ShowsNone, shown_line, not_shown_line}
 use Rattle.script_runs.specs.ByTable.{flash_fault_line}
-use Rattle.flash_commands.proofs.ShowFlash.{wakes-on, kept-none, power-on-guards, power-on-keeps, has-cause, not-found}
+use Rattle.flash_commands.proofs.ShowFlash.{wakes-on, kept-none, has-cause, not-found}
 use Rattle.flash_commands.proofs.showing.find.Goals as goal
-
-pub returns-in-Ok-clause-content : goal.returns-in-Ok-clause-content
-returns-in-Ok-clause-content g c tells clean =
-    c.in-Ok.ensures.reads.content tells ∙ power-on-keeps (g.D.Flash.told c.args.flash.now) (g.D.Flash.told c.power_on.new.self) clean (c.power_on.ensures.fresh tells) (c.power_on.ensures.leaves tells)
-
-pub returns-in-Err-Layout-clause-content : goal.returns-in-Err-Layout-clause-content
-returns-in-Err-Layout-clause-content g c tells clean =
-    c.in-Err-Layout.ensures.reads.content tells ∙ power-on-keeps (g.D.Flash.told c.args.flash.now) (g.D.Flash.told c.power_on.new.self) clean (c.power_on.ensures.fresh tells) (c.power_on.ensures.leaves tells)
-
-pub returns-in-Err-Metadata-clause-content : goal.returns-in-Err-Metadata-clause-content
-returns-in-Err-Metadata-clause-content g c tells clean =
-    c.in-Err-Metadata.ensures.reads.content tells ∙ power-on-keeps (g.D.Flash.told c.args.flash.now) (g.D.Flash.told c.power_on.new.self) clean (c.power_on.ensures.fresh tells) (c.power_on.ensures.leaves tells)
-
-pub returns-in-Err-Flash-clause-content : goal.returns-in-Err-Flash-clause-content
-returns-in-Err-Flash-clause-content g c tells clean =
-    c.in-Err-Flash.ensures.reads.content tells ∙ power-on-keeps (g.D.Flash.told c.args.flash.now) (g.D.Flash.told c.power_on.new.self) clean (c.power_on.ensures.fresh tells) (c.power_on.ensures.leaves tells)
 
 pub returns-in-Ok-clause-finds : goal.returns-in-Ok-clause-finds
 returns-in-Ok-clause-finds g c =
     let known = IsTrue g.D.Flash.tells in
     let image = (g.D.Flash.told c.read_numbers.new.flash).now in
     let n = read c.in-Ok.shown in
-    subst (λ (l : List ℕ). Finds known image (g.D.Flash.counts c.args.flash.now) (g.D.Flash.counts c.read_numbers.new.flash) 0 note.Nothing l)
+    subst (λ (l : List ℕ). ShowFinds known image (g.D.Flash.counts c.args.flash.now) (g.D.Flash.counts c.read_numbers.new.flash) 0 note.Nothing l)
     (sym (c.add_shown.ensures ∙ ap (λ (l : List ℕ). l ++ shown_line n) c.requires.empty))
     (show.numbers n c.in-Ok.ensures.are
     (λ k. subst (λ (t : Told). ShowsNumbers t.now n) (sym (c.in-Ok.ensures.reads.content k)) (c.in-Ok.ensures.numbers k)))
@@ -66,35 +50,19 @@ returns-in-Err-Flash-clause-finds g c =
     let before = g.D.Flash.counts c.args.flash.now in
     let mid = g.D.Flash.counts c.power_on.new.self in
     let after = g.D.Flash.counts c.read_numbers.new.flash in
-    subst (λ (l : List ℕ). Finds known image before after 5 note.Nothing l)
+    subst (λ (l : List ℕ). ShowFinds known image before after 5 note.Nothing l)
     (sym (c.add.ensures.items ∙ ap (λ (l : List ℕ). l ++ flash_fault_line) c.requires.empty))
     (show.stopped
     (has-cause c.in-Err-Flash.field-0-0 before mid after c.power_on.ensures.counts (rw c.in-Err-Flash.field-0-is at c.in-Err-Flash.ensures.reads.costs) (rw c.in-Err-Flash.field-0-is at c.in-Err-Flash.ensures.reads.reached)))
 
-pub returns-in-Ok-clause-guard : goal.returns-in-Ok-clause-guard
-returns-in-Ok-clause-guard g c tells =
-    ap (λ (t : Told). t.guard) (c.in-Ok.ensures.reads.content tells) ∙ power-on-guards (g.D.Flash.told c.args.flash.now) (g.D.Flash.told c.power_on.new.self) (c.power_on.ensures.fresh tells)
-
 pub returns-in-Ok-clause-unarmed : goal.returns-in-Ok-clause-unarmed
 returns-in-Ok-clause-unarmed g c = c.in-Ok.ensures.reads.arming ∙ c.power_on.ensures.arming ∙ c.requires.unarmed
-
-pub returns-in-Err-Layout-clause-guard : goal.returns-in-Err-Layout-clause-guard
-returns-in-Err-Layout-clause-guard g c tells =
-    ap (λ (t : Told). t.guard) (c.in-Err-Layout.ensures.reads.content tells) ∙ power-on-guards (g.D.Flash.told c.args.flash.now) (g.D.Flash.told c.power_on.new.self) (c.power_on.ensures.fresh tells)
 
 pub returns-in-Err-Layout-clause-unarmed : goal.returns-in-Err-Layout-clause-unarmed
 returns-in-Err-Layout-clause-unarmed g c = (rw c.in-Err-Layout.field-0-is at c.in-Err-Layout.ensures.reads.arming) ∙ c.power_on.ensures.arming ∙ c.requires.unarmed
 
-pub returns-in-Err-Metadata-clause-guard : goal.returns-in-Err-Metadata-clause-guard
-returns-in-Err-Metadata-clause-guard g c tells =
-    ap (λ (t : Told). t.guard) (c.in-Err-Metadata.ensures.reads.content tells) ∙ power-on-guards (g.D.Flash.told c.args.flash.now) (g.D.Flash.told c.power_on.new.self) (c.power_on.ensures.fresh tells)
-
 pub returns-in-Err-Metadata-clause-unarmed : goal.returns-in-Err-Metadata-clause-unarmed
 returns-in-Err-Metadata-clause-unarmed g c = (rw c.in-Err-Metadata.field-0-is at c.in-Err-Metadata.ensures.reads.arming) ∙ c.power_on.ensures.arming ∙ c.requires.unarmed
-
-pub returns-in-Err-Flash-clause-guard : goal.returns-in-Err-Flash-clause-guard
-returns-in-Err-Flash-clause-guard g c tells =
-    ap (λ (t : Told). t.guard) (c.in-Err-Flash.ensures.reads.content tells) ∙ power-on-guards (g.D.Flash.told c.args.flash.now) (g.D.Flash.told c.power_on.new.self) (c.power_on.ensures.fresh tells)
 
 pub returns-in-Err-Flash-clause-unarmed : goal.returns-in-Err-Flash-clause-unarmed
 returns-in-Err-Flash-clause-unarmed g c = kept-none {T = Unit {0}} (Err c.in-Err-Flash.field-0-0) (g.D.Flash.arming c.power_on.new.self) _ (c.power_on.ensures.arming ∙ c.requires.unarmed) (rw c.in-Err-Flash.field-0-is at c.in-Err-Flash.ensures.reads.arming)

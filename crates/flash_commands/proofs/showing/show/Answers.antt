@@ -1,6 +1,7 @@
 use Rattle.std.proofs.Common.{ℕ, ◌==◌, not, ap, ◌∙◌}
 use Rattle.flash_commands.specs.Showing as show
 use Rattle.script_runs.proofs.TopPrints.{done-planned}
+use Rattle.flash_commands.proofs.ShowFlash.{wakes-clean, wakes-guard}
 use Rattle.flash_commands.proofs.showing.show.Goals as goal
 
 pub returns-clause-showed : goal.returns-clause-showed
@@ -9,3 +10,9 @@ returns-clause-showed g c given was are good =
 
 pub returns-clause-power : goal.returns-clause-power
 returns-clause-power g c zero = c.find-found.ensures.power ∙ ap (λ (n : ℕ). not (n == 5)) (done-planned _ _ _ _ _ _ _ c.put_line-status.ensures zero)
+
+pub returns-clause-content : goal.returns-clause-content
+returns-clause-content g c tells clean = wakes-clean _ _ clean (c.find-found.ensures.woken tells)
+
+pub returns-clause-guard : goal.returns-clause-guard
+returns-clause-guard g c tells = wakes-guard (c.find-found.ensures.woken tells)

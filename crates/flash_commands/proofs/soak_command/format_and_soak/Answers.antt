@@ -5,11 +5,11 @@ use Rattle.fwu_journal.specs.Shown.{turns}
 use Rattle.fwu_journal.specs.declared.journal.Journal.{Journal}
 use Rattle.fwu_model.specs.Call.{Call}
 use Rattle.gen_core.specs.Calls.{soak_calls}
-use Rattle.script_turns.specs.Powered.{Moment, at, device, moment_of, shown_on}
+use Rattle.script_turns.specs.Powered.{TurnMoment, at, device, moment_of, shown_on}
 use Rattle.flash_commands.specs.Formatting.{format_note, format_status, format_text}
-use Rattle.script_runs.specs.Noted.{is_beyond, noted}
+use Rattle.script_runs.specs.Noted.{is_beyond_model, noted}
 use Rattle.script_turns.specs.Runs.{Ran}
-use Rattle.flash_commands.specs.Soaking.{Stands, file_of, soak_files}
+use Rattle.flash_commands.specs.Soaking.{SoakReached, only_file_of, soak_files}
 use Rattle.flash_commands.specs.SoakWays.{not_formatted, ran, starved}
 use Rattle.flash_commands.proofs.FormatFlash.{as-planned}
 use Rattle.script_runs.proofs.TopPrints.{later}
@@ -28,31 +28,31 @@ returns-in-Ok-ended-clause-way g c seed given was are good large register_is fil
     let end = c.do_soak-end.result in
     let p = run.powered in
     let n = c.args.rounds in
-    let stands : Stands g.D.Flash.tells (soak_files seed n) (soak_calls seed n) (turns run.journal) start (moment_of p) end.status (noted end.note) run.text.items =
-    subst (λ (m : Moment). Stands g.D.Flash.tells (soak_files seed n) (soak_calls seed n) (turns run.journal) m (moment_of p) end.status (noted end.note) run.text.items)
+    let stands : SoakReached g.D.Flash.tells (soak_files seed n) (soak_calls seed n) (turns run.journal) start (moment_of p) end.status (noted end.note) run.text.items =
+    subst (λ (m : TurnMoment). SoakReached g.D.Flash.tells (soak_files seed n) (soak_calls seed n) (turns run.journal) m (moment_of p) end.status (noted end.note) run.text.items)
     (moment-fresh c.new-run.result.powered d (ap shown_on begins ∙ c.fresh-start.ensures.on) (ap device begins ∙ c.fresh-start.ensures.device))
-    (subst (λ (cs : List Call). Stands g.D.Flash.tells (soak_files seed n) cs (turns run.journal) (moment_of c.new-run.result.powered) (moment_of p) end.status (noted end.note) run.text.items)
+    (subst (λ (cs : List Call). SoakReached g.D.Flash.tells (soak_files seed n) cs (turns run.journal) (moment_of c.new-run.result.powered) (moment_of p) end.status (noted end.note) run.text.items)
     (soak-calls-are seed c.args.drawn.register n register_is)
     (c.do_soak-end.ensures.stands (soak_files seed n) (soak-named seed c.args.drawn.register n c.ranges.rounds.fits register_is))) in
     ran good large c.in-Ok-ended.field-0 start (shown_on p)
-    (tries-as g.D.Flash.tells seed (file_of (string_bytes c.args.drawn.first.name) c.args.drawn.first.bytes.items) c.as_str.result.now c.soak_rows.result _ _ start _ file_is (c.as_str.ensures.value ∙ c.in-Ok.ensures) c.soak_rows.ensures.rows
+    (tries-as g.D.Flash.tells seed (only_file_of (string_bytes c.args.drawn.first.name) c.args.drawn.first.bytes.items) c.as_str.result.now c.soak_rows.result _ _ start _ file_is (c.as_str.ensures.value ∙ c.in-Ok.ensures) c.soak_rows.ensures.rows
     c.in-Ok-ended.ensures.tries)
-    refl c.in-Ok-ended.ensures.power
+    refl c.in-Ok-ended.ensures.tries.power
     (subst (λ (x : g.row.D.Denot). Ran passes_any g.D.Flash.tells (Some (soak_files seed n)) (turns c.finish.result.journal) start (at (shown_on p) (told x) (counts x) (g.D.Flash.arming x) (g.D.Flash.on x)) 0 0) (sym c.finish.ensures.flash)
     (subst (λ (j : Journal). Ran passes_any g.D.Flash.tells (Some (soak_files seed n)) (turns j) start (moment_of p) 0 0) (sym c.finish.ensures.journal)
     (stands-ran g.D.Flash.tells (soak_files seed n) (soak_calls seed n) (turns run.journal) start (moment_of p) end.status (noted end.note) run.text.items stands)))
     (c.finish.ensures.ended (soak_files seed n) (soak_calls seed n) start stands)
-    (ap is_beyond c.finish.ensures.note ∙ c.do_soak-end.ensures.note)
+    (ap is_beyond_model c.finish.ensures.note ∙ c.do_soak-end.ensures.note)
 
 pub returns-clause-way : goal.returns-clause-way
 returns-clause-way g c seed given was are good large register_is file_is =
     let r = c.try_format-ended.result in
-    not_formatted good large c.requires.no_turns c.in-Err.field-0
-    (tries-as g.D.Flash.tells seed (file_of (string_bytes c.args.drawn.first.name) c.args.drawn.first.bytes.items) c.as_str.result.now c.soak_rows.result _ _ _ _ file_is (c.as_str.ensures.value ∙ c.in-Ok.ensures) c.soak_rows.ensures.rows
+    not_formatted good large c.args.room.no_turns c.in-Err.field-0
+    (tries-as g.D.Flash.tells seed (only_file_of (string_bytes c.args.drawn.first.name) c.args.drawn.first.bytes.items) c.as_str.result.now c.soak_rows.result _ _ _ _ file_is (c.as_str.ensures.value ∙ c.in-Ok.ensures) c.soak_rows.ensures.rows
     c.in-Err.ensures.tries)
     (c.note_of.ensures ∙ ap format_note c.in-Err.is)
     (as-planned _ c.as_slice.result.now _ c.status_of.result _ _ _ _ _
-    (c.as_slice.ensures.value ∙ c.add_format_line.ensures ∙ ap (λ (l : List ℕ). l ++ format_text r) c.requires.no_text ∙ ap format_text c.in-Err.is) (c.status_of.ensures ∙ ap format_status c.in-Err.is) c.put_line-status.ensures)
+    (c.as_slice.ensures.value ∙ c.add_format_line.ensures ∙ ap (λ (l : List ℕ). l ++ format_text r) c.args.room.no_text ∙ ap format_text c.in-Err.is) (c.status_of.ensures ∙ ap format_status c.in-Err.is) c.put_line-status.ensures)
 
 -- no memory
 

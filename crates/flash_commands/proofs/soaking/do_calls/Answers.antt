@@ -8,8 +8,8 @@ use Rattle.host_io.specs.Contents.{Directory}
 use Rattle.script_turns.specs.Powered.{moment_of}
 use Rattle.script_text.specs.Shown.{shown}
 use Rattle.script_runs.specs.Noted.{noted}
-use Rattle.script_runs.specs.Running.{Does}
-use Rattle.flash_commands.specs.Soaking.{file_of}
+use Rattle.script_runs.specs.Running.{DoesTurn}
+use Rattle.flash_commands.specs.Soaking.{only_file_of}
 use Rattle.flash_commands.proofs.SoakTurns.{calls-done, calls-end, calls-on, calls-starved}
 use Rattle.flash_commands.proofs.soaking.do_calls.Goals as goal
 
@@ -19,9 +19,9 @@ returns-in_default-clause-stands g c all done old was agree off =
 
 pub returns-then-end-ne0-clause-stands : goal.returns-then-end-ne0-clause-stands
 returns-then-end-ne0-clause-stands g c all done old was agree off =
-    calls-end _ (file_of (string_bytes c.args.files.now.name) c.args.files.now.bytes.items) all done c.args.calls.now c.loop-index.index c.index-calls-index.result _ (shown c.in-Ok.call) _ _ _ _ _ _ _ _ c.loop-index-test.true
+    calls-end _ (only_file_of (string_bytes c.args.files.now.name) c.args.files.now.bytes.items) all done c.args.calls.now c.loop-index.index c.index-calls-index.result _ (shown c.in-Ok.call) _ _ _ _ _ _ _ _ c.loop-index-test.true
     c.index-calls-index.is c.in-Ok.ensures.shown (c.loop-index.invariant.going all done old was agree off)
-    (subst (λ (d : Option Directory). Does passes_any g.D.Flash.tells d (shown c.in-Ok.call) (turns c.loop-index.run.journal) (turns c.do_call-end.new.run.journal) (moment_of c.loop-index.run.powered) (moment_of c.do_call-end.new.run.powered) 0 0 c.do_call-end.result.status (noted c.do_call-end.result.note) c.do_call-end.new.run.text.items) c.loop-index.invariant.same c.do_call-end.ensures.does)
+    (subst (λ (d : Option Directory). DoesTurn passes_any g.D.Flash.tells d (shown c.in-Ok.call) (turns c.loop-index.run.journal) (turns c.do_call-end.new.run.journal) (moment_of c.loop-index.run.powered) (moment_of c.do_call-end.new.run.powered) 0 0 c.do_call-end.result.status (noted c.do_call-end.result.note) c.do_call-end.new.run.text.items) c.loop-index.invariant.same c.do_call-end.ensures.does)
     agree off c.if-end-ne0.true
 
 pub loop-index-preserved : goal.loop-index-preserved
@@ -29,9 +29,9 @@ loop-index-preserved g c =
     let was = c.loop-index.invariant in
     record {
       going = λ all done old start agree off.
-          calls-on _ (file_of (string_bytes c.args.files.now.name) c.args.files.now.bytes.items) all done c.args.calls.now c.loop-index.index c.index-calls-index.result _ (shown c.in-Ok.call) _ _ _ _ _ _ _ _ c.loop-index-test.true
+          calls-on _ (only_file_of (string_bytes c.args.files.now.name) c.args.files.now.bytes.items) all done c.args.calls.now c.loop-index.index c.index-calls-index.result _ (shown c.in-Ok.call) _ _ _ _ _ _ _ _ c.loop-index-test.true
           c.index-calls-index.is c.in-Ok.ensures.shown (was.going all done old start agree off)
-          (subst (λ (d : Option Directory). Does passes_any g.D.Flash.tells d (shown c.in-Ok.call) (turns c.loop-index.run.journal) (turns c.do_call-end.new.run.journal) (moment_of c.loop-index.run.powered) (moment_of c.do_call-end.new.run.powered) 0 0 c.do_call-end.result.status (noted c.do_call-end.result.note) c.do_call-end.new.run.text.items) was.same c.do_call-end.ensures.does)
+          (subst (λ (d : Option Directory). DoesTurn passes_any g.D.Flash.tells d (shown c.in-Ok.call) (turns c.loop-index.run.journal) (turns c.do_call-end.new.run.journal) (moment_of c.loop-index.run.powered) (moment_of c.do_call-end.new.run.powered) 0 0 c.do_call-end.result.status (noted c.do_call-end.result.note) c.do_call-end.new.run.text.items) was.same c.do_call-end.ensures.does)
           agree off c.if-end-ne0.false;
       powered = c.do_call-end.ensures.powered c.if-end-ne0.false;
       turns_fit = c.do_call-end.ensures.turns_fit (length c.args.calls.now - (c.loop-index.index + 1)) (omega (arith, was.turns_fit, c.loop-index-test.true));

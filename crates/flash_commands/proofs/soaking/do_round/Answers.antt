@@ -7,7 +7,7 @@ use Rattle.gen_core.specs.Calls.{round_calls, shown as soak_shown}
 use Rattle.gen_core.specs.Setup.{soak_layout}
 use Rattle.script_turns.specs.Powered.{moment_of}
 use Rattle.script_runs.specs.Noted.{noted}
-use Rattle.flash_commands.specs.Soaking.{GoesSoaking, Stands}
+use Rattle.flash_commands.specs.Soaking.{GoesSoaking, SoakReached}
 use Rattle.flash_commands.proofs.SoakRounds.{calls-armable, round-agrees, starved-before}
 use Rattle.flash_commands.proofs.soaking.do_round.Goals as goal
 
@@ -30,6 +30,6 @@ pub returns-clause-stands : goal.returns-clause-stands
 returns-clause-stands g c all done old was there off =
     let shown_are : map soak_shown c.as_slice.result.now ≡ round_calls soak_layout.rows c.args.round.now =
     ap (map soak_shown) c.as_slice.ensures.value ∙ c.in-Ok-round_calls.ensures ∙ ap (λ rows. round_calls rows c.args.round.now) c.soak_rows.ensures.rows in
-    subst (λ (cs : List Call). Stands g.D.Flash.tells all (done ++ cs) (turns c.do_calls.new.run.journal) old (moment_of c.do_calls.new.run.powered) c.do_calls.result.status (noted c.do_calls.result.note) c.do_calls.new.run.text.items) shown_are
+    subst (λ (cs : List Call). SoakReached g.D.Flash.tells all (done ++ cs) (turns c.do_calls.new.run.journal) old (moment_of c.do_calls.new.run.powered) c.do_calls.result.status (noted c.do_calls.result.note) c.do_calls.new.run.text.items) shown_are
     (c.do_calls.ensures.stands all done old (subst (λ (ts : List Turn). GoesSoaking g.D.Flash.tells all done ts old (moment_of c.args.run.now.powered)) (sym c.make_room.ensures.stays) was)
     (round-agrees soak_layout.rows c.args.round.now (string_bytes c.in-Ok.file.name) c.in-Ok.file.bytes.items all (map soak_shown c.as_slice.result.now) shown_are c.in-Ok.ensures.name c.in-Ok.ensures.bytes there) off)

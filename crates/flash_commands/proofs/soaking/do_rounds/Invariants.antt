@@ -7,14 +7,14 @@ use Rattle.gen_core.specs.Rounds.{rounds_from}
 use Rattle.gen_core.specs.Setup.{soak_layout}
 use Rattle.gen_core.specs.declared.rounds.Round.{Round}
 use Rattle.host_io.specs.Contents.{Directory}
-use Rattle.script_turns.specs.Powered.{Moment, device, has_power, moment_of}
+use Rattle.script_turns.specs.Powered.{TurnMoment, device, has_power, moment_of}
 use Rattle.flash_commands.specs.Soaking.{GoesSoaking}
 use Rattle.flash_commands.proofs.soaking.do_rounds.Given as goal
 
 -- the first rounds were done, and the register gives the others
 abbrev pub invariant-loop-index : goal.invariant-loop-index
 invariant-loop-index g l = record {
-  going : (all : Directory) (done : List Call) (old : Moment) → GoesSoaking g.D.Flash.tells all done (turns l.fn.run.journal) old (moment_of l.fn.run.powered)
+  going : (all : Directory) (done : List Call) (old : TurnMoment) → GoesSoaking g.D.Flash.tells all done (turns l.fn.run.journal) old (moment_of l.fn.run.powered)
       → ((k : ℕ) (d : Round) → k < l.fn.rounds → all (file_name (k + 1)) ≡ Some (round_package (slice_index_or (rounds_from l.fn.register 1 l.fn.rounds) k d)))
       → old.on ≡ None
       → GoesSoaking g.D.Flash.tells all (done ++ flat_map (round_calls soak_layout.rows) (take l.index (rounds_from l.fn.register 1 l.fn.rounds))) (turns l.run.journal) old (moment_of l.run.powered);

@@ -7,7 +7,7 @@ use Rattle.gen_core.specs.Calls.{round_calls}
 use Rattle.gen_core.specs.Rounds.{rounds_from}
 use Rattle.gen_core.specs.Setup.{soak_layout}
 use Rattle.script_turns.specs.Powered.{moment_of}
-use Rattle.flash_commands.specs.Soaking.{GoesSoaking, file_of}
+use Rattle.flash_commands.specs.Soaking.{GoesSoaking, only_file_of}
 use Rattle.flash_commands.proofs.SoakTurns.{goes-none, steps-end, steps-on}
 use Rattle.flash_commands.proofs.soaking.do_soak.Goals as goal
 
@@ -15,7 +15,7 @@ pub returns-then-end-ne0-clause-stands : goal.returns-then-end-ne0-clause-stands
 returns-then-end-ne0-clause-stands g c all named =
     let old = moment_of c.args.run.now.powered in
     let more = flat_map (round_calls soak_layout.rows) (rounds_from c.args.register.now 1 c.args.rounds) in
-    steps-end g.D.Flash.tells (file_of (string_bytes c.args.first.now.name) c.args.first.now.bytes.items) all [] call.Boot (turns c.args.run.now.journal) _ old old _ _ _ _ (call.Boot ∷ more)
+    steps-end g.D.Flash.tells (only_file_of (string_bytes c.args.first.now.name) c.args.first.now.bytes.items) all [] call.Boot (turns c.args.run.now.journal) _ old old _ _ _ _ (call.Boot ∷ more)
     (subst (λ (ts : List Turn). GoesSoaking g.D.Flash.tells all [] ts old old) (sym c.requires.no_turns) (goes-none g.D.Flash.tells all old c.requires.not_booted))
     c.do_call-end.ensures.does tt c.requires.not_booted c.if-end-ne0.true (more, refl)
 
@@ -23,7 +23,7 @@ pub returns-clause-stands : goal.returns-clause-stands
 returns-clause-stands g c all named =
     let old = moment_of c.args.run.now.powered in
     c.do_rounds.ensures.stands all (call.Boot ∷ []) old
-    (steps-on g.D.Flash.tells (file_of (string_bytes c.args.first.now.name) c.args.first.now.bytes.items) all [] call.Boot (turns c.args.run.now.journal) _ old old _ _ _ _
+    (steps-on g.D.Flash.tells (only_file_of (string_bytes c.args.first.now.name) c.args.first.now.bytes.items) all [] call.Boot (turns c.args.run.now.journal) _ old old _ _ _ _
     (subst (λ (ts : List Turn). GoesSoaking g.D.Flash.tells all [] ts old old) (sym c.requires.no_turns) (goes-none g.D.Flash.tells all old c.requires.not_booted))
     c.do_call-end.ensures.does tt c.requires.not_booted c.if-end-ne0.false)
     named c.requires.not_booted

@@ -7,7 +7,7 @@ use Rattle.fwu_journal.specs.Shown.{turn, turns}
 use Rattle.fwu_journal.specs.declared.journal.Turn.{Turn}
 use Rattle.gen_core.specs.Line.{totals_of}
 use Rattle.gen_core.specs.declared.line.Totals.{Totals}
-use Rattle.flash_commands.specs.Soaking.{AreWithin, counted}
+use Rattle.flash_commands.specs.Soaking.{AreWithin, counted_turn}
 use Rattle.flash_commands.proofs.SoakTotals.{totals-count, totals-more, totals-none, totals-within}
 use Rattle.flash_commands.proofs.SoakTurns.{take-next}
 use Rattle.fwu_model.specs.Reply.{Turn as Shown}
@@ -29,9 +29,9 @@ turn-at : (items : List Turn) (i : ℕ) (x d : Turn) (ts : List Shown) → map t
 turn-at items i x d ts items_are below is =
     ap (λ (l : List Shown). slice_get l i) (sym items_are) ∙ slice_get-map turn items i ∙ ap (option_map turn) (slice_get-get_or items i d below ∙ ap Some (sym is))
 
-next-totals : (ts : List Shown) (i : ℕ) (x y : Turn) (was now : Totals) → slice_get ts i ≡ Some (turn x) → x ≡ y → was ≡ totals_of (take i ts) → now ≡ counted was (turn y).reply → now ≡ totals_of (take (i + 1) ts)
+next-totals : (ts : List Shown) (i : ℕ) (x y : Turn) (was now : Totals) → slice_get ts i ≡ Some (turn x) → x ≡ y → was ≡ totals_of (take i ts) → now ≡ counted_turn was (turn y).reply → now ≡ totals_of (take (i + 1) ts)
 next-totals ts i x y was now at same so_far is =
-    is ∙ ap (λ (z : Turn). counted was (turn z).reply) (sym same) ∙ ap (λ (z : Totals). counted z (turn x).reply) so_far ∙ sym (totals-more (take i ts) (turn x)) ∙ ap totals_of (take-next Shown ts i (turn x) at)
+    is ∙ ap (λ (z : Turn). counted_turn was (turn z).reply) (sym same) ∙ ap (λ (z : Totals). counted_turn z (turn x).reply) so_far ∙ sym (totals-more (take i ts) (turn x)) ∙ ap totals_of (take-next Shown ts i (turn x) at)
 
 pub loop-index-preserved : goal.loop-index-preserved
 loop-index-preserved c = record {

@@ -14,8 +14,8 @@ use Rattle.fwu_formats.specs.Package.{Entry, payload}
 use Rattle.fwu_formats.proofs.SealLaws.{limits}
 use Rattle.image_check.proofs.OfBank.{bank_fits}
 use Rattle.fip_tables.specs.Images.{no_row, no_entry}
-use Rattle.flash_format.specs.Places.{Stands}
-use Rattle.flash_format.specs.Takes.{pieces_in, pieces_of}
+use Rattle.flash_format.specs.Places.{HoldsThenErased}
+use Rattle.flash_format.specs.Takes.{pieces_in, block_pieces_of}
 use Rattle.flash_format.proofs.Clearing.{left_then, left_fewer}
 use Rattle.flash_format.proofs.Ranges.{erased_stays}
 use Rattle.flash_format.proofs.Slots.{slots_more, slots_more_le, all_stand_more}
@@ -26,16 +26,16 @@ use Rattle.flash_format.proofs.bank.write_bank.Goals as goal
 pub start-first-requires-clause-below : goal.start-first-requires-clause-below
 start-first-requires-clause-below g c = let few = (limits c.args.layout.now c.rows-rows.ensures.fit).fewest_banks in omega (arith, few)
 
-pub write_image-requires-clause-inside : goal.write_image-requires-clause-inside
-write_image-requires-clause-inside g c =
+pub write_image-requires-clause-ready : goal.write_image-requires-clause-ready
+write_image-requires-clause-ready g c =
     let L = c.args.layout.now in
     let k = c.loop-k.k in
     let few = (limits L c.rows-rows.ensures.fit).fewest_banks in
     let below : k < length L.rows = omega (arith, c.loop-k-test.true, ap length c.rows-rows.ensures.value) in
     let row = ap (λ (l : List ImageRow). (get_or l k c.index-rows-k.result).slots) c.rows-rows.ensures.value ∙ ap (λ (r : ImageRow). r.slots) (get_or_default L.rows k c.index-rows-k.result no_row below) in
     let more = slots_more_le L.rows k below in
-    let bank = bank_fits 0 L.banks (slot_total L.rows) (g.D.Flash.blocks c.args.flash.now) (omega (arith, few)) c.requires.inside in
-    omega (arith, row, more, bank, c.start-first.ensures, c.loop-k.invariant.same_size)
+    let bank = bank_fits 0 L.banks (slot_total L.rows) (g.D.Flash.blocks c.args.flash.now) (omega (arith, few)) c.requires.ready.room in
+    record { on = c.loop-k.invariant.on; room = omega (arith, row, more, bank, c.start-first.ensures, c.loop-k.invariant.same_size) }
 
 pub write_image-requires-clause-erased : goal.write_image-requires-clause-erased
 write_image-requires-clause-erased g c = λ tells i above under.
@@ -101,17 +101,17 @@ loop-k-preserved g c =
           let one : k < length c.args.entries.now = omega (arith, below, c.requires.planned.count) in
           let entry = c.index-entries-k.is ∙ get_or_default c.args.entries.now k c.index-entries-k.result no_entry one in
           let kept = subst (λ (n : ℕ). Keeps (4096 * start L 0 k) (4096 * (start L 0 k + n)) m t) row (subst (λ (n : ℕ). Keeps (4096 * n) (4096 * (n + slots)) m t) at (done.writes.keeps tells)) in
-          let placed = subst (λ (n : ℕ). Stands (4096 * n) (4096 * slots) (payload file c.index-entries-k.result) t.now) at (done.bytes tells file here) in
-          let sized = subst (λ (n : ℕ). Stands (4096 * start L 0 k) (4096 * n) (payload file c.index-entries-k.result) t.now) row placed in
-          let stands = subst (λ (e : Entry). Stands (4096 * start L 0 k) (slot_bytes L k) (payload file e) t.now) entry sized in
+          let placed = subst (λ (n : ℕ). HoldsThenErased (4096 * n) (4096 * slots) (payload file c.index-entries-k.result) t.now) at (done.bytes tells file here) in
+          let sized = subst (λ (n : ℕ). HoldsThenErased (4096 * start L 0 k) (4096 * n) (payload file c.index-entries-k.result) t.now) row placed in
+          let stands = subst (λ (e : Entry). HoldsThenErased (4096 * start L 0 k) (slot_bytes L k) (payload file e) t.now) entry sized in
           all_stand_more L k file c.args.entries.now m t below kept (before.front tells file told) stands;
       costs = spends_then tt (Ok tt) _ _ _ before.costs done.writes.goes.costs;
       spent =
           let es = c.args.entries.now in
           let one : k < length es = omega (arith, below, c.requires.planned.count) in
           let entry = c.index-entries-k.is ∙ get_or_default es k c.index-entries-k.result no_entry one in
-          spent_both (pieces_in (take k es)) (pieces_of c.index-entries-k.result.size) (pieces_in (take (k + 1) es)) _ _ _
-          (ap (λ (e : Entry). pieces_in (take k es) + pieces_of e.size) entry ∙ sym (pieces_more es k one)) before.spent done.writes.spent;
+          spent_both (pieces_in (take k es)) (block_pieces_of c.index-entries-k.result.size) (pieces_in (take (k + 1) es)) _ _ _
+          (ap (λ (e : Entry). pieces_in (take k es) + block_pieces_of e.size) entry ∙ sym (pieces_more es k one)) before.spent done.writes.spent;
       unarmed = unarmed_then _ _ _ _ (g.D.Flash.counts c.args.flash.now) (g.D.Flash.counts c.loop-k.flash) (g.D.Flash.counts c.write_image.new.flash) before.unarmed done.writes.goes.unarmed;
       files = reads-then g.H.Files _ g.met.H.Files.joins _ _ _ before.files done.reads.files;
       none = omega (arith, before.none, done.reads.once);

@@ -6,7 +6,7 @@ use Rattle.fwu_formats.specs.Layout.{blocks_needed}
 use Rattle.flash_format.specs.Cleared.{IsBare}
 use Rattle.flash_core.specs.Told.{NothingDirty}
 use Rattle.flash_format.specs.Planned.{IsFilled}
-use Rattle.flash_format.specs.Takes.{pieces_in, writes_of}
+use Rattle.flash_format.specs.Takes.{pieces_in, writes_to_format}
 use Rattle.flash_format.specs.Stops.{flash_result}
 use Rattle.flash_format.specs.declared.stops.FormatStop.{FormatStop}
 use Rattle.flash_format.specs.declared.stops.FormatStop.TheVariants.{ReadFailed}
@@ -65,11 +65,11 @@ pub returns-clause-spent : goal.returns-clause-spent
 returns-clause-spent g c =
     let L = c.args.plan.now.layout in
     let pieces = pieces_in c.args.plan.now.entries in
-    spent_then c.finish.result (blocks_needed L + pieces) 3 (writes_of L pieces 3) _ _ _ (omega arith) c.in_ok-fill.ensures.spent c.finish.ensures.spent
+    spent_then c.finish.result (blocks_needed L + pieces) 3 (writes_to_format L pieces 3) _ _ _ (omega arith) c.in_ok-fill.ensures.spent c.finish.ensures.spent
 
 pub returns-clause-worn : goal.returns-clause-worn
 returns-clause-worn g c = λ found is.
     let L = c.args.plan.now.layout in
     let pieces = pieces_in c.args.plan.now.entries in
-    let same : blocks_needed L + pieces ≡ writes_of L pieces 0 = omega arith in
+    let same : blocks_needed L + pieces ≡ writes_to_format L pieces 0 = omega arith in
     c.finish.ensures.worn found is ∙ c.in_ok-fill.ensures.spent ∙ ap (λ (n : ℕ). lowered_by n (g.D.Flash.arming c.args.flash.now)) same

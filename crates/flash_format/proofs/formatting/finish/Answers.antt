@@ -4,7 +4,7 @@ use Rattle.flash_core.specs.Told.{Told, NothingDirty}
 use Rattle.flash_core.specs.May.{Keeps}
 use Rattle.flash_core.proofs.Calls.{keeps_same}
 use Rattle.flash_core.specs.Counts.{lowered_by}
-use Rattle.flash_format.specs.Formatted.{HasAtMost, IsWhole}
+use Rattle.flash_format.specs.Formatted.{HasAtMost, IsWholeFormat}
 use Rattle.flash_format.specs.Stops.{flash_result}
 use Rattle.flash_format.specs.declared.stops.FormatStop.{FormatStop}
 use Rattle.flash_format.proofs.Formats.{formatted, refused}
@@ -56,7 +56,7 @@ returns-in_err-version-clause-whole g c =
     let size = (g.met.D.Flash.sound c.args.flash.now tells).size in
     let many = (g.met.D.Flash.sizes c.args.flash.now).0 in
     let bare = bare_fresh s (λ i above below. c.requires.erased tells i above (omega (arith, below))) clean in
-    subst (IsWhole passes L) (sym (c.check_bank.ensures.content tells)) (whole_before passes L s (λ image may. bare_unlaid s image (omega (arith, size, many)) bare may))
+    subst (IsWholeFormat passes L) (sym (c.check_bank.ensures.content tells)) (whole_before passes L s (λ image may. bare_unlaid s image (omega (arith, size, many)) bare may))
 
 pub returns-in_err-write_records-clause-whole : goal.returns-in_err-write_records-clause-whole
 returns-in_err-write_records-clause-whole g c = λ tells clean.

@@ -8,14 +8,14 @@ use Rattle.fwu_model.specs.Answer.{images_of}
 use Rattle.fwu_formats.specs.Package.{Toc, toc_of}
 use Rattle.fip_tables.specs.Files.{Tells}
 use Rattle.image_check.specs.Passed.{HasPassed}
-use Rattle.flash_format.specs.Formatted.{HoldsImages, IsBlank, IsInOrder, IsRefused}
+use Rattle.flash_format.specs.Formatted.{HoldsImages, IsBlank, IsInOrder, IsRefusedFormat}
 use Rattle.flash_core.specs.Told.{NothingDirty}
 use Rattle.flash_format.specs.Planned.{IsFilled}
 use Rattle.flash_format.specs.Choosing.{refusal}
-use Rattle.flash_format.specs.Stops.{Answers, Finishes, IsOfBytes}
+use Rattle.flash_format.specs.Stops.{RefusesAs, FormatFinishes, IsOfBytes}
 use Rattle.flash_format.specs.declared.plan.Plan.{Plan}
 use Rattle.meta_layout.specs.Rows.{fitted}
-use Rattle.flash_format.specs.Takes.{Takes, pieces_in}
+use Rattle.flash_format.specs.Takes.{FormatTakes, pieces_in}
 use Rattle.flash_format.specs.declared.formatting.Formatted.{Formatted}
 use Rattle.flash_format.specs.declared.stops.FormatStop.{FormatStop}
 use Rattle.flash_format.specs.declared.stops.FormatStop.TheVariants.{Input}
@@ -27,12 +27,12 @@ use Rattle.flash_format.proofs.Taking.{pieces_fit, pieces_told}
 use Rattle.flash_format.proofs.Stopped.{handed-on}
 use Rattle.flash_format.proofs.formatting.format.Goals as goal
 
-pub carry_out-requires-clause-inside : goal.carry_out-requires-clause-inside
-carry_out-requires-clause-inside g c =
+pub carry_out-requires-clause-ready : goal.carry_out-requires-clause-ready
+carry_out-requires-clause-ready g c =
     let K = c.in_ok-plan.plan.layout in
     let L : Layout = record { banks = c.args.banks; rows = c.args.rows.now } in
     let inside = (fitted_is L c.blocks-2.result K c.in_ok-plan.ensures.fits).inside in
-    omega (arith, inside, c.blocks-2.ensures)
+    record { on = search rules; room = omega (arith, inside, c.blocks-2.ensures) }
 
 pub returns-in_err-version-clause-refused : goal.returns-in_err-version-clause-refused
 returns-in_err-version-clause-refused g c =
@@ -41,7 +41,7 @@ returns-in_err-version-clause-refused g c =
     let K = c.in_ok-plan.plan.layout in
     let L : Layout = record { banks = c.args.banks; rows = c.args.rows.now } in
     let stop : c.in_err-version.field-0.0 ≡ Input (Incomplete found) = cc in
-    subst (λ (l : Layout). IsRefused (g.V.Verifier.passes c.args.verifier.now) l found (g.D.Flash.told c.carry_out.new.flash).now) (fitted_is L c.blocks-2.result K c.in_ok-plan.ensures.fits).is
+    subst (λ (l : Layout). IsRefusedFormat (g.V.Verifier.passes c.args.verifier.now) l found (g.D.Flash.told c.carry_out.new.flash).now) (fitted_is L c.blocks-2.result K c.in_ok-plan.ensures.fits).is
     (c.in_err-version.ensures.refused found (ap Err stop) tells))
 
 pub returns-in_err-version-clause-images : goal.returns-in_err-version-clause-images
@@ -71,9 +71,9 @@ returns-in_err-version-clause-deserved g c =
     let fit = fitted_is L c.blocks-2.result K c.in_ok-plan.ensures.fits in
     let stop : c.in_err-version.field-0.0 ≡ Input (Incomplete found) = cc in
     let end : ◌≡◌ {A = Result ℕ FormatStop} (Err c.in_err-version.field-0.0) (Err (Input (Incomplete found))) = ap Err stop in
-    let refused = subst (λ (l : Layout). IsRefused passes l found t.now) fit.is (c.in_err-version.ensures.refused found end tells) in
+    let refused = subst (λ (l : Layout). IsRefusedFormat passes l found t.now) fit.is (c.in_err-version.ensures.refused found end tells) in
     let A : Type 0 = IsTrue g.D.Flash.tells → IsFilled (g.H.Files.contents c.plan.new.files) c.args.name.now K c.in_ok-plan.plan.entries t in
-    let filled = subst (λ (r : Result ℕ FormatStop). Finishes r A) end c.in_err-version.ensures.filled in
+    let filled = subst (λ (r : Result ℕ FormatStop). FormatFinishes r A) end c.in_err-version.ensures.filled in
     let size = (g.met.D.Flash.sound c.carry_out.new.flash tells).size in
     let here : Tells (g.H.Files.contents c.plan.new.files) c.args.name.now file = subst (λ (d : Option Directory). Tells d c.args.name.now file) (sym c.plan.ensures.reads.files.same) told in
     let holds = hold_given L K c.blocks-2.result file toc c.in_ok-plan.plan.entries t.now fit (omega (arith, size, c.carry_out.ensures.goes.size, c.blocks-2.ensures)) (c.in_ok-plan.ensures.plans.toc file told) has (c.in_ok-plan.ensures.plans.planned.stored file told) ((filled tells).bytes file here) in
@@ -165,7 +165,7 @@ returns-in_err-version-clause-worn g c =
     let es = c.in_ok-plan.plan.entries in
     let planned = c.in_ok-plan.ensures.plans.planned in
     let stop : c.in_err-version.field-0.0 ≡ Input (Incomplete found) = cc in
-    subst (λ (l : Layout). Takes (g.H.Files.contents c.args.files.now) c.args.name.now l 0 (g.D.Flash.arming c.args.flash.now) (g.D.Flash.arming c.carry_out.new.flash))
+    subst (λ (l : Layout). FormatTakes (g.H.Files.contents c.args.files.now) c.args.name.now l 0 (g.D.Flash.arming c.args.flash.now) (g.D.Flash.arming c.carry_out.new.flash))
     (fitted_is L c.blocks-2.result K c.in_ok-plan.ensures.fits).is
     (record {
       pieces = pieces_in es;
@@ -198,7 +198,7 @@ returns-in_err-plan-clause-input g c = record {
       rw (handed-on c.from_residual.result c.in_err-plan.field-0.0 c.from_residual.ensures.1) (λ file told.
       let L : Layout = record { banks = c.args.banks; rows = c.args.rows.now } in
       let answers = c.in_err-plan.ensures.input.answers file told in
-      subst (λ (n : ℕ). Answers {T = Formatted} (refusal L n file) (Err c.in_err-plan.field-0.0)) c.blocks-2.ensures (answers_stop Plan Formatted c.in_err-plan.field-0.0 (refusal L c.blocks-2.result file) answers));
+      subst (λ (n : ℕ). RefusesAs {T = Formatted} (refusal L n file) (Err c.in_err-plan.field-0.0)) c.blocks-2.ensures (answers_stop Plan Formatted c.in_err-plan.field-0.0 (refusal L c.blocks-2.result file) answers));
   some =
       rw (handed-on c.from_residual.result c.in_err-plan.field-0.0 c.from_residual.ensures.1) (
       let L : Layout = record { banks = c.args.banks; rows = c.args.rows.now } in

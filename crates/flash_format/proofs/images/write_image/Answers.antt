@@ -8,7 +8,7 @@ use Rattle.host_io.specs.Contents.{Directory}
 use Rattle.host_io.proofs.Reading.{reads-then}
 use Rattle.fip_tables.specs.Files.{Tells}
 use Rattle.fwu_formats.specs.Package.{Entry, payload}
-use Rattle.flash_format.specs.Places.{Stands}
+use Rattle.flash_format.specs.Places.{HoldsThenErased}
 use Rattle.flash_format.proofs.Ranges.{erased_stays, stands_stays}
 use Rattle.flash_format.proofs.Clearing.{left_then, left_fewer}
 use Rattle.flash_format.proofs.Pieces.{stands_more}
@@ -54,7 +54,7 @@ loop-k-preserved g c =
           let old = stands_stays (4096 * first) (4096 * k) (4096 * b) (4096 * b + 4096) bytes m t (inl (omega arith)) (done.writes.keeps tells) (before.front tells file told) in
           let piece = done.bytes tells file here in
           let step : 4096 * c.from.result ≡ 4096 * k = omega (arith, c.from.ensures) in
-          stands_more first k bytes t.now old (subst (λ (n : ℕ). Stands (4096 * b) 4096 (drop n bytes) t.now) step piece);
+          stands_more first k bytes t.now old (subst (λ (n : ℕ). HoldsThenErased (4096 * b) 4096 (drop n bytes) t.now) step piece);
       costs = spends_then tt (Ok tt) _ _ _ before.costs done.writes.goes.costs;
       spent = spent_both k 1 (k + 1) _ _ _ (omega arith) before.spent done.writes.spent;
       unarmed = unarmed_then _ _ _ _ (g.D.Flash.counts c.args.flash.now) (g.D.Flash.counts c.loop-k.flash) (g.D.Flash.counts c.write_piece.new.flash) before.unarmed done.writes.goes.unarmed;

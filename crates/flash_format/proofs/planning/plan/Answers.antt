@@ -3,7 +3,7 @@ use Rattle.fwu_formats.specs.Layout.{Layout}
 use Rattle.fwu_formats.specs.Package.{toc_of}
 use Rattle.fwu_formats.specs.declared.kinds.LayoutFault.{LayoutFault}
 use Rattle.flash_format.specs.Choosing.{refusal, refusal_by}
-use Rattle.flash_format.specs.Stops.{Answers, IsOfBytes}
+use Rattle.flash_format.specs.Stops.{RefusesAs, IsOfBytes}
 use Rattle.flash_format.specs.declared.plan.Plan.{Plan}
 use Rattle.flash_format.specs.declared.stops.FormatStop.TheVariants.{Input}
 use Rattle.flash_format.specs.declared.stops.InputFault.TheVariants.{Layout as BadLayout}
@@ -16,7 +16,7 @@ returns-in-Ok-clause-input g c = record {
   layout = search rules;
   answers =
       λ file told.
-      subst (λ (r : Result Layout LayoutFault). Answers (refusal_by r (toc_of file)) c.plan_of.result) (sym (sym c.make.ensures ∙ c.in-Ok.is)) (c.plan_of.ensures.answers file told);
+      subst (λ (r : Result Layout LayoutFault). RefusesAs (refusal_by r (toc_of file)) c.plan_of.result) (sym (sym c.make.ensures ∙ c.in-Ok.is)) (c.plan_of.ensures.answers file told);
   some = subst (λ (r : Result Layout LayoutFault). IsOfBytes r c.plan_of.result) (sym (sym c.make.ensures ∙ c.in-Ok.is)) c.plan_of.ensures.some;
 }
 
@@ -26,6 +26,6 @@ returns-in-Err-clause-input g c = record {
   layout = search rules;
   answers =
       λ file told.
-      subst (λ (r : Result Layout LayoutFault). Answers {T = Plan} (refusal_by r (toc_of file)) (Err (Input (BadLayout c.in-Err.fault)))) (sym (sym c.make.ensures ∙ c.in-Err.is)) (inl refl);
+      subst (λ (r : Result Layout LayoutFault). RefusesAs {T = Plan} (refusal_by r (toc_of file)) (Err (Input (BadLayout c.in-Err.fault)))) (sym (sym c.make.ensures ∙ c.in-Err.is)) (inl refl);
   some = subst (λ (r : Result Layout LayoutFault). IsOfBytes {T = Plan} r (Err (Input (BadLayout c.in-Err.fault)))) (sym (sym c.make.ensures ∙ c.in-Err.is)) (of_fault Plan c.in-Err.fault);
 }

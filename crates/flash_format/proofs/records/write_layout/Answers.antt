@@ -4,7 +4,7 @@ use Rattle.flash_core.specs.Told.{Told}
 use Rattle.flash_core.specs.May.{Keeps}
 use Rattle.flash_core.proofs.Calls.{keeps_same}
 use Rattle.flash_core.proofs.Spent.{spent_barrier, spent_one}
-use Rattle.flash_format.specs.Places.{Stands}
+use Rattle.flash_format.specs.Places.{HoldsThenErased}
 use Rattle.flash_format.proofs.Ranges.{keeps_written, erased_range}
 use Rattle.fwu_formats.specs.Layout.{layout_bytes}
 use Rattle.flash_format.specs.Formatted.{HasAtMost}
@@ -56,10 +56,10 @@ returns-clause-layout g c = on_ok_from _ c.barrier.result (λ tells.
     let many = (g.met.D.Flash.sizes c.args.flash.now).0 in
     let whole : length bytes ≡ 4096 = omega (arith, c.write.auto.out) in
     let same : length m.now ≡ length s.now = (g.met.D.Flash.sound c.program.new.self tells).size ∙ ap (λ (n : ℕ). 4096 * n) c.in_ok-program.ensures.size ∙ sym size in
-    let stands : Stands 0 4096 bytes m.now = subst (λ (u : Told). Stands 0 4096 bytes u.now) (sym (c.in_ok-program.ensures.content tells)) (stands_put 0 bytes s (omega (arith, size, many)) (omega (arith, whole)) (λ i above below. c.requires.erased tells i above below)) in
+    let stands : HoldsThenErased 0 4096 bytes m.now = subst (λ (u : Told). HoldsThenErased 0 4096 bytes u.now) (sym (c.in_ok-program.ensures.content tells)) (stands_put 0 bytes s (omega (arith, size, many)) (omega (arith, whole)) (λ i above below. c.requires.erased tells i above below)) in
     let there = block_padded 0 bytes m.now (omega (arith, size, many, same)) (omega (arith, whole)) stands ∙ padded_whole bytes whole in
     let now : t.now ≡ m.now = ap (λ (u : Told). u.now) (c.barrier.ensures.content tells) ∙ now_settled c.barrier.result m in
-    layout_read c.args.layout.now bytes t.now _ (ap length now ∙ same ∙ size) c.requires.inside (ap (block 0) now ∙ there) c.write.ensures.read_again)
+    layout_read c.args.layout.now bytes t.now _ (ap length now ∙ same ∙ size) c.requires.ready.room (ap (block 0) now ∙ there) c.write.ensures.read_again)
 
 pub returns-clause-clean : goal.returns-clause-clean
 returns-clause-clean g c = clean_after _ c.barrier.result (g.D.Flash.told c.program.new.self) (g.D.Flash.told c.barrier.new.self) c.barrier.ensures.content
@@ -74,7 +74,7 @@ returns-clause-spelled g c = on_ok_from _ c.barrier.result (λ tells.
     let many = (g.met.D.Flash.sizes c.args.flash.now).0 in
     let whole : length bytes ≡ 4096 = omega (arith, c.write.auto.out) in
     let same : length m.now ≡ length s.now = (g.met.D.Flash.sound c.program.new.self tells).size ∙ ap (λ (n : ℕ). 4096 * n) c.in_ok-program.ensures.size ∙ sym size in
-    let stands : Stands 0 4096 bytes m.now = subst (λ (u : Told). Stands 0 4096 bytes u.now) (sym (c.in_ok-program.ensures.content tells)) (stands_put 0 bytes s (omega (arith, size, many)) (omega (arith, whole)) (λ i above below. c.requires.erased tells i above below)) in
+    let stands : HoldsThenErased 0 4096 bytes m.now = subst (λ (u : Told). HoldsThenErased 0 4096 bytes u.now) (sym (c.in_ok-program.ensures.content tells)) (stands_put 0 bytes s (omega (arith, size, many)) (omega (arith, whole)) (λ i above below. c.requires.erased tells i above below)) in
     let there = block_padded 0 bytes m.now (omega (arith, size, many, same)) (omega (arith, whole)) stands ∙ padded_whole bytes whole in
     let now : t.now ≡ m.now = ap (λ (u : Told). u.now) (c.barrier.ensures.content tells) ∙ now_settled c.barrier.result m in
     ap (block 0) now ∙ there ∙ padded_front bytes (layout_bytes c.args.layout.now) _ whole c.write.ensures.spelled)
@@ -86,7 +86,7 @@ returns-in_err-program-clause-seen g c = λ tells.
     let size = (g.met.D.Flash.sound c.args.flash.now tells).size in
     let many = (g.met.D.Flash.sizes c.args.flash.now).0 in
     let whole : length c.write.new.out ≡ 4096 = omega (arith, c.write.auto.out) in
-    let there = at_most_written c.program.result L c.write.new.out _ s size (omega (arith, many)) c.requires.inside (c.requires.erased tells) whole c.write.ensures.read_again in
+    let there = at_most_written c.program.result L c.write.new.out _ s size (omega (arith, many)) c.requires.ready.room (c.requires.erased tells) whole c.write.ensures.read_again in
     let wrote = subst (λ (u : Told). HasAtMost L u.now) (sym (c.program.ensures.content tells)) there in
     wrote
 
@@ -97,7 +97,7 @@ returns-clause-seen g c = λ tells.
     let size = (g.met.D.Flash.sound c.args.flash.now tells).size in
     let many = (g.met.D.Flash.sizes c.args.flash.now).0 in
     let whole : length c.write.new.out ≡ 4096 = omega (arith, c.write.auto.out) in
-    let there = at_most_written c.program.result L c.write.new.out _ s size (omega (arith, many)) c.requires.inside (c.requires.erased tells) whole c.write.ensures.read_again in
+    let there = at_most_written c.program.result L c.write.new.out _ s size (omega (arith, many)) c.requires.ready.room (c.requires.erased tells) whole c.write.ensures.read_again in
     let wrote = subst (λ (u : Told). HasAtMost L u.now) (sym (c.program.ensures.content tells)) there in
     let m = g.D.Flash.told c.program.new.self in
     let now = ap (λ (u : Told). u.now) (c.barrier.ensures.content tells) ∙ now_settled c.barrier.result m in

@@ -1,6 +1,6 @@
 use Rattle.std.proofs.Common.{Err, subst}
 use Rattle.fwu_formats.specs.Package.{toc_of}
-use Rattle.fip_tables.specs.Files.{IsAnswer}
+use Rattle.fip_tables.specs.Files.{IsTocAnswer}
 use Rattle.fip_tables.specs.declared.toc.TocStop.{TocStop}
 use Rattle.flash_format.proofs.Ends.{ends-below}
 use Rattle.flash_format.proofs.table.read_table.Goals as goal
@@ -16,7 +16,7 @@ returns-in-Ok-clause-some g c =
 pub returns-in-Err-Fault-clause-some : goal.returns-in-Err-Fault-clause-some
 returns-in-Err-Fault-clause-some g c =
     let some = c.in-Err-Fault.ensures.some in
-    record { bytes = some.bytes; short = some.short; table = subst (λ (stop : TocStop). IsAnswer (Err stop) (toc_of some.bytes)) c.in-Err-Fault.field-0-is some.answer }
+    record { bytes = some.bytes; short = some.short; table = subst (λ (stop : TocStop). IsTocAnswer (Err stop) (toc_of some.bytes)) c.in-Err-Fault.field-0-is some.answer }
 
 pub returns-in-Err-ReadFailed-clause-some : goal.returns-in-Err-ReadFailed-clause-some
 returns-in-Err-ReadFailed-clause-some g c =

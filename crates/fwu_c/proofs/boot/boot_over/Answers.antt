@@ -1,13 +1,13 @@
-use Rattle.std.proofs.Common.{[], ◌≡◌, ◌∙◌, ap, refl, subst, sym}
+use Rattle.std.proofs.Common.{[], arith, ◌≡◌, ◌∙◌, ap, refl, subst, sym}
 use Rattle.std.specs.Prelude.{IsTrue}
 use Rattle.fwu_formats.specs.Digests.{passes_any}
 use Rattle.early_boot.specs.Ends.{device_of, ended}
 use Rattle.early_boot.specs.EndsBy.{BootEnds}
 use Rattle.step_flash.specs.declared.flash.StepFlash.{StepFlash}
 use Rattle.step_flash.specs.Flash.{block_count, image_of, told_of}
-use Rattle.fwu_c.specs.Handed.{IsDeviceEnd, IsStart, is_idle}
+use Rattle.fwu_c.specs.Handed.{IsDeviceEnd, IsStartOfSteps, boot_reach, is_idle_number, update_reach}
 use Rattle.fwu_c.proofs.Booting.{below_seven, boot_end_is, boot_idle, boots_by, given, has_flash_size}
-use Rattle.fwu_c.proofs.Telling.{told_handed}
+use Rattle.fwu_c.proofs.Telling.{lie_further, told_handed}
 use Rattle.fwu_c.proofs.boot.boot_over.Goals as goal
 
 pub hand_over-requires-clause-known : goal.hand_over-requires-clause-known
@@ -18,10 +18,10 @@ hand_over-requires-clause-known c =
 pub hand_over-requires-clause-idle : goal.hand_over-requires-clause-idle
 hand_over-requires-clause-idle c = λ idle.
     let back : c.into_flash.result ≡ device_of c.boot_in-end.result = c.into_flash.ensures in
-    subst (λ (d : StepFlash). IsStart (told_of d)) (sym back)
+    subst (λ (d : StepFlash). IsStartOfSteps (told_of d)) (sym back)
     (boot_idle (ended c.boot_in-end.result) (told_of c.args.flash) (told_of (device_of c.boot_in-end.result))
     (image_of c.args.flash, [], c.requires.new.fresh)
-    (c.boot_in-end.ensures.boots.ends refl).by_bytes (subst (λ n. IsTrue (is_idle n)) c.report_end-number.ensures.number idle))
+    (c.boot_in-end.ensures.boots.ends refl).by_bytes (subst (λ n. IsTrue (is_idle_number n)) c.report_end-number.ensures.number idle))
 
 pub hand_over-requires-clause-kept : goal.hand_over-requires-clause-kept
 hand_over-requires-clause-kept c = c.report_end-number.ensures.kept
@@ -33,7 +33,7 @@ returns-clause-tells c =
     (has_flash_size (image_of c.args.flash) c.args.flash c.requires.new.size)
     (subst (λ n. IsDeviceEnd n) (sym c.report_end-number.ensures.number)
     (boot_end_is (ended c.boot_in-end.result) c.args.flash (device_of c.boot_in-end.result) c.boot_in-end.ensures.boots.costs))
-    h.number h.idle h.kept h.full h.untouched
+    h.number h.idle h.kept (λ not. lie_further boot_reach update_reach _ (omega arith) (h.hands not).places) h.behind h.full h.untouched
 
 pub returns-clause-boots : goal.returns-clause-boots
 returns-clause-boots c = λ low.

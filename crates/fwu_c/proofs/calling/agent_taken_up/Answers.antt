@@ -1,14 +1,14 @@
 use Rattle.std.proofs.Common.{subst, sym}
 use Rattle.early_boot.specs.Started.{started}
 use Rattle.step_flash.specs.declared.flash.StepFlash.{StepFlash}
-use Rattle.fwu_c.specs.Calls.{Takes}
+use Rattle.fwu_c.specs.Calls.{TakesUpBank}
 use Rattle.fwu_c.proofs.calling.agent_taken_up.Goals as goal
 
 pub returns-in-Some : goal.returns-in-Some
 returns-in-Some c = record {
   began = started c.in-Some-Ok.booted.value;
   takes = subst
-      (λ (d : StepFlash). Takes c.args.bank (started c.in-Some-Ok.booted.value) c.args.flash d c.args.told.now c.taken_up.new.told)
+      (λ (d : StepFlash). TakesUpBank c.args.bank (started c.in-Some-Ok.booted.value) c.args.flash d c.args.told.now c.taken_up.new.told)
       (sym c.in-Some.ensures.device) (rw c.in-Some-Ok.field-0-is at c.in-Some-Ok.ensures);
   begins = c.in-Some.ensures.begins;
 }

@@ -3,10 +3,10 @@ use Rattle.std.specs.Prelude.{IsTrue}
 use Rattle.agent_calls.specs.Shown.{device}
 use Rattle.step_flash.specs.Flash.{image_of, told_of}
 use Rattle.fwu_c.specs.Calls.{call_of}
-use Rattle.fwu_c.specs.Handed.{IsDeviceEnd, is_idle, starts_none}
+use Rattle.fwu_c.specs.Handed.{IsDeviceEnd, call_reach, is_idle_number, starts_none, update_reach}
 use Rattle.fwu_c.proofs.Booting.{given, has_flash_size}
 use Rattle.fwu_c.proofs.Calls.{call_end_is, call_starts, called_by, refused_by, take_up_end_is, take_up_idle}
-use Rattle.fwu_c.proofs.Telling.{idle_starts, keeps_fault, told_handed, told_no_room}
+use Rattle.fwu_c.proofs.Telling.{idle_starts, keeps_fault, lie_further, told_handed, told_no_room}
 use Rattle.fwu_c.proofs.calling.call_over.Goals as goal
 
 pub called-flash-requires : goal.called-flash-requires
@@ -16,12 +16,12 @@ pub hand_over-requires : goal.hand_over-requires
 hand_over-requires c =
     let a = c.called-flash in
     let up = rw c.in-Some-Ok.field-0-is at c.in-Some-Ok.ensures in
-    let starts = λ (none : IsTrue (starts_none c.call_number.result)).
-    call_starts a.result.1 (subst (λ n. IsTrue (starts_none n)) c.call_number.ensures none) in
+    let starts = λ (none : IsTrue (starts_none c.call_number-number.result)).
+    call_starts a.result.1 (subst (λ n. IsTrue (starts_none n)) c.call_number-number.ensures none) in
     record {
-      known = subst (λ n. IsDeviceEnd n) (sym c.call_number.ensures) (call_end_is a.result.1 a.ensures.ends);
-      idle = λ idle. absurd (starts (idle_starts c.call_number.result idle));
-      kept = keeps_fault _ _ _ (up.takes.kept.fault (λ one. omega (arith, one))) starts;
+      known = subst (λ n. IsDeviceEnd n) (sym c.call_number-number.ensures) (call_end_is a.result.1 a.ensures.ends);
+      idle = λ idle. absurd (starts (idle_starts c.call_number-number.result idle));
+      kept = keeps_fault _ _ _ (up.takes.kept.fault (λ one. omega (arith, one))) starts (λ five. (up.began, up.takes.reports));
     }
 
 pub returns-in-Some-Ok-clause-calls : goal.returns-in-Some-Ok-clause-calls
@@ -32,15 +32,16 @@ returns-in-Some-Ok-clause-calls c = λ tells.
     called_by (image_of c.args.flash) c.args.asked.bank (call_of c.args.asked.call) c.args.flash (device c.in-Some-Ok.agent.value) a.result.0
     up.began a.result.1 h.result _ _ _ _ _
     c.requires.new.fresh c.requires.new.size a.ensures.size up.takes (a.ensures.calls up.began up.begins)
-    (h.ensures.hands tells.1) (given _ _ h.ensures.number tells.1 ∙ c.call_number.ensures)
+    (h.ensures.hands tells.1) (given _ _ h.ensures.number tells.1 ∙ c.call_number-number.ensures)
 
 pub returns-in-Some-Ok-clause-tells : goal.returns-in-Some-Ok-clause-tells
 returns-in-Some-Ok-clause-tells c =
     let h = c.hand_over.ensures in
     let a = c.called-flash in
-    told_handed (image_of c.args.flash) c.hand_over.result c.call_number.result _ _ _ _ _ _
+    told_handed (image_of c.args.flash) c.hand_over.result c.call_number-number.result _ _ _ _ _ _
     (has_flash_size (image_of c.args.flash) c.args.flash c.requires.new.size)
-    (subst (λ n. IsDeviceEnd n) (sym c.call_number.ensures) (call_end_is a.result.1 a.ensures.ends)) h.number h.idle h.kept h.full h.untouched
+    (subst (λ n. IsDeviceEnd n) (sym c.call_number-number.ensures) (call_end_is a.result.1 a.ensures.ends)) h.number h.idle h.kept
+    (λ not. lie_further call_reach update_reach _ (omega arith) (h.hands not).places) h.behind h.full h.untouched
 
 pub hand_over-requires-in-Some-Err : goal.hand_over-requires-in-Some-Err
 hand_over-requires-in-Some-Err c =
@@ -49,7 +50,7 @@ hand_over-requires-in-Some-Err c =
       known = take_up_end_is _ _ _ _ _ _ refuses;
       idle = λ idle. take_up_idle c.args.asked.bank refuses.end (told_of c.args.flash) (told_of c.in-Some-Err.flash)
           (image_of c.args.flash, [], c.requires.new.fresh)
-          refuses.ends.by_bytes (subst (λ n. IsTrue (is_idle n)) refuses.number_is idle);
+          refuses.ends.by_bytes (subst (λ n. IsTrue (is_idle_number n)) refuses.number_is idle);
       kept = refuses.kept;
     }
 
@@ -66,7 +67,8 @@ returns-in-Some-Err-clause-tells c =
     let h = c.hand_over-in-Some-Err.ensures in
     told_handed (image_of c.args.flash) c.hand_over-in-Some-Err.result c.in-Some-Err.number _ _ _ _ _ _
     (has_flash_size (image_of c.args.flash) c.args.flash c.requires.new.size)
-    (take_up_end_is _ _ _ _ _ _ (rw c.in-Some-Err.field-0-is at c.in-Some-Err.ensures)) h.number h.idle h.kept h.full h.untouched
+    (take_up_end_is _ _ _ _ _ _ (rw c.in-Some-Err.field-0-is at c.in-Some-Err.ensures)) h.number h.idle h.kept
+    (λ not. lie_further call_reach update_reach _ (omega arith) (h.hands not).places) h.behind h.full h.untouched
 
 pub returns-in-None-clause-tells : goal.returns-in-None-clause-tells
 returns-in-None-clause-tells c = told_no_room _ _ _ _ (has_flash_size (image_of c.args.flash) c.args.flash c.requires.new.size)

@@ -7,8 +7,8 @@ use Rattle.agent_machine.specs.Meets.{flash_result}
 use Rattle.agent_calls.specs.Shown as agent
 use Rattle.step_flash.specs.Flash.{block_count, told_of}
 use Rattle.step_flash.proofs.Causes.{never_lost}
-use Rattle.fwu_c.specs.Agents.{BeginsWith}
-use Rattle.fwu_c.specs.Calls.{CallsFrom, IsCalled, call_of}
+use Rattle.fwu_c.specs.Agents.{BeginsAgent}
+use Rattle.fwu_c.specs.Calls.{CallsFrom, IsStepResult, call_of}
 use Rattle.fwu_c.proofs.Calls.{calls_from, here_after, is_called}
 use Rattle.fwu_c.proofs.calling.called.Goals as goal
 
@@ -20,14 +20,14 @@ returns c =
     let new = agent.moment done.new.agent in
     let goes = done.ensures.goes in
     let here : IsFalse (agent.gone first) = rw c.deref_mut.ensures.value c.requires.here in
-    let ends : IsCalled done.result =
+    let ends : IsStepResult done.result =
     is_called done.result
     (λ lost. never_lost (flash_result done.result) (agent.device first) (agent.device done.new.agent) goes.costs
     (subst (λ (r : Result (Unit {0}) Stop). IsErrOf (flash_result r) flash_stop.Lost) (sym lost) refl))
     (λ gone. let was = goes.gone.gone.0 gone in absurd (cc (was, here))) in
     record {
       calls = λ b begins.
-          let begun : BeginsWith b old (agent.gone first) = rw c.deref_mut.ensures.value begins in
+          let begun : BeginsAgent b old (agent.gone first) = rw c.deref_mut.ensures.value begins in
           let meets = done.ensures.meets here in
           let by = calls_from (call_of c.args.call) b done.result old new ends refl begun.from meets.exact meets.leaves begun.shows
           (λ ok s x shows. (rw c.deref.ensures at c.showing.ensures.seen)

@@ -9,7 +9,7 @@ use Rattle.update_client.specs.declared.stops.SendStop.{SendStop}
 use Rattle.update_client.specs.Halts.{flash_of}
 use Rattle.step_flash.specs.Flash.{block_count, told_of}
 use Rattle.step_flash.proofs.Causes.{never_lost}
-use Rattle.fwu_c.specs.Agents.{BeginsWith}
+use Rattle.fwu_c.specs.Agents.{BeginsAgent}
 use Rattle.fwu_c.specs.Sendings.{IsSent, SendsPackage}
 use Rattle.fwu_c.proofs.SentPackage.{held_there, here_after, is_sent, never_rose, package_sent}
 use Rattle.fwu_formats.proofs.Tables.{table-of}
@@ -55,7 +55,7 @@ returns c =
     (λ gone. let was = (sent.ensures.gone.gone.0 gone).0 in absurd (cc (was, here))) in
     record {
       installs = λ b begins.
-          let begun : BeginsWith b old (agent.gone first) = rw c.deref_mut.ensures.value begins in
+          let begun : BeginsAgent b old (agent.gone first) = rw c.deref_mut.ensures.value begins in
           let by = package_sent _ file _ request b c.args.toc.now sent.result old new
           (held_there _ _ _ c.new-files.ensures) c.requires.table ends refl begun.from (sent.ensures.sends here) begun.shows
           (λ ok s x shows. (rw c.deref.ensures at c.showing.ensures.seen)

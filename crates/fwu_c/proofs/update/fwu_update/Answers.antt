@@ -19,7 +19,7 @@ returns-in-Some-true-clause-updates c = λ told.
     denied_by _ _ _ _ _ _ (subst (λ (i : List ℕ). IsOnTrial i) c.in-Ok.ensures.image (c.in-Some-true.ensures.trial c.in-Some-true.field-0-test)) refl refl
 
 pub returns-in-Some-true-clause-tells : goal.returns-in-Some-true-clause-tells
-returns-in-Some-true-clause-tells c = told_denied _ _ _ _ _ _ _ (has_flash_size _ c.in-Ok.first c.in-Ok.ensures.size) refl
+returns-in-Some-true-clause-tells c = told_denied _ _ _ _ _ _ _ (has_flash_size _ c.in-Ok.first c.in-Ok.ensures.size) refl refl refl refl
 
 pub returns-clause-tells : goal.returns-clause-tells
 returns-clause-tells c = told_no_room _ _ _ _ (has_flash_size _ c.in-Ok.first c.in-Ok.ensures.size)

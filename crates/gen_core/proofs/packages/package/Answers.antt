@@ -3,7 +3,7 @@ use Rattle.std.proofs.lemmas.List.{length-take-le, length-drop}
 use Rattle.fwu_formats.specs.Package.{Part, packed}
 use Rattle.fip_tables.specs.Packing.{pack_fault}
 use Rattle.gen_core.specs.Generated.{generated, generated_images}
-use Rattle.gen_core.specs.Law.{Installs}
+use Rattle.gen_core.specs.Law.{InstallsPackage}
 use Rattle.gen_core.proofs.Making.{are-sizes, images-are, sizes-fit}
 use Rattle.gen_core.proofs.Completing.{generated-are-complete, made-pass, parts-made}
 use Rattle.gen_core.proofs.packages.package.Goals as goal
@@ -52,7 +52,7 @@ returns-in-Ok-clause-installs c =
     let made = parts-made rows sizes number security c.index-rows-0.result (images-are rows c.requires.images) in
     let is : c.in-Ok.file.items ≡ generated rows sizes number security = c.in-Ok.ensures.ok
     ∙ ap (λ (ps : List Part). packed 0x12345678 0 ps 1) (c.in_ok-parts.ensures ∙ made) in
-    subst (λ (file : List ℕ). Installs rows file (generated_images rows sizes number security) security) (sym is)
+    subst (λ (file : List ℕ). InstallsPackage rows file (generated_images rows sizes number security) security) (sym is)
     (generated-are-complete rows sizes number security c.requires.images c.requires.sizes (omega arith) c.requires.version)
 
 pub unreachable-requires : goal.unreachable-requires

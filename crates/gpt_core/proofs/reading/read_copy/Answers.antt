@@ -1,7 +1,7 @@
 use Rattle.std.proofs.Common.{◌∙◌, ap, sym, ℕ}
 use Rattle.base_core.specs.Block.{block}
 use Rattle.flash_core.specs.Told.{Told}
-use Rattle.gpt_core.specs.Table.{header_at, is_header, entries_in}
+use Rattle.gpt_core.specs.Table.{header_at, is_header, table_entries_in}
 use Rattle.gpt_core.proofs.CopyRead.{no_header, copy_read, table_fits}
 use Rattle.gpt_core.proofs.reading.read_copy.Goals as goal
 
@@ -23,8 +23,8 @@ returns-clause-value g c tells =
     ∙ copy_read c.args.copy blocks s.now header c.in_ok-entries.entries.items stands
     (sym (c.is_header_of.ensures ∙ ap (λ n. is_header c.args.copy n header) c.blocks-blocks.ensures) ∙ c.if-not-is_header_of.false)
     (c.in_ok-entries.ensures.bytes tells
-    ∙ ap (λ n. entries_in c.args.copy n header (g.D.Flash.told c.read_block.new.flash).now) c.in_ok-read_block.ensures.size
-    ∙ ap (λ (t : Told). entries_in c.args.copy blocks header t.now) (c.in_ok-read_block.ensures.content tells))
+    ∙ ap (λ n. table_entries_in c.args.copy n header (g.D.Flash.told c.read_block.new.flash).now) c.in_ok-read_block.ensures.size
+    ∙ ap (λ (t : Told). table_entries_in c.args.copy blocks header t.now) (c.in_ok-read_block.ensures.content tells))
 
 pub returns-clause-fits : goal.returns-clause-fits
 returns-clause-fits g c x is =

@@ -1,5 +1,5 @@
 use Rattle.std.proofs.Common.{◌≡◌, ℕ, ◌+◌, ◌*◌, ◌/◌, length, ap, sym, subst, ◌∙◌}
-use Rattle.gpt_core.specs.Table.{Table, header_at, entries_at, blocks_of, number_of, header_bytes}
+use Rattle.gpt_core.specs.Table.{Table, header_at, entries_at, blocks_of, entry_number_of, header_bytes}
 use Rattle.gpt_core.specs.Repair.{Spells}
 use Rattle.gpt_core.proofs.Spelling.{spells}
 use Rattle.gpt_core.proofs.Deciding.{inside_copy}
@@ -34,9 +34,10 @@ returns-clause-writes g c =
     (c.header_place-header.ensures ∙ ap (header_at w) c.blocks-blocks.ensures)
     (c.entries_place-first.ensures ∙ ap (λ (k : ℕ). entries_at w k c.blocks_for.result) c.blocks-blocks.ensures ∙ ap (entries_at w n) (c.blocks_for.ensures.value ∙ ap blocks_of number.value))
     entries in
-    let size : length c.as_slice.result.now ≡ number_of t * 128 = entries ∙ c.requires.fits.whole in
+    let size : length c.as_slice.result.now ≡ entry_number_of t * 128 = entries ∙ c.requires.fits.whole in
+    let writes = c.repair_copy.ensures.writes _ _ spans in
     record {
-      keeps = c.repair_copy.ensures.keeps _ _ spans;
-      goes = c.repair_copy.ensures.goes;
-      spent = spent_as c.repair_copy.result (2 + 2 * ((length c.as_slice.result.now + 4095) / 4096)) (2 + 2 * blocks_of (number_of t)) _ _ (ap (λ (n : ℕ). 2 + 2 * ((n + 4095) / 4096)) size) c.repair_copy.ensures.spent;
+      keeps = writes.keeps;
+      goes = writes.goes;
+      spent = spent_as c.repair_copy.result (2 + 2 * ((length c.as_slice.result.now + 4095) / 4096)) (2 + 2 * blocks_of (entry_number_of t)) _ _ (ap (λ (n : ℕ). 2 + 2 * ((n + 4095) / 4096)) size) writes.spent;
     }

@@ -1,10 +1,10 @@
 use Rattle.std.proofs.Common.{◌≡◌, Some, ap, subst, sym}
 use Rattle.std.proofs.lemmas.Result.{on_ok_weaker}
-use Rattle.gpt_core.specs.Table.{blocks_of, number_of, table_in_image}
+use Rattle.gpt_core.specs.Table.{blocks_of, entry_number_of, table_in_image}
 use Rattle.gpt_core.specs.declared.table.WhichTable.{WhichTable}
 use Rattle.gpt_core.proofs.Deciding.{mends_from, mends_same, ready_primary, ready_backup}
 use Rattle.flash_core.specs.Counts.{lowered_by}
-use Rattle.gpt_core.specs.Repair.{writes_of}
+use Rattle.gpt_core.specs.Repair.{writes_to_mend}
 use Rattle.flash_core.proofs.Spent.{spent_as, spent_none}
 use Rattle.gpt_core.proofs.repairs.repair_table.Goals as goal
 
@@ -34,19 +34,19 @@ returns-in-RepairBackup-clause-mends g c tells guarded =
 
 pub returns-in-Same-clause-spent : goal.returns-in-Same-clause-spent
 returns-in-Same-clause-spent g c =
-    let e = blocks_of (number_of c.args.table.now) in
+    let e = blocks_of (entry_number_of c.args.table.now) in
     let armed = g.D.Flash.arming c.args.flash.now in
-    subst (λ (w : WhichTable). armed ≡ lowered_by (writes_of w e) armed) (sym c.in-Same.is) (spent_none armed)
+    subst (λ (w : WhichTable). armed ≡ lowered_by (writes_to_mend w e) armed) (sym c.in-Same.is) (spent_none armed)
 
 pub returns-in-RepairPrimary-clause-spent : goal.returns-in-RepairPrimary-clause-spent
 returns-in-RepairPrimary-clause-spent g c =
-    let e = blocks_of (number_of c.args.table.now) in
-    spent_as c.mend.result _ _ _ _ (ap (λ (w : WhichTable). writes_of w e) (sym c.in-RepairPrimary.is)) c.mend.ensures.writes.spent
+    let e = blocks_of (entry_number_of c.args.table.now) in
+    spent_as c.mend.result _ _ _ _ (ap (λ (w : WhichTable). writes_to_mend w e) (sym c.in-RepairPrimary.is)) c.mend.ensures.writes.spent
 
 pub returns-in-RepairBackup-clause-spent : goal.returns-in-RepairBackup-clause-spent
 returns-in-RepairBackup-clause-spent g c =
-    let e = blocks_of (number_of c.args.table.now) in
-    spent_as c.mend-in-RepairBackup.result _ _ _ _ (ap (λ (w : WhichTable). writes_of w e) (sym c.in-RepairBackup.is)) c.mend-in-RepairBackup.ensures.writes.spent
+    let e = blocks_of (entry_number_of c.args.table.now) in
+    spent_as c.mend-in-RepairBackup.result _ _ _ _ (ap (λ (w : WhichTable). writes_to_mend w e) (sym c.in-RepairBackup.is)) c.mend-in-RepairBackup.ensures.writes.spent
 
 pub returns-in-RepairPrimary-clause-settled : goal.returns-in-RepairPrimary-clause-settled
 returns-in-RepairPrimary-clause-settled g c = on_ok_weaker c.mend.result (λ clean tells was. clean tells) c.mend.ensures.settled

@@ -1,4 +1,4 @@
-use Rattle.std.proofs.Common.{arith, refl, length, ◌+◌, ◌/◌, ◌*◌, ap, ◌∙◌, subst}
+use Rattle.std.proofs.Common.{arith, refl, length, ◌+◌, ◌/◌, ◌*◌, ap, ◌∙◌, subst, rules}
 use Rattle.std.proofs.lemmas.Result.{err_from_is_err_and}
 use Rattle.std.specs.Prelude.{is_err, Ok}
 use Rattle.base_core.specs.Bytes.{overwritten}
@@ -42,21 +42,29 @@ returns-clause-steps g c tells x =
     writes x.w x.t x.header_is filled
     (ap (λ k. copy_in x.w n (overwritten (4096 * k) c.args.head.now v.now)) x.header_is ∙ x.spells v.now filled.cleared.ready.size filled.cleared.empty filled.entries)
 
-pub returns-in_err-clear_header-clause-keeps : goal.returns-in_err-clear_header-clause-keeps
-returns-in_err-clear_header-clause-keeps g c low high spans tells =
-    keeps_wider _ _ low high _ _ spans.header_low spans.header_high (c.clear_header.ensures.writes.keeps tells)
+pub returns-in_err-clear_header-clause-writes : goal.returns-in_err-clear_header-clause-writes
+returns-in_err-clear_header-clause-writes g c low high spans = record {
+  keeps = λ tells. keeps_wider _ _ low high _ _ spans.header_low spans.header_high (c.clear_header.ensures.writes.keeps tells);
+  goes = search rules;
+  spent = search rules;
+}
 
-pub returns-in_err-write_entries-clause-keeps : goal.returns-in_err-write_entries-clause-keeps
-returns-in_err-write_entries-clause-keeps g c low high spans tells =
-    keeps_then low high _ _ _ (keeps_wider _ _ low high _ _ spans.header_low spans.header_high (c.clear_header.ensures.writes.keeps tells)) (keeps_wider _ _ low high _ _ spans.first_low spans.first_high (c.write_entries.ensures.writes.keeps tells))
+pub returns-in_err-write_entries-clause-writes : goal.returns-in_err-write_entries-clause-writes
+returns-in_err-write_entries-clause-writes g c low high spans = record {
+  keeps = λ tells.
+      keeps_then low high _ _ _ (keeps_wider _ _ low high _ _ spans.header_low spans.header_high (c.clear_header.ensures.writes.keeps tells)) (keeps_wider _ _ low high _ _ spans.first_low spans.first_high (c.write_entries.ensures.writes.keeps tells));
+  goes = search rules;
+  spent = search rules;
+}
 
-pub returns-clause-keeps : goal.returns-clause-keeps
-returns-clause-keeps g c low high spans tells =
-    keeps_then low high _ _ _
-    (keeps_then low high _ _ _ (keeps_wider _ _ low high _ _ spans.header_low spans.header_high (c.clear_header.ensures.writes.keeps tells)) (keeps_wider _ _ low high _ _ spans.first_low spans.first_high (c.write_entries.ensures.writes.keeps tells)))
-    (keeps_wider _ _ low high _ _ spans.header_low spans.header_high (c.write_header.ensures.writes.keeps tells))
-
-pub returns-clause-spent : goal.returns-clause-spent
-returns-clause-spent g c =
+pub returns-clause-writes : goal.returns-clause-writes
+returns-clause-writes g c low high spans =
     let k = 2 * ((length c.args.entries.now + 4095) / 4096) in
-    spent_then c.write_header.result (1 + k) 1 (2 + k) _ _ _ (omega arith) (spent_both 1 k (1 + k) _ _ _ refl c.in_ok-clear_header.ensures.writes.spent c.in_ok-write_entries.ensures.writes.spent) c.write_header.ensures.writes.spent
+    record {
+      keeps = λ tells.
+          keeps_then low high _ _ _
+          (keeps_then low high _ _ _ (keeps_wider _ _ low high _ _ spans.header_low spans.header_high (c.clear_header.ensures.writes.keeps tells)) (keeps_wider _ _ low high _ _ spans.first_low spans.first_high (c.write_entries.ensures.writes.keeps tells)))
+          (keeps_wider _ _ low high _ _ spans.header_low spans.header_high (c.write_header.ensures.writes.keeps tells));
+      goes = search rules;
+      spent = spent_then c.write_header.result (1 + k) 1 (2 + k) _ _ _ (omega arith) (spent_both 1 k (1 + k) _ _ _ refl c.in_ok-clear_header.ensures.writes.spent c.in_ok-write_entries.ensures.writes.spent) c.write_header.ensures.writes.spent;
+    }

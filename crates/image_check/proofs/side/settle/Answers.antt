@@ -1,24 +1,39 @@
-use Rattle.std.proofs.Common.{None, slice_set}
-use Rattle.sha256_lanes.specs.Holding.{Holds, HoldsInLane}
-use Rattle.image_check.proofs.Taken.{taken_by}
-use Rattle.image_check.proofs.UnderWay.{settled, under_way_here}
+use Rattle.std.proofs.Common.{None, arith, refl, slice_set, subst, sym}
+use Rattle.sha256_lanes.specs.Holding.{GoesOnAs, HoldsInLane}
+use Rattle.image_check.specs.Taken.{HaveStepped, IsFoundAt}
+use Rattle.image_check.specs.declared.side.Work.{Work}
+use Rattle.image_check.proofs.UnderWay.{begun_by, settled, stepped_after}
 use Rattle.image_check.proofs.side.settle.Goals as goal
+use Rattle.image_check.proofs.side.settle.Goals.{else-job-work-via-then-job-work+in_ok-is_good+else-not-branch, else-job-work-via-else-job-work}
 
-pub judged-requires-clause-row : goal.judged-requires-clause-row
-judged-requires-clause-row g c = c.requires.rows c.args.j c.requires.lane c.in-Some.job c.in-Some.is
-
-pub judged-requires-clause-taken : goal.judged-requires-clause-taken
-judged-requires-clause-taken g c =
+pub is_good-requires-clause-begun : goal.is_good-requires-clause-begun
+is_good-requires-clause-begun g c =
     let job = c.in-Some.job in
-    let there = c.requires.lanes c.args.j c.requires.lane job c.in-Some.is in
-    taken_by g.D.Flash c.args.flash.now job.at job.done (HoldsInLane c.args.j c.args.work.now.lanes) (Holds c.message-message.result)
-    c.message-message.ensures there.taken
+    begun_by g.D.Flash c.args.flash.now c.args.work.now.images (HoldsInLane c.args.j c.args.work.now.lanes) (GoesOnAs c.message-message.result) job
+    c.message-message.ensures (c.requires.under_way.lanes_are c.args.j c.requires.lane job c.in-Some.is)
 
-pub returns-in_ok-work-clause-under_way : goal.returns-in_ok-work-clause-under_way
-returns-in_ok-work-clause-under_way g c = λ rows first way.
-    let e = c.in_ok-work.ensures in
+pub returns-then-not-branch-clause-step : goal.returns-then-not-branch-clause-step
+returns-then-not-branch-clause-step g c =
+    let device = c.args.flash.now in
     let work = c.args.work.now in
-    let after = c.in_ok-work.field-0 in
-    under_way_here g.D.Flash rows first c.args.manifest.now c.args.flash.now c.judged.new.flash
-    (record { lanes = work.lanes; jobs = slice_set work.jobs c.args.j None; next = work.next; block = work.block; bad = after }) e.reads.content e.reads.size
-    (settled g.D.Flash rows first c.args.manifest.now c.args.flash.now work c.args.j c.in-Some.job after c.requires.lane c.in-Some.is e.kept.0 e.kept.1 e.bad e.good e.some way)
+    let job = c.in-Some.job in
+    let e = c.in_ok-is_good.ensures in
+    stepped_after g.D.Flash _ device c.is_good.new.flash e.reads work _
+    (settled g.D.Flash device work c.requires.under_way c.args.j job job.row c.in-Some.is (omega (arith, c.if-job-work.true))
+    (λ lower. (refl, subst (IsFoundAt g.D.Flash device work.images job.row) c.if-not-branch.true e.good)) (λ less. absurd (omega (arith, less))))
+
+pub returns-else-job-work-clause-step : goal.returns-else-job-work-clause-step
+returns-else-job-work-clause-step g c =
+    let device = c.args.flash.now in
+    let work = c.args.work.now in
+    let job = c.in-Some.job in
+    let after : Work = record work { jobs = slice_set work.jobs c.args.j None } in
+    let judged = settled g.D.Flash device work c.requires.under_way c.args.j job work.bad c.in-Some.is (omega arith) (λ lower. absurd (omega (arith, lower))) in
+    elim c.else-job-work.branch [
+      | else-job-work-via-then-job-work+in_ok-is_good+else-not-branch w ↦
+          let e = w.in_ok-is_good.ensures in
+          subst (λ d. HaveStepped g.D.Flash d work after) (sym w.flash-is)
+          (stepped_after g.D.Flash _ device _ e.reads work after (judged (λ less. subst (IsFoundAt g.D.Flash device work.images job.row) w.if-not-branch.false e.good)))
+      | else-job-work-via-else-job-work w ↦
+          subst (λ d. HaveStepped g.D.Flash d work after) (sym w.flash-is) (judged (λ less. absurd (omega (arith, less, w.if-job-work.false))))
+    ]

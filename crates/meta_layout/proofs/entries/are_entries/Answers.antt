@@ -8,26 +8,26 @@ use Rattle.meta_layout.proofs.entries.are_entries.Goals as goal
 pub loop-image-preserved : goal.loop-image-preserved
 loop-image-preserved c =
     below_more _ _ c.loop-image.invariant
-    (sym (entry-is c.args.layout.now c.args.from c.args.block.now c.loop-image.image c.index-rows-image.result c.rows-rows.result.now
+    (sym (entry-is c.args.block.now.layout.now c.args.from c.args.block.now.bytes.now c.loop-image.image c.index-rows-image.result c.rows-rows.result.now
     c.entry_at-at.result c.banks.result c.index-rows-image.is c.rows-rows.ensures.value c.loop-image-test.true c.entry_at-at.ensures.place c.banks.ensures.value)
     ∙ sym c.is_entry.ensures ∙ c.if-not-is_entry.false)
 
 pub returns-then-not-is_entry : goal.returns-then-not-is_entry
 returns-then-not-is_entry c =
-    let rows : length c.rows-rows.result.now ≡ length c.args.layout.now.rows = ap (λ (l : List ImageRow). length l) c.rows-rows.ensures.value in
+    let rows : length c.rows-rows.result.now ≡ length c.args.block.now.layout.now.rows = ap (λ (l : List ImageRow). length l) c.rows-rows.ensures.value in
     let lt : c.loop-image.image < length c.rows-rows.result.now = c.loop-image-test.true in
-    range-false (has_entry c.args.layout.now c.args.from c.args.block.now) 0 (length c.args.layout.now.rows) c.loop-image.image (omega arith) (omega (arith, rows, lt))
-    (sym (entry-is c.args.layout.now c.args.from c.args.block.now c.loop-image.image c.index-rows-image.result c.rows-rows.result.now
+    range-false (has_entry c.args.block.now.layout.now c.args.from c.args.block.now.bytes.now) 0 (length c.args.block.now.layout.now.rows) c.loop-image.image (omega arith) (omega (arith, rows, lt))
+    (sym (entry-is c.args.block.now.layout.now c.args.from c.args.block.now.bytes.now c.loop-image.image c.index-rows-image.result c.rows-rows.result.now
     c.entry_at-at.result c.banks.result c.index-rows-image.is c.rows-rows.ensures.value c.loop-image-test.true c.entry_at-at.ensures.place c.banks.ensures.value)
     ∙ sym c.is_entry.ensures ∙ c.if-not-is_entry.true)
 
 pub returns : goal.returns
 returns c =
-    let rows : length c.rows-rows.result.now ≡ length c.args.layout.now.rows = ap (λ (l : List ImageRow). length l) c.rows-rows.ensures.value in
+    let rows : length c.rows-rows.result.now ≡ length c.args.block.now.layout.now.rows = ap (λ (l : List ImageRow). length l) c.rows-rows.ensures.value in
     let all : length c.rows-rows.result.now ≤ c.loop-image.image = c.loop-image-test.false in
-    range-true (has_entry c.args.layout.now c.args.from c.args.block.now) (length c.args.layout.now.rows) (λ i lt. c.loop-image.invariant i (omega (arith, rows, all)))
+    range-true (has_entry c.args.block.now.layout.now c.args.from c.args.block.now.bytes.now) (length c.args.block.now.layout.now.rows) (λ i lt. c.loop-image.invariant i (omega (arith, rows, all)))
 
-pub is_entry-requires-clause-room : goal.is_entry-requires-clause-room
-is_entry-requires-clause-room c =
-    let size : 32 + 24 * c.banks.result ≡ entry_size c.args.layout.now = ap (λ n. 32 + 24 * n) c.banks.ensures.value in
-    omega (arith, c.entry_at-at.ensures.room, c.requires.room)
+pub is_entry-requires : goal.is_entry-requires
+is_entry-requires c =
+    let size : 32 + 24 * c.banks.result ≡ entry_size c.args.block.now.layout.now = ap (λ n. 32 + 24 * n) c.banks.ensures.value in
+    omega (arith, c.entry_at-at.ensures.room, c.args.block.now.room, c.requires)

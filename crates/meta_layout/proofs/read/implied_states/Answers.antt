@@ -5,15 +5,15 @@ use Rattle.meta_layout.proofs.read.implied_states.Goals as goal
 
 pub loop-bank-preserved : goal.loop-bank-preserved
 loop-bank-preserved c =
-    c.push.ensures ∙ pushed (state_at_v1 c.args.layout.now c.args.block.now) c.loop-bank.states c.loop-bank.bank c.implied_state_at.result c.loop-bank.invariant c.implied_state_at.ensures
+    c.push.ensures ∙ pushed (state_at_v1 c.args.block.now.layout.now c.args.block.now.bytes.now) c.loop-bank.states c.loop-bank.bank c.implied_state_at.result c.loop-bank.invariant c.implied_state_at.ensures
 
 pub push-requires : goal.push-requires
 push-requires c =
-    let count : length c.loop-bank.states ≡ c.loop-bank.bank = length-listed (state_at_v1 c.args.layout.now c.args.block.now) c.loop-bank.states c.loop-bank.bank c.loop-bank.invariant in
+    let count : length c.loop-bank.states ≡ c.loop-bank.bank = length-listed (state_at_v1 c.args.block.now.layout.now c.args.block.now.bytes.now) c.loop-bank.states c.loop-bank.bank c.loop-bank.invariant in
     omega (arith, count, c.loop-bank-test.true, c.banks-banks.ensures.high)
 
 pub returns : goal.returns
 returns c =
     let low : c.loop-bank.bank ≤ c.banks-banks.result = c.loop-bank.auto.bank-end in
     let high : c.banks-banks.result ≤ c.loop-bank.bank = c.loop-bank-test.false in
-    listed-count (state_at_v1 c.args.layout.now c.args.block.now) c.loop-bank.states c.loop-bank.bank c.args.layout.now.banks (omega (arith, low, high, c.banks-banks.ensures.value)) c.loop-bank.invariant
+    listed-count (state_at_v1 c.args.block.now.layout.now c.args.block.now.bytes.now) c.loop-bank.states c.loop-bank.bank c.args.block.now.layout.now.banks (omega (arith, low, high, c.banks-banks.ensures.value)) c.loop-bank.invariant

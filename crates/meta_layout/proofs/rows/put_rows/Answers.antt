@@ -7,13 +7,14 @@ use Rattle.meta_layout.proofs.rows.put_rows.Goals as goal
 
 pub loop-index-preserved : goal.loop-index-preserved
 loop-index-preserved c = record {
-  place = omega (arith, c.put_row-end.ensures.next, c.loop-index.invariant.place);
+  place = omega (arith, c.put_row-end.ensures.next_is, c.loop-index.invariant.place);
   front = rows-more c.args.rows.now c.loop-index.index c.index-rows-index.result c.index-rows-index.result (take c.args.at c.args.out.now) (take c.loop-index.end c.loop-index.out) (take c.put_row-end.result c.put_row-end.new.out)
       c.loop-index-test.true c.index-rows-index.is c.loop-index.invariant.front c.put_row-end.ensures.front;
 }
 
 pub returns : goal.returns
 returns c = record {
-  next = omega (arith, c.loop-index.invariant.place);
+  next_is = omega (arith, c.loop-index.invariant.place, c.loop-index-test.false);
+  size = omega (arith, c.loop-index.auto.out);
   front = c.loop-index.invariant.front ∙ ap (λ l. take c.args.at c.args.out.now ++ flat_map row_bytes l) (take_all c.loop-index.index c.args.rows.now c.loop-index-test.false);
 }

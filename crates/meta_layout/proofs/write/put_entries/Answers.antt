@@ -22,14 +22,9 @@ put_entry-end-requires-clause-room c =
     piece-within c.loop-image.image (length c.args.layout.now.rows) (32 + 24 * c.banks-banks.result) (omega (arith, rows, below)) in
     omega (arith, room, fits, c.loop-image.invariant.place, c.loop-image.auto.out)
 
-pub put_entry-end-requires-clause-small : goal.put_entry-end-requires-clause-small
-put_entry-end-requires-clause-small c =
-    let rows : length c.rows-rows.result.now ≡ length c.args.layout.now.rows = ap (λ (l : List ImageRow). length l) c.rows-rows.ensures.value in
-    omega (arith, rows, c.loop-image-test.true, c.rows-rows.ensures.high)
-
 pub loop-image-preserved : goal.loop-image-preserved
 loop-image-preserved c = record {
-  place = omega (arith, c.put_entry-end.ensures.next, c.loop-image.invariant.place);
+  place = omega (arith, c.put_entry-end.ensures.next_is, c.loop-image.invariant.place);
   front = listed-more (entry_bytes c.args.layout.now c.args.meta.now.meta) c.loop-image.image (take c.args.at c.args.out.now) (take c.loop-image.end c.loop-image.out) (take c.put_entry-end.result c.put_entry-end.new.out)
       c.loop-image.invariant.front
       (c.put_entry-end.ensures.front
@@ -45,6 +40,7 @@ returns c =
     let high : length c.rows-rows.result.now ≤ c.loop-image.image = c.loop-image-test.false in
     let same : c.loop-image.image ≡ length c.args.layout.now.rows = omega (arith, rows, low, high) in
     record {
-      next = c.loop-image.invariant.place ∙ ap (λ n. c.args.at + n * (32 + 24 * c.banks-banks.result)) same ∙ ap (λ n. c.args.at + length c.args.layout.now.rows * (32 + 24 * n)) c.banks-banks.ensures.value;
+      next_is = c.loop-image.invariant.place ∙ ap (λ n. c.args.at + n * (32 + 24 * c.banks-banks.result)) same ∙ ap (λ n. c.args.at + length c.args.layout.now.rows * (32 + 24 * n)) c.banks-banks.ensures.value;
+      size = omega (arith, c.loop-image.auto.out);
       front = listed-all (entry_bytes c.args.layout.now c.args.meta.now.meta) c.loop-image.image (length c.args.layout.now.rows) (take c.args.at c.args.out.now) (take c.loop-image.end c.loop-image.out) same c.loop-image.invariant.front;
     }

@@ -5,7 +5,7 @@ use Rattle.meta_layout.proofs.write.put_version_one.Goals as goal
 
 pub returns : goal.returns
 returns c =
-    let size : meta_size_v1 c.args.layout.now - 4 ≡ c.put_entries-end.result = omega (arith, c.put4-a.ensures.next, c.put4-b.ensures.next, c.put4-c.ensures.next, c.put_entries-end.ensures.next) in
+    let size : meta_size_v1 c.args.layout.now - 4 ≡ c.put_entries-end.result = omega (arith, c.put4-a.ensures.next_is, c.put4-b.ensures.next_is, c.put4-c.ensures.next_is, c.put_entries-end.ensures.next_is) in
     ap (λ n. take n c.put_entries-end.new.out) size
     ∙ c.put_entries-end.ensures.front
     ∙ ap (λ l. l ++ entries_bytes c.args.layout.now c.args.meta.now.meta)

@@ -40,10 +40,10 @@ returns-in-Flash-clause-way g c = λ given was are listed told before.
     let left = g.I.Source.left c.args.source.now in
     subst (λ (p : Place). GoesAt p g.D.Flash g.H.Files g.O.Sink (g.V.Verifier.passes c.args.verifier.now) (Some (plain_of from)) (record given { script = text_of from left }) (record was { source = g.I.Source.faults c.args.source.now })
     (record are { source = g.I.Source.faults c.script_of.new.source }) c.args.flash c.args.sink.now c.run_script.result c.run_script.new.files c.run_script.new.sink) (sym c.in-Flash.is)
-    (ran _ e.ran.0 (g.H.Files.faults c.args.files.now) listed (asks-of from) c.in-Ok.ensures.script before (ran-told _ _ _ _ _ _ _ _ _ told (rw c.off.ensures.device at e.ran.1)) e.ended e.printed)
+    (ran _ e.ran.0 (g.H.Files.faults c.args.files.now) listed (asks-of from) c.in-Ok.ensures.script before (ran-told _ _ _ _ _ _ _ _ _ told (rw c.off.ensures.device at e.ran.1)) e.ends.ended e.ends.printed)
 
 pub returns-in-Flash-clause-boot_files : goal.returns-in-Flash-clause-boot_files
-returns-in-Flash-clause-boot_files g c = λ boot. c.run_script.ensures.files (c.in-Ok.ensures.boot_sends boot)
+returns-in-Flash-clause-boot_files g c = λ boot. c.run_script.ensures.keeps.unread (c.in-Ok.ensures.boot_sends boot)
 
 pub returns-in-Flash-clause-source_count : goal.returns-in-Flash-clause-source_count
 returns-in-Flash-clause-source_count g c = none-fails _ _ _ _ c.in-Ok.ensures.quiet

@@ -9,7 +9,7 @@ use Rattle.script_runs.proofs.partitioned.run_by_table.Goals as goal
 pub returns-in-Ok-clause-way : goal.returns-in-Ok-clause-way
 returns-in-Ok-clause-way g c = λ asked given was are reads told later.
     let e = c.run_at.ensures in
-    ran c.args.ready.script c.in-Ok.places (moment g.D.Flash.told g.D.Flash.counts g.D.Flash.arming g.D.Flash.on c.open.new.flash) e.ran.0 (g.H.Files.faults c.args.files.now) reads c.in-Ok.ensures.opens later (ran-told _ _ _ _ _ _ _ _ _ told e.ran.1) e.beside e.ended e.note e.printed
+    ran c.args.ready.script c.in-Ok.places (moment g.D.Flash.told g.D.Flash.counts g.D.Flash.arming g.D.Flash.on c.open.new.flash) e.ran.0 (g.H.Files.faults c.args.files.now) reads c.in-Ok.ensures.opens later (ran-told _ _ _ _ _ _ _ _ _ told e.ran.1) e.beside e.ends.ended e.ends.plain e.ends.printed
 
 pub returns-in-Err-Lacks-clause-way : goal.returns-in-Err-Lacks-clause-way
 returns-in-Err-Lacks-clause-way g c = λ asked given was are reads told later.

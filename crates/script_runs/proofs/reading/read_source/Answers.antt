@@ -22,7 +22,7 @@ loop-count-init g c = record {
 pub loop-count-preserved : goal.loop-count-preserved
 loop-count-preserved g c = record {
   text =
-      goes-on _ _ _ _ _ _ c.loop-count.limit _ _ _ _ c.in-Ok.count c.feed.result _ c.loop-count.invariant.text c.in-Ok.ensures.count c.in-Ok.ensures.bytes.0 c.in-Ok.ensures.bound.1
+      goes-on _ _ _ _ _ _ c.loop-count.limit _ _ _ _ c.in-Ok.count c.feed.result _ c.loop-count.invariant.text c.in-Ok.ensures.cause.count c.in-Ok.ensures.bytes.0 c.in-Ok.ensures.bound.1
       c.feed.ensures.some c.if-feed-count.false c.feed.ensures.taken c.extend_from_slice.ensures.items (c.is_err.ensures.negation ∙ ap not c.if-is_err.false);
   reads =
       bytes-then g.I.Source g.met.I.Source.joins c.args.source.now c.loop-count.source c.read.new.self c.loop-count.invariant.reads
@@ -35,25 +35,25 @@ pub returns-in-Err-clause-in_time : goal.returns-in-Err-clause-in_time
 returns-in-Err-clause-in_time g c = in-time-failed _ _ _ _ _ c.loop-count.limit _ c.loop-count.invariant.text c.in-Err.ensures.bytes
 
 pub returns-in-Err-clause-count : goal.returns-in-Err-clause-count
-returns-in-Err-clause-count g c = c.in-Err.ensures.count ∙ ap raised c.loop-count.invariant.text.none
+returns-in-Err-clause-count g c = c.in-Err.ensures.cause.count ∙ ap raised c.loop-count.invariant.text.none
 
 pub returns-then-count-eq0-clause-in_time : goal.returns-then-count-eq0-clause-in_time
 returns-then-count-eq0-clause-in_time g c = in-time-more _ _ _ _ _ c.loop-count.limit _ _ c.loop-count.invariant.text c.in-Ok.ensures.bytes.0 (omega (arith, c.in-Ok.ensures.bound.0, c.in-Ok.ensures.bound.1))
 
 pub returns-then-count-eq0-clause-count : goal.returns-then-count-eq0-clause-count
-returns-then-count-eq0-clause-count g c = c.in-Ok.ensures.count ∙ c.loop-count.invariant.text.none
+returns-then-count-eq0-clause-count g c = c.in-Ok.ensures.cause.count ∙ c.loop-count.invariant.text.none
 
 pub returns-then-feed-count-clause-in_time : goal.returns-then-feed-count-clause-in_time
 returns-then-feed-count-clause-in_time g c = in-time-more _ _ _ _ _ c.loop-count.limit _ _ c.loop-count.invariant.text c.in-Ok.ensures.bytes.0 (omega (arith, c.in-Ok.ensures.bound.0, c.in-Ok.ensures.bound.1))
 
 pub returns-then-feed-count-clause-count : goal.returns-then-feed-count-clause-count
-returns-then-feed-count-clause-count g c = c.in-Ok.ensures.count ∙ c.loop-count.invariant.text.none
+returns-then-feed-count-clause-count g c = c.in-Ok.ensures.cause.count ∙ c.loop-count.invariant.text.none
 
 pub returns-then-is_err-clause-in_time : goal.returns-then-is_err-clause-in_time
 returns-then-is_err-clause-in_time g c = in-time-more _ _ _ _ _ c.loop-count.limit _ _ c.loop-count.invariant.text c.in-Ok.ensures.bytes.0 (omega (arith, c.in-Ok.ensures.bound.0, c.in-Ok.ensures.bound.1))
 
 pub returns-then-is_err-clause-count : goal.returns-then-is_err-clause-count
-returns-then-is_err-clause-count g c = c.in-Ok.ensures.count ∙ c.loop-count.invariant.text.none
+returns-then-is_err-clause-count g c = c.in-Ok.ensures.cause.count ∙ c.loop-count.invariant.text.none
 
 -- ---- no read behind the end, or behind a failure
 

@@ -12,8 +12,9 @@ use Rattle.script_text.specs.Shown.{shown}
 use Rattle.script_turns.specs.Powered.{at, device, has_power, moment_of, shown_on}
 use Rattle.script_turns.specs.Runs.{Ran, calls_of, sends_none}
 use Rattle.script_runs.proofs.RunCalls.{left-behind, reads-none, sends-more}
-use Rattle.script_runs.proofs.RunEnds.{GoesOn, none-left, goes-none, goes-on, ends-ran, ends-by, ends-printed, all-ended, all-printed, steps-printed, steps-told}
+use Rattle.script_runs.proofs.RunEnds.{GoesOn, goes-none, goes-on, ends-ran, ends-by, ends-printed, all-ended, all-printed, steps-printed, steps-told}
 use Rattle.script_runs.proofs.TopPrints.{done-planned}
+use Rattle.script_runs.specs.Noted.{is_beyond_model}
 use Rattle.script_runs.proofs.running.run_script.Goals as goal
 
 pub loop-index-init : goal.loop-index-init
@@ -26,7 +27,7 @@ loop-index-init g c =
     let taken = g.O.Sink.taken c.args.sink.now in
     let was = g.O.Sink.faults c.args.sink.now in
     let powered = sym c.new-run.ensures.powered in
-    let none : turns c.new-run.result.journal ≡ [] = ap turns c.new-run.ensures.journal ∙ none-left (turns c.args.ready.room.journal) c.args.ready.no_turns in
+    let none : turns c.new-run.result.journal ≡ [] = ap turns c.new-run.ensures.journal ∙ c.args.ready.room.no_turns in
     let goes = goes-none passes g.D.Flash.tells files c.args.ready.script old from taken was refl in
     let begun = subst (λ (on : Option Fields). GoesOn passes g.D.Flash.tells files c.args.ready.script 0 [] old (at on old.told old.counts old.armed old.power) from from taken taken was was) (sym c.requires.not_booted) goes in
     record {
@@ -79,38 +80,48 @@ returns-then-status-ne0-clause-ran g c =
           (ends-ran _ _ _ _ _ _ _ _ c.loop-index.index (shown c.take-call.result) _ _ _ _ _ _ _ _ _ _ _ _ refl c.loop-index.invariant.goes (steps-told _ _ _ _ _ _ _ _ _ _ _ _ _ _ _ _ _ c.loop-index.invariant.same_files (steps-printed c.do_call-end.ensures.does c.as_slice.ensures.value c.put_line-status.ensures)))),
     )
 
-pub returns-then-status-ne0-clause-ended : goal.returns-then-status-ne0-clause-ended
-returns-then-status-ne0-clause-ended g c =
-    let at_call : slice_get c.args.ready.script c.loop-index.index ≡ Some (shown c.take-call.result) = sym (c.loop-index.invariant.calls_left c.loop-index.index (omega arith)) ∙ c.take-call.ensures.call in
-    rw c.into_done.ensures.journal (rw c.into_done.ensures.status (rw c.into_done.ensures.note
-    (ends-by _ _ _ _ _ _ _ _ c.loop-index.index (shown c.take-call.result) _ _ _ _ _ _ _ _ _ _ _ _ c.loop-index.invariant.goes at_call (steps-told _ _ _ _ _ _ _ _ _ _ _ _ _ _ _ _ _ c.loop-index.invariant.same_files (steps-printed c.do_call-end.ensures.does c.as_slice.ensures.value c.put_line-status.ensures)) c.if-status-ne0.true)))
+pub returns-then-status-ne0-clause-ends : goal.returns-then-status-ne0-clause-ends
+returns-then-status-ne0-clause-ends g c = record {
+  ended =
+      let at_call : slice_get c.args.ready.script c.loop-index.index ≡ Some (shown c.take-call.result) = sym (c.loop-index.invariant.calls_left c.loop-index.index (omega arith)) ∙ c.take-call.ensures.call in
+      rw c.into_done.ensures.journal (rw c.into_done.ensures.status (rw c.into_done.ensures.note
+      (ends-by _ _ _ _ _ _ _ _ c.loop-index.index (shown c.take-call.result) _ _ _ _ _ _ _ _ _ _ _ _ c.loop-index.invariant.goes at_call (steps-told _ _ _ _ _ _ _ _ _ _ _ _ _ _ _ _ _ c.loop-index.invariant.same_files (steps-printed c.do_call-end.ensures.does c.as_slice.ensures.value c.put_line-status.ensures)) c.if-status-ne0.true)));
+  plain = ap is_beyond_model c.into_done.ensures.note ∙ c.do_call-end.ensures.note;
+  printed =
+      rw c.into_done.ensures.journal (rw c.into_done.ensures.status
+      (ends-printed _ _ _ _ _ _ _ _ c.loop-index.index (shown c.take-call.result) _ _ _ _ _ _ _ _ _ _ _ _ c.loop-index.invariant.goes (steps-told _ _ _ _ _ _ _ _ _ _ _ _ _ _ _ _ _ c.loop-index.invariant.same_files (steps-printed c.do_call-end.ensures.does c.as_slice.ensures.value c.put_line-status.ensures))));
+}
 
-pub returns-then-status-ne0-clause-printed : goal.returns-then-status-ne0-clause-printed
-returns-then-status-ne0-clause-printed g c =
-    rw c.into_done.ensures.journal (rw c.into_done.ensures.status
-    (ends-printed _ _ _ _ _ _ _ _ c.loop-index.index (shown c.take-call.result) _ _ _ _ _ _ _ _ _ _ _ _ c.loop-index.invariant.goes (steps-told _ _ _ _ _ _ _ _ _ _ _ _ _ _ _ _ _ c.loop-index.invariant.same_files (steps-printed c.do_call-end.ensures.does c.as_slice.ensures.value c.put_line-status.ensures))))
+pub returns-then-status-ne0-clause-keeps : goal.returns-then-status-ne0-clause-keeps
+returns-then-status-ne0-clause-keeps g c = record {
+  same = c.do_call-end.ensures.same_files ∙ c.loop-index.invariant.same_files;
+  unwritten = c.do_call-end.ensures.unwritten ∙ c.loop-index.invariant.unwritten;
+  unread = λ none.
+      let at_call : slice_get c.args.ready.script c.loop-index.index ≡ Some (shown c.take-call.result) = sym (c.loop-index.invariant.calls_left c.loop-index.index (omega arith)) ∙ c.take-call.ensures.call in
+      c.do_call-end.ensures.files (reads-none c.args.ready.script c.loop-index.index (shown c.take-call.result) none at_call) ∙ c.loop-index.invariant.files none;
+  unsent = λ none.
+      let step = steps-printed c.do_call-end.ensures.does c.as_slice.ensures.value c.put_line-status.ensures in
+      let still = subst (λ (j : Journal). IsTrue (sends_none (calls_of (turns j)))) c.into_done.ensures.journal none in
+      let parts = sends-more (turns c.loop-index.run.journal) _ step.turn step.kept still in
+      c.do_call-end.ensures.files (subst (λ (x : Call). IsFalse (is_send x)) step.turns.call_is parts.1) ∙ c.loop-index.invariant.unsent parts.0;
+}
 
-pub returns-then-status-ne0-clause-files : goal.returns-then-status-ne0-clause-files
-returns-then-status-ne0-clause-files g c = λ none.
-    let at_call : slice_get c.args.ready.script c.loop-index.index ≡ Some (shown c.take-call.result) = sym (c.loop-index.invariant.calls_left c.loop-index.index (omega arith)) ∙ c.take-call.ensures.call in
-    c.do_call-end.ensures.files (reads-none c.args.ready.script c.loop-index.index (shown c.take-call.result) none at_call) ∙ c.loop-index.invariant.files none
+pub returns-clause-ends : goal.returns-clause-ends
+returns-clause-ends g c = record {
+  ended =
+      let end : c.loop-index.index ≡ length c.args.ready.script = omega (arith, c.loop-index-test.false, c.loop-index.auto.index-end, c.len-index-end.ensures) in
+      rw c.into_done-2.ensures.journal (rw c.into_done-2.ensures.status (rw c.into_done-2.ensures.note (all-ended _ _ _ _ _ _ _ _ _ _ _ _ _ (rw end at c.loop-index.invariant.goes))));
+  plain = ap is_beyond_model c.into_done-2.ensures.note;
+  printed =
+      let end : c.loop-index.index ≡ length c.args.ready.script = omega (arith, c.loop-index-test.false, c.loop-index.auto.index-end, c.len-index-end.ensures) in
+      rw c.into_done-2.ensures.journal (rw c.into_done-2.ensures.status (all-printed _ _ _ _ _ _ _ _ _ _ _ _ _ (rw end at c.loop-index.invariant.goes)));
+}
 
-pub returns-clause-ended : goal.returns-clause-ended
-returns-clause-ended g c =
-    let end : c.loop-index.index ≡ length c.args.ready.script = omega (arith, c.loop-index-test.false, c.loop-index.auto.index-end, c.len-index-end.ensures) in
-    rw c.into_done-2.ensures.journal (rw c.into_done-2.ensures.status (rw c.into_done-2.ensures.note (all-ended _ _ _ _ _ _ _ _ _ _ _ _ _ (rw end at c.loop-index.invariant.goes))))
-
-pub returns-clause-printed : goal.returns-clause-printed
-returns-clause-printed g c =
-    let end : c.loop-index.index ≡ length c.args.ready.script = omega (arith, c.loop-index-test.false, c.loop-index.auto.index-end, c.len-index-end.ensures) in
-    rw c.into_done-2.ensures.journal (rw c.into_done-2.ensures.status (all-printed _ _ _ _ _ _ _ _ _ _ _ _ _ (rw end at c.loop-index.invariant.goes)))
-
-pub returns-then-status-ne0-clause-unsent : goal.returns-then-status-ne0-clause-unsent
-returns-then-status-ne0-clause-unsent g c = λ none.
-    let step = steps-printed c.do_call-end.ensures.does c.as_slice.ensures.value c.put_line-status.ensures in
-    let still = subst (λ (j : Journal). IsTrue (sends_none (calls_of (turns j)))) c.into_done.ensures.journal none in
-    let parts = sends-more (turns c.loop-index.run.journal) _ step.turn step.kept still in
-    c.do_call-end.ensures.files (subst (λ (x : Call). IsFalse (is_send x)) step.turns.call_is parts.1) ∙ c.loop-index.invariant.unsent parts.0
-
-pub returns-clause-unsent : goal.returns-clause-unsent
-returns-clause-unsent g c = λ none. c.loop-index.invariant.unsent (subst (λ (j : Journal). IsTrue (sends_none (calls_of (turns j)))) c.into_done-2.ensures.journal none)
+pub returns-clause-keeps : goal.returns-clause-keeps
+returns-clause-keeps g c = record {
+  same = c.loop-index.invariant.same_files;
+  unwritten = c.loop-index.invariant.unwritten;
+  unread = c.loop-index.invariant.files;
+  unsent = λ none.
+      c.loop-index.invariant.unsent (subst (λ (j : Journal). IsTrue (sends_none (calls_of (turns j)))) c.into_done-2.ensures.journal none);
+}

@@ -3,13 +3,13 @@ use Rattle.host_io.specs.Contents.{Directory}
 use Rattle.fwu_model.specs.Call.{Call}
 use Rattle.fwu_model.specs.Reply.{Turn}
 use Rattle.script_text.specs.Shown.{shown}
-use Rattle.script_turns.specs.Powered.{Moment}
+use Rattle.script_turns.specs.Powered.{TurnMoment}
 use Rattle.script_turns.specs.Turning.{Turns}
 use Rattle.script_turns.proofs.Called.{shown-open}
 use Rattle.script_turns.proofs.calling.call_turn.Goals as goal
 
 -- the turn of the call that this one is
-as-called : (passes : List ℕ → Bool) (tells : Bool) (c what : Call) (t : Turn) (old new : Moment) → c ≡ what → ((files : Option Directory) (faults : ℕ) → Turns passes tells files what t old new faults faults)
+as-called : (passes : List ℕ → Bool) (tells : Bool) (c what : Call) (t : Turn) (old new : TurnMoment) → c ≡ what → ((files : Option Directory) (faults : ℕ) → Turns passes tells files what t old new faults faults)
     → (files : Option Directory) (faults : ℕ) → Turns passes tells files c t old new faults faults
 as-called passes tells c what t old new is turns files faults = subst (λ (x : Call). Turns passes tells files x t old new faults faults) (sym is) (turns files faults)
 

@@ -11,7 +11,7 @@ use Rattle.script_turns.specs.Calls.{moment_where}
 use Rattle.script_turns.specs.Turning.{quiet_turn}
 use Rattle.script_turns.specs.Sending.{send_call}
 use Rattle.script_turns.proofs.SendTurns.{bad-table, lacks-file, moment-as, turns-as, unread-table}
-use Rattle.script_turns.proofs.Quiets.{stays-free}
+use Rattle.flash_core.proofs.Unarmed.{unarmed_none}
 use Rattle.script_turns.proofs.sending.send_turn.Goals as goal
 
 unread-by : (files : Option Directory) (name : List ℕ) (was are : ℕ) → Rose was are ⊎ Lacks files name → Rose was are ⊎ LacksFile files name
@@ -37,7 +37,7 @@ returns-in-Err-Package-clause-turns g c =
     (c.answered.ensures.turn ∙ ap (λ (x : Call). quiet_turn x answer) c.send_call.ensures) refl
     (moment-as agent c.answered.result.here true c.answered.ensures.here)
     (bad-table c.args.partial _ _ _ _ _ _ _ _ _ _ _ _ read.cause.later answer (omega (arith, read.cause.once)) refl refl read.told (read.told, refl)
-    (λ lacks. let failed = read.missing lacks in cc) (record { told = refl; counts = refl; armed = refl; power = refl }) (stays-free _ _))
+    (λ lacks. let failed = read.missing lacks in cc) (record { told = refl; counts = refl; armed = refl; power = refl }) (unarmed_none tt _ _))
 
 pub returns-in-Err-Capsule-clause-turns : goal.returns-in-Err-Capsule-clause-turns
 returns-in-Err-Capsule-clause-turns g c =
@@ -49,7 +49,7 @@ returns-in-Err-Capsule-clause-turns g c =
     (turned.ensures.turn ∙ ap (λ (x : Call). quiet_turn x answer) c.send_call-in-Err-Capsule.ensures) refl
     (moment-as agent turned.result.here true turned.ensures.here)
     (bad-table c.args.partial _ _ _ _ _ _ _ _ _ _ _ _ read.cause.later answer (omega (arith, read.cause.once)) refl refl read.told (read.told, refl)
-    (λ lacks. let failed = read.missing lacks in cc) (record { told = refl; counts = refl; armed = refl; power = refl }) (stays-free _ _))
+    (λ lacks. let failed = read.missing lacks in cc) (record { told = refl; counts = refl; armed = refl; power = refl }) (unarmed_none tt _ _))
 
 pub returns-in-Err-ReadFailed-clause-turns : goal.returns-in-Err-ReadFailed-clause-turns
 returns-in-Err-ReadFailed-clause-turns g c =

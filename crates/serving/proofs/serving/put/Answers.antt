@@ -6,4 +6,4 @@ pub returns-in-Err-Failed-clause-puts : goal.returns-in-Err-Failed-clause-puts
 returns-in-Err-Failed-clause-puts g c =
     let bytes = rw c.in-Err-Failed.field-0-is at c.in-Err-Failed.ensures.bytes in
     let cause = c.in-Err-Failed.ensures.cause in
-    front refl bytes.0 bytes.1 cause.later (rw c.in-Err-Failed.field-0-is at c.in-Err-Failed.ensures.count)
+    front refl bytes.0 bytes.1 cause.later (rw c.in-Err-Failed.field-0-is at c.in-Err-Failed.ensures.cause.count)

@@ -3,7 +3,7 @@ use Rattle.host_io.proofs.Once.{once-none}
 use Rattle.fwu_model.specs.Call as call
 use Rattle.fwu_model.specs.Reply.{Turn}
 use Rattle.script_turns.specs.Powered.{moment_of}
-use Rattle.wire_frames.specs.Exchange.{Answered}
+use Rattle.wire_frames.specs.Exchange.{LastAnswer}
 use Rattle.serving.specs.Acting.{OneStop, OneTurn}
 use Rattle.serving.specs.Going.{GoesOn}
 use Rattle.serving.specs.Scene.{at, port, run_of, scene}
@@ -34,7 +34,7 @@ returns-clause-serves g c =
     let one = subst (λ (j : List Turn). OneTurn E call.Boot boots.0 (record { moment = start; journal = j }) mid) c.new.ensures boots.1 in
     let goes = subst (λ (f : g.row.H.Denot). GoesOn (scene passes g.D.Flash.tells (g.H.Files.contents f) (g.H.Files.faults f)) (at c.boot.new.serving sink) new end from to) c.boot.ensures.leaves.files c.serve_all-end.ensures.goes in
     serves-on E start sink c.requires.not_booted boots.0 mid one boots.2 new end from to
-    (subst (λ (e : Answered). GoesOn E (record { run = mid; exchange = e; sink = sink }) new end from to) (c.boot.ensures.exchange ∙ c.new-2.ensures) goes)
+    (subst (λ (e : LastAnswer). GoesOn E (record { run = mid; exchange = e; sink = sink }) new end from to) (c.boot.ensures.exchange ∙ c.new-2.ensures) goes)
 
 -- ---- what holds however it ended
 

@@ -13,7 +13,7 @@ pieces-preserved c =
     let width : at + 64 - at ≡ 64 = omega arith in (
       omega arith,
       λ j lt m held.
-          let long = four_lengths c.args.a.now c.args.b.now c.args.c.now c.args.d.now c.requires.b c.requires.c c.requires.d j lt in
+          let long = four_lengths c.args.a.now c.args.b.now c.args.c.now c.args.d.now c.requires.second c.requires.third c.requires.fourth j lt in
           rw (next, c.compress.ensures j lt)
           (block_more (lane j c.pieces.state) m (of_four c.args.a.now c.args.b.now c.args.c.now c.args.d.now j) _ at
           (c.pieces.invariant.1 j lt m held) (omega (arith, long)) (four_parts c.args.a.now c.args.b.now c.args.c.now c.args.d.now at _ width j lt)),
@@ -21,6 +21,6 @@ pieces-preserved c =
 
 pub returns : goal.returns
 returns c = λ j lt m held.
-    let long = four_lengths c.args.a.now c.args.b.now c.args.c.now c.args.d.now c.requires.b c.requires.c c.requires.d j lt in
+    let long = four_lengths c.args.a.now c.args.b.now c.args.c.now c.args.d.now c.requires.second c.requires.third c.requires.fourth j lt in
     let done : length (of_four c.args.a.now c.args.b.now c.args.c.now c.args.d.now j) ≤ 64 * c.pieces.i = omega (arith, long, c.requires.whole) in
     whole_piece (lane j c.pieces.state) m _ (64 * c.pieces.i) done (c.pieces.invariant.1 j lt m held)

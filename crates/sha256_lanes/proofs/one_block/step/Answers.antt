@@ -11,8 +11,8 @@ returns c = λ b h before.
     let words = schedule b 48 in
     let word = c.next_word-word.result in
     let here = c.next_word-word.ensures
-    ∙ next_word_same c.args.w.now words t c.requires.after before.0
-    ∙ sym (slice_index-schedule_next b 48 t c.requires.after (omega arith)) in (
+    ∙ next_word_same c.args.w.now words t c.requires.0 before.0
+    ∙ sym (slice_index-schedule_next b 48 t c.requires.0 (omega arith)) in (
       word_more (λ (i : ℕ). slice_index words i) c.args.w.now t word (omega arith) before.0 here,
       c.round.ensures
           ∙ ap (λ (v : List ℕ). round v k word) before.1

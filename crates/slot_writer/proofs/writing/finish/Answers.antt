@@ -1,6 +1,6 @@
 use Rattle.std.proofs.Common.{◌≡◌, ℕ, ◌+◌, ◌*◌, ◌/◌, ◌%◌, ◌≤◌, length, take, sym, ap, ◌∙◌, subst, arith}
 use Rattle.std.proofs.lemmas.List.{length-take-le}
-use Rattle.slot_writer.specs.Slots.{Finishes, blocks_for, done_of}
+use Rattle.slot_writer.specs.Slots.{FinishesImage, blocks_for, done_of}
 use Rattle.slot_writer.specs.Writes.{writes_behind, writes_to_finish}
 use Rattle.slot_writer.proofs.Appending.{finished-by, padded_size}
 use Rattle.slot_writer.proofs.Counting.{finishes-kept}
@@ -12,7 +12,7 @@ returns-clause-finishes g c tells =
     let s = g.D.Flash.told c.args.flash.now in
     let m = g.D.Flash.told c.program_behind.new.flash in
     let fits : 4096 * c.args.first + 4096 * blocks_for c.args.size ≤ length s.now = omega (arith, c.requires.inside, (g.met.D.Flash.sound c.args.flash.now tells).size) in
-    subst (Finishes c.barrier.result c.args.first c.args.size c.args.rest.now s) (sym (c.barrier.ensures.content tells))
+    subst (FinishesImage c.barrier.result c.args.first c.args.size c.args.rest.now s) (sym (c.barrier.ensures.content tells))
     (finished-by c.args.first c.args.size c.granule_for.result c.args.rest.now c.padded-last.result s m c.granule_for.ensures c.told-rest fits c.padded-last.ensures (c.in_ok-program_behind.ensures.programs tells) c.barrier.result)
 
 pub returns-clause-arming : goal.returns-clause-arming

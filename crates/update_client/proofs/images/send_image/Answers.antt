@@ -8,7 +8,7 @@ use Rattle.agent_calls.specs.Takes.{pieces_of}
 use Rattle.update_client.specs.declared.stops.SendStop.{SendStop}
 use Rattle.update_client.specs.Pieces.{SendsImage}
 use Rattle.update_client.proofs.WrittenPiece.{image-unopened, image-unwritten, image-sent, image-uncommitted}
-use Rattle.update_client.specs.Takes.{FirstTake, FrontTakes, ImageStarts, OnUnread}
+use Rattle.update_client.specs.Takes.{FirstTake, PayloadFrontTakes, ImageStarts, OnUnread}
 use Rattle.update_client.proofs.ImagesTaking.{image-takes}
 use Rattle.update_client.proofs.Keeping.{keeps-called, keeps-stopped, keeps-then}
 use Rattle.update_client.proofs.Stopped.{handed-on}
@@ -83,7 +83,7 @@ returns-in_err-write_image-clause-takes g c =
     let arming = g.D.Flash.arming (device c.write_image.new.agent) in
     record {
       done = tt;
-      unread = unread-then (Unit {0}) (Unit {0}) c.in_err-write_image.field-0.0 (FrontTakes size entry (moment c.open.new.self) opened arming)
+      unread = unread-then (Unit {0}) (Unit {0}) c.in_err-write_image.field-0.0 (PayloadFrontTakes size entry (moment c.open.new.self) opened arming)
           (ImageStarts size entry (moment c.args.agent.now) armed arming)
           (λ front. image-starts size entry c.in-Ok.field-0 (moment c.args.agent.now) (moment c.open.new.self) armed opened arming opens
           (ap (λ d. g.D.Flash.arming d) c.in-Ok.ensures.still) front) c.in_err-write_image.ensures.takes.unread;

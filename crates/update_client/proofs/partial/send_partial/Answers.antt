@@ -21,7 +21,7 @@ use Rattle.update_client.proofs.Spending.{goes-of, here-before, unbegun-spent}
 use Rattle.update_client.specs.Choosing.{refused_image}
 use Rattle.update_client.specs.Packages.{HoldsPayloads}
 use Rattle.update_client.specs.Finishes.{InstallsImages}
-use Rattle.update_client.specs.Partial.{ArePresent, SendsOver, present, types_of, writes_copied, writes_over}
+use Rattle.update_client.specs.Partial.{AreSendable, SendsOver, present, types_of, writes_copied, writes_over}
 use Rattle.fip_tables.proofs.Chosen.{present_few}
 use Rattle.update_client.proofs.Named.{known-types}
 use Rattle.update_client.proofs.Present.{counted-by, placed-in, present-have, rows-found, rows-some}
@@ -49,7 +49,7 @@ types_in-types-requires g c =
     let L = agent.layout in
     let toc = c.args.toc.now in
     let fit = c.rows.ensures.fits in
-    let are = subst (λ (rs : List ImageRow). ArePresent rs toc c.in_ok-entries.entries) c.rows.ensures.value c.in_ok-entries.ensures in
+    let are = subst (λ (rs : List ImageRow). AreSendable rs toc c.in_ok-entries.entries) c.rows.ensures.value c.in_ok-entries.ensures in
     let few = present_few L.rows toc in
     omega (
       arith,
@@ -65,7 +65,7 @@ returns-in-Err-clause-sends g c = λ here.
     let L = agent.layout in
     let toc = c.args.toc.now in
     let fit = c.rows.ensures.fits in
-    let are = subst (λ (rs : List ImageRow). ArePresent rs toc c.in_ok-entries.entries) c.rows.ensures.value c.in_ok-entries.ensures in
+    let are = subst (λ (rs : List ImageRow). AreSendable rs toc c.in_ok-entries.entries) c.rows.ensures.value c.in_ok-entries.ensures in
     let listed : take c.len.result c.types_in-types.result ≡ types_of (present L.rows toc) =
     ap (λ (n : ℕ). take n c.types_in-types.result) (c.len.ensures.length ∙ ap (λ (l : List Entry). length l) (sym c.as_slice.ensures))
     ∙ c.types_in-types.ensures ∙ ap types_of (c.as_slice.ensures ∙ are.entries_are) in
@@ -84,7 +84,7 @@ pub install-requires-clause-payloads : goal.install-requires-clause-payloads
 install-requires-clause-payloads g c =
     let rows = c.args.agent.now.layout.rows in
     let toc = c.args.toc.now in
-    let are = subst (λ (rs : List ImageRow). ArePresent rs toc c.in_ok-entries.entries) c.rows.ensures.value c.in_ok-entries.ensures in
+    let are = subst (λ (rs : List ImageRow). AreSendable rs toc c.in_ok-entries.entries) c.rows.ensures.value c.in_ok-entries.ensures in
     subst (λ (l : List Entry). HoldsPayloads (g.H.Files.contents c.args.files.now) c.args.name.now l) (sym (c.as_slice-2.ensures ∙ are.entries_are))
     (record {
       ends = present-have (λ e. e.offset + e.size < 2 ^ 64) rows toc c.requires.payloads.ends;
@@ -100,7 +100,7 @@ returns-in_err-install-clause-sends g c =
     let L = agent.layout in
     let toc = c.args.toc.now in
     let fit = c.rows.ensures.fits in
-    let are = subst (λ (rs : List ImageRow). ArePresent rs toc c.in_ok-entries.entries) c.rows.ensures.value c.in_ok-entries.ensures in
+    let are = subst (λ (rs : List ImageRow). AreSendable rs toc c.in_ok-entries.entries) c.rows.ensures.value c.in_ok-entries.ensures in
     let listed : take c.len.result c.types_in-types.result ≡ types_of (present L.rows toc) =
     ap (λ (n : ℕ). take n c.types_in-types.result) (c.len.ensures.length ∙ ap (λ (l : List Entry). length l) (sym c.as_slice.ensures))
     ∙ c.types_in-types.ensures ∙ ap types_of (c.as_slice.ensures ∙ are.entries_are) in
@@ -118,7 +118,7 @@ returns-clause-counted g c =
     let agent = c.args.agent.now in
     let L = agent.layout in
     let toc = c.args.toc.now in
-    let are = subst (λ (rs : List ImageRow). ArePresent rs toc c.in_ok-entries.entries) c.rows.ensures.value c.in_ok-entries.ensures in
+    let are = subst (λ (rs : List ImageRow). AreSendable rs toc c.in_ok-entries.entries) c.rows.ensures.value c.in_ok-entries.ensures in
     let images = c.len-images.ensures.length ∙ ap (λ (l : List Entry). length l) are.entries_are in
     let few = present_few L.rows toc in
     counted-by L.rows toc _ _ _ images (c.skipped-skipped.ensures ∙ ap (λ (rows : List ImageRow). skipped rows toc) c.rows-3.ensures.value)
@@ -130,7 +130,7 @@ returns-clause-sends g c = λ here.
     let L = agent.layout in
     let toc = c.args.toc.now in
     let fit = c.rows.ensures.fits in
-    let are = subst (λ (rs : List ImageRow). ArePresent rs toc c.in_ok-entries.entries) c.rows.ensures.value c.in_ok-entries.ensures in
+    let are = subst (λ (rs : List ImageRow). AreSendable rs toc c.in_ok-entries.entries) c.rows.ensures.value c.in_ok-entries.ensures in
     let listed : take c.len.result c.types_in-types.result ≡ types_of (present L.rows toc) =
     ap (λ (n : ℕ). take n c.types_in-types.result) (c.len.ensures.length ∙ ap (λ (l : List Entry). length l) (sym c.as_slice.ensures))
     ∙ c.types_in-types.ensures ∙ ap types_of (c.as_slice.ensures ∙ are.entries_are) in
@@ -146,7 +146,7 @@ returns-clause-sends g c = λ here.
 
 pub returns-clause-installs : goal.returns-clause-installs
 returns-clause-installs g c = λ here s x shows.
-    let are = subst (λ (rs : List ImageRow). ArePresent rs c.args.toc.now c.in_ok-entries.entries) c.rows.ensures.value c.in_ok-entries.ensures in
+    let are = subst (λ (rs : List ImageRow). AreSendable rs c.args.toc.now c.in_ok-entries.entries) c.rows.ensures.value c.in_ok-entries.ensures in
     installs-over _ _ _ _ _ _ _ _ (returns-clause-sends g c here) c.rows.ensures.fits are.none s x shows
 
 pub returns-clause-switched : goal.returns-clause-switched
@@ -163,7 +163,7 @@ overflow_sub-copied g c =
     let L = agent.layout in
     let toc = c.args.toc.now in
     let fit = c.rows.ensures.fits in
-    let are = subst (λ (rs : List ImageRow). ArePresent rs toc c.in_ok-entries.entries) c.rows.ensures.value c.in_ok-entries.ensures in
+    let are = subst (λ (rs : List ImageRow). AreSendable rs toc c.in_ok-entries.entries) c.rows.ensures.value c.in_ok-entries.ensures in
     let few = present_few L.rows toc in
     omega (arith, few, c.len-images.ensures.length, ap (λ (l : List Entry). length l) are.entries_are, ap (λ (l : List ImageRow). length l) c.rows-2.ensures.value)
 
@@ -206,7 +206,7 @@ returns-clause-takes g c =
     let L = agent.layout in
     let toc = c.args.toc.now in
     let fit = c.rows.ensures.fits in
-    let are = subst (λ (rs : List ImageRow). ArePresent rs toc c.in_ok-entries.entries) c.rows.ensures.value c.in_ok-entries.ensures in
+    let are = subst (λ (rs : List ImageRow). AreSendable rs toc c.in_ok-entries.entries) c.rows.ensures.value c.in_ok-entries.ensures in
     let listed : take c.len.result c.types_in-types.result ≡ types_of (present L.rows toc) =
     ap (λ (n : ℕ). take n c.types_in-types.result) (c.len.ensures.length ∙ ap (λ (l : List Entry). length l) (sym c.as_slice.ensures))
     ∙ c.types_in-types.ensures ∙ ap types_of (c.as_slice.ensures ∙ are.entries_are) in
@@ -259,7 +259,7 @@ returns-in_err-install-clause-takes g c =
     let L = agent.layout in
     let toc = c.args.toc.now in
     let fit = c.rows.ensures.fits in
-    let are = subst (λ (rs : List ImageRow). ArePresent rs toc c.in_ok-entries.entries) c.rows.ensures.value c.in_ok-entries.ensures in
+    let are = subst (λ (rs : List ImageRow). AreSendable rs toc c.in_ok-entries.entries) c.rows.ensures.value c.in_ok-entries.ensures in
     let listed : take c.len.result c.types_in-types.result ≡ types_of (present L.rows toc) =
     ap (λ (n : ℕ). take n c.types_in-types.result) (c.len.ensures.length ∙ ap (λ (l : List Entry). length l) (sym c.as_slice.ensures))
     ∙ c.types_in-types.ensures ∙ ap types_of (c.as_slice.ensures ∙ are.entries_are) in

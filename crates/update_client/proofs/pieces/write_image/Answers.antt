@@ -8,7 +8,7 @@ use Rattle.update_client.specs.Pieces.{WritesPiece}
 use Rattle.update_client.proofs.WrittenImage.{first-none, first-more, image-stopped, image-done}
 use Rattle.update_client.proofs.Keeping.{keeps-none, keeps-ok, keeps-on, keeps-then}
 use Rattle.update_client.proofs.Stopped.{handed-on}
-use Rattle.update_client.specs.Takes.{FrontTakes}
+use Rattle.update_client.specs.Takes.{PayloadFrontTakes}
 use Rattle.update_client.proofs.Unsent.{front-takes, unread-then}
 use Rattle.update_client.proofs.pieces.write_image.Goals as goal
 
@@ -67,7 +67,7 @@ returns-in_err-at-clause-takes g c =
     record {
       done = tt;
       unread = unread-then ℕ (Unit {0}) c.in_err-at.field-0.0 (c.write_piece.new.agent ≡ c.loop-at.agent)
-          (FrontTakes size entry (moment c.args.agent.now) armed arming)
+          (PayloadFrontTakes size entry (moment c.args.agent.now) armed arming)
           (λ same. front-takes size entry c.loop-at.at (moment c.args.agent.now) armed (g.D.Flash.arming (device c.loop-at.agent)) arming more
           (ap (λ a. g.D.Flash.arming (device a)) same) c.loop-at.invariant.takes) c.in_err-at.ensures.unsent;
     })

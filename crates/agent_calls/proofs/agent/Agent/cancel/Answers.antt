@@ -1,7 +1,7 @@
 use Rattle.std.proofs.Common.{◌≡◌, [], sym, ap, subst}
 use Rattle.fwu_model.specs.Reply.{Success}
 use Rattle.agent_kept.specs.declared.kinds.Request.TheVariants as request
-use Rattle.agent_machine.specs.Asks.{IsQuiet}
+use Rattle.agent_machine.specs.Asks.{IsQuietPlan}
 use Rattle.agent_machine.specs.Carries.{MayKeep}
 use Rattle.agent_machine.specs.Fields.{Fields}
 use Rattle.agent_machine.proofs.Answered.{refused-meets}
@@ -13,7 +13,7 @@ use Rattle.agent_calls.proofs.agent.Agent.cancel.Goals as goal
 pub keep-requires-clause-quiet : goal.keep-requires-clause-quiet
 keep-requires-clause-quiet g c =
     let f : Fields = fields c.args.self.now in
-    subst IsQuiet (sym (cancels f.session f.meta.meta c.in-Ok.plan c.in-Ok.ensures.asked)) tt
+    subst IsQuietPlan (sym (cancels f.session f.meta.meta c.in-Ok.plan c.in-Ok.ensures.asked)) tt
 
 pub keep-requires-clause-may : goal.keep-requires-clause-may
 keep-requires-clause-may g c =
@@ -26,7 +26,7 @@ returns-in-Ok-clause-meets g c here passes =
     let f : Fields = fields a in
     let own = sym (cancels f.session f.meta.meta c.in-Ok.plan c.in-Ok.ensures.asked) in
     quiet-success (moment a) (moment c.keep.new.self) (a.fitting here) a.session.sound (a.knows here) passes request.Cancel [] (λ E s setting speaks. tt)
-    c.in-Ok.plan (c.in-Ok.ensures.plans passes) (subst IsQuiet own tt) (ap g.D.Flash.told c.keep.ensures.device) c.keep.ensures.carried
+    c.in-Ok.plan (c.in-Ok.ensures.plans passes) (subst IsQuietPlan own tt) (ap g.D.Flash.told c.keep.ensures.device) c.keep.ensures.carried
     (subst SaysSuccess own tt)
 
 pub returns-in-Err-clause-meets : goal.returns-in-Err-clause-meets

@@ -3,7 +3,7 @@ use Rattle.flash_core.specs.declared.flash.FlashStop.{FlashStop}
 use Rattle.meta_layout.proofs.Fits.{meta-fits}
 use Rattle.agent_kept.specs.Kept.{kept}
 use Rattle.fwu_formats.specs.Metadata.{MetaRead}
-use Rattle.moves.specs.Law.{Done}
+use Rattle.moves.specs.Law.{CallResult}
 use Rattle.agent_state.specs.Settles.{meta_planned}
 use Rattle.agent_machine.specs.Stored.{CarriesOut, StoresIf, is_stored}
 use Rattle.agent_machine.proofs.StoredSpends.{takes-store}
@@ -97,7 +97,7 @@ returns-in-Err-clause-stores g c tells =
     let f = fields c.args.self.now in
     let s = g.D.Flash.told c.args.self.now.flash in
     let t = g.D.Flash.told c.store_if.new.flash in
-    subst (λ (r : Done). StoresIf (is_stored c.args.plan) r f.layout (meta_planned f.session f.meta.meta c.args.plan) s t) (sym c.stopped.ensures.stop)
+    subst (λ (r : CallResult). StoresIf (is_stored c.args.plan) r f.layout (meta_planned f.session f.meta.meta c.args.plan) s t) (sym c.stopped.ensures.stop)
     (subst (λ (b : Bool). StoresIf {T = Unit {0}} b (Err c.in-Err.stop) f.layout (meta_planned f.session f.meta.meta c.args.plan) s t)
     c.is_stored-stored.ensures
     (subst (λ (m : MetaRead). StoresIf {T = Unit {0}} c.is_stored-stored.result (Err c.in-Err.stop) f.layout m.meta s t) c.settle.ensures.meta

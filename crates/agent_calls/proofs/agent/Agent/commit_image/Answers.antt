@@ -6,8 +6,8 @@ use Rattle.fwu_formats.specs.Metadata.{MetaRead}
 use Rattle.meta_layout.proofs.Fits.{meta-fits}
 use Rattle.fwu_model.specs.Reply.{Success}
 use Rattle.fwu_model.specs.Call as call
-use Rattle.moves.specs.Law.{Done}
-use Rattle.slot_writer.specs.Slots.{Finishes}
+use Rattle.moves.specs.Law.{CallResult}
+use Rattle.slot_writer.specs.Slots.{FinishesImage}
 use Rattle.slot_writer.specs.Writes.{SpendsArming, writes_to_finish}
 use Rattle.agent_kept.specs.declared.kinds.Plan.TheVariants as plan
 use Rattle.agent_kept.specs.Kept.{Kept, kept, part_at, size_of}
@@ -15,7 +15,7 @@ use Rattle.agent_state.specs.Settles.{Settles}
 use Rattle.agent_machine.specs.Fields.{Fields, target, rest_of}
 use Rattle.agent_machine.specs.Knows.{Fitting, Knows}
 use Rattle.agent_machine.specs.Moment.{Moment}
-use Rattle.agent_machine.specs.Meets.{Leaves, Meets}
+use Rattle.agent_machine.specs.Meets.{LeavesFlash, Meets}
 use Rattle.agent_machine.proofs.Committing.{slot-room}
 use Rattle.agent_machine.proofs.Room.{slot-inside, meta-of-session}
 use Rattle.agent_machine.proofs.Answered.{stopped-meets}
@@ -28,11 +28,11 @@ first-at : (f : Fields) (image bank first : ℕ) → bank ≡ target f → first
 first-at f image bank first here is = is ∙ ap (λ (b : ℕ). start f.layout b image) here
 
 -- what was finished, by the fields
-finishes-at : (result : Done) (f : Fields) (image first size : ℕ) (rest : List ℕ) (s t : Told) → first ≡ start f.layout (target f) image
-    → size ≡ size_of (part_at f.session image) → Finishes result first size rest s t
-    → Finishes result (start f.layout (target f) image) (size_of (part_at f.session image)) rest s t
+finishes-at : (result : CallResult) (f : Fields) (image first size : ℕ) (rest : List ℕ) (s t : Told) → first ≡ start f.layout (target f) image
+    → size ≡ size_of (part_at f.session image) → FinishesImage result first size rest s t
+    → FinishesImage result (start f.layout (target f) image) (size_of (part_at f.session image)) rest s t
 finishes-at result f image first size rest s t at long finishes =
-    subst (λ (a : ℕ). Finishes result a (size_of (part_at f.session image)) rest s t) at (subst (λ (n : ℕ). Finishes result first n rest s t) long finishes)
+    subst (λ (a : ℕ). FinishesImage result a (size_of (part_at f.session image)) rest s t) at (subst (λ (n : ℕ). FinishesImage result first n rest s t) long finishes)
 
 pub finish-requires-clause-inside : goal.finish-requires-clause-inside
 finish-requires-clause-inside g c =
@@ -117,7 +117,7 @@ returns-in-Err-clause-meets g c passes h req most decides =
     let old : Moment = record { tells = g.D.Flash.tells; told = s; fields = f } in
     let new : Moment = record { tells = g.D.Flash.tells; told = t; fields = f } in
     stopped-meets {T = Unit {0}} (λ value r. r ≡ Success) c.stopped.result passes (call.Commit h req) old new c.stopped.ensures.stopped
-    (subst (λ (r : Done). Leaves r passes (call.Commit h req) old new) (sym c.stopped.ensures.stop)
+    (subst (λ (r : CallResult). LeavesFlash r passes (call.Commit h req) old new) (sym c.stopped.ensures.stop)
     (commit-leaves f g.D.Flash.tells s t c.args.number c.args.image c.args.bit (c.args.self.now.fitting here) c.args.self.now.session.sound
     (c.args.self.now.knows here) c.requires.plan
     (λ tells. omega (arith, c.args.self.now.inside here, (g.met.D.Flash.sound c.args.self.now.flash tells).size)) (Err c.in-Err.stop)
@@ -152,13 +152,13 @@ returns-in-Err-clause-image g c =
     let size : ℕ = size_of (part_at f.session c.args.image) in
     record {
       ends = λ tells.
-          subst (λ (r : Done). Finishes r (start f.layout (target f) c.args.image) size (rest_of f c.args.image) (d.told a.flash) (d.told b))
+          subst (λ (r : CallResult). FinishesImage r (start f.layout (target f) c.args.image) size (rest_of f c.args.image) (d.told a.flash) (d.told b))
           (sym c.stopped.ensures.stop)
           (finishes-at (Err c.in-Err.stop) f c.args.image c.start-first.result c.size-size.result (rest_of f c.args.image) (d.told a.flash) (d.told b)
           (first-at f c.args.image c.target-bank.result c.start-first.result c.target-bank.ensures.value c.start-first.ensures)
           c.size-size.ensures (c.in-Err.ensures.finishes tells));
       spent =
-          subst (λ (r : Done). SpendsArming r (writes_to_finish size) (d.arming a.flash) (d.arming b) (d.counts a.flash) (d.counts b))
+          subst (λ (r : CallResult). SpendsArming r (writes_to_finish size) (d.arming a.flash) (d.arming b) (d.counts a.flash) (d.counts b))
           (sym c.stopped.ensures.stop)
           (subst (λ (m : ℕ). SpendsArming {T = Unit {0}} (Err c.in-Err.stop) (writes_to_finish m) (d.arming a.flash) (d.arming b)
           (d.counts a.flash) (d.counts b)) c.size-size.ensures c.in-Err.ensures.arming);

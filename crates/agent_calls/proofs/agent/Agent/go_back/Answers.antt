@@ -5,7 +5,7 @@ use Rattle.flash_core.specs.Told.{Told}
 use Rattle.fwu_model.specs.declared.kinds.Status.TheVariants as status
 use Rattle.fwu_model.specs.State.{Back}
 use Rattle.fwu_model.specs.MoveMetas.{meta_after}
-use Rattle.moves.specs.Law.{Done}
+use Rattle.moves.specs.Law.{CallResult}
 use Rattle.replicas.specs.Stores.{Stores}
 use Rattle.agent_kept.specs.Kept.{kept}
 use Rattle.agent_state.specs.Ruled.{ruled_as}
@@ -124,7 +124,7 @@ returns-in-Err-clause-changes g c =
     record {
       still = tried _ (promised c.may_try.result (may_try_kept a.meta.meta (kept a.session) a.boot) true c.may_try.ensures c.if-not-may_try.false);
       stores = λ done tells.
-          subst (λ (r : Done). Stores r f.layout (meta_after f.meta.meta Back) (g.D.Flash.told a.flash) t) (sym c.stopped.ensures.stop)
+          subst (λ (r : CallResult). Stores r f.layout (meta_after f.meta.meta Back) (g.D.Flash.told a.flash) t) (sym c.stopped.ensures.stop)
           (back-stopped f (a.fitting c.requires.here) c.in-Err.stop (g.D.Flash.told a.flash) t
           (omega (arith, a.inside c.requires.here, (g.met.D.Flash.sound a.flash tells).size)) (c.in-Err.ensures.reads.content tells));
       keeps = tt;

@@ -1,7 +1,7 @@
 use Rattle.std.proofs.Common.{subst}
 use Rattle.fwu_formats.specs.Digests.{passes_any}
 use Rattle.agent_kept.specs.declared.kinds.Decision.{Decision}
-use Rattle.agent_state.specs.Decides.{Decides}
+use Rattle.agent_state.specs.Decides.{DecidesRequest}
 use Rattle.agent_machine.specs.Fields.{Fields}
 use Rattle.agent_machine.proofs.Room.{meta-of-session, rows-some}
 use Rattle.agent_machine.proofs.Verdicts.{refuses-any, plans-any}
@@ -19,13 +19,13 @@ pub returns-in-Do-clause-plans : goal.returns-in-Do-clause-plans
 returns-in-Do-clause-plans g c passes =
     let f : Fields = fields c.args.self.now in
     plans-any passes_any passes f.meta f.counter f.session f.boot c.args.request.now c.requires.plain c.in-Do.plan
-    (subst (λ (d : Decision). Decides passes_any f.meta f.counter f.session f.boot c.args.request.now d) c.in-Do.is c.decide.ensures.decides)
+    (subst (λ (d : Decision). DecidesRequest passes_any f.meta f.counter f.session f.boot c.args.request.now d) c.in-Do.is c.decide.ensures.decides)
 
 pub returns-in-Refused-clause-plans : goal.returns-in-Refused-clause-plans
 returns-in-Refused-clause-plans g c passes =
     let f : Fields = fields c.args.self.now in
     refuses-any passes_any passes f.meta f.counter f.session f.boot c.args.request.now c.requires.plain c.in-Refused.status
-    (subst (λ (d : Decision). Decides passes_any f.meta f.counter f.session f.boot c.args.request.now d) c.in-Refused.is c.decide.ensures.decides)
+    (subst (λ (d : Decision). DecidesRequest passes_any f.meta f.counter f.session f.boot c.args.request.now d) c.in-Refused.is c.decide.ensures.decides)
 
 -- none of these requests waits for a verdict
 pub returns-in-ByVerdict-clause-plans : goal.returns-in-ByVerdict-clause-plans

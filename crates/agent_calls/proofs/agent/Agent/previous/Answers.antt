@@ -3,7 +3,7 @@ use Rattle.fwu_formats.specs.Layout.{ImageRow}
 use Rattle.agent_kept.specs.Kept.{kept}
 use Rattle.agent_kept.specs.declared.kinds.Request.TheVariants as request
 use Rattle.agent_kept.specs.declared.kinds.Decision.TheVariants as decision
-use Rattle.agent_state.specs.Decides.{Decides}
+use Rattle.agent_state.specs.Decides.{DecidesRequest}
 use Rattle.agent_machine.proofs.Answered.{layout-limits}
 use Rattle.agent_machine.proofs.StoredPlans.{is-meta-of}
 use Rattle.agent_machine.proofs.StoredBack.{refused-meets-previous}
@@ -27,7 +27,7 @@ returns-in-Refused-clause-meets g c = λ here passes same.
     let a = c.args.self.now in
     let s = g.D.Flash.told a.flash in
     refused-meets-previous g.D.Flash.tells (fields a) (a.fitting here) a.session.sound s s (λ is. refl) passes c.in-Refused.status
-    (subst (λ (ps : List ℕ → Bool). Decides ps a.meta a.counter (kept a.session) a.boot request.Previous (decision.Refused c.in-Refused.status))
+    (subst (λ (ps : List ℕ → Bool). DecidesRequest ps a.meta a.counter (kept a.session) a.boot request.Previous (decision.Refused c.in-Refused.status))
     (sym same) c.in-Refused.ensures.decides)
 
 pub returns-clause-meets : goal.returns-clause-meets

@@ -1,15 +1,15 @@
 use Rattle.std.proofs.Common.{◌≡◌, ◌<◌, ◌≤◌, List, length, refl, sym, ap, subst, ◌∙◌, arith}
 use Rattle.fwu_formats.specs.Layout.{Layout, ImageRow}
-use Rattle.agent_kept.specs.Kept.{kept, slot_of}
+use Rattle.agent_kept.specs.Kept.{kept, slot_room_of}
 use Rattle.agent_machine.proofs.Room.{slots-small}
-use Rattle.early_boot.specs.Choosing.{FitSlots}
+use Rattle.early_boot.specs.Choosing.{LengthsFitSlots}
 use Rattle.early_boot.specs.Started.{started, started_session}
 use Rattle.agent_calls.proofs.Starting.{starts-fitting, starts-some, starts-known, starts-session, starts-shows}
 use Rattle.agent_calls.proofs.agent.Agent.start.Goals as goal
 
 pub new-session-requires-clause-slots : goal.new-session-requires-clause-slots
 new-session-requires-clause-slots g c image =
-    subst (λ (rows : List ImageRow). slot_of rows image ≤ 1048576) (sym c.rows.ensures.value)
+    subst (λ (rows : List ImageRow). slot_room_of rows image ≤ 1048576) (sym c.rows.ensures.value)
     (slots-small c.into_parts-flash.result.1 c.rows.ensures.fit image)
 
 pub invariant_of-result : goal.invariant_of-result
@@ -26,7 +26,7 @@ invariant_of-result g c =
       fitting = λ here.
           starts-fitting _ rows c.new-session.ensures.nothing c.new-session.ensures.idle c.new-session.ensures.closed c.rows.ensures.fit
           c.into_parts-flash.ensures.fits below c.lengths-lengths.ensures.all b.lengths c.lengths-lengths.ensures.front count
-          (subst (λ (l : Layout). FitSlots l b.lengths) (sym same) c.lengths-lengths.ensures.within) refl;
+          (subst (λ (l : Layout). LengthsFitSlots l b.lengths) (sym same) c.lengths-lengths.ensures.within) refl;
       some = λ here. starts-some (kept c.new-session.result) c.new-session.ensures.nothing;
       knows = λ here tells.
           starts-known _ rows c.new-session.ensures.nothing c.new-session.ensures.idle c.new-session.ensures.closed
@@ -50,7 +50,7 @@ returns-clause-shows g c tells =
     starts-shows _ (started_session b)
     (starts-fitting _ rows c.new-session.ensures.nothing c.new-session.ensures.idle c.new-session.ensures.closed c.rows.ensures.fit
     c.into_parts-flash.ensures.fits below c.lengths-lengths.ensures.all b.lengths c.lengths-lengths.ensures.front count
-    (subst (λ (l : Layout). FitSlots l b.lengths) (sym same) c.lengths-lengths.ensures.within) refl)
+    (subst (λ (l : Layout). LengthsFitSlots l b.lengths) (sym same) c.lengths-lengths.ensures.within) refl)
     (starts-known _ rows c.new-session.ensures.nothing c.new-session.ensures.idle c.new-session.ensures.closed
     (g.D.Flash.told c.into_parts-flash.result.0) b same c.into_parts-flash.ensures.metadata c.bank-boot.ensures.value
     c.trials-trials.ensures.value c.counter-counter.ensures

@@ -6,8 +6,8 @@ use Rattle.agent_kept.specs.declared.kinds.Plan.TheVariants as plan
 use Rattle.agent_machine.specs.Fields.{Fields}
 use Rattle.agent_machine.specs.Moment.{Moment}
 use Rattle.agent_machine.specs.Ends.{ClearsAndStores}
-use Rattle.agent_machine.specs.Meets.{Leaves}
-use Rattle.moves.specs.Law.{Done}
+use Rattle.agent_machine.specs.Meets.{LeavesFlash}
+use Rattle.moves.specs.Law.{CallResult}
 use Rattle.agent_machine.proofs.Answered.{stopped-meets}
 use Rattle.agent_machine.proofs.Room.{meta-of-session}
 use Rattle.agent_machine.proofs.Showing.{some-after}
@@ -65,7 +65,7 @@ returns-in-Err-clause-meets g c passes decides =
     let old : Moment = record { tells = g.D.Flash.tells; told = s; fields = f } in
     let new : Moment = record { tells = g.D.Flash.tells; told = t; fields = record f { meta = c.settle.new.meta; session = k; trials = 0 } } in
     stopped-meets {T = Unit {0}} (λ value r. r ≡ Success) c.stopped.result passes call.End old new c.stopped.ensures.stopped
-    (subst (λ (r : Done). Leaves r passes call.End old new) (sym c.stopped.ensures.stop)
+    (subst (λ (r : CallResult). LeavesFlash r passes call.End old new) (sym c.stopped.ensures.stop)
     (end-leaves f k c.settle.new.meta passes g.D.Flash.tells s t (c.args.self.now.fitting here) c.args.self.now.session.sound
     (c.args.self.now.knows here) c.requires.staging decides c.settle.ensures.meta (Err c.in-Err.stop) c.in-Err.ensures.ends))
 
@@ -86,7 +86,7 @@ returns-in-Err-clause-staging g c =
     let a = c.args.self.now in
     record {
       ends = λ done tells.
-          subst (λ (r : Done). ClearsAndStores r (fields a).layout c.settle.new.meta.meta (g.D.Flash.told a.flash) (g.D.Flash.told c.clear_and_store.new.flash))
+          subst (λ (r : CallResult). ClearsAndStores r (fields a).layout c.settle.new.meta.meta (g.D.Flash.told a.flash) (g.D.Flash.told c.clear_and_store.new.flash))
           (sym c.stopped.ensures.stop) (c.in-Err.ensures.ends tells);
       keeps = λ done. end-keeps (fields a) (a.fitting c.requires.here) c.settle.new.meta c.settle.ensures.meta;
       restarts = λ done. c.settle.ensures.session;

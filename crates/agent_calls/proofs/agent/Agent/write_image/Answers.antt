@@ -1,14 +1,14 @@
 use Rattle.std.proofs.Common.{◌≡◌, ℕ, ◌+◌, ◌≤◌, List, [], length, set, get_or-set_other, Ok, Err, refl, sym, ap, ◌∙◌, subst, arith}
 use Rattle.fwu_formats.specs.Layout.{ImageRow, start, slot_bytes}
 use Rattle.slot_writer.specs.Writes.{SpendsArming, writes_to_append}
-use Rattle.agent_kept.specs.Kept.{kept, part_at, size_of, slot_of}
+use Rattle.agent_kept.specs.Kept.{kept, part_at, size_of, slot_room_of}
 use Rattle.agent_machine.specs.Fields.{Fields, rest_of, target}
 use Rattle.agent_machine.proofs.Room.{slot-inside, meta-of-session}
 use Rattle.agent_machine.proofs.WriteCarried.{write-fitting, write-known, write-some, write-done, write-stopped}
 use Rattle.agent_calls.specs.Shown.{fields, moment}
 use Rattle.agent_calls.proofs.Appending.{appended, left-kept, left_of}
 use Rattle.slot_writer.specs.Slots.{Appends, done_of}
-use Rattle.moves.specs.Law.{Done}
+use Rattle.moves.specs.Law.{CallResult}
 use Rattle.agent_calls.proofs.agent.Agent.write_image.Goals as goal
 
 pub append-requires-clause-inside : goal.append-requires-clause-inside
@@ -16,7 +16,7 @@ append-requires-clause-inside g c =
     let a = c.args.self.now in
     let L = a.layout in
     let fitting = a.fitting c.requires.here in
-    let slot : slot_of (kept a.session).rows c.args.image ≡ slot_bytes L c.args.image = ap (λ (l : List ImageRow). slot_of l c.args.image) fitting.rows in
+    let slot : slot_room_of (kept a.session).rows c.args.image ≡ slot_bytes L c.args.image = ap (λ (l : List ImageRow). slot_room_of l c.args.image) fitting.rows in
     let inside = slot-inside L c.target-bank.result c.args.image c.target-bank.ensures.below in
     let known = a.inside c.requires.here in
     omega (arith, c.size-size.ensures, c.start-first.ensures, c.requires.plan.3, slot, inside, known)
@@ -30,7 +30,7 @@ invariant_of-self g c =
     let here = c.requires.here in
     let f : Fields = fields a in
     let fitting = a.fitting here in
-    let slot : slot_of (kept a.session).rows c.args.image ≡ slot_bytes f.layout c.args.image = ap (λ (l : List ImageRow). slot_of l c.args.image)
+    let slot : slot_room_of (kept a.session).rows c.args.image ≡ slot_bytes f.layout c.args.image = ap (λ (l : List ImageRow). slot_room_of l c.args.image)
     fitting.rows in
     let fits : size_of (part_at f.session c.args.image) + length c.args.bytes.now ≤ slot_bytes f.layout c.args.image = omega
     (arith, c.requires.plan.3, slot) in
@@ -65,7 +65,7 @@ returns-in-Ok-clause-meets g c passes h decides =
     let here = c.requires.here in
     let f : Fields = fields a in
     let fitting = a.fitting here in
-    let slot : slot_of (kept a.session).rows c.args.image ≡ slot_bytes f.layout c.args.image = ap (λ (l : List ImageRow). slot_of l c.args.image)
+    let slot : slot_room_of (kept a.session).rows c.args.image ≡ slot_bytes f.layout c.args.image = ap (λ (l : List ImageRow). slot_room_of l c.args.image)
     fitting.rows in
     let fits : size_of (part_at f.session c.args.image) + length c.args.bytes.now ≤ slot_bytes f.layout c.args.image = omega
     (arith, c.requires.plan.3, slot) in
@@ -82,7 +82,7 @@ returns-in-Err-clause-meets g c passes h decides =
     let here = c.requires.here in
     let f : Fields = fields a in
     let fitting = a.fitting here in
-    let slot : slot_of (kept a.session).rows c.args.image ≡ slot_bytes f.layout c.args.image = ap (λ (l : List ImageRow). slot_of l c.args.image)
+    let slot : slot_room_of (kept a.session).rows c.args.image ≡ slot_bytes f.layout c.args.image = ap (λ (l : List ImageRow). slot_room_of l c.args.image)
     fitting.rows in
     let fits : size_of (part_at f.session c.args.image) + length c.args.bytes.now ≤ slot_bytes f.layout c.args.image = omega
     (arith, c.requires.plan.3, slot) in
@@ -136,7 +136,7 @@ returns-in-Err-clause-image g c =
     ∙ ap (λ (b : ℕ). start f.layout b c.args.image) c.target-bank.ensures.value in
     record {
       appends = λ done tells.
-          subst (λ (r : Done). Appends r (start f.layout (target f) c.args.image) (size_of (part_at f.session c.args.image)) (rest_of f c.args.image)
+          subst (λ (r : CallResult). Appends r (start f.layout (target f) c.args.image) (size_of (part_at f.session c.args.image)) (rest_of f c.args.image)
           c.args.bytes.now (left_of f fitting c.args.image c.size-size.result c.args.bytes.now c.append.new.rest c.requires.plan.0 size)
           (d.told a.flash) (d.told b)) (sym c.stopped.ensures.stop)
           (appended f fitting c.args.image c.size-size.result c.args.bytes.now c.append.new.rest c.requires.plan.0 size (Err c.in-Err.stop)
@@ -146,7 +146,7 @@ returns-in-Err-clause-image g c =
       others = λ other apart. get_or-set_other f.rests c.args.image other c.append.new.rest [] apart;
       still = λ same. c.in-Err.ensures.still (subst (λ (m : ℕ). done_of (m + n) ≡ done_of m) (sym size) same);
       spent = λ done.
-          subst (λ (r : Done). SpendsArming r (writes_to_append (size_of (part_at f.session c.args.image)) n) (d.arming a.flash) (d.arming b)
+          subst (λ (r : CallResult). SpendsArming r (writes_to_append (size_of (part_at f.session c.args.image)) n) (d.arming a.flash) (d.arming b)
           (d.counts a.flash) (d.counts b)) (sym c.stopped.ensures.stop)
           (subst (λ (m : ℕ). SpendsArming {T = Unit {0}} (Err c.in-Err.stop) (writes_to_append m n) (d.arming a.flash) (d.arming b)
           (d.counts a.flash) (d.counts b)) size c.in-Err.ensures.arming);

@@ -4,7 +4,7 @@ use Rattle.agent_kept.specs.declared.kinds.Plan.{Plan}
 use Rattle.agent_kept.specs.declared.kinds.Plan.TheVariants as plan
 use Rattle.agent_kept.specs.declared.kinds.Request.TheVariants as request
 use Rattle.agent_kept.specs.declared.kinds.Decision.TheVariants as decision
-use Rattle.agent_state.specs.Decides.{Decides}
+use Rattle.agent_state.specs.Decides.{DecidesRequest}
 use Rattle.agent_state.specs.Settles.{IsPlanOf}
 use Rattle.agent_machine.specs.declared.stop.Stop.TheVariants as stop
 use Rattle.agent_machine.specs.Fields.{Fields}
@@ -36,7 +36,7 @@ returns-in-Write-clause-meets g c here passes =
     let r = request.Write c.args.handle (length c.args.bytes.now) in
     let own = subst (IsPlanFor f.session f.meta.meta r) c.in-Write.is c.in-Ok.ensures.asked in
     c.write_image.ensures.meets passes c.args.handle
-    (subst (λ (p : Plan). Decides passes f.meta f.counter f.session f.boot r (decision.Do p))
+    (subst (λ (p : Plan). DecidesRequest passes f.meta f.counter f.session f.boot r (decision.Do p))
     (c.in-Write.is ∙ ap (plan.Write c.in-Write.number c.in-Write.image c.in-Write.at) own.3) (c.in-Ok.ensures.plans passes))
 
 pub returns-in_default : goal.returns-in_default

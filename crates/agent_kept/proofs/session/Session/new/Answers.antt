@@ -2,7 +2,7 @@ use Rattle.std.proofs.Common.{◌≡◌, ◌++◌, ℕ, false, List, length, tak
 use Rattle.std.proofs.lemmas.Grind.{common_steps}
 use Rattle.fwu_formats.specs.Layout.{ImageRow}
 use Rattle.agent_kept.specs.declared.parts.Handle.TheVariants.{Free}
-use Rattle.agent_kept.specs.Sound.{IsSound}
+use Rattle.agent_kept.specs.Sound.{IsSoundKept}
 use Rattle.agent_kept.proofs.Sounds.{new-sound}
 use Rattle.agent_kept.proofs.session.Session.new.Goals as goal
 
@@ -15,6 +15,6 @@ frees n place = grind (arith, common_steps)
 pub invariant_of-result : goal.invariant_of-result
 invariant_of-result c = record {
   few = c.requires.few;
-  sound = subst (λ (l : List ImageRow). IsSound false l c.no_parts.result (replicate 32 Free)) (sym (took c.args.rows.now c.copy_from_slice.new.self _ (c.copy_from_slice.ensures.after)))
+  sound = subst (λ (l : List ImageRow). IsSoundKept false l c.no_parts.result (replicate 32 Free)) (sym (took c.args.rows.now c.copy_from_slice.new.self _ (c.copy_from_slice.ensures.after)))
       (new-sound false c.args.rows.now c.no_parts.result (replicate 32 Free) c.requires.few c.requires.slots c.no_parts.ensures (frees 32));
 }

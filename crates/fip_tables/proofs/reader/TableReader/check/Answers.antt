@@ -1,14 +1,14 @@
 use Rattle.std.proofs.Common.{◌≡◌, ◌∙◌, ap, sym, subst, ℕ, List, Err}
 use Rattle.fwu_formats.specs.Package.{toc_of}
 use Rattle.fwu_formats.specs.declared.kinds.FipFault.TheVariants as fault
-use Rattle.fip_tables.specs.Stream.{Holds, IsPartial, Reader}
+use Rattle.fip_tables.specs.Stream.{ReaderHolds, HoldsPartOfGroup, Reader}
 use Rattle.fip_tables.specs.declared.reader.Stage.{Stage}
 use Rattle.fip_tables.specs.declared.reader.Stage.TheVariants as stage
 use Rattle.fip_tables.proofs.Ends.{answer_at, answers, as-answered}
 use Rattle.fip_tables.proofs.reader.TableReader.check.Goals as goal
 
 -- the answer of a reader that is at a stage
-known : (r seen : Reader) (at : Stage) (bytes : List ℕ) → seen ≡ r → seen.stage ≡ at → IsPartial r → Holds r bytes → toc_of bytes ≡ answer_at at seen.toc bytes
+known : (r seen : Reader) (at : Stage) (bytes : List ℕ) → seen ≡ r → seen.stage ≡ at → HoldsPartOfGroup r → ReaderHolds r bytes → toc_of bytes ≡ answer_at at seen.toc bytes
 known r seen at bytes is is-at partial holds =
     subst (λ (x : Reader). toc_of bytes ≡ answer_at at x.toc bytes) (sym is)
     (subst (λ (s : Stage). toc_of bytes ≡ answer_at s r.toc bytes) (sym (ap (λ (x : Reader). x.stage) is) ∙ is-at) (answers r.stage r.toc r.pending bytes partial holds))

@@ -4,8 +4,8 @@ use Rattle.flash_devices.specs.File.{arming_of}
 use Rattle.flash_devices.proofs.FileSteps.{due_write, failed_as_told, failed_write}
 use Rattle.flash_devices.proofs.file.FileFlash.operate.Goals as goal
 
-pub returns-then-is_err-clause-file : goal.returns-then-is_err-clause-file
-returns-then-is_err-clause-file g c =
+pub returns-then-is_err : goal.returns-then-is_err
+returns-then-is_err g c =
     let failed : is_err c.write_at.result ≡ true = sym c.is_err.ensures.value ∙ c.if-is_err.true in
     let part = due_write (arming_of c.args.self.now) c.in-Some-eq1.field-0 c.min-landed.result c.args.bytes.now c.in-Some-eq1.is (search rules) (search rules) in
     record {
@@ -17,13 +17,25 @@ returns-then-is_err-clause-file g c =
       armed = search rules;
       one_call = search rules;
       counted = search rules;
+      power = search rules;
+      size = search rules;
+      arming = search rules;
+      counts = search rules;
+      reached = search rules;
+      landed = search rules;
     }
 
-pub returns-then-is_err-2-clause-file : goal.returns-then-is_err-2-clause-file
-returns-then-is_err-2-clause-file g c = record {
+pub returns-then-is_err-2 : goal.returns-then-is_err-2
+returns-then-is_err-2 g c = record {
   leaves = search rules;
   fails = search rules;
   armed = search rules;
   one_call = search rules;
   counted = search rules;
+  power = search rules;
+  size = search rules;
+  arming = search rules;
+  counts = search rules;
+  reached = search rules;
+  landed = search rules;
 }

@@ -2,7 +2,7 @@ use Rattle.std.proofs.Common.{refl, ◌≡◌, ℕ, ◌≤◌, ◌&&◌, ◌==�
 use Rattle.base_core.specs.Bytes.{num_at, part, listed}
 use Rattle.base_core.specs.Crc.{crc}
 use Rattle.fwu_formats.specs.Layout.{Layout, ImageRow, layout_at, are_zero}
-use Rattle.meta_layout.specs.Rows.{has_row_zeros, row_at, fitted}
+use Rattle.meta_layout.specs.Rows.{has_row_zeros, layout_row_at, fitted}
 use Rattle.meta_layout.proofs.Layouts.{short, bad-magic, bad-size, short-rows, bad-sum, not-zero, as-fitted, sized}
 use Rattle.meta_layout.proofs.layout.Layout.read.Goals as goal
 
@@ -32,13 +32,8 @@ returns-then-not-is_checked c =
     (rw c.le32_at-size.ensures at c.if-block-size.false)
     (ap (λ n. num_at 4 c.args.block.now 0 == crc (part c.args.block.now 4 n)) (sym c.le32_at-size.ensures) ∙ sym c.is_checked.ensures ∙ c.if-not-is_checked.true)
 
-pub are_rest_zero-requires-clause-small : goal.are_rest_zero-requires-clause-small
-are_rest_zero-requires-clause-small c =
-    let s = sized c.args.block.now (sym c.has_size.ensures ∙ c.if-not-has_size.false) in
-    omega (arith, s.few, c.le32_at-images.ensures)
-
-pub are_rest_zero-requires-clause-room : goal.are_rest_zero-requires-clause-room
-are_rest_zero-requires-clause-room c =
+pub are_rest_zero-requires : goal.are_rest_zero-requires
+are_rest_zero-requires c =
     let s = sized c.args.block.now (sym c.has_size.ensures ∙ c.if-not-has_size.false) in
     let room : c.le32_at-size.result ≤ length c.args.block.now = c.if-block-size.false in
     omega (arith, s.size, c.le32_at-images.ensures, c.le32_at-size.ensures, room)
@@ -61,7 +56,7 @@ rows_in-requires-clause-room c =
     let room : c.le32_at-size.result ≤ length c.args.block.now = c.if-block-size.false in
     omega (arith, s.size, c.le32_at-images.ensures, c.le32_at-size.ensures, room)
 
-made : (block : List ℕ) (banks images : ℕ) (rows : List ImageRow) → banks ≡ num_at 4 block 8 → images ≡ num_at 4 block 12 → rows ≡ listed images (row_at block)
+made : (block : List ℕ) (banks images : ℕ) (rows : List ImageRow) → banks ≡ num_at 4 block 8 → images ≡ num_at 4 block 12 → rows ≡ listed images (layout_row_at block)
     → (let L : Layout = record { banks = banks; rows = rows } in L ≡ layout_at block)
 made block banks images rows b i r = rw (r, b, i) refl
 

@@ -2,11 +2,12 @@ use Rattle.std.proofs.Common.{arith, rules, ap, sym, subst, ◌*◌, ◌∙◌, 
 use Rattle.base_core.specs.Block.{block_bytes}
 use Rattle.flash_core.specs.Told.{Told, IsSound}
 use Rattle.step_flash.specs.Guard.{guard_with, start_with}
-use Rattle.step_flash.specs.Steps.{AreDoable, run_with}
+use Rattle.step_flash.specs.Steps.{AreDoable, room_bytes, run_with}
 use Rattle.step_flash.specs.Stopped.{under_as}
 use Rattle.step_flash.specs.declared.step.Step.{Step}
 use Rattle.step_flash.proofs.Calls.{start_idle}
 use Rattle.step_flash.proofs.ReadBack.{run_none}
+use Rattle.step_flash.proofs.Room.{no_room_bytes}
 use Rattle.step_flash.proofs.Sounds.{sound_fresh}
 use Rattle.step_flash.proofs.device.StepDevice.new.Goals as goal
 
@@ -27,6 +28,7 @@ invariant_of-result c =
       inside = λ k d h. absurd (grind (arith, h, c.new-2.ensures.items));
       doable = subst (AreDoable c.new.result.bytes.now c.new-3.result.items begun) (sym c.new-2.ensures.items) tt;
       few = grind (arith, c.new-2.ensures.items);
+      theirs = ap (λ (r : List ℕ). length r) c.new-3.ensures.items ∙ sym (ap (λ (ss : List Step). room_bytes ss) c.new-2.ensures.items ∙ no_room_bytes);
       idle = λ on. search rules;
       ahead = λ x e. absurd (cc);
       sound = subst (λ t. IsSound blocks true t) (sym none) (sound_fresh blocks (guard_with image c.new.result.bytes.now) image fits);

@@ -4,7 +4,16 @@ use Rattle.step_flash.specs.Stopped.{under_of}
 use Rattle.step_flash.proofs.Calls.{halted}
 use Rattle.step_flash.proofs.device.StepDevice.stop.Goals as goal
 
-pub returns-clause-content : goal.returns-clause-content
-returns-clause-content c =
+pub returns : goal.returns
+returns c =
     let s = c.args.self.now in
-    c.failed.ensures.content ∙ halted (under_of s.stopped) s.live (after_steps s) _ c.args.at c.args.bytes.now c.new.ensures
+    let f = c.failed.ensures in
+    record {
+      stop = f.stop;
+      content = f.content ∙ halted (under_of s.stopped) s.live (after_steps s) _ c.args.at c.args.bytes.now c.new.ensures;
+      power = f.power;
+      size = f.size;
+      arming = f.arming;
+      counts = f.counts;
+      kept = record { steps = f.kept.steps; room = f.kept.room };
+    }

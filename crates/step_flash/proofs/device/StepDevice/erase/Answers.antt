@@ -1,0 +1,49 @@
+use Rattle.std.proofs.Common.{arith, rules, sym, subst, ap, refl, ◌≡◌, ◌∙◌, ◌*◌, ◌%◌, ◌+◌, ◌≤◌, List}
+use Rattle.std.specs.Option.{ForSome}
+use Rattle.base_core.specs.Block.{blank, block_bytes}
+use Rattle.step_flash.specs.Device.{after_steps, none_under}
+use Rattle.step_flash.specs.Guard.{start_with}
+use Rattle.step_flash.specs.Stopped.{under_of}
+use Rattle.step_flash.specs.Steps.{run_with}
+use Rattle.step_flash.specs.declared.step.Step.{Step}
+use Rattle.step_flash.proofs.Calls.{lowered_ahead, put_noted}
+use Rattle.step_flash.proofs.Noted.{Fits, erase_fits, erase_run}
+use Rattle.step_flash.proofs.device.StepDevice.erase.Goals as goal
+
+pub invariant_of-self-2 : goal.invariant_of-self-2
+invariant_of-self-2 c =
+    let s = c.args.self.now in
+    let at = block_bytes * c.args.block in
+    let noted = c.note_erase.ensures.noted c.if-not-note_erase.false in
+    let whole : at % block_bytes ≡ 0 = omega arith in
+    let fits : at + block_bytes ≤ block_bytes * s.blocks = omega (arith, c.requires.inside) in
+    let f = subst (λ (x : List Step). Fits s.blocks s.file.bytes.now s.room.items (start_with s.image.now s.file.bytes.now) x) (sym noted)
+    (erase_fits s.blocks s.file.bytes.now s.room.items (start_with s.image.now s.file.bytes.now) s.steps.items at whole fits
+    (record { inside = s.inside; doable = s.doable; theirs = s.theirs; sound = s.sound })) in
+    record {
+      sizes = s.sizes;
+      size = s.size;
+      inside = f.inside;
+      doable = f.doable;
+      few = c.note_erase.ensures.few s.few;
+      theirs = f.theirs;
+      idle = s.idle;
+      ahead = subst (λ a. ForSome a (λ armed. 1 ≤ armed.n)) (sym c.lowered-self.ensures) (lowered_ahead s.arming s.ahead (c.is_ready.ensures.undue c.if-not-is_ready.false));
+      sound = f.sound;
+    }
+
+pub returns-clause-writes : goal.returns-clause-writes
+returns-clause-writes c =
+    let s = c.args.self.now in
+    let at = block_bytes * c.args.block in
+    let t = start_with s.image.now s.file.bytes.now in
+    record {
+      content = λ _. put_noted (under_of s.stopped) s.live at (blank block_bytes) (after_steps s) _ (none_under s.stopped (s.idle c.requires.on)) (c.is_ready.ensures.live c.if-not-is_ready.false)
+          (ap (λ (x : List Step). run_with s.file.bytes.now s.room.items t x) (c.note_erase.ensures.noted c.if-not-note_erase.false) ∙ erase_run s.file.bytes.now s.room.items t s.steps.items at);
+      power = search rules;
+      size = refl;
+      arming = c.lowered-self.ensures;
+      counts = search rules;
+      reached = search rules;
+      landed = refl;
+    }
