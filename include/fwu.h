@@ -148,7 +148,7 @@ struct fwu_report {
     uint32_t images;                   /* at 0: how many images the bank has, 2 to 16 */
     uint32_t lengths[FWU_MOST_IMAGES]; /* at 0: the bytes of each image, in the order of the layout */
     uint32_t steps;                    /* how many steps are told */
-    uint32_t bytes;                    /* how many bytes of the room are theirs: those of the programs, each once */
+    uint32_t bytes;                    /* how many bytes of the room are theirs: as many as the programs have */
 };
 
 /* Boots a flash that lies in memory, and writes nothing to it. `flash` has all its `length` bytes, from block 0 on. `steps` has
