@@ -129,7 +129,8 @@ pub record SpeaksWhole (E : Setting) (s : State) (passes : List ℕ → Bool) (m
   pub kept : IsKept k staged
   pub totals : HasTotals E s boot k
 
-abbrev pub loosely : (E : Setting) (s : State) (passes : List ℕ → Bool) (m : MetaRead) (counter : ℕ) (k : Kept) (boot : ℕ) (staged : ℕ → List ℕ)
+abbrev pub loosely : (E : Setting) (s : State) (passes : List ℕ → Bool) (m : MetaRead) (counter : ℕ) (k : Kept) (boot : ℕ)
+    (staged : ℕ → List ℕ)
     → SpeaksWhole E s passes m counter k boot staged → Speaks E s passes m counter k boot staged
 loosely E s passes m counter k boot staged sp = record {
   rows = sp.rows;

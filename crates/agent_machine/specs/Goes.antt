@@ -29,7 +29,8 @@ pub record GoesByMoves (E : Setting) (result : Result (Unit {0}) FlashStop) (old
 -- A call that was answered or refused with this reply, whatever its value was.
 pub record Met (E : Setting) (c : Call) (r : Reply) (old new : Moment) : Type 0 where
   pub replies : (s : State) (x : Session) → Shows old s x → RepliesByMachine E s x c new r
-  pub goes : (s : State) (x : Session) → Shows old s x → GoesByMoves E (Ok tt) old new s (answer E s x c).moves (answer E s x c).next
+  pub goes : (s : State) (x : Session) → Shows old s x → GoesByMoves E (Ok tt) old new s (answer E s x c).moves
+      (answer E s x c).next
   pub layout : new.fields.layout ≡ old.fields.layout
 
 -- calls in a row, each from the moment that the one before it left

@@ -15,7 +15,8 @@ pub record IsAnswerOf (told : Option Directory) (name : List ℕ) (answer : Resu
   pub is : digests_of bytes ≡ answer
 
 -- it fails only where the files' faults rose, by one at most, or told files lack the name; at each other answer they stay
-pub record HasListCause {T : Type 0} (told : Option Directory) (name : List ℕ) (before now : ℕ) (result : Result T ListStop) : Type 0 where
+pub record HasListCause {T : Type 0} (told : Option Directory) (name : List ℕ) (before now : ℕ)
+    (result : Result T ListStop) : Type 0 where
   pub later : before ≤ now
   pub once : now ≤ before + 1
   pub done : OnOk result (now ≡ before)

@@ -90,7 +90,7 @@ pub record PutsMade {H O : Type 0} (h : files.Ghosts H) (o : sink.Ghosts O) (for
   pub later_sink : o.faults sink_before ≤ o.faults sink_after
   pub sink_count : (made ≡ Err stop.SinkFault → ⊥) → o.faults sink_after ≡ sink_failures result (o.faults sink_before)
 
--- The same of whatever the words ask for, with what is seen of the source.
+-- As DoneWithFiles, of whatever the words ask for, with what is seen of the source.
 pub record CommandDone {H I O : Type 0} (h : files.Ghosts H) (i : source.Ghosts I) (o : sink.Ghosts O)
     (asked : Option FipAsked) (result : Result (Unit {0}) Stop)
     (files_before files_after : H) (source_before source_after : I) (sink_before sink_after : O) : Type 0 where

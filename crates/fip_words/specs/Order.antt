@@ -89,7 +89,8 @@ create_of rows = create_by (align_in rows) (file_in (codes "out") rows) (named_p
 
 abbrev pub update_of : List Row → Option FipAsked
 update_of rows =
-    update_by (align_in rows) (file_in (codes "in") rows) (file_in (codes "out") rows) (named_parts_of (values_of (codes "parts") rows))
+    update_by (align_in rows) (file_in (codes "in") rows) (file_in (codes "out") rows)
+    (named_parts_of (values_of (codes "parts") rows))
 
 abbrev pub remove_of : List Row → Option FipAsked
 remove_of rows =

@@ -23,7 +23,8 @@ pub record Goes {D X : Type 0} (g : Ghosts D) (result : Result X FlashStop) (old
   pub unarmed : StaysUnarmed result (g.arming old) (g.arming new) (g.counts old) (g.counts new)
 
 -- Erases and programs of the bytes from one place to before another, at any exit.
-pub record WritesWithin {D X : Type 0} (g : Ghosts D) (low high count : ℕ) (result : Result X FlashStop) (old new : D) : Type 0 where
+pub record WritesWithin {D X : Type 0} (g : Ghosts D) (low high count : ℕ) (result : Result X FlashStop)
+    (old new : D) : Type 0 where
   -- Outside these bytes nothing changes.
   pub keeps : IsTrue g.tells → Keeps low high (g.told old) (g.told new)
   pub goes : Goes g result old new

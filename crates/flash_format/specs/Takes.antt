@@ -29,7 +29,8 @@ abbrev pub writes_to_format : Layout → ℕ → ℕ → ℕ
 writes_to_format L pieces records = blocks_needed L + pieces + records
 
 -- On any device and any files: the images have no more pieces than a bank has blocks; those of a file that is told are known.
-pub record FormatTakes (told : Option Directory) (name : List ℕ) (L : Layout) (records : ℕ) (armed arming : Option Arming) : Type 0 where
+pub record FormatTakes (told : Option Directory) (name : List ℕ) (L : Layout) (records : ℕ)
+    (armed arming : Option Arming) : Type 0 where
   pub pieces : ℕ
   pub few : pieces ≤ slot_total L.rows
   pub exact : (file : List ℕ) (toc : Toc) → Tells told name file → toc_of file ≡ Ok toc → pieces ≡ pieces_for L.rows toc

@@ -10,7 +10,7 @@ use Rattle.flash_format.specs.Cleared.{IsBare, LeavesNoMore, OnlyErased}
 use Rattle.flash_format.specs.Stops.{RefusesNothing, flash_result}
 use Rattle.flash_format.specs.declared.stops.FormatStop.{FormatStop}
 
--- Power is on, and the device has so many blocks.
+-- Power is on, and the device has at least so many blocks.
 pub record IsReadyDevice {D : Type 0} (g : Ghosts D) (blocks : ℕ) (flash : D) : Type 0 where
   pub on : IsTrue (g.on flash)
   pub room : blocks ≤ g.blocks flash

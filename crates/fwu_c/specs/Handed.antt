@@ -49,7 +49,7 @@ pub record IsWithinWith (file size : ℕ) (r : Report) (steps : List Step) (room
   pub steps_fit : r.steps ≤ length steps
   pub bytes_fit : r.bytes ≤ length room
   pub inside : All (IsInsideWith file r.bytes size) (take r.steps steps)
-  -- no byte is counted but those of the programs, each once
+  -- no byte is counted but those of the programs
   pub theirs : r.bytes ≡ room_bytes (take r.steps steps)
 
 -- where there is no package

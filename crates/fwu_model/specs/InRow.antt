@@ -56,5 +56,6 @@ copy_unless named guid bytes = if named then [] else copy_calls guid bytes
 -- a begin, and then each image that isn't named is copied from the active bank, in the layout's order
 abbrev pub begin_calls : Setting → State → List (List ℕ) → List Call
 begin_calls E s types =
-    call.Begin 0 ∷ flat_map (λ i. copy_unless (slice_index_or (are_named E.layout.rows types) i true) (type_of_image E.layout.rows i)
+    call.Begin 0 ∷ flat_map (λ i. copy_unless (slice_index_or (are_named E.layout.rows types) i true)
+    (type_of_image E.layout.rows i)
     (image_held s s.active i)) (range_with_len 0 (length E.layout.rows))

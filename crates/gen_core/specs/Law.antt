@@ -37,6 +37,7 @@ LayoutsHaveImages = (L : Layout) → IsTrue (fits_layout L) → IsTrue (are_imag
 pub record RoundsHavePackages : Type 0 where
   pub named : (seed n k : ℕ) (d : Round) → n < 4294967296 → k < n
       → packages_of (soak_rounds seed n) (file_name (k + 1)) ≡ Some (round_package (slice_index_or (soak_rounds seed n) k d))
-  pub first : (seed : ℕ) → InstallsPackage soak_layout.rows (first_package seed) (generated_images soak_layout.rows (sizes_in_round seed) 0 1) 1
+  pub first : (seed : ℕ) → InstallsPackage soak_layout.rows (first_package seed)
+      (generated_images soak_layout.rows (sizes_in_round seed) 0 1) 1
   pub each : (x number : ℕ) → number < 4294967296 → let r = round_of x number in
       InstallsPackage soak_layout.rows (round_package r) (generated_images soak_layout.rows r.sizes r.number r.security) r.security

@@ -21,7 +21,8 @@ pub record HeadersGuarded (blocks : ℕ) (s : Told) : Type 0 where
 abbrev pub StaysBeside : ℕ → Table → WhichTable → Told → Told → Type 0
 StaysBeside blocks t Same s u = u ≡ s
 StaysBeside blocks t RepairPrimary s u = Keeps block_bytes (block_bytes * (2 + blocks_of (entry_number_of t))) s u
-StaysBeside blocks t RepairBackup s u = Keeps (block_bytes * (blocks - 1 - blocks_of (entry_number_of t))) (block_bytes * blocks) s u
+StaysBeside blocks t RepairBackup s u = Keeps (block_bytes * (blocks - 1 - blocks_of (entry_number_of t)))
+    (block_bytes * blocks) s u
 
 -- how many erases and programs a repair of a table with so many blocks of entries takes:
 -- each block of the copy is erased and programmed
@@ -59,7 +60,8 @@ pub record Filled (w : TableCopy) (blocks : ℕ) (t : Table) (s : Told) : Type 0
   pub entries : HoldsFrom s.now (entries_at w blocks (blocks_of (entry_number_of t))) t.entries
 
 -- What a step leaves, at any exit: in each image the table decides; when done, P.
-pub record RepairSteps {T : Type 0} (P : Told → Type 0) (result : Result T FlashStop) (blocks : ℕ) (t : Table) (u : Told) : Type 0 where
+pub record RepairSteps {T : Type 0} (P : Told → Type 0) (result : Result T FlashStop) (blocks : ℕ) (t : Table)
+    (u : Told) : Type 0 where
   pub stays : (image : List ℕ) → May u image → DecidesTable blocks t image
   pub ok : OnOk result (P u)
 
@@ -74,7 +76,8 @@ ClearsHeader blocks header result s u = (w : TableCopy) (t : Table) → header �
 
 -- Where a copy with these entries, from this block on, is cleared, the step fills it.
 abbrev pub FillsEntries : {T : Type 0} → ℕ → ℕ → List ℕ → Result T FlashStop → Told → Told → Type 0
-FillsEntries blocks first bytes result s u = (w : TableCopy) (t : Table) → first ≡ entries_at w blocks (blocks_of (entry_number_of t))
+FillsEntries blocks first bytes result s u = (w : TableCopy) (t : Table)
+    → first ≡ entries_at w blocks (blocks_of (entry_number_of t))
     → bytes ≡ t.entries → Cleared w blocks t s → RepairSteps (Filled w blocks t) result blocks t u
 
 -- Where a copy with this header is filled, and these bytes make it say the table, the step mends it.

@@ -11,7 +11,8 @@ LacksFile None name = ⊥
 LacksFile (Some files) name = files name ≡ None
 
 -- it fails only where the files' faults rose, by one at most, or told files lack the name, and for want of memory without a fault
-pub record HasFileCause {T : Type 0} (told : Option Directory) (name : List ℕ) (before now : ℕ) (result : Result T ReadStop) : Type 0 where
+pub record HasFileCause {T : Type 0} (told : Option Directory) (name : List ℕ) (before now : ℕ)
+    (result : Result T ReadStop) : Type 0 where
   pub later : before ≤ now
   pub once : now ≤ before + 1
   pub done : OnOk result (now ≡ before)

@@ -31,4 +31,5 @@ verdict_may_start (BelowCounter v counter) = false
 
 abbrev pub GoodIsHeld : Type 0
 GoodIsHeld = (E : Setting) (counter : ℕ) (image : List ℕ) (bank : ℕ) → IsTrue (fits_layout E.layout)
-    → verdict_may_start (verdict_on E.passes counter E.layout image bank) ≡ holds_permitted E counter (package_in E.layout image bank)
+    → verdict_may_start (verdict_on E.passes counter E.layout image bank) ≡ holds_permitted E counter
+    (package_in E.layout image bank)

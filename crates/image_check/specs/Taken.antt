@@ -20,7 +20,7 @@ lanes_bytes = 4 * block_bytes
 
 -- ---- the images of a bank
 
--- the device is on and has the bank's slots, and the manifest is of a length for its rows
+-- the device is on and has the bank's slots, and the manifest is of the length for its rows
 pub record AreThere {D : Type 0} (g : Ghosts D) (d : D) (images : Images) : Type 0 where
   pub on : IsTrue (g.on d)
   pub some : 1 ≤ length images.rows.now

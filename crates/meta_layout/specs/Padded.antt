@@ -36,10 +36,12 @@ module _ {X : Type 0} (room : ℕ) (filler : X) (count : ℕ) (array : List X) (
   }
 
 -- what is made of a count and an array is the same if it is made of the elements in front
-pub padded-made : {X Y : Type 0} {room : ℕ} {filler : X} {count : ℕ} {array : List X} (make : ℕ → List X → Y) → IsPadded room filler count array
+pub padded-made : {X Y : Type 0} {room : ℕ} {filler : X} {count : ℕ} {array : List X} (make : ℕ → List X → Y)
+    → IsPadded room filler count array
     → make (length (take count array)) (take count array ++ replicate (room - length (take count array)) filler) ≡ make count array
 padded-made {room = room} {filler = filler} {count = count} {array = array} make is =
-    ap (λ n. make n (take count array ++ replicate (room - length (take count array)) filler)) (length-padded room filler count array is)
+    ap (λ n. make n (take count array ++ replicate (room - length (take count array)) filler))
+    (length-padded room filler count array is)
     ∙ ap (make count) (array-padded room filler count array is)
 
 -- an array of fillers alone

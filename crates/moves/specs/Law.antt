@@ -32,7 +32,8 @@ CallResult = Result (Unit {0}) FlashStop
 -- Calls that do moves, one after the other.
 pub record CallsCompose : Type 0 where
   -- a call that stopped did a prefix of whatever was to follow
-  pub stopped : (given result : CallResult) (E : Setting) (s : State) (ms ns : List Move) (t : Told) → IsErr result → Does given E s ms t
+  pub stopped : (given result : CallResult) (E : Setting) (s : State) (ms ns : List Move) (t : Told) → IsErr result
+      → Does given E s ms t
       → Does result E s (ms ++ ns) t
   -- a call that is done, and the next one from the state that it left
   pub next : (result : CallResult) (E : Setting) (s : State) (ms ns : List Move) (m t : Told) → Does {T = Unit {0}} (Ok tt) E s ms m
@@ -69,7 +70,8 @@ RepairsDo =
 -- a mark for one more start of the active bank on trial
 abbrev pub TrialsDo : Type 0
 TrialsDo =
-    (result : CallResult) (s t : Told) (state : State) (at : ℕ) → IsTrue (is_valid (bank state state.active).state) → at ≡ state.trials
+    (result : CallResult) (s t : Told) (state : State) (at : ℕ) → IsTrue (is_valid (bank state state.active).state)
+    → at ≡ state.trials
     → at < trial_limit → Adds result 3 at s t → (E : Setting) → IsReady E s state
     → Does result E state (Trial ∷ []) t
 
@@ -98,7 +100,8 @@ pub record RepairsKeep {T : Type 0} (result : Result T FlashStop) (r : MetaRead)
 
 -- so every repair
 abbrev pub RepairsKeepCounts : Type 0
-RepairsKeepCounts = (result : CallResult) (r : MetaRead) (s t : Told) (L : Layout) → Repairs result L r s t → RepairsKeep result r s t L
+RepairsKeepCounts = (result : CallResult) (r : MetaRead) (s t : Told) (L : Layout) → Repairs result L r s t
+    → RepairsKeep result r s t L
 
 -- one more trial, where the marks are tidy, so that the next one counts
 pub record TrialsShow : Type 0 where
@@ -118,9 +121,11 @@ RaisesShow = (result : CallResult) (v : ℕ) (s t : Told) (state : State) → Ra
 
 -- the writes of a boot
 pub record WritesStayGuarded : Type 0 where
-  pub repair : (result : CallResult) (L : Layout) (s t : Told) → layout_seen s.now ≡ Ok L → IsAtRest s → (which : Which) (r : MetaRead)
+  pub repair : (result : CallResult) (L : Layout) (s t : Told) → layout_seen s.now ≡ Ok L → IsAtRest s
+      → (which : Which) (r : MetaRead)
       → Loads L which r s.now → Repairs result L r s t → GuardedBy result t
   pub trial : (result : CallResult) (L : Layout) (s t : Told) → layout_seen s.now ≡ Ok L → IsAtRest s → (at : ℕ) → at < trial_limit
       → Adds result 3 at s t → GuardedBy result t
-  pub raise : (result : CallResult) (L : Layout) (s t : Told) → layout_seen s.now ≡ Ok L → IsAtRest s → (v : ℕ) → Raises result v s t
+  pub raise : (result : CallResult) (L : Layout) (s t : Told) → layout_seen s.now ≡ Ok L → IsAtRest s → (v : ℕ)
+      → Raises result v s t
       → GuardedBy result t

@@ -74,7 +74,8 @@ pub record EndsBy (L : Layout) (state : State) (p : List (List ℕ)) (bits : Lis
       → Clears given 3 s t
       → Does result E state (Switch (update_bank state) p bits ∷ []) t
   -- on a calm flash, with each loss
-  pub does : (result : CallResult) (E : Setting) (m t : Told) → E.layout ≡ L → IsTrue (is_permitted E state.counter p) → IsCalm E s state
+  pub does : (result : CallResult) (E : Setting) (m t : Told) → E.layout ≡ L → IsTrue (is_permitted E state.counter p)
+      → IsCalm E s state
       → Guards 1 7 s → Clears {T = Unit {0}} (Ok tt) 3 s m
       → Stores result L (meta_after (meta_in state) (Switch (update_bank state) p bits)) m t
       → Does result E state (Switch (update_bank state) p bits ∷ []) t
@@ -159,7 +160,8 @@ QuietBy L m t = (b : ℕ) → b < L.banks → IsFalse (is_invalid (state_at m b)
 -- a stop harms nothing in use, and an answer leaves the flash at rest
 pub record OthersStayGuarded : Type 0 where
   -- where replica 1 holds what decides, and the banks in use by the new metadata are quiet
-  pub store : (result : CallResult) (L : Layout) (s t : Told) → layout_seen s.now ≡ Ok L → IsAtRest s → (old : MetaRead) (new : Meta)
+  pub store : (result : CallResult) (L : Layout) (s t : Told) → layout_seen s.now ≡ Ok L → IsAtRest s
+      → (old : MetaRead) (new : Meta)
       → deciding L s.now ≡ Some old → meta_read L (block 2 s.now) ≡ Some old → Stores result L new s t
       → QuietBy L new s → GuardedBy result t
   pub clear : (result : CallResult) (L : Layout) (s t : Told) → layout_seen s.now ≡ Ok L → IsAtRest s → Clears result 3 s t

@@ -44,7 +44,8 @@ flash_result (Err NoMetadata) = Ok tt
 flash_result (Err (Flash stop)) = Err stop
 
 -- What loading the metadata that decides gives, whichever buffer the replicas are read into.
-pub record Found {D : Type 0} (g : Ghosts D) (L : Layout) (result : Result (MetaRead × Which) ReplicaStop) (old new : D) : Type 0 where
+pub record Found {D : Type 0} (g : Ghosts D) (L : Layout) (result : Result (MetaRead × Which) ReplicaStop)
+    (old new : D) : Type 0 where
   -- on a device that tells its content: the metadata that decides, and what is to be done
   pub loads : IfOk result (λ r. IsTrue g.tells → Loads L r.1 r.0 (g.told old).now)
   -- `NoMetadata` only where none decides

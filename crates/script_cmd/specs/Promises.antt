@@ -94,8 +94,8 @@ BootWordHolds passes tells asked ending old new =
     → BootWordBy passes old.told.now ending.status ending.noted ending.journal
 
 -- What a run does to any device: where no turn ran it is as it was; its power is by the replies; no failure and no loss is counted
--- but those that its turns tell; the same blocks are guarded; where no turn is a `cut`, no armed loss is reached; and no `cut` gives
--- more than one lost turn.
+-- but those that its turns tell; the same blocks are guarded; where no turn is a `cut`, no armed loss is reached; and there are no
+-- more lost turns than `cut`s and losses that the device counted.
 pub record RunLeaves (tells : Bool) (journal : List Turn) (old new : TurnMoment) : Type 0 where
   pub untouched : journal ≡ [] → SameDevice old new
   pub power : new.power ≡ power_left old.power journal

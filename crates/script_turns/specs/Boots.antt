@@ -59,8 +59,8 @@ GetsPower tells (Some f) old new = SameDevice old new
 
 -- ---- all of it
 
--- The flash had power, and its boot ended so. On any device an armed loss came nearer by no more than the repair and the count of the
--- start; by none where the boot found no layout or no metadata. What was started may be, by the numbers at entry, with the counter and
+-- The flash had power, and its boot ended so. On any device, where it wasn't stopped, an armed loss came nearer by no more than the repair and the count of the
+-- start, and by none where the boot found no layout or no metadata. What was started may be, by the numbers at entry, with the counter and
 -- the trials that they make. It is of a version that some complete package has whose manifest passes, not below the counter, with
 -- images of the lengths that are told. These numbers, also those of a stop, are numbers of a flash. Where the content is told, the end
 -- is that of the bytes, sound or not, and so are what was written and how much nearer an armed loss came.

@@ -75,8 +75,8 @@ abbrev pub armings_left : Option Arming → ℕ
 armings_left None = 0
 armings_left (Some arming) = 1
 
--- Each lost turn came of a loss that a `cut` armed, each `cut` of one lost turn at most, or of a loss that no arming made and that the
--- device counted; or this count stands at the greatest number.
+-- There are no more lost turns than lines `cut`, a loss that was armed at first, and losses that no arming made. The device counts
+-- these, unless their count stands at the greatest number. A loss that is still armed is one lost turn less.
 abbrev pub LossesAreDue : List Turn → TurnMoment → TurnMoment → Type 0
 LossesAreDue journal old new =
     (losses_in journal + armings_left new.armed + old.counts.cuts ≤ cuts_in journal + armings_left old.armed + new.counts.cuts)

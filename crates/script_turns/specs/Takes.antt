@@ -1,5 +1,5 @@
--- What an armed loss counts of a turn, on any device. Where a device tells no content, "did nothing" and "wrote nothing" say that its
--- counts, its power and the armed loss stay: where no loss is armed, that bounds no erase and no program.
+-- What an armed loss counts of a turn, on any device. Of one that tells no content "did nothing" and "wrote nothing" say that its
+-- counts, its power and the armed loss stay. Where no loss is armed, that bounds no erase and no program.
 use Rattle.std.specs.Prelude.{◌≡◌, ◌⊎◌, ℕ, ◌+◌, ◌-◌, Bool, true, false, List, length, Option, Some, None, Result, Ok, Err, ⊤}
 use Rattle.flash_core.specs.declared.flash.FlashStop.{FlashStop}
 use Rattle.flash_core.specs.declared.flash.FlashStop.TheVariants as flash_stop
@@ -40,7 +40,7 @@ abbrev pub unread_told : Reply → ℕ
 unread_told reply.ReadFault = 1
 unread_told other = 0
 
--- where no loss was armed, none is, and none was reached
+-- a loss leaves none armed; where none was armed, none is, and none was reached
 abbrev pub StaysFree : Reply → TurnMoment → TurnMoment → Type 0
 StaysFree r old new = StaysUnarmed (stop_told r) old.armed new.armed old.counts new.counts
 

@@ -43,7 +43,7 @@ pub record Turns (passes : List ℕ → Bool) (tells : Bool) (files : Option Dir
   pub counts : NoneFalls old.counts new.counts
   pub made : Makes c old.counts.made new.counts.made
   pub armed : IsCut (Some t) new.armed
-  -- where no loss was armed, none is and none is reached, but by a `cut`
+  -- a loss leaves none armed; where none was armed, none is and none is reached, but by a `cut`
   pub free : IsFalse (is_cut c) → StaysFree t.reply old new
   -- each stop has its cause
   pub lost : t.reply ≡ reply.Lost → Rose old.counts.cuts new.counts.cuts

@@ -99,7 +99,7 @@ impl<'a> StepFlash<'a> {
         ensures doable { AreDoable (package_of self.entry) result.room.items
             (start_with (image_of self.entry) (package_of self.entry)) result.steps.items }
         ensures few { length result.steps.items ≤ most_of self.entry }
-        // The room has the bytes of the programs that are no copies, each once.
+        // The room has the bytes of the programs that are no copies.
         ensures theirs { length result.room.items ≡ room_bytes result.steps.items }
     {
         Box::into_inner(self.device).into_parts()
