@@ -4,8 +4,9 @@ use Rattle.flash_core.specs.declared.flash.Flash.{Ghosts}
 use Rattle.flash_core.specs.declared.flash.FlashStop.{FlashStop}
 use Rattle.flash_core.specs.Counts.{Spends, StaysUnarmed, ReachesNone, arming_kept, lowered_by}
 use Rattle.flash_core.specs.May.{Keeps}
+use Rattle.flash_core.specs.Touches.{TouchesOnly}
 
--- Content and size stay, power is by the result, no loss is armed or reached, and each stop has its cause.
+-- Content and size stay, nothing is erased or programmed, power is by the result, no loss is armed or reached, and each stop has its cause.
 pub record Reads {D X : Type 0} (g : Ghosts D) (result : Result X FlashStop) (old new : D) : Type 0 where
   pub content : IsTrue g.tells → g.told new ≡ g.told old
   pub power : g.on new ≡ is_ok result
@@ -13,6 +14,7 @@ pub record Reads {D X : Type 0} (g : Ghosts D) (result : Result X FlashStop) (ol
   pub arming : g.arming new ≡ arming_kept result (g.arming old)
   pub costs : Spends result (g.counts old) (g.counts new)
   pub reached : ReachesNone result (g.counts old) (g.counts new)
+  pub writes : g.writes new ≡ g.writes old
 
 -- What each other call leaves: size stays, power is by the result, each stop has its cause, a loss leaves none armed, and where none
 -- was armed none is, and none is reached.
@@ -30,3 +32,5 @@ pub record WritesWithin {D X : Type 0} (g : Ghosts D) (low high count : ℕ) (re
   pub goes : Goes g result old new
   -- On every device: so many erases and programs, when done.
   pub spent : OnOk result (g.arming new ≡ lowered_by count (g.arming old))
+  -- on every device: no other block is erased or programmed
+  pub touches : TouchesOnly low high (g.writes old) (g.writes new)
