@@ -28,7 +28,7 @@ use Rattle.agent_machine.specs.Moment.{Moment, Shows}
 use Rattle.agent_machine.specs.Meets.{GoesBy, Stays, flash_result}
 use Rattle.agent_machine.specs.Goes.{GoesByMoves}
 use Rattle.agent_machine.specs.Beside.{IsSparedByAll, KeepsSparedByAll, SparesBlocksByAll}
-use Rattle.agent_machine.proofs.Beside.{spared-told}
+use Rattle.agent_machine.proofs.Beside.{blocks-still, spared-told}
 use Rattle.agent_machine.specs.Knows.{Fitting, Knows}
 use Rattle.agent_machine.proofs.Going.{goes-nothing, goes-then}
 use Rattle.agent_machine.proofs.Totals.{held-long}
@@ -139,7 +139,7 @@ module _ (tells : Bool) (s t : Told) (v w : ℕ → ℕ) (f g : Fields) (fields 
   keeps-all is = spared-told (IsSparedByAll f.layout f.boot) s t (told is)
 
   touches-none : SparesBlocksByAll f v w
-  touches-none b spared = ap (λ (u : ℕ → ℕ). u b) counts
+  touches-none = blocks-still (IsSparedByAll f.layout f.boot) counts
 
   pub read-goes : (E : Setting) (q : State) (x : Session) → Shows earlier q x → GoesByMoves E (Ok tt) earlier behind q [] x
   read-goes E q x shows = record {

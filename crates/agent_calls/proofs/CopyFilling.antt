@@ -22,9 +22,9 @@ use Rattle.agent_machine.specs.Moment.{Moment}
 use Rattle.agent_machine.specs.Meets.{IsDone, IsRefused, Stays}
 use Rattle.agent_machine.specs.Ends.{IsWriter}
 use Rattle.agent_machine.specs.Stored.{StoresIf}
-use Rattle.agent_machine.specs.Beside.{IsBesideBank, IsSpared, KeepsSpared, KeepsWhere, SparesBlocks}
-use Rattle.agent_machine.proofs.Beside.{spared-same, spared-then, spared-told}
-use Rattle.agent_calls.specs.Copies.{FillsBank, SparesBeside, StoresThenFills}
+use Rattle.agent_machine.specs.Beside.{IsBesideBank, IsSpared, KeepsSpared, KeepsWhere, SparesBlocks, SparesBlocksWhere}
+use Rattle.agent_machine.proofs.Beside.{blocks-still, blocks-then, spared-same, spared-then, spared-told}
+use Rattle.agent_calls.specs.Copies.{FillsBank, StoresThenFills}
 use Rattle.agent_calls.specs.Metas.{meta_begun}
 
 -- ---- one after the other
@@ -55,9 +55,9 @@ fills-then a b c ab bc = record {
   beside = λ told. spared-then (IsBesideBank a.fields.layout (target a.fields)) a.told b.told c.told (ab.beside told)
       (bank-same (λ (L : Layout) (bank : ℕ). KeepsWhere (IsBesideBank L bank) b.told c.told) a.fields b.fields ab.layout
       (ap (λ (r : MetaRead). r.meta.active) ab.metadata) (bc.beside (subst IsTrue (sym ab.tells) told)));
-  touches = λ n beside.
-      bank-same (λ (L : Layout) (bank : ℕ). SparesBeside L bank b.writes c.writes) a.fields b.fields ab.layout
-      (ap (λ (r : MetaRead). r.meta.active) ab.metadata) bc.touches n beside ∙ ab.touches n beside;
+  touches = blocks-then (IsBesideBank a.fields.layout (target a.fields)) ab.touches
+      (bank-same (λ (L : Layout) (bank : ℕ). SparesBlocksWhere (IsBesideBank L bank) b.writes c.writes) a.fields b.fields ab.layout
+      (ap (λ (r : MetaRead). r.meta.active) ab.metadata) bc.touches);
 }
 
 -- ---- one call
@@ -75,7 +75,7 @@ module _ (a b : Moment) (stays : Stays a b) (metadata : b.fields.meta ≡ a.fiel
     metadata = metadata;
     trials = trials;
     beside = λ told. spared-told (IsBesideBank a.fields.layout (target a.fields)) a.told b.told (still told);
-    touches = λ n beside. ap (λ (counts : ℕ → ℕ). counts n) writes;
+    touches = blocks-still (IsBesideBank a.fields.layout (target a.fields)) writes;
   }
 
   -- one that changes nothing up to the end of the marks

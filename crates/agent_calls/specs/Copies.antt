@@ -1,10 +1,8 @@
 -- What a copy of images of the bank that was started leaves, step by step.
-use Rattle.std.specs.Prelude.{◌≡◌, ◌≤◌, ◌<◌, ℕ, ◌+◌, ◌*◌, Bool, true, false, not, List, [], ◌++◌, length, take, drop, Result, Ok, Err, OnOk, IfOk, IsErr, replicate, ⊤, slice_index_or, IsTrue, Some}
-use Rattle.base_core.specs.Block.{block_bytes}
+use Rattle.std.specs.Prelude.{◌≡◌, ◌≤◌, ◌<◌, ℕ, ◌+◌, Bool, true, false, not, List, [], ◌++◌, length, take, drop, Result, Ok, Err, OnOk, IfOk, IsErr, replicate, ⊤, slice_index_or, IsTrue, Some}
 use Rattle.flash_core.specs.declared.flash.FlashStop.{FlashStop}
 use Rattle.flash_core.specs.declared.flash.FlashStop.TheVariants as flash_stop
 use Rattle.flash_core.specs.Told.{Told}
-use Rattle.fwu_formats.specs.Layout.{Layout}
 use Rattle.fwu_model.specs.State.{State, Free, after}
 use Rattle.fwu_model.specs.MoveMetas.{meta_after}
 use Rattle.fwu_model.specs.Sound.{Setting}
@@ -18,7 +16,7 @@ use Rattle.agent_machine.specs.declared.stop.Stop.TheVariants as stop
 use Rattle.agent_machine.specs.Fields.{Fields, target, total_of}
 use Rattle.agent_machine.specs.Moment.{Moment, Shows}
 use Rattle.agent_machine.specs.Goes.{GoesByMoves}
-use Rattle.agent_machine.specs.Beside.{IsBesideBank, KeepsSparedByAll, KeepsWhere, SparesBlocksByAll}
+use Rattle.agent_machine.specs.Beside.{IsBesideBank, KeepsSparedByAll, KeepsWhere, SparesBlocksByAll, SparesBlocksWhere}
 use Rattle.agent_machine.specs.Stored.{StoresIf}
 use Rattle.agent_machine.specs.Meets.{IsDone, IsSettingOf, Stays, flash_result}
 use Rattle.agent_machine.specs.Filling.{between, within, filled}
@@ -101,10 +99,6 @@ pub record CopiesImages (named : List Bool) (result : Result (Unit {0}) Stop) (o
       → Shows old s (between boot (replicate (length named) Nothing))
       → FollowsInStaging result E old new s (between boot (copied_first named (length named) bytes))
 
--- no block beside the bank was erased or programmed
-abbrev pub SparesBeside : Layout → ℕ → (ℕ → ℕ) → (ℕ → ℕ) → Type 0
-SparesBeside L bank old new = (b : ℕ) → IsBesideBank L bank (block_bytes * b) → new b ≡ old b
-
 -- What the copies leave at any exit: the metadata that is kept, the trials, and on a flash that tells its content all beside the
 -- update bank. On every device no block beside that bank is erased or programmed.
 pub record FillsBank (old new : Moment) : Type 0 where
@@ -113,7 +107,7 @@ pub record FillsBank (old new : Moment) : Type 0 where
   pub metadata : new.fields.meta ≡ old.fields.meta
   pub trials : new.fields.trials ≡ old.fields.trials
   pub beside : IsTrue old.tells → KeepsWhere (IsBesideBank old.fields.layout (target old.fields)) old.told new.told
-  pub touches : SparesBeside old.fields.layout (target old.fields) old.writes new.writes
+  pub touches : SparesBlocksWhere (IsBesideBank old.fields.layout (target old.fields)) old.writes new.writes
 
 -- ---- the call
 

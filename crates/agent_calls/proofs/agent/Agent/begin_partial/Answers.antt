@@ -95,7 +95,7 @@ returns-in-Ok-begin-clause-begins g c = λ here passes.
     begun-partly (moment a) (moment b) (moment d) types passes c.copy_images.result (a.fitting here)
     (known-is g (goal.at.returns-in-Ok-begin-clause-begins g c).After-rows-count) (begins passes) copied
     (λ tells. (_, _, known-shows (fields a) (a.fitting here) g.D.Flash.tells (g.D.Flash.told a.flash) (a.knows here tells)))
-    (touched g (goal.at.returns-in-Ok-begin-clause-begins g c).After-copy_images)
+    (touched g c)
 
 -- the copies were done, or the flash stopped them
 module _ (g : given.Over) (c : goal.After-copy_images g) where
@@ -199,7 +199,7 @@ returns-in-Ok-begin-clause-padded g c =
     let copied = subst (λ (l : List Bool). CopiesImages l c.copy_images.result (moment b) (moment d)) (named-is g rows) c.copy_images.ensures.copies in
     let begins = begun-partly (moment a) (moment b) (moment d) types (λ _. true) c.copy_images.result (a.fitting here)
     (known-is g rows) (c.in-Ok-begin.ensures.meets here (λ _. true)) copied some
-    (touched g (goal.at.returns-in-Ok-begin-clause-padded g c).After-copy_images) in
+    (touched g c) in
     copied-padded (moment a) (moment d) types (λ _. true) c.copy_images.result begins
     (on-ok c.copy_images.result (λ ok. c.copy_images.ensures.fills.metadata ∙ c.in-Ok-begin.ensures.keeps tt))
     (on-ok c.copy_images.result (λ ok. (d.fitting (c.copy_images.ensures.spent.gone_is ∙ ok)).rows)) some
