@@ -32,7 +32,7 @@ returns-in_err-erase-clause-writes g c = record {
   touches =
       let b = c.loop-block.block in
       touches_then 4096 (4096 * c.args.count) (touches_wider 4096 (4096 * b) 4096 (4096 * c.args.count) (omega arith) (omega arith) c.loop-block.invariant.touches)
-          (touches_wider (4096 * b) (4096 * b + 4096) 4096 (4096 * c.args.count) (omega (arith, c.loop-block.auto.block)) (omega arith) c.erase.ensures.touches);
+      (touches_wider (4096 * b) (4096 * b + 4096) 4096 (4096 * c.args.count) (omega (arith, c.loop-block.auto.block)) (omega arith) c.erase.ensures.touches);
 }
 
 pub returns-in_err-erase-clause-only : goal.returns-in_err-erase-clause-only

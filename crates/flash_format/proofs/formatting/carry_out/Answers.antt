@@ -1,4 +1,4 @@
-use Rattle.std.proofs.Common.{◌≡◌, ◌+◌, ℕ, length, ap, subst, ◌∙◌, arith, Result, Err}
+use Rattle.std.proofs.Common.{◌≡◌, ◌+◌, ℕ, length, ap, subst, ◌∙◌, arith, Result, Err, ◌*◌}
 use Rattle.std.specs.Prelude.{IsTrue, OnOk}
 use Rattle.flash_core.specs.Counts.{lowered_by}
 use Rattle.flash_core.proofs.Spent.{spent_then}

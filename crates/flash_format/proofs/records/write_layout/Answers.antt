@@ -1,4 +1,4 @@
-use Rattle.std.proofs.Common.{◌≡◌, ◌*◌, ℕ, length, sym, ap, subst, ◌∙◌, arith, rules}
+use Rattle.std.proofs.Common.{◌≡◌, ◌*◌, ℕ, length, sym, ap, subst, ◌∙◌, arith, rules, ◌+◌}
 use Rattle.base_core.specs.Block.{block}
 use Rattle.flash_core.specs.Told.{Told}
 use Rattle.flash_core.specs.May.{Keeps}
