@@ -1,4 +1,4 @@
--- What no call of the agent changes, at any exit, on any flash that tells its content.
+-- What no call of the agent changes, at any exit: on any flash that tells its content the bytes, and on every device the blocks.
 use Rattle.std.specs.Prelude.{◌≡◌, ◌⊎◌, ℕ, ◌+◌, ◌*◌, ◌%◌, ◌<◌, ◌≤◌, length, IsFalse, slice_index}
 use Rattle.base_core.specs.Block.{block_bytes}
 use Rattle.flash_core.specs.Told.{Told, is_unsure}
@@ -35,3 +35,13 @@ KeepsSpared f s t = KeepsWhere (IsSpared f) s t
 
 abbrev pub KeepsSparedByAll : Fields → Told → Told → Type 0
 KeepsSparedByAll f s t = KeepsWhere (IsSparedByAll f.layout f.boot) s t
+
+-- On every device, whatever its reads give: no block that is spared was erased or programmed, by one call and by calls in a row.
+abbrev pub SparesBlocksWhere : (ℕ → Type 0) → (ℕ → ℕ) → (ℕ → ℕ) → Type 0
+SparesBlocksWhere Spared old new = (b : ℕ) → Spared (block_bytes * b) → new b ≡ old b
+
+abbrev pub SparesBlocks : Fields → (ℕ → ℕ) → (ℕ → ℕ) → Type 0
+SparesBlocks f old new = SparesBlocksWhere (IsSpared f) old new
+
+abbrev pub SparesBlocksByAll : Fields → (ℕ → ℕ) → (ℕ → ℕ) → Type 0
+SparesBlocksByAll f old new = SparesBlocksWhere (IsSparedByAll f.layout f.boot) old new

@@ -10,7 +10,7 @@ use Rattle.fwu_model.specs.Answer.{answer}
 pub use Rattle.fwu_model.specs.InRow.{replies_of, moves_of, session_of}
 use Rattle.fwu_model.specs.Calm.{IsAtRest}
 use Rattle.moves.specs.Moved.{Does, GuardedBy, IsReady}
-use Rattle.agent_machine.specs.Beside.{KeepsSparedByAll}
+use Rattle.agent_machine.specs.Beside.{KeepsSparedByAll, SparesBlocksByAll}
 use Rattle.agent_machine.specs.Moment.{Moment, Shows}
 use Rattle.agent_machine.specs.Meets.{RepliesByMachine, Stays}
 
@@ -22,6 +22,8 @@ pub record GoesByMoves (E : Setting) (result : Result (Unit {0}) FlashStop) (old
   pub guarded : IsTrue old.tells → IsAtRest old.told → GuardedBy result new.told
   -- on any flash, at any exit
   pub keeps : IsTrue old.tells → KeepsSparedByAll old.fields old.told new.told
+  -- on every device, whatever its reads give, at any exit
+  pub touches : SparesBlocksByAll old.fields old.writes new.writes
   pub stays : Stays old new
 
 -- ---- a list of calls
@@ -46,6 +48,7 @@ pub record RanCalls (E : Setting) (cs : List Call) (rs : List Reply) (old new : 
   pub does : IsTrue old.tells → IsReady E old.told s → Does {T = Unit {0}} (Ok tt) E s (moves_of E s x cs) new.told
   pub guarded : IsTrue old.tells → IsAtRest old.told → IsAtRest new.told
   pub keeps : IsTrue old.tells → KeepsSparedByAll old.fields old.told new.told
+  pub touches : SparesBlocksByAll old.fields old.writes new.writes
   pub layout : new.fields.layout ≡ old.fields.layout
 
 -- ---- laws

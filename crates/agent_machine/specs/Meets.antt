@@ -15,7 +15,7 @@ use Rattle.agent_machine.specs.Deciding.{KeepsOldOrNew}
 use Rattle.agent_machine.specs.declared.stop.Stop.{Stop}
 use Rattle.agent_machine.specs.declared.stop.Stop.TheVariants as stop
 use Rattle.agent_machine.specs.Fields.{Fields}
-use Rattle.agent_machine.specs.Beside.{KeepsSpared}
+use Rattle.agent_machine.specs.Beside.{KeepsSpared, SparesBlocks}
 use Rattle.agent_machine.specs.Moment.{Moment, Shows}
 
 -- whether the flash stopped it
@@ -91,6 +91,8 @@ pub record LeavesFlash (result : Result (Unit {0}) FlashStop) (passes : List ℕ
   pub guarded : IsTrue old.tells → IsAtRest old.told → GuardedBy result new.told
   -- on any flash, at any exit: nothing changes but the metadata, the marks of the starts on trial, and the update bank
   pub keeps : IsTrue old.tells → KeepsSpared old.fields old.told new.told
+  -- on every device, whatever its reads give, at any exit: no other block is erased or programmed
+  pub touches : SparesBlocks old.fields old.writes new.writes
   -- on any flash at rest: in each image that a loss leaves the metadata decides that the agent had, or the one that it has now
   pub decides : IsTrue old.tells → KeepsOldOrNew old.fields.layout old.fields.meta new.fields.meta old.told new.told
   pub stays : Stays old new

@@ -13,6 +13,8 @@ pub record Moment : Type 0 where
   -- whether the device tells its content, and what it tells
   pub tells : Bool
   pub told : Told
+  -- how often each block was erased or programmed, on a device that counts that
+  pub writes : ℕ → ℕ
   pub fields : Fields
 
 -- The numbers of the state are those that the fields have,

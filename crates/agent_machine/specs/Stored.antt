@@ -21,7 +21,7 @@ use Rattle.agent_kept.specs.Kept.{Kept}
 use Rattle.agent_kept.specs.Plans.{planned_in}
 use Rattle.agent_state.specs.Decides.{cannot_begin_kept, may_leave_kept, has_other_kept}
 use Rattle.agent_machine.specs.Deciding.{KeepsOldOrNew}
-use Rattle.agent_machine.specs.Beside.{KeepsSpared}
+use Rattle.agent_machine.specs.Beside.{KeepsSpared, SparesBlocks}
 use Rattle.agent_machine.specs.Fields.{Fields, target}
 use Rattle.agent_machine.specs.Meets.{Stays}
 use Rattle.agent_machine.specs.Moment.{Moment, Shows}
@@ -121,5 +121,7 @@ pub record CarriesOut (result : Result (Unit {0}) FlashStop) (p : Plan) (old new
   pub guarded : IsTrue old.tells → IsAtRest old.told → GuardedBy result new.told
   -- on any flash
   pub keeps : IsTrue old.tells → KeepsSpared old.fields old.told new.told
+  -- on every device
+  pub touches : SparesBlocks old.fields old.writes new.writes
   pub decides : IsTrue old.tells → KeepsOldOrNew old.fields.layout old.fields.meta new.fields.meta old.told new.told
   pub stays : Stays old new
