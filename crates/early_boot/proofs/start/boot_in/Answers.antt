@@ -21,7 +21,7 @@ use Rattle.early_boot.proofs.Numbered.{numbers-are}
 use Rattle.early_boot.specs.Starting.{Boots, IsCountedStart, TakesMendingAndStart, TakesRepairAndStart, chosen_of, touched_for}
 use Rattle.early_boot.specs.Started.{started_as}
 use Rattle.early_boot.specs.Ends.{Ended, device_of, ended, no_bank, stop_of}
-use Rattle.early_boot.specs.EndsBy.{BootEnds, IdleEnd, TakesBoot, TakesByBytes, TouchesBoot, counting_told, stopped_with, unshown_end}
+use Rattle.early_boot.specs.EndsBy.{BootEnds, IdleEnd, TakesBoot, TakesByBytes, TouchesBoot, stopped_with, unshown_end}
 use Rattle.early_boot.proofs.Endings.{shown-numbers}
 use Rattle.early_boot.proofs.Ended.{unshown-ends, unshown-idle, unshown-stop, stopped-idle, stopped-stop, started-bytes, started-ends, none-ends, stopped-ends}
 use Rattle.early_boot.specs.CountingStarts.{touched_end}
