@@ -45,6 +45,7 @@ IsOnAfter (failed n) on = on ≡ None
 
 -- No bank was started on it: power came back, or was there with nothing dirty.
 pub record PowersOn (tells : Bool) (old new : TurnMoment) : Type 0 where
+  pub writes : new.writes ≡ old.writes
   pub idles : Idles old.counts new.counts
   pub made : new.counts.made ≡ old.counts.made
   pub armed : new.armed ≡ old.armed
