@@ -29,7 +29,7 @@ use Rattle.moves.specs.Moved.{GuardedBy}
 use Rattle.agent_machine.specs.Fields.{Fields}
 use Rattle.early_boot.specs.Started.{Started, started_session}
 use Rattle.early_boot.specs.Ends.{Ended, booted, bad_layout, no_metadata, no_bank, lost, failed, stop_of}
-use Rattle.early_boot.specs.EndsBy.{BootEnds, EndsByBytes, EndsByMachine, IdleEnd, StartsReady, StopsWith, StartedBy, StartsPermitted, TakesBoot, TakesByBytes}
+use Rattle.early_boot.specs.EndsBy.{BootEnds, EndsByBytes, EndsByMachine, IdleEnd, StartsReady, StopsWith, StartedBy, StartsPermitted, TakesBoot, TakesByBytes, TouchesBoot}
 use Rattle.script_turns.specs.Powered.{TurnMoment, IsAt, IsSafe, ShowsAt}
 use Rattle.script_turns.specs.Booted.{BootsFrom}
 use Rattle.script_turns.specs.Replies.{LeavesOn, power_after}
@@ -359,6 +359,7 @@ pub record EndsTurn (passes : List ℕ → Bool) (tells : Bool) (e : Ended) (mid
   pub once : IsTrue tells → TakesByBytes mid.told.now e mid.armed new.armed
   pub unarmed : StaysUnarmed (stop_of e) mid.armed new.armed mid.counts new.counts
   pub touches : TouchesByBoot mid.writes new.writes
+  pub touches_fewer : TouchesBoot e mid.writes new.writes
   pub ends : IsTrue tells → BootEnds passes mid.told e new.told
 
 module _ (passes : List ℕ → Bool) (tells : Bool) (files : Option Directory) (faults : ℕ) (e : Ended) (old mid new : TurnMoment) (power : mid.power ≡ true)
@@ -391,6 +392,7 @@ module _ (passes : List ℕ → Bool) (tells : Bool) (files : Option Directory) 
             on_is = ended.on_is;
             idle = ended.idle;
             spent = ended.spent;
+            touches = ended.touches_fewer;
             started = ended.started;
             permitted = ended.permitted;
             once = ended.once;

@@ -1,6 +1,6 @@
 use Rattle.std.proofs.Common.{sym, ap, subst, ◌∙◌}
 use Rattle.early_boot.specs.Ends.{ended, stop_of}
-use Rattle.early_boot.specs.EndsBy.{BootEnds, IdleEnd, TakesBoot, TakesByBytes}
+use Rattle.early_boot.specs.EndsBy.{BootEnds, IdleEnd, TakesBoot, TakesByBytes, TouchesBoot}
 use Rattle.flash_core.specs.Counts.{Spends, StaysUnarmed}
 use Rattle.fwu_model.specs.Call as call
 use Rattle.fwu_model.specs.Reply.{Turn}
@@ -35,5 +35,6 @@ returns-clause-turns g c files faults =
       once = λ told. subst (λ d. TakesByBytes (F.told flash).now e (F.arming flash) (F.arming d)) (sym left.flash_is) (boots.once told);
       unarmed = subst (λ d. StaysUnarmed (stop_of e) (F.arming flash) (F.arming d) (F.counts flash) (F.counts d)) (sym left.flash_is) boots.unarmed;
       touches = subst (λ d. TouchesByBoot (F.writes flash) (F.writes d)) (sym left.flash_is) boots.touches;
+      touches_fewer = subst (λ d. TouchesBoot e (F.writes flash) (F.writes d)) (sym left.flash_is) boots.touches_fewer;
       ends = λ told. subst (λ d. BootEnds passes (F.told flash) e (F.told d)) (sym left.flash_is) (boots.ends told);
     }) c.with_power.ensures.has)
