@@ -306,18 +306,6 @@ keeps-by partly (Err Lost) a E old new s x h = h.keeps
 keeps-by partly (Err Fault) a E old new s x h = h.keeps
 keeps-by partly (Err Gone) a E old new s x h = absurd h
 
-touches-by : (partly : Bool) (result : Result Sent SendStop) (a : Answer) (E : Setting) (old new : agent.Moment) (s : State) (x : Session) → GoesBy partly result a E old new s x
-    → SparesBlocksByAll old.fields old.writes new.writes
-touches-by partly (Ok sent) a E old new s x h = h.1.touches
-touches-by partly (Err (MissingImage guid)) a E old new s x h = h.1.touches
-touches-by partly (Err (ImageTooLarge guid)) a E old new s x h = h.1.touches
-touches-by partly (Err (Begin st)) a E old new s x h = h.1.touches
-touches-by partly (Err (End st)) a E old new s x h = h.1.touches
-touches-by partly (Err ReadFailed) a E old new s x h = h.touches
-touches-by partly (Err Lost) a E old new s x h = h.touches
-touches-by partly (Err Fault) a E old new s x h = h.touches
-touches-by partly (Err Gone) a E old new s x h = absurd h
-
 -- a sending is a composed call
 always-composed : (partly : Bool) (name : List ℕ) (request : ℕ) → IsFalse (is_composed (send_call partly name request)) → ⊥
 always-composed false name request whole = absurd cc
@@ -331,12 +319,6 @@ stays-of : (partly : Bool) (files : Option Directory) (name : List ℕ) (request
 stays-of partly files name request passes result old new sends one =
     let E = with_layout old.fields passes in
     stays-by partly result (sends.answers E one.state one.session) E old new one.state one.session (sends.goes E one.state one.session refl refl one.shows)
-
-touches-of : (partly : Bool) (files : Option Directory) (name : List ℕ) (request : ℕ) (passes : List ℕ → Bool) (result : Result Sent SendStop) (old new : agent.Moment)
-    → Sending partly files name request passes result old new → agent.Showing old → SparesBlocksByAll old.fields old.writes new.writes
-touches-of partly files name request passes result old new sends one =
-    let E = with_layout old.fields passes in
-    touches-by partly result (sends.answers E one.state one.session) E old new one.state one.session (sends.goes E one.state one.session refl refl one.shows)
 
 keeps-guards : (t u : Told) → u.guard ≡ t.guard → Guards 1 7 t → Guards 1 7 u
 keeps-guards t u same guards b low high = subst (λ (guard : List ℕ). IsTrue (list_any (λ k. k == b) guard)) (sym same) (guards b low high)
@@ -678,11 +660,11 @@ module _ (partly : Bool) (passes : List ℕ → Bool) (tells : Bool) (files : Op
   -- the turn of a sending that ended, on a device that has power
   pub sent-turn : (result : Result Sent SendStop) (power : Bool) → power ≡ is_ok (flash_of result) → (result ≡ Err Gone → ⊥) → (Lacks files name → ⊥)
       → Sending partly files name request passes result old new → ∥ agent.Showing old ∥₁ → (IsTrue tells → agent.Showing old)
-      → Spends (flash_of result) cs ds → ReadsPieceBy was are result
+      → Spends (flash_of result) cs ds → ReadsPieceBy was are result → SparesBlocksByAll f w v
       → SendTakes partly files name f (sent_reply partly result) (at (Some f) t w cs armed true) (at (on_sent result g) u v ds arming power)
       → StaysFree (sent_reply partly result) (at (Some f) t w cs armed true) (at (on_sent result g) u v ds arming power)
       → Turns passes tells files (send_call partly name request) (quiet_turn (send_call partly name request) (sent_reply partly result)) (at (Some f) t w cs armed true) (at (on_sent result g) u v ds arming power) was are
-  sent-turn result power powered there lacks_none sends some showing spent reads takes free = record {
+  sent-turn result power powered there lacks_none sends some showing spent reads touches takes free = record {
     call_is = refl;
     unnumbered = λ no. refl;
     counts = record { faults = spent.faults; cuts = spent.cuts; reached = spent.reached; chances = spent.chances };
@@ -699,7 +681,7 @@ module _ (partly : Bool) (passes : List ℕ → Bool) (tells : Bool) (files : Op
     reads_none = λ e. absurd (always-reads partly name request e);
     replies = replies-as partly passes tells files name request _ _ (sent_reply partly result) (says power result there sends stays);
     takes = record { by_call = takes-as partly files name request f _ (sent_reply partly result) _ takes; unread = λ e none. absurd (none (reads.failed (unread-sent result e))) };
-    touches = touches-sent partly name request f w v (∥∥₁_elim some (hlevel props) (touches-of partly files name request passes result old new sends));
+    touches = touches-sent partly name request f w v touches;
     power = powered ∙ powers result;
     guard = stays.guard;
     step = λ yes E from passes_are told is no_chance. leads yes E from passes_are told is result there sends stays;

@@ -23,9 +23,9 @@ returns-clause-turns g c =
     (sent-turn false _ _ _ _ _ (fields agent) (fields new) _ _ _ _ _ _ _ _ _ _ sent.result _ (sent.ensures.goes here).power
     (λ e. let gone = sent.ensures.gone.gone.0 e in let was = gone.0 in absurd (cc (was, here))) c.requires.payloads.there
     (sending-whole _ _ _ _ sent.result (moment agent) (moment new) c.args.toc.now c.requires.table c.requires.payloads.there name)
-    (shows-some (fields agent) (agent.fitting here) g.D.Flash.tells (g.D.Flash.told agent.flash) (agent.knows here) (agent.some here))
+    (shows-some (fields agent) (agent.fitting here) g.D.Flash.tells (g.D.Flash.told agent.flash) {writes = g.D.Flash.writes agent.flash} (agent.knows here) (agent.some here))
     (λ test. shows-known (fields agent) (agent.fitting here) (g.D.Flash.told agent.flash) (g.D.Flash.writes agent.flash) g.D.Flash.tells (agent.knows here test))
-    (sent.ensures.goes here).costs sent.ensures.reads
+    (sent.ensures.goes here).costs sent.ensures.reads sent.ensures.touches
     (sent-takes false (g.V.Verifier.passes c.args.verifier.now) g.D.Flash.tells (g.H.Files.contents c.args.files.now) (string_bytes c.args.name) c.args.request (fields agent) (fields new) _ _ _ _ _ _ _ _ 0 0 sent.result _ c.args.toc.now (sent.ensures.goes here).power
     (λ early. let same = sent.ensures.untouched early in
     (ap (λ (a : Agent _ g.D.Flash). g.D.Flash.told (agent_device a)) same, ap (λ (a : Agent _ g.D.Flash). g.D.Flash.writes (agent_device a)) same, ap (λ (a : Agent _ g.D.Flash). g.D.Flash.counts (agent_device a)) same, ap (λ (a : Agent _ g.D.Flash). g.D.Flash.arming (agent_device a)) same))
