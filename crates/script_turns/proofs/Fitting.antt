@@ -21,7 +21,7 @@ use Rattle.script_turns.specs.declared.stage.Stage.TheVariants as stage
 
 -- an agent that isn't gone shows some machine
 pub shows-here : {D : Type 0} {F : Ghosts D} (a : Agent D F) → IsFalse (of_agent.gone a) → ∥ Showing (of_agent.moment a) ∥₁
-shows-here {F = F} a here = shows-some (of_agent.fields a) (a.fitting here) F.tells (F.told a.flash) (a.knows here) (a.some here)
+shows-here {F = F} a here = shows-some (of_agent.fields a) (a.fitting here) F.tells (F.told a.flash) {writes = F.writes a.flash} (a.knows here) (a.some here)
 
 -- on a device that tells its content, the flash shows what an agent shows that isn't gone
 pub seen-here : {D : Type 0} {F : Ghosts D} (a : Agent D F) → IsFalse (of_agent.gone a) → IsTrue F.tells → (s : State) (x : Session) → Shows (of_agent.moment a) s x

@@ -741,4 +741,4 @@ lacks-file (Some all) name lacks = lacks
 
 -- an agent that knows its flash shows the machine there
 pub shows-known : (f : Fields) → Fitting f → (t : Told) (w : ℕ → ℕ) (tells : Bool) → Knows f t → agent.Showing (kept_at tells f t w)
-shows-known f fitting t w tells knows = record { state = state_in f t.now; session = session_in f t.now; shows = known-shows f fitting tells t knows }
+shows-known f fitting t w tells knows = record { state = state_in f t.now; session = session_in f t.now; shows = known-shows f fitting tells t {writes = w} knows }
