@@ -27,9 +27,9 @@ use Rattle.script_turns.proofs.Touching.{layout-left}
 
 -- where nothing is on, nothing is touched but by a boot
 off-still : (c : Call) (on : Option Fields) (w v : ℕ → ℕ) → IsFalse (is_boot c) → on ≡ None → TouchesBy c on w v → v ≡ w
-off-still c (Some f) w v no off touches = absurd cc
-off-still call.Boot None w v no off touches = absurd cc
-off-still other None w v no off touches = touches
+off-still c (Some f) w v never off touches = absurd cc
+off-still call.Boot None w v never off touches = absurd cc
+off-still other None w v never off touches = touches
 
 booted-touches : (c : Call) (on : Option Fields) (w v : ℕ → ℕ) → IsTrue (is_boot c) → TouchesBy c on w v → TouchesByBoot w v
 booted-touches call.Boot None w v boot touches = touches
@@ -37,17 +37,17 @@ booted-touches call.Boot (Some f) w v boot touches = touches
 booted-touches other on w v boot touches = absurd cc
 
 called-spares : (c : Call) (f : Fields) (w v : ℕ → ℕ) → IsFalse (is_boot c) → TouchesOn c f w v → SparesBlocksByAll f w v
-called-spares call.Boot f w v no touches = absurd cc
-called-spares call.Show f w v no touches = λ b out. ap (λ (writes : ℕ → ℕ). writes b) touches
-called-spares call.NoCall f w v no touches = λ b out. ap (λ (writes : ℕ → ℕ). writes b) touches
-called-spares (call.Cut n k) f w v no touches = λ b out. ap (λ (writes : ℕ → ℕ). writes b) touches
-called-spares (call.BeginPartial types) f w v no touches = touches
-called-spares (call.Send name request) f w v no touches = touches
-called-spares (call.SendPartial name request) f w v no touches = touches
-called-spares other f w v no touches = blocks-once f touches
+called-spares call.Boot f w v never touches = absurd cc
+called-spares call.Show f w v never touches = λ b out. ap (λ (writes : ℕ → ℕ). writes b) touches
+called-spares call.NoCall f w v never touches = λ b out. ap (λ (writes : ℕ → ℕ). writes b) touches
+called-spares (call.Cut n k) f w v never touches = λ b out. ap (λ (writes : ℕ → ℕ). writes b) touches
+called-spares (call.BeginPartial types) f w v never touches = touches
+called-spares (call.Send name request) f w v never touches = touches
+called-spares (call.SendPartial name request) f w v never touches = touches
+called-spares other f w v never touches = blocks-once f touches
 
 on-spares : (c : Call) (on : Option Fields) (f : Fields) (w v : ℕ → ℕ) → IsFalse (is_boot c) → on ≡ Some f → TouchesBy c on w v → SparesBlocksByAll f w v
-on-spares c on f w v no is touches = called-spares c f w v no (subst (λ (o : Option Fields). TouchesBy c o w v) is touches)
+on-spares c on f w v never is touches = called-spares c f w v never (subst (λ (o : Option Fields). TouchesBy c o w v) is touches)
 
 -- ---- the agent, by the call
 
@@ -80,13 +80,13 @@ module _ (passes : List ℕ → Bool) (tells : Bool) (files : Option Directory) 
 
   -- no call but a boot starts a bank
   off-after : (c : Call) (old : TurnMoment) (t : Turn) (new : TurnMoment) → IsFalse (is_boot c) → old.on ≡ None → Replies passes tells files c old t new → new.on ≡ None
-  off-after call.Boot old t new no off replies = absurd cc
-  off-after call.Show old t new no off replies = replies.1 ∙ off
-  off-after call.NoCall old t new no off replies = replies.1 ∙ off
-  off-after (call.Cut n k) old t new no off replies = replies.1.on_is ∙ off
-  off-after (call.Send name request) old t new no off replies = send-off false name request old.on new.on old t.reply new off replies
-  off-after (call.SendPartial name request) old t new no off replies = send-off true name request old.on new.on old t.reply new off replies
-  off-after other old t new no off replies = call-off other old.on new.on old t.reply new off replies
+  off-after call.Boot old t new never off replies = absurd cc
+  off-after call.Show old t new never off replies = replies.1 ∙ off
+  off-after call.NoCall old t new never off replies = replies.1 ∙ off
+  off-after (call.Cut n k) old t new never off replies = replies.1.on_is ∙ off
+  off-after (call.Send name request) old t new never off replies = send-off false name request old.on new.on old t.reply new off replies
+  off-after (call.SendPartial name request) old t new never off replies = send-off true name request old.on new.on old t.reply new off replies
+  off-after other old t new never off replies = call-off other old.on new.on old t.reply new off replies
 
   stays-to : (c : Call) (r : Reply) (old new : agent.Moment) → AnswersTo passes c r old new → IsSame old.fields new.fields
   stays-to (call.BeginPartial types) r old new answers = same-stays old new answers.stays
@@ -115,13 +115,13 @@ module _ (passes : List ℕ → Bool) (tells : Bool) (files : Option Directory) 
 
   -- and none changes the layout or the bank that was started
   on-after : (c : Call) (f g : Fields) (old : TurnMoment) (t : Turn) (new : TurnMoment) → IsFalse (is_boot c) → old.on ≡ Some f → new.on ≡ Some g → Replies passes tells files c old t new → IsSame f g
-  on-after call.Boot f g old t new no is are replies = absurd cc
-  on-after call.Show f g old t new no is are replies = same-on old.on new.on f g is are replies.1
-  on-after call.NoCall f g old t new no is are replies = same-on old.on new.on f g is are replies.1
-  on-after (call.Cut n k) f g old t new no is are replies = same-on old.on new.on f g is are replies.1.on_is
-  on-after (call.Send name request) f g old t new no is are replies = send-on false name request old.on new.on f g old t.reply new is are replies
-  on-after (call.SendPartial name request) f g old t new no is are replies = send-on true name request old.on new.on f g old t.reply new is are replies
-  on-after other f g old t new no is are replies = call-on other old.on new.on f g old t.reply new is are replies
+  on-after call.Boot f g old t new never is are replies = absurd cc
+  on-after call.Show f g old t new never is are replies = same-on old.on new.on f g is are replies.1
+  on-after call.NoCall f g old t new never is are replies = same-on old.on new.on f g is are replies.1
+  on-after (call.Cut n k) f g old t new never is are replies = same-on old.on new.on f g is are replies.1.on_is
+  on-after (call.Send name request) f g old t new never is are replies = send-on false name request old.on new.on f g old t.reply new is are replies
+  on-after (call.SendPartial name request) f g old t new never is are replies = send-on true name request old.on new.on f g old t.reply new is are replies
+  on-after other f g old t new never is are replies = call-on other old.on new.on f g old t.reply new is are replies
 
 -- ---- one turn more
 
@@ -148,22 +148,22 @@ module _ (passes : List ℕ → Bool) (tells : Bool) (files : Option Directory) 
   -- with no boot before it
   unbooted-on : (b : Bool) → is_boot c ≡ b → boots_in (journal ++ t ∷ []) ≡ 0 → (new.on ≡ None) × (new.writes ≡ old.writes)
   unbooted-on true boot none = let one = ap {B = ℕ} (λ (x : Bool). cond x 1 0) boot in absurd (omega (arith, more, one, none))
-  unbooted-on false no none =
+  unbooted-on false never none =
       let was = run.unbooted (omega (arith, more, none)) in
-      (off-after passes tells files c mid t new no was.0 turned.replies, off-still c mid.on mid.writes new.writes no was.0 turned.touches ∙ was.1)
+      (off-after passes tells files c mid t new never was.0 turned.replies, off-still c mid.on mid.writes new.writes never was.0 turned.touches ∙ was.1)
 
   banks-on : (b : Bool) → is_boot c ≡ b → boots_in (journal ++ t ∷ []) ≤ 1 → (f : Fields) → new.on ≡ Some f → SparesBanks f old.writes new.writes
-  banks-on true boot few f on b front beside =
+  banks-on true boot few f on = λ b front beside.
       let one = ap {B = ℕ} (λ (x : Bool). cond x 1 0) boot in
       let was = run.unbooted (omega (arith, more, one, few)) in
       booted-touches c mid.on mid.writes new.writes boot turned.touches b front ∙ ap (λ (writes : ℕ → ℕ). writes b) was.1
-  banks-on false no few f on = by mid.on refl
+  banks-on false never few f on = by mid.on refl
     where
       by : (o : Option Fields) → mid.on ≡ o → SparesBanks f old.writes new.writes
-      by None off = let none = off-after passes tells files c mid t new no off turned.replies in absurd (let e = sym none ∙ on in cc)
+      by None off = let none = off-after passes tells files c mid t new never off turned.replies in absurd (let e = sym none ∙ on in cc)
       by (Some g) is = λ b front beside.
-          let there = beside-same g f (block_bytes * b) (on-after passes tells files c g f mid t new no is on turned.replies) beside in
-          on-spares c mid.on g mid.writes new.writes no is turned.touches b (beside-front b front, there) ∙ run.banks (omega (arith, more, few)) g is b front there
+          let there = beside-same g f (block_bytes * b) (on-after passes tells files c g f mid t new never is on turned.replies) beside in
+          on-spares c mid.on g mid.writes new.writes never is turned.touches b (beside-front b front, there) ∙ run.banks (omega (arith, more, few)) g is b front there
 
   pub touches-more : RunTouches (journal ++ t ∷ []) old new
   touches-more = record {

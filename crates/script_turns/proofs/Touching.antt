@@ -1,5 +1,5 @@
 -- Which blocks a turn touches, by its call.
-use Rattle.std.proofs.Common.{◌≡◌, ◌∙◌, ℕ, Bool, true, false, Option, Some, None, IsTrue, IsFalse, inl, inr, refl, ap, arith}
+use Rattle.std.proofs.Common.{◌≡◌, ℕ, Bool, true, false, List, Option, Some, None, IsTrue, IsFalse, inl, inr, refl, ap, arith}
 use Rattle.fwu_formats.specs.Places.{layout_block}
 use Rattle.fwu_model.specs.Call.{Call}
 use Rattle.fwu_model.specs.Call as call
