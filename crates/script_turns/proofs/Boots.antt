@@ -1,6 +1,6 @@
 -- A boot of a flash, from how it ends: a step of a run, what no loss harms, and what the reply says of the bytes.
 use Rattle.std.proofs.Common.{◌≡◌, ◌≢◌, Contains, ℕ, ◌+◌, ◌≤◌, ◌==◌, Bool, true, false, List, [], ◌∷◌, ext_get_or, Option, Some, None, refl, sym, ap, subst, ◌∙◌, inl, inr, arith, IsTrue, IsFalse}
-use Rattle.std.specs.Prelude.{◌⊎◌, Result, Ok, is_some, is_ok}
+use Rattle.std.specs.Prelude.{◌⊎◌, Result, Ok, is_ok}
 use Rattle.std.specs.List.{list_any}
 use Rattle.flash_core.specs.declared.flash.Counts.{Counts}
 use Rattle.std.specs.Prelude.{IsErrOf}
@@ -9,7 +9,7 @@ use Rattle.flash_core.specs.declared.flash.FlashStop.TheVariants as flash_stop
 use Rattle.flash_core.specs.declared.flash.Arming.{Arming}
 use Rattle.flash_core.specs.Counts.{ReachesNone, Rose, Spends, StaysUnarmed, all_stops, stops_in}
 use Rattle.flash_core.specs.Told.{Told, NothingDirty, fresh, is_unsure}
-use Rattle.flash_core.specs.May.{Guards, Leaves, May, NoChance, as_now}
+use Rattle.flash_core.specs.May.{Guards, Leaves, May, NoChance}
 use Rattle.host_io.specs.Contents.{Directory}
 use Rattle.fwu_formats.specs.declared.kinds.LayoutFault.{LayoutFault}
 use Rattle.fwu_formats.specs.Layout.{Layout}
@@ -20,7 +20,7 @@ use Rattle.fwu_model.specs.Call as call
 use Rattle.fwu_model.specs.Reply.{Reply, Turn}
 use Rattle.fwu_model.specs.Reply as reply
 use Rattle.fwu_model.specs.Answer.{Answer, answer}
-use Rattle.fwu_model.specs.Run.{Condition, Step, Answered, Stopped, StoppedEarly, ends_run, is_stop, moved_on, prefixes, stopped_moves}
+use Rattle.fwu_model.specs.Run.{Condition, Step, Answered, Stopped, StoppedEarly, is_stop, moved_on, prefixes, stopped_moves}
 use Rattle.fwu_model.specs.Headline.{LeavesOneOf}
 use Rattle.fwu_model.specs.Calm.{IsCalm, IsAtRest}
 use Rattle.fwu_model.proofs.Frame.{calm-again, calm-stays}
@@ -35,7 +35,7 @@ use Rattle.script_turns.specs.Booted.{BootsFrom}
 use Rattle.script_turns.specs.Replies.{LeavesOn, power_after}
 use Rattle.script_turns.specs.Takes.{BootTakes, StaysFree, TakesBy, stop_told}
 use Rattle.script_turns.specs.Touches.{TouchesByBoot}
-use Rattle.script_turns.specs.Turning.{NoneFalls, Turns, PowersOn, GetsPower, IsOnAfter, ShowsStarted, boot_turn, reply_of_end}
+use Rattle.script_turns.specs.Turning.{NoneFalls, Turns, GetsPower, IsOnAfter, ShowsStarted, boot_turn, reply_of_end}
 use Rattle.script_turns.proofs.Shows.{as-told}
 use Rattle.script_turns.proofs.Touching.{touches-booted}
 

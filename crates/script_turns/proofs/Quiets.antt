@@ -1,12 +1,10 @@
 -- A turn that leaves the flash as it is.
 use Rattle.std.proofs.Common.{◌≡◌, ◌≢◌, Contains, ℕ, ◌≤◌, Bool, true, not, ◌||◌, List, [], ◌∷◌, Option, Some, None, refl, sym, ap, subst, ◌∙◌, arith, IsTrue, IsFalse}
-use Rattle.std.specs.Prelude.{MatchBool, IsSome, IsNone, Ok}
+use Rattle.std.specs.Prelude.{MatchBool, IsSome, IsNone}
 use Rattle.host_io.specs.Contents.{Directory}
 use Rattle.fwu_formats.specs.Metadata.{Meta}
 use Rattle.flash_core.proofs.Unarmed.{unarmed_none}
-use Rattle.flash_core.specs.declared.flash.Arming.{Arming}
-use Rattle.flash_core.specs.declared.flash.Counts.{Counts}
-use Rattle.flash_core.specs.Counts.{StaysUnarmed, all_stops}
+use Rattle.flash_core.specs.Counts.{all_stops}
 use Rattle.flash_core.specs.Told.{Told}
 use Rattle.fwu_model.specs.State.{State, Numbers, numbers_of, after}
 use Rattle.fwu_model.specs.Sound.{Setting}

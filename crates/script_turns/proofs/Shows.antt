@@ -1,5 +1,5 @@
 -- Which machine an agent shows, whatever its device counts.
-use Rattle.std.proofs.Common.{◌≡◌, Bool, true, ℕ, sym, subst, IsTrue}
+use Rattle.std.proofs.Common.{Bool, true, ℕ, sym, subst, IsTrue}
 use Rattle.flash_core.specs.Told.{Told}
 use Rattle.fwu_model.specs.State.{State}
 use Rattle.fwu_model.specs.Session.{Session}

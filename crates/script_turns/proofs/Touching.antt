@@ -1,5 +1,5 @@
 -- Which blocks a turn touches, by its call.
-use Rattle.std.proofs.Common.{◌≡◌, ℕ, Bool, true, false, List, Option, Some, None, IsTrue, IsFalse, inl, inr, refl, ap, arith}
+use Rattle.std.proofs.Common.{◌≡◌, ℕ, Bool, true, false, List, Option, Some, None, IsTrue, IsFalse, inl, refl, ap, arith}
 use Rattle.fwu_formats.specs.Places.{layout_block}
 use Rattle.fwu_model.specs.Call.{Call}
 use Rattle.fwu_model.specs.Call as call
@@ -7,7 +7,7 @@ use Rattle.agent_machine.specs.Beside.{SparesBlocks, SparesBlocksByAll}
 use Rattle.agent_machine.specs.Fields.{Fields}
 use Rattle.script_turns.specs.Calls.{is_agents, is_composed}
 use Rattle.script_turns.specs.Sending.{send_call}
-use Rattle.script_turns.specs.Touches.{TouchesBy, TouchesByBoot, TouchesOff, TouchesOn}
+use Rattle.script_turns.specs.Touches.{TouchesBy, TouchesByBoot, TouchesOn}
 
 -- of a call of the agent
 pub touches-called : (c : Call) (f : Fields) (w v : ℕ → ℕ) → IsTrue (is_agents c) → SparesBlocksByAll f w v → (IsFalse (is_composed c) → SparesBlocks f w v) → TouchesOn c f w v
