@@ -23,7 +23,7 @@ use Rattle.fwu_c.specs.Boots.{BootsBy}
 use Rattle.fwu_c.specs.Codes.{end_code}
 use Rattle.fwu_c.specs.Handed.{HandsOver, HasFlashSize, IsDeviceEnd, IsJustMade, IsStartOfSteps, IsWithinWith, LiesBefore, LiesOutside, SameBut, boot_reach, bounds_before, is_idle_number}
 use Rattle.fwu_c.specs.declared.handing.Bounds.{Bounds}
-use Rattle.fwu_c.specs.Reports.{ReportsEnd, ReportsStart}
+use Rattle.fwu_c.specs.Reports.{ReportsEnd, ReportsStart, SameStarts}
 
 kept : (old t : Told) → t ≡ old → t.guard ≡ old.guard
 kept old t e = ap (λ (x : Told). x.guard) e
@@ -55,14 +55,30 @@ start_same b old new same reports = subst (ReportsStart b) (sym same) (record {
   lengths = reports.lengths;
 })
 
-pub end_same : (e : Ended) (old new : Report) → SameBut old new → ReportsEnd e old → ReportsEnd e new
-end_same (booted b n) old new same reports = start_same b old new same reports
-end_same (bad_layout f) old new same reports = ap (λ (r : Report). r.layout_fault) same ∙ reports
-end_same no_metadata old new same reports = tt
-end_same (no_bank active previous) old new same reports =
+-- what a start writes, as it was before
+pub starts_same : (before old new : Report) → SameBut old new → SameStarts before old → SameStarts before new
+starts_same before old new same stays = subst (SameStarts before) (sym same) (record {
+  start = record {
+    bank = stays.start.bank;
+    version = stays.start.version;
+    trials = stays.start.trials;
+    counter = stays.start.counter;
+    fallback = stays.start.fallback;
+    images = stays.start.images;
+    lengths = stays.start.lengths;
+  };
+  active = stays.active;
+  previous = stays.previous;
+})
+
+pub end_same : (e : Ended) (before old new : Report) → SameBut old new → ReportsEnd e before old → ReportsEnd e before new
+end_same (booted b n) before old new same reports = start_same b old new same reports
+end_same (bad_layout f) before old new same reports = ap (λ (r : Report). r.layout_fault) same ∙ reports
+end_same no_metadata before old new same reports = tt
+end_same (no_bank active previous) before old new same reports =
     (ap (λ (r : Report). r.active) same ∙ reports.0, ap (λ (r : Report). r.previous) same ∙ reports.1)
-end_same (lost n) old new same reports = tt
-end_same (failed n) old new same reports = tt
+end_same (lost n) before old new same reports = starts_same before old new same reports
+end_same (failed n) before old new same reports = starts_same before old new same reports
 
 -- ---- numbers
 
@@ -139,11 +155,11 @@ over image file first d bounds told r steps room made size same_size guard hands
       outside = hands.outside;
     }
 
-pub boots_by : (image : List ℕ) (first d : StepFlash) (e : Ended) (number : ℕ) (told r : Report) (steps : List Step) (room : List ℕ)
+pub boots_by : (image : List ℕ) (first d : StepFlash) (e : Ended) (number : ℕ) (old told r : Report) (steps : List Step) (room : List ℕ)
     → told_of first ≡ start_told image → length image ≡ block_bytes * block_count first → block_count d ≡ block_count first
     → BootEnds (λ m. passes_any m) (told_of first) e (told_of d) → HandsOver d (bounds_before boot_reach) told r steps room
-    → number ≡ end_code e → ReportsEnd e told → BootsBy image number r steps room
-boots_by image first d e number told r steps room made size same_size ends hands is reports =
+    → number ≡ end_code e → ReportsEnd e old told → BootsBy image number old r steps room
+boots_by image first d e number old told r steps room made size same_size ends hands is reports =
     let o = over image [] first d (bounds_before boot_reach) told r steps room made size same_size (guard_kept (told_of first) (told_of d) e ends.by_bytes) hands in
     record {
       end = e;
@@ -154,13 +170,13 @@ boots_by image first d e number told r steps room made size same_size ends hands
       within = o.within;
       doable = o.doable;
       places = o.places;
-      reports = end_same e told r hands.same reports;
+      reports = end_same e old told r hands.same reports;
     }
 
 -- of the same image
-pub of_image : (image other : List ℕ) (number : ℕ) (r : Report) (steps : List Step) (room : List ℕ) → other ≡ image
-    → BootsBy other number r steps room → BootsBy image number r steps room
-of_image image other number r steps room same boots = subst (λ (i : List ℕ). BootsBy i number r steps room) same boots
+pub of_image : (image other : List ℕ) (number : ℕ) (old r : Report) (steps : List Step) (room : List ℕ) → other ≡ image
+    → BootsBy other number old r steps room → BootsBy image number old r steps room
+of_image image other number old r steps room same boots = subst (λ (i : List ℕ). BootsBy i number old r steps room) same boots
 
 -- ---- where nothing was written
 

@@ -41,7 +41,7 @@ use Rattle.step_flash.specs.Guard.{start_told}
 use Rattle.fwu_c.specs.declared.report.Report.{Report}
 use Rattle.fwu_c.specs.Calls.{MovesByAnswer, CallEnds, Called, CallsBy, CallsFrom, IsAccepted, IsStepResult, IsNotTaken, MakesCall, RefusesCall, RepliesAs, ReportsCall, ReportsTakeUp, TakesUpBank, call_code, called, called_code, not_taken, status_code, stop_code, take_up_code}
 use Rattle.fwu_c.specs.Handed.{HandsOver, IsDeviceEnd, IsStartOfSteps, SameBut, bounds_before, call_reach, is_idle_number, starts_none}
-use Rattle.fwu_c.proofs.Booting.{began_as, over, start_same}
+use Rattle.fwu_c.proofs.Booting.{began_as, over, start_same, starts_same}
 
 -- ---- numbers
 
@@ -122,12 +122,13 @@ take_up_guard bank old t (stopped why) ends = elim ends [
   | inr repair ↦ repair.others.guard
 ]
 
-take_up_same : (e : TakenUp) (old new : Report) → IsNotTaken e → SameBut old new → ReportsTakeUp e old → ReportsTakeUp e new
-take_up_same (taken b) old new is same reports = absurd is
-take_up_same (bad_layout f) old new is same reports = ap (λ (r : Report). r.layout_fault) same ∙ reports
-take_up_same no_metadata old new is same reports = tt
-take_up_same not_started old new is same reports = tt
-take_up_same (stopped why) old new is same reports = tt
+take_up_same : (e : TakenUp) (before old new : Report) → IsNotTaken e → SameBut old new → ReportsTakeUp e before old
+    → ReportsTakeUp e before new
+take_up_same (taken b) before old new is same reports = absurd is
+take_up_same (bad_layout f) before old new is same reports = ap (λ (r : Report). r.layout_fault) same ∙ reports
+take_up_same no_metadata before old new is same reports = tt
+take_up_same not_started before old new is same reports = tt
+take_up_same (stopped why) before old new is same reports = starts_same before old new same reports
 
 -- ---- the call
 
@@ -230,11 +231,11 @@ module _ (image : List ℕ) (bank : ℕ) (c : Call) (b : Started) (result : Resu
   pub makes_call : MakesCall image bank c b result t
   makes_call = record { mid = mid; takes = takes; runs = runs; calls = calls; does = does_both }
 
-calls_by : (image : List ℕ) (bank : ℕ) (c : Call) (first d : StepFlash) (e : Called) (number : ℕ) (told r : Report) (steps : List Step) (room : List ℕ)
+calls_by : (image : List ℕ) (bank : ℕ) (c : Call) (first d : StepFlash) (e : Called) (number : ℕ) (old told r : Report) (steps : List Step) (room : List ℕ)
     → told_of first ≡ start_told image → length image ≡ block_bytes * block_count first → block_count d ≡ block_count first
     → (told_of d).guard ≡ (told_of first).guard → CallEnds image bank c e (told_of d) → HandsOver d (bounds_before call_reach) told r steps room
-    → number ≡ called_code e → ReportsCall e r → CallsBy image bank c number r steps room
-calls_by image bank c first d e number told r steps room made size same_size guard ends hands is reports =
+    → number ≡ called_code e → ReportsCall e old r → CallsBy image bank c number old r steps room
+calls_by image bank c first d e number old told r steps room made size same_size guard ends hands is reports =
     let o = over image [] first d (bounds_before call_reach) told r steps room made size same_size guard hands in
     record {
       end = e;
@@ -252,29 +253,29 @@ calls_by image bank c first d e number told r steps room made size same_size gua
 pub refused_by : (image : List ℕ) (bank : ℕ) (c : Call) (first d : StepFlash) (number given : ℕ) (old told r : Report)
     (steps : List Step) (room : List ℕ)
     → told_of first ≡ start_told image → length image ≡ block_bytes * block_count first → RefusesCall bank given first d old told
-    → HandsOver d (bounds_before call_reach) told r steps room → number ≡ given → CallsBy image bank c number r steps room
+    → HandsOver d (bounds_before call_reach) told r steps room → number ≡ given → CallsBy image bank c number old r steps room
 refused_by image bank c first d number given old told r steps room made size refuses hands is =
-    calls_by image bank c first d (not_taken refuses.end) number told r steps room made size refuses.size
+    calls_by image bank c first d (not_taken refuses.end) number old told r steps room made size refuses.size
     (take_up_guard bank (told_of first) (told_of d) refuses.end refuses.ends.by_bytes)
     (refuses.is, subst (λ (x : Told). TakeUpEnds (λ m. passes_any m) bank x refuses.end (told_of d)) made refuses.ends) hands (is ∙ refuses.number_is)
-    (take_up_same refuses.end told r refuses.is hands.same refuses.reports)
+    (take_up_same refuses.end old told r refuses.is hands.same refuses.reports)
 
 -- it was, and the call was made
 pub called_by : (image : List ℕ) (bank : ℕ) (c : Call) (first mid d : StepFlash) (b : Started)
     (result : Result (Unit {0}) Stop) (number : ℕ) (old told r : Report) (steps : List Step) (room : List ℕ)
     → told_of first ≡ start_told image → length image ≡ block_bytes * block_count first → block_count d ≡ block_count mid
     → TakesUpBank bank b first mid old told → CallsFrom c b result (told_of mid) (told_of d) → HandsOver d (bounds_before call_reach) told r steps room
-    → number ≡ call_code result → CallsBy image bank c number r steps room
+    → number ≡ call_code result → CallsBy image bank c number old r steps room
 called_by image bank c first mid d b result number old told r steps room made size same_size takes calls hands is =
     let from_image = subst (λ (x : Told). TakeUpEnds (λ m. passes_any m) bank x (taken b) (told_of mid)) made takes.ends in
-    calls_by image bank c first d (called b result) number told r steps room made size (same_size ∙ takes.size)
+    calls_by image bank c first d (called b result) number old told r steps room made size (same_size ∙ takes.size)
     (guard_is image bank c b result (told_of mid) (told_of d) from_image takes.runs calls ∙ take_up_guard bank (told_of first) (told_of mid) (taken b) takes.ends.by_bytes)
     (makes_call image bank c b result (told_of mid) (told_of d) from_image takes.runs calls) hands is (start_same b told r hands.same takes.reports)
 
 -- of the same image
-pub call_of_image : (image other : List ℕ) (bank : ℕ) (c : Call) (number : ℕ) (r : Report) (steps : List Step) (room : List ℕ) → other ≡ image
-    → CallsBy other bank c number r steps room → CallsBy image bank c number r steps room
-call_of_image image other bank c number r steps room same by = subst (λ (i : List ℕ). CallsBy i bank c number r steps room) same by
+pub call_of_image : (image other : List ℕ) (bank : ℕ) (c : Call) (number : ℕ) (old r : Report) (steps : List Step) (room : List ℕ) → other ≡ image
+    → CallsBy other bank c number old r steps room → CallsBy image bank c number old r steps room
+call_of_image image other bank c number old r steps room same by = subst (λ (i : List ℕ). CallsBy i bank c number old r steps room) same by
 
 -- ---- where nothing was written
 

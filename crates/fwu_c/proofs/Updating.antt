@@ -149,17 +149,17 @@ pub told_denied : (image : List ℕ) (old : Report) (old_steps : List Step) (old
     → TellsSteps image 16 old old_steps old_room new steps room
 told_denied image old old_steps old_room new steps room is same none same_steps same_room =
     told_handed image 16 16 old old_steps old_room new steps room is (λ four. omega (arith, four), λ six. omega (arith, six), λ seven. omega (arith, seven))
-    (inl refl) (λ idle. absurd (cc)) (keeps_fault 16 old new same (λ none. absurd (cc)) (λ five. absurd (omega (arith, five))))
+    (inl refl) (λ idle. absurd (cc)) (keeps_fault 16 old new same (λ none. absurd (cc)))
     (λ not. none_lie new.steps update_reach steps none) (ap (λ (x : List Step). drop new.steps x) same_steps, ap (λ (x : List ℕ). drop new.bytes x) same_room)
     (λ five. absurd (omega (arith, five))) (λ seven. absurd (omega (arith, seven)))
 
 -- ---- the record
 
-updates_by : (image file : List ℕ) (request : ℕ) (first d : StepFlash) (bounds : Bounds) (e : Updated) (number : ℕ) (told r : Report) (steps : List Step) (room : List ℕ)
+updates_by : (image file : List ℕ) (request : ℕ) (first d : StepFlash) (bounds : Bounds) (e : Updated) (number : ℕ) (old told r : Report) (steps : List Step) (room : List ℕ)
     → told_of first ≡ start_with image file → length image ≡ block_bytes * block_count first → block_count d ≡ block_count first
     → (told_of d).guard ≡ (told_of first).guard → UpdateEnds image file request e (told_of d) → HandsOver d bounds told r steps room
-    → SparesInUse e (take r.steps steps) → number ≡ update_code e → ReportsUpdate e r → UpdatesBy image file request number r steps room
-updates_by image file request first d bounds e number told r steps room made size same_size kept ends hands spared is reports =
+    → SparesInUse e (take r.steps steps) → number ≡ update_code e → ReportsUpdate e old r → UpdatesBy image file request number old r steps room
+updates_by image file request first d bounds e number old told r steps room made size same_size kept ends hands spared is reports =
     let o = over image file first d bounds told r steps room made size same_size kept hands in
     record {
       end = e;
@@ -192,12 +192,12 @@ handed_in d x y told r steps room same hands = subst (λ (z : Bounds). HandsOver
 pub unbooted_by : (image file : List ℕ) (request : ℕ) (first d : StepFlash) (number given : ℕ) (old told r : Report)
     (steps : List Step) (room : List ℕ)
     → told_of first ≡ start_with image file → length image ≡ block_bytes * block_count first → ReportsNone given first d old told
-    → HandsOver d (bounds_before boot_reach) told r steps room → number ≡ given → UpdatesBy image file request number r steps room
+    → HandsOver d (bounds_before boot_reach) told r steps room → number ≡ given → UpdatesBy image file request number old r steps room
 unbooted_by image file request first d number given old told r steps room made size none hands is =
-    updates_by image file request first d (bounds_before boot_reach) (not_booted none.end) number told r steps room made size none.size
+    updates_by image file request first d (bounds_before boot_reach) (not_booted none.end) number old told r steps room made size none.size
     (guard_kept (told_of first) (told_of d) none.end none.boots.by_bytes)
     (none.is, subst (λ (x : Told). BootEnds (λ m. passes_any m) x none.end (told_of d)) made none.boots) hands hands.places (is ∙ none.number_is)
-    (end_same none.end told r hands.same none.reports)
+    (end_same none.end old told r hands.same none.reports)
 
 -- a sending keeps the guard, since the boot before it left a flash that shows a state
 guard_by : (file : List ℕ) (request : ℕ) (b : Started) (outcome : SendOutcome) (old t : Told) (s : State) → IsShown b.layout old.now s
@@ -210,11 +210,11 @@ pub tried_by : (image file : List ℕ) (request : ℕ) (first mid d : StepFlash)
     (old told r : Report) (steps : List Step) (room : List ℕ)
     → told_of first ≡ start_with image file → length image ≡ block_bytes * block_count first → block_count d ≡ block_count mid
     → ReportsBoot b first mid old told → InstallsBy file request b outcome (told_of mid) (told_of d) → HandsOver d (update_bounds b.layout b.bank) told r steps room
-    → number ≡ outcome_code outcome → UpdatesBy image file request number r steps room
+    → number ≡ outcome_code outcome → UpdatesBy image file request number old r steps room
 tried_by image file request first mid d b outcome number old told r steps room made size same_size boots installs hands is =
     let bytes = boots.ends.by_bytes in
     let shown : IsShown b.layout (told_of mid).now bytes.shows.0 = record { layout = boots.layout; shows = bytes.shows.1 } in
-    updates_by image file request first d (update_bounds b.layout b.bank) (tried b boots.numbers outcome) number told r steps room made size
+    updates_by image file request first d (update_bounds b.layout b.bank) (tried b boots.numbers outcome) number old told r steps room made size
     (same_size ∙ boots.size)
     (guard_by file request b outcome (told_of mid) (told_of d) bytes.shows.0 shown installs
     ∙ guard_kept (told_of first) (told_of mid) (booted b boots.numbers) bytes)
@@ -225,10 +225,10 @@ tried_by image file request first mid d b outcome number old told r steps room m
     }) hands hands.outside is (start_same b told r hands.same boots.reports)
 
 -- nothing was tried
-pub denied_by : (image file : List ℕ) (request : ℕ) (r : Report) (steps : List Step) (room : List ℕ) → IsOnTrial image
-    → r.steps ≡ 0 → r.bytes ≡ 0 → UpdatesBy image file request 16 r steps room
+pub denied_by : (image file : List ℕ) (request : ℕ) (old r : Report) (steps : List Step) (room : List ℕ) → IsOnTrial image
+    → r.steps ≡ 0 → r.bytes ≡ 0 → UpdatesBy image file request 16 old r steps room
 unfolding run_with fresh
-denied_by image file request r steps room trial none empty =
+denied_by image file request old r steps room trial none empty =
     let no_steps : take r.steps steps ≡ [] = ap (λ (n : ℕ). take n steps) none in
     let no_bytes : room_bytes [] ≡ 0 = no_room_bytes in
     record {
@@ -249,7 +249,7 @@ denied_by image file request r steps room trial none empty =
     }
 
 -- of the same image
-pub update_of_image : (image other file : List ℕ) (request number : ℕ) (r : Report) (steps : List Step) (room : List ℕ) → other ≡ image
-    → UpdatesBy other file request number r steps room → UpdatesBy image file request number r steps room
-update_of_image image other file request number r steps room same by =
-    subst (λ (i : List ℕ). UpdatesBy i file request number r steps room) same by
+pub update_of_image : (image other file : List ℕ) (request number : ℕ) (old r : Report) (steps : List Step) (room : List ℕ) → other ≡ image
+    → UpdatesBy other file request number old r steps room → UpdatesBy image file request number old r steps room
+update_of_image image other file request number old r steps room same by =
+    subst (λ (i : List ℕ). UpdatesBy i file request number old r steps room) same by

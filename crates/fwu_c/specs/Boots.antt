@@ -14,7 +14,7 @@ use Rattle.fwu_c.specs.declared.report.Report.{Report}
 
 -- From the image it boots as the definitions say. What the flash then tells is what the steps make of the image. At 5 an erase or a
 -- program beyond them may be under way.
-pub record BootsBy (image : List ℕ) (number : ℕ) (r : Report) (steps : List Step) (room : List ℕ) : Type 0 where
+pub record BootsBy (image : List ℕ) (number : ℕ) (old r : Report) (steps : List Step) (room : List ℕ) : Type 0 where
   pub end : Ended
   pub number_is : number ≡ end_code end
   pub t : Told
@@ -26,4 +26,4 @@ pub record BootsBy (image : List ℕ) (number : ℕ) (r : Report) (steps : List 
   pub doable : AreDoable [] (take r.bytes room) (start_told image) (take r.steps steps)
   -- each lies in blocks 1 to 6, and so in no bank
   pub places : All (LiesBefore boot_reach) (take r.steps steps)
-  pub reports : ReportsEnd end r
+  pub reports : ReportsEnd end old r

@@ -10,8 +10,7 @@ use Rattle.step_flash.specs.Flash.{block_count, image_of, is_on, package_of, tol
 use Rattle.step_flash.specs.Guard.{start_with}
 use Rattle.step_flash.specs.Stopped.{under_as}
 use Rattle.step_flash.specs.Steps.{AreDoable, IsInsideWith, room_bytes, run_with}
-use Rattle.early_boot.specs.Started.{Started}
-use Rattle.fwu_c.specs.Reports.{ReportsStart}
+use Rattle.fwu_c.specs.Reports.{SameStart}
 use Rattle.fwu_c.specs.declared.report.Report.{Report}
 use Rattle.fwu_c.specs.declared.handing.Bounds.{Bounds}
 
@@ -106,29 +105,11 @@ pub record HasFlashSize (image : List ℕ) : Type 0 where
 abbrev pub starts_none : ℕ → Bool
 starts_none number = is_idle_number number || number == 3
 
--- what a start writes but the banks
-pub record SameStart (old new : Report) : Type 0 where
-  pub bank : new.bank ≡ old.bank
-  pub version : new.version ≡ old.version
-  pub trials : new.trials ≡ old.trials
-  pub counter : new.counter ≡ old.counter
-  pub fallback : new.fallback ≡ old.fallback
-  pub images : new.images ≡ old.images
-  pub lengths : new.lengths ≡ old.lengths
-
--- what a start writes, as it was before
-pub record SameStarts (old new : Report) : Type 0 where
-  pub start : SameStart old new
-  pub active : new.active ≡ old.active
-  pub previous : new.previous ≡ old.previous
-
 -- Of the report a number's own fields are written: the fault at 1, the banks at 3, and all but the fault where a bank was started.
 pub record KeepsReport (number : ℕ) (old new : Report) : Type 0 where
   pub fault : number ≢ 1 → new.layout_fault ≡ old.layout_fault
   pub banks : IsTrue (is_idle_number number) → (new.active ≡ old.active) × (new.previous ≡ old.previous)
   pub start : IsTrue (starts_none number) → SameStart old new
-  -- at 5 none is written, or a start is told
-  pub stopped : number ≡ 5 → SameStarts old new ⊎ ((b : Started) × ReportsStart b new)
 
 -- What each call that tells steps promises, whatever it is asked for: of what C handed in, and has then.
 pub record TellsSteps (image : List ℕ) (number : ℕ) (old : Report) (old_steps : List Step) (old_room : List ℕ) (new : Report)

@@ -71,7 +71,7 @@ pub record ReportsNone (number : ℕ) (first left : StepFlash) (old r : Report) 
   pub is : IsNotBooted end
   pub number_is : number ≡ end_code end
   pub boots : BootEnds (λ m. passes_any m) (told_of first) end (told_of left)
-  pub reports : ReportsEnd end r
+  pub reports : ReportsEnd end old r
   pub kept : KeepsReport number old r
   -- steps are told and not done, so no power is lost
   pub unlost : number ≢ 4
@@ -90,10 +90,10 @@ UpdateEnds image file request (not_booted e) t = IsNotBooted e × BootEnds (λ m
 UpdateEnds image file request (tried b n outcome) t = TriesPackage image file request b n outcome t
 
 -- each end has its own fields; the bank that the boot started is told as a boot tells it
-abbrev pub ReportsUpdate : Updated → Report → Type 0
-ReportsUpdate on_trial r = (r.steps ≡ 0) × (r.bytes ≡ 0)
-ReportsUpdate (not_booted e) r = ReportsEnd e r
-ReportsUpdate (tried b n outcome) r = ReportsStart b r
+abbrev pub ReportsUpdate : Updated → Report → Report → Type 0
+ReportsUpdate on_trial old r = (r.steps ≡ 0) × (r.bytes ≡ 0)
+ReportsUpdate (not_booted e) old r = ReportsEnd e old r
+ReportsUpdate (tried b n outcome) old r = ReportsStart b r
 
 -- where an update may write whose boot started this bank: anywhere behind block 0 but there
 abbrev pub update_bounds : Layout → ℕ → Bounds
@@ -107,7 +107,8 @@ SparesInUse (tried b n outcome) steps = All (LiesOutside (start b.layout b.bank 
 
 -- From the image it updates as the definitions say. What the flash then tells is what the steps make of the image, with the bytes
 -- of copies from the package. At 5 an erase or a program beyond them may be under way.
-pub record UpdatesBy (image file : List ℕ) (request number : ℕ) (r : Report) (steps : List Step) (room : List ℕ) : Type 0 where
+pub record UpdatesBy (image file : List ℕ) (request number : ℕ) (old r : Report) (steps : List Step)
+    (room : List ℕ) : Type 0 where
   pub end : Updated
   pub number_is : number ≡ update_code end
   pub t : Told
@@ -119,4 +120,4 @@ pub record UpdatesBy (image file : List ℕ) (request number : ℕ) (r : Report)
   pub doable : AreDoable file (take r.bytes room) (start_with image file) (take r.steps steps)
   -- no step meets the bank in use
   pub spared : SparesInUse end (take r.steps steps)
-  pub reports : ReportsUpdate end r
+  pub reports : ReportsUpdate end old r

@@ -27,7 +27,7 @@ pub extern "C" fn fwu_boot(
     report: &mut Report,
 ) -> u32
     ensures answers { result ≤ 7 }
-    ensures boots { result ≤ 5 → BootsBy image.now result report.new steps.new room.new }
+    ensures boots { result ≤ 5 → BootsBy image.now result report.old report.new steps.new room.new }
     // Whatever it answers: no loss of power, and at 1, 2 and 5 to 7 what that number says.
     ensures tells { TellsSteps image.now result report.old steps.old room.old report.new steps.new room.new }
 {
@@ -52,7 +52,7 @@ fn boot_over(
     requires new { IsJustMade [] flash }
     requires block { block_bytes ≤ length block.old }
     ensures answers { (result ≤ 5) ⊎ (result ≡ 7) }
-    ensures boots { result ≤ 5 → BootsBy (image_of flash.entry) result report.new steps.new room.new }
+    ensures boots { result ≤ 5 → BootsBy (image_of flash.entry) result report.old report.new steps.new room.new }
     ensures tells { TellsSteps (image_of flash.entry) result report.old steps.old room.old report.new steps.new room.new }
 {
     let end = boot_in(flash, &AnyManifest, &mut block[..BLOCK_BYTES as usize]);

@@ -41,7 +41,7 @@ pub extern "C" fn fwu_update(
     report: &mut Report,
 ) -> u32
     ensures updates { TellsAnswer result →
-        UpdatesBy image.now file.now acceptance result report.new steps.new room.new }
+        UpdatesBy image.now file.now acceptance result report.old report.new steps.new room.new }
     // A boot would count one more start of a bank on trial. Nothing else is written then.
     ensures trial { IsOnTrial image.now → TellsAnswer result → (result ≡ 16)
         × (report.new ≡ record report.old { steps = 0; bytes = 0 }) × (steps.new ≡ steps.old) × (room.new ≡ room.old) }
@@ -105,7 +105,7 @@ fn update(
 ) -> u32
     requires { block_bytes ≤ length block.old.items }
     ensures updates { TellsAnswer result →
-        UpdatesBy image.now file.now acceptance result report.new steps.new room.new }
+        UpdatesBy image.now file.now acceptance result report.old report.new steps.new room.new }
     ensures tells { TellsSteps image.now result report.old steps.old room.old report.new steps.new room.new }
 {
     let mut places = [0; MOST_PLACES];
@@ -205,7 +205,7 @@ fn update_over(
     requires new { IsJustMade file.now flash }
     requires block { block_bytes ≤ length block.old.items }
     ensures updates { TellsAnswer result →
-        UpdatesBy (image_of flash.entry) file.now acceptance result report.new steps.new room.new }
+        UpdatesBy (image_of flash.entry) file.now acceptance result report.old report.new steps.new room.new }
     ensures tells { TellsSteps (image_of flash.entry) result report.old steps.old room.old report.new steps.new room.new }
 {
     let alloc = *block.allocator();

@@ -41,7 +41,7 @@ returns-clause-boots c = λ low.
     let back : c.into_flash.result ≡ device_of c.boot_in-end.result = c.into_flash.ensures in
     let known = below_seven c.hand_over.result low in
     let is : c.hand_over.result ≡ c.report_end-number.result = given c.hand_over.result _ c.hand_over.ensures.number known in
-    boots_by (image_of c.args.flash) c.args.flash c.into_flash.result (ended c.boot_in-end.result) c.hand_over.result _ _ _ _
+    boots_by (image_of c.args.flash) c.args.flash c.into_flash.result (ended c.boot_in-end.result) c.hand_over.result _ _ _ _ _
     c.requires.new.fresh c.requires.new.size (ap (λ (d : StepFlash). block_count d) back ∙ boots.size)
     (subst (λ (d : StepFlash). BootEnds (λ m. passes_any m) (told_of c.args.flash) (ended c.boot_in-end.result) (told_of d)) (sym back) (boots.ends refl))
     (c.hand_over.ensures.hands known) (is ∙ c.report_end-number.ensures.number) c.report_end-number.ensures.reports

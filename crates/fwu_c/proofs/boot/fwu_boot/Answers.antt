@@ -15,4 +15,4 @@ pub returns-clause-tells : goal.returns-clause-tells
 returns-clause-tells c = tells_of_image _ _ _ _ _ _ _ _ _ c.in-Ok.ensures.image c.boot_over.ensures.tells
 
 pub returns-clause-boots : goal.returns-clause-boots
-returns-clause-boots c = λ low. of_image _ _ _ _ _ _ c.in-Ok.ensures.image (c.boot_over.ensures.boots low)
+returns-clause-boots c = λ low. of_image _ _ _ _ _ _ _ c.in-Ok.ensures.image (c.boot_over.ensures.boots low)

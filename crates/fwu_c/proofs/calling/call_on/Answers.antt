@@ -16,4 +16,4 @@ pub returns-clause-tells : goal.returns-clause-tells
 returns-clause-tells c = tells_of_image _ _ _ _ _ _ _ _ _ c.in-Ok.ensures.image c.call_over.ensures.tells
 
 pub returns-clause-calls : goal.returns-clause-calls
-returns-clause-calls c = λ tells. call_of_image _ _ _ _ _ _ _ _ c.in-Ok.ensures.image (c.call_over.ensures.calls tells)
+returns-clause-calls c = λ tells. call_of_image _ _ _ _ _ _ _ _ _ c.in-Ok.ensures.image (c.call_over.ensures.calls tells)

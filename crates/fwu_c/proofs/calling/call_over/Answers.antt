@@ -21,7 +21,7 @@ hand_over-requires c =
     record {
       known = subst (λ n. IsDeviceEnd n) (sym c.call_number-number.ensures) (call_end_is a.result.1 a.ensures.ends);
       idle = λ idle. absurd (starts (idle_starts c.call_number-number.result idle));
-      kept = keeps_fault _ _ _ (up.takes.kept.fault (λ one. omega (arith, one))) starts (λ five. (up.began, up.takes.reports));
+      kept = keeps_fault _ _ _ (up.takes.kept.fault (λ one. omega (arith, one))) starts;
     }
 
 pub returns-in-Some-Ok-clause-calls : goal.returns-in-Some-Ok-clause-calls

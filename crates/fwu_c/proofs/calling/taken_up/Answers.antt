@@ -1,7 +1,7 @@
 use Rattle.std.proofs.Common.{◌∙◌, refl, arith, sym}
 use Rattle.early_boot.specs.TakenUp.{bad_layout, no_metadata, not_started, stopped}
 use Rattle.fwu_c.proofs.Calls.{stop_unlost}
-use Rattle.fwu_c.proofs.Telling.{keeps_but_fault, keeps_started, keeps_stays}
+use Rattle.fwu_c.proofs.Telling.{keeps_but_fault, keeps_started, keeps_stays, starts_stay}
 use Rattle.fwu_c.proofs.calling.taken_up.Goals as goal
 
 pub returns-in-BadLayout : goal.returns-in-BadLayout
@@ -46,7 +46,7 @@ returns c = record {
   is = tt;
   number_is = c.stop_number.ensures;
   ends = c.in-Stopped.ensures.takes.ends refl;
-  reports = tt;
+  reports = starts_stay _;
   kept = keeps_stays _ _;
   unlost = λ e. stop_unlost c.in-Stopped.stop c.args.flash c.in-Stopped.flash c.in-Stopped.ensures.takes.costs (sym c.stop_number.ensures ∙ e);
   size = c.in-Stopped.ensures.takes.size;

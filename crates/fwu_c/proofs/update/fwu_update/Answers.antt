@@ -16,7 +16,7 @@ returns-in_default-clause-tells c = told_no_room _ _ _ _ (has_flash_size _ c.in-
 
 pub returns-in-Some-true-clause-updates : goal.returns-in-Some-true-clause-updates
 returns-in-Some-true-clause-updates c = λ told.
-    denied_by _ _ _ _ _ _ (subst (λ (i : List ℕ). IsOnTrial i) c.in-Ok.ensures.image (c.in-Some-true.ensures.trial c.in-Some-true.field-0-test)) refl refl
+    denied_by _ _ _ _ _ _ _ (subst (λ (i : List ℕ). IsOnTrial i) c.in-Ok.ensures.image (c.in-Some-true.ensures.trial c.in-Some-true.field-0-test)) refl refl
 
 pub returns-in-Some-true-clause-tells : goal.returns-in-Some-true-clause-tells
 returns-in-Some-true-clause-tells c = told_denied _ _ _ _ _ _ _ (has_flash_size _ c.in-Ok.first c.in-Ok.ensures.size) refl refl refl refl

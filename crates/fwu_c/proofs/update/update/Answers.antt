@@ -13,4 +13,4 @@ pub returns-clause-tells : goal.returns-clause-tells
 returns-clause-tells c = tells_of_image _ _ _ _ _ _ _ _ _ c.in-Ok.ensures.image c.update_over.ensures.tells
 
 pub returns-clause-updates : goal.returns-clause-updates
-returns-clause-updates c = λ told. update_of_image _ _ _ _ _ _ _ _ c.in-Ok.ensures.image (c.update_over.ensures.updates told)
+returns-clause-updates c = λ told. update_of_image _ _ _ _ _ _ _ _ _ c.in-Ok.ensures.image (c.update_over.ensures.updates told)

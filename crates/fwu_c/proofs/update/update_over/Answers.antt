@@ -22,7 +22,7 @@ hand_over-requires c =
     record {
       known = subst (λ n. IsDeviceEnd n) (sym c.outcome_number.ensures) (outcome_end_is i.outcome i.ensures.ends);
       idle = λ idle. absurd (starts (idle_starts c.outcome_number.result idle));
-      kept = keeps_fault _ _ _ (up.boots.kept.fault (λ one. omega (arith, one))) starts (λ five. (up.began, up.boots.reports));
+      kept = keeps_fault _ _ _ (up.boots.kept.fault (λ one. omega (arith, one))) starts;
     }
 
 pub hand_over-requires-in-Some-Err : goal.hand_over-requires-in-Some-Err
