@@ -182,7 +182,8 @@ pub fn call_on(
     room: &mut [u8],
     report: &mut Report,
 ) -> u32
-    ensures calls { TellsCall result → CallsBy image.now asked.bank (call_of asked.call) result report.old report.new steps.new room.new }
+    ensures calls { TellsCall result →
+        CallsBy image.now asked.bank (call_of asked.call) result report.old report.new steps.new room.new }
     ensures tells { TellsSteps image.now result report.old steps.old room.old report.new steps.new room.new }
 {
     let flash = match StepFlash::new(alloc, image, steps.len()) {
