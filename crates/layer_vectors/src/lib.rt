@@ -20,6 +20,8 @@ mod lists_of_files;
 #[cfg(test)]
 mod made_files;
 #[cfg(test)]
+mod lying_reads;
+#[cfg(test)]
 mod manifests;
 #[cfg(test)]
 mod memory_flash;
