@@ -45,7 +45,7 @@ use Rattle.agent_machine.specs.Fields.{Fields, directory_size, total_of}
 pub use Rattle.agent_machine.specs.Fields.{IsImageOrDirectory}
 use Rattle.agent_machine.specs.Machine.{state_in, session_in, staged_bytes}
 use Rattle.agent_machine.specs.Knows.{Fitting, SessionSound, Knows}
-use Rattle.agent_machine.specs.Beside.{IsSpared, KeepsSpared}
+use Rattle.agent_machine.specs.Beside.{IsSpared, KeepsSpared, SparesBlocks}
 use Rattle.agent_machine.proofs.Beside.{spared-same}
 use Rattle.agent_machine.specs.Moment.{Moment, SpeaksOf, Shows}
 pub use Rattle.agent_machine.specs.Carries.{MeansSame, planned_moves, SameBeside, state_before, staging_before, CarriedOut}
@@ -158,6 +158,7 @@ leaves-nothing m passes c none = record {
       (does-nothing {T = Unit {0}} (Ok tt) E s m.told ready);
   guarded = λ tells rest. rest;
   keeps = λ tells. spared-same (IsSpared m.fields) m.told;
+  touches = λ b spared. refl;
   decides = λ tells. decides-same m.fields.layout m.fields.meta m.fields.meta m.told m.told refl;
   stays = stays-same m;
 }
@@ -291,9 +292,9 @@ module _ (old new : Moment) (fitting : Fitting old.fields) (sound : SessionSound
       → (IsTrue old.tells → (E : Setting) → IsSettingOf was passes E → IsReady E old.told (state_before old)
       → Does result E (state_before old) (planned_moves (state_before old) (staging_before old) p) new.told)
       → (IsTrue old.tells → IsAtRest old.told → GuardedBy result new.told) → (IsTrue old.tells → KeepsSpared was old.told new.told)
-      → (IsTrue old.tells → KeepsOldOrNew was.layout was.meta is.meta old.told new.told) → Stays old new
+      → SparesBlocks was old.writes new.writes → (IsTrue old.tells → KeepsOldOrNew was.layout was.meta is.meta old.told new.told) → Stays old new
       → LeavesFlash result passes call old new
-  leaves-by result does guarded keeps decides stays = record {
+  leaves-by result does guarded keeps touches decides stays = record {
     does = λ E s x setting shows tells ready.
         let here = (shows.told tells).0 in
         subst (λ (ms : List Move). Does result E s ms new.told) (sym (moves-told E s x setting shows tells))
@@ -301,6 +302,7 @@ module _ (old new : Moment) (fitting : Fitting old.fields) (sound : SessionSound
         (does tells E setting (subst (λ (y : State). IsReady E old.told y) here ready)));
     guarded = guarded;
     keeps = keeps;
+    touches = touches;
     decides = decides;
     stays = stays;
   }

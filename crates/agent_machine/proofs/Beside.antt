@@ -3,6 +3,7 @@ use Rattle.std.proofs.Common.{◌≡◌, ◌⊎◌, inl, inr, ℕ, suc, ◌+◌,
 use Rattle.std.proofs.Math.Nat.{suc-mul}
 use Rattle.flash_core.specs.Told.{Told}
 use Rattle.flash_core.specs.May.{Keeps}
+use Rattle.flash_core.specs.Touches.{TouchesOnly}
 use Rattle.flash_core.specs.declared.flash.FlashStop.{FlashStop}
 use Rattle.fwu_formats.specs.Layout.{ImageRow, Layout, slot_bytes, slot_total, start}
 use Rattle.fwu_formats.specs.Metadata.{Meta}
@@ -10,6 +11,7 @@ use Rattle.fwu_formats.proofs.Same.{slots-fit}
 use Rattle.marks_core.specs.Marks.{Clears}
 use Rattle.replicas.specs.Stores.{Stores}
 use Rattle.agent_machine.specs.Beside.{IsBesideBank, IsBesideMetadata, IsSpared, IsSparedByAll, KeepsSpared, KeepsSparedByAll, KeepsWhere}
+use Rattle.agent_machine.specs.Beside.{SparesBlocks, SparesBlocksByAll, SparesBlocksWhere}
 use Rattle.agent_machine.specs.Ends.{ClearsAndStores}
 use Rattle.agent_machine.specs.Fields.{Fields, target}
 
@@ -44,6 +46,18 @@ spared-outside P low high s t outside keeps = record {
   sure = λ i spared sure. keeps.sure i (outside i spared) sure;
 }
 
+-- ---- blocks that no erase or program touched
+
+pub blocks-still : (P : ℕ → Type 0) {a b : ℕ → ℕ} → b ≡ a → SparesBlocksWhere P a b
+blocks-still P same n spared = ap (λ (writes : ℕ → ℕ). writes n) same
+
+pub blocks-then : (P : ℕ → Type 0) {a b c : ℕ → ℕ} → SparesBlocksWhere P a b → SparesBlocksWhere P b c → SparesBlocksWhere P a c
+blocks-then P one two n spared = two n spared ∙ one n spared
+
+-- fewer blocks are spared
+pub blocks-fewer : (P Q : ℕ → Type 0) {a b : ℕ → ℕ} → ((i : ℕ) → Q i → P i) → SparesBlocksWhere P a b → SparesBlocksWhere Q a b
+blocks-fewer P Q fewer one n spared = one n (fewer (4096 * n) spared)
+
 -- ---- the blocks of the metadata
 
 module _ (f : Fields) where
@@ -75,6 +89,23 @@ module _ (f : Fields) where
       spared-then (IsSpared f) s mid t (clears-spare {T = Unit {0}} (Ok tt) s mid clears) (stores-spare result L m mid t stores)
   ends-spare result L m s t (inr (err, clears)) = clears-spare result s t clears
 
+-- ---- and by the counts, on every device
+
+module _ (f : Fields) {a b : ℕ → ℕ} where
+  pub metadata-blocks : TouchesOnly (4096 * 1) (4096 * 3) a b → SparesBlocks f a b
+  metadata-blocks touches n spared = touches n (by spared.0)
+    where
+      by : IsBesideMetadata (4096 * n) → (4096 * n + 4096 ≤ 4096 * 1) ⊎ (4096 * 3 ≤ 4096 * n)
+      by (inl low) = inl (omega (arith, low))
+      by (inr high) = inr (omega (arith, high))
+
+  pub marks-block : TouchesOnly (4096 * 3) (4096 * 3 + 4096) a b → SparesBlocks f a b
+  marks-block touches n spared = touches n (by spared.0)
+    where
+      by : IsBesideMetadata (4096 * n) → (4096 * n + 4096 ≤ 4096 * 3) ⊎ (4096 * 3 + 4096 ≤ 4096 * n)
+      by (inl low) = inl (omega (arith, low))
+      by (inr high) = inr (omega (arith, high))
+
 -- ---- a slot of the update bank
 
 slot-inside : (L : Layout) (bank image i : ℕ) → IsBesideBank L bank i
@@ -98,6 +129,17 @@ slot-spares f image s t active keeps =
     spared-outside (IsSpared f) (4096 * start f.layout (target f) image) (4096 * start f.layout (target f) image + slot_bytes f.layout image) s t
     (λ i spared. slot-inside f.layout (target f) image i (spared.1 active)) keeps
 
+-- and by the counts
+pub slot-blocks : (f : Fields) (image low high : ℕ) {a b : ℕ → ℕ} → f.boot ≡ f.meta.meta.active → 4096 * start f.layout (target f) image ≤ low
+    → high ≤ 4096 * start f.layout (target f) image + slot_bytes f.layout image → TouchesOnly low high a b → SparesBlocks f a b
+slot-blocks f image low high active above below touches n spared =
+    touches n (by (slot-inside f.layout (target f) image (4096 * n) (spared.1 active)))
+  where
+    by : (4096 * n < 4096 * start f.layout (target f) image) ⊎ (4096 * start f.layout (target f) image + slot_bytes f.layout image ≤ 4096 * n)
+        → (4096 * n + 4096 ≤ low) ⊎ (high ≤ 4096 * n)
+    by (inl before) = inl (omega (arith, before, above))
+    by (inr behind) = inr (omega (arith, behind, below))
+
 -- ---- calls in a row
 
 spared-by-one : (f : Fields) (i : ℕ) → IsSparedByAll f.layout f.boot i → IsSpared f i
@@ -117,3 +159,13 @@ spared-further f g s t u layout boot one two =
     spared-then (IsSparedByAll f.layout f.boot) s t u one
     (subst (λ (L : Layout). KeepsWhere (IsSparedByAll L f.boot) t u) layout
     (subst (λ (b : ℕ). KeepsWhere (IsSparedByAll g.layout b) t u) boot two))
+
+pub blocks-once : (f : Fields) {a b : ℕ → ℕ} → SparesBlocks f a b → SparesBlocksByAll f a b
+blocks-once f one = blocks-fewer (IsSpared f) (IsSparedByAll f.layout f.boot) (spared-by-one f) one
+
+pub blocks-further : (f g : Fields) {a b c : ℕ → ℕ} → g.layout ≡ f.layout → g.boot ≡ f.boot → SparesBlocksByAll f a b → SparesBlocksByAll g b c
+    → SparesBlocksByAll f a c
+blocks-further f g {b = b} {c = c} layout boot one two =
+    blocks-then (IsSparedByAll f.layout f.boot) one
+    (subst (λ (L : Layout). SparesBlocksWhere (IsSparedByAll L f.boot) b c) layout
+    (subst (λ (n : ℕ). SparesBlocksWhere (IsSparedByAll g.layout n) b c) boot two))

@@ -9,7 +9,7 @@ use Rattle.fwu_model.specs.Sound.{Setting}
 use Rattle.fwu_model.specs.Call.{Call}
 use Rattle.fwu_model.specs.Reply.{Reply, Refused}
 use Rattle.fwu_model.specs.Answer.{answer}
-use Rattle.agent_machine.proofs.Beside.{spared-once}
+use Rattle.agent_machine.proofs.Beside.{blocks-once, spared-once}
 use Rattle.agent_machine.specs.declared.stop.Stop.{Stop}
 use Rattle.agent_machine.specs.declared.stop.Stop.TheVariants as stop
 use Rattle.agent_machine.specs.Moment.{Moment, Shows}
@@ -61,6 +61,7 @@ call-goes E of result c old new s x layout shows meets r is = record {
   does = λ tells ready. meets.leaves.does E s x (record { layout = layout; verifier = refl }) shows tells ready;
   guarded = meets.leaves.guarded;
   keeps = λ tells. spared-once old.fields old.told new.told (meets.leaves.keeps tells);
+  touches = blocks-once old.fields meets.leaves.touches;
   stays = meets.leaves.stays;
 }
 
@@ -73,5 +74,6 @@ call-stopped E of result c old new s x layout shows meets err y = record {
   does = λ tells ready. meets.leaves.does E s x (record { layout = layout; verifier = refl }) shows tells ready;
   guarded = meets.leaves.guarded;
   keeps = λ tells. spared-once old.fields old.told new.told (meets.leaves.keeps tells);
+  touches = blocks-once old.fields meets.leaves.touches;
   stays = meets.leaves.stays;
 }

@@ -1,7 +1,8 @@
 -- What the commit of an image says.
-use Rattle.std.proofs.Common.{◌≡◌, ℕ, ◌-◌, ◌*◌, ◌<◌, ◌≤◌, Bool, true, false, List, [], length, get_or, Some, Ok, Err, refl, sym, ap, subst, arith, IsTrue, ◌∙◌}
+use Rattle.std.proofs.Common.{◌≡◌, ℕ, ◌+◌, ◌-◌, ◌*◌, ◌<◌, ◌≤◌, Bool, true, false, List, [], length, get_or, Some, Ok, Err, refl, sym, ap, subst, arith, IsTrue, ◌∙◌}
 use Rattle.std.proofs.Math.Logic.{∥∥₁_map}
 use Rattle.flash_core.specs.Told.{Told}
+use Rattle.flash_core.specs.Touches.{TouchesOnly}
 use Rattle.sha2.specs.declared.Sha256.{Sha256}
 use Rattle.fwu_formats.specs.Layout.{ImageRow, start, blocks_needed}
 use Rattle.fwu_model.specs.Calm.{IsAtRest}
@@ -12,7 +13,7 @@ use Rattle.fwu_model.specs.Reply.{Success}
 use Rattle.moves.specs.Law.{CallResult}
 use Rattle.moves.specs.Moved.{GuardedBy}
 use Rattle.moves.proofs.Composed.{does-nothing}
-use Rattle.slot_writer.specs.Slots.{FinishesImage}
+use Rattle.slot_writer.specs.Slots.{FinishesImage, blocks_for, done_of}
 use Rattle.agent_kept.specs.declared.kinds.Plan.TheVariants as plan
 use Rattle.agent_kept.specs.declared.kinds.Request.TheVariants as request
 use Rattle.agent_kept.specs.declared.kinds.Decision.TheVariants.{Do}
@@ -33,7 +34,7 @@ use Rattle.agent_machine.specs.Knows.{Fitting, SessionSound, Knows, SomeStaged}
 use Rattle.agent_machine.specs.Law.{StaysKnown}
 use Rattle.agent_machine.specs.Meets.{LeavesFlash, Meets}
 use Rattle.agent_machine.proofs.Answered.{leaves-by, done-meets}
-use Rattle.agent_machine.proofs.Committing.{slot-room, finish-spares, finish-stays, committed-means, committed-state, committed-knows}
+use Rattle.agent_machine.proofs.Committing.{slot-room, finish-blocks, finish-spares, finish-stays, committed-means, committed-state, committed-knows}
 use Rattle.agent_machine.proofs.Room.{ReadsWell, set-readers, old-readers, free-well, fitting-again, staged-before}
 
 -- ---- an image is committed
@@ -46,8 +47,8 @@ opened-is (Committed size digest bit) e = absurd cc
 module _ (f : Fields) (tells : Bool) (s t : Told) (number image : ℕ) (bit : Bool) (fitting : Fitting f) (sound : SessionSound f)
     (knows : IsTrue tells → Knows f s)
     (fits : IsPlanOf f.session (plan.Commit number (Some image) bit)) (room : IsTrue tells → blocks_needed f.layout * 4096 ≤ length s.now) where
-  abbrev old : Moment
-  old = record { tells = tells; told = s; fields = f }
+  abbrev old : (ℕ → ℕ) → Moment
+  old writes = record { tells = tells; told = s; writes = writes; fields = f }
 
   pub image-there : image < length f.layout.rows
   image-there = omega (arith, fits.1, ap (λ (l : List ImageRow). length l) fitting.rows)
@@ -64,6 +65,10 @@ module _ (f : Fields) (tells : Bool) (s t : Told) (number image : ℕ) (bit : Bo
   size-is : size ≡ was-open.0
   size-is = ap size_of was-open.2
 
+  -- what is erased and programmed
+  abbrev Touches : (ℕ → ℕ) → (ℕ → ℕ) → Type 0
+  Touches old_writes new_writes = TouchesOnly (4096 * first + done_of size) (4096 * (first + blocks_for size)) old_writes new_writes
+
   -- ---- at any exit
 
   module _ (result : CallResult) (finishes : IsTrue tells → FinishesImage result first size (rest_of f image) s t) where
@@ -75,16 +80,17 @@ module _ (f : Fields) (tells : Bool) (s t : Told) (number image : ℕ) (bit : Bo
     guarded-by (Ok u) rest = rest
     guarded-by (Err why) rest = rest.guarded
 
-    pub commit-leaves : (passes : List ℕ → Bool) (h req most : ℕ)
+    pub commit-leaves : {old_writes new_writes : ℕ → ℕ} → Touches old_writes new_writes → (passes : List ℕ → Bool) (h req most : ℕ)
         → DecidesRequest passes f.meta f.counter f.session f.boot (request.Commit h req most) (Do (plan.Commit number (Some image) bit)) → (g : Fields)
         → g.layout ≡ f.layout → g.boot ≡ f.boot → g.counter ≡ f.counter → g.lengths ≡ f.lengths
-        → LeavesFlash result passes (call.Commit h req) old (record { tells = tells; told = t; fields = g })
-    commit-leaves passes h req most decides g layout boot counter lengths =
-        leaves-by old (record { tells = tells; told = t; fields = g }) fitting sound knows passes (request.Commit h req most) []
+        → LeavesFlash result passes (call.Commit h req) (old old_writes) (record { tells = tells; told = t; writes = new_writes; fields = g })
+    commit-leaves {old_writes = old_writes} {new_writes = new_writes} touches passes h req most decides g layout boot counter lengths =
+        leaves-by (old old_writes) (record { tells = tells; told = t; writes = new_writes; fields = g }) fitting sound knows passes (request.Commit h req most) []
         (λ E st setting speaks. tt) (plan.Commit number (Some image) bit) decides result
         (λ told E setting ready. does-nothing result E (state_in f s.now) t ((stays told).ready E setting.layout ready.calm ready.guarded))
         (λ told rest. guarded-by result ((stays told).rests rest))
         (λ told. finish-spares result f image size s t (fitting.active fits.2) (slot-room f fitting sound image image-there) (finishes told))
+        (finish-blocks f image size (fitting.active fits.2) (slot-room f fitting sound image image-there) touches)
         (λ told. decides-kept f.layout f.meta _ _ s t (omega arith) (finishes told).keeps g.meta)
         (record { tells = refl; layout = layout; boot = boot; counter = counter; lengths = lengths; guard = λ told. (finishes told).keeps.guard })
 
@@ -119,13 +125,14 @@ module _ (f : Fields) (tells : Bool) (s t : Told) (number image : ℕ) (bit : Bo
           committed-knows f k image (number - 1) was-open.0 was-open.1 bit s t fitting sound (knows told) (fitting.free fits.2) image-there
           (room told) was-open.2 commits (ends-at told)
 
-      pub commit-meets : (passes : List ℕ → Bool) (h req most : ℕ)
+      pub commit-meets : {old_writes new_writes : ℕ → ℕ} → Touches old_writes new_writes → (passes : List ℕ → Bool) (h req most : ℕ)
           → DecidesRequest passes f.meta f.counter f.session f.boot (request.Commit h req most) (Do (plan.Commit number (Some image) bit))
           → Settles f.session f.meta [] (plan.Commit number (Some image) bit) f.meta k
-          → Meets {T = Unit {0}} (λ value r. r ≡ Success) (Ok tt) passes (call.Commit h req) old (record { tells = tells; told = t; fields = g })
+          → Meets {T = Unit {0}} (λ value r. r ≡ Success) (Ok tt) passes (call.Commit h req) (old old_writes)
+          (record { tells = tells; told = t; writes = new_writes; fields = g })
       unfolding planned
-      commit-meets passes h req most decides settles =
-          done-meets old (record { tells = tells; told = t; fields = g }) fitting sound knows passes (request.Commit h req most) []
+      commit-meets {old_writes = old_writes} {new_writes = new_writes} touches passes h req most decides settles =
+          done-meets (old old_writes) (record { tells = tells; told = t; writes = new_writes; fields = g }) fitting sound knows passes (request.Commit h req most) []
           (λ E st setting speaks. tt) (plan.Commit number (Some image) bit) decides
           (record {
             tells = refl;
@@ -143,4 +150,4 @@ module _ (f : Fields) (tells : Bool) (s t : Told) (number image : ℕ) (bit : Bo
           })
           (λ value r. r ≡ Success) tt
           (λ E st x setting shows. ap (λ (y : Session). (planned_in E st y [] (plan.Commit number (Some image) bit)).reply) shows.means)
-          (commit-leaves (Ok tt) finishes passes h req most decides g refl refl refl refl)
+          (commit-leaves (Ok tt) finishes touches passes h req most decides g refl refl refl refl)

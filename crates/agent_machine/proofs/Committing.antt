@@ -4,6 +4,7 @@ use Rattle.std.proofs.lemmas.Bool.{cases_eq}
 use Rattle.std.specs.Prelude.{Result}
 use Rattle.flash_core.specs.declared.flash.FlashStop.{FlashStop}
 use Rattle.flash_core.specs.Told.{Told}
+use Rattle.flash_core.specs.Touches.{TouchesOnly}
 use Rattle.flash_core.proofs.Calls.{keeps_wider, quiet_fresh}
 use Rattle.sha2.specs.declared.Sha256.{Sha256}
 use Rattle.fwu_formats.specs.Layout.{ImageRow, start, slot_bytes, blocks_needed}
@@ -14,8 +15,8 @@ use Rattle.agent_kept.specs.declared.parts.Part.{Part}
 use Rattle.agent_kept.specs.declared.parts.Part.TheVariants.{Nothing, Open, Committed}
 use Rattle.agent_kept.specs.Kept.{Kept, IsKept, CommitsPart, CommitsTo, part_at, part_meant, size_of, slot_room_of}
 use Rattle.agent_kept.proofs.After.{kept-committed}
-use Rattle.agent_machine.specs.Beside.{KeepsSpared}
-use Rattle.agent_machine.proofs.Beside.{slot-spares}
+use Rattle.agent_machine.specs.Beside.{KeepsSpared, SparesBlocks}
+use Rattle.agent_machine.proofs.Beside.{slot-blocks, slot-spares}
 use Rattle.agent_machine.specs.Fields.{Fields, target, rest_of, with_session}
 use Rattle.agent_machine.specs.Machine.{state_in, staged_bytes, part_bytes}
 use Rattle.agent_machine.specs.Knows.{Fitting, SessionSound, Knows}
@@ -130,3 +131,11 @@ finish-spares result f image size s t active fits finishes =
     slot-spares f image s t active
     (keeps_wider (4096 * first + done_of size) (4096 * (first + blocks_for size)) (4096 * first) (4096 * first + slot_bytes f.layout image) s t
     (omega arith) (omega (arith, fits)) finishes.keeps)
+
+-- nor is any other block erased or programmed
+pub finish-blocks : (f : Fields) (image size : ℕ) {old_writes new_writes : ℕ → ℕ} → f.boot ≡ f.meta.meta.active → size ≤ slot_bytes f.layout image
+    → TouchesOnly (4096 * start f.layout (target f) image + done_of size) (4096 * (start f.layout (target f) image + blocks_for size)) old_writes
+    new_writes → SparesBlocks f old_writes new_writes
+finish-blocks f image size active fits touches =
+    let first : ℕ = start f.layout (target f) image in
+    slot-blocks f image (4096 * first + done_of size) (4096 * (first + blocks_for size)) active (omega arith) (omega (arith, fits)) touches

@@ -1,5 +1,5 @@
 -- The metadata that decides in an image that a loss leaves is the old one or the new.
-use Rattle.std.proofs.Common.{◌≡◌, inl, inr, ℕ, ◌+◌, ◌*◌, ◌≤◌, List, Result, sym, ap, ◌∙◌, subst, arith, ◌⊎◌, ◌<◌, length, get_or, Ok}
+use Rattle.std.proofs.Common.{◌≡◌, inl, inr, ℕ, ◌+◌, ◌*◌, ◌≤◌, List, Result, sym, ap, ◌∙◌, subst, arith}
 use Rattle.base_core.specs.Block.{block}
 use Rattle.flash_core.specs.declared.flash.FlashStop.{FlashStop}
 use Rattle.flash_core.specs.Told.{Told}
@@ -9,8 +9,6 @@ use Rattle.fwu_formats.specs.Layout.{Layout}
 use Rattle.fwu_formats.specs.Metadata.{Meta, MetaRead, meta_read}
 use Rattle.fwu_formats.proofs.Same.{block-same}
 use Rattle.fwu_model.specs.Replica.{BothHold, Decides, in_version}
-use Rattle.fwu_model.specs.Calm.{IsAtRest}
-use Rattle.marks_core.specs.Marks.{Clears}
 use Rattle.moves.proofs.Beside.{both-beside}
 use Rattle.replicas.specs.Stores.{Stores}
 use Rattle.agent_machine.specs.Deciding.{KeepsOldOrNew}

@@ -28,6 +28,7 @@ use Rattle.agent_state.specs.Decides.{DecidesRequest, next_bank}
 use Rattle.agent_state.specs.Settles.{Settles, bits_kept}
 use Rattle.fwu_model.specs.Replica.{in_version}
 use Rattle.agent_machine.proofs.Deciding.{decides-ends}
+use Rattle.agent_machine.specs.Beside.{SparesBlocks}
 use Rattle.agent_machine.proofs.Beside.{ends-spare}
 use Rattle.agent_machine.specs.Carries.{planned_moves}
 use Rattle.agent_machine.specs.Fields.{Fields}
@@ -60,11 +61,11 @@ module _ (f : Fields) (k : Kept) (meta : MetaRead) (passes : List ℕ → Bool) 
   abbrev g : Fields
   g = record f { meta = meta; session = k; trials = 0 }
 
-  abbrev old : Moment
-  old = record { tells = tells; told = s; fields = f }
+  abbrev old : (ℕ → ℕ) → Moment
+  old writes = record { tells = tells; told = s; writes = writes; fields = f }
 
-  abbrev new : Moment
-  new = record { tells = tells; told = t; fields = g }
+  abbrev new : (ℕ → ℕ) → Moment
+  new writes = record { tells = tells; told = t; writes = writes; fields = g }
 
   abbrev state : State
   state = state_in f s.now
@@ -137,11 +138,12 @@ module _ (f : Fields) (k : Kept) (meta : MetaRead) (passes : List ℕ → Bool) 
     version : Knows f s → meta ≡ in_version 2 meta.meta
     version known = ap (λ (n : ℕ). record { form = n; meta = meta.meta }) (ap (λ (r : MetaRead). r.form) is ∙ known.version)
 
-    pub end-leaves : LeavesFlash result passes call.End old new
-    end-leaves =
-        leaves-by old new fitting sound knows passes request.End [] (λ E st setting speaks. tt) plan.End decides result
+    pub end-leaves : {old_writes new_writes : ℕ → ℕ} → SparesBlocks f old_writes new_writes
+        → LeavesFlash result passes call.End (old old_writes) (new new_writes)
+    end-leaves {old_writes = old_writes} {new_writes = new_writes} touches =
+        leaves-by (old old_writes) (new new_writes) fitting sound knows passes request.End [] (λ E st setting speaks. tt) plan.End decides result
         (λ told E setting ready. subst (λ (ms : List Move). Does result E state ms t) (sym moves-are) (does-told E setting told ready)) guarded-told
-        (λ told. ends-spare f result f.layout meta.meta s t (ended told))
+        (λ told. ends-spare f result f.layout meta.meta s t (ended told)) touches
         (λ told. decides-ends result f.layout f.meta meta meta.meta s t (version (knows told)) (ended told))
         (record { tells = refl; layout = refl; boot = refl; counter = refl; lengths = refl; guard = λ told. ended-guard result f.layout meta.meta s t (ended told) })
 
@@ -161,10 +163,11 @@ module _ (f : Fields) (k : Kept) (meta : MetaRead) (passes : List ℕ → Bool) 
         let e = ended told in
         ended-state f k meta fitting restarts is s e.0 t known staging (state-of known) p (ends known) e.1 e.2 ∙ ap (after state) (sym moves-are)
 
-    pub end-meets : Meets {T = Unit {0}} (λ value r. r ≡ Success) (Ok tt) passes call.End old new
+    pub end-meets : {old_writes new_writes : ℕ → ℕ} → SparesBlocks f old_writes new_writes
+        → Meets {T = Unit {0}} (λ value r. r ≡ Success) (Ok tt) passes call.End (old old_writes) (new new_writes)
     unfolding planned
-    end-meets =
-        done-meets old new fitting sound knows passes request.End [] (λ E st setting speaks. tt) plan.End decides
+    end-meets {old_writes = old_writes} {new_writes = new_writes} touches =
+        done-meets (old old_writes) (new new_writes) fitting sound knows passes request.End [] (λ E st setting speaks. tt) plan.End decides
         (record {
           tells = refl;
           beside = record { layout = refl; boot = refl; counter = refl; lengths = refl; form = ap (λ (r : MetaRead). r.form) is };
@@ -182,4 +185,4 @@ module _ (f : Fields) (k : Kept) (meta : MetaRead) (passes : List ℕ → Bool) 
               ended-means f k meta fitting restarts is s e.0 t known staging (state-of known) p (ends known) e.1 e.2;
         })
         (λ value r. r ≡ Success) tt (λ E st x setting shows. ap (λ (y : Session). (planned_in E st y [] plan.End).reply) shows.means)
-        (end-leaves (Ok tt) (λ told. inl (ended told)))
+        (end-leaves (Ok tt) (λ told. inl (ended told)) touches)

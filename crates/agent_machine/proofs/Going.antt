@@ -12,7 +12,7 @@ use Rattle.fwu_model.specs.Reply.{Reply, Refused}
 use Rattle.fwu_model.specs.Answer.{answer}
 use Rattle.moves.proofs.Composed.{after-append, does-then, does-stopped, does-nothing}
 use Rattle.agent_machine.specs.Beside.{IsSparedByAll}
-use Rattle.agent_machine.proofs.Beside.{spared-further, spared-once, spared-same}
+use Rattle.agent_machine.proofs.Beside.{blocks-further, blocks-once, spared-further, spared-once, spared-same}
 use Rattle.agent_machine.specs.declared.stop.Stop.TheVariants as stop
 use Rattle.agent_machine.specs.Moment.{Moment, Shows}
 use Rattle.agent_machine.specs.Meets.{LeavesFlash, Meets, Stays}
@@ -38,6 +38,7 @@ goes-then E result a b c s ms ns y z first second = record {
   guarded = λ tells rest. second.guarded (subst IsTrue (sym first.stays.tells) tells) (first.guarded tells rest);
   keeps = λ tells. spared-further a.fields b.fields a.told b.told c.told first.stays.layout first.stays.boot (first.keeps tells)
       (second.keeps (subst IsTrue (sym first.stays.tells) tells));
+  touches = blocks-further a.fields b.fields first.stays.layout first.stays.boot first.touches second.touches;
   stays = stays-then a b c first.stays second.stays;
 }
 
@@ -49,6 +50,7 @@ goes-stopped E result a b s ms ns y z err goes = record {
   does = λ tells ready. does-stopped result result E s ms ns b.told err (goes.does tells ready);
   guarded = goes.guarded;
   keeps = goes.keeps;
+  touches = goes.touches;
   stays = goes.stays;
 }
 
@@ -59,6 +61,7 @@ goes-nothing E a s x shows = record {
   does = λ tells ready. does-nothing {T = Unit {0}} (Ok tt) E s a.told ready;
   guarded = λ tells rest. rest;
   keeps = λ tells. spared-same (IsSparedByAll a.fields.layout a.fields.boot) a.told;
+  touches = λ b spared. refl;
   stays = record { tells = refl; layout = refl; boot = refl; counter = refl; lengths = refl; guard = λ told. refl };
 }
 
@@ -72,6 +75,7 @@ module _ (E : Setting) (c : Call) (old new : Moment) (layout : E.layout ≡ old.
     does = λ tells ready. leaves.does E s x (record { layout = layout; verifier = refl }) shows tells ready;
     guarded = leaves.guarded;
     keeps = λ tells. spared-once old.fields old.told new.told (leaves.keeps tells);
+    touches = blocks-once old.fields leaves.touches;
     stays = leaves.stays;
   }
 
@@ -105,6 +109,7 @@ all-go E [] [] old new s x shows Done = record {
       ready;
   guarded = λ tells rest. rest;
   keeps = λ tells. spared-same (IsSparedByAll old.fields.layout old.fields.boot) old.told;
+  touches = λ b spared. refl;
   layout = refl;
 }
 all-go E (c ∷ cs) (r ∷ rs) old new s x shows (Then {mid = mid} met calls) =
@@ -121,6 +126,7 @@ all-go E (c ∷ cs) (r ∷ rs) old new s x shows (Then {mid = mid} met calls) =
       guarded = λ tells rests. rest.guarded (subst IsTrue (sym goes.stays.tells) tells) (goes.guarded tells rests);
       keeps = λ tells. spared-further old.fields mid.fields old.told mid.told new.told goes.stays.layout goes.stays.boot (goes.keeps tells)
           (rest.keeps (subst IsTrue (sym goes.stays.tells) tells));
+      touches = blocks-further old.fields mid.fields goes.stays.layout goes.stays.boot goes.touches rest.touches;
       layout = rest.layout ∙ met.layout;
     }
 all-go E [] (r ∷ rs) old new s x shows calls = elim calls [ ]

@@ -18,7 +18,7 @@ use Rattle.agent_kept.specs.Plans.{call_of, planned, planned_in}
 use Rattle.agent_state.specs.Decides.{DecidesRequest}
 use Rattle.agent_machine.proofs.Deciding.{decides-same}
 use Rattle.agent_machine.specs.Beside.{IsSpared}
-use Rattle.agent_machine.proofs.Beside.{spared-told}
+use Rattle.agent_machine.proofs.Beside.{blocks-still, spared-told}
 use Rattle.agent_machine.specs.Asks.{IsQuietPlan}
 use Rattle.agent_machine.specs.Carries.{CarriedOut, planned_moves, state_before, staging_before}
 use Rattle.agent_machine.specs.Knows.{Fitting, SessionSound, Knows}
@@ -70,7 +70,7 @@ success-says old bytes p success E s x shows =
 module _ (old new : Moment) (fitting : Fitting old.fields) (sound : SessionSound old.fields) (knows : IsTrue old.tells → Knows old.fields old.told)
     (passes : List ℕ → Bool) (r : Request) (bytes : List ℕ) (fits : FitsEach old.fields passes r bytes)
     (p : Plan) (decides : DecidesRequest passes old.fields.meta old.fields.counter old.fields.session old.fields.boot r (decision.Do p)) (quiet : IsQuietPlan p)
-    (told : new.told ≡ old.told) (out : CarriedOut p bytes old new) where
+    (told : new.told ≡ old.told) (still : new.writes ≡ old.writes) (out : CarriedOut p bytes old new) where
   pub quiet-leaves : LeavesFlash (Ok tt) passes (call_of r bytes) old new
   quiet-leaves =
       leaves-by old new fitting sound knows passes r bytes fits p decides (Ok tt)
@@ -79,6 +79,7 @@ module _ (old new : Moment) (fitting : Fitting old.fields) (sound : SessionSound
       (subst (λ (ms : List Move). Does {T = Unit {0}} (Ok tt) E (state_before old) ms old.told)
       (sym (quiet-moves (state_before old) (staging_before old) p quiet)) (does-nothing {T = Unit {0}} (Ok tt) E (state_before old) old.told ready)))
       (λ tells rest. subst IsAtRest (sym told) rest) (λ tells. spared-told (IsSpared old.fields) old.told new.told told)
+      (blocks-still (IsSpared old.fields) still)
       (λ tells. decides-same old.fields.layout old.fields.meta new.fields.meta old.told new.told told) (record {
         tells = out.tells;
         layout = out.beside.layout;

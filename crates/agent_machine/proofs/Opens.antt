@@ -53,8 +53,8 @@ opens-asked f fitting guid o image total found p asked h other kind size is =
 
 module _ (tells : Bool) (t : Told) (f : Fields) (fitting : Fitting f) (sound : SessionSound f) (knows : IsTrue tells → Knows f t)
     (guid : List ℕ) (o : Op) (image : Option ℕ) (total : ℕ) where
-  abbrev m : Moment
-  m = record { tells = tells; told = t; fields = f }
+  abbrev m : (ℕ → ℕ) → Moment
+  m writes = record { tells = tells; told = t; writes = writes; fields = f }
 
   abbrev asked : Request
   asked = request.Open guid o total
@@ -63,25 +63,28 @@ module _ (tells : Bool) (t : Told) (f : Fields) (fitting : Fitting f) (sound : S
   fits passes = λ E s setting speaks. tt
 
   -- the same of the call, where no length is asked for
-  as-called : {T : Type 0} (Says : T → Reply → Type 0) (result : Result T Stop) (passes : List ℕ → Bool) (new : Moment)
-      → Meets Says result passes (call_of asked []) m new → Meets Says result passes (call_of (request.Open guid o 0) []) m new
-  as-called Says result passes new meets = subst (λ (c : Call). Meets Says result passes c m new) (same-call guid [] o total 0) meets
+  as-called : {T : Type 0} (Says : T → Reply → Type 0) (result : Result T Stop) (passes : List ℕ → Bool) (old new : Moment)
+      → Meets Says result passes (call_of asked []) old new → Meets Says result passes (call_of (request.Open guid o 0) []) old new
+  as-called Says result passes old new meets = subst (λ (c : Call). Meets Says result passes c old new) (same-call guid [] o total 0) meets
 
-  pub open-refused : (st : Status) → ((passes : List ℕ → Bool) → DecidesRequest passes f.meta f.counter f.session f.boot asked (decision.Refused st))
+  pub open-refused : {writes : ℕ → ℕ} (st : Status)
+      → ((passes : List ℕ → Bool) → DecidesRequest passes f.meta f.counter f.session f.boot asked (decision.Refused st))
       → (passes : List ℕ → Bool)
-      → Meets {T = ℕ} (λ h r. r ≡ reply.Opened h) (Err (stop.Status st)) passes (call_of (request.Open guid o 0) []) m m
-  open-refused st decides passes =
-      as-called (λ h r. r ≡ reply.Opened h) (Err (stop.Status st)) passes m
-      (refused-meets m fitting sound passes asked [] (fits passes) st (decides passes) (λ h r. r ≡ reply.Opened h))
+      → Meets {T = ℕ} (λ h r. r ≡ reply.Opened h) (Err (stop.Status st)) passes (call_of (request.Open guid o 0) []) (m writes) (m writes)
+  open-refused {writes = writes} st decides passes =
+      as-called (λ h r. r ≡ reply.Opened h) (Err (stop.Status st)) passes (m writes) (m writes)
+      (refused-meets (m writes) fitting sound passes asked [] (fits passes) st (decides passes) (λ h r. r ≡ reply.Opened h))
 
-  pub open-meets : (p : Plan) → ((passes : List ℕ → Bool) → DecidesRequest passes f.meta f.counter f.session f.boot asked (decision.Do p))
-      → (h : ℕ) → p ≡ plan.Open h image o total → (new : Moment) → new.told ≡ t → CarriedOut (plan.Open h image o total) [] m new
+  pub open-meets : {writes : ℕ → ℕ} (p : Plan)
+      → ((passes : List ℕ → Bool) → DecidesRequest passes f.meta f.counter f.session f.boot asked (decision.Do p))
+      → (h : ℕ) → p ≡ plan.Open h image o total → (new : Moment) → new.told ≡ t → new.writes ≡ writes
+      → CarriedOut (plan.Open h image o total) [] (m writes) new
       → (passes : List ℕ → Bool)
-      → Meets {T = ℕ} (λ v r. r ≡ reply.Opened v) (Ok h) passes (call_of (request.Open guid o 0) []) m new
-  open-meets p decides h is new told out passes =
-      as-called (λ v r. r ≡ reply.Opened v) (Ok h) passes new
-      (quiet-meets m new fitting sound knows passes asked [] (fits passes) (plan.Open h image o total)
-      (subst (λ (q : Plan). DecidesRequest passes f.meta f.counter f.session f.boot asked (decision.Do q)) is (decides passes)) tt told out
+      → Meets {T = ℕ} (λ v r. r ≡ reply.Opened v) (Ok h) passes (call_of (request.Open guid o 0) []) (m writes) new
+  open-meets {writes = writes} p decides h is new told still out passes =
+      as-called (λ v r. r ≡ reply.Opened v) (Ok h) passes (m writes) new
+      (quiet-meets (m writes) new fitting sound knows passes asked [] (fits passes) (plan.Open h image o total)
+      (subst (λ (q : Plan). DecidesRequest passes f.meta f.counter f.session f.boot asked (decision.Do q)) is (decides passes)) tt told still out
       (λ v r. r ≡ reply.Opened v) h
       (λ E s x setting shows.
       subst (λ (y : Session). (planned_in E s y [] (plan.Open h image o total)).reply ≡ reply.Opened h) (sym shows.means)

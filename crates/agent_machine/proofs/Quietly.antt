@@ -382,7 +382,8 @@ module _ (tells : Bool) (t : Told) (f : Fields) (k : Kept) (new_meta : MetaRead)
   pub keeps-some : ∥ SomeStaged f.session ∥₁ → ∥ SomeStaged k ∥₁
   keeps-some some = some-after f fitting sound bytes p new_meta k settles (keeps-total tells f fitting p may) some
 
-  pub quiet-carried : CarriedOut p bytes (record { tells = tells; told = t; fields = f }) (record { tells = tells; told = t; fields = after_it })
+  pub quiet-carried : {old_writes new_writes : ℕ → ℕ} → CarriedOut p bytes (record { tells = tells; told = t; writes = old_writes; fields = f })
+      (record { tells = tells; told = t; writes = new_writes; fields = after_it })
   quiet-carried = record {
     tells = refl;
     beside = record { layout = refl; boot = refl; counter = refl; lengths = refl; form = ap (λ (r : MetaRead). r.form) same-meta };

@@ -24,7 +24,7 @@ use Rattle.agent_state.specs.Decides.{DecidesRequest}
 use Rattle.agent_state.specs.Settles.{IsPlanOf}
 use Rattle.agent_machine.proofs.Deciding.{decides-same}
 use Rattle.agent_machine.specs.Beside.{IsSpared}
-use Rattle.agent_machine.proofs.Beside.{spared-told}
+use Rattle.agent_machine.proofs.Beside.{blocks-still, spared-told}
 use Rattle.agent_machine.specs.declared.stop.Stop.TheVariants as stop
 use Rattle.agent_machine.specs.Fields.{Fields, total_of, IsImageOrDirectory}
 use Rattle.agent_machine.specs.Carries.{CarriedOut, state_before}
@@ -43,11 +43,13 @@ guarded-by (Ok x) t rest = rest
 guarded-by (Err e) t rest = rest.guarded
 
 -- what is told counts where it is told alone
-pub carried-from : (p : Plan) (bytes : List ℕ) (tells : Bool) (s t : Told) (f g : Fields) (new : Moment) → g ≡ f → (IsTrue tells → t ≡ s)
-    → CarriedOut p bytes (record { tells = tells; told = t; fields = g }) new → CarriedOut p bytes (record { tells = tells; told = s; fields = f }) new
-carried-from p bytes tells s t f g new fields told out =
-    let here : CarriedOut p bytes (record { tells = tells; told = t; fields = f }) new = subst
-    (λ (x : Fields). CarriedOut p bytes (record { tells = tells; told = t; fields = x }) new) fields out in
+pub carried-from : (p : Plan) (bytes : List ℕ) (tells : Bool) (s t : Told) {old_writes new_writes : ℕ → ℕ} (f g : Fields) (new : Moment) → g ≡ f
+    → (IsTrue tells → t ≡ s)
+    → CarriedOut p bytes (record { tells = tells; told = t; writes = new_writes; fields = g }) new
+    → CarriedOut p bytes (record { tells = tells; told = s; writes = old_writes; fields = f }) new
+carried-from p bytes tells s t {old_writes = old_writes} {new_writes = new_writes} f g new fields told out =
+    let here : CarriedOut p bytes (record { tells = tells; told = t; writes = new_writes; fields = f }) new = subst
+    (λ (x : Fields). CarriedOut p bytes (record { tells = tells; told = t; writes = new_writes; fields = x }) new) fields out in
     record {
       tells = here.tells;
       beside = here.beside;
@@ -55,8 +57,10 @@ carried-from p bytes tells s t f g new fields told out =
       total = here.total;
       trials = here.trials;
       held = here.held;
-      state_is = λ is. (subst (λ (x : Told). CarriedOut p bytes (record { tells = tells; told = x; fields = f }) new) (told is) here).state_is is;
-      staged_are = λ is. (subst (λ (x : Told). CarriedOut p bytes (record { tells = tells; told = x; fields = f }) new) (told is) here).staged_are is;
+      state_is = λ is. (subst (λ (x : Told). CarriedOut p bytes (record { tells = tells; told = x; writes = new_writes; fields = f }) new) (told is)
+          here).state_is is;
+      staged_are = λ is. (subst (λ (x : Told). CarriedOut p bytes (record { tells = tells; told = x; writes = new_writes; fields = f }) new) (told is)
+          here).staged_are is;
     }
 
 -- a piece of so many bytes was filled at the front of the buffer
@@ -135,13 +139,14 @@ module _ (old : Moment) (fitting : Fitting old.fields) (sound : SessionSound old
     reads : (passes : List ℕ → Bool) → DecidesRequest passes f.meta f.counter f.session f.boot asked (decision.Do own)
     reads passes = subst (λ (q : Plan). DecidesRequest passes f.meta f.counter f.session f.boot asked (decision.Do q)) is (decides passes)
 
-    module _ (new : Moment) (told : IsTrue old.tells → new.told ≡ old.told) (passes : List ℕ → Bool) where
+    module _ (new : Moment) (told : IsTrue old.tells → new.told ≡ old.told) (still : new.writes ≡ old.writes) (passes : List ℕ → Bool) where
       leaves : (result : Result (Unit {0}) FlashStop) → Stays old new → LeavesFlash result passes (call_of asked []) old new
       leaves result stays =
           leaves-by old new fitting sound knows passes asked [] (reader-fits passes) own (reads passes) result
           (λ tells E setting ready. subst (λ (t : Told). Does result E (state_before old) [] t) (sym (told tells))
           (does-nothing result E (state_before old) old.told ready))
           (λ tells rest. guarded-by result new.told (subst IsAtRest (sym (told tells)) rest)) (λ tells. spared-told (IsSpared f) old.told new.told (told tells))
+          (blocks-still (IsSpared f) still)
           (λ tells. decides-same f.layout f.meta new.fields.meta old.told new.told (told tells)) stays
 
       pub read-lost : (Says : ℕ × ℕ → Reply → Type 0) → Stays old new → Meets {T = ℕ × ℕ} Says (Err stop.Lost) passes (call_of asked []) old new

@@ -5,6 +5,7 @@ use Rattle.std.proofs.lemmas.List.{length-set, get_or-set_same, get_or-set_other
 use Rattle.std.specs.Prelude.{Result}
 use Rattle.flash_core.specs.declared.flash.FlashStop.{FlashStop}
 use Rattle.flash_core.specs.Told.{Told}
+use Rattle.flash_core.specs.Touches.{TouchesOnly}
 use Rattle.flash_core.proofs.Calls.{keeps_wider}
 use Rattle.fwu_formats.specs.Layout.{ImageRow, Layout, start, slot_total, slot_bytes, blocks_needed, fits_layout}
 use Rattle.fwu_formats.specs.Metadata.{state_at, fits_meta}
@@ -17,8 +18,8 @@ use Rattle.slot_writer.specs.Slots.{Appends, blocks_for, done_of}
 use Rattle.agent_kept.specs.declared.parts.Handle.{Handle}
 use Rattle.agent_kept.specs.declared.parts.Handle.TheVariants.{Free, Reads, Writes}
 use Rattle.agent_kept.specs.Kept.{Kept, HasNothing, handle_kept, slot_room_of}
-use Rattle.agent_machine.specs.Beside.{KeepsSpared}
-use Rattle.agent_machine.proofs.Beside.{slot-spares}
+use Rattle.agent_machine.specs.Beside.{KeepsSpared, SparesBlocks}
+use Rattle.agent_machine.proofs.Beside.{slot-blocks, slot-spares}
 use Rattle.agent_machine.specs.Fields.{Fields, total_of, target, with_session}
 use Rattle.agent_machine.specs.Knows.{Fitting, SessionSound, Knows}
 use Rattle.agent_machine.specs.Law.{StaysKnown}
@@ -131,3 +132,12 @@ appends-spare result f image first size rest bytes left s t active at fits appen
     slot-spares f image s t active
     (keeps_wider (4096 * first + done_of size) (4096 * (first + blocks_for (done_of (size + length bytes)))) (4096 * start f.layout (target f) image)
     (4096 * start f.layout (target f) image + slot_bytes f.layout image) s t (omega (arith, at)) (omega (arith, at, fits)) appends.keeps)
+
+-- nor is any other block erased or programmed
+pub appends-blocks : (f : Fields) (image first size : ℕ) (bytes : List ℕ) {old_writes new_writes : ℕ → ℕ} → f.boot ≡ f.meta.meta.active
+    → first ≡ start f.layout (target f) image → size + length bytes ≤ slot_bytes f.layout image
+    → TouchesOnly (4096 * first + done_of size) (4096 * (first + blocks_for (done_of (size + length bytes)))) old_writes new_writes
+    → SparesBlocks f old_writes new_writes
+appends-blocks f image first size bytes active at fits touches =
+    slot-blocks f image (4096 * first + done_of size) (4096 * (first + blocks_for (done_of (size + length bytes)))) active (omega (arith, at))
+    (omega (arith, at, fits)) touches

@@ -121,7 +121,8 @@ module _ (f : Fields) (fitting : Fitting f) where
       }
 
   -- so the machine of a known flash is shown
-  pub known-shows : (tells : Bool) (t : Told) → Knows f t → Shows (record { tells = tells; told = t; fields = f }) (state_in f t.now) (session_in f t.now)
+  pub known-shows : (tells : Bool) (t : Told) {writes : ℕ → ℕ} → Knows f t
+      → Shows (record { tells = tells; told = t; writes = writes; fields = f }) (state_in f t.now) (session_in f t.now)
   known-shows tells t knows = record {
     told = λ is. (refl, refl);
     speaks = known-speaks t knows;
@@ -131,15 +132,15 @@ module _ (f : Fields) (fitting : Fitting f) where
   }
 
   -- and on a device that tells nothing each that fits what is kept
-  pub made-shows : (t : Told) (some : SomeStaged f.session)
-      → Shows (record { tells = false; told = t; fields = f }) (state_made f) (session_meant f.session f.boot some.staged)
+  pub made-shows : (t : Told) {writes : ℕ → ℕ} (some : SomeStaged f.session)
+      → Shows (record { tells = false; told = t; writes = writes; fields = f }) (state_made f) (session_meant f.session f.boot some.staged)
   made-shows t some = record { told = λ is. absurd (untrue is); speaks = made-speaks; staged = some.staged; kept = some.kept; means = refl }
     where
       untrue : IsTrue false → ⊥
       untrue e = absurd cc
 
-  pub shows-some : (tells : Bool) (t : Told) → (IsTrue tells → Knows f t) → ∥ SomeStaged f.session ∥₁
-      → ∥ Showing (record { tells = tells; told = t; fields = f }) ∥₁
+  pub shows-some : (tells : Bool) (t : Told) {writes : ℕ → ℕ} → (IsTrue tells → Knows f t) → ∥ SomeStaged f.session ∥₁
+      → ∥ Showing (record { tells = tells; told = t; writes = writes; fields = f }) ∥₁
   shows-some true t knows some = ∣ record { state = state_in f t.now; session = session_in f t.now; shows = known-shows true t (knows refl) } ∣₁
   shows-some false t knows some = ∥∥₁_map some (λ (one : SomeStaged f.session).
       record { state = state_made f; session = session_meant f.session f.boot one.staged; shows = made-shows t one })

@@ -1,13 +1,9 @@
 -- What calls in a row spend, one after another, and what each promises whatever it is asked for.
-use Rattle.std.proofs.Common.{◌≤◌, ◌≡◌, ◌⊎◌, inl, inr, Bool, true, false, not, Option, Result, Ok, Err, is_ok, refl, sym, ◌∙◌, IsTrue, IsFalse}
+use Rattle.std.proofs.Common.{◌≡◌, ◌⊎◌, inl, inr, Bool, true, false, not, Result, Ok, Err, is_ok, refl, sym, ◌∙◌, IsTrue, IsFalse}
 use Rattle.std.proofs.lemmas.Bool.{false≢true}
 use Rattle.std.specs.Prelude.{IsErrOf}
-use Rattle.flash_core.specs.declared.flash.Arming.{Arming}
-use Rattle.flash_core.specs.declared.flash.Counts.{Counts}
 use Rattle.flash_core.specs.declared.flash.Flash.{Ghosts}
 use Rattle.flash_core.specs.declared.flash.FlashStop.{FlashStop}
-use Rattle.flash_core.specs.declared.flash.FlashStop.TheVariants.{Lost, Failed}
-use Rattle.flash_core.specs.Counts.{ReachesNone, StaysUnarmed, arming_kept}
 use Rattle.flash_core.proofs.Costs.{spends_none, spends_then}
 use Rattle.flash_core.proofs.Unarmed.{unarmed_none, unarmed_then}
 use Rattle.agent_machine.specs.declared.stop.Stop.{Stop}

@@ -37,7 +37,7 @@ use Rattle.agent_state.proofs.Replies.{accepting, previous-staging}
 use Rattle.agent_machine.specs.Deciding.{KeepsOldOrNew}
 use Rattle.agent_machine.proofs.Deciding.{decides-same}
 use Rattle.agent_machine.specs.Beside.{IsSpared, KeepsSpared}
-use Rattle.agent_machine.proofs.Beside.{spared-told}
+use Rattle.agent_machine.proofs.Beside.{blocks-still, blocks-then, spared-told}
 use Rattle.agent_machine.specs.declared.stop.Stop.{Stop}
 use Rattle.agent_machine.specs.declared.stop.Stop.TheVariants as stop
 use Rattle.agent_machine.specs.Fields.{Fields}
@@ -155,31 +155,32 @@ bad-of (decision.Do p) good e = absurd (true-false true refl e)
 bad-of (decision.ByVerdict b) true e = absurd (true-false true refl e)
 bad-of (decision.ByVerdict b) false e = inl refl
 
-module _ (tells : Bool) (f : Fields) (fitting : Fitting f) (sound : SessionSound f) (s t : Told) (same : IsTrue tells → t ≡ s) (passes : List ℕ → Bool) where
+module _ (tells : Bool) (f : Fields) (fitting : Fitting f) (sound : SessionSound f) (s t : Told)
+    {old_writes new_writes : ℕ → ℕ} (same : IsTrue tells → t ≡ s) (still : new_writes ≡ old_writes) (passes : List ℕ → Bool) where
   abbrev old : Moment
-  old = record { tells = tells; told = s; fields = f }
+  old = record { tells = tells; told = s; writes = old_writes; fields = f }
 
   abbrev mid : Moment
-  mid = record { tells = tells; told = t; fields = f }
+  mid = record { tells = tells; told = t; writes = new_writes; fields = f }
 
   -- the numbers don't allow it
   pub untried-meets : may_try_kept f.meta.meta f.session f.boot ≡ false → MeetsPrevious (Err (stop.Status status.Denied)) passes old mid
   untried-meets untried =
-      refused-previous tells f s t same passes (λ E x y setting shows is.
+      refused-previous tells f s t same still passes (λ E x y setting shows is.
       subst (λ (z : Session). answer E x z call.Previous ≡ refused status.Denied z) (sym shows.means) (not-tried f x shows.speaks shows.staged E untried))
 
   -- it is refused as it is decided
   pub refused-meets-previous : (st : Status) → DecidesRequest passes f.meta f.counter f.session f.boot request.Previous (decision.Refused st)
       → MeetsPrevious (Err (stop.Status st)) passes old mid
   refused-meets-previous st decides = record {
-    exact = λ E x y setting shows is. refused-answers tells f s t same passes call.Previous st E x y shows (here E x y setting shows);
+    exact = λ E x y setting shows is. refused-answers tells f s t same still passes call.Previous st E x y shows (here E x y setting shows);
     shows = λ x y shows. (
       denied-alone (plain-of f passes) x f.boot (staging_meant f.session shows.staged) (handles_meant f.session) st
           (subst (λ (z : Session). answer (plain-of f passes) x z call.Previous ≡ refused st z) shows.means
           (here (plain-of f passes) x y (record { layout = refl; verifier = refl }) shows)),
-      shows-still tells f s t same x y shows,
+      shows-still tells f s t same still x y shows,
     );
-    leaves = same-leaves tells f s t same passes call.Previous (λ E x y setting shows is. ap (λ (a : Answer). a.moves) (here E x y setting shows));
+    leaves = same-leaves tells f s t same still passes call.Previous (λ E x y setting shows is. ap (λ (a : Answer). a.moves) (here E x y setting shows));
   }
     where
       here : (E : Setting) (x : State) (y : Session) → IsSettingOf f passes E → Shows old x y → answer E x y call.Previous ≡ refused st y
@@ -192,6 +193,7 @@ module _ (tells : Bool) (f : Fields) (fitting : Fitting f) (sound : SessionSound
         (subst (λ (u : Told). IsCalm E u x) (sym (same is)) ready.calm);
     guarded = λ is rest. by result err (subst IsAtRest (sym (same is)) rest);
     keeps = λ is. spared-told (IsSpared f) s t (same is);
+    touches = blocks-still (IsSpared f) still;
     decides = λ is. decides-same f.layout f.meta f.meta s t (same is);
     stays = record { tells = refl; layout = refl; boot = refl; counter = refl; lengths = refl; guard = λ is. ap (λ (u : Told). u.guard) (same is) };
   }
@@ -265,17 +267,18 @@ module _ (tells : Bool) (f : Fields) (fitting : Fitting f) (sound : SessionSound
 
     -- the verdict is bad
     pub bad-meets : is_to_do (ruled_as d good) ≡ false → MeetsPrevious (Err (stop.Status status.Denied)) passes old mid
-    bad-meets does = refused-previous tells f s t same passes
+    bad-meets does = refused-previous tells f s t same still passes
         (λ E x y setting shows is. ruled-is E x y setting shows is ∙ ap (by_verdict y) (is-bad E x y setting shows is does))
 
     -- from the moment before the reading
     carried-from : (result : Result (Unit {0}) FlashStop) (new : Moment) → CarriesOut result plan.Back mid new → CarriesOut result plan.Back old new
     carried-from result new carries = record {
-      shows = λ E x y layout shows. carries.shows E x y layout (shows-still tells f s t same x y shows);
-      does = λ E x y layout shows may_be is ready. carries.does E x y layout (shows-still tells f s t same x y shows) may_be is
+      shows = λ E x y layout shows. carries.shows E x y layout (shows-still tells f s t same still x y shows);
+      does = λ E x y layout shows may_be is ready. carries.does E x y layout (shows-still tells f s t same still x y shows) may_be is
           (subst (λ (u : Told). IsReady E u x) (sym (same is)) ready);
       guarded = λ is rest. carries.guarded is (subst IsAtRest (sym (same is)) rest);
       keeps = λ is. subst (λ (u : Told). KeepsSpared f u new.told) (same is) (carries.keeps is);
+      touches = blocks-then (IsSpared f) (blocks-still (IsSpared f) still) carries.touches;
       decides = λ is. subst (λ (u : Told). KeepsOldOrNew f.layout f.meta new.fields.meta u new.told) (same is) (carries.decides is);
       stays = record {
         tells = carries.stays.tells;

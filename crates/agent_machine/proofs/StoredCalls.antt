@@ -66,7 +66,7 @@ On-of f staged = On f.boot (staging_meant f.session staged) (handles_meant f.ses
 -- some machine is shown: a fact of numbers that holds of each holds
 module _ (f : Fields) (t : Told) (fitting : Fitting f) (some : ∥ SomeStaged f.session ∥₁) where
   abbrev dark : Moment
-  dark = record { tells = false; told = t; fields = f }
+  dark = record { tells = false; told = t; writes = λ _. 0; fields = f }
 
   shown-once : ∥ Showing dark ∥₁
   shown-once = shows-some f fitting false t (λ is. absurd (let e : false ≡ true = is in cc)) some
@@ -80,8 +80,8 @@ module _ (f : Fields) (t : Told) (fitting : Fitting f) (some : ∥ SomeStaged f.
 abbrev pub plain-of : Fields → (List ℕ → Bool) → Setting
 plain-of f passes = record { layout = f.layout; files = λ _. None; passes = passes }
 
-abbrev moment-of : Bool → Told → Fields → Moment
-moment-of tells t f = record { tells = tells; told = t; fields = f }
+abbrev moment-of : Bool → Told → (ℕ → ℕ) → Fields → Moment
+moment-of tells t writes f = record { tells = tells; told = t; writes = writes; fields = f }
 
 -- ---- both succeed
 
@@ -99,16 +99,16 @@ accept-succeeds E s boot stg hs image store = refl
 
 module _ (f : Fields) (fitting : Fitting f) (sound : SessionSound f) (passes : List ℕ → Bool) (flags n : ℕ) (p : Plan)
     (decides : DecidesRequest passes f.meta f.counter f.session f.boot (request.Begin flags n) (decision.Do p)) where
-  module _ (tells : Bool) (t : Told) where
-    begins-as : (E : Setting) (s : State) (x : Session) → IsSettingOf f passes E → (shows : Shows (moment-of tells t f) s x)
+  module _ (tells : Bool) (t : Told) {writes : ℕ → ℕ} where
+    begins-as : (E : Setting) (s : State) (x : Session) → IsSettingOf f passes E → (shows : Shows (moment-of tells t writes f) s x)
         → Begins E s f.boot (staging_meant f.session shows.staged) (handles_meant f.session) n p
     begins-as E s x setting shows =
         begins E s f.boot (staging_meant f.session shows.staged) (handles_meant f.session) n p
         (subst (λ (y : Session). answer E s y (call.Begin n) ≡ planned_in E s y [] p) shows.means
-        (planned-of (moment-of tells t f) fitting sound passes (request.Begin flags n) (λ e y. tt) p decides E s x setting shows))
+        (planned-of (moment-of tells t writes f) fitting sound passes (request.Begin flags n) (λ e y. tt) p decides E s x setting shows))
 
     -- the machine's answer is that of the plan to begin
-    pub begin-answers : (E : Setting) (s : State) (x : Session) → IsSettingOf f passes E → Shows (moment-of tells t f) s x
+    pub begin-answers : (E : Setting) (s : State) (x : Session) → IsSettingOf f passes E → Shows (moment-of tells t writes f) s x
         → AnswersBy E s x (call.Begin n) (plan.Begin (frees p))
     begin-answers E s x setting shows = subst (λ (y : Session). AnswersBy E s y (call.Begin n) (plan.Begin (frees p))) (sym shows.means) (record {
       is = (begins-as E s x setting shows).is;
@@ -138,16 +138,16 @@ module _ (f : Fields) (fitting : Fitting f) (sound : SessionSound f) (passes : L
 
 module _ (f : Fields) (fitting : Fitting f) (sound : SessionSound f) (passes : List ℕ → Bool) (guid : List ℕ) (p : Plan)
     (decides : DecidesRequest passes f.meta f.counter f.session f.boot (request.Accept guid) (decision.Do p)) where
-  module _ (tells : Bool) (t : Told) where
-    accept-planned : (E : Setting) (s : State) (x : Session) → IsSettingOf f passes E → (shows : Shows (moment-of tells t f) s x)
+  module _ (tells : Bool) (t : Told) {writes : ℕ → ℕ} where
+    accept-planned : (E : Setting) (s : State) (x : Session) → IsSettingOf f passes E → (shows : Shows (moment-of tells t writes f) s x)
         → answer E s (session_meant f.session f.boot shows.staged) (call.Accepts guid) ≡ planned E s f.boot (staging_meant f.session shows.staged)
         (handles_meant f.session) [] p
     accept-planned E s x setting shows =
         subst (λ (y : Session). answer E s y (call.Accepts guid) ≡ planned_in E s y [] p) shows.means
-        (planned-of (moment-of tells t f) fitting sound passes (request.Accept guid) (λ e y. tt) p decides E s x setting shows)
+        (planned-of (moment-of tells t writes f) fitting sound passes (request.Accept guid) (λ e y. tt) p decides E s x setting shows)
 
     -- a plan to accept is the machine's answer
-    pub accept-answers : (E : Setting) (s : State) (x : Session) → IsSettingOf f passes E → Shows (moment-of tells t f) s x
+    pub accept-answers : (E : Setting) (s : State) (x : Session) → IsSettingOf f passes E → Shows (moment-of tells t writes f) s x
         → (image : ℕ) (store : Bool) → p ≡ plan.Accept image store → AnswersBy E s x (call.Accepts guid) (plan.Accept image store)
     accept-answers E s x setting shows image store is = subst (λ (y : Session). AnswersBy E s y (call.Accepts guid) (plan.Accept image store))
         (sym shows.means) (record {
@@ -157,7 +157,7 @@ module _ (f : Fields) (fitting : Fitting f) (sound : SessionSound f) (passes : L
         })
 
     -- and any other plan changes nothing
-    pub accept-idle : (E : Setting) (s : State) (x : Session) → IsSettingOf f passes E → Shows (moment-of tells t f) s x → is_accept p ≡ false
+    pub accept-idle : (E : Setting) (s : State) (x : Session) → IsSettingOf f passes E → Shows (moment-of tells t writes f) s x → is_accept p ≡ false
         → answer E s x (call.Accepts guid) ≡ answered Success [] x
     accept-idle E s x setting shows not =
         subst (λ (y : Session). answer E s y (call.Accepts guid) ≡ answered Success [] y) (sym shows.means)

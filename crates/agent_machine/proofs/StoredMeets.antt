@@ -21,7 +21,7 @@ use Rattle.agent_machine.specs.declared.stop.Stop.{Stop}
 use Rattle.agent_machine.specs.declared.stop.Stop.TheVariants as stop
 use Rattle.agent_machine.specs.Beside.{IsSpared}
 use Rattle.agent_machine.specs.Fields.{Fields}
-use Rattle.agent_machine.proofs.Beside.{spared-told}
+use Rattle.agent_machine.proofs.Beside.{blocks-still, spared-told}
 use Rattle.agent_machine.specs.Machine.{state_in, session_in}
 use Rattle.agent_machine.specs.Moment.{Moment, Shows}
 use Rattle.agent_machine.specs.Meets.{Answers, GoesBack, IsRefused, IsSettingOf, LeavesFlash, Meets, MeetsPrevious, flash_result, may_try}
@@ -63,6 +63,7 @@ module _ (result : Result (Unit {0}) Stop) (passes : List ℕ → Bool) (c : Cal
       does = λ E s x setting shows tells ready. does-carried E s x setting shows (by E s x setting shows) tells ready;
       guarded = carried.guarded;
       keeps = carried.keeps;
+      touches = carried.touches;
       decides = carried.decides;
       stays = carried.stays;
     };
@@ -71,12 +72,12 @@ module _ (result : Result (Unit {0}) Stop) (passes : List ℕ → Bool) (c : Cal
 -- ---- nothing was done
 
 -- the moment afterwards, where what is told is the same
-module _ (tells : Bool) (f : Fields) (s t : Told) (same : IsTrue tells → t ≡ s) where
+module _ (tells : Bool) (f : Fields) (s t : Told) {old_writes new_writes : ℕ → ℕ} (same : IsTrue tells → t ≡ s) (still : new_writes ≡ old_writes) where
   abbrev old : Moment
-  old = record { tells = tells; told = s; fields = f }
+  old = record { tells = tells; told = s; writes = old_writes; fields = f }
 
   abbrev new : Moment
-  new = record { tells = tells; told = t; fields = f }
+  new = record { tells = tells; told = t; writes = new_writes; fields = f }
 
   pub shows-still : (x : State) (y : Session) → Shows old x y → Shows new x y
   shows-still x y shows = record {
@@ -96,6 +97,7 @@ module _ (tells : Bool) (f : Fields) (s t : Told) (same : IsTrue tells → t ≡
         (does-nothing {T = Unit {0}} (Ok tt) E x t (subst (λ (u : Told). IsReady E u x) (sym (same is)) ready));
     guarded = λ is rest. subst IsAtRest (sym (same is)) rest;
     keeps = λ is. spared-told (IsSpared f) s t (same is);
+    touches = blocks-still (IsSpared f) still;
     decides = λ is. decides-same f.layout f.meta f.meta s t (same is);
     stays = record { tells = refl; layout = refl; boot = refl; counter = refl; lengths = refl; guard = λ is. ap (λ (u : Told). u.guard) (same is) };
   }
@@ -178,6 +180,7 @@ module _ (result : Result (Unit {0}) Stop) (passes : List ℕ → Bool) (old new
           (by E s x setting shows tells) tells ready;
       guarded = carried.guarded;
       keeps = carried.keeps;
+      touches = carried.touches;
       decides = carried.decides;
       stays = carried.stays;
     };

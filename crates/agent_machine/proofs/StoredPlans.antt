@@ -11,6 +11,7 @@ use Rattle.agent_kept.specs.declared.kinds.Decision.TheVariants as decision
 use Rattle.agent_kept.specs.Kept.{Kept}
 use Rattle.agent_state.specs.Decides.{IsMetaOf}
 use Rattle.agent_state.specs.Settles.{Changes, Settles, SettlesBy, meta_planned}
+use Rattle.agent_machine.specs.Beside.{SparesBlocks}
 use Rattle.agent_machine.specs.Fields.{Fields}
 use Rattle.agent_machine.specs.Knows.{Fitting, Knows, SessionSound, SomeStaged}
 use Rattle.agent_machine.specs.Stored.{CarriesOut, MayCarryOut, StoresIf, is_stored, trials_planned}
@@ -95,9 +96,12 @@ module _ (f : Fields) (fitting : Fitting f) where
           subst (λ (x : Kept). Parts tells f s t result plan.Back x) (sym changes)
           (back-parts tells f s t result fitting knows may (subst (Settled plan.Back) changes settles) stores)
 
-      pub planned-carried : (p : Plan) (k : Kept) → SpeaksWell tells f s t result p k → MayCarryOut f p → Changes f.session [] p k → Settled p k → Stored p
-          → CarriesOut result p (record { tells = tells; told = s; fields = f }) (record { tells = tells; told = t; fields = after_plan f p k })
-      planned-carried p k speaks may changes settles stores = carried tells f s t result p k speaks (planned-parts p k may changes settles stores)
+      pub planned-carried : (p : Plan) (k : Kept) (old_writes new_writes : ℕ → ℕ) → SpeaksWell tells f s t result p k old_writes new_writes
+          → MayCarryOut f p → Changes f.session [] p k → Settled p k → Stored p → SparesBlocks f old_writes new_writes
+          → CarriesOut result p (record { tells = tells; told = s; writes = old_writes; fields = f })
+          (record { tells = tells; told = t; writes = new_writes; fields = after_plan f p k })
+      planned-carried p k old_writes new_writes speaks may changes settles stores touches =
+          carried tells f s t result p k old_writes new_writes speaks (planned-parts p k may changes settles stores) touches
 
 -- ---- by what a plan was settled on
 
@@ -139,12 +143,16 @@ module _ (f : Fields) (fitting : Fitting f) (p : Plan) (k : Kept) (m : MetaRead)
     pub after-known : Knows f s → StoresIf {T = Unit {0}} stored (Ok tt) f.layout m.meta s t → Knows g t
     after-known knows stores = subst (λ (x : Fields). Knows x t) fields-are (planned-known f fitting s t p k knows may changes (stores-planned (Ok tt) stores))
 
-    pub after-carried : (tells : Bool) (result : CallResult) → SessionSound f → (IsTrue tells → Knows f s) → SettlesBy f.session f.meta [] (decision.Do p) m k
-        → (IsTrue tells → StoresIf stored result f.layout m.meta s t)
-        → CarriesOut result p (record { tells = tells; told = s; fields = f }) (record { tells = tells; told = t; fields = g })
-    after-carried tells result sound knows settles stores =
-        subst (λ (x : Fields). CarriesOut result p (record { tells = tells; told = s; fields = f }) (record { tells = tells; told = t; fields = x })) fields-are
-        (planned-carried f fitting s t tells result knows p k
+    pub after-carried : (tells : Bool) (result : CallResult) {old_writes new_writes : ℕ → ℕ} → SessionSound f → (IsTrue tells → Knows f s)
+        → SettlesBy f.session f.meta [] (decision.Do p) m k → (IsTrue tells → StoresIf stored result f.layout m.meta s t)
+        → SparesBlocks f old_writes new_writes
+        → CarriesOut result p (record { tells = tells; told = s; writes = old_writes; fields = f })
+        (record { tells = tells; told = t; writes = new_writes; fields = g })
+    after-carried tells result {old_writes = old_writes} {new_writes = new_writes} sound knows settles stores touches =
+        subst (λ (x : Fields). CarriesOut result p (record { tells = tells; told = s; writes = old_writes; fields = f })
+        (record { tells = tells; told = t; writes = new_writes; fields = x })) fields-are
+        (planned-carried f fitting s t tells result knows p k old_writes new_writes
         (λ E x y same shows. shown-speaks f fitting sound E x E.passes shows.staged
         (record { layout = same; verifier = refl }) shows.speaks shows.kept) may changes
-        (subst (λ (x : MetaRead). Settles f.session f.meta [] p x k) m-is (planned-settles f p m k may settles)) (λ is. stores-planned result (stores is)))
+        (subst (λ (x : MetaRead). Settles f.session f.meta [] p x k) m-is (planned-settles f p m k may settles)) (λ is. stores-planned result (stores is))
+        touches)

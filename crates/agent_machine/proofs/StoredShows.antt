@@ -28,7 +28,7 @@ use Rattle.agent_state.proofs.Moved.{held-accepted}
 use Rattle.fwu_model.specs.Replica.{in_version}
 use Rattle.agent_machine.specs.Deciding.{KeepsOldOrNew}
 use Rattle.agent_machine.proofs.Deciding.{decides-same, decides-stores}
-use Rattle.agent_machine.specs.Beside.{IsSpared, KeepsSpared}
+use Rattle.agent_machine.specs.Beside.{IsSpared, KeepsSpared, SparesBlocks}
 use Rattle.agent_machine.proofs.Beside.{spared-told, stores-spare}
 use Rattle.agent_machine.specs.Fields.{Fields, target}
 use Rattle.agent_machine.specs.Machine.{state_in, staged_bytes}
@@ -98,16 +98,6 @@ module _ (f : Fields) (s : State) (of : SpeaksOf f s) (fitting : Fitting f) wher
 -- ---- a plan carried out, by its parts
 
 module _ (tells : Bool) (f : Fields) (s t : Told) (result : CallResult) (p : Plan) (k : Kept) where
-  abbrev pub old : Moment
-  old = record { tells = tells; told = s; fields = f }
-
-  abbrev pub new : Moment
-  new = record { tells = tells; told = t; fields = after_plan f p k }
-
-  abbrev pub SpeaksWell : Type 0
-  SpeaksWell = (E : Setting) (x : State) (y : Session) → E.layout ≡ f.layout →
-      (shows : Shows old x y) → SpeaksWhole E x E.passes f.meta f.counter f.session f.boot shows.staged
-
   -- what the moves of the plan are from a state
   abbrev pub planned_from : Setting → State → (ℕ → List ℕ) → List Move
   planned_from E x staged = (planned_in E x (session_meant f.session f.boot staged) [] p).moves
@@ -128,41 +118,53 @@ module _ (tells : Bool) (f : Fields) (s t : Told) (result : CallResult) (p : Pla
     pub keeps : IsTrue tells → KeepsSpared f s t
     pub decides : IsTrue tells → KeepsOldOrNew f.layout f.meta (after_plan f p k).meta s t
 
-  module _ (speaks : SpeaksWell) (parts : Parts) where
-    shows-next : (E : Setting) (x : State) (y : Session) → E.layout ≡ f.layout → Shows old x y → IsTrue (is_ok result)
-        → Shows new (after x (planned_in E x y [] p).moves) (planned_in E x y [] p).next
-    shows-next E x y same shows ok =
-        let si = parts.settles E x E.passes f.counter f.boot shows.staged (speaks E x y same shows) (parts.total E x) in
-        subst (λ (z : Session). Shows new (after x (planned_in E x z [] p).moves) (planned_in E x z [] p).next) (sym shows.means) (record {
-          told = λ is.
-              let here = (shows.told is).0 in (
-                subst (λ (z : State). after z (planned_from E z shows.staged) ≡ state_in (after_plan f p k) t.now) (sym here)
-                    (parts.state E shows.staged is ok),
-                sym si.next ∙ parts.session (staged_after p [] shows.staged) (staged_bytes (after_plan f p k) t.now),
-              );
-          speaks = parts.speaks E x shows.staged shows.speaks si.spoken.meta;
-          staged = staged_after p [] shows.staged;
-          kept = si.spoken.kept;
-          means = sym si.next;
-        })
+  module _ (old_writes new_writes : ℕ → ℕ) where
+    abbrev pub old : Moment
+    old = record { tells = tells; told = s; writes = old_writes; fields = f }
 
-    by-result : (r : CallResult) (P : Type 0) → (IsTrue (is_ok r) → P) → OnOk r P
-    by-result (Ok x) P h = h refl
-    by-result (Err stop) P h = tt
+    abbrev pub new : Moment
+    new = record { tells = tells; told = t; writes = new_writes; fields = after_plan f p k }
 
-    pub carried : CarriesOut result p old new
-    carried = record {
-      shows = λ E x y same shows. by-result result _ (shows-next E x y same shows);
-      does = λ E x y same shows may is ready.
-          let here = (shows.told is).0 in
-          subst (λ (z : Session). Does result E x (planned_in E x z [] p).moves t) (sym shows.means)
-          (subst (λ (z : State). Does result E z (planned_from E z shows.staged) t) (sym here)
-          (parts.does E shows.staged same is (subst (λ (z : State). MayBeDone E z p) here may) (subst (IsReady E s) here ready)));
-      guarded = parts.guarded;
-      keeps = parts.keeps;
-      decides = parts.decides;
-      stays = record { tells = refl; layout = refl; boot = refl; counter = refl; lengths = refl; guard = parts.guard };
-    }
+    abbrev pub SpeaksWell : Type 0
+    SpeaksWell = (E : Setting) (x : State) (y : Session) → E.layout ≡ f.layout →
+        (shows : Shows old x y) → SpeaksWhole E x E.passes f.meta f.counter f.session f.boot shows.staged
+
+    module _ (speaks : SpeaksWell) (parts : Parts) (touches : SparesBlocks f old_writes new_writes) where
+      shows-next : (E : Setting) (x : State) (y : Session) → E.layout ≡ f.layout → Shows old x y → IsTrue (is_ok result)
+          → Shows new (after x (planned_in E x y [] p).moves) (planned_in E x y [] p).next
+      shows-next E x y same shows ok =
+          let si = parts.settles E x E.passes f.counter f.boot shows.staged (speaks E x y same shows) (parts.total E x) in
+          subst (λ (z : Session). Shows new (after x (planned_in E x z [] p).moves) (planned_in E x z [] p).next) (sym shows.means) (record {
+            told = λ is.
+                let here = (shows.told is).0 in (
+                  subst (λ (z : State). after z (planned_from E z shows.staged) ≡ state_in (after_plan f p k) t.now) (sym here)
+                      (parts.state E shows.staged is ok),
+                  sym si.next ∙ parts.session (staged_after p [] shows.staged) (staged_bytes (after_plan f p k) t.now),
+                );
+            speaks = parts.speaks E x shows.staged shows.speaks si.spoken.meta;
+            staged = staged_after p [] shows.staged;
+            kept = si.spoken.kept;
+            means = sym si.next;
+          })
+
+      by-result : (r : CallResult) (P : Type 0) → (IsTrue (is_ok r) → P) → OnOk r P
+      by-result (Ok x) P h = h refl
+      by-result (Err stop) P h = tt
+
+      pub carried : CarriesOut result p old new
+      carried = record {
+        shows = λ E x y same shows. by-result result _ (shows-next E x y same shows);
+        does = λ E x y same shows may is ready.
+            let here = (shows.told is).0 in
+            subst (λ (z : Session). Does result E x (planned_in E x z [] p).moves t) (sym shows.means)
+            (subst (λ (z : State). Does result E z (planned_from E z shows.staged) t) (sym here)
+            (parts.does E shows.staged same is (subst (λ (z : State). MayBeDone E z p) here may) (subst (IsReady E s) here ready)));
+        guarded = parts.guarded;
+        keeps = parts.keeps;
+        touches = touches;
+        decides = parts.decides;
+        stays = record { tells = refl; layout = refl; boot = refl; counter = refl; lengths = refl; guard = parts.guard };
+      }
 
 -- ---- each plan
 

@@ -3,13 +3,14 @@ use Rattle.std.proofs.Common.{◌≡◌, ℕ, ◌+◌, ◌*◌, ◌<◌, ◌≤�
 use Rattle.std.proofs.lemmas.List.{length-set}
 use Rattle.flash_core.specs.declared.flash.FlashStop.{FlashStop}
 use Rattle.flash_core.specs.Told.{Told}
+use Rattle.flash_core.specs.Touches.{TouchesOnly}
 use Rattle.fwu_formats.specs.Layout.{ImageRow, start, slot_bytes, blocks_needed}
 use Rattle.fwu_formats.specs.Metadata.{MetaRead}
 use Rattle.fwu_model.specs.Seen.{state_of}
 use Rattle.fwu_model.specs.Calm.{IsAtRest}
 use Rattle.moves.specs.Moved.{GuardedBy}
 use Rattle.moves.proofs.Composed.{does-nothing}
-use Rattle.slot_writer.specs.Slots.{Appends}
+use Rattle.slot_writer.specs.Slots.{Appends, blocks_for, done_of}
 use Rattle.agent_kept.specs.declared.parts.Handle.{Handle}
 use Rattle.agent_kept.specs.declared.parts.Handle.TheVariants.{Free}
 use Rattle.agent_kept.specs.declared.kinds.Plan.TheVariants as plan
@@ -32,7 +33,7 @@ use Rattle.fwu_model.specs.Reply.{Success}
 use Rattle.agent_machine.specs.Law.{StaysKnown, WriteMeets}
 use Rattle.agent_machine.proofs.Answered.{FitsEach, leaves-by, done-meets, stopped-meets}
 use Rattle.agent_machine.proofs.Meeting.{success-says}
-use Rattle.agent_machine.proofs.Room.{ReadsWell, fitting-again, old-readers, staged-before, appends-spare, appends-stay}
+use Rattle.agent_machine.proofs.Room.{ReadsWell, fitting-again, old-readers, staged-before, appends-blocks, appends-spare, appends-stay}
 use Rattle.agent_machine.proofs.Showing.{some-after, kept-after}
 use Rattle.agent_machine.proofs.Writing.{means-written, write-meets}
 
@@ -58,7 +59,8 @@ module _ (old new : Moment) (image first size number at n : ℕ) (left bytes : L
 
       module _ (passes : List ℕ → Bool) (r : Request) (fits_request : FitsEach f passes r bytes)
           (decides : DecidesRequest passes f.meta f.counter f.session f.boot r (decision.Do (plan.Write number image at n))) (tells-same : new.tells ≡ old.tells)
-          (beside : SameBeside f new.fields) where
+          (beside : SameBeside f new.fields) (touches : TouchesOnly (4096 * first + done_of size)
+          (4096 * (first + blocks_for (done_of (size + length bytes)))) old.writes new.writes) where
         guards : (result : Result (Unit {0}) FlashStop) (t : Told) → IsAtRest t → GuardedBy result t
         guards (Ok x) t rest = rest
         guards (Err stop) t rest = rest.guarded
@@ -72,6 +74,7 @@ module _ (old new : Moment) (image first size number at n : ℕ) (left bytes : L
             (λ tells rest. guards result new.told ((write-stays tells).rests rest))
             (λ tells. appends-spare result f image first size (rest_of f image) bytes left old.told new.told (fitting.active of.1) first-is
             (omega (arith, size-is, fits)) (appends tells))
+            (appends-blocks f image first size bytes (fitting.active of.1) first-is (omega (arith, size-is, fits)) touches)
             (λ tells. decides-kept f.layout f.meta _ _ old.told new.told (omega (arith, first-is)) (appends tells).keeps new.fields.meta)
             (record { tells = tells-same; layout = beside.layout; boot = beside.boot; counter = beside.counter; lengths = beside.lengths; guard = λ is. (appends is).keeps.guard })
 
@@ -128,8 +131,8 @@ module _ (tells : Bool) (s t : Told) (f : Fields) (k : Kept) (new_meta : MetaRea
   pub write-some : ∥ SomeStaged f.session ∥₁ → ∥ SomeStaged k ∥₁
   write-some some = some-after f fitting sound bytes (plan.Write number image at (length bytes)) new_meta k settles (λ E state same speaks. tt) some
 
-  pub write-carried : CarriedOut (plan.Write number image at (length bytes)) bytes (record { tells = tells; told = s; fields = f })
-      (record { tells = tells; told = t; fields = after_it })
+  pub write-carried : {old_writes new_writes : ℕ → ℕ} → CarriedOut (plan.Write number image at (length bytes)) bytes
+      (record { tells = tells; told = s; writes = old_writes; fields = f }) (record { tells = tells; told = t; writes = new_writes; fields = after_it })
   write-carried = record {
     tells = refl;
     beside = record { layout = refl; boot = refl; counter = refl; lengths = refl; form = ap (λ (r : MetaRead). r.form) meta };
@@ -148,12 +151,13 @@ module _ (tells : Bool) (s t : Told) (f : Fields) (k : Kept) (new_meta : MetaRea
 
   -- the machine's answer
   module _ (passes : List ℕ → Bool) (h : ℕ) (decides : DecidesRequest passes f.meta f.counter f.session f.boot (request.Write h (length bytes))
-      (decision.Do (plan.Write number image at (length bytes)))) where
+      (decision.Do (plan.Write number image at (length bytes)))) {old_writes new_writes : ℕ → ℕ}
+      (touches : TouchesOnly (4096 * first + done_of size) (4096 * (first + blocks_for (done_of (size + length bytes)))) old_writes new_writes) where
     abbrev before : Moment
-    before = record { tells = tells; told = s; fields = f }
+    before = record { tells = tells; told = s; writes = old_writes; fields = f }
 
     abbrev behind : Moment
-    behind = record { tells = tells; told = t; fields = after_it }
+    behind = record { tells = tells; told = t; writes = new_writes; fields = after_it }
 
     fits_each : FitsEach f passes (request.Write h (length bytes)) bytes
     fits_each E state setting speaks = refl
@@ -164,7 +168,7 @@ module _ (tells : Bool) (s t : Told) (f : Fields) (k : Kept) (new_meta : MetaRea
         decides write-carried (λ value reply. reply ≡ Success) tt
         (λ E state x setting shows. success-says before bytes (plan.Write number image at (length bytes)) tt E state x shows)
         (write-leaves before behind image first size number at (length bytes) left bytes fitting sound knows of room fits first-is size-is (Ok tt) appends
-        passes (request.Write h (length bytes)) fits_each decides refl write-carried.beside)
+        passes (request.Write h (length bytes)) fits_each decides refl (write-carried {old_writes = old_writes} {new_writes = new_writes}).beside touches)
 
 -- ---- when stopped
 
@@ -176,11 +180,12 @@ module _ (old new : Moment) (image first size number at : ℕ) (left bytes : Lis
     (appends : IsTrue old.tells → Appends {T = Unit {0}} (Err cause) first size (rest_of old.fields image) bytes left old.told new.told)
     (passes : List ℕ → Bool) (h : ℕ) (decides : DecidesRequest passes old.fields.meta old.fields.counter old.fields.session old.fields.boot
     (request.Write h (length bytes)) (decision.Do (plan.Write number image at (length bytes)))) (tells-same : new.tells ≡ old.tells)
-    (beside : SameBeside old.fields new.fields) where
+    (beside : SameBeside old.fields new.fields) (touches : TouchesOnly (4096 * first + done_of size)
+    (4096 * (first + blocks_for (done_of (size + length bytes)))) old.writes new.writes) where
   pub write-stopped : (r : Stop) → flash_result {T = Unit {0}} (Err r) ≡ Err cause → IsStopped {T = Unit {0}} (Err r)
       → Meets {T = Unit {0}} (λ value reply. reply ≡ Success) (Err r) passes (call_of (request.Write h (length bytes)) bytes) old new
   write-stopped r is stopped =
       stopped-meets (λ value reply. reply ≡ Success) r passes (call_of (request.Write h (length bytes)) bytes) old new stopped
       (subst (λ (result : Result (Unit {0}) FlashStop). LeavesFlash result passes (call_of (request.Write h (length bytes)) bytes) old new) (sym is)
       (write-leaves old new image first size number at (length bytes) left bytes fitting sound knows of room fits first-is size-is (Err cause) appends
-      passes (request.Write h (length bytes)) (λ E s setting speaks. refl) decides tells-same beside))
+      passes (request.Write h (length bytes)) (λ E s setting speaks. refl) decides tells-same beside touches))

@@ -37,8 +37,11 @@ abbrev pub KeepsSparedByAll : Fields → Told → Told → Type 0
 KeepsSparedByAll f s t = KeepsWhere (IsSparedByAll f.layout f.boot) s t
 
 -- On every device, whatever its reads give: no block that is spared was erased or programmed, by one call and by calls in a row.
+abbrev pub SparesBlocksWhere : (ℕ → Type 0) → (ℕ → ℕ) → (ℕ → ℕ) → Type 0
+SparesBlocksWhere Spared old new = (b : ℕ) → Spared (block_bytes * b) → new b ≡ old b
+
 abbrev pub SparesBlocks : Fields → (ℕ → ℕ) → (ℕ → ℕ) → Type 0
-SparesBlocks f old new = (b : ℕ) → IsSpared f (block_bytes * b) → new b ≡ old b
+SparesBlocks f old new = SparesBlocksWhere (IsSpared f) old new
 
 abbrev pub SparesBlocksByAll : Fields → (ℕ → ℕ) → (ℕ → ℕ) → Type 0
-SparesBlocksByAll f old new = (b : ℕ) → IsSparedByAll f.layout f.boot (block_bytes * b) → new b ≡ old b
+SparesBlocksByAll f old new = SparesBlocksWhere (IsSparedByAll f.layout f.boot) old new

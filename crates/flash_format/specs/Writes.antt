@@ -4,6 +4,7 @@ use Rattle.base_core.specs.Block.{block_bytes}
 use Rattle.flash_core.specs.Calls.{Goes}
 use Rattle.flash_core.specs.Counts.{lowered_by}
 use Rattle.flash_core.specs.May.{Keeps}
+use Rattle.flash_core.specs.Touches.{TouchesOnly}
 use Rattle.flash_core.specs.declared.flash.Flash.{Ghosts}
 use Rattle.flash_core.specs.declared.flash.FlashStop.{FlashStop}
 use Rattle.flash_format.specs.Cleared.{IsBare, LeavesNoMore, OnlyErased}
@@ -25,6 +26,8 @@ pub record WritesImages {D T : Type 0} (g : Ghosts D) (first low high count : â„
   pub goes : Goes g (flash_result result) old new
   -- On every device: so many programs, when done.
   pub spent : OnOk result (g.arming new â‰¡ lowered_by count (g.arming old))
+  -- On every device: no other block is erased or programmed.
+  pub touches : TouchesOnly low high (g.writes old) (g.writes new)
   pub stops : RefusesNothing result
 
 -- Erases that begin with block 0, and programs behind the first blocks.

@@ -4,6 +4,7 @@ ghost use Rattle.base_core.specs.Block.{block_bytes};
 ghost use Rattle.flash_core.specs.Calls.{Goes};
 ghost use Rattle.flash_core.specs.Counts.{lowered_by};
 ghost use Rattle.flash_core.specs.May.{Keeps};
+ghost use Rattle.flash_core.specs.Touches.{TouchesOnly};
 ghost use Rattle.flash_core.specs.Told.{NothingDirty};
 ghost use Rattle.fwu_formats.specs.Layout.{blocks_needed};
 ghost use Rattle.fwu_formats.specs.Package.{Toc, toc_of};
@@ -53,6 +54,7 @@ fn finish<D: Flash, V: Verifier>(
         IsRefusedFormat (V.passes verifier.now) layout.now found (D.told flash.new).now) }
     ensures clean { FormatFinishes result (IsTrue D.tells → NothingDirty (D.told flash.old) → NothingDirty (D.told flash.new)) }
     ensures keeps { IsTrue D.tells → Keeps 0 (block_bytes * 3) (D.told flash.old) (D.told flash.new) }
+    ensures touches { TouchesOnly 0 (block_bytes * 3) (D.writes flash.old) (D.writes flash.new) }
     // Whatever a loss leaves, no layout is there before both replicas are, and this one only on a flash that is formatted.
     ensures ordered { IsTrue D.tells → NothingDirty (D.told flash.old) → IsOrdered layout.now (D.told flash.new) }
     ensures whole { IsTrue D.tells → NothingDirty (D.told flash.old) →
@@ -87,6 +89,7 @@ fn carry_out<D: Flash, H: Files, V: Verifier>(
         IsFilled (H.contents files.old) name.now plan.now.layout plan.now.entries (D.told flash.new)) }
     ensures failed { result ≡ Err FileFailed → IsTrue D.tells → IsUnlaid (D.told flash.new) }
     ensures keeps { IsTrue D.tells → Keeps 0 (block_bytes * blocks_needed plan.now.layout) (D.told flash.old) (D.told flash.new) }
+    ensures touches { TouchesOnly 0 (block_bytes * blocks_needed plan.now.layout) (D.writes flash.old) (D.writes flash.new) }
     // At any exit block 0 goes first and the layout comes last, whatever a loss leaves.
     ensures ordered { IsTrue D.tells → IsInOrder (V.passes verifier.now) plan.now.layout (D.told flash.old) (D.told flash.new) }
     ensures goes { Goes D.Flash (flash_result result) flash.old flash.new }
@@ -159,6 +162,9 @@ pub fn format<D: Flash, H: Files, V: Verifier>(
     // Beyond the last bank nothing changes, at any exit.
     ensures keeps { IsTrue D.tells → Keeps 0 (block_bytes * blocks_needed (asked banks rows.now))
         (D.told flash.old) (D.told flash.new) }
+    // On every device, whatever its reads give: no block beyond the last bank is erased or programmed, at any exit.
+    ensures touches { TouchesOnly 0 (block_bytes * blocks_needed (asked banks rows.now))
+        (D.writes flash.old) (D.writes flash.new) }
     ensures goes { Goes D.Flash (flash_result result) flash.old flash.new }
     // On every device, in total: an erase for each block up to the last bank's end, and a program for each piece of an image, for
     // each replica and for the layout; where what is in the bank is refused, none for replicas and layout.

@@ -4,6 +4,7 @@ ghost use Rattle.base_core.specs.Block.{block_bytes};
 ghost use Rattle.flash_core.specs.Calls.{Goes};
 ghost use Rattle.flash_core.specs.Counts.{lowered_by};
 ghost use Rattle.flash_core.specs.May.{Keeps};
+ghost use Rattle.flash_core.specs.Touches.{TouchesOnly};
 ghost use Rattle.fwu_formats.specs.Layout.{blocks_needed};
 ghost use Rattle.image_check.specs.Passed.{HasPassed};
 ghost use Rattle.image_check.specs.Verdict.{verdict_on};
@@ -36,6 +37,8 @@ pub fn fill<D: Flash, H: Files>(
     requires planned { IsPlanned (H.contents files.old) name.now plan.now.layout plan.now.entries }
 
     ensures keeps { IsTrue D.tells → Keeps 0 (block_bytes * blocks_needed plan.now.layout) (D.told flash.old) (D.told flash.new) }
+    // On every device, whatever its reads give: no block beyond the last bank is erased or programmed.
+    ensures touches { TouchesOnly 0 (block_bytes * blocks_needed plan.now.layout) (D.writes flash.old) (D.writes flash.new) }
     ensures clears { ClearsFirst D.Flash flash.old flash.new }
     ensures erased { OnOk (flash_result result) (IsTrue D.tells → Erased 0 (block_bytes * 8) (D.told flash.new).now) }
     // A file that could not be read leaves it bare too.
@@ -71,6 +74,8 @@ pub fn check_bank<D: Flash, V: Verifier>(
     ensures found { IfRefused result (λ found. IsTrue D.tells →
         verdict_on (V.passes verifier.now) 0 layout.now (D.told flash.old).now 0 ≡ found) }
     ensures content { IsTrue D.tells → D.told flash.new ≡ D.told flash.old }
+    // on every device: nothing is erased or programmed
+    ensures writes { D.writes flash.new ≡ D.writes flash.old }
     ensures goes { Goes D.Flash (flash_result result) flash.old flash.new }
     ensures arming { OnOk (flash_result result) (D.arming flash.new ≡ D.arming flash.old) }
     ensures stops { RefusesBank result }

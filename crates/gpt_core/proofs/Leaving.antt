@@ -1,20 +1,20 @@
 -- A repair of a table leaves the flash that its partitions are.
-use Rattle.std.proofs.Common.{◌≡◌, ◌⊎◌, inl, inr, ℕ, ◌+◌, ◌-◌, ◌*◌, ◌<◌, ◌≤◌, List, Ok, sym, ◌∙◌, ap, subst, arith}
-use Rattle.std.proofs.lemmas.Bool.{cases_lt}
+use Rattle.std.proofs.Common.{◌≡◌, ◌⊎◌, inl, inr, ℕ, ◌+◌, ◌-◌, ◌*◌, ◌<◌, ◌≤◌, List, Ok, sym, ◌∙◌, ap, subst, arith, refl}
+use Rattle.std.proofs.lemmas.Bool.{cases_lt, lt-ltb, le-ltb}
 use Rattle.flash_core.specs.Told.{Told, NothingDirty, fresh}
 use Rattle.flash_core.specs.May.{Keeps, May}
 use Rattle.gpt_core.specs.declared.layout.Places.{Places}
 use Rattle.gpt_core.specs.declared.table.WhichTable.{WhichTable}
 use Rattle.gpt_core.specs.declared.table.WhichTable.TheVariants.{Same, RepairPrimary, RepairBackup}
-use Rattle.gpt_core.specs.Places.{byte_behind, through}
+use Rattle.gpt_core.specs.Places.{behind, byte_behind, through}
 use Rattle.gpt_core.specs.PlacesOf.{places_of}
-use Rattle.gpt_core.specs.Repair.{StaysBeside}
+use Rattle.gpt_core.specs.Repair.{StaysBeside, TouchesToMend}
 use Rattle.gpt_core.specs.Table.{Table, blocks_of, entry_number_of}
-use Rattle.gpt_core.specs.View.{view_of}
+use Rattle.gpt_core.specs.View.{view_of, writes_seen}
 use Rattle.flash_core.proofs.OneCall.{sure_settled}
 use Rattle.gpt_core.proofs.Stepping.{image_is_now}
 use Rattle.gpt_core.proofs.Placing.{Within, places_within}
-use Rattle.gpt_core.proofs.Seen.{byte_store, byte_zero, byte_one, through-same}
+use Rattle.gpt_core.proofs.Seen.{byte_store, byte_zero, byte_one, byte_in, through-same}
 use Rattle.gpt_core.proofs.Viewed.{now-view, view-fresh}
 
 -- the view of a device with nothing dirty has nothing dirty
@@ -95,3 +95,26 @@ repair-leaves blocks t RepairPrimary p s u gives was clean beside =
 repair-leaves blocks t RepairBackup p s u gives was clean beside =
     view-kept p s u (4096 * (blocks - 1 - blocks_of (entry_number_of t))) (4096 * blocks) beside was clean
     (λ i below. inl (between blocks (blocks_of (entry_number_of t)) p (places_within blocks t p gives) i below).high)
+
+-- counts that are the same at the blocks of the flash are seen as the same
+seen_same : (p : Places) (old new : ℕ → ℕ) → ((b : ℕ) → b < p.store_blocks → new (behind p b) ≡ old (behind p b)) → writes_seen p new ≡ writes_seen p old
+seen_same p old new same = λ k b. at b k
+  where
+    at : (b : ℕ) → writes_seen p new b ≡ writes_seen p old b
+    at b = elim (cases_lt b p.store_blocks) [
+      | inl within ↦ rw (lt-ltb b p.store_blocks within) (same b within)
+      | inr past ↦ rw (le-ltb b p.store_blocks past) refl
+    ]
+
+-- no block of the flash lies in a copy of the table
+module _ (blocks e : ℕ) (p : Places) (within : Within blocks e p) (b : ℕ) (below : b < p.store_blocks) where
+  block_between : (4096 * (2 + e) ≤ 4096 * behind p b) × (4096 * behind p b + 4096 ≤ 4096 * (blocks - 1 - e))
+  block_between =
+      let at = between blocks e p within (4096 * b + 0) (omega (arith, below)) in
+      let is = byte_in p b 0 (omega arith) in
+      (omega (arith, at.low, is), omega (arith, at.high, is))
+
+pub repair-spares : (blocks : ℕ) (t : Table) (which : WhichTable) (p : Places) (old new : ℕ → ℕ) → places_of blocks t ≡ Ok p → TouchesToMend blocks t which old new → writes_seen p new ≡ writes_seen p old
+repair-spares blocks t Same p old new gives same = ap (writes_seen p) same
+repair-spares blocks t RepairPrimary p old new gives only = seen_same p old new (λ b below. only (behind p b) (inr (block_between blocks (blocks_of (entry_number_of t)) p (places_within blocks t p gives) b below).0))
+repair-spares blocks t RepairBackup p old new gives only = seen_same p old new (λ b below. only (behind p b) (inl (block_between blocks (blocks_of (entry_number_of t)) p (places_within blocks t p gives) b below).1))

@@ -5,6 +5,7 @@ use Rattle.base_core.specs.Bytes.{overwritten}
 use Rattle.flash_core.specs.declared.flash.FlashStop.{FlashStop}
 use Rattle.flash_core.specs.Told.{Told, NothingDirty, is_guarded}
 use Rattle.flash_core.specs.May.{May, Keeps}
+use Rattle.flash_core.specs.Touches.{TouchesOnly}
 use Rattle.gpt_core.specs.declared.table.WhichTable.{WhichTable}
 use Rattle.gpt_core.specs.declared.table.WhichTable.TheVariants.{Same, RepairPrimary, RepairBackup}
 use Rattle.gpt_core.specs.declared.table.TableCopy.{TableCopy}
@@ -23,6 +24,13 @@ StaysBeside blocks t Same s u = u ≡ s
 StaysBeside blocks t RepairPrimary s u = Keeps block_bytes (block_bytes * (2 + blocks_of (entry_number_of t))) s u
 StaysBeside blocks t RepairBackup s u = Keeps (block_bytes * (blocks - 1 - blocks_of (entry_number_of t)))
     (block_bytes * blocks) s u
+
+-- But for the blocks of the copy that is repaired none is erased or programmed, and where none is none at all.
+abbrev pub TouchesToMend : ℕ → Table → WhichTable → (ℕ → ℕ) → (ℕ → ℕ) → Type 0
+TouchesToMend blocks t Same old new = new ≡ old
+TouchesToMend blocks t RepairPrimary old new = TouchesOnly block_bytes (block_bytes * (2 + blocks_of (entry_number_of t))) old new
+TouchesToMend blocks t RepairBackup old new = TouchesOnly (block_bytes * (blocks - 1 - blocks_of (entry_number_of t)))
+    (block_bytes * blocks) old new
 
 -- how many erases and programs a repair of a table with so many blocks of entries takes:
 -- each block of the copy is erased and programmed

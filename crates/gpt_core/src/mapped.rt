@@ -7,14 +7,15 @@ ghost use Rattle.flash_core.specs.May.{Guards, May};
 ghost use Rattle.gpt_core.specs.declared.layout.Places.{Places};
 ghost use Rattle.gpt_core.specs.Places.{Fit, behind, through};
 ghost use Rattle.gpt_core.specs.View.{view_of};
-ghost use Rattle.gpt_core.specs.Beside.{Beside};
+ghost use Rattle.gpt_core.specs.Beside.{Beside, TouchesPlaces};
 
 use crate::layout::Places;
 use base_core::BLOCK_BYTES;
 use flash_core::{Flash, FlashStop};
 use std::marker::{Brand, PhantomData};
 
-/// The places through which a device's flash is seen, how many blocks the device has, and what it told when it first was.
+/// The places through which a device's flash is seen, how many blocks the device has, and what it told when it first was. Also how
+/// often each block was erased or programmed by then.
 pub trait Start {
     ghost use Rattle.std.specs.Prelude.{ℕ};
     ghost use Rattle.gpt_core.specs.declared.layout.Places.{Places};
@@ -25,6 +26,8 @@ pub trait Start {
     ghost blocks: { ℕ };
 
     ghost was: { Told };
+
+    ghost writes: { ℕ → ℕ };
 }
 
 impl Start for Brand {
@@ -36,10 +39,12 @@ impl Start for Brand {
     ghost blocks = { 0 };
 
     ghost was = { fresh [] [] };
+
+    ghost writes = { λ b. 0 };
 }
 
-/// The flash that a device has at these places. Where nothing was dirty at the start,
-/// what else the device has stays as it was then.
+/// The flash that a device has at these places. No other block of the device is erased or programmed. Where nothing was dirty at
+/// the start, what else the device has stays as it was then.
 #[derive(Drop)]
 pub struct Mapped<D: Flash, K: Start> {
     flash: D,
@@ -49,6 +54,7 @@ pub struct Mapped<D: Flash, K: Start> {
     ghost is_at: { places ≡ K.at },
     ghost has_blocks: { D.blocks flash ≡ K.blocks },
     ghost beside: { IsTrue D.tells → NothingDirty K.was → Beside places K.was (D.told flash) },
+    ghost touches: { TouchesPlaces places K.writes (D.writes flash) },
 }
 
 impl<D: Flash, K: Start> Mapped<D, K> {
@@ -63,6 +69,7 @@ impl<D: Flash, K: Start> Mapped<D, K> {
         requires at { places ≡ K.at }
         requires size { D.blocks flash ≡ K.blocks }
         requires start { IsTrue D.tells → D.told flash ≡ K.was }
+        requires writes { D.writes flash ≡ K.writes }
         ensures device { device result ≡ flash }
         ensures places { places_of result ≡ places }
     {
@@ -79,6 +86,7 @@ impl<D: Flash, K: Start> Mapped<D, K> {
         ensures places { places_of self ≡ K.at }
         ensures size { D.blocks result ≡ K.blocks }
         ensures beside { IsTrue D.tells → NothingDirty K.was → Beside K.at K.was (D.told result) }
+        ensures touches { TouchesPlaces K.at K.writes (D.writes result) }
     {
         self.flash
     }
@@ -135,7 +143,7 @@ fn piece_of(at: u32, size: usize) -> usize
 
 impl<D: Flash, K: Start> Flash for Mapped<D, K> {
     ghost use Rattle.std.specs.Prelude.{Option, Bool, ℕ};
-    ghost use Rattle.gpt_core.specs.View.{view_of, landed_told};
+    ghost use Rattle.gpt_core.specs.View.{view_of, landed_told, writes_seen};
     ghost use Rattle.gpt_core.specs.Sound.{view_sound};
 
     ghost on = { λ m. D.on m.flash };
@@ -151,6 +159,8 @@ impl<D: Flash, K: Start> Flash for Mapped<D, K> {
     ghost arming = { λ m. D.arming m.flash };
 
     ghost counts = { λ m. D.counts m.flash };
+
+    ghost writes = { λ m. writes_seen m.places (D.writes m.flash) };
 
     ghost sizes = { λ m. m.fits.sizes };
 

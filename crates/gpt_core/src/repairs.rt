@@ -11,9 +11,9 @@ ghost use Rattle.gpt_core.specs.declared.layout.Places.{Places};
 ghost use Rattle.gpt_core.specs.declared.table.WhichTable.{WhichTable};
 ghost use Rattle.gpt_core.specs.Places.{through};
 ghost use Rattle.gpt_core.specs.PlacesOf.{places_of};
-ghost use Rattle.gpt_core.specs.View.{view_of};
+ghost use Rattle.gpt_core.specs.View.{view_of, writes_seen};
 ghost use Rattle.gpt_core.specs.Table.{Table as Said, FitsTable, blocks_of, entry_number_of, header_at, other, entries_at, copy_in, DecidesTable, BothSay, header_lead, header_places, header_back, header_with, header_bytes, table_in_image, copy_from, copy_to};
-ghost use Rattle.gpt_core.specs.Repair.{MendsTable, HeadersGuarded, StaysBeside, Ready, RepairSteps, IsMended, writes_to_mend};
+ghost use Rattle.gpt_core.specs.Repair.{MendsTable, HeadersGuarded, StaysBeside, TouchesToMend, Ready, RepairSteps, IsMended, writes_to_mend};
 
 use crate::headers::{
     ENTRY_SIZE, HEADER_SIZE, REVISION, blocks_for, entries_place, header_place, other_copy,
@@ -173,6 +173,8 @@ pub fn repair_table<D: Flash>(
         → MendsTable result (D.blocks flash.old) table.now (D.told flash.new) }
     ensures none { which ≡ WhichTable.Same → flash.new ≡ flash.old }
     ensures alone { IsTrue D.tells → StaysBeside (D.blocks flash.old) table.now which (D.told flash.old) (D.told flash.new) }
+    // On every device: no other block is erased or programmed.
+    ensures touches { TouchesToMend (D.blocks flash.old) table.now which (D.writes flash.old) (D.writes flash.new) }
     // When done nothing is dirty, whatever is guarded.
     ensures settled { OnOk result (IsTrue D.tells → NothingDirty (D.told flash.old) → NothingDirty (D.told flash.new)) }
     ensures goes { Goes D.Flash result flash.old flash.new }
@@ -189,10 +191,13 @@ pub fn repair_table<D: Flash>(
 }
 
 /// A repair of a table leaves the flash that its partitions are, in each image that a loss may leave and, where nothing is dirty
-/// afterwards, as it is told.
+/// afterwards, as it is told. None of its blocks is erased or programmed.
 pub fn repairs_leave_the_partitions()
-    ensures images { (blocks : ℕ) (t : Said) (which : WhichTable) (p : Places) (s u : Told) (image : List ℕ) → places_of blocks t ≡ Ok p
-        → NothingDirty s → StaysBeside blocks t which s u → May u image → through p image ≡ through p s.now }
+    ensures images { (blocks : ℕ) (t : Said) (which : WhichTable) (p : Places) (s u : Told) (image : List ℕ)
+        → places_of blocks t ≡ Ok p → NothingDirty s → StaysBeside blocks t which s u → May u image
+        → through p image ≡ through p s.now }
     ensures view { (blocks : ℕ) (t : Said) (which : WhichTable) (p : Places) (s u : Told) → places_of blocks t ≡ Ok p
         → NothingDirty s → NothingDirty u → StaysBeside blocks t which s u → view_of p u ≡ view_of p s }
+    ensures writes { (blocks : ℕ) (t : Said) (which : WhichTable) (p : Places) (old new : ℕ → ℕ) → places_of blocks t ≡ Ok p
+        → TouchesToMend blocks t which old new → writes_seen p new ≡ writes_seen p old }
 {}

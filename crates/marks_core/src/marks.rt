@@ -3,6 +3,7 @@ ghost use Rattle.std.specs.Prelude.{◌≡◌, ◌⊎◌, ◌+◌, ◌*◌, ◌<
 ghost use Rattle.base_core.specs.Block.{block_bytes, granule};
 ghost use Rattle.flash_core.specs.Counts.{lowered};
 ghost use Rattle.flash_core.specs.Calls.{Goes, Reads};
+ghost use Rattle.flash_core.specs.Touches.{TouchesOnly};
 ghost use Rattle.fwu_formats.specs.Image.{is_blank, marks};
 ghost use Rattle.marks_core.specs.Marks.{Adds, Clears, TakesClear, is_clear};
 
@@ -48,6 +49,9 @@ pub fn add<D: Flash>(flash: &mut D, block: u32, at: u32) -> Result<(), FlashStop
     ensures goes { Goes D.Flash result flash.old flash.new }
     // on every device: one program
     ensures spent { OnOk result (D.arming flash.new ≡ lowered (D.arming flash.old)) }
+    // on every device: no other block is programmed
+    ensures touches { TouchesOnly (block_bytes * block) (block_bytes * block + block_bytes)
+        (D.writes flash.old) (D.writes flash.new) }
 {
     flash.program(
         BLOCK_BYTES * block + GRANULE_BYTES * at,
@@ -71,6 +75,9 @@ pub fn clear<D: Flash>(flash: &mut D, block: u32, buf: &mut [u8]) -> Result<(), 
     ensures once { IsTrue D.tells → OnOk result
         (TakesClear (is_clear block (D.told flash.old).now) (D.arming flash.old) (D.arming flash.new)) }
     ensures buffer { length buf.new ≡ length buf.old }
+    // on every device: no other block is erased
+    ensures touches { TouchesOnly (block_bytes * block) (block_bytes * block + block_bytes)
+        (D.writes flash.old) (D.writes flash.new) }
 {
     clear_by(flash, block, &mut buf[..BLOCK_BYTES as usize])
 }
@@ -89,6 +96,9 @@ fn clear_by<D: Flash>(flash: &mut D, block: u32, buf: &mut [u8]) -> Result<(), F
     ensures once { IsTrue D.tells → OnOk result
         (TakesClear (is_clear block (D.told flash.old).now) (D.arming flash.old) (D.arming flash.new)) }
     ensures buffer { length buf.new ≡ length buf.old }
+    // on every device: no other block is erased
+    ensures touches { TouchesOnly (block_bytes * block) (block_bytes * block + block_bytes)
+        (D.writes flash.old) (D.writes flash.new) }
 {
     read_block(flash, block, buf)?;
     if all_erased(buf) {

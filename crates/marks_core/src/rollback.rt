@@ -1,8 +1,9 @@
 //! The anti-rollback counter: marks in block 4, an older form, and records in blocks 5 and 6, an own format.
-ghost use Rattle.std.specs.Prelude.{◌≡◌, ◌<◌, ◌≤◌, length, IsTrue, IfOk, OnOk, max, unwrap_or};
+ghost use Rattle.std.specs.Prelude.{◌≡◌, ◌*◌, ◌<◌, ◌≤◌, length, IsTrue, IfOk, OnOk, max, unwrap_or};
 ghost use Rattle.base_core.specs.Block.{block_bytes, block};
 ghost use Rattle.flash_core.specs.Counts.{lowered};
 ghost use Rattle.flash_core.specs.Calls.{Goes, Reads};
+ghost use Rattle.flash_core.specs.Touches.{TouchesOnly};
 ghost use Rattle.fwu_formats.specs.Counter.{counter_in, record_size};
 ghost use Rattle.marks_core.specs.Raises.{value_in, place_for, record_place, Raises};
 
@@ -88,6 +89,8 @@ pub fn raise<D: Flash>(flash: &mut D, v: u32, buf: &mut [u8]) -> Result<(), Flas
     // on every device: one erase and one program
     ensures spent { OnOk result (D.arming flash.new ≡ lowered (lowered (D.arming flash.old))) }
     ensures buffer { length buf.new ≡ length buf.old }
+    // on every device: no block but 5 and 6 is erased or programmed
+    ensures touches { TouchesOnly (block_bytes * 5) (block_bytes * 7) (D.writes flash.old) (D.writes flash.new) }
 {
     let place = record_place(flash, &mut buf[..RECORD_BYTES])?;
     replace(flash, place, &record_bytes(v))

@@ -1,7 +1,8 @@
 //! Writing the metadata that decides over the replica that lacks it.
-ghost use Rattle.std.specs.Prelude.{◌≡◌, ◌≢◌, ◌↔◌, ◌%◌, ◌<◌, ◌≤◌, Some, length, IsTrue, IfOk, OnOk};
+ghost use Rattle.std.specs.Prelude.{◌≡◌, ◌≢◌, ◌↔◌, ◌*◌, ◌%◌, ◌<◌, ◌≤◌, Some, length, IsTrue, IfOk, OnOk};
 ghost use Rattle.base_core.specs.Block.{block_bytes, granule_bytes, block};
 ghost use Rattle.flash_core.specs.Calls.{Goes, Reads};
+ghost use Rattle.flash_core.specs.Touches.{TouchesOnly};
 ghost use Rattle.fwu_formats.specs.Layout.{fits_layout};
 ghost use Rattle.fwu_formats.specs.Metadata.{fits_meta, meta_read, replica_bytes};
 ghost use Rattle.fwu_model.specs.Replica.{in_version};
@@ -85,6 +86,8 @@ fn migrate_zero<D: Flash>(
     ensures repairs { IsTrue D.tells → Repairs result layout.now meta.now (D.told flash.old) (D.told flash.new) }
     ensures goes { Goes D.Flash result flash.old flash.new }
     ensures spent { OnOk result (TakesBoth (D.arming flash.old) (D.arming flash.new)) }
+    // on every device: no block but 1 and 2 is erased or programmed
+    ensures touches { TouchesOnly (block_bytes * 1) (block_bytes * 3) (D.writes flash.old) (D.writes flash.new) }
 {
     replace(flash, SECOND_REPLICA, bytes)?;
     replace(flash, FIRST_REPLICA, bytes)
@@ -116,6 +119,8 @@ pub fn repair<D: Flash>(
         meta_read layout.now (block 2 (D.told flash.old).now) ≡ Some (in_version 2 meta.now.meta) →
         TakesOne (D.arming flash.old) (D.arming flash.new)) }
     ensures buffer { length buf.new ≡ length buf.old }
+    // on every device: no block but 1 and 2 is erased or programmed
+    ensures touches { TouchesOnly (block_bytes * 1) (block_bytes * 3) (D.writes flash.old) (D.writes flash.new) }
 {
     layout.fits();
     let half = is_half_migrated(flash, layout, meta, which, &mut buf[..BLOCK_BYTES as usize])?;

@@ -1,9 +1,10 @@
 //! Writing metadata over both replicas.
-ghost use Rattle.std.specs.Prelude.{◌≡◌, ◌%◌, ◌<◌, ◌≤◌, length, take, IsTrue, OnOk};
+ghost use Rattle.std.specs.Prelude.{◌≡◌, ◌*◌, ◌%◌, ◌<◌, ◌≤◌, length, take, IsTrue, OnOk};
 ghost use Rattle.base_core.specs.Block.{block_bytes, granule_bytes};
 ghost use Rattle.flash_core.specs.Counts.{lowered};
 ghost use Rattle.flash_core.specs.Calls.{Goes};
 ghost use Rattle.flash_core.specs.Replaces.{padded};
+ghost use Rattle.flash_core.specs.Touches.{TouchesOnly};
 ghost use Rattle.fwu_formats.specs.Layout.{fits_layout};
 ghost use Rattle.fwu_formats.specs.Metadata.{fits_meta, replica_bytes};
 ghost use Rattle.replicas.specs.Stores.{WritesBoth, Stores};
@@ -23,6 +24,8 @@ pub fn write_both<D: Flash>(flash: &mut D, bytes: &[u8]) -> Result<(), FlashStop
     ensures goes { Goes D.Flash result flash.old flash.new }
     // on every device: two erases and two programs
     ensures spent { OnOk result (D.arming flash.new ≡ lowered (lowered (lowered (lowered (D.arming flash.old))))) }
+    // on every device: no block but 1 and 2 is erased or programmed
+    ensures touches { TouchesOnly (block_bytes * 1) (block_bytes * 3) (D.writes flash.old) (D.writes flash.new) }
 {
     replace(flash, FIRST_REPLICA, bytes)?;
     replace(flash, SECOND_REPLICA, bytes)
@@ -63,6 +66,8 @@ pub fn store<D: Flash>(
     // on every device: two erases and two programs
     ensures spent { OnOk result (D.arming flash.new ≡ lowered (lowered (lowered (lowered (D.arming flash.old))))) }
     ensures buffer { length buf.new ≡ length buf.old }
+    // on every device: no block but 1 and 2 is erased or programmed
+    ensures touches { TouchesOnly (block_bytes * 1) (block_bytes * 3) (D.writes flash.old) (D.writes flash.new) }
 {
     let size = spell(layout, meta, buf);
     write_both(flash, &buf[..size])

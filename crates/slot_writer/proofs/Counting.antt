@@ -1,5 +1,5 @@
 -- How many erases and programs the calls of an append and of an end make.
-use Rattle.std.proofs.Common.{◌≡◌, ℕ, ◌+◌, ◌-◌, ◌*◌, ◌/◌, ◌%◌, ◌<◌, refl, arith}
+use Rattle.std.proofs.Common.{◌≡◌, ℕ, ◌+◌, ◌-◌, ◌*◌, ◌/◌, ◌%◌, ◌<◌, arith}
 use Rattle.std.proofs.lemmas.Bool.Decides.{nat_tests}
 use Rattle.slot_writer.specs.Slots.{blocks_for, done_of}
 use Rattle.slot_writer.specs.Writes.{writes_behind, writes_to_append, writes_to_finish}

@@ -1,8 +1,8 @@
 -- What is kept behind whole granules: the bytes that fill none.
-use Rattle.std.proofs.Common.{◌≡◌, ℕ, ◌+◌, ◌-◌, ◌%◌, ◌<◌, ◌≤◌, List, ◌++◌, length, take, drop, sym, ap, ap₂, ◌∙◌, arith}
+use Rattle.std.proofs.Common.{◌≡◌, ℕ, ◌+◌, ◌-◌, ◌%◌, ◌<◌, ◌≤◌, List, ◌++◌, length, take, drop, sym, ap, ◌∙◌, arith}
 use Rattle.std.proofs.lemmas.List.{length-take-le, length-drop, drop-drop}
 use Rattle.std.proofs.Math.Seq.{drop-append-add}
-use Rattle.slot_writer.specs.Slots.{done_of, kept_of}
+use Rattle.slot_writer.specs.Slots.{kept_of}
 
 -- a granule is filled
 pub kept-filled : (size room : ℕ) (rest bytes left : List ℕ) → 0 < size % 16 → room ≡ 16 - size % 16 → room ≤ length bytes → length rest ≡ 16

@@ -5,7 +5,6 @@ use Rattle.std.specs.Option.{ForSome}
 use Rattle.flash_core.specs.declared.flash.Arming.{Arming}
 use Rattle.flash_core.specs.declared.flash.Counts.{Counts}
 use Rattle.flash_core.specs.declared.flash.FlashStop.{FlashStop}
-use Rattle.flash_core.specs.declared.flash.FlashStop.TheVariants.{Lost, Failed}
 use Rattle.flash_core.specs.Counts.{ReachesNone, Fires, arming_spent, arming_kept, lowered_by}
 use Rattle.flash_core.proofs.Spent.{lowered_then}
 use Rattle.flash_core.proofs.Unarmed.{unarmed_kept, unarmed_none, unarmed_spent, unarmed_stopped, unarmed_then}

@@ -1,7 +1,8 @@
 //! Writing behind what was written.
 ghost use Rattle.std.specs.Prelude.{◌≡◌, ◌+◌, ◌-◌, ◌*◌, ◌/◌, ◌%◌, ◌<◌, ◌≤◌, ◌++◌, length, take, IsTrue, OnOk, replicate, drop};
-ghost use Rattle.base_core.specs.Block.{granule_bytes};
+ghost use Rattle.base_core.specs.Block.{block_bytes, granule_bytes};
 ghost use Rattle.flash_core.specs.Calls.{Goes};
+ghost use Rattle.flash_core.specs.Touches.{TouchesOnly};
 ghost use Rattle.slot_writer.specs.Slots.{Appends, Erases, FinishesImage, IsBlankAhead, Programs, blocks_for, done_of, kept_of};
 ghost use Rattle.slot_writer.specs.Writes.{SpendsArming, writes_behind, writes_to_append, writes_to_finish};
 
@@ -29,6 +30,8 @@ fn erase_blocks<D: Flash>(flash: &mut D, first: u32, end: u32) -> Result<(), Fla
     ensures goes { Goes D.Flash result flash.old flash.new }
     ensures arming { SpendsArming result (end - first) (D.arming flash.old) (D.arming flash.new)
         (D.counts flash.old) (D.counts flash.new) }
+    // on every device: no other block is erased
+    ensures touches { TouchesOnly (block_bytes * first) (block_bytes * end) (D.writes flash.old) (D.writes flash.new) }
 {
     for block in first..end {
         flash.erase(block)?;
@@ -57,6 +60,9 @@ fn program_behind<D: Flash>(
     ensures goes { Goes D.Flash result flash.old flash.new }
     ensures arming { SpendsArming result (writes_behind done (length bytes.now))
         (D.arming flash.old) (D.arming flash.new) (D.counts flash.old) (D.counts flash.new) }
+    // on every device: no block that holds nothing of the range is erased or programmed
+    ensures touches { TouchesOnly (block_bytes * first + done) (block_bytes * (first + blocks_for (done + length bytes.now)))
+        (D.writes flash.old) (D.writes flash.new) }
 {
     if bytes.is_empty() {
         return Ok(());
@@ -96,6 +102,8 @@ fn append_whole<D: Flash>(
     ensures goes { Goes D.Flash result flash.old flash.new }
     ensures arming { SpendsArming result (writes_behind size (length bytes.now - length bytes.now % granule_bytes))
         (D.arming flash.old) (D.arming flash.new) (D.counts flash.old) (D.counts flash.new) }
+    ensures touches { TouchesOnly (block_bytes * first + size) (block_bytes * (first + blocks_for (done_of (size + length bytes.now))))
+        (D.writes flash.old) (D.writes flash.new) }
 {
     let whole = bytes.len() - bytes.len() % GRANULE;
     program_behind(flash, first, size, &bytes[..whole])?;
@@ -130,6 +138,9 @@ pub fn append<D: Flash>(
     ensures arming { SpendsArming result (writes_to_append size (length bytes.now))
         (D.arming flash.old) (D.arming flash.new) (D.counts flash.old) (D.counts flash.new) }
     ensures goes { Goes D.Flash result flash.old flash.new }
+    // on every device: no block before the bytes that are new on the flash, nor behind those that they reach, is erased or programmed
+    ensures touches { TouchesOnly (block_bytes * first + done_of size)
+        (block_bytes * (first + blocks_for (done_of (size + length bytes.now)))) (D.writes flash.old) (D.writes flash.new) }
 {
     let kept = size as usize % GRANULE;
     if kept == 0 {
@@ -184,6 +195,9 @@ pub fn finish<D: Flash>(
     ensures arming { SpendsArming result (writes_to_finish size)
         (D.arming flash.old) (D.arming flash.new) (D.counts flash.old) (D.counts flash.new) }
     ensures goes { Goes D.Flash result flash.old flash.new }
+    // on every device: no block before the kept bytes, nor behind the one that they reach, is erased or programmed
+    ensures touches { TouchesOnly (block_bytes * first + done_of size) (block_bytes * (first + blocks_for size))
+        (D.writes flash.old) (D.writes flash.new) }
 {
     let kept = size as usize % GRANULE;
     let last = padded(rest, kept);

@@ -14,6 +14,7 @@ use Rattle.fwu_formats.specs.Package.{Entry, payload}
 use Rattle.fwu_formats.proofs.SealLaws.{limits}
 use Rattle.image_check.proofs.OfBank.{bank_fits}
 use Rattle.fip_tables.specs.Images.{no_row, no_entry}
+use Rattle.flash_core.proofs.Touches.{touches_then, touches_wider}
 use Rattle.flash_format.specs.Places.{HoldsThenErased}
 use Rattle.flash_format.specs.Takes.{pieces_in, block_pieces_of}
 use Rattle.flash_format.proofs.Clearing.{left_then, left_fewer}
@@ -67,6 +68,17 @@ returns-in_err-write_image-clause-writes g c = record {
       left_then 8 (g.D.Flash.told c.args.flash.now) m t (c.loop-k.invariant.left tells) (left_fewer 8 c.start-first.result m t (omega (arith, c.start-first.ensures)) (c.write_image.ensures.writes.left tells));
   goes = search rules;
   spent = search rules;
+  touches =
+      let L = c.args.layout.now in
+      let k = c.loop-k.k in
+      let below : k < length L.rows = omega (arith, c.loop-k-test.true, ap length c.rows-rows.ensures.value) in
+      let row = ap (λ (l : List ImageRow). (get_or l k c.index-rows-k.result).slots) c.rows-rows.ensures.value ∙ ap (λ (r : ImageRow). r.slots) (get_or_default L.rows k c.index-rows-k.result no_row below) in
+      let more = slots_more_le L.rows k below in
+      let slots = (get_or c.rows-rows.result.now k c.index-rows-k.result).slots in
+      let first = c.start-first.result in
+      let high = 4096 * (8 + slot_total L.rows) in
+      touches_then 32768 high c.loop-k.invariant.touches
+      (touches_wider (4096 * first) (4096 * (first + slots)) 32768 high (omega (arith, c.start-first.ensures)) (omega (arith, row, more, c.start-first.ensures)) c.write_image.ensures.writes.touches);
   stops = search rules;
 }
 
@@ -92,6 +104,8 @@ loop-k-preserved g c =
       same_size = done.writes.goes.size ∙ before.same_size;
       keeps = λ tells. keeps_then 32768 high s m t (before.keeps tells)
           (keeps_wider (4096 * first) (4096 * (first + slots)) 32768 high m t (omega (arith, c.start-first.ensures)) (omega (arith, row, more, c.start-first.ensures)) (done.writes.keeps tells));
+      touches = touches_then 32768 high before.touches
+          (touches_wider (4096 * first) (4096 * (first + slots)) 32768 high (omega (arith, c.start-first.ensures)) (omega (arith, row, more, c.start-first.ensures)) done.writes.touches);
       left = λ tells. left_then 8 s m t (before.left tells) (left_fewer 8 first m t (omega (arith, c.start-first.ensures)) (done.writes.left tells));
       rest = λ tells. erased_stays (4096 * (8 + slot_total (take (k + 1) L.rows))) high (4096 * first) (4096 * (first + slots)) m t (inr (omega (arith, row, next, c.start-first.ensures))) (done.writes.keeps tells)
           (λ i above under. before.rest tells i (omega (arith, above, next)) under);
@@ -126,6 +140,7 @@ returns-clause-writes g c = record {
       let es = c.args.entries.now in
       let all : length es ≤ c.loop-k.k = omega (arith, c.requires.planned.count, ap length c.rows-rows.ensures.value) in
       c.loop-k.invariant.spent ∙ ap (λ (n : ℕ). lowered_by n (g.D.Flash.arming c.args.flash.now)) (pieces_all es c.loop-k.k all);
+  touches = c.loop-k.invariant.touches;
   stops = search rules;
 }
 

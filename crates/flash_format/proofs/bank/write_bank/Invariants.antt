@@ -5,6 +5,7 @@ use Rattle.flash_core.specs.May.{Keeps}
 use Rattle.fwu_formats.specs.Layout.{slot_total}
 use Rattle.host_io.specs.Reads.{ReadsFile}
 use Rattle.fip_tables.specs.Files.{Tells}
+use Rattle.flash_core.specs.Touches.{TouchesOnly}
 use Rattle.flash_format.specs.Cleared.{LeavesNoMore}
 use Rattle.flash_format.specs.Places.{Erased, AllStand}
 use Rattle.flash_format.specs.Takes.{pieces_in}
@@ -15,6 +16,7 @@ invariant-loop-k g l = record {
   on : IsTrue (g.D.Flash.on l.flash);
   same_size : g.D.Flash.blocks l.flash ≡ g.D.Flash.blocks l.fn.flash;
   keeps : IsTrue g.D.Flash.tells → Keeps 32768 (4096 * (8 + slot_total l.layout.rows)) (g.D.Flash.told l.fn.flash) (g.D.Flash.told l.flash);
+  touches : TouchesOnly 32768 (4096 * (8 + slot_total l.layout.rows)) (g.D.Flash.writes l.fn.flash) (g.D.Flash.writes l.flash);
   left : IsTrue g.D.Flash.tells → LeavesNoMore 8 (g.D.Flash.told l.fn.flash) (g.D.Flash.told l.flash);
   rest : IsTrue g.D.Flash.tells → Erased (4096 * (8 + slot_total (take l.k l.layout.rows))) (4096 * (8 + slot_total l.layout.rows)) (g.D.Flash.told l.flash).now;
   front : IsTrue g.D.Flash.tells → (file : List ℕ) → Tells (g.H.Files.contents l.fn.files) l.name file → AllStand l.k l.layout file l.entries (g.D.Flash.told l.flash).now;

@@ -3,6 +3,7 @@ use Rattle.std.specs.Prelude.{IsTrue}
 use Rattle.std.proofs.lemmas.Bool.{cases_lt}
 use Rattle.flash_core.proofs.Calls.{keeps_joined}
 use Rattle.flash_core.proofs.Spent.{spent_then}
+use Rattle.flash_core.proofs.Touches.{touches_then, touches_wider}
 use Rattle.flash_format.specs.Places.{Erased}
 use Rattle.flash_format.proofs.Clearing.{only_then}
 use Rattle.flash_format.proofs.Ordered.{bare_fresh, bare_stays}
@@ -20,6 +21,10 @@ returns-clause-writes g c = record {
       keeps_joined 0 4096 (4096 * c.args.count) s m t (omega arith) (omega (arith, c.requires.some)) (c.erase_layout.ensures.writes.keeps tells) (c.erase_behind.ensures.writes.keeps tells);
   goes = search rules;
   spent = spent_then c.erase_behind.result 1 (c.args.count - 1) c.args.count _ _ _ (omega (arith, c.requires.some)) c.in_ok-erase_layout.ensures.writes.spent c.erase_behind.ensures.writes.spent;
+  touches =
+      let high = 4096 * c.args.count in
+      touches_then 0 high (touches_wider 0 4096 0 high (omega arith) (omega (arith, c.requires.some)) c.erase_layout.ensures.writes.touches)
+      (touches_wider 4096 high 0 high (omega arith) (omega arith) c.erase_behind.ensures.writes.touches);
 }
 
 pub returns-clause-erased : goal.returns-clause-erased

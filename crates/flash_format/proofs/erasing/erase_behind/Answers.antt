@@ -7,6 +7,7 @@ use Rattle.flash_core.specs.May.{Keeps}
 use Rattle.flash_core.proofs.Calls.{keeps_wider}
 use Rattle.flash_core.proofs.Costs.{spends_then}
 use Rattle.flash_core.proofs.Spent.{spent_both, spent_one}
+use Rattle.flash_core.proofs.Touches.{touches_then, touches_wider}
 use Rattle.flash_format.specs.Cleared.{OnlyErased}
 use Rattle.flash_format.specs.Places.{Erased}
 use Rattle.flash_format.proofs.Clearing.{only_erase}
@@ -28,6 +29,10 @@ returns-in_err-erase-clause-writes g c = record {
       (keeps_written c.erase.result 4096 (4096 * c.args.count) (4096 * b) (blank 4096) s m (omega (arith, c.loop-block.auto.block)) (omega (arith, length-blank 4096)) (omega (arith, length-blank 4096, size)) wide);
   goes = search rules;
   spent = search rules;
+  touches =
+      let b = c.loop-block.block in
+      touches_then 4096 (4096 * c.args.count) (touches_wider 4096 (4096 * b) 4096 (4096 * c.args.count) (omega arith) (omega arith) c.loop-block.invariant.touches)
+      (touches_wider (4096 * b) (4096 * b + 4096) 4096 (4096 * c.args.count) (omega (arith, c.loop-block.auto.block)) (omega arith) c.erase.ensures.touches);
 }
 
 pub returns-in_err-erase-clause-only : goal.returns-in_err-erase-clause-only
@@ -52,6 +57,9 @@ loop-block-preserved g c =
           let wide = keeps_wider 4096 (4096 * b) 4096 (4096 * (b + 1)) s m (omega arith) (omega arith) (c.loop-block.invariant.keeps tells) in
           subst (Keeps 4096 (4096 * (b + 1)) s) (sym (c.erase.ensures.content tells))
           (keeps_written c.erase.result 4096 (4096 * (b + 1)) (4096 * b) (blank 4096) s m (omega (arith, c.loop-block.auto.block)) (omega (arith, length-blank 4096)) (omega (arith, length-blank 4096, size)) wide);
+      touches =
+          touches_then 4096 (4096 * (b + 1)) (touches_wider 4096 (4096 * b) 4096 (4096 * (b + 1)) (omega arith) (omega arith) c.loop-block.invariant.touches)
+          (touches_wider (4096 * b) (4096 * b + 4096) 4096 (4096 * (b + 1)) (omega (arith, c.loop-block.auto.block)) (omega arith) c.erase.ensures.touches);
       erased = λ tells.
           let size = (g.met.D.Flash.sound c.loop-block.flash tells).size in
           subst (λ (t : Told). Erased 4096 (4096 * (b + 1)) t.now) (sym (c.in_ok-erase.ensures.content tells))

@@ -1,10 +1,11 @@
-use Rattle.std.proofs.Common.{◌≡◌, sym, ap, subst, ◌∙◌, arith, rules}
+use Rattle.std.proofs.Common.{◌≡◌, sym, ap, subst, ◌∙◌, arith, rules, ◌*◌, ◌+◌}
 use Rattle.base_core.specs.Block.{blank}
 use Rattle.base_core.proofs.Blocks.{length-blank}
 use Rattle.flash_core.specs.Told.{Told}
 use Rattle.flash_core.specs.May.{Keeps}
 use Rattle.flash_core.proofs.Calls.{keeps_same}
 use Rattle.flash_core.proofs.Spent.{spent_barrier, spent_one}
+use Rattle.flash_core.proofs.Touches.{touches_still, touches_wider}
 use Rattle.flash_format.specs.Cleared.{OnlyErased}
 use Rattle.flash_format.specs.Places.{Erased}
 use Rattle.flash_format.proofs.Clearing.{only_erase, only_same, only_settled}
@@ -23,6 +24,7 @@ returns-in_err-erase-clause-writes g c = record {
       (keeps_written c.erase.result 0 4096 0 (blank 4096) s s (omega arith) (omega (arith, length-blank 4096)) (omega (arith, length-blank 4096, size, many)) (keeps_same 0 4096 s));
   goes = search rules;
   spent = search rules;
+  touches = touches_wider (4096 * 0) (4096 * 0 + 4096) 0 4096 (omega arith) (omega arith) c.erase.ensures.touches;
 }
 
 pub returns-clause-writes : goal.returns-clause-writes
@@ -37,6 +39,7 @@ returns-clause-writes g c = record {
       subst (Keeps 0 4096 s) (sym (c.barrier.ensures.content tells)) (keeps_settled c.barrier.result 0 4096 s (g.D.Flash.told c.erase.new.self) after);
   goes = search rules;
   spent = spent_barrier c.barrier.result 1 _ _ _ (spent_one _ _ c.in_ok-erase.ensures.arming) c.barrier.ensures.arming;
+  touches = touches_still 0 4096 (touches_wider (4096 * 0) (4096 * 0 + 4096) 0 4096 (omega arith) (omega arith) c.erase.ensures.touches) c.barrier.ensures.writes;
 }
 
 pub returns-clause-erased : goal.returns-clause-erased

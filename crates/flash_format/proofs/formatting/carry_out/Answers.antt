@@ -1,8 +1,9 @@
-use Rattle.std.proofs.Common.{◌≡◌, ◌+◌, ℕ, length, ap, subst, ◌∙◌, arith, Result, Err}
+use Rattle.std.proofs.Common.{◌≡◌, ◌+◌, ℕ, length, ap, subst, ◌∙◌, arith, Result, Err, ◌*◌}
 use Rattle.std.specs.Prelude.{IsTrue, OnOk}
 use Rattle.flash_core.specs.Counts.{lowered_by}
 use Rattle.flash_core.proofs.Spent.{spent_then}
 use Rattle.fwu_formats.specs.Layout.{blocks_needed}
+use Rattle.flash_core.proofs.Touches.{touches_then, touches_wider}
 use Rattle.flash_format.specs.Cleared.{IsBare}
 use Rattle.flash_core.specs.Told.{NothingDirty}
 use Rattle.flash_format.specs.Planned.{IsFilled}
@@ -12,6 +13,7 @@ use Rattle.flash_format.specs.declared.stops.FormatStop.{FormatStop}
 use Rattle.flash_format.specs.declared.stops.FormatStop.TheVariants.{ReadFailed}
 use Rattle.flash_format.proofs.Given.{finishes_more}
 use Rattle.flash_format.proofs.Ordered.{bare_is_unlaid, blank_stays, images_stay, in_order_before, in_order_filled}
+use Rattle.flash_format.proofs.Plans.{bank_within}
 use Rattle.flash_format.proofs.Stopped.{handed-on}
 use Rattle.flash_format.proofs.formatting.carry_out.Goals as goal
 
@@ -73,3 +75,10 @@ returns-clause-worn g c = λ found is.
     let pieces = pieces_in c.args.plan.now.entries in
     let same : blocks_needed L + pieces ≡ writes_to_format L pieces 0 = omega arith in
     c.finish.ensures.worn found is ∙ c.in_ok-fill.ensures.spent ∙ ap (λ (n : ℕ). lowered_by n (g.D.Flash.arming c.args.flash.now)) same
+
+pub returns-clause-touches : goal.returns-clause-touches
+returns-clause-touches g c =
+    let L = c.args.plan.now.layout in
+    let high = 4096 * blocks_needed L in
+    let enough = bank_within L c.rows-rows.ensures.fit in
+    touches_then 0 high c.fill.ensures.touches (touches_wider 0 12288 0 high (omega arith) (omega (arith, enough)) c.finish.ensures.touches)

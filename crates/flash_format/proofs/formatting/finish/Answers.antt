@@ -4,6 +4,7 @@ use Rattle.flash_core.specs.Told.{Told, NothingDirty}
 use Rattle.flash_core.specs.May.{Keeps}
 use Rattle.flash_core.proofs.Calls.{keeps_same}
 use Rattle.flash_core.specs.Counts.{lowered_by}
+use Rattle.flash_core.proofs.Touches.{touches_none, touches_then}
 use Rattle.flash_format.specs.Formatted.{HasAtMost, IsWholeFormat}
 use Rattle.flash_format.specs.Stops.{flash_result}
 use Rattle.flash_format.specs.declared.stops.FormatStop.{FormatStop}
@@ -93,3 +94,12 @@ returns-in_err-version-clause-at_most g c =
     let size = (g.met.D.Flash.sound c.args.flash.now tells).size in
     let many = (g.met.D.Flash.sizes c.args.flash.now).0 in
     subst (λ (u : Told). HasAtMost c.args.layout.now u.now) (sym (c.check_bank.ensures.content tells)) (inl (unlaid s.now (omega (arith, size, many)) (λ i above below. c.requires.erased tells i above (omega (arith, below)))))
+
+pub returns-in_err-version-clause-touches : goal.returns-in_err-version-clause-touches
+returns-in_err-version-clause-touches g c = touches_none 0 12288 c.check_bank.ensures.writes
+
+pub returns-in_err-write_records-clause-touches : goal.returns-in_err-write_records-clause-touches
+returns-in_err-write_records-clause-touches g c = touches_then 0 12288 (touches_none 0 12288 c.check_bank.ensures.writes) c.write_records.ensures.writes.touches
+
+pub returns-clause-touches : goal.returns-clause-touches
+returns-clause-touches g c = touches_then 0 12288 (touches_none 0 12288 c.check_bank.ensures.writes) c.write_records.ensures.writes.touches

@@ -2,6 +2,7 @@ use Rattle.std.proofs.Common.{◌≡◌, ◌*◌, ℕ, List, ap, sym, subst, ari
 use Rattle.host_io.proofs.Reading.{reads-then}
 use Rattle.std.specs.Prelude.{IsTrue}
 use Rattle.flash_core.specs.May.{Keeps}
+use Rattle.flash_core.specs.Touches.{TouchesOnly}
 use Rattle.host_io.specs.Contents.{Directory}
 use Rattle.fwu_formats.specs.Layout.{Layout, blocks_needed, fits_layout}
 use Rattle.fwu_model.specs.Answer.{images_of}
@@ -101,6 +102,18 @@ returns-clause-keeps g c = λ tells.
     let K = c.in_ok-plan.plan.layout in
     let L : Layout = record { banks = c.args.banks; rows = c.args.rows.now } in
     subst (λ (l : Layout). Keeps 0 (4096 * blocks_needed l) (g.D.Flash.told c.args.flash.now) (g.D.Flash.told c.carry_out.new.flash)) (fitted_is L c.blocks-2.result K c.in_ok-plan.ensures.fits).is (c.carry_out.ensures.keeps tells)
+
+pub returns-in_err-version-clause-touches : goal.returns-in_err-version-clause-touches
+returns-in_err-version-clause-touches g c =
+    let K = c.in_ok-plan.plan.layout in
+    let L : Layout = record { banks = c.args.banks; rows = c.args.rows.now } in
+    subst (λ (l : Layout). TouchesOnly 0 (4096 * blocks_needed l) (g.D.Flash.writes c.args.flash.now) (g.D.Flash.writes c.carry_out.new.flash)) (fitted_is L c.blocks-2.result K c.in_ok-plan.ensures.fits).is c.carry_out.ensures.touches
+
+pub returns-clause-touches : goal.returns-clause-touches
+returns-clause-touches g c =
+    let K = c.in_ok-plan.plan.layout in
+    let L : Layout = record { banks = c.args.banks; rows = c.args.rows.now } in
+    subst (λ (l : Layout). TouchesOnly 0 (4096 * blocks_needed l) (g.D.Flash.writes c.args.flash.now) (g.D.Flash.writes c.carry_out.new.flash)) (fitted_is L c.blocks-2.result K c.in_ok-plan.ensures.fits).is c.carry_out.ensures.touches
 
 pub returns-in_err-version-clause-blank : goal.returns-in_err-version-clause-blank
 returns-in_err-version-clause-blank g c =

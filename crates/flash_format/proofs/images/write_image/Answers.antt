@@ -8,6 +8,7 @@ use Rattle.host_io.specs.Contents.{Directory}
 use Rattle.host_io.proofs.Reading.{reads-then}
 use Rattle.fip_tables.specs.Files.{Tells}
 use Rattle.fwu_formats.specs.Package.{Entry, payload}
+use Rattle.flash_core.proofs.Touches.{touches_then, touches_wider}
 use Rattle.flash_format.specs.Places.{HoldsThenErased}
 use Rattle.flash_format.proofs.Ranges.{erased_stays, stands_stays}
 use Rattle.flash_format.proofs.Clearing.{left_then, left_fewer}
@@ -26,6 +27,12 @@ returns-in_err-write_piece-clause-writes g c = record {
       left_then c.args.first (g.D.Flash.told c.args.flash.now) m t (c.loop-k.invariant.left tells) (left_fewer c.args.first b m t (omega arith) (c.write_piece.ensures.writes.left tells));
   goes = search rules;
   spent = search rules;
+  touches =
+      let b = c.args.first + c.loop-k.k in
+      let low = 4096 * c.args.first in
+      let high = 4096 * (c.args.first + c.args.slots) in
+      let within : c.loop-k.k + 1 ≤ c.args.slots = omega (arith, c.loop-k-test.true, c.requires.fits, ap (λ (e : Entry). e.size) c.entry.view_is) in
+      touches_then low high c.loop-k.invariant.touches (touches_wider (4096 * b) (4096 * b + 4096) low high (omega arith) (omega (arith, within)) c.write_piece.ensures.writes.touches);
   stops = search rules;
 }
 
@@ -45,6 +52,10 @@ loop-k-preserved g c =
       same_size = done.writes.goes.size ∙ before.same_size;
       keeps = λ tells. keeps_then (4096 * first) (4096 * (first + c.args.slots)) s m t (before.keeps tells)
           (keeps_wider (4096 * b) (4096 * b + 4096) (4096 * first) (4096 * (first + c.args.slots)) m t (omega arith) (omega (arith, within)) (done.writes.keeps tells));
+      touches =
+          let low = 4096 * first in
+          let high = 4096 * (first + c.args.slots) in
+          touches_then low high before.touches (touches_wider (4096 * b) (4096 * b + 4096) low high (omega arith) (omega (arith, within)) done.writes.touches);
       left = λ tells. left_then first s m t (before.left tells) (left_fewer first b m t (omega arith) (done.writes.left tells));
       rest = λ tells. erased_stays (4096 * (first + (k + 1))) (4096 * (first + c.args.slots)) (4096 * b) (4096 * b + 4096) m t (inr (omega arith)) (done.writes.keeps tells)
           (λ i above below. before.rest tells i (omega arith) below);
@@ -68,6 +79,7 @@ returns-clause-writes g c = record {
   left = search rules;
   goes = search rules;
   spent = c.loop-k.invariant.spent ∙ ap (λ (n : ℕ). lowered_by n (g.D.Flash.arming c.args.flash.now)) (omega (arith, ap (λ (e : Entry). e.size) c.entry.view_is));
+  touches = c.loop-k.invariant.touches;
   stops = search rules;
 }
 

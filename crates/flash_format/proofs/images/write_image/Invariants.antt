@@ -5,6 +5,7 @@ use Rattle.flash_core.specs.May.{Keeps}
 use Rattle.fwu_formats.specs.Package.{payload}
 use Rattle.host_io.specs.Reads.{ReadsFile}
 use Rattle.fip_tables.specs.Files.{Tells}
+use Rattle.flash_core.specs.Touches.{TouchesOnly}
 use Rattle.flash_format.specs.Cleared.{LeavesNoMore}
 use Rattle.flash_format.specs.Places.{Erased, HoldsThenErased}
 use Rattle.flash_format.proofs.images.write_image.Given as goal
@@ -14,6 +15,7 @@ invariant-loop-k g l = record {
   on : IsTrue (g.D.Flash.on l.flash);
   same_size : g.D.Flash.blocks l.flash ≡ g.D.Flash.blocks l.fn.flash;
   keeps : IsTrue g.D.Flash.tells → Keeps (4096 * l.first) (4096 * (l.first + l.slots)) (g.D.Flash.told l.fn.flash) (g.D.Flash.told l.flash);
+  touches : TouchesOnly (4096 * l.first) (4096 * (l.first + l.slots)) (g.D.Flash.writes l.fn.flash) (g.D.Flash.writes l.flash);
   left : IsTrue g.D.Flash.tells → LeavesNoMore l.first (g.D.Flash.told l.fn.flash) (g.D.Flash.told l.flash);
   rest : IsTrue g.D.Flash.tells → Erased (4096 * (l.first + l.k)) (4096 * (l.first + l.slots)) (g.D.Flash.told l.flash).now;
   front : IsTrue g.D.Flash.tells → (file : List ℕ) → Tells (g.H.Files.contents l.fn.files) l.name file → HoldsThenErased (4096 * l.first) (4096 * l.k) (payload file l.entry) (g.D.Flash.told l.flash).now;

@@ -7,6 +7,7 @@ use Rattle.flash_core.specs.May.{Keeps}
 use Rattle.flash_core.proofs.Calls.{keeps_same}
 use Rattle.fwu_formats.specs.Package.{payload}
 use Rattle.flash_core.proofs.Spent.{spent_one}
+use Rattle.flash_core.proofs.Touches.{touches_wider}
 use Rattle.flash_format.specs.Cleared.{LeavesNoMore}
 use Rattle.flash_format.specs.Places.{HoldsThenErased}
 use Rattle.flash_format.proofs.Ranges.{keeps_written, erased_range}
@@ -47,6 +48,11 @@ returns-in_err-program-clause-writes g c = record {
       subst (LeavesNoMore c.args.block s) (sym (c.program.ensures.content tells)) (left_below c.program.result c.args.block (4096 * c.args.block) bytes s (omega arith) (omega (arith, inside, c.requires.ready.room, size)));
   goes = search rules;
   spent = search rules;
+  touches =
+      let at = 4096 * c.args.block in
+      let bytes = take c.in-Ok.size c.read_piece.new.out in
+      let size : length bytes ≤ 4096 = omega (arith, length-take-le c.in-Ok.size c.read_piece.new.out (omega (arith, c.in-Ok.ensures.some, c.in-Ok.ensures.buffer)), c.in-Ok.ensures.some) in
+      touches_wider at (at + length bytes) at (at + 4096) (omega arith) (omega (arith, size)) c.program.ensures.touches;
   stops = search rules;
 }
 
@@ -70,6 +76,11 @@ returns-clause-writes g c = record {
       subst (LeavesNoMore c.args.block s) (sym (c.program.ensures.content tells)) (left_below c.program.result c.args.block (4096 * c.args.block) bytes s (omega arith) (omega (arith, inside, c.requires.ready.room, size)));
   goes = search rules;
   spent = spent_one _ _ c.in_ok-program.ensures.arming;
+  touches =
+      let at = 4096 * c.args.block in
+      let bytes = take c.in-Ok.size c.read_piece.new.out in
+      let size : length bytes ≤ 4096 = omega (arith, length-take-le c.in-Ok.size c.read_piece.new.out (omega (arith, c.in-Ok.ensures.some, c.in-Ok.ensures.buffer)), c.in-Ok.ensures.some) in
+      touches_wider at (at + length bytes) at (at + 4096) (omega arith) (omega (arith, size)) c.program.ensures.touches;
   stops = search rules;
 }
 

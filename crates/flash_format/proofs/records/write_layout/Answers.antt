@@ -1,9 +1,10 @@
-use Rattle.std.proofs.Common.{◌≡◌, ◌*◌, ℕ, length, sym, ap, subst, ◌∙◌, arith, rules}
+use Rattle.std.proofs.Common.{◌≡◌, ◌*◌, ℕ, length, sym, ap, subst, ◌∙◌, arith, rules, ◌+◌}
 use Rattle.base_core.specs.Block.{block}
 use Rattle.flash_core.specs.Told.{Told}
 use Rattle.flash_core.specs.May.{Keeps}
 use Rattle.flash_core.proofs.Calls.{keeps_same}
 use Rattle.flash_core.proofs.Spent.{spent_barrier, spent_one}
+use Rattle.flash_core.proofs.Touches.{touches_still, touches_wider}
 use Rattle.flash_format.specs.Places.{HoldsThenErased}
 use Rattle.flash_format.proofs.Ranges.{keeps_written, erased_range}
 use Rattle.fwu_formats.specs.Layout.{layout_bytes}
@@ -30,6 +31,7 @@ returns-in_err-program-clause-writes g c = record {
       (keeps_written c.program.result 0 4096 0 c.write.new.out s s (omega arith) (omega (arith, whole)) (omega (arith, size, many, whole)) (keeps_same 0 4096 s));
   goes = search rules;
   spent = search rules;
+  touches = touches_wider 0 (0 + length c.write.new.out) 0 4096 (omega arith) (omega (arith, c.write.auto.out)) c.program.ensures.touches;
 }
 
 pub returns-clause-writes : goal.returns-clause-writes
@@ -44,6 +46,7 @@ returns-clause-writes g c = record {
       subst (Keeps 0 4096 s) (sym (c.barrier.ensures.content tells)) (keeps_settled c.barrier.result 0 4096 s (g.D.Flash.told c.program.new.self) after);
   goes = search rules;
   spent = spent_barrier c.barrier.result 1 _ _ _ (spent_one _ _ c.in_ok-program.ensures.arming) c.barrier.ensures.arming;
+  touches = touches_still 0 4096 (touches_wider 0 (0 + length c.write.new.out) 0 4096 (omega arith) (omega (arith, c.write.auto.out)) c.program.ensures.touches) c.barrier.ensures.writes;
 }
 
 pub returns-clause-layout : goal.returns-clause-layout

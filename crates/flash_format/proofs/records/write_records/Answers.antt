@@ -6,6 +6,7 @@ use Rattle.fwu_formats.specs.Layout.{layout_bytes}
 use Rattle.fwu_formats.specs.Metadata.{first_meta}
 use Rattle.fwu_model.specs.Replica.{in_version}
 use Rattle.flash_core.proofs.Spent.{spent_then}
+use Rattle.flash_core.proofs.Touches.{touches_then, touches_wider}
 use Rattle.flash_format.specs.Formatted.{IsSpelled}
 use Rattle.flash_format.proofs.Ranges.{erased_stays}
 use Rattle.flash_format.proofs.Recorded.{on_ok_from, on_ok_map, both_stay}
@@ -41,6 +42,8 @@ returns-clause-writes g c = record {
   keeps = search rules;
   goes = search rules;
   spent = spent_then c.write_layout.result 2 1 3 _ _ _ (omega arith) c.in_ok-write_replicas.ensures.writes.spent c.write_layout.ensures.writes.spent;
+  touches = touches_then 0 12288 (touches_wider 4096 12288 0 12288 (omega arith) (omega arith) c.write_replicas.ensures.writes.touches)
+      (touches_wider 0 4096 0 12288 (omega arith) (omega arith) c.write_layout.ensures.writes.touches);
 }
 
 pub returns-clause-spelled : goal.returns-clause-spelled

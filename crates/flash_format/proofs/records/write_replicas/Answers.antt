@@ -1,4 +1,4 @@
-use Rattle.std.proofs.Common.{◌≡◌, ◌≤◌, inl, inr, ℕ, List, Some, ◌*◌, length, take, sym, ap, subst, ◌∙◌, arith, rules}
+use Rattle.std.proofs.Common.{◌≡◌, ◌≤◌, inl, inr, ℕ, List, Some, ◌*◌, length, take, sym, ap, subst, ◌∙◌, arith, rules, ◌+◌}
 use Rattle.std.proofs.lemmas.List.{length-take}
 use Rattle.std.specs.Prelude.{IsTrue}
 use Rattle.base_core.specs.Block.{block}
@@ -9,6 +9,7 @@ use Rattle.flash_core.proofs.Calls.{keeps_same, now_kept}
 use Rattle.flash_core.proofs.Spent.{spent_barrier, spent_both, spent_one}
 use Rattle.fwu_formats.specs.Metadata.{Meta, MetaRead, meta_read, first_meta, fits_meta, replica_bytes}
 use Rattle.fwu_model.specs.Replica.{in_version}
+use Rattle.flash_core.proofs.Touches.{touches_still, touches_then, touches_wider}
 use Rattle.flash_format.specs.Formatted.{HoldTwice}
 use Rattle.flash_format.specs.Places.{HoldsThenErased}
 use Rattle.flash_format.proofs.Ranges.{keeps_written, erased_range, erased_stays}
@@ -36,6 +37,10 @@ returns-in_err-program-clause-writes g c = record {
       (keeps_written c.program.result 4096 12288 4096 bytes s s (omega arith) (omega (arith, few)) (omega (arith, size, many, few)) (keeps_same 4096 12288 s));
   goes = search rules;
   spent = search rules;
+  touches =
+      let bytes = take c.replica_size-size.result c.write.new.out in
+      let few : length bytes ≤ 4096 = omega (arith, length-take c.replica_size-size.result c.write.new.out, c.write.auto.out) in
+      touches_wider 4096 (4096 + length bytes) 4096 12288 (omega arith) (omega (arith, few)) c.program.ensures.touches;
 }
 
 pub program-requires-2-clause-blank : goal.program-requires-2-clause-blank
@@ -65,6 +70,11 @@ returns-in_err-program-2-clause-writes g c = record {
       (keeps_written c.program-2.result 4096 12288 8192 bytes s m (omega arith) (omega (arith, few)) (omega (arith, size, many, few)) keeps);
   goes = search rules;
   spent = search rules;
+  touches =
+      let bytes = take c.replica_size-size.result c.write.new.out in
+      let few : length bytes ≤ 4096 = omega (arith, length-take c.replica_size-size.result c.write.new.out, c.write.auto.out) in
+      touches_then 4096 12288 (touches_wider 4096 (4096 + length bytes) 4096 12288 (omega arith) (omega (arith, few)) c.program.ensures.touches)
+      (touches_wider 8192 (8192 + length bytes) 4096 12288 (omega arith) (omega (arith, few)) c.program-2.ensures.touches);
 }
 
 pub returns-clause-writes : goal.returns-clause-writes
@@ -82,6 +92,11 @@ returns-clause-writes g c = record {
       subst (Keeps 4096 12288 s) (sym (c.barrier.ensures.content tells)) (keeps_settled c.barrier.result 4096 12288 s (g.D.Flash.told c.program-2.new.self) after);
   goes = search rules;
   spent = spent_barrier c.barrier.result 2 _ _ _ (spent_both 1 1 2 _ _ _ (omega arith) (spent_one _ _ c.in_ok-program.ensures.arming) (spent_one _ _ c.in_ok-program-2.ensures.arming)) c.barrier.ensures.arming;
+  touches =
+      let bytes = take c.replica_size-size.result c.write.new.out in
+      let few : length bytes ≤ 4096 = omega (arith, length-take c.replica_size-size.result c.write.new.out, c.write.auto.out) in
+      touches_still 4096 12288 (touches_then 4096 12288 (touches_wider 4096 (4096 + length bytes) 4096 12288 (omega arith) (omega (arith, few)) c.program.ensures.touches)
+      (touches_wider 8192 (8192 + length bytes) 4096 12288 (omega arith) (omega (arith, few)) c.program-2.ensures.touches)) c.barrier.ensures.writes;
 }
 
 pub returns-clause-replicas : goal.returns-clause-replicas

@@ -7,6 +7,7 @@ use Rattle.fwu_formats.specs.Layout.{slot_total, blocks_needed}
 use Rattle.fwu_formats.specs.Package.{Entry}
 use Rattle.flash_core.proofs.Spent.{spent_both}
 use Rattle.flash_core.specs.Counts.{lowered_by}
+use Rattle.flash_core.proofs.Touches.{touches_still, touches_then, touches_wider}
 use Rattle.flash_format.specs.Cleared.{IsBare, OnlyErased}
 use Rattle.flash_format.specs.Formatted.{IsBlank}
 use Rattle.flash_format.specs.Places.{AllStand, Erased}
@@ -57,6 +58,32 @@ returns-clause-keeps g c = λ tells.
     let first = subst (λ (k : ℕ). Keeps 0 (4096 * k) s m) c.blocks-2.ensures (c.erase_all.ensures.writes.keeps tells) in
     let both = keeps_then 0 high s m n first (keeps_wider 32768 (4096 * (8 + slot_total L.rows)) 0 high m n (omega arith) (omega (arith, enough)) (c.write_bank.ensures.writes.keeps tells)) in
     subst (Keeps 0 high s) (sym (c.barrier.ensures.content tells)) (keeps_settled c.barrier.result 0 high s n both)
+
+pub returns-in_err-write_bank-clause-touches : goal.returns-in_err-write_bank-clause-touches
+returns-in_err-write_bank-clause-touches g c =
+    let L = c.args.plan.now.layout in
+    let high = 4096 * blocks_needed L in
+    let enough = bank_within L c.rows-rows.ensures.fit in
+    touches_then 0 high (touches_wider 0 (4096 * c.blocks-2.result) 0 high (omega arith) (omega (arith, c.blocks-2.ensures)) c.erase_all.ensures.writes.touches)
+    (touches_wider 32768 (4096 * (8 + slot_total L.rows)) 0 high (omega arith) (omega (arith, enough)) c.write_bank.ensures.writes.touches)
+
+pub returns-in_err-barrier-clause-touches : goal.returns-in_err-barrier-clause-touches
+returns-in_err-barrier-clause-touches g c =
+    let L = c.args.plan.now.layout in
+    let high = 4096 * blocks_needed L in
+    let enough = bank_within L c.rows-rows.ensures.fit in
+    touches_still 0 high (touches_then 0 high (touches_wider 0 (4096 * c.blocks-2.result) 0 high (omega arith) (omega (arith, c.blocks-2.ensures)) c.erase_all.ensures.writes.touches)
+    (touches_wider 32768 (4096 * (8 + slot_total L.rows)) 0 high (omega arith) (omega (arith, enough)) c.write_bank.ensures.writes.touches))
+    c.barrier.ensures.writes
+
+pub returns-clause-touches : goal.returns-clause-touches
+returns-clause-touches g c =
+    let L = c.args.plan.now.layout in
+    let high = 4096 * blocks_needed L in
+    let enough = bank_within L c.rows-rows.ensures.fit in
+    touches_still 0 high (touches_then 0 high (touches_wider 0 (4096 * c.blocks-2.result) 0 high (omega arith) (omega (arith, c.blocks-2.ensures)) c.erase_all.ensures.writes.touches)
+    (touches_wider 32768 (4096 * (8 + slot_total L.rows)) 0 high (omega arith) (omega (arith, enough)) c.write_bank.ensures.writes.touches))
+    c.barrier.ensures.writes
 
 pub returns-clause-erased : goal.returns-clause-erased
 returns-clause-erased g c = λ tells.

@@ -39,5 +39,6 @@ returns-clause-writes g c =
     record {
       keeps = writes.keeps;
       goes = writes.goes;
+      touches = writes.touches;
       spent = spent_as c.repair_copy.result (2 + 2 * ((length c.as_slice.result.now + 4095) / 4096)) (2 + 2 * blocks_of (entry_number_of t)) _ _ (ap (λ (n : ℕ). 2 + 2 * ((n + 4095) / 4096)) size) writes.spent;
     }

@@ -8,6 +8,7 @@ use Rattle.gpt_core.proofs.Stepping.{steps_stopped}
 use Rattle.flash_core.proofs.Calls.{keeps_wider, keeps_then}
 use Rattle.gpt_core.proofs.Filling.{empty_stays}
 use Rattle.flash_core.proofs.Spent.{spent_both, spent_then}
+use Rattle.flash_core.proofs.Touches.{touches_then, touches_wider}
 use Rattle.gpt_core.proofs.steps.repair_copy.Goals as goal
 
 pub write_header-requires-clause-empty : goal.write_header-requires-clause-empty
@@ -47,6 +48,7 @@ returns-in_err-clear_header-clause-writes g c low high spans = record {
   keeps = λ tells. keeps_wider _ _ low high _ _ spans.header_low spans.header_high (c.clear_header.ensures.writes.keeps tells);
   goes = search rules;
   spent = search rules;
+  touches = touches_wider _ _ low high spans.header_low spans.header_high c.clear_header.ensures.writes.touches;
 }
 
 pub returns-in_err-write_entries-clause-writes : goal.returns-in_err-write_entries-clause-writes
@@ -55,6 +57,7 @@ returns-in_err-write_entries-clause-writes g c low high spans = record {
       keeps_then low high _ _ _ (keeps_wider _ _ low high _ _ spans.header_low spans.header_high (c.clear_header.ensures.writes.keeps tells)) (keeps_wider _ _ low high _ _ spans.first_low spans.first_high (c.write_entries.ensures.writes.keeps tells));
   goes = search rules;
   spent = search rules;
+  touches = touches_then low high (touches_wider _ _ low high spans.header_low spans.header_high c.clear_header.ensures.writes.touches) (touches_wider _ _ low high spans.first_low spans.first_high c.write_entries.ensures.writes.touches);
 }
 
 pub returns-clause-writes : goal.returns-clause-writes
@@ -67,4 +70,7 @@ returns-clause-writes g c low high spans =
           (keeps_wider _ _ low high _ _ spans.header_low spans.header_high (c.write_header.ensures.writes.keeps tells));
       goes = search rules;
       spent = spent_then c.write_header.result (1 + k) 1 (2 + k) _ _ _ (omega arith) (spent_both 1 k (1 + k) _ _ _ refl c.in_ok-clear_header.ensures.writes.spent c.in_ok-write_entries.ensures.writes.spent) c.write_header.ensures.writes.spent;
+      touches = touches_then low high (touches_then low high (touches_wider _ _ low high spans.header_low spans.header_high c.clear_header.ensures.writes.touches)
+          (touches_wider _ _ low high spans.first_low spans.first_high c.write_entries.ensures.writes.touches))
+          (touches_wider _ _ low high spans.header_low spans.header_high c.write_header.ensures.writes.touches);
     }

@@ -53,6 +53,7 @@ loop-done-preserved g c =
         arming = c.in_ok-read.ensures.arming;
         costs = c.in_ok-read.ensures.counts;
         reached = c.in_ok-read.ensures.reached;
+        writes = c.in_ok-read.ensures.writes;
       });
       taken =
           taken_more g.D.Flash device at (GoesOnAs c.loop-done.message) (GoesOnAs after) piece done 4096 held.taken long

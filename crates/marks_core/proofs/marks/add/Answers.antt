@@ -1,5 +1,6 @@
-use Rattle.std.proofs.Common.{◌∙◌, ap, sym, subst, arith}
+use Rattle.std.proofs.Common.{◌+◌, ◌*◌, ◌∙◌, ap, sym, subst, arith}
 use Rattle.flash_core.specs.Told.{settled}
+use Rattle.flash_core.proofs.Touches.{touches_still, touches_wider}
 use Rattle.marks_core.specs.Marks.{Adds}
 use Rattle.marks_core.proofs.Granules.{granule_range, blank_granule}
 use Rattle.marks_core.proofs.Counting.{program_stopped, added}
@@ -23,3 +24,13 @@ returns-clause-adds g c tells =
     let content = c.barrier.ensures.content tells ∙ ap (settled c.barrier.result) (c.in_ok-program.ensures.content tells) in
     subst (Adds c.barrier.result c.args.block c.args.at s) (sym content)
     (added c.args.block c.args.at _ _ s (g.met.D.Flash.sound c.args.flash.now tells) c.requires.inside c.requires.place c.barrier.result)
+
+pub returns-in_err-program-clause-touches : goal.returns-in_err-program-clause-touches
+returns-in_err-program-clause-touches g c =
+    touches_wider (4096 * c.args.block + 16 * c.args.at) (4096 * c.args.block + 16 * c.args.at + 16) (4096 * c.args.block) (4096 * c.args.block + 4096) (omega arith) (omega (arith, c.requires.place)) c.in_err-program.ensures.touches
+
+pub returns-clause-touches : goal.returns-clause-touches
+returns-clause-touches g c =
+    touches_still (4096 * c.args.block) (4096 * c.args.block + 4096)
+    (touches_wider (4096 * c.args.block + 16 * c.args.at) (4096 * c.args.block + 16 * c.args.at + 16) (4096 * c.args.block) (4096 * c.args.block + 4096) (omega arith) (omega (arith, c.requires.place)) c.in_ok-program.ensures.touches)
+    c.barrier.ensures.writes

@@ -1,8 +1,9 @@
-use Rattle.std.proofs.Common.{◌*◌, Bool, ◌∙◌, ap, sym, subst}
+use Rattle.std.proofs.Common.{◌+◌, ◌*◌, Bool, ◌∙◌, ap, sym, subst}
 use Rattle.std.specs.Prelude.{Ok}
 use Rattle.base_core.specs.Block.{blank}
 use Rattle.flash_core.specs.Counts.{lowered}
 use Rattle.flash_core.specs.Told.{put, halt, settled}
+use Rattle.flash_core.proofs.Touches.{touches_none, touches_still, touches_then}
 use Rattle.fwu_formats.specs.Image.{is_blank}
 use Rattle.marks_core.specs.Marks.{Clears, TakesClear}
 use Rattle.marks_core.proofs.Clearing.{was_clear, clear_stopped, cleared, takes_erase}
@@ -42,3 +43,11 @@ pub returns-clause-once : goal.returns-clause-once
 returns-clause-once g c tells =
     let unclear = sym (ap is_blank (c.in_ok-read_block.ensures.bytes tells)) ∙ sym c.all_erased.ensures ∙ c.if-all_erased.false in
     takes_erase c.barrier.result _ _ _ _ unclear (c.in_ok-erase.ensures.arming ∙ ap lowered c.in_ok-read_block.ensures.arming) c.barrier.ensures.arming
+
+pub returns-in_err-erase-clause-touches : goal.returns-in_err-erase-clause-touches
+returns-in_err-erase-clause-touches g c =
+    touches_then (4096 * c.args.block) (4096 * c.args.block + 4096) (touches_none (4096 * c.args.block) (4096 * c.args.block + 4096) c.in_ok-read_block.ensures.writes) c.in_err-erase.ensures.touches
+
+pub returns-clause-touches : goal.returns-clause-touches
+returns-clause-touches g c =
+    touches_still (4096 * c.args.block) (4096 * c.args.block + 4096) (touches_then (4096 * c.args.block) (4096 * c.args.block + 4096) (touches_none (4096 * c.args.block) (4096 * c.args.block + 4096) c.in_ok-read_block.ensures.writes) c.in_ok-erase.ensures.touches) c.barrier.ensures.writes

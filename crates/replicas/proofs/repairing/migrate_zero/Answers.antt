@@ -1,6 +1,7 @@
 use Rattle.std.proofs.Common.{◌≤◌, length, refl, arith}
 use Rattle.std.proofs.lemmas.Result.{IfOk-from_err}
 use Rattle.std.specs.Prelude.{Ok}
+use Rattle.flash_core.proofs.Touches.{touches_then, touches_wider}
 use Rattle.replicas.proofs.Reading.{replica_read}
 use Rattle.replicas.proofs.Mending.{spelled_out, other_stopped, both_migrated}
 use Rattle.replicas.proofs.repairing.migrate_zero.Goals as goal
@@ -23,3 +24,10 @@ returns-clause-repairs g c tells =
     both_migrated c.args.layout.now c.requires.layout c.args.meta.now (replica_read c.args.layout.now c.args.meta.now.meta c.requires.layout c.requires.of_layout) _ c.replace-2.result s m _ room (c.requires.loaded tells)
     (c.requires.lacks tells) first first.ok
     (spelled_out c.replace-2.result 1 c.args.bytes.now _ m m _ c.requires.spelled refl (c.replace-2.ensures.replaces tells))
+
+pub returns-in_err-replace-clause-touches : goal.returns-in_err-replace-clause-touches
+returns-in_err-replace-clause-touches g c = touches_wider 8192 12288 4096 12288 (omega arith) (omega arith) c.in_err-replace.ensures.touches
+
+pub returns-clause-touches : goal.returns-clause-touches
+returns-clause-touches g c =
+    touches_then 4096 12288 (touches_wider 8192 12288 4096 12288 (omega arith) (omega arith) c.in_ok-replace.ensures.touches) (touches_wider 4096 8192 4096 12288 (omega arith) (omega arith) c.replace-2.ensures.touches)

@@ -6,6 +6,7 @@ use Rattle.base_core.specs.Block.{block}
 use Rattle.flash_core.specs.declared.flash.Arming.{Arming}
 use Rattle.flash_core.specs.Told.{Told}
 use Rattle.flash_core.specs.Replaces.{padded}
+use Rattle.flash_core.proofs.Touches.{touches_none, touches_then, touches_wider}
 use Rattle.fwu_formats.specs.Metadata.{meta_read, replica_bytes}
 use Rattle.fwu_model.specs.Replica.{in_version}
 use Rattle.replicas.specs.Stores.{WritesBoth}
@@ -150,3 +151,24 @@ returns-in-MigrateOne-clause-spent g c =
     let left = g.D.Flash.arming c.write_both.new.flash in
     subst (λ (w : Which). OnOk c.write_both.result (TakesRepair w (g.D.Flash.arming c.args.flash.now) left)) (sym c.in-MigrateOne.is)
     (subst (λ (armed : Option Arming). OnOk c.write_both.result (TakesRepair MigrateOne armed left)) c.in_ok-half.ensures.reads.arming c.write_both.ensures.spent)
+
+-- asking what replica 1 holds erases and programs nothing
+pub returns-then-half-clause-touches : goal.returns-then-half-clause-touches
+returns-then-half-clause-touches g c = touches_then 4096 12288 (touches_none 4096 12288 c.in_ok-half.ensures.reads.writes)
+    (touches_wider 4096 8192 4096 12288 (omega arith) (omega arith) c.replace.ensures.touches)
+
+pub returns-in-RepairZero-clause-touches : goal.returns-in-RepairZero-clause-touches
+returns-in-RepairZero-clause-touches g c = touches_then 4096 12288 (touches_none 4096 12288 c.in_ok-half.ensures.reads.writes)
+    (touches_wider 4096 8192 4096 12288 (omega arith) (omega arith) c.replace-in-RepairZero.ensures.touches)
+
+pub returns-in-RepairOne-clause-touches : goal.returns-in-RepairOne-clause-touches
+returns-in-RepairOne-clause-touches g c = touches_then 4096 12288 (touches_none 4096 12288 c.in_ok-half.ensures.reads.writes)
+    (touches_wider 8192 12288 4096 12288 (omega arith) (omega arith) c.replace-in-RepairOne.ensures.touches)
+
+pub returns-in-MigrateZero-clause-touches : goal.returns-in-MigrateZero-clause-touches
+returns-in-MigrateZero-clause-touches g c = touches_then 4096 12288 (touches_none 4096 12288 c.in_ok-half.ensures.reads.writes)
+    c.migrate_zero.ensures.touches
+
+pub returns-in-MigrateOne-clause-touches : goal.returns-in-MigrateOne-clause-touches
+returns-in-MigrateOne-clause-touches g c = touches_then 4096 12288 (touches_none 4096 12288 c.in_ok-half.ensures.reads.writes)
+    c.write_both.ensures.touches

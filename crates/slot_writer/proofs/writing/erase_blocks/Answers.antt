@@ -2,6 +2,7 @@ use Rattle.std.proofs.Common.{ℕ, refl, ◌+◌, ◌-◌, ◌*◌, ◌≤◌, l
 use Rattle.std.proofs.lemmas.Result.{err_from_is_err_and}
 use Rattle.std.specs.Prelude.{is_err, Ok, Err}
 use Rattle.flash_core.proofs.Costs.{spends_then}
+use Rattle.flash_core.proofs.Touches.{touches_then, touches_wider}
 use Rattle.slot_writer.specs.Slots.{Erases}
 use Rattle.slot_writer.proofs.Erasing.{erase_stopped, erase_more}
 use Rattle.slot_writer.proofs.Spending.{spends_one, spends_stopped, spends_then_arming}
@@ -25,6 +26,9 @@ loop-block-preserved g c = record {
   arming =
       spends_then_arming tt (Ok tt) (c.loop-block.block - c.args.first) 1 _ _ _ _ _ _ _ (omega arith) c.loop-block.invariant.costs.cuts c.loop-block.invariant.arming
       (spends_one (Ok tt) _ _ _ _ c.in_ok-erase.ensures.arming c.in_ok-erase.ensures.reached);
+  touches =
+      touches_then (4096 * c.args.first) (4096 * c.args.end) c.loop-block.invariant.touches
+      (touches_wider (4096 * c.loop-block.block) (4096 * c.loop-block.block + 4096) (4096 * c.args.first) (4096 * c.args.end) (omega arith) (omega arith) c.in_ok-erase.ensures.touches);
   erases = λ tells.
       let b = c.loop-block.block in
       let s = g.D.Flash.told c.args.flash.now in
@@ -44,3 +48,8 @@ pub returns-clause-arming : goal.returns-clause-arming
 returns-clause-arming g c =
     subst (λ (n : ℕ). SpendsArming {T = Unit {0}} (Ok tt) n (g.D.Flash.arming c.args.flash.now) (g.D.Flash.arming c.loop-block.flash) (g.D.Flash.counts c.args.flash.now) (g.D.Flash.counts c.loop-block.flash)) (omega arith)
     c.loop-block.invariant.arming
+
+pub returns-in_err-erase-clause-touches : goal.returns-in_err-erase-clause-touches
+returns-in_err-erase-clause-touches g c =
+    touches_then (4096 * c.args.first) (4096 * c.args.end) c.loop-block.invariant.touches
+    (touches_wider (4096 * c.loop-block.block) (4096 * c.loop-block.block + 4096) (4096 * c.args.first) (4096 * c.args.end) (omega arith) (omega arith) c.in_err-erase.ensures.touches)

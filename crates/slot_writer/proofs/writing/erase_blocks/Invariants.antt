@@ -1,6 +1,7 @@
-use Rattle.std.proofs.Common.{◌≡◌, ◌-◌}
+use Rattle.std.proofs.Common.{◌≡◌, ◌-◌, ◌*◌}
 use Rattle.std.specs.Prelude.{IsTrue, Ok}
 use Rattle.flash_core.specs.Counts.{Spends}
+use Rattle.flash_core.specs.Touches.{TouchesOnly}
 use Rattle.slot_writer.specs.Slots.{Erases}
 use Rattle.slot_writer.specs.Writes.{SpendsArming}
 use Rattle.slot_writer.proofs.writing.erase_blocks.Given as goal
@@ -13,4 +14,5 @@ invariant-loop-block g l = record {
   costs : Spends {T = Unit {0}} (Ok tt) (g.D.Flash.counts l.fn.flash) (g.D.Flash.counts l.flash);
   arming : SpendsArming {T = Unit {0}} (Ok tt) (l.block - l.first) (g.D.Flash.arming l.fn.flash) (g.D.Flash.arming l.flash) (g.D.Flash.counts l.fn.flash) (g.D.Flash.counts l.flash);
   erases : IsTrue g.D.Flash.tells → Erases {T = Unit {0}} (Ok tt) l.first l.block (g.D.Flash.told l.fn.flash) (g.D.Flash.told l.flash);
+  touches : TouchesOnly (4096 * l.first) (4096 * l.end) (g.D.Flash.writes l.fn.flash) (g.D.Flash.writes l.flash);
 }
