@@ -1,6 +1,8 @@
 -- What C is told of one call of the agent, in the session behind a boot of a bank.
 use Rattle.std.specs.Prelude.{◌≡◌, ◌≢◌, ℕ, ◌++◌, Bool, List, [], All, length, take, None, Some, Result, Ok, Err, OnOk, IsTrue, ⊤}
+use Rattle.base_core.specs.Block.{block_bytes}
 use Rattle.flash_core.specs.Told.{Told}
+use Rattle.flash_core.specs.Touches.{TouchesOnly}
 use Rattle.flash_core.specs.May.{Guards}
 use Rattle.flash_core.specs.declared.flash.FlashStop.{FlashStop}
 use Rattle.flash_core.specs.declared.flash.FlashStop.TheVariants as flash_stop
@@ -27,15 +29,16 @@ use Rattle.agent_machine.specs.declared.stop.Stop.TheVariants as stop
 use Rattle.agent_machine.specs.Meets.{IsRefused, flash_result}
 use Rattle.step_flash.specs.declared.step.Step.{Step}
 use Rattle.step_flash.specs.declared.flash.StepFlash.{StepFlash}
-use Rattle.step_flash.specs.Flash.{block_count, told_of}
+use Rattle.step_flash.specs.Flash.{block_count, told_of, writes_of}
 use Rattle.step_flash.specs.Guard.{start_told}
 use Rattle.step_flash.specs.Steps.{AreDoable, run}
+use Rattle.step_flash.specs.Writes.{LiesWithin}
 use Rattle.agent_calls.specs.Shown.{device, gone, moment}
 use Rattle.agent_calls.specs.declared.agent.Agent.{Agent}
 use Rattle.flash_core.specs.declared.flash.Flash.{Ghosts}
 use Rattle.fwu_c.specs.Agents.{BeginsAgent}
 use Rattle.fwu_c.specs.Codes.{fault_code}
-use Rattle.fwu_c.specs.Handed.{IsWithin, KeepsReport, LiesBefore, call_reach}
+use Rattle.fwu_c.specs.Handed.{IsWithin, KeepsReport, call_reach}
 use Rattle.fwu_c.specs.Reports.{ReportsStart, SameStarts}
 use Rattle.fwu_c.specs.declared.calling.AgentCall.{AgentCall}
 use Rattle.fwu_c.specs.declared.calling.AgentCall.TheVariants.{Accept, Previous}
@@ -93,6 +96,7 @@ pub record TakesUpBank (bank : ℕ) (b : Started) (first left : StepFlash) (old 
   pub kept : KeepsReport 0 old r
   -- the device in it has the size of the first one
   pub size : block_count left ≡ block_count first
+  pub touches : TouchesOnly block_bytes call_reach (writes_of first) (writes_of left)
 
 -- for an agent
 pub record TakesUp (bank : ℕ) (first left : StepFlash) (m : Moment) (gone : Bool) (old r : Report) : Type 0 where
@@ -111,6 +115,7 @@ pub record RefusesCall (bank number : ℕ) (first left : StepFlash) (old r : Rep
   -- steps are told and not done, so no power is lost
   pub unlost : number ≢ 4
   pub size : block_count left ≡ block_count first
+  pub touches : TouchesOnly block_bytes call_reach (writes_of first) (writes_of left)
 
 -- ---- the call
 
@@ -166,6 +171,7 @@ pub record CalledBy {F : Ghosts StepFlash} (c : Call) (a : Agent StepFlash F) (l
   pub calls : (b : Started) → BeginsAgent b (moment a) (gone a) → CallsFrom c b result (told_of (device a)) (told_of left)
   pub ends : IsStepResult result
   pub size : block_count left ≡ block_count (device a)
+  pub touches : TouchesOnly block_bytes call_reach (writes_of (device a)) (writes_of left)
 
 -- ---- all of it
 
@@ -216,8 +222,8 @@ pub record CallsBy (image : List ℕ) (bank : ℕ) (c : Call) (number : ℕ) (ol
   pub within : IsWithin (length image) r steps room
   -- an erase takes a block; a program or a copy goes over whole granules, which are erased when its turn comes
   pub doable : AreDoable [] (take r.bytes room) (start_told image) (take r.steps steps)
-  -- each lies in blocks 1 to 3, and so in no bank
-  pub places : All (LiesBefore call_reach) (take r.steps steps)
+  -- each lies in blocks 1 and 2, and so in no bank
+  pub places : All (LiesWithin block_bytes call_reach) (take r.steps steps)
   pub reports : ReportsCall end old r
 
 -- 6 and 7 tell nothing

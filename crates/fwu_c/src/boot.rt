@@ -5,7 +5,7 @@ ghost use Rattle.step_flash.specs.Flash.{image_of};
 ghost use Rattle.fwu_c.specs.Boots.{BootsBy};
 ghost use Rattle.fwu_c.specs.Handed.{IsJustMade, TellsSteps};
 
-use crate::handing::{BOOT_REACH, Bounds, End, hand_over, unmade_number};
+use crate::handing::{hand_over, unmade_number};
 use crate::report::{Report, into_flash, report_end};
 use base_core::BLOCK_BYTES;
 use early_boot::boot_in;
@@ -58,11 +58,5 @@ fn boot_over(
     let end = boot_in(flash, &AnyManifest, &mut block[..BLOCK_BYTES as usize]);
     let mut told = *report;
     let number = report_end(&end, &mut told);
-    let bounds = Bounds {
-        reach: BOOT_REACH,
-        first: 0,
-        count: 0,
-    };
-    let told_end = End { number, bounds };
-    hand_over(into_flash(end), told_end, &told, steps, room, report)
+    hand_over(into_flash(end), number, &told, steps, room, report)
 }

@@ -8,12 +8,13 @@ ghost use Rattle.early_boot.specs.Started as boot;
 ghost use Rattle.agent_machine.specs.Meets.{IsRefused, Meets};
 ghost use Rattle.agent_calls.specs.Shown.{AgentGoes, device, fields, gone, moment};
 ghost use Rattle.agent_calls.specs.Started.{StartsFrom};
-ghost use Rattle.step_flash.specs.Flash.{image_of, is_on, told_of};
+ghost use Rattle.step_flash.specs.Flash.{image_of, is_on, told_of, writes_of};
+ghost use Rattle.flash_core.specs.Touches.{TouchesOnly};
 ghost use Rattle.fwu_c.specs.Calls.{CalledBy, CallsBy, IsAccepted, RefusesCall, TakesUpBank, TakesUp, TellsCall};
 ghost use Rattle.fwu_c.specs.Calls.{call_code, call_of, status_code, stop_code};
-ghost use Rattle.fwu_c.specs.Handed.{IsJustMade, TellsSteps};
+ghost use Rattle.fwu_c.specs.Handed.{IsJustMade, TellsSteps, call_reach};
 
-use crate::handing::{Bounds, CALL_REACH, End, hand_over, unmade_number};
+use crate::handing::{hand_over, unmade_number};
 use crate::kept_agent::{agent_of, flash_from};
 use crate::layouts::fault_number;
 use crate::report::{Report, report_start};
@@ -152,6 +153,7 @@ fn ask(agent: &mut Agent<StepFlash<'_>>, call: AgentCall) -> Result<(), Stop>
     ensures again { (b : Started) → StartsFrom b (fields agent.old) → IsAccepted (call_of call) b →
         told_of (device agent.new) ≡ told_of (device agent.old) }
     ensures goes { AgentGoes result agent.old agent.new }
+    ensures touches { TouchesOnly block_bytes call_reach (writes_of (device agent.old)) (writes_of (device agent.new)) }
 {
     match call {
         AgentCall::Accept(guid) => agent.accept(guid),
@@ -213,21 +215,14 @@ fn call_over(
 {
     let alloc = *block.allocator();
     let mut told = *report;
-    let bounds = Bounds {
-        reach: CALL_REACH,
-        first: 0,
-        count: 0,
-    };
     match agent_taken_up(alloc, flash, asked.bank, block, &mut told) {
         Some(Ok(agent)) => {
             let (flash, done) = called(agent, asked.call);
             let number = call_number(&done);
-            let end = End { number, bounds };
-            hand_over(flash, end, &told, steps, room, report)
+            hand_over(flash, number, &told, steps, room, report)
         }
         Some(Err((flash, number))) => {
-            let end = End { number, bounds };
-            hand_over(flash, end, &told, steps, room, report)
+            hand_over(flash, number, &told, steps, room, report)
         }
         None => 7,
     }

@@ -8,9 +8,9 @@ ghost use Rattle.step_flash.specs.Flash.{image_of, is_on};
 ghost use Rattle.early_boot.specs.Started.{started};
 ghost use Rattle.early_boot.specs.Started as boot;
 ghost use Rattle.fwu_c.specs.Handed.{IsJustMade, TellsSteps};
-ghost use Rattle.fwu_c.specs.Updates.{ReportsBoot, BootsUp, TellsAnswer, IsOnTrial, ReportsNone, UpdatesBy, update_bounds};
+ghost use Rattle.fwu_c.specs.Updates.{ReportsBoot, BootsUp, TellsAnswer, IsOnTrial, ReportsNone, UpdatesBy};
 
-use crate::handing::{BOOT_REACH, Bounds, End, UPDATE_REACH, hand_over, unmade_number};
+use crate::handing::{hand_over, unmade_number};
 use crate::kept_agent::agent_of;
 use crate::packages::{MOST_PLACES, read_places};
 use crate::report::{Report, into_flash, report_end, report_start};
@@ -150,43 +150,25 @@ fn booted_up<'a>(
     }
 }
 
-/// Where the steps of an update may lie: outside the bank that was started.
-fn bounds_of(booted: &Booted<StepFlash<'_>>) -> Bounds
-    ensures { result ≡ update_bounds (started booted.now).layout (started booted.now).bank }
-{
-    let layout = booted.layout();
-    layout.fits();
-    let count = layout.start(1, 0) - layout.start(0, 0);
-    Bounds {
-        reach: UPDATE_REACH,
-        first: layout.start(booted.bank(), 0),
-        count,
-    }
-}
-
-/// Boots, for an agent of the bank that is started, and reports the end. With the agent comes where the steps may lie. Where no
-/// bank is started the number of the end comes with the device. None where there is no memory for the bank or for an agent.
+/// Boots, for an agent of the bank that is started, and reports the end. Where no bank is started the number of the
+/// end comes with the device. None where there is no memory for the bank or for an agent.
 fn boot_agent<'a>(
     alloc: Global,
     flash: StepFlash<'a>,
     block: &mut [u8],
     told: &mut Report,
-) -> Option<Result<(Box<Agent<StepFlash<'a>>>, Bounds), (StepFlash<'a>, u32)>>
+) -> Option<Result<Box<Agent<StepFlash<'a>>>, (StepFlash<'a>, u32)>>
     requires on { is_on flash ≡ true }
     requires room { block_bytes ≤ length block.old }
     ensures { IfSome result (λ end. MatchResult end
-        (λ a. BootsUp flash.entry (device a.0.value) (moment a.0.value) (gone a.0.value) told.old told.new
-        × (a.1 ≡ update_bounds (moment a.0.value).fields.layout (moment a.0.value).fields.boot))
+        (λ a. BootsUp flash.entry (device a.value) (moment a.value) (gone a.value) told.old told.new)
         (λ e. ReportsNone e.1 flash.entry e.0 told.old told.new)) }
 {
     match booted_up(alloc, flash, block, told) {
-        Some(Ok(booted)) => {
-            let bounds = bounds_of(&booted);
-            match agent_of(alloc, booted) {
-                Some(agent) => Some(Ok((agent, bounds))),
-                None => None,
-            }
-        }
+        Some(Ok(booted)) => match agent_of(alloc, booted) {
+            Some(agent) => Some(Ok(agent)),
+            None => None,
+        },
         Some(Err(left)) => Some(Err(left)),
         None => None,
     }
@@ -211,25 +193,14 @@ fn update_over(
     let alloc = *block.allocator();
     let mut told = *report;
     match boot_agent(alloc, flash, block, &mut told) {
-        Some(Ok((agent, bounds))) => {
+        Some(Ok(agent)) => {
             let Some((flash, outcome)) = install(alloc, agent, file, acceptance, block) else {
                 return 7;
             };
-            let end = End {
-                number: outcome_number(&outcome),
-                bounds,
-            };
-            hand_over(flash, end, &told, steps, room, report)
+            let number = outcome_number(&outcome);
+            hand_over(flash, number, &told, steps, room, report)
         }
-        Some(Err((flash, number))) => {
-            let bounds = Bounds {
-                reach: BOOT_REACH,
-                first: 0,
-                count: 0,
-            };
-            let end = End { number, bounds };
-            hand_over(flash, end, &told, steps, room, report)
-        }
+        Some(Err((flash, number))) => hand_over(flash, number, &told, steps, room, report),
         None => 7,
     }
 }
