@@ -7,7 +7,9 @@ use Rattle.fwu_c.specs.declared.report.Report.{Report}
 use Rattle.step_flash.specs.declared.flash.Unmade.{Unmade}
 use Rattle.step_flash.specs.declared.flash.Unmade.TheVariants.{NoFlash, NoMemory}
 use Rattle.step_flash.specs.Unmade.{IsUnmade}
-use Rattle.fwu_c.specs.Handed.{HasFlashSize, IsDeviceEnd, IsUntouched, KeepsReport, LiesBefore, TellsSteps, update_reach}
+use Rattle.step_flash.specs.Writes.{LiesWithin}
+use Rattle.base_core.specs.Block.{block_bytes}
+use Rattle.fwu_c.specs.Handed.{HasFlashSize, IsDeviceEnd, IsUntouched, KeepsReport, TellsSteps}
 use Rattle.fwu_c.specs.Handed.{is_idle_number, starts_none, unmade_code}
 
 stays : (r : Report) (steps : List Step) (room : List ℕ) → IsUntouched r steps room r steps room
@@ -60,12 +62,12 @@ keeps_but_fault r fault = record {
 }
 
 -- no step lies anywhere
-pub none_lie : (n reach : ℕ) (steps : List Step) → n ≡ 0 → All (LiesBefore reach) (take n steps)
-none_lie n reach steps none = subst (λ (i : ℕ). All (LiesBefore reach) (take i steps)) (sym none) (λ k d lt. absurd (omega (arith, lt)))
+pub none_lie : (n low high : ℕ) (steps : List Step) → n ≡ 0 → All (LiesWithin low high) (take n steps)
+none_lie n low high steps none = subst (λ (i : ℕ). All (LiesWithin low high) (take i steps)) (sym none) (λ k d lt. absurd (omega (arith, lt)))
 
 -- steps that reach less far
-pub lie_further : (near far : ℕ) (steps : List Step) → near ≤ far → All (LiesBefore near) steps → All (LiesBefore far) steps
-lie_further near far steps more all = λ k d lt. elim (all k d lt) [
+pub lie_further : (low near far : ℕ) (steps : List Step) → near ≤ far → All (LiesWithin low near) steps → All (LiesWithin low far) steps
+lie_further low near far steps more all = λ k d lt. elim (all k d lt) [
   | inl barrier ↦ inl barrier
   | inr place ↦ inr (place.0, omega (arith, place.1, more))
 ]
@@ -114,7 +116,7 @@ unmade_by image NoMemory unmade =
 -- what a device handed over
 pub told_handed : (image : List ℕ) (result number : ℕ) (old : Report) (old_steps : List Step) (old_room : List ℕ) (new : Report) (steps : List Step)
     (room : List ℕ) → HasFlashSize image → IsDeviceEnd number → (result ≡ number) ⊎ (result ≡ 7) → (IsTrue (is_idle_number result) → (new.steps ≡ 0) × (new.bytes ≡ 0))
-    → KeepsReport result old new → ((result ≡ 7 → ⊥) → All (LiesBefore update_reach) (take new.steps steps))
+    → KeepsReport result old new → ((result ≡ 7 → ⊥) → All (LiesWithin block_bytes (length image)) (take new.steps steps))
     → (drop new.steps steps ≡ drop new.steps old_steps) × (drop new.bytes room ≡ drop new.bytes old_room) → (result ≡ 5 → new.steps ≡ length old_steps) → (result ≡ 7 → IsUntouched old old_steps old_room new steps room)
     → TellsSteps image result old old_steps old_room new steps room
 told_handed image result number old old_steps old_room new steps room is end (inl same) idle kept spared behind full untouched = record {

@@ -14,6 +14,7 @@ returns-in-BadLayout c = record {
   kept = keeps_but_fault _ _;
   unlost = λ e. omega (arith, e);
   size = c.in-BadLayout.ensures.takes.size;
+  touches = c.in-BadLayout.ensures.takes.touches;
 }
 
 pub returns-in-NoMetadata : goal.returns-in-NoMetadata
@@ -26,6 +27,7 @@ returns-in-NoMetadata c = record {
   kept = keeps_stays _ _;
   unlost = λ e. omega (arith, e);
   size = c.in-NoMetadata.ensures.takes.size;
+  touches = c.in-NoMetadata.ensures.takes.touches;
 }
 
 pub returns-in-NotStarted : goal.returns-in-NotStarted
@@ -38,6 +40,7 @@ returns-in-NotStarted c = record {
   kept = keeps_stays _ _;
   unlost = λ e. omega (arith, e);
   size = c.in-NotStarted.ensures.takes.size;
+  touches = c.in-NotStarted.ensures.takes.touches;
 }
 
 pub returns : goal.returns
@@ -50,6 +53,7 @@ returns c = record {
   kept = keeps_stays _ _;
   unlost = λ e. stop_unlost c.in-Stopped.stop c.args.flash c.in-Stopped.flash c.in-Stopped.ensures.takes.costs (sym c.stop_number.ensures ∙ e);
   size = c.in-Stopped.ensures.takes.size;
+  touches = c.in-Stopped.ensures.takes.touches;
 }
 
 pub returns-in-Ok : goal.returns-in-Ok
@@ -59,4 +63,5 @@ returns-in-Ok c = rw c.in-Ok.ensures.ok (record {
   reports = c.report_start.ensures.reports;
   kept = keeps_started _ _ c.report_start.ensures.kept;
   size = c.in-Taken.ensures.takes.size;
+  touches = c.in-Taken.ensures.takes.touches;
 })
