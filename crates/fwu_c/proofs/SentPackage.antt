@@ -1,7 +1,6 @@
 -- A sending of a package in memory, by what the flash told before and tells after it.
-use Rattle.std.proofs.Common.{◌≡◌, ◌∙◌, inl, inr, refl, sym, ap, subst, ℕ, ◌*◌, ◌==◌, Bool, true, false, List, length, replicate, Option, Some, None, Result, Ok, Err, arith, IsFalse, IsTrue}
+use Rattle.std.proofs.Common.{◌≡◌, ◌∙◌, inl, inr, refl, sym, ap, subst, ℕ, ◌==◌, Bool, true, false, List, length, replicate, Option, Some, None, Result, Ok, Err, arith, IsFalse, IsTrue}
 use Rattle.std.specs.Prelude.{OnOk, is_ok}
-use Rattle.base_core.specs.Block.{block_bytes}
 use Rattle.base_core.specs.Counts.{Rose}
 use Rattle.fwu_formats.specs.Digests.{passes_any}
 use Rattle.fwu_formats.specs.Layout.{Layout}
@@ -15,7 +14,6 @@ use Rattle.moves.specs.Moved.{IsShown}
 use Rattle.early_boot.specs.Started.{Started, started_session}
 use Rattle.agent_machine.specs.Moment.{Moment, Shows}
 use Rattle.agent_machine.specs.Goes.{GoesByMoves}
-use Rattle.agent_machine.specs.Beside.{IsSparedByAll}
 use Rattle.agent_calls.specs.Started.{StartsFrom}
 use Rattle.update_client.specs.declared.stops.Sent.{Sent}
 use Rattle.update_client.specs.declared.stops.SendStop.{SendStop}
@@ -140,14 +138,6 @@ module _ (held : Directory) (file name : List ℕ) (request : ℕ) (b : Started)
         guarded = λ rest. w.goes.guarded tells rest;
         guard_is = w.goes.stays.guard tells;
       })
-
-  -- on every device that shows a state: which blocks stay
-  pub package_spares : (s : State) → IsShown b.layout old.told.now s → (k : ℕ) → IsSparedByAll b.layout b.bank (block_bytes * k)
-      → new.writes k ≡ old.writes k
-  package_spares s shown k spared =
-      (by (setting_of b.layout) s refl refl shown).goes.touches k
-      (subst (λ (L : Layout). IsSparedByAll L old.fields.boot (block_bytes * k)) (sym from.layout)
-      (subst (λ (bank : ℕ). IsSparedByAll b.layout bank (block_bytes * k)) (sym from.boot) spared))
 
   module _ (installs : (s : State) (x : Session) → Shows old s x → OnOk result (Installs (Some held) name toc request new s)) where
     installed : is_ok result ≡ true → (s : State) → IsShown b.layout old.told.now s

@@ -191,10 +191,15 @@ guard_by : (file : List ℕ) (request : ℕ) (b : Started) (outcome : SendOutcom
 guard_by file request b None old t s shown by = ap (λ (x : Told). x.guard) by.1
 guard_by file request b (Some result) old t s shown by = (by.answers (setting_of b.layout) s refl refl shown).guard_is
 
--- what a sending spares, where the flash showed a state
-pub abbrev SendingSpares : Started → StepFlash → StepFlash → Type 0
-SendingSpares b mid d = (s : State) → IsShown b.layout (told_of mid).now s → (k : ℕ) → IsSparedByAll b.layout b.bank (block_bytes * k)
-    → writes_of d k ≡ writes_of mid k
+-- what a sending spares, by the bank that was started
+abbrev pub SendingSpares : Started → StepFlash → StepFlash → Type 0
+SendingSpares b mid d = (k : ℕ) → IsSparedByAll b.layout b.bank (block_bytes * k) → writes_of d k ≡ writes_of mid k
+
+pub sending_spares : (b : Started) (m : Moment) (gone : Bool) (mid d : StepFlash) → BeginsAgent b m gone
+    → SparesBlocksByAll m.fields (writes_of mid) (writes_of d) → SendingSpares b mid d
+sending_spares b m gone mid d begins touches k spared =
+    touches k (subst (λ (L : Layout). IsSparedByAll L m.fields.boot (block_bytes * k)) (sym begins.from.layout)
+    (subst (λ (bank : ℕ). IsSparedByAll b.layout bank (block_bytes * k)) (sym begins.from.boot) spared))
 
 -- where the steps behind a boot of a bank lie: behind block 0
 pub tried_places : (image : List ℕ) (first mid d : StepFlash) (b : Started) (old told r : Report) (new : Report) (steps : List Step)
@@ -202,10 +207,7 @@ pub tried_places : (image : List ℕ) (first mid d : StepFlash) (b : Started) (o
     → HandsOver d new r steps room → ((k : ℕ) → writes_of first k ≡ 0) → SendingSpares b mid d
     → All (LiesWithin block_bytes (length image)) (take r.steps steps)
 tried_places image first mid d b old told r new steps room size same_size boots hands unwritten sent =
-    let bytes = boots.ends.by_bytes in
-    let shown : IsShown b.layout (told_of mid).now bytes.shows.0 = record { layout = boots.layout; shows = bytes.shows.1 } in
-    let touches = update-touches b.layout b.bank (layout-fits _ _ b.layout boots.layout) first mid d unwritten boots.touches
-    (λ k spared. sent bytes.shows.0 shown k spared) in
+    let touches = update-touches b.layout b.bank (layout-fits _ _ b.layout boots.layout) first mid d unwritten boots.touches sent in
     let whole : block_bytes * block_count d ≤ length image = omega (arith, size, same_size, boots.size) in
     lie_further block_bytes (block_bytes * block_count d) (length image) _ whole (hands.places 1 (block_count d) touches)
 
@@ -229,7 +231,7 @@ tried_by image file request first mid d b outcome number old told r steps room m
       installs = installs;
     }) hands
     (hands.beside (start b.layout b.bank 0) (start b.layout (b.bank + 1) 0) (has-blocks b.layout b.bank fits)
-    (in-use-unwritten b.layout b.bank fits first mid d unwritten boots.touches (λ k spared. sent bytes.shows.0 shown k spared))) is (start_same b told r hands.same boots.reports)
+    (in-use-unwritten b.layout b.bank fits first mid d unwritten boots.touches sent)) is (start_same b told r hands.same boots.reports)
 
 -- nothing was tried
 pub denied_by : (image file : List ℕ) (request : ℕ) (old r : Report) (steps : List Step) (room : List ℕ) → IsOnTrial image

@@ -1,6 +1,5 @@
 -- What came of a package in memory, on a flash whose bank was started.
-use Rattle.std.specs.Prelude.{◌≡◌, ℕ, ◌*◌, ◌==◌, List, length, replicate, Option, Some, None, Result, Ok, Err, IsErr, OnOk, ⊤}
-use Rattle.base_core.specs.Block.{block_bytes}
+use Rattle.std.specs.Prelude.{◌≡◌, ℕ, ◌==◌, List, length, replicate, Option, Some, None, Result, Ok, Err, IsErr, OnOk, ⊤}
 use Rattle.flash_core.specs.Told.{Told}
 use Rattle.fwu_formats.specs.Digests.{passes_any}
 use Rattle.fwu_formats.specs.Layout.{Layout}
@@ -13,7 +12,7 @@ use Rattle.fwu_model.specs.Answer.{Answer, first_image_fault, images_of}
 use Rattle.fwu_model.specs.Calm.{IsAtRest}
 use Rattle.moves.specs.Moved.{Does, GuardedBy, IsReady, IsShown}
 use Rattle.early_boot.specs.Started.{Started, started_session}
-use Rattle.agent_machine.specs.Beside.{IsSparedByAll, KeepsWhere}
+use Rattle.agent_machine.specs.Beside.{IsSparedByAll, KeepsWhere, SparesBlocksByAll}
 use Rattle.agent_calls.specs.Shown.{device, gone, moment}
 use Rattle.agent_calls.specs.declared.agent.Agent.{Agent}
 use Rattle.flash_core.specs.declared.flash.Flash.{Ghosts}
@@ -113,6 +112,5 @@ pub record TriesBy {F : Ghosts StepFlash} (file : List ℕ) (request : ℕ) (a :
       → InstallsBy file request b outcome (told_of (device a)) (told_of left)
   pub ends : IsOutcome outcome
   pub size : block_count left ≡ block_count (device a)
-  -- and where it showed a state: no block is erased or programmed but 1 to 3, and those of the bank that follows
-  pub touches : (b : Started) → BeginsAgent b (moment a) (gone a) → (s : State) → IsShown b.layout (told_of (device a)).now s
-      → (k : ℕ) → IsSparedByAll b.layout b.bank (block_bytes * k) → writes_of left k ≡ writes_of (device a) k
+  -- no block is erased or programmed but 1 to 3, and those of the bank that follows the one that was started
+  pub touches : SparesBlocksByAll (moment a).fields (writes_of (device a)) (writes_of left)

@@ -24,5 +24,5 @@ returns c =
       );
       ends = tt;
       size = ap (λ d. block_count d) c.flash_from.ensures;
-      touches = λ b begins s shown k spared. ap (λ d. writes_of d k) c.flash_from.ensures;
+      touches = λ k spared. ap (λ d. writes_of d k) c.flash_from.ensures;
     }

@@ -1,5 +1,7 @@
-use Rattle.std.proofs.Common.{◌≡◌, ◌+◌, ◌≤◌, refl, sym, ap, subst, ◌∙◌, List, ℕ, length, Option, Some, None, Result, arith}
+use Rattle.std.proofs.Common.{◌≡◌, ◌+◌, ◌*◌, ◌≤◌, refl, sym, ap, subst, ◌∙◌, List, ℕ, length, Option, Some, None, Result, arith}
 use Rattle.std.specs.Prelude.{All, IsErrOf, IsFalse}
+use Rattle.base_core.specs.Block.{block_bytes}
+use Rattle.agent_machine.specs.Beside.{IsSparedByAll}
 use Rattle.flash_core.specs.Told.{Told}
 use Rattle.flash_core.specs.declared.flash.FlashStop.TheVariants as flash_stop
 use Rattle.host_io.specs.Contents.{Directory}
@@ -11,7 +13,7 @@ use Rattle.step_flash.specs.Flash.{block_count, told_of, writes_of}
 use Rattle.step_flash.proofs.Causes.{never_lost}
 use Rattle.fwu_c.specs.Agents.{BeginsAgent}
 use Rattle.fwu_c.specs.Sendings.{IsSent, SendsPackage}
-use Rattle.fwu_c.proofs.SentPackage.{held_there, here_after, is_sent, never_rose, package_sent, package_spares}
+use Rattle.fwu_c.proofs.SentPackage.{held_there, here_after, is_sent, never_rose, package_sent}
 use Rattle.fwu_formats.proofs.Tables.{table-of}
 use Rattle.fwu_formats.specs.Package.{Entry}
 use Rattle.package_files.specs.OneFile.{one_file}
@@ -69,13 +71,9 @@ returns c =
       ends = ends;
       size = ap (λ d. block_count d) c.flash_from.ensures ∙ goes.size
           ∙ ap (λ a. block_count (agent.device a)) c.deref_mut.ensures.value;
-      touches = λ b begins s shown k spared.
-          let begun : BeginsAgent b old (agent.gone first) = rw c.deref_mut.ensures.value begins in
+      touches = λ k spared.
           ap (λ d. writes_of d k) c.flash_from.ensures
-          ∙ package_spares _ file _ request b c.args.toc.now sent.result old new
-          (held_there _ _ _ c.new-files.ensures) c.requires.table ends refl begun.from (sent.ensures.sends here) begun.shows
-          (λ ok s x shows. (rw c.deref.ensures at c.showing.ensures.seen)
-          (here_after _ sent.result _ _ here sent.ensures.gone ok) refl s x shows)
-          s (rw c.deref_mut.ensures.value shown) k spared
+          ∙ sent.ensures.touches k (subst (λ a. IsSparedByAll (agent.moment a).fields.layout (agent.moment a).fields.boot (block_bytes * k))
+          (sym c.deref_mut.ensures.value) spared)
           ∙ ap (λ a. writes_of (agent.device a) k) c.deref_mut.ensures.value;
     }

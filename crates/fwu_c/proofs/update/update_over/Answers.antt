@@ -5,7 +5,7 @@ use Rattle.step_flash.specs.Flash.{image_of, told_of}
 use Rattle.fwu_c.specs.Handed.{IsDeviceEnd, boot_reach, is_idle_number, starts_none}
 use Rattle.fwu_c.proofs.Booting.{boot_idle, counted_from_none, given, has_flash_size, reach_inside}
 use Rattle.fwu_c.proofs.Telling.{idle_starts, keeps_fault, lie_further, told_handed, told_no_room}
-use Rattle.fwu_c.proofs.Updating.{none_end_is, outcome_end_is, outcome_starts, tried_by, tried_places, unbooted_by}
+use Rattle.fwu_c.proofs.Updating.{none_end_is, outcome_end_is, outcome_starts, sending_spares, tried_by, tried_places, unbooted_by}
 use Rattle.fwu_c.proofs.update.update_over.Goals as goal
 
 pub install-requires-clause-here : goal.install-requires-clause-here
@@ -42,7 +42,7 @@ returns-in-Some-clause-updates c = λ told.
     tried_by (image_of c.args.flash) _ _ c.args.flash (device c.in-Some-Ok.agent.value) i.flash up.began i.outcome
     h.result _ _ _ _ _
     c.requires.new.fresh c.requires.new.size i.ensures.size up.boots (i.ensures.installs up.began up.begins)
-    (h.ensures.hands told.1) c.requires.new.unwritten (i.ensures.touches up.began up.begins) (given _ _ h.ensures.number told.1 ∙ c.outcome_number.ensures)
+    (h.ensures.hands told.1) c.requires.new.unwritten (sending_spares up.began _ _ _ _ up.begins i.ensures.touches) (given _ _ h.ensures.number told.1 ∙ c.outcome_number.ensures)
 
 pub returns-in-Some-clause-tells : goal.returns-in-Some-clause-tells
 returns-in-Some-clause-tells c =
@@ -53,7 +53,7 @@ returns-in-Some-clause-tells c =
     (has_flash_size (image_of c.args.flash) c.args.flash c.requires.new.size)
     (subst (λ n. IsDeviceEnd n) (sym c.outcome_number.ensures) (outcome_end_is i.outcome i.ensures.ends)) h.number h.idle h.kept
     (λ not. tried_places _ c.args.flash (device c.in-Some-Ok.agent.value) i.flash up.began _ _ _ _ _ _ c.requires.new.size i.ensures.size up.boots
-    (h.hands not) c.requires.new.unwritten (i.ensures.touches up.began up.begins)) h.behind h.full h.untouched
+    (h.hands not) c.requires.new.unwritten (sending_spares up.began _ _ _ _ up.begins i.ensures.touches)) h.behind h.full h.untouched
 
 pub returns-in-Some-Err-clause-updates : goal.returns-in-Some-Err-clause-updates
 returns-in-Some-Err-clause-updates c = λ told.
