@@ -190,7 +190,7 @@ uint32_t fwu_update(const uint8_t *flash, size_t length, const uint8_t *package,
 
 /* Each call here is made in the firmware that a boot started. `bank` is the bank that fwu_boot reported, whose steps are done; the
  * loader hands it on. No start is counted, and no counter raised. A call tells steps as fwu_boot does, over the same arguments. Its
- * steps first repair the metadata, where a replica lacks it. Each erase and program lies in blocks 1 to 3.
+ * steps first repair the metadata, where a replica lacks it. Each erase and program lies in blocks 1 and 2.
  *
  * 0: done, once all steps are done. 1, 2, 21: no step is told. 16, 20: refused (DEN0118); steps may repair metadata. 5, 6 and 7 are
  * those of fwu_boot.
