@@ -17,13 +17,12 @@ use Rattle.step_flash.specs.Flash.{NotedBy, block_count, counts_of, flash_sizes,
 use Rattle.step_flash.specs.Guard.{guard_with, start_told, start_with}
 use Rattle.step_flash.specs.Stopped.{under_as}
 use Rattle.step_flash.specs.Steps.{AreDoable, run_with}
-use Rattle.step_flash.specs.Writes.{LiesBeside, LiesWithin}
 use Rattle.step_flash.proofs.Causes.{never_lost}
 use Rattle.step_flash.proofs.Guards.{told_is}
 use Rattle.fwu_c.specs.declared.report.Report.{Report}
 use Rattle.fwu_c.specs.Boots.{BootsBy}
 use Rattle.fwu_c.specs.Codes.{end_code}
-use Rattle.fwu_c.specs.Handed.{HandsOver, HasFlashSize, IsDeviceEnd, IsJustMade, IsStartOfSteps, IsWithinWith, SameBut, boot_reach, is_idle_number}
+use Rattle.fwu_c.specs.Handed.{HandsOver, HasFlashSize, IsDeviceEnd, IsJustMade, IsStartOfSteps, IsWithinWith, LieAsCounted, SameBut, boot_reach, is_idle_number}
 use Rattle.fwu_c.specs.Reports.{ReportsEnd, ReportsStart, SameStarts}
 
 kept : (old t : Told) → t ≡ old → t.guard ≡ old.guard
@@ -148,10 +147,7 @@ pub record IsOver (image file : List ℕ) (d : StepFlash) (r : Report) (steps : 
   pub left : told_of d ≡ under_as (told_of d).under (run_with file (take r.bytes room) (start_with image file) (take r.steps steps))
   pub within : IsWithinWith (length file) (length image) r steps room
   pub doable : AreDoable file (take r.bytes room) (start_with image file) (take r.steps steps)
-  pub places : (first last : ℕ) → TouchesOnly (block_bytes * first) (block_bytes * last) (λ b. 0) (writes_of d)
-      → All (LiesWithin (block_bytes * first) (block_bytes * last)) (take r.steps steps)
-  pub beside : (first last : ℕ) → first < last → ((b : ℕ) → first ≤ b → b < last → writes_of d b ≡ 0)
-      → All (LiesBeside (block_bytes * first) (block_bytes * last)) (take r.steps steps)
+  pub lie : LieAsCounted d (take r.steps steps)
 
 pub over : (image file : List ℕ) (first d : StepFlash) (told r : Report) (steps : List Step) (room : List ℕ)
     → told_of first ≡ start_with image file → length image ≡ block_bytes * block_count first → block_count d ≡ block_count first
@@ -171,8 +167,7 @@ over image file first d told r steps room made size same_size guard hands =
       doable =
           subst (λ (f : List ℕ). AreDoable f (take r.bytes room) (start_with image f) (take r.steps steps)) both.1
           (subst (λ (i : List ℕ). AreDoable (package_of d) (take r.bytes room) (start_with i (package_of d)) (take r.steps steps)) both.0 hands.doable);
-      places = hands.places;
-      beside = hands.beside;
+      lie = hands.lie;
     }
 
 pub boots_by : (image : List ℕ) (first d : StepFlash) (e : Ended) (number : ℕ) (old told r : Report) (steps : List Step) (room : List ℕ)
@@ -189,7 +184,7 @@ boots_by image first d e number old told r steps room made size same_size ends h
       left = o.left;
       within = o.within;
       doable = o.doable;
-      places = o.places 1 7 (counted_from_none block_bytes boot_reach none touches);
+      places = o.lie.places 1 7 (counted_from_none block_bytes boot_reach none touches);
       reports = end_same e old told r hands.same reports;
     }
 
@@ -199,6 +194,13 @@ pub of_image : (image other : List ℕ) (number : ℕ) (old r : Report) (steps :
 of_image image other number old r steps room same boots = subst (λ (i : List ℕ). BootsBy i number old r steps room) same boots
 
 -- ---- where nothing was written
+
+-- no steps lie anywhere
+pub none_counted : (d : StepFlash) (steps : List Step) → steps ≡ [] → LieAsCounted d steps
+none_counted d steps none = subst (LieAsCounted d) (sym none) (record {
+  places = λ first last touches k x lt. absurd (omega (arith, lt));
+  beside = λ first last order unwritten k x lt. absurd (omega (arith, lt));
+})
 
 pub began_as : (old t : Told) → IsStartOfSteps old → t ≡ old → IsStartOfSteps t
 began_as old t began same = (began.0, began.1, same ∙ began.2)

@@ -267,7 +267,7 @@ calls_by image bank c first d e number old told r steps room made size same_size
       left = o.left;
       within = o.within;
       doable = o.doable;
-      places = o.places 1 3 (counted_from_none block_bytes call_reach none touches);
+      places = o.lie.places 1 3 (counted_from_none block_bytes call_reach none touches);
       reports = reports;
     }
 

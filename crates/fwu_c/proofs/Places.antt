@@ -19,7 +19,7 @@ use Rattle.fwu_c.specs.Handed.{boot_reach}
 other-follows : (banks bank : ℕ) → 2 ≤ banks → (bank + 1) % banks ≢ bank
 other-follows banks bank two = elim (cases_lt bank banks) [
   | inl below ↦ next-other banks bank two below
-  | inr behind ↦ λ same. let less = mod-lt (bank + 1) {n = banks} (omega (arith, two)) in omega (arith, less, same, behind)
+  | inr behind ↦ λ same. let less : (bank + 1) % banks < banks = mod-lt (bank + 1) (omega (arith, two)) in omega (arith, less, same, behind)
 ]
 
 module _ (L : Layout) (bank : ℕ) (fits : IsTrue (fits_layout L)) where

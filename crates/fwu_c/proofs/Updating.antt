@@ -6,7 +6,7 @@ use Rattle.base_core.specs.Block.{block_bytes}
 use Rattle.flash_core.specs.Told.{Told, fresh}
 use Rattle.fwu_formats.specs.Digests.{passes_any}
 use Rattle.fwu_formats.specs.Image.{layout_seen, deciding}
-use Rattle.fwu_formats.specs.Layout.{Layout}
+use Rattle.fwu_formats.specs.Layout.{Layout, fits_layout, start}
 use Rattle.fwu_formats.specs.Metadata.{MetaRead}
 use Rattle.fwu_formats.specs.declared.kinds.BankState.{BankState}
 use Rattle.fwu_formats.specs.declared.kinds.LayoutFault.{LayoutFault}
@@ -20,7 +20,7 @@ use Rattle.early_boot.specs.Ends.{Ended, booted}
 use Rattle.early_boot.specs.EndsBy.{BootEnds}
 use Rattle.step_flash.specs.declared.step.Step.{Step}
 use Rattle.step_flash.specs.declared.flash.StepFlash.{StepFlash}
-use Rattle.step_flash.specs.Flash.{block_count, told_of}
+use Rattle.step_flash.specs.Flash.{block_count, told_of, writes_of}
 use Rattle.step_flash.specs.Guard.{start_told, start_with}
 use Rattle.step_flash.specs.Stopped.{under_as}
 use Rattle.step_flash.specs.Steps.{AreDoable, IsInsideWith, room_bytes, run_with}
@@ -33,6 +33,9 @@ use Rattle.fwu_c.specs.Sendings.{InstallsBy, IsOutcome, SendOutcome, outcome_cod
 use Rattle.fwu_c.specs.Updates.{ReportsBoot, IsNotBooted, IsOnTrial, ReportsNone, UpdateEnds, Updated, UpdatesBy}
 use Rattle.fwu_c.specs.Updates.{on_trial, not_booted, tried, update_code, ReportsUpdate, SparesInUse}
 use Rattle.agent_machine.specs.Moment.{Moment}
+use Rattle.agent_machine.specs.Beside.{IsSparedByAll, SparesBlocksByAll}
+use Rattle.fwu_formats.proofs.Read.{layout-fits}
+use Rattle.step_flash.specs.Writes.{LiesWithin}
 use Rattle.fwu_c.specs.Agents.{BeginsAgent}
 use Rattle.fwu_c.proofs.SentPackage.{setting_of}
 use Rattle.fwu_c.proofs.Places.{has-blocks, in-use-unwritten, update-touches}
@@ -182,7 +185,7 @@ unbooted_by image file request first d number given old told r steps room made s
     updates_by image file request first d (not_booted none.end) number old told r steps room made size none.size
     (guard_kept (told_of first) (told_of d) none.end none.boots.by_bytes)
     (none.is, subst (λ (x : Told). BootEnds (λ m. passes_any m) x none.end (told_of d)) made none.boots) hands
-    (hands.places 1 7 (counted_from_none block_bytes boot_reach unwritten none.touches)) (is ∙ none.number_is)
+    (hands.lie.places 1 7 (counted_from_none block_bytes boot_reach unwritten none.touches)) (is ∙ none.number_is)
     (end_same none.end old told r hands.same none.reports)
 
 -- a sending keeps the guard, since the boot before it left a flash that shows a state
@@ -209,7 +212,7 @@ pub tried_places : (image : List ℕ) (first mid d : StepFlash) (b : Started) (o
 tried_places image first mid d b old told r new steps room size same_size boots hands unwritten sent =
     let touches = update-touches b.layout b.bank (layout-fits _ _ b.layout boots.layout) first mid d unwritten boots.touches sent in
     let whole : block_bytes * block_count d ≤ length image = omega (arith, size, same_size, boots.size) in
-    lie_further block_bytes (block_bytes * block_count d) (length image) _ whole (hands.places 1 (block_count d) touches)
+    lie_further block_bytes (block_bytes * block_count d) (length image) _ whole (hands.lie.places 1 (block_count d) touches)
 
 -- a bank was started, and the package tried
 pub tried_by : (image file : List ℕ) (request : ℕ) (first mid d : StepFlash) (b : Started) (outcome : SendOutcome) (number : ℕ)
@@ -230,7 +233,7 @@ tried_by image file request first mid d b outcome number old told r steps room m
       boots = subst (λ (x : Told). BootEnds (λ m. passes_any m) x (booted b boots.numbers) (told_of mid)) made boots.ends;
       installs = installs;
     }) hands
-    (hands.beside (start b.layout b.bank 0) (start b.layout (b.bank + 1) 0) (has-blocks b.layout b.bank fits)
+    (hands.lie.beside (start b.layout b.bank 0) (start b.layout (b.bank + 1) 0) (has-blocks b.layout b.bank fits)
     (in-use-unwritten b.layout b.bank fits first mid d unwritten boots.touches sent)) is (start_same b told r hands.same boots.reports)
 
 -- nothing was tried

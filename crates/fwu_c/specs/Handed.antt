@@ -40,6 +40,13 @@ pub record IsWithinWith (file size : ℕ) (r : Report) (steps : List Step) (room
 abbrev pub IsWithin : ℕ → Report → List Step → List ℕ → Type 0
 IsWithin size r steps room = IsWithinWith 0 size r steps room
 
+-- Steps lie where the device counts erases and programs, and nowhere else.
+pub record LieAsCounted (d : StepFlash) (steps : List Step) : Type 0 where
+  pub places : (first last : ℕ) → TouchesOnly (block_bytes * first) (block_bytes * last) (λ b. 0) (writes_of d)
+      → All (LiesWithin (block_bytes * first) (block_bytes * last)) steps
+  pub beside : (first last : ℕ) → first < last → ((b : ℕ) → first ≤ b → b < last → writes_of d b ≡ 0)
+      → All (LiesBeside (block_bytes * first) (block_bytes * last)) steps
+
 -- The steps that are reported make of the device's image what it tells, beside an operation under way; and the rest of the report
 -- is what was to be told.
 pub record HandsOver (d : StepFlash) (told r : Report) (steps : List Step) (room : List ℕ) : Type 0 where
@@ -50,11 +57,7 @@ pub record HandsOver (d : StepFlash) (told r : Report) (steps : List Step) (room
   -- each step can be done when its turn comes
   pub doable : AreDoable (package_of d) (take r.bytes room) (start_with (image_of d) (package_of d)) (take r.steps steps)
   pub same : SameBut told r
-  -- They lie where the device counts erases and programs, and nowhere else.
-  pub places : (first last : ℕ) → TouchesOnly (block_bytes * first) (block_bytes * last) (λ b. 0) (writes_of d)
-      → All (LiesWithin (block_bytes * first) (block_bytes * last)) (take r.steps steps)
-  pub beside : (first last : ℕ) → first < last → ((b : ℕ) → first ≤ b → b < last → writes_of d b ≡ 0)
-      → All (LiesBeside (block_bytes * first) (block_bytes * last)) (take r.steps steps)
+  pub lie : LieAsCounted d (take r.steps steps)
 
 -- there is no layout or no metadata, or no boot started the bank
 abbrev pub is_idle_number : ℕ → Bool

@@ -1,12 +1,10 @@
 //! The steps of a device, handed over to C.
-ghost use Rattle.std.specs.Prelude.{◌≡◌, ◌≢◌, ◌⊎◌, ◌<◌, ◌≤◌, ◌*◌, ℕ, All, drop, length, IfSome, IsTrue};
+ghost use Rattle.std.specs.Prelude.{◌≡◌, ◌≢◌, ◌⊎◌, ◌*◌, All, drop, length, IfSome, IsTrue};
 ghost use Rattle.base_core.specs.Block.{block_bytes};
-ghost use Rattle.flash_core.specs.Touches.{TouchesOnly};
-ghost use Rattle.step_flash.specs.Flash.{NotedBy, block_count, image_of, package_of, told_of, writes_of};
+ghost use Rattle.step_flash.specs.Flash.{NotedBy, block_count, image_of, package_of, told_of};
 ghost use Rattle.step_flash.specs.Guard.{start_with};
 ghost use Rattle.step_flash.specs.Steps.{AreDoable, IsInsideWith, room_bytes};
-ghost use Rattle.step_flash.specs.Writes.{LiesBeside, LiesWithin};
-ghost use Rattle.fwu_c.specs.Handed.{HandsOver, IsDeviceEnd, IsStartOfSteps, IsUntouched, KeepsReport, is_idle_number, unmade_code};
+ghost use Rattle.fwu_c.specs.Handed.{HandsOver, IsDeviceEnd, IsStartOfSteps, IsUntouched, KeepsReport, LieAsCounted, is_idle_number, unmade_code};
 
 use crate::report::Report;
 use step_flash::{Step, StepFlash, StepParts, Unmade};
@@ -42,12 +40,7 @@ fn parts_of(flash: StepFlash<'_>, number: u32) -> Option<StepParts>
         AreDoable (package_of flash.entry) parts.room.items (start_with (image_of flash.entry) (package_of flash.entry))
         parts.steps.items) }
     ensures theirs { IfSome result (λ parts. length parts.room.items ≡ room_bytes parts.steps.items) }
-    ensures places { IfSome result (λ parts. (first last : ℕ)
-        → TouchesOnly (block_bytes * first) (block_bytes * last) (λ b. 0) (writes_of flash.entry)
-        → All (LiesWithin (block_bytes * first) (block_bytes * last)) parts.steps.items) }
-    ensures beside { IfSome result (λ parts. (first last : ℕ)
-        → first < last → ((b : ℕ) → first ≤ b → b < last → writes_of flash.entry b ≡ 0)
-        → All (LiesBeside (block_bytes * first) (block_bytes * last)) parts.steps.items) }
+    ensures lie { IfSome result (λ parts. LieAsCounted flash.entry parts.steps.items) }
     ensures none { IfSome result (λ parts. IsTrue (is_idle_number number) →
         (length parts.steps.items ≡ 0) × (length parts.room.items ≡ 0)) }
 {

@@ -35,7 +35,7 @@ returns-clause-tells c =
     (subst (λ n. IsDeviceEnd n) (sym c.report_end-number.ensures.number)
     (boot_end_is (ended c.boot_in-end.result) c.args.flash (device_of c.boot_in-end.result) c.boot_in-end.ensures.boots.costs))
     h.number h.idle h.kept (λ not. lie_further block_bytes boot_reach _ _ (reach_inside boot_reach _ c.args.flash (omega arith) c.requires.new.size)
-    ((h.hands not).places 1 7 (counted_from_none block_bytes boot_reach c.requires.new.unwritten (touched_back _ _ _ c.into_flash.ensures c.boot_in-end.ensures.boots.touches)))) h.behind h.full h.untouched
+    ((h.hands not).lie.places 1 7 (counted_from_none block_bytes boot_reach c.requires.new.unwritten (touched_back c.args.flash (device_of c.boot_in-end.result) c.into_flash.result c.into_flash.ensures c.boot_in-end.ensures.boots.touches)))) h.behind h.full h.untouched
 
 pub returns-clause-boots : goal.returns-clause-boots
 returns-clause-boots c = λ low.
@@ -46,4 +46,4 @@ returns-clause-boots c = λ low.
     boots_by (image_of c.args.flash) c.args.flash c.into_flash.result (ended c.boot_in-end.result) c.hand_over.result _ _ _ _ _
     c.requires.new.fresh c.requires.new.size (ap (λ (d : StepFlash). block_count d) back ∙ boots.size)
     (subst (λ (d : StepFlash). BootEnds (λ m. passes_any m) (told_of c.args.flash) (ended c.boot_in-end.result) (told_of d)) (sym back) (boots.ends refl))
-    (c.hand_over.ensures.hands known) c.requires.new.unwritten (touched_back _ _ _ c.into_flash.ensures c.boot_in-end.ensures.boots.touches) (is ∙ c.report_end-number.ensures.number) c.report_end-number.ensures.reports
+    (c.hand_over.ensures.hands known) c.requires.new.unwritten (touched_back c.args.flash (device_of c.boot_in-end.result) c.into_flash.result c.into_flash.ensures c.boot_in-end.ensures.boots.touches) (is ∙ c.report_end-number.ensures.number) c.report_end-number.ensures.reports

@@ -44,7 +44,7 @@ returns-in-Some-Ok-clause-tells c =
     (has_flash_size (image_of c.args.flash) c.args.flash c.requires.new.size)
     (subst (λ n. IsDeviceEnd n) (sym c.call_number-number.ensures) (call_end_is a.result.1 a.ensures.ends)) h.number h.idle h.kept
     (λ not. lie_further block_bytes call_reach _ _ (reach_inside call_reach _ c.args.flash (omega arith) c.requires.new.size)
-    ((h.hands not).places 1 3 (counted_from_none block_bytes call_reach c.requires.new.unwritten
+    ((h.hands not).lie.places 1 3 (counted_from_none block_bytes call_reach c.requires.new.unwritten
     (touches_then block_bytes call_reach (rw c.in-Some-Ok.field-0-is at c.in-Some-Ok.ensures).takes.touches a.ensures.touches)))) h.behind h.full h.untouched
 
 pub hand_over-requires-in-Some-Err : goal.hand_over-requires-in-Some-Err
@@ -73,7 +73,7 @@ returns-in-Some-Err-clause-tells c =
     (has_flash_size (image_of c.args.flash) c.args.flash c.requires.new.size)
     (take_up_end_is _ _ _ _ _ _ (rw c.in-Some-Err.field-0-is at c.in-Some-Err.ensures)) h.number h.idle h.kept
     (λ not. lie_further block_bytes call_reach _ _ (reach_inside call_reach _ c.args.flash (omega arith) c.requires.new.size)
-    ((h.hands not).places 1 3 (counted_from_none block_bytes call_reach c.requires.new.unwritten
+    ((h.hands not).lie.places 1 3 (counted_from_none block_bytes call_reach c.requires.new.unwritten
     (rw c.in-Some-Err.field-0-is at c.in-Some-Err.ensures).touches))) h.behind h.full h.untouched
 
 pub returns-in-None-clause-tells : goal.returns-in-None-clause-tells

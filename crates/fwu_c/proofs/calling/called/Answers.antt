@@ -40,5 +40,5 @@ returns c =
       ends = ends;
       size = ap (λ d. block_count d) c.flash_from.ensures ∙ goes.size
           ∙ ap (λ a. block_count (agent.device a)) c.deref_mut.ensures.value;
-      touches = touched_by _ _ _ _ c.deref_mut.ensures.value c.flash_from.ensures done.ensures.touches;
+      touches = touched_by c.args.agent.value first done.new.agent c.flash_from.result c.deref_mut.ensures.value c.flash_from.ensures done.ensures.touches;
     }

@@ -41,5 +41,5 @@ returns c =
       kept = ended_as.kept;
       unlost = λ four. end.0 (sym code ∙ four);
       size = ap (λ (d : StepFlash). block_count d) back ∙ boots.size;
-      touches = touched_back _ _ _ back boots.touches;
+      touches = touched_back c.args.flash (device_of c.boot_in.result) c.into_flash.result back boots.touches;
     }
