@@ -181,8 +181,8 @@ FWU_ASSERT(sizeof(struct fwu_report) == 108 && offsetof(struct fwu_report, lengt
  * written, as fwu_boot says.
  *
  * What the report says at 0 and 16 to 19 is what fwu_boot says at 0, of the bank that runs; where the active bank is on trial, only
- * `steps` and `bytes` are written, as 0. At 5 it is that, or nothing but `steps` and `bytes`; no proof says that it is
- * that of this very boot. */
+ * `steps` and `bytes` are written, as 0. At 5 it is that where the boot in it started a bank, and else nothing but `steps` and
+ * `bytes`. */
 uint32_t fwu_update(const uint8_t *flash, size_t length, const uint8_t *package, size_t bytes, uint32_t acceptance,
                     struct fwu_step *steps, size_t most, uint8_t *room, size_t size, struct fwu_report *report);
 
@@ -190,7 +190,7 @@ uint32_t fwu_update(const uint8_t *flash, size_t length, const uint8_t *package,
 
 /* Each call here is made in the firmware that a boot started. `bank` is the bank that fwu_boot reported, whose steps are done; the
  * loader hands it on. No start is counted, and no counter raised. A call tells steps as fwu_boot does, over the same arguments. Its
- * steps first repair the metadata, where a replica lacks it. Each erase and program lies in blocks 1 to 3.
+ * steps first repair the metadata, where a replica lacks it. Each erase and program lies in blocks 1 and 2.
  *
  * 0: done, once all steps are done. 1, 2, 21: no step is told. 16, 20: refused (DEN0118); steps may repair metadata. 5, 6 and 7 are
  * those of fwu_boot.
@@ -199,7 +199,7 @@ uint32_t fwu_update(const uint8_t *flash, size_t length, const uint8_t *package,
  * has to hold a complete package of a version not below the counter. Else it is FWU_NOT_STARTED.
  *
  * The report says at 0, 16 and 20 what fwu_boot says at 0, by the numbers before the call. At 1 it has the layout's fault. At 5 it
- * is what it is at 0, or nothing but `steps` and `bytes`; no proof says that it is that of this very boot. */
+ * is what it is at 0 where the bank was taken up, and else nothing but `steps` and `bytes`. */
 
 /* Accepts the image of a type in the active bank. `type` has the 16 bytes of a UUID, in the order of its text. Once all images of
  * the bank are accepted, so is the bank, and its trials are over. An image that is accepted already is so again, by no step but

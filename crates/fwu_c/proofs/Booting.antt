@@ -1,9 +1,10 @@
 -- A boot, by what its device tells and by its steps.
-use Rattle.std.proofs.Common.{◌≡◌, ◌∙◌, ◌⊎◌, ◌≤◌, ◌*◌, inl, inr, refl, ap, sym, subst, ℕ, true, List, [], All, length, take, arith}
+use Rattle.std.proofs.Common.{◌≡◌, ◌∙◌, ◌⊎◌, ◌<◌, ◌≤◌, ◌*◌, inl, inr, refl, ap, sym, subst, ℕ, true, List, [], All, length, take, arith}
 use Rattle.std.proofs.Common.{Some, None}
 use Rattle.std.specs.Prelude.{IsTrue}
 use Rattle.base_core.specs.Block.{block_bytes}
 use Rattle.flash_core.specs.Told.{Told, fresh}
+use Rattle.flash_core.specs.Touches.{TouchesOnly}
 use Rattle.flash_core.specs.Counts.{Spends}
 use Rattle.fwu_formats.specs.Digests.{passes_any}
 use Rattle.early_boot.specs.Started.{Started}
@@ -12,7 +13,7 @@ use Rattle.early_boot.specs.EndsBy.{BootEnds, EndsByBytes}
 use Rattle.step_flash.specs.declared.flash.StepFlash.{StepFlash}
 use Rattle.step_flash.specs.declared.device.StepParts.{StepParts}
 use Rattle.step_flash.specs.declared.step.Step.{Step}
-use Rattle.step_flash.specs.Flash.{NotedBy, block_count, counts_of, flash_sizes, is_on, told_of, image_of, package_of}
+use Rattle.step_flash.specs.Flash.{NotedBy, block_count, counts_of, flash_sizes, is_on, told_of, image_of, package_of, writes_of}
 use Rattle.step_flash.specs.Guard.{guard_with, start_told, start_with}
 use Rattle.step_flash.specs.Stopped.{under_as}
 use Rattle.step_flash.specs.Steps.{AreDoable, run_with}
@@ -21,9 +22,8 @@ use Rattle.step_flash.proofs.Guards.{told_is}
 use Rattle.fwu_c.specs.declared.report.Report.{Report}
 use Rattle.fwu_c.specs.Boots.{BootsBy}
 use Rattle.fwu_c.specs.Codes.{end_code}
-use Rattle.fwu_c.specs.Handed.{HandsOver, HasFlashSize, IsDeviceEnd, IsJustMade, IsStartOfSteps, IsWithinWith, LiesBefore, LiesOutside, SameBut, boot_reach, bounds_before, is_idle_number}
-use Rattle.fwu_c.specs.declared.handing.Bounds.{Bounds}
-use Rattle.fwu_c.specs.Reports.{ReportsEnd, ReportsStart}
+use Rattle.fwu_c.specs.Handed.{HandsOver, HasFlashSize, IsDeviceEnd, IsJustMade, IsStartOfSteps, IsWithinWith, LieAsCounted, SameBut, boot_reach, is_idle_number}
+use Rattle.fwu_c.specs.Reports.{ReportsEnd, ReportsStart, SameStarts}
 
 kept : (old t : Told) → t ≡ old → t.guard ≡ old.guard
 kept old t e = ap (λ (x : Told). x.guard) e
@@ -55,14 +55,30 @@ start_same b old new same reports = subst (ReportsStart b) (sym same) (record {
   lengths = reports.lengths;
 })
 
-pub end_same : (e : Ended) (old new : Report) → SameBut old new → ReportsEnd e old → ReportsEnd e new
-end_same (booted b n) old new same reports = start_same b old new same reports
-end_same (bad_layout f) old new same reports = ap (λ (r : Report). r.layout_fault) same ∙ reports
-end_same no_metadata old new same reports = tt
-end_same (no_bank active previous) old new same reports =
+-- what a start writes, as it was before
+pub starts_same : (before old new : Report) → SameBut old new → SameStarts before old → SameStarts before new
+starts_same before old new same stays = subst (SameStarts before) (sym same) (record {
+  start = record {
+    bank = stays.start.bank;
+    version = stays.start.version;
+    trials = stays.start.trials;
+    counter = stays.start.counter;
+    fallback = stays.start.fallback;
+    images = stays.start.images;
+    lengths = stays.start.lengths;
+  };
+  active = stays.active;
+  previous = stays.previous;
+})
+
+pub end_same : (e : Ended) (before old new : Report) → SameBut old new → ReportsEnd e before old → ReportsEnd e before new
+end_same (booted b n) before old new same reports = start_same b old new same reports
+end_same (bad_layout f) before old new same reports = ap (λ (r : Report). r.layout_fault) same ∙ reports
+end_same no_metadata before old new same reports = tt
+end_same (no_bank active previous) before old new same reports =
     (ap (λ (r : Report). r.active) same ∙ reports.0, ap (λ (r : Report). r.previous) same ∙ reports.1)
-end_same (lost n) old new same reports = tt
-end_same (failed n) old new same reports = tt
+end_same (lost n) before old new same reports = starts_same before old new same reports
+end_same (failed n) before old new same reports = starts_same before old new same reports
 
 -- ---- numbers
 
@@ -102,25 +118,41 @@ has_flash_size image d size = record { blocks = block_count d; fewest = (flash_s
 
 -- it was just made over the image
 pub made_new : (image file : List ℕ) (d : StepFlash) → told_of d ≡ start_with image file → is_on d ≡ true → image_of d ≡ image
-    → length image ≡ block_bytes * block_count d → IsJustMade file d
-made_new image file d made on is size = record {
+    → length image ≡ block_bytes * block_count d → ((b : ℕ) → writes_of d b ≡ 0) → IsJustMade file d
+made_new image file d made on is size none = record {
   on = on;
   fresh = made ∙ sym (ap (λ (i : List ℕ). start_with i file) is);
   size = ap (λ (i : List ℕ). length i) is ∙ size;
+  unwritten = none;
 }
 
+-- what counted nothing counts where it was touched alone
+pub counted_from_none : (low high : ℕ) {old new : ℕ → ℕ} → ((b : ℕ) → old b ≡ 0) → TouchesOnly low high old new
+    → TouchesOnly low high (λ b. 0) new
+counted_from_none low high none touches b out = touches b out ∙ none b
+
+-- the device that came back
+pub touched_back : {low high : ℕ} (first d back : StepFlash) → back ≡ d → TouchesOnly low high (writes_of first) (writes_of d)
+    → TouchesOnly low high (writes_of first) (writes_of back)
+touched_back {low = low} {high = high} first d back same touches =
+    subst (λ (x : StepFlash). TouchesOnly low high (writes_of first) (writes_of x)) (sym same) touches
+
+-- a flash has eight blocks and more
+pub reach_inside : (reach : ℕ) (image : List ℕ) (d : StepFlash) → reach ≤ 32768 → length image ≡ block_bytes * block_count d
+    → reach ≤ length image
+reach_inside reach image d short size = let few = (flash_sizes d).0 in omega (arith, short, size, few)
+
 -- it is over the image, with the package, and its steps lie within both
-pub record IsOver (image file : List ℕ) (d : StepFlash) (bounds : Bounds) (r : Report) (steps : List Step) (room : List ℕ) : Type 0 where
+pub record IsOver (image file : List ℕ) (d : StepFlash) (r : Report) (steps : List Step) (room : List ℕ) : Type 0 where
   pub left : told_of d ≡ under_as (told_of d).under (run_with file (take r.bytes room) (start_with image file) (take r.steps steps))
   pub within : IsWithinWith (length file) (length image) r steps room
   pub doable : AreDoable file (take r.bytes room) (start_with image file) (take r.steps steps)
-  pub places : All (LiesBefore bounds.reach) (take r.steps steps)
-  pub outside : All (LiesOutside bounds.first bounds.count) (take r.steps steps)
+  pub lie : LieAsCounted d (take r.steps steps)
 
-pub over : (image file : List ℕ) (first d : StepFlash) (bounds : Bounds) (told r : Report) (steps : List Step) (room : List ℕ)
+pub over : (image file : List ℕ) (first d : StepFlash) (told r : Report) (steps : List Step) (room : List ℕ)
     → told_of first ≡ start_with image file → length image ≡ block_bytes * block_count first → block_count d ≡ block_count first
-    → (told_of d).guard ≡ (told_of first).guard → HandsOver d bounds told r steps room → IsOver image file d bounds r steps room
-over image file first d bounds told r steps room made size same_size guard hands =
+    → (told_of d).guard ≡ (told_of first).guard → HandsOver d told r steps room → IsOver image file d r steps room
+over image file first d told r steps room made size same_size guard hands =
     let guarded : (told_of d).guard ≡ guard_with image file = guard ∙ ap (λ (x : Told). x.guard) made ∙ start_guard image file in
     let both = told_is image file (image_of d) (package_of d) (take r.bytes room) (take r.steps steps) (told_of d) hands.left guarded in
     let whole : block_bytes * block_count d ≡ length image = ap (λ n. block_bytes * n) same_size ∙ sym size in
@@ -135,16 +167,15 @@ over image file first d bounds told r steps room made size same_size guard hands
       doable =
           subst (λ (f : List ℕ). AreDoable f (take r.bytes room) (start_with image f) (take r.steps steps)) both.1
           (subst (λ (i : List ℕ). AreDoable (package_of d) (take r.bytes room) (start_with i (package_of d)) (take r.steps steps)) both.0 hands.doable);
-      places = hands.places;
-      outside = hands.outside;
+      lie = hands.lie;
     }
 
-pub boots_by : (image : List ℕ) (first d : StepFlash) (e : Ended) (number : ℕ) (told r : Report) (steps : List Step) (room : List ℕ)
+pub boots_by : (image : List ℕ) (first d : StepFlash) (e : Ended) (number : ℕ) (old told r : Report) (steps : List Step) (room : List ℕ)
     → told_of first ≡ start_told image → length image ≡ block_bytes * block_count first → block_count d ≡ block_count first
-    → BootEnds (λ m. passes_any m) (told_of first) e (told_of d) → HandsOver d (bounds_before boot_reach) told r steps room
-    → number ≡ end_code e → ReportsEnd e told → BootsBy image number r steps room
-boots_by image first d e number told r steps room made size same_size ends hands is reports =
-    let o = over image [] first d (bounds_before boot_reach) told r steps room made size same_size (guard_kept (told_of first) (told_of d) e ends.by_bytes) hands in
+    → BootEnds (λ m. passes_any m) (told_of first) e (told_of d) → HandsOver d told r steps room
+    → ((b : ℕ) → writes_of first b ≡ 0) → TouchesOnly block_bytes boot_reach (writes_of first) (writes_of d) → number ≡ end_code e → ReportsEnd e old told → BootsBy image number old r steps room
+boots_by image first d e number old told r steps room made size same_size ends hands none touches is reports =
+    let o = over image [] first d told r steps room made size same_size (guard_kept (told_of first) (told_of d) e ends.by_bytes) hands in
     record {
       end = e;
       number_is = is;
@@ -153,16 +184,23 @@ boots_by image first d e number told r steps room made size same_size ends hands
       left = o.left;
       within = o.within;
       doable = o.doable;
-      places = o.places;
-      reports = end_same e told r hands.same reports;
+      places = o.lie.places 1 7 (counted_from_none block_bytes boot_reach none touches);
+      reports = end_same e old told r hands.same reports;
     }
 
 -- of the same image
-pub of_image : (image other : List ℕ) (number : ℕ) (r : Report) (steps : List Step) (room : List ℕ) → other ≡ image
-    → BootsBy other number r steps room → BootsBy image number r steps room
-of_image image other number r steps room same boots = subst (λ (i : List ℕ). BootsBy i number r steps room) same boots
+pub of_image : (image other : List ℕ) (number : ℕ) (old r : Report) (steps : List Step) (room : List ℕ) → other ≡ image
+    → BootsBy other number old r steps room → BootsBy image number old r steps room
+of_image image other number old r steps room same boots = subst (λ (i : List ℕ). BootsBy i number old r steps room) same boots
 
 -- ---- where nothing was written
+
+-- no steps lie anywhere
+pub none_counted : (d : StepFlash) (steps : List Step) → steps ≡ [] → LieAsCounted d steps
+none_counted d steps none = subst (LieAsCounted d) (sym none) (record {
+  places = λ first last touches k x lt. absurd (omega (arith, lt));
+  beside = λ first last order unwritten k x lt. absurd (omega (arith, lt));
+})
 
 pub began_as : (old t : Told) → IsStartOfSteps old → t ≡ old → IsStartOfSteps t
 began_as old t began same = (began.0, began.1, same ∙ began.2)

@@ -1,10 +1,12 @@
 -- A call behind a boot of a bank, by what the device tells before it and after it, and by its steps.
 use Rattle.std.proofs.Common.{[], ◌≡◌, ◌∙◌, ◌⊎◌, ◌≤◌, inl, inr, refl, sym, ap, subst, ℕ, ◌*◌, ◌++◌, Bool, true, false, List, length, None, Result, Ok, Err, arith, IsFalse, IsTrue}
-use Rattle.std.specs.Prelude.{OnOk, is_ok}
+use Rattle.std.specs.Prelude.{IsErrOf, OnOk, is_ok}
 use Rattle.base_core.specs.Block.{block_bytes}
 use Rattle.base_core.proofs.Results.{same-Ok}
 use Rattle.flash_core.specs.Told.{Told}
 use Rattle.flash_core.specs.May.{Guards}
+use Rattle.flash_core.specs.Touches.{TouchesOnly}
+use Rattle.flash_core.proofs.Touches.{touches_none, touches_then}
 use Rattle.flash_core.specs.declared.flash.FlashStop.{FlashStop}
 use Rattle.flash_core.specs.declared.flash.FlashStop.TheVariants as flash_stop
 use Rattle.fwu_formats.specs.Digests.{passes_any}
@@ -26,22 +28,25 @@ use Rattle.early_boot.specs.Started.{Started, started_numbers, started_session}
 use Rattle.early_boot.specs.TakenUp.{RunsByNumbers, TakenUp, TakesByBytes, taken, bad_layout, no_metadata, not_started, stopped, TakeUpEnds}
 use Rattle.agent_machine.specs.declared.stop.Stop.{Stop}
 use Rattle.agent_machine.specs.declared.stop.Stop.TheVariants as stop
-use Rattle.agent_machine.specs.Meets.{Answers, GoesBy, IsRefused, IsSettingOf, IsStopped, LeavesFlash, ShowsNext, flash_result}
+use Rattle.agent_machine.specs.Meets.{Answers, GoesBy, IsDone, IsRefused, IsSettingOf, IsStopped, LeavesFlash, ShowsNext, flash_result}
 use Rattle.agent_machine.specs.Moment.{Moment, Shows}
 use Rattle.agent_machine.specs.Fields.{Fields}
 use Rattle.agent_machine.specs.Beside.{IsSparedByAll, KeepsSparedByAll, KeepsWhere}
 use Rattle.agent_machine.proofs.Beside.{spared-once}
 use Rattle.agent_calls.specs.Started.{StartsFrom}
+use Rattle.agent_calls.specs.Shown.{device}
+use Rattle.agent_calls.specs.declared.agent.Agent.{Agent}
+use Rattle.flash_core.specs.declared.flash.Flash.{Ghosts}
 use Rattle.step_flash.specs.declared.step.Step.{Step}
 use Rattle.step_flash.specs.declared.flash.StepFlash.{StepFlash}
-use Rattle.step_flash.specs.Flash.{block_count, counts_of, told_of}
+use Rattle.step_flash.specs.Flash.{block_count, counts_of, told_of, writes_of}
 use Rattle.step_flash.proofs.Causes.{never_lost}
 use Rattle.flash_core.specs.Counts.{Spends}
 use Rattle.step_flash.specs.Guard.{start_told}
 use Rattle.fwu_c.specs.declared.report.Report.{Report}
 use Rattle.fwu_c.specs.Calls.{MovesByAnswer, CallEnds, Called, CallsBy, CallsFrom, IsAccepted, IsStepResult, IsNotTaken, MakesCall, RefusesCall, RepliesAs, ReportsCall, ReportsTakeUp, TakesUpBank, call_code, called, called_code, not_taken, status_code, stop_code, take_up_code}
-use Rattle.fwu_c.specs.Handed.{HandsOver, IsDeviceEnd, IsStartOfSteps, SameBut, bounds_before, call_reach, is_idle_number, starts_none}
-use Rattle.fwu_c.proofs.Booting.{began_as, over, start_same}
+use Rattle.fwu_c.specs.Handed.{HandsOver, IsDeviceEnd, IsStartOfSteps, SameBut, call_reach, is_idle_number, starts_none}
+use Rattle.fwu_c.proofs.Booting.{began_as, counted_from_none, over, start_same, starts_same}
 
 -- ---- numbers
 
@@ -122,12 +127,13 @@ take_up_guard bank old t (stopped why) ends = elim ends [
   | inr repair ↦ repair.others.guard
 ]
 
-take_up_same : (e : TakenUp) (old new : Report) → IsNotTaken e → SameBut old new → ReportsTakeUp e old → ReportsTakeUp e new
-take_up_same (taken b) old new is same reports = absurd is
-take_up_same (bad_layout f) old new is same reports = ap (λ (r : Report). r.layout_fault) same ∙ reports
-take_up_same no_metadata old new is same reports = tt
-take_up_same not_started old new is same reports = tt
-take_up_same (stopped why) old new is same reports = tt
+take_up_same : (e : TakenUp) (before old new : Report) → IsNotTaken e → SameBut old new → ReportsTakeUp e before old
+    → ReportsTakeUp e before new
+take_up_same (taken b) before old new is same reports = absurd is
+take_up_same (bad_layout f) before old new is same reports = ap (λ (r : Report). r.layout_fault) same ∙ reports
+take_up_same no_metadata before old new is same reports = tt
+take_up_same not_started before old new is same reports = tt
+take_up_same (stopped why) before old new is same reports = starts_same before old new same reports
 
 -- ---- the call
 
@@ -203,6 +209,23 @@ module _ (c : Call) (b : Started) (result : Result (Unit {0}) Stop) (old new : M
     keeps = spared-of b.layout b.bank old.fields old.told new.told from.layout from.boot (spared-once old.fields old.told new.told (leaves.keeps tells));
   }
 
+-- by the devices of an agent as it came in a box, and as it was taken out of it
+pub touched_by : {F : Ghosts StepFlash} {low high : ℕ} (before inside after : Agent StepFlash F) (left : StepFlash) → inside ≡ before
+    → left ≡ device after → TouchesOnly low high (writes_of (device inside)) (writes_of (device after))
+    → TouchesOnly low high (writes_of (device before)) (writes_of left)
+touched_by {F = F} {low = low} {high = high} before inside after left same back touches =
+    subst (λ (d : StepFlash). TouchesOnly low high (writes_of (device before)) (writes_of d)) (sym back)
+    (subst (λ (a : Agent StepFlash F). TouchesOnly low high (writes_of (device a)) (writes_of (device after))) same touches)
+
+-- which blocks a call touches, by how it ended
+pub touches_by : (result : Result (Unit {0}) Stop) (low high : ℕ) {old new : ℕ → ℕ} → (IsDone result → TouchesOnly low high old new)
+    → (IsRefused result → new ≡ old) → (IsErrOf result stop.Gone → new ≡ old) → TouchesOnly low high old new
+touches_by (Ok x) low high done refused gone = done tt
+touches_by (Err (stop.Status st)) low high done refused gone = touches_none low high (refused tt)
+touches_by (Err stop.Lost) low high done refused gone = done tt
+touches_by (Err stop.Fault) low high done refused gone = done tt
+touches_by (Err stop.Gone) low high done refused gone = touches_none low high (gone refl)
+
 -- ---- the bank and the call in one
 
 -- a setting of any layout
@@ -230,12 +253,12 @@ module _ (image : List ℕ) (bank : ℕ) (c : Call) (b : Started) (result : Resu
   pub makes_call : MakesCall image bank c b result t
   makes_call = record { mid = mid; takes = takes; runs = runs; calls = calls; does = does_both }
 
-calls_by : (image : List ℕ) (bank : ℕ) (c : Call) (first d : StepFlash) (e : Called) (number : ℕ) (told r : Report) (steps : List Step) (room : List ℕ)
+calls_by : (image : List ℕ) (bank : ℕ) (c : Call) (first d : StepFlash) (e : Called) (number : ℕ) (old told r : Report) (steps : List Step) (room : List ℕ)
     → told_of first ≡ start_told image → length image ≡ block_bytes * block_count first → block_count d ≡ block_count first
-    → (told_of d).guard ≡ (told_of first).guard → CallEnds image bank c e (told_of d) → HandsOver d (bounds_before call_reach) told r steps room
-    → number ≡ called_code e → ReportsCall e r → CallsBy image bank c number r steps room
-calls_by image bank c first d e number told r steps room made size same_size guard ends hands is reports =
-    let o = over image [] first d (bounds_before call_reach) told r steps room made size same_size guard hands in
+    → (told_of d).guard ≡ (told_of first).guard → CallEnds image bank c e (told_of d) → HandsOver d told r steps room
+    → ((b : ℕ) → writes_of first b ≡ 0) → TouchesOnly block_bytes call_reach (writes_of first) (writes_of d) → number ≡ called_code e → ReportsCall e old r → CallsBy image bank c number old r steps room
+calls_by image bank c first d e number old told r steps room made size same_size guard ends hands none touches is reports =
+    let o = over image [] first d told r steps room made size same_size guard hands in
     record {
       end = e;
       number_is = is;
@@ -244,7 +267,7 @@ calls_by image bank c first d e number told r steps room made size same_size gua
       left = o.left;
       within = o.within;
       doable = o.doable;
-      places = o.places;
+      places = o.lie.places 1 3 (counted_from_none block_bytes call_reach none touches);
       reports = reports;
     }
 
@@ -252,29 +275,29 @@ calls_by image bank c first d e number told r steps room made size same_size gua
 pub refused_by : (image : List ℕ) (bank : ℕ) (c : Call) (first d : StepFlash) (number given : ℕ) (old told r : Report)
     (steps : List Step) (room : List ℕ)
     → told_of first ≡ start_told image → length image ≡ block_bytes * block_count first → RefusesCall bank given first d old told
-    → HandsOver d (bounds_before call_reach) told r steps room → number ≡ given → CallsBy image bank c number r steps room
-refused_by image bank c first d number given old told r steps room made size refuses hands is =
-    calls_by image bank c first d (not_taken refuses.end) number told r steps room made size refuses.size
+    → HandsOver d told r steps room → ((b : ℕ) → writes_of first b ≡ 0) → number ≡ given → CallsBy image bank c number old r steps room
+refused_by image bank c first d number given old told r steps room made size refuses hands none is =
+    calls_by image bank c first d (not_taken refuses.end) number old told r steps room made size refuses.size
     (take_up_guard bank (told_of first) (told_of d) refuses.end refuses.ends.by_bytes)
-    (refuses.is, subst (λ (x : Told). TakeUpEnds (λ m. passes_any m) bank x refuses.end (told_of d)) made refuses.ends) hands (is ∙ refuses.number_is)
-    (take_up_same refuses.end told r refuses.is hands.same refuses.reports)
+    (refuses.is, subst (λ (x : Told). TakeUpEnds (λ m. passes_any m) bank x refuses.end (told_of d)) made refuses.ends) hands none refuses.touches (is ∙ refuses.number_is)
+    (take_up_same refuses.end old told r refuses.is hands.same refuses.reports)
 
 -- it was, and the call was made
 pub called_by : (image : List ℕ) (bank : ℕ) (c : Call) (first mid d : StepFlash) (b : Started)
     (result : Result (Unit {0}) Stop) (number : ℕ) (old told r : Report) (steps : List Step) (room : List ℕ)
     → told_of first ≡ start_told image → length image ≡ block_bytes * block_count first → block_count d ≡ block_count mid
-    → TakesUpBank bank b first mid old told → CallsFrom c b result (told_of mid) (told_of d) → HandsOver d (bounds_before call_reach) told r steps room
-    → number ≡ call_code result → CallsBy image bank c number r steps room
-called_by image bank c first mid d b result number old told r steps room made size same_size takes calls hands is =
+    → TakesUpBank bank b first mid old told → CallsFrom c b result (told_of mid) (told_of d) → HandsOver d told r steps room
+    → ((b : ℕ) → writes_of first b ≡ 0) → TouchesOnly block_bytes call_reach (writes_of mid) (writes_of d) → number ≡ call_code result → CallsBy image bank c number old r steps room
+called_by image bank c first mid d b result number old told r steps room made size same_size takes calls hands none touches is =
     let from_image = subst (λ (x : Told). TakeUpEnds (λ m. passes_any m) bank x (taken b) (told_of mid)) made takes.ends in
-    calls_by image bank c first d (called b result) number told r steps room made size (same_size ∙ takes.size)
+    calls_by image bank c first d (called b result) number old told r steps room made size (same_size ∙ takes.size)
     (guard_is image bank c b result (told_of mid) (told_of d) from_image takes.runs calls ∙ take_up_guard bank (told_of first) (told_of mid) (taken b) takes.ends.by_bytes)
-    (makes_call image bank c b result (told_of mid) (told_of d) from_image takes.runs calls) hands is (start_same b told r hands.same takes.reports)
+    (makes_call image bank c b result (told_of mid) (told_of d) from_image takes.runs calls) hands none (touches_then block_bytes call_reach takes.touches touches) is (start_same b told r hands.same takes.reports)
 
 -- of the same image
-pub call_of_image : (image other : List ℕ) (bank : ℕ) (c : Call) (number : ℕ) (r : Report) (steps : List Step) (room : List ℕ) → other ≡ image
-    → CallsBy other bank c number r steps room → CallsBy image bank c number r steps room
-call_of_image image other bank c number r steps room same by = subst (λ (i : List ℕ). CallsBy i bank c number r steps room) same by
+pub call_of_image : (image other : List ℕ) (bank : ℕ) (c : Call) (number : ℕ) (old r : Report) (steps : List Step) (room : List ℕ) → other ≡ image
+    → CallsBy other bank c number old r steps room → CallsBy image bank c number old r steps room
+call_of_image image other bank c number old r steps room same by = subst (λ (i : List ℕ). CallsBy i bank c number old r steps room) same by
 
 -- ---- where nothing was written
 

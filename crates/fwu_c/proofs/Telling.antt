@@ -1,14 +1,15 @@
 -- What a call promises that tells steps, whatever it is asked for.
 use Rattle.std.proofs.Common.{◌≡◌, ◌∙◌, ◌⊎◌, ◌==◌, inl, inr, refl, ap, sym, subst, ℕ, ◌≤◌, Bool, List, All, drop, length, take, arith}
-use Rattle.early_boot.specs.Started.{Started}
-use Rattle.fwu_c.specs.Reports.{ReportsStart}
+use Rattle.fwu_c.specs.Reports.{SameStart, SameStarts}
 use Rattle.std.specs.Prelude.{◌↔◌, ◌||◌, IsTrue}
 use Rattle.step_flash.specs.declared.step.Step.{Step}
 use Rattle.fwu_c.specs.declared.report.Report.{Report}
 use Rattle.step_flash.specs.declared.flash.Unmade.{Unmade}
 use Rattle.step_flash.specs.declared.flash.Unmade.TheVariants.{NoFlash, NoMemory}
 use Rattle.step_flash.specs.Unmade.{IsUnmade}
-use Rattle.fwu_c.specs.Handed.{HasFlashSize, IsDeviceEnd, IsUntouched, KeepsReport, LiesBefore, SameStart, TellsSteps, update_reach}
+use Rattle.step_flash.specs.Writes.{LiesWithin}
+use Rattle.base_core.specs.Block.{block_bytes}
+use Rattle.fwu_c.specs.Handed.{HasFlashSize, IsDeviceEnd, IsUntouched, KeepsReport, TellsSteps}
 use Rattle.fwu_c.specs.Handed.{is_idle_number, starts_none, unmade_code}
 
 stays : (r : Report) (steps : List Step) (room : List ℕ) → IsUntouched r steps room r steps room
@@ -26,12 +27,15 @@ same_start r fault = record {
   lengths = refl;
 }
 
+-- and what it writes stays
+pub starts_stay : (r : Report) → SameStarts r r
+starts_stay r = record { start = same_start r r.layout_fault; active = refl; previous = refl }
+
 pub keeps_stays : (number : ℕ) (r : Report) → KeepsReport number r r
 keeps_stays number r = record {
   fault = λ other. refl;
   banks = λ idle. (refl, refl);
   start = λ none. same_start r r.layout_fault;
-  stopped = λ five. inl (record { start = same_start r r.layout_fault; active = refl; previous = refl });
 }
 
 pub idle_starts : (number : ℕ) → IsTrue (is_idle_number number) → IsTrue (starts_none number)
@@ -39,16 +43,15 @@ idle_starts number idle = ap (λ (b : Bool). b || number == 3) idle
 
 -- where a bank was started
 pub keeps_fault : (number : ℕ) (old new : Report) → new.layout_fault ≡ old.layout_fault → (IsTrue (starts_none number) → ⊥)
-    → (number ≡ 5 → (b : Started) × ReportsStart b new) → KeepsReport number old new
-keeps_fault number old new same starts told = record {
+    → KeepsReport number old new
+keeps_fault number old new same starts = record {
   fault = λ other. same;
   banks = λ idle. absurd (starts (idle_starts number idle));
   start = λ none. absurd (starts none);
-  stopped = λ five. inr (told five);
 }
 
 pub keeps_started : (old new : Report) → new.layout_fault ≡ old.layout_fault → KeepsReport 0 old new
-keeps_started old new same = keeps_fault 0 old new same (λ none. absurd (cc)) (λ five. absurd (omega (arith, five)))
+keeps_started old new same = keeps_fault 0 old new same (λ none. absurd (cc))
 
 -- where the layout is refused
 pub keeps_but_fault : (r : Report) (fault : ℕ) → KeepsReport 1 r (record r { layout_fault = fault })
@@ -56,16 +59,15 @@ keeps_but_fault r fault = record {
   fault = λ other. absurd (other refl);
   banks = λ idle. (refl, refl);
   start = λ none. same_start r fault;
-  stopped = λ five. absurd (omega (arith, five));
 }
 
 -- no step lies anywhere
-pub none_lie : (n reach : ℕ) (steps : List Step) → n ≡ 0 → All (LiesBefore reach) (take n steps)
-none_lie n reach steps none = subst (λ (i : ℕ). All (LiesBefore reach) (take i steps)) (sym none) (λ k d lt. absurd (omega (arith, lt)))
+pub none_lie : (n low high : ℕ) (steps : List Step) → n ≡ 0 → All (LiesWithin low high) (take n steps)
+none_lie n low high steps none = subst (λ (i : ℕ). All (LiesWithin low high) (take i steps)) (sym none) (λ k d lt. absurd (omega (arith, lt)))
 
 -- steps that reach less far
-pub lie_further : (near far : ℕ) (steps : List Step) → near ≤ far → All (LiesBefore near) steps → All (LiesBefore far) steps
-lie_further near far steps more all = λ k d lt. elim (all k d lt) [
+pub lie_further : (low near far : ℕ) (steps : List Step) → near ≤ far → All (LiesWithin low near) steps → All (LiesWithin low far) steps
+lie_further low near far steps more all = λ k d lt. elim (all k d lt) [
   | inl barrier ↦ inl barrier
   | inr place ↦ inr (place.0, omega (arith, place.1, more))
 ]
@@ -114,7 +116,7 @@ unmade_by image NoMemory unmade =
 -- what a device handed over
 pub told_handed : (image : List ℕ) (result number : ℕ) (old : Report) (old_steps : List Step) (old_room : List ℕ) (new : Report) (steps : List Step)
     (room : List ℕ) → HasFlashSize image → IsDeviceEnd number → (result ≡ number) ⊎ (result ≡ 7) → (IsTrue (is_idle_number result) → (new.steps ≡ 0) × (new.bytes ≡ 0))
-    → KeepsReport result old new → ((result ≡ 7 → ⊥) → All (LiesBefore update_reach) (take new.steps steps))
+    → KeepsReport result old new → ((result ≡ 7 → ⊥) → All (LiesWithin block_bytes (length image)) (take new.steps steps))
     → (drop new.steps steps ≡ drop new.steps old_steps) × (drop new.bytes room ≡ drop new.bytes old_room) → (result ≡ 5 → new.steps ≡ length old_steps) → (result ≡ 7 → IsUntouched old old_steps old_room new steps room)
     → TellsSteps image result old old_steps old_room new steps room
 told_handed image result number old old_steps old_room new steps room is end (inl same) idle kept spared behind full untouched = record {

@@ -6,7 +6,7 @@ use Rattle.base_core.specs.Block.{block_bytes}
 use Rattle.flash_core.specs.Told.{Told, fresh}
 use Rattle.fwu_formats.specs.Digests.{passes_any}
 use Rattle.fwu_formats.specs.Image.{layout_seen, deciding}
-use Rattle.fwu_formats.specs.Layout.{Layout}
+use Rattle.fwu_formats.specs.Layout.{Layout, fits_layout, start}
 use Rattle.fwu_formats.specs.Metadata.{MetaRead}
 use Rattle.fwu_formats.specs.declared.kinds.BankState.{BankState}
 use Rattle.fwu_formats.specs.declared.kinds.LayoutFault.{LayoutFault}
@@ -20,24 +20,27 @@ use Rattle.early_boot.specs.Ends.{Ended, booted}
 use Rattle.early_boot.specs.EndsBy.{BootEnds}
 use Rattle.step_flash.specs.declared.step.Step.{Step}
 use Rattle.step_flash.specs.declared.flash.StepFlash.{StepFlash}
-use Rattle.step_flash.specs.Flash.{block_count, told_of}
+use Rattle.step_flash.specs.Flash.{block_count, told_of, writes_of}
 use Rattle.step_flash.specs.Guard.{start_told, start_with}
 use Rattle.step_flash.specs.Stopped.{under_as}
 use Rattle.step_flash.specs.Steps.{AreDoable, IsInsideWith, room_bytes, run_with}
 use Rattle.step_flash.proofs.Room.{no_room_bytes}
 use Rattle.fwu_c.specs.declared.report.Report.{Report}
 use Rattle.fwu_c.specs.Codes.{end_code}
-use Rattle.fwu_c.specs.Handed.{HandsOver, HasFlashSize, IsDeviceEnd, TellsSteps, boot_reach, bounds_before, starts_none, update_reach}
+use Rattle.fwu_c.specs.Handed.{HandsOver, HasFlashSize, IsDeviceEnd, TellsSteps, boot_reach, starts_none}
 use Rattle.update_client.specs.declared.stops.SendStop.TheVariants.{MissingImage, ImageTooLarge, Begin, End, ReadFailed, Lost, Fault, Gone}
 use Rattle.fwu_c.specs.Sendings.{InstallsBy, IsOutcome, SendOutcome, outcome_code}
 use Rattle.fwu_c.specs.Updates.{ReportsBoot, IsNotBooted, IsOnTrial, ReportsNone, UpdateEnds, Updated, UpdatesBy}
-use Rattle.fwu_c.specs.Updates.{on_trial, not_booted, tried, update_bounds, update_code, ReportsUpdate, SparesInUse}
+use Rattle.fwu_c.specs.Updates.{on_trial, not_booted, tried, update_code, ReportsUpdate, SparesInUse}
 use Rattle.agent_machine.specs.Moment.{Moment}
+use Rattle.agent_machine.specs.Beside.{IsSparedByAll, SparesBlocksByAll}
+use Rattle.fwu_formats.proofs.Read.{layout-fits}
+use Rattle.step_flash.specs.Writes.{LiesWithin}
 use Rattle.fwu_c.specs.Agents.{BeginsAgent}
-use Rattle.fwu_c.specs.declared.handing.Bounds.{Bounds}
 use Rattle.fwu_c.proofs.SentPackage.{setting_of}
-use Rattle.fwu_c.proofs.Telling.{keeps_fault, none_lie, told_handed}
-use Rattle.fwu_c.proofs.Booting.{code_few, end_same, guard_kept, over, start_same}
+use Rattle.fwu_c.proofs.Places.{has-blocks, in-use-unwritten, update-touches}
+use Rattle.fwu_c.proofs.Telling.{keeps_fault, lie_further, none_lie, told_handed}
+use Rattle.fwu_c.proofs.Booting.{code_few, counted_from_none, end_same, guard_kept, over, start_same}
 
 -- ---- trials
 
@@ -149,18 +152,18 @@ pub told_denied : (image : List ℕ) (old : Report) (old_steps : List Step) (old
     → TellsSteps image 16 old old_steps old_room new steps room
 told_denied image old old_steps old_room new steps room is same none same_steps same_room =
     told_handed image 16 16 old old_steps old_room new steps room is (λ four. omega (arith, four), λ six. omega (arith, six), λ seven. omega (arith, seven))
-    (inl refl) (λ idle. absurd (cc)) (keeps_fault 16 old new same (λ none. absurd (cc)) (λ five. absurd (omega (arith, five))))
-    (λ not. none_lie new.steps update_reach steps none) (ap (λ (x : List Step). drop new.steps x) same_steps, ap (λ (x : List ℕ). drop new.bytes x) same_room)
+    (inl refl) (λ idle. absurd (cc)) (keeps_fault 16 old new same (λ none. absurd (cc)))
+    (λ not. none_lie new.steps block_bytes (length image) steps none) (ap (λ (x : List Step). drop new.steps x) same_steps, ap (λ (x : List ℕ). drop new.bytes x) same_room)
     (λ five. absurd (omega (arith, five))) (λ seven. absurd (omega (arith, seven)))
 
 -- ---- the record
 
-updates_by : (image file : List ℕ) (request : ℕ) (first d : StepFlash) (bounds : Bounds) (e : Updated) (number : ℕ) (told r : Report) (steps : List Step) (room : List ℕ)
+updates_by : (image file : List ℕ) (request : ℕ) (first d : StepFlash) (e : Updated) (number : ℕ) (old told r : Report) (steps : List Step) (room : List ℕ)
     → told_of first ≡ start_with image file → length image ≡ block_bytes * block_count first → block_count d ≡ block_count first
-    → (told_of d).guard ≡ (told_of first).guard → UpdateEnds image file request e (told_of d) → HandsOver d bounds told r steps room
-    → SparesInUse e (take r.steps steps) → number ≡ update_code e → ReportsUpdate e r → UpdatesBy image file request number r steps room
-updates_by image file request first d bounds e number told r steps room made size same_size kept ends hands spared is reports =
-    let o = over image file first d bounds told r steps room made size same_size kept hands in
+    → (told_of d).guard ≡ (told_of first).guard → UpdateEnds image file request e (told_of d) → HandsOver d told r steps room
+    → SparesInUse e (take r.steps steps) → number ≡ update_code e → ReportsUpdate e old r → UpdatesBy image file request number old r steps room
+updates_by image file request first d e number old told r steps room made size same_size kept ends hands spared is reports =
+    let o = over image file first d told r steps room made size same_size kept hands in
     record {
       end = e;
       number_is = is;
@@ -173,31 +176,17 @@ updates_by image file request first d bounds e number told r steps room made siz
       reports = reports;
     }
 
--- the bounds of an agent that begins with a bank are those by the bank
-pub bounds_begun : (b : Started) (m : Moment) (gone : Bool) (bounds : Bounds) → BeginsAgent b m gone
-    → bounds ≡ update_bounds m.fields.layout m.fields.boot → bounds ≡ update_bounds b.layout b.bank
-bounds_begun b m gone bounds begins is =
-    is ∙ ap (λ (L : Layout). update_bounds L m.fields.boot) begins.from.layout ∙ ap (λ (k : ℕ). update_bounds b.layout k) begins.from.boot
-
-pub bounds_agent : (b : Started) (m : Moment) (gone : Bool) (bounds : Bounds) → BeginsAgent b m gone
-    → bounds ≡ update_bounds b.layout b.bank → bounds ≡ update_bounds m.fields.layout m.fields.boot
-bounds_agent b m gone bounds begins is =
-    is ∙ ap (λ (L : Layout). update_bounds L b.bank) (sym begins.from.layout) ∙ ap (λ (k : ℕ). update_bounds m.fields.layout k) (sym begins.from.boot)
-
-pub handed_in : (d : StepFlash) (x y : Bounds) (told r : Report) (steps : List Step) (room : List ℕ) → x ≡ y → HandsOver d x told r steps room
-    → HandsOver d y told r steps room
-handed_in d x y told r steps room same hands = subst (λ (z : Bounds). HandsOver d z told r steps room) same hands
-
 -- the boot started no bank
 pub unbooted_by : (image file : List ℕ) (request : ℕ) (first d : StepFlash) (number given : ℕ) (old told r : Report)
     (steps : List Step) (room : List ℕ)
     → told_of first ≡ start_with image file → length image ≡ block_bytes * block_count first → ReportsNone given first d old told
-    → HandsOver d (bounds_before boot_reach) told r steps room → number ≡ given → UpdatesBy image file request number r steps room
-unbooted_by image file request first d number given old told r steps room made size none hands is =
-    updates_by image file request first d (bounds_before boot_reach) (not_booted none.end) number told r steps room made size none.size
+    → HandsOver d told r steps room → ((k : ℕ) → writes_of first k ≡ 0) → number ≡ given → UpdatesBy image file request number old r steps room
+unbooted_by image file request first d number given old told r steps room made size none hands unwritten is =
+    updates_by image file request first d (not_booted none.end) number old told r steps room made size none.size
     (guard_kept (told_of first) (told_of d) none.end none.boots.by_bytes)
-    (none.is, subst (λ (x : Told). BootEnds (λ m. passes_any m) x none.end (told_of d)) made none.boots) hands hands.places (is ∙ none.number_is)
-    (end_same none.end told r hands.same none.reports)
+    (none.is, subst (λ (x : Told). BootEnds (λ m. passes_any m) x none.end (told_of d)) made none.boots) hands
+    (hands.lie.places 1 7 (counted_from_none block_bytes boot_reach unwritten none.touches)) (is ∙ none.number_is)
+    (end_same none.end old told r hands.same none.reports)
 
 -- a sending keeps the guard, since the boot before it left a flash that shows a state
 guard_by : (file : List ℕ) (request : ℕ) (b : Started) (outcome : SendOutcome) (old t : Told) (s : State) → IsShown b.layout old.now s
@@ -205,16 +194,37 @@ guard_by : (file : List ℕ) (request : ℕ) (b : Started) (outcome : SendOutcom
 guard_by file request b None old t s shown by = ap (λ (x : Told). x.guard) by.1
 guard_by file request b (Some result) old t s shown by = (by.answers (setting_of b.layout) s refl refl shown).guard_is
 
+-- what a sending spares, by the bank that was started
+abbrev pub SendingSpares : Started → StepFlash → StepFlash → Type 0
+SendingSpares b mid d = (k : ℕ) → IsSparedByAll b.layout b.bank (block_bytes * k) → writes_of d k ≡ writes_of mid k
+
+pub sending_spares : (b : Started) (m : Moment) (gone : Bool) (mid d : StepFlash) → BeginsAgent b m gone
+    → SparesBlocksByAll m.fields (writes_of mid) (writes_of d) → SendingSpares b mid d
+sending_spares b m gone mid d begins touches k spared =
+    touches k (subst (λ (L : Layout). IsSparedByAll L m.fields.boot (block_bytes * k)) (sym begins.from.layout)
+    (subst (λ (bank : ℕ). IsSparedByAll b.layout bank (block_bytes * k)) (sym begins.from.boot) spared))
+
+-- where the steps behind a boot of a bank lie: behind block 0
+pub tried_places : (image : List ℕ) (first mid d : StepFlash) (b : Started) (old told r : Report) (new : Report) (steps : List Step)
+    (room : List ℕ) → length image ≡ block_bytes * block_count first → block_count d ≡ block_count mid → ReportsBoot b first mid old told
+    → HandsOver d new r steps room → ((k : ℕ) → writes_of first k ≡ 0) → SendingSpares b mid d
+    → All (LiesWithin block_bytes (length image)) (take r.steps steps)
+tried_places image first mid d b old told r new steps room size same_size boots hands unwritten sent =
+    let touches = update-touches b.layout b.bank (layout-fits _ _ b.layout boots.layout) first mid d unwritten boots.touches sent in
+    let whole : block_bytes * block_count d ≤ length image = omega (arith, size, same_size, boots.size) in
+    lie_further block_bytes (block_bytes * block_count d) (length image) _ whole (hands.lie.places 1 (block_count d) touches)
+
 -- a bank was started, and the package tried
 pub tried_by : (image file : List ℕ) (request : ℕ) (first mid d : StepFlash) (b : Started) (outcome : SendOutcome) (number : ℕ)
     (old told r : Report) (steps : List Step) (room : List ℕ)
     → told_of first ≡ start_with image file → length image ≡ block_bytes * block_count first → block_count d ≡ block_count mid
-    → ReportsBoot b first mid old told → InstallsBy file request b outcome (told_of mid) (told_of d) → HandsOver d (update_bounds b.layout b.bank) told r steps room
-    → number ≡ outcome_code outcome → UpdatesBy image file request number r steps room
-tried_by image file request first mid d b outcome number old told r steps room made size same_size boots installs hands is =
+    → ReportsBoot b first mid old told → InstallsBy file request b outcome (told_of mid) (told_of d) → HandsOver d told r steps room
+    → ((k : ℕ) → writes_of first k ≡ 0) → SendingSpares b mid d → number ≡ outcome_code outcome → UpdatesBy image file request number old r steps room
+tried_by image file request first mid d b outcome number old told r steps room made size same_size boots installs hands unwritten sent is =
     let bytes = boots.ends.by_bytes in
     let shown : IsShown b.layout (told_of mid).now bytes.shows.0 = record { layout = boots.layout; shows = bytes.shows.1 } in
-    updates_by image file request first d (update_bounds b.layout b.bank) (tried b boots.numbers outcome) number told r steps room made size
+    let fits : IsTrue (fits_layout b.layout) = layout-fits _ _ b.layout boots.layout in
+    updates_by image file request first d (tried b boots.numbers outcome) number old told r steps room made size
     (same_size ∙ boots.size)
     (guard_by file request b outcome (told_of mid) (told_of d) bytes.shows.0 shown installs
     ∙ guard_kept (told_of first) (told_of mid) (booted b boots.numbers) bytes)
@@ -222,13 +232,15 @@ tried_by image file request first mid d b outcome number old told r steps room m
       mid = told_of mid;
       boots = subst (λ (x : Told). BootEnds (λ m. passes_any m) x (booted b boots.numbers) (told_of mid)) made boots.ends;
       installs = installs;
-    }) hands hands.outside is (start_same b told r hands.same boots.reports)
+    }) hands
+    (hands.lie.beside (start b.layout b.bank 0) (start b.layout (b.bank + 1) 0) (has-blocks b.layout b.bank fits)
+    (in-use-unwritten b.layout b.bank fits first mid d unwritten boots.touches sent)) is (start_same b told r hands.same boots.reports)
 
 -- nothing was tried
-pub denied_by : (image file : List ℕ) (request : ℕ) (r : Report) (steps : List Step) (room : List ℕ) → IsOnTrial image
-    → r.steps ≡ 0 → r.bytes ≡ 0 → UpdatesBy image file request 16 r steps room
+pub denied_by : (image file : List ℕ) (request : ℕ) (old r : Report) (steps : List Step) (room : List ℕ) → IsOnTrial image
+    → r.steps ≡ 0 → r.bytes ≡ 0 → UpdatesBy image file request 16 old r steps room
 unfolding run_with fresh
-denied_by image file request r steps room trial none empty =
+denied_by image file request old r steps room trial none empty =
     let no_steps : take r.steps steps ≡ [] = ap (λ (n : ℕ). take n steps) none in
     let no_bytes : room_bytes [] ≡ 0 = no_room_bytes in
     record {
@@ -249,7 +261,7 @@ denied_by image file request r steps room trial none empty =
     }
 
 -- of the same image
-pub update_of_image : (image other file : List ℕ) (request number : ℕ) (r : Report) (steps : List Step) (room : List ℕ) → other ≡ image
-    → UpdatesBy other file request number r steps room → UpdatesBy image file request number r steps room
-update_of_image image other file request number r steps room same by =
-    subst (λ (i : List ℕ). UpdatesBy i file request number r steps room) same by
+pub update_of_image : (image other file : List ℕ) (request number : ℕ) (old r : Report) (steps : List Step) (room : List ℕ) → other ≡ image
+    → UpdatesBy other file request number old r steps room → UpdatesBy image file request number old r steps room
+update_of_image image other file request number old r steps room same by =
+    subst (λ (i : List ℕ). UpdatesBy i file request number old r steps room) same by

@@ -1,5 +1,6 @@
 -- What C is told of a boot.
 use Rattle.std.specs.Prelude.{◌≡◌, ℕ, List, [], All, length, take}
+use Rattle.base_core.specs.Block.{block_bytes}
 use Rattle.flash_core.specs.Told.{Told}
 use Rattle.fwu_formats.specs.Digests.{passes_any}
 use Rattle.early_boot.specs.Ends.{Ended}
@@ -7,14 +8,15 @@ use Rattle.early_boot.specs.EndsBy.{BootEnds}
 use Rattle.step_flash.specs.declared.step.Step.{Step}
 use Rattle.step_flash.specs.Guard.{start_told}
 use Rattle.step_flash.specs.Steps.{AreDoable, run}
+use Rattle.step_flash.specs.Writes.{LiesWithin}
 use Rattle.fwu_c.specs.Codes.{end_code}
-use Rattle.fwu_c.specs.Handed.{IsWithin, LiesBefore, boot_reach}
+use Rattle.fwu_c.specs.Handed.{IsWithin, boot_reach}
 use Rattle.fwu_c.specs.Reports.{ReportsEnd}
 use Rattle.fwu_c.specs.declared.report.Report.{Report}
 
 -- From the image it boots as the definitions say. What the flash then tells is what the steps make of the image. At 5 an erase or a
 -- program beyond them may be under way.
-pub record BootsBy (image : List ℕ) (number : ℕ) (r : Report) (steps : List Step) (room : List ℕ) : Type 0 where
+pub record BootsBy (image : List ℕ) (number : ℕ) (old r : Report) (steps : List Step) (room : List ℕ) : Type 0 where
   pub end : Ended
   pub number_is : number ≡ end_code end
   pub t : Told
@@ -25,5 +27,5 @@ pub record BootsBy (image : List ℕ) (number : ℕ) (r : Report) (steps : List 
   -- an erase takes a block; a program or a copy goes over whole granules, which are erased when its turn comes
   pub doable : AreDoable [] (take r.bytes room) (start_told image) (take r.steps steps)
   -- each lies in blocks 1 to 6, and so in no bank
-  pub places : All (LiesBefore boot_reach) (take r.steps steps)
-  pub reports : ReportsEnd end r
+  pub places : All (LiesWithin block_bytes boot_reach) (take r.steps steps)
+  pub reports : ReportsEnd end old r

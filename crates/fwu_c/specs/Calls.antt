@@ -1,6 +1,8 @@
 -- What C is told of one call of the agent, in the session behind a boot of a bank.
 use Rattle.std.specs.Prelude.{◌≡◌, ◌≢◌, ℕ, ◌++◌, Bool, List, [], All, length, take, None, Some, Result, Ok, Err, OnOk, IsTrue, ⊤}
+use Rattle.base_core.specs.Block.{block_bytes}
 use Rattle.flash_core.specs.Told.{Told}
+use Rattle.flash_core.specs.Touches.{TouchesOnly}
 use Rattle.flash_core.specs.May.{Guards}
 use Rattle.flash_core.specs.declared.flash.FlashStop.{FlashStop}
 use Rattle.flash_core.specs.declared.flash.FlashStop.TheVariants as flash_stop
@@ -27,16 +29,17 @@ use Rattle.agent_machine.specs.declared.stop.Stop.TheVariants as stop
 use Rattle.agent_machine.specs.Meets.{IsRefused, flash_result}
 use Rattle.step_flash.specs.declared.step.Step.{Step}
 use Rattle.step_flash.specs.declared.flash.StepFlash.{StepFlash}
-use Rattle.step_flash.specs.Flash.{block_count, told_of}
+use Rattle.step_flash.specs.Flash.{block_count, told_of, writes_of}
 use Rattle.step_flash.specs.Guard.{start_told}
 use Rattle.step_flash.specs.Steps.{AreDoable, run}
+use Rattle.step_flash.specs.Writes.{LiesWithin}
 use Rattle.agent_calls.specs.Shown.{device, gone, moment}
 use Rattle.agent_calls.specs.declared.agent.Agent.{Agent}
 use Rattle.flash_core.specs.declared.flash.Flash.{Ghosts}
 use Rattle.fwu_c.specs.Agents.{BeginsAgent}
 use Rattle.fwu_c.specs.Codes.{fault_code}
-use Rattle.fwu_c.specs.Handed.{IsWithin, KeepsReport, LiesBefore, call_reach}
-use Rattle.fwu_c.specs.Reports.{ReportsStart}
+use Rattle.fwu_c.specs.Handed.{IsWithin, KeepsReport, call_reach}
+use Rattle.fwu_c.specs.Reports.{ReportsStart, SameStarts}
 use Rattle.fwu_c.specs.declared.calling.AgentCall.{AgentCall}
 use Rattle.fwu_c.specs.declared.calling.AgentCall.TheVariants.{Accept, Previous}
 use Rattle.fwu_c.specs.declared.report.Report.{Report}
@@ -79,9 +82,11 @@ abbrev pub IsNotTaken : TakenUp → Type 0
 IsNotTaken (taken b) = ⊥
 IsNotTaken other = ⊤
 
-abbrev pub ReportsTakeUp : TakenUp → Report → Type 0
-ReportsTakeUp (bad_layout f) r = r.layout_fault ≡ fault_code f
-ReportsTakeUp other r = ⊤
+-- at a stop what a start writes is as it was before
+abbrev pub ReportsTakeUp : TakenUp → Report → Report → Type 0
+ReportsTakeUp (bad_layout f) old r = r.layout_fault ≡ fault_code f
+ReportsTakeUp (stopped why) old r = SameStarts old r
+ReportsTakeUp other old r = ⊤
 
 -- The bank was taken up, and is reported as a boot reports it.
 pub record TakesUpBank (bank : ℕ) (b : Started) (first left : StepFlash) (old r : Report) : Type 0 where
@@ -91,6 +96,7 @@ pub record TakesUpBank (bank : ℕ) (b : Started) (first left : StepFlash) (old 
   pub kept : KeepsReport 0 old r
   -- the device in it has the size of the first one
   pub size : block_count left ≡ block_count first
+  pub touches : TouchesOnly block_bytes call_reach (writes_of first) (writes_of left)
 
 -- for an agent
 pub record TakesUp (bank : ℕ) (first left : StepFlash) (m : Moment) (gone : Bool) (old r : Report) : Type 0 where
@@ -104,11 +110,12 @@ pub record RefusesCall (bank number : ℕ) (first left : StepFlash) (old r : Rep
   pub is : IsNotTaken end
   pub number_is : number ≡ take_up_code end
   pub ends : TakeUpEnds (λ m. passes_any m) bank (told_of first) end (told_of left)
-  pub reports : ReportsTakeUp end r
+  pub reports : ReportsTakeUp end old r
   pub kept : KeepsReport number old r
   -- steps are told and not done, so no power is lost
   pub unlost : number ≢ 4
   pub size : block_count left ≡ block_count first
+  pub touches : TouchesOnly block_bytes call_reach (writes_of first) (writes_of left)
 
 -- ---- the call
 
@@ -164,6 +171,7 @@ pub record CalledBy {F : Ghosts StepFlash} (c : Call) (a : Agent StepFlash F) (l
   pub calls : (b : Started) → BeginsAgent b (moment a) (gone a) → CallsFrom c b result (told_of (device a)) (told_of left)
   pub ends : IsStepResult result
   pub size : block_count left ≡ block_count (device a)
+  pub touches : TouchesOnly block_bytes call_reach (writes_of (device a)) (writes_of left)
 
 -- ---- all of it
 
@@ -197,13 +205,13 @@ CallEnds image bank c (not_taken e) t = IsNotTaken e × TakeUpEnds (λ m. passes
 CallEnds image bank c (called b result) t = MakesCall image bank c b result t
 
 -- each end has its own fields; the bank is told as a boot tells it, by the numbers before the call
-abbrev pub ReportsCall : Called → Report → Type 0
-ReportsCall (not_taken e) r = ReportsTakeUp e r
-ReportsCall (called b result) r = ReportsStart b r
+abbrev pub ReportsCall : Called → Report → Report → Type 0
+ReportsCall (not_taken e) old r = ReportsTakeUp e old r
+ReportsCall (called b result) old r = ReportsStart b r
 
 -- From the image it makes the call as the definitions say. What the flash then tells is what the steps make of the image. At 5 an
 -- erase or a program beyond them may be under way.
-pub record CallsBy (image : List ℕ) (bank : ℕ) (c : Call) (number : ℕ) (r : Report) (steps : List Step)
+pub record CallsBy (image : List ℕ) (bank : ℕ) (c : Call) (number : ℕ) (old r : Report) (steps : List Step)
     (room : List ℕ) : Type 0 where
   pub end : Called
   pub number_is : number ≡ called_code end
@@ -214,9 +222,9 @@ pub record CallsBy (image : List ℕ) (bank : ℕ) (c : Call) (number : ℕ) (r 
   pub within : IsWithin (length image) r steps room
   -- an erase takes a block; a program or a copy goes over whole granules, which are erased when its turn comes
   pub doable : AreDoable [] (take r.bytes room) (start_told image) (take r.steps steps)
-  -- each lies in blocks 1 to 3, and so in no bank
-  pub places : All (LiesBefore call_reach) (take r.steps steps)
-  pub reports : ReportsCall end r
+  -- each lies in blocks 1 and 2, and so in no bank
+  pub places : All (LiesWithin block_bytes call_reach) (take r.steps steps)
+  pub reports : ReportsCall end old r
 
 -- 6 and 7 tell nothing
 abbrev pub TellsCall : ℕ → Type 0

@@ -1,47 +1,31 @@
 -- The steps of a device, as they were handed over.
-use Rattle.std.specs.Prelude.{◌≡◌, ◌≢◌, ◌↔◌, ◌⊎◌, ◌≤◌, ◌+◌, ◌*◌, ◌==◌, ◌||◌, true, All, Bool, ℕ, List, IsTrue, drop, length, take}
+use Rattle.std.specs.Prelude.{◌≡◌, ◌≢◌, ◌↔◌, ◌⊎◌, ◌<◌, ◌≤◌, ◌+◌, ◌*◌, ◌==◌, ◌||◌, true, All, Bool, ℕ, List, IsTrue, drop, length, take}
 use Rattle.base_core.specs.Block.{block_bytes, fewest_blocks, most_blocks}
 use Rattle.flash_core.specs.Told.{Told}
+use Rattle.flash_core.specs.Touches.{TouchesOnly}
 use Rattle.step_flash.specs.declared.step.Step.{Step}
 use Rattle.step_flash.specs.declared.flash.StepFlash.{StepFlash}
 use Rattle.step_flash.specs.declared.flash.Unmade.{Unmade}
 use Rattle.step_flash.specs.declared.flash.Unmade.TheVariants.{NoFlash, NoMemory}
-use Rattle.step_flash.specs.Flash.{block_count, image_of, is_on, package_of, told_of}
+use Rattle.step_flash.specs.Flash.{block_count, image_of, is_on, package_of, told_of, writes_of}
 use Rattle.step_flash.specs.Guard.{start_with}
 use Rattle.step_flash.specs.Stopped.{under_as}
 use Rattle.step_flash.specs.Steps.{AreDoable, IsInsideWith, room_bytes, run_with}
-use Rattle.early_boot.specs.Started.{Started}
-use Rattle.fwu_c.specs.Reports.{ReportsStart}
+use Rattle.step_flash.specs.Writes.{LiesBeside, LiesWithin}
+use Rattle.fwu_c.specs.Reports.{SameStart}
 use Rattle.fwu_c.specs.declared.report.Report.{Report}
-use Rattle.fwu_c.specs.declared.handing.Bounds.{Bounds}
 
 -- nothing but the numbers of steps and of bytes changed
 abbrev pub SameBut : Report → Report → Type 0
 SameBut old new = new ≡ record old { steps = new.steps; bytes = new.bytes }
 
--- A step is a barrier, or lies behind block 0 and ends before this byte of the flash.
-abbrev pub LiesBefore : ℕ → Step → Type 0
-LiesBefore reach s = (s.kind ≡ 3) ⊎ (block_bytes ≤ s.at) × (s.at + s.length ≤ reach)
-
--- A step is a barrier, or lies before so many blocks or behind them.
-abbrev pub LiesOutside : ℕ → ℕ → Step → Type 0
-LiesOutside first count s = (s.kind ≡ 3) ⊎ (s.at + s.length ≤ block_bytes * first) ⊎ (block_bytes * (first + count) ≤ s.at)
-
--- A boot writes blocks 1 to 6 alone: the replicas, the marks and the records of the counter. A call of the agent writes blocks 1 to 3
--- alone: the replicas, and the marks of the starts on trial. So both spare each bank. Behind a boot an update writes a bank too, and
--- spares that in use.
+-- A boot writes blocks 1 to 6 alone: the replicas, the marks and the records of the counter.
 abbrev pub boot_reach : ℕ
 boot_reach = 28672
 
+-- A call of the agent writes blocks 1 and 2 alone, the replicas.
 abbrev pub call_reach : ℕ
-call_reach = 16384
-
-abbrev pub update_reach : ℕ
-update_reach = 4294967295
-
--- where no bank has to be spared beside
-abbrev pub bounds_before : ℕ → Bounds
-bounds_before reach = record { reach = reach; first = 0; count = 0 }
+call_reach = 12288
 
 -- The report counts steps and bytes that there are, and each of these steps lies within a flash of so many bytes. Its bytes lie
 -- within those that are counted, or those of a copy within a package of so many.
@@ -56,9 +40,16 @@ pub record IsWithinWith (file size : ℕ) (r : Report) (steps : List Step) (room
 abbrev pub IsWithin : ℕ → Report → List Step → List ℕ → Type 0
 IsWithin size r steps room = IsWithinWith 0 size r steps room
 
+-- Steps lie where the device counts erases and programs, and nowhere else.
+pub record LieAsCounted (d : StepFlash) (steps : List Step) : Type 0 where
+  pub places : (first last : ℕ) → TouchesOnly (block_bytes * first) (block_bytes * last) (λ b. 0) (writes_of d)
+      → All (LiesWithin (block_bytes * first) (block_bytes * last)) steps
+  pub beside : (first last : ℕ) → first < last → ((b : ℕ) → first ≤ b → b < last → writes_of d b ≡ 0)
+      → All (LiesBeside (block_bytes * first) (block_bytes * last)) steps
+
 -- The steps that are reported make of the device's image what it tells, beside an operation under way; and the rest of the report
 -- is what was to be told.
-pub record HandsOver (d : StepFlash) (bounds : Bounds) (told r : Report) (steps : List Step) (room : List ℕ) : Type 0 where
+pub record HandsOver (d : StepFlash) (told r : Report) (steps : List Step) (room : List ℕ) : Type 0 where
   pub left : told_of d
       ≡ under_as (told_of d).under
       (run_with (package_of d) (take r.bytes room) (start_with (image_of d) (package_of d)) (take r.steps steps))
@@ -66,8 +57,7 @@ pub record HandsOver (d : StepFlash) (bounds : Bounds) (told r : Report) (steps 
   -- each step can be done when its turn comes
   pub doable : AreDoable (package_of d) (take r.bytes room) (start_with (image_of d) (package_of d)) (take r.steps steps)
   pub same : SameBut told r
-  pub places : All (LiesBefore bounds.reach) (take r.steps steps)
-  pub outside : All (LiesOutside bounds.first bounds.count) (take r.steps steps)
+  pub lie : LieAsCounted d (take r.steps steps)
 
 -- there is no layout or no metadata, or no boot started the bank
 abbrev pub is_idle_number : ℕ → Bool
@@ -82,6 +72,7 @@ pub record IsJustMade (file : List ℕ) (d : StepFlash) : Type 0 where
   pub on : is_on d ≡ true
   pub fresh : told_of d ≡ start_with (image_of d) file
   pub size : length (image_of d) ≡ block_bytes * block_count d
+  pub unwritten : (b : ℕ) → writes_of d b ≡ 0
 
 -- there is no device over the image: it is no flash, or memory is wanting
 abbrev pub unmade_code : Unmade → ℕ
@@ -106,29 +97,11 @@ pub record HasFlashSize (image : List ℕ) : Type 0 where
 abbrev pub starts_none : ℕ → Bool
 starts_none number = is_idle_number number || number == 3
 
--- what a start writes but the banks
-pub record SameStart (old new : Report) : Type 0 where
-  pub bank : new.bank ≡ old.bank
-  pub version : new.version ≡ old.version
-  pub trials : new.trials ≡ old.trials
-  pub counter : new.counter ≡ old.counter
-  pub fallback : new.fallback ≡ old.fallback
-  pub images : new.images ≡ old.images
-  pub lengths : new.lengths ≡ old.lengths
-
--- what a start writes, as it was before
-pub record SameStarts (old new : Report) : Type 0 where
-  pub start : SameStart old new
-  pub active : new.active ≡ old.active
-  pub previous : new.previous ≡ old.previous
-
 -- Of the report a number's own fields are written: the fault at 1, the banks at 3, and all but the fault where a bank was started.
 pub record KeepsReport (number : ℕ) (old new : Report) : Type 0 where
   pub fault : number ≢ 1 → new.layout_fault ≡ old.layout_fault
   pub banks : IsTrue (is_idle_number number) → (new.active ≡ old.active) × (new.previous ≡ old.previous)
   pub start : IsTrue (starts_none number) → SameStart old new
-  -- at 5 none is written, or a start is told
-  pub stopped : number ≡ 5 → SameStarts old new ⊎ ((b : Started) × ReportsStart b new)
 
 -- What each call that tells steps promises, whatever it is asked for: of what C handed in, and has then.
 pub record TellsSteps (image : List ℕ) (number : ℕ) (old : Report) (old_steps : List Step) (old_room : List ℕ) (new : Report)
@@ -140,7 +113,7 @@ pub record TellsSteps (image : List ℕ) (number : ℕ) (old : Report) (old_step
   -- of the other fields none is written but the number's own
   pub kept : KeepsReport number old new
   -- no step that is told writes block 0, the layout
-  pub spared : number ≢ 6 → number ≢ 7 → All (LiesBefore update_reach) (take new.steps steps)
+  pub spared : number ≢ 6 → number ≢ 7 → All (LiesWithin block_bytes (length image)) (take new.steps steps)
   -- what stands behind those that are told stays as it was
   pub behind : (drop new.steps steps ≡ drop new.steps old_steps) × (drop new.bytes room ≡ drop new.bytes old_room)
   -- at 5 as many steps are told as there is room for

@@ -17,11 +17,27 @@ pub record ReportsStart (b : Started) (r : Report) : Type 0 where
   pub images : r.images ≡ length b.layout.rows
   pub lengths : take r.images r.lengths ≡ b.lengths
 
--- each end has its own fields
-abbrev pub ReportsEnd : Ended → Report → Type 0
-ReportsEnd (booted b n) r = ReportsStart b r
-ReportsEnd (bad_layout f) r = r.layout_fault ≡ fault_code f
-ReportsEnd no_metadata r = ⊤
-ReportsEnd (no_bank active previous) r = (r.active ≡ active) × (r.previous ≡ previous)
-ReportsEnd (lost n) r = ⊤
-ReportsEnd (failed n) r = ⊤
+-- what a start writes but the banks
+pub record SameStart (old new : Report) : Type 0 where
+  pub bank : new.bank ≡ old.bank
+  pub version : new.version ≡ old.version
+  pub trials : new.trials ≡ old.trials
+  pub counter : new.counter ≡ old.counter
+  pub fallback : new.fallback ≡ old.fallback
+  pub images : new.images ≡ old.images
+  pub lengths : new.lengths ≡ old.lengths
+
+-- what a start writes, as it was before
+pub record SameStarts (old new : Report) : Type 0 where
+  pub start : SameStart old new
+  pub active : new.active ≡ old.active
+  pub previous : new.previous ≡ old.previous
+
+-- Each end has its own fields. A stop has none, and what a start writes is then as it was before.
+abbrev pub ReportsEnd : Ended → Report → Report → Type 0
+ReportsEnd (booted b n) old r = ReportsStart b r
+ReportsEnd (bad_layout f) old r = r.layout_fault ≡ fault_code f
+ReportsEnd no_metadata old r = ⊤
+ReportsEnd (no_bank active previous) old r = (r.active ≡ active) × (r.previous ≡ previous)
+ReportsEnd (lost n) old r = SameStarts old r
+ReportsEnd (failed n) old r = SameStarts old r

@@ -12,12 +12,12 @@ use Rattle.fwu_model.specs.Answer.{Answer, first_image_fault, images_of}
 use Rattle.fwu_model.specs.Calm.{IsAtRest}
 use Rattle.moves.specs.Moved.{Does, GuardedBy, IsReady, IsShown}
 use Rattle.early_boot.specs.Started.{Started, started_session}
-use Rattle.agent_machine.specs.Beside.{IsSparedByAll, KeepsWhere}
+use Rattle.agent_machine.specs.Beside.{IsSparedByAll, KeepsWhere, SparesBlocksByAll}
 use Rattle.agent_calls.specs.Shown.{device, gone, moment}
 use Rattle.agent_calls.specs.declared.agent.Agent.{Agent}
 use Rattle.flash_core.specs.declared.flash.Flash.{Ghosts}
 use Rattle.step_flash.specs.declared.flash.StepFlash.{StepFlash}
-use Rattle.step_flash.specs.Flash.{block_count, told_of}
+use Rattle.step_flash.specs.Flash.{block_count, told_of, writes_of}
 use Rattle.fwu_c.specs.Agents.{BeginsAgent}
 use Rattle.update_client.specs.declared.stops.Sent.{Sent}
 use Rattle.update_client.specs.declared.stops.SendStop.{SendStop}
@@ -112,3 +112,5 @@ pub record TriesBy {F : Ghosts StepFlash} (file : List ℕ) (request : ℕ) (a :
       → InstallsBy file request b outcome (told_of (device a)) (told_of left)
   pub ends : IsOutcome outcome
   pub size : block_count left ≡ block_count (device a)
+  -- no block is erased or programmed but 1 to 3, and those of the bank that follows the one that was started
+  pub touches : SparesBlocksByAll (moment a).fields (writes_of (device a)) (writes_of left)

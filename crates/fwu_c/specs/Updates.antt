@@ -1,6 +1,8 @@
 -- What C is told of an update.
-use Rattle.std.specs.Prelude.{◌≡◌, ◌≢◌, ℕ, ◌+◌, All, Bool, List, length, take, Some, Ok, IsTrue, ⊤}
+use Rattle.std.specs.Prelude.{◌≡◌, ◌≢◌, ℕ, ◌+◌, ◌*◌, All, Bool, List, length, take, Some, Ok, IsTrue, ⊤}
+use Rattle.base_core.specs.Block.{block_bytes}
 use Rattle.flash_core.specs.Told.{Told}
+use Rattle.flash_core.specs.Touches.{TouchesOnly}
 use Rattle.fwu_formats.specs.Digests.{passes_any}
 use Rattle.fwu_formats.specs.Image.{layout_seen}
 use Rattle.fwu_model.specs.State.{State, Numbers, bank, is_valid}
@@ -11,14 +13,14 @@ use Rattle.early_boot.specs.EndsBy.{BootEnds}
 use Rattle.agent_machine.specs.Moment.{Moment}
 use Rattle.step_flash.specs.declared.step.Step.{Step}
 use Rattle.step_flash.specs.declared.flash.StepFlash.{StepFlash}
-use Rattle.step_flash.specs.Flash.{block_count, told_of}
+use Rattle.step_flash.specs.Flash.{block_count, told_of, writes_of}
 use Rattle.step_flash.specs.Guard.{start_with}
 use Rattle.step_flash.specs.Steps.{AreDoable, run_with}
+use Rattle.step_flash.specs.Writes.{LiesBeside, LiesWithin}
 use Rattle.fwu_c.specs.Agents.{BeginsAgent}
 use Rattle.fwu_c.specs.Codes.{end_code}
-use Rattle.fwu_formats.specs.Layout.{Layout, slot_total, start}
-use Rattle.fwu_c.specs.Handed.{IsWithinWith, KeepsReport, LiesBefore, LiesOutside, boot_reach, update_reach}
-use Rattle.fwu_c.specs.declared.handing.Bounds.{Bounds}
+use Rattle.fwu_formats.specs.Layout.{start}
+use Rattle.fwu_c.specs.Handed.{IsWithinWith, KeepsReport, boot_reach}
 use Rattle.fwu_c.specs.Reports.{ReportsEnd, ReportsStart}
 use Rattle.fwu_c.specs.Sendings.{SendOutcome, InstallsBy, outcome_code}
 use Rattle.fwu_c.specs.declared.report.Report.{Report}
@@ -58,6 +60,7 @@ pub record ReportsBoot (b : Started) (first left : StepFlash) (old r : Report) :
   pub kept : KeepsReport 0 old r
   -- the device in it has the size of the first one
   pub size : block_count left ≡ block_count first
+  pub touches : TouchesOnly block_bytes boot_reach (writes_of first) (writes_of left)
 
 -- for an agent
 pub record BootsUp (first left : StepFlash) (m : Moment) (gone : Bool) (old r : Report) : Type 0 where
@@ -71,11 +74,12 @@ pub record ReportsNone (number : ℕ) (first left : StepFlash) (old r : Report) 
   pub is : IsNotBooted end
   pub number_is : number ≡ end_code end
   pub boots : BootEnds (λ m. passes_any m) (told_of first) end (told_of left)
-  pub reports : ReportsEnd end r
+  pub reports : ReportsEnd end old r
   pub kept : KeepsReport number old r
   -- steps are told and not done, so no power is lost
   pub unlost : number ≢ 4
   pub size : block_count left ≡ block_count first
+  pub touches : TouchesOnly block_bytes boot_reach (writes_of first) (writes_of left)
 
 -- the boot as the definitions say, and from what it leaves the sending
 pub record TriesPackage (image file : List ℕ) (request : ℕ) (b : Started) (n : Numbers) (outcome : SendOutcome)
@@ -90,24 +94,22 @@ UpdateEnds image file request (not_booted e) t = IsNotBooted e × BootEnds (λ m
 UpdateEnds image file request (tried b n outcome) t = TriesPackage image file request b n outcome t
 
 -- each end has its own fields; the bank that the boot started is told as a boot tells it
-abbrev pub ReportsUpdate : Updated → Report → Type 0
-ReportsUpdate on_trial r = (r.steps ≡ 0) × (r.bytes ≡ 0)
-ReportsUpdate (not_booted e) r = ReportsEnd e r
-ReportsUpdate (tried b n outcome) r = ReportsStart b r
-
--- where an update may write whose boot started this bank: anywhere behind block 0 but there
-abbrev pub update_bounds : Layout → ℕ → Bounds
-update_bounds L bank = record { reach = update_reach; first = start L bank 0; count = slot_total L.rows }
+abbrev pub ReportsUpdate : Updated → Report → Report → Type 0
+ReportsUpdate on_trial old r = (r.steps ≡ 0) × (r.bytes ≡ 0)
+ReportsUpdate (not_booted e) old r = ReportsEnd e old r
+ReportsUpdate (tried b n outcome) old r = ReportsStart b r
 
 -- Each step but a barrier lies outside the bank that the boot started. Where it started none each lies in blocks 1 to 6.
 abbrev pub SparesInUse : Updated → List Step → Type 0
 SparesInUse on_trial steps = ⊤
-SparesInUse (not_booted e) steps = All (LiesBefore boot_reach) steps
-SparesInUse (tried b n outcome) steps = All (LiesOutside (start b.layout b.bank 0) (slot_total b.layout.rows)) steps
+SparesInUse (not_booted e) steps = All (LiesWithin block_bytes boot_reach) steps
+SparesInUse (tried b n outcome) steps =
+    All (LiesBeside (block_bytes * start b.layout b.bank 0) (block_bytes * start b.layout (b.bank + 1) 0)) steps
 
 -- From the image it updates as the definitions say. What the flash then tells is what the steps make of the image, with the bytes
 -- of copies from the package. At 5 an erase or a program beyond them may be under way.
-pub record UpdatesBy (image file : List ℕ) (request number : ℕ) (r : Report) (steps : List Step) (room : List ℕ) : Type 0 where
+pub record UpdatesBy (image file : List ℕ) (request number : ℕ) (old r : Report) (steps : List Step)
+    (room : List ℕ) : Type 0 where
   pub end : Updated
   pub number_is : number ≡ update_code end
   pub t : Told
@@ -119,4 +121,4 @@ pub record UpdatesBy (image file : List ℕ) (request number : ℕ) (r : Report)
   pub doable : AreDoable file (take r.bytes room) (start_with image file) (take r.steps steps)
   -- no step meets the bank in use
   pub spared : SparesInUse end (take r.steps steps)
-  pub reports : ReportsUpdate end r
+  pub reports : ReportsUpdate end old r

@@ -26,7 +26,7 @@ pub extern "C" fn fwu_accept(
     room: &mut [u8],
     report: &mut Report,
 ) -> u32
-    ensures accepts { TellsCall result → CallsBy image.now bank (Accepts guid.now) result report.new steps.new room.new }
+    ensures accepts { TellsCall result → CallsBy image.now bank (Accepts guid.now) result report.old report.new steps.new room.new }
     // Whatever it answers: no loss of power, and at 1, 2, 5 to 7 and 21 what that number says.
     ensures tells { TellsSteps image.now result report.old steps.old room.old report.new steps.new room.new }
 {
@@ -51,7 +51,7 @@ pub extern "C" fn fwu_previous(
     room: &mut [u8],
     report: &mut Report,
 ) -> u32
-    ensures selects { TellsCall result → CallsBy image.now bank Previous result report.new steps.new room.new }
+    ensures selects { TellsCall result → CallsBy image.now bank Previous result report.old report.new steps.new room.new }
     // Whatever it answers: no loss of power, and at 1, 2, 5 to 7 and 21 what that number says.
     ensures tells { TellsSteps image.now result report.old steps.old room.old report.new steps.new room.new }
 {

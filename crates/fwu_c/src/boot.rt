@@ -5,7 +5,7 @@ ghost use Rattle.step_flash.specs.Flash.{image_of};
 ghost use Rattle.fwu_c.specs.Boots.{BootsBy};
 ghost use Rattle.fwu_c.specs.Handed.{IsJustMade, TellsSteps};
 
-use crate::handing::{BOOT_REACH, Bounds, End, hand_over, unmade_number};
+use crate::handing::{hand_over, unmade_number};
 use crate::report::{Report, into_flash, report_end};
 use base_core::BLOCK_BYTES;
 use early_boot::boot_in;
@@ -27,7 +27,7 @@ pub extern "C" fn fwu_boot(
     report: &mut Report,
 ) -> u32
     ensures answers { result ≤ 7 }
-    ensures boots { result ≤ 5 → BootsBy image.now result report.new steps.new room.new }
+    ensures boots { result ≤ 5 → BootsBy image.now result report.old report.new steps.new room.new }
     // Whatever it answers: no loss of power, and at 1, 2 and 5 to 7 what that number says.
     ensures tells { TellsSteps image.now result report.old steps.old room.old report.new steps.new room.new }
 {
@@ -52,17 +52,11 @@ fn boot_over(
     requires new { IsJustMade [] flash }
     requires block { block_bytes ≤ length block.old }
     ensures answers { (result ≤ 5) ⊎ (result ≡ 7) }
-    ensures boots { result ≤ 5 → BootsBy (image_of flash.entry) result report.new steps.new room.new }
+    ensures boots { result ≤ 5 → BootsBy (image_of flash.entry) result report.old report.new steps.new room.new }
     ensures tells { TellsSteps (image_of flash.entry) result report.old steps.old room.old report.new steps.new room.new }
 {
     let end = boot_in(flash, &AnyManifest, &mut block[..BLOCK_BYTES as usize]);
     let mut told = *report;
     let number = report_end(&end, &mut told);
-    let bounds = Bounds {
-        reach: BOOT_REACH,
-        first: 0,
-        count: 0,
-    };
-    let told_end = End { number, bounds };
-    hand_over(into_flash(end), told_end, &told, steps, room, report)
+    hand_over(into_flash(end), number, &told, steps, room, report)
 }

@@ -8,12 +8,13 @@ ghost use Rattle.early_boot.specs.Started as boot;
 ghost use Rattle.agent_machine.specs.Meets.{IsRefused, Meets};
 ghost use Rattle.agent_calls.specs.Shown.{AgentGoes, device, fields, gone, moment};
 ghost use Rattle.agent_calls.specs.Started.{StartsFrom};
-ghost use Rattle.step_flash.specs.Flash.{image_of, is_on, told_of};
+ghost use Rattle.step_flash.specs.Flash.{image_of, is_on, told_of, writes_of};
+ghost use Rattle.flash_core.specs.Touches.{TouchesOnly};
 ghost use Rattle.fwu_c.specs.Calls.{CalledBy, CallsBy, IsAccepted, RefusesCall, TakesUpBank, TakesUp, TellsCall};
 ghost use Rattle.fwu_c.specs.Calls.{call_code, call_of, status_code, stop_code};
-ghost use Rattle.fwu_c.specs.Handed.{IsJustMade, TellsSteps};
+ghost use Rattle.fwu_c.specs.Handed.{IsJustMade, TellsSteps, call_reach};
 
-use crate::handing::{Bounds, CALL_REACH, End, hand_over, unmade_number};
+use crate::handing::{hand_over, unmade_number};
 use crate::kept_agent::{agent_of, flash_from};
 use crate::layouts::fault_number;
 use crate::report::{Report, report_start};
@@ -152,6 +153,7 @@ fn ask(agent: &mut Agent<StepFlash<'_>>, call: AgentCall) -> Result<(), Stop>
     ensures again { (b : Started) → StartsFrom b (fields agent.old) → IsAccepted (call_of call) b →
         told_of (device agent.new) ≡ told_of (device agent.old) }
     ensures goes { AgentGoes result agent.old agent.new }
+    ensures touches { TouchesOnly block_bytes call_reach (writes_of (device agent.old)) (writes_of (device agent.new)) }
 {
     match call {
         AgentCall::Accept(guid) => agent.accept(guid),
@@ -182,7 +184,8 @@ pub fn call_on(
     room: &mut [u8],
     report: &mut Report,
 ) -> u32
-    ensures calls { TellsCall result → CallsBy image.now asked.bank (call_of asked.call) result report.new steps.new room.new }
+    ensures calls { TellsCall result →
+        CallsBy image.now asked.bank (call_of asked.call) result report.old report.new steps.new room.new }
     ensures tells { TellsSteps image.now result report.old steps.old room.old report.new steps.new room.new }
 {
     let flash = match StepFlash::new(alloc, image, steps.len()) {
@@ -207,26 +210,19 @@ fn call_over(
     requires new { IsJustMade [] flash }
     requires block { block_bytes ≤ length block.old.items }
     ensures calls { TellsCall result →
-        CallsBy (image_of flash.entry) asked.bank (call_of asked.call) result report.new steps.new room.new }
+        CallsBy (image_of flash.entry) asked.bank (call_of asked.call) result report.old report.new steps.new room.new }
     ensures tells { TellsSteps (image_of flash.entry) result report.old steps.old room.old report.new steps.new room.new }
 {
     let alloc = *block.allocator();
     let mut told = *report;
-    let bounds = Bounds {
-        reach: CALL_REACH,
-        first: 0,
-        count: 0,
-    };
     match agent_taken_up(alloc, flash, asked.bank, block, &mut told) {
         Some(Ok(agent)) => {
             let (flash, done) = called(agent, asked.call);
             let number = call_number(&done);
-            let end = End { number, bounds };
-            hand_over(flash, end, &told, steps, room, report)
+            hand_over(flash, number, &told, steps, room, report)
         }
         Some(Err((flash, number))) => {
-            let end = End { number, bounds };
-            hand_over(flash, end, &told, steps, room, report)
+            hand_over(flash, number, &told, steps, room, report)
         }
         None => 7,
     }

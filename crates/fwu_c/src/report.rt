@@ -61,7 +61,7 @@ pub fn report_start<D: Flash>(booted: &Booted<D>, report: &mut Report)
 /// Reports how a boot ended, and answers its number.
 pub fn report_end<D: Flash>(end: &BootEnd<D>, report: &mut Report) -> u32
     ensures number { result ≡ end_code (ended end.now) }
-    ensures reports { ReportsEnd (ended end.now) report.new }
+    ensures reports { ReportsEnd (ended end.now) report.old report.new }
     ensures kept { KeepsReport result report.old report.new }
 {
     match end {

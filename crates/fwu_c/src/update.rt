@@ -8,9 +8,9 @@ ghost use Rattle.step_flash.specs.Flash.{image_of, is_on};
 ghost use Rattle.early_boot.specs.Started.{started};
 ghost use Rattle.early_boot.specs.Started as boot;
 ghost use Rattle.fwu_c.specs.Handed.{IsJustMade, TellsSteps};
-ghost use Rattle.fwu_c.specs.Updates.{ReportsBoot, BootsUp, TellsAnswer, IsOnTrial, ReportsNone, UpdatesBy, update_bounds};
+ghost use Rattle.fwu_c.specs.Updates.{ReportsBoot, BootsUp, TellsAnswer, IsOnTrial, ReportsNone, UpdatesBy};
 
-use crate::handing::{BOOT_REACH, Bounds, End, UPDATE_REACH, hand_over, unmade_number};
+use crate::handing::{hand_over, unmade_number};
 use crate::kept_agent::agent_of;
 use crate::packages::{MOST_PLACES, read_places};
 use crate::report::{Report, into_flash, report_end, report_start};
@@ -41,7 +41,7 @@ pub extern "C" fn fwu_update(
     report: &mut Report,
 ) -> u32
     ensures updates { TellsAnswer result →
-        UpdatesBy image.now file.now acceptance result report.new steps.new room.new }
+        UpdatesBy image.now file.now acceptance result report.old report.new steps.new room.new }
     // A boot would count one more start of a bank on trial. Nothing else is written then.
     ensures trial { IsOnTrial image.now → TellsAnswer result → (result ≡ 16)
         × (report.new ≡ record report.old { steps = 0; bytes = 0 }) × (steps.new ≡ steps.old) × (room.new ≡ room.old) }
@@ -105,7 +105,7 @@ fn update(
 ) -> u32
     requires { block_bytes ≤ length block.old.items }
     ensures updates { TellsAnswer result →
-        UpdatesBy image.now file.now acceptance result report.new steps.new room.new }
+        UpdatesBy image.now file.now acceptance result report.old report.new steps.new room.new }
     ensures tells { TellsSteps image.now result report.old steps.old room.old report.new steps.new room.new }
 {
     let mut places = [0; MOST_PLACES];
@@ -150,43 +150,25 @@ fn booted_up<'a>(
     }
 }
 
-/// Where the steps of an update may lie: outside the bank that was started.
-fn bounds_of(booted: &Booted<StepFlash<'_>>) -> Bounds
-    ensures { result ≡ update_bounds (started booted.now).layout (started booted.now).bank }
-{
-    let layout = booted.layout();
-    layout.fits();
-    let count = layout.start(1, 0) - layout.start(0, 0);
-    Bounds {
-        reach: UPDATE_REACH,
-        first: layout.start(booted.bank(), 0),
-        count,
-    }
-}
-
-/// Boots, for an agent of the bank that is started, and reports the end. With the agent comes where the steps may lie. Where no
-/// bank is started the number of the end comes with the device. None where there is no memory for the bank or for an agent.
+/// Boots, for an agent of the bank that is started, and reports the end. Where no bank is started the number of the
+/// end comes with the device. None where there is no memory for the bank or for an agent.
 fn boot_agent<'a>(
     alloc: Global,
     flash: StepFlash<'a>,
     block: &mut [u8],
     told: &mut Report,
-) -> Option<Result<(Box<Agent<StepFlash<'a>>>, Bounds), (StepFlash<'a>, u32)>>
+) -> Option<Result<Box<Agent<StepFlash<'a>>>, (StepFlash<'a>, u32)>>
     requires on { is_on flash ≡ true }
     requires room { block_bytes ≤ length block.old }
     ensures { IfSome result (λ end. MatchResult end
-        (λ a. BootsUp flash.entry (device a.0.value) (moment a.0.value) (gone a.0.value) told.old told.new
-        × (a.1 ≡ update_bounds (moment a.0.value).fields.layout (moment a.0.value).fields.boot))
+        (λ a. BootsUp flash.entry (device a.value) (moment a.value) (gone a.value) told.old told.new)
         (λ e. ReportsNone e.1 flash.entry e.0 told.old told.new)) }
 {
     match booted_up(alloc, flash, block, told) {
-        Some(Ok(booted)) => {
-            let bounds = bounds_of(&booted);
-            match agent_of(alloc, booted) {
-                Some(agent) => Some(Ok((agent, bounds))),
-                None => None,
-            }
-        }
+        Some(Ok(booted)) => match agent_of(alloc, booted) {
+            Some(agent) => Some(Ok(agent)),
+            None => None,
+        },
         Some(Err(left)) => Some(Err(left)),
         None => None,
     }
@@ -205,31 +187,20 @@ fn update_over(
     requires new { IsJustMade file.now flash }
     requires block { block_bytes ≤ length block.old.items }
     ensures updates { TellsAnswer result →
-        UpdatesBy (image_of flash.entry) file.now acceptance result report.new steps.new room.new }
+        UpdatesBy (image_of flash.entry) file.now acceptance result report.old report.new steps.new room.new }
     ensures tells { TellsSteps (image_of flash.entry) result report.old steps.old room.old report.new steps.new room.new }
 {
     let alloc = *block.allocator();
     let mut told = *report;
     match boot_agent(alloc, flash, block, &mut told) {
-        Some(Ok((agent, bounds))) => {
+        Some(Ok(agent)) => {
             let Some((flash, outcome)) = install(alloc, agent, file, acceptance, block) else {
                 return 7;
             };
-            let end = End {
-                number: outcome_number(&outcome),
-                bounds,
-            };
-            hand_over(flash, end, &told, steps, room, report)
+            let number = outcome_number(&outcome);
+            hand_over(flash, number, &told, steps, room, report)
         }
-        Some(Err((flash, number))) => {
-            let bounds = Bounds {
-                reach: BOOT_REACH,
-                first: 0,
-                count: 0,
-            };
-            let end = End { number, bounds };
-            hand_over(flash, end, &told, steps, room, report)
-        }
+        Some(Err((flash, number))) => hand_over(flash, number, &told, steps, room, report),
         None => 7,
     }
 }

@@ -24,7 +24,7 @@ const MANIFEST: &str =
 const LENGTHS: [usize; 4] = [4096, 16_383, 16_384, 40_000];
 
 // Bank 0 has these images, and the counter one mark, so that a boot writes nothing.
-fn five_images(alloc: Global) -> Result<Vec<u8>, NotMade> {
+pub fn five_images(alloc: Global) -> Result<Vec<u8>, NotMade> {
     let mut image = blank(alloc, 24)?;
     put(alloc, &mut image, 0, LAYOUT)?;
     put_metadata(alloc, &mut image, METADATA)?;
@@ -60,7 +60,7 @@ fn each_starts(rt: &impl Abort, alloc: Global, at: u32, byte: &str, wanted: Opti
 
 // The first byte of `abc`, as it is.
 #[test]
-fn five_images_are_good_in_each_buffer(rt: HostRuntime) {
+pub fn five_images_are_good_in_each_buffer(rt: HostRuntime) {
     each_starts(&rt, rt.alloc(), 36_864, "61", Some(1));
 }
 

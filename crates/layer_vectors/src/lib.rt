@@ -18,6 +18,8 @@ mod lists;
 #[cfg(test)]
 mod lists_of_files;
 #[cfg(test)]
+mod lying_reads;
+#[cfg(test)]
 mod made_files;
 #[cfg(test)]
 mod manifests;

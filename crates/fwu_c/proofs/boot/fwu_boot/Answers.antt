@@ -3,7 +3,7 @@ use Rattle.fwu_c.proofs.Telling.{tells_of_image, told_no_room, told_unmade}
 use Rattle.fwu_c.proofs.boot.fwu_boot.Goals as goal
 
 pub boot_over-requires-clause-new : goal.boot_over-requires-clause-new
-boot_over-requires-clause-new c = let ok = c.in-Ok.ensures in made_new _ _ _ ok.content ok.power ok.image ok.size
+boot_over-requires-clause-new c = let ok = c.in-Ok.ensures in made_new _ _ _ ok.content ok.power ok.image ok.size ok.unwritten
 
 pub returns-in-Err-clause-tells : goal.returns-in-Err-clause-tells
 returns-in-Err-clause-tells c = told_unmade _ c.in-Err.why _ _ _ _ c.in-Err.ensures.unmade c.unmade_number.ensures
@@ -15,4 +15,4 @@ pub returns-clause-tells : goal.returns-clause-tells
 returns-clause-tells c = tells_of_image _ _ _ _ _ _ _ _ _ c.in-Ok.ensures.image c.boot_over.ensures.tells
 
 pub returns-clause-boots : goal.returns-clause-boots
-returns-clause-boots c = λ low. of_image _ _ _ _ _ _ c.in-Ok.ensures.image (c.boot_over.ensures.boots low)
+returns-clause-boots c = λ low. of_image _ _ _ _ _ _ _ c.in-Ok.ensures.image (c.boot_over.ensures.boots low)

@@ -1,4 +1,5 @@
 use Rattle.std.proofs.Common.{◌≡◌, ap, refl, subst, sym, Some, IsTrue}
+use Rattle.base_core.specs.Block.{block_bytes}
 use Rattle.fwu_formats.specs.Digests.{passes_any}
 use Rattle.fwu_formats.specs.Layout.{Layout, find_image}
 use Rattle.fwu_formats.specs.Metadata.{MetaRead, bit_at}
@@ -7,8 +8,10 @@ use Rattle.fwu_model.specs.Call as call
 use Rattle.fwu_model.specs.Reply.{Reply, Success}
 use Rattle.agent_machine.specs.Meets.{Meets}
 use Rattle.agent_calls.specs.Shown.{device, moment}
-use Rattle.step_flash.specs.Flash.{told_of}
+use Rattle.step_flash.specs.Flash.{told_of, writes_of}
 use Rattle.fwu_c.specs.Calls.{IsAccepted, call_of}
+use Rattle.fwu_c.specs.Handed.{call_reach}
+use Rattle.fwu_c.proofs.Calls.{touches_by}
 use Rattle.fwu_c.specs.declared.calling.AgentCall.{AgentCall}
 use Rattle.fwu_c.proofs.calling.ask.Goals as goal
 
@@ -23,6 +26,17 @@ returns-in-Previous-clause-meets c = λ here.
     subst (λ (k : Call). Meets (λ (value : Unit {0}) (reply : Reply). reply ≡ Success) c.previous.result (λ m. passes_any m) k (moment c.args.agent.now) (moment c.previous.new.self))
     (ap (λ (a : AgentCall). call_of a) (sym c.in-Previous.is))
     (record { exact = λ E s x setting shows. meets.exact E s x setting shows refl; leaves = meets.leaves })
+
+pub returns-in-Accept-clause-touches : goal.returns-in-Accept-clause-touches
+returns-in-Accept-clause-touches c =
+    let accept = c.accept.ensures in
+    touches_by c.accept.result block_bytes call_reach
+    (λ done. let found = accept.found done in (accept.image found.0 found.1).touches)
+    (λ refused. ap (λ a. writes_of (device a)) (accept.refused refused))
+    (λ gone. ap (λ a. writes_of (device a)) (accept.goes.untouched gone))
+
+pub returns-in-Previous-clause-touches : goal.returns-in-Previous-clause-touches
+returns-in-Previous-clause-touches c = c.previous.ensures.changes.touches
 
 pub returns-in-Accept-clause-refused : goal.returns-in-Accept-clause-refused
 returns-in-Accept-clause-refused c = λ refused. ap (λ a. told_of (device a)) (c.accept.ensures.refused refused)

@@ -4,7 +4,7 @@ use Rattle.fwu_c.proofs.Telling.{tells_of_image, told_no_room, told_unmade}
 use Rattle.fwu_c.proofs.calling.call_on.Goals as goal
 
 pub call_over-requires-clause-new : goal.call_over-requires-clause-new
-call_over-requires-clause-new c = let ok = c.in-Ok.ensures in made_new _ _ _ ok.content ok.power ok.image ok.size
+call_over-requires-clause-new c = let ok = c.in-Ok.ensures in made_new _ _ _ ok.content ok.power ok.image ok.size ok.unwritten
 
 pub returns-in-Err-clause-tells : goal.returns-in-Err-clause-tells
 returns-in-Err-clause-tells c = told_unmade _ c.in-Err.why _ _ _ _ c.in-Err.ensures.unmade c.unmade_number.ensures
@@ -16,4 +16,4 @@ pub returns-clause-tells : goal.returns-clause-tells
 returns-clause-tells c = tells_of_image _ _ _ _ _ _ _ _ _ c.in-Ok.ensures.image c.call_over.ensures.tells
 
 pub returns-clause-calls : goal.returns-clause-calls
-returns-clause-calls c = λ tells. call_of_image _ _ _ _ _ _ _ _ c.in-Ok.ensures.image (c.call_over.ensures.calls tells)
+returns-clause-calls c = λ tells. call_of_image _ _ _ _ _ _ _ _ _ c.in-Ok.ensures.image (c.call_over.ensures.calls tells)

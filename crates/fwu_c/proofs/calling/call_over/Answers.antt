@@ -1,10 +1,12 @@
 use Rattle.std.proofs.Common.{[], ◌∙◌, arith, sym, subst}
 use Rattle.std.specs.Prelude.{IsTrue}
+use Rattle.base_core.specs.Block.{block_bytes}
+use Rattle.flash_core.proofs.Touches.{touches_then}
 use Rattle.agent_calls.specs.Shown.{device}
 use Rattle.step_flash.specs.Flash.{image_of, told_of}
 use Rattle.fwu_c.specs.Calls.{call_of}
-use Rattle.fwu_c.specs.Handed.{IsDeviceEnd, call_reach, is_idle_number, starts_none, update_reach}
-use Rattle.fwu_c.proofs.Booting.{given, has_flash_size}
+use Rattle.fwu_c.specs.Handed.{IsDeviceEnd, call_reach, is_idle_number, starts_none}
+use Rattle.fwu_c.proofs.Booting.{counted_from_none, given, has_flash_size, reach_inside}
 use Rattle.fwu_c.proofs.Calls.{call_end_is, call_starts, called_by, refused_by, take_up_end_is, take_up_idle}
 use Rattle.fwu_c.proofs.Telling.{idle_starts, keeps_fault, lie_further, told_handed, told_no_room}
 use Rattle.fwu_c.proofs.calling.call_over.Goals as goal
@@ -21,7 +23,7 @@ hand_over-requires c =
     record {
       known = subst (λ n. IsDeviceEnd n) (sym c.call_number-number.ensures) (call_end_is a.result.1 a.ensures.ends);
       idle = λ idle. absurd (starts (idle_starts c.call_number-number.result idle));
-      kept = keeps_fault _ _ _ (up.takes.kept.fault (λ one. omega (arith, one))) starts (λ five. (up.began, up.takes.reports));
+      kept = keeps_fault _ _ _ (up.takes.kept.fault (λ one. omega (arith, one))) starts;
     }
 
 pub returns-in-Some-Ok-clause-calls : goal.returns-in-Some-Ok-clause-calls
@@ -32,7 +34,7 @@ returns-in-Some-Ok-clause-calls c = λ tells.
     called_by (image_of c.args.flash) c.args.asked.bank (call_of c.args.asked.call) c.args.flash (device c.in-Some-Ok.agent.value) a.result.0
     up.began a.result.1 h.result _ _ _ _ _
     c.requires.new.fresh c.requires.new.size a.ensures.size up.takes (a.ensures.calls up.began up.begins)
-    (h.ensures.hands tells.1) (given _ _ h.ensures.number tells.1 ∙ c.call_number-number.ensures)
+    (h.ensures.hands tells.1) c.requires.new.unwritten a.ensures.touches (given _ _ h.ensures.number tells.1 ∙ c.call_number-number.ensures)
 
 pub returns-in-Some-Ok-clause-tells : goal.returns-in-Some-Ok-clause-tells
 returns-in-Some-Ok-clause-tells c =
@@ -41,7 +43,9 @@ returns-in-Some-Ok-clause-tells c =
     told_handed (image_of c.args.flash) c.hand_over.result c.call_number-number.result _ _ _ _ _ _
     (has_flash_size (image_of c.args.flash) c.args.flash c.requires.new.size)
     (subst (λ n. IsDeviceEnd n) (sym c.call_number-number.ensures) (call_end_is a.result.1 a.ensures.ends)) h.number h.idle h.kept
-    (λ not. lie_further call_reach update_reach _ (omega arith) (h.hands not).places) h.behind h.full h.untouched
+    (λ not. lie_further block_bytes call_reach _ _ (reach_inside call_reach _ c.args.flash (omega arith) c.requires.new.size)
+    ((h.hands not).lie.places 1 3 (counted_from_none block_bytes call_reach c.requires.new.unwritten
+    (touches_then block_bytes call_reach (rw c.in-Some-Ok.field-0-is at c.in-Some-Ok.ensures).takes.touches a.ensures.touches)))) h.behind h.full h.untouched
 
 pub hand_over-requires-in-Some-Err : goal.hand_over-requires-in-Some-Err
 hand_over-requires-in-Some-Err c =
@@ -60,7 +64,7 @@ returns-in-Some-Err-clause-calls c = λ tells.
     refused_by (image_of c.args.flash) c.args.asked.bank (call_of c.args.asked.call) c.args.flash c.in-Some-Err.flash
     h.result c.in-Some-Err.number _ _ _ _ _
     c.requires.new.fresh c.requires.new.size (rw c.in-Some-Err.field-0-is at c.in-Some-Err.ensures)
-    (h.ensures.hands tells.1) (given _ _ h.ensures.number tells.1)
+    (h.ensures.hands tells.1) c.requires.new.unwritten (given _ _ h.ensures.number tells.1)
 
 pub returns-in-Some-Err-clause-tells : goal.returns-in-Some-Err-clause-tells
 returns-in-Some-Err-clause-tells c =
@@ -68,7 +72,9 @@ returns-in-Some-Err-clause-tells c =
     told_handed (image_of c.args.flash) c.hand_over-in-Some-Err.result c.in-Some-Err.number _ _ _ _ _ _
     (has_flash_size (image_of c.args.flash) c.args.flash c.requires.new.size)
     (take_up_end_is _ _ _ _ _ _ (rw c.in-Some-Err.field-0-is at c.in-Some-Err.ensures)) h.number h.idle h.kept
-    (λ not. lie_further call_reach update_reach _ (omega arith) (h.hands not).places) h.behind h.full h.untouched
+    (λ not. lie_further block_bytes call_reach _ _ (reach_inside call_reach _ c.args.flash (omega arith) c.requires.new.size)
+    ((h.hands not).lie.places 1 3 (counted_from_none block_bytes call_reach c.requires.new.unwritten
+    (rw c.in-Some-Err.field-0-is at c.in-Some-Err.ensures).touches))) h.behind h.full h.untouched
 
 pub returns-in-None-clause-tells : goal.returns-in-None-clause-tells
 returns-in-None-clause-tells c = told_no_room _ _ _ _ (has_flash_size (image_of c.args.flash) c.args.flash c.requires.new.size)

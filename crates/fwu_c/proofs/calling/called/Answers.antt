@@ -9,7 +9,7 @@ use Rattle.step_flash.specs.Flash.{block_count, told_of}
 use Rattle.step_flash.proofs.Causes.{never_lost}
 use Rattle.fwu_c.specs.Agents.{BeginsAgent}
 use Rattle.fwu_c.specs.Calls.{CallsFrom, IsStepResult, call_of}
-use Rattle.fwu_c.proofs.Calls.{calls_from, here_after, is_called}
+use Rattle.fwu_c.proofs.Calls.{calls_from, here_after, is_called, touched_by}
 use Rattle.fwu_c.proofs.calling.called.Goals as goal
 
 pub returns : goal.returns
@@ -40,4 +40,5 @@ returns c =
       ends = ends;
       size = ap (λ d. block_count d) c.flash_from.ensures ∙ goes.size
           ∙ ap (λ a. block_count (agent.device a)) c.deref_mut.ensures.value;
+      touches = touched_by c.args.agent.value first done.new.agent c.flash_from.result c.deref_mut.ensures.value c.flash_from.ensures done.ensures.touches;
     }

@@ -1,7 +1,7 @@
 use Rattle.std.proofs.Common.{◌∙◌, refl, arith, sym}
 use Rattle.early_boot.specs.TakenUp.{bad_layout, no_metadata, not_started, stopped}
 use Rattle.fwu_c.proofs.Calls.{stop_unlost}
-use Rattle.fwu_c.proofs.Telling.{keeps_but_fault, keeps_started, keeps_stays}
+use Rattle.fwu_c.proofs.Telling.{keeps_but_fault, keeps_started, keeps_stays, starts_stay}
 use Rattle.fwu_c.proofs.calling.taken_up.Goals as goal
 
 pub returns-in-BadLayout : goal.returns-in-BadLayout
@@ -14,6 +14,7 @@ returns-in-BadLayout c = record {
   kept = keeps_but_fault _ _;
   unlost = λ e. omega (arith, e);
   size = c.in-BadLayout.ensures.takes.size;
+  touches = c.in-BadLayout.ensures.takes.touches;
 }
 
 pub returns-in-NoMetadata : goal.returns-in-NoMetadata
@@ -26,6 +27,7 @@ returns-in-NoMetadata c = record {
   kept = keeps_stays _ _;
   unlost = λ e. omega (arith, e);
   size = c.in-NoMetadata.ensures.takes.size;
+  touches = c.in-NoMetadata.ensures.takes.touches;
 }
 
 pub returns-in-NotStarted : goal.returns-in-NotStarted
@@ -38,6 +40,7 @@ returns-in-NotStarted c = record {
   kept = keeps_stays _ _;
   unlost = λ e. omega (arith, e);
   size = c.in-NotStarted.ensures.takes.size;
+  touches = c.in-NotStarted.ensures.takes.touches;
 }
 
 pub returns : goal.returns
@@ -46,10 +49,11 @@ returns c = record {
   is = tt;
   number_is = c.stop_number.ensures;
   ends = c.in-Stopped.ensures.takes.ends refl;
-  reports = tt;
+  reports = starts_stay _;
   kept = keeps_stays _ _;
   unlost = λ e. stop_unlost c.in-Stopped.stop c.args.flash c.in-Stopped.flash c.in-Stopped.ensures.takes.costs (sym c.stop_number.ensures ∙ e);
   size = c.in-Stopped.ensures.takes.size;
+  touches = c.in-Stopped.ensures.takes.touches;
 }
 
 pub returns-in-Ok : goal.returns-in-Ok
@@ -59,4 +63,5 @@ returns-in-Ok c = rw c.in-Ok.ensures.ok (record {
   reports = c.report_start.ensures.reports;
   kept = keeps_started _ _ c.report_start.ensures.kept;
   size = c.in-Taken.ensures.takes.size;
+  touches = c.in-Taken.ensures.takes.touches;
 })

@@ -3,7 +3,7 @@ use Rattle.std.specs.Prelude.{IsErr, MatchResult, is_err}
 use Rattle.fwu_formats.specs.Package.{Toc, toc_of}
 use Rattle.fwu_formats.specs.declared.kinds.FipFault.{FipFault}
 use Rattle.fip_tables.specs.Stream.{Fed}
-use Rattle.step_flash.specs.Flash.{block_count, told_of}
+use Rattle.step_flash.specs.Flash.{block_count, told_of, writes_of}
 use Rattle.fwu_c.proofs.sending.install.Goals as goal
 
 -- where a table's answer is a fault, the bytes are no package
@@ -24,4 +24,5 @@ returns c =
       );
       ends = tt;
       size = ap (λ d. block_count d) c.flash_from.ensures;
+      touches = λ k spared. ap (λ d. writes_of d k) c.flash_from.ensures;
     }

@@ -1,5 +1,7 @@
-use Rattle.std.proofs.Common.{◌≡◌, ◌+◌, ◌≤◌, refl, sym, ap, subst, ◌∙◌, List, ℕ, length, Option, Some, None, Result, arith}
+use Rattle.std.proofs.Common.{◌≡◌, ◌+◌, ◌*◌, ◌≤◌, refl, sym, ap, subst, ◌∙◌, List, ℕ, length, Option, Some, None, Result, arith}
 use Rattle.std.specs.Prelude.{All, IsErrOf, IsFalse}
+use Rattle.base_core.specs.Block.{block_bytes}
+use Rattle.agent_machine.specs.Beside.{IsSparedByAll}
 use Rattle.flash_core.specs.Told.{Told}
 use Rattle.flash_core.specs.declared.flash.FlashStop.TheVariants as flash_stop
 use Rattle.host_io.specs.Contents.{Directory}
@@ -7,7 +9,7 @@ use Rattle.agent_calls.specs.Shown as agent
 use Rattle.update_client.specs.declared.stops.Sent.{Sent}
 use Rattle.update_client.specs.declared.stops.SendStop.{SendStop}
 use Rattle.update_client.specs.Halts.{flash_of}
-use Rattle.step_flash.specs.Flash.{block_count, told_of}
+use Rattle.step_flash.specs.Flash.{block_count, told_of, writes_of}
 use Rattle.step_flash.proofs.Causes.{never_lost}
 use Rattle.fwu_c.specs.Agents.{BeginsAgent}
 use Rattle.fwu_c.specs.Sendings.{IsSent, SendsPackage}
@@ -69,4 +71,9 @@ returns c =
       ends = ends;
       size = ap (λ d. block_count d) c.flash_from.ensures ∙ goes.size
           ∙ ap (λ a. block_count (agent.device a)) c.deref_mut.ensures.value;
+      touches = λ k spared.
+          ap (λ d. writes_of d k) c.flash_from.ensures
+          ∙ sent.ensures.touches k (subst (λ a. IsSparedByAll (agent.moment a).fields.layout (agent.moment a).fields.boot (block_bytes * k))
+          (sym c.deref_mut.ensures.value) spared)
+          ∙ ap (λ a. writes_of (agent.device a) k) c.deref_mut.ensures.value;
     }

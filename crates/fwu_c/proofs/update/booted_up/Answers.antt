@@ -6,7 +6,7 @@ use Rattle.early_boot.specs.Numbers.{numbers}
 use Rattle.step_flash.specs.declared.flash.StepFlash.{StepFlash}
 use Rattle.step_flash.specs.Flash.{block_count, told_of}
 use Rattle.fwu_c.specs.Codes.{end_code}
-use Rattle.fwu_c.proofs.Booting.{boot_end_is}
+use Rattle.fwu_c.proofs.Booting.{boot_end_is, touched_back}
 use Rattle.fwu_c.proofs.Telling.{keeps_started}
 use Rattle.fwu_c.proofs.Unbooted.{not_started}
 use Rattle.fwu_c.proofs.update.booted_up.Goals as goal
@@ -19,6 +19,7 @@ returns-in-Ok c = rw c.in-Ok.ensures.ok (record {
   reports = c.report_start.ensures.reports;
   kept = keeps_started _ _ c.report_start.ensures.kept;
   size = c.in-Booted.ensures.boots.size;
+  touches = c.in-Booted.ensures.boots.touches;
 })
 
 pub returns : goal.returns
@@ -40,4 +41,5 @@ returns c =
       kept = ended_as.kept;
       unlost = λ four. end.0 (sym code ∙ four);
       size = ap (λ (d : StepFlash). block_count d) back ∙ boots.size;
+      touches = touched_back c.args.flash (device_of c.boot_in.result) c.into_flash.result back boots.touches;
     }

@@ -6,7 +6,7 @@ use Rattle.fwu_c.proofs.Updating.{denied_by, told_denied}
 use Rattle.fwu_c.proofs.update.fwu_update.Goals as goal
 
 pub shows_trial-requires-clause-new : goal.shows_trial-requires-clause-new
-shows_trial-requires-clause-new c = let ok = c.in-Ok.ensures in made_new _ _ _ ok.content ok.power ok.image ok.size
+shows_trial-requires-clause-new c = let ok = c.in-Ok.ensures in made_new _ _ _ ok.content ok.power ok.image ok.size ok.unwritten
 
 pub returns-in-Err-clause-tells : goal.returns-in-Err-clause-tells
 returns-in-Err-clause-tells c = told_unmade _ c.in-Err.why _ _ _ _ c.in-Err.ensures.unmade c.unmade_number.ensures
@@ -16,7 +16,7 @@ returns-in_default-clause-tells c = told_no_room _ _ _ _ (has_flash_size _ c.in-
 
 pub returns-in-Some-true-clause-updates : goal.returns-in-Some-true-clause-updates
 returns-in-Some-true-clause-updates c = λ told.
-    denied_by _ _ _ _ _ _ (subst (λ (i : List ℕ). IsOnTrial i) c.in-Ok.ensures.image (c.in-Some-true.ensures.trial c.in-Some-true.field-0-test)) refl refl
+    denied_by _ _ _ _ _ _ _ (subst (λ (i : List ℕ). IsOnTrial i) c.in-Ok.ensures.image (c.in-Some-true.ensures.trial c.in-Some-true.field-0-test)) refl refl
 
 pub returns-in-Some-true-clause-tells : goal.returns-in-Some-true-clause-tells
 returns-in-Some-true-clause-tells c = told_denied _ _ _ _ _ _ _ (has_flash_size _ c.in-Ok.first c.in-Ok.ensures.size) refl refl refl refl

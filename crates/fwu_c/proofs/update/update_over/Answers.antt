@@ -1,28 +1,27 @@
 use Rattle.std.proofs.Common.{◌≡◌, ◌∙◌, ap, arith, sym, subst}
 use Rattle.std.specs.Prelude.{IsTrue}
-use Rattle.agent_calls.specs.Shown.{device}
+use Rattle.base_core.specs.Block.{block_bytes}
+use Rattle.agent_calls.specs.Shown.{device, gone, moment}
 use Rattle.step_flash.specs.Flash.{image_of, told_of}
-use Rattle.fwu_c.specs.Handed.{IsDeviceEnd, boot_reach, is_idle_number, starts_none, update_reach}
-use Rattle.fwu_c.specs.Updates.{update_bounds}
-use Rattle.fwu_c.specs.declared.handing.Bounds.{Bounds}
-use Rattle.fwu_c.proofs.Booting.{boot_idle, given, has_flash_size}
+use Rattle.fwu_c.specs.Handed.{IsDeviceEnd, boot_reach, is_idle_number, starts_none}
+use Rattle.fwu_c.proofs.Booting.{boot_idle, counted_from_none, given, has_flash_size, reach_inside}
 use Rattle.fwu_c.proofs.Telling.{idle_starts, keeps_fault, lie_further, told_handed, told_no_room}
-use Rattle.fwu_c.proofs.Updating.{bounds_begun, handed_in, none_end_is, outcome_end_is, outcome_starts, tried_by, unbooted_by}
+use Rattle.fwu_c.proofs.Updating.{none_end_is, outcome_end_is, outcome_starts, sending_spares, tried_by, tried_places, unbooted_by}
 use Rattle.fwu_c.proofs.update.update_over.Goals as goal
 
 pub install-requires-clause-here : goal.install-requires-clause-here
-install-requires-clause-here c = (rw c.in-Some-Ok.field-0-is at c.in-Some-Ok.ensures).0.begins.here
+install-requires-clause-here c = (rw c.in-Some-Ok.field-0-is at c.in-Some-Ok.ensures).begins.here
 
 pub hand_over-requires : goal.hand_over-requires
 hand_over-requires c =
     let i = c.in-Some in
-    let up = (rw c.in-Some-Ok.field-0-is at c.in-Some-Ok.ensures).0 in
-    let starts = λ (none : IsTrue (starts_none c.outcome_number.result)).
-    outcome_starts i.outcome (subst (λ n. IsTrue (starts_none n)) c.outcome_number.ensures none) in
+    let up = (rw c.in-Some-Ok.field-0-is at c.in-Some-Ok.ensures) in
+    let starts = λ (none : IsTrue (starts_none c.outcome_number-number.result)).
+    outcome_starts i.outcome (subst (λ n. IsTrue (starts_none n)) c.outcome_number-number.ensures none) in
     record {
-      known = subst (λ n. IsDeviceEnd n) (sym c.outcome_number.ensures) (outcome_end_is i.outcome i.ensures.ends);
-      idle = λ idle. absurd (starts (idle_starts c.outcome_number.result idle));
-      kept = keeps_fault _ _ _ (up.boots.kept.fault (λ one. omega (arith, one))) starts (λ five. (up.began, up.boots.reports));
+      known = subst (λ n. IsDeviceEnd n) (sym c.outcome_number-number.ensures) (outcome_end_is i.outcome i.ensures.ends);
+      idle = λ idle. absurd (starts (idle_starts c.outcome_number-number.result idle));
+      kept = keeps_fault _ _ _ (up.boots.kept.fault (λ one. omega (arith, one))) starts;
     }
 
 pub hand_over-requires-in-Some-Err : goal.hand_over-requires-in-Some-Err
@@ -40,31 +39,31 @@ pub returns-in-Some-clause-updates : goal.returns-in-Some-clause-updates
 returns-in-Some-clause-updates c = λ told.
     let h = c.hand_over in
     let i = c.in-Some in
-    let both = rw c.in-Some-Ok.field-0-is at c.in-Some-Ok.ensures in
-    let up = both.0 in
-    let b = up.began in
-    let bounded : c.in-Some-Ok.bounds ≡ update_bounds b.layout b.bank = bounds_begun b _ _ _ up.begins both.1 in
+    let up = rw c.in-Some-Ok.field-0-is at c.in-Some-Ok.ensures in
     tried_by (image_of c.args.flash) _ _ c.args.flash (device c.in-Some-Ok.agent.value) i.flash up.began i.outcome
     h.result _ _ _ _ _
     c.requires.new.fresh c.requires.new.size i.ensures.size up.boots (i.ensures.installs up.began up.begins)
-    (handed_in _ _ _ _ _ _ _ bounded (h.ensures.hands told.1)) (given _ _ h.ensures.number told.1 ∙ c.outcome_number.ensures)
+    (h.ensures.hands told.1) c.requires.new.unwritten (sending_spares up.began (moment c.in-Some-Ok.agent.value) (gone c.in-Some-Ok.agent.value) (device c.in-Some-Ok.agent.value) i.flash up.begins
+    i.ensures.touches) (given _ _ h.ensures.number told.1 ∙ c.outcome_number-number.ensures)
 
 pub returns-in-Some-clause-tells : goal.returns-in-Some-clause-tells
 returns-in-Some-clause-tells c =
     let h = c.hand_over.ensures in
     let i = c.in-Some in
-    told_handed (image_of c.args.flash) c.hand_over.result c.outcome_number.result _ _ _ _ _ _
+    let up = rw c.in-Some-Ok.field-0-is at c.in-Some-Ok.ensures in
+    told_handed (image_of c.args.flash) c.hand_over.result c.outcome_number-number.result _ _ _ _ _ _
     (has_flash_size (image_of c.args.flash) c.args.flash c.requires.new.size)
-    (subst (λ n. IsDeviceEnd n) (sym c.outcome_number.ensures) (outcome_end_is i.outcome i.ensures.ends)) h.number h.idle h.kept
-    (λ not. lie_further c.in-Some-Ok.bounds.reach update_reach _
-    (omega (arith, ap (λ (x : Bounds). x.reach) (rw c.in-Some-Ok.field-0-is at c.in-Some-Ok.ensures).1)) (h.hands not).places) h.behind h.full h.untouched
+    (subst (λ n. IsDeviceEnd n) (sym c.outcome_number-number.ensures) (outcome_end_is i.outcome i.ensures.ends)) h.number h.idle h.kept
+    (λ not. tried_places _ c.args.flash (device c.in-Some-Ok.agent.value) i.flash up.began _ _ _ _ _ _ c.requires.new.size i.ensures.size up.boots
+    (h.hands not) c.requires.new.unwritten (sending_spares up.began (moment c.in-Some-Ok.agent.value) (gone c.in-Some-Ok.agent.value) (device c.in-Some-Ok.agent.value) i.flash up.begins
+    i.ensures.touches)) h.behind h.full h.untouched
 
 pub returns-in-Some-Err-clause-updates : goal.returns-in-Some-Err-clause-updates
 returns-in-Some-Err-clause-updates c = λ told.
     let h = c.hand_over-in-Some-Err in
     unbooted_by (image_of c.args.flash) c.args.file.now c.args.acceptance c.args.flash c.in-Some-Err.flash h.result _ _ _ _ _ _
     c.requires.new.fresh c.requires.new.size (rw c.in-Some-Err.field-0-is at c.in-Some-Err.ensures) (h.ensures.hands told.1)
-    (given _ _ h.ensures.number told.1)
+    c.requires.new.unwritten (given _ _ h.ensures.number told.1)
 
 pub returns-in-Some-Err-clause-tells : goal.returns-in-Some-Err-clause-tells
 returns-in-Some-Err-clause-tells c =
@@ -72,7 +71,9 @@ returns-in-Some-Err-clause-tells c =
     told_handed (image_of c.args.flash) c.hand_over-in-Some-Err.result c.in-Some-Err.number _ _ _ _ _ _
     (has_flash_size (image_of c.args.flash) c.args.flash c.requires.new.size)
     (none_end_is _ _ _ _ _ (rw c.in-Some-Err.field-0-is at c.in-Some-Err.ensures)) h.number h.idle h.kept
-    (λ not. lie_further boot_reach update_reach _ (omega arith) (h.hands not).places) h.behind h.full h.untouched
+    (λ not. lie_further block_bytes boot_reach _ _ (reach_inside boot_reach _ c.args.flash (omega arith) c.requires.new.size)
+    ((h.hands not).lie.places 1 7 (counted_from_none block_bytes boot_reach c.requires.new.unwritten
+    (rw c.in-Some-Err.field-0-is at c.in-Some-Err.ensures).touches))) h.behind h.full h.untouched
 
 pub returns-in-None-clause-tells : goal.returns-in-None-clause-tells
 returns-in-None-clause-tells c = told_no_room _ _ _ _ (has_flash_size (image_of c.args.flash) c.args.flash c.requires.new.size)

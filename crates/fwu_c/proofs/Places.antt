@@ -1,0 +1,67 @@
+-- Where the steps of an update lie, by what its boot and its sending count.
+use Rattle.std.proofs.Common.{◌≡◌, ◌≢◌, ◌⊎◌, ◌∙◌, inl, inr, ℕ, ◌+◌, ◌*◌, ◌%◌, ◌<◌, ◌≤◌, IsTrue, arith}
+use Rattle.std.proofs.lemmas.Bool.{cases_lt}
+use Rattle.std.proofs.Math.Nat.{mod-lt}
+use Rattle.base_core.specs.Block.{block_bytes}
+use Rattle.flash_core.specs.Touches.{TouchesOnly}
+use Rattle.fwu_formats.specs.Layout.{Layout, fits_layout, slot_total, start}
+use Rattle.fwu_formats.proofs.SealLaws.{limits}
+use Rattle.fwu_model.proofs.Banks.{next-other}
+use Rattle.moves.proofs.Staged.{banks-order}
+use Rattle.image_check.proofs.OfBank.{some_blocks}
+use Rattle.agent_machine.specs.Beside.{IsBesideBank, IsSparedByAll}
+use Rattle.step_flash.specs.declared.flash.StepFlash.{StepFlash}
+use Rattle.step_flash.specs.Flash.{block_count, writes_of}
+use Rattle.step_flash.proofs.Places.{none_behind}
+use Rattle.fwu_c.specs.Handed.{boot_reach}
+
+-- the bank that follows one is another one
+other-follows : (banks bank : ℕ) → 2 ≤ banks → (bank + 1) % banks ≢ bank
+other-follows banks bank two = elim (cases_lt bank banks) [
+  | inl below ↦ next-other banks bank two below
+  | inr behind ↦ λ same. let less : (bank + 1) % banks < banks = mod-lt (bank + 1) (omega (arith, two)) in omega (arith, less, same, behind)
+]
+
+module _ (L : Layout) (bank : ℕ) (fits : IsTrue (fits_layout L)) where
+  abbrev next : ℕ
+  next = (bank + 1) % L.banks
+
+  two : 2 ≤ L.banks
+  two = (limits L fits).fewest_banks
+
+  -- a bank has a block
+  pub has-blocks : start L bank 0 < start L (bank + 1) 0
+  has-blocks =
+      let more : (bank + 1) * slot_total L.rows ≡ bank * slot_total L.rows + slot_total L.rows = grind arith in
+      omega (arith, more, some_blocks L fits)
+
+  -- a block of the bank in use lies beside blocks 1 to 3, and beside the bank that follows
+  pub in-use-spared : (k : ℕ) → start L bank 0 ≤ k → k < start L (bank + 1) 0 → IsSparedByAll L bank (block_bytes * k)
+  in-use-spared k above below = (inr (omega (arith, above)), beside)
+    where
+      beside : IsBesideBank L next (block_bytes * k)
+      beside = elim (cases_lt bank next) [
+        | inl before ↦ let order = banks-order L bank next before in inl (omega (arith, order, below))
+        | inr more ↦ elim (cases_lt next bank) [
+          | inl behind ↦ let order = banks-order L next bank behind in inr (omega (arith, order, above))
+          | inr less ↦ let same : next ≡ bank = omega (arith, more, less) in absurd (other-follows L.banks bank two same)
+        ]
+      ]
+
+  -- and so does block 0
+  pub layout-spared : (k : ℕ) → k ≡ 0 → IsSparedByAll L bank (block_bytes * k)
+  layout-spared k first = (inl (omega (arith, first)), inl (omega (arith, first)))
+
+  module _ (first mid d : StepFlash) (none : (k : ℕ) → writes_of first k ≡ 0)
+      (booted : TouchesOnly block_bytes boot_reach (writes_of first) (writes_of mid))
+      (sent : (k : ℕ) → IsSparedByAll L bank (block_bytes * k) → writes_of d k ≡ writes_of mid k) where
+    -- no block of the bank in use is counted
+    pub in-use-unwritten : (k : ℕ) → start L bank 0 ≤ k → k < start L (bank + 1) 0 → writes_of d k ≡ 0
+    in-use-unwritten k above below =
+        sent k (in-use-spared k above below) ∙ booted k (inr (omega (arith, above))) ∙ none k
+
+    -- nor block 0
+    pub update-touches : TouchesOnly block_bytes (block_bytes * block_count d) (λ b. 0) (writes_of d)
+    update-touches k (inl low) =
+        let zero : k ≡ 0 = omega (arith, low) in sent k (layout-spared k zero) ∙ booted k (inl (omega (arith, low))) ∙ none k
+    update-touches k (inr high) = let s = d.device.value in none_behind _ _ s.blocks s.steps.items k s.inside (omega (arith, high))
