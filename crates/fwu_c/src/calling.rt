@@ -221,9 +221,7 @@ fn call_over(
             let number = call_number(&done);
             hand_over(flash, number, &told, steps, room, report)
         }
-        Some(Err((flash, number))) => {
-            hand_over(flash, number, &told, steps, room, report)
-        }
+        Some(Err((flash, number))) => { hand_over(flash, number, &told, steps, room, report) }
         None => 7,
     }
 }
