@@ -1,5 +1,5 @@
 -- An update, by what its device tells and by its steps.
-use Rattle.std.proofs.Common.{drop, Bool, ◌≡◌, ◌∙◌, inl, refl, ℕ, ◌*◌, List, [], length, Option, Some, None, Ok, Err, ap, sym, subst, take, arith, get_or}
+use Rattle.std.proofs.Common.{drop, Bool, ◌≡◌, ◌∙◌, inl, refl, ℕ, ◌+◌, ◌*◌, ◌≤◌, List, [], length, Option, Some, None, Ok, Err, ap, sym, subst, take, arith, get_or}
 use Rattle.std.proofs.Math.ListN.{get_or-map}
 use Rattle.std.specs.Prelude.{All, IsTrue, IsFalse}
 use Rattle.base_core.specs.Block.{block_bytes}

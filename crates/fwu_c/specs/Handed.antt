@@ -1,5 +1,5 @@
 -- The steps of a device, as they were handed over.
-use Rattle.std.specs.Prelude.{◌≡◌, ◌≢◌, ◌↔◌, ◌⊎◌, ◌<◌, ◌≤◌, ◌+◌, ◌*◌, ◌==◌, ◌||◌, true, All, Bool, ℕ, List, IsTrue, drop, length, take}
+use Rattle.std.specs.Prelude.{◌≡◌, ◌≢◌, ◌↔◌, ◌⊎◌, ◌<◌, ◌≤◌, ◌*◌, ◌==◌, ◌||◌, true, All, Bool, ℕ, List, IsTrue, drop, length, take}
 use Rattle.base_core.specs.Block.{block_bytes, fewest_blocks, most_blocks}
 use Rattle.flash_core.specs.Told.{Told}
 use Rattle.flash_core.specs.Touches.{TouchesOnly}
