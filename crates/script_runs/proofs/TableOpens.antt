@@ -90,7 +90,7 @@ module _ (stops : ℕ) (tells : Bool) (blocks m n : ℕ) (old mid found new : Tu
   mends-here result mends told =
       subst (λ (t : Told). HeadersGuarded blocks t → MendsTable result blocks table new.told) (same told) (subst (λ (k : ℕ). HeadersGuarded k found.told → MendsTable result k table new.told) size mends)
 
-  has-here : HasPlaces tells blocks mid.told p
+  abbrev has-here : HasPlaces tells blocks mid.told p
   has-here = record {
     table = table;
     which = which;
