@@ -1,12 +1,11 @@
 -- What a boot leaves of its device on any device: its reading, and then its writes.
-use Rattle.std.proofs.Common.{◌≡◌, Option, None, Ok, Err, refl, ◌∙◌}
+use Rattle.std.proofs.Common.{Ok, Err, refl, ◌∙◌}
 use Rattle.std.specs.Prelude.{Result, IsErrOf}
 use Rattle.flash_core.specs.declared.flash.Flash.{Ghosts}
-use Rattle.flash_core.specs.declared.flash.Arming.{Arming}
 use Rattle.flash_core.specs.declared.flash.FlashStop.{FlashStop}
 use Rattle.flash_core.specs.declared.flash.FlashStop.TheVariants.{Lost, Failed}
 use Rattle.flash_core.specs.Calls.{Goes, Reads}
-use Rattle.flash_core.specs.Counts.{StaysUnarmed, arming_kept}
+use Rattle.flash_core.specs.Counts.{StaysUnarmed}
 use Rattle.flash_core.proofs.Costs.{spends_then}
 use Rattle.flash_core.proofs.Unarmed.{unarmed_done, unarmed_kept, unarmed_stopped, unarmed_then}
 

@@ -16,3 +16,4 @@ pub mod Numbered
 pub mod Left
 pub mod TakingUp
 pub mod TakenUp
+pub mod Touching

@@ -8,6 +8,9 @@ use Rattle.flash_core.specs.declared.flash.Arming.{Arming}
 use Rattle.flash_core.specs.declared.flash.FlashStop.{FlashStop}
 use Rattle.flash_core.specs.Calls.{Goes, Reads}
 use Rattle.flash_core.specs.Told.{Told}
+use Rattle.flash_core.specs.Touches.{TouchesOnly}
+use Rattle.flash_core.proofs.Touches.{touches_none}
+use Rattle.early_boot.proofs.Touching.{touches-behind}
 use Rattle.fwu_formats.specs.Manifest.{version}
 use Rattle.fwu_formats.specs.Places.{trial_limit}
 use Rattle.fwu_formats.specs.declared.kinds.BankState.{BankState}
@@ -59,6 +62,8 @@ module _ {D : Type 0} (g : Ghosts D) (passes : List ℕ → Bool) (b : ℕ) (fla
     unarmed = read-unarmed g (Ok tt) flash left reads;
     spent = record { arming_is = reads.arming; reached = reads.reached };
     once = λ tells. tt;
+    touches = touches_none 4096 12288 reads.writes;
+    refused = reads.writes;
     numbers = tt;
     ends = λ tells. none-ends (g.told flash) (g.told left) (reads.content tells) passes b (unshown.Layout f) (nothing tells);
   }
@@ -69,6 +74,8 @@ module _ {D : Type 0} (g : Ghosts D) (passes : List ℕ → Bool) (b : ℕ) (fla
     unarmed = read-unarmed g (Ok tt) flash left reads;
     spent = record { arming_is = reads.arming; reached = reads.reached };
     once = λ tells. tt;
+    touches = touches_none 4096 12288 reads.writes;
+    refused = reads.writes;
     numbers = tt;
     ends = λ tells. none-ends (g.told flash) (g.told left) (reads.content tells) passes b unshown.Metadata (nothing tells);
   }
@@ -79,6 +86,8 @@ module _ {D : Type 0} (g : Ghosts D) (passes : List ℕ → Bool) (b : ℕ) (fla
     unarmed = read-unarmed g (Err stop) flash left reads;
     spent = tt;
     once = λ tells. tt;
+    touches = touches_none 4096 12288 reads.writes;
+    refused = tt;
     numbers = tt;
     ends = λ tells. none-ends (g.told flash) (g.told left) (reads.content tells) passes b (unshown.Flash stop) (nothing tells);
   }
@@ -89,11 +98,14 @@ module _ {D : Type 0} (g : Ghosts D) (passes : List ℕ → Bool) (b : ℕ) (fla
 -- ---- the flash was read, and then the bank was checked
 
 module _ {D : Type 0} (g : Ghosts D) (passes : List ℕ → Bool) (b : ℕ) (flash mid left : D) (shown : Shown)
-    (reads : Reads {X = Unit {0}} g (Ok tt) flash mid) (has : HasShown g flash shown) where
+    (reads : Reads {X = Unit {0}} g (Ok tt) flash mid) (has : HasShown g flash shown) (mended_only : TouchesOnly 4096 12288 (g.writes mid) (g.writes left)) where
+  both-touch : TouchesOnly 4096 12288 (g.writes flash) (g.writes left)
+  both-touch = touches-behind 4096 12288 reads.writes mended_only
+
   refused-take-up : Goes {X = Option Chosen} g (Ok None) mid left → SpendsFound shown None (g.arming mid) (g.arming left) (g.counts mid) (g.counts left)
       → (IsTrue g.tells → None ≡ running_in passes (g.told mid).now shown b) → (IsTrue g.tells → MendsFound (Ok None) shown (g.told mid) (g.told left))
-      → IsTakeUp g passes b flash not_started left
-  refused-take-up went spent found mends =
+      → g.writes left ≡ g.writes mid → IsTakeUp g passes b flash not_started left
+  refused-take-up went spent found mends untouched =
       let goes = read-goes g tt (Ok tt) flash mid left reads (goes-done {T = Option Chosen} g None mid left went) in
       record {
         power = goes.power;
@@ -105,6 +117,8 @@ module _ {D : Type 0} (g : Ghosts D) (passes : List ℕ → Bool) (b : ℕ) (fla
           reached = record { same = spent.reached.same ∙ reads.reached.same; lost = λ is. absurd cc };
         };
         once = λ tells. tt;
+        touches = both-touch;
+        refused = untouched ∙ reads.writes;
         numbers = tt;
         ends = λ tells.
             let content = reads.content tells in
@@ -123,6 +137,8 @@ module _ {D : Type 0} (g : Ghosts D) (passes : List ℕ → Bool) (b : ℕ) (fla
         unarmed = goes.unarmed;
         spent = tt;
         once = λ tells. tt;
+        touches = both-touch;
+        refused = tt;
         numbers = tt;
         ends = λ tells.
             stopped-ends passes shown b (g.told flash) (g.told left) (has.shows tells) has.fits stop
@@ -159,6 +175,8 @@ module _ {D : Type 0} (g : Ghosts D) (passes : List ℕ → Bool) (b : ℕ) (fla
                 subst (λ (a : Option Arming). TakesMending shown.layout shown.which shown.meta (g.told flash).now a (g.arming left)) reads.arming
                 (subst (λ (t : Told). TakesMending shown.layout shown.which shown.meta t.now (g.arming mid) (g.arming left)) (reads.content tells) (once tells));
           };
+          touches = both-touch;
+          refused = tt;
           numbers = record {
             numbers = numbers-are (mended shown) has.layout has.fits has.few refl has.none;
             bank_is = sym run.1;
@@ -190,9 +208,9 @@ module _ {D : Type 0} (g : Ghosts D) (passes : List ℕ → Bool) (b : ℕ) (fla
 
   pub refused-at : (o : Option Chosen) → o ≡ None → Goes {X = Option Chosen} g (Ok o) mid left → SpendsFound shown o (g.arming mid) (g.arming left) (g.counts mid) (g.counts left)
       → (IsTrue g.tells → o ≡ running_in passes (g.told mid).now shown b) → (IsTrue g.tells → MendsFound (Ok o) shown (g.told mid) (g.told left))
-      → IsTakeUp g passes b flash not_started left
-  refused-at None is went spent found mends = refused-take-up went spent found mends
-  refused-at (Some x) is went spent found mends = absurd cc
+      → (o ≡ None → g.writes left ≡ g.writes mid) → IsTakeUp g passes b flash not_started left
+  refused-at None is went spent found mends untouched = refused-take-up went spent found mends (untouched is)
+  refused-at (Some x) is went spent found mends untouched = absurd cc
 
 -- ---- what a boot started may be taken up
 

@@ -104,6 +104,13 @@ TakesCounting counting.Nothing armed arming = arming ≡ armed
 TakesCounting counting.Trial armed arming = arming ≡ lowered armed
 TakesCounting counting.Raise armed arming = arming ≡ lowered (lowered armed)
 
+-- On every device, where the blocks end that a start and the repair before it may erase or program: the replicas lie in blocks 1
+-- and 2, a mark in block 3, a record in block 5 or 6.
+abbrev pub touched_end : Counting → ℕ
+touched_end counting.Nothing = block_bytes * 3
+touched_end counting.Trial = block_bytes * 4
+touched_end counting.Raise = block_bytes * 7
+
 -- ---- what is shown then
 
 abbrev pub with_counts : Shown → ℕ → ℕ → Shown

@@ -22,7 +22,7 @@ use Rattle.early_boot.specs.declared.showing.Shown.{Shown}
 use Rattle.early_boot.specs.Showing.{ShowsImage, state_shown}
 use Rattle.early_boot.specs.Choosing.{IsFound, MayBeChosen, boot_setting}
 use Rattle.early_boot.specs.Mending.{TakesMending, mended}
-use Rattle.early_boot.specs.CountingStarts.{CountsChosen, CountsLater, Leads, TakesCounting, WritesMoves, counting_in}
+use Rattle.early_boot.specs.CountingStarts.{CountsChosen, CountsLater, Leads, TakesCounting, WritesMoves, counting_in, touched_end}
 
 -- the bank that was chosen, without what is shown once its start is counted
 abbrev pub chosen_of : Option (Shown × Chosen) → Option Chosen
@@ -71,6 +71,11 @@ pub record TakesMendingAndStart (shown : Shown) (image : List ℕ) (found : Opti
   pub repaired : Option Arming
   pub repair : TakesMending shown.layout shown.which shown.meta image armed repaired
   pub start : TakesFound (mended shown) found repaired arming
+
+-- and where the blocks end that are erased or programmed for it; where none was chosen, those of the repair
+abbrev pub touched_for : Shown → Option (Shown × Chosen) → ℕ
+touched_for shown None = block_bytes * 3
+touched_for shown (Some start) = touched_end (counting_in shown start.1)
 
 -- ---- the choice and its count
 

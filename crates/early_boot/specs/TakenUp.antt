@@ -7,6 +7,7 @@ use Rattle.flash_core.specs.declared.flash.Arming.{Arming}
 use Rattle.flash_core.specs.declared.flash.Counts.{Counts}
 use Rattle.flash_core.specs.Counts.{Spends, StaysUnarmed}
 use Rattle.flash_core.specs.Told.{Told}
+use Rattle.flash_core.specs.Touches.{TouchesOnly}
 use Rattle.flash_core.specs.May.{Guards, Keeps}
 use Rattle.fwu_formats.specs.Layout.{Layout}
 use Rattle.fwu_formats.specs.Metadata.{MetaRead, state_at}
@@ -193,6 +194,14 @@ TakesTakeUp no_metadata armed arming old new = WroteNothing (Ok tt) armed arming
 TakesTakeUp not_started armed arming old new = WroteNothing (Ok tt) armed arming old new
 TakesTakeUp (stopped stop) armed arming old new = ⊤
 
+-- what is refused erases and programs nothing
+abbrev pub RefusalIsIdle : TakenUp → (ℕ → ℕ) → (ℕ → ℕ) → Type 0
+RefusalIsIdle (taken told) old new = ⊤
+RefusalIsIdle (bad_layout f) old new = new ≡ old
+RefusalIsIdle no_metadata old new = new ≡ old
+RefusalIsIdle not_started old new = new ≡ old
+RefusalIsIdle (stopped stop) old new = ⊤
+
 -- where the device tells its content: by what is loaded from the replicas
 abbrev pub TakesOnce : List ℕ → TakenUp → Option Arming → Option Arming → Type 0
 TakesOnce image (taken told) armed arming = TakesLoaded image armed arming
@@ -237,6 +246,9 @@ pub record IsTakeUp {D : Type 0} (g : Ghosts D) (passes : List ℕ → Bool) (b 
   pub unarmed : StaysUnarmed (stop_in_end e) (g.arming flash) (g.arming left) (g.counts flash) (g.counts left)
   pub spent : TakesTakeUp e (g.arming flash) (g.arming left) (g.counts flash) (g.counts left)
   pub once : IsTrue g.tells → TakesOnce (g.told flash).now e (g.arming flash) (g.arming left)
+  -- on any device: no block but those of the replicas, 1 and 2, is erased or programmed
+  pub touches : TouchesOnly (block_bytes * 1) (block_bytes * 3) (g.writes flash) (g.writes left)
+  pub refused : RefusalIsIdle e (g.writes flash) (g.writes left)
   -- on any device, by the numbers that are told
   pub numbers : TakenByNumbers passes b e
   -- on one that tells its content

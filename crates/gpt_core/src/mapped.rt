@@ -14,8 +14,8 @@ use base_core::BLOCK_BYTES;
 use flash_core::{Flash, FlashStop};
 use std::marker::{Brand, PhantomData};
 
-/// The places through which a device's flash is seen, how many blocks the device has, what it told when it first was, and how often
-/// each of its blocks was erased or programmed by then.
+/// The places through which a device's flash is seen, how many blocks the device has, and what it told when it first was. Also how
+/// often each block was erased or programmed by then.
 pub trait Start {
     ghost use Rattle.std.specs.Prelude.{ℕ};
     ghost use Rattle.gpt_core.specs.declared.layout.Places.{Places};
@@ -43,7 +43,7 @@ impl Start for Brand {
     ghost writes = { λ b. 0 };
 }
 
-/// The flash that a device has at these places. None of its other blocks is erased or programmed, and where nothing was dirty at the
+/// The flash that a device has at these places. No other block of the device is erased or programmed. Where nothing was dirty at the
 /// start, what else the device has stays as it was then.
 #[derive(Drop)]
 pub struct Mapped<D: Flash, K: Start> {

@@ -4,6 +4,7 @@ mod Doable
 mod Sounds
 mod ReadBack
 pub mod Room
+pub mod Places
 mod Noted
 mod Calls
 pub mod Guards

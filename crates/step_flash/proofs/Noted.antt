@@ -1,11 +1,11 @@
 -- What a device promises of its steps holds with one more of them.
-use Rattle.std.proofs.Common.{◌≡◌, ◌⊎◌, inl, inr, ℕ, zero, suc, ◌+◌, ◌*◌, ◌%◌, ◌<◌, ◌≤◌, true, List, [], ◌∷◌, ◌++◌, All, length, get_or, subst, sym, ap, ◌∙◌, arith, refl}
+use Rattle.std.proofs.Common.{◌≡◌, inl, inr, ℕ, zero, suc, ◌+◌, ◌*◌, ◌%◌, ◌<◌, ◌≤◌, true, List, [], ◌∷◌, ◌++◌, All, length, get_or, subst, sym, ap, ◌∙◌, arith, refl}
 use Rattle.std.proofs.lemmas.List.{length-append}
 use Rattle.std.proofs.lemmas.List.Sums.{fold-append}
 use Rattle.base_core.specs.Block.{blank, block_bytes}
 use Rattle.flash_core.specs.Told.{Told, IsSound, put, settle}
 use Rattle.step_flash.specs.declared.step.Step.{Step}
-use Rattle.step_flash.specs.Steps.{AreDoable, IsInsideWith, NotesBytes, StandsAt, TakesProgram, barrier_step, copy_step, erase_step, program_step, room_bytes, run_step, run_with}
+use Rattle.step_flash.specs.Steps.{AreDoable, IsInsideWith, NotesBytes, TakesProgram, barrier_step, copy_step, erase_step, program_step, room_bytes, run_step, run_with}
 use Rattle.step_flash.proofs.Doable.{barrier_doable, copy_more, doable_more, erase_doable, program_more}
 use Rattle.step_flash.proofs.Grows.{copy_noted, program_noted}
 use Rattle.step_flash.proofs.ReadBack.{length-blank}

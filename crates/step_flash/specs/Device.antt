@@ -3,6 +3,7 @@ use Rattle.std.specs.Prelude.{◌≡◌, ◌⊎◌, if◌then◌else◌, ℕ, �
 use Rattle.std.specs.Prelude.{Result, is_ok, IsErrOf, IsTrue, OnErr, OnOk}
 use Rattle.std.proofs.Common.{refl}
 use Rattle.flash_core.specs.Told.{Told, IsSound, fresh, settle, settled, written}
+use Rattle.flash_core.specs.Touches.{TouchesOnly}
 use Rattle.flash_core.specs.May.{Leaves, NoChance, TookEffect}
 use Rattle.flash_core.specs.Counts.{Fires, Idles, ReachesNone, Rose, Spends, arming_kept, arming_spent, landed_of}
 use Rattle.flash_core.specs.declared.flash.Arming.{Arming}
@@ -16,6 +17,7 @@ use Rattle.step_flash.specs.declared.stopped.Stopped.{Stopped}
 use Rattle.step_flash.specs.Guard.{start_with}
 use Rattle.step_flash.specs.Steps.{NotesBytes, run_with}
 use Rattle.step_flash.specs.Stopped.{under_as, under_of}
+use Rattle.step_flash.specs.Writes.{writes_in}
 
 abbrev pub is_on : StepDevice → Bool
 is_on d = d.on
@@ -54,6 +56,10 @@ told_of d = under_as (under_of d.stopped) (back_on d.live (after_steps d))
 abbrev pub steps_of : StepDevice → List Step
 steps_of d = d.steps.items
 
+-- how often each block is erased or programmed by these steps
+abbrev pub writes_of : StepDevice → ℕ → ℕ
+writes_of d = writes_in d.steps.items
+
 -- the bytes of the programs that are no copies
 abbrev pub room_of : StepDevice → List ℕ
 room_of d = d.room.items
@@ -78,17 +84,20 @@ NotedBy d parts =
 pub record KeepsSteps (old new : StepDevice) : Type 0 where
   pub steps : steps_of new ≡ steps_of old
   pub room : room_of new ≡ room_of old
+  pub writes : writes_of new ≡ writes_of old
 
 -- An erase or a barrier that was done is this step, behind those before. At a stop no step is noted.
 pub record NotesStep (step : Step) (result : Result (Unit {0}) FlashStop) (old new : StepDevice) : Type 0 where
   pub noted : OnOk result (steps_of new ≡ steps_of old ++ step ∷ [])
   pub room : room_of new ≡ room_of old
   pub stopped : OnErr result (KeepsSteps old new)
+  pub touches : TouchesOnly step.at (step.at + step.length) (writes_of old) (writes_of new)
 
 -- A program that was done is one step, a copy where its bytes were found in the package. At a stop no step is noted.
 pub record NotesProgram (at : ℕ) (bytes : List ℕ) (result : Result (Unit {0}) FlashStop) (old new : StepDevice) : Type 0 where
   pub noted : OnOk result (NotesBytes (package_of old) at bytes (steps_of old) (room_of old) (steps_of new) (room_of new))
   pub stopped : OnErr result (KeepsSteps old new)
+  pub touches : TouchesOnly at (at + length bytes) (writes_of old) (writes_of new)
 
 -- ---- what each call promises as the trait has it
 
@@ -119,6 +128,7 @@ pub record SettlesImage (result : Result (Unit {0}) FlashStop) (old new : StepDe
   pub arming : arming_of new ≡ arming_kept result (arming_of old)
   pub counts : Spends result (counts_of old) (counts_of new)
   pub reached : ReachesNone result (counts_of old) (counts_of new)
+  pub writes : writes_of new ≡ writes_of old
 
 -- a loss is armed
 pub record ArmsLoss (n k : ℕ) (old new : StepDevice) : Type 0 where
@@ -150,6 +160,7 @@ pub record Fails (told : Told) (result : Result (Unit {0}) FlashStop) (old new :
   pub arming : arming_of new ≡ arming_of old
   pub counts : Spends result (counts_of old) (counts_of new)
   pub kept : KeepsSteps old new
+  pub still : (b : ℕ) → writes_of new b ≡ writes_of old b
 
 -- What was noted is handed out as it is: the steps, in their order, and the room.
 pub record IsGivenOut (d : StepDevice) (parts : StepParts) : Type 0 where

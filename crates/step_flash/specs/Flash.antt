@@ -43,6 +43,10 @@ arming_of d = device.arming_of d.device.value
 abbrev pub counts_of : StepFlash → Counts
 counts_of d = device.counts_of d.device.value
 
+-- how often each block is erased or programmed by the steps that are noted
+abbrev pub writes_of : StepFlash → ℕ → ℕ
+writes_of d = device.writes_of d.device.value
+
 -- What is told is what these steps leave, beside an operation that is under way.
 abbrev pub NotedBy : StepFlash → StepParts → Type 0
 NotedBy d parts = device.NotedBy d.device.value parts

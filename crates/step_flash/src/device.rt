@@ -116,12 +116,14 @@ fn lay(step: &Step, file: &[u8], room: &[u8], blocks: u32, at: usize, out: &mut 
 }
 
 impl<'a> StepDevice<'a> {
-    ghost use Rattle.std.specs.Prelude.{◌≡◌, true, None, [], ◌+◌, ◌*◌, ◌≤◌, All, length, slice_range};
+    ghost use Rattle.std.specs.Prelude.{◌≡◌, true, None, [], ◌+◌, ◌*◌, ◌<◌, ◌≤◌, All, length, slice_range};
     ghost use Rattle.std.specs.Prelude.{ℕ, IfSome, IfNone, IsTrue};
     ghost use Rattle.flash_core.specs.Told.{halt};
     ghost use Rattle.flash_core.specs.Counts.{IsDue};
+    ghost use Rattle.flash_core.specs.Touches.{TouchesOnly};
+    ghost use Rattle.step_flash.specs.Writes.{LiesBeside, LiesWithin};
     ghost use Rattle.step_flash.specs.Device.{is_on, is_live, block_count, image_of, package_of, after_steps, told_of};
-    ghost use Rattle.step_flash.specs.Device.{arming_of, most_of, steps_of, Fails, IsGivenOut, NotedBy};
+    ghost use Rattle.step_flash.specs.Device.{arming_of, most_of, steps_of, writes_of, Fails, IsGivenOut, NotedBy};
 
     /// The device over an image, with a package and the places that are tried in it.
     pub(crate) fn new(
@@ -133,6 +135,7 @@ impl<'a> StepDevice<'a> {
     ) -> Option<StepDevice<'a>>
         ensures content { IfSome result (λ d. told_of d ≡ start_with image.now file.now) }
         ensures steps { IfSome result (λ d. steps_of d ≡ []) }
+        ensures unwritten { IfSome result (λ d. (b : ℕ) → writes_of d b ≡ 0) }
         ensures power { IfSome result (λ d. is_on d ≡ true) }
         ensures unarmed { IfSome result (λ d. arming_of d ≡ None) }
         ensures image { IfSome result (λ d. image_of d ≡ image.now) }
@@ -176,6 +179,10 @@ impl<'a> StepDevice<'a> {
             (start_with (image_of self.entry) (package_of self.entry)) result.steps.items }
         ensures few { length result.steps.items ≤ most_of self.entry }
         ensures theirs { length result.room.items ≡ room_bytes result.steps.items }
+        ensures within { (first last : ℕ) → TouchesOnly (block_bytes * first) (block_bytes * last) (λ b. 0) (writes_of self.entry)
+            → All (LiesWithin (block_bytes * first) (block_bytes * last)) result.steps.items }
+        ensures beside { (first last : ℕ) → first < last → ((b : ℕ) → first ≤ b → b < last → writes_of self.entry b ≡ 0)
+            → All (LiesBeside (block_bytes * first) (block_bytes * last)) result.steps.items }
     {
         StepParts {
             steps: self.steps,

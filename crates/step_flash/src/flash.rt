@@ -1,9 +1,11 @@
 //! The flash, as its callers hold it.
-ghost use Rattle.std.specs.Prelude.{◌≡◌, ◌<◌, ◌≤◌, ◌+◌, ◌*◌, ◌%◌, None, true, [], All, IfErr, IfOk, IsFalse, IsTrue, length, slice_range};
+ghost use Rattle.std.specs.Prelude.{◌≡◌, ℕ, ◌<◌, ◌≤◌, ◌+◌, ◌*◌, ◌%◌, None, true, [], All, IfErr, IfOk, IsFalse, IsTrue, length, slice_range};
 ghost use Rattle.base_core.specs.Block.{blank, block_bytes, granule_bytes};
 ghost use Rattle.step_flash.specs.Device.{ArmsLoss, IsGivenOut, KeepsSteps, NotesProgram, NotesStep, ComesBackOn, ReadsImage, SettlesImage, Writes};
 ghost use Rattle.step_flash.specs.Flash.{device_in, steps_of, NotedBy, arming_of, block_count, counts_of, image_of, is_live, is_on};
-ghost use Rattle.step_flash.specs.Flash.{flash_sizes, flash_sound, flash_ahead, most_of, package_of, told_of};
+ghost use Rattle.step_flash.specs.Flash.{flash_sizes, flash_sound, flash_ahead, most_of, package_of, told_of, writes_of};
+ghost use Rattle.flash_core.specs.Touches.{TouchesOnly};
+ghost use Rattle.step_flash.specs.Writes.{LiesBeside, LiesWithin};
 ghost use Rattle.step_flash.specs.Guard.{start_told, start_with};
 ghost use Rattle.step_flash.specs.Steps.{AreDoable, IsInsideWith, barrier_step, erase_step, room_bytes};
 ghost use Rattle.step_flash.specs.Unmade.{IsUnmade};
@@ -39,6 +41,7 @@ impl<'a> StepFlash<'a> {
     pub fn new(alloc: Global, image: &'a [u8], most: usize) -> Result<StepFlash<'a>, Unmade>
         ensures content { IfOk result (λ d. told_of d ≡ start_told image.now) }
         ensures steps { IfOk result (λ d. steps_of d ≡ []) }
+        ensures unwritten { IfOk result (λ d. (b : ℕ) → writes_of d b ≡ 0) }
         ensures power { IfOk result (λ d. is_on d ≡ true) }
         ensures unarmed { IfOk result (λ d. arming_of d ≡ None) }
         ensures image { IfOk result (λ d. image_of d ≡ image.now) }
@@ -63,6 +66,7 @@ impl<'a> StepFlash<'a> {
     ) -> Result<StepFlash<'a>, Unmade>
         ensures content { IfOk result (λ d. told_of d ≡ start_with image.now file.now) }
         ensures steps { IfOk result (λ d. steps_of d ≡ []) }
+        ensures unwritten { IfOk result (λ d. (b : ℕ) → writes_of d b ≡ 0) }
         ensures power { IfOk result (λ d. is_on d ≡ true) }
         ensures unarmed { IfOk result (λ d. arming_of d ≡ None) }
         ensures image { IfOk result (λ d. image_of d ≡ image.now) }
@@ -101,6 +105,11 @@ impl<'a> StepFlash<'a> {
         ensures few { length result.steps.items ≤ most_of self.entry }
         // The room has the bytes of the programs that are no copies.
         ensures theirs { length result.room.items ≡ room_bytes result.steps.items }
+        // Where the counts of the blocks say so, each step that is no barrier lies between two places, or beside what is between.
+        ensures within { (first last : ℕ) → TouchesOnly (block_bytes * first) (block_bytes * last) (λ b. 0) (writes_of self.entry)
+            → All (LiesWithin (block_bytes * first) (block_bytes * last)) result.steps.items }
+        ensures beside { (first last : ℕ) → first < last → ((b : ℕ) → first ≤ b → b < last → writes_of self.entry b ≡ 0)
+            → All (LiesBeside (block_bytes * first) (block_bytes * last)) result.steps.items }
     {
         Box::into_inner(self.device).into_parts()
     }
@@ -120,6 +129,8 @@ impl<'a> Flash for StepFlash<'a> {
     ghost arming = { λ d. arming_of d };
 
     ghost counts = { λ d. counts_of d };
+
+    ghost writes = { λ d. writes_of d };
 
     ghost sizes = { λ d. flash_sizes d };
 

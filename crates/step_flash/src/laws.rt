@@ -1,9 +1,9 @@
 //! What holds of each device of steps: functions that do nothing, whose contracts are the laws.
-ghost use Rattle.std.specs.Prelude.{◌≡◌, List, ℕ, Result, IsErrOf};
+ghost use Rattle.std.specs.Prelude.{◌≡◌, ◌≤◌, List, ℕ, Result, IsErrOf};
 ghost use Rattle.flash_core.specs.Counts.{Spends};
 ghost use Rattle.flash_core.specs.declared.flash.FlashStop.{FlashStop};
 ghost use Rattle.flash_core.specs.declared.flash.FlashStop.TheVariants.{Lost};
-ghost use Rattle.step_flash.specs.Flash.{counts_of, image_of, package_of, told_of};
+ghost use Rattle.step_flash.specs.Flash.{block_count, counts_of, image_of, package_of, told_of, writes_of};
 ghost use Rattle.step_flash.specs.Guard.{guard_of, guard_with};
 ghost use Rattle.step_flash.specs.declared.flash.StepFlash.{StepFlash};
 
@@ -19,4 +19,10 @@ pub fn a_guard_tells_its_image()
 pub fn no_power_is_lost<T>()
     ensures { (old new : StepFlash) (result : Result T FlashStop) →
         Spends result (counts_of old) (counts_of new) → IsErrOf result Lost → ⊥ }
+{}
+
+/// No device counts an erase or a program of a block that it has not. So where a call spares the blocks before one, its steps lie from
+/// there to the end of the flash.
+pub fn no_block_behind_the_last_is_counted()
+    ensures { (d : StepFlash) (b : ℕ) → block_count d ≤ b → writes_of d b ≡ 0 }
 {}

@@ -15,5 +15,5 @@ mod tests;
 
 pub use device::StepParts;
 pub use flash::{StepFlash, Unmade};
-pub use laws::{a_guard_tells_its_image, no_power_is_lost};
+pub use laws::{a_guard_tells_its_image, no_block_behind_the_last_is_counted, no_power_is_lost};
 pub use step::{BARRIER, COPY, ERASE, PROGRAM, Step};

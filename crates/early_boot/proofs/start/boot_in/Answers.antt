@@ -4,6 +4,9 @@ use Rattle.flash_core.specs.declared.flash.Arming.{Arming}
 use Rattle.flash_core.specs.declared.flash.FlashStop.{FlashStop}
 use Rattle.flash_core.specs.Calls.{Goes, Reads}
 use Rattle.flash_core.specs.Told.{Told}
+use Rattle.flash_core.specs.Touches.{TouchesOnly}
+use Rattle.flash_core.proofs.Touches.{touches_none}
+use Rattle.early_boot.proofs.Touching.{stopped-touches, touches-behind, unshown-touches}
 use Rattle.early_boot.specs.declared.choosing.Chosen.{Chosen}
 use Rattle.early_boot.specs.declared.showing.Shown.{Shown}
 use Rattle.early_boot.specs.Showing.{state_shown, stop_in}
@@ -15,13 +18,15 @@ use Rattle.early_boot.proofs.Choices.{starts_by_numbers, unshown_started, stoppe
 use Rattle.early_boot.specs.Mending.{mended}
 use Rattle.early_boot.specs.Numbers.{AreNumbers, numbers}
 use Rattle.early_boot.proofs.Numbered.{numbers-are}
-use Rattle.early_boot.specs.Starting.{Boots, IsCountedStart, TakesMendingAndStart, TakesRepairAndStart, chosen_of}
+use Rattle.early_boot.specs.Starting.{Boots, IsCountedStart, TakesMendingAndStart, TakesRepairAndStart, chosen_of, touched_for}
 use Rattle.early_boot.specs.Started.{started_as}
 use Rattle.early_boot.specs.Ends.{Ended, device_of, ended, no_bank, stop_of}
-use Rattle.early_boot.specs.EndsBy.{BootEnds, IdleEnd, TakesBoot, TakesByBytes, stopped_with, unshown_end}
+use Rattle.early_boot.specs.EndsBy.{BootEnds, IdleEnd, TakesBoot, TakesByBytes, TouchesBoot, stopped_with, unshown_end}
 use Rattle.early_boot.proofs.Endings.{shown-numbers}
 use Rattle.early_boot.proofs.Ended.{unshown-ends, unshown-idle, unshown-stop, stopped-idle, stopped-stop, started-bytes, started-ends, none-ends, stopped-ends}
-use Rattle.early_boot.proofs.Taken.{none-spent, none-takes, start-spent, start-takes, stopped-spent, stopped-takes, unshown-spent, unshown-takes}
+use Rattle.early_boot.specs.CountingStarts.{touched_end}
+use Rattle.early_boot.specs.declared.counting_starts.Counting.{Counting}
+use Rattle.early_boot.proofs.Taken.{counting-is, none-spent, none-takes, start-spent, start-takes, stopped-spent, stopped-takes, unshown-spent, unshown-takes}
 use Rattle.early_boot.proofs.Known.{started-knows}
 use Rattle.early_boot.proofs.Left.{goes-done, goes-stopped, read-goes, read-unarmed}
 use Rattle.early_boot.proofs.start.boot_in.Goals as goal
@@ -62,6 +67,10 @@ returns-in-Err g c =
             subst (λ (e : Ended). IdleEnd e (g.D.Flash.arming F) (g.D.Flash.arming (device_of c.unshown.result)) (g.D.Flash.counts F) (g.D.Flash.counts (device_of c.unshown.result))) (sym c.unshown.ensures.ended)
             (subst (λ d. IdleEnd (unshown_end why) (g.D.Flash.arming F) (g.D.Flash.arming d) (g.D.Flash.counts F) (g.D.Flash.counts d)) (sym c.unshown.ensures.device)
             (unshown-idle why (g.D.Flash.arming F) _ (g.D.Flash.counts F) _ c.in-Err.ensures.reads.arming c.in-Err.ensures.reads.reached));
+        touches = touches_none 4096 28672 reads.writes;
+        touches_fewer =
+            let F = g.D.Flash.writes c.args.flash in
+            subst (λ (e : Ended). TouchesBoot e F (g.D.Flash.writes (device_of c.unshown.result))) (sym c.unshown.ensures.ended) (unshown-touches why reads.writes);
         started = subst StartedBy (sym c.unshown.ensures.ended) (unshown_started why);
         permitted = subst (StartsPermitted passes) (sym c.unshown.ensures.ended) (unshown_permitted _ why);
         spent =
@@ -106,6 +115,13 @@ returns-in-Err-mend_and_start g c =
             let d = device_of c.stopped_with.result in
             subst (λ (e : Ended). IdleEnd e (g.D.Flash.arming F) (g.D.Flash.arming d) (g.D.Flash.counts F) (g.D.Flash.counts d)) (sym c.stopped_with.ensures.ended)
             (stopped-idle stop n (g.D.Flash.arming F) (g.D.Flash.arming d) (g.D.Flash.counts F) (g.D.Flash.counts d));
+        touches =
+            subst (λ d. TouchesOnly 4096 28672 (g.D.Flash.writes c.args.flash) (g.D.Flash.writes d)) (sym c.stopped_with.ensures.device)
+            (touches-behind 4096 28672 c.in-Ok.ensures.reads.writes c.in-Err-mend_and_start.ensures.touches);
+        touches_fewer =
+            let F = g.D.Flash.writes c.args.flash in
+            let d = g.D.Flash.writes (device_of c.stopped_with.result) in
+            subst (λ (e : Ended). TouchesBoot e F d) (sym c.stopped_with.ensures.ended) (stopped-touches stop n F d);
         started =
             let are = numbers-are shown c.in-Ok.ensures.shown.layout c.in-Ok.ensures.shown.fits c.in-Ok.ensures.shown.few c.in-Ok.ensures.shown.form c.in-Ok.ensures.shown.none in
             subst StartedBy (sym c.stopped_with.ensures.ended) (stopped_started stop _ (subst AreNumbers (sym c.of-numbers.ensures) are));
@@ -149,6 +165,13 @@ returns-in-Ok-Some g c =
         size = goes.size;
         costs = goes.costs;
         idle = tt;
+        touches = touches-behind 4096 28672 c.in-Ok.ensures.reads.writes c.in-Ok-Some.ensures.touches;
+        touches_fewer =
+            let writes = g.D.Flash.writes in
+            let new = c.mend_and_start.new.flash in
+            let is = counting-is shown c.in-Ok-Some.after c.in-Ok-Some.chosen n c.of-numbers.ensures counted.later in
+            let fewer = subst (λ (o : Option (Shown × Chosen)). TouchesOnly 4096 (touched_for (mended shown) o) (writes read) (writes new)) c.in-Ok-Some.field-0-is c.in-Ok-Some.ensures.fewer in
+            subst (λ (k : Counting). TouchesOnly 4096 (touched_end k) (writes c.args.flash) (writes new)) is (touches-behind 4096 _ c.in-Ok.ensures.reads.writes fewer);
         started =
             starts_by_numbers shown c.in-Ok-Some.after c.in-Ok-Some.chosen n c.of-numbers.ensures counted.later counted.counted
             (numbers-are shown c.in-Ok.ensures.shown.layout c.in-Ok.ensures.shown.fits c.in-Ok.ensures.shown.few c.in-Ok.ensures.shown.form c.in-Ok.ensures.shown.none) counted.found.is;
@@ -194,6 +217,12 @@ returns-in-Ok-None g c =
         size = goes.size;
         costs = goes.costs;
         idle = tt;
+        touches = touches-behind 4096 28672 c.in-Ok.ensures.reads.writes c.in-Ok-None.ensures.touches;
+        touches_fewer =
+            let writes = g.D.Flash.writes in
+            let new = c.mend_and_start.new.flash in
+            touches-behind 4096 12288 c.in-Ok.ensures.reads.writes
+            (subst (λ (o : Option (Shown × Chosen)). TouchesOnly 4096 (touched_for (mended shown) o) (writes read) (writes new)) c.in-Ok-None.field-0-is c.in-Ok-None.ensures.fewer);
         started =
             let are = numbers-are shown c.in-Ok.ensures.shown.layout c.in-Ok.ensures.shown.fits c.in-Ok.ensures.shown.few c.in-Ok.ensures.shown.form c.in-Ok.ensures.shown.none in
             (omega (arith, c.active.ensures, are.active, are.most), omega (arith, c.previous.ensures, are.previous, are.most));

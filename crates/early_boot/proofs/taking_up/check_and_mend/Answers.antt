@@ -3,6 +3,8 @@ use Rattle.std.proofs.lemmas.Option.{same_Some}
 use Rattle.std.specs.Bool.{then_some}
 use Rattle.fwu_formats.specs.Metadata.{state_at}
 use Rattle.flash_core.specs.Told.{Told}
+use Rattle.flash_core.proofs.Touches.{touches_none}
+use Rattle.early_boot.proofs.Touching.{touches-behind}
 use Rattle.early_boot.specs.Mending.{MendsReplicas}
 use Rattle.early_boot.proofs.TakingUp.{run-below}
 use Rattle.early_boot.proofs.taking_up.check_and_mend.Goals as goal
@@ -22,3 +24,18 @@ pub returns-clause-mends : goal.returns-clause-mends
 returns-clause-mends g c tells =
     subst (λ (t : Told). MendsReplicas {T = Unit {0}} (Ok tt) c.args.shown.now t (g.D.Flash.told c.mend.new.flash)) (c.in_ok-chosen.ensures.reads.content tells)
     (c.in_ok-mend.ensures.mends tells)
+
+pub returns-in_err-chosen-clause-touches : goal.returns-in_err-chosen-clause-touches
+returns-in_err-chosen-clause-touches g c = touches_none 4096 12288 c.in_err-chosen.ensures.reads.writes
+
+pub returns-in_default-clause-touches : goal.returns-in_default-clause-touches
+returns-in_default-clause-touches g c = touches_none 4096 12288 c.in_ok-chosen.ensures.reads.writes
+
+pub returns-in_default-clause-refused : goal.returns-in_default-clause-refused
+returns-in_default-clause-refused g c = λ none. c.in_ok-chosen.ensures.reads.writes
+
+pub returns-in_err-mend-clause-touches : goal.returns-in_err-mend-clause-touches
+returns-in_err-mend-clause-touches g c = touches-behind 4096 12288 c.in_ok-chosen.ensures.reads.writes c.in_err-mend.ensures.touches
+
+pub returns-clause-touches : goal.returns-clause-touches
+returns-clause-touches g c = touches-behind 4096 12288 c.in_ok-chosen.ensures.reads.writes c.in_ok-mend.ensures.touches

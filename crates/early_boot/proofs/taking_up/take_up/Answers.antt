@@ -21,7 +21,7 @@ invariant_of-booted-clause-knows g c tells =
     let passes = g.V.Verifier.passes c.args.verifier.now in
     let chosen = c.in-Ok-Some.chosen in
     subst (λ (x : Shown). KnowsStarted (started_as x chosen) (g.D.Flash.told c.check_and_mend.new.flash)) (sym c.mended.ensures)
-    (knows-at g.D.Flash passes c.args.bank c.args.flash c.read_shown.new.flash c.check_and_mend.new.flash c.in-Ok.shown c.in-Ok.ensures.reads c.in-Ok.ensures.shown
+    (knows-at g.D.Flash passes c.args.bank c.args.flash c.read_shown.new.flash c.check_and_mend.new.flash c.in-Ok.shown c.in-Ok.ensures.reads c.in-Ok.ensures.shown c.in-Ok-Some.ensures.touches
     c.in-Ok-Some.field-0 chosen c.in-Ok-Some.field-0-is c.in-Ok-Some.ensures.running c.in-Ok-Some.ensures.mends tells)
 
 pub returns-in-Ok-Some : goal.returns-in-Ok-Some
@@ -31,7 +31,7 @@ returns-in-Ok-Some g c =
     record {
       takes =
           subst (λ (x : Shown). IsTakeUp g.D.Flash passes c.args.bank c.args.flash (taken (started_as x chosen)) c.check_and_mend.new.flash) (sym c.mended.ensures)
-          (taken-at g.D.Flash passes c.args.bank c.args.flash c.read_shown.new.flash c.check_and_mend.new.flash c.in-Ok.shown c.in-Ok.ensures.reads c.in-Ok.ensures.shown
+          (taken-at g.D.Flash passes c.args.bank c.args.flash c.read_shown.new.flash c.check_and_mend.new.flash c.in-Ok.shown c.in-Ok.ensures.reads c.in-Ok.ensures.shown c.in-Ok-Some.ensures.touches
           c.in-Ok-Some.field-0 chosen c.in-Ok-Some.field-0-is c.in-Ok-Some.ensures.running c.in-Ok-Some.ensures.mends c.in-Ok-Some.ensures.goes c.in-Ok-Some.ensures.spent c.in-Ok-Some.ensures.once c.in-Ok-Some.ensures.found);
     }
 
@@ -40,8 +40,8 @@ returns-in-Ok-None g c =
     let passes = g.V.Verifier.passes c.args.verifier.now in
     record {
       takes =
-          refused-at g.D.Flash passes c.args.bank c.args.flash c.read_shown.new.flash c.check_and_mend.new.flash c.in-Ok.shown c.in-Ok.ensures.reads c.in-Ok.ensures.shown
-          c.in-Ok-None.field-0 c.in-Ok-None.field-0-is c.in-Ok-None.ensures.goes c.in-Ok-None.ensures.spent c.in-Ok-None.ensures.running c.in-Ok-None.ensures.mends;
+          refused-at g.D.Flash passes c.args.bank c.args.flash c.read_shown.new.flash c.check_and_mend.new.flash c.in-Ok.shown c.in-Ok.ensures.reads c.in-Ok.ensures.shown c.in-Ok-None.ensures.touches
+          c.in-Ok-None.field-0 c.in-Ok-None.field-0-is c.in-Ok-None.ensures.goes c.in-Ok-None.ensures.spent c.in-Ok-None.ensures.running c.in-Ok-None.ensures.mends c.in-Ok-None.ensures.refused;
     }
 
 pub returns-in-Err-check_and_mend : goal.returns-in-Err-check_and_mend
@@ -49,6 +49,6 @@ returns-in-Err-check_and_mend g c =
     let passes = g.V.Verifier.passes c.args.verifier.now in
     record {
       takes =
-          stopped-take-up g.D.Flash passes c.args.bank c.args.flash c.read_shown.new.flash c.check_and_mend.new.flash c.in-Ok.shown c.in-Ok.ensures.reads c.in-Ok.ensures.shown
+          stopped-take-up g.D.Flash passes c.args.bank c.args.flash c.read_shown.new.flash c.check_and_mend.new.flash c.in-Ok.shown c.in-Ok.ensures.reads c.in-Ok.ensures.shown c.in-Err-check_and_mend.ensures.touches
           c.in-Err-check_and_mend.stop c.in-Err-check_and_mend.ensures.goes c.in-Err-check_and_mend.ensures.mends;
     }

@@ -5,6 +5,7 @@ use Rattle.step_flash.specs.Guard.{start_with}
 use Rattle.step_flash.specs.Steps.{run_with}
 use Rattle.step_flash.specs.Stopped.{under_of}
 use Rattle.step_flash.specs.declared.step.Step.{Step}
+use Rattle.step_flash.proofs.Places.{barrier_meets_none, step_touches}
 use Rattle.step_flash.proofs.Noted.{Fits, barrier_fits, barrier_run}
 use Rattle.step_flash.proofs.Calls.{settle_noted}
 use Rattle.step_flash.proofs.device.StepDevice.barrier.Goals as goal
@@ -33,4 +34,15 @@ returns-clause-settles c =
       arming = refl;
       counts = search rules;
       reached = search rules;
+      writes = barrier_meets_none s.steps.items _ (c.note_barrier.ensures.noted c.if-not-note_barrier.false);
+    }
+
+pub returns-clause-noted : goal.returns-clause-noted
+returns-clause-noted c =
+    let noted = c.note_barrier.ensures.noted c.if-not-note_barrier.false in
+    record {
+      noted = search rules;
+      room = refl;
+      stopped = search rules;
+      touches = step_touches c.args.self.now.steps.items _ _ noted;
     }

@@ -7,6 +7,7 @@ use Rattle.step_flash.specs.Stopped.{under_of}
 use Rattle.step_flash.specs.Steps.{run_with}
 use Rattle.step_flash.specs.declared.step.Step.{Step}
 use Rattle.step_flash.proofs.Calls.{lowered_ahead, put_noted}
+use Rattle.step_flash.proofs.Places.{step_touches}
 use Rattle.step_flash.proofs.Noted.{Fits, erase_fits, erase_run}
 use Rattle.step_flash.proofs.device.StepDevice.erase.Goals as goal
 
@@ -46,4 +47,14 @@ returns-clause-writes c =
       counts = search rules;
       reached = search rules;
       landed = refl;
+    }
+
+pub returns-clause-noted : goal.returns-clause-noted
+returns-clause-noted c =
+    let noted = c.note_erase.ensures.noted c.if-not-note_erase.false in
+    record {
+      noted = search rules;
+      room = refl;
+      stopped = search rules;
+      touches = step_touches c.args.self.now.steps.items _ _ noted;
     }

@@ -4,9 +4,11 @@ use Rattle.flash_core.specs.Told.{Told, IsSound}
 use Rattle.step_flash.specs.Guard.{guard_with, start_with}
 use Rattle.step_flash.specs.Steps.{AreDoable, room_bytes, run_with}
 use Rattle.step_flash.specs.Stopped.{under_as}
+use Rattle.step_flash.specs.Writes.{writes_in}
 use Rattle.step_flash.specs.declared.step.Step.{Step}
 use Rattle.step_flash.proofs.Calls.{start_idle}
 use Rattle.step_flash.proofs.ReadBack.{run_none}
+use Rattle.step_flash.proofs.Places.{none_met}
 use Rattle.step_flash.proofs.Room.{no_room_bytes}
 use Rattle.step_flash.proofs.Sounds.{sound_fresh}
 use Rattle.step_flash.proofs.device.StepDevice.new.Goals as goal
@@ -44,3 +46,6 @@ returns-clause-content c =
     ap (λ (ss : List Step). run_with c.new.result.bytes.now c.new-3.result.items begun ss) c.new-2.ensures.items
     ∙ run_none c.new.result.bytes.now c.new-3.result.items begun in
     ap (λ (t : Told). under_as None t) none ∙ start_idle image c.new.result.bytes.now ∙ ap (λ (p : List ℕ). start_with image p) had
+
+pub returns-clause-unwritten : goal.returns-clause-unwritten
+returns-clause-unwritten c = λ b. ap (λ (ss : List Step). writes_in ss b) c.new-2.ensures.items ∙ none_met b

@@ -5,6 +5,7 @@ use Rattle.step_flash.specs.Guard.{start_with}
 use Rattle.step_flash.specs.Stopped.{under_of}
 use Rattle.step_flash.specs.Steps.{TakesProgram, run_with}
 use Rattle.step_flash.proofs.Calls.{lowered_ahead, put_noted}
+use Rattle.step_flash.proofs.Places.{program_touches}
 use Rattle.step_flash.proofs.Noted.{Fits, program_fits, program_run}
 use Rattle.step_flash.proofs.device.StepDevice.program.Goals as goal
 
@@ -52,4 +53,13 @@ returns-clause-writes c =
       counts = search rules;
       reached = search rules;
       landed = refl;
+    }
+
+pub returns-clause-noted : goal.returns-clause-noted
+returns-clause-noted c =
+    let noted = c.note_program.ensures.noted c.if-not-note_program.false in
+    record {
+      noted = search rules;
+      stopped = search rules;
+      touches = program_touches _ c.args.at c.args.bytes.now c.args.self.now.steps.items _ _ _ noted;
     }

@@ -15,5 +15,6 @@ returns c =
       size = f.size;
       arming = f.arming;
       counts = f.counts;
-      kept = record { steps = f.kept.steps; room = f.kept.room };
+      kept = record { steps = f.kept.steps; room = f.kept.room; writes = f.kept.writes };
+      still = f.still;
     }
