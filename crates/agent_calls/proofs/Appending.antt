@@ -1,13 +1,25 @@
 -- What was appended to an image, and what is kept of it, by the fields.
-use Rattle.std.proofs.Common.{◌≡◌, ℕ, ◌+◌, ◌%◌, ◌<◌, List, [], length, take, get_or, set, sym, ap, ◌∙◌, subst, arith, get_or-set_same}
+use Rattle.std.proofs.Common.{◌≡◌, ℕ, ◌+◌, ◌*◌, ◌%◌, ◌<◌, List, [], length, take, get_or, set, sym, ap, ◌∙◌, subst, arith, get_or-set_same}
 use Rattle.flash_core.specs.Told.{Told}
+use Rattle.flash_core.specs.Touches.{TouchesOnly}
 use Rattle.fwu_formats.specs.Layout.{ImageRow, start}
 use Rattle.moves.specs.Law.{CallResult}
-use Rattle.slot_writer.specs.Slots.{Appends, kept_of}
+use Rattle.slot_writer.specs.Slots.{Appends, blocks_for, done_of, kept_of}
 use Rattle.agent_kept.specs.Kept.{part_at, size_of}
 use Rattle.agent_machine.specs.Fields.{Fields, rest_of, target}
 use Rattle.agent_machine.specs.Knows.{Fitting}
 use Rattle.agent_machine.proofs.Answered.{layout-limits}
+
+-- which blocks that touched
+pub touched : (f : Fields) (image size : ℕ) (bytes : List ℕ) → size ≡ size_of (part_at f.session image) → (first : ℕ)
+    → first ≡ start f.layout (target f) image → {old new : ℕ → ℕ}
+    → TouchesOnly (4096 * first + done_of size) (4096 * (first + blocks_for (done_of (size + length bytes)))) old new
+    → let at = start f.layout (target f) image in let long = size_of (part_at f.session image) in
+    TouchesOnly (4096 * at + done_of long) (4096 * (at + blocks_for (done_of (long + length bytes)))) old new
+touched f image size bytes size-is first first-is {old = old} {new = new} touches =
+    subst (λ (a : ℕ). let n = size_of (part_at f.session image) in
+    TouchesOnly (4096 * a + done_of n) (4096 * (a + blocks_for (done_of (n + length bytes)))) old new) first-is
+    (subst (λ (n : ℕ). TouchesOnly (4096 * first + done_of n) (4096 * (first + blocks_for (done_of (n + length bytes)))) old new) size-is touches)
 
 module _ (f : Fields) (fitting : Fitting f) (image size : ℕ) (bytes left : List ℕ) (within : image < length f.session.rows)
     (size-is : size ≡ size_of (part_at f.session image)) where

@@ -1,5 +1,5 @@
 -- A partial begin: a begin, and then the copies.
-use Rattle.std.proofs.Common.{◌≡◌, ◌≢◌, cond, ℕ, ◌<◌, Bool, true, false, List, [], ◌∷◌, ◌++◌, length, get_or, replicate, Option, Some, None, Result, Ok, Err, refl, sym, ap, subst, ◌∙◌, get_or-set_other, IsTrue, eqb-true, OnOk, arith}
+use Rattle.std.proofs.Common.{◌≡◌, ◌≢◌, cond, ℕ, ◌+◌, ◌*◌, ◌%◌, ◌<◌, Bool, true, false, List, [], ◌∷◌, ◌++◌, length, get_or, replicate, Option, Some, None, Result, Ok, Err, refl, sym, ap, subst, ◌∙◌, get_or-set_other, IsTrue, eqb-true, OnOk, arith}
 use Rattle.std.specs.Prelude.{◌==◌}
 use Rattle.std.specs.List.{list_any}
 use Rattle.std.proofs.lemmas.Bool.{or_parts, not-false}
@@ -28,10 +28,10 @@ use Rattle.agent_machine.specs.Fields.{Fields, total_of}
 use Rattle.agent_machine.specs.Knows.{Fitting}
 use Rattle.agent_machine.specs.Machine.{state_in}
 use Rattle.agent_machine.specs.Moment.{Moment, Shows, Showing}
-use Rattle.agent_machine.specs.Meets.{IsDone, IsRefused, IsSettingOf, IsStopped, flash_result}
+use Rattle.agent_machine.specs.Meets.{IsDone, IsRefused, IsSettingOf, IsStopped, Stays, flash_result}
 use Rattle.agent_machine.specs.Goes.{GoesByMoves}
-use Rattle.agent_machine.specs.Beside.{IsSparedByAll}
-use Rattle.agent_machine.proofs.Beside.{spared-once, spared-same}
+use Rattle.agent_machine.specs.Beside.{IsBesideBank, IsSparedByAll, SparesBlocks, SparesBlocksByAll}
+use Rattle.agent_machine.proofs.Beside.{blocks-further, blocks-once, spared-once, spared-same}
 use Rattle.agent_machine.proofs.Going.{goes-then}
 use Rattle.agent_machine.proofs.Totals.{held-long}
 use Rattle.agent_machine.proofs.Stored.{target-other}
@@ -41,7 +41,7 @@ use Rattle.agent_calls.specs.Takes.{CopiesTake, Takes, writes_to_copy}
 use Rattle.agent_machine.specs.Filling.{between}
 use Rattle.agent_calls.specs.Partly.{begins_over}
 use Rattle.fwu_model.specs.Answer.{are_named, booted_package, names_unknown, copied_parts, image_held}
-use Rattle.agent_calls.specs.Copies.{FollowsInStaging, CopiesImages, AnswersAs, BeginsPartly}
+use Rattle.agent_calls.specs.Copies.{FillsBank, FollowsInStaging, CopiesImages, AnswersAs, BeginsPartly}
 use Rattle.agent_machine.proofs.CallGoing.{MeetsAs, call-goes, call-replies}
 use Rattle.agent_calls.proofs.Copies.{stays-none, stays-then}
 use Rattle.agent_calls.proofs.CopyingAll.{first-all}
@@ -205,6 +205,7 @@ refused-partly m types named passes st is = record {
       (does-nothing {T = Unit {0}} (Ok tt) E s m.told ready);
   guarded = λ tells rest. rest;
   keeps = λ tells. spared-same (IsSparedByAll m.fields.layout m.fields.boot) m.told;
+  touches = λ b spared. refl;
   stays = stays-none m;
 }
 
@@ -229,6 +230,7 @@ module _ (old new : Moment) (types : List (List ℕ)) (named : List Bool) (passe
         (sym (moves-with old E s x shows types (held old) (known-in E setting.layout))) (meets.leaves.does E s x setting shows tells ready);
     guarded = meets.leaves.guarded;
     keeps = λ tells. spared-once old.fields old.told new.told (meets.leaves.keeps tells);
+    touches = blocks-once old.fields meets.leaves.touches;
     stays = meets.leaves.stays;
   }
 
@@ -268,6 +270,13 @@ module _ (old new : Moment) (types : List (List ℕ)) (named : List Bool) (passe
       (refused-partly old types named passes st (refused-by st meets))
 
 -- ---- begun, and then copied
+
+-- What a begin spares and copies into the update bank do, both spare: the bank that was started is the active one.
+pub partly-touched : (old mid new : Moment) → Stays old mid → SparesBlocks old.fields old.writes mid.writes → mid.fields.boot ≡ mid.fields.meta.meta.active
+    → FillsBank mid new → SparesBlocksByAll old.fields old.writes new.writes
+partly-touched old mid new stays begun active fills =
+    blocks-further old.fields mid.fields stays.layout stays.boot (blocks-once old.fields begun)
+    (λ b spared. fills.touches b (subst (λ (n : ℕ). IsBesideBank mid.fields.layout ((n + 1) % mid.fields.layout.banks) (4096 * b)) active spared.1))
 
 append-nil : (ms : List Move) → ms ++ [] ≡ ms
 append-nil [] = refl
@@ -386,8 +395,9 @@ module _ (old mid new : Moment) (types : List (List ℕ)) (passes : List ℕ →
   stops-by (stop.Status st) E s x follows is = absurd follows
   stops-by stop.Gone E s x follows is = absurd follows
 
-  partly-by : (r : Result (Unit {0}) Stop) → r ≡ result → (IsTrue old.tells → (s : State) × (x : Session) × Shows old s x) → BeginsPartly types named passes r old new
-  partly-by (Ok u) e some = record {
+  partly-by : (r : Result (Unit {0}) Stop) → r ≡ result → (IsTrue old.tells → (s : State) × (x : Session) × Shows old s x)
+      → SparesBlocksByAll old.fields old.writes new.writes → BeginsPartly types named passes r old new
+  partly-by (Ok u) e some touches = record {
     bytes = copied.bytes;
     count = λ done. subst (λ (q : Result (Unit {0}) Stop). OnOk q ((i : ℕ) → i < length named → get_or named i true ≡ false → length (copied.bytes i) ≡ total_of old.fields (Some i))) (sym e) (count-by result copied.count);
     read = read-done (subst (λ (q : Result (Unit {0}) Stop). OnOk q (IsTrue mid.tells → (s : State) (boot : ℕ) → Shows mid s (between boot (replicate (length named) Nothing))
@@ -401,9 +411,10 @@ module _ (old mid new : Moment) (types : List (List ℕ)) (passes : List ℕ →
     guarded = λ tells rest. subst (λ (q : Result (Unit {0}) Stop). GuardedBy (flash_result q) new.told) (sym e)
         (let w = some tells in (goes-all plain w.0 w.1 plain-fits w.2).guarded tells rest);
     keeps = λ tells. let w = some tells in (goes-all plain w.0 w.1 plain-fits w.2).keeps tells;
+    touches = touches;
     stays = stays-then old mid new begins.leaves.stays copied.stays;
   }
-  partly-by (Err q) e some = record {
+  partly-by (Err q) e some touches = record {
     bytes = held old;
     count = λ done i lt un. held-count old (λ tells.
         let w = some tells in
@@ -419,11 +430,13 @@ module _ (old mid new : Moment) (types : List (List ℕ)) (passes : List ℕ →
     guarded = λ tells rest. subst (λ (r : Result (Unit {0}) Stop). GuardedBy (flash_result r) new.told) (sym e)
         (let w = some tells in (goes-all plain w.0 w.1 plain-fits w.2).guarded tells rest);
     keeps = λ tells. let w = some tells in (goes-all plain w.0 w.1 plain-fits w.2).keeps tells;
+    touches = touches;
     stays = stays-then old mid new begins.leaves.stays copied.stays;
   }
 
-  pub begun-partly : (IsTrue old.tells → (s : State) × (x : Session) × Shows old s x) → BeginsPartly types named passes result old new
-  begun-partly some = partly-by result refl some
+  pub begun-partly : (IsTrue old.tells → (s : State) × (x : Session) × Shows old s x) → SparesBlocksByAll old.fields old.writes new.writes
+      → BeginsPartly types named passes result old new
+  begun-partly some touches = partly-by result refl some touches
 
   -- some machine is shown, so it was neither refused nor was the agent gone
   follows-one : (q : Result (Unit {0}) Stop) (E : Setting) (s : State) (y : Session) → FollowsInStaging q E mid new s y → IsDone q

@@ -27,8 +27,8 @@ use Rattle.agent_machine.specs.Machine.{state_in, session_in}
 use Rattle.agent_machine.specs.Moment.{Moment, Shows}
 use Rattle.agent_machine.specs.Meets.{GoesBy, Stays, flash_result}
 use Rattle.agent_machine.specs.Goes.{GoesByMoves}
-use Rattle.agent_machine.specs.Beside.{IsSparedByAll, KeepsSparedByAll}
-use Rattle.agent_machine.proofs.Beside.{spared-told}
+use Rattle.agent_machine.specs.Beside.{IsSparedByAll, KeepsSparedByAll, SparesBlocksByAll}
+use Rattle.agent_machine.proofs.Beside.{blocks-still, spared-told}
 use Rattle.agent_machine.specs.Knows.{Fitting, Knows}
 use Rattle.agent_machine.proofs.Going.{goes-nothing, goes-then}
 use Rattle.agent_machine.proofs.Totals.{held-long}
@@ -68,8 +68,8 @@ follows-after (Err stop.Gone) E old mid new s x y first next = absurd next
 -- at a stop nothing is said of the session
 pub other-end : (T U : Type 0) (st : Stop) (E : Setting) (old new : Moment) (s : State) (y z : Session)
     → FollowsInStaging {T = T} (Err st) E old new s y → FollowsInStaging {T = U} (Err st) E old new s z
-other-end T U stop.Lost E old new s y z h = record { shows = tt; does = h.does; guarded = h.guarded; keeps = h.keeps; stays = h.stays }
-other-end T U stop.Fault E old new s y z h = record { shows = tt; does = h.does; guarded = h.guarded; keeps = h.keeps; stays = h.stays }
+other-end T U stop.Lost E old new s y z h = record { shows = tt; does = h.does; guarded = h.guarded; keeps = h.keeps; touches = h.touches; stays = h.stays }
+other-end T U stop.Fault E old new s y z h = record { shows = tt; does = h.does; guarded = h.guarded; keeps = h.keeps; touches = h.touches; stays = h.stays }
 other-end T U (stop.Status st) E old new s y z h = h
 other-end T U stop.Gone E old new s y z h = h
 
@@ -105,12 +105,12 @@ no-opened q is = cc
 -- ---- a read of the bank that was started
 
 -- what a read leaves: the same fields, and what is told
-module _ (tells : Bool) (s t : Told) (f g : Fields) (fields : g ≡ f) (told : IsTrue tells → t ≡ s) where
+module _ (tells : Bool) (s t : Told) (v w : ℕ → ℕ) (f g : Fields) (fields : g ≡ f) (told : IsTrue tells → t ≡ s) (counts : w ≡ v) where
   abbrev earlier : Moment
-  earlier = record { tells = tells; told = s; fields = f }
+  earlier = record { tells = tells; told = s; writes = v; fields = f }
 
   abbrev behind : Moment
-  behind = record { tells = tells; told = t; fields = g }
+  behind = record { tells = tells; told = t; writes = w; fields = g }
 
   pub read-stays : Stays earlier behind
   read-stays = record {
@@ -122,9 +122,9 @@ module _ (tells : Bool) (s t : Told) (f g : Fields) (fields : g ≡ f) (told : I
     guard = λ is. ap (λ (u : Told). u.guard) (told is);
   }
 
-  read-shows : (w : State) (x : Session) → Shows earlier w x → Shows behind w x
-  read-shows w x shows = subst (λ (h : Fields). Shows (record { tells = tells; told = t; fields = h }) w x) (sym fields) (record {
-    told = λ is. subst (λ (u : Told). (w ≡ state_in f u.now) × (x ≡ session_in f u.now)) (sym (told is)) (shows.told is);
+  read-shows : (q : State) (x : Session) → Shows earlier q x → Shows behind q x
+  read-shows q x shows = subst (λ (h : Fields). Shows (record { tells = tells; told = t; writes = w; fields = h }) q x) (sym fields) (record {
+    told = λ is. subst (λ (u : Told). (q ≡ state_in f u.now) × (x ≡ session_in f u.now)) (sym (told is)) (shows.told is);
     speaks = shows.speaks;
     staged = shows.staged;
     kept = shows.kept;
@@ -138,21 +138,26 @@ module _ (tells : Bool) (s t : Told) (f g : Fields) (fields : g ≡ f) (told : I
   keeps-all : IsTrue tells → KeepsSparedByAll f s t
   keeps-all is = spared-told (IsSparedByAll f.layout f.boot) s t (told is)
 
-  pub read-goes : (E : Setting) (w : State) (x : Session) → Shows earlier w x → GoesByMoves E (Ok tt) earlier behind w [] x
-  read-goes E w x shows = record {
-    shows = read-shows w x shows;
-    does = λ is ready. does-nothing {T = Unit {0}} (Ok tt) E w t (subst (λ (u : Told). IsReady E u w) (sym (told is)) ready);
+  touches-none : SparesBlocksByAll f v w
+  touches-none = blocks-still (IsSparedByAll f.layout f.boot) counts
+
+  pub read-goes : (E : Setting) (q : State) (x : Session) → Shows earlier q x → GoesByMoves E (Ok tt) earlier behind q [] x
+  read-goes E q x shows = record {
+    shows = read-shows q x shows;
+    does = λ is ready. does-nothing {T = Unit {0}} (Ok tt) E q t (subst (λ (u : Told). IsReady E u q) (sym (told is)) ready);
     guarded = guarded-by (Ok tt);
     keeps = keeps-all;
+    touches = touches-none;
     stays = read-stays;
   }
 
-  pub read-stopped : (r : Result (Unit {0}) FlashStop) → IsErr r → (E : Setting) (w : State) (y : Session) → GoesByMoves E r earlier behind w [] y
-  read-stopped r err E w y = record {
-    shows = IfOk-from_err r (λ _. Shows behind w y) err;
-    does = λ is ready. does-nothing r E w t (subst (λ (u : Told). IsReady E u w) (sym (told is)) ready);
+  pub read-stopped : (r : Result (Unit {0}) FlashStop) → IsErr r → (E : Setting) (q : State) (y : Session) → GoesByMoves E r earlier behind q [] y
+  read-stopped r err E q y = record {
+    shows = IfOk-from_err r (λ _. Shows behind q y) err;
+    does = λ is ready. does-nothing r E q t (subst (λ (u : Told). IsReady E u q) (sym (told is)) ready);
     guarded = guarded-by r;
     keeps = keeps-all;
+    touches = touches-none;
     stays = read-stays;
   }
 
@@ -179,17 +184,17 @@ piece-held m fitting knows image at n lt fits bytes read tells s x shows =
 
 -- ---- a piece
 
-pub piece-unread : (tells : Bool) (s t : Told) (f g : Fields) → g ≡ f → (IsTrue tells → t ≡ s) → (image at : ℕ) (q : Stop) (e : FlashStop)
-    → flash_result {T = Unit {0}} (Err q) ≡ Err e
-    → CopiesPiece image at (Err q) (record { tells = tells; told = s; fields = f }) (record { tells = tells; told = t; fields = g })
-piece-unread tells s t f g fields told image at q e is = record {
-  stays = read-stays tells s t f g fields told;
+pub piece-unread : (tells : Bool) (s t : Told) (v w : ℕ → ℕ) (f g : Fields) → g ≡ f → (IsTrue tells → t ≡ s) → w ≡ v
+    → (image at : ℕ) (q : Stop) (e : FlashStop) → flash_result {T = Unit {0}} (Err q) ≡ Err e
+    → CopiesPiece image at (Err q) (record { tells = tells; told = s; writes = v; fields = f }) (record { tells = tells; told = t; writes = w; fields = g })
+piece-unread tells s t v w f g fields told counts image at q e is = record {
+  stays = read-stays tells s t v w f g fields told counts;
   bytes = [];
   count = tt;
   read = tt;
-  goes = λ E w boot parts before layout below size shows.
-      flash-follows ℕ q e E _ _ w (within boot parts image (before ++ [])) is
-      (read-stopped tells s t f g fields told (Err e) refl E w (within boot parts image (before ++ [])));
+  goes = λ E state boot parts before layout below size shows.
+      flash-follows ℕ q e E _ _ state (within boot parts image (before ++ [])) is
+      (read-stopped tells s t v w f g fields told counts (Err e) refl E state (within boot parts image (before ++ [])));
 }
 
 module _ (old mid new : Moment) (fitting : Fitting old.fields) (image at n : ℕ) (bytes : List ℕ)

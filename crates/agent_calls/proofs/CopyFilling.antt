@@ -5,6 +5,7 @@ use Rattle.std.proofs.lemmas.Bool.{cases_lt}
 use Rattle.std.proofs.lemmas.List.Elements.{All-get_or}
 use Rattle.flash_core.specs.Told.{Told}
 use Rattle.flash_core.specs.May.{Keeps}
+use Rattle.flash_core.specs.Touches.{TouchesOnly}
 use Rattle.flash_core.specs.declared.flash.FlashStop.{FlashStop}
 use Rattle.fwu_formats.specs.Layout.{Layout, start}
 use Rattle.fwu_formats.specs.Metadata.{Meta, MetaRead, state_at}
@@ -21,19 +22,19 @@ use Rattle.agent_machine.specs.Moment.{Moment}
 use Rattle.agent_machine.specs.Meets.{IsDone, IsRefused, Stays}
 use Rattle.agent_machine.specs.Ends.{IsWriter}
 use Rattle.agent_machine.specs.Stored.{StoresIf}
-use Rattle.agent_machine.specs.Beside.{IsBesideBank, IsSpared, KeepsSpared, KeepsWhere}
-use Rattle.agent_machine.proofs.Beside.{spared-same, spared-then, spared-told}
+use Rattle.agent_machine.specs.Beside.{IsBesideBank, IsSpared, KeepsSpared, KeepsWhere, SparesBlocks, SparesBlocksWhere}
+use Rattle.agent_machine.proofs.Beside.{blocks-still, blocks-then, spared-same, spared-then, spared-told}
 use Rattle.agent_calls.specs.Copies.{FillsBank, StoresThenFills}
 use Rattle.agent_calls.specs.Metas.{meta_begun}
 
 -- ---- one after the other
 
 -- the update bank is the same where the layout is, and the active bank
-bank-same : (f g : Fields) (s t : Told) → g.layout ≡ f.layout → g.meta.meta.active ≡ f.meta.meta.active
-    → KeepsWhere (IsBesideBank g.layout (target g)) s t → KeepsWhere (IsBesideBank f.layout (target f)) s t
-bank-same f g s t layout active kept =
-    subst (λ (n : ℕ). KeepsWhere (IsBesideBank f.layout ((n + 1) % f.layout.banks)) s t) active
-    (subst (λ (L : Layout). KeepsWhere (IsBesideBank L ((g.meta.meta.active + 1) % L.banks)) s t) layout kept)
+bank-same : (P : Layout → ℕ → Type 0) (f g : Fields) → g.layout ≡ f.layout → g.meta.meta.active ≡ f.meta.meta.active
+    → P g.layout (target g) → P f.layout (target f)
+bank-same P f g layout active holds =
+    subst (λ (n : ℕ). P f.layout ((n + 1) % f.layout.banks)) active
+    (subst (λ (L : Layout). P L ((g.meta.meta.active + 1) % L.banks)) layout holds)
 
 pub fills-none : (m : Moment) → FillsBank m m
 fills-none m = record {
@@ -42,6 +43,7 @@ fills-none m = record {
   metadata = refl;
   trials = refl;
   beside = λ told. spared-same (IsBesideBank m.fields.layout (target m.fields)) m.told;
+  touches = λ n beside. refl;
 }
 
 pub fills-then : (a b c : Moment) → FillsBank a b → FillsBank b c → FillsBank a c
@@ -51,8 +53,11 @@ fills-then a b c ab bc = record {
   metadata = bc.metadata ∙ ab.metadata;
   trials = bc.trials ∙ ab.trials;
   beside = λ told. spared-then (IsBesideBank a.fields.layout (target a.fields)) a.told b.told c.told (ab.beside told)
-      (bank-same a.fields b.fields b.told c.told ab.layout (ap (λ (r : MetaRead). r.meta.active) ab.metadata)
-      (bc.beside (subst IsTrue (sym ab.tells) told)));
+      (bank-same (λ (L : Layout) (bank : ℕ). KeepsWhere (IsBesideBank L bank) b.told c.told) a.fields b.fields ab.layout
+      (ap (λ (r : MetaRead). r.meta.active) ab.metadata) (bc.beside (subst IsTrue (sym ab.tells) told)));
+  touches = blocks-then (IsBesideBank a.fields.layout (target a.fields)) ab.touches
+      (bank-same (λ (L : Layout) (bank : ℕ). SparesBlocksWhere (IsBesideBank L bank) b.writes c.writes) a.fields b.fields ab.layout
+      (ap (λ (r : MetaRead). r.meta.active) ab.metadata) bc.touches);
 }
 
 -- ---- one call
@@ -62,20 +67,21 @@ pub fills-same : (a b : Moment) → b ≡ a → FillsBank a b
 fills-same a b same = subst (FillsBank a) (sym same) (fills-none a)
 
 module _ (a b : Moment) (stays : Stays a b) (metadata : b.fields.meta ≡ a.fields.meta) (trials : b.fields.trials ≡ a.fields.trials) where
-  -- one that leaves what is told
-  pub fills-still : (IsTrue a.tells → b.told ≡ a.told) → FillsBank a b
-  fills-still still = record {
+  -- one that leaves what is told, and erases and programs nothing
+  pub fills-still : (IsTrue a.tells → b.told ≡ a.told) → b.writes ≡ a.writes → FillsBank a b
+  fills-still still writes = record {
     tells = stays.tells;
     layout = stays.layout;
     metadata = metadata;
     trials = trials;
     beside = λ told. spared-told (IsBesideBank a.fields.layout (target a.fields)) a.told b.told (still told);
+    touches = blocks-still (IsBesideBank a.fields.layout (target a.fields)) writes;
   }
 
   -- one that changes nothing up to the end of the marks
-  pub fills-behind : (IsTrue a.tells → KeepsSpared a.fields a.told b.told) → (low high : ℕ) → 4096 * 4 ≤ low
-      → (IsTrue a.tells → Keeps low high a.told b.told) → FillsBank a b
-  fills-behind spares low high behind keeps = record {
+  pub fills-behind : (IsTrue a.tells → KeepsSpared a.fields a.told b.told) → SparesBlocks a.fields a.writes b.writes → (low high : ℕ) → 4096 * 4 ≤ low
+      → (IsTrue a.tells → Keeps low high a.told b.told) → TouchesOnly low high a.writes b.writes → FillsBank a b
+  fills-behind spares leaves low high behind keeps only = record {
     tells = stays.tells;
     layout = stays.layout;
     metadata = metadata;
@@ -91,6 +97,10 @@ module _ (a b : Moment) (stays : Stays a b) (metadata : b.fields.meta ≡ a.fiel
         | inr le ↦ (spares told).sure i (spared i beside le) sure
       ];
     };
+    touches = λ n beside. elim (cases_lt n 4) [
+      | inl lt ↦ only n (inl (omega (arith, lt, behind)))
+      | inr le ↦ leaves n (spared (4096 * n) beside (omega (arith, le)))
+    ];
   }
     where
       spared : (i : ℕ) → IsBesideBank a.fields.layout (target a.fields) i → 4096 * 4 ≤ i → IsSpared a.fields i
@@ -171,8 +181,8 @@ stored-filled result a b c tells layout begun none some fills told = record {
   stored = Ok tt;
   between = b.told;
   stores = stores-by a.fields (Ok tt) a.told b.told (λ is. (refl, none is)) some;
-  fills = bank-same a.fields b.fields b.told c.told layout (ap (λ (r : MetaRead). r.meta.active) begun ∙ begun-active a.fields)
-      (fills.beside (subst IsTrue (sym tells) told));
+  fills = bank-same (λ (L : Layout) (bank : ℕ). KeepsWhere (IsBesideBank L bank) b.told c.told) a.fields b.fields layout
+      (ap (λ (r : MetaRead). r.meta.active) begun ∙ begun-active a.fields) (fills.beside (subst IsTrue (sym tells) told));
   last = λ err. absurd (no-error err);
 }
   where

@@ -20,7 +20,7 @@ read-keeps f g same = record {
 }
 
 pub alone : {D X : Type 0} {g : Ghosts D} {result : Result X FlashStop} {a b : D} → Reads g result a b → ReadsAlone g result a b
-alone reads = record { content = reads.content; arming = reads.arming; reached = reads.reached }
+alone reads = record { content = reads.content; arming = reads.arming; reached = reads.reached; writes = reads.writes }
 
 done-no-err : (r : Result (Unit {0}) FlashStop) (e : FlashStop) → r ≡ Ok tt → r ≡ Err e → ⊥
 done-no-err r e done err = cc
@@ -31,6 +31,7 @@ untouched g a = record {
   content = λ tells. refl;
   arming = refl;
   reached = record { same = refl; lost = λ lost. absurd (done-no-err (Ok tt) _ refl lost) };
+  writes = refl;
 }
 
 -- ---- an agent that was gone, or refused the call
@@ -43,6 +44,7 @@ module _ {D : Type 0} (g : Ghosts D) (e : Stop) (a : Snapshot D) (undone : IsDon
     grows = tt;
     others = λ other apart. refl;
     still = λ same. refl;
+    touches = λ b out. refl;
     spent = λ done. absurd (undone done);
   }
 
@@ -50,6 +52,7 @@ module _ {D : Type 0} (g : Ghosts D) (e : Stop) (a : Snapshot D) (undone : IsDon
   unaccepted-image image = record {
     still = λ set. refl;
     stores = λ done. absurd (undone done);
+    touches = λ b out. refl;
     keeps = λ done. absurd (undone done);
     trials = λ done. absurd (undone done);
   }
@@ -57,6 +60,7 @@ module _ {D : Type 0} (g : Ghosts D) (e : Stop) (a : Snapshot D) (undone : IsDon
   pub unended-staging : EndsStaging g (Err e) a a
   unended-staging = record {
     ends = λ done. absurd (undone done);
+    touches = λ b out. refl;
     keeps = λ done. absurd (undone done);
     restarts = λ done. absurd (undone done);
     trials = λ done. absurd (undone done);

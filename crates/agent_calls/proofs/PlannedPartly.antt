@@ -114,7 +114,7 @@ pub plan-known : (f : Fields) (t : Told) (fitting : Fitting f) (sound : SessionS
 plan-known f t fitting sound some passes r types asks fits p partial decides =
     bools-alike f t fitting some (names_unknown f.layout.rows types) false (λ s x shows.
     let E = plain-of f passes in
-    let dark : Moment = record { tells = false; told = t; fields = f } in
+    let dark : Moment = record { tells = false; told = t; writes = λ _. 0; fields = f } in
     let is = planned-of dark fitting sound passes r fits p decides E s x (record { layout = refl; verifier = refl }) shows in
     known-with dark E s x shows types partial.store (named_in p)
     (sym (ap (answer E s x) asks) ∙ is ∙ ap (planned_in E s x []) partial.is))

@@ -16,7 +16,7 @@ use Rattle.agent_machine.specs.declared.stop.Stop.TheVariants as stop
 use Rattle.agent_machine.specs.Fields.{Fields, target, total_of}
 use Rattle.agent_machine.specs.Moment.{Moment, Shows}
 use Rattle.agent_machine.specs.Goes.{GoesByMoves}
-use Rattle.agent_machine.specs.Beside.{IsBesideBank, KeepsSparedByAll, KeepsWhere}
+use Rattle.agent_machine.specs.Beside.{IsBesideBank, KeepsSparedByAll, KeepsWhere, SparesBlocksByAll, SparesBlocksWhere}
 use Rattle.agent_machine.specs.Stored.{StoresIf}
 use Rattle.agent_machine.specs.Meets.{IsDone, IsSettingOf, Stays, flash_result}
 use Rattle.agent_machine.specs.Filling.{between, within, filled}
@@ -100,13 +100,14 @@ pub record CopiesImages (named : List Bool) (result : Result (Unit {0}) Stop) (o
       → FollowsInStaging result E old new s (between boot (copied_first named (length named) bytes))
 
 -- What the copies leave at any exit: the metadata that is kept, the trials, and on a flash that tells its content all beside the
--- update bank.
+-- update bank. On every device no block beside that bank is erased or programmed.
 pub record FillsBank (old new : Moment) : Type 0 where
   pub tells : new.tells ≡ old.tells
   pub layout : new.fields.layout ≡ old.fields.layout
   pub metadata : new.fields.meta ≡ old.fields.meta
   pub trials : new.fields.trials ≡ old.fields.trials
   pub beside : IsTrue old.tells → KeepsWhere (IsBesideBank old.fields.layout (target old.fields)) old.told new.told
+  pub touches : SparesBlocksWhere (IsBesideBank old.fields.layout (target old.fields)) old.writes new.writes
 
 -- ---- the call
 
@@ -135,6 +136,8 @@ pub record BeginsPartly (types : List (List ℕ)) (named : List Bool) (passes : 
   pub guarded : IsTrue old.tells → IsAtRest old.told → GuardedBy (flash_result result) new.told
   -- on any flash, at any exit: nothing changes but the metadata, the marks of the starts on trial, and the update bank
   pub keeps : IsTrue old.tells → KeepsSparedByAll old.fields old.told new.told
+  -- on every device, whatever its reads give, at any exit: no other block is erased or programmed
+  pub touches : SparesBlocksByAll old.fields old.writes new.writes
   pub stays : Stays old new
 
 -- At any exit but a refusal, on a flash that tells its content: it stores the metadata in which the update bank is invalid, or nothing

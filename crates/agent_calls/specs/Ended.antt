@@ -1,6 +1,8 @@
 -- What the end of a staging does.
-use Rattle.std.specs.Prelude.{◌≡◌, false, Result, OnOk, IsTrue}
+use Rattle.std.specs.Prelude.{◌≡◌, ◌*◌, false, Result, OnOk, IsTrue}
+use Rattle.base_core.specs.Block.{block_bytes}
 use Rattle.flash_core.specs.declared.flash.Flash.{Ghosts}
+use Rattle.flash_core.specs.Touches.{TouchesOnly}
 use Rattle.marks_core.specs.Marks.{is_clear}
 use Rattle.agent_kept.specs.Kept.{Restarts}
 use Rattle.agent_machine.specs.declared.stop.Stop.{Stop}
@@ -15,6 +17,8 @@ pub record EndsStaging {D : Type 0} (g : Ghosts D) (result : Result (Unit {0}) S
   -- Then both replicas are written, and nothing else.
   pub ends : IsDone result → IsTrue g.tells → ClearsAndStores (flash_result result) old.fields.layout new.fields.meta.meta
       (g.told old.device) (g.told new.device)
+  -- On every device, at any exit: no block is erased or programmed but the replicas and the trial marks.
+  pub touches : TouchesOnly (block_bytes * 1) (block_bytes * 4) (g.writes old.device) (g.writes new.device)
   -- On any device: that metadata is the one in which the update bank is active, with the bits of the committed images.
   pub keeps : IsDone result → new.fields.meta ≡ meta_ended old.fields
   -- nothing is staged, and no handle is open

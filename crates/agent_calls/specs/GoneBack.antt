@@ -1,6 +1,8 @@
 -- What going back to a bank has on every device, and what it leaves.
-use Rattle.std.specs.Prelude.{◌≡◌, ◌⊎◌, ℕ, Bool, false, List, Result, OnOk, IsTrue}
+use Rattle.std.specs.Prelude.{◌≡◌, ◌⊎◌, ℕ, ◌*◌, Bool, false, List, Result, OnOk, IsTrue}
+use Rattle.base_core.specs.Block.{block_bytes}
 use Rattle.flash_core.specs.declared.flash.Flash.{Ghosts}
+use Rattle.flash_core.specs.Touches.{TouchesOnly}
 use Rattle.fwu_formats.specs.Layout.{ImageRow}
 use Rattle.fwu_model.specs.MoveMetas.{meta_after}
 use Rattle.fwu_model.specs.State.{Back}
@@ -26,6 +28,8 @@ pub record ChangesBanks {D : Type 0} (g : Ghosts D) (passes : List ℕ → Bool)
   -- It goes over replica 0, then over replica 1, and nothing else changes.
   pub stores : IsDone result → IsTrue g.tells → Stores (flash_result result) old.fields.layout
       (meta_after old.fields.meta.meta Back) (g.told old.device) (g.told new.device)
+  -- On every device, at any exit: no block is erased or programmed but the replicas.
+  pub touches : TouchesOnly (block_bytes * 1) (block_bytes * 3) (g.writes old.device) (g.writes new.device)
   -- On any device: the agent keeps that metadata, and the session as it was.
   pub keeps : OnOk result (new.fields.meta ≡ meta_back old.fields)
   -- Where the flash stopped it, the agent keeps that metadata, or the old.
@@ -38,5 +42,7 @@ pub record ChangesBanks {D : Type 0} (g : Ghosts D) (passes : List ℕ → Bool)
   -- a refusal may have read the device, and changed nothing of it
   pub content : IsRefused result → IsTrue g.tells → g.told new.device ≡ g.told old.device
   pub arming : IsRefused result → g.arming new.device ≡ g.arming old.device
+  -- on every device: and erased and programmed nothing
+  pub writes : IsRefused result → g.writes new.device ≡ g.writes old.device
   -- On any device: an answer stored the metadata, or has it as it was and wrote nothing.
   pub spent : OnOk result (TakesStore old.fields.meta new.fields.meta (g.arming old.device) (g.arming new.device))

@@ -16,8 +16,9 @@ pub record KeepsRests (old new : Fields) : Type 0 where
   pub metadata : new.meta ≡ old.meta
   pub trials : new.trials ≡ old.trials
 
--- The device was read alone, or not at all: its content stays, and no armed loss is reached.
+-- The device was read alone, or not at all: its content stays, nothing is erased or programmed, and no armed loss is reached.
 pub record ReadsAlone {D X : Type 0} (g : Ghosts D) (result : Result X FlashStop) (old new : D) : Type 0 where
   pub content : IsTrue g.tells → g.told new ≡ g.told old
   pub arming : g.arming new ≡ arming_kept result (g.arming old)
   pub reached : ReachesNone result (g.counts old) (g.counts new)
+  pub writes : g.writes new ≡ g.writes old

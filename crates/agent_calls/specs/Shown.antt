@@ -43,7 +43,7 @@ abbrev pub gone : {D : Type 0} {F : Ghosts D} → Agent D F → Bool
 gone a = a.gone
 
 abbrev pub moment : {D : Type 0} {F : Ghosts D} → Agent D F → Moment
-moment {F = F} a = record { tells = F.tells; told = F.told a.flash; fields = fields a }
+moment {F = F} a = record { tells = F.tells; told = F.told a.flash; writes = F.writes a.flash; fields = fields a }
 
 abbrev pub agent_at : {D : Type 0} {F : Ghosts D} → Agent D F → AgentAt (Agent D F) D
 agent_at a = record { agent = a; device = a.flash; fields = fields a; gone = a.gone }

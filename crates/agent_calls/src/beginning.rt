@@ -1,5 +1,7 @@
 //! A staging begins.
-ghost use Rattle.std.specs.Prelude.{◌≡◌, true, IsTrue, IsFalse, OnOk};
+ghost use Rattle.std.specs.Prelude.{◌≡◌, ◌*◌, true, IsTrue, IsFalse, OnOk};
+ghost use Rattle.base_core.specs.Block.{block_bytes};
+ghost use Rattle.flash_core.specs.Touches.{TouchesOnly};
 ghost use Rattle.fwu_model.specs.State.{Free, State};
 ghost use Rattle.fwu_model.specs.Sound.{Setting};
 ghost use Rattle.fwu_model.specs.Session.{Session};
@@ -58,6 +60,9 @@ impl<D: Flash> Agent<D> {
             IsFalse (has_invalid_target f) →
             Stores (flash_result result) f.layout (meta_after f.meta.meta (Free (target f)))
             (D.told (device self.old)) (D.told (device self.new)) }
+        // On every device, at any exit: no block is erased or programmed but the replicas.
+        ensures touches { TouchesOnly (block_bytes * 1) (block_bytes * 3)
+            (D.writes (device self.old)) (D.writes (device self.new)) }
         // On any device: the agent keeps the metadata in which the update bank is invalid, also where the
         // flash stopped the store, and a package is staged of which nothing is there.
         ensures keeps { IsDone result → (fields self.new).meta ≡ meta_begun (fields self.old) }

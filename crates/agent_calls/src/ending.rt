@@ -1,6 +1,8 @@
 //! The end of a staging.
-ghost use Rattle.std.specs.Prelude.{◌≡◌, ℕ, Bool, true, List, IsTrue, IsFalse, IfErr, OnOk, is_ok};
+ghost use Rattle.std.specs.Prelude.{◌≡◌, ◌*◌, ℕ, Bool, true, List, IsTrue, IsFalse, IfErr, OnOk, is_ok};
+ghost use Rattle.base_core.specs.Block.{block_bytes};
 ghost use Rattle.flash_core.specs.Counts.{Spends, StaysUnarmed};
+ghost use Rattle.flash_core.specs.Touches.{TouchesOnly};
 ghost use Rattle.fwu_formats.specs.Metadata.{fits_meta};
 ghost use Rattle.fwu_model.specs.Call as call;
 ghost use Rattle.fwu_model.specs.Reply.{Success};
@@ -30,6 +32,8 @@ fn clear_and_store<D: Flash>(flash: &mut D, layout: &Layout, meta: &Meta) -> Res
 
     ensures ends { IsTrue D.tells →
         ClearsAndStores result layout.now meta.now.meta (D.told flash.old) (D.told flash.new) }
+    // on every device: no block is erased or programmed but the replicas and the marks
+    ensures touches { TouchesOnly (block_bytes * 1) (block_bytes * 4) (D.writes flash.old) (D.writes flash.new) }
     ensures power { D.on flash.new ≡ is_ok result }
     ensures size { D.blocks flash.new ≡ D.blocks flash.old }
     // on every device: an erase of the marks, or none, and two erases and two programs

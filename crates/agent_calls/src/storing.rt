@@ -1,6 +1,8 @@
 //! Carrying out a plan that may store metadata.
+ghost use Rattle.base_core.specs.Block.{block_bytes};
 ghost use Rattle.flash_core.specs.Calls.{Goes};
-ghost use Rattle.std.specs.Prelude.{◌≡◌, ◌<◌, false, [], length, IsTrue, IsFalse, OnOk};
+ghost use Rattle.flash_core.specs.Touches.{TouchesOnly};
+ghost use Rattle.std.specs.Prelude.{◌≡◌, ◌*◌, ◌<◌, false, [], length, IsTrue, IsFalse, OnOk};
 ghost use Rattle.fwu_formats.specs.Metadata.{fits_meta};
 ghost use Rattle.agent_machine.specs.Meets.{flash_result};
 ghost use Rattle.agent_machine.specs.Stored.{StoresIf, TakesIf, is_stored, trials_planned};
@@ -26,6 +28,7 @@ fn store_if<D: Flash>(
     requires fits { IsTrue (fits_meta layout.now meta.now.meta) }
     ensures stores { IsTrue D.tells → StoresIf stored result layout.now meta.now.meta
         (D.told flash.old) (D.told flash.new) }
+    ensures touches { TouchesOnly (block_bytes * 1) (block_bytes * 3) (D.writes flash.old) (D.writes flash.new) }
     ensures goes { Goes D.Flash result flash.old flash.new }
     ensures spent { OnOk result (TakesIf stored (D.arming flash.old) (D.arming flash.new)) }
     ensures still { stored ≡ false → flash.new ≡ flash.old }
@@ -92,6 +95,9 @@ impl<D: Flash> Agent<D> {
             StoresIf (is_stored plan) (flash_result result) f.layout
             (meta_planned f.session f.meta.meta plan)
             (D.told (device self.old)) (D.told (device self.new)) }
+        // On every device: no block is erased or programmed but the replicas.
+        ensures touches { TouchesOnly (block_bytes * 1) (block_bytes * 3)
+            (D.writes (device self.old)) (D.writes (device self.new)) }
         ensures still { is_stored plan ≡ false → device self.new ≡ device self.old }
         ensures goes { AgentGoes result self.old self.new }
         ensures spent { SpendsStore result self.old self.new }

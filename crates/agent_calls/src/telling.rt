@@ -153,6 +153,7 @@ impl<D: Flash> Agent<D> {
         ensures made { (D.counts (device self.new)).made
             ≡ min ((D.counts (device self.old)).made + 1) 18446744073709551615 }
         ensures counts { Idles (D.counts (device self.old)) (D.counts (device self.new)) }
+        ensures writes { D.writes (device self.new) ≡ D.writes (device self.old) }
     {
         self.flash.arm(n, k);
     }

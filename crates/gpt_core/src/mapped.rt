@@ -43,8 +43,8 @@ impl Start for Brand {
     ghost writes = { λ b. 0 };
 }
 
-/// The flash that a device has at these places. No other block of the device is erased or programmed. Where nothing was dirty at the
-/// start, what else the device has stays as it was then.
+/// The flash that a device has at these places. No other block of the device is erased or programmed. Where nothing was dirty at
+/// the start, what else the device has stays as it was then.
 #[derive(Drop)]
 pub struct Mapped<D: Flash, K: Start> {
     flash: D,

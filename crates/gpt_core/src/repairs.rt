@@ -193,8 +193,9 @@ pub fn repair_table<D: Flash>(
 /// A repair of a table leaves the flash that its partitions are, in each image that a loss may leave and, where nothing is dirty
 /// afterwards, as it is told. None of its blocks is erased or programmed.
 pub fn repairs_leave_the_partitions()
-    ensures images { (blocks : ℕ) (t : Said) (which : WhichTable) (p : Places) (s u : Told) (image : List ℕ) → places_of blocks t ≡ Ok p
-        → NothingDirty s → StaysBeside blocks t which s u → May u image → through p image ≡ through p s.now }
+    ensures images { (blocks : ℕ) (t : Said) (which : WhichTable) (p : Places) (s u : Told) (image : List ℕ)
+        → places_of blocks t ≡ Ok p → NothingDirty s → StaysBeside blocks t which s u → May u image
+        → through p image ≡ through p s.now }
     ensures view { (blocks : ℕ) (t : Said) (which : WhichTable) (p : Places) (s u : Told) → places_of blocks t ≡ Ok p
         → NothingDirty s → NothingDirty u → StaysBeside blocks t which s u → view_of p u ≡ view_of p s }
     ensures writes { (blocks : ℕ) (t : Said) (which : WhichTable) (p : Places) (old new : ℕ → ℕ) → places_of blocks t ≡ Ok p

@@ -22,7 +22,7 @@ pub returns-in-Err-clause-meets : goal.returns-in-Err-clause-meets
 returns-in-Err-clause-meets g c = λ here passes.
     let a = c.args.self.now in
     let t = g.D.Flash.told a.flash in
-    refused-meets g.D.Flash.tells (fields a) t t (λ is. refl) passes (call.Accepts c.args.guid) c.in-Err.status
+    refused-meets g.D.Flash.tells (fields a) t t (λ is. refl) refl passes (call.Accepts c.args.guid) c.in-Err.status
     (refused-of (moment a) (a.fitting here) a.session.sound passes (request.Accept c.args.guid) (λ E s. tt) c.in-Err.status (c.in-Err.ensures.plans passes))
 
 pub carry_out-requires-clause-plan : goal.carry_out-requires-clause-plan
@@ -70,6 +70,7 @@ returns-in-Accept-clause-image g c image found =
       stores = λ done tells clear.
           accept-stores f here c.args.guid c.in-Accept.image c.in-Accept.store asked image found clear
           (flash_result c.carry_out.result) (g.D.Flash.told a.flash) (g.D.Flash.told b.flash) (c.carry_out.ensures.stores tells);
+      touches = c.carry_out.ensures.touches;
       keeps = λ done. accept-keeps f here c.args.guid c.in-Accept.image c.in-Accept.store asked image found b.meta c.carry_out.ensures.planned;
       trials = λ done.
           accept-trials f here c.args.guid c.in-Accept.image c.in-Accept.store asked image found b.meta (fields b).trials c.carry_out.ensures.planned

@@ -34,7 +34,7 @@ pub returns-in-Err-clause-meets : goal.returns-in-Err-clause-meets
 returns-in-Err-clause-meets g c = λ here passes.
     let a = c.args.self.now in
     let t = g.D.Flash.told a.flash in
-    refused-meets g.D.Flash.tells (fields a) t t (λ is. refl) passes (call.Begin c.args.partial_count) c.in-Err.status
+    refused-meets g.D.Flash.tells (fields a) t t (λ is. refl) refl passes (call.Begin c.args.partial_count) c.in-Err.status
     (refused-of (moment a) (a.fitting here) a.session.sound passes (request.Begin c.args.vendor_flags c.args.partial_count)
     (λ E s. tt) c.in-Err.status (c.in-Err.ensures.plans passes))
 

@@ -11,6 +11,7 @@ use Rattle.agent_machine.proofs.Spending.{call-spent, spent-goes, spent-then}
 use Rattle.agent_calls.specs.Shown.{agent_at, device, fields, moment}
 use Rattle.std.specs.Prelude.{All, Err, IsTrue, OnOk}
 use Rattle.agent_calls.specs.Takes.{CopiesTake, Takes, writes_to_begin, writes_to_copy}
+use Rattle.agent_machine.specs.Beside.{SparesBlocksByAll}
 use Rattle.agent_machine.specs.Moment.{Shows}
 use Rattle.fwu_model.specs.Session.{Session}
 use Rattle.fwu_model.specs.State.{State}
@@ -20,7 +21,7 @@ use Rattle.agent_calls.proofs.CopyTaking.{when-done}
 use Rattle.agent_calls.proofs.Taking.{takes-begin, takes-some, takes-then}
 use Rattle.fwu_model.specs.Answer.{are_named, names_unknown}
 use Rattle.agent_calls.specs.Copies.{CopiesImages}
-use Rattle.agent_calls.proofs.BegunPartly.{held, refused-partly, unbegun-stopped, begun-partly, only-done, takes-at, done-unrefused}
+use Rattle.agent_calls.proofs.BegunPartly.{held, refused-partly, unbegun-stopped, begun-partly, only-done, partly-touched, takes-at, done-unrefused}
 use Rattle.agent_calls.proofs.PlannedPartly.{IsPartial, named-are, partial-plan, plan-known, refused-partial}
 use Rattle.agent_calls.proofs.agent.Agent.begin_partial.Given as given
 use Rattle.agent_calls.proofs.agent.Agent.begin_partial.Goals as goal
@@ -72,6 +73,17 @@ returns-in-Err-begin-clause-begins g c = λ here passes.
     c.in-Err-begin.stop (λ is. ap (λ b. moment b) (c.in-Err-begin.ensures.refused is))
     (λ is E s x layout shows. c.in-Err-begin.ensures.begun is here E s x layout shows) (c.in-Err-begin.ensures.meets here passes)
 
+-- the begin and the copies spare all but the metadata and the update bank
+module _ (g : given.Over) (c : goal.After-copy_images g) where
+  touched : SparesBlocksByAll (fields c.args.self.now) (g.D.Flash.writes c.args.self.now.flash) (g.D.Flash.writes c.copy_images.new.self.flash)
+  touched =
+      let here = c.if-self.false in
+      let b = c.begin.new.self in
+      let begins = (c.in-Ok-begin.ensures.meets here (λ _. true)).leaves in
+      let still = (call-spent here c.in-Ok-begin.ensures.goes).gone_is in
+      partly-touched (moment c.args.self.now) (moment b) (moment c.copy_images.new.self) begins.stays begins.touches
+      ((b.fitting still).active c.in-Ok-begin.ensures.restarts.staging_is) c.copy_images.ensures.fills
+
 pub returns-in-Ok-begin-clause-begins : goal.returns-in-Ok-begin-clause-begins
 returns-in-Ok-begin-clause-begins g c = λ here passes.
     let a = c.args.self.now in
@@ -83,6 +95,7 @@ returns-in-Ok-begin-clause-begins g c = λ here passes.
     begun-partly (moment a) (moment b) (moment d) types passes c.copy_images.result (a.fitting here)
     (known-is g (goal.at.returns-in-Ok-begin-clause-begins g c).After-rows-count) (begins passes) copied
     (λ tells. (_, _, known-shows (fields a) (a.fitting here) g.D.Flash.tells (g.D.Flash.told a.flash) (a.knows here tells)))
+    (touched g c)
 
 -- the copies were done, or the flash stopped them
 module _ (g : given.Over) (c : goal.After-copy_images g) where
@@ -185,7 +198,8 @@ returns-in-Ok-begin-clause-padded g c =
     let some : IsTrue g.D.Flash.tells → (s : State) × (x : Session) × Shows (moment a) s x = λ tells. (_, _, known-shows (fields a) (a.fitting here) g.D.Flash.tells (g.D.Flash.told a.flash) (a.knows here tells)) in
     let copied = subst (λ (l : List Bool). CopiesImages l c.copy_images.result (moment b) (moment d)) (named-is g rows) c.copy_images.ensures.copies in
     let begins = begun-partly (moment a) (moment b) (moment d) types (λ _. true) c.copy_images.result (a.fitting here)
-    (known-is g rows) (c.in-Ok-begin.ensures.meets here (λ _. true)) copied some in
+    (known-is g rows) (c.in-Ok-begin.ensures.meets here (λ _. true)) copied some
+    (touched g c) in
     copied-padded (moment a) (moment d) types (λ _. true) c.copy_images.result begins
     (on-ok c.copy_images.result (λ ok. c.copy_images.ensures.fills.metadata ∙ c.in-Ok-begin.ensures.keeps tt))
     (on-ok c.copy_images.result (λ ok. (d.fitting (c.copy_images.ensures.spent.gone_is ∙ ok)).rows)) some

@@ -26,7 +26,7 @@ returns-in-Ok-clause-meets g c here passes =
     let f : Fields = fields a in
     let own = sym (cancels f.session f.meta.meta c.in-Ok.plan c.in-Ok.ensures.asked) in
     quiet-success (moment a) (moment c.keep.new.self) (a.fitting here) a.session.sound (a.knows here) passes request.Cancel [] (λ E s setting speaks. tt)
-    c.in-Ok.plan (c.in-Ok.ensures.plans passes) (subst IsQuietPlan own tt) (ap g.D.Flash.told c.keep.ensures.device) c.keep.ensures.carried
+    c.in-Ok.plan (c.in-Ok.ensures.plans passes) (subst IsQuietPlan own tt) (ap g.D.Flash.told c.keep.ensures.device) (ap g.D.Flash.writes c.keep.ensures.device) c.keep.ensures.carried
     (subst SaysSuccess own tt)
 
 pub returns-in-Err-clause-meets : goal.returns-in-Err-clause-meets

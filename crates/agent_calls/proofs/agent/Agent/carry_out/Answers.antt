@@ -6,6 +6,7 @@ use Rattle.fwu_formats.specs.Metadata.{MetaRead}
 use Rattle.moves.specs.Law.{CallResult}
 use Rattle.agent_state.specs.Settles.{meta_planned}
 use Rattle.agent_machine.specs.Stored.{CarriesOut, StoresIf, is_stored}
+use Rattle.agent_machine.proofs.Beside.{metadata-blocks}
 use Rattle.agent_machine.proofs.StoredSpends.{takes-store}
 use Rattle.agent_machine.proofs.StoredPlans.{is-meta-of, after-fitting, after-some, after-known, after-carried}
 use Rattle.agent_calls.specs.Shown.{fields, moment}
@@ -53,7 +54,7 @@ returns-in-Ok-clause-carries g c =
     c.settle.ensures.session c.settle.ensures.meta c.trials_after-self.ensures
     (g.D.Flash.told c.args.self.now.flash) (g.D.Flash.told c.store_if.new.flash) c.is_stored-stored.result c.is_stored-stored.ensures g.D.Flash.tells
     (Ok tt) c.args.self.now.session.sound
-    (c.args.self.now.knows c.requires.here) c.settle.ensures.settles c.in-Ok.ensures.stores
+    (c.args.self.now.knows c.requires.here) c.settle.ensures.settles c.in-Ok.ensures.stores (metadata-blocks f c.in-Ok.ensures.touches)
 
 pub returns-in-Err-clause-carries : goal.returns-in-Err-clause-carries
 returns-in-Err-clause-carries g c =
@@ -65,6 +66,7 @@ returns-in-Err-clause-carries g c =
     (record {
       tells = g.D.Flash.tells;
       told = g.D.Flash.told c.store_if.new.flash;
+      writes = g.D.Flash.writes c.store_if.new.flash;
       fields = record f {
         meta = m;
         session = k;
@@ -76,7 +78,7 @@ returns-in-Err-clause-carries g c =
     c.settle.ensures.meta c.trials_after-self.ensures
     (g.D.Flash.told c.args.self.now.flash) (g.D.Flash.told c.store_if.new.flash) c.is_stored-stored.result c.is_stored-stored.ensures g.D.Flash.tells
     (Err c.in-Err.stop) c.args.self.now.session.sound
-    (c.args.self.now.knows c.requires.here) c.settle.ensures.settles c.in-Err.ensures.stores)
+    (c.args.self.now.knows c.requires.here) c.settle.ensures.settles c.in-Err.ensures.stores (metadata-blocks f c.in-Err.ensures.touches))
 
 pub returns-in-Ok-clause-spent : goal.returns-in-Ok-clause-spent
 returns-in-Ok-clause-spent g c =

@@ -42,7 +42,7 @@ returns-in-Reads-clause-meets g c here passes =
     (λ E s staged bytes speaks fits.
     commit-reads E s a.boot (staging_meant k staged) (handles_meant k) bytes c.args.handle c.args.acceptance_req c.in-Reads.image c.in-Reads.at bit
     (handle-is k c.args.handle c.handle.result c.handle.ensures.zero c.handle.ensures.at ∙ ap handle_meant c.in-Reads.is))
-    tt (ap g.D.Flash.told c.keep.ensures.device) c.keep.ensures.carried tt
+    tt (ap g.D.Flash.told c.keep.ensures.device) (ap g.D.Flash.writes c.keep.ensures.device) c.keep.ensures.carried tt
 
 pub returns-in-Writes-clause-meets : goal.returns-in-Writes-clause-meets
 returns-in-Writes-clause-meets g c here passes =

@@ -1,13 +1,14 @@
-use Rattle.std.proofs.Common.{◌≡◌, ℕ, ◌+◌, ◌<◌, List, [], length, Some, Ok, Err, refl, sym, ap, subst, arith, ◌∙◌}
+use Rattle.std.proofs.Common.{◌≡◌, ℕ, ◌+◌, ◌*◌, ◌<◌, List, [], length, Some, Ok, Err, refl, sym, ap, subst, arith, ◌∙◌}
 use Rattle.std.proofs.Math.Nat.{mod-lt}
 use Rattle.flash_core.specs.Told.{Told}
+use Rattle.flash_core.specs.Touches.{TouchesOnly}
 use Rattle.fwu_formats.specs.Layout.{ImageRow, start}
 use Rattle.fwu_formats.specs.Metadata.{MetaRead}
 use Rattle.meta_layout.proofs.Fits.{meta-fits}
 use Rattle.fwu_model.specs.Reply.{Success}
 use Rattle.fwu_model.specs.Call as call
 use Rattle.moves.specs.Law.{CallResult}
-use Rattle.slot_writer.specs.Slots.{FinishesImage}
+use Rattle.slot_writer.specs.Slots.{FinishesImage, blocks_for, done_of}
 use Rattle.slot_writer.specs.Writes.{SpendsArming, writes_to_finish}
 use Rattle.agent_kept.specs.declared.kinds.Plan.TheVariants as plan
 use Rattle.agent_kept.specs.Kept.{Kept, kept, part_at, size_of}
@@ -26,6 +27,15 @@ use Rattle.agent_calls.proofs.agent.Agent.commit_image.Goals as goal
 -- the first block of the image, by the fields
 first-at : (f : Fields) (image bank first : ℕ) → bank ≡ target f → first ≡ start f.layout bank image → first ≡ start f.layout (target f) image
 first-at f image bank first here is = is ∙ ap (λ (b : ℕ). start f.layout b image) here
+
+-- which blocks that touched, by the fields
+touched-at : (f : Fields) (image first size : ℕ) {old new : ℕ → ℕ} → first ≡ start f.layout (target f) image → size ≡ size_of (part_at f.session image)
+    → TouchesOnly (4096 * first + done_of size) (4096 * (first + blocks_for size)) old new
+    → let at = start f.layout (target f) image in let long = size_of (part_at f.session image) in
+    TouchesOnly (4096 * at + done_of long) (4096 * (at + blocks_for long)) old new
+touched-at f image first size {old = old} {new = new} at long touches =
+    subst (λ (a : ℕ). let n = size_of (part_at f.session image) in TouchesOnly (4096 * a + done_of n) (4096 * (a + blocks_for n)) old new) at
+    (subst (λ (n : ℕ). TouchesOnly (4096 * first + done_of n) (4096 * (first + blocks_for n)) old new) long touches)
 
 -- what was finished, by the fields
 finishes-at : (result : CallResult) (f : Fields) (image first size : ℕ) (rest : List ℕ) (s t : Told) → first ≡ start f.layout (target f) image
@@ -95,16 +105,19 @@ returns-in-Ok-clause-meets g c passes h req most decides =
     let k : Kept = kept c.settle.new.session in
     let s = g.D.Flash.told c.args.self.now.flash in
     let t = g.D.Flash.told c.finish.new.flash in
-    let old : Moment = record { tells = g.D.Flash.tells; told = s; fields = f } in
+    let old : Moment = record { tells = g.D.Flash.tells; told = s; writes = g.D.Flash.writes c.args.self.now.flash; fields = f } in
     subst (λ (m : MetaRead). Meets {T = Unit {0}} (λ value r. r ≡ Success) (Ok tt) passes (call.Commit h req) old
-    (record { tells = g.D.Flash.tells; told = t; fields = record f { meta = m; session = k } })) (sym c.settle.ensures.meta)
+    (record { tells = g.D.Flash.tells; told = t; writes = g.D.Flash.writes c.finish.new.flash; fields = record f { meta = m; session = k } })) (sym c.settle.ensures.meta)
     (commit-meets f g.D.Flash.tells s t c.args.number c.args.image c.args.bit (c.args.self.now.fitting here) c.args.self.now.session.sound
     (c.args.self.now.knows here) c.requires.plan
     (λ tells. omega (arith, c.args.self.now.inside here, (g.met.D.Flash.sound c.args.self.now.flash tells).size)) k c.settle.ensures.session
     (λ told. finishes-at (Ok tt) f c.args.image c.start-first.result c.size-size.result
     (rest_of f c.args.image) s t
     (first-at (fields c.args.self.now) c.args.image c.target-bank.result c.start-first.result c.target-bank.ensures.value c.start-first.ensures)
-    c.size-size.ensures (c.in-Ok.ensures.finishes told)) passes h req most decides
+    c.size-size.ensures (c.in-Ok.ensures.finishes told))
+    (touched-at f c.args.image c.start-first.result c.size-size.result
+    (first-at f c.args.image c.target-bank.result c.start-first.result c.target-bank.ensures.value c.start-first.ensures)
+    c.size-size.ensures c.in-Ok.ensures.touches) passes h req most decides
     (subst (λ (m : MetaRead). Settles f.session f.meta []
     (plan.Commit c.args.number (Some c.args.image) c.args.bit) m k) c.settle.ensures.meta c.settle.ensures.settles))
 
@@ -114,8 +127,8 @@ returns-in-Err-clause-meets g c passes h req most decides =
     let f : Fields = fields c.args.self.now in
     let s = g.D.Flash.told c.args.self.now.flash in
     let t = g.D.Flash.told c.finish.new.flash in
-    let old : Moment = record { tells = g.D.Flash.tells; told = s; fields = f } in
-    let new : Moment = record { tells = g.D.Flash.tells; told = t; fields = f } in
+    let old : Moment = record { tells = g.D.Flash.tells; told = s; writes = g.D.Flash.writes c.args.self.now.flash; fields = f } in
+    let new : Moment = record { tells = g.D.Flash.tells; told = t; writes = g.D.Flash.writes c.finish.new.flash; fields = f } in
     stopped-meets {T = Unit {0}} (λ value r. r ≡ Success) c.stopped.result passes (call.Commit h req) old new c.stopped.ensures.stopped
     (subst (λ (r : CallResult). LeavesFlash r passes (call.Commit h req) old new) (sym c.stopped.ensures.stop)
     (commit-leaves f g.D.Flash.tells s t c.args.number c.args.image c.args.bit (c.args.self.now.fitting here) c.args.self.now.session.sound
@@ -124,7 +137,10 @@ returns-in-Err-clause-meets g c passes h req most decides =
     (λ told. finishes-at (Err c.in-Err.stop) f c.args.image c.start-first.result c.size-size.result
     (rest_of f c.args.image) s t
     (first-at (fields c.args.self.now) c.args.image c.target-bank.result c.start-first.result c.target-bank.ensures.value c.start-first.ensures)
-    c.size-size.ensures (c.in-Err.ensures.finishes told)) passes h req most decides f refl refl refl refl))
+    c.size-size.ensures (c.in-Err.ensures.finishes told))
+    (touched-at f c.args.image c.start-first.result c.size-size.result
+    (first-at f c.args.image c.target-bank.result c.start-first.result c.target-bank.ensures.value c.start-first.ensures)
+    c.size-size.ensures c.in-Err.ensures.touches) passes h req most decides f refl refl refl refl))
 
 -- the image was ended, by the fields
 pub returns-in-Ok-clause-image : goal.returns-in-Ok-clause-image
@@ -138,6 +154,10 @@ returns-in-Ok-clause-image g c =
           finishes-at (Ok tt) f c.args.image c.start-first.result c.size-size.result (rest_of f c.args.image) (d.told a.flash) (d.told b)
           (first-at f c.args.image c.target-bank.result c.start-first.result c.target-bank.ensures.value c.start-first.ensures)
           c.size-size.ensures (c.in-Ok.ensures.finishes tells);
+      touches =
+          touched-at f c.args.image c.start-first.result c.size-size.result
+          (first-at f c.args.image c.target-bank.result c.start-first.result c.target-bank.ensures.value c.start-first.ensures)
+          c.size-size.ensures c.in-Ok.ensures.touches;
       spent =
           subst (λ (m : ℕ). SpendsArming {T = Unit {0}} (Ok tt) (writes_to_finish m) (d.arming a.flash) (d.arming b) (d.counts a.flash) (d.counts b))
           c.size-size.ensures c.in-Ok.ensures.arming;
@@ -157,6 +177,10 @@ returns-in-Err-clause-image g c =
           (finishes-at (Err c.in-Err.stop) f c.args.image c.start-first.result c.size-size.result (rest_of f c.args.image) (d.told a.flash) (d.told b)
           (first-at f c.args.image c.target-bank.result c.start-first.result c.target-bank.ensures.value c.start-first.ensures)
           c.size-size.ensures (c.in-Err.ensures.finishes tells));
+      touches =
+          touched-at f c.args.image c.start-first.result c.size-size.result
+          (first-at f c.args.image c.target-bank.result c.start-first.result c.target-bank.ensures.value c.start-first.ensures)
+          c.size-size.ensures c.in-Err.ensures.touches;
       spent =
           subst (λ (r : CallResult). SpendsArming r (writes_to_finish size) (d.arming a.flash) (d.arming b) (d.counts a.flash) (d.counts b))
           (sym c.stopped.ensures.stop)

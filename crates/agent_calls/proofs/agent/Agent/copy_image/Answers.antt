@@ -80,7 +80,7 @@ module _ (g : given.Over) (c : After-open g) where
   opened =
       let o = c.open.ensures in
       fills-still (moment c.args.self.now) (moment c.open.new.self) (o.meets c.requires.here any).leaves.stays o.records.metadata o.records.trials
-      (λ told. ap (λ d. g.D.Flash.told d) o.still)
+      (λ told. ap (λ d. g.D.Flash.told d) o.still) (ap (λ d. g.D.Flash.writes d) o.still)
 
 pub returns-in-Err-clause-fills : goal.returns-in-Err-clause-fills
 returns-in-Err-clause-fills g c = opened g (goal.at.returns-in-Err-clause-fills g c).After-open
@@ -103,6 +103,7 @@ returns-clause-fills g c =
     fills-then (moment c.args.self.now) (moment b) (moment d)
     (copied g (goal.at.returns-clause-fills g c).After-copy_bytes (opened g (goal.at.returns-clause-fills g c).After-open))
     (fills-ended (moment b) (moment d)
-    (λ image writes. fills-behind (moment b) (moment d) leaves.stays e.records.metadata e.records.trials leaves.keeps _ _
-    (slot-behind (fields b).layout (target (fields b)) image _) (λ told. ((e.image still image writes).ends told).keeps))
-    (λ none. fills-still (moment b) (moment d) leaves.stays e.records.metadata e.records.trials (λ told. ap (λ x. g.D.Flash.told x) (e.still none))))
+    (λ image writes. fills-behind (moment b) (moment d) leaves.stays e.records.metadata e.records.trials leaves.keeps leaves.touches _ _
+    (slot-behind (fields b).layout (target (fields b)) image _) (λ told. ((e.image still image writes).ends told).keeps) (e.image still image writes).touches)
+    (λ none. fills-still (moment b) (moment d) leaves.stays e.records.metadata e.records.trials (λ told. ap (λ x. g.D.Flash.told x) (e.still none))
+    (ap (λ x. g.D.Flash.writes x) (e.still none))))

@@ -21,8 +21,9 @@ use Rattle.agent_calls.proofs.agent.Agent.copy_piece.Goals.{After-read_part, Aft
 pub returns-in-Err-clause-copies : goal.returns-in-Err-clause-copies
 returns-in-Err-clause-copies g c =
     let a = c.args.self.now in
-    piece-unread g.D.Flash.tells (g.D.Flash.told a.flash) (g.D.Flash.told c.read_part.new.self.flash) (fields a) (fields c.read_part.new.self)
-    c.read_part.ensures.fields c.read_part.ensures.reads.content c.args.image c.args.at c.stopped.result c.in-Err.stop c.stopped.ensures.stop
+    let b = c.read_part.new.self in
+    piece-unread g.D.Flash.tells (g.D.Flash.told a.flash) (g.D.Flash.told b.flash) (g.D.Flash.writes a.flash) (g.D.Flash.writes b.flash)
+    (fields a) (fields b) c.read_part.ensures.fields c.read_part.ensures.reads.content c.read_part.ensures.reads.writes c.args.image c.args.at c.stopped.result c.in-Err.stop c.stopped.ensures.stop
 
 pub returns-in-Ok-write_stream-clause-copies : goal.returns-in-Ok-write_stream-clause-copies
 returns-in-Ok-write_stream-clause-copies g c =
@@ -43,8 +44,10 @@ returns-in-Ok-write_stream-clause-copies g c =
     let some : 0 < n = omega (arith, c.min-size.ensures, c.requires.some) in
     piece-written (moment a) (moment b) (moment c.write_stream.new.self) (a.fitting here) c.args.image c.args.at n
     (take n (out ++ drop n buf))
-    (λ E w x shows. read-goes g.D.Flash.tells s t f (fields b) c.read_part.ensures.fields c.read_part.ensures.reads.content E w x shows)
-    (read-stays g.D.Flash.tells s t f (fields b) c.read_part.ensures.fields c.read_part.ensures.reads.content)
+    (λ E w x shows. read-goes g.D.Flash.tells s t (g.D.Flash.writes a.flash) (g.D.Flash.writes b.flash) f (fields b) c.read_part.ensures.fields
+    c.read_part.ensures.reads.content c.read_part.ensures.reads.writes E w x shows)
+    (read-stays g.D.Flash.tells s t (g.D.Flash.writes a.flash) (g.D.Flash.writes b.flash) f (fields b) c.read_part.ensures.fields
+    c.read_part.ensures.reads.content c.read_part.ensures.reads.writes)
     c.requires.image (ap length whole ∙ size) inside some
     (piece-held (moment a) (a.fitting here) (a.knows here) c.args.image c.args.at n c.requires.image inside (take n (out ++ drop n buf))
     (λ tells. whole ∙ c.in-Ok.ensures.bytes tells
@@ -69,8 +72,10 @@ returns-in-Err-write_stream-clause-copies g c =
     let still : IsFalse (gone b) = subst IsFalse (sym c.in-Ok.ensures.gone) refl in
     piece-stopped (moment a) (moment b) (moment c.write_stream.new.self) (a.fitting here) c.args.image c.args.at n
     (take n (out ++ drop n buf))
-    (λ E w x shows. read-goes g.D.Flash.tells s t f (fields b) c.read_part.ensures.fields c.read_part.ensures.reads.content E w x shows)
-    (read-stays g.D.Flash.tells s t f (fields b) c.read_part.ensures.fields c.read_part.ensures.reads.content)
+    (λ E w x shows. read-goes g.D.Flash.tells s t (g.D.Flash.writes a.flash) (g.D.Flash.writes b.flash) f (fields b) c.read_part.ensures.fields
+    c.read_part.ensures.reads.content c.read_part.ensures.reads.writes E w x shows)
+    (read-stays g.D.Flash.tells s t (g.D.Flash.writes a.flash) (g.D.Flash.writes b.flash) f (fields b) c.read_part.ensures.fields
+    c.read_part.ensures.reads.content c.read_part.ensures.reads.writes)
     c.requires.image (ap length whole ∙ size) inside c.in-Err-write_stream.stop (gone b) (gone c.write_stream.new.self) still
     c.in-Err-write_stream.ensures.goes.gone (c.in-Err-write_stream.ensures.meets still)
 
@@ -92,7 +97,8 @@ returns-in-Ok-write_stream-clause-takes g c =
     let still : IsFalse (gone b) = subst IsFalse (sym c.in-Ok.ensures.gone) refl in
     let long : length (take n (out ++ drop n buf)) ≡ n = ap length whole ∙ size in
     piece-takes c.args.image c.args.at n (moment a) (moment b) (g.D.Flash.arming (device a)) (g.D.Flash.arming (device c.write_stream.new.self))
-    (λ E w x shows. read-goes g.D.Flash.tells s t f (fields b) c.read_part.ensures.fields c.read_part.ensures.reads.content E w x shows)
+    (λ E w x shows. read-goes g.D.Flash.tells s t (g.D.Flash.writes a.flash) (g.D.Flash.writes b.flash) f (fields b) c.read_part.ensures.fields
+    c.read_part.ensures.reads.content c.read_part.ensures.reads.writes E w x shows)
     (λ i writes. ((c.in-Ok-write_stream.ensures.image i writes).spent tt).lowered
     ∙ ap (λ (m : ℕ). lowered_by (writes_to_append (size_of (part_at (fields b).session i)) m) (g.D.Flash.arming (device b))) long
     ∙ ap (λ (o : Option Arming). lowered_by (writes_to_append (size_of (part_at (fields b).session i)) n) o) c.in-Ok.ensures.reads.arming)
@@ -130,8 +136,10 @@ module _ (g : given.Over) (c : After-read_part g) where
       let a = c.args.self.now in
       let b = c.read_part.new.self in
       fills-still (moment a) (moment b)
-      (read-stays g.D.Flash.tells (g.D.Flash.told a.flash) (g.D.Flash.told b.flash) (fields a) (fields b) c.read_part.ensures.fields c.read_part.ensures.reads.content)
+      (read-stays g.D.Flash.tells (g.D.Flash.told a.flash) (g.D.Flash.told b.flash) (g.D.Flash.writes a.flash) (g.D.Flash.writes b.flash) (fields a) (fields b)
+      c.read_part.ensures.fields c.read_part.ensures.reads.content c.read_part.ensures.reads.writes)
       (ap (λ (f : Fields). f.meta) c.read_part.ensures.fields) (ap (λ (f : Fields). f.trials) c.read_part.ensures.fields) c.read_part.ensures.reads.content
+      c.read_part.ensures.reads.writes
 
 pub returns-in-Err-clause-fills : goal.returns-in-Err-clause-fills
 returns-in-Err-clause-fills g c = read g (goal.at.returns-in-Err-clause-fills g c).After-read_part
@@ -147,8 +155,9 @@ module _ (g : given.Over) (c : After-write_stream g) where
       fills-by c.write_stream.result (moment b) (moment d)
       (λ done.
       let writes = w.writes done in
-      fills-behind (moment b) (moment d) leaves.stays w.records.metadata w.records.trials leaves.keeps _ _
-      (slot-behind (fields b).layout (target (fields b)) writes.0 _) (λ told. ((w.image writes.0 writes.1).appends done told).keeps))
+      fills-behind (moment b) (moment d) leaves.stays w.records.metadata w.records.trials leaves.keeps leaves.touches _ _
+      (slot-behind (fields b).layout (target (fields b)) writes.0 _) (λ told. ((w.image writes.0 writes.1).appends done told).keeps)
+      (w.image writes.0 writes.1).touches)
       (λ is. ap (λ x. moment x) (w.refused is)) (λ is. ap (λ x. moment x) (w.goes.untouched is))
 
 pub returns-in-Ok-write_stream-clause-fills : goal.returns-in-Ok-write_stream-clause-fills

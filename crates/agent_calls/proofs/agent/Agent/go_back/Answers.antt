@@ -2,6 +2,7 @@ use Rattle.std.proofs.Common.{inl, inr, true, false, refl, sym, subst, arith}
 use Rattle.std.specs.Prelude.{Option, OnOk}
 use Rattle.flash_core.specs.declared.flash.Arming.{Arming}
 use Rattle.flash_core.specs.Told.{Told}
+use Rattle.flash_core.proofs.Touches.{touches_none, touches_then}
 use Rattle.fwu_model.specs.declared.kinds.Status.TheVariants as status
 use Rattle.fwu_model.specs.State.{Back}
 use Rattle.fwu_model.specs.MoveMetas.{meta_after}
@@ -37,7 +38,7 @@ pub returns-then-not-may_try-clause-meets : goal.returns-then-not-may_try-clause
 returns-then-not-may_try-clause-meets g c =
     let a = c.args.self.now in
     let s = g.D.Flash.told a.flash in
-    untried-meets g.D.Flash.tells (fields a) (a.fitting c.requires.here) a.session.sound s s (λ is. refl) (g.V.Verifier.passes c.args.verifier.now)
+    untried-meets g.D.Flash.tells (fields a) (a.fitting c.requires.here) a.session.sound s s (λ is. refl) refl (g.V.Verifier.passes c.args.verifier.now)
     (promised c.may_try.result (may_try_kept a.meta.meta (kept a.session) a.boot) false c.may_try.ensures c.if-not-may_try.true)
 
 pub is_bank_good-requires : goal.is_bank_good-requires
@@ -53,7 +54,7 @@ returns-then-not-goes_back-clause-meets g c =
     let s = g.D.Flash.told a.flash in
     let passes = g.V.Verifier.passes c.args.verifier.now in
     bad-meets g.D.Flash.tells (fields a) (a.fitting c.requires.here) a.session.sound s
-    (g.D.Flash.told c.is_bank_good.new.flash) c.in-Ok.ensures.reads.content passes (a.knows c.requires.here)
+    (g.D.Flash.told c.is_bank_good.new.flash) c.in-Ok.ensures.reads.content c.in-Ok.ensures.reads.writes passes (a.knows c.requires.here)
     (promised c.may_try.result (may_try_kept a.meta.meta (kept a.session) a.boot) true c.may_try.ensures c.if-not-may_try.false) c.args.decision.now
     c.requires.decided c.in-Ok.good
     (λ is E setting. good-permitted E a.layout passes a.counter s.now c.previous-bank.result a.meta.meta.previous c.in-Ok.good
@@ -66,7 +67,7 @@ returns-else-not-goes_back-clause-meets g c =
     let s = g.D.Flash.told a.flash in
     let passes = g.V.Verifier.passes c.args.verifier.now in
     back-meets g.D.Flash.tells (fields a) (a.fitting c.requires.here) a.session.sound s
-    (g.D.Flash.told c.is_bank_good.new.flash) c.in-Ok.ensures.reads.content passes (a.knows c.requires.here)
+    (g.D.Flash.told c.is_bank_good.new.flash) c.in-Ok.ensures.reads.content c.in-Ok.ensures.reads.writes passes (a.knows c.requires.here)
     (promised c.may_try.result (may_try_kept a.meta.meta (kept a.session) a.boot) true c.may_try.ensures c.if-not-may_try.false) c.args.decision.now
     c.requires.decided c.in-Ok.good
     (λ is E setting. good-permitted E a.layout passes a.counter s.now c.previous-bank.result a.meta.meta.previous c.in-Ok.good
@@ -79,7 +80,7 @@ pub returns-in-Err-clause-meets : goal.returns-in-Err-clause-meets
 returns-in-Err-clause-meets g c =
     let a = c.args.self.now in
     stopped-meets g.D.Flash.tells (fields a) (a.fitting c.requires.here) a.session.sound (g.D.Flash.told a.flash)
-    (g.D.Flash.told c.is_bank_good.new.flash) c.in-Err.ensures.reads.content (g.V.Verifier.passes c.args.verifier.now) c.stopped.result c.stopped.ensures.stopped
+    (g.D.Flash.told c.is_bank_good.new.flash) c.in-Err.ensures.reads.content c.in-Err.ensures.reads.writes (g.V.Verifier.passes c.args.verifier.now) c.stopped.result c.stopped.ensures.stopped
 
 pub returns-then-not-may_try-clause-changes : goal.returns-then-not-may_try-clause-changes
 returns-then-not-may_try-clause-changes g c =
@@ -90,7 +91,7 @@ returns-then-not-goes_back-clause-changes g c =
     let a = c.args.self.now in
     looked g.D.Flash (g.V.Verifier.passes c.args.verifier.now) status.Denied (snapshot a) _
     (promised c.may_try.result (may_try_kept a.meta.meta (kept a.session) a.boot) true c.may_try.ensures c.if-not-may_try.false)
-    c.in-Ok.ensures.reads.content c.in-Ok.ensures.reads.arming
+    c.in-Ok.ensures.reads.content c.in-Ok.ensures.reads.arming c.in-Ok.ensures.reads.writes
 
 -- the read before the store left content and arming as they were; the decision was one that the verdict rules, so that it was good
 pub returns-else-not-goes_back-clause-changes : goal.returns-else-not-goes_back-clause-changes
@@ -104,6 +105,7 @@ returns-else-not-goes_back-clause-changes g c =
       stores = λ done tells.
           subst (λ (u : Told). Stores (flash_result r) f.layout (meta_after f.meta.meta Back) u (g.D.Flash.told b.flash))
           (c.in-Ok.ensures.reads.content tells) (c.carry_out.ensures.stores tells);
+      touches = touches_then 4096 12288 (touches_none 4096 12288 c.in-Ok.ensures.reads.writes) c.carry_out.ensures.touches;
       keeps = ok-any r c.carry_out.ensures.planned;
       either = λ done. inr c.carry_out.ensures.planned;
       session = ok-any r c.carry_out.ensures.changed;
@@ -113,6 +115,7 @@ returns-else-not-goes_back-clause-changes g c =
           (promised c.goes_back.result (is_to_do (ruled_as c.args.decision.now c.in-Ok.good)) true c.goes_back.ensures c.if-not-goes_back.false)));
       content = λ refused. absurd (c.carry_out.ensures.answered refused);
       arming = λ refused. absurd (c.carry_out.ensures.answered refused);
+      writes = λ refused. absurd (c.carry_out.ensures.answered refused);
       spent = subst (λ (x : Option Arming). OnOk r (TakesStore f.meta b.meta x (g.D.Flash.arming b.flash))) c.in-Ok.ensures.reads.arming c.carry_out.ensures.spent;
     }
 
@@ -127,6 +130,7 @@ returns-in-Err-clause-changes g c =
           subst (λ (r : CallResult). Stores r f.layout (meta_after f.meta.meta Back) (g.D.Flash.told a.flash) t) (sym c.stopped.ensures.stop)
           (back-stopped f (a.fitting c.requires.here) c.in-Err.stop (g.D.Flash.told a.flash) t
           (omega (arith, a.inside c.requires.here, (g.met.D.Flash.sound a.flash tells).size)) (c.in-Err.ensures.reads.content tells));
+      touches = touches_none 4096 12288 c.in-Err.ensures.reads.writes;
       keeps = tt;
       either = λ done. inl refl;
       session = tt;
@@ -134,5 +138,6 @@ returns-in-Err-clause-changes g c =
       passed = tt;
       content = λ refused. absurd (not-refused c.stopped.result c.stopped.ensures.stopped refused);
       arming = λ refused. absurd (not-refused c.stopped.result c.stopped.ensures.stopped refused);
+      writes = λ refused. absurd (not-refused c.stopped.result c.stopped.ensures.stopped refused);
       spent = tt;
     }

@@ -22,7 +22,7 @@ returns-in-Open-clause-meets g c here passes =
     c.in-Ok.plan c.in-Ok.ensures.plans c.in-Open.handle
     (opens-asked (fields a) (a.fitting here) c.args.guid c.args.op c.find-image.result c.total-total.result c.find-image.ensures.value
     c.in-Ok.plan c.in-Ok.ensures.asked c.in-Open.handle c.in-Open.image c.in-Open.op c.in-Open.total c.in-Open.is) (moment c.keep.new.self)
-    (ap g.D.Flash.told c.keep.ensures.device) c.keep.ensures.carried passes
+    (ap g.D.Flash.told c.keep.ensures.device) (ap g.D.Flash.writes c.keep.ensures.device) c.keep.ensures.carried passes
 
 -- an open has no other plan
 pub returns-in_default-clause-meets : goal.returns-in_default-clause-meets

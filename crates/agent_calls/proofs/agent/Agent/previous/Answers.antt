@@ -26,7 +26,7 @@ pub returns-in-Refused-clause-meets : goal.returns-in-Refused-clause-meets
 returns-in-Refused-clause-meets g c = λ here passes same.
     let a = c.args.self.now in
     let s = g.D.Flash.told a.flash in
-    refused-meets-previous g.D.Flash.tells (fields a) (a.fitting here) a.session.sound s s (λ is. refl) passes c.in-Refused.status
+    refused-meets-previous g.D.Flash.tells (fields a) (a.fitting here) a.session.sound s s (λ is. refl) refl passes c.in-Refused.status
     (subst (λ (ps : List ℕ → Bool). DecidesRequest ps a.meta a.counter (kept a.session) a.boot request.Previous (decision.Refused c.in-Refused.status))
     (sym same) c.in-Refused.ensures.decides)
 

@@ -47,7 +47,8 @@ returns-in-Ok-read_part-clause-meets g c here passes =
     read-meets (moment a) (a.fitting here) a.session.sound (a.knows here) c.args.h
     (length c.args.out.now) c.in-Ok.plan c.in-Ok.ensures.plans c.in-Read.handle c.in-Read.image c.in-Read.at n c.in-Read.total c.in-Read.is
     c.in-Ok.ensures.of
-    (moment c.keep.new.self) (λ tells. ap g.D.Flash.told c.keep.ensures.device ∙ c.read_part.ensures.reads.content tells) passes _
+    (moment c.keep.new.self) (λ tells. ap g.D.Flash.told c.keep.ensures.device ∙ c.read_part.ensures.reads.content tells)
+    (ap g.D.Flash.writes c.keep.ensures.device ∙ c.read_part.ensures.reads.writes) passes _
     (λ tells. filled c.args.out.now c.read_part.new.out _ n (piece_of f.layout f.meta.meta f.boot f.lengths
     (g.D.Flash.told a.flash).now c.in-Read.image c.in-Read.at) fits c.read_part.auto.out refl (c.in-Ok-read_part.ensures.bytes tells))
     (carried-from (plan.Read c.in-Read.handle c.in-Read.image c.in-Read.at n c.in-Read.total) [] g.D.Flash.tells (g.D.Flash.told a.flash)
@@ -67,7 +68,7 @@ returns-in-Err-Lost-clause-meets g c here passes =
     read-lost (moment a) (a.fitting here) a.session.sound (a.knows here) c.args.h
     (length c.args.out.now) c.in-Ok.plan c.in-Ok.ensures.plans c.in-Read.handle c.in-Read.image c.in-Read.at c.in-Read.length c.in-Read.total c.in-Read.is
     c.in-Ok.ensures.of
-    (moment c.read_part.new.self) c.read_part.ensures.reads.content passes (IsGot g.D.Flash.tells _)
+    (moment c.read_part.new.self) c.read_part.ensures.reads.content c.read_part.ensures.reads.writes passes (IsGot g.D.Flash.tells _)
     (record {
       tells = refl;
       layout = ap (λ (x : Fields). x.layout) same;
@@ -84,7 +85,7 @@ returns-in-Err-Failed-clause-meets g c here passes =
     read-faulty (moment a) (a.fitting here) a.session.sound (a.knows here) c.args.h
     (length c.args.out.now) c.in-Ok.plan c.in-Ok.ensures.plans c.in-Read.handle c.in-Read.image c.in-Read.at c.in-Read.length c.in-Read.total c.in-Read.is
     c.in-Ok.ensures.of
-    (moment c.read_part.new.self) c.read_part.ensures.reads.content passes (IsGot g.D.Flash.tells _)
+    (moment c.read_part.new.self) c.read_part.ensures.reads.content c.read_part.ensures.reads.writes passes (IsGot g.D.Flash.tells _)
     (record {
       tells = refl;
       layout = ap (λ (x : Fields). x.layout) same;

@@ -1,8 +1,10 @@
-use Rattle.std.proofs.Common.{◌≡◌, [], Err, refl, subst, sym}
+use Rattle.std.proofs.Common.{◌≡◌, inl, inr, ◌⊎◌, ℕ, ◌+◌, ◌*◌, ◌≤◌, [], Err, refl, subst, sym, arith}
 use Rattle.fwu_model.specs.Reply.{Success}
 use Rattle.fwu_model.specs.Call as call
 use Rattle.agent_kept.specs.Kept.{Kept, kept}
 use Rattle.agent_kept.specs.declared.kinds.Plan.TheVariants as plan
+use Rattle.flash_core.specs.Touches.{TouchesOnly}
+use Rattle.agent_machine.specs.Beside.{IsBesideMetadata, SparesBlocks}
 use Rattle.agent_machine.specs.Fields.{Fields}
 use Rattle.agent_machine.specs.Moment.{Moment}
 use Rattle.agent_machine.specs.Ends.{ClearsAndStores}
@@ -16,6 +18,14 @@ use Rattle.agent_machine.proofs.EndMeets.{stored-when-done, end-leaves, end-know
 use Rattle.agent_calls.specs.Shown.{fields}
 use Rattle.agent_calls.proofs.Makes.{end-keeps}
 use Rattle.agent_calls.proofs.agent.Agent.switch.Goals as goal
+
+-- the replicas and the marks lie in what a call may erase and program
+ended-blocks : (f : Fields) {old new : ℕ → ℕ} → TouchesOnly 4096 16384 old new → SparesBlocks f old new
+ended-blocks f touches b spared = touches b (by spared.0)
+  where
+    by : IsBesideMetadata (4096 * b) → (4096 * b + 4096 ≤ 4096) ⊎ (16384 ≤ 4096 * b)
+    by (inl low) = inl (omega (arith, low))
+    by (inr high) = inr (omega (arith, high))
 
 pub settle-requires-clause-fits : goal.settle-requires-clause-fits
 settle-requires-clause-fits g c = meta-of-session (fields c.args.self.now) (c.args.self.now.fitting c.requires.here)
@@ -53,7 +63,7 @@ returns-in-Ok-clause-meets g c passes decides =
     let t = g.D.Flash.told c.clear_and_store.new.flash in
     end-meets f k c.settle.new.meta passes g.D.Flash.tells s t (c.args.self.now.fitting here) c.args.self.now.session.sound
     (c.args.self.now.knows here) c.requires.staging decides c.settle.ensures.meta c.settle.ensures.session c.settle.ensures.settles
-    (λ told. stored-when-done f.layout c.settle.new.meta.meta s t (c.in-Ok.ensures.ends told))
+    (λ told. stored-when-done f.layout c.settle.new.meta.meta s t (c.in-Ok.ensures.ends told)) (ended-blocks f c.in-Ok.ensures.touches)
 
 pub returns-in-Err-clause-meets : goal.returns-in-Err-clause-meets
 returns-in-Err-clause-meets g c passes decides =
@@ -62,18 +72,25 @@ returns-in-Err-clause-meets g c passes decides =
     let k : Kept = kept c.settle.new.session in
     let s = g.D.Flash.told c.args.self.now.flash in
     let t = g.D.Flash.told c.clear_and_store.new.flash in
-    let old : Moment = record { tells = g.D.Flash.tells; told = s; fields = f } in
-    let new : Moment = record { tells = g.D.Flash.tells; told = t; fields = record f { meta = c.settle.new.meta; session = k; trials = 0 } } in
+    let old : Moment = record { tells = g.D.Flash.tells; told = s; writes = g.D.Flash.writes c.args.self.now.flash; fields = f } in
+    let new : Moment = record {
+      tells = g.D.Flash.tells;
+      told = t;
+      writes = g.D.Flash.writes c.clear_and_store.new.flash;
+      fields = record f { meta = c.settle.new.meta; session = k; trials = 0 };
+    } in
     stopped-meets {T = Unit {0}} (λ value r. r ≡ Success) c.stopped.result passes call.End old new c.stopped.ensures.stopped
     (subst (λ (r : CallResult). LeavesFlash r passes call.End old new) (sym c.stopped.ensures.stop)
     (end-leaves f k c.settle.new.meta passes g.D.Flash.tells s t (c.args.self.now.fitting here) c.args.self.now.session.sound
-    (c.args.self.now.knows here) c.requires.staging decides c.settle.ensures.meta (Err c.in-Err.stop) c.in-Err.ensures.ends))
+    (c.args.self.now.knows here) c.requires.staging decides c.settle.ensures.meta (Err c.in-Err.stop) c.in-Err.ensures.ends
+    (ended-blocks f c.in-Err.ensures.touches)))
 
 pub returns-in-Ok-clause-staging : goal.returns-in-Ok-clause-staging
 returns-in-Ok-clause-staging g c =
     let a = c.args.self.now in
     record {
       ends = λ done. c.in-Ok.ensures.ends;
+      touches = c.in-Ok.ensures.touches;
       keeps = λ done. end-keeps (fields a) (a.fitting c.requires.here) c.settle.new.meta c.settle.ensures.meta;
       restarts = λ done. c.settle.ensures.session;
       trials = λ done. refl;
@@ -88,6 +105,7 @@ returns-in-Err-clause-staging g c =
       ends = λ done tells.
           subst (λ (r : CallResult). ClearsAndStores r (fields a).layout c.settle.new.meta.meta (g.D.Flash.told a.flash) (g.D.Flash.told c.clear_and_store.new.flash))
           (sym c.stopped.ensures.stop) (c.in-Err.ensures.ends tells);
+      touches = c.in-Err.ensures.touches;
       keeps = λ done. end-keeps (fields a) (a.fitting c.requires.here) c.settle.new.meta c.settle.ensures.meta;
       restarts = λ done. c.settle.ensures.session;
       trials = λ done. refl;

@@ -6,7 +6,7 @@ use Rattle.agent_machine.specs.Fields.{Fields, rest_of, target}
 use Rattle.agent_machine.proofs.Room.{slot-inside, meta-of-session}
 use Rattle.agent_machine.proofs.WriteCarried.{write-fitting, write-known, write-some, write-done, write-stopped}
 use Rattle.agent_calls.specs.Shown.{fields, moment}
-use Rattle.agent_calls.proofs.Appending.{appended, left-kept, left_of}
+use Rattle.agent_calls.proofs.Appending.{appended, left-kept, left_of, touched}
 use Rattle.slot_writer.specs.Slots.{Appends, done_of}
 use Rattle.moves.specs.Law.{CallResult}
 use Rattle.agent_calls.proofs.agent.Agent.write_image.Goals as goal
@@ -74,7 +74,7 @@ returns-in-Ok-clause-meets g c passes h decides =
     write-done g.D.Flash.tells (g.D.Flash.told a.flash) (g.D.Flash.told c.append.new.flash) f (kept c.settle.new.session) c.settle.new.meta c.args.image
     c.start-first.result c.size-size.result c.args.number c.args.at c.append.new.rest c.args.bytes.now fitting a.session.sound (a.knows here)
     c.requires.plan (λ tells. omega (arith, a.inside here, (g.met.D.Flash.sound a.flash tells).size)) fits first c.size-size.ensures c.in-Ok.ensures.appends
-    c.settle.ensures.session c.settle.ensures.meta c.settle.ensures.settles passes h decides
+    c.settle.ensures.session c.settle.ensures.meta c.settle.ensures.settles passes h decides c.in-Ok.ensures.touches
 
 pub returns-in-Err-clause-meets : goal.returns-in-Err-clause-meets
 returns-in-Err-clause-meets g c passes h decides =
@@ -91,13 +91,14 @@ returns-in-Err-clause-meets g c passes h decides =
     write-stopped (moment a) (record {
       tells = g.D.Flash.tells;
       told = g.D.Flash.told c.append.new.flash;
+      writes = g.D.Flash.writes c.append.new.flash;
       fields = record f
           { rests = set f.rests c.args.image c.append.new.rest };
     }) c.args.image c.start-first.result c.size-size.result c.args.number c.args.at
     c.append.new.rest c.args.bytes.now
     fitting a.session.sound (a.knows here) c.requires.plan (λ tells. omega (arith, a.inside here, (g.met.D.Flash.sound a.flash tells).size)) fits first
     c.size-size.ensures c.in-Err.stop c.in-Err.ensures.appends passes h decides refl
-    (record { layout = refl; boot = refl; counter = refl; lengths = refl; form = refl }) c.stopped.result c.stopped.ensures.stop c.stopped.ensures.stopped
+    (record { layout = refl; boot = refl; counter = refl; lengths = refl; form = refl }) c.in-Err.ensures.touches c.stopped.result c.stopped.ensures.stop c.stopped.ensures.stopped
 
 pub returns-in-Ok-clause-image : goal.returns-in-Ok-clause-image
 returns-in-Ok-clause-image g c =
@@ -118,6 +119,7 @@ returns-in-Ok-clause-image g c =
       grows = c.settle.ensures.session;
       others = λ other apart. get_or-set_other f.rests c.args.image other c.append.new.rest [] apart;
       still = λ same. c.in-Ok.ensures.still (subst (λ (m : ℕ). done_of (m + n) ≡ done_of m) (sym size) same);
+      touches = touched f c.args.image c.size-size.result c.args.bytes.now size c.start-first.result first c.in-Ok.ensures.touches;
       spent = λ done.
           subst (λ (m : ℕ). SpendsArming {T = Unit {0}} (Ok tt) (writes_to_append m n) (d.arming a.flash) (d.arming b) (d.counts a.flash) (d.counts b))
           size c.in-Ok.ensures.arming;
@@ -145,6 +147,7 @@ returns-in-Err-clause-image g c =
       grows = tt;
       others = λ other apart. get_or-set_other f.rests c.args.image other c.append.new.rest [] apart;
       still = λ same. c.in-Err.ensures.still (subst (λ (m : ℕ). done_of (m + n) ≡ done_of m) (sym size) same);
+      touches = touched f c.args.image c.size-size.result c.args.bytes.now size c.start-first.result first c.in-Err.ensures.touches;
       spent = λ done.
           subst (λ (r : CallResult). SpendsArming r (writes_to_append (size_of (part_at f.session c.args.image)) n) (d.arming a.flash) (d.arming b)
           (d.counts a.flash) (d.counts b)) (sym c.stopped.ensures.stop)
