@@ -33,8 +33,8 @@ halts-after (Err Gone) E old mid new s boot x y first next = absurd next
 pub other-end : (T U : Type 0) (stop : SendStop) (E : Setting) (old new : Moment) (s : State) (boot : ℕ) (y z : Session)
     → Halts {T = T} (Err stop) E old new s boot y → Halts {T = U} (Err stop) E old new s boot z
 other-end T U ReadFailed E old new s boot y z h = h
-other-end T U Lost E old new s boot y z h = record { shows = tt; does = h.does; guarded = h.guarded; keeps = h.keeps; stays = h.stays }
-other-end T U Fault E old new s boot y z h = record { shows = tt; does = h.does; guarded = h.guarded; keeps = h.keeps; stays = h.stays }
+other-end T U Lost E old new s boot y z h = record { shows = tt; does = h.does; guarded = h.guarded; keeps = h.keeps; touches = h.touches; stays = h.stays }
+other-end T U Fault E old new s boot y z h = record { shows = tt; does = h.does; guarded = h.guarded; keeps = h.keeps; touches = h.touches; stays = h.stays }
 other-end T U (MissingImage g) E old new s boot y z h = h
 other-end T U (ImageTooLarge g) E old new s boot y z h = h
 other-end T U (Begin st) E old new s boot y z h = h

@@ -98,7 +98,7 @@ pub stopped-at : (e : FlashStop) (E : Setting) (old new : Moment) (s : State) (m
     → GoesByMoves E (Err e) old new s ms y → GoesByMoves E (Err e) old new s (ms ++ ns) z
 stopped-at e E old new s ms ns y z goes =
     let all = goes-stopped E (Err e) old new s ms ns y y refl goes in
-    record { shows = tt; does = all.does; guarded = all.guarded; keeps = all.keeps; stays = all.stays }
+    record { shows = tt; does = all.does; guarded = all.guarded; keeps = all.keeps; touches = all.touches; stays = all.stays }
 
 -- a cancel within a staging is neither refused nor stopped
 pub no-cancel : (halt : Stop) (E : Setting) (old new : Moment) (s : State) (boot : ℕ) (parts : List Staged) (handles : List Handle) (was now : Bool)

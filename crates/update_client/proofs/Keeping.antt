@@ -1,6 +1,5 @@
 -- What the parts of a sending keep, one after the other.
-use Rattle.std.proofs.Common.{◌≡◌, ◌∙◌, ◌≢◌, ℕ, Bool, List, length, Result, Ok, Err, refl, sym, ap, subst, arith, IsTrue, IsFalse}
-use Rattle.base_core.specs.Counts.{Rose}
+use Rattle.std.proofs.Common.{◌≡◌, ◌∙◌, ℕ, Bool, List, length, Result, Ok, Err, refl, ap, subst, arith, IsTrue, IsFalse}
 use Rattle.flash_core.specs.declared.flash.Flash as flash
 use Rattle.host_io.specs.Access.{Access}
 use Rattle.host_io.specs.declared.files.Files.{Ghosts}
@@ -11,11 +10,12 @@ use Rattle.agent_machine.specs.declared.stop.Stop.TheVariants as stop
 use Rattle.agent_machine.specs.Meets.{GoesBy}
 use Rattle.agent_machine.proofs.Spending.{call-spent, none-spent, spent-then}
 use Rattle.agent_calls.specs.declared.agent.Agent.{Agent}
-use Rattle.agent_calls.specs.Shown.{AgentGoes, SpentBy, device, gone}
+use Rattle.agent_calls.specs.Shown.{AgentGoes, SpentBy, device, gone, moment}
 use Rattle.update_client.specs.declared.stops.SendStop.{SendStop}
 use Rattle.update_client.specs.declared.stops.SendStop.TheVariants.{MissingImage, ImageTooLarge, Begin, End, ReadFailed, Lost, Fault, Gone}
 use Rattle.update_client.specs.Halts.{StopsEnd, StopsWithin, flash_of, stopped_as}
-use Rattle.update_client.specs.Pieces.{KeepsBeside, ReadsPieceBy}
+use Rattle.update_client.specs.Pieces.{KeepsBeside, ReadsPieceBy, SparesOthers}
+use Rattle.update_client.proofs.Sparing.{spares-none, spares-then}
 use Rattle.update_client.proofs.Spending.{stop-spent}
 
 -- ---- which stop it is
@@ -73,6 +73,7 @@ module _ {D H : Type 0} {F : flash.Ghosts D} (g : Ghosts H) (at_rest : (f : H) (
   keeps-none a f buf here power = record {
     stops = tt;
     spent = none-spent F (gone a) (device a) here power;
+    spares = spares-none (moment a);
     buffer = refl;
     files = reads-none g _ at_rest f;
     reads = reads-done tt (g.faults f);
@@ -84,6 +85,7 @@ module _ {D H : Type 0} {F : flash.Ghosts D} (g : Ghosts H) (at_rest : (f : H) (
   keeps-read a e f buf filled here power long reads same = record {
     stops = tt;
     spent = none-spent F (gone a) (device a) here power;
+    spares = spares-none (moment a);
     buffer = long;
     files = reads;
     reads = subst (λ (n : ℕ). ReadsPieceBy {T = Unit {0}} n (g.faults f) (Ok tt)) same (reads-done tt (g.faults f));
@@ -91,10 +93,11 @@ module _ {D H : Type 0} {F : flash.Ghosts D} (g : Ghosts H) (at_rest : (f : H) (
 
   -- a call of the agent
   pub keeps-called : {T U : Type 0} (x : T) (y : U) (a b : Agent D F) (f : H) (buf : List ℕ) → IsFalse (gone a) → AgentGoes {T = T} (Ok x) a b
-      → KeepsBeside {T = U} g name (Ok y) a b f f buf buf
-  keeps-called x y a b f buf here goes = record {
+      → SparesOthers (moment a) (moment b) → KeepsBeside {T = U} g name (Ok y) a b f f buf buf
+  keeps-called x y a b f buf here goes spares = record {
     stops = tt;
     spent = call-spent here goes;
+    spares = spares;
     buffer = refl;
     files = reads-none g _ at_rest f;
     reads = reads-done y (g.faults f);
@@ -102,10 +105,11 @@ module _ {D H : Type 0} {F : flash.Ghosts D} (g : Ghosts H) (at_rest : (f : H) (
 
   -- and one that ends it
   pub keeps-stopped : {T : Type 0} (U : Type 0) (q : Stop) (a b : Agent D F) (f : H) (buf : List ℕ) → IsFalse (gone a) → AgentGoes {T = T} (Err q) a b
-      → KeepsBeside {T = U} g name (Err (stopped_as q)) a b f f buf buf
-  keeps-stopped {T} U q a b f buf here goes = record {
+      → SparesOthers (moment a) (moment b) → KeepsBeside {T = U} g name (Err (stopped_as q)) a b f f buf buf
+  keeps-stopped {T} U q a b f buf here goes spares = record {
     stops = stops-stopped T U q (gone a) (gone b) here goes.gone;
     spent = stop-spent T U q (gone b) (device a) (device b) (call-spent here goes);
+    spares = spares;
     buffer = refl;
     files = reads-none g _ at_rest f;
     reads = reads-stopped U q (g.faults f);
@@ -113,10 +117,11 @@ module _ {D H : Type 0} {F : flash.Ghosts D} (g : Ghosts H) (at_rest : (f : H) (
 
   -- the end of a staging
   pub keeps-ended : {T : Type 0} (r : Result T SendStop) (a b : Agent D F) (f : H) (buf : List ℕ) → StopsEnd r → SpentBy (flash_of r) a b
-      → KeepsBeside g name r a b f f buf buf
-  keeps-ended {T} r a b f buf stops spent = record {
+      → SparesOthers (moment a) (moment b) → KeepsBeside g name r a b f f buf buf
+  keeps-ended {T} r a b f buf stops spent spares = record {
     stops = stops-ended T r stops;
     spent = spent;
+    spares = spares;
     buffer = refl;
     files = reads-none g _ at_rest f;
     reads = reads-ended T r (g.faults f) stops;
@@ -130,6 +135,7 @@ module _ {D H : Type 0} {F : flash.Ghosts D} (g : Ghosts H) (at_rest : (f : H) (
       record {
         stops = next.stops;
         spent = spent-then first.spent next.spent;
+        spares = spares-then first.spares next.spares;
         buffer = next.buffer ∙ first.buffer;
         files = reads-then g _ joins e f h first.files next.files;
         reads = subst (λ (n : ℕ). ReadsPieceBy n (g.faults h) result) same next.reads;
@@ -141,6 +147,7 @@ module _ {D H : Type 0} {F : flash.Ghosts D} (g : Ghosts H) (at_rest : (f : H) (
   keeps-ok {f = f} kept = record {
     stops = tt;
     spent = kept.spent;
+    spares = kept.spares;
     buffer = kept.buffer;
     files = kept.files;
     reads = record { later = kept.reads.later; once = kept.reads.once; failed = λ e. absurd cc };
@@ -152,6 +159,7 @@ module _ {D H : Type 0} {F : flash.Ghosts D} (g : Ghosts H) (at_rest : (f : H) (
   keeps-on {T} U st kept = record {
     stops = stops-on st kept.stops;
     spent = kept.spent;
+    spares = kept.spares;
     buffer = kept.buffer;
     files = kept.files;
     reads = record { later = kept.reads.later; once = kept.reads.once; failed = λ is. kept.reads.failed (read-on st is) };

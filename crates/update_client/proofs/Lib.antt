@@ -9,6 +9,7 @@ pub mod OwnImages
 pub mod Installed
 pub mod WholeSending
 mod Spending
+mod Sparing
 mod Keeping
 pub mod ImagesTaking
 mod Stopped

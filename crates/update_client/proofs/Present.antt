@@ -1,10 +1,10 @@
 -- The images that a table has.
 use Rattle.std.proofs.Common.{◌≡◌, cond, ℕ, zero, suc, ◌+◌, ◌*◌, ◌<◌, ◌≤◌, map, subst, Bool, true, false, List, [], ◌∷◌, length, get_or, Option, Some, None, refl, sym, ap, ◌∙◌, arith, ltb-false}
-use Rattle.std.specs.Prelude.{◌==◌, IsTrue, count_by, ltb, not, is_some}
+use Rattle.std.specs.Prelude.{IsTrue, count_by, ltb, not, is_some}
 use Rattle.std.specs.List.{All, cons_option, list_any}
 use Rattle.std.proofs.lemmas.Bool.{and_parts}
 use Rattle.agent_machine.proofs.Answered.{layout-limits}
-use Rattle.fip_tables.proofs.Chosen.{any_present, found_has}
+use Rattle.fip_tables.proofs.Chosen.{found_has}
 use Rattle.std.proofs.lemmas.List.{get_or_default}
 use Rattle.std.proofs.lemmas.List.Sums.{sum_by-cons}
 use Rattle.fwu_formats.specs.Layout.{ImageRow, Layout, fits_layout, are_distinct, find_image, slot_bytes}

@@ -226,6 +226,7 @@ begun-goes old m1 types named passes (Ok u) there begins E s x setting shows = r
   does = λ tells ready. begins.does E s x setting shows tells ready;
   guarded = begins.guarded;
   keeps = begins.keeps;
+  touches = begins.touches;
   stays = begins.stays;
 }
 begun-goes old m1 types named passes (Err (stop.Status st)) there begins E s x setting shows = record {
@@ -233,6 +234,7 @@ begun-goes old m1 types named passes (Err (stop.Status st)) there begins E s x s
   does = λ tells ready. begins.does E s x setting shows tells ready;
   guarded = begins.guarded;
   keeps = begins.keeps;
+  touches = begins.touches;
   stays = begins.stays;
 }
 begun-goes old m1 types named passes (Err stop.Lost) there begins E s x setting shows = record {
@@ -240,6 +242,7 @@ begun-goes old m1 types named passes (Err stop.Lost) there begins E s x setting 
   does = λ tells ready. begins.does E s x setting shows tells ready;
   guarded = begins.guarded;
   keeps = begins.keeps;
+  touches = begins.touches;
   stays = begins.stays;
 }
 begun-goes old m1 types named passes (Err stop.Fault) there begins E s x setting shows = record {
@@ -247,6 +250,7 @@ begun-goes old m1 types named passes (Err stop.Fault) there begins E s x setting
   does = λ tells ready. begins.does E s x setting shows tells ready;
   guarded = begins.guarded;
   keeps = begins.keeps;
+  touches = begins.touches;
   stays = begins.stays;
 }
 begun-goes old m1 types named passes (Err stop.Gone) there begins E s x setting shows = absurd (there refl)

@@ -11,10 +11,11 @@ use Rattle.fwu_model.specs.State.{State}
 use Rattle.fwu_model.specs.Sound.{Setting}
 use Rattle.fwu_model.specs.Session.{Staged, Nothing}
 use Rattle.fip_tables.specs.Files.{Tells}
+use Rattle.agent_machine.specs.Beside.{SparesBlocksByAll}
 use Rattle.agent_machine.specs.Moment.{Moment, Shows}
 use Rattle.agent_machine.specs.Goes.{GoesByMoves}
 use Rattle.agent_calls.specs.declared.agent.Agent.{Agent}
-use Rattle.agent_calls.specs.Shown.{SpentBy}
+use Rattle.agent_calls.specs.Shown.{SpentBy, moment}
 use Rattle.update_client.specs.declared.stops.SendStop.{SendStop}
 use Rattle.update_client.specs.declared.stops.SendStop.TheVariants.{ReadFailed}
 use Rattle.agent_machine.specs.Filling.{between, filled, within}
@@ -63,6 +64,13 @@ pub record ReadsPieceBy {T : Type 0} (before now : ℕ) (result : Result T SendS
   pub once : now ≤ before + unread_in result
   pub failed : result ≡ Err ReadFailed → Rose before now
 
+-- Calls in a row, on every device, whatever its reads give: the layout and the bank that was started stay, and no block that they
+-- spare is erased or programmed.
+pub record SparesOthers (old new : Moment) : Type 0 where
+  pub layout : new.fields.layout ≡ old.fields.layout
+  pub boot : new.fields.boot ≡ old.fields.boot
+  pub touches : SparesBlocksByAll old.fields old.writes new.writes
+
 -- What a part of a sending promises of its agent, its files and its buffer, whatever it answers and on every device.
 pub record KeepsBeside {D H T : Type 0} {F : flash.Ghosts D} (g : Ghosts H) (name : List ℕ) (result : Result T SendStop)
     (old new : Agent D F) (from to : H) (buf filled : List ℕ) : Type 0 where
@@ -70,6 +78,8 @@ pub record KeepsBeside {D H T : Type 0} {F : flash.Ghosts D} (g : Ghosts H) (nam
   pub stops : StopsWithin result
   -- the agent is gone, and its device off, exactly where the flash stopped it, which has a cause
   pub spent : SpentBy (flash_of result) old new
+  -- no block is erased or programmed but those of the metadata, the marks of the starts on trial and the update bank
+  pub spares : SparesOthers (moment old) (moment new)
   -- the buffer has as many bytes as before
   pub buffer : length filled ≡ length buf
   -- the file of this name alone is asked for, and none is written

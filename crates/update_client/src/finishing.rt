@@ -5,7 +5,7 @@ ghost use Rattle.agent_calls.specs.Shown.{SpentBy, device, gone, moment};
 ghost use Rattle.update_client.specs.Finishes.{FinishesBy, InstallsImages};
 ghost use Rattle.update_client.specs.Halts.{StopsEnd, flash_of};
 ghost use Rattle.update_client.specs.Packages.{HoldsPayloads};
-ghost use Rattle.update_client.specs.Pieces.{KeepsBeside};
+ghost use Rattle.update_client.specs.Pieces.{KeepsBeside, SparesOthers};
 ghost use Rattle.update_client.specs.Takes.{InstallTakesBy, OnRefusedEnd};
 
 use crate::images::send_images;
@@ -28,6 +28,7 @@ pub fn finish<D: Flash, V: Verifier>(agent: &mut Agent<D>, verifier: &V) -> Resu
     ensures unswitched { OnRefusedEnd result (device agent.new ≡ device agent.old) }
     ensures stops { StopsEnd result }
     ensures spent { SpentBy (flash_of result) agent.old agent.new }
+    ensures spares { SparesOthers (moment agent.old) (moment agent.new) }
 {
     match agent.end(verifier) {
         Ok(()) => Ok(()),

@@ -5,6 +5,7 @@ ghost use Rattle.fwu_model.specs.State.{State};
 ghost use Rattle.fwu_model.specs.Session.{Session};
 ghost use Rattle.fwu_model.specs.Answer.{partial_fault};
 ghost use Rattle.host_io.specs.Reads.{ReadsFile};
+ghost use Rattle.agent_machine.specs.Beside.{SparesBlocksByAll};
 ghost use Rattle.agent_machine.specs.Moment.{Shows};
 ghost use Rattle.agent_calls.specs.Shown.{device, fields, gone, moment};
 ghost use Rattle.agent_calls.specs.Takes.{writes_to_begin};
@@ -92,6 +93,10 @@ pub fn send_partial<D: Flash, H: Files, V: Verifier>(
     ensures counted { IfOk result (IsCountedOver (fields agent.old).layout.rows toc.now) }
     ensures goes { IsFalse (gone agent.old) →
         Goes D.Flash (flash_of result) (device agent.old) (device agent.new) }
+    // On every device, whatever its reads give, at any exit: no block is erased or programmed but those of
+    // the metadata, the marks of the starts on trial and the update bank.
+    ensures touches { SparesBlocksByAll (fields agent.old)
+        (D.writes (device agent.old)) (D.writes (device agent.new)) }
     // On every device: the erases and programs of the begin, of each copy in pieces of 4096 bytes, and of
     // each image's writes and its commit. Each write has as many bytes as the buffer, but the last one of an image.
     ensures takes { let f = fields agent.old in SendTakesBy result

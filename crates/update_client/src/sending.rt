@@ -3,6 +3,7 @@ ghost use Rattle.std.specs.Prelude.{◌≡◌, ◌+◌, ◌<◌, length, IsFalse
 ghost use Rattle.flash_core.specs.Calls.{Goes};
 ghost use Rattle.fwu_model.specs.State.{State};
 ghost use Rattle.fwu_model.specs.Session.{Session};
+ghost use Rattle.agent_machine.specs.Beside.{SparesBlocksByAll};
 ghost use Rattle.agent_machine.specs.Moment.{Shows};
 ghost use Rattle.fwu_model.specs.Answer.{first_image_fault};
 ghost use Rattle.host_io.specs.Reads.{ReadsFile};
@@ -76,6 +77,10 @@ pub fn send<D: Flash, H: Files, V: Verifier>(
         (gone agent.old) (gone agent.new) }
     ensures goes { IsFalse (gone agent.old) →
         Goes D.Flash (flash_of result) (device agent.old) (device agent.new) }
+    // On every device, whatever its reads give, at any exit: no block is erased or programmed but those of
+    // the metadata, the marks of the starts on trial and the update bank.
+    ensures touches { SparesBlocksByAll (fields agent.old)
+        (D.writes (device agent.old)) (D.writes (device agent.new)) }
     // On every device: the erases and programs of the begin, and of each image's writes and its commit.
     // Each write has as many bytes as the buffer, but the last one of an image.
     ensures takes { let f = fields agent.old in SendTakesBy result

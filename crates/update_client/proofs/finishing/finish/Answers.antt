@@ -8,6 +8,7 @@ use Rattle.update_client.specs.declared.stops.SendStop.{SendStop}
 use Rattle.update_client.specs.Finishes.{FinishesBy}
 use Rattle.update_client.proofs.Finished.{finish-done, finish-lost, finish-failed, finish-refused, finish-halted, still-here}
 use Rattle.update_client.specs.Takes.{OnRefusedEnd}
+use Rattle.update_client.proofs.Sparing.{spares-left, spares-then}
 use Rattle.update_client.proofs.Unsent.{end-as}
 use Rattle.update_client.proofs.finishing.finish.Goals as goal
 use Rattle.agent_machine.proofs.CallGoing.{MeetsAs}
@@ -62,3 +63,30 @@ returns-in-Err-clause-unswitched g c =
     (c.in-Err-Status.ensures.refused (subst (λ (q : Stop). IsRefused {T = Unit {0}} (Err q)) (sym c.in-Err-Status.field-0-is) tt)) in
     subst (λ (st : SendStop). OnRefusedEnd {T = Unit {0}} (Err st) (device c.cancel.new.self ≡ device c.args.agent.now)) (sym c.stopped.ensures)
     (end-as (Unit {0}) c.in-Err.stop (device c.cancel.new.self ≡ device c.args.agent.now) same)
+
+-- ---- which blocks it erases or programs
+
+pub returns-in-Ok-clause-spares : goal.returns-in-Ok-clause-spares
+returns-in-Ok-clause-spares g c = spares-left (c.in-Ok.ensures.meets c.requires.here _ refl).leaves
+
+pub returns-in-Ok-cancel-clause-spares : goal.returns-in-Ok-cancel-clause-spares
+returns-in-Ok-cancel-clause-spares g c =
+    let st = c.in-Err-Status.status in
+    let goes = subst (λ (q : Stop). GoesBy {T = Unit {0}} (Err q) (gone c.args.agent.now)
+    (gone c.end.new.self)) c.in-Err-Status.field-0-is c.in-Err-Status.ensures.goes.gone in
+    spares-then (spares-left (c.in-Err-Status.ensures.meets c.requires.here _ refl).leaves)
+    (spares-left (c.in-Ok-cancel.ensures.meets (still-here st _ _ c.requires.here goes) (g.V.Verifier.passes c.args.verifier.now)).leaves)
+
+pub returns-in-Err-clause-spares : goal.returns-in-Err-clause-spares
+returns-in-Err-clause-spares g c =
+    let st = c.in-Err-Status.status in
+    let goes = subst (λ (q : Stop). GoesBy {T = Unit {0}} (Err q) (gone c.args.agent.now)
+    (gone c.end.new.self)) c.in-Err-Status.field-0-is c.in-Err-Status.ensures.goes.gone in
+    spares-then (spares-left (c.in-Err-Status.ensures.meets c.requires.here _ refl).leaves)
+    (spares-left (c.in-Err.ensures.meets (still-here st _ _ c.requires.here goes) (g.V.Verifier.passes c.args.verifier.now)).leaves)
+
+pub returns-in-Err-Lost-clause-spares : goal.returns-in-Err-Lost-clause-spares
+returns-in-Err-Lost-clause-spares g c = spares-left (c.in-Err-Lost.ensures.meets c.requires.here _ refl).leaves
+
+pub returns-in-Err-Fault-clause-spares : goal.returns-in-Err-Fault-clause-spares
+returns-in-Err-Fault-clause-spares g c = spares-left (c.in-Err-Fault.ensures.meets c.requires.here _ refl).leaves

@@ -10,6 +10,7 @@ use Rattle.update_client.specs.Pieces.{KeepsBeside}
 use Rattle.update_client.proofs.Installed.{installed, uncancelled, interrupted, unread-is}
 use Rattle.agent_machine.proofs.Spending.{call-spent, spent-then}
 use Rattle.update_client.proofs.Keeping.{keeps-ended, keeps-then}
+use Rattle.update_client.proofs.Sparing.{spares-left, spares-then}
 use Rattle.update_client.proofs.Spending.{unstopped}
 use Rattle.update_client.specs.Takes.{ImagesStart, ImagesTake, OnUnread}
 use Rattle.update_client.proofs.Unsent.{end-of, end-read, images-no-end, other-read}
@@ -83,7 +84,8 @@ pub returns-in-Ok-clause-keeps : goal.returns-in-Ok-clause-keeps
 returns-in-Ok-clause-keeps g c =
     let name = c.args.payloads.now.name.now in
     keeps-then g.H.Files g.met.H.Files.at_rest g.met.H.Files.joins name c.in-Ok.ensures.keeps
-    (keeps-ended g.H.Files g.met.H.Files.at_rest g.met.H.Files.joins name c.finish.result c.send_images.new.agent c.finish.new.agent _ _ c.finish.ensures.stops c.finish.ensures.spent)
+    (keeps-ended g.H.Files g.met.H.Files.at_rest g.met.H.Files.joins name c.finish.result c.send_images.new.agent c.finish.new.agent _ _ c.finish.ensures.stops c.finish.ensures.spent
+    c.finish.ensures.spares)
 
 pub returns-else-not-is_unread-clause-keeps : goal.returns-else-not-is_unread-clause-keeps
 returns-else-not-is_unread-clause-keeps g c =
@@ -95,6 +97,7 @@ returns-else-not-is_unread-clause-keeps g c =
       stops = tt;
       spent = spent-then sent.spent (subst (λ (f : Result (Unit {0}) FlashStop). SpentBy f c.send_images.new.agent c.cancel-cancelled.new.self)
           (unstopped c.cancel-cancelled.result e.answers) (call-spent sent.spent.gone_is e.goes));
+      spares = spares-then sent.spares (spares-left (e.meets sent.spent.gone_is (g.V.Verifier.passes c.args.verifier.now)).leaves);
       buffer = sent.buffer;
       files = sent.files;
       reads = sent.reads;

@@ -1,4 +1,4 @@
-use Rattle.std.proofs.Common.{Bool, List, Ok, Err, ℕ, length, sym, ap, subst}
+use Rattle.std.proofs.Common.{Bool, true, List, Ok, Err, ℕ, length, sym, ap, subst}
 use Rattle.fwu_formats.specs.Package.{Entry}
 use Rattle.fwu_model.specs.Call as call
 use Rattle.fwu_model.specs.Reply as reply
@@ -11,6 +11,7 @@ use Rattle.update_client.proofs.WrittenPiece.{image-unopened, image-unwritten, i
 use Rattle.update_client.specs.Takes.{FirstTake, PayloadFrontTakes, ImageStarts, OnUnread}
 use Rattle.update_client.proofs.ImagesTaking.{image-takes}
 use Rattle.update_client.proofs.Keeping.{keeps-called, keeps-stopped, keeps-then}
+use Rattle.update_client.proofs.Sparing.{spares-left}
 use Rattle.update_client.proofs.Stopped.{handed-on}
 use Rattle.update_client.proofs.Unsent.{image-starts, never-unread, unread-then}
 use Rattle.update_client.proofs.images.send_image.Goals as goal
@@ -103,14 +104,15 @@ returns-in-Err-commit-clause-takes g c =
 
 pub returns-in-Err-clause-keeps : goal.returns-in-Err-clause-keeps
 returns-in-Err-clause-keeps g c = rw c.stopped.ensures (keeps-stopped g.H.Files g.met.H.Files.at_rest g.met.H.Files.joins c.args.payload.now.name.now (Unit {0}) c.in-Err.stop c.args.agent.now c.open.new.self _ _
-    c.requires.here c.in-Err.ensures.goes)
+    c.requires.here c.in-Err.ensures.goes (spares-left (c.in-Err.ensures.meets c.requires.here (λ _. true)).leaves))
 
 pub returns-in_err-write_image-clause-keeps : goal.returns-in_err-write_image-clause-keeps
 returns-in_err-write_image-clause-keeps g c =
     let name = c.args.payload.now.name.now in
     let done : Unit {0} = tt in
     rw (handed-on c.from_residual.result c.in_err-write_image.field-0.0 c.from_residual.ensures.1)
-    (keeps-then g.H.Files g.met.H.Files.at_rest g.met.H.Files.joins name (keeps-called g.H.Files g.met.H.Files.at_rest g.met.H.Files.joins name c.in-Ok.field-0 done c.args.agent.now c.open.new.self _ _ c.requires.here c.in-Ok.ensures.goes)
+    (keeps-then g.H.Files g.met.H.Files.at_rest g.met.H.Files.joins name (keeps-called g.H.Files g.met.H.Files.at_rest g.met.H.Files.joins name c.in-Ok.field-0 done c.args.agent.now c.open.new.self _ _ c.requires.here c.in-Ok.ensures.goes
+    (spares-left (c.in-Ok.ensures.meets c.requires.here (λ _. true)).leaves))
     c.in_err-write_image.ensures.keeps)
 
 pub returns-in-Ok-commit-clause-keeps : goal.returns-in-Ok-commit-clause-keeps
@@ -118,8 +120,10 @@ returns-in-Ok-commit-clause-keeps g c =
     let name = c.args.payload.now.name.now in
     let done : Unit {0} = tt in
     let wrote = c.in_ok-write_image.ensures.keeps in
-    keeps-then g.H.Files g.met.H.Files.at_rest g.met.H.Files.joins name (keeps-called g.H.Files g.met.H.Files.at_rest g.met.H.Files.joins name c.in-Ok.field-0 done c.args.agent.now c.open.new.self _ _ c.requires.here c.in-Ok.ensures.goes)
-    (keeps-then g.H.Files g.met.H.Files.at_rest g.met.H.Files.joins name wrote (keeps-called g.H.Files g.met.H.Files.at_rest g.met.H.Files.joins name done done c.write_image.new.agent c.commit.new.self _ _ wrote.spent.gone_is c.in-Ok-commit.ensures.goes))
+    keeps-then g.H.Files g.met.H.Files.at_rest g.met.H.Files.joins name (keeps-called g.H.Files g.met.H.Files.at_rest g.met.H.Files.joins name c.in-Ok.field-0 done c.args.agent.now c.open.new.self _ _ c.requires.here c.in-Ok.ensures.goes
+    (spares-left (c.in-Ok.ensures.meets c.requires.here (λ _. true)).leaves))
+    (keeps-then g.H.Files g.met.H.Files.at_rest g.met.H.Files.joins name wrote (keeps-called g.H.Files g.met.H.Files.at_rest g.met.H.Files.joins name done done c.write_image.new.agent c.commit.new.self _ _ wrote.spent.gone_is c.in-Ok-commit.ensures.goes
+    (spares-left (c.in-Ok-commit.ensures.meets wrote.spent.gone_is (λ _. true)).leaves)))
 
 pub returns-in-Err-commit-clause-keeps : goal.returns-in-Err-commit-clause-keeps
 returns-in-Err-commit-clause-keeps g c =
@@ -127,6 +131,7 @@ returns-in-Err-commit-clause-keeps g c =
     let done : Unit {0} = tt in
     let wrote = c.in_ok-write_image.ensures.keeps in
     rw c.stopped-in-Err-commit.ensures
-    (keeps-then g.H.Files g.met.H.Files.at_rest g.met.H.Files.joins name (keeps-called g.H.Files g.met.H.Files.at_rest g.met.H.Files.joins name c.in-Ok.field-0 done c.args.agent.now c.open.new.self _ _ c.requires.here c.in-Ok.ensures.goes)
+    (keeps-then g.H.Files g.met.H.Files.at_rest g.met.H.Files.joins name (keeps-called g.H.Files g.met.H.Files.at_rest g.met.H.Files.joins name c.in-Ok.field-0 done c.args.agent.now c.open.new.self _ _ c.requires.here c.in-Ok.ensures.goes
+    (spares-left (c.in-Ok.ensures.meets c.requires.here (λ _. true)).leaves))
     (keeps-then g.H.Files g.met.H.Files.at_rest g.met.H.Files.joins name wrote (keeps-stopped g.H.Files g.met.H.Files.at_rest g.met.H.Files.joins name (Unit {0}) c.in-Err-commit.stop c.write_image.new.agent c.commit.new.self _ _ wrote.spent.gone_is
-    c.in-Err-commit.ensures.goes)))
+    c.in-Err-commit.ensures.goes (spares-left (c.in-Err-commit.ensures.meets wrote.spent.gone_is (λ _. true)).leaves))))

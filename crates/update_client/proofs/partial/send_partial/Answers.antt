@@ -17,6 +17,7 @@ use Rattle.update_client.specs.declared.stops.Sent.{Sent}
 use Rattle.update_client.specs.declared.stops.SendStop.{SendStop}
 use Rattle.update_client.specs.Halts.{flash_of, unbegun_as}
 use Rattle.agent_machine.proofs.Spending.{call-spent, spent-then}
+use Rattle.update_client.proofs.Sparing.{begun-spares, gone-spares, spares-then}
 use Rattle.update_client.proofs.Spending.{goes-of, here-before, unbegun-spent}
 use Rattle.update_client.specs.Choosing.{refused_image}
 use Rattle.update_client.specs.Packages.{HoldsPayloads}
@@ -155,7 +156,7 @@ returns-clause-switched g c = λ here.
     switches _ _ (λ s x shows.
     let i = returns-clause-installs g c here s x shows in
     record { now = i.now; session = i.session; shows = i.shows; active = i.installed.active; previous = i.installed.previous })
-    (shows-some (fields agent) (agent.fitting here) g.D.Flash.tells (g.D.Flash.told agent.flash) (agent.knows here) (agent.some here))
+    (shows-some (fields agent) (agent.fitting here) g.D.Flash.tells (g.D.Flash.told agent.flash) {writes = g.D.Flash.writes agent.flash} (agent.knows here) (agent.some here))
 
 pub overflow_sub-copied : goal.overflow_sub-copied
 overflow_sub-copied g c =
@@ -188,6 +189,25 @@ returns-in_err-install-clause-goes g c =
     rw (handed-on c.from_residual-in_err-install.result c.in_err-install.field-0.0 c.from_residual-in_err-install.ensures.1)
     (λ here. goes-of (flash_of {T = Sent} (Err c.in_err-install.field-0.0)) (gone b) (device c.args.agent.now) (device b)
     (spent-then (call-spent here c.in-Ok.ensures.goes) c.in_err-install.ensures.keeps.spent))
+
+-- ---- which blocks it erases or programs
+
+pub returns-in-Err-clause-touches : goal.returns-in-Err-clause-touches
+returns-in-Err-clause-touches g c =
+    gone-spares {T = Unit {0}} (Err c.in-Err.stop) c.args.agent.now c.begin_partial.new.self c.in-Err.ensures.goes
+    (λ here. (c.in-Err.ensures.begins here (g.V.Verifier.passes c.args.verifier.now)).touches)
+
+pub returns-clause-touches : goal.returns-clause-touches
+returns-clause-touches g c =
+    let here = here-before _ _ c.in-Ok.ensures.goes.gone in
+    (spares-then (begun-spares (c.in-Ok.ensures.begins here (g.V.Verifier.passes c.args.verifier.now)))
+    c.in_ok-install.ensures.keeps.spares).touches
+
+pub returns-in_err-install-clause-touches : goal.returns-in_err-install-clause-touches
+returns-in_err-install-clause-touches g c =
+    let here = here-before _ _ c.in-Ok.ensures.goes.gone in
+    (spares-then (begun-spares (c.in-Ok.ensures.begins here (g.V.Verifier.passes c.args.verifier.now)))
+    c.in_err-install.ensures.keeps.spares).touches
 
 -- ---- which files it asks for
 
@@ -224,7 +244,7 @@ returns-clause-takes g c =
     let installs = subst (λ (l : List Entry). InstallTakes size l (moment c.begin_partial.new.self) begun arming) c.as_slice-2.ensures
     c.in_ok-install.ensures.takes.done in
     let two : Takes writes begun installs.sent = takes-some writes begun installs.sent
-    (shows-some (fields agent) (agent.fitting here) g.D.Flash.tells (g.D.Flash.told agent.flash) (agent.knows here) (agent.some here))
+    (shows-some (fields agent) (agent.fitting here) g.D.Flash.tells (g.D.Flash.told agent.flash) {writes = g.D.Flash.writes agent.flash} (agent.knows here) (agent.some here))
     (over-take (g.H.Files.contents c.args.files.now) c.args.name.now toc c.args.acceptance (g.V.Verifier.passes c.args.verifier.now) (moment agent) are.none known c.in_ok-entries.entries (moment c.begin_partial.new.self)
     (moment c.install.new.agent) are.entries_are begins
     (λ E layout. placed-in E L toc begins.bytes c.in_ok-entries.entries layout fit are) size begun installs.sent installs.images) in
@@ -281,7 +301,7 @@ returns-in_err-install-clause-takes g c =
       done = tt;
       unswitched = end-then (Unit {0}) Sent c.in_err-install.field-0.0 (images c.as_slice-2.result.now) (Takes all armed arming) (λ taken.
           takes-then copies writes all armed begun arming (omega arith) one (takes-some writes begun arming
-          (shows-some (fields agent) (agent.fitting here) g.D.Flash.tells (g.D.Flash.told agent.flash) (agent.knows here) (agent.some here))
+          (shows-some (fields agent) (agent.fitting here) g.D.Flash.tells (g.D.Flash.told agent.flash) {writes = g.D.Flash.writes agent.flash} (agent.knows here) (agent.some here))
           (over-take (g.H.Files.contents c.args.files.now) c.args.name.now toc c.args.acceptance (g.V.Verifier.passes c.args.verifier.now) (moment agent) are.none known c.in_ok-entries.entries (moment c.begin_partial.new.self)
           (moment c.install.new.agent) are.entries_are begins
           (λ E layout. placed-in E L toc begins.bytes c.in_ok-entries.entries layout fit are) size begun arming (subst images c.as_slice-2.ensures taken))))
@@ -298,7 +318,7 @@ returns-in_err-install-clause-takes g c =
               below = start.below;
               more = start.more;
               takes = takes-then copies writes (copies + writes) armed begun arming refl one (takes-some writes begun arming
-                  (shows-some (fields agent) (agent.fitting here) g.D.Flash.tells (g.D.Flash.told agent.flash) (agent.knows here) (agent.some here))
+                  (shows-some (fields agent) (agent.fitting here) g.D.Flash.tells (g.D.Flash.told agent.flash) {writes = g.D.Flash.writes agent.flash} (agent.knows here) (agent.some here))
                   (over-some (g.H.Files.contents c.args.files.now) c.args.name.now toc c.args.acceptance (g.V.Verifier.passes c.args.verifier.now) (moment agent) are.none known c.in_ok-entries.entries
                   (moment c.begin_partial.new.self) (moment c.install.new.agent) are.entries_are begins
                   (λ E layout. placed-in E L toc begins.bytes c.in_ok-entries.entries layout fit are) writes begun arming start.takes));

@@ -1,4 +1,4 @@
-use Rattle.std.proofs.Common.{◌≡◌, ◌++◌, ◌≤◌, ℕ, length, take, drop, Err, sym, ap, subst, ◌∙◌, arith, length-append, length-drop}
+use Rattle.std.proofs.Common.{◌≡◌, ◌++◌, ◌≤◌, ℕ, true, length, take, drop, Err, sym, ap, subst, ◌∙◌, arith, length-append, length-drop}
 use Rattle.std.proofs.lemmas.List.{length-take-le, take-append-le, take_all}
 use Rattle.fwu_formats.specs.Package.{Entry, payload}
 use Rattle.flash_core.specs.Counts.{lowered_by}
@@ -11,6 +11,7 @@ use Rattle.update_client.proofs.WrittenPiece.{piece-unread, piece-written, piece
 use Rattle.update_client.proofs.ImagesTaking.{piece-takes}
 use Rattle.agent_machine.proofs.Spending.{none-spent}
 use Rattle.update_client.proofs.Keeping.{keeps-called, keeps-read, keeps-stopped, keeps-then}
+use Rattle.update_client.proofs.Sparing.{spares-left, spares-none}
 use Rattle.update_client.specs.Takes.{OnUnread}
 use Rattle.update_client.proofs.Unsent.{never-unread}
 use Rattle.update_client.proofs.pieces.write_piece.Goals as goal
@@ -74,6 +75,7 @@ returns-in-Err-clause-keeps g c =
     record {
       stops = tt;
       spent = none-spent g.D.Flash (gone agent) (device agent) c.requires.here (agent.power c.requires.here);
+      spares = spares-none (moment agent);
       buffer = long;
       files = c.in-Err.ensures.reads;
       reads = record { later = cause.later; once = cause.once; failed = λ e. cause.failed };
@@ -91,7 +93,8 @@ returns-in-Ok-write_stream-clause-keeps g c =
     keeps-then g.H.Files g.met.H.Files.at_rest g.met.H.Files.joins name
     (keeps-read g.H.Files g.met.H.Files.at_rest g.met.H.Files.joins name agent c.args.files.now c.payload_at.new.files buf (out ++ drop n buf) c.requires.here (agent.power c.requires.here) long
     c.in-Ok.ensures.reads c.in-Ok.ensures.cause.done)
-    (keeps-called g.H.Files g.met.H.Files.at_rest g.met.H.Files.joins name tt n agent c.write_stream.new.self _ _ c.requires.here c.in-Ok-write_stream.ensures.goes)
+    (keeps-called g.H.Files g.met.H.Files.at_rest g.met.H.Files.joins name tt n agent c.write_stream.new.self _ _ c.requires.here c.in-Ok-write_stream.ensures.goes
+    (spares-left (c.in-Ok-write_stream.ensures.meets c.requires.here (λ _. true)).leaves))
 
 pub returns-in-Err-write_stream-clause-keeps : goal.returns-in-Err-write_stream-clause-keeps
 returns-in-Err-write_stream-clause-keeps g c =
@@ -105,7 +108,8 @@ returns-in-Err-write_stream-clause-keeps g c =
     rw c.stopped.ensures (keeps-then g.H.Files g.met.H.Files.at_rest g.met.H.Files.joins name
     (keeps-read g.H.Files g.met.H.Files.at_rest g.met.H.Files.joins name agent c.args.files.now c.payload_at.new.files buf (out ++ drop n buf) c.requires.here (agent.power c.requires.here) long
     c.in-Ok.ensures.reads c.in-Ok.ensures.cause.done)
-    (keeps-stopped g.H.Files g.met.H.Files.at_rest g.met.H.Files.joins name ℕ c.in-Err-write_stream.stop agent c.write_stream.new.self _ _ c.requires.here c.in-Err-write_stream.ensures.goes))
+    (keeps-stopped g.H.Files g.met.H.Files.at_rest g.met.H.Files.joins name ℕ c.in-Err-write_stream.stop agent c.write_stream.new.self _ _ c.requires.here c.in-Err-write_stream.ensures.goes
+    (spares-left (c.in-Err-write_stream.ensures.meets c.requires.here (λ _. true)).leaves)))
 
 -- ---- a read that failed
 

@@ -16,6 +16,7 @@ use Rattle.update_client.specs.Takes.{InstallTakes, writes_sent, ImagesStart, Im
 use Rattle.agent_machine.proofs.Showing.{shows-some}
 use Rattle.update_client.proofs.Chosen.{chosen_have}
 use Rattle.agent_machine.proofs.Spending.{call-spent, spent-then}
+use Rattle.update_client.proofs.Sparing.{gone-spares, spares-left, spares-then}
 use Rattle.update_client.proofs.Spending.{goes-of, here-before, unbegun-spent}
 use Rattle.agent_calls.proofs.Taking.{takes-begin, takes-some, takes-then}
 use Rattle.agent_calls.specs.Takes.{Takes, writes_to_begin}
@@ -89,7 +90,7 @@ returns-clause-switched g c = λ here.
     switches _ _ (λ s x shows.
     let i = returns-clause-installs g c here s x shows in
     record { now = i.now; session = i.session; shows = i.shows; active = i.installed.active; previous = i.installed.previous })
-    (shows-some (fields agent) (agent.fitting here) g.D.Flash.tells (g.D.Flash.told agent.flash) (agent.knows here) (agent.some here))
+    (shows-some (fields agent) (agent.fitting here) g.D.Flash.tells (g.D.Flash.told agent.flash) {writes = g.D.Flash.writes agent.flash} (agent.knows here) (agent.some here))
 
 -- ---- what it costs
 
@@ -112,6 +113,25 @@ returns-in_err-install-clause-goes g c =
     rw (handed-on c.from_residual-in_err-install.result c.in_err-install.field-0.0 c.from_residual-in_err-install.ensures.1)
     (λ here. goes-of (flash_of {T = Sent} (Err c.in_err-install.field-0.0)) (gone b) (device c.args.agent.now) (device b)
     (spent-then (call-spent here c.in-Ok.ensures.goes) c.in_err-install.ensures.keeps.spent))
+
+-- ---- which blocks it erases or programs
+
+pub returns-in-Err-clause-touches : goal.returns-in-Err-clause-touches
+returns-in-Err-clause-touches g c =
+    gone-spares {T = Unit {0}} (Err c.in-Err.stop) c.args.agent.now c.begin.new.self c.in-Err.ensures.goes
+    (λ here. (spares-left (c.in-Err.ensures.meets here (g.V.Verifier.passes c.args.verifier.now)).leaves).touches)
+
+pub returns-clause-touches : goal.returns-clause-touches
+returns-clause-touches g c =
+    let here = here-before _ _ c.in-Ok.ensures.goes.gone in
+    (spares-then (spares-left (c.in-Ok.ensures.meets here (g.V.Verifier.passes c.args.verifier.now)).leaves)
+    c.in_ok-install.ensures.keeps.spares).touches
+
+pub returns-in_err-install-clause-touches : goal.returns-in_err-install-clause-touches
+returns-in_err-install-clause-touches g c =
+    let here = here-before _ _ c.in-Ok.ensures.goes.gone in
+    (spares-then (spares-left (c.in-Ok.ensures.meets here (g.V.Verifier.passes c.args.verifier.now)).leaves)
+    c.in_err-install.ensures.keeps.spares).touches
 
 -- ---- which files it asks for
 
@@ -139,7 +159,7 @@ returns-clause-takes g c =
     let one : Takes begin armed begun = takes-begin (fields agent) _ armed begun c.in-Ok.ensures.spent (c.in-Ok.ensures.keeps tt)
     (λ is. ap (λ d. g.D.Flash.arming d) (c.in-Ok.ensures.still is)) in
     let two : Takes writes begun installs.sent = takes-some writes begun installs.sent
-    (shows-some (fields agent) (agent.fitting here) g.D.Flash.tells (g.D.Flash.told agent.flash) (agent.knows here) (agent.some here))
+    (shows-some (fields agent) (agent.fitting here) g.D.Flash.tells (g.D.Flash.told agent.flash) {writes = g.D.Flash.writes agent.flash} (agent.knows here) (agent.some here))
     (sends-take (g.H.Files.contents c.args.files.now) c.args.name.now c.args.toc.now c.args.acceptance (g.V.Verifier.passes c.args.verifier.now) (moment agent)
     c.in_ok-entries.entries (moment c.begin.new.self) (moment c.install.new.agent) (agent.fitting here).layout chosen (c.in-Ok.ensures.meets here)
     size begun installs.sent installs.images) in
@@ -185,7 +205,7 @@ returns-in_err-install-clause-takes g c =
       done = tt;
       unswitched = end-then (Unit {0}) Sent c.in_err-install.field-0.0 (images c.as_slice.result.now) (Takes (begin + writes) armed arming) (λ taken.
           takes-then begin writes (begin + writes) armed begun arming refl one (takes-some writes begun arming
-          (shows-some (fields agent) (agent.fitting here) g.D.Flash.tells (g.D.Flash.told agent.flash) (agent.knows here) (agent.some here))
+          (shows-some (fields agent) (agent.fitting here) g.D.Flash.tells (g.D.Flash.told agent.flash) {writes = g.D.Flash.writes agent.flash} (agent.knows here) (agent.some here))
           (sends-take (g.H.Files.contents c.args.files.now) c.args.name.now c.args.toc.now c.args.acceptance (g.V.Verifier.passes c.args.verifier.now) (moment agent)
           c.in_ok-entries.entries (moment c.begin.new.self) (moment c.install.new.agent) (agent.fitting here).layout chosen (c.in-Ok.ensures.meets here)
           size begun arming (subst images c.as_slice.ensures taken)))) c.in_err-install.ensures.takes.unswitched;
@@ -201,7 +221,7 @@ returns-in_err-install-clause-takes g c =
               below = start.below;
               more = start.more;
               takes = takes-then begin writes (begin + writes) armed begun arming refl one (takes-some writes begun arming
-                  (shows-some (fields agent) (agent.fitting here) g.D.Flash.tells (g.D.Flash.told agent.flash) (agent.knows here) (agent.some here))
+                  (shows-some (fields agent) (agent.fitting here) g.D.Flash.tells (g.D.Flash.told agent.flash) {writes = g.D.Flash.writes agent.flash} (agent.knows here) (agent.some here))
                   (sends-some (g.H.Files.contents c.args.files.now) c.args.name.now c.args.toc.now c.args.acceptance (g.V.Verifier.passes c.args.verifier.now) (moment agent)
                   c.in_ok-entries.entries (moment c.begin.new.self) (moment c.install.new.agent) (agent.fitting here).layout chosen (c.in-Ok.ensures.meets here)
                   writes begun arming start.takes));
