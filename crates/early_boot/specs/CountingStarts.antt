@@ -104,8 +104,8 @@ TakesCounting counting.Nothing armed arming = arming ≡ armed
 TakesCounting counting.Trial armed arming = arming ≡ lowered armed
 TakesCounting counting.Raise armed arming = arming ≡ lowered (lowered armed)
 
--- on every device, where the blocks end that a start, counted as this, and the repair before it may erase or program
--- The replicas lie in blocks 1 and 2, a mark in block 3, and a record in block 5 or 6.
+-- On every device, where the blocks end that a start and the repair before it may erase or program: the replicas lie in blocks 1
+-- and 2, a mark in block 3, a record in block 5 or 6.
 abbrev pub touched_end : Counting → ℕ
 touched_end counting.Nothing = block_bytes * 3
 touched_end counting.Trial = block_bytes * 4

@@ -1,6 +1,6 @@
 -- A boot of a flash, from how it ends: a step of a run, what no loss harms, and what the reply says of the bytes.
 use Rattle.std.proofs.Common.{◌≡◌, ◌≢◌, Contains, ℕ, ◌+◌, ◌≤◌, ◌==◌, Bool, true, false, List, [], ◌∷◌, ext_get_or, Option, Some, None, refl, sym, ap, subst, ◌∙◌, inl, inr, arith, IsTrue, IsFalse}
-use Rattle.std.specs.Prelude.{◌⊎◌, Result, Ok, is_some, is_ok}
+use Rattle.std.specs.Prelude.{◌⊎◌, Result, Ok, is_ok}
 use Rattle.std.specs.List.{list_any}
 use Rattle.flash_core.specs.declared.flash.Counts.{Counts}
 use Rattle.std.specs.Prelude.{IsErrOf}
@@ -9,7 +9,7 @@ use Rattle.flash_core.specs.declared.flash.FlashStop.TheVariants as flash_stop
 use Rattle.flash_core.specs.declared.flash.Arming.{Arming}
 use Rattle.flash_core.specs.Counts.{ReachesNone, Rose, Spends, StaysUnarmed, all_stops, stops_in}
 use Rattle.flash_core.specs.Told.{Told, NothingDirty, fresh, is_unsure}
-use Rattle.flash_core.specs.May.{Guards, Leaves, May, NoChance, as_now}
+use Rattle.flash_core.specs.May.{Guards, Leaves, May, NoChance}
 use Rattle.host_io.specs.Contents.{Directory}
 use Rattle.fwu_formats.specs.declared.kinds.LayoutFault.{LayoutFault}
 use Rattle.fwu_formats.specs.Layout.{Layout}
@@ -20,22 +20,24 @@ use Rattle.fwu_model.specs.Call as call
 use Rattle.fwu_model.specs.Reply.{Reply, Turn}
 use Rattle.fwu_model.specs.Reply as reply
 use Rattle.fwu_model.specs.Answer.{Answer, answer}
-use Rattle.fwu_model.specs.Run.{Condition, Step, Answered, Stopped, StoppedEarly, ends_run, is_stop, moved_on, prefixes, stopped_moves}
+use Rattle.fwu_model.specs.Run.{Condition, Step, Answered, Stopped, StoppedEarly, is_stop, moved_on, prefixes, stopped_moves}
 use Rattle.fwu_model.specs.Headline.{LeavesOneOf}
 use Rattle.fwu_model.specs.Calm.{IsCalm, IsAtRest}
 use Rattle.fwu_model.proofs.Frame.{calm-again, calm-stays}
 use Rattle.fwu_model.proofs.Runs.{only}
 use Rattle.moves.specs.Moved.{GuardedBy}
 use Rattle.agent_machine.specs.Fields.{Fields}
-use Rattle.agent_machine.specs.Moment as agent
 use Rattle.early_boot.specs.Started.{Started, started_session}
 use Rattle.early_boot.specs.Ends.{Ended, booted, bad_layout, no_metadata, no_bank, lost, failed, stop_of}
-use Rattle.early_boot.specs.EndsBy.{BootEnds, EndsByBytes, EndsByMachine, IdleEnd, StartsReady, StopsWith, StartedBy, StartsPermitted, TakesBoot, TakesByBytes}
-use Rattle.script_turns.specs.Powered.{TurnMoment, IsAt, IsSafe, kept_at}
+use Rattle.early_boot.specs.EndsBy.{BootEnds, EndsByBytes, EndsByMachine, IdleEnd, StartsReady, StopsWith, StartedBy, StartsPermitted, TakesBoot, TakesByBytes, TouchesBoot}
+use Rattle.script_turns.specs.Powered.{TurnMoment, IsAt, IsSafe, ShowsAt}
 use Rattle.script_turns.specs.Booted.{BootsFrom}
 use Rattle.script_turns.specs.Replies.{LeavesOn, power_after}
 use Rattle.script_turns.specs.Takes.{BootTakes, StaysFree, TakesBy, stop_told}
-use Rattle.script_turns.specs.Turning.{NoneFalls, Turns, PowersOn, GetsPower, IsOnAfter, ShowsStarted, boot_turn, reply_of_end}
+use Rattle.script_turns.specs.Touches.{TouchesByBoot}
+use Rattle.script_turns.specs.Turning.{NoneFalls, Turns, GetsPower, IsOnAfter, ShowsStarted, boot_turn, reply_of_end}
+use Rattle.script_turns.proofs.Shows.{as-told}
+use Rattle.script_turns.proofs.Touching.{touches-booted}
 
 -- ---- the guard
 
@@ -70,9 +72,6 @@ among E states s t found leaves image may =
 same-layout : (E : Setting) (b : Started) (seen : Result Layout LayoutFault) → seen ≡ Ok E.layout → seen ≡ Ok b.layout → E.layout ≡ b.layout
 same-layout E b seen one other = cc
 
-as-told : (tells : Bool) (f : Fields) (t : Told) (s : State) (x : Session) → IsTrue tells → agent.Shows (kept_at tells f t) s x → agent.Shows (kept_at true f t) s x
-as-told tells f t s x told shows = subst (λ (b : Bool). agent.Shows (kept_at b f t) s x) told shows
-
 -- The flash shows the state s, one of the candidates, and the session boots as if it were off.
 module _ (tells : Bool) (told : IsTrue tells) (E : Setting) (c : Condition) (s : State) (mid new : Told) (calm : IsCalm E mid s) (found : Contains c.candidates s)
     (same : answer E s c.session call.Boot ≡ answer E s Off call.Boot) (guards : Guards 1 7 new) where
@@ -81,7 +80,7 @@ module _ (tells : Bool) (told : IsTrue tells) (E : Setting) (c : Condition) (s :
   step-booted passes b n f ready by starts shows =
       let layout : E.layout ≡ f.layout = same-layout E b _ calm.sound.layout by.chose.has_layout ∙ sym starts.layout in
       let then : State = after s (answer E s Off call.Boot).moves in
-      let shown : agent.Shows (kept_at true f new) then (started_session b) =
+      let shown : ShowsAt true f new then (started_session b) =
       as-told tells f new then (started_session b) told (shows then (record { layout = ready.ready.calm.sound.layout ∙ ap Ok layout; shows = ready.ready.calm.shows })) in (
         moved_on c call.Boot (after s (answer E s c.session call.Boot).moves ∷ []) (answer E s c.session call.Boot).next,
         Answered refl refl (record {
@@ -97,7 +96,7 @@ module _ (tells : Bool) (told : IsTrue tells) (E : Setting) (c : Condition) (s :
             state = then;
             one = ap (λ (a : Answer). after s a.moves ∷ []) same;
             layout = layout;
-            shows = subst (λ (x : Session). agent.Shows (kept_at true f new) then x) (ready.next_is ∙ sym (ap (λ (a : Answer). a.next) same)) shown;
+            shows = subst (λ (x : Session). ShowsAt true f new then x) (ready.next_is ∙ sym (ap (λ (a : Answer). a.next) same)) shown;
             ready = ready.ready;
           };
         },
@@ -255,6 +254,10 @@ armed-had : (tells : Bool) (on : Option Fields) (old mid : TurnMoment) → GetsP
 armed-had tells None old mid has = has.armed
 armed-had tells (Some f) old mid has = has.armed
 
+writes-had : (tells : Bool) (on : Option Fields) (old mid : TurnMoment) → GetsPower tells on old mid → mid.writes ≡ old.writes
+writes-had tells None old mid has = has.writes
+writes-had tells (Some f) old mid has = has.writes
+
 reached-had : (tells : Bool) (on : Option Fields) (old mid : TurnMoment) → GetsPower tells on old mid → mid.counts.reached ≡ old.counts.reached
 reached-had tells None old mid has = has.idles.reached
 reached-had tells (Some f) old mid has = ap (λ (c : Counts). c.reached) has.counts
@@ -355,6 +358,8 @@ pub record EndsTurn (passes : List ℕ → Bool) (tells : Bool) (e : Ended) (mid
   pub permitted : StartsPermitted passes e
   pub once : IsTrue tells → TakesByBytes mid.told.now e mid.armed new.armed
   pub unarmed : StaysUnarmed (stop_of e) mid.armed new.armed mid.counts new.counts
+  pub touches : TouchesByBoot mid.writes new.writes
+  pub touches_fewer : TouchesBoot e mid.writes new.writes
   pub ends : IsTrue tells → BootEnds passes mid.told e new.told
 
 module _ (passes : List ℕ → Bool) (tells : Bool) (files : Option Directory) (faults : ℕ) (e : Ended) (old mid new : TurnMoment) (power : mid.power ≡ true)
@@ -387,6 +392,7 @@ module _ (passes : List ℕ → Bool) (tells : Bool) (files : Option Directory) 
             on_is = ended.on_is;
             idle = ended.idle;
             spent = ended.spent;
+            touches = ended.touches_fewer;
             started = ended.started;
             permitted = ended.permitted;
             once = ended.once;
@@ -394,6 +400,8 @@ module _ (passes : List ℕ → Bool) (tells : Bool) (files : Option Directory) 
           },
         );
         takes = record { by_call = takes old.on; unread = λ is. absurd (reads-none e is) };
+        touches = touches-booted old.on old.writes new.writes
+            (subst (λ (w : ℕ → ℕ). TouchesByBoot w new.writes) (writes-had tells on old mid has) ended.touches);
         power = ended.power_is ∙ power-after-end e old.power;
         guard = λ told. guard told ∙ guard-had tells on old mid told has;
         step = λ told E c passes_are files_are is none. step told E c passes_are (subst (λ (o : Option Fields). IsAt E c o old.told) on_is is) none;

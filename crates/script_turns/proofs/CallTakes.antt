@@ -22,25 +22,25 @@ use Rattle.agent_machine.specs.Meets.{IsDone, IsRefused, flash_result}
 use Rattle.agent_machine.specs.Stored.{TakesStore}
 use Rattle.agent_calls.specs.declared.agent.Agent.{Agent}
 use Rattle.agent_calls.specs.Shown.{device, fields}
-use Rattle.script_turns.specs.Powered.{TurnMoment, SameDevice, at}
+use Rattle.script_turns.specs.Powered.{TurnMoment, SameDevice, moment_on}
 use Rattle.script_turns.specs.Takes.{AcceptsBy, BeginsBy, BeginsOver, CommitsBy, IsStoredBy, IsSwitchedBy, ReadTakes, WritesBy}
 use Rattle.script_turns.specs.Calls.{on_by, reply_by}
 
 -- the device of an agent, with what is kept
 abbrev pub with : {D : Type 0} {F : Ghosts D} → Option Fields → Agent D F → TurnMoment
-with {F = F} on a = at on (F.told (device a)) (F.counts (device a)) (F.arming (device a)) (F.on (device a))
+with {F = F} on a = moment_on F on (device a)
 
 -- the reply of a call whose answer tells nothing but that it was done
 abbrev pub done_reply : Result (Unit {0}) Stop → Reply
 done_reply result = reply_by (λ value. reply.Success) result
 
-pub stores-by : (result : Result (Unit {0}) Stop) (f g : Fields) (old new : TurnMoment) → OnOk result (TakesStore f.meta g.meta old.armed new.armed) → (IsRefused result → new.armed ≡ old.armed)
+pub stores-by : (result : Result (Unit {0}) Stop) (f g : Fields) (old new : TurnMoment) → OnOk result (TakesStore f.meta g.meta old.armed new.armed) → (IsRefused result → new.armed ≡ old.armed) → (IsRefused result → new.writes ≡ old.writes)
     → IsStoredBy (done_reply result) f (on_by result g) old new
-stores-by (Ok value) f g old new spent refused = spent
-stores-by (Err (stop.Status st)) f g old new spent refused = refused tt
-stores-by (Err stop.Lost) f g old new spent refused = tt
-stores-by (Err stop.Fault) f g old new spent refused = tt
-stores-by (Err stop.Gone) f g old new spent refused = tt
+stores-by (Ok value) f g old new spent refused still = spent
+stores-by (Err (stop.Status st)) f g old new spent refused still = (refused tt, still tt)
+stores-by (Err stop.Lost) f g old new spent refused still = tt
+stores-by (Err stop.Fault) f g old new spent refused still = tt
+stores-by (Err stop.Gone) f g old new spent refused still = tt
 
 pub accepts-by : (result : Result (Unit {0}) Stop) (f g : Fields) (old new : TurnMoment) → OnOk result (TakesStore f.meta g.meta old.armed new.armed) → (IsRefused result → SameDevice old new)
     → AcceptsBy (done_reply result) f (on_by result g) old new
@@ -106,19 +106,19 @@ switches-by (Err stop.Gone) old new spent refused = tt
 abbrev pub got : List ℕ → ℕ × ℕ → Reply
 got out value = reply.Got value.1 (take value.0 out)
 
-pub reads-by : (result : Result (ℕ × ℕ) Stop) (out : List ℕ) (old new : TurnMoment) → new.armed ≡ arming_kept (flash_result result) old.armed
+pub reads-by : (result : Result (ℕ × ℕ) Stop) (out : List ℕ) (old new : TurnMoment) → new.writes ≡ old.writes → new.armed ≡ arming_kept (flash_result result) old.armed
     → ReachesNone (flash_result result) old.counts new.counts → ReadTakes (reply_by (got out) result) old new
-reads-by (Ok value) out old new armed reached = record { armed = armed; reached = reached }
-reads-by (Err (stop.Status st)) out old new armed reached = record { armed = armed; reached = reached }
-reads-by (Err stop.Lost) out old new armed reached = record { armed = armed; reached = reached }
-reads-by (Err stop.Fault) out old new armed reached = record { armed = armed; reached = reached }
-reads-by (Err stop.Gone) out old new armed reached = record { armed = armed; reached = reached }
+reads-by (Ok value) out old new still armed reached = record { writes = still; armed = armed; reached = reached }
+reads-by (Err (stop.Status st)) out old new still armed reached = record { writes = still; armed = armed; reached = reached }
+reads-by (Err stop.Lost) out old new still armed reached = record { writes = still; armed = armed; reached = reached }
+reads-by (Err stop.Fault) out old new still armed reached = record { writes = still; armed = armed; reached = reached }
+reads-by (Err stop.Gone) out old new still armed reached = record { writes = still; armed = armed; reached = reached }
 
 -- ---- an agent and its call
 
 module _ {D : Type 0} {F : Ghosts D} (a b : Agent D F) where
   pub same-device : (on now : Option Fields) → device b ≡ device a → SameDevice (with on a) (with now b)
-  same-device on now same = record { told = ap F.told same; counts = ap F.counts same; armed = ap F.arming same; power = ap F.on same }
+  same-device on now same = record { told = ap F.told same; writes = ap F.writes same; counts = ap F.counts same; armed = ap F.arming same; power = ap F.on same }
 
   module _ (result : Result (Unit {0}) Stop) where
     pub takes-accept : OnOk result (TakesStore (fields a).meta (fields b).meta (F.arming (device a)) (F.arming (device b))) → (IsRefused result → b ≡ a)

@@ -34,8 +34,8 @@ use Rattle.fwu_model.specs.Headline.{IsCut, LeavesOneOf}
 use Rattle.agent_machine.specs.declared.stop.Stop.{Stop}
 use Rattle.agent_machine.specs.declared.stop.Stop.TheVariants as stop
 use Rattle.agent_machine.specs.Fields.{Fields, total_of}
-use Rattle.agent_machine.specs.Beside.{KeepsSpared, KeepsSparedByAll}
-use Rattle.agent_machine.proofs.Beside.{spared-once}
+use Rattle.agent_machine.specs.Beside.{KeepsSpared, KeepsSparedByAll, SparesBlocks, SparesBlocksByAll}
+use Rattle.agent_machine.proofs.Beside.{blocks-once, spared-once}
 use Rattle.agent_machine.specs.Moment as agent
 use Rattle.agent_machine.specs.Meets.{Answers, IsDone, IsSettingOf, LeavesFlash, ShowsNext, Stays, flash_result}
 use Rattle.script_turns.specs.Powered.{TurnMoment, IsAt, IsSafe, at, kept_at}
@@ -46,6 +46,8 @@ use Rattle.script_turns.specs.Calls.{is_agents, is_composed, on_by, reply_by}
 use Rattle.script_turns.specs.Deciding.{DecidesAfter, IsMetaAfter}
 use Rattle.script_turns.specs.Turning.{Makes, Turns, quiet_turn}
 use Rattle.script_turns.proofs.Quiets.{lacks-none}
+use Rattle.script_turns.proofs.Shows.{as-told, shows-as, told-shows}
+use Rattle.script_turns.proofs.Touching.{touches-called}
 
 -- ---- the calls of the agent
 
@@ -76,7 +78,7 @@ never-cuts (call.Cut n k) r armed agents = absurd cc
 never-cuts other r armed agents = tt
 
 replies-of : (passes : List ℕ → Bool) (tells : Bool) (files : Option Directory) (c : Call) (f : Fields) (old new : TurnMoment) (r : Reply) → IsTrue (is_agents c) → old.on ≡ Some f
-    → CallSays passes tells c old.on old.told r new.on new.told → Replies passes tells files c old (quiet_turn c r) new
+    → CallSays passes tells c old.on old r new.on new → Replies passes tells files c old (quiet_turn c r) new
 replies-of passes tells files (call.Send name request) f old new r agents on says = absurd cc
 replies-of passes tells files (call.SendPartial name request) f old new r agents on says = absurd cc
 replies-of passes tells files call.Boot f old new r agents on says = absurd cc
@@ -106,8 +108,8 @@ quiet : (c : Call) → IsFalse (is_boot c) → MatchBool (is_boot c) (IsSome {T 
 quiet c never = subst (λ (b : Bool). MatchBool b (IsSome {T = Numbers} None) (IsNone {T = Numbers} None)) (sym never) refl
 
 -- an agent that is on has a session
-asks : (c : Call) (tells : Bool) (f : Fields) (t : Told) (s : State) (x : Session) → IsFalse (is_boot c) → agent.Shows (kept_at tells f t) s x → IsTrue (asks_state x c)
-asks c tells f t s x never shows =
+asks : (c : Call) (tells : Bool) (f : Fields) (t : Told) (w : ℕ → ℕ) (s : State) (x : Session) → IsFalse (is_boot c) → agent.Shows (kept_at tells f t w) s x → IsTrue (asks_state x c)
+asks c tells f t w s x never shows =
     subst (λ (b : Bool). IsTrue (b || not (is_off x))) (sym never)
     (subst (λ (y : Session). IsTrue (not (is_off y))) (sym shows.means) refl)
 
@@ -116,12 +118,6 @@ same-guards old new same guards b low high = subst (λ (g : List ℕ). IsTrue (l
 
 among : (states : List State) (s : State) → states ≡ s ∷ [] → Contains states s
 among states s one = subst (λ (xs : List State). Contains xs s) (sym one) (0, omega arith, refl)
-
-told-shows : (tells : Bool) (f : Fields) (t : Told) (s : State) (x : Session) → IsTrue tells → agent.Shows (kept_at true f t) s x → agent.Shows (kept_at tells f t) s x
-told-shows tells f t s x test shows = subst (λ (b : Bool). agent.Shows (kept_at b f t) s x) (sym test) shows
-
-shows-told : (tells : Bool) (f : Fields) (t : Told) (s : State) (x : Session) → IsTrue tells → agent.Shows (kept_at tells f t) s x → agent.Shows (kept_at true f t) s x
-shows-told tells f t s x test shows = subst (λ (b : Bool). agent.Shows (kept_at b f t) s x) test shows
 
 -- power stays on but at a stop
 stays-on : (power : Bool) (r : Reply) → power ≡ true → IsFalse (is_stop r) → power_after power r ≡ true
@@ -146,6 +142,8 @@ record Left (result : Result (Unit {0}) FlashStop) (passes : List ℕ → Bool) 
       → Does result E s (answer E s x c).moves new.told
   guarded : IsTrue old.tells → IsAtRest old.told → GuardedBy result new.told
   keeps : IsTrue old.tells → KeepsSparedByAll old.fields old.told new.told
+  touches : SparesBlocksByAll old.fields old.writes new.writes
+  touches_one : IsFalse (is_composed c) → SparesBlocks old.fields old.writes new.writes
   spares : IsFalse (is_composed c) → IsTrue old.tells → KeepsSpared old.fields old.told new.told
   decides : IsFalse (is_composed c) → IsTrue old.tells → DecidesAfter c old.fields old.told new.told
   stays : Stays old new
@@ -156,6 +154,8 @@ left-by {old = old} {new = new} after leaves = record {
   does = leaves.does;
   guarded = leaves.guarded;
   keeps = λ test. spared-once old.fields old.told new.told (leaves.keeps test);
+  touches = blocks-once old.fields leaves.touches;
+  touches_one = λ whole. leaves.touches;
   spares = λ whole. leaves.keeps;
   decides = λ whole test. record { meta = new.fields.meta; is_after = after; decides = leaves.decides test };
   stays = leaves.stays;
@@ -163,12 +163,12 @@ left-by {old = old} {new = new} after leaves = record {
 
 -- ---- a call that was answered or refused
 
-module _ (passes : List ℕ → Bool) (tells : Bool) (files : Option Directory) (faults : ℕ) (c : Call) (r : Reply) (f g : Fields) (told now : Told) (was are : Counts) (armed after_armed : Option Arming) (power after_power : Bool)
+module _ (passes : List ℕ → Bool) (tells : Bool) (files : Option Directory) (faults : ℕ) (c : Call) (r : Reply) (f g : Fields) (told now : Told) (w v : ℕ → ℕ) (was are : Counts) (armed after_armed : Option Arming) (power after_power : Bool)
     (agents : IsTrue (is_agents c)) (none : IsFalse (is_stop r)) (power_was : power ≡ true) (power_is : after_power ≡ true)
-    (answers : IsTrue tells → (E : Setting) (s : State) (x : Session) → IsSettingOf f passes E → agent.Shows (kept_at tells f told) s x
-    → (r ≡ (answer E s x c).reply) × ShowsNext E s x c (kept_at tells g now))
-    (says : AnswersTo passes c r (kept_at tells f told) (kept_at tells g now))
-    (leaves : Left (Ok tt) passes c (kept_at tells f told) (kept_at tells g now)) where
+    (answers : IsTrue tells → (E : Setting) (s : State) (x : Session) → IsSettingOf f passes E → agent.Shows (kept_at tells f told w) s x
+    → (r ≡ (answer E s x c).reply) × ShowsNext E s x c (kept_at tells g now v))
+    (says : AnswersTo passes c r (kept_at tells f told w) (kept_at tells g now v))
+    (leaves : Left (Ok tt) passes c (kept_at tells f told w) (kept_at tells g now v)) where
   answered-step : IsTrue tells → (E : Setting) (from : Condition) → E.passes ≡ passes → IsAt E from (Some f) told
       → (next : Condition) × Step E from (quiet_turn c r) next × IsAt E next (Some g) now
   answered-step test E from passes_are is =
@@ -176,11 +176,11 @@ module _ (passes : List ℕ → Bool) (tells : Bool) (files : Option Directory) 
       let s = on.state in
       let x = from.session in
       let setting : IsSettingOf f passes E = record { layout = on.layout; verifier = passes_are } in
-      let shows = told-shows tells f told s x test on.shows in
+      let shows = told-shows tells f told s x w test on.shows in
       let exact = answers test E s x setting shows in
       let does = leaves.does E s x setting shows test on.ready in (
         moved_on from c (after s (answer E s x c).moves ∷ []) (answer E s x c).next,
-        Answered none (asks c tells f told s x (never-boots c agents) shows) (record {
+        Answered none (asks c tells f told w s x (never-boots c agents) shows) (record {
           state = s;
           found = record { candidate = among from.candidates s on.one; numbers = tt };
           numbers = quiet c (never-boots c agents);
@@ -193,14 +193,14 @@ module _ (passes : List ℕ → Bool) (tells : Bool) (files : Option Directory) 
             state = after s (answer E s x c).moves;
             one = refl;
             layout = on.layout ∙ sym leaves.stays.layout;
-            shows = shows-told tells g now _ _ test exact.1;
+            shows = as-told tells g now _ _ test (shows-as tells g now _ _ v exact.1);
             ready = does.all;
           };
         },
       )
 
-  turns-answered : Spends {T = Unit {0}} (Ok tt) was are → StaysUnarmed {T = Unit {0}} (Ok tt) armed after_armed was are → TakesOn files c f (at (Some f) told was armed power) r (at (Some g) now are after_armed after_power)
-      → Turns passes tells files c (quiet_turn c r) (at (Some f) told was armed power) (at (Some g) now are after_armed after_power) faults faults
+  turns-answered : Spends {T = Unit {0}} (Ok tt) was are → StaysUnarmed {T = Unit {0}} (Ok tt) armed after_armed was are → TakesOn files c f (at (Some f) told w was armed power) r (at (Some g) now v are after_armed after_power)
+      → Turns passes tells files c (quiet_turn c r) (at (Some f) told w was armed power) (at (Some g) now v are after_armed after_power) faults faults
   turns-answered costs free takes = record {
     call_is = refl;
     unnumbered = λ no. refl;
@@ -218,6 +218,7 @@ module _ (passes : List ℕ → Bool) (tells : Bool) (files : Option Directory) 
     reads_none = λ sends. refl;
     replies = replies-of passes tells files c f _ _ r agents refl says;
     takes = record { by_call = takes; unread = λ e. absurd (no-stop r reply.ReadFault none refl e) };
+    touches = touches-called c f w v agents leaves.touches leaves.touches_one;
     power = power_is ∙ sym (stays-on power r power_was none);
     guard = λ test. leaves.stays.guard test;
     step = λ test E from passes_are files_are is chance. answered-step test E from passes_are is;
@@ -272,9 +273,9 @@ once-by : (why : FlashStop) (was are : Counts) → Spends {T = Unit {0}} (Err wh
 once-by flash_stop.Lost was are costs = costs.once
 once-by flash_stop.Failed was are costs = costs.once
 
-module _ (passes : List ℕ → Bool) (tells : Bool) (files : Option Directory) (faults : ℕ) (c : Call) (why : FlashStop) (f g : Fields) (told now : Told) (was are : Counts) (armed after_armed : Option Arming) (power after_power : Bool)
+module _ (passes : List ℕ → Bool) (tells : Bool) (files : Option Directory) (faults : ℕ) (c : Call) (why : FlashStop) (f g : Fields) (told now : Told) (w v : ℕ → ℕ) (was are : Counts) (armed after_armed : Option Arming) (power after_power : Bool)
     (agents : IsTrue (is_agents c)) (power_was : power ≡ true) (power_is : after_power ≡ false)
-    (leaves : Left (Err why) passes c (kept_at tells f told) (kept_at tells g now)) where
+    (leaves : Left (Err why) passes c (kept_at tells f told w) (kept_at tells g now v)) where
   stopped-step : IsTrue tells → (E : Setting) (from : Condition) → E.passes ≡ passes → IsAt E from (Some f) told
       → (next : Condition) × Step E from (quiet_turn c (stopped_reply why)) next × IsAt E next None now
   stopped-step test E from passes_are is =
@@ -282,10 +283,10 @@ module _ (passes : List ℕ → Bool) (tells : Bool) (files : Option Directory) 
       let s = on.state in
       let x = from.session in
       let setting : IsSettingOf f passes E = record { layout = on.layout; verifier = passes_are } in
-      let shows = told-shows tells f told s x test on.shows in
+      let shows = told-shows tells f told s x w test on.shows in
       let does = leaves.does E s x setting shows test on.ready in (
         moved_on from c (prefixes s (stopped_moves E s x c (stopped_reply why))) Off,
-        Stopped (is-stop why) (asks c tells f told s x (never-boots c agents) shows) (record {
+        Stopped (is-stop why) (asks c tells f told w s x (never-boots c agents) shows) (record {
           state = s;
           found = record { candidate = among from.candidates s on.one; numbers = tt };
           numbers = quiet c (never-boots c agents);
@@ -299,8 +300,8 @@ module _ (passes : List ℕ → Bool) (tells : Bool) (files : Option Directory) 
       )
 
   turns-stopped : Spends {T = Unit {0}} (Err why) was are → StaysUnarmed {T = Unit {0}} (Err why) armed after_armed was are
-      → TakesOn files c f (at (Some f) told was armed power) (stopped_reply why) (at None now are after_armed after_power)
-      → Turns passes tells files c (quiet_turn c (stopped_reply why)) (at (Some f) told was armed power) (at None now are after_armed after_power) faults faults
+      → TakesOn files c f (at (Some f) told w was armed power) (stopped_reply why) (at None now v are after_armed after_power)
+      → Turns passes tells files c (quiet_turn c (stopped_reply why)) (at (Some f) told w was armed power) (at None now v are after_armed after_power) faults faults
   turns-stopped costs free takes = record {
     call_is = refl;
     unnumbered = λ no. refl;
@@ -318,6 +319,7 @@ module _ (passes : List ℕ → Bool) (tells : Bool) (files : Option Directory) 
     reads_none = λ sends. refl;
     replies = replies-of passes tells files c f _ _ (stopped_reply why) agents refl (flash-stops why);
     takes = record { by_call = takes; unread = λ e. absurd (reads-none why e) };
+    touches = touches-called c f w v agents leaves.touches leaves.touches_one;
     power = power_is ∙ sym (takes-power why power);
     guard = λ test. leaves.stays.guard test;
     step = λ test E from passes_are files_are is chance. stopped-step test E from passes_are is;
@@ -356,38 +358,38 @@ refused-reply : (tells : Bool) (c : Call) (q : Reply) (st : Status) → q ≡ re
 refused-reply tells (call.Read handle room) q st is = (λ test. is, is)
 refused-reply tells other q st is = is
 
-module _ {T : Type 0} (says : T → Reply) (passes : List ℕ → Bool) (tells : Bool) (files : Option Directory) (faults : ℕ) (c : Call) (f g : Fields) (told now : Told) (was are : Counts) (armed after_armed : Option Arming) (power after_power : Bool)
+module _ {T : Type 0} (says : T → Reply) (passes : List ℕ → Bool) (tells : Bool) (files : Option Directory) (faults : ℕ) (c : Call) (f g : Fields) (told now : Told) (w v : ℕ → ℕ) (was are : Counts) (armed after_armed : Option Arming) (power after_power : Bool)
     (power_was : power ≡ true) where
-  exact-told : (what : Call) (r : Reply) → AnswersCall passes what r (kept_at tells f told) (kept_at tells g now)
-      → IsTrue tells → (E : Setting) (s : State) (x : Session) → IsSettingOf f passes E → agent.Shows (kept_at tells f told) s x
-      → (r ≡ (answer E s x what).reply) × ShowsNext E s x what (kept_at tells g now)
+  exact-told : (what : Call) (r : Reply) → AnswersCall passes what r (kept_at tells f told w) (kept_at tells g now v)
+      → IsTrue tells → (E : Setting) (s : State) (x : Session) → IsSettingOf f passes E → agent.Shows (kept_at tells f told w) s x
+      → (r ≡ (answer E s x what).reply) × ShowsNext E s x what (kept_at tells g now v)
   exact-told what r answers test E s x setting shows =
       let exact = answers.exact E s x setting shows (decided tells what test) in
       (sym (own-reply tells what (answer E s x what).reply r test exact.0), exact.1)
 
-  pub call-turns : (result : Result T Stop) → Called says result passes c (kept_at tells f told) (kept_at tells g now)
+  pub call-turns : (result : Result T Stop) → Called says result passes c (kept_at tells f told w) (kept_at tells g now v)
       → IsMetaAfter c f g.meta → after_power ≡ is_ok (flash_result result) → Spends (flash_result result) was are
       → StaysUnarmed (flash_result result) armed after_armed was are
-      → TakesOn files c f (at (Some f) told was armed power) (reply_by says result) (at (on_by result g) now are after_armed after_power)
-      → Turns passes tells files c (quiet_turn c (reply_by says result)) (at (Some f) told was armed power) (at (on_by result g) now are after_armed after_power) faults faults
+      → TakesOn files c f (at (Some f) told w was armed power) (reply_by says result) (at (on_by result g) now v are after_armed after_power)
+      → Turns passes tells files c (quiet_turn c (reply_by says result)) (at (Some f) told w was armed power) (at (on_by result g) now v are after_armed after_power) faults faults
   call-turns (Ok value) called after power_is costs free takes =
-      let answers : AnswersCall passes c (says value) (kept_at tells f told) (kept_at tells g now) =
+      let answers : AnswersCall passes c (says value) (kept_at tells f told w) (kept_at tells g now v) =
       record { exact = called.exact; back = called.back; permitted = λ previous. called.permitted previous value refl; stays = called.leaves.stays } in
-      turns-answered passes tells files faults c (says value) f g told now was are armed after_armed power after_power (single-agents c called.single) (called.never value) power_was power_is
+      turns-answered passes tells files faults c (says value) f g told now w v was are armed after_armed power after_power (single-agents c called.single) (called.never value) power_was power_is
       (exact-told c (says value) answers) (answers-to passes c _ _ _ called.single answers) (left-by after called.leaves) costs free takes
   call-turns (Err (stop.Status st)) called after power_is costs free takes =
-      let answers : AnswersCall passes c (reply.Refused st) (kept_at tells f told) (kept_at tells g now) = record {
+      let answers : AnswersCall passes c (reply.Refused st) (kept_at tells f told w) (kept_at tells g now v) = record {
         exact = λ E s x setting shows d. let h = called.exact E s x setting shows d in (refused-reply tells c _ st h.0, h.1);
         back = called.back;
         permitted = λ previous. tt;
         stays = called.leaves.stays;
       } in
-      turns-answered passes tells files faults c (reply.Refused st) f g told now was are armed after_armed power after_power (single-agents c called.single) refl power_was power_is
+      turns-answered passes tells files faults c (reply.Refused st) f g told now w v was are armed after_armed power after_power (single-agents c called.single) refl power_was power_is
       (exact-told c (reply.Refused st) answers) (answers-to passes c _ _ _ called.single answers) (left-by after called.leaves) costs free takes
   call-turns (Err stop.Lost) called after power_is costs free takes =
-      turns-stopped passes tells files faults c flash_stop.Lost f g told now was are armed after_armed power after_power (single-agents c called.single) power_was power_is (left-by after called.leaves) costs free takes
+      turns-stopped passes tells files faults c flash_stop.Lost f g told now w v was are armed after_armed power after_power (single-agents c called.single) power_was power_is (left-by after called.leaves) costs free takes
   call-turns (Err stop.Fault) called after power_is costs free takes =
-      turns-stopped passes tells files faults c flash_stop.Failed f g told now was are armed after_armed power after_power (single-agents c called.single) power_was power_is (left-by after called.leaves) costs free takes
+      turns-stopped passes tells files faults c flash_stop.Failed f g told now w v was are armed after_armed power after_power (single-agents c called.single) power_was power_is (left-by after called.leaves) costs free takes
   call-turns (Err stop.Gone) called after power_is costs free takes = absurd (called.here refl)
 
 -- ---- a partial begin
@@ -416,16 +418,16 @@ begin-is E s (On boot staging handles) types bytes on same =
     (answered reply.Success (begin_moves s) (On boot (Some parts) no_handles))))
     (sym (copied-same (are_named E.layout.rows types) bytes (image_held s s.active) same))
 
-module _ (passes : List ℕ → Bool) (tells : Bool) (files : Option Directory) (faults : ℕ) (types : List (List ℕ)) (f g : Fields) (told now : Told) (was are : Counts) (armed after_armed : Option Arming) (power after_power : Bool)
+module _ (passes : List ℕ → Bool) (tells : Bool) (files : Option Directory) (faults : ℕ) (types : List (List ℕ)) (f g : Fields) (told now : Told) (w v : ℕ → ℕ) (was are : Counts) (armed after_armed : Option Arming) (power after_power : Bool)
     (power_was : power ≡ true) where
   abbrev named : List Bool
   named = are_named f.layout.rows types
 
   abbrev before : agent.Moment
-  before = kept_at tells f told
+  before = kept_at tells f told w
 
   abbrev behind : agent.Moment
-  behind = kept_at tells g now
+  behind = kept_at tells g now v
 
   abbrev begin : Call
   begin = call.BeginPartial types
@@ -447,6 +449,8 @@ module _ (passes : List ℕ → Bool) (tells : Bool) (files : Option Directory) 
           subst (λ (a : Answer). Does (flash_result result) E s a.moves now) (sym (own E s x setting shows test)) (begins.does E s x setting shows test ready);
       guarded = begins.guarded;
       keeps = begins.keeps;
+      touches = begins.touches;
+      touches_one = λ whole. absurd cc;
       spares = λ whole. absurd cc;
       decides = λ whole. absurd cc;
       stays = begins.stays;
@@ -486,16 +490,16 @@ module _ (passes : List ℕ → Bool) (tells : Bool) (files : Option Directory) 
   pub begin-turns : (result : Result (Unit {0}) Stop) → (result ≡ Err stop.Gone → ⊥) → BeginsPartly types named passes result before behind
       → after_power ≡ is_ok (flash_result result) → Spends (flash_result result) was are
       → StaysUnarmed (flash_result result) armed after_armed was are
-      → TakesOn files begin f (at (Some f) told was armed power) (reply_by (λ (_ : Unit {0}). reply.Success) result) (at (on_by result g) now are after_armed after_power)
-      → Turns passes tells files begin (quiet_turn begin (reply_by (λ (_ : Unit {0}). reply.Success) result)) (at (Some f) told was armed power) (at (on_by result g) now are after_armed after_power) faults faults
+      → TakesOn files begin f (at (Some f) told w was armed power) (reply_by (λ (_ : Unit {0}). reply.Success) result) (at (on_by result g) now v are after_armed after_power)
+      → Turns passes tells files begin (quiet_turn begin (reply_by (λ (_ : Unit {0}). reply.Success) result)) (at (Some f) told w was armed power) (at (on_by result g) now v are after_armed after_power) faults faults
   begin-turns (Ok value) here begins power_is costs free takes =
-      turns-answered passes tells files faults begin reply.Success f g told now was are armed after_armed power after_power refl refl power_was power_is
+      turns-answered passes tells files faults begin reply.Success f g told now w v was are armed after_armed power after_power refl refl power_was power_is
       (exact-own (Ok value) begins reply.Success (exact-done value begins)) (says-begun (Ok value) begins reply.Success (exact-done value begins) (λ is count. count tt)) (left (Ok value) begins) costs free takes
   begin-turns (Err (stop.Status st)) here begins power_is costs free takes =
-      turns-answered passes tells files faults begin (reply.Refused st) f g told now was are armed after_armed power after_power refl refl power_was power_is
+      turns-answered passes tells files faults begin (reply.Refused st) f g told now w v was are armed after_armed power after_power refl refl power_was power_is
       (exact-own (Err (stop.Status st)) begins (reply.Refused st) (exact-refused st begins)) (says-begun (Err (stop.Status st)) begins (reply.Refused st) (exact-refused st begins) (λ is count. absurd cc)) (left (Err (stop.Status st)) begins) costs free takes
   begin-turns (Err stop.Lost) here begins power_is costs free takes =
-      turns-stopped passes tells files faults begin flash_stop.Lost f g told now was are armed after_armed power after_power refl power_was power_is (left (Err stop.Lost) begins) costs free takes
+      turns-stopped passes tells files faults begin flash_stop.Lost f g told now w v was are armed after_armed power after_power refl power_was power_is (left (Err stop.Lost) begins) costs free takes
   begin-turns (Err stop.Fault) here begins power_is costs free takes =
-      turns-stopped passes tells files faults begin flash_stop.Failed f g told now was are armed after_armed power after_power refl power_was power_is (left (Err stop.Fault) begins) costs free takes
+      turns-stopped passes tells files faults begin flash_stop.Failed f g told now w v was are armed after_armed power after_power refl power_was power_is (left (Err stop.Fault) begins) costs free takes
   begin-turns (Err stop.Gone) here begins power_is costs free takes = absurd (here refl)

@@ -210,7 +210,7 @@ module _ {D T : Type 0} {F : Ghosts D} (a b : Agent D F) (done : AgentTurn) (res
       let d = device a in
       let e = device b in
       turned-by passes files faults c (reply_by says result) turn_is here_is
-      (call-turns says passes F.tells files faults c (fields a) (fields b) (F.told d) (F.told e) (F.counts d) (F.counts e) (F.arming d) (F.arming e) (F.on d) (F.on e) (a.power live)
+      (call-turns says passes F.tells files faults c (fields a) (fields b) (F.told d) (F.told e) (F.writes d) (F.writes e) (F.counts d) (F.counts e) (F.arming d) (F.arming e) (F.on d) (F.on e) (a.power live)
       result says_it after (goes.power live) goes.costs goes.unarmed (takes files))
 
 module _ {D : Type 0} {F : Ghosts D} (a b : Agent D F) (done : AgentTurn) (result : Result (Unit {0}) Stop) (live : IsFalse (gone a)) (goes : AgentGoes result a b) where
@@ -233,5 +233,5 @@ module _ {D : Type 0} {F : Ghosts D} (a b : Agent D F) (done : AgentTurn) (resul
       let d = device a in
       let e = device b in
       turned-by a b done result live goes passes files faults (call.BeginPartial types) (done_reply result) turn_is here_is
-      (begin-turns passes F.tells files faults types (fields a) (fields b) (F.told d) (F.told e) (F.counts d) (F.counts e) (F.arming d) (F.arming e) (F.on d) (F.on e) (a.power live)
+      (begin-turns passes F.tells files faults types (fields a) (fields b) (F.told d) (F.told e) (F.writes d) (F.writes e) (F.counts d) (F.counts e) (F.arming d) (F.arming e) (F.on d) (F.on e) (a.power live)
       result (never-gone result _ _ goes.gone live) begins (goes.power live) goes.costs goes.unarmed (takes files))

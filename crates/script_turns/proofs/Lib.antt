@@ -1,3 +1,6 @@
+mod Shows
+pub mod Touching
+mod RunTouches
 mod Boots
 mod Fitting
 mod Alone

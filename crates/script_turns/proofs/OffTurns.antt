@@ -18,12 +18,13 @@ use Rattle.script_turns.specs.Needs.{needs_bank}
 use Rattle.script_turns.specs.Powered.{TurnMoment, at, IsAt, SameDevice}
 use Rattle.script_turns.specs.Replies.{Replies}
 use Rattle.script_turns.specs.Takes.{TakesByCall}
+use Rattle.script_turns.specs.Touches.{Touches}
 use Rattle.script_turns.specs.Turning.{Makes, Turns, quiet_turn}
 use Rattle.flash_core.proofs.Unarmed.{unarmed_none}
 
-module _ (passes : List ℕ → Bool) (tells : Bool) (files : Option Directory) (t : Told) (cs : Counts) (armed : Option Arming) (power : Bool) (was : ℕ) where
+module _ (passes : List ℕ → Bool) (tells : Bool) (files : Option Directory) (t : Told) (w : ℕ → ℕ) (cs : Counts) (armed : Option Arming) (power : Bool) (was : ℕ) where
   abbrev here : TurnMoment
-  here = at None t cs armed power
+  here = at None t w cs armed power
 
   -- what goes by the call
   record LeavesOff (c : Call) : Type 0 where
@@ -31,6 +32,7 @@ module _ (passes : List ℕ → Bool) (tells : Bool) (files : Option Directory) 
     cut : IsCut (Some (quiet_turn c reply.IsOff)) armed
     replies : Replies passes tells files c here (quiet_turn c reply.IsOff) here
     takes : TakesByCall files c here reply.IsOff here
+    touches : Touches c here here
     no_boot : IsFalse (is_boot c)
     numbers : HasNumbers (quiet_turn c reply.IsOff)
     answers : (E : Setting) (s : State) → reply.IsOff ≡ (answer E s Off c).reply
@@ -66,6 +68,7 @@ module _ (passes : List ℕ → Bool) (tells : Bool) (files : Option Directory) 
     reads_none = λ e. refl;
     replies = leaves.replies;
     takes = record { by_call = leaves.takes; unread = λ e. absurd cc };
+    touches = leaves.touches;
     power = refl;
     guard = λ e. refl;
     step = λ e E from passes_are told is no_chance. idles c leaves E from is;
@@ -77,24 +80,24 @@ module _ (passes : List ℕ → Bool) (tells : Bool) (files : Option Directory) 
   }
 
   same-device : SameDevice here here
-  same-device = record { told = refl; counts = refl; armed = refl; power = refl }
+  same-device = record { told = refl; writes = refl; counts = refl; armed = refl; power = refl }
 
   leaves-off : (c : Call) → IsTrue (needs_bank c) → LeavesOff c
   unfolding answer
-  leaves-off call.Discover asks = record { made = refl; cut = tt; replies = (refl, refl); takes = same-device; no_boot = refl; numbers = refl; answers = λ E s. refl }
-  leaves-off (call.Begin n) asks = record { made = refl; cut = tt; replies = (refl, refl); takes = same-device; no_boot = refl; numbers = refl; answers = λ E s. refl }
-  leaves-off (call.BeginPartial types) asks = record { made = refl; cut = tt; replies = (refl, refl); takes = same-device; no_boot = refl; numbers = refl; answers = λ E s. refl }
-  leaves-off (call.OpenRead guid) asks = record { made = refl; cut = tt; replies = (refl, refl); takes = same-device; no_boot = refl; numbers = refl; answers = λ E s. refl }
-  leaves-off (call.OpenWrite guid) asks = record { made = refl; cut = tt; replies = (refl, refl); takes = same-device; no_boot = refl; numbers = refl; answers = λ E s. refl }
-  leaves-off (call.Write handle bytes) asks = record { made = refl; cut = tt; replies = (refl, refl); takes = same-device; no_boot = refl; numbers = refl; answers = λ E s. refl }
-  leaves-off (call.Read handle room) asks = record { made = refl; cut = tt; replies = (refl, refl); takes = same-device; no_boot = refl; numbers = refl; answers = λ E s. refl }
-  leaves-off (call.Commit handle request) asks = record { made = refl; cut = tt; replies = (refl, refl); takes = same-device; no_boot = refl; numbers = refl; answers = λ E s. refl }
-  leaves-off call.End asks = record { made = refl; cut = tt; replies = (refl, refl); takes = same-device; no_boot = refl; numbers = refl; answers = λ E s. refl }
-  leaves-off call.Cancel asks = record { made = refl; cut = tt; replies = (refl, refl); takes = same-device; no_boot = refl; numbers = refl; answers = λ E s. refl }
-  leaves-off (call.Accepts guid) asks = record { made = refl; cut = tt; replies = (refl, refl); takes = same-device; no_boot = refl; numbers = refl; answers = λ E s. refl }
-  leaves-off call.Previous asks = record { made = refl; cut = tt; replies = (refl, refl); takes = same-device; no_boot = refl; numbers = refl; answers = λ E s. refl }
-  leaves-off (call.Send name request) asks = record { made = refl; cut = tt; replies = (refl, refl); takes = same-device; no_boot = refl; numbers = refl; answers = λ E s. refl }
-  leaves-off (call.SendPartial name request) asks = record { made = refl; cut = tt; replies = (refl, refl); takes = same-device; no_boot = refl; numbers = refl; answers = λ E s. refl }
+  leaves-off call.Discover asks = record { made = refl; cut = tt; replies = (refl, refl); takes = same-device; touches = refl; no_boot = refl; numbers = refl; answers = λ E s. refl }
+  leaves-off (call.Begin n) asks = record { made = refl; cut = tt; replies = (refl, refl); takes = same-device; touches = refl; no_boot = refl; numbers = refl; answers = λ E s. refl }
+  leaves-off (call.BeginPartial types) asks = record { made = refl; cut = tt; replies = (refl, refl); takes = same-device; touches = refl; no_boot = refl; numbers = refl; answers = λ E s. refl }
+  leaves-off (call.OpenRead guid) asks = record { made = refl; cut = tt; replies = (refl, refl); takes = same-device; touches = refl; no_boot = refl; numbers = refl; answers = λ E s. refl }
+  leaves-off (call.OpenWrite guid) asks = record { made = refl; cut = tt; replies = (refl, refl); takes = same-device; touches = refl; no_boot = refl; numbers = refl; answers = λ E s. refl }
+  leaves-off (call.Write handle bytes) asks = record { made = refl; cut = tt; replies = (refl, refl); takes = same-device; touches = refl; no_boot = refl; numbers = refl; answers = λ E s. refl }
+  leaves-off (call.Read handle room) asks = record { made = refl; cut = tt; replies = (refl, refl); takes = same-device; touches = refl; no_boot = refl; numbers = refl; answers = λ E s. refl }
+  leaves-off (call.Commit handle request) asks = record { made = refl; cut = tt; replies = (refl, refl); takes = same-device; touches = refl; no_boot = refl; numbers = refl; answers = λ E s. refl }
+  leaves-off call.End asks = record { made = refl; cut = tt; replies = (refl, refl); takes = same-device; touches = refl; no_boot = refl; numbers = refl; answers = λ E s. refl }
+  leaves-off call.Cancel asks = record { made = refl; cut = tt; replies = (refl, refl); takes = same-device; touches = refl; no_boot = refl; numbers = refl; answers = λ E s. refl }
+  leaves-off (call.Accepts guid) asks = record { made = refl; cut = tt; replies = (refl, refl); takes = same-device; touches = refl; no_boot = refl; numbers = refl; answers = λ E s. refl }
+  leaves-off call.Previous asks = record { made = refl; cut = tt; replies = (refl, refl); takes = same-device; touches = refl; no_boot = refl; numbers = refl; answers = λ E s. refl }
+  leaves-off (call.Send name request) asks = record { made = refl; cut = tt; replies = (refl, refl); takes = same-device; touches = refl; no_boot = refl; numbers = refl; answers = λ E s. refl }
+  leaves-off (call.SendPartial name request) asks = record { made = refl; cut = tt; replies = (refl, refl); takes = same-device; touches = refl; no_boot = refl; numbers = refl; answers = λ E s. refl }
   leaves-off call.Boot asks = absurd cc
   leaves-off (call.Cut n k) asks = absurd cc
   leaves-off call.Show asks = absurd cc

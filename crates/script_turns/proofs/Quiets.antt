@@ -1,12 +1,10 @@
 -- A turn that leaves the flash as it is.
 use Rattle.std.proofs.Common.{◌≡◌, ◌≢◌, Contains, ℕ, ◌≤◌, Bool, true, not, ◌||◌, List, [], ◌∷◌, Option, Some, None, refl, sym, ap, subst, ◌∙◌, arith, IsTrue, IsFalse}
-use Rattle.std.specs.Prelude.{MatchBool, IsSome, IsNone, Ok}
+use Rattle.std.specs.Prelude.{MatchBool, IsSome, IsNone}
 use Rattle.host_io.specs.Contents.{Directory}
 use Rattle.fwu_formats.specs.Metadata.{Meta}
 use Rattle.flash_core.proofs.Unarmed.{unarmed_none}
-use Rattle.flash_core.specs.declared.flash.Arming.{Arming}
-use Rattle.flash_core.specs.declared.flash.Counts.{Counts}
-use Rattle.flash_core.specs.Counts.{StaysUnarmed, all_stops}
+use Rattle.flash_core.specs.Counts.{all_stops}
 use Rattle.flash_core.specs.Told.{Told}
 use Rattle.fwu_model.specs.State.{State, Numbers, numbers_of, after}
 use Rattle.fwu_model.specs.Sound.{Setting}
@@ -23,17 +21,19 @@ use Rattle.fwu_model.specs.Causes.{is_cut}
 use Rattle.agent_machine.specs.Fields.{Fields}
 use Rattle.agent_machine.specs.Moment as agent
 use Rattle.agent_machine.proofs.Beside.{spared-told}
-use Rattle.script_turns.specs.Powered.{TurnMoment, SameDevice, IsAt, IsSafe, kept_at, numbers_kept}
+use Rattle.script_turns.specs.Powered.{TurnMoment, SameDevice, IsAt, IsSafe, ShowsAt, numbers_kept}
 use Rattle.script_turns.specs.Replies.{Replies, no_call_reply, power_after, show_reply}
 use Rattle.script_turns.specs.Sending.{LacksSent}
 use Rattle.script_turns.specs.Calls.{is_agents}
 use Rattle.script_turns.specs.Takes.{StaysFree, TakesByCall, TakesBy}
+use Rattle.script_turns.specs.Touches.{Touches, TouchesBy}
+use Rattle.script_turns.proofs.Shows.{counts_none}
 use Rattle.script_turns.specs.Turning.{Arms, Makes, NoneFalls, Turns, quiet_turn}
 
 -- What the machine answers to the call, by what the agent keeps: with this reply it does nothing.
 abbrev pub AnswersBy : Call → Reply → Option Fields → Told → Type 0
 AnswersBy what r None t = (E : Setting) (s : State) → r ≡ (answer E s Off what).reply
-AnswersBy what r (Some f) t = (E : Setting) (s : State) (x : Session) → agent.Shows (kept_at true f t) s x → answer E s x what ≡ answered r [] x
+AnswersBy what r (Some f) t = (E : Setting) (s : State) (x : Session) → ShowsAt true f t s x → answer E s x what ≡ answered r [] x
 
 -- The call is no boot, the reply no stop, and what is kept and told stays.
 pub record IsQuiet (tells : Bool) (files : Option Directory) (what : Call) (r : Reply) (old new : TurnMoment) : Type 0 where
@@ -51,6 +51,7 @@ pub record IsQuiet (tells : Bool) (files : Option Directory) (what : Call) (r : 
   pub power : new.power ≡ old.power
   pub keeps_power : power_after old.power r ≡ old.power
   pub takes : TakesByCall files what old r new
+  pub touches : Touches what old new
   pub answers : AnswersBy what r old.on old.told
 
 -- only what is sent can be lacking
@@ -97,7 +98,7 @@ module _ (what : Call) (r : Reply) (no_boot : IsFalse (is_boot what)) (no_stop :
             state = s;
             one = ap (λ (x : Answer). after s x.moves ∷ []) a;
             layout = is.shows.layout;
-            shows = subst (λ (x : Session). agent.Shows (kept_at true f t) s x) (sym (ap (λ (x : Answer). x.next) a)) is.shows.shows;
+            shows = subst (λ (x : Session). ShowsAt true f t s x) (sym (ap (λ (x : Answer). x.next) a)) is.shows.shows;
             ready = is.shows.ready;
           };
         },
@@ -106,7 +107,7 @@ module _ (what : Call) (r : Reply) (no_boot : IsFalse (is_boot what)) (no_stop :
       asks : IsTrue (is_boot what || not (is_off c.session))
       asks =
           subst (λ (k : Bool). IsTrue (k || not (is_off c.session))) (sym no_boot)
-          (subst (λ (session : Session). IsTrue (not (is_off session))) (sym is.shows.shows.means) refl)
+          (subst (λ (session : Session). IsTrue (not (is_off session))) (sym (is.shows.shows counts_none).means) refl)
 
 pub quiet-turns : (passes : List ℕ → Bool) (tells : Bool) (files : Option Directory) (what : Call) (r : Reply) (old new : TurnMoment) (faults : ℕ)
     → IsQuiet tells files what r old new → Replies passes tells files what old (quiet_turn what r) new → Turns passes tells files what (quiet_turn what r) old new faults faults
@@ -127,6 +128,7 @@ quiet-turns passes tells files what r old new faults quiet replied = record {
   reads_none = λ none. refl;
   replies = replied;
   takes = record { by_call = quiet.takes; unread = λ e. absurd (stays r reply.ReadFault quiet.no_stop refl e) };
+  touches = quiet.touches;
   power = quiet.power ∙ sym quiet.keeps_power;
   guard = λ test. ap (λ (t : Told). t.guard) (quiet.same test);
   step = λ test E c passes_are files_are is none.
@@ -172,7 +174,7 @@ show-off E s = refl
 
 show-answers : (on : Option Fields) (t : Told) → AnswersBy call.Show (show_reply on) on t
 show-answers None t = show-off
-show-answers (Some f) t = λ E s x shows. show-on E s x (numbers_kept f) (subst (λ (y : Session). IsFalse (is_off y)) (sym shows.means) refl) (numbers-spoken f s shows.speaks)
+show-answers (Some f) t = λ E s x shows. show-on E s x (numbers_kept f) (subst (λ (y : Session). IsFalse (is_off y)) (sym (shows counts_none).means) refl) (numbers-spoken f s (shows counts_none).speaks)
 
 show-goes-on : (on : Option Fields) → IsFalse (is_stop (show_reply on))
 show-goes-on None = refl
@@ -183,7 +185,7 @@ show-power None power = refl
 show-power (Some f) power = refl
 
 pub same-device : (m : TurnMoment) → SameDevice m m
-same-device m = record { told = refl; counts = refl; armed = refl; power = refl }
+same-device m = record { told = refl; writes = refl; counts = refl; armed = refl; power = refl }
 
 show-free : (on : Option Fields) (m : TurnMoment) → StaysFree (show_reply on) m m
 show-free None m = unarmed_none tt m.armed m.counts
@@ -192,6 +194,10 @@ show-free (Some f) m = unarmed_none tt m.armed m.counts
 show-takes : (files : Option Directory) (on : Option Fields) (m : TurnMoment) → TakesBy files call.Show on m (show_reply on) m
 show-takes files None m = same-device m
 show-takes files (Some f) m = same-device m
+
+show-touches : (on : Option Fields) (w : ℕ → ℕ) → TouchesBy call.Show on w w
+show-touches None w = refl
+show-touches (Some f) w = refl
 
 pub show-turns : (passes : List ℕ → Bool) (tells : Bool) (files : Option Directory) (m : TurnMoment) (faults : ℕ)
     → Turns passes tells files call.Show (quiet_turn call.Show (show_reply m.on)) m m faults faults
@@ -210,6 +216,7 @@ show-turns passes tells files m faults = quiet-turns passes tells files call.Sho
   power = refl;
   keeps_power = show-power m.on m.power;
   takes = show-takes files m.on m;
+  touches = show-touches m.on m.writes;
   answers = show-answers m.on m.told;
 }) (refl, refl)
 
@@ -226,7 +233,7 @@ no_call-off E s = refl
 
 no_call-answers : (on : Option Fields) (t : Told) → AnswersBy call.NoCall (no_call_reply on) on t
 no_call-answers None t = no_call-off
-no_call-answers (Some f) t = λ E s x shows. no_call-on E s x (subst (λ (y : Session). IsFalse (is_off y)) (sym shows.means) refl)
+no_call-answers (Some f) t = λ E s x shows. no_call-on E s x (subst (λ (y : Session). IsFalse (is_off y)) (sym (shows counts_none).means) refl)
 
 no_call-goes-on : (on : Option Fields) → IsFalse (is_stop (no_call_reply on))
 no_call-goes-on None = refl
@@ -243,6 +250,10 @@ no_call-free (Some f) m = unarmed_none tt m.armed m.counts
 no_call-takes : (files : Option Directory) (on : Option Fields) (m : TurnMoment) → TakesBy files call.NoCall on m (no_call_reply on) m
 no_call-takes files None m = same-device m
 no_call-takes files (Some f) m = same-device m
+
+no_call-touches : (on : Option Fields) (w : ℕ → ℕ) → TouchesBy call.NoCall on w w
+no_call-touches None w = refl
+no_call-touches (Some f) w = refl
 
 pub no_call-turns : (passes : List ℕ → Bool) (tells : Bool) (files : Option Directory) (m : TurnMoment) (faults : ℕ)
     → Turns passes tells files call.NoCall (quiet_turn call.NoCall (no_call_reply m.on)) m m faults faults
@@ -261,6 +272,7 @@ no_call-turns passes tells files m faults = quiet-turns passes tells files call.
   power = refl;
   keeps_power = no_call-power m.on m.power;
   takes = no_call-takes files m.on m;
+  touches = no_call-touches m.on m.writes;
   answers = no_call-answers m.on m.told;
 }) (refl, refl)
 
@@ -279,6 +291,10 @@ cut-takes : (files : Option Directory) (n k : ℕ) (on : Option Fields) (old new
 cut-takes files n k None old new = tt
 cut-takes files n k (Some f) old new = tt
 
+cut-touches : (n k : ℕ) (on : Option Fields) (w v : ℕ → ℕ) → v ≡ w → TouchesBy (call.Cut n k) on w v
+cut-touches n k None w v same = same
+cut-touches n k (Some f) w v same = same
+
 pub cut-turns : (passes : List ℕ → Bool) (tells : Bool) (files : Option Directory) (n k : ℕ) (old new : TurnMoment) (faults : ℕ) → Arms tells n k old new
     → Turns passes tells files (call.Cut n k) (quiet_turn (call.Cut n k) reply.CutOk) old new faults faults
 cut-turns passes tells files n k old new faults arms = quiet-turns passes tells files (call.Cut n k) reply.CutOk old new faults (record {
@@ -296,5 +312,6 @@ cut-turns passes tells files n k old new faults arms = quiet-turns passes tells 
   power = arms.power_is;
   keeps_power = refl;
   takes = cut-takes files n k old.on old new;
+  touches = cut-touches n k old.on old.writes new.writes arms.writes;
   answers = cut-answers n k old.on old.told;
 }) (refl, arms)

@@ -32,6 +32,7 @@ use Rattle.script_turns.specs.Powered.{FitsMachine, TurnMoment, IsSafe, ShowsCon
 use Rattle.script_turns.specs.Replies.{Replies, power_after}
 use Rattle.script_turns.specs.Takes.{StaysFree, stop_told}
 use Rattle.script_turns.specs.Turning.{Makes, NoneFalls, Turns}
+use Rattle.script_turns.proofs.RunTouches.{touches-more, touches-nothing}
 use Rattle.script_turns.specs.Runs.{Follows, LossesAreDue, Ran, RunsFree, RunsTo, armings_left, power_left, stops_of}
 
 -- ---- the places of a list with one element more
@@ -287,6 +288,7 @@ module _ (passes : List ℕ → Bool) (tells : Bool) (files : Option Directory) 
     fault_turns = λ t in_it is. absurd (no-turn t in_it);
     unread_turns = λ t in_it is. absurd (no-turn t in_it);
     later = omega arith;
+    touches = touches-nothing old off;
     follows = (refl, refl);
     made = refl;
     power = refl;
@@ -363,6 +365,7 @@ module _ (passes : List ℕ → Bool) (tells : Bool) (files : Option Directory) 
           (not-read-around files from through to to c ran.later (omega arith) (turned.unread (ap (λ (x : Turn). x.reply) last ∙ is)))
     ];
     later = let first = ran.later in let more = turned.later in omega arith;
+    touches = touches-more passes tells files c t journal old mid new through to turned ran.touches;
     made = subst (λ (n : ℕ). new.counts.made ≡ made_after old.counts.made n) (sym (cuts-more journal t))
         (made-by (cuts_in journal) old.counts.made mid.counts.made new.counts.made t.call (subst (λ (x : Call). Makes x mid.counts.made new.counts.made) (sym turned.call_is) turned.made) ran.made);
     power = turned.power ∙ ap (λ (b : Bool). power_after b t.reply) ran.power ∙ sym (power-more old.power journal t);

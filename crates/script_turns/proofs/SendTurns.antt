@@ -33,7 +33,7 @@ use Rattle.fwu_model.specs.Run.{Condition, HasNumbers, Step, Answered, Stopped, 
 use Rattle.moves.specs.Moved.{GuardedBy, IsReady}
 use Rattle.moves.proofs.Composed.{does-idle}
 use Rattle.fip_tables.specs.Files.{Lacks, Tells}
-use Rattle.agent_machine.specs.Beside.{KeepsSparedByAll}
+use Rattle.agent_machine.specs.Beside.{KeepsSparedByAll, SparesBlocksByAll}
 use Rattle.agent_machine.specs.Fields.{Fields}
 use Rattle.agent_machine.proofs.Beside.{spared-same}
 use Rattle.std.proofs.lemmas.Option.{same_Some}
@@ -58,12 +58,14 @@ use Rattle.agent_calls.specs.declared.agent.Agent.{Agent}
 use Rattle.agent_calls.specs.Shown.{fields}
 use Rattle.script_turns.specs.Calls.{is_composed, moment_where}
 use Rattle.script_turns.specs.Stage.{on_where}
-use Rattle.script_turns.specs.Powered.{TurnMoment, at, kept_at, IsAt, IsSafe}
+use Rattle.script_turns.specs.Powered.{TurnMoment, at, kept_at, IsAt, IsSafe, ShowsAt}
 use Rattle.script_turns.specs.Replies.{Replies, power_after}
 use Rattle.script_turns.specs.Sending.{AnswersSend, IsTableOf, LacksSent, SendSays, SendsAs, TellsBegun, done_reply, is_answered, on_sent, send_call, sent_reply}
 use Rattle.script_turns.specs.Takes.{AreSent, SendTakes, StaysFree, TakesOn, stop_told, unread_told, writes_before, writes_to_send}
 use Rattle.script_turns.specs.Turning.{Makes, NoneFalls, Turns, quiet_turn}
 use Rattle.script_turns.proofs.CallTakes.{with}
+use Rattle.script_turns.proofs.Shows.{as-told, counts_none, shows-as, told-shows}
+use Rattle.script_turns.proofs.Touching.{touches-sent}
 use Rattle.flash_core.proofs.Unarmed.{unarmed_none}
 
 -- ---- the call
@@ -96,7 +98,7 @@ lacks-sent false files name request lacks = lacks
 lacks-sent true files name request lacks = lacks
 
 replies-as : (partly : Bool) (passes : List ℕ → Bool) (tells : Bool) (files : Option Directory) (name : List ℕ) (request : ℕ) (old new : TurnMoment) (r : Reply)
-    → SendSays partly passes tells files name request old.on old.told r new.on new.told
+    → SendSays partly passes tells files name request old.on old r new.on new
     → Replies passes tells files (send_call partly name request) old (quiet_turn (send_call partly name request) r) new
 replies-as false passes tells files name request old new r says = says
 replies-as true passes tells files name request old new r says = says
@@ -343,11 +345,11 @@ module _ (E : Setting) (from : Condition) (partly : Bool) (name : List ℕ) (req
 
   asks : IsTrue (asks_state from.session asked)
   asks = subst (λ (b : Bool). IsTrue (b || not (is_off from.session))) (sym (no-boot partly name request))
-      (subst (λ (x : Session). IsTrue (not (is_off x))) (sym is.shows.shows.means) refl)
+      (subst (λ (x : Session). IsTrue (not (is_off x))) (sym (is.shows.shows counts_none).means) refl)
 
   -- it was answered
   step-answered : (a : Answer) (g : Fields) → answer E s from.session asked ≡ a → IsFalse (is_stop r) → r ≡ a.reply → g.layout ≡ f.layout
-      → agent.Shows (kept_at true g u) (after s a.moves) a.next → IsReady E u (after s a.moves) → Leads E from (quiet_turn asked r) (Some g) u
+      → ShowsAt true g u (after s a.moves) a.next → IsReady E u (after s a.moves) → Leads E from (quiet_turn asked r) (Some g) u
   step-answered a g same no_stop replied layout shows ready = (
     moved_on from asked (after s a.moves ∷ []) a.next,
     Answered no_stop asks (record {
@@ -380,16 +382,16 @@ module _ (E : Setting) (from : Condition) (partly : Bool) (name : List ℕ) (req
 
 -- ---- a file without a table
 
-module _ (partly : Bool) (passes : List ℕ → Bool) (tells : Bool) (files : Option Directory) (name : List ℕ) (request : ℕ) (f : Fields) (t : Told) (cs : Counts) (armed : Option Arming) (power : Bool) (was are : ℕ) (later : was ≤ are) where
+module _ (partly : Bool) (passes : List ℕ → Bool) (tells : Bool) (files : Option Directory) (name : List ℕ) (request : ℕ) (f : Fields) (t : Told) (w : ℕ → ℕ) (cs : Counts) (armed : Option Arming) (power : Bool) (was are : ℕ) (later : was ≤ are) where
   abbrev here : TurnMoment
-  here = at (Some f) t cs armed power
+  here = at (Some f) t w cs armed power
 
   nothing-falls : NoneFalls cs cs
   nothing-falls = record { faults = omega arith; cuts = omega arith; reached = omega arith; chances = omega arith }
 
   -- it is answered by its first fault
   pub bad-table : (r : Reply) → are ≤ was → IsFalse (is_stop r) → power_after power r ≡ power → IsTableOf files name (Err r)
-      → SendSays partly passes tells files name request (Some f) t r (Some f) t → (Lacks files name → ⊥) → SendTakes partly files name f r here here → StaysFree r here here
+      → SendSays partly passes tells files name request (Some f) here r (Some f) here → (Lacks files name → ⊥) → SendTakes partly files name f r here here → StaysFree r here here
       → Turns passes tells files (send_call partly name request) (quiet_turn (send_call partly name request) r) here here was are
   bad-table r none no_stop keeps table says there early free = record {
     call_is = refl;
@@ -408,14 +410,15 @@ module _ (partly : Bool) (passes : List ℕ → Bool) (tells : Bool) (files : Op
     reads_none = λ e. absurd (always-reads partly name request e);
     replies = replies-as partly passes tells files name request here here r says;
     takes = record { by_call = takes-as partly files name request f here r here early; unread = λ e. absurd (let stop = ap is_stop e in cc) };
+    touches = touches-sent partly name request f w w (λ b out. refl);
     power = sym keeps;
     guard = λ e. refl;
     step = λ e E from passes_are told is no_chance.
-        let x = is.shows.shows in
+        let x = is.shows.shows counts_none in
         let same : answer E is.shows.state from.session (send_call partly name request) ≡ answered r [] from.session =
         subst (λ (y : Session). answer E is.shows.state y (send_call partly name request) ≡ answered r [] y) (sym x.means)
         (refuses-as partly E files name request is.shows.state f.boot _ _ told there r table) in
-        step-answered E from partly name request r f t t is refl (answered r [] from.session) f same no_stop refl refl x is.shows.ready;
+        step-answered E from partly name request r f t t is refl (answered r [] from.session) f same no_stop refl refl is.shows.shows is.shows.ready;
     keeps = λ e h on no. spared-same _ t;
     spares = λ e h on no whole. absurd (always-composed partly name request whole);
     decides = λ e h on agents whole. absurd (always-composed partly name request whole);
@@ -425,7 +428,7 @@ module _ (partly : Bool) (passes : List ℕ → Bool) (tells : Bool) (files : Op
 
   -- it cannot be read
   pub unread-table : are ≤ was + 1 → Rose was are ⊎ LacksFile files name
-      → Turns passes tells files (send_call partly name request) (quiet_turn (send_call partly name request) reply.ReadFault) here (at None t cs armed power) was are
+      → Turns passes tells files (send_call partly name request) (quiet_turn (send_call partly name request) reply.ReadFault) here (at None t w cs armed power) was are
   unread-table once cause = record {
     call_is = refl;
     unnumbered = λ no. refl;
@@ -441,8 +444,9 @@ module _ (partly : Bool) (passes : List ℕ → Bool) (tells : Bool) (files : Op
     later = later;
     unread_once = omega (arith, once);
     reads_none = λ e. absurd (always-reads partly name request e);
-    replies = replies-as partly passes tells files name request here (at None t cs armed power) reply.ReadFault tt;
-    takes = record { by_call = takes-as partly files name request f here reply.ReadFault (at None t cs armed power) (inl (record { told = refl; counts = refl; armed = refl; power = refl })); unread = λ e none. record { told = refl; counts = refl; armed = refl; power = refl } };
+    replies = replies-as partly passes tells files name request here (at None t w cs armed power) reply.ReadFault tt;
+    takes = record { by_call = takes-as partly files name request f here reply.ReadFault (at None t w cs armed power) (inl (record { told = refl; writes = refl; counts = refl; armed = refl; power = refl })); unread = λ e none. record { told = refl; writes = refl; counts = refl; armed = refl; power = refl } };
+    touches = touches-sent partly name request f w w (λ b out. refl);
     power = refl;
     guard = λ e. refl;
     step = λ e E from passes_are told is no_chance.
@@ -474,12 +478,12 @@ done-power : (partly : Bool) (sent : Sent) → true ≡ power_after true (done_r
 done-power false sent = refl
 done-power true sent = refl
 
-module _ (partly : Bool) (passes : List ℕ → Bool) (tells : Bool) (files : Option Directory) (name : List ℕ) (request : ℕ) (f g : Fields) (t u : Told) (cs ds : Counts) (armed arming : Option Arming) (was are : ℕ) where
+module _ (partly : Bool) (passes : List ℕ → Bool) (tells : Bool) (files : Option Directory) (name : List ℕ) (request : ℕ) (f g : Fields) (t u : Told) (w v : ℕ → ℕ) (cs ds : Counts) (armed arming : Option Arming) (was are : ℕ) where
   abbrev old : agent.Moment
-  old = kept_at tells f t
+  old = kept_at tells f t w
 
   abbrev new : agent.Moment
-  new = kept_at tells g u
+  new = kept_at tells g u v
 
   module _ (result : Result Sent SendStop) (sends : Sending partly files name request passes result old new) (stays : Stays old new) where
     -- what was answered
@@ -492,17 +496,17 @@ module _ (partly : Bool) (passes : List ℕ → Bool) (tells : Bool) (files : Op
   done-says false sent says = says
   done-says true sent says = says
 
-  says : (result : Result Sent SendStop) → (result ≡ Err Gone → ⊥) → (sends : Sending partly files name request passes result old new) → Stays old new
-      → SendSays partly passes tells files name request (Some f) t (sent_reply partly result) (on_sent result g) u
-  says (Ok sent) there sends stays = done-says partly sent (says-answered (Ok sent) sends stays (done_reply partly sent) (λ tells. tt) sends.goes)
-  says (Err (MissingImage guid)) there sends stays = says-answered (Err (MissingImage guid)) sends stays (reply.Missing guid) (λ tells. tells) sends.goes
-  says (Err (ImageTooLarge guid)) there sends stays = says-answered (Err (ImageTooLarge guid)) sends stays (reply.TooLarge guid) (λ tells. tells) sends.goes
-  says (Err (Begin st)) there sends stays = says-answered (Err (Begin st)) sends stays (reply.BeginRefused st) (λ tells. tells) sends.goes
-  says (Err (End st)) there sends stays = says-answered (Err (End st)) sends stays (reply.EndRefused st) (λ tells. tt) sends.goes
-  says (Err ReadFailed) there sends stays = tt
-  says (Err Lost) there sends stays = tt
-  says (Err Fault) there sends stays = tt
-  says (Err Gone) there sends stays = absurd (there refl)
+  says : (power : Bool) (result : Result Sent SendStop) → (result ≡ Err Gone → ⊥) → (sends : Sending partly files name request passes result old new) → Stays old new
+      → SendSays partly passes tells files name request (Some f) (at (Some f) t w cs armed true) (sent_reply partly result) (on_sent result g) (at (on_sent result g) u v ds arming power)
+  says power (Ok sent) there sends stays = done-says partly sent (says-answered (Ok sent) sends stays (done_reply partly sent) (λ tells. tt) sends.goes)
+  says power (Err (MissingImage guid)) there sends stays = says-answered (Err (MissingImage guid)) sends stays (reply.Missing guid) (λ tells. tells) sends.goes
+  says power (Err (ImageTooLarge guid)) there sends stays = says-answered (Err (ImageTooLarge guid)) sends stays (reply.TooLarge guid) (λ tells. tells) sends.goes
+  says power (Err (Begin st)) there sends stays = says-answered (Err (Begin st)) sends stays (reply.BeginRefused st) (λ tells. tells) sends.goes
+  says power (Err (End st)) there sends stays = says-answered (Err (End st)) sends stays (reply.EndRefused st) (λ tells. tt) sends.goes
+  says power (Err ReadFailed) there sends stays = tt
+  says power (Err Lost) there sends stays = tt
+  says power (Err Fault) there sends stays = tt
+  says power (Err Gone) there sends stays = absurd (there refl)
 
   module _ (yes : IsTrue tells) (E : Setting) (from : Condition) (passes_are : E.passes ≡ passes) (told : files ≡ Some E.files) (is : IsAt E from (Some f) t) where
     abbrev state : State
@@ -512,13 +516,13 @@ module _ (partly : Bool) (passes : List ℕ → Bool) (tells : Bool) (files : Op
     what = send_call partly name request
 
     shown : agent.Shows old state from.session
-    shown = subst (λ (b : Bool). agent.Shows (kept_at b f t) state from.session) (sym yes) is.shows.shows
+    shown = told-shows tells f t state from.session w yes is.shows.shows
 
     leads-answered : (r : Reply) (a : Answer) → answer E state from.session what ≡ a → IsFalse (is_stop r) → AnswersBy r a E old new state → Stays old new
         → Leads E from (quiet_turn what r) (Some g) u
     leads-answered r a same no_stop goes stays =
         step-answered E from partly name request r f t u is (stays.guard yes) a g same no_stop goes.0 stays.layout
-        (subst (λ (b : Bool). agent.Shows (kept_at b g u) (after state a.moves) a.next) yes goes.1.shows) (goes.1.does yes is.shows.ready).all
+        (as-told tells g u (after state a.moves) a.next yes (shows-as tells g u (after state a.moves) a.next v goes.1.shows)) (goes.1.does yes is.shows.ready).all
 
     leads : (result : Result Sent SendStop) → (result ≡ Err Gone → ⊥) → (sends : Sending partly files name request passes result old new) → Stays old new
         → Leads E from (quiet_turn what (sent_reply partly result)) (on_sent result g) u
@@ -627,13 +631,13 @@ module _ (partly : Bool) (passes : List ℕ → Bool) (tells : Bool) (files : Op
   unread_takes toc = (entries : List Entry) × AreSent partly f.layout.rows toc entries × UnreadTakes (writes_before partly f toc) block_bytes entries armed arming
 
   pub sent-takes : (result : Result Sent SendStop) (power : Bool) (toc : Toc) → power ≡ is_ok (flash_of result)
-      → (IsEarlySend result → (u ≡ t) × (ds ≡ cs) × (arming ≡ armed)) → IsTableOf files name (Ok toc) → OnOk result (TakesSent (writes_to_send partly f toc) armed arming)
+      → (IsEarlySend result → (u ≡ t) × (v ≡ w) × (ds ≡ cs) × (arming ≡ armed)) → IsTableOf files name (Ok toc) → OnOk result (TakesSent (writes_to_send partly f toc) armed arming)
       → OnRefusedEnd result (TakesWrites (writes_to_send partly f toc) armed arming) → OnUnread result (unread_takes toc)
-      → SendTakes partly files name f (sent_reply partly result) (at (Some f) t cs armed true) (at (on_sent result g) u ds arming power)
+      → SendTakes partly files name f (sent_reply partly result) (at (Some f) t w cs armed true) (at (on_sent result g) u v ds arming power)
   sent-takes (Ok sent) power toc powered same table takes refused unread = done-takes partly sent toc _ _ table takes
-  sent-takes (Err (MissingImage guid)) power toc powered same table takes refused unread = let d = same tt in record { told = d.0; counts = d.1; armed = d.2; power = powered }
-  sent-takes (Err (ImageTooLarge guid)) power toc powered same table takes refused unread = let d = same tt in record { told = d.0; counts = d.1; armed = d.2; power = powered }
-  sent-takes (Err (Begin st)) power toc powered same table takes refused unread = let d = same tt in record { told = d.0; counts = d.1; armed = d.2; power = powered }
+  sent-takes (Err (MissingImage guid)) power toc powered same table takes refused unread = let d = same tt in record { told = d.0; writes = d.1; counts = d.2; armed = d.3; power = powered }
+  sent-takes (Err (ImageTooLarge guid)) power toc powered same table takes refused unread = let d = same tt in record { told = d.0; writes = d.1; counts = d.2; armed = d.3; power = powered }
+  sent-takes (Err (Begin st)) power toc powered same table takes refused unread = let d = same tt in record { told = d.0; writes = d.1; counts = d.2; armed = d.3; power = powered }
   sent-takes (Err (End st)) power toc powered same table takes refused unread = record { toc = toc; table = table; spent = refused }
   sent-takes (Err ReadFailed) power toc powered same table takes refused unread =
       inr (record { toc = toc; table = table; entries = unread.0; sent = unread.1; spent = unread.2 })
@@ -642,7 +646,7 @@ module _ (partly : Bool) (passes : List ℕ → Bool) (tells : Bool) (files : Op
   sent-takes (Err Gone) power toc powered same table takes refused unread = tt
 
   pub sent-free : (result : Result Sent SendStop) (power : Bool) → StaysUnarmed (flash_of result) armed arming cs ds
-      → StaysFree (sent_reply partly result) (at (Some f) t cs armed true) (at (on_sent result g) u ds arming power)
+      → StaysFree (sent_reply partly result) (at (Some f) t w cs armed true) (at (on_sent result g) u v ds arming power)
   sent-free (Ok sent) power free = subst (λ (told : Result (Unit {0}) FlashStop). StaysUnarmed told armed arming cs ds) (sym (done-told partly sent)) free
   sent-free (Err (MissingImage guid)) power free = free
   sent-free (Err (ImageTooLarge guid)) power free = free
@@ -656,11 +660,11 @@ module _ (partly : Bool) (passes : List ℕ → Bool) (tells : Bool) (files : Op
   -- the turn of a sending that ended, on a device that has power
   pub sent-turn : (result : Result Sent SendStop) (power : Bool) → power ≡ is_ok (flash_of result) → (result ≡ Err Gone → ⊥) → (Lacks files name → ⊥)
       → Sending partly files name request passes result old new → ∥ agent.Showing old ∥₁ → (IsTrue tells → agent.Showing old)
-      → Spends (flash_of result) cs ds → ReadsPieceBy was are result
-      → SendTakes partly files name f (sent_reply partly result) (at (Some f) t cs armed true) (at (on_sent result g) u ds arming power)
-      → StaysFree (sent_reply partly result) (at (Some f) t cs armed true) (at (on_sent result g) u ds arming power)
-      → Turns passes tells files (send_call partly name request) (quiet_turn (send_call partly name request) (sent_reply partly result)) (at (Some f) t cs armed true) (at (on_sent result g) u ds arming power) was are
-  sent-turn result power powered there lacks_none sends some showing spent reads takes free = record {
+      → Spends (flash_of result) cs ds → ReadsPieceBy was are result → SparesBlocksByAll f w v
+      → SendTakes partly files name f (sent_reply partly result) (at (Some f) t w cs armed true) (at (on_sent result g) u v ds arming power)
+      → StaysFree (sent_reply partly result) (at (Some f) t w cs armed true) (at (on_sent result g) u v ds arming power)
+      → Turns passes tells files (send_call partly name request) (quiet_turn (send_call partly name request) (sent_reply partly result)) (at (Some f) t w cs armed true) (at (on_sent result g) u v ds arming power) was are
+  sent-turn result power powered there lacks_none sends some showing spent reads touches takes free = record {
     call_is = refl;
     unnumbered = λ no. refl;
     counts = record { faults = spent.faults; cuts = spent.cuts; reached = spent.reached; chances = spent.chances };
@@ -675,8 +679,9 @@ module _ (partly : Bool) (passes : List ℕ → Bool) (tells : Bool) (files : Op
     later = reads.later;
     unread_once = omega (arith, reads.once, told-unread result);
     reads_none = λ e. absurd (always-reads partly name request e);
-    replies = replies-as partly passes tells files name request _ _ (sent_reply partly result) (says result there sends stays);
+    replies = replies-as partly passes tells files name request _ _ (sent_reply partly result) (says power result there sends stays);
     takes = record { by_call = takes-as partly files name request f _ (sent_reply partly result) _ takes; unread = λ e none. absurd (none (reads.failed (unread-sent result e))) };
+    touches = touches-sent partly name request f w v touches;
     power = powered ∙ powers result;
     guard = stays.guard;
     step = λ yes E from passes_are told is no_chance. leads yes E from passes_are told is result there sends stays;
@@ -719,8 +724,8 @@ moment-sent a there result is = ap (λ (h : Bool). moment_where h a) is ∙ ap (
     kept (Err Fault) f = refl
     kept (Err Gone) f = refl
 
-pub with-power : (m : TurnMoment) → IsTrue m.power → m ≡ at m.on m.told m.counts m.armed true
-with-power m power = ap (λ (on : Bool). at m.on m.told m.counts m.armed on) power
+pub with-power : (m : TurnMoment) → IsTrue m.power → m ≡ at m.on m.told m.writes m.counts m.armed true
+with-power m power = ap (λ (on : Bool). at m.on m.told m.writes m.counts m.armed on) power
 
 -- the same turn from and to the same
 pub turns-as : {passes : List ℕ → Bool} {tells : Bool} {files : Option Directory} {c : Call} {was are : ℕ} (t given : Turn) (old from new to : TurnMoment)
@@ -735,5 +740,5 @@ lacks-file None name lacks = lacks
 lacks-file (Some all) name lacks = lacks
 
 -- an agent that knows its flash shows the machine there
-pub shows-known : (f : Fields) → Fitting f → (t : Told) → (tells : Bool) → Knows f t → agent.Showing (kept_at tells f t)
-shows-known f fitting t tells knows = record { state = state_in f t.now; session = session_in f t.now; shows = known-shows f fitting tells t knows }
+pub shows-known : (f : Fields) → Fitting f → (t : Told) (w : ℕ → ℕ) (tells : Bool) → Knows f t → agent.Showing (kept_at tells f t w)
+shows-known f fitting t w tells knows = record { state = state_in f t.now; session = session_in f t.now; shows = known-shows f fitting tells t {writes = w} knows }

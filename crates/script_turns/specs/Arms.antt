@@ -12,11 +12,12 @@ pub record NoneFalls (old new : Counts) : Type 0 where
   pub reached : old.reached ≤ new.reached
   pub chances : old.chances ≤ new.chances
 
--- A loss was armed: what the agent keeps, what is told and the power stay, one arming more was made, and no failure and no loss was
--- counted.
+-- A loss was armed: what the agent keeps, what is told and the power stay. Nothing was erased or programmed. One arming more was
+-- made, and no failure and no loss was counted.
 pub record Arms (tells : Bool) (n k : ℕ) (old new : TurnMoment) : Type 0 where
   pub on_is : new.on ≡ old.on
   pub same : IsTrue tells → new.told ≡ old.told
+  pub writes : new.writes ≡ old.writes
   pub counts : NoneFalls old.counts new.counts
   pub reached : new.counts.reached ≡ old.counts.reached
   pub once : all_stops new.counts ≤ all_stops old.counts

@@ -11,7 +11,7 @@ use Rattle.agent_machine.specs.Fields.{Fields}
 use Rattle.agent_calls.specs.Started.{StartsFrom}
 use Rattle.early_boot.specs.Started.{started_reply}
 use Rattle.early_boot.specs.Ends.{Ended, booted, bad_layout, no_metadata, no_bank, lost, failed}
-use Rattle.early_boot.specs.EndsBy.{BootEnds, IdleEnd, StartedBy, StartsPermitted, TakesBoot, TakesByBytes}
+use Rattle.early_boot.specs.EndsBy.{BootEnds, IdleEnd, StartedBy, StartsPermitted, TakesBoot, TakesByBytes, TouchesBoot}
 use Rattle.script_turns.specs.Powered.{TurnMoment, SameDevice}
 
 abbrev pub reply_of_end : Ended → Reply
@@ -45,6 +45,7 @@ IsOnAfter (failed n) on = on ≡ None
 
 -- No bank was started on it: power came back, or was there with nothing dirty.
 pub record PowersOn (tells : Bool) (old new : TurnMoment) : Type 0 where
+  pub writes : new.writes ≡ old.writes
   pub idles : Idles old.counts new.counts
   pub made : new.counts.made ≡ old.counts.made
   pub armed : new.armed ≡ old.armed
@@ -73,6 +74,8 @@ pub record BootsAs (passes : List ℕ → Bool) (tells : Bool) (old : TurnMoment
   pub on_is : IsOnAfter end new.on
   pub idle : IdleEnd end mid.armed new.armed mid.counts new.counts
   pub spent : TakesBoot end mid.armed new.armed
+  -- on any device: which of blocks 1 to 6 it erased and programmed
+  pub touches : TouchesBoot end mid.writes new.writes
   pub started : StartedBy end
   pub permitted : StartsPermitted passes end
   pub once : IsTrue tells → TakesByBytes mid.told.now end mid.armed new.armed

@@ -13,7 +13,7 @@ use Rattle.agent_machine.specs.Fields.{Fields}
 use Rattle.agent_calls.specs.declared.agent.Agent.{Agent}
 use Rattle.agent_calls.specs.Shown.{device, fields}
 use Rattle.script_turns.specs.Stage.{on_where}
-use Rattle.script_turns.specs.Powered.{TurnMoment, at}
+use Rattle.script_turns.specs.Powered.{TurnMoment, moment_on}
 
 -- the call of an open
 abbrev pub open_call : List ℕ → Op → Call
@@ -77,5 +77,4 @@ on_by (Err stop.Gone) f = None
 
 -- the flash of an agent that is there, or is not
 abbrev pub moment_where : {D : Type 0} {F : Ghosts D} → Bool → Agent D F → TurnMoment
-moment_where {F = F} here a =
-    at (on_where here (fields a)) (F.told (device a)) (F.counts (device a)) (F.arming (device a)) (F.on (device a))
+moment_where {F = F} here a = moment_on F (on_where here (fields a)) (device a)

@@ -7,6 +7,7 @@ pub mod Replies
 pub mod Tables
 pub mod Sending
 pub mod Takes
+pub mod Touches
 pub mod Deciding
 pub mod Turning
 pub mod Turned

@@ -1,5 +1,5 @@
 -- The flash of a run between two turns, as the definitions have it.
-use Rattle.std.specs.Prelude.{◌≡◌, Bool, true, false, [], ◌∷◌, Option, Some, None, IsTrue, is_some}
+use Rattle.std.specs.Prelude.{◌≡◌, ℕ, Bool, true, false, [], ◌∷◌, Option, Some, None, IsTrue, is_some}
 use Rattle.std.proofs.lemmas.Bool.{false≢true}
 use Rattle.flash_core.specs.declared.flash.Arming.{Arming}
 use Rattle.flash_core.specs.declared.flash.Flash.{Ghosts}
@@ -53,22 +53,27 @@ pub record TurnMoment : Type 0 where
   -- what the agent keeps, where a bank was started on the flash
   pub on : Option Fields
   pub told : Told
+  -- how often each block was erased or programmed, on a device that counts that
+  pub writes : ℕ → ℕ
   pub counts : Counts
   pub armed : Option Arming
   -- whether it has power
   pub power : Bool
 
-abbrev pub at : Option Fields → Told → Counts → Option Arming → Bool → TurnMoment
-at on told counts armed power = record { on = on; told = told; counts = counts; armed = armed; power = power }
+abbrev pub at : Option Fields → Told → (ℕ → ℕ) → Counts → Option Arming → Bool → TurnMoment
+at on told writes counts armed power =
+    record { on = on; told = told; writes = writes; counts = counts; armed = armed; power = power }
+
+-- a device, and what the agent keeps, where a bank was started
+abbrev pub moment_on : {D : Type 0} → Ghosts D → Option Fields → D → TurnMoment
+moment_on F on flash = at on (F.told flash) (F.writes flash) (F.counts flash) (F.arming flash) (F.on flash)
 
 -- A device on which no bank was started, or whose agent is not asked.
-abbrev pub moment : {D : Type 0} → (D → Told) → (D → Counts) → (D → Option Arming) → (D → Bool) → D
-    → TurnMoment
-moment told counts arming power flash = at None (told flash) (counts flash) (arming flash) (power flash)
+abbrev pub moment : {D : Type 0} → Ghosts D → D → TurnMoment
+moment F flash = moment_on F None flash
 
 abbrev pub moment_in : {D : Type 0} {F : Ghosts D} → Stage D F → TurnMoment
-moment_in {F = F} s =
-    at (stage.shown_on s) (F.told (stage.device s)) (F.counts (stage.device s)) (F.arming (stage.device s)) (F.on (stage.device s))
+moment_in {F = F} s = moment_on F (stage.shown_on s) (stage.device s)
 
 -- a flash between two turns
 abbrev pub moment_of : {D : Type 0} {F : Ghosts D} → Powered D F → TurnMoment
@@ -77,17 +82,23 @@ moment_of p = moment_in (the p.inside p.there)
 -- the device is as it was
 pub record SameDevice (old new : TurnMoment) : Type 0 where
   pub told : new.told ≡ old.told
+  -- nothing was erased or programmed, also on a device that tells no content
+  pub writes : new.writes ≡ old.writes
   pub counts : new.counts ≡ old.counts
   pub armed : new.armed ≡ old.armed
   pub power : new.power ≡ old.power
 
--- an agent that keeps this, on a device that tells this
-abbrev pub kept_at : Bool → Fields → Told → agent.Moment
-kept_at tells f t = record { tells = tells; told = t; fields = f }
+-- an agent that keeps this, on a device that tells this and counts these erases and programs
+abbrev pub kept_at : Bool → Fields → Told → (ℕ → ℕ) → agent.Moment
+kept_at tells f t w = record { tells = tells; told = t; writes = w; fields = f }
+
+-- an agent that keeps this shows this machine on a device that tells this, whatever the device counts
+abbrev pub ShowsAt : Bool → Fields → Told → State → Session → Type 0
+ShowsAt tells f t s x = (w : ℕ → ℕ) → agent.Shows (kept_at tells f t w) s x
 
 -- where the device tells its content, sound or not, the flash shows the state that the agent shows: what was answered stands there
 abbrev pub IsSeen : Bool → Fields → Told → Type 0
-IsSeen tells f t = IsTrue tells → (s : State) (x : Session) → agent.Shows (kept_at tells f t) s x → IsShown f.layout t.now s
+IsSeen tells f t = IsTrue tells → (s : State) (x : Session) → ShowsAt tells f t s x → IsShown f.layout t.now s
 
 -- and both replicas hold the metadata that the agent keeps
 abbrev pub IsHeld : Bool → Fields → Told → Type 0
@@ -96,7 +107,7 @@ IsHeld tells f t = IsTrue tells → BothHold f.layout f.meta t.now
 -- what the agent keeps fits some machine, where a bank was started, and the flash shows it, by two replicas
 abbrev pub FitsMachine : Bool → TurnMoment → Type 0
 FitsMachine tells m = (f : Fields) → m.on ≡ Some f
-    → ∥ agent.Showing (kept_at tells f m.told) ∥₁ × IsSeen tells f m.told × IsHeld tells f m.told
+    → ∥ agent.Showing (kept_at tells f m.told m.writes) ∥₁ × IsSeen tells f m.told × IsHeld tells f m.told
 
 -- ---- the condition of a run, on a flash that tells its content
 
@@ -105,7 +116,7 @@ pub record IsOn (E : Setting) (c : Condition) (f : Fields) (t : Told) : Type 0 w
   pub state : State
   pub one : c.candidates ≡ state ∷ []
   pub layout : E.layout ≡ f.layout
-  pub shows : agent.Shows (kept_at true f t) state c.session
+  pub shows : ShowsAt true f t state c.session
   pub ready : IsReady E t state
 
 -- While off, the flash may show the candidates and no other state, whatever a loss leaves.

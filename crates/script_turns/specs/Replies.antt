@@ -9,7 +9,6 @@ use Rattle.fwu_model.specs.Call as call
 use Rattle.fwu_model.specs.Reply.{Reply, Turn}
 use Rattle.fwu_model.specs.Reply as reply
 use Rattle.host_io.specs.Contents.{Directory}
-use Rattle.flash_core.specs.Told.{Told}
 use Rattle.agent_kept.specs.Kept.{HasNothing, handles_meant}
 use Rattle.agent_machine.specs.Fields.{Fields, total_of}
 use Rattle.agent_machine.specs.Meets.{IsSettingOf, Stays}
@@ -88,10 +87,11 @@ AnswersTo passes (call.BeginPartial types) r old new = AnswersBegin passes types
 AnswersTo passes other r old new = AnswersCall passes other r old new
 
 -- While off no call of the agent is done. Else it is answered or refused, or the flash stops it and nothing is on.
-abbrev pub CallSays : (List ℕ → Bool) → Bool → Call → Option Fields → Told → Reply → Option Fields → Told → Type 0
+abbrev pub CallSays : (List ℕ → Bool) → Bool → Call → Option Fields → TurnMoment → Reply → Option Fields → TurnMoment → Type 0
 CallSays passes tells c None before r on now = (r ≡ reply.IsOff) × (on ≡ None)
 CallSays passes tells c (Some f) before r None now = IsFlashStop r
-CallSays passes tells c (Some f) before r (Some g) now = AnswersTo passes c r (kept_at tells f before) (kept_at tells g now)
+CallSays passes tells c (Some f) before r (Some g) now =
+    AnswersTo passes c r (kept_at tells f before.told before.writes) (kept_at tells g now.told now.writes)
 
 -- ---- a turn
 
@@ -102,7 +102,7 @@ Replies passes tells files call.Show old t new = (t.reply ≡ show_reply old.on)
 Replies passes tells files call.NoCall old t new = (t.reply ≡ no_call_reply old.on) × (new.on ≡ old.on)
 Replies passes tells files (call.Cut n k) old t new = (t.reply ≡ reply.CutOk) × Arms tells n k old new
 Replies passes tells files (call.Send name request) old t new =
-    SendSays false passes tells files name request old.on old.told t.reply new.on new.told
+    SendSays false passes tells files name request old.on old t.reply new.on new
 Replies passes tells files (call.SendPartial name request) old t new =
-    SendSays true passes tells files name request old.on old.told t.reply new.on new.told
-Replies passes tells files other old t new = CallSays passes tells other old.on old.told t.reply new.on new.told
+    SendSays true passes tells files name request old.on old t.reply new.on new
+Replies passes tells files other old t new = CallSays passes tells other old.on old t.reply new.on new

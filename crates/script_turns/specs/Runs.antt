@@ -1,12 +1,14 @@
 -- What a run of turns did so far.
 use Rattle.std.specs.List.{list_all}
-use Rattle.std.specs.Prelude.{not, ◌≡◌, ◌⊎◌, ℕ, ◌+◌, ◌≤◌, Bool, List, [], ◌∷◌, length, map, sum_by, Option, Some, None, IsTrue}
+use Rattle.std.specs.Prelude.{not, ◌≡◌, ◌⊎◌, ℕ, ◌+◌, ◌*◌, ◌%◌, ◌≤◌, Bool, List, [], ◌∷◌, length, map, sum_by, count_by, Option, Some, None, IsTrue}
 use Rattle.std.specs.Prelude.{Contains, slice_get}
+use Rattle.base_core.specs.Block.{block_bytes}
 use Rattle.flash_core.specs.declared.flash.Arming.{Arming}
 use Rattle.flash_core.specs.Counts.{Rose, all_stops, stops_in}
 use Rattle.flash_core.specs.Told.{NothingDirty}
 use Rattle.flash_core.specs.May.{Guards}
 use Rattle.host_io.specs.Contents.{Directory}
+use Rattle.fwu_formats.specs.Places.{layout_block}
 use Rattle.fwu_model.specs.State.{State}
 use Rattle.fwu_model.specs.Sound.{Setting}
 use Rattle.fwu_model.specs.Seen.{seen, SoundFlash}
@@ -14,9 +16,11 @@ use Rattle.fwu_model.specs.Call.{Call}
 use Rattle.fwu_model.specs.Call as call
 use Rattle.fwu_model.specs.Reply.{Turn}
 use Rattle.fwu_model.specs.Reply as reply
-use Rattle.fwu_model.specs.Run.{Condition, Runs, ends_run, is_send}
+use Rattle.fwu_model.specs.Run.{Condition, Runs, ends_run, is_boot, is_send}
 use Rattle.fwu_model.specs.Headline.{ArmedBy, made_after}
 use Rattle.fwu_model.specs.Causes.{FileNotRead, LossesAreCounted, cuts_in, greatest, losses_in}
+use Rattle.agent_machine.specs.Beside.{IsBesideBank}
+use Rattle.agent_machine.specs.Fields.{Fields}
 use Rattle.script_turns.specs.Powered.{FitsMachine, TurnMoment, IsAt, IsSafe}
 use Rattle.script_turns.specs.Booted.{BootsFrom}
 use Rattle.script_turns.specs.Replies.{power_after}
@@ -82,6 +86,24 @@ LossesAreDue journal old new =
     (losses_in journal + armings_left new.armed + old.counts.cuts ≤ cuts_in journal + armings_left old.armed + new.counts.cuts)
     ⊎ (greatest ≤ new.counts.cuts)
 
+-- how many turns of a journal are a boot
+abbrev pub boots_in : List Turn → ℕ
+boots_in journal = count_by (λ (t : Turn). is_boot t.call) journal
+
+-- No block is erased or programmed but blocks 1 to 6, and those of the bank behind the one that was started.
+abbrev pub SparesBanks : Fields → (ℕ → ℕ) → (ℕ → ℕ) → Type 0
+SparesBanks f old new = (b : ℕ) → (block_bytes * b + block_bytes ≤ block_bytes) ⊎ (block_bytes * 7 ≤ block_bytes * b)
+    → IsBesideBank f.layout ((f.boot + 1) % f.layout.banks) (block_bytes * b) → new b ≡ old b
+
+-- Which blocks a run erases or programs, on every device, whatever its reads give.
+pub record RunTouches (journal : List Turn) (old new : TurnMoment) : Type 0 where
+  -- never block 0, which has the layout
+  pub layout_still : new.writes layout_block ≡ old.writes layout_block
+  -- none without a boot, and nothing is on
+  pub unbooted : boots_in journal ≡ 0 → (new.on ≡ None) × (new.writes ≡ old.writes)
+  -- where one boot started a bank, whose agent is there at the end
+  pub banks : boots_in journal ≤ 1 → (f : Fields) → new.on ≡ Some f → SparesBanks f old.writes new.writes
+
 -- The turns of the journal were done, from a device that was off and unarmed. The files' faults were some, and are some.
 pub record Ran (passes : List ℕ → Bool) (tells : Bool) (files : Option Directory)
     (journal : List Turn) (old new : TurnMoment) (from to : ℕ) : Type 0 where
@@ -98,6 +120,8 @@ pub record Ran (passes : List ℕ → Bool) (tells : Bool) (files : Option Direc
   pub unread_turns : (t : Turn) → Contains journal t → t.reply ≡ reply.ReadFault
       → FileNotRead files from to t.call
   pub later : from ≤ to
+  -- on any device: which blocks were erased or programmed
+  pub touches : RunTouches journal old new
   -- what each of them did, on any device
   pub follows : Follows passes tells files journal old new from to
   pub power : new.power ≡ power_left old.power journal

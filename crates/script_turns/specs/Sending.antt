@@ -2,7 +2,6 @@
 use Rattle.std.specs.Prelude.{◌≡◌, ◌≢◌, ◌<◌, ℕ, Bool, true, false, List, length, Option, Some, None, Result, Ok, Err, IsTrue, ⊤, slice_index_or}
 use Rattle.host_io.specs.Access.{Access, Asks}
 use Rattle.host_io.specs.Contents.{Directory}
-use Rattle.flash_core.specs.Told.{Told}
 use Rattle.fwu_formats.specs.Package.{Toc}
 use Rattle.fwu_model.specs.State.{State, after}
 use Rattle.fwu_model.specs.Sound.{Setting}
@@ -22,7 +21,7 @@ use Rattle.update_client.specs.declared.stops.SendStop.TheVariants.{MissingImage
 use Rattle.update_client.specs.Choosing.{no_row}
 use Rattle.update_client.specs.Sends.{send_answer}
 use Rattle.update_client.specs.Partial.{AreWhole, over_answer}
-use Rattle.script_turns.specs.Powered.{kept_at}
+use Rattle.script_turns.specs.Powered.{TurnMoment, kept_at}
 
 -- a sending of all images, or one over those of the active bank
 abbrev pub send_call : Bool → List ℕ → ℕ → Call
@@ -103,12 +102,12 @@ IsSendStop reply.ReadFault = ⊤
 IsSendStop other = ⊥
 
 -- While off nothing is sent. Else it is answered, or stopped and nothing is on.
-abbrev pub SendSays : Bool → (List ℕ → Bool) → Bool → Option Directory → List ℕ → ℕ → Option Fields → Told → Reply
-    → Option Fields → Told → Type 0
+abbrev pub SendSays : Bool → (List ℕ → Bool) → Bool → Option Directory → List ℕ → ℕ → Option Fields → TurnMoment → Reply
+    → Option Fields → TurnMoment → Type 0
 SendSays partial passes tells files name request None before r on now = (r ≡ reply.IsOff) × (on ≡ None)
 SendSays partial passes tells files name request (Some f) before r None now = IsSendStop r
 SendSays partial passes tells files name request (Some f) before r (Some g) now =
-    AnswersSend partial passes files name request r (kept_at tells f before) (kept_at tells g now)
+    AnswersSend partial passes files name request r (kept_at tells f before.told before.writes) (kept_at tells g now.told now.writes)
 
 -- ---- a sending that ended
 

@@ -1,5 +1,5 @@
--- What an armed loss counts of a turn, on any device. Of one that tells no content "did nothing" and "wrote nothing" say that its
--- counts, its power and the armed loss stay. Where no loss is armed, that bounds no erase and no program.
+-- What an armed loss counts of a turn, on any device. "Did nothing" and "wrote nothing" say of each device, also of one that tells
+-- no content, that nothing was erased or programmed, and that its counts, its power and the armed loss stay.
 use Rattle.std.specs.Prelude.{◌≡◌, ◌⊎◌, ℕ, ◌+◌, ◌-◌, Bool, true, false, List, length, Option, Some, None, Result, Ok, Err, ⊤}
 use Rattle.flash_core.specs.declared.flash.FlashStop.{FlashStop}
 use Rattle.flash_core.specs.declared.flash.FlashStop.TheVariants as flash_stop
@@ -63,10 +63,10 @@ AcceptsBy reply.Success f (Some g) old new = TakesStore f.meta g.meta old.armed 
 AcceptsBy (reply.Refused st) f on old new = SameDevice old new
 AcceptsBy other f on old new = ⊤
 
--- so of going back, but that a refused one may have read the flash
+-- so of going back, but that a refused one may have read the flash; it erased and programmed nothing
 abbrev pub IsStoredBy : Reply → Fields → Option Fields → TurnMoment → TurnMoment → Type 0
 IsStoredBy reply.Success f (Some g) old new = TakesStore f.meta g.meta old.armed new.armed
-IsStoredBy (reply.Refused st) f on old new = new.armed ≡ old.armed
+IsStoredBy (reply.Refused st) f on old new = (new.armed ≡ old.armed) × (new.writes ≡ old.writes)
 IsStoredBy other f on old new = ⊤
 
 -- what a write through a handle wrote, by the image of the handle; a refused one did nothing
@@ -90,6 +90,7 @@ IsSwitchedBy other old new = ⊤
 
 -- A read writes nothing, and reaches no armed loss. A loss that no arming made clears the arming.
 pub record ReadTakes (r : Reply) (old new : TurnMoment) : Type 0 where
+  pub writes : new.writes ≡ old.writes
   pub armed : new.armed ≡ arming_kept (stop_told r) old.armed
   pub reached : ReachesNone (stop_told r) old.counts new.counts
 

@@ -15,10 +15,9 @@ use Rattle.fwu_model.specs.Causes.{FileNotRead, greatest, is_cut}
 use Rattle.moves.specs.Moved.{IsShown}
 use Rattle.agent_machine.specs.Beside.{KeepsSpared, KeepsSparedByAll}
 use Rattle.agent_machine.specs.Fields.{Fields}
-use Rattle.agent_machine.specs.Moment as agent
 use Rattle.early_boot.specs.Started.{started_session}
 use Rattle.early_boot.specs.Ends.{Ended, booted, bad_layout, no_metadata, no_bank, lost, failed}
-use Rattle.script_turns.specs.Powered.{TurnMoment, IsAt, IsSafe, kept_at}
+use Rattle.script_turns.specs.Powered.{TurnMoment, IsAt, IsSafe, ShowsAt}
 use Rattle.script_turns.specs.Booted.{BootsFrom}
 use Rattle.script_turns.specs.Calls.{is_agents, is_composed}
 use Rattle.script_turns.specs.Deciding.{DecidesAfter}
@@ -27,6 +26,7 @@ pub use Rattle.script_turns.specs.Boots.{IsOnAfter, PowersOn, GetsPower, numbers
 use Rattle.script_turns.specs.Replies.{Replies, power_after}
 use Rattle.script_turns.specs.Sending.{LacksSent}
 use Rattle.script_turns.specs.Takes.{StaysFree, TakesTurn, stop_told, unread_told}
+use Rattle.script_turns.specs.Touches.{Touches}
 
 -- a `cut` makes one arming, and no other call makes any; the count stands still at the greatest number
 abbrev pub Makes : Call → ℕ → ℕ → Type 0
@@ -62,6 +62,8 @@ pub record Turns (passes : List ℕ → Bool) (tells : Bool) (files : Option Dir
   -- on any device: the reply, what the agent keeps, and what an armed loss counts
   pub replies : Replies passes tells files c old t new
   pub takes : TakesTurn files c old t.reply new was are
+  -- on any device: which blocks are erased or programmed
+  pub touches : Touches c old new
   pub power : new.power ≡ power_after old.power t.reply
   -- no call changes which blocks are guarded
   pub guard : IsTrue tells → new.told.guard ≡ old.told.guard
@@ -89,7 +91,7 @@ pub record Turns (passes : List ℕ → Bool) (tells : Bool) (files : Option Dir
 -- with nothing staged and no handle open
 abbrev pub ShowsStarted : Bool → Ended → Option Fields → Told → Type 0
 ShowsStarted tells (booted b n) (Some f) t =
-    (s : State) → IsShown f.layout t.now s → agent.Shows (kept_at tells f t) s (started_session b)
+    (s : State) → IsShown f.layout t.now s → ShowsAt tells f t s (started_session b)
 ShowsStarted tells (booted b n) None t = ⊥
 ShowsStarted tells (bad_layout f) on t = ⊤
 ShowsStarted tells no_metadata on t = ⊤

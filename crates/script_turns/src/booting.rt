@@ -111,8 +111,7 @@ fn turned_by<D: Flash>(end: BootEnd<D>) -> Booting<D>
 fn powered_on<D: Flash>(flash: D) -> D
     requires { IsFalse (D.on flash) }
     ensures power { IsTrue (D.on result) }
-    ensures has { GetsPower D.tells None (moment D.told D.counts D.arming D.on flash)
-        (moment D.told D.counts D.arming D.on result) }
+    ensures has { GetsPower D.tells None (moment D.Flash flash) (moment D.Flash result) }
     ensures size { D.blocks result ≡ D.blocks flash }
 {
     let mut flash = flash;
@@ -124,8 +123,7 @@ fn powered_on<D: Flash>(flash: D) -> D
 fn with_power<D: Flash>(stage: Stage<D>) -> D
     requires { D.on (device stage) ≡ has_power stage }
     ensures power { IsTrue (D.on result) }
-    ensures has { GetsPower D.tells (shown_on stage) (moment_in stage)
-        (moment D.told D.counts D.arming D.on result) }
+    ensures has { GetsPower D.tells (shown_on stage) (moment_in stage) (moment D.Flash result) }
     ensures size { D.blocks result ≡ D.blocks (device stage) }
 {
     match stage {

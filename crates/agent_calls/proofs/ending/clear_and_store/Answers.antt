@@ -1,11 +1,6 @@
 use Rattle.std.proofs.Common.{arith}
 use Rattle.flash_core.proofs.Touches.{touches_then, touches_wider}
-use Rattle.agent_machine.proofs.StoredSpends.{takes-switch-by}
 use Rattle.agent_calls.proofs.ending.clear_and_store.Goals as goal
-
-pub returns-in-Ok-clause-once : goal.returns-in-Ok-clause-once
-returns-in-Ok-clause-once g c tells =
-    takes-switch-by c.store.result _ (g.D.Flash.arming c.args.flash.now) (g.D.Flash.arming c.clear.new.flash) (g.D.Flash.arming c.store.new.flash) (c.in-Ok.ensures.once tells) c.store.ensures.spent
 
 -- the marks are block 3, and the replicas blocks 1 and 2
 pub returns-in-Ok-clause-touches : goal.returns-in-Ok-clause-touches

@@ -1,10 +1,11 @@
 use Rattle.std.proofs.Common.{sym, ap, subst, ◌∙◌}
 use Rattle.early_boot.specs.Ends.{ended, stop_of}
-use Rattle.early_boot.specs.EndsBy.{BootEnds, IdleEnd, TakesBoot, TakesByBytes}
+use Rattle.early_boot.specs.EndsBy.{BootEnds, IdleEnd, TakesBoot, TakesByBytes, TouchesBoot}
 use Rattle.flash_core.specs.Counts.{Spends, StaysUnarmed}
 use Rattle.fwu_model.specs.Call as call
 use Rattle.fwu_model.specs.Reply.{Turn}
 use Rattle.script_turns.specs.Powered.{moment, moment_in}
+use Rattle.script_turns.specs.Touches.{TouchesByBoot}
 use Rattle.script_turns.specs.Turning.{Turns}
 use Rattle.script_turns.proofs.Boots.{boots-turn}
 use Rattle.script_turns.proofs.booting.boot_turn.Goals as goal
@@ -18,7 +19,7 @@ returns-clause-turns g c files faults =
     let boots = c.boot.ensures.boots in
     let left = c.turned_by.ensures.leaves in
     let old = moment_in c.args.stage in
-    let mid = moment F.told F.counts F.arming F.on flash in
+    let mid = moment F flash in
     let new = moment_in c.turned_by.result.stage in
     subst (λ (t : Turn). Turns passes F.tells files call.Boot t old new faults faults) (sym c.turned_by.ensures.turn)
     (boots-turn passes F.tells files faults e old mid new c.with_power.ensures.power (record {
@@ -33,5 +34,7 @@ returns-clause-turns g c files faults =
       permitted = boots.permitted;
       once = λ told. subst (λ d. TakesByBytes (F.told flash).now e (F.arming flash) (F.arming d)) (sym left.flash_is) (boots.once told);
       unarmed = subst (λ d. StaysUnarmed (stop_of e) (F.arming flash) (F.arming d) (F.counts flash) (F.counts d)) (sym left.flash_is) boots.unarmed;
+      touches = subst (λ d. TouchesByBoot (F.writes flash) (F.writes d)) (sym left.flash_is) boots.touches;
+      touches_fewer = subst (λ d. TouchesBoot e (F.writes flash) (F.writes d)) (sym left.flash_is) boots.touches_fewer;
       ends = λ told. subst (λ d. BootEnds passes (F.told flash) e (F.told d)) (sym left.flash_is) (boots.ends told);
     }) c.with_power.ensures.has)

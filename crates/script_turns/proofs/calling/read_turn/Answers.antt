@@ -26,7 +26,7 @@ returns-in-Ok-clause-turns g c passes =
     turns-by a b c.answered.result result live h.goes (got out) passes (call.Read c.args.handle c.args.room)
     (c.answered.ensures.turn ∙ ap (λ (bytes : List ℕ). quiet_turn (call.Read c.args.handle c.args.room) (reply.Got c.in-Ok.total bytes)) (front c.in-Ok.count c.args.out.len c.truncate.new.self.items out _ c.truncate.ensures.items (h.long ∙ c.as_mut_slice.ensures.len))) c.answered.ensures.here h.records.metadata
     (called-read g.D.Flash.tells result passes c.args.handle c.args.room out _ _ refl here fits (rw room at (h.meets live passes)))
-    (λ files. record { armed = h.reads.arming; reached = h.reads.reached })
+    (λ files. record { writes = h.reads.writes; armed = h.reads.arming; reached = h.reads.reached })
 
 pub returns-in-Err-clause-turns : goal.returns-in-Err-clause-turns
 returns-in-Err-clause-turns g c passes =
@@ -41,4 +41,4 @@ returns-in-Err-clause-turns g c passes =
     turns-by a b c.refused.result result live h.goes (got out) passes (call.Read c.args.handle c.args.room)
     c.refused.ensures.turn c.refused.ensures.here h.records.metadata
     (called-read g.D.Flash.tells result passes c.args.handle c.args.room out _ _ refl here tt (rw room at (h.meets live passes)))
-    (λ files. reads-by result out _ _ h.reads.arming h.reads.reached)
+    (λ files. reads-by result out _ _ h.reads.writes h.reads.arming h.reads.reached)

@@ -36,8 +36,8 @@ returns-in-Err-Package-clause-turns g c =
     turns-as _ (quiet_turn (send_call c.args.partial (string_bytes c.args.name) c.args.request) answer) (moment_where true agent) (moment_where true agent) _ _
     (c.answered.ensures.turn ∙ ap (λ (x : Call). quiet_turn x answer) c.send_call.ensures) refl
     (moment-as agent c.answered.result.here true c.answered.ensures.here)
-    (bad-table c.args.partial _ _ _ _ _ _ _ _ _ _ _ _ read.cause.later answer (omega (arith, read.cause.once)) refl refl read.told (read.told, refl)
-    (λ lacks. let failed = read.missing lacks in cc) (record { told = refl; counts = refl; armed = refl; power = refl }) (unarmed_none tt _ _))
+    (bad-table c.args.partial _ _ _ _ _ _ _ _ _ _ _ _ _ read.cause.later answer (omega (arith, read.cause.once)) refl refl read.told (read.told, refl)
+    (λ lacks. let failed = read.missing lacks in cc) (record { told = refl; writes = refl; counts = refl; armed = refl; power = refl }) (unarmed_none tt _ _))
 
 pub returns-in-Err-Capsule-clause-turns : goal.returns-in-Err-Capsule-clause-turns
 returns-in-Err-Capsule-clause-turns g c =
@@ -48,8 +48,8 @@ returns-in-Err-Capsule-clause-turns g c =
     turns-as _ (quiet_turn (send_call c.args.partial (string_bytes c.args.name) c.args.request) answer) (moment_where true agent) (moment_where true agent) _ _
     (turned.ensures.turn ∙ ap (λ (x : Call). quiet_turn x answer) c.send_call-in-Err-Capsule.ensures) refl
     (moment-as agent turned.result.here true turned.ensures.here)
-    (bad-table c.args.partial _ _ _ _ _ _ _ _ _ _ _ _ read.cause.later answer (omega (arith, read.cause.once)) refl refl read.told (read.told, refl)
-    (λ lacks. let failed = read.missing lacks in cc) (record { told = refl; counts = refl; armed = refl; power = refl }) (unarmed_none tt _ _))
+    (bad-table c.args.partial _ _ _ _ _ _ _ _ _ _ _ _ _ read.cause.later answer (omega (arith, read.cause.once)) refl refl read.told (read.told, refl)
+    (λ lacks. let failed = read.missing lacks in cc) (record { told = refl; writes = refl; counts = refl; armed = refl; power = refl }) (unarmed_none tt _ _))
 
 pub returns-in-Err-ReadFailed-clause-turns : goal.returns-in-Err-ReadFailed-clause-turns
 returns-in-Err-ReadFailed-clause-turns g c =
@@ -58,7 +58,7 @@ returns-in-Err-ReadFailed-clause-turns g c =
     turns-as _ (quiet_turn (send_call c.args.partial (string_bytes c.args.name) c.args.request) reply.ReadFault) (moment_where true agent) (moment_where true agent) _ _
     (c.stopped.ensures.turn ∙ ap (λ (x : Call). quiet_turn x reply.ReadFault) c.send_call-in-Err-ReadFailed.ensures) refl
     (moment-as agent c.stopped.result.here false c.stopped.ensures.here)
-    (unread-table c.args.partial _ _ _ _ _ _ _ _ _ _ _ _ read.cause.later read.cause.once (unread-by (g.H.Files.contents c.args.files.now) (string_bytes c.args.name) _ _ (read.cause.failed refl)))
+    (unread-table c.args.partial _ _ _ _ _ _ _ _ _ _ _ _ _ read.cause.later read.cause.once (unread-by (g.H.Files.contents c.args.files.now) (string_bytes c.args.name) _ _ (read.cause.failed refl)))
 
 -- ---- which files it asks for
 

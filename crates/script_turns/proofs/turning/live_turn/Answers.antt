@@ -11,7 +11,7 @@ returns-then-not-live g c =
     let live = c.args.live.now in
     let off = moment-as live.agent live.here false cc in
     turns-alone g.H.Files g.met.H.Files.at_rest _ _ _ _ _ _ _ refl
-    (λ files faults. turns-as _ _ _ _ _ _ c.turn_of.ensures off off (off-turn _ _ _ _ _ _ _ _ (shown c.args.call) c.requires.asks))
+    (λ files faults. turns-as _ _ _ _ _ _ c.turn_of.ensures off off (off-turn _ _ _ _ _ _ _ _ _ (shown c.args.call) c.requires.asks))
     (record { powered = λ on. c.requires.powered; size = refl; short = search rules })
 
 pub invariant_of-live : goal.invariant_of-live

@@ -1,0 +1,173 @@
+-- Which blocks a run of turns touches: one turn more.
+use Rattle.std.proofs.Common.{◌≡◌, ◌⊎◌, inl, inr, ◌∙◌, ℕ, ◌+◌, ◌*◌, ◌%◌, ◌≤◌, Bool, true, false, cond, List, [], ◌∷◌, ◌++◌, Option, Some, None, IsTrue, IsFalse, refl, sym, ap, subst, arith}
+use Rattle.std.proofs.lemmas.List.Sums.{sum_by-append}
+use Rattle.std.proofs.lemmas.Option.{same_Some}
+use Rattle.base_core.specs.Block.{block_bytes}
+use Rattle.host_io.specs.Contents.{Directory}
+use Rattle.fwu_formats.specs.Layout.{Layout}
+use Rattle.fwu_model.specs.Call.{Call}
+use Rattle.fwu_model.specs.Call as call
+use Rattle.fwu_model.specs.Reply.{Reply, Turn}
+use Rattle.fwu_model.specs.Reply as reply
+use Rattle.fwu_model.specs.Run.{is_boot}
+use Rattle.agent_machine.specs.Beside.{IsBesideBank, IsBesideMetadata, SparesBlocksByAll}
+use Rattle.agent_machine.specs.Fields.{Fields}
+use Rattle.agent_machine.specs.Meets.{Stays}
+use Rattle.agent_machine.specs.Moment as agent
+use Rattle.agent_machine.proofs.Beside.{blocks-once}
+use Rattle.script_turns.specs.Powered.{TurnMoment}
+use Rattle.script_turns.specs.Replies.{AnswersTo, CallSays, Replies}
+use Rattle.script_turns.specs.Runs.{RunTouches, SparesBanks, boots_in}
+use Rattle.script_turns.specs.Sending.{AnswersSend, SendSays, SendsAs}
+use Rattle.script_turns.specs.Touches.{TouchesBy, TouchesByBoot, TouchesOn}
+use Rattle.script_turns.specs.Turning.{Turns}
+use Rattle.script_turns.proofs.Touching.{layout-left}
+
+-- ---- the counts, by the call
+
+-- where nothing is on, nothing is touched but by a boot
+off-still : (c : Call) (on : Option Fields) (w v : ℕ → ℕ) → IsFalse (is_boot c) → on ≡ None → TouchesBy c on w v → v ≡ w
+off-still c (Some f) w v never off touches = absurd cc
+off-still call.Boot None w v never off touches = absurd cc
+off-still other None w v never off touches = touches
+
+booted-touches : (c : Call) (on : Option Fields) (w v : ℕ → ℕ) → IsTrue (is_boot c) → TouchesBy c on w v → TouchesByBoot w v
+booted-touches call.Boot None w v boot touches = touches
+booted-touches call.Boot (Some f) w v boot touches = touches
+booted-touches other on w v boot touches = absurd cc
+
+called-spares : (c : Call) (f : Fields) (w v : ℕ → ℕ) → IsFalse (is_boot c) → TouchesOn c f w v → SparesBlocksByAll f w v
+called-spares call.Boot f w v never touches = absurd cc
+called-spares call.Show f w v never touches = λ b out. ap (λ (writes : ℕ → ℕ). writes b) touches
+called-spares call.NoCall f w v never touches = λ b out. ap (λ (writes : ℕ → ℕ). writes b) touches
+called-spares (call.Cut n k) f w v never touches = λ b out. ap (λ (writes : ℕ → ℕ). writes b) touches
+called-spares (call.BeginPartial types) f w v never touches = touches
+called-spares (call.Send name request) f w v never touches = touches
+called-spares (call.SendPartial name request) f w v never touches = touches
+called-spares other f w v never touches = blocks-once f touches
+
+on-spares : (c : Call) (on : Option Fields) (f : Fields) (w v : ℕ → ℕ) → IsFalse (is_boot c) → on ≡ Some f → TouchesBy c on w v → SparesBlocksByAll f w v
+on-spares c on f w v never is touches = called-spares c f w v never (subst (λ (o : Option Fields). TouchesBy c o w v) is touches)
+
+-- ---- the agent, by the call
+
+-- the same layout, and the same bank
+abbrev IsSame : Fields → Fields → Type 0
+IsSame f g = (g.layout ≡ f.layout) × (g.boot ≡ f.boot)
+
+same-between : (x y f g : Fields) → x ≡ f → y ≡ g → IsSame x y → IsSame f g
+same-between x y f g old new same = (
+  ap (λ (h : Fields). h.layout) (sym new) ∙ same.0 ∙ ap (λ (h : Fields). h.layout) old,
+  ap (λ (h : Fields). h.boot) (sym new) ∙ same.1 ∙ ap (λ (h : Fields). h.boot) old,
+)
+
+same-stays : (old new : agent.Moment) → Stays old new → IsSame old.fields new.fields
+same-stays old new stays = (stays.layout, stays.boot)
+
+-- what is on stays
+same-on : (old new : Option Fields) (f g : Fields) → old ≡ Some f → new ≡ Some g → new ≡ old → IsSame f g
+same-on old new f g is are same = same-between f f f g refl (same_Some f g (sym is ∙ sym same ∙ are)) (refl, refl)
+
+module _ (passes : List ℕ → Bool) (tells : Bool) (files : Option Directory) where
+  call-off : (c : Call) (on now : Option Fields) (old : TurnMoment) (r : Reply) (new : TurnMoment) → on ≡ None → CallSays passes tells c on old r now new → now ≡ None
+  call-off c None now old r new off says = says.1
+  call-off c (Some f) now old r new off says = absurd cc
+
+  send-off : (partial : Bool) (name : List ℕ) (request : ℕ) (on now : Option Fields) (old : TurnMoment) (r : Reply) (new : TurnMoment) → on ≡ None
+      → SendSays partial passes tells files name request on old r now new → now ≡ None
+  send-off partial name request None now old r new off says = says.1
+  send-off partial name request (Some f) now old r new off says = absurd cc
+
+  -- no call but a boot starts a bank
+  off-after : (c : Call) (old : TurnMoment) (t : Turn) (new : TurnMoment) → IsFalse (is_boot c) → old.on ≡ None → Replies passes tells files c old t new → new.on ≡ None
+  off-after call.Boot old t new never off replies = absurd cc
+  off-after call.Show old t new never off replies = replies.1 ∙ off
+  off-after call.NoCall old t new never off replies = replies.1 ∙ off
+  off-after (call.Cut n k) old t new never off replies = replies.1.on_is ∙ off
+  off-after (call.Send name request) old t new never off replies = send-off false name request old.on new.on old t.reply new off replies
+  off-after (call.SendPartial name request) old t new never off replies = send-off true name request old.on new.on old t.reply new off replies
+  off-after other old t new never off replies = call-off other old.on new.on old t.reply new off replies
+
+  stays-to : (c : Call) (r : Reply) (old new : agent.Moment) → AnswersTo passes c r old new → IsSame old.fields new.fields
+  stays-to (call.BeginPartial types) r old new answers = same-stays old new answers.stays
+  stays-to other r old new answers = same-stays old new answers.stays
+
+  call-on : (c : Call) (on now : Option Fields) (f g : Fields) (old : TurnMoment) (r : Reply) (new : TurnMoment) → on ≡ Some f → now ≡ Some g → CallSays passes tells c on old r now new
+      → IsSame f g
+  call-on c (Some x) (Some y) f g old r new is are says = same-between x y f g (same_Some x f is) (same_Some y g are) (stays-to c r _ _ says)
+  call-on c (Some x) None f g old r new is are says = absurd cc
+  call-on c None now f g old r new is are says = absurd cc
+
+  sends-to : (partial : Bool) (name : List ℕ) (request : ℕ) (r : Reply) (old new : agent.Moment) → SendsAs partial passes files name request r old new → IsSame old.fields new.fields
+  sends-to false name request r old new sends = same-stays old new sends.stays
+  sends-to true name request r old new sends = same-stays old new sends.stays
+
+  sent-to : (partial : Bool) (name : List ℕ) (request : ℕ) (r : Reply) (old new : agent.Moment) → AnswersSend partial passes files name request r old new → IsSame old.fields new.fields
+  sent-to partial name request (reply.BadPackage fault) old new says = (ap (λ (m : agent.Moment). m.fields.layout) says.1, ap (λ (m : agent.Moment). m.fields.boot) says.1)
+  sent-to partial name request (reply.BadCapsule fault) old new says = (ap (λ (m : agent.Moment). m.fields.layout) says.1, ap (λ (m : agent.Moment). m.fields.boot) says.1)
+  sent-to partial name request other old new says = sends-to partial name request other old new says
+
+  send-on : (partial : Bool) (name : List ℕ) (request : ℕ) (on now : Option Fields) (f g : Fields) (old : TurnMoment) (r : Reply) (new : TurnMoment) → on ≡ Some f → now ≡ Some g
+      → SendSays partial passes tells files name request on old r now new → IsSame f g
+  send-on partial name request (Some x) (Some y) f g old r new is are says = same-between x y f g (same_Some x f is) (same_Some y g are) (sent-to partial name request r _ _ says)
+  send-on partial name request (Some x) None f g old r new is are says = absurd cc
+  send-on partial name request None now f g old r new is are says = absurd cc
+
+  -- and none changes the layout or the bank that was started
+  on-after : (c : Call) (f g : Fields) (old : TurnMoment) (t : Turn) (new : TurnMoment) → IsFalse (is_boot c) → old.on ≡ Some f → new.on ≡ Some g → Replies passes tells files c old t new → IsSame f g
+  on-after call.Boot f g old t new never is are replies = absurd cc
+  on-after call.Show f g old t new never is are replies = same-on old.on new.on f g is are replies.1
+  on-after call.NoCall f g old t new never is are replies = same-on old.on new.on f g is are replies.1
+  on-after (call.Cut n k) f g old t new never is are replies = same-on old.on new.on f g is are replies.1.on_is
+  on-after (call.Send name request) f g old t new never is are replies = send-on false name request old.on new.on f g old t.reply new is are replies
+  on-after (call.SendPartial name request) f g old t new never is are replies = send-on true name request old.on new.on f g old t.reply new is are replies
+  on-after other f g old t new never is are replies = call-on other old.on new.on f g old t.reply new is are replies
+
+-- ---- one turn more
+
+boots-more : (journal : List Turn) (t : Turn) → boots_in (journal ++ t ∷ []) ≡ boots_in journal + cond (is_boot t.call) 1 0
+boots-more journal t = sum_by-append (λ (x : Turn). cond (is_boot x.call) 1 0) journal (t ∷ []) ∙ omega arith
+
+beside-front : (b : ℕ) → (block_bytes * b + block_bytes ≤ block_bytes) ⊎ (block_bytes * 7 ≤ block_bytes * b) → IsBesideMetadata (block_bytes * b)
+beside-front b (inl low) = inl (omega (arith, low))
+beside-front b (inr high) = inr (omega (arith, high))
+
+beside-same : (f g : Fields) (i : ℕ) → IsSame f g → IsBesideBank g.layout ((g.boot + 1) % g.layout.banks) i → IsBesideBank f.layout ((f.boot + 1) % f.layout.banks) i
+beside-same f g i same beside =
+    subst (λ (n : ℕ). IsBesideBank f.layout ((n + 1) % f.layout.banks) i) same.1
+    (subst (λ (L : Layout). IsBesideBank L ((g.boot + 1) % L.banks) i) same.0 beside)
+
+pub touches-nothing : (old : TurnMoment) → old.on ≡ None → RunTouches [] old old
+touches-nothing old off = record { layout_still = refl; unbooted = λ none. (off, refl); banks = λ few f on. absurd (let e = sym off ∙ on in cc) }
+
+module _ (passes : List ℕ → Bool) (tells : Bool) (files : Option Directory) (c : Call) (t : Turn) (journal : List Turn) (old mid new : TurnMoment) (through to : ℕ)
+    (turned : Turns passes tells files c t mid new through to) (run : RunTouches journal old mid) where
+  more : boots_in (journal ++ t ∷ []) ≡ boots_in journal + cond (is_boot c) 1 0
+  more = boots-more journal t ∙ ap (λ (what : Call). boots_in journal + cond (is_boot what) 1 0) turned.call_is
+
+  -- with no boot before it
+  unbooted-on : (b : Bool) → is_boot c ≡ b → boots_in (journal ++ t ∷ []) ≡ 0 → (new.on ≡ None) × (new.writes ≡ old.writes)
+  unbooted-on true boot none = let one = ap {B = ℕ} (λ (x : Bool). cond x 1 0) boot in absurd (omega (arith, more, one, none))
+  unbooted-on false never none =
+      let was = run.unbooted (omega (arith, more, none)) in
+      (off-after passes tells files c mid t new never was.0 turned.replies, off-still c mid.on mid.writes new.writes never was.0 turned.touches ∙ was.1)
+
+  banks-on : (b : Bool) → is_boot c ≡ b → boots_in (journal ++ t ∷ []) ≤ 1 → (f : Fields) → new.on ≡ Some f → SparesBanks f old.writes new.writes
+  banks-on true boot few f on = λ b front beside.
+      let one = ap {B = ℕ} (λ (x : Bool). cond x 1 0) boot in
+      let was = run.unbooted (omega (arith, more, one, few)) in
+      booted-touches c mid.on mid.writes new.writes boot turned.touches b front ∙ ap (λ (writes : ℕ → ℕ). writes b) was.1
+  banks-on false never few f on = by mid.on refl
+    where
+      by : (o : Option Fields) → mid.on ≡ o → SparesBanks f old.writes new.writes
+      by None off = let none = off-after passes tells files c mid t new never off turned.replies in absurd (let e = sym none ∙ on in cc)
+      by (Some g) is = λ b front beside.
+          let there = beside-same g f (block_bytes * b) (on-after passes tells files c g f mid t new never is on turned.replies) beside in
+          on-spares c mid.on g mid.writes new.writes never is turned.touches b (beside-front b front, there) ∙ run.banks (omega (arith, more, few)) g is b front there
+
+  pub touches-more : RunTouches (journal ++ t ∷ []) old new
+  touches-more = record {
+    layout_still = layout-left c mid.on mid.writes new.writes turned.touches ∙ run.layout_still;
+    unbooted = unbooted-on (is_boot c) refl;
+    banks = banks-on (is_boot c) refl;
+  }

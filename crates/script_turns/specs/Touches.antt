@@ -1,0 +1,38 @@
+-- Which blocks a turn erases or programs, on every device, whatever its reads give.
+use Rattle.std.specs.Prelude.{◌≡◌, ℕ, ◌*◌, Option, Some, None}
+use Rattle.base_core.specs.Block.{block_bytes}
+use Rattle.flash_core.specs.Touches.{TouchesOnly}
+use Rattle.fwu_model.specs.Call.{Call}
+use Rattle.fwu_model.specs.Call as call
+use Rattle.agent_machine.specs.Beside.{SparesBlocks, SparesBlocksByAll}
+use Rattle.agent_machine.specs.Fields.{Fields}
+use Rattle.script_turns.specs.Powered.{TurnMoment}
+
+-- a boot: the metadata and the marks, in blocks 1 to 6, and no other
+abbrev pub TouchesByBoot : (ℕ → ℕ) → (ℕ → ℕ) → Type 0
+TouchesByBoot old new = TouchesOnly block_bytes (block_bytes * 7) old new
+
+-- Where a bank was started: a call of the agent touches only the metadata, the marks of the starts on trial and the update bank. That
+-- bank it touches only where the bank that was started is active, or by calls in a row. What asks no agent touches nothing.
+abbrev pub TouchesOn : Call → Fields → (ℕ → ℕ) → (ℕ → ℕ) → Type 0
+TouchesOn call.Boot f old new = TouchesByBoot old new
+TouchesOn call.Show f old new = new ≡ old
+TouchesOn call.NoCall f old new = new ≡ old
+TouchesOn (call.Cut n k) f old new = new ≡ old
+TouchesOn (call.BeginPartial types) f old new = SparesBlocksByAll f old new
+TouchesOn (call.Send name request) f old new = SparesBlocksByAll f old new
+TouchesOn (call.SendPartial name request) f old new = SparesBlocksByAll f old new
+TouchesOn other f old new = SparesBlocks f old new
+
+-- where none was: but for a boot nothing
+abbrev pub TouchesOff : Call → (ℕ → ℕ) → (ℕ → ℕ) → Type 0
+TouchesOff call.Boot old new = TouchesByBoot old new
+TouchesOff other old new = new ≡ old
+
+-- by what the agent keeps
+abbrev pub TouchesBy : Call → Option Fields → (ℕ → ℕ) → (ℕ → ℕ) → Type 0
+TouchesBy c None old new = TouchesOff c old new
+TouchesBy c (Some f) old new = TouchesOn c f old new
+
+abbrev pub Touches : Call → TurnMoment → TurnMoment → Type 0
+Touches c old new = TouchesBy c old.on old.writes new.writes
