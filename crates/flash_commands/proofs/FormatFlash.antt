@@ -1,5 +1,5 @@
 -- The command `format`: a stop of the flash has its cause, after the power came.
-use Rattle.std.proofs.Common.{◌≡◌, ℕ, List, Option, Result, Ok, Err, refl, subst}
+use Rattle.std.proofs.Common.{◌≡◌, ◌⊎◌, inl, inr, ℕ, List, Option, Result, Ok, Err, refl, ap, subst, ◌∙◌}
 use Rattle.std.specs.Prelude.{IsTrue, is_ok}
 use Rattle.flash_core.specs.Counts.{Idles, ReachesNone, Spends}
 use Rattle.flash_core.specs.declared.flash.Counts.{Counts}
@@ -23,6 +23,11 @@ stop-cause r stop before mid after is idle spends reaches =
 pub as-planned : (piece other : List ℕ) (planned plan status : ℕ) (old new : Option (List ℕ)) (faults_before faults_after : ℕ) → other ≡ piece → plan ≡ planned → Prints other plan status old new faults_before faults_after → Prints piece planned status old new faults_before faults_after
 as-planned piece other planned plan status old new faults_before faults_after same is p =
     subst (λ (n : ℕ). Prints piece n status old new faults_before faults_after) is (subst (λ (l : List ℕ). Prints l plan status old new faults_before faults_after) same p)
+
+-- where the flash is as the power left it, nothing was erased or programmed
+pub unwritten-by : {D A B : Type 0} (writes : D → ℕ → ℕ) (old mid new : D) → writes mid ≡ writes old → (A → new ≡ mid) → (B → new ≡ mid) → A ⊎ B → writes new ≡ writes old
+unwritten-by writes old mid new power first second (inl a) = ap writes (first a) ∙ power
+unwritten-by writes old mid new power first second (inr b) = ap writes (second b) ∙ power
 
 -- what was formatted was stopped by no flash
 pub format-done : (r : Result Formatted FormatStop) → format_status r ≡ 0 → IsTrue (is_ok (flash_result r))

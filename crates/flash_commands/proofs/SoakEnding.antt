@@ -25,7 +25,7 @@ use Rattle.gen_core.proofs.Naming.{rounds-have-packages}
 use Rattle.flash_core.specs.declared.flash.Flash.{Ghosts}
 use Rattle.agent_machine.specs.Fields.{Fields}
 use Rattle.script_turns.specs.declared.powered.Powered.{Powered}
-use Rattle.script_turns.specs.Powered.{TurnMoment, at, device, moment_of, shown_on}
+use Rattle.script_turns.specs.Powered.{TurnMoment, device, moment, moment_of, moment_on, shown_on}
 use Rattle.host_io.specs.Printed.{Prints}
 use Rattle.script_turns.specs.Runs.{Ran}
 use Rattle.script_runs.specs.ByTable.{flash_fault_line}
@@ -35,10 +35,9 @@ use Rattle.script_runs.proofs.Shapes.{end-of}
 
 -- a flash on which no bank was started
 pub moment-fresh : {D : Type 0} {F : Ghosts D} (p : Powered D F) (d : D) → shown_on p ≡ None → device p ≡ d
-    → moment_of p ≡ at None (F.told d) (F.counts d) (F.arming d) (F.on d)
+    → moment_of p ≡ moment F d
 moment-fresh {F = F} p d off is =
-    ap (λ (o : Option Fields). at o (F.told (device p)) (F.counts (device p)) (F.arming (device p)) (F.on (device p))) off
-    ∙ ap (λ (e : _). at None (F.told e) (F.counts e) (F.arming e) (F.on e)) is
+    ap (λ (o : Option Fields). moment_on F o (device p)) off ∙ ap (moment F) is
 
 -- ---- the calls and the files
 

@@ -203,11 +203,11 @@ module _ (passes : List ℕ → Bool) (tells : Bool) (one all : Directory) where
   answers-with name request (reply.BadCapsule f) old new same (table, stays) = (table-with name (Err (reply.BadCapsule f)) same table, stays)
   answers-with name request r old new same by = sends-with name request r old new same by
 
-  says-with : (name : List ℕ) (request : ℕ) (was : Option Fields) (before : Told) (r : Reply) (on : Option Fields) (now : Told) → one name ≡ all name → SendSays false passes tells (Some one) name request was before r on now
+  says-with : (name : List ℕ) (request : ℕ) (was : Option Fields) (before : TurnMoment) (r : Reply) (on : Option Fields) (now : TurnMoment) → one name ≡ all name → SendSays false passes tells (Some one) name request was before r on now
       → SendSays false passes tells (Some all) name request was before r on now
   says-with name request None before r on now same says = says
   says-with name request (Some f) before r None now same says = says
-  says-with name request (Some f) before r (Some g) now same says = answers-with name request r (kept_at tells f before) (kept_at tells g now) same says
+  says-with name request (Some f) before r (Some g) now same says = answers-with name request r (kept_at tells f before.told before.writes) (kept_at tells g now.told now.writes) same says
 
   read-with : (name : List ℕ) (f : Fields) (old new : TurnMoment) → one name ≡ all name → SameDevice old new ⊎ StopTakes false (Some one) name f old new
       → SameDevice old new ⊎ StopTakes false (Some all) name f old new
@@ -242,7 +242,7 @@ module _ (passes : List ℕ → Bool) (tells : Bool) (one all : Directory) where
   lacks-with other agree lacks = absurd lacks
 
   replies-with : (c : Call) (old : TurnMoment) (t : Turn) (new : TurnMoment) → AgreeFor one all c → Replies passes tells (Some one) c old t new → Replies passes tells (Some all) c old t new
-  replies-with (call.Send name request) old t new agree says = says-with name request old.on old.told t.reply new.on new.told agree.0 says
+  replies-with (call.Send name request) old t new agree says = says-with name request old.on old t.reply new.on new agree.0 says
   replies-with call.Boot old t new agree says = says
   replies-with (call.Cut n k) old t new agree says = says
   replies-with (call.Accepts guid) old t new agree says = says
@@ -270,6 +270,7 @@ module _ (passes : List ℕ → Bool) (tells : Bool) (one all : Directory) where
     reads_none = turned.reads_none;
     replies = replies-with c old t new agree turned.replies;
     takes = record { by_call = takes-with c old.on old t.reply new agree turned.takes.by_call; unread = turned.takes.unread };
+    touches = turned.touches;
     power = turned.power;
     guard = turned.guard;
     step = λ told E from passes_are files_are is_at no_chance.

@@ -4,6 +4,7 @@ use Rattle.std.specs.Prelude.{IsTrue, IsFalse, is_ok, codes, decimal, length}
 use Rattle.flash_core.specs.Counts.{all_stops, stops_in}
 use Rattle.flash_core.specs.May.{Keeps}
 use Rattle.flash_core.specs.Told.{Told, NothingDirty}
+use Rattle.flash_core.specs.Touches.{TouchesOnly}
 use Rattle.flash_core.specs.declared.flash.FlashStop.{FlashStop}
 use Rattle.base_core.specs.Guid.{guid_text}
 use Rattle.host_io.specs.Contents.{Directory}
@@ -144,6 +145,10 @@ pub record Tries (passes : List ℕ → Bool) (tells : Bool) (told : Option Dire
   pub ordered : IsTrue tells → IsInOrder passes L mid new.told
   -- nothing changes beyond the last bank
   pub keeps : IsTrue tells → Keeps 0 (4096 * blocks_needed L) mid new.told
+  -- on every device, whatever its reads give: no block beyond the last bank is erased or programmed, at any exit
+  pub touches : TouchesOnly 0 (4096 * blocks_needed L) old.writes new.writes
+  -- and none at all where it is refused before the flash is touched, or where told files lack the name
+  pub unwritten : IsEarlyStop r ⊎ Lacks told name → new.writes ≡ old.writes
   pub guard : IsTrue tells → new.told.guard ≡ old.told.guard
   -- no count falls, no loss is armed, and a stop of the flash has its cause
   pub counts : NoneFalls old.counts new.counts

@@ -64,5 +64,7 @@ pub data Showed (tells : Bool) (g : Given) (old new : World) (status : ℕ) (not
       → ShowFinds (IsTrue tells) new.flash.told.now old.flash.counts new.flash.counts planned noted line
       → all_stops new.flash.counts ≤ all_stops old.flash.counts + stops_shown planned
       → new.flash.power ≡ not (planned == 5)
+      -- on every device, whatever its reads give, no block is erased or programmed
+      → new.flash.writes ≡ old.flash.writes
       → Prints line planned status old.taken new.taken old.faults.sink new.faults.sink
       → Showed tells g old new status noted

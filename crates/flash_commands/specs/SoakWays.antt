@@ -82,7 +82,7 @@ pub data SoakWay (device : Device) (g : Given) (seed rounds : ℕ) (ending : End
       old.flash start 0 0 (Ok done)
       → start.on ≡ None → start.power ≡ true
       → Ran passes_any device.tells (Some (soak_files seed rounds)) ending.journal start
-      (at on new.flash.told new.flash.counts new.flash.armed new.flash.power) 0 0
+      (at on new.flash.told new.flash.writes new.flash.counts new.flash.armed new.flash.power) 0 0
       → SoakEnds rounds (soak_calls seed rounds) (in_model ending) old.taken new.taken old.faults.sink new.faults.sink
       → IsFalse (is_beyond_model ending.noted)
       → SoakWay device g seed rounds ending old new

@@ -53,8 +53,8 @@ pub fn try_format<D: Flash, H: Files, V: Verifier>(
     requires off { IsFalse (D.on flash.old) }
     requires unarmed { D.arming flash.old ≡ None }
     ensures tries { Tries (V.passes verifier.now) D.tells (H.contents files.old) name.now
-        (record { banks = banks; rows = rows.now }) (D.blocks flash.old) (moment D.told D.counts D.arming D.on flash.old)
-        (moment D.told D.counts D.arming D.on flash.new) (H.faults files.old) (H.faults files.new) result }
+        (record { banks = banks; rows = rows.now }) (D.blocks flash.old) (moment D.Flash flash.old) (moment D.Flash flash.new)
+        (H.faults files.old) (H.faults files.new) result }
     ensures same { H.contents files.new ≡ H.contents files.old }
     ensures unwritten { H.writes files.new ≡ H.writes files.old }
     ensures later { H.faults files.old ≤ H.faults files.new }

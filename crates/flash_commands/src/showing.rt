@@ -64,6 +64,7 @@ fn find<D: Flash>(flash: &mut D, text: &mut Vec<u8>) -> Found
     ensures made { (D.counts flash.new).made ≡ (D.counts flash.old).made }
     ensures unarmed { D.arming flash.new ≡ None }
     ensures power { D.on flash.new ≡ not (result.status == 5) }
+    ensures writes { D.writes flash.new ≡ D.writes flash.old }
     ensures size { D.blocks flash.new ≡ D.blocks flash.old }
 {
     flash.power_on();
@@ -112,6 +113,8 @@ pub fn show<D: Flash, O: Sink>(alloc: Global, sink: &mut O, flash: D) -> Done<D>
     ensures note { IsFalse (is_beyond_model result.note) }
     ensures content { IsTrue D.tells → NothingDirty (D.told flash) → D.told result.flash ≡ D.told flash }
     ensures guard { IsTrue D.tells → (D.told result.flash).guard ≡ (D.told flash).guard }
+    // on every device, whatever its reads give: nothing is erased or programmed
+    ensures writes { D.writes result.flash ≡ D.writes flash }
     ensures no_turns { turns result.journal ≡ [] }
     ensures counts { NoneFalls (D.counts flash) (D.counts result.flash) }
     ensures made { (D.counts result.flash).made ≡ (D.counts flash).made }

@@ -1,8 +1,8 @@
 use Rattle.std.proofs.Common.{ℕ, List, ap, refl, sym, ◌∙◌, ◌++◌}
+use Rattle.script_turns.specs.Powered.{moment}
 use Rattle.flash_commands.specs.Formatting.{format_status, format_text, starved, tried}
 use Rattle.flash_commands.proofs.FormatFlash.{as-planned, format-done}
 use Rattle.script_runs.proofs.TopPrints.{done-planned, later}
-use Rattle.script_runs.proofs.TopWays.{same-moment}
 use Rattle.flash_commands.proofs.formatting.format_flash.Goals as goal
 
 pub returns-clause-formats : goal.returns-clause-formats
@@ -23,7 +23,7 @@ pub returns-in_default-clause-formats : goal.returns-in_default-clause-formats
 returns-in_default-clause-formats g c = λ script source sources.
     let e = c.refuse.ensures in
     let stuck = e.starved refl in
-    starved stuck.0 e.note (same-moment g.D.Flash.told g.D.Flash.counts g.D.Flash.arming g.D.Flash.on _ _ e.flash) (ap g.O.Sink.taken stuck.1, ap g.O.Sink.faults stuck.1)
+    starved stuck.0 e.note (ap (moment g.D.Flash) e.flash) (ap g.O.Sink.taken stuck.1, ap g.O.Sink.faults stuck.1)
 
 pub returns-in_default-clause-later_sink : goal.returns-in_default-clause-later_sink
 returns-in_default-clause-later_sink g c = later _ _ _ _ _ _ _ c.refuse.ensures.prints

@@ -1,9 +1,11 @@
-use Rattle.std.proofs.Common.{ℕ, None, ap, subst, ◌∙◌}
+use Rattle.std.proofs.Common.{◌*◌, ℕ, ap, subst, ◌∙◌}
 use Rattle.std.proofs.lemmas.Result.{IfOk-weaker}
+use Rattle.flash_core.proofs.Touches.{touches_none, touches_then}
+use Rattle.fwu_formats.specs.Layout.{Layout, blocks_needed}
 use Rattle.flash_commands.specs.Formatting.{Tries}
-use Rattle.script_turns.specs.Powered.{at}
+use Rattle.script_turns.specs.Powered.{moment}
 use Rattle.flash_commands.proofs.ShowFlash.{power-on-guards, power-on-keeps, none-falls, stops-then}
-use Rattle.flash_commands.proofs.FormatFlash.{stop-cause}
+use Rattle.flash_commands.proofs.FormatFlash.{stop-cause, unwritten-by}
 use Rattle.flash_commands.proofs.formatting.try_format.Goals as goal
 
 pub returns-clause-tries : goal.returns-clause-tries
@@ -15,7 +17,7 @@ returns-clause-tries g c =
     let new = c.format.new.flash in
     let e = c.format.ensures in
     subst (λ (blocks : ℕ). Tries (g.V.Verifier.passes c.args.verifier.now) g.D.Flash.tells (g.H.Files.contents c.args.files.now) c.args.name.now (record { banks = c.args.banks; rows = c.args.rows.now }) blocks
-    (at None (told old) (counts old) (g.D.Flash.arming old) (g.D.Flash.on old)) (at None (told new) (counts new) (g.D.Flash.arming new) (g.D.Flash.on new)) (g.H.Files.faults c.args.files.now) (g.H.Files.faults c.format.new.files) c.format.result)
+    (moment g.D.Flash old) (moment g.D.Flash new) (g.H.Files.faults c.args.files.now) (g.H.Files.faults c.format.new.files) c.format.result)
     c.power_on.ensures.size
     (record {
       mid = told mid;
@@ -41,6 +43,10 @@ returns-clause-tries g c =
       clean = e.clean;
       ordered = e.ordered;
       keeps = e.keeps;
+      touches =
+          let L : Layout = record { banks = c.args.banks; rows = c.args.rows.now } in
+          touches_then 0 (4096 * blocks_needed L) (touches_none 0 (4096 * blocks_needed L) c.power_on.ensures.writes) e.touches;
+      unwritten = unwritten-by g.D.Flash.writes old mid new c.power_on.ensures.writes e.untouched (λ lacks. (e.missing lacks).1);
       guard = λ tells. (e.keeps tells).guard ∙ power-on-guards (told old) (told mid) (c.power_on.ensures.fresh tells);
       counts = none-falls _ (counts old) (counts mid) (counts new) c.power_on.ensures.counts e.goes.costs;
       once = stops-then _ (counts old) (counts mid) (counts new) c.power_on.ensures.counts e.goes.costs;

@@ -6,7 +6,7 @@ use Rattle.flash_commands.proofs.showing.show.Goals as goal
 
 pub returns-clause-showed : goal.returns-clause-showed
 returns-clause-showed g c given was are good =
-    show.found good c.find-found.result.status c.find-found.new.text.items c.find-found.ensures.woken c.find-found.ensures.finds c.find-found.ensures.once c.find-found.ensures.power (rw c.as_slice.ensures.value at c.put_line-status.ensures)
+    show.found good c.find-found.result.status c.find-found.new.text.items c.find-found.ensures.woken c.find-found.ensures.finds c.find-found.ensures.once c.find-found.ensures.power c.find-found.ensures.writes (rw c.as_slice.ensures.value at c.put_line-status.ensures)
 
 pub returns-clause-power : goal.returns-clause-power
 returns-clause-power g c zero = c.find-found.ensures.power ∙ ap (λ (n : ℕ). not (n == 5)) (done-planned _ _ _ _ _ _ _ c.put_line-status.ensures zero)

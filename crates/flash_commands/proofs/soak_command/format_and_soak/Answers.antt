@@ -1,11 +1,11 @@
-use Rattle.std.proofs.Common.{◌++◌, ℕ, List, None, Some, refl, sym, ap, subst, ◌∙◌}
+use Rattle.std.proofs.Common.{◌++◌, ℕ, List, Some, refl, sym, ap, subst, ◌∙◌}
 use Rattle.std.specs.Prelude.{string_bytes}
 use Rattle.fwu_formats.specs.Digests.{passes_any}
 use Rattle.fwu_journal.specs.Shown.{turns}
 use Rattle.fwu_journal.specs.declared.journal.Journal.{Journal}
 use Rattle.fwu_model.specs.Call.{Call}
 use Rattle.gen_core.specs.Calls.{soak_calls}
-use Rattle.script_turns.specs.Powered.{TurnMoment, at, device, moment_of, shown_on}
+use Rattle.script_turns.specs.Powered.{TurnMoment, device, moment, moment_of, moment_on, shown_on}
 use Rattle.flash_commands.specs.Formatting.{format_note, format_status, format_text}
 use Rattle.script_runs.specs.Noted.{is_beyond_model, noted}
 use Rattle.script_turns.specs.Runs.{Ran}
@@ -13,16 +13,13 @@ use Rattle.flash_commands.specs.Soaking.{SoakReached, only_file_of, soak_files}
 use Rattle.flash_commands.specs.SoakWays.{not_formatted, ran, starved}
 use Rattle.flash_commands.proofs.FormatFlash.{as-planned}
 use Rattle.script_runs.proofs.TopPrints.{later}
-use Rattle.script_runs.proofs.TopWays.{same-moment}
 use Rattle.flash_commands.proofs.SoakEnding.{moment-fresh, soak-calls-are, soak-named, stands-ran, tries-as}
 use Rattle.flash_commands.proofs.soak_command.format_and_soak.Goals as goal
 
 pub returns-in-Ok-ended-clause-way : goal.returns-in-Ok-ended-clause-way
 returns-in-Ok-ended-clause-way g c seed given was are good large register_is file_is =
-    let told = g.D.Flash.told in
-    let counts = g.D.Flash.counts in
     let d = c.try_format-ended.new.flash in
-    let start = at None (told d) (counts d) (g.D.Flash.arming d) (g.D.Flash.on d) in
+    let start = moment g.D.Flash d in
     let begins = c.new-run.ensures.powered in
     let run = c.do_soak-end.new.run in
     let end = c.do_soak-end.result in
@@ -38,7 +35,7 @@ returns-in-Ok-ended-clause-way g c seed given was are good large register_is fil
     (tries-as g.D.Flash.tells seed (only_file_of (string_bytes c.args.drawn.first.name) c.args.drawn.first.bytes.items) c.as_str.result.now c.soak_rows.result _ _ start _ file_is (c.as_str.ensures.value ∙ c.in-Ok.ensures) c.soak_rows.ensures.rows
     c.in-Ok-ended.ensures.tries)
     refl c.in-Ok-ended.ensures.tries.power
-    (subst (λ (x : g.row.D.Denot). Ran passes_any g.D.Flash.tells (Some (soak_files seed n)) (turns c.finish.result.journal) start (at (shown_on p) (told x) (counts x) (g.D.Flash.arming x) (g.D.Flash.on x)) 0 0) (sym c.finish.ensures.flash)
+    (subst (λ (x : g.row.D.Denot). Ran passes_any g.D.Flash.tells (Some (soak_files seed n)) (turns c.finish.result.journal) start (moment_on g.D.Flash (shown_on p) x) 0 0) (sym c.finish.ensures.flash)
     (subst (λ (j : Journal). Ran passes_any g.D.Flash.tells (Some (soak_files seed n)) (turns j) start (moment_of p) 0 0) (sym c.finish.ensures.journal)
     (stands-ran g.D.Flash.tells (soak_files seed n) (soak_calls seed n) (turns run.journal) start (moment_of p) end.status (noted end.note) run.text.items stands)))
     (c.finish.ensures.ended (soak_files seed n) (soak_calls seed n) start stands)
@@ -60,7 +57,7 @@ pub returns-in_default-clause-way : goal.returns-in_default-clause-way
 returns-in_default-clause-way g c seed given was are good large register_is file_is =
     let e = c.refuse.ensures in
     let stuck = e.starved refl in
-    starved e.no_turns (same-moment g.D.Flash.told g.D.Flash.counts g.D.Flash.arming g.D.Flash.on _ _ e.flash) stuck.0 e.note (ap g.O.Sink.taken stuck.1, ap g.O.Sink.faults stuck.1)
+    starved e.no_turns (ap (moment g.D.Flash) e.flash) stuck.0 e.note (ap g.O.Sink.taken stuck.1, ap g.O.Sink.faults stuck.1)
 
 pub returns-in_default-clause-later : goal.returns-in_default-clause-later
 returns-in_default-clause-later g c = later _ _ _ _ _ _ _ c.refuse.ensures.prints

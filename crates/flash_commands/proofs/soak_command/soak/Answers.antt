@@ -1,10 +1,10 @@
 use Rattle.std.proofs.Common.{refl, sym, ap, ◌∙◌}
 use Rattle.gen_core.specs.Draws.{register_after}
 use Rattle.gen_core.specs.Setup.{is_too_small}
+use Rattle.script_turns.specs.Powered.{moment}
 use Rattle.flash_commands.specs.Soaking.{first_files}
 use Rattle.flash_commands.specs.SoakWays.{starved, too_small}
 use Rattle.script_runs.proofs.TopPrints.{later}
-use Rattle.script_runs.proofs.TopWays.{same-moment}
 use Rattle.flash_commands.proofs.soak_command.soak.Goals as goal
 
 pub returns-then-is_too_small-clause-way : goal.returns-then-is_too_small-clause-way
@@ -26,7 +26,7 @@ pub returns-in_default-clause-way : goal.returns-in_default-clause-way
 returns-in_default-clause-way g c given was are good =
     let e = c.refuse.ensures in
     let stuck = e.starved refl in
-    starved e.no_turns (same-moment g.D.Flash.told g.D.Flash.counts g.D.Flash.arming g.D.Flash.on _ _ e.flash) stuck.0 e.note (ap g.O.Sink.taken stuck.1, ap g.O.Sink.faults stuck.1)
+    starved e.no_turns (ap (moment g.D.Flash) e.flash) stuck.0 e.note (ap g.O.Sink.taken stuck.1, ap g.O.Sink.faults stuck.1)
 
 pub returns-in_default-clause-later : goal.returns-in_default-clause-later
 returns-in_default-clause-later g c = later _ _ _ _ _ _ _ c.refuse.ensures.prints
@@ -35,7 +35,7 @@ pub returns-in_default-make-clause-way : goal.returns-in_default-make-clause-way
 returns-in_default-make-clause-way g c given was are good =
     let e = c.refuse-in_default-make.ensures in
     let stuck = e.starved refl in
-    starved e.no_turns (same-moment g.D.Flash.told g.D.Flash.counts g.D.Flash.arming g.D.Flash.on _ _ e.flash) stuck.0 e.note (ap g.O.Sink.taken stuck.1, ap g.O.Sink.faults stuck.1)
+    starved e.no_turns (ap (moment g.D.Flash) e.flash) stuck.0 e.note (ap g.O.Sink.taken stuck.1, ap g.O.Sink.faults stuck.1)
 
 pub returns-in_default-make-clause-later : goal.returns-in_default-make-clause-later
 returns-in_default-make-clause-later g c = later _ _ _ _ _ _ _ c.refuse-in_default-make.ensures.prints
