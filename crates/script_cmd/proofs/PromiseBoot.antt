@@ -208,4 +208,4 @@ ways-boot passes tells inputs end old new (refused planned line empty same why p
 ways-boot passes tells inputs end old new (ran calls on from good asks has before turns ended printed) told clean boot fails faults cuts reached =
     let is = (some-at (script_asked (in_short inputs.asked) inputs.source) (λ b. (is_too_long b ≡ false) × (script_of b ≡ Ok calls)) (codes "boot\n") has (boot-script inputs.asked inputs.source boot)).1 in
     let same : calls ≡ call.Boot ∷ [] = same-calls calls (call.Boot ∷ []) (sym is ∙ boot-is-script) in
-    by-journal passes tells inputs.files end.status end.noted old.flash from new.faults.files end.journal (at on new.flash.told new.flash.counts new.flash.armed new.flash.power) turns (subst (λ (c : List Call). ScriptEnded c end.journal end.status end.noted) same ended) told clean (whole end.status fails) faults cuts reached
+    by-journal passes tells inputs.files end.status end.noted old.flash from new.faults.files end.journal (at on new.flash.told new.flash.writes new.flash.counts new.flash.armed new.flash.power) turns (subst (λ (c : List Call). ScriptEnded c end.journal end.status end.noted) same ended) told clean (whole end.status fails) faults cuts reached

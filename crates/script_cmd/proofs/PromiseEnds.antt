@@ -339,4 +339,4 @@ ways-end passes tells asked g end old new (starved empty same nine quiet stuck) 
 ways-end passes tells asked g end old new (refused planned line empty same why prints) =
     none-ends asked g end old new empty same (refused-ends asked g old.faults new.faults end.status end.noted old.flash.counts planned line old.taken new.taken why prints)
 ways-end passes tells asked g end old new (ran calls on from good asks has before turns ended printed) =
-    ran-ends passes tells asked g end.journal end.status end.noted old.flash (at on new.flash.told new.flash.counts new.flash.armed new.flash.power) old.taken new.taken old.faults new.faults calls from before turns ended good asks has printed
+    ran-ends passes tells asked g end.journal end.status end.noted old.flash (at on new.flash.told new.flash.writes new.flash.counts new.flash.armed new.flash.power) old.taken new.taken old.faults new.faults calls from before turns ended good asks has printed

@@ -81,7 +81,7 @@ module _ (passes : List ℕ → Bool) (tells : Bool) (files : Option (List ℕ �
 
   -- the turns do the first of these calls
   pub ran-head : (journal : List Turn) (new : TurnMoment) (on : Option Fields) (from to : ℕ) → IsPrefixOf (calls_of journal) calls → (status ≡ 0 → calls_of journal ≡ calls)
-      → Ran passes tells files journal old (at on new.told new.counts new.armed new.power) from to → Premises E start old.told files passes old.counts new.counts
+      → Ran passes tells files journal old (at on new.told new.writes new.counts new.armed new.power) from to → Premises E start old.told files passes old.counts new.counts
       → Headline E start (outcome calls journal status old new)
   ran-head journal new on from to front all turns given =
       let starts : StartsSound E start passes old = record { clean = given.clean; sound = given.sound; shows = given.shows; guarded = given.guarded; passes_are = sym given.verifier_is } in
@@ -113,7 +113,7 @@ module _ (passes : List ℕ → Bool) (tells : Bool) (asked : Option Asked) (fil
       idle-head passes tells files status old told E start calls journal new empty same (λ e. absurd (not_done e)) given
 
   ran-keeps : (journal : List Turn) (noted : Note) (new : TurnMoment) (mine : List Call) (on : Option Fields) (from to : ℕ) → HasCalls (script_asked (in_short asked) source) mine
-      → Ran passes tells files journal old (at on new.told new.counts new.armed new.power) from to → ScriptEnded mine journal status noted → HoldsFor passes tells asked files source journal status old new
+      → Ran passes tells files journal old (at on new.told new.writes new.counts new.armed new.power) from to → ScriptEnded mine journal status noted → HoldsFor passes tells asked files source journal status old new
   ran-keeps journal noted new mine on from to has turns ended told E start calls given asks =
       let same : mine ≡ calls = asked-calls (in_short asked) source calls mine asks has in
       ran-head passes tells files status old told E start calls journal new on from to (ended.calls.0, ended.calls.1 ∙ same) (λ e. ended.all_calls e ∙ same) turns given

@@ -19,7 +19,7 @@ use Rattle.flash_commands.proofs.ShowFlash.{clean-sure}
 -- ---- the device
 
 same-device : (old : TurnMoment) → SameDevice old old
-same-device old = record { told = refl; counts = refl; armed = refl; power = refl }
+same-device old = record { told = refl; writes = refl; counts = refl; armed = refl; power = refl }
 
 free-none : (old : TurnMoment) → old.armed ≡ None → RunsFree [] old old
 free-none old unarmed = record { armed = unarmed; reached = refl; lost = λ t in_it is. absurd (no-turn t in_it) }
@@ -56,6 +56,7 @@ none-holds passes tells files old new = record {
     to = old.faults.files;
     follows = (refl, refl);
     begins = omega arith;
+    touches = λ off. record { layout_still = refl; unbooted = λ none. (off, refl); banks = λ one f is b out beside. refl };
     ends = λ some. absurd (some refl);
   };
   device = none-leaves tells old.flash;
@@ -71,13 +72,13 @@ idle-holds passes tells files journal old new empty same =
 -- ---- turns ran
 
 pub ran-holds : (passes : List ℕ → Bool) (tells : Bool) (files : Option Directory) (journal : List Turn) (on : Option Fields) (from to : ℕ) (old new : World) → old.faults.files ≤ from → (journal ≢ [] → to ≡ new.faults.files)
-    → Ran passes tells files journal old.flash (at on new.flash.told new.flash.counts new.flash.armed new.flash.power) from to → RanHolds passes tells files journal old new
+    → Ran passes tells files journal old.flash (at on new.flash.told new.flash.writes new.flash.counts new.flash.armed new.flash.power) from to → RanHolds passes tells files journal old new
 ran-holds passes tells files journal on from to old new before after turns = record {
-  replies = record { on = on; from = from; to = to; follows = turns.follows; begins = before; ends = after };
+  replies = record { on = on; from = from; to = to; follows = turns.follows; begins = before; touches = λ off. turns.touches; ends = after };
   device = record {
     untouched = λ empty.
         let same = turns.untouched empty in
-        record { told = ap (λ (m : TurnMoment). m.told) same; counts = ap (λ (m : TurnMoment). m.counts) same; armed = ap (λ (m : TurnMoment). m.armed) same; power = ap (λ (m : TurnMoment). m.power) same };
+        record { told = ap (λ (m : TurnMoment). m.told) same; writes = ap (λ (m : TurnMoment). m.writes) same; counts = ap (λ (m : TurnMoment). m.counts) same; armed = ap (λ (m : TurnMoment). m.armed) same; power = ap (λ (m : TurnMoment). m.power) same };
     power = turns.power;
     once = turns.once;
     guard = turns.guard;

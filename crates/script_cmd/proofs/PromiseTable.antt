@@ -10,7 +10,7 @@ use Rattle.gpt_core.specs.Places.{through}
 use Rattle.gpt_core.specs.Repair.{HeadersGuarded}
 use Rattle.gpt_core.specs.Table.{DecidesTable, Table, table_in_image}
 use Rattle.gpt_core.specs.View.{view_of}
-use Rattle.gpt_core.proofs.Leaving.{repair-keeps, repair-leaves}
+use Rattle.gpt_core.proofs.Leaving.{repair-keeps, repair-leaves, repair-spares}
 use Rattle.gpt_core.proofs.Stepping.{image_is_now}
 use Rattle.fwu_model.specs.Call.{Call}
 use Rattle.fwu_model.specs.State.{State}
@@ -68,11 +68,13 @@ module _ (passes : List ℕ → Bool) (device : Device) (inputs : Inputs) (end :
   runs-by-table (starved calls reads none looks nine is quiet) began = absurd (not-begun began none (λ zero_is. absurd (omega arith)))
   runs-by-table (lacked calls why reads none looks lacks is prints) began = absurd (not-begun began none (not-nothing _ 10 end.status old.taken new.taken old.faults.sink new.faults.sink (λ ten. absurd (omega arith)) prints))
   runs-by-table (stopped calls reads none stops is prints) began = absurd (not-begun began none (not-nothing _ 5 end.status old.taken new.taken old.faults.sink new.faults.sink (λ five. absurd (omega arith)) prints))
-  runs-by-table (ran calls p start on from reads starts before does beside ended beyond printed) began = record {
+  runs-by-table (ran calls p start on from reads starts before does beside touches ended beyond printed) began = record {
     places = p;
     start = start;
     starts = starts;
     beside = beside;
+    touches = touches;
+    unwritten = repair-spares device.blocks starts.has.table starts.has.which p old.flash.writes start.writes starts.has.gives starts.touches;
     seen = start-seen p start starts;
     promises = promised passes device.tells inputs (in_model end) (record old { flash = seen_at p start }) (record new { flash = seen_at p new.flash })
         (way.ran calls on from reads.good reads.asks reads.has before does ended printed);
@@ -161,7 +163,7 @@ module _ (passes : List ℕ → Bool) (device : Device) (inputs : Inputs) (end :
       caused : Rose old.flash.counts.faults new.flash.counts.faults ⊎ Rose old.flash.counts.cuts new.flash.counts.cuts → ⊥
       caused (inl fault) = served.no_fault fault
       caused (inr cut) = no_cut none cut
-  complete-by-table (ran calls q start on from reads starts before does beside ended beyond printed) told p E s asked_calls script clean gives premises asks is served no_cut =
+  complete-by-table (ran calls q start on from reads starts before does beside touches ended beyond printed) told p E s asked_calls script clean gives premises asks is served no_cut =
       (promised passes device.tells inputs (in_model end) (record old { flash = seen_at q start }) (record new { flash = seen_at q new.flash })
       (way.ran calls on from reads.good reads.asks reads.has before does ended printed)).complete told E s asked_calls script
       (start-premises told clean p q start starts gives E s premises) asks is (served-from asked_calls p q start script starts.waits.falls.faults served)
@@ -201,7 +203,7 @@ module _ (passes : List ℕ → Bool) (device : Device) (inputs : Inputs) (end :
   kept-by-table (starved calls reads none looks nine quiet same) told p clean gives empty some = kept-woken p clean gives new.flash.told (looks.wakes told)
   kept-by-table (lacked calls why reads none looks lacks noted_is prints) told p clean gives empty some = kept-woken p clean gives new.flash.told (looks.wakes told)
   kept-by-table (stopped calls reads none stops noted_is prints) told p clean gives empty some = kept-stopped p clean gives stops.woken (stops.wakes told) (stops.left told)
-  kept-by-table (ran calls q start on from reads starts before does beside ended beyond printed) told p clean gives empty some = absurd (none-ended calls end.journal end.status (noted end.noted) empty some ended)
+  kept-by-table (ran calls q start on from reads starts before does beside touches ended beyond printed) told p clean gives empty some = absurd (none-ended calls end.journal end.status (noted end.noted) empty some ended)
 
   pub promised-by-table : Ends → PromisedByTable passes device inputs end old new
   promised-by-table w = record {

@@ -1,8 +1,6 @@
 -- The command `serve`, by the words and behind a list.
 use Rattle.std.proofs.Common.{◌≡◌, ◌≤◌, ℕ, Bool, List, [], Option, Some, None, sym, ap, ap₂, subst, ◌∙◌, arith}
-use Rattle.flash_core.specs.Told.{Told}
-use Rattle.flash_core.specs.declared.flash.Arming.{Arming}
-use Rattle.flash_core.specs.declared.flash.Counts.{Counts}
+use Rattle.flash_core.specs.declared.flash.Flash.{Ghosts}
 use Rattle.fwu_model.specs.Causes.{Faults}
 use Rattle.fwu_model.specs.Reply.{Turn}
 use Rattle.fwu_model.specs.declared.kinds.Note.{Note}
@@ -15,7 +13,7 @@ use Rattle.serving.specs.Holds.{ServingHolds}
 use Rattle.serving.specs.Scene.{port, scene}
 use Rattle.serving.specs.Starting.{ServesFrom}
 use Rattle.serving.specs.declared.ends.ServeEnd.{ServeEnd}
-use Rattle.script_turns.specs.Powered.{TurnMoment, at}
+use Rattle.script_turns.specs.Powered.{TurnMoment, at, moment_on}
 use Rattle.script_runs.specs.Ending.{World}
 use Rattle.script_cmd.specs.ServeWays.{ServeWay, ServesSource, list_refused, served, sink_of, starved}
 use Rattle.script_runs.specs.Ways.{HasGoodList, Given, Refuses}
@@ -68,16 +66,15 @@ module _ (passes : List ℕ → Bool) (tells : Bool) (told files : Option Direct
 -- ---- from the call
 
 -- what is known of a device, by an equal one
-pub at-device : {D : Type 0} (told : D → Told) (counts : D → Counts) (arming : D → Option Arming) (on : D → Bool) (was is : Option Fields) (old new : D) → was ≡ is → old ≡ new
-    → at was (told old) (counts old) (arming old) (on old) ≡ at is (told new) (counts new) (arming new) (on new)
-at-device told counts arming on was is old new same device = ap₂ (λ f d. at f (told d) (counts d) (arming d) (on d)) same device
+pub at-device : {D : Type 0} (F : Ghosts D) (was is : Option Fields) (old new : D) → was ≡ is → old ≡ new → moment_on F was old ≡ moment_on F is new
+at-device F was is old new same device = ap₂ (λ f d. moment_on F f d) same device
 
 moved : (P : TurnMoment → TurnMoment → Type 0) {start begin last end : TurnMoment} → start ≡ begin → last ≡ end → P start last → P begin end
 moved P {start} {begin} {last} {end} begins ends p = subst (λ (m : TurnMoment). P m end) begins (subst (λ (m : TurnMoment). P start m) ends p)
 
 -- a serving from this moment to that one
 pub serves-source : (passes : List ℕ → Bool) (tells : Bool) (files : Option Directory) (stream rest : Option (List ℕ)) (e : ServeEnd) (journal : List Turn) (exchange : LastAnswer) (old new : World) (start last : TurnMoment) → start ≡ old.flash
-    → last ≡ at last.on new.flash.told new.flash.counts new.flash.armed new.flash.power
+    → last ≡ at last.on new.flash.told new.flash.writes new.flash.counts new.flash.armed new.flash.power
     → ServesFrom (scene passes tells files old.faults.files) start (sink_of old) (record { run = record { moment = last; journal = journal }; exchange = exchange; sink = sink_of new }) e (port stream old.faults.source) (port rest new.faults.source)
     → ServingHolds (scene passes tells files old.faults.files) start (sink_of old) (record { run = record { moment = last; journal = journal }; exchange = exchange; sink = sink_of new }) e (port stream old.faults.source) (port rest new.faults.source)
     → ServesSource passes tells files stream e journal old new rest

@@ -78,7 +78,7 @@ module _ (old new : World) where
       counts-line (no_table_line why) 10 end.status old.taken new.taken old.faults.sink new.faults.sink (λ three. absurd (omega (arith, three))) prints
   table-counts passes device asked g end (table.stopped calls reads none stops is prints) =
       counts-line flash_fault_line 5 end.status old.taken new.taken old.faults.sink new.faults.sink (λ three. absurd (omega (arith, three))) prints
-  table-counts passes device asked g end (table.ran calls p start on from reads starts before turns beside ended beyond printed) = printed.count
+  table-counts passes device asked g end (table.ran calls p start on from reads starts before turns beside touches ended beyond printed) = printed.count
 
   list-counts : (asked : Asked) (g : Given) (status : ℕ) (noted : model.Note) → RefusedList asked g status noted old new → FailsAtThree status old.faults.sink new.faults.sink
   list-counts asked g status noted (planned, line, why, prints) =
@@ -87,7 +87,7 @@ module _ (old new : World) where
   show-counts : (tells : Bool) (g : Given) (status : ℕ) (noted : model.Note) → Showed tells g old new status noted → FailsAtThree status old.faults.sink new.faults.sink
   show-counts tells g status noted (show.starved nine quiet same stuck) = counts-none status old.faults.sink new.faults.sink nine stuck.1
   show-counts tells g status noted (show.list_refused same refused) = list-counts ask.show g status noted refused
-  show-counts tells g status noted (show.found good planned line wakes finds once power prints) =
+  show-counts tells g status noted (show.found good planned line wakes finds once power still prints) =
       counts-line line planned status old.taken new.taken old.faults.sink new.faults.sink (found-other _ new.flash.told.now old.flash.counts new.flash.counts planned noted line finds) prints
 
   format-counts : (passes : List ℕ → Bool) (device : Device) (g : Given) (name : List ℕ) (L : Layout) (status : ℕ) (said : Note) → Formats passes device g name L old new status said → FailsAtThree status old.faults.sink new.faults.sink

@@ -107,8 +107,8 @@ module _ (tells : Bool) (seed blocks : ℕ) (old start : TurnMoment) (done : For
       subst (Sound (soak_setting seed n)) (same_Some flash.state (first_state soak_layout (first_images seed)) (sym flash.shows ∙ first-shown)) flash.sound
 
   module _ (n : ℕ) (journal : List Turn) (on : Option Fields) (new : TurnMoment) (guards : Guards 1 7 old.told) (no_chance : Rose old.counts.chances new.counts.chances → ⊥)
-      (turns : Ran passes_any tells (Some (soak_files seed n)) journal start (at on new.told new.counts new.armed new.power) 0 0) where
-    first-runs : RunsTo (soak_setting seed n) (first_state soak_layout (first_images seed)) journal start (at on new.told new.counts new.armed new.power)
+      (turns : Ran passes_any tells (Some (soak_files seed n)) journal start (at on new.told new.writes new.counts new.armed new.power) 0 0) where
+    first-runs : RunsTo (soak_setting seed n) (first_state soak_layout (first_images seed)) journal start (at on new.told new.writes new.counts new.armed new.power)
     first-runs =
         turns.run told (soak_setting seed n) (first_state soak_layout (first_images seed))
         (record { clean = formatted-as-soak.clean; sound = formatted-as-soak.sound (soak_setting seed n) refl refl; shows = first-shown; guarded = first-guards guards; passes_are = refl }) refl

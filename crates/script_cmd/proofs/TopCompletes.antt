@@ -71,7 +71,7 @@ module _ (g : Given) (before after : Counts) (status : ℕ) (taken_before taken_
   pub show-completes : (tells : Bool) (old new : TurnMoment) (told : Note) → old.counts ≡ before → new.counts ≡ after → Showed tells g (world-of old taken_before faults_before) (world-of new taken_after faults_after) status told
       → IsTrue tells → NothingDirty old.told → HasMetadata old.told.now → IsGranted g before after faults_before faults_after → (status ≡ 0) ⊎ (status ≡ 9)
   show-completes tells old new told first last (show.starved is quiet same none) knows clean has grants = inr is
-  show-completes tells old new told first last (show.found good planned line wakes finds once power prints) knows clean has grants =
+  show-completes tells old new told first last (show.found good planned line wakes finds once power still prints) knows clean has grants =
       found (IsTrue tells) new.told.now planned told line knows (subst (λ (t : Told). HasMetadata t.now) (sym (wakes-clean old.told new.told clean (wakes knows))) has) grants
       (subst (λ (x : Counts). ShowFinds (IsTrue tells) new.told.now x after planned told line) first
       (subst (λ (x : Counts). ShowFinds (IsTrue tells) new.told.now old.counts x planned told line) last finds)) prints

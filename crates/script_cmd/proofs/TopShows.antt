@@ -55,13 +55,19 @@ module _ (tells : Bool) (g : Given) (old new : TurnMoment) (status : ℕ) (noted
   lists : Showed tells g (world-of old taken_before faults_before) (world-of new taken_after faults_after) status noted → RefusesBadList g old new status faults_before faults_after
   lists (starved nine quiet same none) = starved-list g old new status faults_before faults_after same nine
   lists (list_refused same refused) = refused-list g old new status faults_before faults_after ask.show noted taken_before taken_after same refused
-  lists (found good planned line wakes finds once power prints) = good-list-kept g old new status faults_before faults_after good
+  lists (found good planned line wakes finds once power still prints) = good-list-kept g old new status faults_before faults_after good
+
+  unwritten : Showed tells g (world-of old taken_before faults_before) (world-of new taken_after faults_after) status noted → new.writes ≡ old.writes
+  unwritten (starved nine quiet same none) = ap (λ (m : TurnMoment). m.writes) same
+  unwritten (list_refused same refused) = ap (λ (m : TurnMoment). m.writes) same
+  unwritten (found good planned line wakes finds once power still prints) = still
 
   pub showed-by : Showed tells g (world-of old taken_before faults_before) (world-of new taken_after faults_after) status noted → (IsTrue tells → NothingDirty old.told → new.told ≡ old.told) → (IsTrue tells → new.told.guard ≡ old.told.guard) → journal ≡ []
       → NoneFalls old.counts new.counts → new.counts.made ≡ old.counts.made → new.armed ≡ None → ShowedBy tells g (end-of journal status noted) (world-of old taken_before faults_before) (world-of new taken_after faults_after)
   showed-by showed content guard none counts made unarmed = record {
     showed = showed;
     refuses_list = lists showed;
+    writes = unwritten showed;
     content = content;
     guard = guard;
     no_turns = none;
@@ -107,4 +113,4 @@ module _ (tells : Bool) (told files : Option Directory) (name : List ℕ) (scrip
         refuses (Some ask.show) told files name script first faults_before faults_after refused.0 noted refused.1 good later source refused.2,
         at-sink refused.1 refused.0 refused.3,
       )
-      go (found listed planned line wakes finds once power prints) = found good planned line wakes finds once power (at-sink line planned prints)
+      go (found listed planned line wakes finds once power still prints) = found good planned line wakes finds once power still (at-sink line planned prints)

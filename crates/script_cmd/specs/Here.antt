@@ -22,7 +22,7 @@ faults_of files source sink h i o = record { files = files h; source = source i;
 abbrev pub world : {D H I O : Type 0} → flash.Ghosts D → files.Ghosts H → source.Ghosts I → sink.Ghosts O → D → H → I → O → World
 world d h i o flash files source sink =
     record {
-      flash = moment d.told d.counts d.arming d.on flash;
+      flash = moment d flash;
       taken = o.taken sink;
       faults = faults_of h.faults i.faults o.faults files source sink;
     }

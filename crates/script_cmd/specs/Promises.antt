@@ -26,7 +26,7 @@ use Rattle.script_cmd.specs.BootWord.{BootWordBy}
 use Rattle.script_runs.specs.Ending.{Ending, World}
 use Rattle.script_turns.specs.Booted.{BootsFrom}
 use Rattle.script_turns.specs.Powered.{TurnMoment, SameDevice, at}
-use Rattle.script_turns.specs.Runs.{Follows, LossesAreDue, RunsFree, power_left, stops_of}
+use Rattle.script_turns.specs.Runs.{Follows, LossesAreDue, RunTouches, RunsFree, power_left, stops_of}
 use Rattle.script_runs.specs.Ways.{Given, Refuses, Way}
 use Rattle.script_cmd.specs.Handed.{Inputs}
 
@@ -79,8 +79,12 @@ pub record RepliesHold (passes : List ℕ → Bool) (tells : Bool) (files : Opti
   pub from : ℕ
   pub to : ℕ
   pub follows : Follows passes tells files journal old.flash
-      (at on new.flash.told new.flash.counts new.flash.armed new.flash.power) from to
+      (at on new.flash.told new.flash.writes new.flash.counts new.flash.armed new.flash.power) from to
   pub begins : old.faults.files ≤ from
+  -- From a device that is off: which blocks were erased or programmed, whatever its reads gave. Block 0 never, nor another bank
+  -- than that behind the one that was started.
+  pub touches : old.flash.on ≡ None → RunTouches journal old.flash
+      (at on new.flash.told new.flash.writes new.flash.counts new.flash.armed new.flash.power)
   pub ends : journal ≢ [] → to ≡ new.faults.files
 
 -- The one command `boot`, on any flash with nothing dirty, where no failure and no loss stopped it,

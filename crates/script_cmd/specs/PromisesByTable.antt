@@ -5,12 +5,12 @@ use Rattle.flash_core.specs.Told.{Told, NothingDirty}
 use Rattle.flash_core.specs.May.{May}
 use Rattle.gpt_core.specs.declared.layout.Places.{Places}
 use Rattle.gpt_core.specs.declared.table.WhichTable.{WhichTable}
-use Rattle.gpt_core.specs.Beside.{Beside}
+use Rattle.gpt_core.specs.Beside.{Beside, TouchesPlaces}
 use Rattle.gpt_core.specs.PlacesOf.{places_of}
 use Rattle.gpt_core.specs.Places.{through}
 use Rattle.gpt_core.specs.Repair.{HeadersGuarded}
 use Rattle.gpt_core.specs.Table.{DecidesTable, Table, table_in_image}
-use Rattle.gpt_core.specs.View.{view_of}
+use Rattle.gpt_core.specs.View.{view_of, writes_seen}
 use Rattle.fwu_model.specs.Call.{Call}
 use Rattle.fwu_model.specs.State.{State}
 use Rattle.fwu_model.specs.Sound.{Setting}
@@ -35,6 +35,9 @@ pub record RunsByTable (passes : List ℕ → Bool) (device : Device) (inputs : 
   pub starts : Starts device.tells device.blocks old.flash places start
   -- no turn changed anything besides the three partitions, and nothing there is unsure
   pub beside : IsTrue device.tells → Beside places start.told new.flash.told
+  -- on any device no turn erased or programmed a block besides them, and what came before the turns none of theirs
+  pub touches : TouchesPlaces places start.writes new.flash.writes
+  pub unwritten : writes_seen places start.writes ≡ writes_seen places old.flash.writes
   -- where nothing was dirty the flash is at the start what it was when it was handed in
   pub seen : IsTrue device.tells → NothingDirty old.flash.told
       → view_of places start.told ≡ view_of places old.flash.told

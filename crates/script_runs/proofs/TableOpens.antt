@@ -8,9 +8,9 @@ use Rattle.flash_core.specs.May.{NoChance}
 use Rattle.gpt_core.specs.declared.layout.Places.{Places}
 use Rattle.gpt_core.specs.declared.table.WhichTable.{WhichTable}
 use Rattle.gpt_core.specs.PlacesOf.{places_of}
-use Rattle.gpt_core.specs.Repair.{HeadersGuarded, MendsTable, StaysBeside}
+use Rattle.gpt_core.specs.Repair.{HeadersGuarded, MendsTable, StaysBeside, TouchesToMend}
 use Rattle.gpt_core.specs.Table.{Table, FitsTable, table_in_image}
-use Rattle.script_runs.specs.ByTable.{Starts, StopsBefore, Waits, Wakes}
+use Rattle.script_runs.specs.ByTable.{HasPlaces, Starts, StopsBefore, Waits, Wakes}
 use Rattle.script_turns.specs.Powered.{TurnMoment}
 use Rattle.script_turns.proofs.RunTurns.{rose-after, rose-before}
 
@@ -70,7 +70,9 @@ cause-before old mid new waits (inr cut) = inr (rose-before old.counts.cuts mid.
 -- from where power came, by what the search found and the repair did
 module _ (stops : ℕ) (tells : Bool) (blocks m n : ℕ) (old mid found new : TurnMoment) (table : Table) (which : WhichTable) (mid_size : m ≡ blocks) (found_size : n ≡ m)
     (wakes : IsTrue tells → Wakes old.told mid.told) (woke : Waits 0 old mid) (looked : Waits 0 mid found) (mended : Waits stops found new) (same : IsTrue tells → found.told ≡ mid.told)
-    (decides : IsTrue tells → table_in_image m mid.told.now ≡ Some (table, which)) where
+    (decides : IsTrue tells → table_in_image m mid.told.now ≡ Some (table, which))
+    (woke_still : mid.writes ≡ old.writes) (looked_still : found.writes ≡ mid.writes) (touched : TouchesToMend n table which found.writes new.writes)
+    (p : Places) (fits : FitsTable m table) (gives : places_of m table ≡ Ok p) where
   waited : Waits stops old new
   waited = waits-then stops old found new (waits-then 0 old mid found woke looked) mended
 
@@ -88,20 +90,30 @@ module _ (stops : ℕ) (tells : Bool) (blocks m n : ℕ) (old mid found new : Tu
   mends-here result mends told =
       subst (λ (t : Told). HeadersGuarded blocks t → MendsTable result blocks table new.told) (same told) (subst (λ (k : ℕ). HeadersGuarded k found.told → MendsTable result k table new.told) size mends)
 
-  pub starts-from : stops ≡ 0 → (p : Places) → FitsTable m table → places_of m table ≡ Ok p → (IsTrue tells → Rose old.counts.chances mid.counts.chances ⊎ NoChance old.told mid.told.now)
+  abbrev has-here : HasPlaces tells blocks mid.told p
+  has-here = record {
+    table = table;
+    which = which;
+    fits = subst (λ (k : ℕ). FitsTable k table) mid_size fits;
+    decides = decides-here;
+    gives = subst (λ (k : ℕ). places_of k table ≡ Ok p) mid_size gives;
+  }
+
+  -- on any device
+  touches-here : TouchesToMend blocks table which old.writes new.writes
+  touches-here =
+      subst (λ (w : ℕ → ℕ). TouchesToMend blocks table which w new.writes) (looked_still ∙ woke_still)
+      (subst (λ (k : ℕ). TouchesToMend k table which found.writes new.writes) size touched)
+
+  pub starts-from : stops ≡ 0 → (IsTrue tells → Rose old.counts.chances mid.counts.chances ⊎ NoChance old.told mid.told.now)
       → (IsTrue tells → HeadersGuarded n found.told → MendsTable {T = Unit {0}} (Ok tt) n table new.told) → (IsTrue tells → StaysBeside n table which found.told new.told)
       → (IsTrue tells → NothingDirty found.told → NothingDirty new.told) → new.on ≡ None → new.power ≡ true → Starts tells blocks old p new
-  starts-from none p fits gives chance mends beside clean not_booted power = record {
+  starts-from none chance mends beside clean not_booted power = record {
     woken = mid.told;
     wakes = wakes;
     chance = λ told. chance-later old.counts.chances mid.counts.chances new.counts.chances _ (later-chances) (chance told);
-    has = record {
-      table = table;
-      which = which;
-      fits = subst (λ (k : ℕ). FitsTable k table) mid_size fits;
-      decides = decides-here;
-      gives = subst (λ (k : ℕ). places_of k table ≡ Ok p) mid_size gives;
-    };
+    has = has-here;
+    touches = touches-here;
     mends = λ told. mends-here (Ok tt) (mends told) told;
     beside = λ told. beside-here (beside told) told;
     clean = λ told. clean told (subst NothingDirty (sym (same told)) (woken-clean old.told mid.told (wakes told)));
@@ -125,6 +137,7 @@ module _ (stops : ℕ) (tells : Bool) (blocks m n : ℕ) (old mid found new : Tu
       stays = λ guarded. (mends-here (Err stop) (mends told) told guarded).stays;
       beside = beside-here (beside told) told;
     });
+    touches = inr (record { places = p; has = has-here; touches = touches-here });
     waits = subst (λ (k : ℕ). Waits k old new) one waited;
     off = off;
     cause = cause-before old found new (waits-then 0 old mid found woke looked) cause;

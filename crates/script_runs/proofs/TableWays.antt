@@ -66,7 +66,7 @@ module _ (passes : List ℕ → Bool) (tells : Bool) (blocks : ℕ) (journal : L
       lacked calls why (record { good = good; asks = reads.asks; has = reads.has }) none looks lacks is (subst (λ (n : ℕ). Prints (no_table_line why) 10 status taken_before taken_after n faults_after.sink) (sym sink) prints)
   table-with-list asked told files name script first faults_before faults_after same_files good later source sink (stopped calls reads none stops is prints) =
       stopped calls (record { good = good; asks = reads.asks; has = reads.has }) none stops is (subst (λ (n : ℕ). Prints flash_fault_line 5 status taken_before taken_after n faults_after.sink) (sym sink) prints)
-  table-with-list asked told files name script first faults_before faults_after same_files good later source sink (ran calls p start on from reads starts from_later does beside ended beyond printed) =
+  table-with-list asked told files name script first faults_before faults_after same_files good later source sink (ran calls p start on from reads starts from_later does beside touches ended beyond printed) =
       ran calls p start on from (record { good = good; asks = reads.asks; has = reads.has }) starts (omega arith)
-      (ran-told passes tells files told journal (seen_at p start) (seen_at p (at on new.told new.counts new.armed new.power)) from faults_after.files (sym same_files) does)
-      beside ended beyond (subst (λ (n : ℕ). Printed journal status taken_before taken_after n faults_after.sink) (sym sink) printed)
+      (ran-told passes tells files told journal (seen_at p start) (seen_at p (at on new.told new.writes new.counts new.armed new.power)) from faults_after.files (sym same_files) does)
+      beside touches ended beyond (subst (λ (n : ℕ). Printed journal status taken_before taken_after n faults_after.sink) (sym sink) printed)

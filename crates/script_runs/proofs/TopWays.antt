@@ -20,11 +20,6 @@ use Rattle.script_runs.specs.Ways.{Given, HasGoodList, Refuses, Way, bad_list, b
 false_true : false ≡ true → ⊥
 false_true e = cc
 
--- a flash that is as it was
-pub same-moment : {D : Type 0} (told : D → Told) (counts : D → Counts) (arming : D → Option Arming) (on : D → Bool) (old new : D) → new ≡ old
-    → at None (told new) (counts new) (arming new) (on new) ≡ at None (told old) (counts old) (arming old) (on old)
-same-moment told counts arming on old new e = ap (λ d. at None (told d) (counts d) (arming d) (on d)) e
-
 -- a fact of what is told
 pub of-told : {A : Type 0} (told : Option A) (P : A → Type 0) → ((value : A) → told ≡ Some value → P value) → IfSome told P
 of-told None P all = tt
@@ -65,5 +60,5 @@ module _ (passes : List ℕ → Bool) (tells : Bool) (journal : List Turn) (stat
       (subst (λ (n : ℕ). Prints line planned status taken_before taken_after n faults_after.sink) (sym sink) prints)
   with-list asked told files name script first faults_before faults_after same_files good later source sink (ran calls on from listed asks has from_later does ended printed) =
       ran calls on from good asks has (omega arith)
-      (ran-told passes tells files told journal old (at on new.told new.counts new.armed new.power) from faults_after.files (sym same_files) does)
+      (ran-told passes tells files told journal old (at on new.told new.writes new.counts new.armed new.power) from faults_after.files (sym same_files) does)
       ended (subst (λ (n : ℕ). Printed journal status taken_before taken_after n faults_after.sink) (sym sink) printed)

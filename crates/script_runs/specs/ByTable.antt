@@ -11,8 +11,8 @@ use Rattle.gpt_core.specs.declared.layout.PlaceFault.TheVariants as fault
 use Rattle.gpt_core.specs.declared.table.WhichTable.{WhichTable}
 use Rattle.gpt_core.specs.Table.{Table, FitsTable, DecidesTable, table_in_image}
 use Rattle.gpt_core.specs.PlacesOf.{places_of}
-use Rattle.gpt_core.specs.Repair.{HeadersGuarded, MendsTable, StaysBeside}
-use Rattle.gpt_core.specs.View.{view_of}
+use Rattle.gpt_core.specs.Repair.{HeadersGuarded, MendsTable, StaysBeside, TouchesToMend}
+use Rattle.gpt_core.specs.View.{view_of, writes_seen}
 use Rattle.script_runs.specs.declared.done.NoTable.{NoTable}
 use Rattle.script_runs.specs.declared.done.NoTable.TheVariants as no
 use Rattle.script_runs.specs.declared.opening.Unopened.{Unopened}
@@ -22,7 +22,7 @@ use Rattle.script_turns.specs.Turning.{NoneFalls}
 
 -- what is known of the flash that a device has at these places
 abbrev pub seen_at : Places → TurnMoment → TurnMoment
-seen_at p m = at m.on (view_of p m.told) m.counts m.armed m.power
+seen_at p m = at m.on (view_of p m.told) (writes_seen p m.writes) m.counts m.armed m.power
 
 -- ---- what a table lacks
 
@@ -70,9 +70,10 @@ pub record Waits (stops : ℕ) (old new : TurnMoment) : Type 0 where
   pub reached : new.counts.reached ≡ old.counts.reached
   pub armed : new.armed ≡ None
 
--- Power came to it, and nothing was written.
+-- Power came to it, and nothing was written, on any device.
 pub record Looks (tells : Bool) (old new : TurnMoment) : Type 0 where
   pub wakes : IsTrue tells → Wakes old.told new.told
+  pub writes : new.writes ≡ old.writes
   pub waits : Waits 0 old new
   pub power : new.power ≡ true
 
@@ -100,6 +101,8 @@ pub record Starts (tells : Bool) (blocks : ℕ) (old : TurnMoment) (p : Places)
       → MendsTable {T = Unit {0}} (Ok tt) blocks has.table start.told
   -- but for the copy that was repaired nothing changed
   pub beside : IsTrue tells → StaysBeside blocks has.table has.which woken start.told
+  -- and on any device no other block was erased or programmed
+  pub touches : TouchesToMend blocks has.table has.which old.writes start.writes
   pub clean : IsTrue tells → NothingDirty start.told
   pub waits : Waits 0 old start
   pub not_booted : start.on ≡ None
@@ -115,11 +118,19 @@ pub record StopsMending (blocks : ℕ) (woken new : Told) : Type 0 where
       → DecidesTable blocks table image
   pub beside : StaysBeside blocks table which woken new
 
+-- Of a table that gives places no block was erased or programmed but those of the copy that is repaired.
+pub record TouchesOneCopy (tells : Bool) (blocks : ℕ) (woken : Told) (old new : ℕ → ℕ) : Type 0 where
+  pub places : Places
+  pub has : HasPlaces tells blocks woken places
+  pub touches : TouchesToMend blocks has.table has.which old new
+
 -- Power was lost or the flash failed before the first turn, at the reading of the table or at its repair.
 pub record StopsBefore (tells : Bool) (blocks : ℕ) (old new : TurnMoment) : Type 0 where
   pub woken : Told
   pub wakes : IsTrue tells → Wakes old.told woken
   pub left : IsTrue tells → (new.told ≡ woken) ⊎ StopsMending blocks woken new.told
+  -- on any device
+  pub touches : (new.writes ≡ old.writes) ⊎ TouchesOneCopy tells blocks woken old.writes new.writes
   pub waits : Waits 1 old new
   pub off : new.power ≡ false
   pub cause : StopHasCause old.counts new.counts

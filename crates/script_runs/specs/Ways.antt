@@ -69,7 +69,7 @@ HasCalls script calls = IfSome script (λ bytes. (is_too_long bytes ≡ false) �
 abbrev pub moment_world : {D O : Type 0} → flash.Ghosts D → sink.Ghosts O → Faults → D → O → World
 moment_world d o faults flash sink =
     record {
-      flash = moment d.told d.counts d.arming d.on flash;
+      flash = moment d flash;
       taken = o.taken sink;
       faults = record faults { sink = o.faults sink };
     }
@@ -92,7 +92,7 @@ pub data Way (passes : List ℕ → Bool) (tells : Bool) (asked : Option Asked) 
       → HasCalls g.script calls
       → old.faults.files ≤ from
       → Ran passes tells g.files ending.journal old.flash
-      (at on new.flash.told new.flash.counts new.flash.armed new.flash.power) from new.faults.files
+      (at on new.flash.told new.flash.writes new.flash.counts new.flash.armed new.flash.power) from new.faults.files
       → ScriptEnded calls ending.journal ending.status ending.noted
       → Printed ending.journal ending.status old.taken new.taken old.faults.sink new.faults.sink
       → Way passes tells asked g ending old new

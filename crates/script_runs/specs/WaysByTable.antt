@@ -1,7 +1,7 @@
 -- The ways that `run --gpt` or `boot --gpt` may end, and what they promise.
 use Rattle.std.specs.Prelude.{◌≡◌, ◌≢◌, ◌≤◌, ℕ, Bool, List, [], Option, Some, IsTrue, IsFalse}
 use Rattle.gpt_core.specs.declared.layout.Places.{Places}
-use Rattle.gpt_core.specs.Beside.{Beside}
+use Rattle.gpt_core.specs.Beside.{Beside, TouchesPlaces}
 use Rattle.fwu_model.specs.Call.{Call}
 use Rattle.agent_machine.specs.Fields.{Fields}
 use Rattle.fwu_words.specs.Order.{Asked}
@@ -51,8 +51,9 @@ pub data WayByTable (passes : List ℕ → Bool) (device : Device) (asked : Opti
       → ReadsScript asked g calls → Starts device.tells device.blocks old.flash p start
       → old.faults.files ≤ from
       → Ran passes device.tells g.files ending.journal (seen_at p start)
-      (seen_at p (at on new.flash.told new.flash.counts new.flash.armed new.flash.power)) from new.faults.files
+      (seen_at p (at on new.flash.told new.flash.writes new.flash.counts new.flash.armed new.flash.power)) from new.faults.files
       → (IsTrue device.tells → Beside p start.told new.flash.told)
+      → TouchesPlaces p start.writes new.flash.writes
       → ScriptEnded calls ending.journal ending.status (noted ending.noted) → IsFalse (is_beyond_model ending.noted)
       → Printed ending.journal ending.status old.taken new.taken old.faults.sink new.faults.sink
       → WayByTable passes device asked g ending old new

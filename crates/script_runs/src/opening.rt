@@ -4,7 +4,7 @@ ghost use Rattle.flash_core.specs.Counts.{Spends, StaysUnarmed, stops_in};
 ghost use Rattle.flash_core.specs.Told.{NothingDirty};
 ghost use Rattle.gpt_core.specs.Places.{Fit};
 ghost use Rattle.gpt_core.specs.PlacesOf.{places_of};
-ghost use Rattle.gpt_core.specs.Repair.{HeadersGuarded, MendsTable, StaysBeside};
+ghost use Rattle.gpt_core.specs.Repair.{HeadersGuarded, MendsTable, StaysBeside, TouchesToMend};
 ghost use Rattle.gpt_core.specs.Table.{FitsTable, table_in_image};
 ghost use Rattle.script_runs.specs.ByTable.{StopHasCause, Opens, Waits, goes_on, lacked_by, lacked_in, stops_opened};
 ghost use Rattle.script_turns.specs.Powered.{moment};
@@ -63,9 +63,10 @@ fn find<D: Flash>(alloc: Global, flash: &mut D) -> Result<Found, Unopened>
         → lacked_in (D.blocks flash.old) (D.told flash.old).now ≡ Some why }
     ensures content { IsTrue D.tells → D.told flash.new ≡ D.told flash.old }
     ensures power { D.on flash.new ≡ goes_on result }
-    ensures waits { Waits (stops_opened result) (moment D.told D.counts D.arming D.on flash.old)
-        (moment D.told D.counts D.arming D.on flash.new) }
+    ensures waits { Waits (stops_opened result) (moment D.Flash flash.old)
+        (moment D.Flash flash.new) }
     ensures cause { result ≡ Err Unopened.Stopped → StopHasCause (D.counts flash.old) (D.counts flash.new) }
+    ensures writes { D.writes flash.new ≡ D.writes flash.old }
     ensures size { D.blocks flash.new ≡ D.blocks flash.old }
 {
     let (table, which) = match read_table(alloc, flash) {
@@ -95,10 +96,12 @@ fn mend<D: Flash>(flash: &mut D, found: &Found) -> Result<(), FlashStop>
         → MendsTable result (D.blocks flash.old) found.now.table (D.told flash.new) }
     ensures beside { IsTrue D.tells → StaysBeside (D.blocks flash.old) found.now.table found.now.which (D.told flash.old)
         (D.told flash.new) }
+    ensures touches { TouchesToMend (D.blocks flash.old) found.now.table found.now.which (D.writes flash.old)
+        (D.writes flash.new) }
     ensures clean { OnOk result (IsTrue D.tells → NothingDirty (D.told flash.old) → NothingDirty (D.told flash.new)) }
     ensures power { D.on flash.new ≡ is_ok result }
-    ensures waits { Waits (stops_in result) (moment D.told D.counts D.arming D.on flash.old)
-        (moment D.told D.counts D.arming D.on flash.new) }
+    ensures waits { Waits (stops_in result) (moment D.Flash flash.old)
+        (moment D.Flash flash.new) }
     ensures cause { IsErr result → StopHasCause (D.counts flash.old) (D.counts flash.new) }
     ensures size { D.blocks flash.new ≡ D.blocks flash.old }
 {
@@ -111,8 +114,8 @@ fn mend<D: Flash>(flash: &mut D, found: &Found) -> Result<(), FlashStop>
 pub fn open<D: Flash>(alloc: Global, flash: &mut D) -> Result<Places, Unopened>
     requires off { IsFalse (D.on flash.old) }
     requires unarmed { D.arming flash.old ≡ None }
-    ensures opens { Opens D.tells (D.blocks flash.old) (moment D.told D.counts D.arming D.on flash.old)
-        (moment D.told D.counts D.arming D.on flash.new) result }
+    ensures opens { Opens D.tells (D.blocks flash.old) (moment D.Flash flash.old)
+        (moment D.Flash flash.new) result }
     ensures fit { IfOk result (λ p. Fit (D.blocks flash.new) p) }
     ensures size { D.blocks flash.new ≡ D.blocks flash.old }
 {

@@ -6,13 +6,13 @@ ghost use Rattle.agent_machine.specs.Fields.{Fields};
 ghost use Rattle.fwu_journal.specs.Shown.{turns};
 ghost use Rattle.fwu_words.specs.Order.{Asked};
 ghost use Rattle.fwu_words.specs.declared.orders.Place.TheVariants as place;
-ghost use Rattle.gpt_core.specs.Beside.{Beside};
+ghost use Rattle.gpt_core.specs.Beside.{Beside, TouchesPlaces};
 ghost use Rattle.gpt_core.specs.Mapped.{device, places_of};
 ghost use Rattle.gpt_core.specs.Places.{Fit};
 ghost use Rattle.script_runs.specs.ByTable.{seen_at};
 ghost use Rattle.script_runs.specs.Here.{GoesAt};
 ghost use Rattle.script_runs.specs.Done.{ending};
-ghost use Rattle.script_turns.specs.Powered.{at, moment};
+ghost use Rattle.script_turns.specs.Powered.{moment, moment_on};
 ghost use Rattle.script_runs.specs.Running.{EndsRun, KeepsFiles};
 ghost use Rattle.script_turns.specs.Runs.{Ran, calls_of, sends_none};
 ghost use Rattle.script_runs.specs.Ways.{Given};
@@ -40,6 +40,7 @@ fn unmapped<D: Flash, K: Start>(done: Done<Mapped<D, K>>) -> Done<D>
     ensures places { places_of done.flash ≡ K.at }
     ensures size { D.blocks result.flash ≡ K.blocks }
     ensures beside { IsTrue D.tells → NothingDirty K.was → Beside K.at K.was (D.told result.flash) }
+    ensures touches { TouchesPlaces K.at K.writes (D.writes result.flash) }
 {
     let Done {
         status,
@@ -78,11 +79,12 @@ fn run_mapped<D: Flash, K: Start, H: Files, O: Sink, V: Verifier>(
     requires at { opened.places ≡ K.at }
     requires size { D.blocks opened.flash ≡ K.blocks }
     requires start { IsTrue D.tells → D.told opened.flash ≡ K.was }
+    requires writes { D.writes opened.flash ≡ K.writes }
     ensures ran { (on : Option Fields) × Ran (V.passes verifier.now) D.tells (H.contents files.old)
-        (turns result.journal) (seen_at opened.places (moment D.told D.counts D.arming D.on opened.flash))
-        (seen_at opened.places (at on (D.told result.flash) (D.counts result.flash)
-        (D.arming result.flash) (D.on result.flash))) (H.faults files.old) (H.faults files.new) }
+        (turns result.journal) (seen_at opened.places (moment D.Flash opened.flash))
+        (seen_at opened.places (moment_on D.Flash on result.flash)) (H.faults files.old) (H.faults files.new) }
     ensures beside { IsTrue D.tells → Beside opened.places (D.told opened.flash) (D.told result.flash) }
+    ensures touches { TouchesPlaces opened.places (D.writes opened.flash) (D.writes result.flash) }
     ensures ends { EndsRun O.Sink ready.script (ending result) sink.old sink.new }
     ensures keeps { KeepsFiles H.Files ready.script (turns result.journal) files.old files.new }
     ensures size { D.blocks result.flash ≡ D.blocks opened.flash }
@@ -93,7 +95,7 @@ fn run_mapped<D: Flash, K: Start, H: Files, O: Sink, V: Verifier>(
     unmapped(run_script(alloc, ready, files, sink, start, verifier))
 }
 
-/// The same, with what the device told as the places' key.
+/// The same, with what the device told, and counted of its blocks, as the places' key.
 fn run_at<D: Flash, H: Files, O: Sink, V: Verifier>(
     alloc: Global,
     ready: Ready,
@@ -103,10 +105,10 @@ fn run_at<D: Flash, H: Files, O: Sink, V: Verifier>(
     verifier: &V,
 ) -> Done<D>
     ensures ran { (on : Option Fields) × Ran (V.passes verifier.now) D.tells (H.contents files.old)
-        (turns result.journal) (seen_at opened.places (moment D.told D.counts D.arming D.on opened.flash))
-        (seen_at opened.places (at on (D.told result.flash) (D.counts result.flash)
-        (D.arming result.flash) (D.on result.flash))) (H.faults files.old) (H.faults files.new) }
+        (turns result.journal) (seen_at opened.places (moment D.Flash opened.flash))
+        (seen_at opened.places (moment_on D.Flash on result.flash)) (H.faults files.old) (H.faults files.new) }
     ensures beside { IsTrue D.tells → Beside opened.places (D.told opened.flash) (D.told result.flash) }
+    ensures touches { TouchesPlaces opened.places (D.writes opened.flash) (D.writes result.flash) }
     ensures ends { EndsRun O.Sink ready.script (ending result) sink.old sink.new }
     ensures keeps { KeepsFiles H.Files ready.script (turns result.journal) files.old files.new }
     ensures size { D.blocks result.flash ≡ D.blocks opened.flash }

@@ -8,7 +8,7 @@ ghost use Rattle.script_text.specs.Shown.{HasBuffer, shown};
 ghost use Rattle.fwu_journal.specs.Room.{HasRoom};
 ghost use Rattle.fwu_journal.specs.Shown.{HasRoomFor, IsShortReply, reply, turn as shown_turn, turns};
 ghost use Rattle.fwu_journal.specs.declared.line.TheConstants.{LINE_ROOM};
-ghost use Rattle.script_turns.specs.Powered.{at, device, has_power, moment, moment_of, shown_on};
+ghost use Rattle.script_turns.specs.Powered.{device, has_power, moment, moment_of, moment_on, shown_on};
 ghost use Rattle.script_runs.specs.Noted.{is_beyond_model, noted};
 ghost use Rattle.script_runs.specs.Running.{DoesTurn, EndsRun, KeepsFiles};
 ghost use Rattle.script_runs.specs.Done.{ending};
@@ -176,9 +176,8 @@ pub fn run_script<D: Flash, H: Files, O: Sink, V: Verifier>(
     requires unarmed { D.arming (device start) ≡ None }
 
     ensures ran { (on : Option Fields) × Ran (V.passes verifier.now) D.tells (H.contents files.old)
-        (turns result.journal) (moment D.told D.counts D.arming D.on (device start))
-        (at on (D.told result.flash) (D.counts result.flash) (D.arming result.flash)
-        (D.on result.flash)) (H.faults files.old) (H.faults files.new) }
+        (turns result.journal) (moment D.Flash (device start))
+        (moment_on D.Flash on result.flash) (H.faults files.old) (H.faults files.new) }
     ensures ends { EndsRun O.Sink ready.script (ending result) sink.old sink.new }
     ensures size { D.blocks result.flash ≡ D.blocks (device start) }
     ensures keeps { KeepsFiles H.Files ready.script (turns result.journal) files.old files.new }

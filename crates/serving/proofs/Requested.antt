@@ -6,7 +6,6 @@ use Rattle.std.proofs.Math.Bool.{Bool-set}
 use Rattle.std.proofs.Math.Logic.{∥∥₁_elim}
 use Rattle.std.proofs.lemmas.Bool.{cond_both}
 use Rattle.base_core.specs.Bytes.{num_at, same_bytes}
-use Rattle.flash_core.specs.Told.{Told}
 use Rattle.fwu_formats.specs.Layout.{dir_guid}
 use Rattle.fwu_model.specs.Answer.{Answer, accept_image, answer, answer_accept, answer_begin, answer_cancel, answer_commit, answer_end, answer_off, answer_on, answer_open_read, answer_open_write, answer_previous, answer_read, answer_write, cannot_begin, exceeds_slot, handle_at, has_other, is_elsewhere, is_full, is_writer, may_end, may_go_back, may_leave, open_read}
 use Rattle.fwu_model.specs.Call.{Call}
@@ -219,12 +218,12 @@ module _ (passes : List ℕ → Bool) where
         subst IsOther is.0 (machine c asked)
 
   -- where the agent is there before, it shows some machine
-  other-says : (tells : Bool) (c : Call) (was is : Option Fields) (before now : Told) (r : Reply) → ((m n : agent.Moment) → AnswersTo passes c r m n → AnswersCall passes c r m n) → IsTrue (is_asked c)
-      → ((f : Fields) → was ≡ Some f → ∥ agent.Showing (kept_at tells f before) ∥₁) → CallSays passes tells c was before r is now → IsOther r
+  other-says : (tells : Bool) (c : Call) (was is : Option Fields) (before now : TurnMoment) (r : Reply) → ((m n : agent.Moment) → AnswersTo passes c r m n → AnswersCall passes c r m n) → IsTrue (is_asked c)
+      → ((f : Fields) → was ≡ Some f → ∥ agent.Showing (kept_at tells f before.told before.writes) ∥₁) → CallSays passes tells c was before r is now → IsOther r
   other-says tells c None is before now r to asked fits says = subst IsOther (sym says.0) refl
   other-says tells c (Some f) None before now r to asked fits says = other-stop r says
   other-says tells c (Some f) (Some g) before now r to asked fits says =
-      ∥∥₁_elim (fits f refl) (Bool-set _ _) (λ shows. other-call r (kept_at tells f before) (kept_at tells g now) shows c asked (to _ _ says))
+      ∥∥₁_elim (fits f refl) (Bool-set _ _) (λ shows. other-call r (kept_at tells f before.told before.writes) (kept_at tells g now.told now.writes) shows c asked (to _ _ says))
 
 -- ---- a turn
 
@@ -232,7 +231,7 @@ no-call-other : (on : Option Fields) → IsOther (no_call_reply on)
 no-call-other None = refl
 no-call-other (Some f) = refl
 
-module _ (passes : List ℕ → Bool) (tells : Bool) (files : Option Directory) (old new : TurnMoment) (t : Turn) (fits : (f : Fields) → old.on ≡ Some f → ∥ agent.Showing (kept_at tells f old.told) ∥₁) where
+module _ (passes : List ℕ → Bool) (tells : Bool) (files : Option Directory) (old new : TurnMoment) (t : Turn) (fits : (f : Fields) → old.on ≡ Some f → ∥ agent.Showing (kept_at tells f old.told old.writes) ∥₁) where
   other-replies : (c : Call) → IsTrue (is_asked c) → Replies passes tells files c old t new → IsOther t.reply
   other-replies call.Boot asked says = absurd cc
   other-replies call.Show asked says = absurd cc
@@ -241,7 +240,7 @@ module _ (passes : List ℕ → Bool) (tells : Bool) (files : Option Directory) 
   other-replies (call.Send name request) asked says = absurd cc
   other-replies (call.SendPartial name request) asked says = absurd cc
   other-replies (call.BeginPartial types) asked says = absurd cc
-  other-replies c asked says = other-says passes tells c old.on new.on old.told new.told t.reply (λ m n a. a) asked fits says
+  other-replies c asked says = other-says passes tells c old.on new.on old new t.reply (λ m n a. a) asked fits says
 
 pub requested-other : (passes : List ℕ → Bool) (tells : Bool) (files : Option Directory) (c : Call) (t : Turn) (old new : TurnMoment) (was are : ℕ) → IsTrue (is_asked c) → FitsMachine tells old → Turns passes tells files c t old new was are
     → IsFalse (is_refused_boot t.reply)

@@ -1,4 +1,4 @@
-use Rattle.std.proofs.Common.{List, ℕ, arith, map, refl, inl, inr}
+use Rattle.std.proofs.Common.{List, ℕ, ap, arith, map, refl, inl, inr}
 use Rattle.std.specs.Prelude.{string_bytes}
 use Rattle.fwu_formats.specs.Digests.{passes_any}
 use Rattle.fwu_model.specs.Allow.{list_name}
@@ -7,7 +7,7 @@ use Rattle.host_io.proofs.Once.{once-none}
 use Rattle.script_cmd.proofs.AnsweredBy.{answered-at, answered-usage}
 use Rattle.script_runs.proofs.TopPrints.{later}
 use Rattle.script_cmd.proofs.TopLists.{by-words, has-any, idles-at, no-list, no-words, none-bad, some-list}
-use Rattle.script_runs.proofs.TopWays.{same-moment}
+use Rattle.script_turns.specs.Powered.{moment}
 use Rattle.script_cmd.proofs.answering.answer.Goals as goal
 
 pub returns-in-No-clause-answers : goal.returns-in-No-clause-answers
@@ -20,7 +20,7 @@ returns-in-Usage-clause-answers g c =
     let e = c.refuse.ensures in
     let words : List (List ℕ) = map string_bytes c.args.words.now in
     let files = g.H.Files.contents c.args.files.now in
-    let same = same-moment g.D.Flash.told g.D.Flash.counts g.D.Flash.arming g.D.Flash.on _ _ e.flash in
+    let same = ap (moment g.D.Flash) e.flash in
     inr (
       idles-at _ _ _ _ usage_line 1 _ _ _ _ e.no_turns same refl e.prints,
       λ passes.

@@ -8,7 +8,7 @@ use Rattle.script_runs.specs.Ways.{Given}
 use Rattle.script_cmd.proofs.TopShows.{showed-by}
 use Rattle.script_runs.proofs.TopPrints.{later}
 use Rattle.script_cmd.proofs.TopLists.{no-list-named}
-use Rattle.script_runs.proofs.TopWays.{same-moment}
+use Rattle.script_turns.specs.Powered.{moment}
 use Rattle.script_cmd.proofs.answering.answer_with.Goals as goal
 
 pub returns-in-Ok-Turns-clause-answers : goal.returns-in-Ok-Turns-clause-answers
@@ -62,14 +62,14 @@ returns-in-Ok-Serve-clause-answers g c =
 pub returns-in-Err-Usage-clause-answers : goal.returns-in-Err-Usage-clause-answers
 returns-in-Err-Usage-clause-answers g c =
     let e = c.refuse.ensures in
-    answered-usage _ None (rw c.in-Err-Usage.field-0-is at c.in-Err-Usage.ensures) no-list-named e.no_turns (same-moment g.D.Flash.told g.D.Flash.counts g.D.Flash.arming g.D.Flash.on _ _ e.flash) e.note e.prints
+    answered-usage _ None (rw c.in-Err-Usage.field-0-is at c.in-Err-Usage.ensures) no-list-named e.no_turns (ap (moment g.D.Flash) e.flash) e.note e.prints
     refl refl refl refl refl (record { files = omega arith; source = omega arith; sink = later _ _ _ _ _ _ _ e.prints })
 
 pub returns-in-Err-NoMemory-clause-answers : goal.returns-in-Err-NoMemory-clause-answers
 returns-in-Err-NoMemory-clause-answers g c =
     let e = c.refuse-in-Err-NoMemory.ensures in
     let stuck = e.starved refl in
-    answered-starved _ None e.no_turns (same-moment g.D.Flash.told g.D.Flash.counts g.D.Flash.arming g.D.Flash.on _ _ e.flash) c.requires.unarmed stuck.0 e.note (ap g.O.Sink.taken stuck.1, ap g.O.Sink.faults stuck.1)
+    answered-starved _ None e.no_turns (ap (moment g.D.Flash) e.flash) c.requires.unarmed stuck.0 e.note (ap g.O.Sink.taken stuck.1, ap g.O.Sink.faults stuck.1)
     (λ unlisted. refl) refl refl refl (record { files = omega arith; source = omega arith; sink = let quiet = ap g.O.Sink.faults stuck.1 in omega (arith, quiet) })
 
 -- ---- no read at all

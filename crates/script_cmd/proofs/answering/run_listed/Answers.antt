@@ -10,7 +10,7 @@ use Rattle.script_cmd.proofs.AnsweredBy.{answered-refused, answered-starved, ans
 use Rattle.script_runs.proofs.TopPrints.{by-plan}
 use Rattle.script_runs.proofs.TopPrints.{later}
 use Rattle.script_cmd.proofs.TopLists.{bytes-there, good-list, idles, idles-at, list-lacks, list-there, of-list, reads-list}
-use Rattle.script_runs.proofs.TopWays.{same-moment}
+use Rattle.script_turns.specs.Powered.{moment}
 use Rattle.script_cmd.proofs.answering.run_listed.Goals as goal
 
 pub returns-in-Err-Failed-clause-answers : goal.returns-in-Err-Failed-clause-answers
@@ -19,7 +19,7 @@ returns-in-Err-Failed-clause-answers g c =
     let name = c.args.name.now in
     let files = g.H.Files.contents c.args.files.now in
     let why = list-lacks files name _ _ (c.in-Err-Failed.ensures.cause.failed (ap Err c.in-Err-Failed.field-0-is)) in
-    let same = same-moment g.D.Flash.told g.D.Flash.counts g.D.Flash.arming g.D.Flash.on _ _ e.flash in
+    let same = ap (moment g.D.Flash) e.flash in
     inr (
       idles-at _ _ _ _ not_read_line 2 _ _ _ _ e.no_turns same refl e.prints,
       λ passes.
@@ -50,7 +50,7 @@ returns-in-Err-BadLine-clause-answers g c =
     let is = ap Err c.in-Err-BadLine.field-0-is in
     let read = c.in-Err-BadLine.ensures.bad line is in
     let whole = bytes-there files name read.bytes read.stands in
-    let same = same-moment g.D.Flash.told g.D.Flash.counts g.D.Flash.arming g.D.Flash.on _ _ e.flash in
+    let same = ap (moment g.D.Flash) e.flash in
     let bad = of-list files name read.bytes (λ (l : List ℕ). digests_of l ≡ Err line) whole read.is in
     inr (
       idles-at _ _ _ _ (bad_list_line line) 13 _ _ _ _ e.no_turns same refl e.prints,
@@ -64,7 +64,7 @@ pub returns-in-Err-NoMemory-clause-answers : goal.returns-in-Err-NoMemory-clause
 returns-in-Err-NoMemory-clause-answers g c =
     let e = c.refuse-in-Err-NoMemory.ensures in
     let stuck = e.starved refl in
-    let same = same-moment g.D.Flash.told g.D.Flash.counts g.D.Flash.arming g.D.Flash.on _ _ e.flash in
+    let same = ap (moment g.D.Flash) e.flash in
     inr (
       idles _ _ _ _ e.no_turns same stuck.0,
       λ passes.

@@ -12,8 +12,8 @@ returns-clause-way g c =
     let e = c.serve-serving.ensures in
     served no-list-named c.requires.unarmed (ap g.H.Files.faults e.files) c.serve-serving.result.end c.status.ensures c.note_of.ensures.noted
     (serves-source _ _ _ _ _ _ _ _ _ _ (moment_of c.off.result) (moment_of c.serve-serving.result.serving.powered)
-    (at-device d.told d.counts d.arming d.on _ _ _ _ c.off.ensures.on c.off.ensures.device)
-    (at-device d.told d.counts d.arming d.on _ _ _ _ refl (sym c.into_flash.ensures)) e.serves e.holds)
+    (at-device d _ _ _ _ c.off.ensures.on c.off.ensures.device)
+    (at-device d _ _ _ _ refl (sym c.into_flash.ensures)) e.serves e.holds)
 
 pub returns-clause-later_source : goal.returns-clause-later_source
 returns-clause-later_source g c = c.serve-serving.ensures.holds.source_count.later

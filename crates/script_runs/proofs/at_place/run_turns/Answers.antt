@@ -1,12 +1,13 @@
 use Rattle.std.proofs.Common.{Some, ap, subst, sym}
 use Rattle.fwu_words.specs.declared.orders.Place.{Place}
+use Rattle.script_turns.specs.Powered.{moment}
 use Rattle.script_runs.specs.Here.{GoesAt}
 use Rattle.script_runs.specs.Refusing.{plain_of, text_of}
 use Rattle.script_runs.specs.Ways.{ran}
 use Rattle.script_runs.proofs.Refused.{asks-of, lacks-at, lacks-once, lacks-quiet, lacks-some}
 use Rattle.script_runs.proofs.TopPrints.{later}
 use Rattle.script_runs.proofs.TopSources.{none-fails}
-use Rattle.script_runs.proofs.TopWays.{ran-told, same-moment}
+use Rattle.script_runs.proofs.TopWays.{ran-told}
 use Rattle.script_runs.proofs.at_place.run_turns.Goals as goal
 
 -- ---- no script
@@ -16,7 +17,7 @@ returns-in-Err-clause-way g c = λ given was are listed told before.
     let e = c.refuse.ensures in
     lacks-at _ _ _ _ _ _ _ _ _ _ c.args.order.from given (g.I.Source.left c.args.source.now) (record was { source = g.I.Source.faults c.args.source.now; sink = g.O.Sink.faults c.args.sink.now })
     (record are { files = g.H.Files.faults c.args.files.now; source = g.I.Source.faults c.script_of.new.source; sink = g.O.Sink.faults c.refuse.new.sink }) c.in-Err.why c.args.order.place listed c.in-Err.ensures.lacks e.no_turns
-    (same-moment g.D.Flash.told g.D.Flash.counts g.D.Flash.arming g.D.Flash.on _ _ e.flash) e.note e.prints
+    (ap (moment g.D.Flash) e.flash) e.note e.prints
     (λ none. let stuck = e.starved none in (stuck.0, ap g.O.Sink.taken stuck.1, ap g.O.Sink.faults stuck.1))
 
 pub returns-in-Err-clause-note : goal.returns-in-Err-clause-note

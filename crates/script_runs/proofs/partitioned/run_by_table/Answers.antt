@@ -2,28 +2,28 @@ use Rattle.std.proofs.Common.{ap, refl}
 use Rattle.script_turns.specs.Powered.{moment}
 use Rattle.script_runs.specs.WaysByTable.{ran}
 use Rattle.script_runs.proofs.TableWays.{lacked-way, starved-way, stopped-way}
-use Rattle.script_runs.proofs.TopWays.{ran-told, same-moment}
+use Rattle.script_runs.proofs.TopWays.{ran-told}
 use Rattle.script_runs.proofs.TopPrints.{later}
 use Rattle.script_runs.proofs.partitioned.run_by_table.Goals as goal
 
 pub returns-in-Ok-clause-way : goal.returns-in-Ok-clause-way
 returns-in-Ok-clause-way g c = λ asked given was are reads told later.
     let e = c.run_at.ensures in
-    ran c.args.ready.script c.in-Ok.places (moment g.D.Flash.told g.D.Flash.counts g.D.Flash.arming g.D.Flash.on c.open.new.flash) e.ran.0 (g.H.Files.faults c.args.files.now) reads c.in-Ok.ensures.opens later (ran-told _ _ _ _ _ _ _ _ _ told e.ran.1) e.beside e.ends.ended e.ends.plain e.ends.printed
+    ran c.args.ready.script c.in-Ok.places (moment g.D.Flash c.open.new.flash) e.ran.0 (g.H.Files.faults c.args.files.now) reads c.in-Ok.ensures.opens later (ran-told _ _ _ _ _ _ _ _ _ told e.ran.1) e.beside e.touches e.ends.ended e.ends.plain e.ends.printed
 
 pub returns-in-Err-Lacks-clause-way : goal.returns-in-Err-Lacks-clause-way
 returns-in-Err-Lacks-clause-way g c = λ asked given was are reads told later.
     let e = c.refuse.ensures in
     let opens = rw c.in-Err-Lacks.field-0-is at c.in-Err-Lacks.ensures.opens in
     lacked-way _ _ _ _ _ _ _ _ _ _ asked given _ _ _ c.args.ready.script c.in-Err-Lacks.lack reads e.no_turns opens.0 opens.1
-    (same-moment g.D.Flash.told g.D.Flash.counts g.D.Flash.arming g.D.Flash.on _ _ e.flash) e.note e.prints
+    (ap (moment g.D.Flash) e.flash) e.note e.prints
 
 pub returns-in-Err-Stopped-clause-way : goal.returns-in-Err-Stopped-clause-way
 returns-in-Err-Stopped-clause-way g c = λ asked given was are reads told later.
     let e = c.refuse-in-Err-Stopped.ensures in
     let opens = rw c.in-Err-Stopped.field-0-is at c.in-Err-Stopped.ensures.opens in
     stopped-way _ _ _ _ _ _ _ _ _ _ asked given _ _ _ c.args.ready.script reads e.no_turns opens
-    (same-moment g.D.Flash.told g.D.Flash.counts g.D.Flash.arming g.D.Flash.on _ _ e.flash) e.note e.prints
+    (ap (moment g.D.Flash) e.flash) e.note e.prints
 
 pub returns-clause-way : goal.returns-clause-way
 returns-clause-way g c = λ asked given was are reads told later.
@@ -31,7 +31,7 @@ returns-clause-way g c = λ asked given was are reads told later.
     let stuck = e.starved refl in
     let opens = rw c.in-Err-NoMemory.field-0-is at c.in-Err-NoMemory.ensures.opens in
     starved-way _ _ _ _ _ _ _ _ _ _ asked given _ _ _ c.args.ready.script reads e.no_turns opens
-    (same-moment g.D.Flash.told g.D.Flash.counts g.D.Flash.arming g.D.Flash.on _ _ e.flash) stuck.0 e.note (ap g.O.Sink.taken stuck.1, ap g.O.Sink.faults stuck.1)
+    (ap (moment g.D.Flash) e.flash) stuck.0 e.note (ap g.O.Sink.taken stuck.1, ap g.O.Sink.faults stuck.1)
 
 pub returns-in-Err-Lacks-clause-later : goal.returns-in-Err-Lacks-clause-later
 returns-in-Err-Lacks-clause-later g c = later _ _ _ _ _ _ _ c.refuse.ensures.prints

@@ -9,7 +9,7 @@ use Rattle.agent_machine.specs.Fields.{Fields}
 use Rattle.fwu_journal.specs.declared.journal.Journal.{Journal}
 use Rattle.fwu_journal.specs.Shown.{HasRoomFor, turns}
 use Rattle.script_text.specs.Shown.{shown}
-use Rattle.script_turns.specs.Powered.{at, device, has_power, moment_of, shown_on}
+use Rattle.script_turns.specs.Powered.{at, device, has_power, moment, moment_of, moment_on, shown_on}
 use Rattle.script_turns.specs.Runs.{Ran, calls_of, sends_none}
 use Rattle.script_runs.proofs.RunCalls.{left-behind, reads-none, sends-more}
 use Rattle.script_runs.proofs.RunEnds.{GoesOn, goes-none, goes-on, ends-ran, ends-by, ends-printed, all-ended, all-printed, steps-printed, steps-told}
@@ -20,7 +20,7 @@ use Rattle.script_runs.proofs.running.run_script.Goals as goal
 pub loop-index-init : goal.loop-index-init
 loop-index-init g c =
     let d = device c.args.start in
-    let old = at None (g.D.Flash.told d) (g.D.Flash.counts d) (g.D.Flash.arming d) (g.D.Flash.on d) in
+    let old = moment g.D.Flash d in
     let passes = g.V.Verifier.passes c.args.verifier.now in
     let files = g.H.Files.contents c.args.files.now in
     let from = g.H.Files.faults c.args.files.now in
@@ -29,7 +29,7 @@ loop-index-init g c =
     let powered = sym c.new-run.ensures.powered in
     let none : turns c.new-run.result.journal ≡ [] = ap turns c.new-run.ensures.journal ∙ c.args.ready.room.no_turns in
     let goes = goes-none passes g.D.Flash.tells files c.args.ready.script old from taken was refl in
-    let begun = subst (λ (on : Option Fields). GoesOn passes g.D.Flash.tells files c.args.ready.script 0 [] old (at on old.told old.counts old.armed old.power) from from taken taken was was) (sym c.requires.not_booted) goes in
+    let begun = subst (λ (on : Option Fields). GoesOn passes g.D.Flash.tells files c.args.ready.script 0 [] old (at on old.told old.writes old.counts old.armed old.power) from from taken taken was was) (sym c.requires.not_booted) goes in
     record {
       goes = subst (λ (p : _). GoesOn passes g.D.Flash.tells files c.args.ready.script 0 (turns c.new-run.result.journal) old (moment_of p) from from taken taken was was) powered
           (subst (λ (j : List Turn). GoesOn passes g.D.Flash.tells files c.args.ready.script 0 j old (moment_of c.args.start) from from taken taken was was) (sym none) begun);
@@ -68,15 +68,15 @@ loop-index-preserved g c =
 pub returns-then-status-ne0-clause-ran : goal.returns-then-status-ne0-clause-ran
 returns-then-status-ne0-clause-ran g c =
     let d = device c.args.start in
-    let old = at None (g.D.Flash.told d) (g.D.Flash.counts d) (g.D.Flash.arming d) (g.D.Flash.on d) in
+    let old = moment g.D.Flash d in
     let passes = g.V.Verifier.passes c.args.verifier.now in
     let files = g.H.Files.contents c.args.files.now in
     let from = g.H.Files.faults c.args.files.now in
     let to = g.H.Files.faults c.do_call-end.new.files in
     let m = c.do_call-end.new.run.powered in (
       shown_on m,
-      subst (λ (x : g.row.D.Denot). Ran passes g.D.Flash.tells files (turns c.into_done.result.journal) old (at (shown_on m) (g.D.Flash.told x) (g.D.Flash.counts x) (g.D.Flash.arming x) (g.D.Flash.on x)) from to) (sym c.into_done.ensures.flash)
-          (subst (λ (j : Journal). Ran passes g.D.Flash.tells files (turns j) old (at (shown_on m) (g.D.Flash.told (device m)) (g.D.Flash.counts (device m)) (g.D.Flash.arming (device m)) (g.D.Flash.on (device m))) from to) (sym c.into_done.ensures.journal)
+      subst (λ (x : g.row.D.Denot). Ran passes g.D.Flash.tells files (turns c.into_done.result.journal) old (moment_on g.D.Flash (shown_on m) x) from to) (sym c.into_done.ensures.flash)
+          (subst (λ (j : Journal). Ran passes g.D.Flash.tells files (turns j) old (moment_on g.D.Flash (shown_on m) (device m)) from to) (sym c.into_done.ensures.journal)
           (ends-ran _ _ _ _ _ _ _ _ c.loop-index.index (shown c.take-call.result) _ _ _ _ _ _ _ _ _ _ _ _ refl c.loop-index.invariant.goes (steps-told _ _ _ _ _ _ _ _ _ _ _ _ _ _ _ _ _ c.loop-index.invariant.same_files (steps-printed c.do_call-end.ensures.does c.as_slice.ensures.value c.put_line-status.ensures)))),
     )
 

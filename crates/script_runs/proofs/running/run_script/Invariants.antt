@@ -1,7 +1,7 @@
 use Rattle.std.proofs.Common.{◌≡◌, ◌≤◌, ◌-◌, ℕ, IsTrue, None, length}
 use Rattle.std.specs.List.{slice_get}
 use Rattle.fwu_journal.specs.Shown.{HasRoomFor, turns}
-use Rattle.script_turns.specs.Powered.{at, device, has_power, moment_of}
+use Rattle.script_turns.specs.Powered.{device, has_power, moment, moment_of}
 use Rattle.script_turns.specs.Runs.{calls_of, sends_none}
 use Rattle.script_runs.proofs.RunEnds.{GoesOn}
 use Rattle.script_runs.proofs.running.run_script.Given as goal
@@ -11,7 +11,7 @@ use Rattle.script_runs.proofs.running.run_script.Given as goal
 abbrev pub invariant-loop-index : goal.invariant-loop-index
 invariant-loop-index g l = record {
   goes : GoesOn (g.V.Verifier.passes l.verifier) g.D.Flash.tells (g.H.Files.contents l.fn.files) l.fn.ready.script l.index (turns l.run.journal)
-      (at None (g.D.Flash.told (device l.fn.start)) (g.D.Flash.counts (device l.fn.start)) (g.D.Flash.arming (device l.fn.start)) (g.D.Flash.on (device l.fn.start)))
+      (moment g.D.Flash (device l.fn.start))
       (moment_of l.run.powered) (g.H.Files.faults l.fn.files) (g.H.Files.faults l.files)
       (g.O.Sink.taken l.fn.sink) (g.O.Sink.taken l.sink) (g.O.Sink.faults l.fn.sink) (g.O.Sink.faults l.sink);
   length_is : length l.script ≡ length l.fn.ready.script;
