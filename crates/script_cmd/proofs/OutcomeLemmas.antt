@@ -1,7 +1,6 @@
 -- No run is promised one of the wrong outcomes.
 use Rattle.std.proofs.Common.{◌≡◌, ℕ, List, [], ◌∷◌, ◌++◌, length, length-append, arith, Option, Some, None, Ok, refl, sym, ap, subst, ◌∙◌, inl, inr}
 use Rattle.std.proofs.lemmas.List.{append_cancel_left}
-use Rattle.std.proofs.lemmas.Bool.{false≢true}
 use Rattle.fwu_formats.specs.Digests.{digests_of}
 use Rattle.fwu_model.specs.Causes.{Faults}
 use Rattle.fwu_model.specs.Wrote.{StopsInLast, usage_line}
