@@ -180,9 +180,9 @@ FWU_ASSERT(sizeof(struct fwu_report) == 108 && offsetof(struct fwu_report, lengt
  * in use. Where the active bank is on trial no step is told, since a boot would count one more start of it. 6 and 7: nothing is
  * written, as fwu_boot says.
  *
- * What the report says at 0 and 16 to 19 is what fwu_boot says at 0, of the bank that runs; where the active bank is on trial, only
- * `steps` and `bytes` are written, as 0. At 5 it is that where the boot in it started a bank, and else nothing but `steps` and
- * `bytes`. */
+ * What the report says at 0 and 16 to 19 is what fwu_boot says at 0, of the bank that runs. Where the active bank is on trial, only
+ * `steps` and `bytes` are written, as 0. At 5 it is what it is at 0 where the boot in it started a bank, and else nothing but `steps`
+ * and `bytes`. */
 uint32_t fwu_update(const uint8_t *flash, size_t length, const uint8_t *package, size_t bytes, uint32_t acceptance,
                     struct fwu_step *steps, size_t most, uint8_t *room, size_t size, struct fwu_report *report);
 
