@@ -1,5 +1,5 @@
 -- How much nearer an armed loss a boot comes, by the bytes that its device told at entry.
-use Rattle.std.proofs.Common.{◌≡◌, ℕ, ◌==◌, Bool, true, false, not, cond, List, Option, Some, None, Err, refl, sym, ap, subst, ◌∙◌}
+use Rattle.std.proofs.Common.{◌≡◌, ℕ, ◌==◌, Bool, true, false, not, cond, List, Option, Some, None, Ok, Err, refl, sym, ap, subst, ◌∙◌}
 use Rattle.flash_core.specs.declared.flash.Arming.{Arming}
 use Rattle.flash_core.specs.declared.flash.FlashStop.{FlashStop}
 use Rattle.flash_core.specs.declared.flash.FlashStop.TheVariants as flash_stop
@@ -15,11 +15,11 @@ use Rattle.early_boot.specs.declared.showing.Unshown.TheVariants as unshown
 use Rattle.early_boot.specs.Showing.{ShowsImage, stop_in}
 use Rattle.early_boot.specs.Mending.{TakesMending, mended}
 use Rattle.early_boot.specs.Numbers.{numbers_shown}
-use Rattle.early_boot.specs.CountingStarts.{CountsLater, TakesCounting, counting_in, counting_of}
-use Rattle.early_boot.specs.Starting.{TakesMendingAndStart, TakesRepairAndStart}
+use Rattle.early_boot.specs.CountingStarts.{CountsLater, TakesCounting, TouchesCounting, counting_in, counting_of}
+use Rattle.early_boot.specs.Starting.{TakesMendingAndStart, TakesRepairAndStart, TouchesFound, TouchesReplicasThen}
 use Rattle.early_boot.specs.Tells.{started_as}
-use Rattle.early_boot.specs.Ends.{no_bank}
-use Rattle.early_boot.specs.EndsBy.{TakesBoot, TakesByBytes, TakesLoaded, TakesLoadedAndStart, TakesStart, counting_told, stopped_with, unshown_end}
+use Rattle.early_boot.specs.Ends.{booted, no_bank}
+use Rattle.early_boot.specs.EndsBy.{TouchesBoot, TakesBoot, TakesByBytes, TakesLoaded, TakesLoadedAndStart, TakesStart, counting_told, stopped_with, unshown_end}
 use Rattle.replicas.specs.Which.{form_read_of}
 use Rattle.replicas.specs.Repairs.{TakesRepair}
 
@@ -74,6 +74,13 @@ module _ (shown after : Shown) (chosen : Chosen) (n : Numbers) (read : n ≡ num
     repaired = takes.repaired;
     repair = takes.repair;
     counting = subst (λ (k : Counting). TakesCounting k takes.repaired arming) counting-is takes.start;
+  }
+
+  pub start-touches : {old new : ℕ → ℕ} → TouchesReplicasThen (TouchesFound (Ok (Some (after, chosen))) (mended shown)) old new → TouchesBoot (booted (started_as after chosen) n) old new
+  start-touches {new = new} all = record {
+    repaired = all.repaired;
+    repair = all.repair;
+    start = subst (λ (k : Counting). TouchesCounting k all.repaired new) counting-is all.start;
   }
 
   pub start-takes : (image : List ℕ) (armed arming : Option Arming) → ShowsImage image shown → TakesMendingAndStart shown image (Some (after, chosen)) armed arming

@@ -1,9 +1,13 @@
--- Which blocks a boot erases or programs.
-use Rattle.std.proofs.Common.{◌≡◌, ℕ, ◌≤◌, Option, Some, None, sym, subst, arith}
+-- Which blocks a boot may erase or program.
+use Rattle.std.proofs.Common.{◌≡◌, ◌⊎◌, inl, inr, ℕ, Bool, true, false, cond, ◌==◌, Option, Some, None, Ok, Err, sym, subst, arith}
+use Rattle.std.proofs.lemmas.Bool.{false≢true}
+use Rattle.std.specs.Prelude.{Result, IsErr, slice_index_or}
 use Rattle.flash_core.specs.declared.flash.FlashStop.{FlashStop}
 use Rattle.flash_core.specs.declared.flash.FlashStop.TheVariants as flash_stop
 use Rattle.flash_core.specs.Touches.{TouchesOnly}
-use Rattle.flash_core.proofs.Touches.{touches_none, touches_then, touches_wider}
+use Rattle.flash_core.proofs.Touches.{touches_none, touches_still, touches_then, touches_wider}
+use Rattle.fwu_formats.specs.Metadata.{state_at}
+use Rattle.fwu_formats.specs.declared.kinds.BankState.TheVariants.{Invalid}
 use Rattle.fwu_model.specs.State.{Numbers}
 use Rattle.early_boot.specs.declared.choosing.Chosen.{Chosen}
 use Rattle.early_boot.specs.declared.counting_starts.Counting.{Counting}
@@ -11,44 +15,56 @@ use Rattle.early_boot.specs.declared.counting_starts.Counting.TheVariants as cou
 use Rattle.early_boot.specs.declared.showing.Shown.{Shown}
 use Rattle.early_boot.specs.declared.showing.Unshown.{Unshown}
 use Rattle.early_boot.specs.declared.showing.Unshown.TheVariants as unshown
-use Rattle.early_boot.specs.CountingStarts.{counting_in, touched_end}
-use Rattle.early_boot.specs.Starting.{touched_for}
-use Rattle.early_boot.specs.EndsBy.{TouchesBoot, stopped_with, unshown_end}
-
-pub ends-low : (k : Counting) → touched_end k ≤ 28672
-ends-low counting.Nothing = omega arith
-ends-low counting.Trial = omega arith
-ends-low counting.Raise = omega arith
-
-ends-high : (k : Counting) → 12288 ≤ touched_end k
-ends-high counting.Nothing = omega arith
-ends-high counting.Trial = omega arith
-ends-high counting.Raise = omega arith
-
-for-high : (shown : Shown) (found : Option (Shown × Chosen)) → 12288 ≤ touched_for shown found
-for-high shown None = omega arith
-for-high shown (Some start) = ends-high (counting_in shown start.1)
+use Rattle.early_boot.specs.CountingStarts.{TouchesCounting, counting_in, counting_of}
+use Rattle.early_boot.specs.Mending.{mended}
+use Rattle.early_boot.specs.Numbers.{numbers_shown}
+use Rattle.early_boot.specs.Starting.{TouchesFound, TouchesReplicasThen}
+use Rattle.early_boot.specs.EndsBy.{TouchesBoot, TouchesStopped, stopped_with, unshown_end}
 
 -- after reads
 pub touches-behind : (low high : ℕ) {a b c : ℕ → ℕ} → b ≡ a → TouchesOnly low high b c → TouchesOnly low high a c
 touches-behind low high same only = touches_then low high (touches_none low high same) only
 
 -- what a start is counted as
-pub counted-touches : (k what : Counting) {a b : ℕ → ℕ} → what ≡ k → TouchesOnly 12288 (touched_end k) a b → TouchesOnly 12288 (touched_end what) a b
-counted-touches k what {a} {b} is only = subst (λ (x : Counting). TouchesOnly 12288 (touched_end x) a b) (sym is) only
+pub counted-touches : (k what : Counting) (a b : ℕ → ℕ) → what ≡ k → TouchesCounting k a b → TouchesCounting what a b
+counted-touches k what a b is only = subst (λ (x : Counting). TouchesCounting x a b) (sym is) only
 
--- a repair, and then a start
-pub mended-touches : {a b c : ℕ → ℕ} → TouchesOnly 4096 12288 a b → TouchesOnly 12288 28672 b c → TouchesOnly 4096 28672 a c
-mended-touches repair start =
-    touches_then 4096 28672 (touches_wider 4096 12288 4096 28672 (omega arith) (omega arith) repair)
-    (touches_wider 12288 28672 4096 28672 (omega arith) (omega arith) start)
+pub counting-behind : (k : Counting) (a b c : ℕ → ℕ) → b ≡ a → TouchesCounting k b c → TouchesCounting k a c
+counting-behind k a b c same only = subst (λ (w : ℕ → ℕ). TouchesCounting k w c) same only
 
-pub mended-fewer : (shown : Shown) (found : Option (Shown × Chosen)) {a b c : ℕ → ℕ} → TouchesOnly 4096 12288 a b → TouchesOnly 12288 (touched_for shown found) b c
-    → TouchesOnly 4096 (touched_for shown found) a c
-mended-fewer shown found repair start =
-    let high = touched_for shown found in
-    touches_then 4096 high (touches_wider 4096 12288 4096 high (omega arith) (for-high shown found) repair)
-    (touches_wider 12288 high 4096 high (omega arith) (omega arith) start)
+-- all of it lies in blocks 1 to 6
+counting-within : (k : Counting) (a b : ℕ → ℕ) → TouchesCounting k a b → TouchesOnly 4096 28672 a b
+counting-within counting.Nothing a b same = touches_none 4096 28672 same
+counting-within counting.Trial a b only = touches_wider 12288 16384 4096 28672 (omega arith) (omega arith) only
+counting-within counting.Raise a b only = touches_wider 20480 28672 4096 28672 (omega arith) (omega arith) only
+
+found-within : (result : Result (Option (Shown × Chosen)) FlashStop) (shown : Shown) (a b : ℕ → ℕ) → TouchesFound result shown a b → TouchesOnly 4096 28672 a b
+found-within (Ok None) shown a b same = touches_none 4096 28672 same
+found-within (Ok (Some start)) shown a b only = counting-within (counting_in shown start.1) a b only
+found-within (Err stop) shown a b (inl same) = touches_none 4096 28672 same
+found-within (Err stop) shown a b (inr (chosen, only)) = counting-within (counting_in shown chosen) a b only
+
+pub boot-within : (result : Result (Option (Shown × Chosen)) FlashStop) (shown : Shown) (a b : ℕ → ℕ) → TouchesReplicasThen (TouchesFound result shown) a b → TouchesOnly 4096 28672 a b
+boot-within result shown a b all =
+    touches_then 4096 28672 (touches_wider 4096 12288 4096 28672 (omega arith) (omega arith) all.repair) (found-within result shown all.repaired b all.start)
+
+-- a stop that counted nothing, and one that may have
+pub stopped-nothing : (result : Result (Option (Shown × Chosen)) FlashStop) (shown : Shown) (a b : ℕ → ℕ) → IsErr result → b ≡ a → TouchesFound result shown a b
+stopped-nothing (Ok x) shown a b err same = absurd (false≢true err)
+stopped-nothing (Err stop) shown a b err same = inl same
+
+pub stopped-counting : (result : Result (Option (Shown × Chosen)) FlashStop) (shown : Shown) (chosen : Chosen) (a b : ℕ → ℕ) → IsErr result
+    → TouchesCounting (counting_in shown chosen) a b → TouchesFound result shown a b
+stopped-counting (Ok x) shown chosen a b err only = absurd (false≢true err)
+stopped-counting (Err stop) shown chosen a b err only = inr (chosen, only)
+
+-- behind reads
+pub replicas-behind : (Touches : (ℕ → ℕ) → (ℕ → ℕ) → Type 0) (a b c : ℕ → ℕ) → b ≡ a → TouchesReplicasThen Touches b c → TouchesReplicasThen Touches a c
+replicas-behind Touches a b c same all = record { repaired = all.repaired; repair = touches-behind 4096 12288 same all.repair; start = all.start; }
+
+-- where none was chosen
+pub none-touches : (shown : Shown) (a b : ℕ → ℕ) → TouchesReplicasThen (TouchesFound (Ok None) shown) a b → TouchesOnly 4096 12288 a b
+none-touches shown a b all = touches_still 4096 12288 all.repair all.start
 
 -- ---- by the end
 
@@ -58,6 +74,22 @@ unshown-touches unshown.Metadata same = same
 unshown-touches (unshown.Flash flash_stop.Lost) same = same
 unshown-touches (unshown.Flash flash_stop.Failed) same = same
 
-pub stopped-touches : (stop : FlashStop) (n : Numbers) (old new : ℕ → ℕ) → TouchesBoot (stopped_with stop n) old new
-stopped-touches flash_stop.Lost n old new = tt
-stopped-touches flash_stop.Failed n old new = tt
+-- A choice is counted by the state of the active bank and the counter that the numbers tell, or as nothing.
+module _ (shown : Shown) (n : Numbers) (read : n ≡ numbers_shown shown) (old new : ℕ → ℕ) where
+  counted-stop : (b : Bool) (v : ℕ) → TouchesCounting (cond b (counting_of (state_at shown.meta.meta shown.meta.meta.active) shown.counter v) counting.Nothing) old new
+      → TouchesStopped n old new
+  counted-stop true v only =
+      inr (v, subst (λ (m : Numbers). TouchesCounting (counting_of (slice_index_or m.states m.active Invalid) m.counter v) old new) (sym read) only)
+  counted-stop false v same = inl same
+
+  pub stopped-by-numbers : (stop : FlashStop) → TouchesFound (Err stop) (mended shown) old new → TouchesStopped n old new
+  stopped-by-numbers stop (inl same) = inl same
+  stopped-by-numbers stop (inr (chosen, only)) = counted-stop (chosen.bank == shown.meta.meta.active) chosen.version only
+
+module _ (shown : Shown) (n : Numbers) (read : n ≡ numbers_shown shown) (old new : ℕ → ℕ) where
+  replicas-by-numbers : (stop : FlashStop) → TouchesReplicasThen (TouchesFound (Err stop) (mended shown)) old new → TouchesReplicasThen (TouchesStopped n) old new
+  replicas-by-numbers stop all = record { repaired = all.repaired; repair = all.repair; start = stopped-by-numbers shown n read all.repaired new stop all.start; }
+
+  pub stopped-touches : (stop : FlashStop) → TouchesReplicasThen (TouchesFound (Err stop) (mended shown)) old new → TouchesBoot (stopped_with stop n) old new
+  stopped-touches flash_stop.Lost all = replicas-by-numbers flash_stop.Lost all
+  stopped-touches flash_stop.Failed all = replicas-by-numbers flash_stop.Failed all

@@ -6,6 +6,7 @@ use Rattle.flash_core.specs.declared.flash.FlashStop.{FlashStop}
 use Rattle.flash_core.specs.Counts.{lowered}
 use Rattle.flash_core.specs.Told.{Told, NothingDirty}
 use Rattle.flash_core.specs.May.{Keeps}
+use Rattle.flash_core.specs.Touches.{TouchesOnly}
 use Rattle.flash_core.specs.Replaces.{padded, Replaces}
 use Rattle.fwu_formats.specs.Layout.{Layout}
 use Rattle.fwu_formats.specs.Metadata.{state_at}
@@ -104,12 +105,11 @@ TakesCounting counting.Nothing armed arming = arming ≡ armed
 TakesCounting counting.Trial armed arming = arming ≡ lowered armed
 TakesCounting counting.Raise armed arming = arming ≡ lowered (lowered armed)
 
--- on every device, where the blocks end that a start, counted as this, and the repair before it may erase or program
--- The replicas lie in blocks 1 and 2, a mark in block 3, and a record in block 5 or 6.
-abbrev pub touched_end : Counting → ℕ
-touched_end counting.Nothing = block_bytes * 3
-touched_end counting.Trial = block_bytes * 4
-touched_end counting.Raise = block_bytes * 7
+-- on every device, which blocks it may erase or program: a mark lies in block 3, and a record in block 5 or 6
+abbrev pub TouchesCounting : Counting → (ℕ → ℕ) → (ℕ → ℕ) → Type 0
+TouchesCounting counting.Nothing old new = new ≡ old
+TouchesCounting counting.Trial old new = TouchesOnly (block_bytes * 3) (block_bytes * 4) old new
+TouchesCounting counting.Raise old new = TouchesOnly (block_bytes * 5) (block_bytes * 7) old new
 
 -- ---- what is shown then
 

@@ -5,6 +5,7 @@ use Rattle.flash_core.specs.declared.flash.Arming.{Arming}
 use Rattle.flash_core.specs.declared.flash.Flash.{Ghosts}
 use Rattle.flash_core.specs.declared.flash.FlashStop.{FlashStop}
 use Rattle.flash_core.specs.Told.{Told}
+use Rattle.flash_core.specs.Touches.{TouchesOnly}
 use Rattle.flash_core.specs.May.{Guards, Keeps}
 use Rattle.fwu_formats.specs.Counter.{counter_in}
 use Rattle.fwu_formats.specs.Layout.{Layout}
@@ -22,7 +23,7 @@ use Rattle.early_boot.specs.declared.showing.Shown.{Shown}
 use Rattle.early_boot.specs.Showing.{ShowsImage, state_shown}
 use Rattle.early_boot.specs.Choosing.{IsFound, MayBeChosen, boot_setting}
 use Rattle.early_boot.specs.Mending.{TakesMending, mended}
-use Rattle.early_boot.specs.CountingStarts.{CountsChosen, CountsLater, Leads, TakesCounting, WritesMoves, counting_in, touched_end}
+use Rattle.early_boot.specs.CountingStarts.{CountsChosen, CountsLater, Leads, TakesCounting, TouchesCounting, WritesMoves, counting_in}
 
 -- the bank that was chosen, without what is shown once its start is counted
 abbrev pub chosen_of : Option (Shown × Chosen) → Option Chosen
@@ -72,10 +73,19 @@ pub record TakesMendingAndStart (shown : Shown) (image : List ℕ) (found : Opti
   pub repair : TakesMending shown.layout shown.which shown.meta image armed repaired
   pub start : TakesFound (mended shown) found repaired arming
 
--- and where the blocks end that are erased or programmed for it; where none was chosen, those of the repair
-abbrev pub touched_for : Shown → Option (Shown × Chosen) → ℕ
-touched_for shown None = block_bytes * 3
-touched_for shown (Some start) = touched_end (counting_in shown start.1)
+-- ---- which blocks it erases or programs, on every device
+
+-- those in which what was chosen is counted, and where none was, none; at a stop, those of some choice or none
+abbrev pub TouchesFound : Result (Option (Shown × Chosen)) FlashStop → Shown → (ℕ → ℕ) → (ℕ → ℕ) → Type 0
+TouchesFound (Ok None) shown old new = new ≡ old
+TouchesFound (Ok (Some start)) shown old new = TouchesCounting (counting_in shown start.1) old new
+TouchesFound (Err stop) shown old new = (new ≡ old) ⊎ ((chosen : Chosen) × TouchesCounting (counting_in shown chosen) old new)
+
+-- The replicas, in blocks 1 and 2, and then these.
+pub record TouchesReplicasThen (Touches : (ℕ → ℕ) → (ℕ → ℕ) → Type 0) (old new : ℕ → ℕ) : Type 0 where
+  pub repaired : ℕ → ℕ
+  pub repair : TouchesOnly (block_bytes * 1) (block_bytes * 3) old repaired
+  pub start : Touches repaired new
 
 -- ---- the choice and its count
 

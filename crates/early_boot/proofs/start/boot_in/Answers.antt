@@ -6,7 +6,7 @@ use Rattle.flash_core.specs.Calls.{Goes, Reads}
 use Rattle.flash_core.specs.Told.{Told}
 use Rattle.flash_core.specs.Touches.{TouchesOnly}
 use Rattle.flash_core.proofs.Touches.{touches_none}
-use Rattle.early_boot.proofs.Touching.{stopped-touches, touches-behind, unshown-touches}
+use Rattle.early_boot.proofs.Touching.{boot-within, none-touches, replicas-behind, stopped-touches, touches-behind, unshown-touches}
 use Rattle.early_boot.specs.declared.choosing.Chosen.{Chosen}
 use Rattle.early_boot.specs.declared.showing.Shown.{Shown}
 use Rattle.early_boot.specs.Showing.{state_shown, stop_in}
@@ -18,15 +18,13 @@ use Rattle.early_boot.proofs.Choices.{starts_by_numbers, unshown_started, stoppe
 use Rattle.early_boot.specs.Mending.{mended}
 use Rattle.early_boot.specs.Numbers.{AreNumbers, numbers}
 use Rattle.early_boot.proofs.Numbered.{numbers-are}
-use Rattle.early_boot.specs.Starting.{Boots, IsCountedStart, TakesMendingAndStart, TakesRepairAndStart, chosen_of, touched_for}
+use Rattle.early_boot.specs.Starting.{Boots, IsCountedStart, TakesMendingAndStart, TakesRepairAndStart, TouchesFound, TouchesReplicasThen, chosen_of}
 use Rattle.early_boot.specs.Started.{started_as}
 use Rattle.early_boot.specs.Ends.{Ended, device_of, ended, no_bank, stop_of}
 use Rattle.early_boot.specs.EndsBy.{BootEnds, IdleEnd, TakesBoot, TakesByBytes, TouchesBoot, stopped_with, unshown_end}
 use Rattle.early_boot.proofs.Endings.{shown-numbers}
 use Rattle.early_boot.proofs.Ended.{unshown-ends, unshown-idle, unshown-stop, stopped-idle, stopped-stop, started-bytes, started-ends, none-ends, stopped-ends}
-use Rattle.early_boot.specs.CountingStarts.{touched_end}
-use Rattle.early_boot.specs.declared.counting_starts.Counting.{Counting}
-use Rattle.early_boot.proofs.Taken.{counting-is, none-spent, none-takes, start-spent, start-takes, stopped-spent, stopped-takes, unshown-spent, unshown-takes}
+use Rattle.early_boot.proofs.Taken.{none-spent, none-takes, start-spent, start-takes, start-touches, stopped-spent, stopped-takes, unshown-spent, unshown-takes}
 use Rattle.early_boot.proofs.Known.{started-knows}
 use Rattle.early_boot.proofs.Left.{goes-done, goes-stopped, read-goes, read-unarmed}
 use Rattle.early_boot.proofs.start.boot_in.Goals as goal
@@ -117,11 +115,13 @@ returns-in-Err-mend_and_start g c =
             (stopped-idle stop n (g.D.Flash.arming F) (g.D.Flash.arming d) (g.D.Flash.counts F) (g.D.Flash.counts d));
         touches =
             subst (λ d. TouchesOnly 4096 28672 (g.D.Flash.writes c.args.flash) (g.D.Flash.writes d)) (sym c.stopped_with.ensures.device)
-            (touches-behind 4096 28672 c.in-Ok.ensures.reads.writes c.in-Err-mend_and_start.ensures.touches);
+            (touches-behind 4096 28672 c.in-Ok.ensures.reads.writes (boot-within (Err stop) (mended shown) _ _ c.in-Err-mend_and_start.ensures.touches));
         touches_fewer =
             let F = g.D.Flash.writes c.args.flash in
             let d = g.D.Flash.writes (device_of c.stopped_with.result) in
-            subst (λ (e : Ended). TouchesBoot e F d) (sym c.stopped_with.ensures.ended) (stopped-touches stop n F d);
+            subst (λ (e : Ended). TouchesBoot e F d) (sym c.stopped_with.ensures.ended)
+            (subst (λ x. TouchesBoot (stopped_with stop n) F (g.D.Flash.writes x)) (sym c.stopped_with.ensures.device)
+            (stopped-touches shown n c.of-numbers.ensures F _ stop (replicas-behind _ _ _ _ c.in-Ok.ensures.reads.writes c.in-Err-mend_and_start.ensures.touches)));
         started =
             let are = numbers-are shown c.in-Ok.ensures.shown.layout c.in-Ok.ensures.shown.fits c.in-Ok.ensures.shown.few c.in-Ok.ensures.shown.form c.in-Ok.ensures.shown.none in
             subst StartedBy (sym c.stopped_with.ensures.ended) (stopped_started stop _ (subst AreNumbers (sym c.of-numbers.ensures) are));
@@ -159,19 +159,17 @@ returns-in-Ok-Some g c =
     let read = c.read_shown.new.flash in
     let arming = g.D.Flash.arming c.mend_and_start.new.flash in
     let start : Option (Shown × Chosen) = Some (c.in-Ok-Some.after, c.in-Ok-Some.chosen) in
+    let touched = subst (λ (o : Option (Shown × Chosen)). TouchesReplicasThen (TouchesFound (Ok o) (mended shown)) (g.D.Flash.writes read) (g.D.Flash.writes c.mend_and_start.new.flash)) c.in-Ok-Some.field-0-is c.in-Ok-Some.ensures.touches in
     record {
       boots = record {
         power = goes.power;
         size = goes.size;
         costs = goes.costs;
         idle = tt;
-        touches = touches-behind 4096 28672 c.in-Ok.ensures.reads.writes c.in-Ok-Some.ensures.touches;
+        touches = touches-behind 4096 28672 c.in-Ok.ensures.reads.writes (boot-within (Ok start) (mended shown) _ _ touched);
         touches_fewer =
-            let writes = g.D.Flash.writes in
-            let new = c.mend_and_start.new.flash in
-            let is = counting-is shown c.in-Ok-Some.after c.in-Ok-Some.chosen n c.of-numbers.ensures counted.later in
-            let fewer = subst (λ (o : Option (Shown × Chosen)). TouchesOnly 4096 (touched_for (mended shown) o) (writes read) (writes new)) c.in-Ok-Some.field-0-is c.in-Ok-Some.ensures.fewer in
-            subst (λ (k : Counting). TouchesOnly 4096 (touched_end k) (writes c.args.flash) (writes new)) is (touches-behind 4096 _ c.in-Ok.ensures.reads.writes fewer);
+            start-touches shown c.in-Ok-Some.after c.in-Ok-Some.chosen n c.of-numbers.ensures counted.later
+            (replicas-behind _ _ _ _ c.in-Ok.ensures.reads.writes touched);
         started =
             starts_by_numbers shown c.in-Ok-Some.after c.in-Ok-Some.chosen n c.of-numbers.ensures counted.later counted.counted
             (numbers-are shown c.in-Ok.ensures.shown.layout c.in-Ok.ensures.shown.fits c.in-Ok.ensures.shown.few c.in-Ok.ensures.shown.form c.in-Ok.ensures.shown.none) counted.found.is;
@@ -211,18 +209,15 @@ returns-in-Ok-None g c =
     let read = c.read_shown.new.flash in
     let arming = g.D.Flash.arming c.mend_and_start.new.flash in
     let armed = g.D.Flash.arming c.args.flash in
+    let touched = subst (λ (o : Option (Shown × Chosen)). TouchesReplicasThen (TouchesFound (Ok o) (mended shown)) (g.D.Flash.writes read) (g.D.Flash.writes c.mend_and_start.new.flash)) c.in-Ok-None.field-0-is c.in-Ok-None.ensures.touches in
     record {
       boots = record {
         power = goes.power;
         size = goes.size;
         costs = goes.costs;
         idle = tt;
-        touches = touches-behind 4096 28672 c.in-Ok.ensures.reads.writes c.in-Ok-None.ensures.touches;
-        touches_fewer =
-            let writes = g.D.Flash.writes in
-            let new = c.mend_and_start.new.flash in
-            touches-behind 4096 12288 c.in-Ok.ensures.reads.writes
-            (subst (λ (o : Option (Shown × Chosen)). TouchesOnly 4096 (touched_for (mended shown) o) (writes read) (writes new)) c.in-Ok-None.field-0-is c.in-Ok-None.ensures.fewer);
+        touches = touches-behind 4096 28672 c.in-Ok.ensures.reads.writes (boot-within (Ok None) (mended shown) _ _ touched);
+        touches_fewer = touches-behind 4096 12288 c.in-Ok.ensures.reads.writes (none-touches (mended shown) _ _ touched);
         started =
             let are = numbers-are shown c.in-Ok.ensures.shown.layout c.in-Ok.ensures.shown.fits c.in-Ok.ensures.shown.few c.in-Ok.ensures.shown.form c.in-Ok.ensures.shown.none in
             (omega (arith, c.active.ensures, are.active, are.most), omega (arith, c.previous.ensures, are.previous, are.most));
