@@ -16,10 +16,10 @@ use Rattle.early_boot.specs.Showing.{ShowsImage, stop_in}
 use Rattle.early_boot.specs.Mending.{TakesMending, mended}
 use Rattle.early_boot.specs.Numbers.{numbers_shown}
 use Rattle.early_boot.specs.CountingStarts.{CountsLater, TakesCounting, TouchesCounting, counting_in, counting_of}
-use Rattle.early_boot.specs.Starting.{TakesMendingAndStart, TakesRepairAndStart, TouchesFound, TouchesReplicasThen}
+use Rattle.early_boot.specs.Starting.{TakesMendingAndStart, TakesRepairAndStart, TouchesRepairAndStart}
 use Rattle.early_boot.specs.Tells.{started_as}
-use Rattle.early_boot.specs.Ends.{booted, no_bank}
-use Rattle.early_boot.specs.EndsBy.{TouchesBoot, TakesBoot, TakesByBytes, TakesLoaded, TakesLoadedAndStart, TakesStart, counting_told, stopped_with, unshown_end}
+use Rattle.early_boot.specs.Ends.{no_bank}
+use Rattle.early_boot.specs.EndsBy.{TouchesStart, TakesBoot, TakesByBytes, TakesLoaded, TakesLoadedAndStart, TakesStart, counting_told, stopped_with, unshown_end}
 use Rattle.replicas.specs.Which.{form_read_of}
 use Rattle.replicas.specs.Repairs.{TakesRepair}
 
@@ -76,8 +76,11 @@ module _ (shown after : Shown) (chosen : Chosen) (n : Numbers) (read : n ≡ num
     counting = subst (λ (k : Counting). TakesCounting k takes.repaired arming) counting-is takes.start;
   }
 
-  pub start-touches : {old new : ℕ → ℕ} → TouchesReplicasThen (TouchesFound (Ok (Some (after, chosen))) (mended shown)) old new → TouchesBoot (booted (started_as after chosen) n) old new
-  start-touches {new = new} all = record {
+  pub start-touches : (old new : ℕ → ℕ) → shown.meta.form ≡ form_read_of shown.which → TouchesRepairAndStart (Ok (Some (after, chosen))) shown old new
+      → TouchesStart n (TouchesCounting (counting_told (started_as after chosen) n)) old new
+  start-touches old new form all = record {
+    which = shown.which;
+    version_is = ap (λ (m : Numbers). m.form) read ∙ form;
     repaired = all.repaired;
     repair = all.repair;
     start = subst (λ (k : Counting). TouchesCounting k all.repaired new) counting-is all.start;

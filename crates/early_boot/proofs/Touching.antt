@@ -1,11 +1,11 @@
 -- Which blocks a boot may erase or program.
-use Rattle.std.proofs.Common.{◌≡◌, ◌⊎◌, inl, inr, ℕ, Bool, true, false, cond, ◌==◌, Option, Some, None, Ok, Err, sym, subst, arith}
+use Rattle.std.proofs.Common.{◌≡◌, inl, inr, ℕ, Bool, true, false, cond, ◌==◌, Option, Some, None, Ok, Err, sym, ap, subst, ◌∙◌, arith}
 use Rattle.std.proofs.lemmas.Bool.{false≢true}
 use Rattle.std.specs.Prelude.{Result, IsErr, slice_index_or}
 use Rattle.flash_core.specs.declared.flash.FlashStop.{FlashStop}
 use Rattle.flash_core.specs.declared.flash.FlashStop.TheVariants as flash_stop
 use Rattle.flash_core.specs.Touches.{TouchesOnly}
-use Rattle.flash_core.proofs.Touches.{touches_none, touches_still, touches_then, touches_wider}
+use Rattle.flash_core.proofs.Touches.{touches_none, touches_then, touches_wider}
 use Rattle.fwu_formats.specs.Metadata.{state_at}
 use Rattle.fwu_formats.specs.declared.kinds.BankState.TheVariants.{Invalid}
 use Rattle.fwu_model.specs.State.{Numbers}
@@ -18,8 +18,13 @@ use Rattle.early_boot.specs.declared.showing.Unshown.TheVariants as unshown
 use Rattle.early_boot.specs.CountingStarts.{TouchesCounting, counting_in, counting_of}
 use Rattle.early_boot.specs.Mending.{mended}
 use Rattle.early_boot.specs.Numbers.{numbers_shown}
-use Rattle.early_boot.specs.Starting.{TouchesFound, TouchesReplicasThen}
-use Rattle.early_boot.specs.EndsBy.{TouchesBoot, TouchesStopped, stopped_with, unshown_end}
+use Rattle.early_boot.specs.Ends.{no_bank}
+use Rattle.replicas.specs.declared.which.Which.{Which}
+use Rattle.replicas.specs.declared.which.Which.TheVariants.{Same, RepairZero, RepairOne, MigrateZero, MigrateOne}
+use Rattle.replicas.specs.Which.{form_read_of}
+use Rattle.replicas.specs.Repairs.{TouchesRepair}
+use Rattle.early_boot.specs.Starting.{TouchesFound, TouchesRepairAndStart}
+use Rattle.early_boot.specs.EndsBy.{TouchesBoot, TouchesStart, TouchesStopped, stopped_with, unshown_end}
 
 -- after reads
 pub touches-behind : (low high : ℕ) {a b c : ℕ → ℕ} → b ≡ a → TouchesOnly low high b c → TouchesOnly low high a c
@@ -44,9 +49,17 @@ found-within (Ok (Some start)) shown a b only = counting-within (counting_in sho
 found-within (Err stop) shown a b (inl same) = touches_none 4096 28672 same
 found-within (Err stop) shown a b (inr (chosen, only)) = counting-within (counting_in shown chosen) a b only
 
-pub boot-within : (result : Result (Option (Shown × Chosen)) FlashStop) (shown : Shown) (a b : ℕ → ℕ) → TouchesReplicasThen (TouchesFound result shown) a b → TouchesOnly 4096 28672 a b
+pub repair-within : (which : Which) (a b : ℕ → ℕ) → TouchesRepair which a b → TouchesOnly 4096 12288 a b
+repair-within Same a b same = touches_none 4096 12288 same
+repair-within RepairZero a b only = touches_wider 4096 8192 4096 12288 (omega arith) (omega arith) only
+repair-within RepairOne a b only = touches_wider 8192 12288 4096 12288 (omega arith) (omega arith) only
+repair-within MigrateZero a b only = only
+repair-within MigrateOne a b only = only
+
+pub boot-within : (result : Result (Option (Shown × Chosen)) FlashStop) (shown : Shown) (a b : ℕ → ℕ) → TouchesRepairAndStart result shown a b → TouchesOnly 4096 28672 a b
 boot-within result shown a b all =
-    touches_then 4096 28672 (touches_wider 4096 12288 4096 28672 (omega arith) (omega arith) all.repair) (found-within result shown all.repaired b all.start)
+    touches_then 4096 28672 (touches_wider 4096 12288 4096 28672 (omega arith) (omega arith) (repair-within shown.which a all.repaired all.repair))
+    (found-within result (mended shown) all.repaired b all.start)
 
 -- a stop that counted nothing, and one that may have
 pub stopped-nothing : (result : Result (Option (Shown × Chosen)) FlashStop) (shown : Shown) (a b : ℕ → ℕ) → IsErr result → b ≡ a → TouchesFound result shown a b
@@ -59,12 +72,12 @@ stopped-counting (Ok x) shown chosen a b err only = absurd (false≢true err)
 stopped-counting (Err stop) shown chosen a b err only = inr (chosen, only)
 
 -- behind reads
-pub replicas-behind : (Touches : (ℕ → ℕ) → (ℕ → ℕ) → Type 0) (a b c : ℕ → ℕ) → b ≡ a → TouchesReplicasThen Touches b c → TouchesReplicasThen Touches a c
-replicas-behind Touches a b c same all = record { repaired = all.repaired; repair = touches-behind 4096 12288 same all.repair; start = all.start; }
-
--- where none was chosen
-pub none-touches : (shown : Shown) (a b : ℕ → ℕ) → TouchesReplicasThen (TouchesFound (Ok None) shown) a b → TouchesOnly 4096 12288 a b
-none-touches shown a b all = touches_still 4096 12288 all.repair all.start
+pub boot-behind : (result : Result (Option (Shown × Chosen)) FlashStop) (shown : Shown) (a b c : ℕ → ℕ) → b ≡ a → TouchesRepairAndStart result shown b c → TouchesRepairAndStart result shown a c
+boot-behind result shown a b c same all = record {
+  repaired = all.repaired;
+  repair = subst (λ (w : ℕ → ℕ). TouchesRepair shown.which w all.repaired) same all.repair;
+  start = all.start;
+}
 
 -- ---- by the end
 
@@ -86,10 +99,20 @@ module _ (shown : Shown) (n : Numbers) (read : n ≡ numbers_shown shown) (old n
   stopped-by-numbers stop (inl same) = inl same
   stopped-by-numbers stop (inr (chosen, only)) = counted-stop (chosen.bank == shown.meta.meta.active) chosen.version only
 
-module _ (shown : Shown) (n : Numbers) (read : n ≡ numbers_shown shown) (old new : ℕ → ℕ) where
-  replicas-by-numbers : (stop : FlashStop) → TouchesReplicasThen (TouchesFound (Err stop) (mended shown)) old new → TouchesReplicasThen (TouchesStopped n) old new
-  replicas-by-numbers stop all = record { repaired = all.repaired; repair = all.repair; start = stopped-by-numbers shown n read all.repaired new stop all.start; }
+module _ (shown : Shown) (n : Numbers) (read : n ≡ numbers_shown shown) (form : shown.meta.form ≡ form_read_of shown.which) (old new : ℕ → ℕ) where
+  stopped-start : (stop : FlashStop) → TouchesRepairAndStart (Err stop) shown old new → TouchesStart n (TouchesStopped n) old new
+  stopped-start stop all = record {
+    which = shown.which;
+    version_is = ap (λ (m : Numbers). m.form) read ∙ form;
+    repaired = all.repaired;
+    repair = all.repair;
+    start = stopped-by-numbers shown n read all.repaired new stop all.start;
+  }
 
-  pub stopped-touches : (stop : FlashStop) → TouchesReplicasThen (TouchesFound (Err stop) (mended shown)) old new → TouchesBoot (stopped_with stop n) old new
-  stopped-touches flash_stop.Lost all = replicas-by-numbers flash_stop.Lost all
-  stopped-touches flash_stop.Failed all = replicas-by-numbers flash_stop.Failed all
+  pub stopped-touches : (stop : FlashStop) → TouchesRepairAndStart (Err stop) shown old new → TouchesBoot (stopped_with stop n) old new
+  stopped-touches flash_stop.Lost all = stopped-start flash_stop.Lost all
+  stopped-touches flash_stop.Failed all = stopped-start flash_stop.Failed all
+
+  -- where no bank was started, the repair alone
+  pub none-touches : (active previous : ℕ) → TouchesRepairAndStart (Ok None) shown old new → TouchesBoot (no_bank active previous) old new
+  none-touches active previous all = (shown.which, subst (λ (w : ℕ → ℕ). TouchesRepair shown.which old w) (sym all.start) all.repair)

@@ -5,7 +5,6 @@ use Rattle.flash_core.specs.declared.flash.Arming.{Arming}
 use Rattle.flash_core.specs.declared.flash.Flash.{Ghosts}
 use Rattle.flash_core.specs.declared.flash.FlashStop.{FlashStop}
 use Rattle.flash_core.specs.Told.{Told}
-use Rattle.flash_core.specs.Touches.{TouchesOnly}
 use Rattle.flash_core.specs.May.{Guards, Keeps}
 use Rattle.fwu_formats.specs.Counter.{counter_in}
 use Rattle.fwu_formats.specs.Layout.{Layout}
@@ -16,7 +15,7 @@ use Rattle.fwu_model.specs.Seen.{IsTidy}
 use Rattle.fwu_model.specs.Calm.{IsCalm, IsAtRest}
 use Rattle.fwu_model.specs.Answer.{migrate_moves, chosen_moves}
 use Rattle.fwu_model.specs.Replica.{BothHold, in_version}
-use Rattle.replicas.specs.Repairs.{Repairs, TakesRepair}
+use Rattle.replicas.specs.Repairs.{Repairs, TakesRepair, TouchesRepair}
 use Rattle.moves.specs.Moved.{IsShown, Does, GuardedBy}
 use Rattle.early_boot.specs.declared.choosing.Chosen.{Chosen}
 use Rattle.early_boot.specs.declared.showing.Shown.{Shown}
@@ -81,11 +80,11 @@ TouchesFound (Ok None) shown old new = new ≡ old
 TouchesFound (Ok (Some start)) shown old new = TouchesCounting (counting_in shown start.1) old new
 TouchesFound (Err stop) shown old new = (new ≡ old) ⊎ ((chosen : Chosen) × TouchesCounting (counting_in shown chosen) old new)
 
--- The replicas, in blocks 1 and 2, and then these.
-pub record TouchesReplicasThen (Touches : (ℕ → ℕ) → (ℕ → ℕ) → Type 0) (old new : ℕ → ℕ) : Type 0 where
+-- and before that those replicas that lack the metadata
+pub record TouchesRepairAndStart (result : Result (Option (Shown × Chosen)) FlashStop) (shown : Shown) (old new : ℕ → ℕ) : Type 0 where
   pub repaired : ℕ → ℕ
-  pub repair : TouchesOnly (block_bytes * 1) (block_bytes * 3) old repaired
-  pub start : Touches repaired new
+  pub repair : TouchesRepair shown.which old repaired
+  pub start : TouchesFound result (mended shown) repaired new
 
 -- ---- the choice and its count
 

@@ -161,7 +161,7 @@ pub record CallsFrom (c : Call) (b : Started) (result : Result (Unit {0}) Stop) 
   -- what is refused, and what is accepted again, changes nothing
   pub refused : IsRefused result → t ≡ old
   pub again : IsAccepted c b → t ≡ old
-  -- on any flash, at any exit: nothing changed but blocks 1 to 3, and the bank that follows the one that was started
+  -- on any flash, at any exit: nothing changed but blocks 1 to 3, and the bank behind the one that was started
   pub keeps : KeepsWhere (IsSparedByAll b.layout b.bank) old t
 
 -- What an agent made of a call, and the device that it left.

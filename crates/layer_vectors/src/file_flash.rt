@@ -5,7 +5,7 @@ use crate::fixtures::{
     are_numbers, arm, ends, erase, gives, holds, image, power_on, put, read, removed, same,
 };
 use flash_core::{Flash, FlashStop};
-use flash_devices::{ByteFile, FileFlash, FlashOpenFault, MemoryFile};
+use flash_devices::{ByteFile, FileFlash, FlashOpenFault, MemoryFile, MemoryFlash};
 use runs_kit::only;
 use std::alloc::Global;
 use std::cell::Cell;
@@ -116,8 +116,30 @@ fn a_file_of_the_system_is_a_flash(rt: HostRuntime) {
 #[test]
 fn a_file_in_memory_is_a_flash(rt: HostRuntime) {
     let alloc = rt.alloc();
-    let file = worked(&rt, MemoryFile::new(zeros(&rt, alloc), Vec::new(alloc)));
+    let made = MemoryFile::new(alloc, zeros(&rt, alloc), Vec::new(alloc));
+    let file = worked(&rt, made.expect(&rt, "memory"));
     are_left(&rt, alloc, file.bytes());
+    // an erase, two programs, and one that a loss of power cut short
+    same(&rt, file.times_written(3), 4);
+    for block in [0, 1, 2, 4, 5, 6, 7, 8] {
+        same(&rt, file.times_written(block), 0);
+    }
+}
+
+#[test]
+fn a_flash_in_memory_counts_what_is_written(rt: HostRuntime) {
+    let alloc = rt.alloc();
+    let made = MemoryFlash::from_bytes(alloc, zeros(&rt, alloc), Vec::new(alloc), Vec::new(alloc));
+    let mut flash = made.ok().expect(&rt, "a flash");
+    power_on(&rt, &mut flash);
+    erases(&rt, &mut flash, 3, Ok(()));
+    erases(&rt, &mut flash, 3, Ok(()));
+    erases(&rt, &mut flash, 7, Ok(()));
+    same(&rt, flash.times_written(3), 2);
+    same(&rt, flash.times_written(7), 1);
+    for block in [0, 1, 2, 4, 5, 6, 8] {
+        same(&rt, flash.times_written(block), 0);
+    }
 }
 
 // A file that takes few bytes at a time, and after so many bytes fails. It counts its syncs.

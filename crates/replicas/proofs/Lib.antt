@@ -1,3 +1,4 @@
 pub mod Reading
 pub mod Both
 pub mod Mending
+pub mod Touching

@@ -5,6 +5,7 @@ use Rattle.flash_core.specs.declared.flash.Arming.{Arming}
 use Rattle.flash_core.specs.declared.flash.FlashStop.{FlashStop}
 use Rattle.flash_core.specs.Counts.{lowered}
 use Rattle.flash_core.specs.Told.{Told}
+use Rattle.flash_core.specs.Touches.{TouchesOnly}
 use Rattle.flash_core.specs.May.{May, Guards, Keeps, Quiet}
 use Rattle.flash_core.specs.Replaces.{padded, IsOldOrNew}
 use Rattle.fwu_formats.specs.Layout.{Layout}
@@ -61,3 +62,12 @@ TakesRepair RepairZero armed arming = TakesOne armed arming
 TakesRepair RepairOne armed arming = TakesOne armed arming
 TakesRepair MigrateZero armed arming = TakesOne armed arming ⊎ TakesBoth armed arming
 TakesRepair MigrateOne armed arming = TakesBoth armed arming
+
+-- ---- on every device, which blocks a repair may erase or program: those of the replicas that lack it
+
+abbrev pub TouchesRepair : Which → (ℕ → ℕ) → (ℕ → ℕ) → Type 0
+TouchesRepair Same old new = new ≡ old
+TouchesRepair RepairZero old new = TouchesOnly (block_bytes * 1) (block_bytes * 2) old new
+TouchesRepair RepairOne old new = TouchesOnly (block_bytes * 2) (block_bytes * 3) old new
+TouchesRepair MigrateZero old new = TouchesOnly (block_bytes * 1) (block_bytes * 3) old new
+TouchesRepair MigrateOne old new = TouchesOnly (block_bytes * 1) (block_bytes * 3) old new

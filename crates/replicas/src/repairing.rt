@@ -7,7 +7,7 @@ ghost use Rattle.fwu_formats.specs.Layout.{fits_layout};
 ghost use Rattle.fwu_formats.specs.Metadata.{fits_meta, meta_read, replica_bytes};
 ghost use Rattle.fwu_model.specs.Replica.{in_version};
 ghost use Rattle.replicas.specs.Which.{Loads};
-ghost use Rattle.replicas.specs.Repairs.{Repairs, TakesBoth, TakesOne, TakesRepair};
+ghost use Rattle.replicas.specs.Repairs.{Repairs, TakesBoth, TakesOne, TakesRepair, TouchesRepair};
 ghost use Rattle.replicas.specs.declared.which.Which.TheVariants.{Same, MigrateZero};
 
 use crate::loading::read_replica;
@@ -119,8 +119,8 @@ pub fn repair<D: Flash>(
         meta_read layout.now (block 2 (D.told flash.old).now) ≡ Some (in_version 2 meta.now.meta) →
         TakesOne (D.arming flash.old) (D.arming flash.new)) }
     ensures buffer { length buf.new ≡ length buf.old }
-    // on every device: no block but 1 and 2 is erased or programmed
-    ensures touches { TouchesOnly (block_bytes * 1) (block_bytes * 3) (D.writes flash.old) (D.writes flash.new) }
+    // on every device: no replica is erased or programmed but those that are to be written
+    ensures touches { TouchesRepair which (D.writes flash.old) (D.writes flash.new) }
 {
     layout.fits();
     let half = is_half_migrated(flash, layout, meta, which, &mut buf[..BLOCK_BYTES as usize])?;

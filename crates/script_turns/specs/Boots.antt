@@ -74,7 +74,7 @@ pub record BootsAs (passes : List ℕ → Bool) (tells : Bool) (old : TurnMoment
   pub on_is : IsOnAfter end new.on
   pub idle : IdleEnd end mid.armed new.armed mid.counts new.counts
   pub spent : TakesBoot end mid.armed new.armed
-  -- on any device: which of blocks 1 to 6 it erased and programmed
+  -- on any device: no blocks were erased or programmed but these, of blocks 1 to 6
   pub touches : TouchesBoot end mid.writes new.writes
   pub started : StartedBy end
   pub permitted : StartsPermitted passes end

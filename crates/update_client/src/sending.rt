@@ -78,7 +78,7 @@ pub fn send<D: Flash, H: Files, V: Verifier>(
     ensures goes { IsFalse (gone agent.old) →
         Goes D.Flash (flash_of result) (device agent.old) (device agent.new) }
     // On every device, whatever its reads give, at any exit: no block is erased or programmed but those of
-    // the metadata, the marks of the starts on trial and the update bank.
+    // the metadata, the marks of the starts on trial and the bank behind the one that was started.
     ensures touches { SparesBlocksByAll (fields agent.old)
         (D.writes (device agent.old)) (D.writes (device agent.new)) }
     // On every device: the erases and programs of the begin, and of each image's writes and its commit.

@@ -6,7 +6,7 @@ use Rattle.flash_core.specs.Calls.{Goes, Reads}
 use Rattle.flash_core.specs.Told.{Told}
 use Rattle.flash_core.specs.Touches.{TouchesOnly}
 use Rattle.flash_core.proofs.Touches.{touches_none}
-use Rattle.early_boot.proofs.Touching.{boot-within, none-touches, replicas-behind, stopped-touches, touches-behind, unshown-touches}
+use Rattle.early_boot.proofs.Touching.{boot-behind, boot-within, none-touches, stopped-touches, touches-behind, unshown-touches}
 use Rattle.early_boot.specs.declared.choosing.Chosen.{Chosen}
 use Rattle.early_boot.specs.declared.showing.Shown.{Shown}
 use Rattle.early_boot.specs.Showing.{state_shown, stop_in}
@@ -18,7 +18,7 @@ use Rattle.early_boot.proofs.Choices.{starts_by_numbers, unshown_started, stoppe
 use Rattle.early_boot.specs.Mending.{mended}
 use Rattle.early_boot.specs.Numbers.{AreNumbers, numbers}
 use Rattle.early_boot.proofs.Numbered.{numbers-are}
-use Rattle.early_boot.specs.Starting.{Boots, IsCountedStart, TakesMendingAndStart, TakesRepairAndStart, TouchesFound, TouchesReplicasThen, chosen_of}
+use Rattle.early_boot.specs.Starting.{Boots, IsCountedStart, TakesMendingAndStart, TakesRepairAndStart, TouchesRepairAndStart, chosen_of}
 use Rattle.early_boot.specs.Started.{started_as}
 use Rattle.early_boot.specs.Ends.{Ended, device_of, ended, no_bank, stop_of}
 use Rattle.early_boot.specs.EndsBy.{BootEnds, IdleEnd, TakesBoot, TakesByBytes, TouchesBoot, stopped_with, unshown_end}
@@ -115,13 +115,14 @@ returns-in-Err-mend_and_start g c =
             (stopped-idle stop n (g.D.Flash.arming F) (g.D.Flash.arming d) (g.D.Flash.counts F) (g.D.Flash.counts d));
         touches =
             subst (λ d. TouchesOnly 4096 28672 (g.D.Flash.writes c.args.flash) (g.D.Flash.writes d)) (sym c.stopped_with.ensures.device)
-            (touches-behind 4096 28672 c.in-Ok.ensures.reads.writes (boot-within (Err stop) (mended shown) _ _ c.in-Err-mend_and_start.ensures.touches));
+            (touches-behind 4096 28672 c.in-Ok.ensures.reads.writes (boot-within (Err stop) shown _ _ c.in-Err-mend_and_start.ensures.touches));
         touches_fewer =
             let F = g.D.Flash.writes c.args.flash in
             let d = g.D.Flash.writes (device_of c.stopped_with.result) in
             subst (λ (e : Ended). TouchesBoot e F d) (sym c.stopped_with.ensures.ended)
             (subst (λ x. TouchesBoot (stopped_with stop n) F (g.D.Flash.writes x)) (sym c.stopped_with.ensures.device)
-            (stopped-touches shown n c.of-numbers.ensures F _ stop (replicas-behind _ _ _ _ c.in-Ok.ensures.reads.writes c.in-Err-mend_and_start.ensures.touches)));
+            (stopped-touches shown n c.of-numbers.ensures c.in-Ok.ensures.shown.form F _ stop
+            (boot-behind (Err stop) shown F _ _ c.in-Ok.ensures.reads.writes c.in-Err-mend_and_start.ensures.touches)));
         started =
             let are = numbers-are shown c.in-Ok.ensures.shown.layout c.in-Ok.ensures.shown.fits c.in-Ok.ensures.shown.few c.in-Ok.ensures.shown.form c.in-Ok.ensures.shown.none in
             subst StartedBy (sym c.stopped_with.ensures.ended) (stopped_started stop _ (subst AreNumbers (sym c.of-numbers.ensures) are));
@@ -159,17 +160,17 @@ returns-in-Ok-Some g c =
     let read = c.read_shown.new.flash in
     let arming = g.D.Flash.arming c.mend_and_start.new.flash in
     let start : Option (Shown × Chosen) = Some (c.in-Ok-Some.after, c.in-Ok-Some.chosen) in
-    let touched = subst (λ (o : Option (Shown × Chosen)). TouchesReplicasThen (TouchesFound (Ok o) (mended shown)) (g.D.Flash.writes read) (g.D.Flash.writes c.mend_and_start.new.flash)) c.in-Ok-Some.field-0-is c.in-Ok-Some.ensures.touches in
+    let touched = subst (λ (o : Option (Shown × Chosen)). TouchesRepairAndStart (Ok o) shown (g.D.Flash.writes read) (g.D.Flash.writes c.mend_and_start.new.flash)) c.in-Ok-Some.field-0-is c.in-Ok-Some.ensures.touches in
     record {
       boots = record {
         power = goes.power;
         size = goes.size;
         costs = goes.costs;
         idle = tt;
-        touches = touches-behind 4096 28672 c.in-Ok.ensures.reads.writes (boot-within (Ok start) (mended shown) _ _ touched);
+        touches = touches-behind 4096 28672 c.in-Ok.ensures.reads.writes (boot-within (Ok start) shown _ _ touched);
         touches_fewer =
-            start-touches shown c.in-Ok-Some.after c.in-Ok-Some.chosen n c.of-numbers.ensures counted.later
-            (replicas-behind _ _ _ _ c.in-Ok.ensures.reads.writes touched);
+            start-touches shown c.in-Ok-Some.after c.in-Ok-Some.chosen n c.of-numbers.ensures counted.later _ _ c.in-Ok.ensures.shown.form
+            (boot-behind (Ok start) shown _ _ _ c.in-Ok.ensures.reads.writes touched);
         started =
             starts_by_numbers shown c.in-Ok-Some.after c.in-Ok-Some.chosen n c.of-numbers.ensures counted.later counted.counted
             (numbers-are shown c.in-Ok.ensures.shown.layout c.in-Ok.ensures.shown.fits c.in-Ok.ensures.shown.few c.in-Ok.ensures.shown.form c.in-Ok.ensures.shown.none) counted.found.is;
@@ -209,15 +210,17 @@ returns-in-Ok-None g c =
     let read = c.read_shown.new.flash in
     let arming = g.D.Flash.arming c.mend_and_start.new.flash in
     let armed = g.D.Flash.arming c.args.flash in
-    let touched = subst (λ (o : Option (Shown × Chosen)). TouchesReplicasThen (TouchesFound (Ok o) (mended shown)) (g.D.Flash.writes read) (g.D.Flash.writes c.mend_and_start.new.flash)) c.in-Ok-None.field-0-is c.in-Ok-None.ensures.touches in
+    let touched = subst (λ (o : Option (Shown × Chosen)). TouchesRepairAndStart (Ok o) shown (g.D.Flash.writes read) (g.D.Flash.writes c.mend_and_start.new.flash)) c.in-Ok-None.field-0-is c.in-Ok-None.ensures.touches in
     record {
       boots = record {
         power = goes.power;
         size = goes.size;
         costs = goes.costs;
         idle = tt;
-        touches = touches-behind 4096 28672 c.in-Ok.ensures.reads.writes (boot-within (Ok None) (mended shown) _ _ touched);
-        touches_fewer = touches-behind 4096 12288 c.in-Ok.ensures.reads.writes (none-touches (mended shown) _ _ touched);
+        touches = touches-behind 4096 28672 c.in-Ok.ensures.reads.writes (boot-within (Ok None) shown _ _ touched);
+        touches_fewer =
+            none-touches shown (numbers c.of-numbers.result) c.of-numbers.ensures c.in-Ok.ensures.shown.form _ _ c.active.result c.previous.result
+            (boot-behind (Ok None) shown _ _ _ c.in-Ok.ensures.reads.writes touched);
         started =
             let are = numbers-are shown c.in-Ok.ensures.shown.layout c.in-Ok.ensures.shown.fits c.in-Ok.ensures.shown.few c.in-Ok.ensures.shown.form c.in-Ok.ensures.shown.none in
             (omega (arith, c.active.ensures, are.active, are.most), omega (arith, c.previous.ensures, are.previous, are.most));

@@ -4,7 +4,7 @@ use Rattle.std.specs.Bool.{then_some}
 use Rattle.fwu_formats.specs.Metadata.{state_at}
 use Rattle.flash_core.specs.Told.{Told}
 use Rattle.flash_core.proofs.Touches.{touches_none}
-use Rattle.early_boot.proofs.Touching.{touches-behind}
+use Rattle.early_boot.proofs.Touching.{repair-within, touches-behind}
 use Rattle.early_boot.specs.Mending.{MendsReplicas}
 use Rattle.early_boot.proofs.TakingUp.{run-below}
 use Rattle.early_boot.proofs.taking_up.check_and_mend.Goals as goal
@@ -35,7 +35,7 @@ pub returns-in_default-clause-refused : goal.returns-in_default-clause-refused
 returns-in_default-clause-refused g c = λ none. c.in_ok-chosen.ensures.reads.writes
 
 pub returns-in_err-mend-clause-touches : goal.returns-in_err-mend-clause-touches
-returns-in_err-mend-clause-touches g c = touches-behind 4096 12288 c.in_ok-chosen.ensures.reads.writes c.in_err-mend.ensures.touches
+returns-in_err-mend-clause-touches g c = touches-behind 4096 12288 c.in_ok-chosen.ensures.reads.writes (repair-within c.args.shown.now.which _ _ c.in_err-mend.ensures.touches)
 
 pub returns-clause-touches : goal.returns-clause-touches
-returns-clause-touches g c = touches-behind 4096 12288 c.in_ok-chosen.ensures.reads.writes c.in_ok-mend.ensures.touches
+returns-clause-touches g c = touches-behind 4096 12288 c.in_ok-chosen.ensures.reads.writes (repair-within c.args.shown.now.which _ _ c.in_ok-mend.ensures.touches)

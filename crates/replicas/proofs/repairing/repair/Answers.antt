@@ -6,7 +6,7 @@ use Rattle.base_core.specs.Block.{block}
 use Rattle.flash_core.specs.declared.flash.Arming.{Arming}
 use Rattle.flash_core.specs.Told.{Told}
 use Rattle.flash_core.specs.Replaces.{padded}
-use Rattle.flash_core.proofs.Touches.{touches_none, touches_then, touches_wider}
+use Rattle.flash_core.proofs.Touches.{touches_wider}
 use Rattle.fwu_formats.specs.Metadata.{meta_read, replica_bytes}
 use Rattle.fwu_model.specs.Replica.{in_version}
 use Rattle.replicas.specs.Stores.{WritesBoth}
@@ -15,6 +15,7 @@ use Rattle.replicas.specs.Which.{Loads}
 use Rattle.replicas.specs.declared.which.Which.{Which}
 use Rattle.replicas.specs.declared.which.Which.TheVariants.{RepairZero, RepairOne, MigrateZero, MigrateOne}
 use Rattle.replicas.proofs.Reading.{replica_read}
+use Rattle.replicas.proofs.Touching.{touches-as, touches-still}
 use Rattle.replicas.proofs.Mending.{spelled_out, unchanged, same_mended, zero_repaired, one_repaired, one_migrated, held_migrated}
 use Rattle.replicas.proofs.repairing.repair.Goals as goal
 
@@ -153,22 +154,29 @@ returns-in-MigrateOne-clause-spent g c =
     (subst (λ (armed : Option Arming). OnOk c.write_both.result (TakesRepair MigrateOne armed left)) c.in_ok-half.ensures.reads.arming c.write_both.ensures.spent)
 
 -- asking what replica 1 holds erases and programs nothing
+pub returns-in_err-half-clause-touches : goal.returns-in_err-half-clause-touches
+returns-in_err-half-clause-touches g c = touches-still c.args.which _ _ c.in_err-half.ensures.reads.writes
+
 pub returns-then-half-clause-touches : goal.returns-then-half-clause-touches
-returns-then-half-clause-touches g c = touches_then 4096 12288 (touches_none 4096 12288 c.in_ok-half.ensures.reads.writes)
+returns-then-half-clause-touches g c =
+    touches-as c.args.which MigrateZero _ _ _ (c.in_ok-half.ensures.migrates c.if-half.true) c.in_ok-half.ensures.reads.writes
     (touches_wider 4096 8192 4096 12288 (omega arith) (omega arith) c.replace.ensures.touches)
 
+pub returns-in-Same-clause-touches : goal.returns-in-Same-clause-touches
+returns-in-Same-clause-touches g c = touches-still c.args.which _ _ c.in_ok-half.ensures.reads.writes
+
 pub returns-in-RepairZero-clause-touches : goal.returns-in-RepairZero-clause-touches
-returns-in-RepairZero-clause-touches g c = touches_then 4096 12288 (touches_none 4096 12288 c.in_ok-half.ensures.reads.writes)
-    (touches_wider 4096 8192 4096 12288 (omega arith) (omega arith) c.replace-in-RepairZero.ensures.touches)
+returns-in-RepairZero-clause-touches g c =
+    touches-as c.args.which RepairZero _ _ _ c.in-RepairZero.is c.in_ok-half.ensures.reads.writes c.replace-in-RepairZero.ensures.touches
 
 pub returns-in-RepairOne-clause-touches : goal.returns-in-RepairOne-clause-touches
-returns-in-RepairOne-clause-touches g c = touches_then 4096 12288 (touches_none 4096 12288 c.in_ok-half.ensures.reads.writes)
-    (touches_wider 8192 12288 4096 12288 (omega arith) (omega arith) c.replace-in-RepairOne.ensures.touches)
+returns-in-RepairOne-clause-touches g c =
+    touches-as c.args.which RepairOne _ _ _ c.in-RepairOne.is c.in_ok-half.ensures.reads.writes c.replace-in-RepairOne.ensures.touches
 
 pub returns-in-MigrateZero-clause-touches : goal.returns-in-MigrateZero-clause-touches
-returns-in-MigrateZero-clause-touches g c = touches_then 4096 12288 (touches_none 4096 12288 c.in_ok-half.ensures.reads.writes)
-    c.migrate_zero.ensures.touches
+returns-in-MigrateZero-clause-touches g c =
+    touches-as c.args.which MigrateZero _ _ _ c.in-MigrateZero.is c.in_ok-half.ensures.reads.writes c.migrate_zero.ensures.touches
 
 pub returns-in-MigrateOne-clause-touches : goal.returns-in-MigrateOne-clause-touches
-returns-in-MigrateOne-clause-touches g c = touches_then 4096 12288 (touches_none 4096 12288 c.in_ok-half.ensures.reads.writes)
-    c.write_both.ensures.touches
+returns-in-MigrateOne-clause-touches g c =
+    touches-as c.args.which MigrateOne _ _ _ c.in-MigrateOne.is c.in_ok-half.ensures.reads.writes c.write_both.ensures.touches
