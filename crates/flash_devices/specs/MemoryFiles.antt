@@ -1,6 +1,7 @@
--- What a file in memory holds, and which of its calls fail.
+-- What a file in memory holds and counts, and which of its calls fail.
 use Rattle.std.specs.Prelude.{◌≡◌, ℕ, Bool, List}
 use Rattle.flash_devices.specs.Meters.{is_listed, following}
+use Rattle.flash_devices.specs.Writes.{counts_in}
 use Rattle.flash_devices.specs.declared.memory_file.MemoryFile.{MemoryFile}
 
 abbrev pub bytes_of : MemoryFile → List ℕ
@@ -13,6 +14,10 @@ fails_of f = f.fails.items
 -- how many calls were made
 abbrev pub calls_of : MemoryFile → ℕ
 calls_of f = f.calls
+
+-- how often each 4096 bytes were written to
+abbrev pub writes_of : MemoryFile → ℕ → ℕ
+writes_of f = counts_in f.written.items
 
 -- whether the next call is listed
 abbrev pub fails_next : MemoryFile → Bool

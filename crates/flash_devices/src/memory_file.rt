@@ -1,18 +1,24 @@
-ghost use Rattle.std.specs.Prelude.{◌≡◌, ◌+◌, Some, IfOk, OnErr, OnOk, is_err, length};
+ghost use Rattle.std.specs.Prelude.{◌≡◌, ◌+◌, ◌*◌, ◌≤◌, ℕ, Some, IfOk, OnErr, OnOk, is_err, length};
 ghost use Rattle.flash_devices.specs.ByteFiles.{FailsAs, FailsWithin, HoldsAt, Lies, WritesBytes};
-ghost use Rattle.flash_devices.specs.MemoryFiles.{bytes_of, calls_of, fails_next, fails_of, IsCalledOnce};
+ghost use Rattle.base_core.specs.Block.{block_bytes};
 
 use crate::byte_file::ByteFile;
 use crate::images::put_in;
+use crate::writes::count_met;
+use base_core::BLOCK_BYTES;
+use std::alloc::{AllocError, Global};
 use std::io::{self, ErrorKind};
 
-/// A file in memory, which tells its bytes. Its calls of the listed numbers, counted from 1, fail, and
+/// A file in memory, which tells its bytes and counts its writes. Its calls of the listed numbers, counted from 1, fail, and
 /// so does one on a range outside of it. A call that fails changes no byte.
 #[derive(Drop)]
 pub struct MemoryFile {
     bytes: Vec<u8>,
     fails: Vec<u64>,
     calls: u64,
+    /// For each 4096 bytes, how often they were written to.
+    written: Vec<u64>,
+    ghost counted: { length bytes.items ≤ block_bytes * length written.items },
 }
 
 /// The place as an index, where so many bytes from there on lie in the file.
@@ -28,17 +34,22 @@ fn place(bytes: &[u8], at: u64, n: usize) -> io::Result<usize>
 }
 
 impl MemoryFile {
+    ghost use Rattle.flash_devices.specs.MemoryFiles.{bytes_of, calls_of, fails_next, fails_of, writes_of, IsCalledOnce};
+
     /// A file of these bytes, whose calls of these numbers fail.
-    pub fn new(bytes: Vec<u8>, fails: Vec<u64>) -> MemoryFile
-        ensures bytes { bytes_of result ≡ bytes.items }
-        ensures fails { fails_of result ≡ fails.items }
-        ensures calls { calls_of result ≡ 0 }
+    pub fn new(alloc: Global, bytes: Vec<u8>, fails: Vec<u64>) -> Result<MemoryFile, AllocError>
+        ensures bytes { IfOk result (λ file. bytes_of file ≡ bytes.items) }
+        ensures fails { IfOk result (λ file. fails_of file ≡ fails.items) }
+        ensures calls { IfOk result (λ file. calls_of file ≡ 0) }
+        ensures unwritten { IfOk result (λ file. (b : ℕ) → writes_of file b ≡ 0) }
     {
-        MemoryFile {
+        let written = vec![in alloc; 0; bytes.len().div_ceil(BLOCK_BYTES as usize)]?;
+        Ok(MemoryFile {
             bytes,
             fails,
             calls: 0,
-        }
+            written,
+        })
     }
 
     /// Its bytes.
@@ -48,11 +59,19 @@ impl MemoryFile {
         &self.bytes
     }
 
+    /// How often some of the 4096 bytes of this number, counted from 0, were written to.
+    pub fn times_written(&self, block: usize) -> u64
+        ensures { result ≡ writes_of self.now block }
+    {
+        self.written.get(block).copied().unwrap_or(0)
+    }
+
     /// One more call, which fails where it is listed.
     fn call(&mut self) -> io::Result<()>
         ensures fails { is_err result ≡ fails_next self.old }
         ensures called { IsCalledOnce self.old self.new }
         ensures same { bytes_of self.new ≡ bytes_of self.old }
+        ensures writes { writes_of self.new ≡ writes_of self.old }
     {
         self.calls = self.calls.saturating_add(1);
         if self.fails.contains(&self.calls) {
@@ -63,9 +82,14 @@ impl MemoryFile {
 }
 
 impl ByteFile for MemoryFile {
+    ghost use Rattle.flash_core.specs.Touches.{TouchesOnly};
+    ghost use Rattle.flash_devices.specs.MemoryFiles.{bytes_of, fails_next, writes_of, IsCalledOnce};
+
     ghost content = { λ f. Some (bytes_of f) };
 
     ghost size = { λ f. Some (length (bytes_of f)) };
+
+    ghost writes = { λ f. writes_of f };
 
     ghost fails = { λ f. Some (fails_next f) };
 
@@ -76,6 +100,7 @@ impl ByteFile for MemoryFile {
     fn size(&mut self) -> io::Result<u64>
         ensures size { IfOk result (λ n. n ≡ length (bytes_of self.old)) }
         ensures same { Some (bytes_of self.new) ≡ Some (bytes_of self.old) }
+        ensures writes { writes_of self.new ≡ writes_of self.old }
         ensures fails { FailsAs (Some (fails_next self.old)) (is_err result) }
         ensures called { IsCalledOnce self.old self.new }
     {
@@ -86,6 +111,7 @@ impl ByteFile for MemoryFile {
     fn read_at(&mut self, at: u64, out: &mut [u8]) -> io::Result<()>
         ensures bytes { OnOk result (HoldsAt at out.new (Some (bytes_of self.old))) }
         ensures same { Some (bytes_of self.new) ≡ Some (bytes_of self.old) }
+        ensures writes { writes_of self.new ≡ writes_of self.old }
         ensures fails { FailsWithin (Some (fails_next self.old)) (Some (bytes_of self.old)) at (length out.old) (is_err result) }
         ensures called { IsCalledOnce self.old self.new }
     {
@@ -101,15 +127,18 @@ impl ByteFile for MemoryFile {
         ensures unchanged { OnErr result (bytes_of self.new ≡ bytes_of self.old) }
         ensures inside { OnOk result (Lies at (length bytes.now) (bytes_of self.old)) }
         ensures called { IsCalledOnce self.old self.new }
+        ensures touches { TouchesOnly at (at + length bytes.now) (writes_of self.old) (writes_of self.new) }
     {
         self.call()?;
         let from = place(&self.bytes, at, bytes.len())?;
+        count_met(&mut self.written, from, bytes.len());
         put_in(&mut self.bytes, from, bytes);
         Ok(())
     }
 
     fn flush(&mut self) -> io::Result<()>
         ensures same { Some (bytes_of self.new) ≡ Some (bytes_of self.old) }
+        ensures writes { writes_of self.new ≡ writes_of self.old }
         ensures fails { FailsAs (Some (fails_next self.old)) (is_err result) }
         ensures called { IsCalledOnce self.old self.new }
     {

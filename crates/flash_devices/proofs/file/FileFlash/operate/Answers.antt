@@ -1,5 +1,6 @@
-use Rattle.std.proofs.Common.{◌≡◌, true, rules, take, sym, ◌∙◌, ap}
+use Rattle.std.proofs.Common.{◌≡◌, true, arith, rules, take, sym, ◌∙◌, ap}
 use Rattle.std.specs.Prelude.{is_err}
+use Rattle.flash_core.proofs.Touches.{touches_wider}
 use Rattle.flash_devices.specs.File.{arming_of}
 use Rattle.flash_devices.proofs.FileSteps.{due_write, failed_as_told, failed_write}
 use Rattle.flash_devices.proofs.file.FileFlash.operate.Goals as goal
@@ -14,6 +15,7 @@ returns-then-is_err g c =
           (ap (λ f. g.F.ByteFile.content f) c.failed.ensures.file) c.write_at.ensures.writes;
       fails = failed_as_told c.failed.result c.write_at.result _ _ c.args.at c.from.result (take c.min-landed.result c.args.bytes.now) _
           c.failed.ensures.stop failed (search rules) part c.write_at.ensures.fails;
+      touches = search (rules, touches_wider, arith);
       armed = search rules;
       one_call = search rules;
       counted = search rules;
@@ -28,6 +30,7 @@ returns-then-is_err g c =
 pub returns-then-is_err-2 : goal.returns-then-is_err-2
 returns-then-is_err-2 g c = record {
   leaves = search rules;
+  touches = search rules;
   fails = search rules;
   armed = search rules;
   one_call = search rules;
