@@ -120,7 +120,11 @@ fn a_file_in_memory_is_a_flash(rt: HostRuntime) {
     let file = worked(&rt, made.expect(&rt, "memory"));
     are_left(&rt, alloc, file.bytes());
     // an erase, two programs, and one that a loss of power cut short
-    let counts = (file.times_written(2), file.times_written(3), file.times_written(4));
+    let counts = (
+        file.times_written(2),
+        file.times_written(3),
+        file.times_written(4),
+    );
     are_numbers(&rt, counts, (0, 4, 0));
 }
 
@@ -133,7 +137,11 @@ fn a_flash_in_memory_counts_what_is_written(rt: HostRuntime) {
     erases(&rt, &mut flash, 3, Ok(()));
     erases(&rt, &mut flash, 3, Ok(()));
     erases(&rt, &mut flash, 7, Ok(()));
-    let counts = (flash.times_written(0), flash.times_written(3), flash.times_written(7));
+    let counts = (
+        flash.times_written(0),
+        flash.times_written(3),
+        flash.times_written(7),
+    );
     are_numbers(&rt, counts, (0, 2, 1));
 }
 
