@@ -7,6 +7,7 @@ use Rattle.flash_core.specs.declared.flash.FlashStop.TheVariants as flash_stop
 use Rattle.flash_core.specs.Touches.{TouchesOnly}
 use Rattle.flash_core.proofs.Touches.{touches_none, touches_then, touches_wider}
 use Rattle.fwu_formats.specs.Metadata.{state_at}
+use Rattle.fwu_formats.specs.Places.{counter_block}
 use Rattle.fwu_formats.specs.declared.kinds.BankState.TheVariants.{Invalid}
 use Rattle.fwu_model.specs.State.{Numbers}
 use Rattle.early_boot.specs.declared.choosing.Chosen.{Chosen}
@@ -18,13 +19,13 @@ use Rattle.early_boot.specs.declared.showing.Unshown.TheVariants as unshown
 use Rattle.early_boot.specs.CountingStarts.{TouchesCounting, counting_in, counting_of}
 use Rattle.early_boot.specs.Mending.{mended}
 use Rattle.early_boot.specs.Numbers.{numbers_shown}
-use Rattle.early_boot.specs.Ends.{no_bank}
+use Rattle.early_boot.specs.Ends.{Ended, booted, bad_layout, no_metadata, no_bank, lost, failed}
 use Rattle.replicas.specs.declared.which.Which.{Which}
 use Rattle.replicas.specs.declared.which.Which.TheVariants.{Same, RepairZero, RepairOne, MigrateZero, MigrateOne}
 use Rattle.replicas.specs.Which.{form_read_of}
 use Rattle.replicas.specs.Repairs.{TouchesRepair}
 use Rattle.early_boot.specs.Starting.{TouchesFound, TouchesRepairAndStart}
-use Rattle.early_boot.specs.EndsBy.{TouchesBoot, TouchesStart, TouchesStopped, stopped_with, unshown_end}
+use Rattle.early_boot.specs.EndsBy.{TouchesBoot, TouchesStart, TouchesStopped, counting_told, stopped_with, unshown_end}
 
 -- after reads
 pub touches-behind : (low high : ℕ) {a b c : ℕ → ℕ} → b ≡ a → TouchesOnly low high b c → TouchesOnly low high a c
@@ -116,3 +117,37 @@ module _ (shown : Shown) (n : Numbers) (read : n ≡ numbers_shown shown) (form 
   -- where no bank was started, the repair alone
   pub none-touches : (active previous : ℕ) → TouchesRepairAndStart (Ok None) shown old new → TouchesBoot (no_bank active previous) old new
   none-touches active previous all = (shown.which, subst (λ (w : ℕ → ℕ). TouchesRepair shown.which old w) (sym all.start) all.repair)
+
+-- ---- the block of the counter's marks
+
+same-at : (b : ℕ) (w v : ℕ → ℕ) → v ≡ w → v b ≡ w b
+same-at b w v same = ap (λ (writes : ℕ → ℕ). writes b) same
+
+repair-spares : (which : Which) (w v : ℕ → ℕ) → TouchesRepair which w v → v counter_block ≡ w counter_block
+repair-spares Same w v same = same-at counter_block w v same
+repair-spares RepairZero w v only = only counter_block (inr (omega arith))
+repair-spares RepairOne w v only = only counter_block (inr (omega arith))
+repair-spares MigrateZero w v only = only counter_block (inr (omega arith))
+repair-spares MigrateOne w v only = only counter_block (inr (omega arith))
+
+counting-spares : (k : Counting) (w v : ℕ → ℕ) → TouchesCounting k w v → v counter_block ≡ w counter_block
+counting-spares counting.Nothing w v same = same-at counter_block w v same
+counting-spares counting.Trial w v only = only counter_block (inr (omega arith))
+counting-spares counting.Raise w v only = only counter_block (inl (omega arith))
+
+stopped-spares : (n : Numbers) (w v : ℕ → ℕ) → TouchesStopped n w v → v counter_block ≡ w counter_block
+stopped-spares n w v (inl same) = same-at counter_block w v same
+stopped-spares n w v (inr (version, only)) = counting-spares _ w v only
+
+start-spares : (n : Numbers) (w v : ℕ → ℕ) → TouchesStart n (TouchesStopped n) w v → v counter_block ≡ w counter_block
+start-spares n w v start = stopped-spares n start.repaired v start.start ∙ repair-spares start.which w start.repaired start.repair
+
+pub boot-spares : (e : Ended) (w v : ℕ → ℕ) → TouchesBoot e w v → v counter_block ≡ w counter_block
+boot-spares (booted b n) w v start = counting-spares (counting_told b n) start.repaired v start.start ∙ repair-spares start.which w start.repaired start.repair
+boot-spares (bad_layout f) w v same = same-at counter_block w v same
+boot-spares no_metadata w v same = same-at counter_block w v same
+boot-spares (no_bank active previous) w v (which, repair) = repair-spares which w v repair
+boot-spares (lost None) w v same = same-at counter_block w v same
+boot-spares (lost (Some n)) w v start = start-spares n w v start
+boot-spares (failed None) w v same = same-at counter_block w v same
+boot-spares (failed (Some n)) w v start = start-spares n w v start

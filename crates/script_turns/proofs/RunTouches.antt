@@ -21,7 +21,7 @@ use Rattle.script_turns.specs.Runs.{RunTouches, SparesBanks, boots_in}
 use Rattle.script_turns.specs.Sending.{AnswersSend, SendSays, SendsAs}
 use Rattle.script_turns.specs.Touches.{TouchesBy, TouchesByBoot, TouchesOn}
 use Rattle.script_turns.specs.Turning.{Turns}
-use Rattle.script_turns.proofs.Touching.{layout-left}
+use Rattle.script_turns.proofs.Touching.{fixed-left}
 
 -- ---- the counts, by the call
 
@@ -138,7 +138,7 @@ beside-same f g i same beside =
     (subst (λ (L : Layout). IsBesideBank L ((g.boot + 1) % L.banks) i) same.0 beside)
 
 pub touches-nothing : (old : TurnMoment) → old.on ≡ None → RunTouches [] old old
-touches-nothing old off = record { layout_still = refl; unbooted = λ none. (off, refl); banks = λ few f on. absurd (let e = sym off ∙ on in cc) }
+touches-nothing old off = record { layout_still = refl; marks_still = refl; unbooted = λ none. (off, refl); banks = λ few f on. absurd (let e = sym off ∙ on in cc) }
 
 module _ (passes : List ℕ → Bool) (tells : Bool) (files : Option Directory) (c : Call) (t : Turn) (journal : List Turn) (old mid new : TurnMoment) (through to : ℕ)
     (turned : Turns passes tells files c t mid new through to) (run : RunTouches journal old mid) where
@@ -156,7 +156,7 @@ module _ (passes : List ℕ → Bool) (tells : Bool) (files : Option Directory) 
   banks-on true boot few f on = λ b front beside.
       let one = ap {B = ℕ} (λ (x : Bool). cond x 1 0) boot in
       let was = run.unbooted (omega (arith, more, one, few)) in
-      booted-touches c mid.on mid.writes new.writes boot turned.touches b front ∙ ap (λ (writes : ℕ → ℕ). writes b) was.1
+      (booted-touches c mid.on mid.writes new.writes boot turned.touches).front b front ∙ ap (λ (writes : ℕ → ℕ). writes b) was.1
   banks-on false never few f on = by mid.on refl
     where
       by : (o : Option Fields) → mid.on ≡ o → SparesBanks f old.writes new.writes
@@ -167,7 +167,8 @@ module _ (passes : List ℕ → Bool) (tells : Bool) (files : Option Directory) 
 
   pub touches-more : RunTouches (journal ++ t ∷ []) old new
   touches-more = record {
-    layout_still = layout-left c mid.on mid.writes new.writes turned.touches ∙ run.layout_still;
+    layout_still = (fixed-left c mid.on mid.writes new.writes turned.touches).0 ∙ run.layout_still;
+    marks_still = (fixed-left c mid.on mid.writes new.writes turned.touches).1 ∙ run.marks_still;
     unbooted = unbooted-on (is_boot c) refl;
     banks = banks-on (is_boot c) refl;
   }

@@ -1,6 +1,10 @@
 -- Which blocks a turn touches, by its call.
-use Rattle.std.proofs.Common.{◌≡◌, ℕ, Bool, true, false, List, Option, Some, None, IsTrue, IsFalse, inl, refl, ap, arith}
-use Rattle.fwu_formats.specs.Places.{layout_block}
+use Rattle.std.proofs.Common.{◌≡◌, ℕ, Bool, true, false, List, Option, Some, None, IsTrue, IsFalse, inl, inr, refl, ap, arith}
+use Rattle.flash_core.specs.Touches.{TouchesOnly}
+use Rattle.fwu_formats.specs.Places.{counter_block, layout_block}
+use Rattle.early_boot.specs.Ends.{Ended}
+use Rattle.early_boot.specs.EndsBy.{TouchesBoot}
+use Rattle.early_boot.proofs.Touching.{boot-spares}
 use Rattle.fwu_model.specs.Call.{Call}
 use Rattle.fwu_model.specs.Call as call
 use Rattle.agent_machine.specs.Beside.{SparesBlocks, SparesBlocksByAll}
@@ -30,29 +34,39 @@ pub touches-booted : (on : Option Fields) (w v : ℕ → ℕ) → TouchesByBoot 
 touches-booted None w v boot = boot
 touches-booted (Some f) w v boot = boot
 
--- ---- block 0
-
 same-at : (b : ℕ) (w v : ℕ → ℕ) → v ≡ w → v b ≡ w b
 same-at b w v same = ap (λ (writes : ℕ → ℕ). writes b) same
 
-boot-left : (w v : ℕ → ℕ) → TouchesByBoot w v → v layout_block ≡ w layout_block
-boot-left w v boot = boot layout_block (inl (omega arith))
+pub boot-touches : (e : Ended) (w v : ℕ → ℕ) → TouchesOnly 4096 28672 w v → TouchesBoot e w v → TouchesByBoot w v
+boot-touches e w v front fewer = record { front = front; marks_still = boot-spares e w v fewer }
 
-all-left : (f : Fields) (w v : ℕ → ℕ) → SparesBlocksByAll f w v → v layout_block ≡ w layout_block
-all-left f w v all = all layout_block (inl (omega arith), inl (omega arith))
+-- ---- blocks 0 and 4
 
-one-left : (f : Fields) (w v : ℕ → ℕ) → SparesBlocks f w v → v layout_block ≡ w layout_block
-one-left f w v one = one layout_block (inl (omega arith), λ active. inl (omega arith))
+-- neither is touched
+abbrev pub LeavesFixed : (ℕ → ℕ) → (ℕ → ℕ) → Type 0
+LeavesFixed w v = (v layout_block ≡ w layout_block) × (v counter_block ≡ w counter_block)
 
--- no turn touches it
-pub layout-left : (c : Call) (on : Option Fields) (w v : ℕ → ℕ) → TouchesBy c on w v → v layout_block ≡ w layout_block
-layout-left call.Boot None w v touches = boot-left w v touches
-layout-left other None w v touches = same-at layout_block w v touches
-layout-left call.Boot (Some f) w v touches = boot-left w v touches
-layout-left call.Show (Some f) w v touches = same-at layout_block w v touches
-layout-left call.NoCall (Some f) w v touches = same-at layout_block w v touches
-layout-left (call.Cut n k) (Some f) w v touches = same-at layout_block w v touches
-layout-left (call.BeginPartial types) (Some f) w v touches = all-left f w v touches
-layout-left (call.Send name request) (Some f) w v touches = all-left f w v touches
-layout-left (call.SendPartial name request) (Some f) w v touches = all-left f w v touches
-layout-left other (Some f) w v touches = one-left f w v touches
+same-left : (w v : ℕ → ℕ) → v ≡ w → LeavesFixed w v
+same-left w v same = (same-at layout_block w v same, same-at counter_block w v same)
+
+boot-left : (w v : ℕ → ℕ) → TouchesByBoot w v → LeavesFixed w v
+boot-left w v boot = (boot.front layout_block (inl (omega arith)), boot.marks_still)
+
+all-left : (f : Fields) (w v : ℕ → ℕ) → SparesBlocksByAll f w v → LeavesFixed w v
+all-left f w v all = (all layout_block (inl (omega arith), inl (omega arith)), all counter_block (inr (omega arith), inl (omega arith)))
+
+one-left : (f : Fields) (w v : ℕ → ℕ) → SparesBlocks f w v → LeavesFixed w v
+one-left f w v one = (one layout_block (inl (omega arith), λ active. inl (omega arith)), one counter_block (inr (omega arith), λ active. inl (omega arith)))
+
+-- no turn touches them
+pub fixed-left : (c : Call) (on : Option Fields) (w v : ℕ → ℕ) → TouchesBy c on w v → LeavesFixed w v
+fixed-left call.Boot None w v touches = boot-left w v touches
+fixed-left other None w v touches = same-left w v touches
+fixed-left call.Boot (Some f) w v touches = boot-left w v touches
+fixed-left call.Show (Some f) w v touches = same-left w v touches
+fixed-left call.NoCall (Some f) w v touches = same-left w v touches
+fixed-left (call.Cut n k) (Some f) w v touches = same-left w v touches
+fixed-left (call.BeginPartial types) (Some f) w v touches = all-left f w v touches
+fixed-left (call.Send name request) (Some f) w v touches = all-left f w v touches
+fixed-left (call.SendPartial name request) (Some f) w v touches = all-left f w v touches
+fixed-left other (Some f) w v touches = one-left f w v touches

@@ -8,7 +8,7 @@ use Rattle.flash_core.specs.Counts.{Rose, all_stops, stops_in}
 use Rattle.flash_core.specs.Told.{NothingDirty}
 use Rattle.flash_core.specs.May.{Guards}
 use Rattle.host_io.specs.Contents.{Directory}
-use Rattle.fwu_formats.specs.Places.{layout_block}
+use Rattle.fwu_formats.specs.Places.{counter_block, layout_block}
 use Rattle.fwu_model.specs.State.{State}
 use Rattle.fwu_model.specs.Sound.{Setting}
 use Rattle.fwu_model.specs.Seen.{seen, SoundFlash}
@@ -97,8 +97,9 @@ SparesBanks f old new = (b : ℕ) → (block_bytes * b + block_bytes ≤ block_b
 
 -- Which blocks a run erases or programs, on every device, whatever its reads give.
 pub record RunTouches (journal : List Turn) (old new : TurnMoment) : Type 0 where
-  -- never block 0, which has the layout
+  -- never block 0, which has the layout, nor block 4, which has the counter's marks
   pub layout_still : new.writes layout_block ≡ old.writes layout_block
+  pub marks_still : new.writes counter_block ≡ old.writes counter_block
   -- none without a boot, and nothing is on
   pub unbooted : boots_in journal ≡ 0 → (new.on ≡ None) × (new.writes ≡ old.writes)
   -- where one boot started a bank, whose agent is there at the end

@@ -2,18 +2,21 @@
 use Rattle.std.specs.Prelude.{◌≡◌, ℕ, ◌*◌, Option, Some, None}
 use Rattle.base_core.specs.Block.{block_bytes}
 use Rattle.flash_core.specs.Touches.{TouchesOnly}
+use Rattle.fwu_formats.specs.Places.{counter_block}
 use Rattle.fwu_model.specs.Call.{Call}
 use Rattle.fwu_model.specs.Call as call
 use Rattle.agent_machine.specs.Beside.{SparesBlocks, SparesBlocksByAll}
 use Rattle.agent_machine.specs.Fields.{Fields}
 use Rattle.script_turns.specs.Powered.{TurnMoment}
 
--- a boot: the metadata and the marks, in blocks 1 to 6, and no other
-abbrev pub TouchesByBoot : (ℕ → ℕ) → (ℕ → ℕ) → Type 0
-TouchesByBoot old new = TouchesOnly block_bytes (block_bytes * 7) old new
+-- A boot: the replicas, in blocks 1 and 2, the marks of starts on trial, in block 3, and the records, in blocks 5 and 6. The
+-- counter's marks, in block 4, stay.
+pub record TouchesByBoot (old new : ℕ → ℕ) : Type 0 where
+  pub front : TouchesOnly block_bytes (block_bytes * 7) old new
+  pub marks_still : new counter_block ≡ old counter_block
 
 -- Where a bank was started: a call of the agent touches only the metadata, the marks of the starts on trial and the update bank. That
--- bank it touches only where the bank that was started is active, or by calls in a row. What asks no agent touches nothing.
+-- bank it touches only where the bank that was started is active, or by calls in a row. A show, a cut and no call touch nothing.
 abbrev pub TouchesOn : Call → Fields → (ℕ → ℕ) → (ℕ → ℕ) → Type 0
 TouchesOn call.Boot f old new = TouchesByBoot old new
 TouchesOn call.Show f old new = new ≡ old

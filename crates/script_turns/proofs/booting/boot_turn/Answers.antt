@@ -6,6 +6,7 @@ use Rattle.fwu_model.specs.Call as call
 use Rattle.fwu_model.specs.Reply.{Turn}
 use Rattle.script_turns.specs.Powered.{moment, moment_in}
 use Rattle.script_turns.specs.Touches.{TouchesByBoot}
+use Rattle.script_turns.proofs.Touching.{boot-touches}
 use Rattle.script_turns.specs.Turning.{Turns}
 use Rattle.script_turns.proofs.Boots.{boots-turn}
 use Rattle.script_turns.proofs.booting.boot_turn.Goals as goal
@@ -34,7 +35,7 @@ returns-clause-turns g c files faults =
       permitted = boots.permitted;
       once = λ told. subst (λ d. TakesByBytes (F.told flash).now e (F.arming flash) (F.arming d)) (sym left.flash_is) (boots.once told);
       unarmed = subst (λ d. StaysUnarmed (stop_of e) (F.arming flash) (F.arming d) (F.counts flash) (F.counts d)) (sym left.flash_is) boots.unarmed;
-      touches = subst (λ d. TouchesByBoot (F.writes flash) (F.writes d)) (sym left.flash_is) boots.touches;
+      touches = subst (λ d. TouchesByBoot (F.writes flash) (F.writes d)) (sym left.flash_is) (boot-touches e _ _ boots.touches boots.touches_fewer);
       touches_fewer = subst (λ d. TouchesBoot e (F.writes flash) (F.writes d)) (sym left.flash_is) boots.touches_fewer;
       ends = λ told. subst (λ d. BootEnds passes (F.told flash) e (F.told d)) (sym left.flash_is) (boots.ends told);
     }) c.with_power.ensures.has)
