@@ -153,7 +153,7 @@ struct fwu_report {
 
 /* Boots a flash that lies in memory, and writes nothing to it. `flash` has all its `length` bytes, from block 0 on. `steps` has
  * room for `most` steps, which is also how many are told at most; `room` has `size` bytes. The steps are to be done in their
- * order, and at 0 before the bank is started. Each erase and program lies in blocks 1 to 6. Behind those that are told, and
+ * order, and at 0 before the bank is started. Each erase and program lies in blocks 1 to 3, 5 and 6. Behind those told, and
  * behind their bytes, `steps` and `room` stay as they were. The call takes its memory from the work buffer (fwu_work). */
 uint32_t fwu_boot(const uint8_t *flash, size_t length, struct fwu_step *steps, size_t most, uint8_t *room, size_t size,
                   struct fwu_report *report);

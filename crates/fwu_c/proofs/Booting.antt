@@ -9,7 +9,7 @@ use Rattle.flash_core.specs.Counts.{Spends}
 use Rattle.fwu_formats.specs.Digests.{passes_any}
 use Rattle.early_boot.specs.Started.{Started}
 use Rattle.early_boot.specs.Ends.{Ended, booted, bad_layout, no_metadata, no_bank, lost, failed, stop_of}
-use Rattle.early_boot.specs.EndsBy.{BootEnds, EndsByBytes}
+use Rattle.early_boot.specs.EndsBy.{BootEnds, EndsByBytes, TouchesBoot}
 use Rattle.step_flash.specs.declared.flash.StepFlash.{StepFlash}
 use Rattle.step_flash.specs.declared.device.StepParts.{StepParts}
 use Rattle.step_flash.specs.declared.step.Step.{Step}
@@ -20,6 +20,8 @@ use Rattle.step_flash.specs.Steps.{AreDoable, run_with}
 use Rattle.step_flash.proofs.Causes.{never_lost}
 use Rattle.step_flash.proofs.Guards.{told_is}
 use Rattle.fwu_c.specs.declared.report.Report.{Report}
+use Rattle.fwu_formats.specs.Places.{counter_block, first_record}
+use Rattle.early_boot.proofs.Touching.{boot-spares}
 use Rattle.fwu_c.specs.Boots.{BootsBy}
 use Rattle.fwu_c.specs.Codes.{end_code}
 use Rattle.fwu_c.specs.Handed.{HandsOver, HasFlashSize, IsDeviceEnd, IsJustMade, IsStartOfSteps, IsWithinWith, LieAsCounted, SameBut, boot_reach, is_idle_number}
@@ -173,8 +175,9 @@ over image file first d told r steps room made size same_size guard hands =
 pub boots_by : (image : List ℕ) (first d : StepFlash) (e : Ended) (number : ℕ) (old told r : Report) (steps : List Step) (room : List ℕ)
     → told_of first ≡ start_told image → length image ≡ block_bytes * block_count first → block_count d ≡ block_count first
     → BootEnds (λ m. passes_any m) (told_of first) e (told_of d) → HandsOver d told r steps room
-    → ((b : ℕ) → writes_of first b ≡ 0) → TouchesOnly block_bytes boot_reach (writes_of first) (writes_of d) → number ≡ end_code e → ReportsEnd e old told → BootsBy image number old r steps room
-boots_by image first d e number old told r steps room made size same_size ends hands none touches is reports =
+    → ((b : ℕ) → writes_of first b ≡ 0) → TouchesOnly block_bytes boot_reach (writes_of first) (writes_of d) → TouchesBoot e (writes_of first) (writes_of d) → number ≡ end_code e
+    → ReportsEnd e old told → BootsBy image number old r steps room
+boots_by image first d e number old told r steps room made size same_size ends hands none touches fewer is reports =
     let o = over image [] first d told r steps room made size same_size (guard_kept (told_of first) (told_of d) e ends.by_bytes) hands in
     record {
       end = e;
@@ -185,6 +188,9 @@ boots_by image first d e number old told r steps room made size same_size ends h
       within = o.within;
       doable = o.doable;
       places = o.lie.places 1 7 (counted_from_none block_bytes boot_reach none touches);
+      beside_marks = o.lie.beside counter_block first_record (omega arith) (λ b low high.
+          let is : b ≡ counter_block = omega (arith, low, high) in
+          ap (λ n. writes_of d n) is ∙ boot-spares e (writes_of first) (writes_of d) fewer ∙ none counter_block);
       reports = end_same e old told r hands.same reports;
     }
 

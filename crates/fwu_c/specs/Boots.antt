@@ -1,14 +1,15 @@
 -- What C is told of a boot.
-use Rattle.std.specs.Prelude.{◌≡◌, ℕ, List, [], All, length, take}
+use Rattle.std.specs.Prelude.{◌≡◌, ℕ, ◌*◌, List, [], All, length, take}
 use Rattle.base_core.specs.Block.{block_bytes}
 use Rattle.flash_core.specs.Told.{Told}
 use Rattle.fwu_formats.specs.Digests.{passes_any}
+use Rattle.fwu_formats.specs.Places.{counter_block, first_record}
 use Rattle.early_boot.specs.Ends.{Ended}
 use Rattle.early_boot.specs.EndsBy.{BootEnds}
 use Rattle.step_flash.specs.declared.step.Step.{Step}
 use Rattle.step_flash.specs.Guard.{start_told}
 use Rattle.step_flash.specs.Steps.{AreDoable, run}
-use Rattle.step_flash.specs.Writes.{LiesWithin}
+use Rattle.step_flash.specs.Writes.{LiesBeside, LiesWithin}
 use Rattle.fwu_c.specs.Codes.{end_code}
 use Rattle.fwu_c.specs.Handed.{IsWithin, boot_reach}
 use Rattle.fwu_c.specs.Reports.{ReportsEnd}
@@ -26,6 +27,7 @@ pub record BootsBy (image : List ℕ) (number : ℕ) (old r : Report) (steps : L
   pub within : IsWithin (length image) r steps room
   -- an erase takes a block; a program or a copy goes over whole granules, which are erased when its turn comes
   pub doable : AreDoable [] (take r.bytes room) (start_told image) (take r.steps steps)
-  -- each lies in blocks 1 to 6, and so in no bank
+  -- each lies in blocks 1 to 6, and so in no bank, and none in block 4, which has the counter's marks
   pub places : All (LiesWithin block_bytes boot_reach) (take r.steps steps)
+  pub beside_marks : All (LiesBeside (block_bytes * counter_block) (block_bytes * first_record)) (take r.steps steps)
   pub reports : ReportsEnd end old r

@@ -19,7 +19,7 @@ use Rattle.fwu_c.specs.declared.report.Report.{Report}
 abbrev pub SameBut : Report → Report → Type 0
 SameBut old new = new ≡ record old { steps = new.steps; bytes = new.bytes }
 
--- A boot writes blocks 1 to 6 alone: the replicas, the marks and the records of the counter.
+-- A boot writes blocks 1 to 6 alone: the replicas, the marks of its starts and the records of the counter.
 abbrev pub boot_reach : ℕ
 boot_reach = 28672
 

@@ -3,9 +3,9 @@ use Rattle.std.specs.Prelude.{IsTrue}
 use Rattle.base_core.specs.Block.{block_bytes}
 use Rattle.fwu_formats.specs.Digests.{passes_any}
 use Rattle.early_boot.specs.Ends.{device_of, ended}
-use Rattle.early_boot.specs.EndsBy.{BootEnds}
+use Rattle.early_boot.specs.EndsBy.{BootEnds, TouchesBoot}
 use Rattle.step_flash.specs.declared.flash.StepFlash.{StepFlash}
-use Rattle.step_flash.specs.Flash.{block_count, image_of, told_of}
+use Rattle.step_flash.specs.Flash.{block_count, image_of, told_of, writes_of}
 use Rattle.fwu_c.specs.Handed.{IsDeviceEnd, IsStartOfSteps, boot_reach, is_idle_number}
 use Rattle.fwu_c.proofs.Booting.{below_seven, boot_end_is, boot_idle, boots_by, counted_from_none, given, has_flash_size, reach_inside, touched_back}
 use Rattle.fwu_c.proofs.Telling.{lie_further, told_handed}
@@ -46,4 +46,6 @@ returns-clause-boots c = λ low.
     boots_by (image_of c.args.flash) c.args.flash c.into_flash.result (ended c.boot_in-end.result) c.hand_over.result _ _ _ _ _
     c.requires.new.fresh c.requires.new.size (ap (λ (d : StepFlash). block_count d) back ∙ boots.size)
     (subst (λ (d : StepFlash). BootEnds (λ m. passes_any m) (told_of c.args.flash) (ended c.boot_in-end.result) (told_of d)) (sym back) (boots.ends refl))
-    (c.hand_over.ensures.hands known) c.requires.new.unwritten (touched_back c.args.flash (device_of c.boot_in-end.result) c.into_flash.result c.into_flash.ensures c.boot_in-end.ensures.boots.touches) (is ∙ c.report_end-number.ensures.number) c.report_end-number.ensures.reports
+    (c.hand_over.ensures.hands known) c.requires.new.unwritten (touched_back c.args.flash (device_of c.boot_in-end.result) c.into_flash.result c.into_flash.ensures c.boot_in-end.ensures.boots.touches)
+    (subst (λ (d : StepFlash). TouchesBoot (ended c.boot_in-end.result) (writes_of c.args.flash) (writes_of d)) (sym back) boots.touches_fewer)
+    (is ∙ c.report_end-number.ensures.number) c.report_end-number.ensures.reports
