@@ -42,7 +42,8 @@ counting-behind k a b c same only = subst (λ (w : ℕ → ℕ). TouchesCounting
 counting-within : (k : Counting) (a b : ℕ → ℕ) → TouchesCounting k a b → TouchesOnly 4096 28672 a b
 counting-within counting.Nothing a b same = touches_none 4096 28672 same
 counting-within counting.Trial a b only = touches_wider 12288 16384 4096 28672 (omega arith) (omega arith) only
-counting-within counting.Raise a b only = touches_wider 20480 28672 4096 28672 (omega arith) (omega arith) only
+counting-within counting.Raise a b (inl first) = touches_wider 20480 24576 4096 28672 (omega arith) (omega arith) first
+counting-within counting.Raise a b (inr second) = touches_wider 24576 28672 4096 28672 (omega arith) (omega arith) second
 
 found-within : (result : Result (Option (Shown × Chosen)) FlashStop) (shown : Shown) (a b : ℕ → ℕ) → TouchesFound result shown a b → TouchesOnly 4096 28672 a b
 found-within (Ok None) shown a b same = touches_none 4096 28672 same
@@ -133,7 +134,8 @@ repair-spares MigrateOne w v only = only counter_block (inr (omega arith))
 counting-spares : (k : Counting) (w v : ℕ → ℕ) → TouchesCounting k w v → v counter_block ≡ w counter_block
 counting-spares counting.Nothing w v same = same-at counter_block w v same
 counting-spares counting.Trial w v only = only counter_block (inr (omega arith))
-counting-spares counting.Raise w v only = only counter_block (inl (omega arith))
+counting-spares counting.Raise w v (inl first) = first counter_block (inl (omega arith))
+counting-spares counting.Raise w v (inr second) = second counter_block (inl (omega arith))
 
 stopped-spares : (n : Numbers) (w v : ℕ → ℕ) → TouchesStopped n w v → v counter_block ≡ w counter_block
 stopped-spares n w v (inl same) = same-at counter_block w v same

@@ -21,7 +21,7 @@ use Rattle.fwu_model.specs.Calm.{IsAtRest}
 use Rattle.fwu_model.specs.Answer.{booted_package}
 use Rattle.fwu_formats.specs.declared.kinds.BankState.{BankState}
 use Rattle.fwu_formats.specs.declared.kinds.BankState.TheVariants.{Invalid, Valid, Accepted}
-use Rattle.marks_core.specs.Raises.{record_place}
+use Rattle.marks_core.specs.Raises.{TouchesOneRecord, record_place}
 use Rattle.moves.specs.Moved.{IsReady, Does, IsShown, GuardedBy}
 use Rattle.early_boot.specs.declared.choosing.Chosen.{Chosen}
 use Rattle.early_boot.specs.declared.counting_starts.Counting.{Counting}
@@ -105,11 +105,11 @@ TakesCounting counting.Nothing armed arming = arming ≡ armed
 TakesCounting counting.Trial armed arming = arming ≡ lowered armed
 TakesCounting counting.Raise armed arming = arming ≡ lowered (lowered armed)
 
--- on every device, which blocks it may erase or program: a mark lies in block 3, and a record in block 5 or 6
+-- on every device, which blocks it may erase or program: that of the marks, or that of one of the two records
 abbrev pub TouchesCounting : Counting → (ℕ → ℕ) → (ℕ → ℕ) → Type 0
 TouchesCounting counting.Nothing old new = new ≡ old
 TouchesCounting counting.Trial old new = TouchesOnly (block_bytes * 3) (block_bytes * 4) old new
-TouchesCounting counting.Raise old new = TouchesOnly (block_bytes * 5) (block_bytes * 7) old new
+TouchesCounting counting.Raise old new = TouchesOneRecord old new
 
 -- ---- what is shown then
 

@@ -72,7 +72,7 @@ pub record TakesMendingAndStart (shown : Shown) (image : List ℕ) (found : Opti
   pub repair : TakesMending shown.layout shown.which shown.meta image armed repaired
   pub start : TakesFound (mended shown) found repaired arming
 
--- ---- which blocks it erases or programs, on every device
+-- ---- which blocks it may erase or program, on every device
 
 -- those in which what was chosen is counted, and where none was, none; at a stop, those of some choice or none
 abbrev pub TouchesFound : Result (Option (Shown × Chosen)) FlashStop → Shown → (ℕ → ℕ) → (ℕ → ℕ) → Type 0
@@ -80,8 +80,9 @@ TouchesFound (Ok None) shown old new = new ≡ old
 TouchesFound (Ok (Some start)) shown old new = TouchesCounting (counting_in shown start.1) old new
 TouchesFound (Err stop) shown old new = (new ≡ old) ⊎ ((chosen : Chosen) × TouchesCounting (counting_in shown chosen) old new)
 
--- and before that those replicas that lack the metadata
-pub record TouchesRepairAndStart (result : Result (Option (Shown × Chosen)) FlashStop) (shown : Shown) (old new : ℕ → ℕ) : Type 0 where
+-- and before that the replicas that are to be written
+pub record TouchesRepairAndStart (result : Result (Option (Shown × Chosen)) FlashStop) (shown : Shown)
+    (old new : ℕ → ℕ) : Type 0 where
   pub repaired : ℕ → ℕ
   pub repair : TouchesRepair shown.which old repaired
   pub start : TouchesFound result (mended shown) repaired new

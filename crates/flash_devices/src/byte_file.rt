@@ -6,8 +6,7 @@ use std::io::{self, Read, Seek, SeekFrom, Write};
 
 /// A file whose bytes are read and written at places, counted in bytes from its start.
 pub trait ByteFile {
-    ghost use Rattle.std.specs.Prelude.{◌≡◌, ℕ, Bool, List, Option, IfOk, IfSome, OnOk, is_err, length};
-    ghost use Rattle.std.specs.Prelude.{◌+◌};
+    ghost use Rattle.std.specs.Prelude.{◌≡◌, ℕ, ◌+◌, Bool, List, Option, IfOk, IfSome, OnOk, is_err, length};
     ghost use Rattle.flash_core.specs.Touches.{TouchesOnly};
     ghost use Rattle.flash_devices.specs.ByteFiles.{FailsAs, FailsWithin, HoldsAt, WritesBytes};
 

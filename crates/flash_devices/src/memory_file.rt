@@ -83,6 +83,7 @@ impl MemoryFile {
 
 impl ByteFile for MemoryFile {
     ghost use Rattle.flash_core.specs.Touches.{TouchesOnly};
+    ghost use Rattle.flash_devices.specs.Writes.{CountsMet};
     ghost use Rattle.flash_devices.specs.MemoryFiles.{bytes_of, fails_next, writes_of, IsCalledOnce};
 
     ghost content = { λ f. Some (bytes_of f) };
@@ -127,6 +128,7 @@ impl ByteFile for MemoryFile {
         ensures unchanged { OnErr result (bytes_of self.new ≡ bytes_of self.old) }
         ensures inside { OnOk result (Lies at (length bytes.now) (bytes_of self.old)) }
         ensures called { IsCalledOnce self.old self.new }
+        ensures counted { OnOk result (CountsMet at (length bytes.now) (writes_of self.old) (writes_of self.new)) }
         ensures touches { TouchesOnly at (at + length bytes.now) (writes_of self.old) (writes_of self.new) }
     {
         self.call()?;

@@ -1,4 +1,4 @@
-ghost use Rattle.std.specs.Prelude.{◌≡◌, ℕ, ◌+◌, ◌*◌, ◌<◌, ◌≤◌, length};
+ghost use Rattle.std.specs.Prelude.{◌≡◌, ◌+◌, ◌*◌, ◌<◌, ◌≤◌, length};
 ghost use Rattle.base_core.specs.Block.{block_bytes};
 ghost use Rattle.flash_core.specs.Touches.{TouchesOnly};
 ghost use Rattle.flash_devices.specs.Writes.{CountsMet, counts_in};
@@ -6,7 +6,7 @@ ghost use Rattle.flash_devices.specs.Writes.{CountsMet, counts_in};
 use crate::meters::raised;
 use base_core::BLOCK_BYTES;
 
-/// Raises the count of each 4096 bytes, from the start, that have one of so many bytes from a place on.
+/// Raises the count of each block of 4096 bytes that has one of so many bytes from a place on.
 pub fn count_met(counts: &mut Vec<u64>, at: usize, len: usize)
     requires inside { at + len ≤ block_bytes * length counts.old.items }
     requires fits { at + len ≤ 18446744073709551615 }

@@ -1,4 +1,4 @@
-//! A flash over a file of which some reads give other bytes than it has. Whatever they give, a boot writes blocks 1 to 6 alone.
+//! A flash over a file of which some reads give other bytes than it has. Whatever they give, a boot writes blocks 1 to 3, 5 and 6 alone.
 
 use crate::boots_in_buffers::five_images;
 use crate::fixtures::{holds, power_on, same};
@@ -110,13 +110,18 @@ fn booted_over_lies(rt: &impl Abort, alloc: Global, seed: u32, one_in: u32) -> L
     device_of(boot(flash, &AnyManifest)).into_file()
 }
 
-// Whether a boot over these lies wrote anything, where it wrote blocks 1 to 6 alone.
+// Whether a boot over these lies wrote anything, where it wrote blocks 1 to 3, 5 and 6 alone.
 fn writes_in_its_blocks(rt: &impl Abort, alloc: Global, seed: u32, one_in: u32) -> bool {
     let before = five_images(alloc).expect(rt, "memory");
     let file = booted_over_lies(rt, alloc, seed, one_in);
     let wrote = file.writes > 0;
     let after = file.inner.into_inner();
     same(rt, (seed, after.get(..4096)), (seed, before.get(..4096)));
+    same(
+        rt,
+        (seed, after.get(16_384..20_480)),
+        (seed, before.get(16_384..20_480)),
+    );
     same(
         rt,
         (seed, after.get(28_672..)),

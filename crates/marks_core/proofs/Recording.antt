@@ -10,13 +10,15 @@ use Rattle.flash_core.specs.declared.flash.FlashStop.{FlashStop}
 use Rattle.flash_core.specs.Told.{Told}
 use Rattle.flash_core.specs.May.{May, Quiet}
 use Rattle.flash_core.specs.Replaces.{padded, IsOldOrNew, Replaces}
+use Rattle.flash_core.specs.Touches.{TouchesOnly}
+use Rattle.flash_core.proofs.Touches.{touches_none, touches_then, touches_wider}
 use Rattle.flash_core.proofs.Calls.{block_quiet, keeps_same, keeps_wider, block_kept, now_kept}
 use Rattle.fwu_formats.specs.Image.{marks}
 use Rattle.fwu_formats.specs.Counter.{record_bytes, is_record, recorded, counter_in}
 use Rattle.fwu_formats.proofs.Same.{marks-same}
 use Rattle.fwu_formats.proofs.SealLaws.{record-sealed}
 use Rattle.fwu_formats.proofs.Written.{record-read}
-use Rattle.marks_core.specs.Raises.{value_in, place_for, record_place, Raises}
+use Rattle.marks_core.specs.Raises.{value_in, place_for, record_place, Raises, TouchesOneRecord}
 
 -- a block without a seal counts as 0
 unsealed_value : (bytes : List ℕ) → (Sealed bytes → ⊥) → recorded bytes ≡ 0
@@ -151,3 +153,14 @@ unwritten result new s room err = record {
   where
     within : record_place s.now ≤ 6
     within = elim (lower_place s.now) [ inl first ↦ omega (arith, first.place) | inr second ↦ omega (arith, second.place) ]
+
+-- one record's block, behind reads
+pub one_record : (place : ℕ) (old read new : ℕ → ℕ) → 5 ≤ place → place ≤ 6 → read ≡ old
+    → TouchesOnly (4096 * place) (4096 * place + 4096) read new → TouchesOneRecord old new
+one_record place old read new low high same only = at (cases_lt place 6)
+  where
+    at : (place < 6) ⊎ (6 ≤ place) → TouchesOneRecord old new
+    at (inl first) = inl (touches_then 20480 24576 (touches_none 20480 24576 same)
+        (touches_wider (4096 * place) (4096 * place + 4096) 20480 24576 (omega (arith, low)) (omega (arith, first)) only))
+    at (inr second) = inr (touches_then 24576 28672 (touches_none 24576 28672 same)
+        (touches_wider (4096 * place) (4096 * place + 4096) 24576 28672 (omega (arith, second)) (omega (arith, high)) only))

@@ -6,6 +6,7 @@ use Rattle.flash_core.specs.declared.flash.FlashStop.{FlashStop}
 use Rattle.flash_core.specs.Told.{Told, NothingDirty}
 use Rattle.flash_core.specs.May.{May, Guards, Keeps, Quiet}
 use Rattle.flash_core.specs.Replaces.{padded, Replaces}
+use Rattle.flash_core.specs.Touches.{TouchesOnly}
 use Rattle.fwu_formats.specs.Counter.{is_record, record_bytes, counter_in}
 
 -- the value of a block that is a record
@@ -33,3 +34,8 @@ pub record Raises {T : Type 0} (result : Result T FlashStop) (v : ℕ) (s t : To
   -- when done, the counter is the new one, and nothing is dirty
   pub done : OnOk result (counter_in t.now ≡ v)
   pub stable : OnOk result (NothingDirty t)
+
+-- on every device: one of the two records may be erased or programmed, and no other block
+abbrev pub TouchesOneRecord : (ℕ → ℕ) → (ℕ → ℕ) → Type 0
+TouchesOneRecord old new =
+    TouchesOnly (block_bytes * 5) (block_bytes * 6) old new ⊎ TouchesOnly (block_bytes * 6) (block_bytes * 7) old new

@@ -3,9 +3,8 @@ ghost use Rattle.std.specs.Prelude.{◌≡◌, ◌*◌, ◌<◌, ◌≤◌, leng
 ghost use Rattle.base_core.specs.Block.{block_bytes, block};
 ghost use Rattle.flash_core.specs.Counts.{lowered};
 ghost use Rattle.flash_core.specs.Calls.{Goes, Reads};
-ghost use Rattle.flash_core.specs.Touches.{TouchesOnly};
 ghost use Rattle.fwu_formats.specs.Counter.{counter_in, record_size};
-ghost use Rattle.marks_core.specs.Raises.{value_in, place_for, record_place, Raises};
+ghost use Rattle.marks_core.specs.Raises.{value_in, place_for, record_place, Raises, TouchesOneRecord};
 
 use crate::marks::count;
 use crate::record::{RECORD_BYTES, record_bytes, value_in};
@@ -89,8 +88,8 @@ pub fn raise<D: Flash>(flash: &mut D, v: u32, buf: &mut [u8]) -> Result<(), Flas
     // on every device: one erase and one program
     ensures spent { OnOk result (D.arming flash.new ≡ lowered (lowered (D.arming flash.old))) }
     ensures buffer { length buf.new ≡ length buf.old }
-    // on every device: no block but 5 and 6 is erased or programmed
-    ensures touches { TouchesOnly (block_bytes * 5) (block_bytes * 7) (D.writes flash.old) (D.writes flash.new) }
+    // on every device: no block but 5 or but 6 is erased or programmed, so that the other record stays
+    ensures touches { TouchesOneRecord (D.writes flash.old) (D.writes flash.new) }
 {
     let place = record_place(flash, &mut buf[..RECORD_BYTES])?;
     replace(flash, place, &record_bytes(v))

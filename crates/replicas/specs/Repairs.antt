@@ -63,7 +63,7 @@ TakesRepair RepairOne armed arming = TakesOne armed arming
 TakesRepair MigrateZero armed arming = TakesOne armed arming ⊎ TakesBoth armed arming
 TakesRepair MigrateOne armed arming = TakesBoth armed arming
 
--- ---- on every device, which blocks a repair may erase or program: those of the replicas that lack it
+-- ---- on every device, which blocks a repair may erase or program, by what is to be done
 
 abbrev pub TouchesRepair : Which → (ℕ → ℕ) → (ℕ → ℕ) → Type 0
 TouchesRepair Same old new = new ≡ old

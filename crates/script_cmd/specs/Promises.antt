@@ -81,8 +81,8 @@ pub record RepliesHold (passes : List ℕ → Bool) (tells : Bool) (files : Opti
   pub follows : Follows passes tells files journal old.flash
       (at on new.flash.told new.flash.writes new.flash.counts new.flash.armed new.flash.power) from to
   pub begins : old.faults.files ≤ from
-  -- From a device that is off, whatever its reads gave: block 0 was neither erased nor programmed. Where the turns have one boot,
-  -- and its agent is there at the end, nor was a block but 1 to 6 and those of the bank behind its own.
+  -- From a device that is off, whatever its reads gave: blocks 0 and 4 were neither erased nor programmed. Where the turns have one
+  -- boot, and its agent is there at the end, nor was a block but 1 to 6 and those of the bank behind its own.
   pub touches : old.flash.on ≡ None → RunTouches journal old.flash
       (at on new.flash.told new.flash.writes new.flash.counts new.flash.armed new.flash.power)
   pub ends : journal ≢ [] → to ≡ new.faults.files

@@ -1,5 +1,6 @@
 -- What an armed loss counts of a turn, on any device. "Did nothing" says of each device, also of one that tells no content, that
--- nothing was erased or programmed, and that its counts, its power and the armed loss stay. "Wrote nothing" says it of the armed loss.
+-- nothing was erased or programmed, and that its counts, its power and the armed loss stay. "Wrote nothing" says it
+-- of the armed loss alone.
 use Rattle.std.specs.Prelude.{◌≡◌, ◌⊎◌, ℕ, ◌+◌, ◌-◌, Bool, true, false, List, length, Option, Some, None, Result, Ok, Err, ⊤}
 use Rattle.flash_core.specs.declared.flash.FlashStop.{FlashStop}
 use Rattle.flash_core.specs.declared.flash.FlashStop.TheVariants as flash_stop

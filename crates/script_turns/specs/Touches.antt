@@ -16,7 +16,8 @@ pub record TouchesByBoot (old new : ℕ → ℕ) : Type 0 where
   pub marks_still : new counter_block ≡ old counter_block
 
 -- Where a bank was started: a call of the agent touches only the metadata, the marks of the starts on trial and the update bank. That
--- bank it touches only where the bank that was started is active, or by calls in a row. A show, a cut and no call touch nothing.
+-- bank it touches only where the bank that was started is active, or by calls in a row. A show, a cut
+-- and a request for no call touch nothing.
 abbrev pub TouchesOn : Call → Fields → (ℕ → ℕ) → (ℕ → ℕ) → Type 0
 TouchesOn call.Boot f old new = TouchesByBoot old new
 TouchesOn call.Show f old new = new ≡ old

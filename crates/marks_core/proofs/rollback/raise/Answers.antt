@@ -1,12 +1,12 @@
-use Rattle.std.proofs.Common.{◌+◌, ◌*◌, ◌≤◌, length, sym, subst, arith}
+use Rattle.std.proofs.Common.{inl, ◌≤◌, length, sym, subst, arith}
 use Rattle.std.proofs.lemmas.List.{length-take-le}
 use Rattle.std.specs.Prelude.{List, ℕ}
 use Rattle.flash_core.specs.Told.{Told}
 use Rattle.flash_core.specs.Replaces.{padded, Replaces}
-use Rattle.flash_core.proofs.Touches.{touches_none, touches_then, touches_wider}
+use Rattle.flash_core.proofs.Touches.{touches_none}
 use Rattle.fwu_formats.specs.Counter.{record_bytes}
 use Rattle.marks_core.specs.Raises.{Raises, record_place}
-use Rattle.marks_core.proofs.Recording.{raised, unwritten}
+use Rattle.marks_core.proofs.Recording.{one_record, raised, unwritten}
 use Rattle.marks_core.proofs.rollback.raise.Goals as goal
 
 pub returns-in_err-place-clause-raises : goal.returns-in_err-place-clause-raises
@@ -32,8 +32,9 @@ slice_bounds-record_place-end-2 g c = sym (length-take-le 32 c.args.buf.now (ome
 pub record_place-requires-clause-room : goal.record_place-requires-clause-room
 record_place-requires-clause-room g c = length-take-le 32 c.args.buf.now (omega (arith, c.requires.room))
 
+pub returns-in_err-place-clause-touches : goal.returns-in_err-place-clause-touches
+returns-in_err-place-clause-touches g c = inl (touches_none 20480 24576 c.in_err-place.ensures.reads.writes)
+
 pub returns-clause-touches : goal.returns-clause-touches
 returns-clause-touches g c =
-    let place = c.in_ok-place.place in
-    touches_then 20480 28672 (touches_none 20480 28672 c.in_ok-place.ensures.reads.writes)
-    (touches_wider (4096 * place) (4096 * place + 4096) 20480 28672 (omega (arith, c.in_ok-place.ensures.inside.0)) (omega (arith, c.in_ok-place.ensures.inside.1)) c.replace.ensures.touches)
+    one_record c.in_ok-place.place _ _ _ c.in_ok-place.ensures.inside.0 c.in_ok-place.ensures.inside.1 c.in_ok-place.ensures.reads.writes c.replace.ensures.touches

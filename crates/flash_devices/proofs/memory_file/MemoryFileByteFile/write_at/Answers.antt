@@ -1,11 +1,11 @@
-use Rattle.std.proofs.Common.{rules, ap, subst, ◌∙◌, ◌+◌, ◌*◌, length, arith}
+use Rattle.std.proofs.Common.{rules, ℕ, ap, subst, ◌∙◌, ◌+◌, ◌*◌, length, arith}
 use Rattle.base_core.specs.Block.{block_bytes}
 use Rattle.base_core.proofs.Images.{length-overwritten}
 use Rattle.flash_core.specs.Touches.{TouchesOnly}
 use Rattle.std.proofs.lemmas.Result.{err_from_is_err_and}
 use Rattle.std.specs.Prelude.{is_err}
 use Rattle.flash_core.proofs.Touches.{touches_none, touches_then}
-use Rattle.flash_devices.specs.Writes.{counts_in}
+use Rattle.flash_devices.specs.Writes.{CountsMet, counts_in}
 use Rattle.flash_devices.specs.MemoryFiles.{writes_of}
 use Rattle.flash_devices.proofs.FileSteps.{nothing_written}
 use Rattle.flash_devices.proofs.memory_file.MemoryFileByteFile.write_at.Goals as goal
@@ -41,3 +41,10 @@ returns-clause-touches c =
     let place = c.in_ok-from.ensures.place.0 in
     let met = subst (λ at. TouchesOnly at (at + length c.args.bytes.now) (writes_of c.call.new.self) (counts_in c.count_met.new.counts.items)) place c.count_met.ensures.touches in
     touches_then _ _ (touches_none _ _ c.in_ok-call.ensures.writes) met
+
+pub returns-clause-counted : goal.returns-clause-counted
+returns-clause-counted c =
+    let n = length c.args.bytes.now in
+    let new = counts_in c.count_met.new.counts.items in
+    subst (λ (old : ℕ → ℕ). CountsMet c.args.at n old new) c.in_ok-call.ensures.writes
+    (subst (λ at. CountsMet at n (writes_of c.call.new.self) new) c.in_ok-from.ensures.place.0 c.count_met.ensures.met)
