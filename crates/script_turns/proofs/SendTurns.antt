@@ -166,7 +166,7 @@ module _ (partly : Bool) (E : Setting) (files : Option Directory) (name : List �
       go (Some file) is = holds file (tells-file files E.files name file told is)
 
   pub refuses-as : (r : Reply) → IsTableOf files name (Err r) → machine ≡ answered r [] (On boot staging handles)
-  refuses-as r table = by-file (λ (a : Answer). a ≡ answered r [] (On boot staging handles)) (λ file tells. of-file partly file (Err r) (table file tells) ∙ refused partly file)
+  refuses-as r table = by-file (λ (a : Answer). a ≡ answered r [] (On boot staging handles)) (λ file tells. of-file partly file (Err r) (table.0 file tells) ∙ refused partly file)
     where
       refused : (kind : Bool) (file : List ℕ) → answer_by kind E s boot staging handles request file (Err r) ≡ answered r [] (On boot staging handles)
       refused false file = refl
@@ -176,14 +176,14 @@ module _ (E : Setting) (files : Option Directory) (name : List ℕ) (request : �
   sends-as : (toc : Toc) (images : List (List ℕ)) → IsTableOf files name (Ok toc) → ((file : List ℕ) → Tells files name file → images ≡ images_of E.layout.rows file toc)
       → answer E s (On boot staging handles) (send_call false name request) ≡ send_answer E toc images request s (On boot staging handles)
   sends-as toc images table read = by-file false E files name request s boot staging handles told there (λ (a : Answer). a ≡ send_answer E toc images request s (On boot staging handles))
-      (λ file tells. of-file false E files name request s boot staging handles told there false file (Ok toc) (table file tells)
+      (λ file tells. of-file false E files name request s boot staging handles told there false file (Ok toc) (table.0 file tells)
       ∙ ap (λ (p : List (List ℕ)). send_unless (first_image_fault E.layout.rows toc) E s boot staging handles p request (skipped E.layout.rows toc)) (sym (read file tells)))
 
   sends-over : (toc : Toc) (bytes : ℕ → List ℕ) (images : List (List ℕ)) → IsTableOf files name (Ok toc) → ((file : List ℕ) → Tells files name file → images ≡ images_over E.layout.rows file toc bytes)
       → ((i : ℕ) → i < length E.layout.rows → has_image toc (get_or E.layout.rows i no_row) ≡ false → bytes i ≡ image_held s s.active i)
       → answer E s (On boot staging handles) (send_call true name request) ≡ over_answer E toc images request s (On boot staging handles)
   sends-over toc bytes images table read same = by-file true E files name request s boot staging handles told there (λ (a : Answer). a ≡ over_answer E toc images request s (On boot staging handles))
-      (λ file tells. of-file true E files name request s boot staging handles told there true file (Ok toc) (table file tells)
+      (λ file tells. of-file true E files name request s boot staging handles told there true file (Ok toc) (table.0 file tells)
       ∙ ap (λ (p : List (List ℕ)). install_unless (partial_fault E.layout.rows toc) E s boot staging handles p (bits_over E.layout.rows toc request) (sent_over E.layout.rows toc))
       (sym (read file tells ∙ over-same E.layout.rows file toc bytes (image_held s s.active) same)))
 

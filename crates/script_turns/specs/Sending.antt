@@ -21,6 +21,8 @@ use Rattle.update_client.specs.declared.stops.SendStop.TheVariants.{MissingImage
 use Rattle.update_client.specs.Choosing.{no_row}
 use Rattle.update_client.specs.Sends.{send_answer}
 use Rattle.update_client.specs.Partial.{AreWhole, over_answer}
+use Rattle.script_turns.specs.declared.tables.TableStop.TheVariants as table_stop
+use Rattle.script_turns.specs.Tables.{IsOfTable}
 use Rattle.script_turns.specs.Powered.{TurnMoment, kept_at}
 
 -- a sending of all images, or one over those of the active bank
@@ -28,9 +30,16 @@ abbrev pub send_call : Bool → List ℕ → ℕ → Call
 send_call false name request = call.Send name request
 send_call true name request = call.SendPartial name request
 
--- the table of the file, where its bytes are told, or what is answered to it
+-- a table, or what is answered to a file without one, is of what was read
+abbrev pub IsOfAnswer : Result Toc Reply → Type 0
+IsOfAnswer (Ok toc) = IsOfTable (Ok toc)
+IsOfAnswer (Err (reply.BadPackage f)) = IsOfTable (Err (table_stop.Package f))
+IsOfAnswer (Err (reply.BadCapsule f)) = IsOfTable (Err (table_stop.Capsule f))
+IsOfAnswer (Err other) = ⊤
+
+-- the table of the file, or what is answered to it: that of its bytes, where they are told, and of what was read, on any files
 abbrev pub IsTableOf : Option Directory → List ℕ → Result Toc Reply → Type 0
-IsTableOf files name found = (file : List ℕ) → Tells files name file → table_in file ≡ found
+IsTableOf files name found = ((file : List ℕ) → Tells files name file → table_in file ≡ found) × IsOfAnswer found
 
 -- told files lack what is to be sent
 abbrev pub LacksSent : Option Directory → Call → Type 0
@@ -86,7 +95,7 @@ abbrev pub SendsAs : Bool → (List ℕ → Bool) → Option Directory → List 
 SendsAs false passes files name request r old new = SendsBy passes files name request r old new
 SendsAs true passes files name request r old new = SendsOverBy passes files name request r old new
 
--- A file without a table is answered by its first fault, and the agent is as it was; else what it holds is sent.
+-- A file without a table is answered by its first fault, which some bytes have, and the agent is as it was. Else what it holds is sent.
 abbrev pub AnswersSend : Bool → (List ℕ → Bool) → Option Directory → List ℕ → ℕ → Reply → agent.Moment → agent.Moment → Type 0
 AnswersSend partial passes files name request (reply.BadPackage f) old new =
     IsTableOf files name (Err (reply.BadPackage f)) × (new ≡ old)

@@ -36,7 +36,7 @@ returns-in-Err-Package-clause-turns g c =
     turns-as _ (quiet_turn (send_call c.args.partial (string_bytes c.args.name) c.args.request) answer) (moment_where true agent) (moment_where true agent) _ _
     (c.answered.ensures.turn ∙ ap (λ (x : Call). quiet_turn x answer) c.send_call.ensures) refl
     (moment-as agent c.answered.result.here true c.answered.ensures.here)
-    (bad-table c.args.partial _ _ _ _ _ _ _ _ _ _ _ _ _ read.cause.later answer (omega (arith, read.cause.once)) refl refl read.told (read.told, refl)
+    (bad-table c.args.partial _ _ _ _ _ _ _ _ _ _ _ _ _ read.cause.later answer (omega (arith, read.cause.once)) refl refl (read.told, read.some) ((read.told, read.some), refl)
     (λ lacks. let failed = read.missing lacks in cc) (record { told = refl; writes = refl; counts = refl; armed = refl; power = refl }) (unarmed_none tt _ _))
 
 pub returns-in-Err-Capsule-clause-turns : goal.returns-in-Err-Capsule-clause-turns
@@ -48,7 +48,7 @@ returns-in-Err-Capsule-clause-turns g c =
     turns-as _ (quiet_turn (send_call c.args.partial (string_bytes c.args.name) c.args.request) answer) (moment_where true agent) (moment_where true agent) _ _
     (turned.ensures.turn ∙ ap (λ (x : Call). quiet_turn x answer) c.send_call-in-Err-Capsule.ensures) refl
     (moment-as agent turned.result.here true turned.ensures.here)
-    (bad-table c.args.partial _ _ _ _ _ _ _ _ _ _ _ _ _ read.cause.later answer (omega (arith, read.cause.once)) refl refl read.told (read.told, refl)
+    (bad-table c.args.partial _ _ _ _ _ _ _ _ _ _ _ _ _ read.cause.later answer (omega (arith, read.cause.once)) refl refl (read.told, read.some) ((read.told, read.some), refl)
     (λ lacks. let failed = read.missing lacks in cc) (record { told = refl; writes = refl; counts = refl; armed = refl; power = refl }) (unarmed_none tt _ _))
 
 pub returns-in-Err-ReadFailed-clause-turns : goal.returns-in-Err-ReadFailed-clause-turns

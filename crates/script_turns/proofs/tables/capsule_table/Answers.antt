@@ -1,4 +1,4 @@
-use Rattle.std.proofs.Common.{rules}
+use Rattle.std.proofs.Common.{inr, rules}
 use Rattle.capsule_tables.proofs.Within.{ends-within}
 use Rattle.script_turns.proofs.tables.capsule_table.Goals as goal
 
@@ -7,6 +7,7 @@ returns-in-Ok g c =
     let read = c.in-Ok.ensures in
     record {
       told = search rules;
+      some = inr read.some;
       found = record {
         stored = λ file told. ends-within file c.in-Ok.toc (read.told file told);
         ends = search rules;

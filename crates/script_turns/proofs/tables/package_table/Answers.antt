@@ -1,4 +1,4 @@
-use Rattle.std.proofs.Common.{arith, rules}
+use Rattle.std.proofs.Common.{inl, arith, rules}
 use Rattle.fwu_formats.proofs.Tables.{table-of}
 use Rattle.script_turns.proofs.tables.package_table.Goals as goal
 
@@ -8,6 +8,7 @@ returns-in-Ok g c =
     let some = read.some in
     record {
       told = search rules;
+      some = inl some;
       found = record {
         stored = λ file told. (table-of file c.in-Ok.toc (read.told file told)).within;
         ends = λ k d lt. let inside = (table-of some.bytes c.in-Ok.toc some.answer).within k d lt in omega (arith, inside, some.short);
