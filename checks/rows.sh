@@ -120,6 +120,21 @@ chmod 640 both.fip
 row 'a capsule in the place of its package' 0 'capsule items=1 size=89' fip capsule both.fip both.fip
 same 'its bytes' a.cap both.fip
 row 'it has the mode of the old file' 0 640 stat -c %a both.fip
+
+# another_group: a group that a file may be given, and that a new one doesn't have; none where there is none.
+another_group() {
+    [ "$(id -u)" != 0 ] || echo 12345
+    id -G | tr ' ' '\n' | grep -vx "$(id -g)"
+}
+group=$(another_group | head -n 1)
+if [ -n "$group" ]; then
+    cp a.fip owned.fip
+    chgrp "$group" owned.fip
+    row 'a capsule in the place of a package of another group' 0 'capsule items=1 size=89' fip capsule a.fip owned.fip
+    same 'its bytes' a.cap owned.fip
+    row 'it has the group of the old file' 0 "$group" stat -c %g owned.fip
+fi
+
 head -c 3000 /dev/zero >long.zeros
 row 'a file that cannot be written' 2 file-fault limited fip create both.fip tb-fw=long.zeros
 same 'the old file is there' a.cap both.fip
