@@ -186,7 +186,7 @@ module _ (passes : List ℕ → Bool) (tells : Bool) (one all : Directory) where
   unread-with c was are agree none = absurd none
 
   table-with : (name : List ℕ) (found : Result Toc Reply) → one name ≡ all name → IsTableOf (Some one) name found → IsTableOf (Some all) name found
-  table-with name found same is file tells = is file (same ∙ tells)
+  table-with name found same is = (λ file tells. is.0 file (same ∙ tells), is.1)
 
   sends-with : (name : List ℕ) (request : ℕ) (r : Reply) (old new : agent.Moment) → one name ≡ all name → SendsBy passes (Some one) name request r old new → SendsBy passes (Some all) name request r old new
   sends-with name request r old new same by = record {
