@@ -56,7 +56,7 @@ none-holds passes tells files old new = record {
     to = old.faults.files;
     follows = (refl, refl);
     begins = omega arith;
-    touches = λ off. record { layout_still = refl; unbooted = λ none. (off, refl); banks = λ one f is b out beside. refl };
+    touches = λ off. record { layout_still = refl; marks_still = refl; unbooted = λ none. (off, refl); banks = λ one f is b out beside. refl };
     ends = λ some. absurd (some refl);
   };
   device = none-leaves tells old.flash;
