@@ -149,19 +149,21 @@ module _ {H I : Type 0} {passes : List ℕ → Bool} {tells : Bool} {blocks : �
     formats = λ banks rows file other. absurd (no-other from at (ask.format banks rows file) refl other);
     soaks = λ seed rounds other. absurd (no-other from at (ask.soak seed rounds) refl other);
     serves = λ other. absurd (no-other from at ask.serve refl other);
-    read_to_end = λ zero runs. whole zero (of-source from at runs);
     power = λ leaves zero. absurd (false≢true (sym (left-off from at) ∙ leaves));
-    source = λ none. stays (of-boot from at none);
-    list_first = λ none. absurd (none no-list-named);
-    in_time = λ runs. timely;
-    source_count = λ runs. once;
-    files = λ unlisted none. kept (of-no-file from at none);
-    unsent = λ unlisted other none. unsent none;
-    list_alone = λ other none whole. counts (unsent none);
     note = λ none. quiet (on-flash from at none);
-    later_files = later.files;
-    later_source = later.source;
-    later_sink = later.sink;
+    reads = record {
+      read_to_end = λ zero runs. whole zero (of-source from at runs);
+      source = λ none. stays (of-boot from at none);
+      list_first = λ none. absurd (none no-list-named);
+      in_time = λ runs. timely;
+      source_count = λ runs. once;
+      files = λ unlisted none. kept (of-no-file from at none);
+      unsent = λ unlisted other none. unsent none;
+      list_alone = λ other none whole. counts (unsent none);
+      later_files = later.files;
+      later_source = later.source;
+      later_sink = later.sink;
+    };
   })
 
   pub answered-show : (asked : Option Asked) → asked ≡ Some ask.show → ShowedBy tells (record { list = None; files = told; script = left }) (end-of journal status (noted said)) (world-of old taken_before faults_before) (world-of new taken_after faults_after)
@@ -174,19 +176,21 @@ module _ {H I : Type 0} {passes : List ℕ → Bool} {tells : Bool} {blocks : �
     formats = λ banks rows file other. absurd cc;
     soaks = λ seed rounds other. absurd cc;
     serves = λ other. absurd cc;
-    read_to_end = λ zero other. absurd (none-not-source other);
     power = λ leaves zero. on zero;
-    source = λ other. stays;
-    list_first = λ none. stays;
-    in_time = λ runs. absurd (none-not-source runs);
-    source_count = λ runs. absurd (none-not-source runs);
-    files = λ unlisted other. kept;
-    unsent = λ unlisted other none. kept;
-    list_alone = λ other none whole. counted;
     note = λ other. quiet;
-    later_files = later.files;
-    later_source = later.source;
-    later_sink = later.sink;
+    reads = record {
+      read_to_end = λ zero other. absurd (none-not-source other);
+      source = λ other. stays;
+      list_first = λ none. stays;
+      in_time = λ runs. absurd (none-not-source runs);
+      source_count = λ runs. absurd (none-not-source runs);
+      files = λ unlisted other. kept;
+      unsent = λ unlisted other none. kept;
+      list_alone = λ other none whole. counted;
+      later_files = later.files;
+      later_source = later.source;
+      later_sink = later.sink;
+    };
   })
 
   pub answered-format : (asked : Option Asked) (b : ℕ) (items : List ImageRow) (f : List ℕ) → asked ≡ Some (ask.format b items f)
@@ -201,19 +205,21 @@ module _ {H I : Type 0} {passes : List ℕ → Bool} {tells : Bool} {blocks : �
     formats = formatted;
     soaks = λ seed rounds other. absurd cc;
     serves = λ other. absurd cc;
-    read_to_end = λ zero other. absurd (none-not-source other);
     power = λ leaves zero. on zero;
-    source = λ other. stays;
-    list_first = λ none. stays;
-    in_time = λ runs. absurd (none-not-source runs);
-    source_count = λ runs. absurd (none-not-source runs);
-    files = λ unlisted other. absurd (false≢true (sym other));
-    unsent = λ unlisted other none. absurd (false≢true (sym other));
-    list_alone = λ other none whole. absurd (false≢true (sym other));
     note = λ other. absurd (false≢true (sym other));
-    later_files = later.files;
-    later_source = later.source;
-    later_sink = later.sink;
+    reads = record {
+      read_to_end = λ zero other. absurd (none-not-source other);
+      source = λ other. stays;
+      list_first = λ none. stays;
+      in_time = λ runs. absurd (none-not-source runs);
+      source_count = λ runs. absurd (none-not-source runs);
+      files = λ unlisted other. absurd (false≢true (sym other));
+      unsent = λ unlisted other none. absurd (false≢true (sym other));
+      list_alone = λ other none whole. absurd (false≢true (sym other));
+      later_files = later.files;
+      later_source = later.source;
+      later_sink = later.sink;
+    };
   })
 
   pub answered-soak : (asked : Option Asked) (a b : ℕ) → asked ≡ Some (ask.soak a b)
@@ -228,19 +234,21 @@ module _ {H I : Type 0} {passes : List ℕ → Bool} {tells : Bool} {blocks : �
     formats = λ banks rows file other. absurd cc;
     soaks = soaked;
     serves = λ other. absurd cc;
-    read_to_end = λ zero other. absurd (none-not-source other);
     power = λ leaves zero. absurd (false≢true leaves);
-    source = λ other. stays;
-    list_first = λ none. stays;
-    in_time = λ runs. absurd (none-not-source runs);
-    source_count = λ runs. absurd (none-not-source runs);
-    files = λ unlisted other. kept;
-    unsent = λ unlisted other none. kept;
-    list_alone = λ other none whole. counted;
     note = λ other. absurd (false≢true (sym other));
-    later_files = later.files;
-    later_source = later.source;
-    later_sink = later.sink;
+    reads = record {
+      read_to_end = λ zero other. absurd (none-not-source other);
+      source = λ other. stays;
+      list_first = λ none. stays;
+      in_time = λ runs. absurd (none-not-source runs);
+      source_count = λ runs. absurd (none-not-source runs);
+      files = λ unlisted other. kept;
+      unsent = λ unlisted other none. kept;
+      list_alone = λ other none whole. counted;
+      later_files = later.files;
+      later_source = later.source;
+      later_sink = later.sink;
+    };
   })
 
   pub answered-serve : (asked : Option Asked) → asked ≡ Some ask.serve → ServeWay passes tells (record { list = None; files = told; script = left }) (end-of journal status (noted said)) (world-of old taken_before faults_before) (world-of new taken_after faults_after) rest
@@ -253,19 +261,21 @@ module _ {H I : Type 0} {passes : List ℕ → Bool} {tells : Bool} {blocks : �
     formats = λ banks rows file other. absurd cc;
     soaks = λ seed rounds other. absurd cc;
     serves = λ same. served;
-    read_to_end = λ zero other. absurd (none-not-source other);
     power = λ leaves zero. absurd (false≢true leaves);
-    source = λ other. absurd (false≢true (sym other));
-    list_first = λ none. absurd (none no-list-named);
-    in_time = λ runs. absurd (none-not-source runs);
-    source_count = λ runs. absurd (none-not-source runs);
-    files = λ unlisted other. kept;
-    unsent = λ unlisted other none. kept;
-    list_alone = λ other none whole. counted;
     note = λ other. quiet;
-    later_files = later.files;
-    later_source = later.source;
-    later_sink = later.sink;
+    reads = record {
+      read_to_end = λ zero other. absurd (none-not-source other);
+      source = λ other. absurd (false≢true (sym other));
+      list_first = λ none. absurd (none no-list-named);
+      in_time = λ runs. absurd (none-not-source runs);
+      source_count = λ runs. absurd (none-not-source runs);
+      files = λ unlisted other. kept;
+      unsent = λ unlisted other none. kept;
+      list_alone = λ other none whole. counted;
+      later_files = later.files;
+      later_source = later.source;
+      later_sink = later.sink;
+    };
   })
 
   -- words that ask for nothing, behind a list or without one
@@ -279,19 +289,21 @@ module _ {H I : Type 0} {passes : List ℕ → Bool} {tells : Bool} {blocks : �
     formats = λ banks rows file other. absurd (none-some (ask.format banks rows file) asked words other);
     soaks = λ seed rounds other. absurd (none-some (ask.soak seed rounds) asked words other);
     serves = λ other. absurd (none-some ask.serve asked words other);
-    read_to_end = λ zero other. absurd (not-done usage_line 1 status taken_before taken_after faults_before.sink faults_after.sink (λ one. absurd (omega arith)) prints zero);
     power = λ leaves zero. absurd (not-done usage_line 1 status taken_before taken_after faults_before.sink faults_after.sink (λ one. absurd (omega arith)) prints zero);
-    source = λ other. stays;
-    list_first = λ lacks. stays;
-    in_time = λ runs. unread-in-time left rest unread;
-    source_count = λ runs. none-fails journal status faults_before.source faults_after.source once;
-    files = λ unlisted other. kept;
-    unsent = λ unlisted other unsent. kept;
-    list_alone = λ other unsent whole. counted;
     note = λ other. ap is_beyond_model is;
-    later_files = later.files;
-    later_source = later.source;
-    later_sink = later.sink;
+    reads = record {
+      read_to_end = λ zero other. absurd (not-done usage_line 1 status taken_before taken_after faults_before.sink faults_after.sink (λ one. absurd (omega arith)) prints zero);
+      source = λ other. stays;
+      list_first = λ lacks. stays;
+      in_time = λ runs. unread-in-time left rest unread;
+      source_count = λ runs. none-fails journal status faults_before.source faults_after.source once;
+      files = λ unlisted other. kept;
+      unsent = λ unlisted other unsent. kept;
+      list_alone = λ other unsent whole. counted;
+      later_files = later.files;
+      later_source = later.source;
+      later_sink = later.sink;
+    };
   }
 
   -- nothing was done for want of memory, whatever is asked for
@@ -306,19 +318,21 @@ module _ {H I : Type 0} {passes : List ℕ → Bool} {tells : Bool} {blocks : �
         starved-formats passes tells (record { list = list; files = told; script = left }) file (record { banks = banks; rows = rows }) blocks old new status said journal taken_before taken_after faults_before faults_after same unarmed none is nine stuck;
     soaks = λ seed rounds words. soak.starved none same nine is stuck;
     serves = λ words. serve.starved none same (unread, once) nine (ap noted is) stuck;
-    read_to_end = λ zero words. absurd (omega (arith, zero, nine));
     power = λ leaves zero. absurd (omega (arith, zero, nine));
-    source = λ other. stays;
-    list_first = λ lacks. stays;
-    in_time = λ runs. unread-in-time left rest unread;
-    source_count = λ runs. none-fails journal status faults_before.source faults_after.source once;
-    files = λ unlisted other. kept unlisted;
-    unsent = λ unlisted other unsent. kept unlisted;
-    list_alone = λ other unsent whole. absurd (false≢true (sym whole ∙ ap may_fail_before nine));
     note = λ other. ap is_beyond_model is;
-    later_files = later.files;
-    later_source = later.source;
-    later_sink = later.sink;
+    reads = record {
+      read_to_end = λ zero words. absurd (omega (arith, zero, nine));
+      source = λ other. stays;
+      list_first = λ lacks. stays;
+      in_time = λ runs. unread-in-time left rest unread;
+      source_count = λ runs. none-fails journal status faults_before.source faults_after.source once;
+      files = λ unlisted other. kept unlisted;
+      unsent = λ unlisted other unsent. kept unlisted;
+      list_alone = λ other unsent whole. absurd (false≢true (sym whole ∙ ap may_fail_before nine));
+      later_files = later.files;
+      later_source = later.source;
+      later_sink = later.sink;
+    };
   }
 
   -- a list was refused, whatever is asked for
@@ -343,19 +357,21 @@ module _ {H I : Type 0} {passes : List ℕ → Bool} {tells : Bool} {blocks : �
         refused-soaks tells (record { list = Some name; files = told; script = left }) seed rounds blocks journal status said old new taken_before taken_after faults_before faults_after planned line (noted met) none same (ap is_beyond_model is ∙ beyond) (ap noted is)
         (why left (Some (ask.soak seed rounds))) prints;
     serves = λ words. refused-serves passes tells (record { list = Some name; files = told; script = left }) old new status (noted said) journal taken_before taken_after faults_before faults_after planned line (noted met) rest none same (ap noted is) (why left (Some ask.serve)) prints unread once;
-    read_to_end = λ zero words. absurd (not-done line planned status taken_before taken_after faults_before.sink faults_after.sink some prints zero);
     power = λ leaves zero. absurd (not-done line planned status taken_before taken_after faults_before.sink faults_after.sink some prints zero);
-    source = λ other. stays;
-    list_first = λ lacks. stays;
-    in_time = λ runs. unread-in-time left rest unread;
-    source_count = λ runs. none-fails journal status faults_before.source faults_after.source once;
-    files = λ unlisted other. absurd cc;
-    unsent = λ unlisted other unsent. absurd cc;
-    list_alone = λ other unsent whole. counted whole;
     note = λ other. ap is_beyond_model is ∙ beyond;
-    later_files = later.files;
-    later_source = later.source;
-    later_sink = later.sink;
+    reads = record {
+      read_to_end = λ zero words. absurd (not-done line planned status taken_before taken_after faults_before.sink faults_after.sink some prints zero);
+      source = λ other. stays;
+      list_first = λ lacks. stays;
+      in_time = λ runs. unread-in-time left rest unread;
+      source_count = λ runs. none-fails journal status faults_before.source faults_after.source once;
+      files = λ unlisted other. absurd cc;
+      unsent = λ unlisted other unsent. absurd cc;
+      list_alone = λ other unsent whole. counted whole;
+      later_files = later.files;
+      later_source = later.source;
+      later_sink = later.sink;
+    };
   }
 
   -- what is done without a list is done behind one that was read and is one
@@ -374,19 +390,21 @@ module _ {H I : Type 0} {passes : List ℕ → Bool} {tells : Bool} {blocks : �
             formats-with-list passes tells mid_told told name left file (record { banks = banks; rows = rows }) blocks old new status said journal taken_before taken_after faults_before mid faults_after same good counted at_source at_sink unarmed (a.formats banks rows file words);
         soaks = λ seed rounds words. soaks-with-list tells mid_told told name left seed rounds blocks journal status said old new taken_before taken_after faults_before mid faults_after good later at_source at_sink (a.soaks seed rounds words);
         serves = λ words. serves-with-list passes tells mid_told told name left old new status (noted said) journal taken_before taken_after faults_before mid faults_after rest same good counted at_source at_sink (a.serves words);
-        read_to_end = a.read_to_end;
         power = a.power;
-        source = a.source;
-        list_first = λ lacks. absurd (lacks good);
-        in_time = a.in_time;
-        source_count = λ runs. subst (λ (n : ℕ). FailsOnce journal status n faults_after.source) (sym at_source) (a.source_count runs);
-        files = λ unlisted other. absurd cc;
-        unsent = λ unlisted other unsent. absurd cc;
-        list_alone = λ other unsent whole. a.list_alone other unsent whole ∙ counted;
         note = a.note;
-        later_files = omega (arith, counted, a.later_files);
-        later_source = omega (arith, at_source, a.later_source);
-        later_sink = omega (arith, at_sink, a.later_sink);
+        reads = record {
+          read_to_end = a.reads.read_to_end;
+          source = a.reads.source;
+          list_first = λ lacks. absurd (lacks good);
+          in_time = a.reads.in_time;
+          source_count = λ runs. subst (λ (n : ℕ). FailsOnce journal status n faults_after.source) (sym at_source) (a.reads.source_count runs);
+          files = λ unlisted other. absurd cc;
+          unsent = λ unlisted other unsent. absurd cc;
+          list_alone = λ other unsent whole. a.reads.list_alone other unsent whole ∙ counted;
+          later_files = omega (arith, counted, a.reads.later_files);
+          later_source = omega (arith, at_source, a.reads.later_source);
+          later_sink = omega (arith, at_sink, a.reads.later_sink);
+        };
       }
 
   -- by equal words

@@ -1,24 +1,20 @@
 -- What is done for what the words ask for, by each command.
-use Rattle.std.specs.Prelude.{◌≡◌, ◌≤◌, ℕ, Bool, List, [], Option, Some, None, IfSome, IsTrue, IsFalse}
+use Rattle.std.specs.Prelude.{◌≡◌, ℕ, Bool, List, Option, Some, IsTrue, IsFalse}
 use Rattle.fwu_formats.specs.Layout.{ImageRow}
-use Rattle.fwu_model.specs.Asked as model
-use Rattle.fwu_model.specs.Causes.{may_fail_before}
 use Rattle.fwu_words.specs.Order.{Asked}
 use Rattle.fwu_words.specs.Order as ask
-use Rattle.script_cmd.specs.Asking.{asks_beyond, asks_files, asks_package, asks_source, leaves_on, RunsOrNone, over_table}
+use Rattle.script_cmd.specs.Asking.{asks_beyond, leaves_on, RunsOrNone, over_table}
 use Rattle.script_runs.specs.Ending.{Device, Ending, World, in_model}
 use Rattle.script_cmd.specs.FormattedBy.{FormattedBy}
 use Rattle.script_runs.specs.Noted.{is_beyond_model}
-use Rattle.script_runs.specs.Refusing.{in_short}
 use Rattle.script_cmd.specs.Promises.{given_to}
-use Rattle.script_turns.specs.Runs.{calls_of, sends_none}
 use Rattle.script_cmd.specs.ServeWays.{ServeWay}
 use Rattle.script_cmd.specs.ShowedBy.{ShowedBy}
 use Rattle.flash_commands.specs.SoakWays.{SoakWay}
-use Rattle.script_runs.specs.Sourced.{FailsOnce, ReadsInTime}
 use Rattle.script_cmd.specs.ByList.{ByList, IsIdle}
-use Rattle.script_runs.specs.Ways.{HasGoodList, Way}
+use Rattle.script_runs.specs.Ways.{Way}
 use Rattle.script_cmd.specs.Handed.{Inputs, given_all}
+use Rattle.script_cmd.specs.ReadsInputs.{ReadsInputs}
 use Rattle.script_runs.specs.WaysByTable.{WayByTable}
 use Rattle.script_runs.specs.declared.done.Note.{Note}
 
@@ -37,27 +33,10 @@ pub record Answered {H I : Type 0} (passes : List ℕ → Bool) (device : Device
   pub soaks : (seed rounds : ℕ) → inputs.asked ≡ Some (ask.soak seed rounds)
       → SoakWay device (given_all inputs) seed rounds ending old new
   pub serves : inputs.asked ≡ Some ask.serve → ServeWay passes device.tells (given_all inputs) (in_model ending) old new rest
-  -- a script of the source is read to its end
-  pub read_to_end : ending.status ≡ 0 → in_short inputs.asked ≡ model.Source → IfSome rest (λ r. r ≡ [])
   pub power : IsTrue (leaves_on inputs.asked) → ending.status ≡ 0 → IsTrue new.flash.power
-  -- only `run` and `serve` read the source, and not behind a list that told files lack, or that is none
-  pub source : IsFalse (asks_source inputs.asked) → source_after ≡ source_before
-  pub list_first : (HasGoodList inputs.list inputs.files → ⊥) → source_after ≡ source_before
-  pub in_time : in_short inputs.asked ≡ model.Source → ReadsInTime inputs.source rest
-  pub source_count : in_short inputs.asked ≡ model.Source
-      → FailsOnce ending.journal ending.status old.faults.source new.faults.source
-  -- only `run`, `format` and a list read files, and where no turn is a `send`, `run` does not
-  pub files : inputs.list ≡ None → IsFalse (asks_files inputs.asked) → files_after ≡ files_before
-  pub unsent : inputs.list ≡ None → IsFalse (asks_package inputs.asked)
-      → IsTrue (sends_none (calls_of ending.journal)) → files_after ≡ files_before
-  -- then no other file than the list is asked for
-  pub list_alone : IsFalse (asks_package inputs.asked) → IsTrue (sends_none (calls_of ending.journal))
-      → IsFalse (may_fail_before ending.status) → new.faults.files ≡ old.faults.files
   pub note : IsFalse (asks_beyond inputs.asked) → IsFalse (is_beyond_model ending.noted)
-  -- no count of failures falls
-  pub later_files : old.faults.files ≤ new.faults.files
-  pub later_source : old.faults.source ≤ new.faults.source
-  pub later_sink : old.faults.sink ≤ new.faults.sink
+  -- what it reads of its files and its source, and which failures it counts
+  pub reads : ReadsInputs inputs ending old.faults new.faults rest files_before files_after source_before source_after
 
 -- The same by the manifests of a list that was read (`Has` says of which), or nothing was done, and it holds whichever pass.
 abbrev pub AnsweredByList : {H I : Type 0} → (Has : (List ℕ → Bool) → Type 0) → Device → Inputs → Ending Note → World → World

@@ -7,6 +7,7 @@ pub mod PromisesByTable
 pub mod Soaked
 pub mod ServeWays
 pub mod ServedBy
+pub mod ReadsInputs
 pub mod Answered
 pub mod Serves
 pub mod Handed

@@ -1,27 +1,22 @@
 -- What the program promises of what its words ask for, by each command. It is the contract of both top calls.
-use Rattle.std.specs.Prelude.{◌≡◌, ◌≤◌, ℕ, Bool, List, [], Option, Some, None, IfSome, IsTrue, IsFalse}
+use Rattle.std.specs.Prelude.{◌≡◌, ℕ, Bool, List, Option, Some, IsTrue, IsFalse}
 use Rattle.fwu_formats.specs.Layout.{ImageRow}
 use Rattle.fwu_model.specs.Allow.{asks_list}
-use Rattle.fwu_model.specs.Asked as model
-use Rattle.fwu_model.specs.Causes.{may_fail_before}
 use Rattle.fwu_words.specs.Order.{Asked}
 use Rattle.fwu_words.specs.Order as ask
-use Rattle.script_cmd.specs.Asking.{asks_beyond, asks_files, asks_package, asks_source, leaves_on, RunsOrNone, over_table}
+use Rattle.script_cmd.specs.Asking.{asks_beyond, leaves_on, RunsOrNone, over_table}
 use Rattle.script_runs.specs.Ending.{Device, Ending, World, in_model}
 use Rattle.script_cmd.specs.FormattedBy.{FormattedBy}
 use Rattle.script_runs.specs.Noted.{is_beyond_model}
-use Rattle.script_runs.specs.Refusing.{in_short}
 use Rattle.host_io.specs.Printed.{FailsAtThree}
 use Rattle.script_cmd.specs.Promises.{Promised}
 use Rattle.script_cmd.specs.PromisesByTable.{PromisedByTable}
-use Rattle.script_turns.specs.Runs.{calls_of, sends_none}
 use Rattle.script_cmd.specs.ServedBy.{ServedBy}
 use Rattle.script_cmd.specs.ShowedBy.{ShowedBy}
 use Rattle.script_cmd.specs.Soaked.{SoakedBy}
-use Rattle.script_runs.specs.Sourced.{FailsOnce, ReadsInTime}
 use Rattle.script_cmd.specs.ByList.{ByList, HasPasses, IsIdle}
-use Rattle.script_runs.specs.Ways.{HasGoodList}
 use Rattle.script_cmd.specs.Handed.{Inputs, given_all}
+use Rattle.script_cmd.specs.ReadsInputs.{ReadsInputs}
 use Rattle.script_runs.specs.declared.done.Note.{Note}
 
 -- What it promises of a run for what was asked. `rest` is what the source tells afterwards.
@@ -43,29 +38,14 @@ pub record Serves {H I : Type 0} (passes : List ℕ → Bool) (device : Device) 
       → SoakedBy device (given_all inputs) seed rounds ending old new
   -- for `serve`: one boot and the calls of the requests are a run of the machine, and what was written is the frames of the replies
   pub serves : inputs.asked ≡ Some ask.serve → ServedBy passes device.tells (given_all inputs) (in_model ending) old new rest
-  -- a script of the source is read to its end
-  pub read_to_end : ending.status ≡ 0 → in_short inputs.asked ≡ model.Source → IfSome rest (λ r. r ≡ [])
+  -- `show` and `format` leave the flash on where they are done
   pub power : IsTrue (leaves_on inputs.asked) → ending.status ≡ 0 → IsTrue new.flash.power
-  -- only `run` and `serve` read the source, and not behind a list that told files lack, or that is none
-  pub source : IsFalse (asks_source inputs.asked) → source_after ≡ source_before
-  pub list_first : (HasGoodList inputs.list inputs.files → ⊥) → source_after ≡ source_before
-  pub in_time : in_short inputs.asked ≡ model.Source → ReadsInTime inputs.source rest
-  pub source_count : in_short inputs.asked ≡ model.Source
-      → FailsOnce ending.journal ending.status old.faults.source new.faults.source
-  -- only `run`, `format` and a list read files, and where no turn is a `send`, `run` does not
-  pub files : inputs.list ≡ None → IsFalse (asks_files inputs.asked) → files_after ≡ files_before
-  pub unsent : inputs.list ≡ None → IsFalse (asks_package inputs.asked)
-      → IsTrue (sends_none (calls_of ending.journal)) → files_after ≡ files_before
-  -- then no call of the files failed, but at a status by which the list may not have been read
-  pub list_alone : IsFalse (asks_package inputs.asked) → IsTrue (sends_none (calls_of ending.journal))
-      → IsFalse (may_fail_before ending.status) → new.faults.files ≡ old.faults.files
+  -- what was noted is of the machine, but for `format`, `soak` and a partition table
   pub note : IsFalse (asks_beyond inputs.asked) → IsFalse (is_beyond_model ending.noted)
+  -- what it reads of its files and its source, and which failures it counts
+  pub reads : ReadsInputs inputs ending old.faults new.faults rest files_before files_after source_before source_after
   -- the sink failed once where the status is 3, and else not at all
   pub sink_count : FailsAtThree ending.status old.faults.sink new.faults.sink
-  -- no count of failures falls
-  pub later_files : old.faults.files ≤ new.faults.files
-  pub later_source : old.faults.source ≤ new.faults.source
-  pub later_sink : old.faults.sink ≤ new.faults.sink
 
 -- The same by the manifests that the list has which the words name. Where no list was read nothing was done, and it holds
 -- whichever pass.
