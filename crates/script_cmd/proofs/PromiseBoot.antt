@@ -20,7 +20,7 @@ use Rattle.fwu_model.specs.Reply as reply
 use Rattle.fwu_model.specs.Script.{script_of, is_too_long}
 use Rattle.fwu_model.specs.Asked.{script_asked}
 use Rattle.fwu_model.specs.Wrote.{may_lack}
-use Rattle.fwu_model.specs.Causes.{LossesAreCounted, Faults, may_fail_before, is_lost, status_by, note_by}
+use Rattle.fwu_model.specs.Causes.{Faults, cuts_in, is_cut, may_fail_before, status_by, note_by}
 use Rattle.fwu_formats.specs.declared.kinds.LayoutFault.{LayoutFault}
 use Rattle.fwu_model.specs.declared.kinds.NoBoot.TheVariants as no_boot
 use Rattle.fwu_model.specs.declared.kinds.Note.{Note}
@@ -159,31 +159,26 @@ whole status fails =
     let more = or_parts ((status == 2) || (status == 3)) (status == 9) parts.0 in
     or_from (status == 3) (status == 9) (or_parts (status == 2) (status == 3) more.0).1 more.1
 
-not-lost : (t : Turn) (before after : Counts) → LossesAreCounted (t ∷ []) before after → (Rose before.cuts after.cuts → ⊥) → (Rose before.reached after.reached → ⊥) → t.reply ≢ reply.Lost
-not-lost t before after (inl counted) cuts reached is =
-    let one : count_by (λ (x : Turn). is_lost x.reply) (t ∷ []) ≡ 1 = ap (λ (r : Reply). count_by (λ (x : Reply). is_lost x) (r ∷ [])) is in
-    let less : before.cuts < after.cuts → ⊥ = λ lt. cuts (inl lt) in
-    let fewer : before.reached < after.reached → ⊥ = λ lt. reached (inl lt) in
-    omega arith
-not-lost t before after (inr (inl top)) cuts reached is = cuts (inr top)
-not-lost t before after (inr (inr top)) cuts reached is = reached (inr top)
+no-cut : (t : Turn) → t.call ≡ call.Boot → cuts_in (t ∷ []) ≡ 0
+no-cut t is = ap (λ (c : Call). count_by is_cut (c ∷ [])) is
 
 module _ (passes : List ℕ → Bool) (tells : Bool) (files : Option Directory) (status : ℕ) (noted : Note) (old : TurnMoment) (from to : ℕ) where
   by-turn : (t : Turn) (turns : List Turn) (new : TurnMoment) → Ran passes tells files (t ∷ turns) old new from to → ScriptEnded (call.Boot ∷ []) (t ∷ turns) status noted
-      → IsTrue tells → NothingDirty old.told → IsFalse (may_lack status) → (Rose old.counts.faults new.counts.faults → ⊥) → (Rose old.counts.cuts new.counts.cuts → ⊥) → (Rose old.counts.reached new.counts.reached → ⊥)
+      → IsTrue tells → NothingDirty old.told → IsFalse (may_lack status) → old.armed ≡ None → (Rose old.counts.faults new.counts.faults → ⊥) → (Rose old.counts.cuts new.counts.cuts → ⊥)
       → BootWordBy passes old.told.now status noted (t ∷ turns)
-  by-turn t turns new did ended told clean lacks faults cuts reached =
+  by-turn t turns new did ended told clean lacks unarmed faults cuts =
       let one = one-boot t turns ended.calls.0 ended.calls.1 in
       let last : last_turn (t ∷ turns) ≡ Some t = ap (λ (ts : List Turn). last_turn (t ∷ ts)) one.1 in
-      let lost = not-lost t old.counts new.counts (subst (λ (ts : List Turn). LossesAreCounted (t ∷ ts) old.counts new.counts) one.1 did.lost_turns) cuts reached in
+      let uncut : cuts_in (t ∷ turns) ≡ 0 = ap (λ (ts : List Turn). cuts_in (t ∷ ts)) one.1 ∙ no-cut t one.0 in
+      let lost : t.reply ≢ reply.Lost = λ is. cuts ((did.free unarmed uncut).lost t (0, omega arith, refl) is) in
       by-reply passes old.told.now status noted (t ∷ turns) t refl (ended.status_is lacks ∙ ap status_of_last last) (ended.noted_is ∙ ap note_of_last last)
       t.reply refl (did.first told clean t refl one.0) lost (λ is. faults (did.fault_turns t (0, omega arith, refl) is))
 
   by-journal : (journal : List Turn) (new : TurnMoment) → Ran passes tells files journal old new from to → ScriptEnded (call.Boot ∷ []) journal status noted
-      → IsTrue tells → NothingDirty old.told → IsFalse (may_lack status) → (Rose old.counts.faults new.counts.faults → ⊥) → (Rose old.counts.cuts new.counts.cuts → ⊥) → (Rose old.counts.reached new.counts.reached → ⊥)
+      → IsTrue tells → NothingDirty old.told → IsFalse (may_lack status) → old.armed ≡ None → (Rose old.counts.faults new.counts.faults → ⊥) → (Rose old.counts.cuts new.counts.cuts → ⊥)
       → BootWordBy passes old.told.now status noted journal
-  by-journal [] new did ended told clean lacks faults cuts reached = let none = ended.all_calls (ended.status_is lacks) in absurd (cc)
-  by-journal (t ∷ turns) new did ended told clean lacks faults cuts reached = by-turn t turns new did ended told clean lacks faults cuts reached
+  by-journal [] new did ended told clean lacks unarmed faults cuts = let none = ended.all_calls (ended.status_is lacks) in absurd (cc)
+  by-journal (t ∷ turns) new did ended told clean lacks unarmed faults cuts = by-turn t turns new did ended told clean lacks unarmed faults cuts
 
 -- ---- nothing ran
 
@@ -199,13 +194,13 @@ no-refusal asked g faults_before faults_after planned noted line boot script (ba
 no-refusal asked g faults_before faults_after planned noted line boot script (bad_list n some there bad) = refl
 
 pub ways-boot : WaysBoot
-ways-boot passes tells inputs end old new (starved empty same nine quiet stuck) told clean boot fails faults cuts reached =
+ways-boot passes tells inputs end old new (starved empty same nine quiet stuck) told clean boot fails unarmed faults cuts =
     absurd (false≢true (sym fails ∙ subst (λ (k : ℕ). IsTrue (may_fail_before k || (k == 13))) (sym nine) refl))
-ways-boot passes tells inputs end old new (refused planned line empty same why prints) told clean boot fails faults cuts reached =
+ways-boot passes tells inputs end old new (refused planned line empty same why prints) told clean boot fails unarmed faults cuts =
     let g = given_to inputs in
     absurd (false≢true (sym fails ∙ by-plan line planned end.status old.taken new.taken old.faults.sink new.faults.sink prints (λ k. may_fail_before k || (k == 13)) refl refl
     (no-refusal inputs.asked g old.faults new.faults planned end.noted line boot (boot-script inputs.asked inputs.source boot) why)))
-ways-boot passes tells inputs end old new (ran calls on from good asks has before turns ended printed) told clean boot fails faults cuts reached =
+ways-boot passes tells inputs end old new (ran calls on from good asks has before turns ended printed) told clean boot fails unarmed faults cuts =
     let is = (some-at (script_asked (in_short inputs.asked) inputs.source) (λ b. (is_too_long b ≡ false) × (script_of b ≡ Ok calls)) (codes "boot\n") has (boot-script inputs.asked inputs.source boot)).1 in
     let same : calls ≡ call.Boot ∷ [] = same-calls calls (call.Boot ∷ []) (sym is ∙ boot-is-script) in
-    by-journal passes tells inputs.files end.status end.noted old.flash from new.faults.files end.journal (at on new.flash.told new.flash.writes new.flash.counts new.flash.armed new.flash.power) turns (subst (λ (c : List Call). ScriptEnded c end.journal end.status end.noted) same ended) told clean (whole end.status fails) faults cuts reached
+    by-journal passes tells inputs.files end.status end.noted old.flash from new.faults.files end.journal (at on new.flash.told new.flash.writes new.flash.counts new.flash.armed new.flash.power) turns (subst (λ (c : List Call). ScriptEnded c end.journal end.status end.noted) same ended) told clean (whole end.status fails) unarmed faults cuts

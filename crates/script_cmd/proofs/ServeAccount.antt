@@ -1,6 +1,7 @@
 -- What a serving took, did and wrote, by how it ended.
 use Rattle.std.proofs.Common.{◌≡◌, ◌≢◌, ◌≤◌, ℕ, ◌+◌, List, [], ◌∷◌, ◌++◌, length, length-append, take, drop, Option, Some, None, Result, Ok, Err, refl, sym, ap, subst, ◌∙◌, arith, append-nil, append_assoc}
-use Rattle.std.specs.Prelude.{IfSome}
+use Rattle.std.specs.Prelude.{IfSome, IsTrue, false}
+use Rattle.std.proofs.lemmas.Bool.{false≢true}
 use Rattle.std.specs.Io.KnownBytes.{Appends, Consumes, IsAtEnd}
 use Rattle.std.proofs.KnownBytes.{Appends-nil, Appends-trans, Consumes-trans, Consumes-whole}
 use Rattle.std.proofs.lemmas.Grind.{flat_map-append}
@@ -33,19 +34,29 @@ use Rattle.serving.specs.Written.{AnswersRequests, answered_numbers, calls_for, 
 use Rattle.serving.specs.declared.ends.ServeEnd.{ServeEnd}
 use Rattle.serving.specs.declared.ends.ServeEnd.TheVariants as end
 use Rattle.serving.proofs.Snoc.{frame-last, length-messages, messages-more}
-use Rattle.script_cmd.specs.ServedBy.{last_frame}
+use Rattle.script_cmd.specs.ServedBy.{last_frame, reads_no_more}
 use Rattle.script_cmd.proofs.PromiseTurns.{some-from}
 use Rattle.script_runs.proofs.TopPrints.{later}
 
 -- ---- the ends
 
--- no turn ends a serving by these
-not-end : (r : Reply) → end_by r ≡ Err end.End → ⊥
-not-end reply.Fault is = cc
-not-end (reply.NotBooted why) is = cc
-not-end reply.Lost is = cc
-not-end other is = cc
+same-end : (x y : ServeEnd) → ◌≡◌ {A = Result (Unit {0}) ServeEnd} (Err x) (Err y) → y ≡ x
+same-end x y is = cc
 
+-- what the source has left has nothing to do with these
+not-by-source : (e x : ServeEnd) → e ≡ x → reads_no_more (status_of x) ≡ false → IsTrue (reads_no_more (status_of e)) → ⊥
+not-by-source e x is goes more = false≢true (sym goes ∙ ap (λ (y : ServeEnd). reads_no_more (status_of y)) (sym is) ∙ more)
+
+no-memory-reads : (e : ServeEnd) → e ≡ end.NoMemory → IsTrue (reads_no_more (status_of e)) → ⊥
+no-memory-reads e is = not-by-source e end.NoMemory is refl
+
+no-turn-reads : (r : Reply) (e : ServeEnd) → end_by r ≡ Err e → IsTrue (reads_no_more (status_of e)) → ⊥
+no-turn-reads reply.Fault e is = not-by-source e end.FlashFault (same-end end.FlashFault e is) refl
+no-turn-reads (reply.NotBooted why) e is = not-by-source e (end.NotBooted why) (same-end (end.NotBooted why) e is) refl
+no-turn-reads reply.Lost e is = not-by-source e end.PowerLost (same-end end.PowerLost e is) refl
+no-turn-reads other e is = absurd cc
+
+-- no turn ends a serving by this
 not-sink : (r : Reply) → end_by r ≡ Err end.SinkFailed → ⊥
 not-sink reply.Fault is = cc
 not-sink (reply.NotBooted why) is = cc
@@ -79,7 +90,7 @@ pub record Account (stream rest : Option (List ℕ)) (e : ServeEnd) (journal : L
   pub all : e ≡ end.End → IfSome stream (λ s. s ≡ frames bodies)
   pub left : e ≡ end.End → IfSome rest (λ l. l ≡ [])
   pub begin : IsPrefixOf turns (drop 1 journal)
-  pub all_turns : e ≡ end.End → turns ≡ drop 1 journal
+  pub all_turns : IsTrue (reads_no_more (status_of e)) → turns ≡ drop 1 journal
   pub calls : calls_of turns ≡ calls_for bodies
   pub took : Appends before after (written (messages_of turns) (answered_numbers 0 bodies) ++ part)
   pub none : e ≢ end.SinkFailed → part ≡ []
@@ -88,17 +99,17 @@ pub record Account (stream rest : Option (List ℕ)) (e : ServeEnd) (journal : L
 
 -- ---- nothing was served
 
-idle : (stream rest : Option (List ℕ)) (e : ServeEnd) (journal : List Turn) (before after : Option (List ℕ)) → after ≡ before → (e ≡ end.End → ⊥) → (e ≡ end.SinkFailed → ⊥) → (e ≢ end.NoMemory → journal ≢ [])
+idle : (stream rest : Option (List ℕ)) (e : ServeEnd) (journal : List Turn) (before after : Option (List ℕ)) → after ≡ before → (IsTrue (reads_no_more (status_of e)) → ⊥) → (e ≡ end.SinkFailed → ⊥) → (e ≢ end.NoMemory → journal ≢ [])
     → Account stream rest e journal before after
-idle stream rest e journal before after same ends fails some = record {
+idle stream rest e journal before after same goes fails some = record {
   bodies = [];
   turns = [];
   part = [];
   come = some-from stream (λ s. IsPrefixOf [] s) (λ s told. (s, refl));
-  all = λ is. absurd (ends is);
-  left = λ is. absurd (ends is);
+  all = λ is. absurd (goes (ap (λ (x : ServeEnd). reads_no_more (status_of x)) is));
+  left = λ is. absurd (goes (ap (λ (x : ServeEnd). reads_no_more (status_of x)) is));
   begin = (drop 1 journal, refl);
-  all_turns = λ is. absurd (ends is);
+  all_turns = λ is. absurd (goes is);
   calls = refl;
   took = subst (λ (o : Option (List ℕ)). Appends before o []) (sym same) (Appends-nil before);
   none = λ differs. refl;
@@ -108,10 +119,10 @@ idle stream rest e journal before after same ends fails some = record {
 
 by-stop : (E : Scene) (start : TurnMoment) (sink : Port) (new : At) (e : ServeEnd) (stream rest : Option (List ℕ)) → OneStop E call.Boot e (begin_at start) new.run → new.sink ≡ sink → Account stream rest e new.run.journal sink.bytes new.sink.bytes
 by-stop E start sink new e stream rest (acts.starved is still) same =
-    idle stream rest e new.run.journal sink.bytes new.sink.bytes (ap (λ (p : Port). p.bytes) same) (λ x. cc) (λ x. cc) (λ differs. absurd (differs is))
+    idle stream rest e new.run.journal sink.bytes new.sink.bytes (ap (λ (p : Port). p.bytes) same) (no-memory-reads e is) (λ x. cc) (λ differs. absurd (differs is))
 by-stop E start sink new e stream rest (acts.ended t one by) same =
     idle stream rest e new.run.journal sink.bytes new.sink.bytes (ap (λ (p : Port). p.bytes) same)
-    (λ x. not-end t.reply (subst (λ (y : ServeEnd). end_by t.reply ≡ Err y) x by)) (λ x. not-sink t.reply (subst (λ (y : ServeEnd). end_by t.reply ≡ Err y) x by))
+    (no-turn-reads t.reply e by) (λ x. not-sink t.reply (subst (λ (y : ServeEnd). end_by t.reply ≡ Err y) x by))
     (λ differs none. let kept : new.run.journal ≡ t ∷ [] = one.kept in cc)
 
 -- ---- the request that ended it
@@ -123,6 +134,7 @@ record Last (e : ServeEnd) (turns : List Turn) (old new : At) : Type 0 where
   took : Appends old.sink.bytes new.sink.bytes part
   none : e ≢ end.SinkFailed → part ≡ []
   front : e ≡ end.SinkFailed → (n : ℕ) × (part ≡ take n (last_frame (turns ++ more)))
+  goes : IsTrue (reads_no_more (status_of e)) → ⊥
 
 put-last : (e : ServeEnd) (turns more : List Turn) (old new : At) (piece : List ℕ) → IsEarlyEnd e → new.run.journal ≡ old.run.journal ++ more → piece ≡ last_frame (turns ++ more) → Puts piece (Err e) old.sink new.sink → Last e turns old new
 put-last e turns more old new piece early kept is_frame (all is bytes same) = absurd (early-some e early is)
@@ -133,6 +145,7 @@ put-last e turns more old new piece early kept is_frame (front is n bytes later 
   took = bytes;
   none = λ differs. absurd (differs (end-at-three e is));
   front = λ failed. (n, ap (take n) is_frame);
+  goes = λ more_is. false≢true (sym (ap reads_no_more is) ∙ more_is);
 }
 put-last e turns more old new piece early kept is_frame (nothing is same quiet) = record {
   more = more;
@@ -141,6 +154,7 @@ put-last e turns more old new piece early kept is_frame (nothing is same quiet) 
   took = subst (λ (o : Option (List ℕ)). Appends old.sink.bytes o []) (sym same) (Appends-nil old.sink.bytes);
   none = λ differs. refl;
   front = λ failed. absurd (omega (arith, is, ap status_of failed));
+  goes = λ more_is. false≢true (sym (ap reads_no_more is) ∙ more_is);
 }
 
 -- where its turn ended the serving, or there was no memory for it, nothing was written
@@ -152,6 +166,7 @@ stop-last E c e turns old new (acts.starved is still) same = record {
   took = subst (λ (p : Port). Appends old.sink.bytes p.bytes []) (sym same) (Appends-nil old.sink.bytes);
   none = λ differs. refl;
   front = λ failed. absurd (cc);
+  goes = no-memory-reads e is;
 }
 stop-last E c e turns old new (acts.ended t one by) same = record {
   more = t ∷ [];
@@ -160,10 +175,8 @@ stop-last E c e turns old new (acts.ended t one by) same = record {
   took = subst (λ (p : Port). Appends old.sink.bytes p.bytes []) (sym same) (Appends-nil old.sink.bytes);
   none = λ differs. refl;
   front = λ failed. absurd (not-sink t.reply (subst (λ (y : ServeEnd). end_by t.reply ≡ Err y) failed by));
+  goes = no-turn-reads t.reply e by;
 }
-
-same-end : (x y : ServeEnd) → ◌≡◌ {A = Result (Unit {0}) ServeEnd} (Err x) (Err y) → y ≡ x
-same-end x y is = cc
 
 -- the frame of the turn that came last
 frame-of-last : (turns : List Turn) (t : Turn) (number : ℕ) (bytes : List ℕ) → number ≡ length turns + 1 → bytes ≡ message t.reply → frame (numbered number bytes) ≡ last_frame (turns ++ t ∷ [])
@@ -256,7 +269,7 @@ module _ (E : Scene) (t : Turn) (start : TurnMoment) (old new : At) (e : ServeEn
         all = λ is. absurd (goes_on is);
         left = λ is. absurd (goes_on is);
         begin = (last.more, sym behind);
-        all_turns = λ is. absurd (goes_on is);
+        all_turns = λ is. absurd (last.goes is);
         calls = goes.answers.calls_are;
         took = Appends-trans old.sink.bytes mid.sink.bytes new.sink.bytes (written (messages_of goes.turns) (answered_numbers 0 bodies)) last.part goes.took last.took;
         none = last.none;

@@ -27,7 +27,7 @@ use Rattle.script_turns.specs.Runs.{calls_of}
 use Rattle.script_runs.specs.Ending.{Ending, World}
 use Rattle.script_cmd.specs.Promises.{RanHolds}
 use Rattle.script_cmd.specs.ServeWays.{ServeWay, ServesSource, Unread, left_by_serving, list_refused, note_of, served, sink_of, starved}
-use Rattle.script_cmd.specs.ServedBy.{ServedBy, ServedComplete, ServedEnds, ServedHeadline, ServedWrites, TakesAtMost, WroteFrames, WroteLine, may_end_serving}
+use Rattle.script_cmd.specs.ServedBy.{ServedBy, ServedComplete, ServedEnds, ServedHeadline, ServedWrites, TakesAtMost, WroteFrames, WroteLine, may_end_serving, reads_no_more}
 use Rattle.script_cmd.specs.Granted.{RefusesBadList}
 use Rattle.script_runs.specs.Ways.{Given, Refuses, bad_list, bad_script, list_not_read, not_read, too_long, usage}
 use Rattle.script_cmd.specs.ByList.{may_lack_list}
@@ -188,7 +188,7 @@ module _ (g : Given) (ending : Ending Note) (old new : World) (rest : Option (Li
     come = some-from g.script (λ s. IsPrefixOf [] s) (λ s told. (s, refl));
     all = λ is. absurd (omega (arith, is, nine));
     begin = (drop 1 ending.journal, refl);
-    all_turns = λ is. absurd (omega (arith, is, nine));
+    all_turns = λ is. absurd (false≢true (sym (ap reads_no_more nine) ∙ is));
     calls = refl;
     written_is = refl;
     none = λ other. refl;
@@ -249,7 +249,7 @@ module _ (passes : List ℕ → Bool) (tells : Bool) (g : Given) (ending : Endin
     come = done.come;
     all = λ zero. done.all (end-at-zero e (sym is ∙ zero));
     begin = done.begin;
-    all_turns = λ zero. done.all_turns (end-at-zero e (sym is ∙ zero));
+    all_turns = λ no_more. done.all_turns (subst (λ (k : ℕ). IsTrue (reads_no_more k)) is no_more);
     calls = done.calls;
     written_is = whole;
     none = λ other. done.none (λ failed. other (is ∙ ap status_of failed));

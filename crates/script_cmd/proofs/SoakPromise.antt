@@ -118,6 +118,7 @@ module _ (tells : Bool) (seed blocks : ℕ) (old start : TurnMoment) (done : For
     runs-soak status before whole = record {
       start = start;
       formatted = first-formatted;
+      shows = first-shown;
       run = record {
         calls = before;
         all_calls = whole;

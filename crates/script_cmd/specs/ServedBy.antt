@@ -93,6 +93,10 @@ pub record ServedEnds (g : Given) (ending : Ending Note) (old new : World) (rest
 abbrev pub last_frame : List Turn → List ℕ
 last_frame turns = frame_of (messages_of turns) (length turns)
 
+-- no further request is there to be answered: the source is at its end, or no whole frame could be read of it
+abbrev pub reads_no_more : ℕ → Bool
+reads_no_more status = (status == 0) || (status == 2) || (status == 8) || (status == 11)
+
 -- The frames of the replies to requests of a stream: one for each that acts, and again for each repeat.
 pub record WroteFrames (stream : Option (List ℕ)) (journal : List Turn) (status : ℕ) (w : List ℕ) : Type 0 where
   -- the requests that were answered, their turns behind the boot's, and a part of one more frame
@@ -102,9 +106,9 @@ pub record WroteFrames (stream : Option (List ℕ)) (journal : List Turn) (statu
   -- they stand at the front of the stream, and are all of it where all was done
   pub come : IfSome stream (λ s. IsPrefixOf (frames bodies) s)
   pub all : status ≡ 0 → IfSome stream (λ s. s ≡ frames bodies)
-  -- the turns are the first of the journal, and all of them where all was done
+  -- the turns are the first of the journal, and all of them where none of the requests ended the serving
   pub begin : IsPrefixOf turns (drop 1 journal)
-  pub all_turns : status ≡ 0 → turns ≡ drop 1 journal
+  pub all_turns : IsTrue (reads_no_more status) → turns ≡ drop 1 journal
   -- each request that acts has its turn
   pub calls : calls_of turns ≡ calls_for bodies
   -- and each frame has the reply of its number's turn

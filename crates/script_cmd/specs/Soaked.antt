@@ -1,11 +1,12 @@
 -- What the command `soak` promises, whichever way it ends.
-use Rattle.std.specs.Prelude.{◌≡◌, ◌≢◌, ◌⊎◌, ℕ, ◌||◌, ◌==◌, List, [], IsSome, IsTrue, IsFalse}
+use Rattle.std.specs.Prelude.{◌≡◌, ◌≢◌, ◌⊎◌, ℕ, ◌||◌, ◌==◌, List, [], Some, IsSome, IsTrue, IsFalse}
 use Rattle.std.specs.Io.KnownBytes.{Appends}
 use Rattle.flash_core.specs.Counts.{Rose}
 use Rattle.flash_core.specs.May.{Guards}
 use Rattle.fwu_formats.specs.Digests.{passes_any}
 use Rattle.flash_format.specs.Formatted.{IsFormatted, first_state}
 use Rattle.fwu_model.specs.Reply.{Turn}
+use Rattle.fwu_model.specs.Seen.{seen}
 use Rattle.fwu_model.specs.Sound.{Setting}
 use Rattle.fwu_model.specs.Headline.{Headline, made_after}
 use Rattle.fwu_model.specs.Causes.{Faults, LacksList, cuts_in, may_fail_before}
@@ -40,6 +41,8 @@ first_images seed = generated_images soak_layout.rows (sizes_in_round seed) 0 1
 pub record RunsSoak (seed n : ℕ) (journal : List Turn) (status : ℕ) (new : TurnMoment) : Type 0 where
   pub start : TurnMoment
   pub formatted : IsFormatted passes_any soak_layout 1 start.told
+  -- it shows the state from which the machine runs
+  pub shows : seen start.told.now ≡ Some (first_state soak_layout (first_images seed))
   pub run : Headline (soak_setting seed n) (first_state soak_layout (first_images seed))
       (outcome (soak_calls seed n) journal status start new)
 
