@@ -1,6 +1,7 @@
 //! The command `format`.
 ghost use Rattle.std.specs.Prelude.{◌≡◌, ◌≤◌, ℕ, List, [], Option, None, IsTrue, IsFalse};
 ghost use Rattle.fwu_journal.specs.Shown.{turns};
+ghost use Rattle.host_io.specs.Reads.{ReadsFile};
 ghost use Rattle.script_turns.specs.Powered.{moment};
 ghost use Rattle.flash_commands.specs.Formatting.{Formats, Tries, format_note, format_status, layout_of};
 ghost use Rattle.flash_commands.specs.Here.{without_list, world_at};
@@ -55,9 +56,8 @@ pub fn try_format<D: Flash, H: Files, V: Verifier>(
     ensures tries { Tries (V.passes verifier.now) D.tells (H.contents files.old) name.now
         (record { banks = banks; rows = rows.now }) (D.blocks flash.old) (moment D.Flash flash.old) (moment D.Flash flash.new)
         (H.faults files.old) (H.faults files.new) result }
-    ensures same { H.contents files.new ≡ H.contents files.old }
-    ensures unwritten { H.writes files.new ≡ H.writes files.old }
-    ensures later { H.faults files.old ≤ H.faults files.new }
+    // That file alone is asked for, and none is written.
+    ensures reads { ReadsFile H.Files name.now files.old files.new }
     ensures size { D.blocks flash.new ≡ D.blocks flash.old }
 {
     flash.power_on();
@@ -85,9 +85,8 @@ pub fn format_flash<'a, D: Flash, H: Files, O: Sink, V: Verifier>(
         (world_at D.Flash H.Files O.Sink are result.flash files.new sink.new) result.status result.note }
     ensures power { result.status ≡ 0 → IsTrue (D.on result.flash) }
     ensures no_turns { turns result.journal ≡ [] }
-    ensures same { H.contents files.new ≡ H.contents files.old }
-    ensures unwritten { H.writes files.new ≡ H.writes files.old }
-    ensures later_files { H.faults files.old ≤ H.faults files.new }
+    // The package's file alone is asked for, and none is written.
+    ensures reads { ReadsFile H.Files wanted.entry.package.now files.old files.new }
     ensures later_sink { O.faults sink.old ≤ O.faults sink.new }
     ensures size { D.blocks result.flash ≡ D.blocks flash }
 {

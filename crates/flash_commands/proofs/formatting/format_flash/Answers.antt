@@ -1,4 +1,4 @@
-use Rattle.std.proofs.Common.{ℕ, List, ap, refl, sym, ◌∙◌, ◌++◌}
+use Rattle.std.proofs.Common.{ℕ, List, ap, refl, sym, ◌∙◌, ◌++◌, arith}
 use Rattle.script_turns.specs.Powered.{moment}
 use Rattle.flash_commands.specs.Formatting.{format_status, format_text, starved, tried}
 use Rattle.flash_commands.proofs.FormatFlash.{as-planned, format-done}
@@ -27,3 +27,10 @@ returns-in_default-clause-formats g c = λ script source sources.
 
 pub returns-in_default-clause-later_sink : goal.returns-in_default-clause-later_sink
 returns-in_default-clause-later_sink g c = later _ _ _ _ _ _ _ c.refuse.ensures.prints
+
+pub returns-clause-reads : goal.returns-clause-reads
+returns-clause-reads g c = c.try_format-ended.ensures.reads
+
+pub returns-in_default-clause-reads : goal.returns-in_default-clause-reads
+returns-in_default-clause-reads g c =
+    record { same = refl; unwritten = refl; later = omega arith; spares = λ access other. g.met.H.Files.at_rest c.args.files.now access }

@@ -55,3 +55,6 @@ returns-clause-tries g c =
       power = e.goes.power;
       stopped = λ stop is. stop-cause _ stop (counts old) (counts mid) (counts new) is c.power_on.ensures.counts e.goes.costs (e.goes.unarmed.free (c.power_on.ensures.arming ∙ c.requires.unarmed)).1;
     })
+
+pub returns-clause-reads : goal.returns-clause-reads
+returns-clause-reads g c = c.format.ensures.reads.files

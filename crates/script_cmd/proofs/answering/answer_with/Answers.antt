@@ -39,7 +39,7 @@ returns-in-Ok-Format-clause-answers g c =
     formatted-as _ _ _ _ _ _ _ _ _ _ _ _ _ (Some (ask.format c.in-Ok-Format.wanted.banks c.in-Ok-Format.wanted.rows.items c.in-Ok-Format.wanted.package.now)) c.in-Ok-Format.wanted.banks banks c.in-Ok-Format.wanted.rows.items rows
     c.in-Ok-Format.wanted.package.now file refl is c.requires.unarmed e.no_turns
     (e.formats (g.I.Source.left c.args.source.now) (g.I.Source.faults c.args.source.now) (g.I.Source.faults c.args.source.now)))
-    e.power refl (record { files = e.later_files; source = omega arith; sink = e.later_sink })
+    e.power refl (record { files = e.reads.later; source = omega arith; sink = e.later_sink })
 
 pub returns-in-Ok-Soak-clause-answers : goal.returns-in-Ok-Soak-clause-answers
 returns-in-Ok-Soak-clause-answers g c =
