@@ -22,3 +22,4 @@ mod SinkCounts
 mod Serving
 pub mod TopLists
 pub mod Inputs
+mod Unasked

@@ -16,3 +16,4 @@ pub mod ByList
 pub mod Granted
 pub mod ShowedBy
 pub mod FormattedBy
+pub mod Unasked

@@ -1,11 +1,13 @@
 //! What the words ask for is done, in one of the ways that it may end.
 ghost use Rattle.std.specs.Prelude.{◌≡◌, Some, None, map, string_bytes, IsFalse};
 ghost use Rattle.host_io.specs.Once.{ReadsOnce};
+ghost use Rattle.host_io.specs.Reads.{ReadsFiles};
 ghost use Rattle.fwu_model.specs.Allow.{asks_list, list_name};
 ghost use Rattle.fwu_words.specs.Order.{asked};
 ghost use Rattle.script_cmd.specs.Answered.{Answered};
 ghost use Rattle.script_cmd.specs.Handed.{listed, unlisted, inputs_of};
 ghost use Rattle.script_cmd.specs.Here.{AnswersHere, world};
+ghost use Rattle.script_cmd.specs.Unasked.{IsUnasked};
 ghost use Rattle.script_runs.specs.Done.{ending};
 ghost use Rattle.script_runs.specs.Ways.{device_of};
 ghost use Rattle.script_cmd.specs.ByList.{HasPasses, ReadsList};
@@ -37,8 +39,8 @@ pub fn answer_with<D: Flash, H: Files, I: Source, O: Sink, V: Verifier>(
         (world D.Flash H.Files I.Source O.Sink flash files.old source.old sink.old)
         (world D.Flash H.Files I.Source O.Sink result.flash files.new source.new sink.new)
         (I.left source.new) files.old files.new source.old source.new }
-    ensures same_files { H.contents files.new ≡ H.contents files.old }
-    ensures unwritten { H.writes files.new ≡ H.writes files.old }
+    ensures reads { ReadsFiles H.Files (IsUnasked (unlisted H.Files I.Source (map string_bytes words.now) files.old source.old)
+        (ending result).journal) files.old files.new }
     ensures once { ReadsOnce I.Source source.old source.new }
     ensures size { D.blocks result.flash ≡ D.blocks flash }
 {
@@ -68,8 +70,9 @@ fn run_listed<D: Flash, H: Files, I: Source, O: Sink>(
     ensures answers { AnswersHere D.Flash H.Files I.Source O.Sink (ReadsList (Some name.now) (H.contents files.old))
         (inputs_of H.Files I.Source (asked (map string_bytes rest.now)) (Some name.now) files.old source.old)
         flash files.old source.old sink.old result files.new source.new sink.new }
-    ensures same_files { H.contents files.new ≡ H.contents files.old }
-    ensures unwritten { H.writes files.new ≡ H.writes files.old }
+    ensures reads { ReadsFiles H.Files (IsUnasked
+        (inputs_of H.Files I.Source (asked (map string_bytes rest.now)) (Some name.now) files.old source.old)
+        (ending result).journal) files.old files.new }
     ensures once { ReadsOnce I.Source source.old source.new }
     ensures size { D.blocks result.flash ≡ D.blocks flash }
 {
@@ -96,8 +99,8 @@ pub fn answer<D: Flash, H: Files, I: Source, O: Sink>(
         (HasPasses (asks_list (map string_bytes words.now)) (list_name (map string_bytes words.now)) (H.contents files.old))
         (listed H.Files I.Source (map string_bytes words.now) files.old source.old)
         flash files.old source.old sink.old result files.new source.new sink.new }
-    ensures same_files { H.contents files.new ≡ H.contents files.old }
-    ensures unwritten { H.writes files.new ≡ H.writes files.old }
+    ensures reads { ReadsFiles H.Files (IsUnasked (listed H.Files I.Source (map string_bytes words.now) files.old source.old)
+        (ending result).journal) files.old files.new }
     ensures once { ReadsOnce I.Source source.old source.new }
     ensures size { D.blocks result.flash ≡ D.blocks flash }
 {

@@ -1,9 +1,11 @@
 //! The program as one call.
 ghost use Rattle.std.specs.Prelude.{◌≡◌, None, map, string_bytes, IsFalse};
 ghost use Rattle.host_io.specs.Once.{ReadsOnce};
+ghost use Rattle.host_io.specs.Reads.{ReadsFiles};
 ghost use Rattle.script_runs.specs.Done.{ending};
 ghost use Rattle.script_cmd.specs.Handed.{listed, unlisted};
 ghost use Rattle.script_cmd.specs.Serves.{Serves, ServesByList};
+ghost use Rattle.script_cmd.specs.Unasked.{IsUnasked};
 ghost use Rattle.script_runs.specs.Ways.{device_of};
 ghost use Rattle.script_cmd.specs.Here.{world};
 
@@ -42,9 +44,9 @@ pub fn fwu_top_with<D: Flash, H: Files, I: Source, O: Sink, V: Verifier>(
         (world D.Flash H.Files I.Source O.Sink flash files.old source.old sink.old)
         (world D.Flash H.Files I.Source O.Sink result.flash files.new source.new sink.new)
         (I.left source.new) files.old files.new source.old source.new }
-    // Files that are told stay as they are, and none is written, whatever files there are.
-    ensures same_files { H.contents files.new ≡ H.contents files.old }
-    ensures unwritten { H.writes files.new ≡ H.writes files.old }
+    // The list that the words name, the package of `format` and what turns send are asked for, and no other file. None is written.
+    ensures reads { ReadsFiles H.Files (IsUnasked (unlisted H.Files I.Source (map string_bytes words.now) files.old source.old)
+        (ending result).journal) files.old files.new }
     // No read of the source is made behind one that gave no bytes or failed.
     ensures once { ReadsOnce I.Source source.old source.new }
     ensures size { D.blocks result.flash ≡ D.blocks flash }
@@ -72,9 +74,9 @@ pub fn fwu_top<D: Flash, H: Files, I: Source, O: Sink>(
         (world D.Flash H.Files I.Source O.Sink flash files.old source.old sink.old)
         (world D.Flash H.Files I.Source O.Sink result.flash files.new source.new sink.new)
         (I.left source.new) files.old files.new source.old source.new }
-    // Files that are told stay as they are, and none is written, whatever files there are.
-    ensures same_files { H.contents files.new ≡ H.contents files.old }
-    ensures unwritten { H.writes files.new ≡ H.writes files.old }
+    // The list that the words name, the package of `format` and what turns send are asked for, and no other file. None is written.
+    ensures reads { ReadsFiles H.Files (IsUnasked (listed H.Files I.Source (map string_bytes words.now) files.old source.old)
+        (ending result).journal) files.old files.new }
     // No read of the source is made behind one that gave no bytes or failed.
     ensures once { ReadsOnce I.Source source.old source.new }
     ensures size { D.blocks result.flash ≡ D.blocks flash }

@@ -8,6 +8,7 @@ use Rattle.script_cmd.proofs.AnsweredBy.{answered-at, answered-usage}
 use Rattle.script_runs.proofs.TopPrints.{later}
 use Rattle.script_cmd.proofs.TopLists.{by-words, has-any, idles-at, no-list, no-words, none-bad, some-list}
 use Rattle.script_turns.specs.Powered.{moment}
+use Rattle.script_cmd.proofs.Unasked.{asks-at, asks-none}
 use Rattle.script_cmd.proofs.answering.answer.Goals as goal
 
 pub returns-in-No-clause-answers : goal.returns-in-No-clause-answers
@@ -37,3 +38,18 @@ returns-in-File-clause-answers g c =
 
 pub returns-in-Usage-clause-once : goal.returns-in-Usage-clause-once
 returns-in-Usage-clause-once g c = once-none g.I.Source g.met.I.Source.at_rest c.args.source.now
+
+-- ---- which files are asked for
+
+pub returns-in-No-clause-reads : goal.returns-in-No-clause-reads
+returns-in-No-clause-reads g c =
+    let n = no-list _ c.in-No.ensures in
+    asks-at g.H.Files _ _ _ _ n.0 n.1 c.answer_with.ensures.reads
+
+pub returns-in-Usage-clause-reads : goal.returns-in-Usage-clause-reads
+returns-in-Usage-clause-reads g c = asks-none g.H.Files g.met.H.Files.at_rest c.args.files.now
+
+pub returns-in-File-clause-reads : goal.returns-in-File-clause-reads
+returns-in-File-clause-reads g c =
+    let n = some-list _ _ c.in-File.name.now c.in-File.ensures in
+    asks-at g.H.Files _ _ _ _ n.0 n.2 c.run_listed.ensures.reads

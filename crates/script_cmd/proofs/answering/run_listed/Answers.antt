@@ -11,6 +11,7 @@ use Rattle.script_runs.proofs.TopPrints.{by-plan}
 use Rattle.script_runs.proofs.TopPrints.{later}
 use Rattle.script_cmd.proofs.TopLists.{bytes-there, good-list, idles, idles-at, list-lacks, list-there, of-list, reads-list}
 use Rattle.script_turns.specs.Powered.{moment}
+use Rattle.script_cmd.proofs.Unasked.{asks-behind, asks-list}
 use Rattle.script_cmd.proofs.answering.run_listed.Goals as goal
 
 pub returns-in-Err-Failed-clause-answers : goal.returns-in-Err-Failed-clause-answers
@@ -82,3 +83,18 @@ returns-in-Err-BadLine-clause-once g c = once-none g.I.Source g.met.I.Source.at_
 
 pub returns-in-Err-NoMemory-clause-once : goal.returns-in-Err-NoMemory-clause-once
 returns-in-Err-NoMemory-clause-once g c = once-none g.I.Source g.met.I.Source.at_rest c.args.source.now
+
+-- ---- which files are asked for
+
+pub returns-in-Ok-clause-reads : goal.returns-in-Ok-clause-reads
+returns-in-Ok-clause-reads g c =
+    asks-behind g.H.Files g.met.H.Files.joins c.args.name.now _ _ _ _ refl c.read_list.ensures.reads c.answer_with.ensures.reads
+
+pub returns-in-Err-Failed-clause-reads : goal.returns-in-Err-Failed-clause-reads
+returns-in-Err-Failed-clause-reads g c = asks-list g.H.Files c.args.name.now _ _ refl c.read_list.ensures.reads
+
+pub returns-in-Err-BadLine-clause-reads : goal.returns-in-Err-BadLine-clause-reads
+returns-in-Err-BadLine-clause-reads g c = asks-list g.H.Files c.args.name.now _ _ refl c.read_list.ensures.reads
+
+pub returns-in-Err-NoMemory-clause-reads : goal.returns-in-Err-NoMemory-clause-reads
+returns-in-Err-NoMemory-clause-reads g c = asks-list g.H.Files c.args.name.now _ _ refl c.read_list.ensures.reads
