@@ -1,12 +1,16 @@
 -- The calls of a script that are left, as they are taken out one by one.
-use Rattle.std.proofs.Common.{◌≡◌, ℕ, zero, suc, ◌+◌, ◌≤◌, Bool, true, false, not, ◌&&◌, List, [], ◌∷◌, ◌++◌, slice_set, Some, refl, sym, ap, subst, ◌∙◌, IsTrue, IsFalse, arith}
+use Rattle.std.proofs.Common.{◌≡◌, ℕ, zero, suc, ◌+◌, ◌≤◌, Bool, true, false, not, ◌&&◌, List, [], ◌∷◌, ◌++◌, slice_set, Some, refl, sym, ap, subst, ◌∙◌, IsTrue, IsFalse, Contains, arith}
 use Rattle.std.specs.List.{slice_get, list_all}
 use Rattle.std.proofs.lemmas.Bool.{and_parts, false≢true}
+use Rattle.std.proofs.lemmas.List.Elements.{Contains-append_left, Contains-push}
 use Rattle.std.proofs.lemmas.Option.{same_Some}
+use Rattle.host_io.specs.Access.{Access}
 use Rattle.fwu_model.specs.Call.{Call}
 use Rattle.fwu_model.specs.Reply.{Turn}
 use Rattle.fwu_model.specs.Run.{is_send}
 use Rattle.script_turns.specs.Runs.{calls_of, sends_none}
+use Rattle.script_turns.specs.Sending.{IsUnnamed}
+use Rattle.script_runs.specs.Running.{IsUnnamedIn}
 
 -- those behind one that was taken stay
 pub left-behind : (calls : List Call) (i : ℕ) (c : Call) (k : ℕ) → i + 1 ≤ k → slice_get (slice_set calls i c) k ≡ slice_get calls k
@@ -36,3 +40,10 @@ sends-pushed (u ∷ turns) t none =
 
 pub sends-more : (before after : List Turn) (t : Turn) → after ≡ before ++ t ∷ [] → IsTrue (sends_none (calls_of after)) → IsTrue (sends_none (calls_of before)) × IsFalse (is_send t.call)
 sends-more before after t kept none = sends-pushed before t (subst (λ (j : List Turn). IsTrue (sends_none (calls_of j))) kept none)
+
+-- an access that no turn makes, the last doesn't make, nor those before it
+pub unnamed-more : (before after : List Turn) (t : Turn) (access : Access) → after ≡ before ++ t ∷ [] → IsUnnamedIn after access → IsUnnamedIn before access × IsUnnamed t.call access
+unnamed-more before after t access kept none = (
+  λ u in_it. none u (subst (λ (j : List Turn). Contains j u) (sym kept) (Contains-append_left before (t ∷ []) u in_it)),
+  none t (subst (λ (j : List Turn). Contains j t) (sym kept) (Contains-push before t)),
+)

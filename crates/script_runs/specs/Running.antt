@@ -1,5 +1,6 @@
 -- What a run of a script did so far, and how it ended.
-use Rattle.std.specs.Prelude.{◌≡◌, ◌≢◌, ℕ, ◌≤◌, Bool, List, [], ◌∷◌, ◌++◌, Option, Some, None, IsTrue, IsFalse}
+use Rattle.std.specs.Prelude.{◌≡◌, ◌≢◌, ℕ, ◌≤◌, Bool, List, [], ◌∷◌, ◌++◌, Option, Some, None, Contains, IsTrue, IsFalse}
+use Rattle.host_io.specs.Access.{Access}
 use Rattle.host_io.specs.Contents.{Directory}
 use Rattle.fwu_model.specs.Call.{Call}
 use Rattle.fwu_model.specs.Reply.{Turn}
@@ -10,6 +11,7 @@ use Rattle.fwu_model.specs.Wrote.{LacksLast, StopsInLast, may_lack}
 use Rattle.fwu_model.specs.declared.kinds.Note.{Note}
 use Rattle.fwu_model.specs.declared.kinds.Note.TheVariants as note
 use Rattle.script_turns.specs.Powered.{FitsMachine, TurnMoment}
+use Rattle.script_turns.specs.Sending.{IsUnnamed}
 use Rattle.script_turns.specs.Turning.{Turns}
 use Rattle.script_turns.specs.Runs.{calls_of, sends_none}
 use Rattle.host_io.specs.Printed.{FailsAtThree}
@@ -80,6 +82,10 @@ pub record EndsRun {O : Type 0} (o : sink.Ghosts O) (script : List Call) (ending
   pub plain : IsFalse (is_beyond_model ending.noted)
   pub printed : Printed ending.journal ending.status (o.taken old) (o.taken new) (o.faults old) (o.faults new)
 
+-- an access that no turn of the journal makes
+abbrev pub IsUnnamedIn : List Turn → Access → Type 0
+IsUnnamedIn journal access = (t : Turn) → Contains journal t → IsUnnamed t.call access
+
 -- What a run of a script leaves of the files: what they tell, and that none is written.
 pub record KeepsFiles {H : Type 0} (h : files.Ghosts H) (script : List Call) (journal : List Turn) (old new : H) : Type 0 where
   pub same : h.contents new ≡ h.contents old
@@ -87,3 +93,5 @@ pub record KeepsFiles {H : Type 0} (h : files.Ghosts H) (script : List Call) (jo
   -- where the script sends nothing, or no turn is a `send`, no file was read
   pub unread : IsTrue (sends_none script) → new ≡ old
   pub unsent : IsTrue (sends_none (calls_of journal)) → new ≡ old
+  -- where no turn names a file, no call asks for it
+  pub spares : (access : Access) → IsUnnamedIn journal access → h.spares old new access

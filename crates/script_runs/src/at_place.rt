@@ -1,5 +1,6 @@
 //! A run at the place that is asked for: on the flash as it is, or on the one that the device has behind its partition table.
 ghost use Rattle.std.specs.Prelude.{◌≡◌, ◌≤◌, [], None, IfSome, IsTrue, IsFalse};
+ghost use Rattle.host_io.specs.Access.{Access};
 ghost use Rattle.host_io.specs.Once.{ReadsOnce};
 ghost use Rattle.fwu_model.specs.Causes.{Faults};
 ghost use Rattle.fwu_journal.specs.Shown.{turns};
@@ -7,6 +8,7 @@ ghost use Rattle.fwu_words.specs.declared.orders.Place.TheVariants as place;
 ghost use Rattle.fwu_words.specs.declared.orders.ScriptFrom.TheVariants as origin;
 ghost use Rattle.script_runs.specs.Here.{GoesFor};
 ghost use Rattle.script_runs.specs.Noted.{is_beyond_model};
+ghost use Rattle.script_runs.specs.Running.{IsUnnamedIn};
 ghost use Rattle.script_runs.specs.Sourced.{FailsOnce, ReadsInTime};
 ghost use Rattle.script_runs.specs.Ways.{Given, HasGoodList};
 ghost use Rattle.script_turns.specs.Runs.{calls_of, sends_none};
@@ -40,10 +42,11 @@ pub fn run_turns<D: Flash, H: Files, I: Source, O: Sink, V: Verifier>(
         → GoesFor order D.Flash H.Files I.Source O.Sink (V.passes verifier.now) g was are
         flash source.old sink.old result files.new source.new sink.new }
     ensures note { order.place ≡ place.Flash → IsFalse (is_beyond_model result.note) }
-    // What it reads: for one boot neither the source nor a file, and a file only for a `send`.
+    // What it reads: for one boot neither the source nor a file, and only the file of a `send`.
     ensures boot_source { order.from ≡ origin.Boot → source.new ≡ source.old }
     ensures boot_files { order.from ≡ origin.Boot → files.new ≡ files.old }
     ensures unsent { IsTrue (sends_none (calls_of (turns result.journal))) → files.new ≡ files.old }
+    ensures spares { (access : Access) → IsUnnamedIn (turns result.journal) access → H.spares files.old files.new access }
     ensures same_files { H.contents files.new ≡ H.contents files.old }
     ensures unwritten { H.writes files.new ≡ H.writes files.old }
     ensures read_to_end { result.status ≡ 0 → order.from ≡ origin.Source → IfSome (I.left source.new) (λ rest. rest ≡ []) }

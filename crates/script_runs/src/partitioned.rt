@@ -1,5 +1,6 @@
 //! Runs on the flash that a device has behind a GUID partition table.
 ghost use Rattle.std.specs.Prelude.{◌≡◌, ◌≤◌, Option, None, IsTrue, IsFalse};
+ghost use Rattle.host_io.specs.Access.{Access};
 ghost use Rattle.flash_core.specs.Told.{NothingDirty};
 ghost use Rattle.fwu_model.specs.Causes.{Faults};
 ghost use Rattle.agent_machine.specs.Fields.{Fields};
@@ -13,7 +14,7 @@ ghost use Rattle.script_runs.specs.ByTable.{seen_at};
 ghost use Rattle.script_runs.specs.Here.{GoesAt};
 ghost use Rattle.script_runs.specs.Done.{ending};
 ghost use Rattle.script_turns.specs.Powered.{moment, moment_on};
-ghost use Rattle.script_runs.specs.Running.{EndsRun, KeepsFiles};
+ghost use Rattle.script_runs.specs.Running.{EndsRun, IsUnnamedIn, KeepsFiles};
 ghost use Rattle.script_turns.specs.Runs.{Ran, calls_of, sends_none};
 ghost use Rattle.script_runs.specs.Ways.{Given};
 ghost use Rattle.script_runs.specs.WaysByTable.{ReadsScript};
@@ -138,6 +139,7 @@ pub fn run_by_table<D: Flash, H: Files, O: Sink, V: Verifier>(
     ensures unwritten { H.writes files.new ≡ H.writes files.old }
     ensures files { IsTrue (sends_none ready.script) → files.new ≡ files.old }
     ensures unsent { IsTrue (sends_none (calls_of (turns result.journal))) → files.new ≡ files.old }
+    ensures spares { (access : Access) → IsUnnamedIn (turns result.journal) access → H.spares files.old files.new access }
     ensures size { D.blocks result.flash ≡ D.blocks flash }
 {
     let mut flash = flash;

@@ -1,6 +1,7 @@
 //! The turns of a script, one after the other.
 ghost use Rattle.std.specs.Prelude.{◌≡◌, ◌≤◌, ◌+◌, ℕ, Option, None, IsTrue, IsFalse, vec_capacity};
 ghost use Rattle.agent_machine.specs.Fields.{Fields};
+ghost use Rattle.host_io.specs.Access.{Access};
 ghost use Rattle.fwu_model.specs.Causes.{status_by, note_by};
 ghost use Rattle.fwu_model.specs.Text.{line};
 ghost use Rattle.script_text.specs.Armable.{IsArmable};
@@ -12,6 +13,7 @@ ghost use Rattle.script_turns.specs.Powered.{device, has_power, moment, moment_o
 ghost use Rattle.script_runs.specs.Noted.{is_beyond_model, noted};
 ghost use Rattle.script_runs.specs.Running.{DoesTurn, EndsRun, KeepsFiles};
 ghost use Rattle.script_runs.specs.Done.{ending};
+ghost use Rattle.script_turns.specs.Sending.{IsUnnamed};
 ghost use Rattle.script_turns.specs.Runs.{Ran, calls_of, sends_none};
 ghost use Rattle.fwu_model.specs.Run.{is_send};
 
@@ -153,6 +155,8 @@ pub fn do_call<D: Flash, H: Files, V: Verifier>(
     ensures same_files { H.contents files.new ≡ H.contents files.old }
     ensures unwritten { H.writes files.new ≡ H.writes files.old }
     ensures files { IsFalse (is_send (shown call)) → files.new ≡ files.old }
+    // It asks for no file but the one that it sends.
+    ensures spares { (access : Access) → IsUnnamed (shown call) access → H.spares files.old files.new access }
 {
     let next = turn(alloc, &mut run.powered, call, files, verifier);
     let end = write_turn(&mut run.text, &next);

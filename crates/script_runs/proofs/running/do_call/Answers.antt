@@ -16,3 +16,6 @@ returns-clause-does g c = record {
 
 pub returns-clause-powered : goal.returns-clause-powered
 returns-clause-powered g c zero_is = c.turn-next.ensures.powered (on-at-zero (turn c.turn-next.result).reply (sym c.write_turn-end.ensures.status ∙ zero_is))
+
+pub returns-clause-spares : goal.returns-clause-spares
+returns-clause-spares g c = c.turn-next.ensures.reads.spares

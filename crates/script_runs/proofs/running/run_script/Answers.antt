@@ -1,4 +1,4 @@
-use Rattle.std.proofs.Common.{◌≡◌, ◌+◌, ◌-◌, List, [], length, IsTrue, IsFalse, Option, None, Some, refl, sym, ap, subst, ◌∙◌, arith}
+use Rattle.std.proofs.Common.{◌≡◌, ◌+◌, ◌-◌, List, [], length, IsTrue, IsFalse, Option, Some, refl, sym, ap, subst, ◌∙◌, arith}
 use Rattle.std.specs.List.{slice_get}
 use Rattle.std.proofs.lemmas.List.{length-set}
 use Rattle.fwu_model.specs.Call.{Call}
@@ -11,10 +11,12 @@ use Rattle.fwu_journal.specs.Shown.{HasRoomFor, turns}
 use Rattle.script_text.specs.Shown.{shown}
 use Rattle.script_turns.specs.Powered.{at, device, has_power, moment, moment_of, moment_on, shown_on}
 use Rattle.script_turns.specs.Runs.{Ran, calls_of, sends_none}
-use Rattle.script_runs.proofs.RunCalls.{left-behind, reads-none, sends-more}
+use Rattle.script_turns.specs.Sending.{IsUnnamed}
+use Rattle.script_runs.proofs.RunCalls.{left-behind, reads-none, sends-more, unnamed-more}
 use Rattle.script_runs.proofs.RunEnds.{GoesOn, goes-none, goes-on, ends-ran, ends-by, ends-printed, all-ended, all-printed, steps-printed, steps-told}
 use Rattle.script_runs.proofs.TopPrints.{done-planned}
 use Rattle.script_runs.specs.Noted.{is_beyond_model}
+use Rattle.script_runs.specs.Running.{IsUnnamedIn}
 use Rattle.script_runs.proofs.running.run_script.Goals as goal
 
 pub loop-index-init : goal.loop-index-init
@@ -42,6 +44,7 @@ loop-index-init g c =
       unwritten = refl;
       files = λ none. refl;
       unsent = λ none. refl;
+      spares = λ access none. g.met.H.Files.at_rest c.args.files.now access;
     }
 
 pub loop-index-preserved : goal.loop-index-preserved
@@ -63,6 +66,11 @@ loop-index-preserved g c =
           let step = steps-printed c.do_call-end.ensures.does c.as_slice.ensures.value c.put_line-status.ensures in
           let parts = sends-more (turns c.loop-index.run.journal) _ step.turn step.kept none in
           c.do_call-end.ensures.files (subst (λ (x : Call). IsFalse (is_send x)) step.turns.call_is parts.1) ∙ was.unsent parts.0;
+      spares = λ access none.
+          let step = steps-printed c.do_call-end.ensures.does c.as_slice.ensures.value c.put_line-status.ensures in
+          let parts = unnamed-more (turns c.loop-index.run.journal) _ step.turn access step.kept none in
+          g.met.H.Files.joins c.args.files.now c.loop-index.files c.do_call-end.new.files access (was.spares access parts.0)
+          (c.do_call-end.ensures.spares access (subst (λ (x : Call). IsUnnamed x access) step.turns.call_is parts.1));
     }
 
 pub returns-then-status-ne0-clause-ran : goal.returns-then-status-ne0-clause-ran
@@ -104,6 +112,12 @@ returns-then-status-ne0-clause-keeps g c = record {
       let still = subst (λ (j : Journal). IsTrue (sends_none (calls_of (turns j)))) c.into_done.ensures.journal none in
       let parts = sends-more (turns c.loop-index.run.journal) _ step.turn step.kept still in
       c.do_call-end.ensures.files (subst (λ (x : Call). IsFalse (is_send x)) step.turns.call_is parts.1) ∙ c.loop-index.invariant.unsent parts.0;
+  spares = λ access none.
+      let step = steps-printed c.do_call-end.ensures.does c.as_slice.ensures.value c.put_line-status.ensures in
+      let still = subst (λ (j : Journal). IsUnnamedIn (turns j) access) c.into_done.ensures.journal none in
+      let parts = unnamed-more (turns c.loop-index.run.journal) _ step.turn access step.kept still in
+      g.met.H.Files.joins c.args.files.now c.loop-index.files c.do_call-end.new.files access (c.loop-index.invariant.spares access parts.0)
+      (c.do_call-end.ensures.spares access (subst (λ (x : Call). IsUnnamed x access) step.turns.call_is parts.1));
 }
 
 pub returns-clause-ends : goal.returns-clause-ends
@@ -124,4 +138,5 @@ returns-clause-keeps g c = record {
   unread = c.loop-index.invariant.files;
   unsent = λ none.
       c.loop-index.invariant.unsent (subst (λ (j : Journal). IsTrue (sends_none (calls_of (turns j)))) c.into_done-2.ensures.journal none);
+  spares = λ access none. c.loop-index.invariant.spares access (subst (λ (j : Journal). IsUnnamedIn (turns j) access) c.into_done-2.ensures.journal none);
 }

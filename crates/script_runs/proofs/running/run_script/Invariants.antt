@@ -1,13 +1,15 @@
-use Rattle.std.proofs.Common.{◌≡◌, ◌≤◌, ◌-◌, ℕ, IsTrue, None, length}
+use Rattle.std.proofs.Common.{◌≡◌, ◌≤◌, ◌-◌, ℕ, IsTrue, length}
 use Rattle.std.specs.List.{slice_get}
 use Rattle.fwu_journal.specs.Shown.{HasRoomFor, turns}
 use Rattle.script_turns.specs.Powered.{device, has_power, moment, moment_of}
+use Rattle.host_io.specs.Access.{Access}
+use Rattle.script_runs.specs.Running.{IsUnnamedIn}
 use Rattle.script_turns.specs.Runs.{calls_of, sends_none}
 use Rattle.script_runs.proofs.RunEnds.{GoesOn}
 use Rattle.script_runs.proofs.running.run_script.Given as goal
 
--- the run goes on; the calls that are left are the script's; there is room for their turns; and no file was read where
--- nothing is sent
+-- the run goes on; the calls that are left are the script's; there is room for their turns; no file was read where
+-- nothing is sent, and none that no turn names
 abbrev pub invariant-loop-index : goal.invariant-loop-index
 invariant-loop-index g l = record {
   goes : GoesOn (g.V.Verifier.passes l.verifier) g.D.Flash.tells (g.H.Files.contents l.fn.files) l.fn.ready.script l.index (turns l.run.journal)
@@ -23,4 +25,5 @@ invariant-loop-index g l = record {
   unwritten : g.H.Files.writes l.files ≡ g.H.Files.writes l.fn.files;
   files : IsTrue (sends_none l.fn.ready.script) → l.files ≡ l.fn.files;
   unsent : IsTrue (sends_none (calls_of (turns l.run.journal))) → l.files ≡ l.fn.files;
+  spares : (access : Access) → IsUnnamedIn (turns l.run.journal) access → g.H.Files.spares l.fn.files l.files access;
 }
