@@ -1,5 +1,5 @@
 -- Which files a command doesn't ask for, from what its parts ask for.
-use Rattle.std.proofs.Common.{◌≡◌, ◌∙◌, ℕ, List, Option, Some, None, refl, arith}
+use Rattle.std.proofs.Common.{◌≡◌, ◌∙◌, ℕ, List, Option, Some, None, refl, sym, subst, arith}
 use Rattle.fwu_model.specs.Reply.{Turn}
 use Rattle.fwu_words.specs.Order.{Asked}
 use Rattle.host_io.specs.Access.{Access}
@@ -14,6 +14,9 @@ module _ {H : Type 0} (g : Ghosts H) {asked : Option Asked} {list : Option (List
   pub asks-none : (at_rest : (f : H) (access : Access) → g.spares f f access) (f : H) → ReadsFiles g (IsUnasked (inputs-of asked list told left) journal) f f
   asks-none at_rest f = record { same = refl; unwritten = refl; later = omega arith; spares = λ access other. at_rest f access }
 
+  pub asks-still : (at_rest : (f : H) (access : Access) → g.spares f f access) (f now : H) → now ≡ f → ReadsFiles g (IsUnasked (inputs-of asked list told left) journal) f now
+  asks-still at_rest f now is = subst (λ (h : H). ReadsFiles g (IsUnasked (inputs-of asked list told left) journal) f h) (sym is) (asks-none at_rest f)
+
   -- where the list alone is read
   pub asks-list : (name : List ℕ) (old new : H) → list ≡ Some name → ReadsFile g name old new → ReadsFiles g (IsUnasked (inputs-of asked list told left) journal) old new
   asks-list name old new is read = record { same = read.same; unwritten = read.unwritten; later = read.later; spares = λ access other. read.spares access (other.list name is) }
@@ -26,7 +29,7 @@ module _ {H : Type 0} (g : Ghosts H) {asked : Option Asked} {list : Option (List
     unwritten = rest.unwritten ∙ read.unwritten;
     later = omega (arith, read.later, rest.later);
     spares = λ access other.
-        joins old mid new access (read.spares access (other.list name is)) (rest.spares access (record { list = λ n none. absurd cc; package = other.package; sent = other.sent }));
+        joins old mid new access (read.spares access (other.list name is)) (rest.spares access (record { list = λ n none. absurd cc; wanted = other.wanted; sent = other.sent }));
   }
 
   -- by equal words
@@ -37,5 +40,5 @@ module _ {H : Type 0} (g : Ghosts H) {asked : Option Asked} {list : Option (List
     unwritten = reads.unwritten;
     later = reads.later;
     spares = λ access un.
-        reads.spares access (record { list = λ name named_is. un.list name (is ∙ named_is); package = λ banks rows file asks. un.package banks rows file (words ∙ asks); sent = un.sent });
+        reads.spares access (record { list = λ name named_is. un.list name (is ∙ named_is); wanted = λ banks rows file asks. un.wanted banks rows file (words ∙ asks); sent = un.sent });
   }

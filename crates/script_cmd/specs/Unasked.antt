@@ -12,7 +12,7 @@ pub record IsUnasked (inputs : Inputs) (journal : List Turn) (access : Access) :
   -- the list of digests
   pub list : (name : List ℕ) → inputs.list ≡ Some name → access ≢ Asks name
   -- the package that a flash is formatted with
-  pub package : (banks : ℕ) (rows : List ImageRow) (file : List ℕ) → inputs.asked ≡ Some (ask.format banks rows file)
+  pub wanted : (banks : ℕ) (rows : List ImageRow) (file : List ℕ) → inputs.asked ≡ Some (ask.format banks rows file)
       → access ≢ Asks file
   -- what is sent
   pub sent : IsUnnamedIn journal access

@@ -2,15 +2,14 @@ use Rattle.host_io.proofs.Once.{once-none}
 use Rattle.script_cmd.proofs.AnsweredBy.{answered-format, answered-serve, answered-show, answered-soak, answered-starved, answered-turns, answered-usage}
 use Rattle.script_cmd.proofs.TopFormats.{formatted-as}
 use Rattle.script_cmd.proofs.SoakTop.{soak-as}
-use Rattle.std.proofs.Common.{Some, None, ap, refl, sym, subst, arith}
+use Rattle.std.proofs.Common.{Some, None, ap, refl, arith}
 use Rattle.fwu_words.specs.Order as ask
 use Rattle.script_runs.specs.Ways.{Given}
 use Rattle.script_cmd.proofs.TopShows.{showed-by}
 use Rattle.script_runs.proofs.TopPrints.{later}
 use Rattle.script_cmd.proofs.TopLists.{no-list-named}
 use Rattle.script_turns.specs.Powered.{moment}
-use Rattle.host_io.specs.Reads.{ReadsFiles}
-use Rattle.script_cmd.proofs.Unasked.{asks-none}
+use Rattle.script_cmd.proofs.Unasked.{asks-none, asks-still}
 use Rattle.script_cmd.proofs.answering.answer_with.Goals as goal
 
 pub returns-in-Ok-Turns-clause-answers : goal.returns-in-Ok-Turns-clause-answers
@@ -109,7 +108,7 @@ returns-in-Ok-Format-clause-reads g c =
       unwritten = e.unwritten;
       later = e.later;
       spares = λ access other.
-          e.spares access (other.package c.in-Ok-Format.wanted.banks c.in-Ok-Format.wanted.rows.items c.in-Ok-Format.wanted.package.now (rw c.in-Ok-Format.field-0-is at c.in-Ok-Format.ensures));
+          e.spares access (other.wanted c.in-Ok-Format.wanted.banks c.in-Ok-Format.wanted.rows.items c.in-Ok-Format.wanted.package.now (rw c.in-Ok-Format.field-0-is at c.in-Ok-Format.ensures));
     }
 
 pub returns-in-Ok-Soak-clause-reads : goal.returns-in-Ok-Soak-clause-reads
@@ -117,7 +116,7 @@ returns-in-Ok-Soak-clause-reads g c = asks-none g.H.Files g.met.H.Files.at_rest 
 
 pub returns-in-Ok-Serve-clause-reads : goal.returns-in-Ok-Serve-clause-reads
 returns-in-Ok-Serve-clause-reads g c =
-    subst (λ (f : g.row.H.Denot). ReadsFiles g.H.Files _ c.args.files.now f) (sym c.serve_source.ensures.files) (asks-none g.H.Files g.met.H.Files.at_rest c.args.files.now)
+    asks-still g.H.Files g.met.H.Files.at_rest c.args.files.now _ c.serve_source.ensures.files
 
 pub returns-in-Err-Usage-clause-reads : goal.returns-in-Err-Usage-clause-reads
 returns-in-Err-Usage-clause-reads g c = asks-none g.H.Files g.met.H.Files.at_rest c.args.files.now
