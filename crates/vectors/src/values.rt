@@ -30,7 +30,7 @@ fn uuid_reads_and_writes(rt: HostRuntime) {
 }
 
 // A block of 32 bytes with its own seal: a size of 32 at 16, and the checksum of the bytes behind
-// it in front, by zlib: checks/model/check_vectors.py makes it again.
+// it in front, by zlib. checks/model/check_vectors.py makes it again.
 #[test]
 fn seals_are_found(rt: HostRuntime) {
     let mut block = [0; 32];
