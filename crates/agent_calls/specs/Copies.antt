@@ -120,8 +120,8 @@ AnswersAs (Err stop.Fault) a s new = a.reply ≡ Success
 AnswersAs (Err stop.Gone) a s new = ⊤
 
 -- What a partial begin says of an agent that isn't gone, on any device. There are bytes of the images that aren't named, as many as
--- the agent keeps of the bank that was started, and those of its package where the device tells its content. Each machine that the
--- agent shows answers with them; on a ready flash each loss leaves a prefix of its moves.
+-- the agent keeps of the bank that was started. Where the device tells its content they are those of its package. Each machine that
+-- the agent shows answers with them. On a ready flash each loss leaves a prefix of its moves.
 pub record BeginsPartly (types : List (List ℕ)) (named : List Bool) (passes : List ℕ → Bool) (result : Result (Unit {0}) Stop)
     (old new : Moment) : Type 0 where
   pub bytes : ℕ → List ℕ
@@ -134,14 +134,15 @@ pub record BeginsPartly (types : List (List ℕ)) (named : List Bool) (passes : 
   pub does : (E : Setting) (s : State) (x : Session) → IsSettingOf old.fields passes E → Shows old s x → IsTrue old.tells
       → IsReady E old.told s → Does (flash_result result) E s (begins_over E s x types bytes).moves new.told
   pub guarded : IsTrue old.tells → IsAtRest old.told → GuardedBy (flash_result result) new.told
-  -- on any flash, at any exit: nothing changes but the metadata, the marks of the starts on trial, and the update bank
+  -- on any flash, at any exit: nothing changes but the metadata, the marks of the starts on trial, and the bank behind the one that
+  -- was started
   pub keeps : IsTrue old.tells → KeepsSparedByAll old.fields old.told new.told
   -- on every device, whatever its reads give, at any exit: no other block is erased or programmed
   pub touches : SparesBlocksByAll old.fields old.writes new.writes
   pub stays : Stays old new
 
--- At any exit but a refusal, on a flash that tells its content: it stores the metadata in which the update bank is invalid, or nothing
--- where the bank is so already. Behind that nothing changes beside the update bank.
+-- At any exit but a refusal, on a flash that tells its content. It stores the metadata in which the update bank is invalid, or
+-- nothing where the bank is so already. Behind that nothing changes beside the update bank.
 pub record StoresThenFills (result : Result (Unit {0}) FlashStop) (f : Fields) (s t : Told) : Type 0 where
   -- how the store ended, and what is told then
   pub stored : Result (Unit {0}) FlashStop

@@ -38,7 +38,8 @@ pub record AppendsImage {D : Type 0} (g : Ghosts D) (image : ℕ) (bytes : List 
   pub still : done_of (size_of (part_at old.fields.session image) + length bytes)
       ≡ done_of (size_of (part_at old.fields.session image)) → new.device ≡ old.device
   -- On every device, at any exit: no block is erased or programmed but those that the new bytes reach.
-  pub touches : let first = start old.fields.layout (target old.fields) image in let size = size_of (part_at old.fields.session image) in
+  pub touches : let first = start old.fields.layout (target old.fields) image in
+      let size = size_of (part_at old.fields.session image) in
       TouchesOnly (block_bytes * first + done_of size) (block_bytes * (first + blocks_for (done_of (size + length bytes))))
       (g.writes old.device) (g.writes new.device)
   -- what an armed loss counts of a write that is not refused
@@ -52,8 +53,10 @@ pub record EndsImage {D : Type 0} (g : Ghosts D) (image : ℕ) (result : Result 
   pub ends : IsTrue g.tells → FinishesImage (flash_result result) (start old.fields.layout (target old.fields) image)
       (size_of (part_at old.fields.session image)) (rest_of old.fields image) (g.told old.device) (g.told new.device)
   -- On every device, at any exit: no block is erased or programmed but the one that the image ends in.
-  pub touches : let first = start old.fields.layout (target old.fields) image in let size = size_of (part_at old.fields.session image) in
-      TouchesOnly (block_bytes * first + done_of size) (block_bytes * (first + blocks_for size)) (g.writes old.device) (g.writes new.device)
+  pub touches : let first = start old.fields.layout (target old.fields) image in
+      let size = size_of (part_at old.fields.session image) in
+      TouchesOnly (block_bytes * first + done_of size) (block_bytes * (first + blocks_for size))
+      (g.writes old.device) (g.writes new.device)
   -- on every device: what it takes to end an image of its size
   pub spent : SpendsArming (flash_result result) (writes_to_finish (size_of (part_at old.fields.session image)))
       (g.arming old.device) (g.arming new.device) (g.counts old.device) (g.counts new.device)

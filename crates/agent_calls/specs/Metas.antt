@@ -6,7 +6,7 @@ use Rattle.fwu_model.specs.MoveMetas.{meta_after}
 use Rattle.agent_state.specs.Settles.{bits_kept}
 use Rattle.agent_machine.specs.Fields.{Fields, target}
 
--- whether the bank that takes the update is invalid already
+-- whether the update bank is invalid already
 abbrev pub has_invalid_target : Fields → Bool
 has_invalid_target f = is_invalid (state_at f.meta.meta (target f))
 

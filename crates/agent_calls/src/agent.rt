@@ -97,7 +97,7 @@ impl<D: Flash> Agent<D> {
         }
     }
 
-    /// The bank that takes the update.
+    /// The update bank: the one behind the active bank.
     pub(crate) fn target(&self) -> u32
         requires { IsFalse (gone self.now) }
         ensures value { result ≡ target (fields self.now) }

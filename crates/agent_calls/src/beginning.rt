@@ -64,7 +64,7 @@ impl<D: Flash> Agent<D> {
         ensures touches { TouchesOnly (block_bytes * 1) (block_bytes * 3)
             (D.writes (device self.old)) (D.writes (device self.new)) }
         // On any device: the agent keeps the metadata in which the update bank is invalid, also where the
-        // flash stopped the store, and a package is staged of which nothing is there.
+        // flash stopped the store. A package is staged of which nothing is there.
         ensures keeps { IsDone result → (fields self.new).meta ≡ meta_begun (fields self.old) }
         ensures restarts { OnOk result
             (Restarts true (fields self.old).session (fields self.new).session) }

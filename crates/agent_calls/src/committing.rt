@@ -64,7 +64,7 @@ impl<D: Flash> Agent<D> {
 
     /// Closes a handle, whose number counts from 1 on (DEN0118, fwu_commit). Of an image that was
     /// written through it, the last bytes that fill no granule of 16 are padded with 0xFF and
-    /// programmed, a barrier is made, and the image is committed: it counts as accepted where
+    /// programmed. Then a barrier is made, and the image is committed. It counts as accepted where
     /// `acceptance_req` is 0, else it needs an accept of its own once its bank is active. Its
     /// length in bytes is that of what was written. `max_atomic_len` has no meaning.
     ///

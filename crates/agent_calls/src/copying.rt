@@ -131,7 +131,7 @@ impl<D: Flash> Agent<D> {
         Ok(())
     }
 
-    /// Begins a staging of some images alone (DEN0118, fwu_begin_staging): it does what `begin` does, and
+    /// Begins a staging of some images alone (DEN0118, fwu_begin_staging). It does what `begin` does, and
     /// then commits each image that the list doesn't name with the bytes that it has in the active bank,
     /// as accepted. These are read from the flash in pieces of 4096 bytes, the last one of an image
     /// shorter, and each piece is written as by `write_stream`. An image of no bytes has no piece. Of an
@@ -155,7 +155,7 @@ impl<D: Flash> Agent<D> {
             IsTrue (has_invalid_target f) →
             All IsTrue (are_named f.layout.rows list.now) → device self.new ≡ device self.old }
         // On any flash that tells its content, sound or not, at any exit but a refusal: the metadata is
-        // stored once, as by `begin`, and behind that only the update bank changes.
+        // stored once, as by `begin`. Behind that only the update bank changes.
         ensures stores { IsDone result → IsTrue D.tells →
             StoresThenFills (flash_result result) (fields self.old)
             (D.told (device self.old)) (D.told (device self.new)) }

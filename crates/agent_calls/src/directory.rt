@@ -55,10 +55,10 @@ fn put_row(out: &mut [u8], at: usize, row: &DirectoryRow) -> usize
     put4(out, versioned, bit_value(row.accepted))
 }
 
-/// The directory of a bank (own format), at the front of 528 bytes: the form, 1; how many images
-/// there are; 32; the bank; and for each image its type, the bytes that its slot has, its length in
-/// bytes, its version, and 1 where it is accepted, else 0. The numbers have four bytes,
-/// little-endian.
+/// The directory of a bank (own format), at the front of 528 bytes. It has the form, 1; how many
+/// images there are; 32; and the bank. For each image it has its type, the bytes that its slot has,
+/// its length in bytes, its version, and 1 where it is accepted, else 0. The numbers have four
+/// bytes, little-endian.
 pub fn directory_of(
     layout: &Layout,
     meta: &Meta,

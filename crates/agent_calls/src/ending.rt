@@ -120,12 +120,12 @@ impl<D: Flash> Agent<D> {
         }
     }
 
-    /// Ends the staging (DEN0118, fwu_end_staging) where each image is committed, and together
-    /// they are a complete package whose version is not below the anti-rollback counter and whose
-    /// manifest the verifier accepts: the trial marks are cleared, and the metadata is stored in
-    /// which the update bank is active, accepted where each image was committed as accepted and
-    /// else valid, and the bank that was active is the previous one. Then nothing is staged, and
-    /// no handle is open.
+    /// Ends the staging (DEN0118, fwu_end_staging) where each image is committed, and together they
+    /// are a complete package that is permitted: not below the anti-rollback counter, with a
+    /// manifest that the verifier accepts. The trial marks are cleared, and the metadata is stored
+    /// in which the update bank is active. It is accepted where each image was committed as
+    /// accepted and else valid, and the bank that was active is the previous one. Then nothing is
+    /// staged, and no handle is open.
     ///
     /// DENIED: nothing is staged. BUSY: a handle writes. AUTH_FAIL: what is staged may not be
     /// installed. A refusal reads nothing, and the staging goes on. Lost, Fault: the flash stopped

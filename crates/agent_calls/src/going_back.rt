@@ -139,7 +139,7 @@ impl<D: Flash> Agent<D> {
     /// change places, and the trials are over. Metadata is stored for that.
     ///
     /// DENIED: a package is staged; the active bank isn't on trial and was started; the previous bank is
-    /// the active one or isn't accepted; or it holds no complete package that the verifier accepts and
+    /// the active one or isn't accepted. Or it holds no complete package that the verifier accepts and
     /// whose security version isn't below the counter. For the last of these the bank is read, so a
     /// refusal may have read the flash. Lost, Fault: the flash stopped the reading or the store. Gone: it
     /// stopped an earlier call of this agent.

@@ -59,9 +59,9 @@ impl<D: Flash> Agent<D> {
         AgentState::Regular
     }
 
-    /// The version 1.0, what the agent is doing, and the numbers of its ten functions: 0 of the
-    /// discovery itself, and 16 to 24 of begin, end, cancel, open, write_stream, read_stream, commit,
-    /// accept and previous (DEN0118, fwu_discovery). The device is not touched.
+    /// The version 1.0, what the agent is doing, and the numbers of its ten functions. They are 0 of
+    /// the discovery itself, and 16 to 24 of begin, end, cancel, open, write_stream, read_stream,
+    /// commit, accept and previous (DEN0118, fwu_discovery). The device is not touched.
     ///
     /// Gone: the flash stopped an earlier call of this agent.
     pub fn discover(&self) -> Result<Discovery, Stop>

@@ -107,7 +107,7 @@ DecidesAs E s session c bytes (decision.Do p) = answer E s session c ≡ planned
 DecidesAs E s session c bytes (decision.ByVerdict b) = (b ≡ s.previous)
     × (answer E s session c ≡ by_verdict session (may_go_back E s (bank s b).held))
 
--- The machine that a decision speaks of: its setting and state have the metadata and the counter that are given, and what is kept
+-- The machine that a decision speaks of. Its setting and state have the metadata and the counter that are given, and what is kept
 -- of the session fits the bytes of the staged images.
 pub record Speaks (E : Setting) (s : State) (passes : List ℕ → Bool) (m : MetaRead) (counter : ℕ) (k : Kept) (boot : ℕ)
     (staged : ℕ → List ℕ) : Type 0 where

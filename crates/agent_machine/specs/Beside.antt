@@ -19,7 +19,7 @@ IsBesideBank L bank i = (i < block_bytes * start L bank 0) ⊎ (block_bytes * st
 abbrev pub IsSpared : Fields → ℕ → Type 0
 IsSpared f i = IsBesideMetadata i × (f.boot ≡ f.meta.meta.active → IsBesideBank f.layout (target f) i)
 
--- What all calls in a row spare: the bank that they may write is the one that follows the bank that was started.
+-- What all calls in a row spare: the bank that they may write is the one behind the one that was started.
 abbrev pub IsSparedByAll : Layout → ℕ → ℕ → Type 0
 IsSparedByAll L boot i = IsBesideMetadata i × IsBesideBank L ((boot + 1) % L.banks) i
 

@@ -24,13 +24,13 @@ pub record CallGoes {A D T : Type 0} (g : Ghosts D) (result : Result T Stop) (ol
   -- the device is on at an answer, and off at a stop
   pub power : IsFalse old.gone → g.on new.device ≡ is_ok (flash_result result)
   pub size : g.blocks new.device ≡ g.blocks old.device
-  -- each stop has its cause; where no loss was armed none is, and none is reached
+  -- each stop has its cause; a loss leaves none armed, and where none was armed none is, and none is reached
   pub costs : Spends (flash_result result) (g.counts old.device) (g.counts new.device)
   pub unarmed : StaysUnarmed (flash_result result) (g.arming old.device) (g.arming new.device)
       (g.counts old.device) (g.counts new.device)
 
 -- What calls in a row spend of an agent that wasn't gone before, on every device. It is gone, and the device off, exactly where the
--- flash stopped them, which has a cause. Where no loss was armed, none is, and none was reached.
+-- flash stopped them, which has a cause. A loss leaves none armed. Where none was armed, none is, and none was reached.
 pub record Spent {D : Type 0} (g : Ghosts D) (result : Result (Unit {0}) FlashStop) (gone : Bool) (old new : D) : Type 0 where
   pub gone_is : gone ≡ not (is_ok result)
   pub power : g.on new ≡ is_ok result

@@ -17,7 +17,7 @@ pub record Fields : Type 0 where
   -- of each staged image the bytes that fill no granule yet, at the front of 16
   pub rests : List (List ℕ)
 
--- the bank that takes the update
+-- the update bank: the one behind the active bank
 abbrev pub target : Fields → ℕ
 target f = (f.meta.meta.active + 1) % f.layout.banks
 

@@ -26,8 +26,8 @@ use Rattle.agent_machine.specs.Knows.{Knows}
 
 -- ---- while an image is staged
 
--- What is written in the slot of a staged image, at any exit:
--- the state stays, and so do the other staged images and all that is known beside this one.
+-- What is written in the slot of a staged image, at any exit. The state stays, and so do the other
+-- staged images and all that is known beside this one.
 pub record StaysKnown (f : Fields) (image : ℕ) (s t : Told) : Type 0 where
   pub state_is : state_in f t.now ≡ state_in f s.now
   pub layout_is : layout_seen t.now ≡ Ok f.layout

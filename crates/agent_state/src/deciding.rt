@@ -399,9 +399,9 @@ fn previous(meta: &Meta, session: &Session, boot_index: u32) -> Decision
 }
 
 /// What is decided of a request, by the metadata, what is kept of the session, the booted bank and
-/// the counter: a refusal by the first condition that fails, or a plan. Only `previous` waits for the
-/// verdict on a bank. The verifier is asked of the manifest of a package that `end` would install. No
-/// flash is read.
+/// the counter. It is a refusal by the first condition that fails, or a plan. Only `previous` waits
+/// for the verdict on a bank. The verifier is asked of the manifest of a package that `end` would
+/// install. No flash is read.
 pub fn decide<V: Verifier>(
     meta: &Meta,
     session: &Session,

@@ -201,7 +201,7 @@ fn change_session(session: &mut Session, plan: &Plan, bytes: &[u8])
 /// Makes of the metadata and of what is kept of the session what a decision says that `decide` or
 /// `ruled` gave for them. The bytes are those of a write, else none. A refusal, and a decision that
 /// waits for a verdict, change nothing. Of a plan to begin with a part of the images it is what a begin
-/// leaves: each image that isn't named is then opened, written and committed by plans of their own.
+/// leaves. Each image that isn't named is then opened, written and committed by plans of their own.
 pub fn settle(meta: &mut Meta, session: &mut Session, decision: &Decision, bytes: &[u8])
     requires fits { IsMetaOf (kept session.old) meta.old.meta }
     requires decided { IsDecisionOf (kept session.old) decision.now }

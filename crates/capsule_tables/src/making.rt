@@ -114,8 +114,8 @@ fn gaps_of(alloc: Global, front: usize, parts: &[Outline]) -> Result<Vec<usize>,
 }
 
 /// What the capsule of these parts has besides their payloads, which are the images of its items in
-/// their order: both headers, the places of the items, and before each image 40 bytes. A capsule has at
-/// most 67,108,864 bytes.
+/// their order. It has both headers, the places of the items, and before each image 40 bytes. A capsule
+/// has at most 67,108,864 bytes.
 pub fn capsule_frame(alloc: Global, parts: &[Outline]) -> Result<Frame, PackStop>
     ensures frame { IfOk result (λ f. IsFrame f parts.now capsule_bytes) }
     ensures counted { IfOk result (λ f. f.size ≡ capsule_size parts.now) }

@@ -17,8 +17,8 @@ use host_io::Files;
 // The serial number of every capsule's table.
 const SERIAL: u32 = 0x1234_5678;
 
-/// The table of contents of a firmware management capsule in a file, or the file's first fault: an
-/// entry for each item, in their order, with its type, where its image stands in the file and its
+/// The table of contents of a firmware management capsule in a file, or the file's first fault. It has
+/// an entry for each item, in their order, with its type, where its image stands in the file and its
 /// bytes. The serial number is 0x12345678, and all flags are 0. It reads the headers, and of each item
 /// its place and its first 32 bytes, up to the first fault, and takes no memory.
 pub fn read_capsule<H: Files>(files: &mut H, name: &str) -> Result<Toc, CapsuleStop>

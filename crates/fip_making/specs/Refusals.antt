@@ -4,7 +4,7 @@ use Rattle.fip_making.specs.Answers.{IsLate}
 use Rattle.fip_making.specs.declared.stops.Stop.{Stop}
 use Rattle.fip_making.specs.declared.stops.Stop.TheVariants as stop
 
--- of what takes no memory
+-- of what doesn't end for want of memory
 abbrev pub Unstarved : (Stop → Type 0) → Stop → Type 0
 Unstarved IsOwn s = IsOwn s × (s ≢ stop.NoMemory)
 

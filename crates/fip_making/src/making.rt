@@ -155,7 +155,8 @@ pub fn updated<'a, H: Files>(
     ensures told { AsTold H.Files made_by (λ told. update_value told align from.now (map part_view named.now))
         files.old files.new result }
     ensures whole { IfOk result (IsWholeFile (H.contents files.new)) }
-    ensures count { IfOk result (λ m. (t : Toc) × IsTableOfSome t × (first_missing t (map (λ p. p.guid) (map part_view named.now)) ≡ None)
+    ensures count { IfOk result (λ m. (t : Toc) × IsTableOfSome t
+        × (first_missing t (map (λ p. p.guid) (map part_view named.now)) ≡ None)
         × (m.count ≡ length t.entries)) }
     ensures reads { ReadsFilesAlone H.Files (λ access. (access ≢ Asks from.now) × All (λ w. access ≢ Asks w.file.now) named.now)
         IsOfRepacking files.old files.new result }

@@ -73,7 +73,8 @@ fn rows_of_files<H: Files>(
     ensures told { AsTold H.Files (λ told. option_map (λ v. map row v.items))
         (λ told. after (there (each (image_in told) (map image_view named.now))) (λ images. Ok (each image_row images)))
         files.old files.new result }
-    ensures reads { ReadsFilesAlone H.Files (λ access. All (λ w. access ≢ Asks w.file.now) named.now) IsLate files.old files.new result }
+    ensures reads { ReadsFilesAlone H.Files (λ access. All (λ w. access ≢ Asks w.file.now) named.now) IsLate
+        files.old files.new result }
     ensures count { IfOk result (λ rows. IfSome rows (λ v. length v.items ≡ length named.now)) }
 {
     let mut rows = Some(Vec::new(alloc));

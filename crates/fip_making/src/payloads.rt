@@ -79,7 +79,8 @@ pub fn payloads_of_files<'a, H: Files>(
         files.old files.new result }
     ensures there { IfOk result (λ v. All (IsThere (H.contents files.old)) v.items) }
     ensures count { IfOk result (λ v. length v.items ≡ length named.now) }
-    ensures reads { ReadsFilesAlone H.Files (λ access. All (λ w. access ≢ Asks w.file.now) named.now) IsLate files.old files.new result }
+    ensures reads { ReadsFilesAlone H.Files (λ access. All (λ w. access ≢ Asks w.file.now) named.now) IsLate
+        files.old files.new result }
 {
     let mut payloads = Vec::new(alloc);
     for one in named {

@@ -16,7 +16,7 @@ fn is_same_file(one: &Metadata, other: &Metadata) -> bool {
 }
 
 /// The files of a runtime. To open the regular file that the standard output goes to for writing is an
-/// error, by whichever name: a line that is printed would lie over what was written, or be lost with the
+/// error, by whichever name. A line that is printed would lie over what was written, or be lost with the
 /// old file. It may be read.
 #[derive(Drop)]
 pub struct OutputGuard<'a, R: Files> {

@@ -8,8 +8,8 @@ use Rattle.fip_tables.specs.Packing.{pack_fault}
 abbrev pub part_has_fields : Part → Bool
 part_has_fields p = (length p.guid == 16) && nat_lt p.flags 18446744073709551616
 
--- The bytes are a package that is read as these parts: its table has the serial number, the flags, and in their order the parts'
--- types and flags; and the payloads are their bytes.
+-- The bytes are a package that is read as these parts. Its table has the serial number, the flags, and in their order the parts'
+-- types and flags. The payloads are their bytes.
 abbrev pub ReadsAgain : ℕ → ℕ → List Part → List ℕ → Type 0
 ReadsAgain serial flags parts bytes =
     (toc : Toc) × (toc_of bytes ≡ Ok toc) × (toc.serial ≡ serial) × (toc.flags ≡ flags)

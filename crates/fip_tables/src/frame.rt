@@ -144,9 +144,9 @@ fn sizes_of(entries: &[Entry]) -> u64
     sizes
 }
 
-/// What a file of payloads has besides them: the bytes that stand before, between and behind them, and
-/// how many of those stand before each payload, behind those before the payload before it. What is left
-/// stands behind the last payload. `size` is how many bytes the whole file has.
+/// What a file of payloads has besides them. These are the bytes that stand before, between and behind
+/// them, and how many of those stand before each payload, behind those before the payload before it.
+/// What is left stands behind the last payload. `size` is how many bytes the whole file has.
 #[derive(Debug, Drop)]
 pub struct Frame {
     pub bytes: Vec<u8>,

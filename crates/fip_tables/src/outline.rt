@@ -89,7 +89,7 @@ fn is_alignment(align: u32) -> bool
 }
 
 /// Whether parts can be made into anything, whatever they add up to, or the first fault that they
-/// have as a package and as a capsule: too many, a type twice, the nil UUID.
+/// have as a package and as a capsule. It is one of too many, a type twice, the nil UUID.
 pub fn check_parts(parts: &[Outline]) -> Result<(), PackFault>
     ensures ok { OnOk result (HasNoFault parts.now) }
     ensures err { IfErr result (λ f. parts_fault parts.now ≡ Some f) }

@@ -60,7 +60,7 @@ pub record DoneWithFiles {H O : Type 0} (h : files.Ghosts H) (o : sink.Ghosts O)
   pub later : o.faults sink_before ≤ o.faults sink_after
   pub sink_count : o.faults sink_after ≡ sink_failures result (o.faults sink_before)
 
--- What was done for a listing of the source: no file is asked for.
+-- What was done for a listing of the source, and which stops may end it.
 pub record DoneWithSource {I O : Type 0} (i : source.Ghosts I) (o : sink.Ghosts O) (result : Result (Unit {0}) Stop)
     (source_before source_after : I) (sink_before sink_after : O) : Type 0 where
   pub listed : (told : Option Directory) → ReadSourceIn i o told told source_before source_after sink_before sink_after result

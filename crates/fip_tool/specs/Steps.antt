@@ -71,10 +71,9 @@ StandAfter n outcome files now spoiled =
     Are now (written (take n (steps_in_plan outcome)) files)
     ⊎ (spoiled × AreUpTo (drop n (steps_in_plan outcome)) now (written (take n (steps_in_plan outcome)) files))
 
--- What was done of a command, by its result. The files were `files` and the told contents are `now`; the sink's text was
--- `was` and is `text`. Nothing but the command's steps was done, in their order. A call of the files failed where
--- `files-rose`, a writing that may have torn its file where `spoiled`, and a call of the sink where `sink-rose`, which was a step
--- that prints.
+-- What was done of a command, by its result. The files were `files` and the told contents are `now`; the sink's text was `was`
+-- and is `text`. Nothing but the command's steps was done, in their order. A call of the files failed where `files-rose`, and a
+-- writing that may have torn its file where `spoiled`. A call of the sink failed where `sink-rose`, which was a step that prints.
 abbrev pub Did : CommandPlan → Directory → Option Directory → Option (List ℕ) → Option (List ℕ) → Type 0 → Type 0 → Type 0
     → Result (Unit {0}) Stop → Type 0
 Did outcome files now was text files-rose spoiled sink-rose (Ok done) =

@@ -32,7 +32,8 @@ pub fn run_package<H: Files, O: Sink>(
     from: &str,
     out: &str,
 ) -> Result<(), Stop>
-    ensures { DoneWithFiles H.Files O.Sink (FipAsked.repackage align from.now out.now) result files.old files.new sink.old sink.new }
+    ensures { DoneWithFiles H.Files O.Sink (FipAsked.repackage align from.now out.now) result
+        files.old files.new sink.old sink.new }
 {
     let made = package_of_capsule(alloc, files, align, from);
     put_made(alloc, files, sink, Format::Package, out, made)

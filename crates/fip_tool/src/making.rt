@@ -52,7 +52,8 @@ pub fn run_remove<H: Files, O: Sink>(
     remade: &Remade<'_>,
     guids: &[Guid],
 ) -> Result<(), Stop>
-    ensures { DoneWithFiles H.Files O.Sink (FipAsked.remove remade.now.align remade.now.from.now remade.now.out.now guids.now) result
+    ensures { DoneWithFiles H.Files O.Sink
+        (FipAsked.remove remade.now.align remade.now.from.now remade.now.out.now guids.now) result
         files.old files.new sink.old sink.new }
 {
     let made = removed(alloc, files, remade.align, remade.from, guids);

@@ -153,10 +153,10 @@ fn run<H: Files, I: Source, O: Sink>(
     }
 }
 
-/// The tool with its words, which are without the program's name. It gives the exit status:
-/// 0 where all was done; 1 usage; 2 a file, or the source, failed; 3 the sink failed; 4 a file is no package; 5 the package has no
-/// entry of a named type; 6 what was to be made cannot be; 7 the source gave more than 4,294,967,296 bytes; 8 a file is no capsule;
-/// 9 want of memory. A status other than 0 has a line of its own at the end, save 3 and 9.
+/// The tool with its words, which are without the program's name. It gives the exit status: 0 where all was done; 1 usage; 2 a
+/// file, or the source, failed; 3 the sink failed. It is 4 where a file is no package; 5 the package has no entry of a named type;
+/// 6 what was to be made cannot be. It is 7 where the source gave more than 4,294,967,296 bytes; 8 a file is no capsule; 9 want of
+/// memory. A status other than 0 has a line of its own at the end, save 3 and 9.
 pub fn fip_top<H: Files, I: Source, O: Sink>(
     alloc: Global,
     words: &[String],

@@ -128,7 +128,7 @@ fn unpack_entries<H: Files, O: Sink>(
 }
 
 /// Writes the payloads of a package, or those that are named where some are, each to the file of the prefix, its type's text and
-/// `.bin`, and prints a line for each. It takes them in the package's order.
+/// `.bin`. It prints a line for each. It takes them in the package's order.
 pub fn run_unpack<H: Files, O: Sink>(
     alloc: Global,
     files: &mut H,

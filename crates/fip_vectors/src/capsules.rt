@@ -1,5 +1,5 @@
-//! Capsules of worked parts, and hostile ones: each is the capsule of `hello` with some of its
-//! bytes changed, or its front, and the fault is the first one by the order of the tests.
+//! Capsules of worked parts, and hostile ones. Each of these is the capsule of `hello` with some of
+//! its bytes changed, or its front. The fault is the first one by the order of the tests.
 //! checks/model/check_vectors.py finds the same ones.
 
 use crate::fixtures::{HELLO_CAPSULE, add, add_part, front, holds, holds_at, one_file, tb_fw};
@@ -212,7 +212,8 @@ const BAD_VERSION: [(usize, u8); 16] = [
     (100, 9),
 ];
 
-// How many items a capsule has, what is changed in it, and how many are read, or the fault. The version of the third item is at 140.
+// How many items a capsule has, what is changed in it, and how many are read, or the fault. The version of the third item is at
+// 140.
 const SEVERAL: [(u8, Change, Result<usize, CapsuleStop>); 6] = [
     (64, &[], Ok(64)),
     (65, &[], Err(CapsuleStop::Fault(CapsuleFault::TooMany))),

@@ -7,8 +7,8 @@ use runs_kit::only;
 use std::alloc::Global;
 use std::process::Abort;
 
-// A command, over the package of `hello` as a file and as the source, which call on the files, the source and the sink fails,
-// and the status and the text that the command ends with.
+// A command, over the package of `hello` as a file and as the source, and which call on the files, the source and the sink
+// fails. Behind it stand the status and the text that the command ends with.
 type Failing = (&'static str, [u64; 3], u8, &'static str);
 
 const FAILING: [Failing; 7] = [

@@ -151,7 +151,8 @@ pub fn all_end<H: Files>(rt: &impl Abort, alloc: Global, files: &mut H, steps: &
     }
 }
 
-/// Stops the test where this does not hold, and prints what it is of. A call costs its test's proof less than the macro in its place.
+/// Stops the test where this does not hold, and prints what it is of. A call costs its test's proof less than the macro in its
+/// place.
 pub fn holds(rt: &impl Abort, is_so: bool, of: &str)
     ensures { IsTrue is_so }
 {

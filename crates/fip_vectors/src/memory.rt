@@ -1,4 +1,4 @@
-//! Want of memory at each text for the sink, and at each file that is written: the tool ends with 9, and no file changes but those
+//! Want of memory at each text for the sink, and at each file that is written. The tool ends with 9, and no file changes but those
 //! that its words name.
 ghost use Rattle.std.specs.Prelude.{◌≡◌, ⊤, false, true, refl, None, Some};
 ghost use Rattle.host_io.specs.Contents.{bytes_in};
@@ -99,8 +99,8 @@ impl Files for ShortFiles {
     }
 }
 
-// A line of words, for how many texts and for how many writes there is memory, its status, and whether `a.fip`, `b.fip`, and the two
-// files of the payloads of `b.fip` are there then.
+// A line of words, for how many texts and for how many writes there is memory, and its status. Then whether `a.fip`, `b.fip`,
+// and the two files of the payloads of `b.fip` are there.
 type Case = (&'static str, u32, u32, u8, [bool; 4]);
 
 const CASES: [Case; 10] = [

@@ -1,4 +1,4 @@
-//! The commands over files of the system, in a folder that has no file but those that the words name: a file that nobody named
+//! The commands over files of the system, in a folder that has no file but those that the words name. A file that nobody named
 //! is never asked for, since that would be a file fault.
 
 use crate::fixtures::{EMPTY, HELLO, HELLO_CAPSULE, Step, all_end, ended_with, ends, front, holds};

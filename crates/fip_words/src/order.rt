@@ -253,9 +253,9 @@ fn found_order<'a>(alloc: Global, found: &ArgMatches<'a>) -> Result<FipOrder<'a>
     }
 }
 
-/// What the words, without the program's name, ask for. `Usage` comes exactly where they ask for nothing: where `clap` refuses
-/// them, where a value is not in its grammar, where a type is named twice, and for `unpack` where IN is a file that may be
-/// written.
+/// What the words, without the program's name, ask for. `Usage` comes exactly where they ask for nothing. That is where `clap`
+/// refuses them, a value is not in its grammar, or a type is named twice. For `unpack` it is also where IN is a file that may
+/// be written.
 pub fn fip_order<'a>(alloc: Global, words: &'a [String]) -> Result<FipOrder<'a>, UsageStop>
     ensures { GivesAsked view result (asked (map string_bytes words.entry.now)) }
 {

@@ -95,8 +95,8 @@ format_note (Err (Flash stop)) = note.Nothing
 
 -- ---- what became of the flash
 
--- The result r of formatting a flash of so many blocks, by the rows and banks L and the package of this name, and by a verifier of
--- these manifests, from the moment old to new.
+-- The result r of formatting a flash of so many blocks, from the moment old to new. It is by the rows and banks L, the package of
+-- this name, and a verifier of these manifests.
 pub record Tries (passes : List ℕ → Bool) (tells : Bool) (told : Option Directory) (name : List ℕ)
     (L : Layout) (blocks : ℕ) (old new : TurnMoment) (faults_before faults_after : ℕ)
     (r : Result Formatted FormatStop) : Type 0 where
@@ -108,8 +108,8 @@ pub record Tries (passes : List ℕ → Bool) (tells : Bool) (told : Option Dire
   -- what is refused before the flash is touched, exactly
   pub layout : LayoutBy (fitted L blocks) r
   pub answers : (file : List ℕ) → Tells told name file → RefusesAs (refusal L blocks file) r
-  -- and on any files by some bytes, unless the file could not be read: a refusal before the flash is touched is one that they have,
-  -- and else they are a package with each image
+  -- And on any files by some bytes, unless the file could not be read. A refusal before the flash is touched is one that they have.
+  -- Else they are a package with each image.
   pub some : IsOfBytes (fitted L blocks) r
   pub untouched : IsEarlyStop r → new.told ≡ mid
   -- a name that told files lack, and nothing was touched
@@ -139,8 +139,8 @@ pub record Tries (passes : List ℕ → Bool) (tells : Bool) (told : Option Dire
       → (file : List ℕ) (toc : Toc) → Tells told name file → toc_of file ≡ Ok toc
       → IsTrue (is_complete L.rows (images_of L.rows file toc))
       → IsTrue (passes (manifest_part (images_of L.rows file toc))) → ⊥
-  -- either way nothing is dirty; and whatever the end, and whatever a loss leaves, block 0 alone was touched, or a layout stands
-  -- only with both replicas, and the one that was asked for only on a flash that is formatted whole; and until a loss no other is
+  -- Either way nothing is dirty. Whatever the end, and whatever a loss leaves, block 0 alone was touched, or a layout stands only
+  -- with both replicas. The one that was asked for stands only on a flash that is formatted whole, and until a loss no other is.
   pub clean : FormatFinishes r (IsTrue tells → NothingDirty new.told)
   pub ordered : IsTrue tells → IsInOrder passes L mid new.told
   -- nothing changes beyond the last bank
@@ -166,7 +166,7 @@ pub record Tries (passes : List ℕ → Bool) (tells : Bool) (told : Option Dire
 abbrev pub layout_of : NewFlash → Layout
 layout_of wanted = record { banks = wanted.banks; rows = wanted.rows.items }
 
--- Nothing was done for want of memory, or since a list of digests was not read or is none; or the flash was formatted or was not,
+-- Nothing was done for want of memory, or since a list of digests was not read or is none. Or the flash was formatted or was not,
 -- and the line of that was put into the sink.
 pub data Formats (passes : List ℕ → Bool) (device : Device) (g : Given) (name : List ℕ) (L : Layout)
     (old new : World) (status : ℕ) (said : Note) : Type 0 where

@@ -51,8 +51,8 @@ RefusedList asked g status noted old new =
     (planned : ℕ) × (line : List ℕ) × Refuses (Some asked) g old.faults new.faults planned noted line
     × Prints line planned status old.taken new.taken old.faults.sink new.faults.sink
 
--- How it ended: nothing was done for want of memory, or since a list of digests was not read or is none; or by what it found, whose
--- line was put into the sink.
+-- How it ended. Nothing was done for want of memory, or since a list of digests was not read or is none. Or it ended by what it
+-- found, whose line was put into the sink.
 pub data Showed (tells : Bool) (g : Given) (old new : World) (status : ℕ) (noted : Note) : Type 0 where
   starved : status ≡ 9 → noted ≡ note.Nothing → new.flash ≡ old.flash → PutsNone old new
       → Showed tells g old new status noted

@@ -35,9 +35,9 @@ use Rattle.script_runs.specs.declared.done.Note.TheVariants as note
 abbrev pub EndsNone : List Turn → Type 0
 EndsNone journal = IsFalse (list_any (λ (t : Turn). ends_run t.reply) journal)
 
--- How the turns of a soak of these calls ended, and which line was put into the sink: all calls were done, and the line is that of
--- the totals; or memory was wanting, for more calls or for the line, and there is none;
--- or the last turn ended it, and the line is that turn's.
+-- How the turns of a soak of these calls ended, and which line was put into the sink. All calls were done, and the line is that of
+-- the totals. Or memory was wanting, for more calls or for the line, and there is none. Or the last turn ended it, and the line is
+-- that turn's.
 pub data SoakEnds (rounds : ℕ) (calls : List Call) (ending : Ending model.Note) (taken_before taken_after : Option (List ℕ))
     (faults_before faults_after : ℕ) : Type 0 where
   all_done : calls_of ending.journal ≡ calls → EndsNone ending.journal → ending.noted ≡ model_note.Nothing
@@ -54,8 +54,8 @@ pub data SoakEnds (rounds : ℕ) (calls : List Call) (ending : Ending model.Note
       → Prints (stop_line t) (status_by t.reply) ending.status taken_before taken_after faults_before faults_after
       → SoakEnds rounds calls ending taken_before taken_after faults_before faults_after
 
--- Nothing was done, since a list of digests was not read or is none, or for want of memory, or on a flash that is too small; or the
--- flash was not formatted; or it was, and the turns ran from there on, with the packages of all rounds as files, by any manifest.
+-- Nothing was done, since a list of digests was not read or is none, or for want of memory, or on a flash that is too small. Or the
+-- flash was not formatted. Or it was, and the turns ran from there on, with the packages of all rounds as files, by any manifest.
 pub data SoakWay (device : Device) (g : Given) (seed rounds : ℕ) (ending : Ending Note) (old new : World) : Type 0 where
   list_refused : ending.journal ≡ [] → new.flash ≡ old.flash → IsFalse (is_beyond_model ending.noted)
       → RefusedList (ask.soak seed rounds) g ending.status (noted ending.noted) old new

@@ -94,8 +94,8 @@ pub record GoesSoaking (tells : Bool) (all : Directory) (calls : List Call) (jou
   pub calls_are : calls_of journal ≡ calls
   pub none : IsFalse (list_any (λ (t : Turn). ends_run t.reply) journal)
 
--- How a soak that does these calls stands:
--- all were done; or memory was wanting for more than the first of them; or a turn ended it, whose line is in the text.
+-- How a soak that does these calls stands. All were done, or memory was wanting for more than the first of them. Or a
+-- turn ended it, whose line is in the text.
 pub data SoakReached (tells : Bool) (all : Directory) (calls : List Call) (journal : List Turn) (old new : TurnMoment) (status : ℕ)
     (noted : Note) (text : List ℕ) : Type 0 where
   goes : status ≡ 0 → noted ≡ note.Nothing → GoesSoaking tells all calls journal old new

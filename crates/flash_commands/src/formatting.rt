@@ -67,8 +67,8 @@ pub fn try_format<D: Flash, H: Files, V: Verifier>(
 /// Powers the flash on, makes it as it is asked for, and puts the line of what became of that into the sink in one piece. The room
 /// for the line is made before the flash is touched.
 ///
-/// Status 2 says that the file could not be read, 5 that power was lost or the flash failed, and 7 that the rows, the banks or the
-/// package were refused, and the note says why.
+/// Status 2 says that the file could not be read, and 5 that power was lost or the flash failed. 7 says that the rows, the banks
+/// or the package were refused, and the note says why.
 pub fn format_flash<'a, D: Flash, H: Files, O: Sink, V: Verifier>(
     alloc: Global,
     wanted: NewFlash<'a>,

@@ -104,8 +104,9 @@ fn finish<D: Flash, O: Sink>(
     rounds: u32,
     sink: &mut O,
 ) -> Done<D>
-    ensures ended { (all : Directory) (calls : List Call) (old : TurnMoment) → StandsHere all calls old run end → SoakEnds rounds calls
-        (in_model (ending result)) (O.taken sink.old) (O.taken sink.new) (O.faults sink.old) (O.faults sink.new) }
+    ensures ended { (all : Directory) (calls : List Call) (old : TurnMoment) → StandsHere all calls old run end →
+        SoakEnds rounds calls (in_model (ending result))
+        (O.taken sink.old) (O.taken sink.new) (O.faults sink.old) (O.faults sink.new) }
     ensures journal { result.journal ≡ run.journal }
     ensures note { result.note ≡ end.note }
     ensures flash { result.flash ≡ device run.powered }
@@ -182,9 +183,9 @@ fn format_and_soak<D: Flash, O: Sink>(
 /// Formats the flash with a package that is made from the seed, and does so many rounds of updates with power cuts, all drawn from
 /// the seed, by any manifest. No turn's line is printed. At the end one line tells the totals.
 ///
-/// Status 5 says that power was lost or the flash failed while it was formatted, or that it failed within a turn, 6 that a boot
-/// started no bank, whose line is then printed, and 7 that the flash is too small. Status 9 says that memory was wanting, for a
-/// package, a round or the line; the turns that were done are in the journal.
+/// Status 5 says that power was lost or the flash failed while it was formatted, or that it failed within a turn. 6 says that a
+/// boot started no bank, whose line is then printed, and 7 that the flash is too small. Status 9 says that memory was wanting,
+/// for a package, a round or the line; the turns that were done are in the journal.
 pub fn soak<D: Flash, O: Sink>(
     alloc: Global,
     seed: u32,

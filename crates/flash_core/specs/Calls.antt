@@ -6,7 +6,8 @@ use Rattle.flash_core.specs.Counts.{Spends, StaysUnarmed, ReachesNone, arming_ke
 use Rattle.flash_core.specs.May.{Keeps}
 use Rattle.flash_core.specs.Touches.{TouchesOnly}
 
--- Content and size stay, nothing is erased or programmed, power is by the result, no loss is armed or reached, and each stop has its cause.
+-- Content and size stay, nothing is erased or programmed, and power is by the result. No loss is armed or reached, and each stop
+-- has its cause.
 pub record Reads {D X : Type 0} (g : Ghosts D) (result : Result X FlashStop) (old new : D) : Type 0 where
   pub content : IsTrue g.tells → g.told new ≡ g.told old
   pub power : g.on new ≡ is_ok result
@@ -16,8 +17,8 @@ pub record Reads {D X : Type 0} (g : Ghosts D) (result : Result X FlashStop) (ol
   pub reached : ReachesNone result (g.counts old) (g.counts new)
   pub writes : g.writes new ≡ g.writes old
 
--- What each other call leaves: size stays, power is by the result, each stop has its cause, a loss leaves none armed, and where none
--- was armed none is, and none is reached.
+-- What each other call leaves: size stays, power is by the result, and each stop has its cause. A loss leaves none armed. Where
+-- none was armed none is, and none is reached.
 pub record Goes {D X : Type 0} (g : Ghosts D) (result : Result X FlashStop) (old new : D) : Type 0 where
   pub power : g.on new ≡ is_ok result
   pub size : g.blocks new ≡ g.blocks old

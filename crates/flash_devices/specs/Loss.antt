@@ -24,7 +24,8 @@ left_at t loss i =
     if is_landed t.under loss.landed i then slice_index (finished t) i
     else (if loss.back && t.dirty i then slice_index t.stable i else slice_index t.now i)
 
--- A power-on leaves this content, of which nothing is dirty or under way. An arming named so many bytes of the operation under way.
+-- A power-on leaves this content, of which nothing is dirty or under way. So many bytes of the operation under way took effect, or
+-- all where it has fewer.
 pub record ComesBack (known : ℕ) (loss : Loss) (old new : Told) : Type 0 where
   pub fresh_now : new ≡ fresh old.guard new.now
   pub leaves : Leaves old new.now

@@ -63,9 +63,10 @@ pub trait ByteFile {
 }
 
 /// Files that are read and written at a position, and can be synced, as those of the system. They tell
-/// no bytes and count no writes, since readers and writers don't say where a write went. Each read and write seeks to
-/// its place first, and then all bytes are read or written. A flush is a `sync_data`, and its error is
-/// the flush's. No clause says so, since none of a file of the system says what a sync did: it is tested.
+/// no bytes and count no writes, since readers and writers don't say where a write went. Each read and
+/// write seeks to its place first, and then all bytes are read or written. A flush is a `sync_data`, and
+/// its error is the flush's. No clause says so, since none of a file of the system says what a sync did:
+/// it is tested.
 impl<F: Read + Write + Seek + OpenFile> ByteFile for F {
     ghost use Rattle.std.specs.Prelude.{◌≡◌, ⊤, IfOk, IfSome, OnOk, OnErr};
     ghost use Rattle.std.specs.Io.KnownBytes.{Keeps};

@@ -9,8 +9,8 @@ use base_core::BLOCK_BYTES;
 use std::alloc::{AllocError, Global};
 use std::io::{self, ErrorKind};
 
-/// A file in memory, which tells its bytes and counts its writes. Its calls of the listed numbers, counted from 1, fail, and
-/// so does one on a range outside of it. A call that fails changes no byte.
+/// A file in memory, which tells its bytes and counts its writes. Its calls of the listed numbers, counted
+/// from 1, fail, and so does one on a range outside of it. A call that fails changes no byte.
 #[derive(Drop)]
 pub struct MemoryFile {
     bytes: Vec<u8>,

@@ -21,7 +21,7 @@ refusal_by (Err fault) answer = Some (BadLayout fault)
 refusal_by (Ok L) (Err fault) = Some (BadPackage fault)
 refusal_by (Ok L) (Ok toc) = option_map refused (images_fault L.rows toc)
 
--- what is refused of these rows and banks on a flash of so many blocks, and of the file, the first of these that is so:
--- that they are no layout of the flash, that the file is no package, and the fault of the lowest image that has one
+-- What is refused of these rows and banks on a flash of so many blocks, and of the file. It is the first of these:
+-- that they are no layout of the flash, that the file is no package, and the fault of the lowest image that has one.
 unfoldable pub refusal : Layout → ℕ → List ℕ → Option InputFault
 refusal L blocks file = refusal_by (fitted L blocks) (toc_of file)

@@ -106,7 +106,7 @@ HasAtMost L image = IsErr (layout_seen image) ⊎ (layout_seen image ≡ Ok L)
 abbrev pub HoldFirst : Layout → List ℕ → Type 0
 HoldFirst L image = BothHold L (in_version 2 (first_meta L)) image
 
--- both replicas are those of the first metadata, in its one spelling
+-- and they have its one spelling
 pub record AreFirst (L : Layout) (image : List ℕ) : Type 0 where
   pub both : HoldFirst L image
   pub spelled : HoldTwice (replica_bytes L (first_meta L)) image
@@ -126,7 +126,7 @@ pub data IsInOrder (passes : List ℕ → Bool) (L : Layout) (s t : Told) : Type
   begun : OnlyErased s t → Keeps 0 block_bytes s t → IsInOrder passes L s t
   -- no loss leaves a layout, and the first eight blocks were erased at most
   bared : OnlyErased s t → ((image : List ℕ) → May t image → IsErr (layout_seen image)) → IsInOrder passes L s t
-  -- each loss leaves blocks 3 to 7 and the banks behind bank 0 erased, a layout only with both replicas, and this one only on a
-  -- flash that is formatted whole; and no other layout is there
+  -- Each loss leaves blocks 3 to 7 and the banks behind bank 0 erased, and a layout only with both replicas. It leaves this one
+  -- only on a flash that is formatted whole, and no other layout is there.
   filled : ((image : List ℕ) → May t image → IsBlank L image) → IsOrdered L t → IsWholeFormat passes L t → HasAtMost L t.now
       → IsInOrder passes L s t

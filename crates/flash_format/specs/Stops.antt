@@ -80,7 +80,7 @@ RefusesAs (Some fault) result = (result ≡ Err (Input fault)) ⊎ (result ≡ E
 RefusesAs None result = IsEarlyStop result → ⊥
 
 -- On any files: some bytes give this answer, on a flash that the layout fits or doesn't. So what is refused before the flash is
--- touched is so by bytes that have that fault, or it is the layout's, and what isn't is so by a package with each image. Of a file
+-- touched is so by bytes that have that fault, or it is the layout's. What isn't is so by a package with each image. Of a file
 -- that could not be read it says nothing.
 pub record IsOfBytes {T : Type 0} (fits : Result Layout LayoutFault) (result : Result T FormatStop) : Type 0 where
   pub bytes : List ℕ

@@ -117,9 +117,9 @@ fn carry_out<D: Flash, H: Files, V: Verifier>(
 ///
 /// A loss of power up to that barrier leaves the blocks behind block 0 as one before the call might have: where nothing was dirty
 /// then, as they were. Where block 0 isn't guarded any bytes may stand in it, the old layout among them. A later loss leaves no
-/// layout, and of each of the first eight blocks that is guarded no more than one before the call might have: where nothing was
-/// dirty then, the block as it was or without a seal. Or it leaves blocks 3 to 7 and the other banks erased, and a layout only with
-/// both replicas.
+/// layout, and of each of the first eight blocks that is guarded no more than one before the call might have. Where nothing was
+/// dirty then, that is the block as it was or without a seal. Or it leaves blocks 3 to 7 and the other banks erased, and a layout
+/// only with both replicas.
 pub fn format<D: Flash, H: Files, V: Verifier>(
     flash: &mut D,
     rows: &[ImageRow],
@@ -155,8 +155,8 @@ pub fn format<D: Flash, H: Files, V: Verifier>(
         → IsTrue (V.passes verifier.now (manifest_part (images_of rows.now file toc))) → ⊥) }
     // Either way nothing is dirty, so that a loss leaves just what is there.
     ensures clean { FormatFinishes result (IsTrue D.tells → NothingDirty (D.told flash.new)) }
-    // At any exit, whatever a loss leaves: block 0 alone was touched, or a layout stands only with both replicas, and the one that
-    // was asked for only on a flash that is formatted whole; and until a loss no other layout is there.
+    // At any exit, whatever a loss leaves: block 0 alone was touched, or a layout stands only with both replicas. The one that was
+    // asked for stands only on a flash that is formatted whole, and until a loss no other layout is there.
     ensures ordered { IsTrue D.tells → IsInOrder (V.passes verifier.now) (asked banks rows.now)
         (D.told flash.old) (D.told flash.new) }
     // Beyond the last bank nothing changes, at any exit.
@@ -166,8 +166,8 @@ pub fn format<D: Flash, H: Files, V: Verifier>(
     ensures touches { TouchesOnly 0 (block_bytes * blocks_needed (asked banks rows.now))
         (D.writes flash.old) (D.writes flash.new) }
     ensures goes { Goes D.Flash (flash_result result) flash.old flash.new }
-    // On every device, in total: an erase for each block up to the last bank's end, and a program for each piece of an image, for
-    // each replica and for the layout; where what is in the bank is refused, none for replicas and layout.
+    // On every device, in total: an erase for each block up to the last bank's end. And a program for each piece of an image, for
+    // each replica and for the layout. Where what is in the bank is refused, there is none for replicas and layout.
     ensures spent { IfOk result (λ done.
         FormatTakes (H.contents files.old) name.now done.layout 3 (D.arming flash.old) (D.arming flash.new)) }
     ensures worn { IfRefused result (λ found. FormatTakes (H.contents files.old) name.now

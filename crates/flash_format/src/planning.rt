@@ -35,8 +35,8 @@ fn plan_of<H: Files>(files: &mut H, name: &str, layout: Layout) -> Result<Plan, 
     Ok(Plan { layout, entries })
 }
 
-/// The layout of these rows and banks on a flash of so many blocks, and the entries of its images in a package, or the first
-/// fault: of the layout, of the package, and of the lowest image that has one.
+/// The layout of these rows and banks on a flash of so many blocks, and the entries of its images in a package. Or it is the
+/// first fault: of the layout, of the package, and of the lowest image that has one.
 pub fn plan<H: Files>(
     rows: &[ImageRow],
     banks: u32,

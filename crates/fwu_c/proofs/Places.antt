@@ -15,7 +15,7 @@ use Rattle.step_flash.specs.Flash.{block_count, writes_of}
 use Rattle.step_flash.proofs.Places.{none_behind}
 use Rattle.fwu_c.specs.Handed.{boot_reach}
 
--- the bank that follows one is another one
+-- the bank behind one is another one
 other-follows : (banks bank : ℕ) → 2 ≤ banks → (bank + 1) % banks ≢ bank
 other-follows banks bank two = elim (cases_lt bank banks) [
   | inl below ↦ next-other banks bank two below
@@ -35,7 +35,7 @@ module _ (L : Layout) (bank : ℕ) (fits : IsTrue (fits_layout L)) where
       let more : (bank + 1) * slot_total L.rows ≡ bank * slot_total L.rows + slot_total L.rows = grind arith in
       omega (arith, more, some_blocks L fits)
 
-  -- a block of the bank in use lies beside blocks 1 to 3, and beside the bank that follows
+  -- a block of the bank in use lies beside blocks 1 to 3, and beside the bank behind its own
   pub in-use-spared : (k : ℕ) → start L bank 0 ≤ k → k < start L (bank + 1) 0 → IsSparedByAll L bank (block_bytes * k)
   in-use-spared k above below = (inr (omega (arith, above)), beside)
     where

@@ -97,7 +97,7 @@ pub record HasFlashSize (image : List ℕ) : Type 0 where
 abbrev pub starts_none : ℕ → Bool
 starts_none number = is_idle_number number || number == 3
 
--- Of the report a number's own fields are written: the fault at 1, the banks at 3, and all but the fault where a bank was started.
+-- The report's fault is written at 1 alone. At 1, 2 and 21 its banks stay. There and at 3 so does what a start writes besides.
 pub record KeepsReport (number : ℕ) (old new : Report) : Type 0 where
   pub fault : number ≢ 1 → new.layout_fault ≡ old.layout_fault
   pub banks : IsTrue (is_idle_number number) → (new.active ≡ old.active) × (new.previous ≡ old.previous)
@@ -110,7 +110,7 @@ pub record TellsSteps (image : List ℕ) (number : ℕ) (old : Report) (old_step
   pub unlost : number ≢ 4
   -- where there is no layout or no metadata, or no boot started the bank, no step is told, and no byte
   pub idle : IsTrue (is_idle_number number) → (new.steps ≡ 0) × (new.bytes ≡ 0)
-  -- of the other fields none is written but the number's own
+  -- which of the other fields stay
   pub kept : KeepsReport number old new
   -- no step that is told writes block 0, the layout
   pub spared : number ≢ 6 → number ≢ 7 → All (LiesWithin block_bytes (length image)) (take new.steps steps)

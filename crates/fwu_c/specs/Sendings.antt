@@ -96,7 +96,7 @@ pub record SendsPackage (file : List ℕ) (request : ℕ) (b : Started) (result 
   pub early : IsEarlySend result → t ≡ old
   pub installs : OnOk result ((s : State) → IsShown b.layout old.now s
       → HasInstalled b.layout (images_of b.layout.rows file toc) request s t)
-  -- on any flash that shows a state, at any exit: nothing changed but blocks 1 to 3, and the bank that follows the one that was
+  -- on any flash that shows a state, at any exit: nothing changed but blocks 1 to 3, and the bank behind the one that was
   -- started
   pub keeps : (s : State) → IsShown b.layout old.now s → KeepsWhere (IsSparedByAll b.layout b.bank) old t
 
@@ -112,5 +112,5 @@ pub record TriesBy {F : Ghosts StepFlash} (file : List ℕ) (request : ℕ) (a :
       → InstallsBy file request b outcome (told_of (device a)) (told_of left)
   pub ends : IsOutcome outcome
   pub size : block_count left ≡ block_count (device a)
-  -- no block is erased or programmed but 1 to 3, and those of the bank that follows the one that was started
+  -- no block is erased or programmed but 1 to 3, and those of the bank behind the one that was started
   pub touches : SparesBlocksByAll (moment a).fields (writes_of (device a)) (writes_of left)

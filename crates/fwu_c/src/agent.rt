@@ -27,7 +27,8 @@ pub extern "C" fn fwu_accept(
     report: &mut Report,
 ) -> u32
     ensures accepts { TellsCall result → CallsBy image.now bank (Accepts guid.now) result report.old report.new steps.new room.new }
-    // Whatever it answers: no loss of power, and at 1, 2, 5 to 7 and 21 what that number says.
+    // Whatever it answers: no loss of power, no erase or program in block 0, which fields stay, and at 1, 2, 5 to 7 and 21 what
+    // that number says.
     ensures tells { TellsSteps image.now result report.old steps.old room.old report.new steps.new room.new }
 {
     let call = AgentCall::Accept(Guid::of(*guid));
@@ -52,7 +53,8 @@ pub extern "C" fn fwu_previous(
     report: &mut Report,
 ) -> u32
     ensures selects { TellsCall result → CallsBy image.now bank Previous result report.old report.new steps.new room.new }
-    // Whatever it answers: no loss of power, and at 1, 2, 5 to 7 and 21 what that number says.
+    // Whatever it answers: no loss of power, no erase or program in block 0, which fields stay, and at 1, 2, 5 to 7 and 21 what
+    // that number says.
     ensures tells { TellsSteps image.now result report.old steps.old room.old report.new steps.new room.new }
 {
     let call = AgentCall::Previous;

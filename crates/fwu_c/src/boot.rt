@@ -28,7 +28,8 @@ pub extern "C" fn fwu_boot(
 ) -> u32
     ensures answers { result ≤ 7 }
     ensures boots { result ≤ 5 → BootsBy image.now result report.old report.new steps.new room.new }
-    // Whatever it answers: no loss of power, and at 1, 2 and 5 to 7 what that number says.
+    // Whatever it answers: no loss of power, no erase or program in block 0, which fields stay, and at 1, 2 and 5 to 7 what that
+    // number says.
     ensures tells { TellsSteps image.now result report.old steps.old room.old report.new steps.new room.new }
 {
     let flash = match StepFlash::new(alloc, image, steps.len()) {

@@ -20,8 +20,8 @@ pub fn fault_number(fault: LayoutFault) -> u32
     }
 }
 
-/// 0 where the block is the layout of a flash of so many blocks, else the number of its first fault: 1 short, 2 magic number, 3
-/// size, 4 checksum, 5 a field, 6 beyond the flash.
+/// 0 where the block is the layout of a flash of so many blocks, else the number of its first fault. 1 is short, 2 magic
+/// number, 3 size, 4 checksum, 5 a field, 6 beyond the flash.
 #[unsafe(no_mangle)]
 pub extern "C" fn fwu_layout(block: &[u8], blocks: u32) -> u32
     ensures { result ≡ layout_code (layout_of block.now blocks) }

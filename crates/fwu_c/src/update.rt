@@ -23,8 +23,9 @@ use step_flash::{Step, StepFlash};
 use verify_core::AnyManifest;
 
 /// Installs a package, whose bytes lie in memory, on a flash that lies in memory. It tells the steps by which the flash becomes
-/// what the update makes of it: those of a boot, and behind them those of begin, of the images and of end (DEN0118). A copy has its
-/// bytes from the package. With `acceptance` 0 each image is accepted at once; with another number the package is on trial.
+/// what the update makes of it. These are those of a boot, and behind them those of begin, of the images and of end (DEN0118). A
+/// copy has its bytes from the package. With `acceptance` 0 each image is accepted at once; with another number the package is on
+/// trial.
 ///
 /// 0: installed, once the steps are done in their order. 1: block 0 is no layout. 2: neither replica is metadata. 3: neither bank
 /// may be started. 5: there was no room for one more step. 6: these bytes are no flash. 7: memory, or room for the steps' bytes, is
@@ -45,7 +46,8 @@ pub extern "C" fn fwu_update(
     // A boot would count one more start of a bank on trial. Nothing else is written then.
     ensures trial { IsOnTrial image.now → TellsAnswer result → (result ≡ 16)
         × (report.new ≡ record report.old { steps = 0; bytes = 0 }) × (steps.new ≡ steps.old) × (room.new ≡ room.old) }
-    // Whatever it answers: no loss of power, and at 1, 2 and 5 to 7 what that number says.
+    // Whatever it answers: no loss of power, no erase, program or copy in block 0, which fields stay, and at 1, 2 and 5 to 7 what
+    // that number says.
     ensures tells { TellsSteps image.now result report.old steps.old room.old report.new steps.new room.new }
 {
     let first = match StepFlash::new(alloc, image, 0) {

@@ -115,8 +115,8 @@ pub(crate) fn add_counts(text: &mut Vec<u8>, trials: u32, counter: u32)
     add_named(text, b" counter=", counter)
 }
 
-/// Adds the numbers of a flash, as `active=A previous=P banks=S,S bits=B,B trials=T counter=C`: the state of each bank, and
-/// of each bank a digit for each image, 1 where it was accepted.
+/// Adds the numbers of a flash, as `active=A previous=P banks=S,S bits=B,B trials=T counter=C`. S is the state of each
+/// bank, and B of each bank a digit for each image, 1 where it was accepted.
 pub fn add_numbers(text: &mut Vec<u8>, numbers: &Numbers)
     requires { HasRoom text.old NUMBERS_ROOM }
     ensures grows { Grows text.old text.new (numbers_text (shown_numbers numbers.now)) }

@@ -33,8 +33,9 @@ fn hold_stream<R: Files>(rt: &R, flash: &str) -> Option<R::File> {
     }
 }
 
-/// A file for each standard stream. Where a stream is closed, the system gives its place to the next file that is opened: to one of
-/// these, and not to the flash that is written, into which lines would go. A flash that can't be opened so can't be used either.
+/// A file for each standard stream. Where a stream is closed, the system gives its place to the next file that is opened. That is
+/// one of these, and not the flash that is written, into which lines would go. A flash that can't be opened so can't be used
+/// either.
 fn hold_standard_streams<R: Files>(rt: &R, flash: &str) -> [Option<R::File>; 3] {
     [
         hold_stream(rt, flash),

@@ -99,16 +99,16 @@ is_next Ignored = false
 abbrev pub IsNextRequest : LastAnswer → List ℕ → Type 0
 IsNextRequest a body = admission a.last (request_number_of body) ≡ Acts
 
--- A frame of n bytes was given for a request of this number, by the steps of the exchange: it is what is written for the request,
--- where the frame of a request that acts is the one at the front of the buffer; and that one is kept.
+-- A frame of n bytes was given for a request of this number, by the steps of the exchange. It is what is written for the request,
+-- where the frame of a request that acts is the one at the front of the buffer. That one is kept.
 pub record GivesReply (number n : ℕ) (acted : Bool) (old new : LastAnswer) (out : Buffers) : Type 0 where
   pub whole : length (take n out.after) ≡ n
   pub writes : written old number (take n out.after) ≡ Some (take n out.after)
   pub keeps : new ≡ answered old number (take n out.after)
   pub acts : acted ≡ is_next (admission old.last number)
 
--- What is given for a request, by its number and what is kept: a reply; or nothing, and nothing changes. Or the agent is stopped, in
--- a request that acts, and nothing is kept.
+-- What is given for a request, by its number and what is kept: a reply; or nothing, and nothing changes. Or the agent is stopped,
+-- in a request that acts, and nothing is kept.
 abbrev pub GivesTaken : ℕ → Result Taken Stop → LastAnswer → LastAnswer → Buffers → Type 0
 GivesTaken number (Ok (taken.Reply n acted)) old new out = GivesReply number n acted old new out
 GivesTaken number (Ok taken.Ignored) old new out = (admission old.last number ≡ Ignored) × (new ≡ old) × (out.after ≡ out.before)

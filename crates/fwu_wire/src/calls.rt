@@ -166,8 +166,8 @@ fn call_by<'a>(function: Function, args: &'a [u8]) -> Option<AgentCall<'a>>
 
 /// What the message of a request asks for, which is the number of a function and its arguments.
 ///
-/// `None`: there is no such function; or its arguments have another length; or the op of an open is neither 0, to read, nor 1, to
-/// write; or a read asks for more than 4,096 bytes.
+/// `None`: there is no such function, or its arguments have another length. Or the op of an open is neither 0, to read, nor 1, to
+/// write. Or a read asks for more than 4,096 bytes.
 #[tactic(auto, unfolding(crate::specs::Calls::asks))]
 pub fn call_of<'a>(message: &'a [u8]) -> Option<AgentCall<'a>>
     requires { 4 ≤ length message.now }

@@ -121,9 +121,9 @@ impl<D: Flash> Server<D> {
         })
     }
 
-    /// Takes the body of a request, of 8 to 4,108 bytes. With the next number it acts: the agent does what it asks for, and the frame
-    /// of the reply stands at the front of `out` and is kept. The last number again gives that frame again, and does nothing. A
-    /// request of another number is ignored, and behind 4,294,967,295 each is.
+    /// Takes the body of a request, of 8 to 4,108 bytes. With the next number it acts: the agent does what it asks for, and the
+    /// frame of the reply stands at the front of `out` and is kept. The last number again gives that frame again, and does nothing.
+    /// A request of another number is ignored, and behind 4,294,967,295 each is.
     ///
     /// Lost, Fault: the flash stopped the call, and there is no reply. Gone: it stopped an earlier one. The number stays unused.
     pub fn take<V: Verifier>(

@@ -40,8 +40,8 @@ pub fn plain_words_are_taken()
     ensures nothing { asked [] ≡ None }
 {}
 
-/// What the definition of whose manifests pass says of words that begin with `--allow`: the name and the words behind it where
-/// there is a name, and nothing where there is none.
+/// What the definition of whose manifests pass says of words that begin with `--allow`. It is the name and the words behind it
+/// where there is a name, and nothing where there is none.
 pub fn lists_are_told()
     ensures asks { (words rest : List (List ℕ)) (name : List ℕ) → NamesList words name rest → asks_list words ≡ true }
     ensures name { (words rest : List (List ℕ)) (name : List ℕ) → NamesList words name rest → list_name words ≡ Some name }

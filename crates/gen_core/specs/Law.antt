@@ -10,7 +10,7 @@ use Rattle.gen_core.specs.Rounds.{round_of, sizes_in_round, soak_rounds}
 use Rattle.gen_core.specs.Setup.{soak_layout}
 use Rattle.gen_core.specs.declared.rounds.Round.{Round}
 
--- The file is a package that installs these images on a flash of these image rows: no image of the layout is missing or larger than
+-- The file is a package that installs these images on a flash of these image rows. No image of the layout is missing or larger than
 -- its slot, no entry is skipped, and the images are complete, of this security version.
 pub record InstallsPackage (rows : List ImageRow) (file : List ℕ) (images : List (List ℕ)) (security : ℕ) : Type 0 where
   pub toc : Toc

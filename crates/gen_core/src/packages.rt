@@ -120,12 +120,12 @@ fn parts(
     Ok(parts)
 }
 
-/// The package of a number, for a layout of these image rows: a manifest of this security version
-/// whose image versions are the number, and then the images, each of as many bytes as its size says;
-/// the first size is that of image 1. Byte j of image i is the low byte of `7j + i + number`. The
-/// package has the serial number 0x12345678 and no flags, and no payload is aligned. It is complete
-/// for the layout, and each of its entries is that of an image. It takes memory for about twice the
-/// images' sizes; the error comes where that is wanting.
+/// The package of a number, for a layout of these image rows. It has a manifest of this security
+/// version whose image versions are the number, and then the images, each of as many bytes as its
+/// size says. The first size is that of image 1. Byte j of image i is the low byte of `7j + i +
+/// number`. The package has the serial number 0x12345678 and no flags, and no payload is aligned. It
+/// is complete for the layout, and each of its entries is that of an image. It takes memory for
+/// about twice the images' sizes; the error comes where that is wanting.
 pub fn package(
     alloc: Global,
     rows: &[ImageRow],

@@ -1,5 +1,5 @@
--- GUID partition tables (UEFI) in the profile of this project: a sector is one block of 4096 bytes, each entry has 128 bytes.
--- A device has two copies of its table: the primary has its header in block 1 and its entries from block 2 on; the backup has its
+-- GUID partition tables (UEFI) in the profile of this project: a sector is one block of 4096 bytes, each entry has 128 bytes. A
+-- device has two copies of its table. The primary has its header in block 1 and its entries from block 2 on. The backup has its
 -- header in the last block and its entries in the blocks before that.
 use Rattle.std.specs.Prelude.{if◌then◌else◌, ◌≡◌, ◌≢◌, ℕ, ◌+◌, ◌-◌, ◌*◌, ◌/◌, ◌≤◌, ◌&&◌, ◌==◌, Bool, nat_le, List, ◌++◌, length, Option, Some, None, IsTrue, codes, replicate}
 use Rattle.base_core.specs.Bytes.{num_at, part, le, same_bytes}

@@ -1,4 +1,4 @@
--- What writing to the blocks of a device asks for, and what it leaves.
+-- What writing to the blocks of a device asks for, and which bytes it leaves there.
 use Rattle.std.specs.Prelude.{◌≡◌, ℕ, ◌+◌, ◌-◌, ◌*◌, ◌/◌, ◌%◌, ◌<◌, ◌≤◌, List, length}
 use Rattle.base_core.specs.Block.{block_bytes, granule_bytes}
 use Rattle.base_core.specs.Bytes.{part}

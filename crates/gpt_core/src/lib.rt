@@ -1,4 +1,4 @@
-//! The flash of a platform in the partitions of a device with a GUID partition table (UEFI): the table
+//! The flash of a platform in the partitions of a device with a GUID partition table (UEFI). The table
 //! is read and repaired, and the partitions are seen as one flash.
 //!
 //! A sector is one block of 4096 bytes, and an entry has 128 bytes.

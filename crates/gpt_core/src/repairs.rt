@@ -156,8 +156,8 @@ fn mend<D: Flash>(
     repair_copy(flash, header, first, head, table.entries.as_slice())
 }
 
-/// Repairs the copy of a table that reading found to need it, from the one that decides: erases the header's block and settles it,
-/// then writes the entries and settles them, then the header. The first 4096 bytes of the buffer are used.
+/// Repairs the copy of a table that reading found to need it, from the one that decides. It erases the header's block and settles
+/// it, then writes the entries and settles them, then the header. The first 4096 bytes of the buffer are used.
 pub fn repair_table<D: Flash>(
     flash: &mut D,
     table: &Table,

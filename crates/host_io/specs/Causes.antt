@@ -1,4 +1,4 @@
--- When a call may answer that it failed.
+-- When a call may answer that it failed, and how calls are counted.
 use Rattle.std.specs.Prelude.{◌≡◌, ◌≤◌, ◌+◌, ◌↔◌, ℕ, Result, Err, IsErr, OnErr, OnOk}
 use Rattle.base_core.specs.Counts.{Rose}
 use Rattle.host_io.specs.Calls.{Calls, IsListed, counted, failures, raised, write_counted, write_failures}
@@ -12,7 +12,7 @@ pub record CountsFault (before now : ℕ) : Type 0 where
   pub once : now ≤ before + 1
   pub rose : Rose before now
 
--- a call fails only where its object's faults rose, by one at most, and counts that
+-- a call fails only where its object's faults rose, by one at most; the last clause says it all, and the others follow from it
 pub record HasCause {T E : Type 0} (before now : ℕ) (result : Result T E) : Type 0 where
   pub later : before ≤ now
   pub once : now ≤ before + 1
@@ -20,7 +20,7 @@ pub record HasCause {T E : Type 0} (before now : ℕ) (result : Result T E) : Ty
   pub failed : OnErr result (Rose before now)
   pub count : now ≡ failures result before
 
--- a write fails only where its object's faults rose, by one at most, and for want of memory without a fault
+-- a write fails only where its object's faults rose, by one at most, and for want of memory without a fault; all by the last clause
 pub record HasWriteCause {T : Type 0} (before now : ℕ) (result : Result T WriteStop) : Type 0 where
   pub later : before ≤ now
   pub once : now ≤ before + 1

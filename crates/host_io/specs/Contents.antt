@@ -48,7 +48,7 @@ abbrev pub StopsAt : WriteStop → Option (List ℕ) → Option (List ℕ) → L
 StopsAt Failed old new piece = (n : ℕ) × Appends old new (take n piece)
 StopsAt NoMemory old new piece = new ≡ old
 
--- what a put with this result took: all of the piece, or where it stopped so much
+-- what a put with this result took: all of the piece, or what one that stopped takes
 abbrev pub TakesBytes : {T : Type 0} → Result T WriteStop → Option (List ℕ) → Option (List ℕ) → List ℕ → Type 0
 TakesBytes result old new piece = MatchResult result (λ _. Appends old new piece) (λ stopped. StopsAt stopped old new piece)
 

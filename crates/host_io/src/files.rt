@@ -32,7 +32,7 @@ pub trait Files {
     ghost writes: { Self → Writes };
 
     /// No call from the first to the second makes this access. It is nothing at run time, and an
-    /// implementation need say no more than that it fits the two laws below; so code over files of any
+    /// implementation need say no more than that it fits the two laws below. So code over files of any
     /// type is held to what each call says of it. The pieces that a file is made of are no access of
     /// their own: who names one has to know that it is there.
     ghost spares: { Self → Self → Access → Type 0 };
@@ -87,10 +87,10 @@ pub trait Files {
             ⊎ Rose (writes self.old).torn (writes self.new).torn }
         ensures spares { (access : Access) → access ≢ Overwrites name.now → spares self.old self.new access };
 
-    /// Makes the file anew, of a frame's bytes with pieces of files between them, each behind as many
-    /// more of the frame as it says (or as there are), and last what is left of the frame. The pieces
-    /// are those that the files had before, also where the made file is one of them. Files that are not
-    /// told stay so.
+    /// Makes the file anew, of a frame's bytes with pieces of files between them. Each stands behind as
+    /// many more of the frame as it says (or as there are), and last comes what is left of the frame.
+    /// The pieces are those that the files had before, also where the made file is one of them. Files
+    /// that are not told stay so.
     ///
     /// `Unread` is for a piece that can't be read: the files are as they were, and no write is counted.
     /// `Failed` is for a file that can't be written. No other name has changed then, and this one is as it

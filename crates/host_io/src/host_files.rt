@@ -103,9 +103,9 @@ fn same_owner(one: &Metadata, other: &Metadata) -> bool {
     one.uid() == other.uid() && one.gid() == other.gid()
 }
 
-/// The files of the system. They tell nothing of their contents. Each error is a fault, and so are
-/// a name that no file has, or that a folder, a pipe or a device has, whose size says nothing of what
-/// it would give, and a range outside the file.
+/// The files of the system. They tell nothing of their contents. Each error is a fault, and so is a
+/// name that no file has, and a range outside the file. So is a name that a folder, a pipe or a
+/// device has, whose size says nothing of what it would give.
 ///
 /// The file that `read_at` read last stays open for the next such read of its name, until a size is asked
 /// for, or a file is written. So a file that takes its name meanwhile is not read before that.
@@ -283,7 +283,7 @@ impl<R: std::rt::Files> HostFiles<R> {
     }
 
     // Gives a new file the mode of the one that it is to replace, where both have the same owner and
-    // group and may have the same mode, and says whether. That the old one can't be written is an
+    // group and may have the same mode. It says whether. That the old one can't be written is an
     // error.
     fn give_mode(&self, name: &str, file: &R::File, old: &Metadata) -> io::Result<bool> {
         let found = file.metadata()?;
@@ -464,7 +464,8 @@ impl<R: std::rt::Files> Files for HostFiles<R> {
 
     ghost writes = { λ f. f.writes };
 
-    /// What a call asks of the system no clause can tell. Each call goes to the same runtime.
+    /// What a call asks of the system no clause can tell. So of each access this alone is said: the runtime
+    /// stays. The calls below promise that by it.
     ghost spares = { λ old new _. new.inner ≡ old.inner };
 
     ghost at_rest = { λ _ _. refl };
@@ -520,11 +521,11 @@ impl<R: std::rt::Files> Files for HostFiles<R> {
     /// old one's mode, and no other rights of it. So where this fails the old file is still there; that
     /// it can't be written, or that all names are taken, is an error.
     ///
-    /// A link, a file of two names or of another user or group, what is no regular file, and one beside
-    /// which no new file can be made or that can't be replaced, is written where it stands, once all is
-    /// read. It may be torn then, where it was opened and not filled. So a piece that can't be read tears
-    /// no file. Such a piece is one whose file can't be opened or is no regular one, whose place is behind
-    /// the file's end, or whose bytes can't all be read.
+    /// A link, a file of two names or of another user or group, and what is no regular file is written
+    /// where it stands, once all is read. So is one beside which no new file can be made or that can't be
+    /// replaced. It may be torn then, where it was opened and not filled. So a piece that can't be read
+    /// tears no file. Such a piece is one whose file can't be opened or is no regular one, whose place is
+    /// behind the file's end, or whose bytes can't all be read.
     fn write_joined(
         &mut self,
         alloc: Global,

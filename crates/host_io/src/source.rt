@@ -26,7 +26,7 @@ pub trait Source {
 
     /// Exactly these reads lead from the first to the second: of each how many bytes it gave, or that it
     /// failed. It is nothing at run time, and an implementation need say no more than that it fits the two
-    /// laws below; so code over a source of any type is held to what each read says of it.
+    /// laws below. So code over a source of any type is held to what each read says of it.
     ghost reads: { Self → Self → List (Option ℕ) → Type 0 };
 
     /// Reads some bytes to the front of `out`, and gives their number. Zero, for a room that is not

@@ -13,8 +13,8 @@ use Rattle.image_check.specs.declared.bank.Verdict.TheVariants as verdict
 abbrev pub HasImage : Row → Type 0
 HasImage row = (bytes : List ℕ) × IsTrue (is_image_of row bytes)
 
--- Where none is bad, there is an image for each row of the manifest, and else the bad one is of a row, and there is one for each
--- row before it.
+-- Where none is bad, there is an image for each row of the manifest. Else the bad one is of a row, and there is one for each row
+-- before it.
 abbrev pub HasImages : List ℕ → ℕ → Option ℕ → Type 0
 HasImages manifest count None = (k : ℕ) → k < count → HasImage (row_at manifest k)
 HasImages manifest count (Some image) = (1 ≤ image) × (image ≤ count) × ((k : ℕ) → k + 1 < image → HasImage (row_at manifest k))

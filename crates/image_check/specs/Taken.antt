@@ -37,7 +37,8 @@ pub record AreReadable {D : Type 0} (g : Ghosts D) (d : D) (images : Images) : T
 abbrev pub is_good_in : List ℕ → Images → ℕ → Bool
 is_good_in image images k = is_good image images.rows.now images.first images.manifest.now k
 
--- What is found of image k + 1: that, on a device that tells; and on every device what was read of a good one has the digest of its row.
+-- What is found of image k + 1. On a device that tells: whether it is good. On every device: some bytes are an image of the row of
+-- a good one.
 pub record IsFoundAt {D : Type 0} (g : Ghosts D) (d : D) (images : Images) (k : ℕ) (good : Bool) : Type 0 where
   pub told : IsTrue g.tells → good ≡ is_good_in (g.told d).now images k
   pub some : IsTrue good → HasImage (row_at images.manifest.now k)
@@ -111,7 +112,7 @@ pub record IsUnderWay {D : Type 0} (g : Ghosts D) (d : D) (work : Work) : Type 0
   pub lanes_are : (j : ℕ) → j < 4 → ForSome (job_at work.jobs j) (IsBegun g d work.images (HoldsInLane j work.lanes))
   pub begins : work.block ≡ place work.images.rows.now work.images.first (work.next + 1)
 
--- The work went on, but no lane took another image. A free lane is still free.
+-- The work went on, and the next image and the images stayed. A free lane is still free.
 pub record HaveStepped {D : Type 0} (g : Ghosts D) (d : D) (work after : Work) : Type 0 where
   pub under_way : IsUnderWay g d after
   pub images : after.images ≡ work.images

@@ -19,9 +19,9 @@ use manifest_core::{MOST_MANIFEST_BYTES, manifest_size, test};
 use meta_layout::Layout;
 use verify_core::Verifier;
 
-/// What is found of a bank, the first of these that is so: its manifest is none of the layout's images; the verifier
-/// refuses the manifest; an image, the lowest, has not the digest that its row says; the security version is below the
-/// counter. Else it is good.
+/// What is found of a bank is the first of these that is so. Its manifest is none of the layout's images; the verifier
+/// refuses the manifest; an image, the lowest, has not the digest that its row says. Or the security version is below
+/// the counter. Else it is good.
 #[derive(Clone, Copy, Debug, PartialEq, Eq)]
 pub enum Verdict {
     Good { version: u32 },
@@ -83,7 +83,7 @@ pub struct Asked<'a> {
     pub counter: u32,
 }
 
-/// The verdict on a bank as `check` gives it, and what was read of the bank's manifest, by which it is: that is left at the front
+/// The verdict on a bank as `check` gives it, and what was read of the bank's manifest, by which it is. That is left at the front
 /// of `front`, which has room for the largest. The images are read through `buf`, as there.
 pub fn check_keeping_manifest<D: Flash, V: Verifier>(
     flash: &mut D,
@@ -100,7 +100,7 @@ pub fn check_keeping_manifest<D: Flash, V: Verifier>(
     ensures verdict { IfOk result (λ verdict. IsTrue D.tells →
         verdict ≡ verdict_on (V.passes verifier.now) asked.now.counter asked.now.layout.now (D.told flash.old).now asked.now.bank) }
     ensures passed { IfOk result (HasPassed (V.passes verifier.now) asked.now.layout.now.rows asked.now.counter) }
-    // On every device the verdict is by the manifest that is kept: it is none, or it is refused, or it passes, with an image for
+    // On every device the verdict is by the manifest that is kept. It is none, or it is refused, or it passes, with an image for
     // each row or for each before the bad one.
     ensures by_manifest { let manifest = take (model.manifest_size (length asked.now.layout.now.rows - 1)) front.new in
         IfOk result (IsVerdictBy (V.passes verifier.now) asked.now.layout.now.rows manifest) }

@@ -19,7 +19,7 @@ struct Work<'a> {
     images: Images<'a>,
     lanes: Lanes,
     jobs: [Option<Job>; 4],
-    // the row of the image that no lane has had yet, and the block at which that image begins
+    // the lowest row whose image no lane has had yet, and the block at which that image begins
     next: u32,
     block: u32,
     // the lowest row whose image was found bad, or else how many rows there are
@@ -50,8 +50,8 @@ fn shortest(jobs: &[Option<Job>; 4]) -> usize
     best
 }
 
-/// How many of the bytes that are left of an image are taken in side by side at once: whole blocks of the hash, at most 4096 bytes,
-/// and at least one byte is left.
+/// How many of the bytes that are left of an image are taken in side by side at once: whole blocks of the hash, and at most 4096
+/// bytes. At least one byte is left.
 fn piece_size(job: Option<Job>) -> usize
     ensures whole { result % 64 ≡ 0 }
     ensures few { result ≤ block_bytes }
@@ -135,7 +135,8 @@ fn take_piece<D: Flash>(
     Ok(())
 }
 
-/// Finishes the image of a lane, if it has one, and the lane is free. An image above one that was found bad is not looked at.
+/// Finishes the image of a lane, if it has one, and the lane is free. An image above one that was found bad is read no further: no
+/// clause says so.
 fn settle<D: Flash>(
     flash: &mut D,
     work: &mut Work<'_>,
@@ -259,8 +260,9 @@ fn begin_all<'a, D: Flash>(
 }
 
 /// The lowest image after the manifest that has not the digest of its row.
-/// Four lanes are quicker than one message after the other while three have an image; two are finished one after the other.
-/// All are read into the buffer: a piece for each lane beside one another, or one of an image that goes on alone.
+/// Four lanes are quicker than one message after the other while three have an image. Where more images were begun, the last two
+/// are finished one after the other; of three they go on side by side. All are read into the buffer: a piece for each lane beside
+/// one another, or one of an image that goes on alone.
 pub(crate) fn first_bad_in_lanes<D: Flash>(
     flash: &mut D,
     images: &Images<'_>,

@@ -1,5 +1,5 @@
-//! A flash over a file: of the system, in memory, at a cursor that counts its syncs, with short writes, torn in mid-stream, and broken.
-//! Block 3 begins at byte 12288.
+//! A flash over a file: of the system, in memory, at a cursor that counts its syncs, with short writes, torn in mid-stream, and
+//! broken. Block 3 begins at byte 12288.
 
 use crate::fixtures::{
     are_numbers, arm, ends, erase, gives, holds, image, power_on, put, read, removed, same,

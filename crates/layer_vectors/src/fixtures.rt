@@ -131,7 +131,8 @@ pub fn removed(rt: &(impl Files + Abort), name: &str) {
     fs::remove_file(rt, name).expect(rt, "removed");
 }
 
-/// Stops the test where this does not hold, and prints what it is of. A call costs its test's proof less than the macro in its place.
+/// Stops the test where this does not hold, and prints what it is of. A call costs its test's proof less than the macro in its
+/// place.
 pub fn holds(rt: &impl Abort, is_so: bool, of: &str)
     ensures { IsTrue is_so }
 {

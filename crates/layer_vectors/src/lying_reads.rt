@@ -1,4 +1,5 @@
-//! A flash over a file of which some reads give other bytes than it has. Whatever they give, a boot writes blocks 1 to 3, 5 and 6 alone.
+//! A flash over a file of which some reads give other bytes than it has. Whatever they give, a boot leaves all but blocks 1 to 3,
+//! 5 and 6 as they were.
 
 use crate::boots_in_buffers::five_images;
 use crate::fixtures::{holds, power_on, same};
@@ -110,7 +111,7 @@ fn booted_over_lies(rt: &impl Abort, alloc: Global, seed: u32, one_in: u32) -> L
     device_of(boot(flash, &AnyManifest)).into_file()
 }
 
-// Whether a boot over these lies wrote anything, where it wrote blocks 1 to 3, 5 and 6 alone.
+// Whether a boot over these lies wrote anything, where it left all but blocks 1 to 3, 5 and 6 as they were.
 fn writes_in_its_blocks(rt: &impl Abort, alloc: Global, seed: u32, one_in: u32) -> bool {
     let before = five_images(alloc).expect(rt, "memory");
     let file = booted_over_lies(rt, alloc, seed, one_in);

@@ -1,6 +1,5 @@
-//! Draws, rounds and packages, against values from elsewhere: the numbers of the C standard's
-//! example of `rand`, and rounds and packages as Python draws and makes them: checks/model/check_vectors.py
-//! makes them again.
+//! Draws, rounds and packages, against other values: the numbers of the C standard's example of `rand`, and
+//! rounds and packages as Python draws and makes them. checks/model/check_vectors.py makes them again.
 
 use crate::fixtures::same;
 use gen_core::{Cut, Ending, Lcg, Round, draw_sizes, package, soak_rows};

@@ -26,7 +26,7 @@ is_named i r = same_bytes i.guid r.guid
 abbrev pub fits_slot : ImageRow → model.Row → Bool
 fits_slot i r = nat_le r.size (block_bytes * i.slots)
 
--- The manifest has a row for each image but the first, of its type and within its slot: it is neither of a wrong count, nor of a
+-- The manifest has a row for each image but the first, of its type and within its slot. It is neither of a wrong count, nor of a
 -- wrong order, nor too large.
 pub record Suits (images : List ImageRow) (m : model.Manifest) : Type 0 where
   pub count : length m.rows + 1 ≡ length images

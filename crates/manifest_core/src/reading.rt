@@ -138,11 +138,11 @@ fn test_whole(whole: &[u8], rows: &[ImageRow]) -> Result<u32, ManifestFault>
 }
 
 /// The security version of the manifest at the front of the bytes, or the first fault against the images of a layout.
-/// What stands behind the manifest's length is passed over. The faults come in this order: fewer bytes than a manifest
-/// of these images has (`Short`); another magic number; neither form 1, nor form 2 with a version above 223
-/// (`BadForm`); form 1 with a version above 223; a count other than the images but the first (`BadCount`); a row that
-/// has not its image's type (`WrongOrder`); a row that says more bytes than its image's slot has (`TooLarge`); another
-/// digest. It takes no memory.
+/// What stands behind the manifest's length is passed over. The faults come in this order. First come fewer bytes than
+/// a manifest of these images has (`Short`), and another magic number. Then neither form 1, nor form 2 with a version
+/// above 223 (`BadForm`), and form 1 with a version above 223. Then a count other than the images but the first
+/// (`BadCount`), and a row that has not its image's type (`WrongOrder`). Then a row that says more bytes than its
+/// image's slot has (`TooLarge`), and another digest. It takes no memory.
 pub fn test(bytes: &[u8], rows: &[ImageRow]) -> Result<u32, ManifestFault>
     requires some { 1 ≤ length rows.now }
     requires few { length rows.now ≤ most_images }

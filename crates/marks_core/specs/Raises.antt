@@ -13,8 +13,8 @@ use Rattle.fwu_formats.specs.Counter.{is_record, record_bytes, counter_in}
 abbrev pub value_in : List ℕ → Option ℕ
 value_in bytes = if is_record bytes then Some (num_at 4 bytes 8) else None
 
--- the block for a new record, by the records in blocks 5 and 6:
--- one that is none, 5 before 6, else that of the lower value, 5 at a tie
+-- The block for a new record, by the records in blocks 5 and 6. It is one that is none, 5 before 6,
+-- else that of the lower value, 5 at a tie.
 abbrev pub place_for : Option ℕ → Option ℕ → ℕ
 place_for None second = 5
 place_for (Some a) None = 6

@@ -75,9 +75,9 @@ fn record_place<D: Flash>(flash: &mut D, front: &mut [u8]) -> Result<u32, FlashS
     Ok(place_for(first, second))
 }
 
-/// Raises the counter to a value above it: one record, by erase, program and barrier, into block 5 where neither or only block 6 is
-/// a record, into block 6 where only block 5 is, else over the lower value (5 at a tie).
-/// The first 32 bytes of the buffer are used.
+/// Raises the counter to a value above it, by one record: erase, program and barrier. It goes into block 5 where neither or only
+/// block 6 is a record, and into 6 where only block 5 is. Else it goes over the lower value (5 at a tie). The first 32 bytes of
+/// the buffer are used.
 pub fn raise<D: Flash>(flash: &mut D, v: u32, buf: &mut [u8]) -> Result<(), FlashStop>
     requires on { IsTrue (D.on flash.old) }
     requires room { block_bytes ≤ length buf.old }
@@ -88,7 +88,7 @@ pub fn raise<D: Flash>(flash: &mut D, v: u32, buf: &mut [u8]) -> Result<(), Flas
     // on every device: one erase and one program
     ensures spent { OnOk result (D.arming flash.new ≡ lowered (lowered (D.arming flash.old))) }
     ensures buffer { length buf.new ≡ length buf.old }
-    // on every device: no block but 5 or but 6 is erased or programmed, so that the other record stays
+    // on every device: one of blocks 5 and 6 may be erased and programmed, and no other block, so that the other record stays
     ensures touches { TouchesOneRecord (D.writes flash.old) (D.writes flash.new) }
 {
     let place = record_place(flash, &mut buf[..RECORD_BYTES])?;

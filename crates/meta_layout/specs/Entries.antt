@@ -52,9 +52,10 @@ pub record HasBits (m : Meta) (banks image : ℕ) : Type 0 where
 abbrev pub state_bytes : List BankState → List ℕ
 state_bytes states = map state_byte states ++ replicate (4 - length states) 0xFF
 
--- the body's bytes before the fields that the layout gives, and these fields
+-- the body's bytes before the fields that the layout gives
 abbrev pub front_bytes : Layout → Meta → List ℕ
 front_bytes L m = (le 4 2 ++ le 4 m.active ++ le 4 m.previous ++ le 4 (meta_size L) ++ le 2 0x20 ++ le 2 0) ++ state_bytes m.states
 
+-- and these fields: the numbers of banks and of images, and the sizes of an entry and of a bank's part
 abbrev pub rest_bytes : Layout → List ℕ
 rest_bytes L = le 4 0 ++ le 1 L.banks ++ le 1 0 ++ le 2 (length L.rows) ++ le 2 (entry_size L) ++ le 2 24

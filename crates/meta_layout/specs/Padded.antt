@@ -35,7 +35,7 @@ module _ {X : Type 0} (room : ℕ) (filler : X) (count : ℕ) (array : List X) (
     padding = drop-set-lt count array i x lt ∙ is.padding;
   }
 
--- what is made of a count and an array is the same if it is made of the elements in front
+-- what is made of a count and an array is the same if it is made of the elements in front, with the filler behind them
 pub padded-made : {X Y : Type 0} {room : ℕ} {filler : X} {count : ℕ} {array : List X} (make : ℕ → List X → Y)
     → IsPadded room filler count array
     → make (length (take count array)) (take count array ++ replicate (room - length (take count array)) filler) ≡ make count array

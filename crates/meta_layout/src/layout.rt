@@ -92,9 +92,9 @@ impl Model for Layout {
 
 impl Layout {
     /// The layout that a block holds, of a flash of so many blocks, or the first fault. The block has, little-endian, at 0 the
-    /// CRC-32 of the bytes from 4 to its size, at 4 the magic number 0x4C555746, at 8 the number of banks, at 12 that of the
-    /// images, at 16 the size `32 + 24 * images`, from 20 on 12 zero bytes, and from 32 on for each image its type, the blocks
-    /// of its slot (1 to 256) and a zero number. Bytes behind the size are not looked at.
+    /// CRC-32 of the bytes from 4 to its size, and at 4 the magic number 0x4C555746. At 8 it has the number of banks, at 12
+    /// that of the images, and at 16 the size `32 + 24 * images`. From 20 on it has 12 zero bytes, and from 32 on for each
+    /// image its type, the blocks of its slot (1 to 256) and a zero number. Bytes behind the size are not looked at.
     ///
     /// `Short`: fewer than 32 bytes, or, once the size is right, fewer than that. `BadMagic`, `BadSize` (2 to 16 images),
     /// `BadCrc`: by these fields. `BadField`: any other field, a nil type, the directory's type or two equal types.

@@ -1,5 +1,5 @@
-//! The layout of a flash (own format), and the metadata of its firmware store (DEN0118), versions 2 and 1:
-//! blocks are read exactly, with the first fault, and written in their one spelling. Nothing here takes memory.
+//! The layout of a flash (own format), and the metadata of its firmware store (DEN0118), versions 2 and 1.
+//! Blocks are read exactly, with the first fault, and written in their one spelling. Nothing here takes memory.
 #![tactic(auto)]
 
 mod block;

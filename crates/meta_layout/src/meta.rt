@@ -8,7 +8,7 @@ use fwu_formats::BankState;
 use std::marker::Model;
 
 /// The metadata of a firmware store (DEN0118): which bank is active and which was before, the state of each bank, and for
-/// each image in it whether it was accepted; beside it the version, 2 or 1, of the block that it was read from.
+/// each image in it whether it was accepted. Beside it stands the version, 2 or 1, of the block that it was read from.
 #[derive(Clone, Copy, PartialEq, Eq)]
 pub struct Meta {
     form: u32,

@@ -155,11 +155,11 @@ impl Meta {
     /// little-endian; b is the number of banks, and an entry has `32 + 24b` bytes.
     ///
     /// Both versions have at 0x00 the CRC-32 of the bytes from 4 to their size, at 0x04 the version, at 0x08 and 0x0C the
-    /// active bank and the one before. Version 2 has at 0x10 its size `40 + images * (32 + 24b)`, at 0x14 the place 0x20 of its
-    /// store descriptor, at 0x18 the states of 4 banks (0xFF invalid, 0xFE valid, 0xFC accepted, 0xFF from b on), at 0x20
-    /// the numbers of banks and images and the sizes of an entry and of a bank's part, and the entries from 0x28 on. Version 1
-    /// has them from 0x10 on, and no states: they follow from the bits. An entry has the image's type, 16 zero bytes,
-    /// and for each bank the type again, the bit as 0 or 1, and a zero number. Bytes behind the size are not looked at.
+    /// active bank and the one before. Version 2 has at 0x10 its size `40 + images * (32 + 24b)`, and at 0x14 the place 0x20 of
+    /// its store descriptor. At 0x18 it has the states of 4 banks (0xFF invalid, 0xFE valid, 0xFC accepted, 0xFF from b on). At
+    /// 0x20 it has the numbers of banks and images and the sizes of an entry and of a bank's part, and the entries from 0x28
+    /// on. Version 1 has them from 0x10 on, and no states: they follow from the bits. An entry has the image's type, 16 zero
+    /// bytes, and for each bank the type again, the bit as 0 or 1, and a zero number. Bytes behind the size are not looked at.
     ///
     /// `Short`: fewer bytes than version 2 has. `NotTwo`: neither version. `BadSize`: not the size of the layout's metadata.
     /// `BadCrc`: another checksum. `BadField`: any other field.

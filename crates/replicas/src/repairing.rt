@@ -93,9 +93,9 @@ fn migrate_zero<D: Flash>(
     replace(flash, FIRST_REPLICA, bytes)
 }
 
-/// Writes the metadata that `load` gave over the replica that lacks it, or, where version 1 decides, over the other replica, unless
-/// it holds the metadata in version 2, and then over the deciding one; each by erase, program and barrier.
-/// The first 4096 bytes of the buffer are used.
+/// Writes the metadata that `load` gave over the replica that lacks it. Where version 1 decides, it writes over the other replica,
+/// unless that holds the metadata in version 2, and then over the deciding one. Each is written by erase, program and barrier. The
+/// first 4096 bytes of the buffer are used.
 pub fn repair<D: Flash>(
     flash: &mut D,
     layout: &Layout,

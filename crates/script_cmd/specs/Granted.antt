@@ -9,7 +9,7 @@ use Rattle.fwu_model.specs.Allow.{list_bytes}
 use Rattle.fwu_model.specs.Causes.{Faults, LacksList, RefusesList, may_fail_before}
 use Rattle.fwu_model.specs.Wrote.{IsBadList}
 
--- A list that told files lack is answered by 2, and one with a bad line by 13, or 2 where it could not be read; the sink may fail
+-- A list that told files lack is answered by 2, and one with a bad line by 13, or 2 where it could not be read. The sink may fail
 -- at that line, or memory be wanting. And nothing was done.
 pub record RefusesBadList (g : Given) (old new : TurnMoment) (status : ℕ)
     (faults_before faults_after : Faults) : Type 0 where
@@ -18,7 +18,7 @@ pub record RefusesBadList (g : Given) (old new : TurnMoment) (status : ℕ)
       → (new ≡ old) × RefusesList status faults_before faults_after)
 
 -- A command that runs no script is given what it asks for: a list of digests, where one is named, that is there and has no bad
--- line; and nothing failed, and no power was lost.
+-- line. And nothing failed, and no power was lost.
 pub record IsGranted (g : Given) (before after : Counts)
     (faults_before faults_after : Faults) : Type 0 where
   pub list_there : LacksList g.files g.list → ⊥

@@ -69,9 +69,9 @@ EndsHold asked g ending old new =
     EndsAs (in_short asked) g.list g.files g.script ending.status ending.noted ending.journal
     old.flash.counts new.flash.counts old.faults new.faults
 
--- What each turn did, on any device, one after the other from the device as it was handed in to what is left of it: its reply, what
--- the agent keeps, what an armed loss counts, and its causes.
--- The files' faults as the turns began and ended are among those of the run.
+-- What each turn did, on any device, one after the other from the device as it was handed in to what is left of it. It says its
+-- reply, what the agent keeps, what an armed loss counts, and its causes. The files' faults as the turns began and ended are among
+-- those of the run.
 pub record RepliesHold (passes : List ℕ → Bool) (tells : Bool) (files : Option Directory)
     (journal : List Turn) (old new : World) : Type 0 where
   -- what the agent keeps at last, where a bank was started
@@ -96,9 +96,9 @@ BootWordHolds passes tells asked ending old new =
     → old.armed ≡ None → (Rose old.counts.faults new.counts.faults → ⊥) → (Rose old.counts.cuts new.counts.cuts → ⊥)
     → BootWordBy passes old.told.now ending.status ending.noted ending.journal
 
--- What a run does to any device: where no turn ran it is as it was; its power is by the replies; no failure and no loss is counted
--- but those that its turns tell; the same blocks are guarded; where no turn is a `cut`, no armed loss is reached; and there are no
--- more lost turns than `cut`s and losses that the device counted.
+-- What a run does to any device. Where no turn ran it is as it was. Its power is by the replies. No failure and no loss is counted
+-- but those that its turns tell. The same blocks are guarded. Where no turn is a `cut`, no armed loss is reached. And there are no
+-- more lost turns than `cut`s and losses that the device counted, unless that count stands at the greatest number.
 pub record RunLeaves (tells : Bool) (journal : List Turn) (old new : TurnMoment) : Type 0 where
   pub untouched : journal ≡ [] → SameDevice old new
   pub power : new.power ≡ power_left old.power journal
@@ -113,8 +113,8 @@ FirstHolds passes tells journal old =
     IsTrue tells → NothingDirty old.told → (t : Turn) → slice_get journal 0 ≡ Some t
     → t.call ≡ call.Boot → BootsFrom passes old.told.now t.reply
 
--- on any flash with nothing dirty, no loss then harms what is in use, even where a seal came about by chance; and with power
--- nothing dirty or under way meets blocks 0 to 7
+-- On any flash with nothing dirty, no loss then harms what is in use, even where a seal came about by chance. And with power
+-- nothing dirty or under way meets blocks 0 to 7.
 abbrev pub GuardedHolds : Bool → TurnMoment → TurnMoment → Type 0
 GuardedHolds tells old new =
     IsTrue tells → NothingDirty old.told → Guards 1 7 old.told → IsGuarded new.told
@@ -205,7 +205,7 @@ WaysAreComplete =
 -- All that `run` or `boot` promises.
 pub record Promised (passes : List ℕ → Bool) (tells : Bool) (inputs : Inputs) (ending : Ending Note)
     (old new : World) : Type 0 where
-  -- From a sound flash: the turns are those of the machine, every image that a loss may leave shows a state that they lead to, and
+  -- From a sound flash the turns are those of the machine. Every image that a loss may leave shows a state that they lead to, and
   -- each boot selects a complete and permitted package.
   pub headline : HeadlineHolds passes tells inputs ending old new
   -- Of a sink that tells its bytes, over every device, files and source: the lines of what was done, at every status.

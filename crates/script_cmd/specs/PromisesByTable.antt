@@ -62,7 +62,7 @@ HeadlineByTable passes device inputs ending old new =
     → Headline E start (outcome calls ending.journal ending.status (seen_at p old) (seen_at p new))
 
 -- Where no turn ran and not all was done, the flash behind a valid table is the same in each image that a loss may
--- leave, and where both headers are guarded so is the table that decides.
+-- leave. Where both headers are guarded so is the table that decides.
 pub record KeepsFlash (blocks : ℕ) (p : Places) (table : Table) (old new : Told) : Type 0 where
   pub same : (image : List ℕ) → May new image → through p image ≡ through p old.now
   pub decides : HeadersGuarded blocks old → (image : List ℕ) → May new image

@@ -30,7 +30,10 @@ sink_of w = port w.taken w.faults.sink
 abbrev pub left_by_serving : Option Fields → LastAnswer → List Turn → World → At
 left_by_serving on exchange journal new =
     record {
-      run = record { moment = at on new.flash.told new.flash.writes new.flash.counts new.flash.armed new.flash.power; journal = journal };
+      run = record {
+        moment = at on new.flash.told new.flash.writes new.flash.counts new.flash.armed new.flash.power;
+        journal = journal;
+      };
       exchange = exchange;
       sink = sink_of new;
     }

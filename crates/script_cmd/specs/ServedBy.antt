@@ -154,7 +154,7 @@ pub record ServedBy (passes : List ℕ → Bool) (tells : Bool) (g : Given) (end
   -- For every device, files, source and sink, told or not: which way it ended, with what was taken, done and written.
   pub way : ServeWay passes tells g ending old new rest
   pub refuses_list : RefusesBadList g old.flash new.flash ending.status old.faults new.faults
-  -- From a sound flash: the turns are those of the machine, every image that a loss may leave shows a state that they lead to, and
+  -- From a sound flash the turns are those of the machine. Every image that a loss may leave shows a state that they lead to, and
   -- each boot selects a complete and permitted package.
   pub headline : ServedHeadline passes tells g.files ending old.flash new.flash
   -- For every device: what each turn did, how the device is left, and that no loss harms what is in use.

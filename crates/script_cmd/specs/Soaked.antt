@@ -36,7 +36,7 @@ soak_setting seed n = record { layout = soak_layout; files = soak_files seed n; 
 abbrev pub first_images : ℕ → List (List ℕ)
 first_images seed = generated_images soak_layout.rows (sizes_in_round seed) 0 1
 
--- The flash was formatted with the first package, and from there on the turns are a run of the machine, of the first calls of the
+-- The flash was formatted with the first package. From there on the turns are a run of the machine, of the first calls of the
 -- soak, all of them at the status 0.
 pub record RunsSoak (seed n : ℕ) (journal : List Turn) (status : ℕ) (new : TurnMoment) : Type 0 where
   pub start : TurnMoment

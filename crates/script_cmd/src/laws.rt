@@ -17,7 +17,7 @@ pub fn ways_end()
     ensures { WaysEnd }
 {}
 
-/// Whichever way a run ends, on any device, its turns follow one another from the device as it was to what is left of it, each with
+/// Whichever way a run ends, on any device, its turns follow one another from the device as it was to what is left of it. Each has
 /// the reply of its call, and what the agent keeps between two of them is what the last one left.
 pub fn ways_reply()
     ensures { WaysReply }
@@ -73,8 +73,8 @@ pub fn nothing_follows_the_sink()
     ensures { NothingFollowsTheSink }
 {}
 
-/// Each boot that is answered, on any device, is of a version that some complete package has whose manifest passes, and that is not
-/// below the counter which the boot read.
+/// Each boot that is answered, on any device, is of a version that some complete package has whose manifest passes. It is not below
+/// the counter which the boot read.
 pub fn boots_are_permitted()
     ensures { BootsArePermitted }
 {}

@@ -29,9 +29,9 @@ fn note_of(end: ServeEnd) -> Note
 
 /// Starts the bank that boots, and answers the requests of the source by frames. No line is printed.
 ///
-/// Status 0 says that the source is at its end, behind whole frames; 2 that a read of it failed, 3 that the sink did, 5 that the
-/// flash did; 6 that no bank was started, 8 that the source gave byte 1,073,741,825, 11 that it gave no frame, and 12 that power
-/// was lost. Status 9 says that memory was wanting, for a turn or at a put.
+/// Status 0 says that the source is at its end, behind whole frames. 2 says that a read of it failed, 3 that the sink did, 5
+/// that the flash did. 6 says that no bank was started, 8 that the source gave byte 1,073,741,825, 11 that it gave no frame, and
+/// 12 that power was lost. Status 9 says that memory was wanting, for a turn or at a put.
 pub fn serve_source<D: Flash, H: Files, I: Source, O: Sink, V: Verifier>(
     alloc: Global,
     files: &mut H,

@@ -24,9 +24,9 @@ use verify_core::Verifier;
 /// that file can't be read, the flash failed or nothing could be booted, the run ends after the line of that turn, by the status 2,
 /// 5 or 6. `show` prints what the flash shows. `format` makes a layout and stores a package. The room for all turns and for the
 /// longest line is made before the first turn, and status 9 with an empty journal means that there was none. `soak` formats the
-/// flash and does rounds of updates and power cuts that are drawn from a number, by any manifest, and prints one line; it makes room
-/// for its turns round by round. `serve` boots, and then answers each request of the source by a frame before it reads on; it makes
-/// room for its turns one by one, and prints no line.
+/// flash and does rounds of updates and power cuts that are drawn from a number, by any manifest, and prints one line. It makes
+/// room for its turns round by round. `serve` boots, and then answers each request of the source by a frame before it reads on; it
+/// makes room for its turns one by one, and prints no line.
 pub fn fwu_top_with<D: Flash, H: Files, I: Source, O: Sink, V: Verifier>(
     alloc: Global,
     words: &[String],

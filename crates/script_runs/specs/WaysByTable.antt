@@ -25,8 +25,8 @@ pub record ReadsScript (asked : Option Asked) (g : Given) (calls : List Call) : 
   pub asks : AsksTurns asked
   pub has : HasCalls g.script calls
 
--- It ended before the device was touched, as without a table; or power came and memory was wanting, or the table
--- gave no flash, or the device stopped, before the first turn; or the turns ran on the flash that the device has at
+-- It ended before the device was touched, as without a table. Or power came, and before the first turn memory was
+-- wanting, or the table gave no flash, or the device stopped. Or the turns ran on the flash that the device has at
 -- the table's places.
 pub data WayByTable (passes : List ℕ → Bool) (device : Device) (asked : Option Asked) (g : Given)
     (ending : Ending Note) (old new : World) : Type 0 where

@@ -5,8 +5,8 @@ ghost use Rattle.script_runs.specs.Here.{PrintsTo};
 
 use host_io::{Sink, WriteStop};
 
-/// Puts a line into the sink in one piece, and gives the exit status that comes of it: the planned one, or 3 where the sink failed,
-/// or 9 where it found no memory.
+/// Puts a line into the sink in one piece, and gives the exit status that comes of it. That is the planned one, or 3 where the sink
+/// failed, or 9 where it found no memory.
 pub fn put_line<O: Sink>(sink: &mut O, bytes: &[u8], planned: u8) -> u8
     ensures { PrintsTo O.Sink bytes.now planned result sink.old sink.new }
 {

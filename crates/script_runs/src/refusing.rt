@@ -81,9 +81,9 @@ fn put_no_table<O: Sink>(alloc: Global, sink: &mut O, lack: NoTable) -> u8
     }
 }
 
-/// Puts the line of a refusal, and gives the exit status that comes of it: 1 for usage, 2 for what was not read, 4 for a bad
-/// script, 5 for a stop, 8 for a script that is too long, 10 without a flash behind the table, 13 for a bad list; 3 where the sink
-/// failed. Where memory is wanting, for the line too, nothing is put and it is 9.
+/// Puts the line of a refusal, and gives the exit status that comes of it. It is 1 for usage, 2 for what was not read, 4 for a bad
+/// script, 5 for a stop, 8 for a script that is too long. It is 10 without a flash behind the table, 13 for a bad list, and 3
+/// where the sink failed. Where memory is wanting, for the line too, nothing is put and it is 9.
 fn put_refusal<O: Sink>(alloc: Global, sink: &mut O, why: Refusal) -> u8
     ensures prints { PrintsTo O.Sink (refusal_line why) (refusal_status why) result sink.old sink.new }
     ensures starved { why ≡ Refusal.NoMemory → (result ≡ 9) × (sink.new ≡ sink.old) }

@@ -165,7 +165,7 @@ pub fn do_call<D: Flash, H: Files, V: Verifier>(
 }
 
 /// Does the calls of a script in their order, and puts the line of each into the sink. A turn that the flash failed, that found
-/// nothing to boot, or whose file could not be read ends the run after its line, and so does a line that the sink did not take. The
+/// nothing to boot, or whose file could not be read ends the run after its line. So does a line that the sink did not take. The
 /// room is for all turns. No bank was started on the flash.
 pub fn run_script<D: Flash, H: Files, O: Sink, V: Verifier>(
     alloc: Global,

@@ -19,7 +19,7 @@ IsMetaAfter call.End f m = (m ≡ f.meta) ⊎ (m ≡ meta_ended f)
 IsMetaAfter call.Previous f m = (m ≡ f.meta) ⊎ (m ≡ meta_back f)
 IsMetaAfter other f m = m ≡ f.meta
 
--- From a flash at rest whose replicas both hold what the agent kept: in each image that a loss leaves that metadata decides, or the
+-- Take a flash at rest whose replicas both hold what the agent kept. In each image that a loss leaves that metadata decides, or the
 -- one that the call makes of it.
 pub record DecidesAfter (c : Call) (f : Fields) (s t : Told) : Type 0 where
   pub meta : MetaRead

@@ -53,7 +53,7 @@ IsUnnamed (call.Send name request) access = access ≢ Asks name
 IsUnnamed (call.SendPartial name request) access = access ≢ Asks name
 IsUnnamed other access = ⊤
 
--- Some table and images were sent, those of the file where it is told; the answer is that of each machine that the agent shows, and
+-- Some table and images were sent, those of the file where it is told. The answer is that of each machine that the agent shows, and
 -- it shows the machine after it.
 pub record SendsBy (passes : List ℕ → Bool) (files : Option Directory) (name : List ℕ) (request : ℕ) (r : Reply)
     (old new : agent.Moment) : Type 0 where
@@ -73,8 +73,8 @@ TellsBegun (reply.EndRefused st) = ⊤
 TellsBegun other = ⊥
 
 -- Some table and images were sent over some bytes of the images that the table lacks. These are the active bank's where the device
--- tells, and behind a begin that was done as many on any device. The images are those of the file over these bytes where it is told.
--- The answer is that of each machine that the agent shows, and it shows the machine after it.
+-- tells, and behind a begin that was done as many on any device. The images are those of the file over these bytes where it is
+-- told. The answer is that of each machine that the agent shows, and it shows the machine after it.
 pub record SendsOverBy (passes : List ℕ → Bool) (files : Option Directory) (name : List ℕ) (request : ℕ) (r : Reply)
     (old new : agent.Moment) : Type 0 where
   pub toc : Toc
@@ -95,7 +95,8 @@ abbrev pub SendsAs : Bool → (List ℕ → Bool) → Option Directory → List 
 SendsAs false passes files name request r old new = SendsBy passes files name request r old new
 SendsAs true passes files name request r old new = SendsOverBy passes files name request r old new
 
--- A file without a table is answered by its first fault, which some bytes have, and the agent is as it was. Else what it holds is sent.
+-- A file without a table is answered by its first fault, and the agent is as it was. Whatever the file, some bytes have that fault.
+-- Else what it holds is sent.
 abbrev pub AnswersSend : Bool → (List ℕ → Bool) → Option Directory → List ℕ → ℕ → Reply → agent.Moment → agent.Moment → Type 0
 AnswersSend partial passes files name request (reply.BadPackage f) old new =
     IsTableOf files name (Err (reply.BadPackage f)) × (new ≡ old)
@@ -116,7 +117,8 @@ abbrev pub SendSays : Bool → (List ℕ → Bool) → Bool → Option Directory
 SendSays partial passes tells files name request None before r on now = (r ≡ reply.IsOff) × (on ≡ None)
 SendSays partial passes tells files name request (Some f) before r None now = IsSendStop r
 SendSays partial passes tells files name request (Some f) before r (Some g) now =
-    AnswersSend partial passes files name request r (kept_at tells f before.told before.writes) (kept_at tells g now.told now.writes)
+    AnswersSend partial passes files name request r
+    (kept_at tells f before.told before.writes) (kept_at tells g now.told now.writes)
 
 -- ---- a sending that ended
 

@@ -1,6 +1,6 @@
 -- What an armed loss counts of a turn, on any device. "Did nothing" says of each device, also of one that tells no content, that
--- nothing was erased or programmed, and that its counts, its power and the armed loss stay. "Wrote nothing" says it
--- of the armed loss alone.
+-- nothing was erased or programmed, and that its counts, its power and the armed loss stay. "Wrote nothing" says of the armed loss
+-- alone that it stays.
 use Rattle.std.specs.Prelude.{◌≡◌, ◌⊎◌, ℕ, ◌+◌, ◌-◌, Bool, true, false, List, length, Option, Some, None, Result, Ok, Err, ⊤}
 use Rattle.flash_core.specs.declared.flash.FlashStop.{FlashStop}
 use Rattle.flash_core.specs.declared.flash.FlashStop.TheVariants as flash_stop
@@ -138,9 +138,9 @@ pub record StopTakes (partial : Bool) (files : Option Directory) (name : List �
   pub sent : AreSent partial f.layout.rows toc entries
   pub spent : UnreadTakes (writes_before partial f toc) block_bytes entries old.armed new.armed
 
--- A sending that is done takes the erases and programs of its writes and of the switch, and no other. One whose end is refused takes
--- those of its writes alone, and one whose file could not be read those up to that read. What was refused before anything was sent
--- did nothing.
+-- A sending that is done takes the erases and programs of its writes and of the switch, and no other. One whose end is refused
+-- takes those of its writes alone, and one whose file could not be read those up to that read. What was refused before anything was
+-- sent did nothing.
 abbrev pub SendTakes : Bool → Option Directory → List ℕ → Fields → Reply → TurnMoment → TurnMoment → Type 0
 SendTakes partial files name f (reply.Sent images skipped) old new = SentTakes files name (writes_to_send partial f) old new
 SendTakes partial files name f (reply.SentPartial images skipped copied) old new =
@@ -154,8 +154,8 @@ SendTakes partial files name f (reply.EndRefused st) old new = EndTakes files na
 SendTakes partial files name f reply.ReadFault old new = SameDevice old new ⊎ StopTakes partial files name f old new
 SendTakes partial files name f other old new = ⊤
 
--- A boot comes as much nearer an armed loss as an end with this reply does: by the repair of the metadata, and by what the start of
--- a bank is counted as. A loss that is armed stays so while power comes back.
+-- A boot comes as much nearer an armed loss as an end with this reply does. That is by the repair of the metadata, and by what the
+-- start of a bank is counted as. A loss that is armed stays so while power comes back.
 pub record BootTakes (r : Reply) (old new : TurnMoment) : Type 0 where
   pub end : Ended
   pub reply_is : r ≡ reply_of_end end

@@ -15,8 +15,8 @@ pub record TouchesByBoot (old new : ℕ → ℕ) : Type 0 where
   pub front : TouchesOnly block_bytes (block_bytes * 7) old new
   pub marks_still : new counter_block ≡ old counter_block
 
--- Where a bank was started: a call of the agent touches only the metadata, the marks of the starts on trial and the update bank. That
--- bank it touches only where the bank that was started is active, or by calls in a row. A show, a cut
+-- Where a bank was started: a call of the agent touches only the metadata, the marks of the starts on trial and the bank behind
+-- the one that was started. That bank it touches only where the one that was started is active, or by calls in a row. A show, a cut
 -- and a request for no call touch nothing.
 abbrev pub TouchesOn : Call → Fields → (ℕ → ℕ) → (ℕ → ℕ) → Type 0
 TouchesOn call.Boot f old new = TouchesByBoot old new

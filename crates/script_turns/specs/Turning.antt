@@ -71,8 +71,8 @@ pub record Turns (passes : List ℕ → Bool) (tells : Bool) (files : Option Dir
   pub step : IsTrue tells → (E : Setting) (from : Condition) → E.passes ≡ passes → files ≡ Some E.files
       → IsAt E from old.on old.told → (Rose old.counts.chances new.counts.chances → ⊥)
       → (next : Condition) × Step E from t next × IsAt E next new.on new.told
-  -- on any flash, at any exit of a turn that is no boot: nothing changes but the metadata, the marks of the starts on trial, and the
-  -- bank behind the one that was started; and in that one only where the bank that was started is active, or of a composed call
+  -- On any flash, at any exit of a turn that is no boot. Nothing changes but the metadata, the marks of the starts on trial, and
+  -- the bank behind the one that was started. That bank changes only where the started one is active, or by a composed call.
   pub keeps : IsTrue tells → (f : Fields) → old.on ≡ Some f → IsFalse (is_boot c) → KeepsSparedByAll f old.told new.told
   pub spares : IsTrue tells → (f : Fields) → old.on ≡ Some f → IsFalse (is_boot c) → IsFalse (is_composed c)
       → KeepsSpared f old.told new.told

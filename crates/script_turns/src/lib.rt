@@ -1,5 +1,5 @@
-//! One turn of a script on a flash: a boot, a call of the agent of the bank that was started, a sending, an armed loss of power, or
-//! what the flash shows. A turn takes no memory.
+//! One turn of a script on a flash. It is a boot, a call of the agent of the bank that was started, a sending, an armed loss of
+//! power, or what the flash shows. A turn takes no memory.
 #![tactic(auto)]
 
 mod booting;

@@ -57,7 +57,7 @@ fn agent_turn<D: Flash, H: Files, V: Verifier>(
     }
 }
 
-/// The turn of a call for which a bank must have been started, on a flash on which one was: where a turn has ended its agent, it is
+/// The turn of a call for which a bank must have been started, on a flash on which one was. Where a turn has ended its agent, it is
 /// answered `off` and nothing is done.
 fn live_turn<D: Flash, H: Files, V: Verifier>(
     alloc: Global,

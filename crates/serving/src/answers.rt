@@ -24,8 +24,8 @@ fn put_got(out: &mut [u8], total: u32, bytes: &[u8]) -> usize
     )
 }
 
-/// Writes the message of a reply, and gives its size in bytes. The replies of the agent's calls and that to no call have one. No other
-/// is the reply to a request.
+/// Writes the message of a reply, and gives its size in bytes. The replies of the agent's calls and that to no call have one. No
+/// other is the reply to a request.
 #[tactic(auto, unfolding(fwu_wire::specs::Replies::message))]
 pub fn put_answer(out: &mut [u8], answer: &Reply) -> usize
     requires room { 4104 ≤ length out.old }

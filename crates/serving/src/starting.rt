@@ -47,7 +47,8 @@ fn boot<D: Flash, H: Files, V: Verifier>(
 }
 
 /// Starts the bank that boots, and serves the requests of a source, up to its end or to what ends the serving first. No bank was
-/// started on the flash. The source gives frames, each with a request, and the sink gets the frames of the replies. No file is read.
+/// started on the flash. The source gives frames, each with a request, and the sink gets the frames of the replies. No file is
+/// read.
 pub fn serve<D: Flash, H: Files, I: Source, O: Sink, V: Verifier>(
     alloc: Global,
     start: Powered<D>,

@@ -9,7 +9,7 @@ use Rattle.flash_core.specs.Counts.{StaysUnarmed, lowered_by}
 use Rattle.slot_writer.specs.Slots.{blocks_for, done_of}
 
 -- What a call of so many erases and programs leaves of an arming, on every device: when done, each of them took one off, and none
--- was the armed one. A loss leaves none armed; where none was armed, none was reached.
+-- was the armed one. A loss leaves none armed; where none was armed, none is, and none was reached.
 pub record SpendsArming {T : Type 0} (result : Result T FlashStop) (writes : ℕ) (armed arming : Option Arming)
     (old new : Counts) : Type 0 where
   pub lowered : OnOk result (arming ≡ lowered_by writes armed)

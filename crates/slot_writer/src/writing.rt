@@ -102,7 +102,8 @@ fn append_whole<D: Flash>(
     ensures goes { Goes D.Flash result flash.old flash.new }
     ensures arming { SpendsArming result (writes_behind size (length bytes.now - length bytes.now % granule_bytes))
         (D.arming flash.old) (D.arming flash.new) (D.counts flash.old) (D.counts flash.new) }
-    ensures touches { TouchesOnly (block_bytes * first + size) (block_bytes * (first + blocks_for (done_of (size + length bytes.now))))
+    ensures touches { TouchesOnly (block_bytes * first + size)
+        (block_bytes * (first + blocks_for (done_of (size + length bytes.now))))
         (D.writes flash.old) (D.writes flash.new) }
 {
     let whole = bytes.len() - bytes.len() % GRANULE;
@@ -111,8 +112,8 @@ fn append_whole<D: Flash>(
     Ok(())
 }
 
-/// Appends bytes to an image whose slot begins at block `first` and that has `size` bytes so far, of
-/// which `rest` begins with those that fill no granule of 16 bytes. Whole granules are programmed,
+/// Appends bytes to an image whose slot begins at block `first` and that has `size` bytes so far.
+/// `rest` begins with those of them that fill no granule of 16 bytes. Whole granules are programmed,
 /// the first of them alone where bytes were kept, and what fills none is kept. A block of 4096 bytes
 /// is erased before the program that reaches it first. No barrier is made.
 ///
@@ -138,7 +139,8 @@ pub fn append<D: Flash>(
     ensures arming { SpendsArming result (writes_to_append size (length bytes.now))
         (D.arming flash.old) (D.arming flash.new) (D.counts flash.old) (D.counts flash.new) }
     ensures goes { Goes D.Flash result flash.old flash.new }
-    // on every device: no block before the bytes that are new on the flash, nor behind those that they reach, is erased or programmed
+    // On every device: no block is erased or programmed but from the bytes that are new on the flash to the end of the last block
+    // that they reach.
     ensures touches { TouchesOnly (block_bytes * first + done_of size)
         (block_bytes * (first + blocks_for (done_of (size + length bytes.now)))) (D.writes flash.old) (D.writes flash.new) }
 {
@@ -176,7 +178,7 @@ fn granule_for(kept: usize) -> usize
 }
 
 /// Ends an image whose slot begins at block `first` and that has `size` bytes, of which `rest` begins
-/// with those that fill no granule: they are programmed, with 0xFF up to 16 bytes, behind an erase
+/// with those that fill no granule. They are programmed, with 0xFF up to 16 bytes, behind an erase
 /// where they begin a block. A barrier is made in any case.
 pub fn finish<D: Flash>(
     flash: &mut D,

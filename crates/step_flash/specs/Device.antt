@@ -78,7 +78,7 @@ NotedBy d parts =
     ≡ under_as (told_of d).under
     (run_with (package_of d) parts.room.items (start_with (image_of d) (package_of d)) parts.steps.items)
 
--- ---- what is noted: each call that is done is one step, behind those that were noted before
+-- ---- what is noted: each erase, program and barrier that is done is one step, behind those that were noted before
 
 -- no step was noted, and none was changed or taken out
 pub record KeepsSteps (old new : StepDevice) : Type 0 where
@@ -93,7 +93,7 @@ pub record NotesStep (step : Step) (result : Result (Unit {0}) FlashStop) (old n
   pub stopped : OnErr result (KeepsSteps old new)
   pub touches : TouchesOnly step.at (step.at + step.length) (writes_of old) (writes_of new)
 
--- A program that was done is one step, a copy where its bytes were found in the package. At a stop no step is noted.
+-- A program that was done is one step: itself, or a copy of bytes of the package that are the same. At a stop no step is noted.
 pub record NotesProgram (at : ℕ) (bytes : List ℕ) (result : Result (Unit {0}) FlashStop) (old new : StepDevice) : Type 0 where
   pub noted : OnOk result (NotesBytes (package_of old) at bytes (steps_of old) (room_of old) (steps_of new) (room_of new))
   pub stopped : OnErr result (KeepsSteps old new)

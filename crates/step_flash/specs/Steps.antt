@@ -75,8 +75,8 @@ pub record StandsAt (file : List ℕ) (from : ℕ) (bytes : List ℕ) : Type 0 w
   pub fits : from + length bytes ≤ length file
   pub is : slice_range file from (from + length bytes) ≡ bytes
 
--- One program was noted as one step: a copy of bytes that stand in the package, and the room stays; or a program of bytes that
--- were put behind the others of the room.
+-- One program was noted as one step: a copy of bytes that stand in the package, and the room stays. Or it is a program of bytes
+-- that were put behind the others of the room.
 abbrev pub NotesBytes : List ℕ → ℕ → List ℕ → List Step → List ℕ → List Step → List ℕ → Type 0
 NotesBytes file at bytes steps room new_steps new_room =
     ((from : ℕ) × StandsAt file from bytes × (new_steps ≡ steps ++ copy_step at (length bytes) from ∷ []) × (new_room ≡ room))
@@ -89,8 +89,8 @@ pub record TakesProgram (t : Told) (at n : ℕ) : Type 0 where
   pub some : 1 ≤ n
   pub erased : slice_range t.now at (at + n) ≡ blank n
 
--- A step can be done on a flash that tells so: an erase takes a block; a program or a copy takes whole granules, one at least,
--- which are erased; a barrier tells nothing.
+-- A step can be done on a flash that tells so. An erase takes a block. A program or a copy takes whole granules, one at least,
+-- which are erased. A barrier tells nothing.
 pub record IsDoable (t : Told) (s : Step) : Type 0 where
   pub block : s.kind ≡ 1 → (s.at % block_bytes ≡ 0) × (s.from ≡ 0)
   pub granules : (s.kind ≡ 2) ⊎ (s.kind ≡ 4) → (s.at % granule_bytes ≡ 0) × (s.length % granule_bytes ≡ 0) × (1 ≤ s.length)

@@ -94,7 +94,7 @@ impl<'a> StepFlash<'a> {
     // kept apart, as `with_package` is
     #[inline(never)]
     pub fn into_parts(self) -> StepParts
-        // Each call is one of these steps: see the calls of the trait.
+        // An erase, a program and a barrier that is done is one of these steps: see the calls of the trait.
         ensures given { IsGivenOut (device_in self.entry) result }
         ensures noted { IsTrue (is_live self.entry) → NotedBy self.entry result }
         ensures inside { All (IsInsideWith (length (package_of self.entry)) (length result.room.items)

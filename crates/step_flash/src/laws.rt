@@ -21,8 +21,8 @@ pub fn no_power_is_lost<T>()
         Spends result (counts_of old) (counts_of new) → IsErrOf result Lost → ⊥ }
 {}
 
-/// No device counts an erase or a program of a block that it has not. So where a call spares the blocks before one, its steps lie from
-/// there to the end of the flash.
+/// No device counts an erase or a program of a block that it has not. So where a call spares the blocks before one, its steps lie
+/// from there to the end of the flash.
 pub fn no_block_behind_the_last_is_counted()
     ensures { (d : StepFlash) (b : ℕ) → block_count d ≤ b → writes_of d b ≡ 0 }
 {}

@@ -118,7 +118,7 @@ end-answers E s boot parts all =
     by-test true = refl
     by-test false = refl
 
--- what a begin moves changes neither the counter nor which bank takes the update
+-- what a begin moves changes neither the counter nor which bank is the update bank
 
 pub begun-keeps : (s : State) → (update_bank (after s (begin_moves s)) ≡ update_bank s)
     × ((after s (begin_moves s)).counter ≡ s.counter)

@@ -93,8 +93,8 @@ AreWhole rows toc f bytes = (i : ℕ) → i < length rows → has_image toc (sli
     → length (bytes i) ≡ total_of f (Some i)
 
 -- What a partial sending says of an agent that isn't gone, on any device. There are bytes of the images that the table lacks, those
--- of the active bank where the device tells, and behind a begin that was done as many on any device. And there are images, those of
--- the file over these bytes where it is told. Each machine that the agent shows goes by the sending of them.
+-- of the active bank where the device tells. Behind a begin that was done they are as many on any device. And there are images,
+-- those of the file over these bytes where it is told. Each machine that the agent shows goes by the sending of them.
 pub record SendsOver (told : Option Directory) (name : List ℕ) (toc : Toc) (request : ℕ) (passes : List ℕ → Bool)
     (result : Result Sent SendStop) (old new : Moment) : Type 0 where
   pub bytes : ℕ → List ℕ
@@ -108,7 +108,7 @@ pub record SendsOver (told : Option Directory) (name : List ℕ) (toc : Toc) (re
 
 -- ---- when done
 
--- The machine that the agent shows then has installed the file's images over those of the bank that was active, which are those of
+-- The machine that the agent shows then has installed the file's images over those of the bank that was active. These are those of
 -- its package where the device tells its content, and have as many bytes on any device.
 pub record InstallsOver (told : Option Directory) (name : List ℕ) (toc : Toc) (request : ℕ) (old new : Moment)
     (before : State) : Type 0 where

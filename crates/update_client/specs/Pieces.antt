@@ -78,7 +78,8 @@ pub record KeepsBeside {D H T : Type 0} {F : flash.Ghosts D} (g : Ghosts H) (nam
   pub stops : StopsWithin result
   -- the agent is gone, and its device off, exactly where the flash stopped it, which has a cause
   pub spent : SpentBy (flash_of result) old new
-  -- no block is erased or programmed but those of the metadata, the marks of the starts on trial and the update bank
+  -- no block is erased or programmed but those of the metadata, the marks of the starts on trial, and the bank behind the one that
+  -- was started
   pub spares : SparesOthers (moment old) (moment new)
   -- the buffer has as many bytes as before
   pub buffer : length filled ≡ length buf

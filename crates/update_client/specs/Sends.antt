@@ -38,7 +38,7 @@ AnswersBy r a E old new s = (r ≡ a.reply) × GoesByMoves E (Ok tt) old new s a
 abbrev pub AllowsBegin : Setting → State → Session → Type 0
 AllowsBegin E s x = (answer E s x (call.Begin 0)).reply ≡ reply.Success
 
--- An answer or a refusal is the machine's, with all its moves; a failed read leaves those of a begin, and no staging; at a stop of
+-- An answer or a refusal is the machine's, with all its moves. A failed read leaves those of a begin, and no staging. At a stop of
 -- the flash each loss leaves a prefix of the moves. Neither comes where a begin is refused. An agent that is there is never
 -- answered to be gone.
 abbrev pub SendEndsBy : Result Sent SendStop → Setting → Toc → List (List ℕ) → ℕ → Moment → Moment → State → Session → Type 0
@@ -60,7 +60,7 @@ SendEndsBy (Err Fault) E toc p request old new s x =
     AllowsBegin E s x × GoesByMoves E (Err flash_stop.Failed) old new s (send_answer E toc p request s x).moves (ended_session x)
 SendEndsBy (Err Gone) E toc p request old new s x = ⊥
 
--- What a sending says of an agent that isn't gone, on any device: there are images, those of the file where it is told, and each
+-- What a sending says of an agent that isn't gone, on any device. There are images, those of the file where it is told. Each
 -- machine that the agent shows goes by the sending of them.
 pub record Sends (told : Option Directory) (name : List ℕ) (toc : Toc) (request : ℕ) (passes : List ℕ → Bool)
     (result : Result Sent SendStop) (old new : Moment) : Type 0 where
@@ -77,8 +77,8 @@ pub record IsCounted (rows : List ImageRow) (toc : Toc) (sent : Sent) : Type 0 w
   pub skipped : sent.skipped ≡ skipped rows toc
   pub copied : sent.copied ≡ 0
 
--- The bank that took the update is active and holds the images, each accepted by its bit,
--- and the bank that was active is the previous one.
+-- What was the update bank is active and holds the images, each accepted by its bit, and the bank that was active is the previous
+-- one.
 pub record IsInstalled (images : List (List ℕ)) (bits : List Bool) (before now : State) : Type 0 where
   pub active : now.active ≡ update_bank before
   pub previous : now.previous ≡ before.active
@@ -97,8 +97,8 @@ pub record Installs (told : Option Directory) (name : List ℕ) (toc : Toc) (req
   pub read : (file : List ℕ) → Tells told name file → images ≡ images_of new.fields.layout.rows file toc
   pub installed : IsInstalled images (replicate (length new.fields.layout.rows) (request == 0)) before now
 
--- On any device: what the agent keeps then has the bank active that took the update,
--- and the one that was active is the previous one.
+-- On any device: what the agent keeps then has the bank active that was the update bank, and the one that was active is the
+-- previous one.
 pub record IsSwitched (old new : Fields) : Type 0 where
   pub active : new.meta.meta.active ≡ target old
   pub previous : new.meta.meta.previous ≡ old.meta.meta.active

@@ -137,8 +137,8 @@ pub record InstallTakesBy {T : Type 0} (result : Result T SendStop) (size : ℕ)
   pub unswitched : OnRefusedEnd result (ImagesTake size entries (length entries) old armed arming)
   pub unread : OnUnread result (ImagesStart size entries old armed arming)
 
--- A sending whose file could not be read: so many writes, those of the first of these payloads, and of the first pieces of the next
--- one, which has a further one. There is no other.
+-- A sending whose file could not be read did so many writes. They are those of the first of these payloads, and of the first pieces
+-- of the next one, which has a further one. There is no other.
 pub record UnreadTakes (writes size : ℕ) (entries : List Entry) (armed arming : Option Arming) : Type 0 where
   pub images : ℕ
   pub pieces : ℕ

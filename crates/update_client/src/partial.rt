@@ -42,10 +42,11 @@ fn types_in(entries: &[Entry]) -> [Guid; 16]
 }
 
 /// Sends the images of the layout that a package has, over those of the active bank, and installs
-/// them: a partial begin, which copies the other images as accepted, for each image that the package
-/// has, in the layout's order, an open, the writes of its payload and a commit, and an end.
+/// them. It does a partial begin, which copies the other images as accepted. For each image that the
+/// package has, in the layout's order, come an open, the writes of its payload and a commit, and
+/// then an end.
 ///
-/// The package is the file `name`, and its table is the one that is given: an image is the payload
+/// The package is the file `name`, and its table is the one that is given. An image is the payload
 /// of the entry of its type, wherever that stands in the table, and the entries of no image are
 /// skipped. With `acceptance` 0 each image that is sent is accepted at once; with another number
 /// these are not, and the package is on trial. The buffer's length is that of each write, in bytes,
@@ -71,7 +72,7 @@ pub fn send_partial<D: Flash, H: Files, V: Verifier>(
     requires payloads { HoldsPayloads (H.contents files.old) name.now toc.now.entries }
 
     // Of an agent that isn't gone, on any device: the reply is the machine's, and so is what the
-    // agent shows afterwards; on a ready flash each loss leaves a prefix of the machine's moves.
+    // agent shows afterwards. On a ready flash each loss leaves a prefix of the machine's moves.
     ensures sends { IsFalse (gone agent.old) →
         SendsOver (H.contents files.old) name.now toc.now acceptance
         (V.passes verifier.now) result (moment agent.old) (moment agent.new) }
@@ -93,8 +94,8 @@ pub fn send_partial<D: Flash, H: Files, V: Verifier>(
     ensures counted { IfOk result (IsCountedOver (fields agent.old).layout.rows toc.now) }
     ensures goes { IsFalse (gone agent.old) →
         Goes D.Flash (flash_of result) (device agent.old) (device agent.new) }
-    // On every device, whatever its reads give, at any exit: no block is erased or programmed but those of
-    // the metadata, the marks of the starts on trial and the bank behind the one that was started.
+    // On every device, whatever its reads give, no block is erased or programmed but 1 to 3 and those of
+    // the bank behind the one that was started. That holds at any exit.
     ensures touches { SparesBlocksByAll (fields agent.old)
         (D.writes (device agent.old)) (D.writes (device agent.new)) }
     // On every device: the erases and programs of the begin, of each copy in pieces of 4096 bytes, and of

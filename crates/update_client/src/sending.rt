@@ -27,10 +27,11 @@ use flash_core::Flash;
 use host_io::Files;
 use verify_core::Verifier;
 
-/// Sends the images of a package to the agent, and installs them: a begin, for each image of the
-/// layout in its order an open, the writes of its payload and a commit, and an end (DEN0118).
+/// Sends the images of a package to the agent, and installs them (DEN0118). It does a begin, for
+/// each image of the layout in its order an open, the writes of its payload and a commit, and an
+/// end.
 ///
-/// The package is the file `name`, and its table is the one that is given: an image is the payload
+/// The package is the file `name`, and its table is the one that is given. An image is the payload
 /// of the entry of its type, wherever that stands in the table, and the other entries are skipped.
 /// With `acceptance` 0 each image is accepted at once; with another number the package is on trial.
 /// The buffer's length is that of each write, in bytes, but for the last one of an image; an image
@@ -55,7 +56,7 @@ pub fn send<D: Flash, H: Files, V: Verifier>(
     requires payloads { HoldsPayloads (H.contents files.old) name.now toc.now.entries }
 
     // Of an agent that isn't gone, on any device: the reply is the machine's, and so is what the
-    // agent shows afterwards; on a ready flash each loss leaves a prefix of the machine's moves.
+    // agent shows afterwards. On a ready flash each loss leaves a prefix of the machine's moves.
     ensures sends { IsFalse (gone agent.old) →
         Sends (H.contents files.old) name.now toc.now acceptance
         (V.passes verifier.now) result (moment agent.old) (moment agent.new) }
@@ -77,8 +78,8 @@ pub fn send<D: Flash, H: Files, V: Verifier>(
         (gone agent.old) (gone agent.new) }
     ensures goes { IsFalse (gone agent.old) →
         Goes D.Flash (flash_of result) (device agent.old) (device agent.new) }
-    // On every device, whatever its reads give, at any exit: no block is erased or programmed but those of
-    // the metadata, the marks of the starts on trial and the bank behind the one that was started.
+    // On every device, whatever its reads give, no block is erased or programmed but 1 to 3 and those of
+    // the bank behind the one that was started. That holds at any exit.
     ensures touches { SparesBlocksByAll (fields agent.old)
         (D.writes (device agent.old)) (D.writes (device agent.new)) }
     // On every device: the erases and programs of the begin, and of each image's writes and its commit.

@@ -71,8 +71,8 @@ fn cut_at(rt: &impl Abort, alloc: Global, start: Start, op: u64, lines: &[&str])
     }
 }
 
-// Flashes, and the last lines of two boots with a cut. The mark of the start that was cut counts or not. A cut at the second mark ends
-// the second boot.
+// Flashes, and the last lines of two boots with a cut. The mark of the start that was cut counts or not. A cut at the second mark
+// ends the second boot.
 const CUTS: [(Start, &[&str]); 4] = [
     (Start::Torn, &["boot bank=0 version=1 trials=0 counter=1\n"]),
     (Start::Old, &["boot bank=0 version=1 trials=0 counter=1\n"]),

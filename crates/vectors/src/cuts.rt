@@ -29,8 +29,8 @@ const OLD: &str = "BOOT1\nBOOT1\n";
 const NEW: &str =
     "boot bank=1 version=2 trials=1 counter=1\nboot bank=1 version=2 trials=2 counter=1\n";
 
-// The images take six operations, and the end erases and programs one replica and then the other: the loss that leaves the first one
-// whole is the first that leaves the new package. Then come two marks; a torn one counts, where some of it landed.
+// The images take six operations, and the end erases and programs one replica and then the other. The loss that leaves the first
+// one whole is the first that leaves the new package. Then come two marks; a torn one counts, where some of it landed.
 const STAGING: [Sweep; 2] = [
     Sweep {
         script: STAGE,
@@ -58,7 +58,8 @@ const STAGING: [Sweep; 2] = [
             (13, 0, NEW),
         ],
     },
-    // Where the erase goes back, the new metadata's first 100 bytes stand before the old one's rest, which a package on trial shares.
+    // Where the erase goes back, the new metadata's first 100 bytes stand before the old one's rest, which a package on trial
+    // shares.
     Sweep {
         script: STAGE,
         back: true,
@@ -137,8 +138,8 @@ const SENDING: [Sweep; 2] = [
 
 const SEND_AGAIN: &str = "boot\nsend p5.fip now\nboot\nshow\nsend p5.fip now\nboot\n";
 
-// Over a bank that holds a package, behind a trial: first both replicas make it invalid, in operations 1 to 4, and the end clears the
-// marks, in operation 11.
+// Over a bank that holds a package, behind a trial: first both replicas make it invalid, in operations 1 to 4, and the end clears
+// the marks, in operation 11.
 const SENDING_AGAIN: [(u64, u32, &str); 3] = [
     (
         1,

@@ -85,7 +85,7 @@ fn fail_each(rt: &impl Abort, alloc: Global, bench: &Bench, script: &str, failin
 }
 
 // What is sent or staged, what fails, and how many calls of it there are, at least and at most. A sending asks for a size and the
-// first 16 bytes; the table takes a size, a header, three entries and the marker; and each of three images is read at once. The
+// first 16 bytes; the table takes a size, a header, three entries and the marker. Each of three images is read at once. The
 // source gives the script and then its end. The sink takes each of 14 lines in one piece.
 const FAILURES: [(&str, Failing, u64, u64); 4] = [
     (STAGE, Failing::Flash, 40, 399),

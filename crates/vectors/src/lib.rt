@@ -1,5 +1,6 @@
-//! Runs of the program in memory that rows can't say: a loss of power at each erase and program, a failure of each call, want
-//! of memory, what is noted, and files of the system. The expected values come from the standards and from other programs.
+//! Runs of the program in memory that rows can't say. They have a loss of power at each erase and program, a failure of each
+//! call, want of memory, what is noted, and files of the system. The expected values come from the standards and from other
+//! programs.
 #![tactic(auto)]
 
 #[cfg(test)]

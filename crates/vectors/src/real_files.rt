@@ -1,4 +1,4 @@
-//! The program over files of the system, in a folder that has no file but those that the words and the scripts name: a file that
+//! The program over files of the system, in a folder that has no file but those that the words and the scripts name. A file that
 //! nobody named is never asked for, since that would be a file fault.
 
 use crate::packages::packages;

@@ -186,7 +186,8 @@ pub fn ends_with_one(rt: &impl Abort, alloc: Global, text: &[u8], lines: &[&str]
     false
 }
 
-/// Stops the test where this does not hold, and prints what it is of. A call costs its test's proof less than the macro in its place.
+/// Stops the test where this does not hold, and prints what it is of. A call costs its test's proof less than the macro in its
+/// place.
 pub fn holds(rt: &impl Abort, is_so: bool, of: &str)
     ensures { IsTrue is_so }
 {

@@ -59,7 +59,7 @@ fn run_on(
     ran_of(rt, alloc, done, sink.text.as_slice())
 }
 
-// Words and their script, for how many lines there was memory, the status, and what a boot prints on the flash that is left: each
+// Words and their script, for how many lines there was memory, the status, and what a boot prints on the flash that is left. Each
 // line comes once its call is done, and that of a soak once all is.
 const SHORT: [(&str, &str, u32, u8, &str); 9] = [
     (

@@ -3,8 +3,8 @@ use runs_kit::MANIFEST_2;
 use std::alloc::Global;
 use std::process::Abort;
 
-// Words, and the text that each stands for, which may have words of those behind it: the line of a boot of the flash that was
-// formatted, the lines that stage the package of version 2, and a line four times.
+// Words, and the text that each stands for, which may have words of those behind it. These are the line of a boot of the
+// flash that was formatted, the lines that stage the package of version 2, and a line four times.
 const WORDS: [(&str, &str); 4] = [
     ("BOOT1\n", "boot bank=0 version=1 trials=0 counter=1\n"),
     (

@@ -29,8 +29,8 @@ fn uuid_reads_and_writes(rt: HostRuntime) {
     assert!(rt; Guid::read("5ff9ec0b4d223e4da544c39d81c73f0a").is_none());
 }
 
-// A block of 32 bytes with its own seal: a size of 32 at 16, and the checksum of the bytes behind
-// it in front, by zlib: checks/model/check_vectors.py makes it again.
+// A block of 32 bytes with its own seal. It has a size of 32 at 16, and the checksum of the bytes
+// behind it in front, by zlib. checks/model/check_vectors.py makes it again.
 #[test]
 fn seals_are_found(rt: HostRuntime) {
     let mut block = [0; 32];

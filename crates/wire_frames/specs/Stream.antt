@@ -70,8 +70,8 @@ pub record ReadsFrame (body : List ℕ) (taken now : ℕ) (old new : Option (Lis
   pub consumed : Consumes old new (frame body)
   pub count : now ≡ taken + length (frame body)
 
--- Why there is none: the source is at its end; or the four bytes that were taken are a bad length, or those that were taken are no
--- whole frame at its end; or they are no whole frame, and the source gave a byte more than are taken, or failed. They were counted.
+-- Why there is none. The source is at its end; or the four bytes that were taken are a bad length, or those that were taken are no
+-- whole frame at its end. Or they are no whole frame, and the source gave a byte more than are taken, or failed. They were counted.
 abbrev pub StopsReading : FrameStop → ℕ → ℕ → Option (List ℕ) → Option (List ℕ) → Type 0
 StopsReading stop.End taken now old new = Consumes old new [] × IsAtEnd new × (now ≡ taken)
 StopsReading stop.BadFrame taken now old new =

@@ -10,13 +10,13 @@ pub fn one_reading()
         → Splits stream bodies rest → Splits stream others left → (bodies ≡ others) × (rest ≡ left) }
 {}
 
-/// Why reading stops, and behind which frames, is said by the bytes of the stream, however they came in pieces: at its end, or at a
-/// length that no body has, or at an end inside a frame. `TooLong` says that it has more than 1,073,741,824 bytes.
+/// Why reading stops, and behind which frames, is said by the bytes of the stream, however they came in pieces. It stops at its
+/// end, or at a length that no body has, or at an end inside a frame. `TooLong` says that it has more than 1,073,741,824 bytes.
 pub fn stops_by_the_bytes()
     ensures { StopsByTheBytes }
 {}
 
-/// Within one power cycle, whatever is lost, repeated or comes out of order, each request acts at most once, and a reply that the
+/// Within one power cycle, whatever is lost, repeated or comes out of order, each request acts at most once. A reply that the
 /// client takes is that of its request.
 pub fn each_request_acts_at_most_once()
     ensures { EachRequestActsAtMostOnce }

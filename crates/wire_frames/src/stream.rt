@@ -159,8 +159,8 @@ impl FrameReader {
     /// Reads the next frame, whose body goes to the front of `body`, and gives the body's length in bytes. It waits for no byte
     /// behind it. Of a bad length it takes the four bytes alone.
     ///
-    /// Behind byte 1,073,741,824 one byte more is asked for only where a frame goes on there, or where another would begin:
-    /// so `TooLong` comes exactly where the source gave that byte, however it was cut into pieces.
+    /// Behind byte 1,073,741,824 one byte more is asked for only where a frame goes on there, or where another would begin.
+    /// So `TooLong` comes exactly where the source gave that byte, however it was cut into pieces.
     pub fn next<I: Source>(&mut self, source: &mut I, body: &mut [u8]) -> Result<usize, FrameStop>
         requires room { 4108 ≤ length body.old }
         ensures frame { IfOk result (λ n. ReadsFrame (take n body.new) self.old self.new

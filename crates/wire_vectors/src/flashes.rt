@@ -31,7 +31,8 @@ fn started(end: BootEnd<MemoryFlash>) -> Option<Booted<MemoryFlash>> {
     }
 }
 
-/// Stops the test where this does not hold, and prints what it is of. A call costs its test's proof less than the macro in its place.
+/// Stops the test where this does not hold, and prints what it is of. A call costs its test's proof less than the macro in its
+/// place.
 pub fn holds(rt: &impl Abort, is_so: bool, of: &str)
     ensures { IsTrue is_so }
 {
