@@ -11,7 +11,7 @@ use Rattle.std.proofs.Math.Nat.{div-add-mod}
 use Rattle.base_core.specs.Bytes.{same_bytes, listed}
 use Rattle.fwu_formats.specs.Layout.{ImageRow, slot_bytes, find_image, are_distinct, fits_layout}
 use Rattle.fwu_model.specs.State.{State, Move, bank, after}
-use Rattle.fwu_model.specs.Sound.{Setting, Sound, holds_complete}
+use Rattle.fwu_model.specs.Sound.{Setting, holds_complete}
 use Rattle.fwu_model.specs.Session.{Session, Off, On, Staged, Nothing, Open, Committed, Handle, Writes, no_handles, nothing_staged, is_open, is_committed}
 use Rattle.fwu_model.specs.Call.{Call}
 use Rattle.fwu_model.specs.Call as call
@@ -281,10 +281,10 @@ begun false true x y ms done = absurd cc
 begun false false x y ms done = (refl, refl)
 
 by-calls : (E : Setting) (s : State) (boot : ℕ) (staging : Option (List Staged)) (handles : List Handle) (types : List (List ℕ)) → IsTrue (fits_layout E.layout)
-    → Sound E s → (answer E s (On boot staging handles) (call.BeginPartial types)).reply ≡ reply.Success
+    → IsTrue (holds_complete E (bank s s.active).held) → (answer E s (On boot staging handles) (call.BeginPartial types)).reply ≡ reply.Success
     → ComeTo E s (On boot staging handles) (begin_calls E s types) (answer E s (On boot staging handles) (call.BeginPartial types))
 unfolding answer answer_begin answer_begin_partial
-by-calls E s boot staging handles types layout sound done =
+by-calls E s boot staging handles types layout complete done =
     let here = On boot staging handles in
     let named = are_named E.layout.rows types in
     let bytes = image_held s s.active in
@@ -294,7 +294,7 @@ by-calls E s boot staging handles types layout sound done =
     let tests = begun denied unknown here end (begin_moves s) done in
     let t = after s (begin_moves s) in
     let many : length named ≡ length E.layout.rows = length-map E.layout.rows (λ (r : ImageRow). list_any (same_bytes r.guid) types) in
-    let fits = held-fits E (bank s s.active).held layout ((sound.each s.active).complete sound.in_use) in
+    let fits = held-fits E (bank s s.active).held layout complete in
     let copies = flat_map (copy_at named bytes E t boot many (layout-distinct E.layout layout) fits) (range_with_len 0 (length E.layout.rows)) in
     let reached = copies-reach named bytes E t boot many (layout-distinct E.layout layout) fits (length E.layout.rows) 0 (omega (arith, many)) in
     let start : copied_first named 0 bytes ≡ replicate (length E.layout.rows) Nothing = first-none named bytes ∙ ap (λ (n : ℕ). replicate n Nothing) many in
@@ -318,5 +318,5 @@ by-calls E s boot staging handles types layout sound done =
 
 pub partial-begins-are-calls : PartialBeginsAreCalls
 unfolding answer
-partial-begins-are-calls E s Off types layout sound fits done = absurd cc
-partial-begins-are-calls E s (On boot staging handles) types layout sound fits done = by-calls E s boot staging handles types layout sound done
+partial-begins-are-calls E s Off types layout complete done = absurd cc
+partial-begins-are-calls E s (On boot staging handles) types layout complete done = by-calls E s boot staging handles types layout complete done
