@@ -10,7 +10,7 @@ use Rattle.flash_core.specs.Calls.{Goes, Reads}
 use Rattle.flash_core.specs.Told.{Told}
 use Rattle.flash_core.specs.Touches.{TouchesOnly}
 use Rattle.flash_core.proofs.Touches.{touches_none}
-use Rattle.early_boot.proofs.Touching.{touches-behind}
+use Rattle.early_boot.proofs.Touching.{repair-within, touches-behind}
 use Rattle.fwu_formats.specs.Manifest.{version}
 use Rattle.fwu_formats.specs.Places.{trial_limit}
 use Rattle.fwu_formats.specs.declared.kinds.BankState.{BankState}
@@ -19,7 +19,7 @@ use Rattle.fwu_model.specs.State.{State, Move, RaiseTo, bank, is_accepted, is_va
 use Rattle.fwu_model.specs.Sound.{Setting, can_fall_back, can_start, choice, holds_permitted}
 use Rattle.fwu_model.specs.Answer.{booted_package, chosen_moves, held_package, migrate_moves, start_moves}
 use Rattle.moves.proofs.Composed.{after-append}
-use Rattle.replicas.specs.Repairs.{TakesRepair}
+use Rattle.replicas.specs.Repairs.{TakesRepair, TouchesRepair}
 use Rattle.early_boot.specs.declared.choosing.Chosen.{Chosen}
 use Rattle.early_boot.specs.declared.showing.Shown.{Shown}
 use Rattle.early_boot.specs.declared.showing.Unshown.{Unshown}
@@ -98,9 +98,9 @@ module _ {D : Type 0} (g : Ghosts D) (passes : List ℕ → Bool) (b : ℕ) (fla
 -- ---- the flash was read, and then the bank was checked
 
 module _ {D : Type 0} (g : Ghosts D) (passes : List ℕ → Bool) (b : ℕ) (flash mid left : D) (shown : Shown)
-    (reads : Reads {X = Unit {0}} g (Ok tt) flash mid) (has : HasShown g flash shown) (mended_only : TouchesOnly 4096 12288 (g.writes mid) (g.writes left)) where
+    (reads : Reads {X = Unit {0}} g (Ok tt) flash mid) (has : HasShown g flash shown) (mended_only : TouchesRepair shown.which (g.writes mid) (g.writes left)) where
   both-touch : TouchesOnly 4096 12288 (g.writes flash) (g.writes left)
-  both-touch = touches-behind 4096 12288 reads.writes mended_only
+  both-touch = touches-behind 4096 12288 reads.writes (repair-within shown.which _ _ mended_only)
 
   refused-take-up : Goes {X = Option Chosen} g (Ok None) mid left → SpendsFound shown None (g.arming mid) (g.arming left) (g.counts mid) (g.counts left)
       → (IsTrue g.tells → None ≡ running_in passes (g.told mid).now shown b) → (IsTrue g.tells → MendsFound (Ok None) shown (g.told mid) (g.told left))

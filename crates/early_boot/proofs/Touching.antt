@@ -58,6 +58,13 @@ repair-within RepairOne a b only = touches_wider 8192 12288 4096 12288 (omega ar
 repair-within MigrateZero a b only = only
 repair-within MigrateOne a b only = only
 
+pub repair-none : (which : Which) (a b : ℕ → ℕ) → b ≡ a → TouchesRepair which a b
+repair-none Same a b same = same
+repair-none RepairZero a b same = touches_none 4096 8192 same
+repair-none RepairOne a b same = touches_none 8192 12288 same
+repair-none MigrateZero a b same = touches_none 4096 12288 same
+repair-none MigrateOne a b same = touches_none 4096 12288 same
+
 pub boot-within : (result : Result (Option (Shown × Chosen)) FlashStop) (shown : Shown) (a b : ℕ → ℕ) → TouchesRepairAndStart result shown a b → TouchesOnly 4096 28672 a b
 boot-within result shown a b all =
     touches_then 4096 28672 (touches_wider 4096 12288 4096 28672 (omega arith) (omega arith) (repair-within shown.which a all.repaired all.repair))

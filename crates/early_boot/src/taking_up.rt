@@ -1,9 +1,9 @@
 //! Taking up a bank that an earlier boot started: what an agent begins with, in the firmware that runs.
 ghost use Rattle.flash_core.specs.Calls.{Goes};
-ghost use Rattle.flash_core.specs.Touches.{TouchesOnly};
-ghost use Rattle.std.specs.Prelude.{◌≡◌, ◌*◌, ◌≤◌, ℕ, None, length, IsTrue, IfOk, IfSome};
+ghost use Rattle.std.specs.Prelude.{◌≡◌, ◌≤◌, ℕ, None, length, IsTrue, IfOk, IfSome};
 ghost use Rattle.base_core.specs.Block.{block_bytes};
 ghost use Rattle.fwu_formats.specs.Metadata.{fits_meta, state_at};
+ghost use Rattle.replicas.specs.Repairs.{TouchesRepair};
 ghost use Rattle.early_boot.specs.Showing.{HasShown};
 ghost use Rattle.early_boot.specs.Choosing.{IsFound};
 ghost use Rattle.early_boot.specs.TakenUp.{BootedRuns, IsTakeUp, MendsFound, OnceFound, SpendsFound, device_left, may_run, running_bank, running_in, taken_as, unshown_as, was_started};
@@ -71,8 +71,8 @@ fn check_and_mend<D: Flash, V: Verifier>(
         IfOk result (λ found. IfSome found (IsFound (V.passes verifier.now) shown.now Is)) }
     ensures mends { IsTrue D.tells → MendsFound result shown.now (D.told flash.old) (D.told flash.new) }
     ensures goes { Goes D.Flash result flash.old flash.new }
-    // on every device: no block but the replicas
-    ensures touches { TouchesOnly (block_bytes * 1) (block_bytes * 3) (D.writes flash.old) (D.writes flash.new) }
+    // on every device: no block but the replicas that are to be written
+    ensures touches { TouchesRepair shown.now.which (D.writes flash.old) (D.writes flash.new) }
     ensures refused { IfOk result (λ found. found ≡ None → D.writes flash.new ≡ D.writes flash.old) }
     ensures spent { IfOk result (λ found.
         SpendsFound shown.now found (D.arming flash.old) (D.arming flash.new) (D.counts flash.old) (D.counts flash.new)) }

@@ -3,8 +3,8 @@ use Rattle.std.proofs.lemmas.Option.{same_Some}
 use Rattle.std.specs.Bool.{then_some}
 use Rattle.fwu_formats.specs.Metadata.{state_at}
 use Rattle.flash_core.specs.Told.{Told}
-use Rattle.flash_core.proofs.Touches.{touches_none}
-use Rattle.early_boot.proofs.Touching.{repair-within, touches-behind}
+use Rattle.replicas.specs.Repairs.{TouchesRepair}
+use Rattle.early_boot.proofs.Touching.{repair-none}
 use Rattle.early_boot.specs.Mending.{MendsReplicas}
 use Rattle.early_boot.proofs.TakingUp.{run-below}
 use Rattle.early_boot.proofs.taking_up.check_and_mend.Goals as goal
@@ -26,16 +26,18 @@ returns-clause-mends g c tells =
     (c.in_ok-mend.ensures.mends tells)
 
 pub returns-in_err-chosen-clause-touches : goal.returns-in_err-chosen-clause-touches
-returns-in_err-chosen-clause-touches g c = touches_none 4096 12288 c.in_err-chosen.ensures.reads.writes
+returns-in_err-chosen-clause-touches g c = repair-none c.args.shown.now.which _ _ c.in_err-chosen.ensures.reads.writes
 
 pub returns-in_default-clause-touches : goal.returns-in_default-clause-touches
-returns-in_default-clause-touches g c = touches_none 4096 12288 c.in_ok-chosen.ensures.reads.writes
+returns-in_default-clause-touches g c = repair-none c.args.shown.now.which _ _ c.in_ok-chosen.ensures.reads.writes
 
 pub returns-in_default-clause-refused : goal.returns-in_default-clause-refused
 returns-in_default-clause-refused g c = λ none. c.in_ok-chosen.ensures.reads.writes
 
 pub returns-in_err-mend-clause-touches : goal.returns-in_err-mend-clause-touches
-returns-in_err-mend-clause-touches g c = touches-behind 4096 12288 c.in_ok-chosen.ensures.reads.writes (repair-within c.args.shown.now.which _ _ c.in_err-mend.ensures.touches)
+returns-in_err-mend-clause-touches g c =
+    subst (λ (w : ℕ → ℕ). TouchesRepair c.args.shown.now.which w (g.D.Flash.writes c.mend.new.flash)) c.in_ok-chosen.ensures.reads.writes c.in_err-mend.ensures.touches
 
 pub returns-clause-touches : goal.returns-clause-touches
-returns-clause-touches g c = touches-behind 4096 12288 c.in_ok-chosen.ensures.reads.writes (repair-within c.args.shown.now.which _ _ c.in_ok-mend.ensures.touches)
+returns-clause-touches g c =
+    subst (λ (w : ℕ → ℕ). TouchesRepair c.args.shown.now.which w (g.D.Flash.writes c.mend.new.flash)) c.in_ok-chosen.ensures.reads.writes c.in_ok-mend.ensures.touches
