@@ -1,5 +1,5 @@
 -- What a run takes of the source.
-use Rattle.std.proofs.Common.{◌≡◌, false, inl, inr, ◌≤◌, ℕ, List, [], ◌++◌, Option, Some, None, length, arith, refl, sym, ap, subst, ◌∙◌, append-nil}
+use Rattle.std.proofs.Common.{◌≡◌, false, inl, inr, ◌≤◌, ◌+◌, ℕ, List, [], ◌++◌, Option, Some, None, length, arith, refl, sym, ap, subst, ◌∙◌, append-nil, length-append}
 use Rattle.std.proofs.lemmas.Bool.{false≢true}
 use Rattle.std.specs.Io.KnownBytes.{Consumes, Keeps}
 use Rattle.std.proofs.KnownBytes.{Consumes-nil, Consumes-trans}
@@ -19,7 +19,7 @@ nothing-long = refl
 
 -- nothing was read
 pub in-time-still : (was : Option (List ℕ)) → ReadsInTime was was
-in-time-still was = record { before = []; last = []; taken = Consumes-nil was; short = omega arith; within = nothing-long }
+in-time-still was = record { before = []; last = []; taken = Consumes-nil was; short = omega arith; within = nothing-long; few = omega arith }
 
 pub unread-in-time : (was now : Option (List ℕ)) → now ≡ was → ReadsInTime was now
 unread-in-time was now same = subst (ReadsInTime was) (sym same) (in-time-still was)
@@ -38,17 +38,19 @@ in-time-failed was mid new before middle limit text r same = record {
   taken = subst (λ (l : List ℕ). Consumes was new l) (sym (append-nil text)) (kept was mid new text r.consumed same);
   short = omega arith;
   within = r.extent.within;
+  few = let e = r.extent.few in omega (arith, e, length-append text []);
 }
 
 -- the last piece that was read
-pub in-time-more : (was mid new : Option (List ℕ)) (before middle : ℕ) (limit : Extent) (text piece : List ℕ) → IsReading was mid before middle limit text → Consumes mid new piece → length piece ≤ 4096
+pub in-time-more : (was mid new : Option (List ℕ)) (before middle : ℕ) (limit : Extent) (text piece : List ℕ) → IsReading was mid before middle limit text → Consumes mid new piece → length piece ≤ 4096 → length text + length piece ≤ 4194305
     → ReadsInTime was new
-in-time-more was mid new before middle limit text piece r some short = record {
+in-time-more was mid new before middle limit text piece r some short few = record {
   before = text;
   last = piece;
   taken = Consumes-trans was mid new text piece r.consumed some;
   short = short;
   within = r.extent.within;
+  few = omega (arith, few, length-append text piece);
 }
 
 -- no call failed

@@ -24,7 +24,11 @@ pub enum SourceStop {
     NoMemory,
 }
 
-/// Reads a script's text to the source's end, or to the first byte with which it is too long.
+/// How many bytes of a script are read at most: with the last of them it is too long.
+const MOST_READ: usize = 4_194_305;
+
+/// Reads a script's text to the source's end, or to where it is too long: by its bytes at the first byte too many, and by its lines
+/// at the end of the piece that has it.
 pub fn read_source<I: Source>(alloc: Global, source: &mut I) -> Result<Vec<u8>, SourceStop>
     ensures whole { IfOk result (λ text. (rest : List ℕ) → I.left source.old ≡ Some rest
         → (text.items ≡ rest) × (I.left source.new ≡ Some [])) }
@@ -40,14 +44,16 @@ pub fn read_source<I: Source>(alloc: Global, source: &mut I) -> Result<Vec<u8>, 
     let mut limit = TextLimit::new();
     let mut buffer = [0u8; 4096];
     loop {
-        let count = match source.read(&mut buffer) {
+        let room = buffer.len().min(MOST_READ - text.len());
+        let window = &mut buffer[..room];
+        let count = match source.read(window) {
             Ok(count) => count,
             Err(_) => return Err(SourceStop::Failed),
         };
         if count == 0 {
             return Ok(text);
         }
-        let piece = &buffer[..count];
+        let piece = &window[..count];
         if limit.feed(piece) < count {
             return Err(SourceStop::TooLong);
         }

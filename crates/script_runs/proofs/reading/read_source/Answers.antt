@@ -1,4 +1,4 @@
-use Rattle.std.proofs.Common.{arith, ap, ◌∙◌, List, subst, sym, ℕ}
+use Rattle.std.proofs.Common.{arith, ap, ◌∙◌, length-take, List, subst, sym, ℕ}
 use Rattle.std.specs.Prelude.{not}
 use Rattle.host_io.specs.Calls.{raised}
 use Rattle.host_io.proofs.Once.{bytes-none, bytes-one, bytes-then, once-one, once-then}
@@ -38,19 +38,25 @@ pub returns-in-Err-clause-count : goal.returns-in-Err-clause-count
 returns-in-Err-clause-count g c = c.in-Err.ensures.cause.count ∙ ap raised c.loop-count.invariant.text.none
 
 pub returns-then-count-eq0-clause-in_time : goal.returns-then-count-eq0-clause-in_time
-returns-then-count-eq0-clause-in_time g c = in-time-more _ _ _ _ _ c.loop-count.limit _ _ c.loop-count.invariant.text c.in-Ok.ensures.bytes.0 (omega (arith, c.in-Ok.ensures.bound.0, c.in-Ok.ensures.bound.1))
+returns-then-count-eq0-clause-in_time g c = in-time-more _ _ _ _ _ c.loop-count.limit _ _ c.loop-count.invariant.text c.in-Ok.ensures.bytes.0
+    (omega (arith, c.in-Ok.ensures.bound.0, c.in-Ok.ensures.bound.1, c.min-room.ensures, c.read.auto.out, length-take c.min-room.result c.loop-count.buffer))
+    (omega (arith, c.in-Ok.ensures.bound.0, c.in-Ok.ensures.bound.1, c.min-room.ensures, c.len.ensures, c.loop-count.invariant.text.extent.few, c.read.auto.out, length-take c.min-room.result c.loop-count.buffer))
 
 pub returns-then-count-eq0-clause-count : goal.returns-then-count-eq0-clause-count
 returns-then-count-eq0-clause-count g c = c.in-Ok.ensures.cause.count ∙ c.loop-count.invariant.text.none
 
 pub returns-then-feed-count-clause-in_time : goal.returns-then-feed-count-clause-in_time
-returns-then-feed-count-clause-in_time g c = in-time-more _ _ _ _ _ c.loop-count.limit _ _ c.loop-count.invariant.text c.in-Ok.ensures.bytes.0 (omega (arith, c.in-Ok.ensures.bound.0, c.in-Ok.ensures.bound.1))
+returns-then-feed-count-clause-in_time g c = in-time-more _ _ _ _ _ c.loop-count.limit _ _ c.loop-count.invariant.text c.in-Ok.ensures.bytes.0
+    (omega (arith, c.in-Ok.ensures.bound.0, c.in-Ok.ensures.bound.1, c.min-room.ensures, c.read.auto.out, length-take c.min-room.result c.loop-count.buffer))
+    (omega (arith, c.in-Ok.ensures.bound.0, c.in-Ok.ensures.bound.1, c.min-room.ensures, c.len.ensures, c.loop-count.invariant.text.extent.few, c.read.auto.out, length-take c.min-room.result c.loop-count.buffer))
 
 pub returns-then-feed-count-clause-count : goal.returns-then-feed-count-clause-count
 returns-then-feed-count-clause-count g c = c.in-Ok.ensures.cause.count ∙ c.loop-count.invariant.text.none
 
 pub returns-then-is_err-clause-in_time : goal.returns-then-is_err-clause-in_time
-returns-then-is_err-clause-in_time g c = in-time-more _ _ _ _ _ c.loop-count.limit _ _ c.loop-count.invariant.text c.in-Ok.ensures.bytes.0 (omega (arith, c.in-Ok.ensures.bound.0, c.in-Ok.ensures.bound.1))
+returns-then-is_err-clause-in_time g c = in-time-more _ _ _ _ _ c.loop-count.limit _ _ c.loop-count.invariant.text c.in-Ok.ensures.bytes.0
+    (omega (arith, c.in-Ok.ensures.bound.0, c.in-Ok.ensures.bound.1, c.min-room.ensures, c.read.auto.out, length-take c.min-room.result c.loop-count.buffer))
+    (omega (arith, c.in-Ok.ensures.bound.0, c.in-Ok.ensures.bound.1, c.min-room.ensures, c.len.ensures, c.loop-count.invariant.text.extent.few, c.read.auto.out, length-take c.min-room.result c.loop-count.buffer))
 
 pub returns-then-is_err-clause-count : goal.returns-then-is_err-clause-count
 returns-then-is_err-clause-count g c = c.in-Ok.ensures.cause.count ∙ c.loop-count.invariant.text.none
