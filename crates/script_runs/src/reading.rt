@@ -5,7 +5,7 @@ ghost use Rattle.fwu_model.specs.Script.{is_too_long};
 ghost use Rattle.host_io.specs.Once.{ReadsOnce};
 ghost use Rattle.fwu_words.specs.declared.orders.ScriptFrom.TheVariants as origin;
 ghost use Rattle.script_runs.specs.Making.{MakesScript};
-ghost use Rattle.script_runs.specs.Sourced.{ReadsInTime, read_failures};
+ghost use Rattle.script_runs.specs.Sourced.{TakesText, read_failures, stops_long};
 
 use crate::refusing::Refusal;
 use crate::room::{Ready, Room};
@@ -36,7 +36,7 @@ pub fn read_source<I: Source>(alloc: Global, source: &mut I) -> Result<Vec<u8>, 
     ensures short { IfOk result (λ text. (is_too_long text.items ≡ false) × (length text.items ≤ 4194304)) }
     ensures long { result ≡ Err SourceStop.TooLong → (rest : List ℕ) → I.left source.old ≡ Some rest → IsTrue (is_too_long rest) }
     ensures later { I.faults source.old ≤ I.faults source.new }
-    ensures in_time { ReadsInTime (I.left source.old) (I.left source.new) }
+    ensures takes { TakesText (stops_long result) (I.left source.old) (I.left source.new) }
     ensures count { I.faults source.new ≡ read_failures result (I.faults source.old) }
     ensures once { ReadsOnce I.Source source.old source.new }
 {
