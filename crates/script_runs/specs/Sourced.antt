@@ -1,5 +1,6 @@
 -- What a run takes of the source, and how often that failed.
-use Rattle.std.specs.Prelude.{◌≡◌, ◌≢◌, ◌≤◌, ◌⊎◌, ◌++◌, ℕ, List, [], Bool, Option, Result, Ok, Err, IsTrue, IsFalse, true, false, length}
+use Rattle.std.specs.Prelude.{◌≡◌, ◌≢◌, ◌≤◌, ◌⊎◌, ◌++◌, ℕ, List, [], Bool, true, false, Option, Result, Ok, Err}
+use Rattle.std.specs.Prelude.{IsTrue, IsFalse, length}
 use Rattle.std.specs.Io.KnownBytes.{Consumes, IsAtEnd}
 use Rattle.host_io.specs.Calls.{raised}
 use Rattle.fwu_model.specs.Causes.{may_fail_before}
