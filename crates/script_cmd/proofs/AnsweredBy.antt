@@ -1,6 +1,7 @@
 -- What is done for what the words ask for, from what the parts of the command did.
-use Rattle.std.proofs.Common.{◌≡◌, ◌≢◌, ◌≤◌, ℕ, Bool, true, false, List, [], Option, Some, None, refl, sym, ap, subst, ◌∙◌, arith, inl, inr}
-use Rattle.std.specs.Prelude.{IfSome, IsTrue, IsFalse}
+use Rattle.std.proofs.Common.{◌≡◌, ◌≢◌, ◌≤◌, ℕ, Bool, true, false, List, [], Option, Some, None, refl, sym, ap, subst, ◌∙◌, arith, inl, inr, ne_eqb}
+use Rattle.std.specs.Prelude.{◌||◌, ◌==◌, IsTrue, IsFalse}
+use Rattle.std.proofs.KnownBytes.{Consumes-nil}
 use Rattle.std.proofs.lemmas.Bool.{false≢true}
 use Rattle.std.proofs.lemmas.Option.{same_Some}
 use Rattle.fwu_formats.specs.Digests.{passes_any}
@@ -9,6 +10,7 @@ use Rattle.fwu_model.specs.Causes.{Faults, may_fail_before}
 use Rattle.fwu_model.specs.Reply.{Turn}
 use Rattle.fwu_model.specs.Asked as model
 use Rattle.fwu_model.specs.Asked.{script_asked}
+use Rattle.fwu_model.specs.Script.{is_too_long}
 use Rattle.fwu_model.specs.Wrote.{usage_line}
 use Rattle.fwu_model.specs.declared.kinds.Note.TheVariants as model_note
 use Rattle.fwu_words.specs.Order.{Asked, turns_of}
@@ -32,7 +34,7 @@ use Rattle.script_cmd.specs.ServeWays as serve
 use Rattle.script_cmd.specs.ShowedBy.{ShowedBy}
 use Rattle.flash_commands.specs.SoakWays.{SoakWay}
 use Rattle.flash_commands.specs.SoakWays as soak
-use Rattle.script_runs.specs.Sourced.{FailsOnce, ReadsInTime}
+use Rattle.script_runs.specs.Sourced.{FailsOnce, ReadsInTime, TakesScript}
 use Rattle.script_cmd.specs.ByList.{ByList}
 use Rattle.script_runs.specs.Ways.{HasGoodList, Refuses, Way}
 use Rattle.script_runs.specs.Ways as way
@@ -50,6 +52,28 @@ use Rattle.script_cmd.proofs.TopShows.{refused-shows, shows-with-list, starved-s
 use Rattle.script_runs.proofs.TopSources.{none-fails, unread-in-time}
 use Rattle.script_cmd.proofs.TopLists.{no-list-named}
 use Rattle.script_runs.proofs.TopWays.{refused-by, with-list}
+
+-- one of two numbers, and not the second
+pub but-for : (status k : ℕ) → status ≢ k → IsTrue (may_fail_before status || (status == k)) → IsTrue (may_fail_before status)
+but-for status k other is = left-of (may_fail_before status) (status == k) (ne_eqb status k other) is
+  where
+    left-of : (b c : Bool) → c ≡ false → IsTrue (b || c) → IsTrue b
+    left-of true c none is = refl
+    left-of false c none is = absurd (false≢true (sym none ∙ is))
+
+nothing-long : is_too_long [] ≡ false
+unfolding is_too_long
+nothing-long = refl
+
+-- where the source was not read, and the status is one that may come before that
+untaken : (journal : List Turn) (status : ℕ) (left rest : Option (List ℕ)) → rest ≡ left → journal ≡ [] → IsTrue (may_fail_before status) → TakesScript journal status left rest
+untaken journal status left rest same none fails = subst (TakesScript journal status left) (sym same) (record {
+  in_time = record { before = []; last = []; taken = Consumes-nil left; short = omega arith; within = nothing-long; few = omega arith };
+  too_long = λ eight. absurd (false≢true (sym (ap may_fail_before eight) ∙ fails));
+  within = λ other lacks. nothing-long;
+  ran = λ some. absurd (some none);
+  to_end = λ other whole. absurd (false≢true (sym whole ∙ fails));
+})
 
 -- what holds whichever manifests pass
 pub whichever : (Has : (List ℕ → Bool) → Type 0) (Idle : Type 0) (P : (List ℕ → Bool) → Type 0) (Q : Type 0) → ByList Has Idle P → ((passes : List ℕ → Bool) → P passes → Q) → Q
@@ -139,7 +163,7 @@ module _ {H I : Type 0} {passes : List ℕ → Bool} {tells : Bool} {blocks : �
   -- the turns of a script, wherever it is from and wherever they take place
   pub answered-turns : (from : ScriptFrom) (at : Place) (asked : Option Asked) → asked ≡ Some (turns_of from at)
       → WayAt at passes (device-of tells blocks) (Some (plain_of from)) (record { list = None; files = told; script = text_of from left }) (end-of journal status said) (world-of old taken_before faults_before) (world-of new taken_after faults_after)
-      → (status ≡ 0 → from ≡ origin.Source → IfSome rest (λ r. r ≡ [])) → ReadsInTime left rest → FailsOnce journal status faults_before.source faults_after.source → (IsTrue (sends_none (calls_of journal)) → files_after ≡ files)
+      → (from ≡ origin.Source → TakesScript journal status left rest) → ReadsInTime left rest → FailsOnce journal status faults_before.source faults_after.source → (IsTrue (sends_none (calls_of journal)) → files_after ≡ files)
       → (files_after ≡ files → faults_after.files ≡ faults_before.files) → (from ≡ origin.Boot → files_after ≡ files) → (from ≡ origin.Boot → source_after ≡ source) → (at ≡ place.Flash → IsFalse (is_beyond_model said)) → Later faults_before faults_after
       → Answered passes (device-of tells blocks) (inputs-of asked None told left) (end-of journal status said) (world-of old taken_before faults_before) (world-of new taken_after faults_after) rest files files_after source source_after
   answered-turns from at asked is went whole timely once unsent counts kept stays quiet later = subst (λ (a : Option Asked). Answered passes (device-of tells blocks) (inputs-of a None told left) (end-of journal status said) (world-of old taken_before faults_before) (world-of new taken_after faults_after) rest files files_after source source_after) (sym is) (record {
@@ -152,7 +176,7 @@ module _ {H I : Type 0} {passes : List ℕ → Bool} {tells : Bool} {blocks : �
     power = λ leaves zero. absurd (false≢true (sym (left-off from at) ∙ leaves));
     note = λ none. quiet (on-flash from at none);
     reads = record {
-      read_to_end = λ zero runs. whole zero (of-source from at runs);
+      takes = λ runs other. whole (of-source from at runs);
       source = λ none. stays (of-boot from at none);
       list_first = λ none. absurd (none no-list-named);
       in_time = λ runs. timely;
@@ -179,7 +203,7 @@ module _ {H I : Type 0} {passes : List ℕ → Bool} {tells : Bool} {blocks : �
     power = λ leaves zero. on zero;
     note = λ other. quiet;
     reads = record {
-      read_to_end = λ zero other. absurd (none-not-source other);
+      takes = λ runs. absurd (none-not-source runs);
       source = λ other. stays;
       list_first = λ none. stays;
       in_time = λ runs. absurd (none-not-source runs);
@@ -208,7 +232,7 @@ module _ {H I : Type 0} {passes : List ℕ → Bool} {tells : Bool} {blocks : �
     power = λ leaves zero. on zero;
     note = λ other. absurd (false≢true (sym other));
     reads = record {
-      read_to_end = λ zero other. absurd (none-not-source other);
+      takes = λ runs. absurd (none-not-source runs);
       source = λ other. stays;
       list_first = λ none. stays;
       in_time = λ runs. absurd (none-not-source runs);
@@ -237,7 +261,7 @@ module _ {H I : Type 0} {passes : List ℕ → Bool} {tells : Bool} {blocks : �
     power = λ leaves zero. absurd (false≢true leaves);
     note = λ other. absurd (false≢true (sym other));
     reads = record {
-      read_to_end = λ zero other. absurd (none-not-source other);
+      takes = λ runs. absurd (none-not-source runs);
       source = λ other. stays;
       list_first = λ none. stays;
       in_time = λ runs. absurd (none-not-source runs);
@@ -264,7 +288,7 @@ module _ {H I : Type 0} {passes : List ℕ → Bool} {tells : Bool} {blocks : �
     power = λ leaves zero. absurd (false≢true leaves);
     note = λ other. quiet;
     reads = record {
-      read_to_end = λ zero other. absurd (none-not-source other);
+      takes = λ runs. absurd (none-not-source runs);
       source = λ other. absurd (false≢true (sym other));
       list_first = λ none. absurd (none no-list-named);
       in_time = λ runs. absurd (none-not-source runs);
@@ -292,7 +316,7 @@ module _ {H I : Type 0} {passes : List ℕ → Bool} {tells : Bool} {blocks : �
     power = λ leaves zero. absurd (not-done usage_line 1 status taken_before taken_after faults_before.sink faults_after.sink (λ one. absurd (omega arith)) prints zero);
     note = λ other. ap is_beyond_model is;
     reads = record {
-      read_to_end = λ zero other. absurd (not-done usage_line 1 status taken_before taken_after faults_before.sink faults_after.sink (λ one. absurd (omega arith)) prints zero);
+      takes = λ runs. absurd (none-not-source (sym (ap in_short words) ∙ runs));
       source = λ other. stays;
       list_first = λ lacks. stays;
       in_time = λ runs. unread-in-time left rest unread;
@@ -321,7 +345,7 @@ module _ {H I : Type 0} {passes : List ℕ → Bool} {tells : Bool} {blocks : �
     power = λ leaves zero. absurd (omega (arith, zero, nine));
     note = λ other. ap is_beyond_model is;
     reads = record {
-      read_to_end = λ zero words. absurd (omega (arith, zero, nine));
+      takes = λ runs other. untaken journal status left rest unread none (ap may_fail_before nine);
       source = λ other. stays;
       list_first = λ lacks. stays;
       in_time = λ runs. unread-in-time left rest unread;
@@ -338,10 +362,10 @@ module _ {H I : Type 0} {passes : List ℕ → Bool} {tells : Bool} {blocks : �
   -- a list was refused, whatever is asked for
   pub answered-refused : (asked : Option Asked) (name : List ℕ) (planned : ℕ) (line : List ℕ) (met : Note)
       → ((script : Option (List ℕ)) (a : Option Asked) → Refuses a (record { list = Some name; files = told; script = script }) faults_before faults_after planned (noted met) line) → planned ≢ 0 → IsFalse (is_beyond_model met)
-      → journal ≡ [] → new ≡ old → old.armed ≡ None → said ≡ met → Prints line planned status taken_before taken_after faults_before.sink faults_after.sink → (IsFalse (may_fail_before status) → faults_after.files ≡ faults_before.files)
+      → journal ≡ [] → new ≡ old → old.armed ≡ None → said ≡ met → Prints line planned status taken_before taken_after faults_before.sink faults_after.sink → (IsFalse (may_fail_before status) → faults_after.files ≡ faults_before.files) → (status ≢ 13 → IsTrue (may_fail_before status))
       → source_after ≡ source → rest ≡ left → faults_after.source ≡ faults_before.source → Later faults_before faults_after
       → Answered passes (device-of tells blocks) (inputs-of asked (Some name) told left) (end-of journal status said) (world-of old taken_before faults_before) (world-of new taken_after faults_after) rest files files_after source source_after
-  answered-refused asked name planned line met why some beyond none same unarmed is prints counted stays unread once later = record {
+  answered-refused asked name planned line met why some beyond none same unarmed is prints counted fails stays unread once later = record {
     way = λ runs.
         refused-by passes tells journal status (noted said) old new taken_before taken_after asked (record { list = Some name; files = told; script = script_asked (in_short asked) left }) faults_before faults_after planned line (noted met) none same (ap noted is)
         (why (script_asked (in_short asked) left) asked) prints;
@@ -360,7 +384,7 @@ module _ {H I : Type 0} {passes : List ℕ → Bool} {tells : Bool} {blocks : �
     power = λ leaves zero. absurd (not-done line planned status taken_before taken_after faults_before.sink faults_after.sink some prints zero);
     note = λ other. ap is_beyond_model is ∙ beyond;
     reads = record {
-      read_to_end = λ zero words. absurd (not-done line planned status taken_before taken_after faults_before.sink faults_after.sink some prints zero);
+      takes = λ runs other. untaken journal status left rest unread none (fails other);
       source = λ other. stays;
       list_first = λ lacks. stays;
       in_time = λ runs. unread-in-time left rest unread;
@@ -393,7 +417,7 @@ module _ {H I : Type 0} {passes : List ℕ → Bool} {tells : Bool} {blocks : �
         power = a.power;
         note = a.note;
         reads = record {
-          read_to_end = a.reads.read_to_end;
+          takes = a.reads.takes;
           source = a.reads.source;
           list_first = λ lacks. absurd (lacks good);
           in_time = a.reads.in_time;

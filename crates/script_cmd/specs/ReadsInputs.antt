@@ -1,12 +1,12 @@
 -- What a command reads of its files and its source, and which failures it counts, whatever it is asked for.
-use Rattle.std.specs.Prelude.{◌≡◌, ◌≤◌, ℕ, List, [], Option, None, IfSome, IsTrue, IsFalse}
+use Rattle.std.specs.Prelude.{◌≡◌, ◌≢◌, ◌≤◌, ℕ, List, Option, None, IsTrue, IsFalse}
 use Rattle.fwu_model.specs.Asked as model
 use Rattle.fwu_model.specs.Causes.{Faults, may_fail_before}
 use Rattle.script_cmd.specs.Asking.{asks_files, asks_package, asks_source}
 use Rattle.script_runs.specs.Ending.{Ending}
 use Rattle.script_runs.specs.Refusing.{in_short}
 use Rattle.script_turns.specs.Runs.{calls_of, sends_none}
-use Rattle.script_runs.specs.Sourced.{FailsOnce, ReadsInTime}
+use Rattle.script_runs.specs.Sourced.{FailsOnce, ReadsInTime, TakesScript}
 use Rattle.script_runs.specs.Ways.{HasGoodList}
 use Rattle.script_cmd.specs.Handed.{Inputs}
 use Rattle.script_runs.specs.declared.done.Note.{Note}
@@ -14,12 +14,13 @@ use Rattle.script_runs.specs.declared.done.Note.{Note}
 -- `rest` is what the source tells afterwards; the files and the source are those before and after.
 pub record ReadsInputs {H I : Type 0} (inputs : Inputs) (ending : Ending Note) (old new : Faults) (rest : Option (List ℕ))
     (files_before files_after : H) (source_before source_after : I) : Type 0 where
-  -- a script of the source is read to its end
-  pub read_to_end : ending.status ≡ 0 → in_short inputs.asked ≡ model.Source → IfSome rest (λ r. r ≡ [])
   -- only `run` and `serve` read the source, and not behind a list that told files lack, or that is none
   pub source : IsFalse (asks_source inputs.asked) → source_after ≡ source_before
   pub list_first : (HasGoodList inputs.list inputs.files → ⊥) → source_after ≡ source_before
   pub in_time : in_short inputs.asked ≡ model.Source → ReadsInTime inputs.source rest
+  -- whether what was taken of a script is too long, and where nothing is left of it; behind a bad list it isn't read
+  pub takes : in_short inputs.asked ≡ model.Source → ending.status ≢ 13
+      → TakesScript ending.journal ending.status inputs.source rest
   pub source_count : in_short inputs.asked ≡ model.Source → FailsOnce ending.journal ending.status old.source new.source
   -- only `run`, `format` and a list read files, and where no turn is a `send`, `run` does not
   pub files : inputs.list ≡ None → IsFalse (asks_files inputs.asked) → files_after ≡ files_before

@@ -1,5 +1,5 @@
 -- Making the script of a run.
-use Rattle.std.proofs.Common.{◌≡◌, ◌≤◌, List, [], ◌∷◌, Ok, Err, ap, arith, refl, subst, sym, ◌∙◌}
+use Rattle.std.proofs.Common.{◌≡◌, Result, ◌≤◌, ◌==◌, ℕ, false, List, [], ◌∷◌, Ok, Err, ap, arith, refl, subst, sym, ◌∙◌}
 use Rattle.std.specs.Prelude.{IsTrue}
 use Rattle.std.specs.Io.KnownBytes.{IsAtEnd}
 use Rattle.host_io.specs.Once.{ReadsOnce}
@@ -10,47 +10,59 @@ use Rattle.fwu_words.specs.declared.orders.ScriptFrom.{ScriptFrom}
 use Rattle.fwu_words.specs.declared.orders.ScriptFrom.TheVariants as origin
 use Rattle.script_turns.specs.Runs.{sends_none}
 use Rattle.script_runs.specs.Making.{MakesScript}
-use Rattle.script_runs.specs.Refusing.{LacksScript, starved}
-use Rattle.script_runs.specs.Sourced.{ReadsInTime}
+use Rattle.script_runs.specs.Refusing.{LacksScript, refusal_status, starved}
+use Rattle.script_runs.specs.Sourced.{TakesText}
 use Rattle.script_runs.specs.Ways.{HasCalls}
 use Rattle.script_runs.specs.declared.refusing.Refusal.{Refusal}
 use Rattle.script_runs.specs.declared.refusing.Refusal.TheVariants as why
 use Rattle.script_runs.proofs.PromiseWords.{boot-is-script, boot-is-short}
-use Rattle.script_runs.proofs.TopSources.{in-time-still}
+use Rattle.script_runs.proofs.TopSources.{takes-still}
 
 source-not-boot : {A : Type 0} → origin.Source ≡ origin.Boot → A
 source-not-boot e = absurd cc
+
+Ok≢Err : {X E : Type 0} {x : X} {e : E} → ◌≡◌ {A = Result X E} (Ok x) (Err e) → ⊥
+Ok≢Err equal = cc
+
+same_Err : {X E : Type 0} {d e : E} → ◌≡◌ {A = Result X E} (Err d) (Err e) → d ≡ e
+same_Err is = cc
+
+starved-not-bad : (n : ℕ) → why.NoMemory ≡ why.BadScript n → ⊥
+starved-not-bad n equal = cc
 
 boot-not-source : {A : Type 0} → origin.Boot ≡ origin.Source → A
 boot-not-source e = absurd cc
 
 -- ---- by a source that was read
 
-module _ {I : Type 0} (s : source.Ghosts I) (old new : I) (timely : ReadsInTime (s.left old) (s.left new)) (later : s.faults old ≤ s.faults new) (once : ReadsOnce s old new) where
+module _ {I : Type 0} (s : source.Ghosts I) (old new : I) (later : s.faults old ≤ s.faults new) (once : ReadsOnce s old new) where
   -- it gave a script
-  pub makes-read : (calls : List Call) → HasCalls (s.left old) calls → IsAtEnd (s.left new) → s.faults new ≡ s.faults old → MakesScript s origin.Source (λ script. script) (Ok calls) old new
-  makes-read calls has end quiet = record {
+  pub makes-read : (calls : List Call) → HasCalls (s.left old) calls → TakesText false (s.left old) (s.left new) → IsAtEnd (s.left new) → s.faults new ≡ s.faults old → MakesScript s origin.Source (λ script. script) (Ok calls) old new
+  makes-read calls has takes end quiet = record {
     script = has;
     lacks = tt;
     boot_alone = source-not-boot;
     boot_sends = source-not-boot;
     to_end = λ is. end;
+    bad_to_end = λ n equal. absurd (Ok≢Err equal);
     quiet = quiet;
-    in_time = timely;
+    takes = takes;
     later = later;
     once = once;
   }
 
   -- it gave none
-  pub lacks-read : (met : Refusal) → LacksScript origin.Source (s.left old) (s.faults old) (s.faults new) met → MakesScript s origin.Source (λ (script : List Call). script) (Err met) old new
-  lacks-read met lacks = record {
+  pub lacks-read : (met : Refusal) → LacksScript origin.Source (s.left old) (s.faults old) (s.faults new) met → TakesText (refusal_status met == 8) (s.left old) (s.left new) → ((n : ℕ) → met ≡ why.BadScript n → IsAtEnd (s.left new))
+      → MakesScript s origin.Source (λ (script : List Call). script) (Err met) old new
+  lacks-read met lacks takes bad_end = record {
     script = tt;
     lacks = lacks;
     boot_alone = source-not-boot;
     boot_sends = source-not-boot;
     to_end = λ is. tt;
+    bad_to_end = λ n is source. bad_end n (same_Err is);
     quiet = tt;
-    in_time = timely;
+    takes = takes;
     later = later;
     once = once;
   }
@@ -65,8 +77,9 @@ module _ {I : Type 0} (s : source.Ghosts I) (at : I) (still : ReadsOnce s at at)
     boot_alone = λ again. refl;
     boot_sends = λ again. subst (λ (l : List Call). IsTrue (sends_none l)) (sym is) refl;
     to_end = boot-not-source;
+    bad_to_end = λ n equal. boot-not-source;
     quiet = refl;
-    in_time = in-time-still (s.left at);
+    takes = takes-still (s.left at);
     later = omega arith;
     once = still;
   })
@@ -78,8 +91,9 @@ module _ {I : Type 0} (s : source.Ghosts I) (at : I) (still : ReadsOnce s at at)
     boot_alone = λ again. refl;
     boot_sends = λ again. tt;
     to_end = boot-not-source;
+    bad_to_end = λ n equal. boot-not-source;
     quiet = tt;
-    in_time = in-time-still (s.left at);
+    takes = takes-still (s.left at);
     later = omega arith;
     once = still;
   })
@@ -94,8 +108,9 @@ module _ {I R : Type 0} (s : source.Ghosts I) (from : ScriptFrom) (calls : R →
     boot_alone = m.boot_alone;
     boot_sends = m.boot_sends;
     to_end = m.to_end;
+    bad_to_end = λ n equal. absurd (Ok≢Err equal);
     quiet = m.quiet;
-    in_time = m.in_time;
+    takes = m.takes;
     later = m.later;
     once = m.once;
   }
@@ -107,8 +122,9 @@ module _ {I R : Type 0} (s : source.Ghosts I) (from : ScriptFrom) (calls : R →
     boot_alone = m.boot_alone;
     boot_sends = λ boot. tt;
     to_end = λ is. tt;
+    bad_to_end = λ n is. m.bad_to_end n (ap Err (same_Err is));
     quiet = tt;
-    in_time = m.in_time;
+    takes = m.takes;
     later = m.later;
     once = m.once;
   }
@@ -121,8 +137,9 @@ module _ {I R : Type 0} (s : source.Ghosts I) (from : ScriptFrom) (calls : R →
     boot_alone = m.boot_alone;
     boot_sends = λ boot. tt;
     to_end = λ is. tt;
+    bad_to_end = λ n equal. absurd (starved-not-bad n (same_Err equal));
     quiet = tt;
-    in_time = m.in_time;
+    takes = m.takes;
     later = m.later;
     once = m.once;
   }

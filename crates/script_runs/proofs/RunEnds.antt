@@ -65,6 +65,20 @@ status-whole reply.ReadFault = refl
 status-whole (reply.NotBooted why) = refl
 status-whole other = refl
 
+-- no turn ends a run as a script that is too long
+not-long : (r : Reply) → status_by r ≢ 8
+not-long reply.Fault is = absurd (omega arith)
+not-long reply.ReadFault is = absurd (omega arith)
+not-long (reply.NotBooted why) is = absurd (omega arith)
+not-long other is = absurd (omega arith)
+
+last-not-long : (last : Option Turn) → status_of_last last ≢ 8
+last-not-long None is = absurd (omega arith)
+last-not-long (Some t) is = not-long t.reply is
+
+pub ended-not-long : (script : List Call) (journal : List Turn) (status : ℕ) (noted : Note) → ScriptEnded script journal status noted → status ≢ 8
+ended-not-long script journal status noted ended is = last-not-long (last_turn journal) (sym (ended.status_is (ap may_lack is)) ∙ is)
+
 lacks-not : (status k : ℕ) → status ≡ k → IsTrue (may_lack k) → IsFalse (may_lack status) → ⊥
 lacks-not status k is lacks whole = false≢true (sym whole ∙ ap may_lack is ∙ lacks)
 

@@ -1,15 +1,17 @@
 -- What a run takes of the source.
-use Rattle.std.proofs.Common.{◌≡◌, false, inl, inr, ◌≤◌, ℕ, List, [], ◌++◌, Option, Some, None, length, arith, refl, sym, ap, subst, ◌∙◌, append-nil}
+use Rattle.std.proofs.Common.{◌≡◌, true, false, ◌<◌, take, drop, take-append-drop, append_assoc, inl, inr, ◌≤◌, ◌+◌, ℕ, List, [], ◌∷◌, ◌++◌, Option, Some, None, length, arith, refl, sym, ap, subst, ◌∙◌, append-nil, length-append}
 use Rattle.std.proofs.lemmas.Bool.{false≢true}
+use Rattle.std.proofs.lemmas.List.{take_all}
 use Rattle.std.specs.Io.KnownBytes.{Consumes, Keeps}
 use Rattle.std.proofs.KnownBytes.{Consumes-nil, Consumes-trans}
 use Rattle.host_io.specs.Calls.{raised}
 use Rattle.fwu_model.specs.Causes.{may_fail_before}
 use Rattle.fwu_model.specs.Reply.{Turn}
 use Rattle.fwu_model.specs.Script.{is_too_long}
-use Rattle.script_text.specs.Limit.{Extent}
+use Rattle.script_text.specs.Limit.{Extent, IsExtentOf}
+use Rattle.script_text.proofs.Extents.{long-stays-long}
 use Rattle.host_io.specs.Printed.{Prints}
-use Rattle.script_runs.specs.Sourced.{FailsOnce, ReadsInTime}
+use Rattle.script_runs.specs.Sourced.{FailsOnce, ReadsInTime, TakesText}
 use Rattle.script_runs.proofs.TopPrints.{by-plan}
 use Rattle.script_runs.proofs.TopReads.{IsReading}
 
@@ -19,7 +21,7 @@ nothing-long = refl
 
 -- nothing was read
 pub in-time-still : (was : Option (List ℕ)) → ReadsInTime was was
-in-time-still was = record { before = []; last = []; taken = Consumes-nil was; short = omega arith; within = nothing-long }
+in-time-still was = record { before = []; last = []; taken = Consumes-nil was; short = omega arith; within = nothing-long; few = omega arith }
 
 pub unread-in-time : (was now : Option (List ℕ)) → now ≡ was → ReadsInTime was now
 unread-in-time was now same = subst (ReadsInTime was) (sym same) (in-time-still was)
@@ -38,17 +40,65 @@ in-time-failed was mid new before middle limit text r same = record {
   taken = subst (λ (l : List ℕ). Consumes was new l) (sym (append-nil text)) (kept was mid new text r.consumed same);
   short = omega arith;
   within = r.extent.within;
+  few = let e = r.extent.few in omega (arith, e, length-append text []);
 }
 
 -- the last piece that was read
-pub in-time-more : (was mid new : Option (List ℕ)) (before middle : ℕ) (limit : Extent) (text piece : List ℕ) → IsReading was mid before middle limit text → Consumes mid new piece → length piece ≤ 4096
+pub in-time-more : (was mid new : Option (List ℕ)) (before middle : ℕ) (limit : Extent) (text piece : List ℕ) → IsReading was mid before middle limit text → Consumes mid new piece → length piece ≤ 4096 → length text + length piece ≤ 4194305
     → ReadsInTime was new
-in-time-more was mid new before middle limit text piece r some short = record {
+in-time-more was mid new before middle limit text piece r some short few = record {
   before = text;
   last = piece;
   taken = Consumes-trans was mid new text piece r.consumed some;
   short = short;
   within = r.extent.within;
+  few = omega (arith, few, length-append text piece);
+}
+
+-- ---- whether it is too long
+
+nothing-of : (piece : List ℕ) → length piece ≤ 0 → piece ≡ []
+nothing-of [] none = refl
+nothing-of (x ∷ xs) none = absurd (omega (arith, none))
+
+pub takes-still : (was : Option (List ℕ)) → TakesText false was was
+unfolding in-time-still
+takes-still was = record { in_time = in-time-still was; is_long = nothing-long }
+
+-- a read failed
+pub takes-failed : (was mid new : Option (List ℕ)) (before middle : ℕ) (limit : Extent) (text : List ℕ) → IsReading was mid before middle limit text → Keeps mid new → TakesText false was new
+unfolding in-time-failed
+takes-failed was mid new before middle limit text r same = record {
+  in_time = in-time-failed was mid new before middle limit text r same;
+  is_long = ap is_too_long (append-nil text) ∙ r.extent.within;
+}
+
+-- it gave no bytes
+pub takes-none : (was mid new : Option (List ℕ)) (before middle : ℕ) (limit : Extent) (text piece : List ℕ) → IsReading was mid before middle limit text → Consumes mid new piece → length piece ≤ 0 → TakesText false was new
+unfolding in-time-more
+takes-none was mid new before middle limit text piece r some none = record {
+  in_time = in-time-more was mid new before middle limit text piece r some (omega (arith, none)) (let e = r.extent.few in omega (arith, e, none));
+  is_long = ap (λ (l : List ℕ). is_too_long (text ++ l)) (nothing-of piece none) ∙ ap is_too_long (append-nil text) ∙ r.extent.within;
+}
+
+-- it gave a piece that was all within the limits
+pub takes-piece : (was mid new : Option (List ℕ)) (before middle : ℕ) (limit next : Extent) (text piece : List ℕ) (n : ℕ) → IsReading was mid before middle limit text → Consumes mid new piece → length piece ≤ 4096 → length text + length piece ≤ 4194305
+    → n ≤ length piece → length piece ≤ n → ((given : List ℕ) → IsExtentOf limit given → IsExtentOf next (given ++ take n piece)) → TakesText false was new
+unfolding in-time-more
+takes-piece was mid new before middle limit next text piece n r some short few within all fed = record {
+  in_time = in-time-more was mid new before middle limit text piece r some short few;
+  is_long = ap (λ (l : List ℕ). is_too_long (text ++ l)) (sym (take_all n piece (omega arith))) ∙ (fed text r.extent).within;
+}
+
+-- it gave a piece with which it is too long
+pub takes-long : (was mid new : Option (List ℕ)) (before middle : ℕ) (limit : Extent) (text piece : List ℕ) (n : ℕ) → IsReading was mid before middle limit text → Consumes mid new piece → length piece ≤ 4096 → length text + length piece ≤ 4194305
+    → n < length piece → (n < length piece → (given : List ℕ) → IsExtentOf limit given → is_too_long (given ++ take (n + 1) piece) ≡ true) → TakesText true was new
+unfolding in-time-more
+takes-long was mid new before middle limit text piece n r some short few within full = record {
+  in_time = in-time-more was mid new before middle limit text piece r some short few;
+  is_long =
+      ap is_too_long (sym (append_assoc text (take (n + 1) piece) (drop (n + 1) piece) ∙ ap (λ (l : List ℕ). text ++ l) (take-append-drop (n + 1) piece)))
+      ∙ long-stays-long (text ++ take (n + 1) piece) (drop (n + 1) piece) (full within text r.extent);
 }
 
 -- no call failed

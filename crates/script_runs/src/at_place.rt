@@ -9,7 +9,7 @@ ghost use Rattle.fwu_words.specs.declared.orders.ScriptFrom.TheVariants as origi
 ghost use Rattle.script_runs.specs.Here.{GoesFor};
 ghost use Rattle.script_runs.specs.Noted.{is_beyond_model};
 ghost use Rattle.script_runs.specs.Running.{IsUnnamedIn};
-ghost use Rattle.script_runs.specs.Sourced.{FailsOnce, ReadsInTime};
+ghost use Rattle.script_runs.specs.Sourced.{FailsOnce, ReadsInTime, TakesScript};
 ghost use Rattle.script_runs.specs.Ways.{Given, HasGoodList};
 ghost use Rattle.script_turns.specs.Runs.{calls_of, sends_none};
 
@@ -51,6 +51,8 @@ pub fn run_turns<D: Flash, H: Files, I: Source, O: Sink, V: Verifier>(
     ensures unwritten { H.writes files.new ≡ H.writes files.old }
     ensures read_to_end { result.status ≡ 0 → order.from ≡ origin.Source → IfSome (I.left source.new) (λ rest. rest ≡ []) }
     ensures in_time { ReadsInTime (I.left source.old) (I.left source.new) }
+    ensures takes { order.from ≡ origin.Source
+        → TakesScript (turns result.journal) result.status (I.left source.old) (I.left source.new) }
     ensures source_count { FailsOnce (turns result.journal) result.status (I.faults source.old) (I.faults source.new) }
     ensures later_files { H.faults files.old ≤ H.faults files.new }
     ensures later_source { I.faults source.old ≤ I.faults source.new }

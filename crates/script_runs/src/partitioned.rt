@@ -1,5 +1,5 @@
 //! Runs on the flash that a device has behind a GUID partition table.
-ghost use Rattle.std.specs.Prelude.{◌≡◌, ◌≤◌, Option, None, IsTrue, IsFalse};
+ghost use Rattle.std.specs.Prelude.{◌≡◌, ◌≢◌, ◌≤◌, Option, None, IsTrue, IsFalse};
 ghost use Rattle.host_io.specs.Access.{Access};
 ghost use Rattle.flash_core.specs.Told.{NothingDirty};
 ghost use Rattle.fwu_model.specs.Causes.{Faults};
@@ -140,6 +140,8 @@ pub fn run_by_table<D: Flash, H: Files, O: Sink, V: Verifier>(
     ensures files { IsTrue (sends_none ready.script) → files.new ≡ files.old }
     ensures unsent { IsTrue (sends_none (calls_of (turns result.journal))) → files.new ≡ files.old }
     ensures spares { (access : Access) → IsUnnamedIn (turns result.journal) access → H.spares files.old files.new access }
+    // No status tells of a script that is too long.
+    ensures not_long { result.status ≢ 8 }
     ensures size { D.blocks result.flash ≡ D.blocks flash }
 {
     let mut flash = flash;

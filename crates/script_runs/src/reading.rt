@@ -5,7 +5,7 @@ ghost use Rattle.fwu_model.specs.Script.{is_too_long};
 ghost use Rattle.host_io.specs.Once.{ReadsOnce};
 ghost use Rattle.fwu_words.specs.declared.orders.ScriptFrom.TheVariants as origin;
 ghost use Rattle.script_runs.specs.Making.{MakesScript};
-ghost use Rattle.script_runs.specs.Sourced.{ReadsInTime, read_failures};
+ghost use Rattle.script_runs.specs.Sourced.{TakesText, read_failures, stops_long};
 
 use crate::refusing::Refusal;
 use crate::room::{Ready, Room};
@@ -24,7 +24,11 @@ pub enum SourceStop {
     NoMemory,
 }
 
-/// Reads a script's text to the source's end, or to the first byte with which it is too long.
+/// How many bytes of a script are read at most: with the last of them it is too long.
+const MOST_READ: usize = 4_194_305;
+
+/// Reads a script's text to the source's end, or to where it is too long: by its bytes at the first byte too many, and by its lines
+/// at the end of the piece that has it.
 pub fn read_source<I: Source>(alloc: Global, source: &mut I) -> Result<Vec<u8>, SourceStop>
     ensures whole { IfOk result (λ text. (rest : List ℕ) → I.left source.old ≡ Some rest
         → (text.items ≡ rest) × (I.left source.new ≡ Some [])) }
@@ -32,7 +36,7 @@ pub fn read_source<I: Source>(alloc: Global, source: &mut I) -> Result<Vec<u8>, 
     ensures short { IfOk result (λ text. (is_too_long text.items ≡ false) × (length text.items ≤ 4194304)) }
     ensures long { result ≡ Err SourceStop.TooLong → (rest : List ℕ) → I.left source.old ≡ Some rest → IsTrue (is_too_long rest) }
     ensures later { I.faults source.old ≤ I.faults source.new }
-    ensures in_time { ReadsInTime (I.left source.old) (I.left source.new) }
+    ensures takes { TakesText (stops_long result) (I.left source.old) (I.left source.new) }
     ensures count { I.faults source.new ≡ read_failures result (I.faults source.old) }
     ensures once { ReadsOnce I.Source source.old source.new }
 {
@@ -40,14 +44,16 @@ pub fn read_source<I: Source>(alloc: Global, source: &mut I) -> Result<Vec<u8>, 
     let mut limit = TextLimit::new();
     let mut buffer = [0u8; 4096];
     loop {
-        let count = match source.read(&mut buffer) {
+        let room = buffer.len().min(MOST_READ - text.len());
+        let window = &mut buffer[..room];
+        let count = match source.read(window) {
             Ok(count) => count,
             Err(_) => return Err(SourceStop::Failed),
         };
         if count == 0 {
             return Ok(text);
         }
-        let piece = &buffer[..count];
+        let piece = &window[..count];
         if limit.feed(piece) < count {
             return Err(SourceStop::TooLong);
         }

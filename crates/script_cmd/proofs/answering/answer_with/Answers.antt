@@ -18,7 +18,7 @@ returns-in-Ok-Turns-clause-answers g c =
     let e = c.run_turns.ensures in
     answered-turns c.in-Ok-Turns.order.from c.in-Ok-Turns.order.place _ (rw c.in-Ok-Turns.field-0-is at c.in-Ok-Turns.ensures)
     (e.way (record { list = None; files = g.H.Files.contents c.args.files.now; script = None }) (record { files = files; source = 0; sink = 0 }) (record { files = files; source = 0; sink = 0 }) no-list-named refl (omega arith))
-    e.read_to_end e.in_time e.source_count e.unsent (ap g.H.Files.faults) e.boot_files e.boot_source e.note (record { files = e.later_files; source = e.later_source; sink = e.later_sink })
+    e.takes e.in_time e.source_count e.unsent (ap g.H.Files.faults) e.boot_files e.boot_source e.note (record { files = e.later_files; source = e.later_source; sink = e.later_sink })
 
 pub returns-in-Ok-Show-clause-answers : goal.returns-in-Ok-Show-clause-answers
 returns-in-Ok-Show-clause-answers g c =

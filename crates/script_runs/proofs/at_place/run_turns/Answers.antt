@@ -1,10 +1,11 @@
-use Rattle.std.proofs.Common.{Some, ap, subst, sym}
+use Rattle.std.proofs.Common.{Some, Err, ap, subst, sym}
 use Rattle.fwu_words.specs.declared.orders.Place.{Place}
 use Rattle.script_turns.specs.Powered.{moment}
 use Rattle.script_runs.specs.Here.{GoesAt}
 use Rattle.script_runs.specs.Refusing.{plain_of, text_of}
 use Rattle.script_runs.specs.Ways.{ran}
-use Rattle.script_runs.proofs.Refused.{asks-of, lacks-at, lacks-once, lacks-quiet, lacks-some}
+use Rattle.script_runs.proofs.Refused.{asks-of, lacks-at, lacks-once, lacks-quiet, lacks-some, lacks-takes, read-takes}
+use Rattle.script_runs.proofs.RunEnds.{ended-not-long}
 use Rattle.script_runs.proofs.TopPrints.{later}
 use Rattle.script_runs.proofs.TopSources.{none-fails}
 use Rattle.script_runs.proofs.TopWays.{ran-told}
@@ -32,6 +33,11 @@ returns-in-Err-clause-later_sink g c = later _ _ _ _ _ _ _ c.refuse.ensures.prin
 pub returns-in-Err-clause-read_to_end : goal.returns-in-Err-clause-read_to_end
 returns-in-Err-clause-read_to_end g c = λ zero source. absurd (lacks-some c.in-Err.why _ _ _ _ _ c.refuse.ensures.prints zero)
 
+pub returns-in-Err-clause-takes : goal.returns-in-Err-clause-takes
+returns-in-Err-clause-takes g c source =
+    lacks-takes _ _ _ _ _ _ _ _ _ _ _ c.in-Err.why c.in-Err.ensures.lacks c.refuse.ensures.no_turns c.refuse.ensures.prints c.in-Err.ensures.takes
+    (λ n is. c.in-Err.ensures.bad_to_end n (ap Err is) source)
+
 -- ---- on the device
 
 pub returns-in-Flash-clause-way : goal.returns-in-Flash-clause-way
@@ -49,6 +55,10 @@ returns-in-Flash-clause-boot_files g c = λ boot. c.run_script.ensures.keeps.unr
 pub returns-in-Flash-clause-source_count : goal.returns-in-Flash-clause-source_count
 returns-in-Flash-clause-source_count g c = none-fails _ _ _ _ c.in-Ok.ensures.quiet
 
+pub returns-in-Flash-clause-takes : goal.returns-in-Flash-clause-takes
+returns-in-Flash-clause-takes g c source =
+    read-takes _ _ _ _ c.in-Ok.ensures.takes (c.in-Ok.ensures.to_end source) (ended-not-long _ _ _ _ c.run_script.ensures.ends.ended)
+
 -- ---- behind its partition table
 
 pub returns-in-Partitions-clause-way : goal.returns-in-Partitions-clause-way
@@ -65,3 +75,6 @@ returns-in-Partitions-clause-boot_files g c = λ boot. c.run_by_table.ensures.fi
 
 pub returns-in-Partitions-clause-source_count : goal.returns-in-Partitions-clause-source_count
 returns-in-Partitions-clause-source_count g c = none-fails _ _ _ _ c.in-Ok.ensures.quiet
+
+pub returns-in-Partitions-clause-takes : goal.returns-in-Partitions-clause-takes
+returns-in-Partitions-clause-takes g c source = read-takes _ _ _ _ c.in-Ok.ensures.takes (c.in-Ok.ensures.to_end source) c.run_by_table.ensures.not_long

@@ -1,9 +1,9 @@
-use Rattle.std.proofs.Common.{arith, ap, ◌∙◌, List, subst, sym, ℕ}
+use Rattle.std.proofs.Common.{arith, ap, ◌∙◌, length-take, List, subst, sym, ℕ}
 use Rattle.std.specs.Prelude.{not}
 use Rattle.host_io.specs.Calls.{raised}
 use Rattle.host_io.proofs.Once.{bytes-none, bytes-one, bytes-then, once-one, once-then}
 use Rattle.script_runs.proofs.TopReads.{IsReading, goes-on, is-long, nothing-yet}
-use Rattle.script_runs.proofs.TopSources.{in-time-failed, in-time-more}
+use Rattle.script_runs.proofs.TopSources.{takes-failed, takes-long, takes-none, takes-piece}
 use Rattle.script_runs.proofs.reading.read_source.Goals as goal
 
 pub returns-then-feed-count-clause-long : goal.returns-then-feed-count-clause-long
@@ -31,26 +31,35 @@ loop-count-preserved g c = record {
 
 -- ---- what was read, and how often that failed
 
-pub returns-in-Err-clause-in_time : goal.returns-in-Err-clause-in_time
-returns-in-Err-clause-in_time g c = in-time-failed _ _ _ _ _ c.loop-count.limit _ c.loop-count.invariant.text c.in-Err.ensures.bytes
+pub returns-in-Err-clause-takes : goal.returns-in-Err-clause-takes
+returns-in-Err-clause-takes g c = takes-failed _ _ _ _ _ c.loop-count.limit _ c.loop-count.invariant.text c.in-Err.ensures.bytes
 
 pub returns-in-Err-clause-count : goal.returns-in-Err-clause-count
 returns-in-Err-clause-count g c = c.in-Err.ensures.cause.count ∙ ap raised c.loop-count.invariant.text.none
 
-pub returns-then-count-eq0-clause-in_time : goal.returns-then-count-eq0-clause-in_time
-returns-then-count-eq0-clause-in_time g c = in-time-more _ _ _ _ _ c.loop-count.limit _ _ c.loop-count.invariant.text c.in-Ok.ensures.bytes.0 (omega (arith, c.in-Ok.ensures.bound.0, c.in-Ok.ensures.bound.1))
+pub returns-then-count-eq0-clause-takes : goal.returns-then-count-eq0-clause-takes
+returns-then-count-eq0-clause-takes g c =
+    takes-none _ _ _ _ _ c.loop-count.limit _ _ c.loop-count.invariant.text c.in-Ok.ensures.bytes.0 (omega (arith, c.if-count-eq0.true, c.in-Ok.ensures.bound.1))
 
 pub returns-then-count-eq0-clause-count : goal.returns-then-count-eq0-clause-count
 returns-then-count-eq0-clause-count g c = c.in-Ok.ensures.cause.count ∙ c.loop-count.invariant.text.none
 
-pub returns-then-feed-count-clause-in_time : goal.returns-then-feed-count-clause-in_time
-returns-then-feed-count-clause-in_time g c = in-time-more _ _ _ _ _ c.loop-count.limit _ _ c.loop-count.invariant.text c.in-Ok.ensures.bytes.0 (omega (arith, c.in-Ok.ensures.bound.0, c.in-Ok.ensures.bound.1))
+pub returns-then-feed-count-clause-takes : goal.returns-then-feed-count-clause-takes
+returns-then-feed-count-clause-takes g c =
+    takes-long _ _ _ _ _ c.loop-count.limit _ _ c.feed.result c.loop-count.invariant.text c.in-Ok.ensures.bytes.0
+    (omega (arith, c.in-Ok.ensures.bound.0, c.in-Ok.ensures.bound.1, c.min-room.ensures, c.read.auto.out, length-take c.min-room.result c.loop-count.buffer))
+    (omega (arith, c.in-Ok.ensures.bound.0, c.in-Ok.ensures.bound.1, c.min-room.ensures, c.len.ensures, c.loop-count.invariant.text.extent.few, c.read.auto.out, length-take c.min-room.result c.loop-count.buffer))
+    (omega (arith, c.if-feed-count.true, c.in-Ok.ensures.bound.1)) c.feed.ensures.full
 
 pub returns-then-feed-count-clause-count : goal.returns-then-feed-count-clause-count
 returns-then-feed-count-clause-count g c = c.in-Ok.ensures.cause.count ∙ c.loop-count.invariant.text.none
 
-pub returns-then-is_err-clause-in_time : goal.returns-then-is_err-clause-in_time
-returns-then-is_err-clause-in_time g c = in-time-more _ _ _ _ _ c.loop-count.limit _ _ c.loop-count.invariant.text c.in-Ok.ensures.bytes.0 (omega (arith, c.in-Ok.ensures.bound.0, c.in-Ok.ensures.bound.1))
+pub returns-then-is_err-clause-takes : goal.returns-then-is_err-clause-takes
+returns-then-is_err-clause-takes g c =
+    takes-piece _ _ _ _ _ c.loop-count.limit _ _ _ c.feed.result c.loop-count.invariant.text c.in-Ok.ensures.bytes.0
+    (omega (arith, c.in-Ok.ensures.bound.0, c.in-Ok.ensures.bound.1, c.min-room.ensures, c.read.auto.out, length-take c.min-room.result c.loop-count.buffer))
+    (omega (arith, c.in-Ok.ensures.bound.0, c.in-Ok.ensures.bound.1, c.min-room.ensures, c.len.ensures, c.loop-count.invariant.text.extent.few, c.read.auto.out, length-take c.min-room.result c.loop-count.buffer))
+    c.feed.ensures.some (omega (arith, c.if-feed-count.false, c.in-Ok.ensures.bound.1)) c.feed.ensures.taken
 
 pub returns-then-is_err-clause-count : goal.returns-then-is_err-clause-count
 returns-then-is_err-clause-count g c = c.in-Ok.ensures.cause.count ∙ c.loop-count.invariant.text.none
