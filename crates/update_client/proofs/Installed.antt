@@ -28,7 +28,7 @@ use Rattle.update_client.specs.Finishes.{FinishesSend, FinishesBy, InstallsImage
 use Rattle.agent_machine.proofs.Going.{goes-then, goes-stopped}
 use Rattle.agent_machine.proofs.CallGoing.{MeetsAs, call-goes, call-replies}
 use Rattle.update_client.proofs.Staging.{cancel-answers}
-use Rattle.update_client.proofs.WrittenPiece.{no-success}
+use Rattle.agent_calls.proofs.Copies.{no-success}
 
 -- ---- what told files have
 
