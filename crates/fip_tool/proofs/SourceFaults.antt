@@ -14,15 +14,7 @@ use Rattle.fip_making.specs.declared.stops.Stop.TheVariants as stop
 pub printed-quiet : (was text : Option (List ℕ)) (rose : Type 0) (piece : List ℕ) (r : Result (Unit {0}) Stop) (n : ℕ) → PrintedText was text rose piece r → n ≡ source_failures r n
 printed-quiet was text rose piece (Ok u) n p = refl
 printed-quiet was text rose piece (Err stop.FileFault) n p = absurd p
-printed-quiet was text rose piece (Err stop.SinkFault) n p = refl
-printed-quiet was text rose piece (Err stop.Usage) n p = refl
-printed-quiet was text rose piece (Err (stop.NotFip f)) n p = refl
-printed-quiet was text rose piece (Err (stop.NoSuchEntry guid)) n p = refl
-printed-quiet was text rose piece (Err (stop.NotPacked f)) n p = refl
-printed-quiet was text rose piece (Err (stop.NoManifest f)) n p = refl
-printed-quiet was text rose piece (Err stop.TooLong) n p = refl
-printed-quiet was text rose piece (Err (stop.NotCapsule f)) n p = refl
-printed-quiet was text rose piece (Err stop.NoMemory) n p = refl
+printed-quiet was text rose piece (Err s) n p = refl
 
 -- all was read
 pub none-failed : (status before after : ℕ) → status ≡ 0 → after ≡ before → FailsOnceAt status before after
@@ -57,12 +49,4 @@ fails-once taken text rose stop.FileFault now status before after is r m = recor
   failed = λ two. m;
   none = late taken text rose now status before after is r;
 }
-fails-once taken text rose stop.SinkFault now status before after is r m = none-by taken text rose stop.SinkFault now status before after (λ e. cc) is r m
-fails-once taken text rose stop.Usage now status before after is r m = none-by taken text rose stop.Usage now status before after (λ e. cc) is r m
-fails-once taken text rose (stop.NotFip f) now status before after is r m = none-by taken text rose (stop.NotFip f) now status before after (λ e. cc) is r m
-fails-once taken text rose (stop.NoSuchEntry guid) now status before after is r m = none-by taken text rose (stop.NoSuchEntry guid) now status before after (λ e. cc) is r m
-fails-once taken text rose (stop.NotPacked f) now status before after is r m = none-by taken text rose (stop.NotPacked f) now status before after (λ e. cc) is r m
-fails-once taken text rose (stop.NoManifest f) now status before after is r m = none-by taken text rose (stop.NoManifest f) now status before after (λ e. cc) is r m
-fails-once taken text rose stop.TooLong now status before after is r m = none-by taken text rose stop.TooLong now status before after (λ e. cc) is r m
-fails-once taken text rose (stop.NotCapsule f) now status before after is r m = none-by taken text rose (stop.NotCapsule f) now status before after (λ e. cc) is r m
-fails-once taken text rose stop.NoMemory now status before after is r m = none-by taken text rose stop.NoMemory now status before after (λ e. cc) is r m
+fails-once taken text rose s now status before after is r m = none-by taken text rose s now status before after (λ e. cc) is r m
