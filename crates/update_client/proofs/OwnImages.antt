@@ -1,17 +1,14 @@
 -- The entry of each image opens that image, since the types differ.
-use Rattle.std.proofs.Common.{◌≡◌, ◌≢◌, cond, ℕ, ◌*◌, ◌<◌, ◌≤◌, Bool, true, false, List, [], ◌∷◌, length, map, replicate, zero, suc, get_or, inl, inr, Option, Some, None, refl, sym, ap, subst, ◌∙◌, arith}
-use Rattle.std.specs.Prelude.{IsTrue, ltb}
-use Rattle.std.specs.List.{position_or_len, find, range_with_len}
-use Rattle.std.proofs.lemmas.Bool.{cases_Bool, lt-ltb}
-use Rattle.std.proofs.lemmas.List.{length-map, length-replicate, get_or-map}
+use Rattle.std.proofs.Common.{◌≡◌, cond, ℕ, ◌*◌, ◌<◌, ◌≤◌, Bool, true, false, List, [], ◌∷◌, length, map, replicate, zero, suc, get_or, Option, Some, refl, sym, ap, subst, ◌∙◌, arith}
+use Rattle.std.specs.Prelude.{IsTrue}
+use Rattle.std.specs.List.{find, range_with_len}
+use Rattle.std.proofs.lemmas.List.{length-replicate}
 use Rattle.std.proofs.lemmas.List.FromFn.{length-range_with_len, get_or-range_with_len}
 use Rattle.fwu_model.specs.Session.{Nothing}
-use Rattle.std.proofs.lemmas.List.Sums.{position_or_len_is}
-use Rattle.base_core.specs.Bytes.{same_bytes}
-use Rattle.fwu_formats.specs.Layout.{ImageRow, find_image, are_distinct, slot_bytes}
+use Rattle.fwu_formats.specs.Layout.{find_image, are_distinct, slot_bytes}
 use Rattle.fwu_formats.specs.Package.{Entry, Toc, has_guid}
 use Rattle.fwu_model.specs.Sound.{Setting}
-use Rattle.fwu_model.proofs.Staging.{same-self, same-is, distinct-at}
+use Rattle.fwu_model.proofs.Staging.{same-is}
 use Rattle.agent_calls.proofs.OwnRows.{guid_in, own-image}
 use Rattle.update_client.specs.Choosing.{AreChosen, no_row}
 use Rattle.update_client.specs.Images.{AreUnstaged, no_entry}

@@ -10,7 +10,7 @@ use Rattle.agent_machine.specs.Moment.{Moment}
 use Rattle.agent_machine.proofs.Going.{goes-then, goes-nothing}
 use Rattle.update_client.proofs.Halting.{halts-after}
 use Rattle.update_client.specs.declared.stops.SendStop.{SendStop}
-use Rattle.update_client.specs.declared.stops.SendStop.TheVariants.{MissingImage, ImageTooLarge, Begin, End, ReadFailed, Lost, Fault, Gone}
+use Rattle.update_client.specs.declared.stops.SendStop.TheVariants.{ReadFailed}
 use Rattle.agent_machine.specs.Filling.{within}
 use Rattle.update_client.specs.Halts.{Halts}
 use Rattle.update_client.specs.Pieces.{WritesPiece, WritesFirst, WritesImage}
@@ -54,13 +54,7 @@ module _ (told : Option Directory) (name : List ℕ) (e : Entry) (at : ℕ) (old
       as-unit : (stop : SendStop) (E : Setting) (mid new : Moment) (s : State) (boot : ℕ) (y : Session)
           → Halts {T = ℕ} (Err stop) E mid new s boot y → Halts {T = Unit {0}} (Err stop) E mid new s boot y
       as-unit ReadFailed E mid new s boot y h = h
-      as-unit Lost E mid new s boot y h = h
-      as-unit Fault E mid new s boot y h = h
-      as-unit (MissingImage g) E mid new s boot y h = h
-      as-unit (ImageTooLarge g) E mid new s boot y h = h
-      as-unit (Begin st) E mid new s boot y h = h
-      as-unit (End st) E mid new s boot y h = h
-      as-unit Gone E mid new s boot y h = h
+      as-unit q E mid new s boot y h = h
 
   -- that was all
   pub image-done : e.size ≤ at → at ≤ e.size → WritesImage told name e (Ok tt) old mid
