@@ -1,15 +1,11 @@
 -- Packages that are made of others.
-use Rattle.std.proofs.Common.{◌≡◌, ◌<◌, ◌≤◌, ◌+◌, ◌^◌, ℕ, List, [], ◌∷◌, Bool, true, false, Option, Some, None, Result, Ok, Err, get_or, length, map, arith, refl, sym, ap, subst, ◌∙◌}
-use Rattle.std.specs.Prelude.{not, unwrap_or, ◌==◌, if◌then◌else◌, nat_lt, position, filter}
-use Rattle.std.specs.List.{All, position_or_len}
-use Rattle.std.proofs.lemmas.Bool.{ltb-false}
+use Rattle.std.proofs.Common.{◌≡◌, ◌≤◌, ◌+◌, ℕ, List, [], ◌∷◌, Bool, Option, Some, None, Result, Ok, Err, length, map, refl, sym, ap, subst, ◌∙◌}
+use Rattle.std.specs.Prelude.{not, unwrap_or, filter}
+use Rattle.std.specs.List.{All}
 use Rattle.std.proofs.lemmas.List.Elements.{All-filter}
-use Rattle.std.proofs.lemmas.List.Sums.{fails_before_first}
-use Rattle.base_core.specs.Bytes.{num_at}
 use Rattle.host_io.specs.Contents.{Directory}
-use Rattle.fwu_formats.specs.Package.{Entry, Part, Toc, entries_from, entry_limit, fip_name, is_beyond, toc_of, with_entries, within}
+use Rattle.fwu_formats.specs.Package.{Entry, Part, Toc, toc_of}
 use Rattle.fwu_formats.specs.declared.kinds.FipFault.{FipFault}
-use Rattle.fwu_formats.specs.declared.kinds.FipFault.TheVariants as fault
 use Rattle.fip_tables.specs.Files.{Lacks, Tells}
 use Rattle.fip_words.specs.Order.{part_view}
 use Rattle.fip_words.specs.Values.{NamedFile}
