@@ -1,9 +1,8 @@
 -- How often a call of the files failed.
 use Rattle.std.proofs.Common.{◌≡◌, ◌∙◌, inl, inr, ℕ, Option, List, Result, Ok, Err, ap, arith, refl, sym}
-use Rattle.std.proofs.lemmas.Bool.{false≢true}
 use Rattle.std.specs.Prelude.{◌==◌, ◌||◌, IsFalse}
 use Rattle.host_io.specs.Contents.{Directory}
-use Rattle.fip_tool.proofs.SourceFaults.{by-number}
+use Rattle.fip_tool.proofs.SourceFaults.{late}
 use Rattle.fip_tool.specs.Ends.{Reported}
 use Rattle.fip_making.specs.Stops.{status_number}
 use Rattle.fip_tool.specs.Steps.{FailsAtMostOnce, FaultsOnce}
@@ -41,12 +40,6 @@ faults-as {X = X} {Y = Y} {before = before} {after = after} {s = s} faults = rec
 
 pub fails-done : (status before after : ℕ) → FaultsOnce {X = Unit {0}} before after (Ok tt) → FailsAtMostOnce status before after
 fails-done status before after faults = record { once = faults.once; none = λ other. faults.quiet }
-
-late : (was text : Option (List ℕ)) (rose : Type 0) (now : Stop) (status before after : ℕ) → status ≡ status_number now → Reported was text rose stop.FileFault now
-    → IsFalse ((status == 2) || ((status == 3) || (status == 9))) → after ≡ before
-late was text rose now status before after is (inl a) o = absurd (false≢true (sym (by-number 2 status before after (is ∙ ap status_number a.0) o)))
-late was text rose now status before after is (inr (inl a)) o = absurd (false≢true (sym (by-number 3 status before after (is ∙ ap status_number a.0) o)))
-late was text rose now status before after is (inr (inr a)) o = absurd (false≢true (sym (by-number 9 status before after (is ∙ ap status_number a.0) o)))
 
 none-but : (was text : Option (List ℕ)) (rose : Type 0) (s now : Stop) (status before after : ℕ) → status ≡ status_number now → Reported was text rose s now → NoneFailed {X = Unit {0}} (Err s) before after
     → IsFalse ((status == 2) || ((status == 3) || (status == 9))) → after ≡ before

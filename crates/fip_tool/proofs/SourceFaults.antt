@@ -32,10 +32,10 @@ none-by taken text rose s now status before after other is r same = record {
   none = λ o. same;
 }
 
-pub by-number : (n status before after : ℕ) → status ≡ n → IsFalse ((status == 2) || ((status == 3) || (status == 9))) → IsFalse ((n == 2) || ((n == 3) || (n == 9)))
+by-number : (n status before after : ℕ) → status ≡ n → IsFalse ((status == 2) || ((status == 3) || (status == 9))) → IsFalse ((n == 2) || ((n == 3) || (n == 9)))
 by-number n status before after is o = subst (λ (x : ℕ). IsFalse ((x == 2) || ((x == 3) || (x == 9)))) is o
 
-late : (taken text : Option (List ℕ)) (rose : Type 0) (now : Stop) (status before after : ℕ) → status ≡ status_number now → Reported taken text rose stop.FileFault now
+pub late : (taken text : Option (List ℕ)) (rose : Type 0) (now : Stop) (status before after : ℕ) → status ≡ status_number now → Reported taken text rose stop.FileFault now
     → IsFalse ((status == 2) || ((status == 3) || (status == 9))) → after ≡ before
 late taken text rose now status before after is (inl a) o = absurd (false≢true (sym (by-number 2 status before after (is ∙ ap status_number a.0) o)))
 late taken text rose now status before after is (inr (inl a)) o = absurd (false≢true (sym (by-number 3 status before after (is ∙ ap status_number a.0) o)))
