@@ -2,6 +2,7 @@
 use Rattle.std.proofs.Common.{◌≡◌, ◌≢◌, ◌*◌, ℕ, zero, suc, ◌+◌, ◌<◌, ◌≤◌, Bool, true, List, [], ◌∷◌, ◌++◌, length, get_or, take, drop, Option, Some, None, Result, Ok, Err, refl, sym, ap, subst, ◌∙◌, arith, length-append}
 use Rattle.std.specs.Prelude.{IsTrue, IsFalse, IsErr}
 use Rattle.std.proofs.lemmas.List.{take_all}
+use Rattle.std.proofs.Math.Seq.{take-add}
 use Rattle.std.proofs.lemmas.Result.{IfOk-from_err}
 use Rattle.flash_core.specs.Told.{Told}
 use Rattle.flash_core.specs.declared.flash.FlashStop.{FlashStop}
@@ -242,18 +243,6 @@ module _ (old mid new : Moment) (fitting : Fitting old.fields) (image at n : ℕ
 
 -- ---- all pieces of an image
 
-take-none : (n m : ℕ) → ◌≡◌ {A = List ℕ} (take n []) (take m [])
-take-none zero zero = refl
-take-none zero (suc m) = refl
-take-none (suc n) zero = refl
-take-none (suc n) (suc m) = refl
-
-take-more : (at n : ℕ) (l : List ℕ) → take at l ++ take n (drop at l) ≡ take (at + n) l
-take-more zero n l = let z : 0 + n ≡ n = omega arith in ap (λ (k : ℕ). take k l) (sym z)
-take-more (suc at) n [] = take-none n (suc at + n)
-take-more (suc at) n (x ∷ l) = let z : suc at + n ≡ suc (at + n) = omega arith in ap (λ (ys : List ℕ). x ∷ ys) (take-more at n l) ∙ ap
-    (λ (k : ℕ). take k (x ∷ l)) (sym z)
-
 -- the bank that was started, of an agent that shows a session that is on
 pub booted-is : (m : Moment) (s : State) (boot : ℕ) (staging : Option (List Staged)) (handles : List Handle) → Shows m s (On boot staging handles) → boot ≡ m.fields.boot
 booted-is m s boot staging handles shows = on-boot boot m.fields.boot staging (staging_meant m.fields.session shows.staged) handles (handles_meant m.fields.session) shows.means
@@ -283,7 +272,7 @@ module _ (image at : ℕ) (old mid new : Moment) (first : CopiesFront image at o
         ∙ ap (λ (b : List ℕ). take at (image_held s boot image) ++ b)
         (piece.read (subst IsTrue (sym one.stays.tells) tells) s (within boot parts image first.bytes) one.shows
         ∙ ap (λ (b : ℕ). take n (drop at (image_held s b image))) (sym here))
-        ∙ take-more at n (image_held s boot image);
+        ∙ sym (take-add at n (image_held s boot image));
     goes = λ E s boot parts layout below shows.
         let one = first.goes E s boot parts layout below shows in
         goes-then E (Ok tt) old mid new s [] [] (within boot parts image first.bytes) (within boot parts image (first.bytes ++ piece.bytes)) one

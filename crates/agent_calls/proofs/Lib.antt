@@ -1,7 +1,7 @@
 mod Starting
 mod Discovered
 mod NoOther
-mod OwnRows
+pub mod OwnRows
 pub mod StoredVerdict
 pub mod Listing
 mod Unstored

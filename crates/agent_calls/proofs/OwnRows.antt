@@ -12,7 +12,7 @@ use Rattle.fwu_model.proofs.Staging.{same-self, same-is, distinct-at}
 abbrev pub no_row : ImageRow
 no_row = record { guid = []; slots = 0 }
 
-abbrev guid_in : List ImageRow → ℕ → List ℕ
+abbrev pub guid_in : List ImageRow → ℕ → List ℕ
 guid_in rows k = (get_or rows k no_row).guid
 
 differs : (xs ys : List ℕ) → xs ≢ ys → same_bytes xs ys ≡ false

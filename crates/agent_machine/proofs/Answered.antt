@@ -225,16 +225,7 @@ pub planned-moves : (E : Setting) (s : State) (boot : ℕ) (stg : Option (List S
     → (planned E s boot stg hs bytes p).moves ≡ planned_moves s stg p
 unfolding planned
 planned-moves E s boot stg hs bytes plan.Tell = refl
-planned-moves E s boot stg hs bytes (plan.BeginPartial store named) = refl
-planned-moves E s boot stg hs bytes (plan.Begin store) = refl
-planned-moves E s boot stg hs bytes (plan.Open h image o total) = refl
-planned-moves E s boot stg hs bytes (plan.Write h image at n) = refl
-planned-moves E s boot stg hs bytes (plan.Read h image at n total) = refl
-planned-moves E s boot stg hs bytes (plan.Commit h image bit) = refl
-planned-moves E s boot stg hs bytes plan.End = refl
-planned-moves E s boot stg hs bytes plan.Cancel = refl
-planned-moves E s boot stg hs bytes (plan.Accept image store) = refl
-planned-moves E s boot stg hs bytes plan.Back = refl
+planned-moves E s boot stg hs bytes q = refl
 
 -- no plan changes the version
 pub planned-form : (s : State) (stg : Option (List Staged)) (p : Plan) → (after s (planned_moves s stg p)).form ≡ s.form

@@ -1,17 +1,18 @@
 -- What a bank holds is the first bytes of its slots.
-use Rattle.std.proofs.Common.{◌≡◌, inl, inr, cond, ℕ, zero, suc, ◌+◌, ◌-◌, ◌<◌, ◌≤◌, Bool, not, ltb, ◌&&◌, ◌==◌, List, [], length, get_or, take}
-use Rattle.std.proofs.Common.{Option, Some, None, Result, Ok, Err, refl, sym, ap, ◌∙◌, subst, arith, IsTrue, eqb-true}
-use Rattle.std.proofs.lemmas.Bool.{cases_Bool, and_parts, not-false}
+use Rattle.std.proofs.Common.{◌≡◌, inl, inr, cond, ℕ, zero, suc, ◌+◌, ◌-◌, ◌<◌, ◌≤◌, Bool, ◌&&◌, ◌==◌, List, [], length, get_or, take}
+use Rattle.std.proofs.Common.{Option, Some, None, Result, Ok, Err, sym, ap, ◌∙◌, subst, arith, IsTrue, eqb-true}
+use Rattle.std.proofs.lemmas.Bool.{cases_Bool, and_parts}
 use Rattle.std.proofs.lemmas.List.{length-take, take_min}
 use Rattle.std.proofs.lemmas.List.FromFn.{length-map-range_with_len, get_or-map-range_with_len}
 use Rattle.std.specs.Prelude.{is_ok}
 use Rattle.base_core.specs.Bytes.{num_at, listed}
 use Rattle.fwu_formats.specs.declared.kinds.ManifestFault.{ManifestFault}
-use Rattle.fwu_formats.specs.Layout.{ImageRow, Layout}
-use Rattle.fwu_formats.specs.Manifest.{Row, Manifest, manifest_of, manifest_size, manifest_part, row_at, manifest_magic, has_form}
-use Rattle.fwu_formats.specs.Manifest.{is_version_too_high, is_complete}
+use Rattle.fwu_formats.specs.Layout.{Layout}
+use Rattle.fwu_formats.specs.Manifest.{Row, Manifest, manifest_of, manifest_size, manifest_part, row_at}
+use Rattle.fwu_formats.specs.Manifest.{is_complete}
 use Rattle.fwu_formats.specs.Image.{slot, images_in, if_complete, package_by, package_in}
-use Rattle.fwu_formats.proofs.SealLaws.{was_not_refused}
+use Rattle.base_core.proofs.Results.{ok-is}
+use Rattle.fwu_formats.proofs.Read.{manifest-holds}
 use Rattle.agent_machine.specs.Law.{IsInSlots}
 
 -- a front of the list is the front of its own length
@@ -37,22 +38,6 @@ read-in : (L : Layout) (image : List ℕ) (b : ℕ) (p : List (List ℕ)) → pa
 unfolding package_in
 read-in L image b p h = h
 
-ok-is : {X F : Type 0} (r : Result X F) → IsTrue (is_ok r) → (x : X) × (r ≡ Ok x)
-ok-is (Ok x) h = (x, refl)
-ok-is (Err e) h = absurd cc
-
--- how many rows a manifest says that was read
-manifest-says : (rows : List ImageRow) (xs : List ℕ) (m : Manifest) → manifest_of rows xs ≡ Ok m → num_at 4 xs 12 ≡ length rows - 1
-unfolding manifest_of
-manifest-says rows xs m e =
-    let count = length rows - 1 in
-    let a = was_not_refused (ltb (length xs) (manifest_size count)) _ _ m e in
-    let b = was_not_refused (not (num_at 4 xs 0 == manifest_magic)) _ _ m a.1 in
-    let c = was_not_refused (not (has_form xs)) _ _ m b.1 in
-    let d = was_not_refused (is_version_too_high xs) _ _ m c.1 in
-    let f = was_not_refused (not (num_at 4 xs 12 == count)) _ _ m d.1 in
-    eqb-true _ _ (not-false _ f.0)
-
 module _ (L : Layout) (image : List ℕ) (b : ℕ) (p : List (List ℕ)) (some : 1 ≤ length L.rows) (held : package_in L image b ≡ Some p) where
   found : (m : Manifest) × (images_in L image b m ≡ p) × IsTrue (is_complete L.rows p)
   found = held-by L image b (manifest_of L.rows (slot L image b 0)) p (read-in L image b p held)
@@ -70,7 +55,7 @@ module _ (L : Layout) (image : List ℕ) (b : ℕ) (p : List (List ℕ)) (some :
       (eqb-true _ _ d.0, eqb-true _ _ a1.1, d.1)
 
   rows-said : num_at 4 (manifest_part p) 12 ≡ length L.rows - 1
-  rows-said = let read = ok-is (manifest_of L.rows (manifest_part p)) parts.2 in manifest-says L.rows (manifest_part p) read.0 read.1
+  rows-said = let read = ok-is (manifest_of L.rows (manifest_part p)) parts.2 in (manifest-holds L.rows (manifest_part p) read.0 read.1).count
 
   abbrev no_row : Row
   no_row = record { guid = []; size = 0; version = 0; digest = [] }

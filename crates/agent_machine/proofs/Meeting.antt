@@ -47,16 +47,9 @@ success-planned : (E : Setting) (s : State) (boot : ℕ) (stg : Option (List Sta
     → (planned E s boot stg hs bytes p).reply ≡ Success
 unfolding planned
 success-planned E s boot stg hs bytes plan.Tell e = absurd e
-success-planned E s boot stg hs bytes (plan.BeginPartial store named) e = refl
-success-planned E s boot stg hs bytes (plan.Begin store) e = refl
 success-planned E s boot stg hs bytes (plan.Open h image o total) e = absurd e
-success-planned E s boot stg hs bytes (plan.Write h image at n) e = refl
 success-planned E s boot stg hs bytes (plan.Read h image at n total) e = absurd e
-success-planned E s boot stg hs bytes (plan.Commit h image bit) e = refl
-success-planned E s boot stg hs bytes plan.End e = refl
-success-planned E s boot stg hs bytes plan.Cancel e = refl
-success-planned E s boot stg hs bytes (plan.Accept image store) e = refl
-success-planned E s boot stg hs bytes plan.Back e = refl
+success-planned E s boot stg hs bytes q e = refl
 
 -- the same of a machine that is shown
 pub success-says : (old : Moment) (bytes : List ℕ) (p : Plan) → SaysSuccess p → (E : Setting) (s : State) (x : Session) → Shows old s x

@@ -178,20 +178,17 @@ module _ (f : Fields) (k : Kept) (t : Told) (fitting : Fitting f) (knows : Knows
 
 -- the images stay
 pub rows-after : (k : Kept) (bytes : List ℕ) (p : Plan) (new : Kept) → Changes k bytes p new → new.rows ≡ k.rows
-rows-after k bytes plan.Tell new c = ap (λ (x : Kept). x.rows) c
 rows-after k bytes (plan.BeginPartial store named) new c = c.rows
 rows-after k bytes (plan.Begin store) new c = c.rows
 rows-after k bytes (plan.Open number image op.Read total) new c = ap (λ (x : Kept). x.rows) c
 rows-after k bytes (plan.Open number None op.Write total) new c = absurd c
 rows-after k bytes (plan.Open number (Some image) op.Write total) new c = c.rows
 rows-after k bytes (plan.Write number image at n) new c = c.rest.rows
-rows-after k bytes (plan.Read number image at n total) new c = ap (λ (x : Kept). x.rows) c
 rows-after k bytes (plan.Commit number None bit) new c = ap (λ (x : Kept). x.rows) c
 rows-after k bytes (plan.Commit number (Some image) bit) new c = c.rows
 rows-after k bytes plan.End new c = c.rows
 rows-after k bytes plan.Cancel new c = c.rows
-rows-after k bytes (plan.Accept image store) new c = ap (λ (x : Kept). x.rows) c
-rows-after k bytes plan.Back new c = ap (λ (x : Kept). x.rows) c
+rows-after k bytes s new c = ap (λ (x : Kept). x.rows) c
 
 false-true : {b : Bool} → b ≡ false → b ≡ true → ⊥
 false-true a b = absurd cc
@@ -276,51 +273,36 @@ module _ (f : Fields) (k : Kept) (bytes : List ℕ) (fitting : Fitting f) where
       → (f.session.staging ≡ true → IsTrue (is_accepted (state_at f.meta.meta f.meta.meta.active)))
       → k.staging ≡ true → IsTrue (is_accepted (state_at f.meta.meta f.meta.meta.active))
   quiet-accepted tells plan.Tell quiet of may c told was is = was (sym (ap (λ (x : Kept). x.staging) c) ∙ is)
-  quiet-accepted tells (plan.BeginPartial store named) quiet of may c told was is = absurd quiet
   quiet-accepted tells (plan.Begin store) quiet of may c told was is = may.2 told
   quiet-accepted tells (plan.Open number image op.Read total) quiet of may c told was is = was (sym (ap (λ (x : Kept). x.staging) c) ∙ is)
   quiet-accepted tells (plan.Open number None op.Write total) quiet of may c told was is = absurd c
   quiet-accepted tells (plan.Open number (Some image) op.Write total) quiet of may c told was is = was (sym c.staging ∙ is)
-  quiet-accepted tells (plan.Write number image at n) quiet of may c told was is = absurd quiet
   quiet-accepted tells (plan.Read number image at n total) quiet of may c told was is = was (sym (ap (λ (x : Kept). x.staging) c) ∙ is)
   quiet-accepted tells (plan.Commit number None bit) quiet of may c told was is = was (sym (ap (λ (x : Kept). x.staging) c) ∙ is)
   quiet-accepted tells (plan.Commit number (Some image) bit) quiet of may c told was is = absurd quiet
-  quiet-accepted tells plan.End quiet of may c told was is = absurd quiet
   quiet-accepted tells plan.Cancel quiet of may c told was is = absurd (false-true c.staging_is is)
   quiet-accepted tells (plan.Accept image store) quiet of may c told was is = was (sym (ap (λ (x : Kept). x.staging) c) ∙ is)
-  quiet-accepted tells plan.Back quiet of may c told was is = absurd quiet
+  quiet-accepted tells s quiet of may c told was is = absurd quiet
 
 -- ---- such a plan is carried out as what is kept is settled
 
 pub quiet-meta : (k : Kept) (m : Meta) (p : Plan) → IsQuietPlan p → meta_planned k m p ≡ m
-quiet-meta k m plan.Tell quiet = refl
 quiet-meta k m (plan.BeginPartial store named) quiet = absurd quiet
 quiet-meta k m (plan.Begin true) quiet = absurd quiet
-quiet-meta k m (plan.Begin false) quiet = refl
-quiet-meta k m (plan.Open number image o total) quiet = refl
 quiet-meta k m (plan.Write number image at n) quiet = absurd quiet
-quiet-meta k m (plan.Read number image at n total) quiet = refl
-quiet-meta k m (plan.Commit number image bit) quiet = refl
 quiet-meta k m plan.End quiet = absurd quiet
-quiet-meta k m plan.Cancel quiet = refl
 quiet-meta k m (plan.Accept image true) quiet = absurd quiet
-quiet-meta k m (plan.Accept image false) quiet = refl
 quiet-meta k m plan.Back quiet = absurd quiet
+quiet-meta k m s quiet = refl
 
 pub quiet-moves : (s : State) (stg : Option (List Staged)) (p : Plan) → IsQuietPlan p → planned_moves s stg p ≡ []
-quiet-moves s stg plan.Tell quiet = refl
 quiet-moves s stg (plan.BeginPartial store named) quiet = absurd quiet
 quiet-moves s stg (plan.Begin true) quiet = absurd quiet
-quiet-moves s stg (plan.Begin false) quiet = refl
-quiet-moves s stg (plan.Open number image o total) quiet = refl
 quiet-moves s stg (plan.Write number image at n) quiet = absurd quiet
-quiet-moves s stg (plan.Read number image at n total) quiet = refl
-quiet-moves s stg (plan.Commit number image bit) quiet = refl
 quiet-moves s stg plan.End quiet = absurd quiet
-quiet-moves s stg plan.Cancel quiet = refl
 quiet-moves s stg (plan.Accept image true) quiet = absurd quiet
-quiet-moves s stg (plan.Accept image false) quiet = refl
 quiet-moves s stg plan.Back quiet = absurd quiet
+quiet-moves s stg q quiet = refl
 
 -- what is opened for reading has its total
 pub keeps-total : (tells : Bool) (f : Fields) → Fitting f → (p : Plan) → MayKeep tells f p → (E : Setting) (s : State) → E.layout ≡ f.layout → SpeaksOf f s
@@ -331,13 +313,7 @@ keeps-total tells f fitting (plan.Begin store) may E s same speaks = tt
 keeps-total tells f fitting (plan.Open number image op.Read total) may E s same speaks = may.0
     ∙ sym (content-total f E s fitting.layout same speaks image may.1)
 keeps-total tells f fitting (plan.Open number image op.Write total) may E s same speaks = tt
-keeps-total tells f fitting (plan.Write number image at n) may E s same speaks = tt
-keeps-total tells f fitting (plan.Read number image at n total) may E s same speaks = tt
-keeps-total tells f fitting (plan.Commit number image bit) may E s same speaks = tt
-keeps-total tells f fitting plan.End may E s same speaks = tt
-keeps-total tells f fitting plan.Cancel may E s same speaks = tt
-keeps-total tells f fitting (plan.Accept image store) may E s same speaks = tt
-keeps-total tells f fitting plan.Back may E s same speaks = tt
+keeps-total tells f fitting q may E s same speaks = tt
 
 -- settling such a plan is as it says
 quiet-settles : (k : Kept) (m : MetaRead) (bytes : List ℕ) (p : Plan) (new_meta : MetaRead) (new : Kept) → IsQuietPlan p

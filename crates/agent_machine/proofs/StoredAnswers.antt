@@ -30,16 +30,7 @@ not-refused : (E : Setting) (s : State) (boot : ℕ) (stg : Option (List Staged)
     → planned E s boot stg hs [] p ≡ refused st y → ⊥
 unfolding planned
 not-refused E s boot stg hs plan.Tell st y e = absurd (let r = ap (λ (a : Answer). a.reply) e in cc)
-not-refused E s boot stg hs (plan.BeginPartial store named) st y e = absurd (let r = ap (λ (a : Answer). a.reply) e in cc)
-not-refused E s boot stg hs (plan.Begin store) st y e = absurd (let r = ap (λ (a : Answer). a.reply) e in cc)
-not-refused E s boot stg hs (plan.Open h image o total) st y e = absurd (let r = ap (λ (a : Answer). a.reply) e in cc)
-not-refused E s boot stg hs (plan.Write h image at n) st y e = absurd (let r = ap (λ (a : Answer). a.reply) e in cc)
-not-refused E s boot stg hs (plan.Read h image at n total) st y e = absurd (let r = ap (λ (a : Answer). a.reply) e in cc)
-not-refused E s boot stg hs (plan.Commit h image bit) st y e = absurd (let r = ap (λ (a : Answer). a.reply) e in cc)
-not-refused E s boot stg hs plan.End st y e = absurd (let r = ap (λ (a : Answer). a.reply) e in cc)
-not-refused E s boot stg hs plan.Cancel st y e = absurd (let r = ap (λ (a : Answer). a.reply) e in cc)
-not-refused E s boot stg hs (plan.Accept image store) st y e = absurd (let r = ap (λ (a : Answer). a.reply) e in cc)
-not-refused E s boot stg hs plan.Back st y e = absurd (let r = ap (λ (a : Answer). a.reply) e in cc)
+not-refused E s boot stg hs q st y e = absurd (let r = ap (λ (a : Answer). a.reply) e in cc)
 
 module _ (E : Setting) (s : State) (boot : ℕ) (stg : Option (List Staged)) (hs : List Handle) where
   abbrev here : Session
@@ -176,19 +167,12 @@ module _ (E : Setting) (s : State) (boot : ℕ) (stg : Option (List Staged)) (hs
   -- any other plan than an accept has no move here
   other-moves : (image : ℕ) (p : Plan) → is_accept p ≡ false → accept_moves s image ≡ (planned E s boot stg hs [] p).moves → accept_moves s image ≡ []
   unfolding planned
-  other-moves image plan.Tell not e = e
   other-moves image (plan.BeginPartial true named) not e = absurd (no-accept _ image (Free (update_bank s)) [] (λ i h. absurd cc) e)
-  other-moves image (plan.BeginPartial false named) not e = e
   other-moves image (plan.Begin true) not e = absurd (no-accept _ image (Free (update_bank s)) [] (λ i h. absurd cc) e)
-  other-moves image (plan.Begin false) not e = e
-  other-moves image (plan.Open h target o total) not e = e
-  other-moves image (plan.Write h target at n) not e = e
-  other-moves image (plan.Read h target at n total) not e = e
-  other-moves image (plan.Commit h target bit) not e = e
   other-moves image plan.End not e = absurd (no-accept _ image _ [] (λ i h. absurd cc) e)
-  other-moves image plan.Cancel not e = e
   other-moves image (plan.Accept target store) not e = absurd cc
   other-moves image plan.Back not e = absurd (no-accept _ image Back [] (λ i h. absurd cc) e)
+  other-moves image s not e = e
 
   pub accept-other : (guid : List ℕ) (p : Plan) → is_accept p ≡ false → answer E s (On boot stg hs) (call.Accepts guid) ≡ planned E s boot stg hs [] p
       → answer E s (On boot stg hs) (call.Accepts guid) ≡ answered Success [] (On boot stg hs)

@@ -36,17 +36,10 @@ module _ (f : Fields) (fitting : Fitting f) where
   planned-fitting plan.Back k may changes = subst (λ (x : Kept). Fitting (after_plan f plan.Back x)) (sym changes) (back-fitting f fitting may)
 
   pub planned-some : (p : Plan) (k : Kept) → MayCarryOut f p → Changes f.session [] p k → ∥ SomeStaged f.session ∥₁ → ∥ SomeStaged k ∥₁
-  planned-some plan.Tell k may changes some = absurd may
-  planned-some (plan.BeginPartial store named) k may changes some = absurd may
   planned-some (plan.Begin store) k may changes some = ∣ record { staged = λ _. []; kept = kept-nothing k (λ _. []) changes.nothing } ∣₁
-  planned-some (plan.Open h image o total) k may changes some = absurd may
-  planned-some (plan.Write h image at n) k may changes some = absurd may
-  planned-some (plan.Read h image at n total) k may changes some = absurd may
-  planned-some (plan.Commit h image bit) k may changes some = absurd may
-  planned-some plan.End k may changes some = absurd may
-  planned-some plan.Cancel k may changes some = absurd may
   planned-some (plan.Accept image store) k may changes some = subst (λ (x : Kept). ∥ SomeStaged x ∥₁) (sym changes) some
   planned-some plan.Back k may changes some = subst (λ (x : Kept). ∥ SomeStaged x ∥₁) (sym changes) some
+  planned-some s k may changes some = absurd may
 
   module _ (s t : Told) where
     pub planned-known : (p : Plan) (k : Kept) → Knows f s → MayCarryOut f p → Changes f.session [] p k

@@ -16,19 +16,12 @@ use Rattle.agent_machine.specs.Stored.{MayCarryOut, TakesIf, TakesStore, is_stor
 module _ (f : Fields) (armed arming : Option Arming) where
   planned-takes : (p : Plan) → MayCarryOut f p → TakesIf (is_stored p) armed arming
       → TakesStore f.meta (record f.meta { meta = meta_planned f.session f.meta.meta p }) armed arming
-  planned-takes plan.Tell may takes = absurd may
-  planned-takes (plan.BeginPartial store named) may takes = absurd may
   planned-takes (plan.Begin true) may takes = inl takes
   planned-takes (plan.Begin false) may takes = inr (refl, takes)
-  planned-takes (plan.Open h image o total) may takes = absurd may
-  planned-takes (plan.Write h image at n) may takes = absurd may
-  planned-takes (plan.Read h image at n total) may takes = absurd may
-  planned-takes (plan.Commit h image bit) may takes = absurd may
-  planned-takes plan.End may takes = absurd may
-  planned-takes plan.Cancel may takes = absurd may
   planned-takes (plan.Accept image true) may takes = inl takes
   planned-takes (plan.Accept image false) may takes = inr (refl, takes)
   planned-takes plan.Back may takes = inl takes
+  planned-takes s may takes = absurd may
 
   pub takes-store : (p : Plan) (stored : Bool) (m : MetaRead) → MayCarryOut f p → stored ≡ is_stored p
       → m ≡ record f.meta { meta = meta_planned f.session f.meta.meta p } → TakesIf stored armed arming → TakesStore f.meta m armed arming

@@ -54,18 +54,9 @@ answer-any E passes s boot stg hs request.Previous bytes plain = absurd plain
 planned-any : (E : Setting) (passes : List ℕ → Bool) (s : State) (boot : ℕ) (stg : Option (List Staged)) (hs : List Handle) (bytes : List ℕ) (p : Plan)
     → planned (with_verifier E passes) s boot stg hs bytes p ≡ planned E s boot stg hs bytes p
 unfolding planned directory
-planned-any E passes s boot stg hs bytes plan.Tell = refl
-planned-any E passes s boot stg hs bytes (plan.BeginPartial store named) = refl
-planned-any E passes s boot stg hs bytes (plan.Begin store) = refl
-planned-any E passes s boot stg hs bytes (plan.Open h image o total) = refl
-planned-any E passes s boot stg hs bytes (plan.Write h image at n) = refl
 planned-any E passes s boot stg hs bytes (plan.Read h None at n total) = refl
 planned-any E passes s boot stg hs bytes (plan.Read h (Some image) at n total) = refl
-planned-any E passes s boot stg hs bytes (plan.Commit h image bit) = refl
-planned-any E passes s boot stg hs bytes plan.End = refl
-planned-any E passes s boot stg hs bytes plan.Cancel = refl
-planned-any E passes s boot stg hs bytes (plan.Accept image store) = refl
-planned-any E passes s boot stg hs bytes plan.Back = refl
+planned-any E passes s boot stg hs bytes q = refl
 
 module _ (p q : List ℕ → Bool) (m : MetaRead) (counter : ℕ) (k : Kept) (boot : ℕ) (r : Request) (plain : AsksNoVerifier r) where
   speaks-any : (E : Setting) (s : State) (staged : ℕ → List ℕ) → Speaks E s q m counter k boot staged
@@ -87,11 +78,7 @@ module _ (p q : List ℕ → Bool) (m : MetaRead) (counter : ℕ) (k : Kept) (bo
   fits-any E s bytes (request.Write h n) fits = fits
   fits-any E s bytes (request.Read h room) fits =
       λ image at total is. fits image at total is ∙ sym (ap (λ (l : List ℕ). length l) (content-any E p s boot image))
-  fits-any E s bytes (request.Commit h req most) fits = tt
-  fits-any E s bytes request.End fits = tt
-  fits-any E s bytes request.Cancel fits = tt
-  fits-any E s bytes (request.Accept guid) fits = tt
-  fits-any E s bytes request.Previous fits = tt
+  fits-any E s bytes q fits = tt
 
   -- a refusal, and a plan, are the machine's in settings with any verifier
   pub refuses-any : (st : Status) → DecidesRequest p m counter k boot r (decision.Refused st) → DecidesRequest q m counter k boot r (decision.Refused st)

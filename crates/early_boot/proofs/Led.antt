@@ -13,7 +13,7 @@ use Rattle.fwu_formats.specs.Metadata.{fits_meta, state_at, meta_read}
 use Rattle.fwu_formats.specs.Manifest.{version}
 use Rattle.fwu_formats.specs.Image.{marks}
 use Rattle.fwu_formats.specs.Counter.{counter_in}
-use Rattle.fwu_model.specs.State.{State, Bank, Move, Free, Switch, Accept, Back, Trial, RaiseTo, Migrate, bank, is_valid, is_accepted, after}
+use Rattle.fwu_model.specs.State.{State, Bank, Move, Trial, RaiseTo, bank, is_valid, is_accepted, after}
 use Rattle.fwu_model.specs.Calm.{IsGuarded, IsAtRest}
 use Rattle.fwu_model.specs.Answer.{booted_package, chosen_moves, start_moves}
 use Rattle.fwu_formats.specs.declared.kinds.BankState.{BankState}
@@ -53,11 +53,7 @@ writes-move : {T U : Type 0} (x : T) (result : Result U FlashStop) (m : Move) (a
 writes-move x result Trial at s t writes = record { keeps = writes.keeps; one_more = on-ok result _ writes.one_more; stable = on-ok result _ writes.stable }
 writes-move x result (RaiseTo v) at s t writes =
     record { keeps = writes.keeps; record_is = record { keeps = writes.record_is.keeps; either = writes.record_is.either; ok = on-ok result _ writes.record_is.ok }; counter = on-ok result _ writes.counter }
-writes-move x result (Free b) at s t writes = absurd writes
-writes-move x result (Switch b p bits) at s t writes = absurd writes
-writes-move x result (Accept image) at s t writes = absurd writes
-writes-move x result Back at s t writes = absurd writes
-writes-move x result Migrate at s t writes = absurd writes
+writes-move x result q at s t writes = absurd writes
 
 pub writes-done : {T U : Type 0} (x : T) (result : Result U FlashStop) (ms : List Move) (at : ℕ) (s t : Told) → WritesMoves {T = T} (Ok x) ms at s t → WritesMoves result ms at s t
 writes-done x result [] at s t writes = writes
@@ -67,11 +63,7 @@ move-stopped : (T : Type 0) {U : Type 0} (stop : FlashStop) (result : Result U F
 move-stopped T stop result Trial at s t err writes = record { keeps = writes.keeps; one_more = IfOk-from_err result (λ x. _) err; stable = IfOk-from_err result (λ x. _) err }
 move-stopped T stop result (RaiseTo v) at s t err writes =
     record { keeps = writes.keeps; record_is = record { keeps = writes.record_is.keeps; either = writes.record_is.either; ok = IfOk-from_err result (λ x. _) err }; counter = IfOk-from_err result (λ x. _) err }
-move-stopped T stop result (Free b) at s t err writes = absurd writes
-move-stopped T stop result (Switch b p bits) at s t err writes = absurd writes
-move-stopped T stop result (Accept image) at s t err writes = absurd writes
-move-stopped T stop result Back at s t err writes = absurd writes
-move-stopped T stop result Migrate at s t err writes = absurd writes
+move-stopped T stop result q at s t err writes = absurd writes
 
 pub writes-stopped : (T : Type 0) {U : Type 0} (stop : FlashStop) (result : Result U FlashStop) (ms : List Move) (at : ℕ) (s t : Told) → IsErr result → WritesMoves {T = T} (Err stop) ms at s t → WritesMoves result ms at s t
 writes-stopped T stop result [] at s t err writes = writes

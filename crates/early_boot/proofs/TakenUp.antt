@@ -5,6 +5,8 @@ use Rattle.std.proofs.lemmas.Option.{same_Some}
 use Rattle.std.specs.Prelude.{IfSome}
 use Rattle.flash_core.specs.declared.flash.Flash.{Ghosts}
 use Rattle.flash_core.specs.declared.flash.Arming.{Arming}
+use Rattle.flash_core.specs.declared.flash.Counts.{Counts}
+use Rattle.flash_core.specs.Counts.{ReachesNone, arming_kept}
 use Rattle.flash_core.specs.declared.flash.FlashStop.{FlashStop}
 use Rattle.flash_core.specs.Calls.{Goes, Reads}
 use Rattle.flash_core.specs.Told.{Told}
@@ -29,7 +31,7 @@ use Rattle.early_boot.specs.Choosing.{IsFound}
 use Rattle.early_boot.specs.Knows.{KnowsStarted}
 use Rattle.early_boot.specs.Mending.{TakesMending, mended}
 use Rattle.early_boot.specs.Tells.{started_as}
-use Rattle.early_boot.specs.TakenUp.{BootedRuns, IsTakeUp, MendsFound, OnceFound, SpendsFound, TakenByNumbers, TakesOnce, not_started, running_bank, running_in, runs_from, stop_in_end, stopped, taken, unshown_as, was_started}
+use Rattle.early_boot.specs.TakenUp.{BootedRuns, IsTakeUp, MendsFound, OnceFound, RefusalIsIdle, SpendsFound, TakenByNumbers, TakesOnce, TakesTakeUp, not_started, running_bank, running_in, runs_from, stop_in_end, stopped, taken, unshown_as, was_started}
 use Rattle.early_boot.proofs.Boots.{past-migration}
 use Rattle.early_boot.proofs.Lookups.{some-of}
 use Rattle.early_boot.proofs.Left.{goes-done, goes-stopped, read-goes, read-unarmed}
@@ -53,47 +55,33 @@ unshown-numbers passes b (unshown.Layout f) = tt
 unshown-numbers passes b unshown.Metadata = tt
 unshown-numbers passes b (unshown.Flash stop) = tt
 
-module _ {D : Type 0} (g : Ghosts D) (passes : List ℕ → Bool) (b : ℕ) (flash left : D) where
-  none-at : (why : Unshown) → Reads g (stop_in_end (unshown_as why)) flash left → (IsTrue g.tells → ShowsNothing (g.told flash).now why) → IsTakeUp g passes b flash (unshown_as why) left
-  none-at (unshown.Layout f) reads nothing = record {
-    power = reads.power;
-    size = reads.size;
-    costs = reads.costs;
-    unarmed = read-unarmed g (Ok tt) flash left reads;
-    spent = record { arming_is = reads.arming; reached = reads.reached };
-    once = λ tells. tt;
-    touches = touches_none 4096 12288 reads.writes;
-    refused = reads.writes;
-    numbers = tt;
-    ends = λ tells. none-ends (g.told flash) (g.told left) (reads.content tells) passes b (unshown.Layout f) (nothing tells);
-  }
-  none-at unshown.Metadata reads nothing = record {
-    power = reads.power;
-    size = reads.size;
-    costs = reads.costs;
-    unarmed = read-unarmed g (Ok tt) flash left reads;
-    spent = record { arming_is = reads.arming; reached = reads.reached };
-    once = λ tells. tt;
-    touches = touches_none 4096 12288 reads.writes;
-    refused = reads.writes;
-    numbers = tt;
-    ends = λ tells. none-ends (g.told flash) (g.told left) (reads.content tells) passes b unshown.Metadata (nothing tells);
-  }
-  none-at (unshown.Flash stop) reads nothing = record {
-    power = reads.power;
-    size = reads.size;
-    costs = reads.costs;
-    unarmed = read-unarmed g (Err stop) flash left reads;
-    spent = tt;
-    once = λ tells. tt;
-    touches = touches_none 4096 12288 reads.writes;
-    refused = tt;
-    numbers = tt;
-    ends = λ tells. none-ends (g.told flash) (g.told left) (reads.content tells) passes b (unshown.Flash stop) (nothing tells);
-  }
+unshown-spent : (why : Unshown) (armed arming : Option Arming) (old new : Counts) → arming ≡ arming_kept (stop_in_end (unshown_as why)) armed
+    → ReachesNone (stop_in_end (unshown_as why)) old new → TakesTakeUp (unshown_as why) armed arming old new
+unshown-spent (unshown.Layout f) armed arming old new is reached = record { arming_is = is; reached = reached }
+unshown-spent unshown.Metadata armed arming old new is reached = record { arming_is = is; reached = reached }
+unshown-spent (unshown.Flash stop) armed arming old new is reached = tt
 
+unshown-idle : (why : Unshown) (old new : ℕ → ℕ) → new ≡ old → RefusalIsIdle (unshown_as why) old new
+unshown-idle (unshown.Layout f) old new same = same
+unshown-idle unshown.Metadata old new same = same
+unshown-idle (unshown.Flash stop) old new same = tt
+
+module _ {D : Type 0} (g : Ghosts D) (passes : List ℕ → Bool) (b : ℕ) (flash left : D) where
   pub none-take-up : (why : Unshown) → Reads g (stop_in {T = Shown} (Err why)) flash left → (IsTrue g.tells → ShowsNothing (g.told flash).now why) → IsTakeUp g passes b flash (unshown_as why) left
-  none-take-up why reads nothing = none-at why (subst (λ r. Reads g r flash left) (sym (unshown-stop why)) reads) nothing
+  none-take-up why shown nothing =
+      let reads = subst (λ r. Reads g r flash left) (sym (unshown-stop why)) shown in
+      record {
+        power = reads.power;
+        size = reads.size;
+        costs = reads.costs;
+        unarmed = read-unarmed g (stop_in_end (unshown_as why)) flash left reads;
+        spent = unshown-spent why (g.arming flash) (g.arming left) (g.counts flash) (g.counts left) reads.arming reads.reached;
+        once = λ tells. unshown-once why (g.told flash).now (g.arming flash) (g.arming left);
+        touches = touches_none 4096 12288 reads.writes;
+        refused = unshown-idle why (g.writes flash) (g.writes left) reads.writes;
+        numbers = unshown-numbers passes b why;
+        ends = λ tells. none-ends (g.told flash) (g.told left) (reads.content tells) passes b why (nothing tells);
+      }
 
 -- ---- the flash was read, and then the bank was checked
 

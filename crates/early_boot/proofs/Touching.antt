@@ -133,10 +133,7 @@ same-at b w v same = ap (λ (writes : ℕ → ℕ). writes b) same
 
 repair-spares : (which : Which) (w v : ℕ → ℕ) → TouchesRepair which w v → v counter_block ≡ w counter_block
 repair-spares Same w v same = same-at counter_block w v same
-repair-spares RepairZero w v only = only counter_block (inr (omega arith))
-repair-spares RepairOne w v only = only counter_block (inr (omega arith))
-repair-spares MigrateZero w v only = only counter_block (inr (omega arith))
-repair-spares MigrateOne w v only = only counter_block (inr (omega arith))
+repair-spares s w v only = only counter_block (inr (omega arith))
 
 counting-spares : (k : Counting) (w v : ℕ → ℕ) → TouchesCounting k w v → v counter_block ≡ w counter_block
 counting-spares counting.Nothing w v same = same-at counter_block w v same

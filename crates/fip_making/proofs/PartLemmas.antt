@@ -1,6 +1,5 @@
 -- The parts of packages, and what is packed.
-use Rattle.std.proofs.Common.{◌≡◌, ◌<◌, ◌+◌, ℕ, suc, List, [], ◌∷◌, ◌++◌, Option, Some, None, Result, Ok, Err, get_or, length, map, take, drop, drop-cons, option_map, refl, sym, ap, ◌∙◌}
-use Rattle.std.specs.Prelude.{option_and_then}
+use Rattle.std.proofs.Common.{◌≡◌, ◌<◌, ◌+◌, ℕ, suc, List, [], ◌∷◌, ◌++◌, Option, Some, None, Result, Ok, Err, get_or, length, map, take, drop, drop-cons, refl, sym, ap, ◌∙◌}
 use Rattle.std.proofs.lemmas.List.{map-append, take-append-drop, take_more}
 use Rattle.host_io.specs.Contents.{Directory}
 use Rattle.fwu_formats.specs.Package.{Part, packed}
@@ -13,6 +12,7 @@ use Rattle.fip_making.specs.Answers.{Gives}
 use Rattle.fip_making.specs.Values.{after, create_value, new_serial, pack_value, part_in, parts_in, there}
 use Rattle.fip_making.specs.declared.stops.Stop.{Stop}
 use Rattle.fip_making.specs.declared.stops.Stop.TheVariants as stop
+use Rattle.fip_making.proofs.ManifestLemmas.{each-more, each-stops, with_one}
 use Rattle.fip_making.proofs.Tables.{gives-err}
 
 -- ---- what one part of a command gives to the next
@@ -23,36 +23,6 @@ gives-same view rose late v w (Ok x) rises e g = e ∙ g
 gives-same view rose late v w (Err s) rises e g = gives-err view view rose late v w s rises (λ h. e ∙ h) g
 
 -- ---- the parts of named files
-
--- one before
-abbrev before : {Y : Type 0} → Option Y → Option (List Y) → Option (List Y)
-before first ys = option_and_then (λ y. option_map (λ zs. y ∷ zs) ys) first
-
--- one more, where there is one
-abbrev with_one : {Y : Type 0} → Option (List Y) → Option Y → Option (List Y)
-with_one ys more = option_and_then (λ zs. option_map (λ y. zs ++ (y ∷ [])) more) ys
-
-before-one : {Y : Type 0} (a : Option Y) → before a (Some []) ≡ with_one (Some []) a
-before-one None = refl
-before-one (Some y) = refl
-
-before-with_one : {Y : Type 0} (a : Option Y) (b : Option (List Y)) (c : Option Y) → before a (with_one b c) ≡ with_one (before a b) c
-before-with_one None b c = refl
-before-with_one (Some y) None c = refl
-before-with_one (Some y) (Some ys) None = refl
-before-with_one (Some y) (Some ys) (Some z) = refl
-
-before-none : {Y : Type 0} (a : Option Y) → before a None ≡ None
-before-none None = refl
-before-none (Some y) = refl
-
-each-more : {X Y : Type 0} (f : X → Option Y) (xs : List X) (x : X) → each f (xs ++ (x ∷ [])) ≡ with_one (each f xs) (f x)
-each-more f [] x = before-one (f x)
-each-more f (z ∷ xs) x = ap (before (f z)) (each-more f xs x) ∙ before-with_one (f z) (each f xs) (f x)
-
-each-stops : {X Y : Type 0} (f : X → Option Y) (xs : List X) (x : X) (ys : List X) → f x ≡ None → each f (xs ++ (x ∷ ys)) ≡ None
-each-stops f [] x ys e = ap (λ a. before a (each f ys)) e
-each-stops f (z ∷ xs) x ys e = ap (before (f z)) (each-stops f xs x ys e) ∙ before-none (f z)
 
 parts-more : (told : Directory) (xs : List NamedFile) (x : NamedFile) (ps : List Part) (p : Part) → parts_in told xs ≡ Ok ps → there (part_in told x) ≡ Ok p → parts_in told (xs ++ (x ∷ [])) ≡ Ok (ps ++ (p ∷ []))
 parts-more told xs x ps p e h = ap (λ (a : Option (List Part)). there a) (each-more (part_in told) xs x) ∙ go (each (part_in told) xs) (part_in told x) e h

@@ -25,15 +25,7 @@ use Rattle.fip_making.proofs.Refusing.{if-err-as}
 -- a stop of a part is one of the whole, after parts that failed not once
 pub quiet-as : (X Y : Type 0) (s : Stop) (before between after : ℕ) → between ≡ before → NoneFailed {X = X} (Err s) between after → NoneFailed {X = Y} (Err s) before after
 quiet-as X Y stop.FileFault before between after same h = tt
-quiet-as X Y stop.SinkFault before between after same h = h ∙ same
-quiet-as X Y stop.Usage before between after same h = h ∙ same
-quiet-as X Y (stop.NotFip f) before between after same h = h ∙ same
-quiet-as X Y (stop.NoSuchEntry guid) before between after same h = h ∙ same
-quiet-as X Y (stop.NotPacked f) before between after same h = h ∙ same
-quiet-as X Y (stop.NoManifest f) before between after same h = h ∙ same
-quiet-as X Y stop.TooLong before between after same h = h ∙ same
-quiet-as X Y (stop.NotCapsule f) before between after same h = h ∙ same
-quiet-as X Y stop.NoMemory before between after same h = h ∙ same
+quiet-as X Y s before between after same h = h ∙ same
 
 pub quiet-then : {X : Type 0} (r : Result X Stop) (before between after : ℕ) → between ≡ before → NoneFailed r between after → NoneFailed r before after
 quiet-then {X = X} (Ok x) before between after same h = h ∙ same
@@ -108,15 +100,7 @@ module _ {X : Type 0} {told now : Option Directory} {before after : ℕ} where
       none : (r : Result X Stop) → AsksNothing IsOwn r → NoneFailed r before after
       none (Ok x) h = quiet
       none (Err stop.FileFault) h = tt
-      none (Err stop.Usage) h = quiet
-      none (Err stop.SinkFault) h = quiet
-      none (Err (stop.NotFip f)) h = quiet
-      none (Err (stop.NoSuchEntry guid)) h = quiet
-      none (Err (stop.NotPacked f)) h = quiet
-      none (Err (stop.NoManifest f)) h = quiet
-      none (Err stop.TooLong) h = quiet
-      none (Err (stop.NotCapsule f)) h = quiet
-      none (Err stop.NoMemory) h = quiet
+      none (Err s) h = quiet
 
   -- a table that was not read, of a file that is there where its contents are told
   module _ {mid : Option Directory} {name : List ℕ} {between : ℕ} where

@@ -7,15 +7,7 @@ use Rattle.fip_making.specs.declared.stops.Stop.TheVariants as stop
 -- another stop is no failure of the source
 pub quiet : (n : ℕ) (s : Stop) → s ≢ stop.FileFault → n ≡ source_failed s n
 quiet n stop.FileFault other = absurd (other refl)
-quiet n stop.SinkFault other = refl
-quiet n stop.Usage other = refl
-quiet n (stop.NotFip f) other = refl
-quiet n (stop.NoSuchEntry guid) other = refl
-quiet n (stop.NotPacked f) other = refl
-quiet n (stop.NoManifest f) other = refl
-quiet n stop.TooLong other = refl
-quiet n (stop.NotCapsule f) other = refl
-quiet n stop.NoMemory other = refl
+quiet n s other = refl
 
 -- nor is the end of what was given
 pub ended-quiet : {X : Type 0} (r : Result X Stop) (n : ℕ) → (◌≡◌ {A = Result X Stop} r (Err stop.FileFault) → ⊥) → n ≡ source_failures r n

@@ -85,29 +85,14 @@ stopped was mid new stream next count before then now rose-late rose rises few r
   one-more r.so-far.given p.0 (let a = r.so-far.long in omega arith) p.1.1 r.so-far.undecided,
   (Consumes-trans was mid new r.so-far.given p.0 r.so-far.consumed p.1.0, rises p.1.2),
 )
-stopped was mid new stream next count before then now rose-late rose rises few r stop.Usage p = absurd p.1
-stopped was mid new stream next count before then now rose-late rose rises few r stop.SinkFault p = absurd p.1
-stopped was mid new stream next count before then now rose-late rose rises few r (stop.NoSuchEntry guid) p = absurd p.1
-stopped was mid new stream next count before then now rose-late rose rises few r (stop.NotPacked f) p = absurd p.1
-stopped was mid new stream next count before then now rose-late rose rises few r (stop.NoManifest f) p = absurd p.1
-stopped was mid new stream next count before then now rose-late rose rises few r stop.TooLong p = absurd p.1
-stopped was mid new stream next count before then now rose-late rose rises few r (stop.NotCapsule f) p = absurd p.1
-stopped was mid new stream next count before then now rose-late rose rises few r stop.NoMemory p = absurd p.1
+stopped was mid new stream next count before then now rose-late rose rises few r s p = absurd p.1
 
 -- the source is at its end
 pub at-end : (was left : Option (List ℕ)) (rose : Type 0) (given : List ℕ) (result : Result (Toc × ℕ) Stop) → Consumes was left given → IsAtEnd left → SourceEndsAs given result
     → GivenTo (λ (t : Toc × ℕ). t) given_table was left rose result given
 at-end was left rose given (Ok t) c e h = (c, e, h)
 at-end was left rose given (Err (stop.NotFip f)) c e h = (c, inl e, h)
-at-end was left rose given (Err stop.Usage) c e h = absurd h
-at-end was left rose given (Err stop.FileFault) c e h = absurd h
-at-end was left rose given (Err stop.SinkFault) c e h = absurd h
-at-end was left rose given (Err (stop.NoSuchEntry guid)) c e h = absurd h
-at-end was left rose given (Err (stop.NotPacked f)) c e h = absurd h
-at-end was left rose given (Err (stop.NoManifest f)) c e h = absurd h
-at-end was left rose given (Err stop.TooLong) c e h = absurd h
-at-end was left rose given (Err (stop.NotCapsule f)) c e h = absurd h
-at-end was left rose given (Err stop.NoMemory) c e h = absurd h
+at-end was left rose given (Err s) c e h = absurd h
 
 is-long : (given : List ℕ) → decided (toc_of given) ≡ Ok tt → 4294967296 < length given → given_table given ≡ Err stop.TooLong
 unfolding given_table

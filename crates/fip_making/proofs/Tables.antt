@@ -41,13 +41,7 @@ gives-err view other rose late v w stop.FileFault rises so (inl e) = inl (so e)
 gives-err view other rose late v w stop.FileFault rises so (inr r) = inr (rises r)
 gives-err view other rose late v w stop.NoMemory rises so g = tt
 gives-err view other rose late v w stop.SinkFault rises so g = g
-gives-err view other rose late v w stop.Usage rises so g = so g
-gives-err view other rose late v w (stop.NotFip f) rises so g = so g
-gives-err view other rose late v w (stop.NoSuchEntry guid) rises so g = so g
-gives-err view other rose late v w (stop.NotPacked f) rises so g = so g
-gives-err view other rose late v w (stop.NoManifest f) rises so g = so g
-gives-err view other rose late v w stop.TooLong rises so g = so g
-gives-err view other rose late v w (stop.NotCapsule f) rises so g = so g
+gives-err view other rose late v w s rises so g = so g
 
 -- a fault of a first part, or of the next
 pub either-rose : {A : Type 0} (a b c : ℕ) → a ≤ b → b ≤ c → (A → Rose a b) → A ⊎ Rose b c → Rose a c

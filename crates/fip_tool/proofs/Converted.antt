@@ -189,12 +189,4 @@ converted (Some (manifest out security rows)) files now was text rose spoiled si
 -- no stop has the status 0
 pub no-zero : (s : Stop) → status_number s ≡ 0 → ⊥
 no-zero stop.Usage e = cc
-no-zero stop.FileFault e = cc
-no-zero stop.SinkFault e = cc
-no-zero (stop.NotFip f) e = cc
-no-zero (stop.NoSuchEntry guid) e = cc
-no-zero (stop.NotPacked f) e = cc
-no-zero (stop.NoManifest f) e = cc
-no-zero stop.TooLong e = cc
-no-zero (stop.NotCapsule f) e = cc
-no-zero stop.NoMemory e = cc
+no-zero s e = cc

@@ -32,13 +32,8 @@ refused steps view value files now was text files-rose spoiled sink-rose stop.Fi
 refused steps view value files now was text files-rose spoiled sink-rose stop.FileFault (inr g) e t =
     (inr g, 0, inl (are-told files now e), appends-none was text t)
 refused steps view value files now was text files-rose spoiled sink-rose stop.SinkFault g e t = absurd g
-refused steps view value files now was text files-rose spoiled sink-rose (stop.NotFip f) g e t = (ap (outcome_by steps) g, are-told files now e, appends-none was text t)
-refused steps view value files now was text files-rose spoiled sink-rose (stop.NoSuchEntry guid) g e t = (ap (outcome_by steps) g, are-told files now e, appends-none was text t)
-refused steps view value files now was text files-rose spoiled sink-rose (stop.NotPacked f) g e t = (ap (outcome_by steps) g, are-told files now e, appends-none was text t)
-refused steps view value files now was text files-rose spoiled sink-rose (stop.NoManifest f) g e t = (ap (outcome_by steps) g, are-told files now e, appends-none was text t)
-refused steps view value files now was text files-rose spoiled sink-rose stop.TooLong g e t = (ap (outcome_by steps) g, are-told files now e, appends-none was text t)
-refused steps view value files now was text files-rose spoiled sink-rose (stop.NotCapsule f) g e t = (ap (outcome_by steps) g, are-told files now e, appends-none was text t)
 refused steps view value files now was text files-rose spoiled sink-rose stop.NoMemory g e t = (0, are-told files now e, appends-none was text t)
+refused steps view value files now was text files-rose spoiled sink-rose s g e t = (ap (outcome_by steps) g, are-told files now e, appends-none was text t)
 
 -- a text that was made, and printed
 made : (piece : List ℕ) (files : Directory) (now : Option Directory) (was text : Option (List ℕ))
@@ -49,14 +44,7 @@ made piece files now was text files-rose spoiled sink-rose (Ok u) e p =
 made piece files now was text files-rose spoiled sink-rose (Err stop.SinkFault) e p =
     (p.0, 0, are-told files now e, p.1, p.2, tt)
 made piece files now was text files-rose spoiled sink-rose (Err stop.NoMemory) e p = (0, are-told files now e, appends-none was text p)
-made piece files now was text files-rose spoiled sink-rose (Err stop.Usage) e p = absurd p
-made piece files now was text files-rose spoiled sink-rose (Err stop.FileFault) e p = absurd p
-made piece files now was text files-rose spoiled sink-rose (Err (stop.NotFip f)) e p = absurd p
-made piece files now was text files-rose spoiled sink-rose (Err (stop.NoSuchEntry guid)) e p = absurd p
-made piece files now was text files-rose spoiled sink-rose (Err (stop.NotPacked f)) e p = absurd p
-made piece files now was text files-rose spoiled sink-rose (Err (stop.NoManifest f)) e p = absurd p
-made piece files now was text files-rose spoiled sink-rose (Err stop.TooLong) e p = absurd p
-made piece files now was text files-rose spoiled sink-rose (Err (stop.NotCapsule f)) e p = absurd p
+made piece files now was text files-rose spoiled sink-rose (Err s) e p = absurd p
 
 pub printed-text : (value : Result (List ℕ) Stop) (piece : List ℕ) (files : Directory) (now : Option Directory) (was text : Option (List ℕ))
     (files-rose spoiled sink-rose : Type 0) (r : Result (Unit {0}) Stop) → value ≡ Ok piece → now ≡ Some files → PrintedText was text sink-rose piece r
@@ -77,15 +65,7 @@ did-later outcome files now was text rose late spoiled spoiled-late sink-rose (E
     stand : (n : ℕ) → StandAfter n outcome files now spoiled → StandAfter n outcome files now spoiled-late
     stand n (inl are) = inl are
     stand n (inr up) = inr (spoils up.0, up.1)
-did-later outcome files now was text rose late spoiled spoiled-late sink-rose (Err stop.NoMemory) rises spoils d = d
-did-later outcome files now was text rose late spoiled spoiled-late sink-rose (Err stop.SinkFault) rises spoils d = d
-did-later outcome files now was text rose late spoiled spoiled-late sink-rose (Err stop.Usage) rises spoils d = d
-did-later outcome files now was text rose late spoiled spoiled-late sink-rose (Err (stop.NotFip f)) rises spoils d = d
-did-later outcome files now was text rose late spoiled spoiled-late sink-rose (Err (stop.NoSuchEntry guid)) rises spoils d = d
-did-later outcome files now was text rose late spoiled spoiled-late sink-rose (Err (stop.NotPacked f)) rises spoils d = d
-did-later outcome files now was text rose late spoiled spoiled-late sink-rose (Err (stop.NoManifest f)) rises spoils d = d
-did-later outcome files now was text rose late spoiled spoiled-late sink-rose (Err stop.TooLong) rises spoils d = d
-did-later outcome files now was text rose late spoiled spoiled-late sink-rose (Err (stop.NotCapsule f)) rises spoils d = d
+did-later outcome files now was text rose late spoiled spoiled-late sink-rose (Err s) rises spoils d = d
 
 -- want of memory before anything was done
 pub no-memory-yet : (outcome : CommandPlan) (files : Directory) (now : Option Directory) (was text : Option (List ℕ)) (files-rose spoiled sink-rose : Type 0) → now ≡ Some files → text ≡ was

@@ -86,14 +86,7 @@ module _ (outcome : CommandPlan) (files : Directory) (now : Option Directory) (w
 pub reported : (was text : Option (List ℕ)) (sink-rose : Type 0) (s t : Stop) → s ≢ stop.SinkFault → s ≢ stop.NoMemory → StopTold was text sink-rose s t → Reported was text sink-rose s t
 reported was text sink-rose stop.SinkFault t a b r = absurd (a refl)
 reported was text sink-rose stop.NoMemory t a b r = absurd (b refl)
-reported was text sink-rose stop.Usage t a b r = r
-reported was text sink-rose stop.FileFault t a b r = r
-reported was text sink-rose (stop.NotFip f) t a b r = r
-reported was text sink-rose (stop.NoSuchEntry guid) t a b r = r
-reported was text sink-rose (stop.NotPacked f) t a b r = r
-reported was text sink-rose (stop.NoManifest f) t a b r = r
-reported was text sink-rose stop.TooLong t a b r = r
-reported was text sink-rose (stop.NotCapsule f) t a b r = r
+reported was text sink-rose s t a b r = r
 
 -- a sink that failed in a part failed in the whole
 pub reported-later : (was text : Option (List ℕ)) (rose late : Type 0) (s t : Stop) → (rose → late) → Reported was text rose s t → Reported was text late s t
@@ -107,11 +100,4 @@ reported-later was text rose late s t rises r = by-stop s r
     by-stop : (s : Stop) → Reported was text rose s t → Reported was text late s t
     by-stop stop.SinkFault r = r
     by-stop stop.NoMemory r = r
-    by-stop stop.Usage r = told-later stop.Usage r
-    by-stop stop.FileFault r = told-later stop.FileFault r
-    by-stop (stop.NotFip f) r = told-later (stop.NotFip f) r
-    by-stop (stop.NoSuchEntry guid) r = told-later (stop.NoSuchEntry guid) r
-    by-stop (stop.NotPacked f) r = told-later (stop.NotPacked f) r
-    by-stop (stop.NoManifest f) r = told-later (stop.NoManifest f) r
-    by-stop stop.TooLong r = told-later stop.TooLong r
-    by-stop (stop.NotCapsule f) r = told-later (stop.NotCapsule f) r
+    by-stop s r = told-later s r

@@ -1,9 +1,8 @@
 -- How often a call of the files failed.
 use Rattle.std.proofs.Common.{◌≡◌, ◌∙◌, inl, inr, ℕ, Option, List, Result, Ok, Err, ap, arith, refl, sym}
-use Rattle.std.proofs.lemmas.Bool.{false≢true}
 use Rattle.std.specs.Prelude.{◌==◌, ◌||◌, IsFalse}
 use Rattle.host_io.specs.Contents.{Directory}
-use Rattle.fip_tool.proofs.SourceFaults.{by-number}
+use Rattle.fip_tool.proofs.SourceFaults.{late}
 use Rattle.fip_tool.specs.Ends.{Reported}
 use Rattle.fip_making.specs.Stops.{status_number}
 use Rattle.fip_tool.specs.Steps.{FailsAtMostOnce, FaultsOnce}
@@ -17,15 +16,7 @@ use Rattle.fip_making.proofs.ReadsBy.{quiet-as, quiet-then}
 
 quiet-stop : (X : Type 0) (s : Stop) (before after : ℕ) → after ≡ before → NoneFailed {X = X} (Err s) before after
 quiet-stop X stop.FileFault before after same = tt
-quiet-stop X stop.SinkFault before after same = same
-quiet-stop X stop.Usage before after same = same
-quiet-stop X (stop.NotFip f) before after same = same
-quiet-stop X (stop.NoSuchEntry guid) before after same = same
-quiet-stop X (stop.NotPacked f) before after same = same
-quiet-stop X (stop.NoManifest f) before after same = same
-quiet-stop X stop.TooLong before after same = same
-quiet-stop X (stop.NotCapsule f) before after same = same
-quiet-stop X stop.NoMemory before after same = same
+quiet-stop X s before after same = same
 
 pub quiet-still : {X : Type 0} (r : Result X Stop) (before after : ℕ) → after ≡ before → NoneFailed r before after
 quiet-still {X = X} (Ok x) before after same = same
@@ -50,24 +41,10 @@ faults-as {X = X} {Y = Y} {before = before} {after = after} {s = s} faults = rec
 pub fails-done : (status before after : ℕ) → FaultsOnce {X = Unit {0}} before after (Ok tt) → FailsAtMostOnce status before after
 fails-done status before after faults = record { once = faults.once; none = λ other. faults.quiet }
 
-late : (was text : Option (List ℕ)) (rose : Type 0) (now : Stop) (status before after : ℕ) → status ≡ status_number now → Reported was text rose stop.FileFault now
-    → IsFalse ((status == 2) || ((status == 3) || (status == 9))) → after ≡ before
-late was text rose now status before after is (inl a) o = absurd (false≢true (sym (by-number 2 status before after (is ∙ ap status_number a.0) o)))
-late was text rose now status before after is (inr (inl a)) o = absurd (false≢true (sym (by-number 3 status before after (is ∙ ap status_number a.0) o)))
-late was text rose now status before after is (inr (inr a)) o = absurd (false≢true (sym (by-number 9 status before after (is ∙ ap status_number a.0) o)))
-
 none-but : (was text : Option (List ℕ)) (rose : Type 0) (s now : Stop) (status before after : ℕ) → status ≡ status_number now → Reported was text rose s now → NoneFailed {X = Unit {0}} (Err s) before after
     → IsFalse ((status == 2) || ((status == 3) || (status == 9))) → after ≡ before
 none-but was text rose stop.FileFault now status before after is r h o = late was text rose now status before after is r o
-none-but was text rose stop.SinkFault now status before after is r h o = h
-none-but was text rose stop.Usage now status before after is r h o = h
-none-but was text rose (stop.NotFip f) now status before after is r h o = h
-none-but was text rose (stop.NoSuchEntry guid) now status before after is r h o = h
-none-but was text rose (stop.NotPacked f) now status before after is r h o = h
-none-but was text rose (stop.NoManifest f) now status before after is r h o = h
-none-but was text rose stop.TooLong now status before after is r h o = h
-none-but was text rose (stop.NotCapsule f) now status before after is r h o = h
-none-but was text rose stop.NoMemory now status before after is r h o = h
+none-but was text rose s now status before after is r h o = h
 
 pub fails-told : (was text : Option (List ℕ)) (rose : Type 0) (s now : Stop) (status before after : ℕ) → status ≡ status_number now → Reported was text rose s now → FaultsOnce {X = Unit {0}} before after (Err s)
     → FailsAtMostOnce status before after
@@ -78,27 +55,11 @@ pub sink-alone : (asked : Option FipAsked) (was mid text : Option (List ℕ)) (r
 sink-alone asked was mid text rose late stop.FileFault now before after three says (inl a) faults = let no : ◌≡◌ {A = ℕ} 2 3 = sym (ap status_number a.0) ∙ three in cc
 sink-alone asked was mid text rose late stop.FileFault now before after three says (inr (inl a)) faults = inr (says.0, says.1, a.2, Appends-trans was mid text says.0 _ says.2 a.3)
 sink-alone asked was mid text rose late stop.FileFault now before after three says (inr (inr a)) faults = let no : ◌≡◌ {A = ℕ} 9 3 = sym (ap status_number a.0) ∙ three in cc
-sink-alone asked was mid text rose late stop.SinkFault now before after three says r faults = inl faults.quiet
-sink-alone asked was mid text rose late stop.Usage now before after three says r faults = inl faults.quiet
-sink-alone asked was mid text rose late (stop.NotFip f) now before after three says r faults = inl faults.quiet
-sink-alone asked was mid text rose late (stop.NoSuchEntry guid) now before after three says r faults = inl faults.quiet
-sink-alone asked was mid text rose late (stop.NotPacked f) now before after three says r faults = inl faults.quiet
-sink-alone asked was mid text rose late (stop.NoManifest f) now before after three says r faults = inl faults.quiet
-sink-alone asked was mid text rose late stop.TooLong now before after three says r faults = inl faults.quiet
-sink-alone asked was mid text rose late (stop.NotCapsule f) now before after three says r faults = inl faults.quiet
-sink-alone asked was mid text rose late stop.NoMemory now before after three says r faults = inl faults.quiet
+sink-alone asked was mid text rose late s now before after three says r faults = inl faults.quiet
 
 pub source-alone : (asked : Option FipAsked) (was mid text : Option (List ℕ)) (rose late : Type 0) (s now : Stop) (before after : ℕ) → status_number now ≡ 3 → Says (IsTextsOf asked) was mid rose (Err s) → Reported mid text late s now
     → after ≡ source_failed s before → SinkAlone asked was text before after
 source-alone asked was mid text rose late stop.FileFault now before after three says (inl a) faults = let no : ◌≡◌ {A = ℕ} 2 3 = sym (ap status_number a.0) ∙ three in cc
 source-alone asked was mid text rose late stop.FileFault now before after three says (inr (inl a)) faults = inr (says.0, says.1, a.2, Appends-trans was mid text says.0 _ says.2 a.3)
 source-alone asked was mid text rose late stop.FileFault now before after three says (inr (inr a)) faults = let no : ◌≡◌ {A = ℕ} 9 3 = sym (ap status_number a.0) ∙ three in cc
-source-alone asked was mid text rose late stop.SinkFault now before after three says r faults = inl faults
-source-alone asked was mid text rose late stop.Usage now before after three says r faults = inl faults
-source-alone asked was mid text rose late (stop.NotFip f) now before after three says r faults = inl faults
-source-alone asked was mid text rose late (stop.NoSuchEntry guid) now before after three says r faults = inl faults
-source-alone asked was mid text rose late (stop.NotPacked f) now before after three says r faults = inl faults
-source-alone asked was mid text rose late (stop.NoManifest f) now before after three says r faults = inl faults
-source-alone asked was mid text rose late stop.TooLong now before after three says r faults = inl faults
-source-alone asked was mid text rose late (stop.NotCapsule f) now before after three says r faults = inl faults
-source-alone asked was mid text rose late stop.NoMemory now before after three says r faults = inl faults
+source-alone asked was mid text rose late s now before after three says r faults = inl faults

@@ -23,13 +23,8 @@ pub text-stopped : {A : Type 0} (view : A → List ℕ) (was left : Option (List
 text-stopped view was left rose given (stop.NotFip f) g = (g.0, g.1, value-of given (Err (stop.NotFip f)) g.2)
 text-stopped view was left rose given stop.FileFault g = g
 text-stopped view was left rose given stop.NoMemory g = g
-text-stopped view was left rose given stop.Usage g = (g.0, value-of given (Err stop.Usage) g.1)
 text-stopped view was left rose given stop.SinkFault g = g
-text-stopped view was left rose given (stop.NoSuchEntry guid) g = (g.0, value-of given (Err (stop.NoSuchEntry guid)) g.1)
-text-stopped view was left rose given (stop.NotPacked f) g = (g.0, value-of given (Err (stop.NotPacked f)) g.1)
-text-stopped view was left rose given (stop.NoManifest f) g = (g.0, value-of given (Err (stop.NoManifest f)) g.1)
-text-stopped view was left rose given stop.TooLong g = (g.0, value-of given (Err stop.TooLong) g.1)
-text-stopped view was left rose given (stop.NotCapsule f) g = (g.0, value-of given (Err (stop.NotCapsule f)) g.1)
+text-stopped view was left rose given s g = (g.0, value-of given (Err s) g.1)
 
 pub text-made : (was left : Option (List ℕ)) (rose : Type 0) (given : List ℕ) (t : Toc × ℕ) (text : List ℕ) → GivenTo (λ (t : Toc × ℕ). t) given_table was left rose (Ok t) given
     → text ≡ info_text t.0 t.1 → Consumes was left given × IsAtEnd left × (given_value given ≡ Ok text)

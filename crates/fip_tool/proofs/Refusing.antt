@@ -3,7 +3,7 @@ use Rattle.std.proofs.Common.{◌≡◌, ◌⊎◌, inl, inr, ℕ, List, Option,
 use Rattle.std.specs.Prelude.{IfErr}
 use Rattle.fip_making.specs.Refusals.{IsOfPacking}
 use Rattle.fip_tool.specs.Refusals.{MayRefuse}
-use Rattle.fip_words.specs.Order.{FipAsked, info, info_of_source, create, update, remove, unpack, manifest, capsule, repackage}
+use Rattle.fip_words.specs.Order.{FipAsked, info_of_source}
 use Rattle.fip_tool.specs.Ends.{Reported, StopTold}
 use Rattle.fip_making.specs.Stops.{status_number}
 use Rattle.fip_tool.specs.Names.{IsRefusalStatus}
@@ -14,16 +14,10 @@ use Rattle.fip_making.proofs.Refusing.{if-err-as}
 
 -- what comes late is no refusal
 pub late-unrefused : (s : Stop) → IsLate s → IsRefusalStatus (status_number s) → ⊥
-late-unrefused stop.Usage h refuses = h
 late-unrefused stop.FileFault h refuses = omega (arith, refuses.0)
 late-unrefused stop.SinkFault h refuses = omega (arith, refuses.0)
-late-unrefused (stop.NotFip f) h refuses = h
-late-unrefused (stop.NoSuchEntry guid) h refuses = h
-late-unrefused (stop.NotPacked f) h refuses = h
-late-unrefused (stop.NoManifest f) h refuses = h
-late-unrefused stop.TooLong h refuses = h
-late-unrefused (stop.NotCapsule f) h refuses = h
 late-unrefused stop.NoMemory h refuses = omega (arith, refuses.1)
+late-unrefused s h refuses = h
 
 pub late-alone : {X : Type 0} (r : Result X Stop) (P : Stop → Type 0) → IfErr r IsLate → IfErr r (λ s. IsRefusalStatus (status_number s) → P s)
 late-alone r P h = if-err-as r IsLate (λ s. IsRefusalStatus (status_number s) → P s) (λ s late refuses. absurd (late-unrefused s late refuses)) h
@@ -34,12 +28,7 @@ packing-six (stop.NotPacked f) h refuses = refl
 packing-six stop.FileFault h refuses = absurd (late-unrefused stop.FileFault tt refuses)
 packing-six stop.SinkFault h refuses = absurd (late-unrefused stop.SinkFault tt refuses)
 packing-six stop.NoMemory h refuses = absurd (late-unrefused stop.NoMemory tt refuses)
-packing-six stop.Usage h refuses = absurd h
-packing-six (stop.NotFip f) h refuses = absurd h
-packing-six (stop.NoSuchEntry guid) h refuses = absurd h
-packing-six (stop.NoManifest f) h refuses = absurd h
-packing-six stop.TooLong h refuses = absurd h
-packing-six (stop.NotCapsule f) h refuses = absurd h
+packing-six s h refuses = absurd h
 
 -- the stop of what is made, or one that comes late
 pub made-may : {X Y : Type 0} (made : Result X Stop) (r : Result Y Stop) (P : Stop → Type 0) → ((s : Stop) → IsLate s → P s) → IfErr made P
@@ -61,27 +50,13 @@ made-alone made (Err s) mid after P (inr late) kept alone = λ refuses. absurd (
 -- any command may end for the sink, or for want of memory
 pub sink-may : (a : Option FipAsked) → MayRefuse a stop.SinkFault
 sink-may None = tt
-sink-may (Some (info file)) = tt
 sink-may (Some info_of_source) = tt
-sink-may (Some (create align out parts)) = tt
-sink-may (Some (update align from out parts)) = tt
-sink-may (Some (remove align from out names)) = tt
-sink-may (Some (unpack from prefix names)) = tt
-sink-may (Some (manifest out security rows)) = tt
-sink-may (Some (capsule from out)) = tt
-sink-may (Some (repackage align from out)) = tt
+sink-may (Some a) = tt
 
 pub memory-may : (a : Option FipAsked) → MayRefuse a stop.NoMemory
 memory-may None = tt
-memory-may (Some (info file)) = tt
 memory-may (Some info_of_source) = tt
-memory-may (Some (create align out parts)) = tt
-memory-may (Some (update align from out parts)) = tt
-memory-may (Some (remove align from out names)) = tt
-memory-may (Some (unpack from prefix names)) = tt
-memory-may (Some (manifest out security rows)) = tt
-memory-may (Some (capsule from out)) = tt
-memory-may (Some (repackage align from out)) = tt
+memory-may (Some a) = tt
 
 module _ (a : Option FipAsked) (was text : Option (List ℕ)) (rose : Type 0) where
   told-may : (s t : Stop) → MayRefuse a s → StopTold was text rose s t → MayRefuse a t
@@ -93,14 +68,7 @@ module _ (a : Option FipAsked) (was text : Option (List ℕ)) (rose : Type 0) wh
   pub reported-may : (s t : Stop) → MayRefuse a s → Reported was text rose s t → MayRefuse a t
   reported-may stop.SinkFault t may h = subst (MayRefuse a) (sym h.0) may
   reported-may stop.NoMemory t may h = subst (MayRefuse a) (sym h.0) may
-  reported-may stop.Usage t may h = told-may stop.Usage t may h
-  reported-may stop.FileFault t may h = told-may stop.FileFault t may h
-  reported-may (stop.NotFip f) t may h = told-may (stop.NotFip f) t may h
-  reported-may (stop.NoSuchEntry guid) t may h = told-may (stop.NoSuchEntry guid) t may h
-  reported-may (stop.NotPacked f) t may h = told-may (stop.NotPacked f) t may h
-  reported-may (stop.NoManifest f) t may h = told-may (stop.NoManifest f) t may h
-  reported-may stop.TooLong t may h = told-may stop.TooLong t may h
-  reported-may (stop.NotCapsule f) t may h = told-may (stop.NotCapsule f) t may h
+  reported-may s t may h = told-may s t may h
 
 -- a refusal is the stop that was told
 module _ (was text : Option (List ℕ)) (rose : Type 0) (P : ℕ → Type 0) where
@@ -112,11 +80,4 @@ module _ (was text : Option (List ℕ)) (rose : Type 0) (P : ℕ → Type 0) whe
   pub reported-alone : (s t : Stop) → (IsRefusalStatus (status_number s) → P (status_number s)) → Reported was text rose s t → IsRefusalStatus (status_number t) → P (status_number t)
   reported-alone stop.SinkFault t alone h refuses = absurd (late-unrefused stop.SinkFault tt (subst (λ (x : Stop). IsRefusalStatus (status_number x)) h.0 refuses))
   reported-alone stop.NoMemory t alone h refuses = absurd (late-unrefused stop.NoMemory tt (subst (λ (x : Stop). IsRefusalStatus (status_number x)) h.0 refuses))
-  reported-alone stop.Usage t alone h refuses = told-alone stop.Usage t alone h refuses
-  reported-alone stop.FileFault t alone h refuses = told-alone stop.FileFault t alone h refuses
-  reported-alone (stop.NotFip f) t alone h refuses = told-alone (stop.NotFip f) t alone h refuses
-  reported-alone (stop.NoSuchEntry guid) t alone h refuses = told-alone (stop.NoSuchEntry guid) t alone h refuses
-  reported-alone (stop.NotPacked f) t alone h refuses = told-alone (stop.NotPacked f) t alone h refuses
-  reported-alone (stop.NoManifest f) t alone h refuses = told-alone (stop.NoManifest f) t alone h refuses
-  reported-alone stop.TooLong t alone h refuses = told-alone stop.TooLong t alone h refuses
-  reported-alone (stop.NotCapsule f) t alone h refuses = told-alone (stop.NotCapsule f) t alone h refuses
+  reported-alone s t alone h refuses = told-alone s t alone h refuses

@@ -11,45 +11,21 @@ use Rattle.fip_making.specs.declared.stops.Stop.TheVariants as stop
 -- another stop is no failure of the sink
 pub still : (n : ℕ) (s : Stop) → s ≢ stop.SinkFault → n ≡ sink_failed s n
 still n stop.SinkFault other = absurd (other refl)
-still n stop.Usage other = refl
-still n stop.FileFault other = refl
-still n (stop.NotFip f) other = refl
-still n (stop.NoSuchEntry guid) other = refl
-still n (stop.NotPacked f) other = refl
-still n (stop.NoManifest f) other = refl
-still n stop.TooLong other = refl
-still n (stop.NotCapsule f) other = refl
-still n stop.NoMemory other = refl
+still n s other = refl
 
 abbrev pub by_status : ℕ → ℕ → ℕ
 by_status n before = if n == 3 then raised before else before
 
 of-status : (s : Stop) (before : ℕ) → sink_failed s before ≡ by_status (status_number s) before
 of-status stop.SinkFault before = refl
-of-status stop.Usage before = refl
-of-status stop.FileFault before = refl
-of-status (stop.NotFip f) before = refl
-of-status (stop.NoSuchEntry guid) before = refl
-of-status (stop.NotPacked f) before = refl
-of-status (stop.NoManifest f) before = refl
-of-status stop.TooLong before = refl
-of-status (stop.NotCapsule f) before = refl
-of-status stop.NoMemory before = refl
+of-status s before = refl
 
 -- so many failed in the command that stopped, and then in its line
 pub counted : (s now : Stop) (status before mid after : ℕ) → status ≡ status_number now → (s ≡ stop.SinkFault → now ≡ stop.SinkFault)
     → mid ≡ sink_failed s before → after ≡ line_failures s now mid → after ≡ by_status status before
 counted stop.SinkFault now status before mid after is same m l =
     l ∙ m ∙ ap (λ (n : ℕ). by_status n before) (sym (is ∙ ap status_number (same refl)))
-counted stop.Usage now status before mid after is same m l = l ∙ ap (sink_failed now) m ∙ of-status now before ∙ ap (λ (n : ℕ). by_status n before) (sym is)
-counted stop.FileFault now status before mid after is same m l = l ∙ ap (sink_failed now) m ∙ of-status now before ∙ ap (λ (n : ℕ). by_status n before) (sym is)
-counted (stop.NotFip f) now status before mid after is same m l = l ∙ ap (sink_failed now) m ∙ of-status now before ∙ ap (λ (n : ℕ). by_status n before) (sym is)
-counted (stop.NoSuchEntry guid) now status before mid after is same m l = l ∙ ap (sink_failed now) m ∙ of-status now before ∙ ap (λ (n : ℕ). by_status n before) (sym is)
-counted (stop.NotPacked f) now status before mid after is same m l = l ∙ ap (sink_failed now) m ∙ of-status now before ∙ ap (λ (n : ℕ). by_status n before) (sym is)
-counted (stop.NoManifest f) now status before mid after is same m l = l ∙ ap (sink_failed now) m ∙ of-status now before ∙ ap (λ (n : ℕ). by_status n before) (sym is)
-counted stop.TooLong now status before mid after is same m l = l ∙ ap (sink_failed now) m ∙ of-status now before ∙ ap (λ (n : ℕ). by_status n before) (sym is)
-counted (stop.NotCapsule f) now status before mid after is same m l = l ∙ ap (sink_failed now) m ∙ of-status now before ∙ ap (λ (n : ℕ). by_status n before) (sym is)
-counted stop.NoMemory now status before mid after is same m l = l ∙ ap (sink_failed now) m ∙ of-status now before ∙ ap (λ (n : ℕ). by_status n before) (sym is)
+counted s now status before mid after is same m l = l ∙ ap (sink_failed now) m ∙ of-status now before ∙ ap (λ (n : ℕ). by_status n before) (sym is)
 
 -- where the sink took no more, no line is tried
 pub reported-sink : (was text : Option (List ℕ)) (rose : Type 0) (s now : Stop) → s ≡ stop.SinkFault → Reported was text rose s now → now ≡ stop.SinkFault

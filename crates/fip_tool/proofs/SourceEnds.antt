@@ -21,25 +21,12 @@ source-refused view was left text rose sink-rose given (stop.NotFip f) g = ((g.0
 source-refused view was left text rose sink-rose given stop.FileFault g = (g.0, (inr g.1, 0, inl none-changed, Appends-nil text))
 source-refused view was left text rose sink-rose given stop.NoMemory g = (g, (0, none-changed, Appends-nil text))
 source-refused view was left text rose sink-rose given stop.SinkFault g = absurd g
-source-refused view was left text rose sink-rose given stop.Usage g = (g.0, (ap (outcome_by prints) g.1, none-changed, Appends-nil text))
-source-refused view was left text rose sink-rose given (stop.NoSuchEntry guid) g = (g.0, (ap (outcome_by prints) g.1, none-changed, Appends-nil text))
-source-refused view was left text rose sink-rose given (stop.NotPacked f) g = (g.0, (ap (outcome_by prints) g.1, none-changed, Appends-nil text))
-source-refused view was left text rose sink-rose given (stop.NoManifest f) g = (g.0, (ap (outcome_by prints) g.1, none-changed, Appends-nil text))
-source-refused view was left text rose sink-rose given stop.TooLong g = (g.0, (ap (outcome_by prints) g.1, none-changed, Appends-nil text))
-source-refused view was left text rose sink-rose given (stop.NotCapsule f) g = (g.0, (ap (outcome_by prints) g.1, none-changed, Appends-nil text))
+source-refused view was left text rose sink-rose given s g = (g.0, (ap (outcome_by prints) g.1, none-changed, Appends-nil text))
 
 read-all : (was left taken text : Option (List ℕ)) (sink-rose : Type 0) (given piece : List ℕ) (r : Result (Unit {0}) Stop) → Consumes was left given → IsAtEnd left → PrintedText taken text sink-rose piece r → IsReadFor r was left given
 read-all was left taken text sink-rose given piece (Ok u) c e p = (c, e)
 read-all was left taken text sink-rose given piece (Err (stop.NotFip f)) c e p = absurd p
-read-all was left taken text sink-rose given piece (Err stop.Usage) c e p = c
-read-all was left taken text sink-rose given piece (Err stop.FileFault) c e p = c
-read-all was left taken text sink-rose given piece (Err stop.SinkFault) c e p = c
-read-all was left taken text sink-rose given piece (Err (stop.NoSuchEntry guid)) c e p = c
-read-all was left taken text sink-rose given piece (Err (stop.NotPacked f)) c e p = c
-read-all was left taken text sink-rose given piece (Err (stop.NoManifest f)) c e p = c
-read-all was left taken text sink-rose given piece (Err stop.TooLong) c e p = c
-read-all was left taken text sink-rose given piece (Err (stop.NotCapsule f)) c e p = c
-read-all was left taken text sink-rose given piece (Err stop.NoMemory) c e p = c
+read-all was left taken text sink-rose given piece (Err s) c e p = c
 
 pub source-printed : (was left taken text : Option (List ℕ)) (rose sink-rose : Type 0) (given piece : List ℕ) (r : Result (Unit {0}) Stop) → Consumes was left given × IsAtEnd left × (given_value given ≡ Ok piece)
     → PrintedText taken text sink-rose piece r
@@ -49,15 +36,7 @@ source-printed was left taken text rose sink-rose given piece r g p =
 
 consumed : (was left : Option (List ℕ)) (given : List ℕ) (s : Stop) → IsReadFor (Err s) was left given → Consumes was left given
 consumed was left given (stop.NotFip f) r = r.0
-consumed was left given stop.Usage r = r
-consumed was left given stop.FileFault r = r
-consumed was left given stop.SinkFault r = r
-consumed was left given (stop.NoSuchEntry guid) r = r
-consumed was left given (stop.NotPacked f) r = r
-consumed was left given (stop.NoManifest f) r = r
-consumed was left given stop.TooLong r = r
-consumed was left given (stop.NotCapsule f) r = r
-consumed was left given stop.NoMemory r = r
+consumed was left given s r = r
 
 module _ (was left taken text : Option (List ℕ)) (rose : Type 0) (given : List ℕ) where
   at : {s t : Stop} → t ≡ s → IsReadFor (Err s) was left given → IsReadFor (Err t) was left given
@@ -72,26 +51,11 @@ module _ (was left taken text : Option (List ℕ)) (rose : Type 0) (given : List
   pub reported-read : (s t : Stop) → IsReadFor (Err s) was left given → Reported taken text rose s t → IsReadFor (Err t) was left given
   reported-read stop.SinkFault t r a = at a.0 r
   reported-read stop.NoMemory t r a = at a.0 r
-  reported-read stop.Usage t r a = told-read stop.Usage t r a
-  reported-read stop.FileFault t r a = told-read stop.FileFault t r a
-  reported-read (stop.NotFip f) t r a = told-read (stop.NotFip f) t r a
-  reported-read (stop.NoSuchEntry guid) t r a = told-read (stop.NoSuchEntry guid) t r a
-  reported-read (stop.NotPacked f) t r a = told-read (stop.NotPacked f) t r a
-  reported-read (stop.NoManifest f) t r a = told-read (stop.NoManifest f) t r a
-  reported-read stop.TooLong t r a = told-read stop.TooLong t r a
-  reported-read (stop.NotCapsule f) t r a = told-read (stop.NotCapsule f) t r a
+  reported-read s t r a = told-read s t r a
 
   two : (s : Stop) → status_number s ≡ 2 → s ≡ stop.FileFault
   two stop.FileFault e = refl
-  two stop.Usage e = cc
-  two stop.SinkFault e = cc
-  two (stop.NotFip f) e = cc
-  two (stop.NoSuchEntry guid) e = cc
-  two (stop.NotPacked f) e = cc
-  two (stop.NoManifest f) e = cc
-  two stop.TooLong e = cc
-  two (stop.NotCapsule f) e = cc
-  two stop.NoMemory e = cc
+  two s e = cc
 
   told-two : (s t : Stop) → StopTold taken text rose s t → status_number t ≡ 2 → s ≡ stop.FileFault
   told-two s t (inl a) e = two s (sym (ap status_number a.0) ∙ e)
@@ -102,11 +66,4 @@ module _ (was left taken text : Option (List ℕ)) (rose : Type 0) (given : List
   pub reported-two : (s t : Stop) → Reported taken text rose s t → status_number t ≡ 2 → s ≡ stop.FileFault
   reported-two stop.SinkFault t a e = let no : ◌≡◌ {A = ℕ} 3 2 = sym (ap status_number a.0) ∙ e in cc
   reported-two stop.NoMemory t a e = let no : ◌≡◌ {A = ℕ} 9 2 = sym (ap status_number a.0) ∙ e in cc
-  reported-two stop.Usage t a e = told-two stop.Usage t a e
-  reported-two stop.FileFault t a e = told-two stop.FileFault t a e
-  reported-two (stop.NotFip f) t a e = told-two (stop.NotFip f) t a e
-  reported-two (stop.NoSuchEntry guid) t a e = told-two (stop.NoSuchEntry guid) t a e
-  reported-two (stop.NotPacked f) t a e = told-two (stop.NotPacked f) t a e
-  reported-two (stop.NoManifest f) t a e = told-two (stop.NoManifest f) t a e
-  reported-two stop.TooLong t a e = told-two stop.TooLong t a e
-  reported-two (stop.NotCapsule f) t a e = told-two (stop.NotCapsule f) t a e
+  reported-two s t a e = told-two s t a e

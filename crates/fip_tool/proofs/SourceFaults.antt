@@ -14,15 +14,7 @@ use Rattle.fip_making.specs.declared.stops.Stop.TheVariants as stop
 pub printed-quiet : (was text : Option (List ℕ)) (rose : Type 0) (piece : List ℕ) (r : Result (Unit {0}) Stop) (n : ℕ) → PrintedText was text rose piece r → n ≡ source_failures r n
 printed-quiet was text rose piece (Ok u) n p = refl
 printed-quiet was text rose piece (Err stop.FileFault) n p = absurd p
-printed-quiet was text rose piece (Err stop.SinkFault) n p = refl
-printed-quiet was text rose piece (Err stop.Usage) n p = refl
-printed-quiet was text rose piece (Err (stop.NotFip f)) n p = refl
-printed-quiet was text rose piece (Err (stop.NoSuchEntry guid)) n p = refl
-printed-quiet was text rose piece (Err (stop.NotPacked f)) n p = refl
-printed-quiet was text rose piece (Err (stop.NoManifest f)) n p = refl
-printed-quiet was text rose piece (Err stop.TooLong) n p = refl
-printed-quiet was text rose piece (Err (stop.NotCapsule f)) n p = refl
-printed-quiet was text rose piece (Err stop.NoMemory) n p = refl
+printed-quiet was text rose piece (Err s) n p = refl
 
 -- all was read
 pub none-failed : (status before after : ℕ) → status ≡ 0 → after ≡ before → FailsOnceAt status before after
@@ -40,10 +32,10 @@ none-by taken text rose s now status before after other is r same = record {
   none = λ o. same;
 }
 
-pub by-number : (n status before after : ℕ) → status ≡ n → IsFalse ((status == 2) || ((status == 3) || (status == 9))) → IsFalse ((n == 2) || ((n == 3) || (n == 9)))
+by-number : (n status before after : ℕ) → status ≡ n → IsFalse ((status == 2) || ((status == 3) || (status == 9))) → IsFalse ((n == 2) || ((n == 3) || (n == 9)))
 by-number n status before after is o = subst (λ (x : ℕ). IsFalse ((x == 2) || ((x == 3) || (x == 9)))) is o
 
-late : (taken text : Option (List ℕ)) (rose : Type 0) (now : Stop) (status before after : ℕ) → status ≡ status_number now → Reported taken text rose stop.FileFault now
+pub late : (taken text : Option (List ℕ)) (rose : Type 0) (now : Stop) (status before after : ℕ) → status ≡ status_number now → Reported taken text rose stop.FileFault now
     → IsFalse ((status == 2) || ((status == 3) || (status == 9))) → after ≡ before
 late taken text rose now status before after is (inl a) o = absurd (false≢true (sym (by-number 2 status before after (is ∙ ap status_number a.0) o)))
 late taken text rose now status before after is (inr (inl a)) o = absurd (false≢true (sym (by-number 3 status before after (is ∙ ap status_number a.0) o)))
@@ -57,12 +49,4 @@ fails-once taken text rose stop.FileFault now status before after is r m = recor
   failed = λ two. m;
   none = late taken text rose now status before after is r;
 }
-fails-once taken text rose stop.SinkFault now status before after is r m = none-by taken text rose stop.SinkFault now status before after (λ e. cc) is r m
-fails-once taken text rose stop.Usage now status before after is r m = none-by taken text rose stop.Usage now status before after (λ e. cc) is r m
-fails-once taken text rose (stop.NotFip f) now status before after is r m = none-by taken text rose (stop.NotFip f) now status before after (λ e. cc) is r m
-fails-once taken text rose (stop.NoSuchEntry guid) now status before after is r m = none-by taken text rose (stop.NoSuchEntry guid) now status before after (λ e. cc) is r m
-fails-once taken text rose (stop.NotPacked f) now status before after is r m = none-by taken text rose (stop.NotPacked f) now status before after (λ e. cc) is r m
-fails-once taken text rose (stop.NoManifest f) now status before after is r m = none-by taken text rose (stop.NoManifest f) now status before after (λ e. cc) is r m
-fails-once taken text rose stop.TooLong now status before after is r m = none-by taken text rose stop.TooLong now status before after (λ e. cc) is r m
-fails-once taken text rose (stop.NotCapsule f) now status before after is r m = none-by taken text rose (stop.NotCapsule f) now status before after (λ e. cc) is r m
-fails-once taken text rose stop.NoMemory now status before after is r m = none-by taken text rose stop.NoMemory now status before after (λ e. cc) is r m
+fails-once taken text rose s now status before after is r m = none-by taken text rose s now status before after (λ e. cc) is r m

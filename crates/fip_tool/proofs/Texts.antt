@@ -28,27 +28,14 @@ pub says-printed : (T : List (List ℕ) → Type 0) (line : List ℕ) (was text 
 says-printed T line was text rose (Ok u) t p = (line ∷ [], t, subst (Appends was text) (sym (joined-one line)) p)
 says-printed T line was text rose (Err stop.SinkFault) t p = (p.0, (line ∷ [], t, 0, omega arith, p.1, p.2))
 says-printed T line was text rose (Err stop.NoMemory) t p = ([], inl refl, appends-same was text p)
-says-printed T line was text rose (Err stop.FileFault) t p = absurd p
-says-printed T line was text rose (Err stop.Usage) t p = absurd p
-says-printed T line was text rose (Err (stop.NotFip f)) t p = absurd p
-says-printed T line was text rose (Err (stop.NoSuchEntry guid)) t p = absurd p
-says-printed T line was text rose (Err (stop.NotPacked f)) t p = absurd p
-says-printed T line was text rose (Err (stop.NoManifest f)) t p = absurd p
-says-printed T line was text rose (Err stop.TooLong) t p = absurd p
-says-printed T line was text rose (Err (stop.NotCapsule f)) t p = absurd p
+says-printed T line was text rose (Err s) t p = absurd p
 
 -- a part that stopped before anything was printed
 pub says-nothing : (T : List (List ℕ) → Type 0) (was text : Option (List ℕ)) (rose : Type 0) (s : Stop) → s ≢ stop.SinkFault → text ≡ was → Says T was text rose (Err s)
 says-nothing T was text rose stop.SinkFault other e = absurd (other refl)
 says-nothing T was text rose stop.NoMemory other e = ([], inl refl, appends-same was text e)
 says-nothing T was text rose stop.FileFault other e = ([], inl refl, appends-same was text e)
-says-nothing T was text rose stop.Usage other e = e
-says-nothing T was text rose (stop.NotFip f) other e = e
-says-nothing T was text rose (stop.NoSuchEntry guid) other e = e
-says-nothing T was text rose (stop.NotPacked f) other e = e
-says-nothing T was text rose (stop.NoManifest f) other e = e
-says-nothing T was text rose stop.TooLong other e = e
-says-nothing T was text rose (stop.NotCapsule f) other e = e
+says-nothing T was text rose s other e = e
 
 -- ---- texts of another kind
 
@@ -61,13 +48,7 @@ says-as T U was text rose late (Ok u) turns rises h = (h.0, turns h.0 h.1, h.2)
 says-as T U was text rose late (Err stop.SinkFault) turns rises h = (rises h.0, (h.1.0, turns h.1.0 h.1.1, h.1.2, h.1.3, h.1.4, h.1.5))
 says-as T U was text rose late (Err stop.NoMemory) turns rises h = (h.0, begun-as T U turns h.0 h.1, h.2)
 says-as T U was text rose late (Err stop.FileFault) turns rises h = (h.0, begun-as T U turns h.0 h.1, h.2)
-says-as T U was text rose late (Err stop.Usage) turns rises h = h
-says-as T U was text rose late (Err (stop.NotFip f)) turns rises h = h
-says-as T U was text rose late (Err (stop.NoSuchEntry guid)) turns rises h = h
-says-as T U was text rose late (Err (stop.NotPacked f)) turns rises h = h
-says-as T U was text rose late (Err (stop.NoManifest f)) turns rises h = h
-says-as T U was text rose late (Err stop.TooLong) turns rises h = h
-says-as T U was text rose late (Err (stop.NotCapsule f)) turns rises h = h
+says-as T U was text rose late (Err s) turns rises h = h
 
 -- the line of what was made
 pub made-texts : (format : Format) (made : Result Made Stop) (P : ℕ → Type 0) → IfOk made (λ m. P m.count) → (texts : List (List ℕ)) → IsMadeLine format made texts
@@ -131,13 +112,7 @@ module _ (before : List (List ℕ)) (line : List ℕ) (after all : List (List �
   says-behind stop.SinkFault l h = (rises h.0, cut h.1)
   says-behind stop.FileFault l h = whole h.0 h.1 h.2
   says-behind stop.NoMemory l h = whole h.0 h.1 h.2
-  says-behind stop.Usage l h = absurd l
-  says-behind (stop.NotFip f) l h = absurd l
-  says-behind (stop.NoSuchEntry guid) l h = absurd l
-  says-behind (stop.NotPacked f) l h = absurd l
-  says-behind (stop.NoManifest f) l h = absurd l
-  says-behind stop.TooLong l h = absurd l
-  says-behind (stop.NotCapsule f) l h = absurd l
+  says-behind s l h = absurd l
 
 -- one more text was printed
 pub said-more : (before all : List (List ℕ)) (line : List ℕ) (was at text : Option (List ℕ)) (rose : Type 0) (u : Unit {0}) → all ≡ before ++ (line ∷ []) → Appends was at (joined_texts before)
@@ -171,26 +146,12 @@ module _ (T : List (List ℕ) → Type 0) (was mid text : Option (List ℕ)) (ea
   says-ends stop.SinkFault t h r =
       at-stop r.0 (rises h.0, inl (subst (λ (x : Option (List ℕ)). IsCutText T was x) (sym r.1) h.1))
   says-ends stop.NoMemory t h r = at-stop r.0 (h.0, h.1, subst (λ (x : Option (List ℕ)). Appends was x h.0) (sym r.1) h.2)
-  says-ends stop.Usage t h r = ended stop.Usage t ([], refl, appends-same was mid h) (λ w. w) none-yet r
-  says-ends (stop.NotFip f) t h r = ended (stop.NotFip f) t ([], refl, appends-same was mid h) (λ w. w) none-yet r
-  says-ends (stop.NoSuchEntry guid) t h r = ended (stop.NoSuchEntry guid) t ([], refl, appends-same was mid h) (λ w. w) none-yet r
-  says-ends (stop.NotPacked f) t h r = ended (stop.NotPacked f) t ([], refl, appends-same was mid h) (λ w. w) none-yet r
-  says-ends (stop.NoManifest f) t h r = ended (stop.NoManifest f) t ([], refl, appends-same was mid h) (λ w. w) none-yet r
-  says-ends stop.TooLong t h r = ended stop.TooLong t ([], refl, appends-same was mid h) (λ w. w) none-yet r
-  says-ends (stop.NotCapsule f) t h r = ended (stop.NotCapsule f) t ([], refl, appends-same was mid h) (λ w. w) none-yet r
+  says-ends s t h r = ended s t ([], refl, appends-same was mid h) (λ w. w) none-yet r
 
 -- status 3 comes where the sink failed alone
 three : (s : Stop) → status_number s ≡ 3 → s ≡ stop.SinkFault
 three stop.SinkFault e = refl
-three stop.Usage e = cc
-three stop.FileFault e = cc
-three (stop.NotFip f) e = cc
-three (stop.NoSuchEntry guid) e = cc
-three (stop.NotPacked f) e = cc
-three (stop.NoManifest f) e = cc
-three stop.TooLong e = cc
-three (stop.NotCapsule f) e = cc
-three stop.NoMemory e = cc
+three s e = cc
 
 pub sink-rose : (T : List (List ℕ) → Type 0) (was text : Option (List ℕ)) (rose : Type 0) (t : Stop) → status_number t ≡ 3 → SaysAll T was text rose (Err t) → rose
 sink-rose T was text rose t e h = (subst (λ (s : Stop). SaysAll T was text rose (Err s)) (three t e) h).0

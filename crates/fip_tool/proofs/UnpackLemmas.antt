@@ -162,13 +162,7 @@ module _ (first second rest : List CommandStep) (files mid : Directory) (now : O
       stand : (n : ℕ) → StandAfter n (Makes second) mid now spoiled → StandAfter (reach n) (Makes (first ++ (second ++ rest))) files now spoiled-late
       stand n (inl are) = inl (there-are n are)
       stand n (inr up) = inr (spoils up.0, upto n up.1)
-  stops stop.Usage d = let no : Makes second ≡ Refuses stop.Usage = d.0 in cc
-  stops (stop.NotFip f) d = let no : Makes second ≡ Refuses (stop.NotFip f) = d.0 in cc
-  stops (stop.NoSuchEntry guid) d = let no : Makes second ≡ Refuses (stop.NoSuchEntry guid) = d.0 in cc
-  stops (stop.NotPacked f) d = let no : Makes second ≡ Refuses (stop.NotPacked f) = d.0 in cc
-  stops (stop.NoManifest f) d = let no : Makes second ≡ Refuses (stop.NoManifest f) = d.0 in cc
-  stops stop.TooLong d = let no : Makes second ≡ Refuses stop.TooLong = d.0 in cc
-  stops (stop.NotCapsule f) d = let no : Makes second ≡ Refuses (stop.NotCapsule f) = d.0 in cc
+  stops s d = let no : Makes second ≡ Refuses s = d.0 in cc
 
 -- all steps were done
 pub did-all : (steps : List CommandStep) (files now : Directory) (was text : Option (List ℕ)) (rose spoiled sink-rose : Type 0) (u : Unit {0}) → IsDone steps files now was text

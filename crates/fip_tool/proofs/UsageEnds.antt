@@ -12,15 +12,7 @@ no-usage (inr e) = cc
 
 one : (s : Stop) → status_number s ≡ 1 → s ≡ stop.Usage
 one stop.Usage e = refl
-one stop.FileFault e = cc
-one stop.SinkFault e = cc
-one (stop.NotFip f) e = cc
-one (stop.NoSuchEntry guid) e = cc
-one (stop.NotPacked f) e = cc
-one (stop.NoManifest f) e = cc
-one stop.TooLong e = cc
-one (stop.NotCapsule f) e = cc
-one stop.NoMemory e = cc
+one s e = cc
 
 module _ (was text : Option (List ℕ)) (rose : Type 0) where
   told-one : (s t : Stop) → StopTold was text rose s t → status_number t ≡ 1 → s ≡ stop.Usage
@@ -33,13 +25,7 @@ module _ (was text : Option (List ℕ)) (rose : Type 0) where
   reported-one stop.SinkFault t a e = let no : ◌≡◌ {A = ℕ} 3 1 = sym (ap status_number a.0) ∙ e in cc
   reported-one stop.NoMemory t a e = let no : ◌≡◌ {A = ℕ} 9 1 = sym (ap status_number a.0) ∙ e in cc
   reported-one stop.Usage t a e = refl
-  reported-one stop.FileFault t a e = told-one stop.FileFault t a e
-  reported-one (stop.NotFip f) t a e = told-one (stop.NotFip f) t a e
-  reported-one (stop.NoSuchEntry guid) t a e = told-one (stop.NoSuchEntry guid) t a e
-  reported-one (stop.NotPacked f) t a e = told-one (stop.NotPacked f) t a e
-  reported-one (stop.NoManifest f) t a e = told-one (stop.NoManifest f) t a e
-  reported-one stop.TooLong t a e = told-one stop.TooLong t a e
-  reported-one (stop.NotCapsule f) t a e = told-one (stop.NotCapsule f) t a e
+  reported-one s t a e = told-one s t a e
 
   -- usage has status 1, unless its line failed or memory ran out
   pub usage-status : {X : Type 0} (s t : Stop) (n : ℕ) → (◌≡◌ {A = Result X Stop} (Err s) (Err stop.Usage)) ⊎ (◌≡◌ {A = Result X Stop} (Err s) (Err stop.NoMemory))

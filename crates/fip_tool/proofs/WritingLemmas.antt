@@ -27,14 +27,7 @@ pub write-stopped : (files : Directory) (now : Option Directory) (was text : Opt
     → Written files now files-rose spoiled name bytes (Err s) → text ≡ was → Did (Makes (Writes name bytes ∷ Prints line ∷ [])) files now was text files-rose spoiled sink-rose (Err s)
 write-stopped files now was text files-rose spoiled sink-rose name bytes line stop.FileFault w t = (inr w.0, 0, w.1, appends-none was text t)
 write-stopped files now was text files-rose spoiled sink-rose name bytes line stop.NoMemory w t = (0, w, appends-none was text t)
-write-stopped files now was text files-rose spoiled sink-rose name bytes line stop.Usage w t = absurd w
-write-stopped files now was text files-rose spoiled sink-rose name bytes line stop.SinkFault w t = absurd w
-write-stopped files now was text files-rose spoiled sink-rose name bytes line (stop.NotFip f) w t = absurd w
-write-stopped files now was text files-rose spoiled sink-rose name bytes line (stop.NoSuchEntry guid) w t = absurd w
-write-stopped files now was text files-rose spoiled sink-rose name bytes line (stop.NotPacked f) w t = absurd w
-write-stopped files now was text files-rose spoiled sink-rose name bytes line (stop.NoManifest f) w t = absurd w
-write-stopped files now was text files-rose spoiled sink-rose name bytes line stop.TooLong w t = absurd w
-write-stopped files now was text files-rose spoiled sink-rose name bytes line (stop.NotCapsule f) w t = absurd w
+write-stopped files now was text files-rose spoiled sink-rose name bytes line s w t = absurd w
 
 -- the file and the line of what was made
 pub made-put : (format : Format) (files : Directory) (out : List ℕ) (value : Result (ℕ × List ℕ) Stop) (n : ℕ) (bytes laid line : List ℕ) (now : Option Directory) (was text : Option (List ℕ)) (a b c : ℕ) (k s t : count.Writes) (sink-rose : Type 0)
@@ -56,14 +49,7 @@ then-printed files now was text files-rose spoiled sink-rose name bytes line (Ok
 then-printed files now was text files-rose spoiled sink-rose name bytes line (Err stop.SinkFault) w p =
     (p.0, 1, w, p.1, p.2, tt)
 then-printed files now was text files-rose spoiled sink-rose name bytes line (Err stop.NoMemory) w p = (1, w, appends-none was text p)
-then-printed files now was text files-rose spoiled sink-rose name bytes line (Err stop.Usage) w p = absurd p
-then-printed files now was text files-rose spoiled sink-rose name bytes line (Err stop.FileFault) w p = absurd p
-then-printed files now was text files-rose spoiled sink-rose name bytes line (Err (stop.NotFip f)) w p = absurd p
-then-printed files now was text files-rose spoiled sink-rose name bytes line (Err (stop.NoSuchEntry guid)) w p = absurd p
-then-printed files now was text files-rose spoiled sink-rose name bytes line (Err (stop.NotPacked f)) w p = absurd p
-then-printed files now was text files-rose spoiled sink-rose name bytes line (Err (stop.NoManifest f)) w p = absurd p
-then-printed files now was text files-rose spoiled sink-rose name bytes line (Err stop.TooLong) w p = absurd p
-then-printed files now was text files-rose spoiled sink-rose name bytes line (Err (stop.NotCapsule f)) w p = absurd p
+then-printed files now was text files-rose spoiled sink-rose name bytes line (Err s) w p = absurd p
 
 -- the file and the line of a manifest
 pub manifest-written : (files : Directory) (out : List ℕ) (security : ℕ) (value : Result (ℕ × List ℕ) Stop) (made : ℕ × List ℕ) (bytes line : List ℕ) (now : Option Directory)

@@ -39,16 +39,9 @@ wrote-printed line was text rose before after (Ok u) count p = record {
   said = subst (Appends was text) (sym (joined-one line)) p;
   count = count;
 }
-wrote-printed line was text rose before after (Err stop.FileFault) count p = absurd p
 wrote-printed line was text rose before after (Err stop.SinkFault) count p = inr (tt, one-of line (take p.1 line) was text before after stop.SinkFault (p.1, refl) (omega arith) count p.2)
-wrote-printed line was text rose before after (Err stop.Usage) count p = absurd p
-wrote-printed line was text rose before after (Err (stop.NotFip f)) count p = absurd p
-wrote-printed line was text rose before after (Err (stop.NoSuchEntry guid)) count p = absurd p
-wrote-printed line was text rose before after (Err (stop.NotPacked f)) count p = absurd p
-wrote-printed line was text rose before after (Err (stop.NoManifest f)) count p = absurd p
-wrote-printed line was text rose before after (Err stop.TooLong) count p = absurd p
-wrote-printed line was text rose before after (Err (stop.NotCapsule f)) count p = absurd p
 wrote-printed line was text rose before after (Err stop.NoMemory) count p = inr (tt, one-of line [] was text before after stop.NoMemory refl (omega arith) count (appends-same was text p))
+wrote-printed line was text rose before after (Err s) count p = absurd p
 
 -- ---- texts of another kind, and a count that was the same
 
@@ -111,14 +104,8 @@ says-tail : (line : List ℕ) (after : List (List ℕ)) (at text : Option (List 
     → (rest : List ℕ) × IsRestOfTexts s rest (line ∷ after) × Appends at text rest
 says-tail line after at text rose stop.FileFault l h = ([], refl, subst (Appends at text) (none-of-one line h.0 h.1) h.2)
 says-tail line after at text rose stop.SinkFault l h = (take h.1.4 line, (h.1.4, refl), subst (Appends at text) (front-of-one line h.1.0 h.1.1 h.1.2 h.1.4 h.1.3) h.1.5)
-says-tail line after at text rose stop.Usage l h = absurd l
-says-tail line after at text rose (stop.NotFip f) l h = absurd l
-says-tail line after at text rose (stop.NoSuchEntry guid) l h = absurd l
-says-tail line after at text rose (stop.NotPacked f) l h = absurd l
-says-tail line after at text rose (stop.NoManifest f) l h = absurd l
-says-tail line after at text rose stop.TooLong l h = absurd l
-says-tail line after at text rose (stop.NotCapsule f) l h = absurd l
 says-tail line after at text rose stop.NoMemory l h = ([], refl, subst (Appends at text) (none-of-one line h.0 h.1) h.2)
+says-tail line after at text rose s l h = absurd l
 
 -- a stop at one file, behind files whose texts were printed and before others
 pub wrote-behind : (before : List (List ℕ)) (line : List ℕ) (after all : List (List ℕ)) (was at text : Option (List ℕ)) (rose : Type 0) (start mid now : ℕ) (s : Stop) → all ≡ before ++ (line ∷ after) → Appends was at (joined_texts before)

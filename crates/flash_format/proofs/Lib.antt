@@ -1,7 +1,6 @@
 pub mod Ranges
 pub mod Unarmed
 pub mod Pieces
-pub mod Ends
 pub mod Slots
 pub mod Recorded
 pub mod Plans

@@ -11,7 +11,7 @@ use Rattle.std.specs.Prelude.{IsTrue}
 use Rattle.fip_tables.specs.Images.{AreImages}
 use Rattle.flash_format.specs.Planned.{IsPlanned}
 use Rattle.fip_tables.proofs.Chosen.{chosen_have}
-use Rattle.flash_format.proofs.Ends.{ends-within}
+use Rattle.fwu_formats.proofs.Tables.{ends-within}
 
 pub planned_from : (told : Option Directory) (name : List ℕ) (L : Layout) (toc : Toc) (entries : List Entry) → AreImages L.rows toc entries → All (λ e. e.offset + e.size < 2 ^ 64) toc.entries
     → ((file : List ℕ) → Tells told name file → toc_of file ≡ Ok toc) → (Lacks told name → ⊥) → IsPlanned told name L entries

@@ -52,11 +52,7 @@ use Rattle.fwu_c.proofs.Booting.{began_as, counted_from_none, over, start_same, 
 
 status_large : (st : Status) → 16 ≤ status_code st
 status_large status.Denied = omega arith
-status_large status.AuthFail = omega arith
-status_large status.Unknown = omega arith
-status_large status.Busy = omega arith
-status_large status.OutOfBounds = omega arith
-status_large status.NotAvailable = omega arith
+status_large s = omega arith
 
 call_not_four : (result : Result (Unit {0}) Stop) → IsStepResult result → call_code result ≡ 4 → ⊥
 call_not_four (Ok x) is e = omega (arith, e)

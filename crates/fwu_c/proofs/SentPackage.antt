@@ -17,7 +17,7 @@ use Rattle.agent_machine.specs.Goes.{GoesByMoves}
 use Rattle.agent_calls.specs.Started.{StartsFrom}
 use Rattle.update_client.specs.declared.stops.Sent.{Sent}
 use Rattle.update_client.specs.declared.stops.SendStop.{SendStop}
-use Rattle.update_client.specs.declared.stops.SendStop.TheVariants.{MissingImage, ImageTooLarge, Begin, End, ReadFailed, Lost, Fault, Gone}
+use Rattle.update_client.specs.declared.stops.SendStop.TheVariants.{ReadFailed, Lost, Fault, Gone}
 use Rattle.update_client.specs.Halts.{flash_of}
 use Rattle.update_client.specs.Sends.{FaultsBy, GoneBy, Installs, IsEarlySend, IsInstalled, IsStoppedSend, Sends, SendEndsBy, ended_session, send_answer}
 use Rattle.package_files.specs.OneFile.{one_file}
@@ -30,14 +30,10 @@ use Rattle.fwu_c.specs.Sendings.{MovesByAnswer, HasInstalled, IsSent, RepliesAs,
 
 pub is_sent : (result : Result Sent SendStop) → (result ≡ Err ReadFailed → ⊥) → (result ≡ Err Lost → ⊥) → (result ≡ Err Gone → ⊥) → IsSent result
 is_sent (Ok sent) read lost gone = tt
-is_sent (Err (MissingImage guid)) read lost gone = tt
-is_sent (Err (ImageTooLarge guid)) read lost gone = tt
-is_sent (Err (Begin st)) read lost gone = tt
-is_sent (Err (End st)) read lost gone = tt
 is_sent (Err ReadFailed) read lost gone = read refl
 is_sent (Err Lost) read lost gone = lost refl
-is_sent (Err Fault) read lost gone = tt
 is_sent (Err Gone) read lost gone = gone refl
+is_sent (Err s) read lost gone = tt
 
 -- a count of faults that stays at 0 didn't rise
 pub never_rose : Rose 0 0 → ⊥
@@ -46,14 +42,9 @@ never_rose (inr full) = omega (arith, full)
 
 not_stopped : (result : Result Sent SendStop) → is_ok (flash_of result) ≡ true → IsStoppedSend result → ⊥
 not_stopped (Ok sent) ok stopped = stopped
-not_stopped (Err (MissingImage guid)) ok stopped = stopped
-not_stopped (Err (ImageTooLarge guid)) ok stopped = stopped
-not_stopped (Err (Begin st)) ok stopped = stopped
-not_stopped (Err (End st)) ok stopped = stopped
-not_stopped (Err ReadFailed) ok stopped = stopped
 not_stopped (Err Lost) ok stopped = absurd (cc)
 not_stopped (Err Fault) ok stopped = absurd (cc)
-not_stopped (Err Gone) ok stopped = stopped
+not_stopped (Err s) ok stopped = stopped
 
 -- an agent that was there is so after an answer or a refusal
 pub here_after : (fault : Option Reply) (result : Result Sent SendStop) (was now : Bool) → IsFalse was → GoneBy fault result was now
@@ -88,14 +79,11 @@ record Went (E : Setting) (a : Answer) (result : Result Sent SendStop) (old new 
 went : (E : Setting) (toc : Toc) (p : List (List ℕ)) (request : ℕ) (old new : Moment) (s : State) (x : Session) (result : Result Sent SendStop)
     → IsSent result → SendEndsBy result E toc p request old new s x → Went E (send_answer E toc p request s x) result old new s
 went E toc p request old new s x (Ok sent) is by = record { reply_is = sym by.0; session = (send_answer E toc p request s x).next; goes = by.1 }
-went E toc p request old new s x (Err (MissingImage guid)) is by = record { reply_is = sym by.0; session = (send_answer E toc p request s x).next; goes = by.1 }
-went E toc p request old new s x (Err (ImageTooLarge guid)) is by = record { reply_is = sym by.0; session = (send_answer E toc p request s x).next; goes = by.1 }
-went E toc p request old new s x (Err (Begin st)) is by = record { reply_is = sym by.0; session = (send_answer E toc p request s x).next; goes = by.1 }
-went E toc p request old new s x (Err (End st)) is by = record { reply_is = sym by.0; session = (send_answer E toc p request s x).next; goes = by.1 }
 went E toc p request old new s x (Err ReadFailed) is by = absurd is
 went E toc p request old new s x (Err Lost) is by = absurd is
 went E toc p request old new s x (Err Fault) is by = record { reply_is = tt; session = ended_session x; goes = by.1 }
 went E toc p request old new s x (Err Gone) is by = absurd is
+went E toc p request old new s x (Err q) is by = record { reply_is = sym by.0; session = (send_answer E toc p request s x).next; goes = by.1 }
 
 pub held_there : (held : Directory) (name file : List ℕ) → held ≡ one_file name file → held name ≡ Some file
 held_there held name file is = ap (λ (d : Directory). d name) is ∙ finds_it name file

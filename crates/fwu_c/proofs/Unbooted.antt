@@ -11,8 +11,4 @@ use Rattle.fwu_c.specs.Updates.{IsNotBooted}
 pub not_started : {D : Type 0} {F : Ghosts D} (x : BootEnd D F) → ((b : Booted D F) (n : Numbers) → x ≡ boot_end.Booted b n → ⊥)
     → IsNotBooted (ended x)
 not_started (boot_end.Booted b n) not = not b n refl
-not_started (boot_end.BadLayout flash f) not = tt
-not_started (boot_end.NoMetadata flash) not = tt
-not_started (boot_end.NoBank flash active previous) not = tt
-not_started (boot_end.Lost flash n) not = tt
-not_started (boot_end.Fault flash n) not = tt
+not_started s not = tt

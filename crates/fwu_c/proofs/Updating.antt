@@ -86,42 +86,18 @@ start_now image = refl
 
 -- ---- numbers
 
--- a known outcome has none of the numbers 4 and 6
-outcome_not_four : (outcome : SendOutcome) → IsOutcome outcome → outcome_code outcome ≡ 4 → ⊥
-outcome_not_four None is e = omega (arith, e)
-outcome_not_four (Some (Ok sent)) is e = omega (arith, e)
-outcome_not_four (Some (Err (MissingImage guid))) is e = omega (arith, e)
-outcome_not_four (Some (Err (ImageTooLarge guid))) is e = omega (arith, e)
-outcome_not_four (Some (Err (Begin st))) is e = omega (arith, e)
-outcome_not_four (Some (Err (End st))) is e = omega (arith, e)
-outcome_not_four (Some (Err ReadFailed)) is e = is
-outcome_not_four (Some (Err Lost)) is e = is
-outcome_not_four (Some (Err Fault)) is e = omega (arith, e)
-outcome_not_four (Some (Err Gone)) is e = is
-
-outcome_not_six : (outcome : SendOutcome) → outcome_code outcome ≡ 6 → ⊥
-outcome_not_six None e = omega (arith, e)
-outcome_not_six (Some (Ok sent)) e = omega (arith, e)
-outcome_not_six (Some (Err (MissingImage guid))) e = omega (arith, e)
-outcome_not_six (Some (Err (ImageTooLarge guid))) e = omega (arith, e)
-outcome_not_six (Some (Err (Begin st))) e = omega (arith, e)
-outcome_not_six (Some (Err (End st))) e = omega (arith, e)
-outcome_not_six (Some (Err ReadFailed)) e = omega (arith, e)
-outcome_not_six (Some (Err Lost)) e = omega (arith, e)
-outcome_not_six (Some (Err Fault)) e = omega (arith, e)
-outcome_not_six (Some (Err Gone)) e = omega (arith, e)
-
-outcome_not_seven : (outcome : SendOutcome) → IsOutcome outcome → outcome_code outcome ≡ 7 → ⊥
-outcome_not_seven None is e = omega (arith, e)
-outcome_not_seven (Some (Ok sent)) is e = omega (arith, e)
-outcome_not_seven (Some (Err (MissingImage guid))) is e = omega (arith, e)
-outcome_not_seven (Some (Err (ImageTooLarge guid))) is e = omega (arith, e)
-outcome_not_seven (Some (Err (Begin st))) is e = omega (arith, e)
-outcome_not_seven (Some (Err (End st))) is e = omega (arith, e)
-outcome_not_seven (Some (Err ReadFailed)) is e = is
-outcome_not_seven (Some (Err Lost)) is e = is
-outcome_not_seven (Some (Err Fault)) is e = omega (arith, e)
-outcome_not_seven (Some (Err Gone)) is e = is
+-- a known outcome has none of the numbers 4, 6 and 7
+pub outcome_end_is : (outcome : SendOutcome) → IsOutcome outcome → IsDeviceEnd (outcome_code outcome)
+outcome_end_is None is = (λ four. omega (arith, four), λ six. omega (arith, six), λ seven. omega (arith, seven))
+outcome_end_is (Some (Ok sent)) is = (λ four. omega (arith, four), λ six. omega (arith, six), λ seven. omega (arith, seven))
+outcome_end_is (Some (Err (MissingImage guid))) is = (λ four. omega (arith, four), λ six. omega (arith, six), λ seven. omega (arith, seven))
+outcome_end_is (Some (Err (ImageTooLarge guid))) is = (λ four. omega (arith, four), λ six. omega (arith, six), λ seven. omega (arith, seven))
+outcome_end_is (Some (Err (Begin st))) is = (λ four. omega (arith, four), λ six. omega (arith, six), λ seven. omega (arith, seven))
+outcome_end_is (Some (Err (End st))) is = (λ four. omega (arith, four), λ six. omega (arith, six), λ seven. omega (arith, seven))
+outcome_end_is (Some (Err ReadFailed)) is = absurd is
+outcome_end_is (Some (Err Lost)) is = absurd is
+outcome_end_is (Some (Err Fault)) is = (λ four. omega (arith, four), λ six. omega (arith, six), λ seven. omega (arith, seven))
+outcome_end_is (Some (Err Gone)) is = absurd is
 
 pub outcome_starts : (outcome : SendOutcome) → IsTrue (starts_none (outcome_code outcome)) → ⊥
 outcome_starts None none = absurd (cc)
@@ -134,9 +110,6 @@ outcome_starts (Some (Err ReadFailed)) none = absurd (cc)
 outcome_starts (Some (Err Lost)) none = absurd (cc)
 outcome_starts (Some (Err Fault)) none = absurd (cc)
 outcome_starts (Some (Err Gone)) none = absurd (cc)
-
-pub outcome_end_is : (outcome : SendOutcome) → IsOutcome outcome → IsDeviceEnd (outcome_code outcome)
-outcome_end_is outcome is = (outcome_not_four outcome is, outcome_not_six outcome, outcome_not_seven outcome is)
 
 -- a boot that started none has none of these either
 none_not_six : (e : Ended) → IsNotBooted e → (end_code e ≡ 6 → ⊥) × (end_code e ≡ 7 → ⊥)

@@ -1,22 +1,19 @@
 -- A manifest that is read has one spelling.
-use Rattle.std.proofs.Common.{◌≡◌, ◌⊎◌, inl, inr, ℕ, ◌+◌, ◌-◌, ◌*◌, ◌<◌, ◌≤◌, Bool, true, false, not, ◌&&◌, ◌||◌, ◌==◌, cond, IsTrue, IsFalse, ltb, leb, ltb-true, ltb-false, eqb-true, le-leb, leb-true, List, [], ◌++◌, length, take, drop, Ok, refl, sym, ap, ◌∙◌, arith}
+use Rattle.std.proofs.Common.{◌≡◌, ◌⊎◌, inl, inr, ℕ, ◌+◌, ◌-◌, ◌*◌, ◌<◌, ◌≤◌, Bool, true, false, ◌&&◌, ◌||◌, ◌==◌, cond, IsTrue, IsFalse, ltb, leb, ltb-true, ltb-false, eqb-true, le-leb, leb-true, List, [], ◌++◌, length, take, drop, Ok, refl, sym, ap, ◌∙◌, arith}
 use Rattle.std.specs.Prelude.{flat_map}
 use Rattle.std.specs.List.{range_with_len}
-use Rattle.std.proofs.lemmas.Bool.{not-false, cases_Bool}
+use Rattle.std.proofs.lemmas.Bool.{cases_Bool}
 use Rattle.std.proofs.lemmas.List.{take-take, take-append-drop, length-take-le}
 use Rattle.std.proofs.lemmas.List.FromFn.{length-map-range_with_len}
 use Rattle.sha2.specs.Sha256.{sha256}
-use Rattle.base_core.specs.Bytes.{num_at, same_bytes, listed, are_bytes}
+use Rattle.base_core.specs.Bytes.{num_at, listed, are_bytes}
 use Rattle.base_core.proofs.Spelled.{same_is}
 use Rattle.fwu_formats.specs.Layout.{ImageRow}
-use Rattle.fwu_formats.specs.Manifest.{Manifest, manifest_magic, version_limit, form_of, manifest_size, manifest_row_bytes, manifest_body, manifest_bytes, all_paired, row_at, manifest_at, has_form, is_version_too_high, manifest_of}
+use Rattle.fwu_formats.specs.Manifest.{Manifest, manifest_magic, version_limit, form_of, manifest_size, manifest_row_bytes, manifest_body, manifest_bytes, row_at, manifest_at, manifest_of}
 use Rattle.fwu_formats.specs.Law.{HaveOneSpelling}
-use Rattle.fwu_formats.specs.declared.kinds.ManifestFault.{ManifestFault}
-use Rattle.fwu_formats.specs.declared.kinds.ManifestFault.TheVariants as fault
-use Rattle.fwu_formats.proofs.SealLaws.{was_not_refused}
+use Rattle.fwu_formats.proofs.Read.{manifest-holds}
 use Rattle.fwu_formats.proofs.Spell.{num_front}
 use Rattle.fwu_formats.proofs.OneSpelling.{all-take, flat-map, next, next-num, pieces, layout-one-spelling, meta-one-spelling, record-one-spelling}
-use Rattle.base_core.proofs.Results.{same-Ok}
 
 by-form : (one two above : Bool) → IsTrue (one || (two && above)) → IsFalse (one && above) → ((one ≡ true) × (above ≡ false)) ⊎ ((two ≡ true) × (above ≡ true))
 by-form true two true has high = absurd cc
@@ -71,31 +68,23 @@ module _ (B : List ℕ) (bytes : IsTrue (are_bytes B)) (count : ℕ) (room : man
       ap (λ (k : ℕ). take k B) size ∙ next B bytes 0 16 (count * 56) _ (flat_map manifest_row_bytes m.rows) d (rows-spelled ∙ ap (λ (k : ℕ). flat_map manifest_row_bytes (listed k (row_at B))) (sym counted))
 
 manifest-one-spelling : (images : List ImageRow) (m : Manifest) (bytes : List ℕ) → IsTrue (are_bytes bytes) → manifest_of images bytes ≡ Ok m → take (manifest_size (length images - 1)) bytes ≡ manifest_bytes m
-unfolding manifest_of manifest_bytes
+unfolding manifest_bytes
 manifest-one-spelling images m bytes are e =
     let count = length images - 1 in
     let size = manifest_size count in
     let B = take size bytes in
-    let a = was_not_refused (ltb (length bytes) size) fault.Short _ m e in
-    let b = was_not_refused (not (num_at 4 bytes 0 == manifest_magic)) fault.BadMagic _ m a.1 in
-    let c = was_not_refused (not (has_form bytes)) fault.BadForm _ m b.1 in
-    let d = was_not_refused (is_version_too_high bytes) fault.VersionTooHigh _ m c.1 in
-    let f = was_not_refused (not (num_at 4 bytes 12 == count)) fault.BadCount _ m d.1 in
-    let g = was_not_refused (not (all_paired (λ i r. same_bytes i.guid r.guid) (drop 1 images) (manifest_at B).rows)) fault.WrongOrder _ m f.1 in
-    let h = was_not_refused (not (all_paired (λ i r. leb r.size (4096 * i.slots)) (drop 1 images) (manifest_at B).rows)) fault.TooLarge _ m g.1 in
-    let k = was_not_refused (not (same_bytes (drop (16 + 56 * count) B) (sha256 (take (16 + 56 * count) bytes)))) fault.BadDigest _ m h.1 in
-    let is : manifest_at B ≡ m = same-Ok {F = ManifestFault} (manifest_at B) m k.1 in
-    let room : size ≤ length B = omega (arith, length-take-le size bytes (ltb-false (length bytes) size a.0)) in
+    let r = manifest-holds images bytes m e in
+    let room : size ≤ length B = omega (arith, length-take-le size bytes r.long) in
     let fit : IsTrue (are_bytes B) = all-take (λ b. ltb b 256) size bytes are in
     let at = λ (place : ℕ) (low : place + 4 ≤ size). num_front 4 place size bytes low in
-    let magic : num_at 4 B 0 ≡ manifest_magic = at 0 (omega arith) ∙ eqb-true _ manifest_magic (not-false _ b.0) in
-    let form : num_at 4 B 4 ≡ form_of (num_at 4 B 8) = at 4 (omega arith) ∙ form-is (num_at 4 bytes 4) (num_at 4 bytes 8) (not-false _ c.0) d.0 ∙ ap form_of (sym (at 8 (omega arith))) in
-    let counted : num_at 4 B 12 ≡ count = at 12 (omega arith) ∙ eqb-true _ count (not-false _ f.0) in
+    let magic : num_at 4 B 0 ≡ manifest_magic = at 0 (omega arith) ∙ r.magic in
+    let form : num_at 4 B 4 ≡ form_of (num_at 4 B 8) = at 4 (omega arith) ∙ form-is (num_at 4 bytes 4) (num_at 4 bytes 8) r.form r.version ∙ ap form_of (sym (at 8 (omega arith))) in
+    let counted : num_at 4 B 12 ≡ count = at 12 (omega arith) ∙ r.count in
     let body = body-spelled B fit count room magic form counted in
     let digest : drop (16 + 56 * count) B ≡ sha256 (manifest_body (manifest_at B)) =
-    same_is _ _ (not-false _ k.0) ∙ ap sha256 (sym (take-take (16 + 56 * count) size bytes (omega arith)) ∙ body) in
+    same_is _ _ r.digest ∙ ap sha256 (sym (take-take (16 + 56 * count) size bytes (omega arith)) ∙ body) in
     sym (take-append-drop (16 + 56 * count) B) ∙ ap (λ l. l ++ drop (16 + 56 * count) B) body ∙ ap (λ l. manifest_body (manifest_at B) ++ l) digest
-    ∙ ap (λ (x : Manifest). manifest_body x ++ sha256 (manifest_body x)) is
+    ∙ ap (λ (x : Manifest). manifest_body x ++ sha256 (manifest_body x)) r.is
 
 pub one-spelling : HaveOneSpelling
 one-spelling = record {

@@ -1,5 +1,5 @@
 -- What is read has one spelling: the bytes follow from the value.
-use Rattle.std.proofs.Common.{◌≡◌, ℕ, zero, suc, ◌+◌, ◌-◌, ◌*◌, ◌/◌, ◌%◌, ◌<◌, ◌≤◌, inl, inr, Bool, false, not, ◌&&◌, ◌||◌, ◌==◌, IsTrue, ltb, leb, leb-true, eqb, eqb-true, ltb-true, ltb-false, List, [], ◌∷◌, ◌++◌, length, get_or, take, drop, drop-cons, map, replicate, Result, Ok, Err, refl, sym, ap, subst, ◌∙◌, arith, length-drop, zero-add, append-nil, append_assoc}
+use Rattle.std.proofs.Common.{◌≡◌, ℕ, zero, suc, ◌+◌, ◌-◌, ◌*◌, ◌/◌, ◌%◌, ◌<◌, ◌≤◌, inl, inr, Bool, false, not, ◌||◌, ◌==◌, IsTrue, ltb, leb, leb-true, eqb-true, ltb-true, ltb-false, List, [], ◌∷◌, ◌++◌, length, get_or, take, drop, drop-cons, map, replicate, Result, Ok, Err, refl, sym, ap, subst, ◌∙◌, arith, length-drop, zero-add, append-nil, append_assoc}
 use Rattle.std.specs.Prelude.{flat_map, nat_lt}
 use Rattle.std.specs.List.{list_all, range_with_len}
 use Rattle.std.proofs.Math.Nat.{suc-mul}
@@ -10,14 +10,13 @@ use Rattle.std.proofs.lemmas.List.FromFn.{get_or-map-range_with_len, length-map-
 use Rattle.base_core.specs.Bytes.{num, le, num_at, part, same_bytes, listed, are_bytes}
 use Rattle.base_core.specs.Crc.{crc}
 use Rattle.base_core.proofs.Spelled.{same_is}
-use Rattle.fwu_formats.specs.Layout.{Layout, ImageRow, nil_guid, fits_layout, blocks_needed, layout_magic, layout_of, layout_at, layout_size, layout_body, layout_bytes, row_bytes, has_zeros}
-use Rattle.fwu_formats.specs.declared.kinds.LayoutFault.{LayoutFault}
+use Rattle.fwu_formats.specs.Layout.{Layout, ImageRow, nil_guid, fits_layout, layout_magic, layout_of, layout_at, layout_size, layout_body, layout_bytes, row_bytes, has_zeros}
 use Rattle.fwu_formats.specs.Metadata.{Meta, MetaRead, meta_of, meta_bytes, meta_body, meta_size, meta_size_v1, entry_size, entry_place, entry_bytes, entries_bytes, bit_at, bit_number, bits_from, has_bank_entry, has_entry, has_entries, has_states, has_indices, has_fields, header_fields, is_state_byte, state_byte, state_of_byte, meta_at, meta_at_v1, read_v2, read_v1, fits_v2, fits_v1}
 use Rattle.fwu_formats.specs.Counter.{is_record, record_magic, record_size, record_body, record_bytes, recorded}
 use Rattle.fwu_formats.specs.declared.kinds.BankState.{BankState}
 use Rattle.fwu_formats.specs.declared.kinds.MetaFault.{MetaFault}
 use Rattle.fwu_formats.specs.declared.kinds.MetaFault.TheVariants as fault
-use Rattle.fwu_formats.proofs.SealLaws.{was_not_refused, limits}
+use Rattle.fwu_formats.proofs.SealLaws.{layout-holds, was_not_refused, limits}
 use Rattle.base_core.proofs.Results.{same-Ok}
 use Rattle.base_core.proofs.Lists.{piece-within}
 
@@ -321,26 +320,12 @@ module _ (block : List ℕ) (bytes : IsTrue (are_bytes block)) (images : ℕ) (f
 
 -- a layout has one spelling
 pub layout-one-spelling : (L : Layout) (blocks : ℕ) (block : List ℕ) → IsTrue (are_bytes block) → layout_of block blocks ≡ Ok L → take (layout_size L) block ≡ layout_bytes L
-unfolding layout_of
 layout-one-spelling L blocks block bytes e =
+    let r = layout-holds block blocks L e in
     let images = num_at 4 block 12 in
-    let size = num_at 4 block 16 in
-    let a = was_not_refused (ltb (length block) 32) _ _ L e in
-    let b = was_not_refused (not (num_at 4 block 4 == layout_magic)) _ _ L a.1 in
-    let c = was_not_refused (not (leb 2 images && leb images 16 && (size == 32 + 24 * images))) _ _ L b.1 in
-    let d = was_not_refused (ltb (length block) size) _ _ L c.1 in
-    let f = was_not_refused (not (num_at 4 block 0 == crc (part block 4 size))) _ _ L d.1 in
-    let g = was_not_refused (not (fits_layout (layout_at block) && has_zeros block)) _ _ L f.1 in
-    let h = was_not_refused (ltb blocks (blocks_needed (layout_at block))) _ _ L g.1 in
-    let same : layout_at block ≡ L = same-Ok {F = LayoutFault} (layout_at block) L h.1 in
-    let sized = and_parts (leb 2 images && leb images 16) (eqb size (32 + 24 * images)) (not-false _ c.0) in
-    let is = eqb-true size (32 + 24 * images) sized.1 in
-    let few = leb-true images 16 (and_parts (leb 2 images) (leb images 16) sized.0).1 in
-    let room = ltb-false (length block) size d.0 in
-    let sum : num_at 4 block 0 ≡ crc (part block 4 (32 + 24 * images)) = eqb-true _ _ (not-false _ f.0) ∙ ap (λ (k : ℕ). crc (part block 4 k)) is in
-    let zeros = (and_parts (fits_layout (layout_at block)) (has_zeros block) (not-false _ g.0)).1 in
-    subst (λ (x : Layout). take (layout_size x) block ≡ layout_bytes x) same
-    (layout_block-spelled block bytes images few (omega (arith, is, room)) (eqb-true _ layout_magic (not-false _ b.0)) refl is sum zeros)
+    let sum : num_at 4 block 0 ≡ crc (part block 4 (32 + 24 * images)) = r.sum ∙ ap (λ (k : ℕ). crc (part block 4 k)) r.size in
+    subst (λ (x : Layout). take (layout_size x) block ≡ layout_bytes x) r.is
+    (layout_block-spelled block bytes images r.few (omega (arith, r.size, r.whole)) r.magic refl r.size sum r.zeros)
 
 -- ---- records of the counter
 

@@ -1,23 +1,23 @@
 -- What was read: metadata has a known version and a bit for each image in each bank, a layout is within its limits, a bank's package is complete.
-use Rattle.std.proofs.Common.{◌≡◌, ℕ, ◌+◌, ◌*◌, ◌<◌, Bool, false, not, ◌&&◌, ◌==◌, List, [], length, get_or, Option, Some, None, Result, Ok, Err, refl, ap, subst, ◌∙◌, arith, inl, inr, ◌⊎◌, IsTrue, leb, ltb}
-use Rattle.std.proofs.lemmas.Bool.{cond_both, and_parts, not-false}
+use Rattle.std.proofs.Common.{◌≡◌, ℕ, ◌+◌, ◌-◌, ◌*◌, ◌<◌, ◌≤◌, Bool, false, not, ◌==◌, List, [], length, get_or, take, drop, Option, Some, None, Result, Ok, Err, refl, ap, subst, ◌∙◌, arith, inl, inr, ◌⊎◌, IsTrue, leb, ltb, ltb-false, eqb-true}
+use Rattle.std.proofs.lemmas.Bool.{cond_both, not-false}
 use Rattle.std.proofs.lemmas.List.{length-map}
 use Rattle.std.proofs.lemmas.List.FromFn.{length-map-range_with_len, get_or-map-range_with_len}
 use Rattle.std.proofs.lemmas.Option.{same_Some}
 use Rattle.base_core.specs.Block.{block}
-use Rattle.base_core.specs.Bytes.{num_at, part}
+use Rattle.base_core.specs.Bytes.{num_at, part, same_bytes}
+use Rattle.sha2.specs.Sha256.{sha256}
 use Rattle.base_core.specs.Crc.{crc}
-use Rattle.fwu_formats.specs.Layout.{Layout, ImageRow, layout_of, layout_at, layout_magic, has_zeros, fits_layout, blocks_needed}
+use Rattle.fwu_formats.specs.Layout.{Layout, ImageRow, layout_of, fits_layout}
 use Rattle.fwu_formats.specs.Metadata.{MetaRead, meta_of, meta_read, if_read, read_v2, read_v1, meta_at, meta_at_v1, meta_size, meta_size_v1, fits_v2, fits_v1, bits_from, state_at_v1, bits_v1}
-use Rattle.fwu_formats.specs.Manifest.{Manifest, is_complete, manifest_of}
+use Rattle.fwu_formats.specs.Manifest.{Manifest, all_paired, has_form, is_complete, is_version_too_high, manifest_at, manifest_magic, manifest_of, manifest_size}
 use Rattle.fwu_formats.specs.Image.{deciding, first_some, slot, images_in, if_complete, package_by, package_in}
 use Rattle.fwu_formats.specs.declared.kinds.BankState.{BankState}
 use Rattle.fwu_formats.specs.declared.kinds.BankState.TheVariants.{Invalid, Valid, Accepted}
 use Rattle.fwu_formats.specs.declared.kinds.MetaFault.{MetaFault}
 use Rattle.fwu_formats.specs.declared.kinds.MetaFault.TheVariants as fault
 use Rattle.fwu_formats.specs.declared.kinds.ManifestFault.{ManifestFault}
-use Rattle.fwu_formats.specs.declared.kinds.LayoutFault.{LayoutFault}
-use Rattle.fwu_formats.proofs.SealLaws.{was_not_refused}
+use Rattle.fwu_formats.proofs.SealLaws.{layout-holds, was_not_refused}
 use Rattle.base_core.proofs.Results.{same-Ok}
 
 -- ---- metadata that was read
@@ -88,18 +88,44 @@ deciding-whole L image r e =
 -- ---- a layout that was read is within its limits
 
 pub layout-fits : (block : List ℕ) (blocks : ℕ) (L : Layout) → layout_of block blocks ≡ Ok L → IsTrue (fits_layout L)
-unfolding layout_of
-layout-fits block blocks L e =
-    let images = num_at 4 block 12 in
-    let size = num_at 4 block 16 in
-    let a = was_not_refused (ltb (length block) 32) _ _ L e in
-    let b = was_not_refused (not (num_at 4 block 4 == layout_magic)) _ _ L a.1 in
-    let c = was_not_refused (not (leb 2 images && leb images 16 && (size == 32 + 24 * images))) _ _ L b.1 in
-    let d = was_not_refused (ltb (length block) size) _ _ L c.1 in
-    let f = was_not_refused (not (num_at 4 block 0 == crc (part block 4 size))) _ _ L d.1 in
-    let g = was_not_refused (not (fits_layout (layout_at block) && has_zeros block)) _ _ L f.1 in
-    let h = was_not_refused (ltb blocks (blocks_needed (layout_at block))) _ _ L g.1 in
-    subst (λ (x : Layout). IsTrue (fits_layout x)) (same-Ok {F = LayoutFault} (layout_at block) L h.1) (and_parts (fits_layout (layout_at block)) _ (not-false _ g.0)).0
+layout-fits block blocks L e = let r = layout-holds block blocks L e in subst (λ (x : Layout). IsTrue (fits_layout x)) r.is r.fits
+
+-- ---- manifests that are read
+
+-- what holds of bytes and a manifest that was read from them
+pub record ManifestHolds (images : List ImageRow) (bytes : List ℕ) (m : Manifest) : Type 0 where
+  pub long : manifest_size (length images - 1) ≤ length bytes
+  pub magic : num_at 4 bytes 0 ≡ manifest_magic
+  pub form : IsTrue (has_form bytes)
+  pub version : is_version_too_high bytes ≡ false
+  pub count : num_at 4 bytes 12 ≡ length images - 1
+  pub sizes : IsTrue (all_paired (λ i r. leb r.size (4096 * i.slots)) (drop 1 images) (manifest_at (take (manifest_size (length images - 1)) bytes)).rows)
+  pub digest : IsTrue (same_bytes (drop (16 + 56 * (length images - 1)) (take (manifest_size (length images - 1)) bytes)) (sha256 (take (16 + 56 * (length images - 1)) bytes)))
+  pub is : manifest_at (take (manifest_size (length images - 1)) bytes) ≡ m
+
+pub manifest-holds : (images : List ImageRow) (bytes : List ℕ) (m : Manifest) → manifest_of images bytes ≡ Ok m → ManifestHolds images bytes m
+unfolding manifest_of
+manifest-holds images bytes m e =
+    let count = length images - 1 in
+    let B = take (manifest_size count) bytes in
+    let a = was_not_refused (ltb (length bytes) (manifest_size count)) _ _ m e in
+    let b = was_not_refused (not (num_at 4 bytes 0 == manifest_magic)) _ _ m a.1 in
+    let c = was_not_refused (not (has_form bytes)) _ _ m b.1 in
+    let d = was_not_refused (is_version_too_high bytes) _ _ m c.1 in
+    let f = was_not_refused (not (num_at 4 bytes 12 == count)) _ _ m d.1 in
+    let g = was_not_refused (not (all_paired (λ i r. same_bytes i.guid r.guid) (drop 1 images) (manifest_at B).rows)) _ _ m f.1 in
+    let h = was_not_refused (not (all_paired (λ i r. leb r.size (4096 * i.slots)) (drop 1 images) (manifest_at B).rows)) _ _ m g.1 in
+    let k = was_not_refused (not (same_bytes (drop (16 + 56 * count) B) (sha256 (take (16 + 56 * count) bytes)))) _ _ m h.1 in
+    record {
+      long = ltb-false (length bytes) (manifest_size count) a.0;
+      magic = eqb-true _ manifest_magic (not-false _ b.0);
+      form = not-false _ c.0;
+      version = d.0;
+      count = eqb-true _ count (not-false _ f.0);
+      sizes = not-false _ h.0;
+      digest = not-false _ k.0;
+      is = same-Ok {F = ManifestFault} (manifest_at B) m k.1;
+    }
 
 -- ---- packages that are read
 

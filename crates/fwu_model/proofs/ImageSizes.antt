@@ -1,23 +1,21 @@
 -- Each image of a complete package is within its slot.
-use Rattle.std.proofs.Common.{◌≡◌, ℕ, zero, suc, ◌-◌, ◌*◌, ◌<◌, ◌≤◌, not, ◌&&◌, ◌==◌, List, [], ◌∷◌, length, take, drop, get_or, Result, Ok, Err, refl, sym, ap, subst, ◌∙◌, arith, IsTrue, ltb, leb, leb-true, eqb-true}
+use Rattle.std.proofs.Common.{◌≡◌, ℕ, zero, suc, ◌-◌, ◌*◌, ◌<◌, ◌≤◌, ◌&&◌, ◌==◌, List, [], ◌∷◌, length, take, drop, get_or, refl, sym, ap, subst, ◌∙◌, arith, IsTrue, leb, leb-true, eqb-true}
 use Rattle.std.specs.Prelude.{is_ok}
 use Rattle.std.specs.List.{list_all}
-use Rattle.std.proofs.lemmas.Bool.{and_parts, not-false}
+use Rattle.std.proofs.lemmas.Bool.{and_parts}
 use Rattle.std.proofs.lemmas.List.{length-drop}
 use Rattle.std.proofs.lemmas.List.FromFn.{length-map-range_with_len}
 use Rattle.std.proofs.Math.Seq.{take-length}
-use Rattle.base_core.specs.Bytes.{num_at, same_bytes}
+use Rattle.base_core.specs.Bytes.{num_at}
 use Rattle.fwu_formats.specs.Layout.{ImageRow, Layout, slot_bytes, is_row, fits_layout}
-use Rattle.fwu_formats.specs.Manifest.{Manifest, Row, is_complete, manifest_of, manifest_at, manifest_part, manifest_size, manifest_magic, row_at, has_form, is_version_too_high, is_image_of, all_paired}
-use Rattle.fwu_formats.proofs.SealLaws.{was_not_refused, limits}
+use Rattle.fwu_formats.specs.Manifest.{Row, is_complete, manifest_of, manifest_at, manifest_part, manifest_size, row_at, is_image_of, all_paired}
+use Rattle.base_core.proofs.Results.{ok-is}
+use Rattle.fwu_formats.proofs.Read.{manifest-holds}
+use Rattle.fwu_formats.proofs.SealLaws.{limits}
 use Rattle.fwu_formats.proofs.Written.{rows-fit}
 
 abbrev no_row : ImageRow
 no_row = record { guid = []; slots = 0 }
-
-ok-is : {X F : Type 0} (r : Result X F) → IsTrue (is_ok r) → (x : X) × (r ≡ Ok x)
-ok-is (Ok x) h = (x, refl)
-ok-is (Err e) h = absurd cc
 
 sized-at : (rows : List Row) (images : List (List ℕ)) (d : Row) (j : ℕ) → IsTrue (all_paired is_image_of rows images) → j < length rows
     → j < length images → length (get_or images j []) ≡ (get_or rows j d).size
@@ -43,23 +41,6 @@ rest-at : {X : Type 0} (l : List X) (d : X) (j : ℕ) → get_or (drop 1 l) j d 
 rest-at [] d j = refl
 rest-at (x ∷ l) d j = refl
 
--- what a manifest that was read says of the sizes of the other images
-sizes-say : (rows : List ImageRow) (xs : List ℕ) (m : Manifest) → manifest_of rows xs ≡ Ok m → (num_at 4 xs 12 ≡ length rows - 1)
-    × IsTrue (all_paired (λ i r. leb r.size (4096 * i.slots)) (drop 1 rows) (manifest_at (take (manifest_size (length rows - 1)) xs)).rows)
-unfolding manifest_of
-sizes-say rows xs m e =
-    let count = length rows - 1 in
-    let others = drop 1 rows in
-    let read = manifest_at (take (manifest_size count) xs) in
-    let a = was_not_refused (ltb (length xs) (manifest_size count)) _ _ m e in
-    let b = was_not_refused (not (num_at 4 xs 0 == manifest_magic)) _ _ m a.1 in
-    let c = was_not_refused (not (has_form xs)) _ _ m b.1 in
-    let d = was_not_refused (is_version_too_high xs) _ _ m c.1 in
-    let f = was_not_refused (not (num_at 4 xs 12 == count)) _ _ m d.1 in
-    let g = was_not_refused (not (all_paired (λ (i : ImageRow) (r : Row). same_bytes i.guid r.guid) others read.rows)) _ _ m f.1 in
-    let h = was_not_refused (not (all_paired (λ (i : ImageRow) (r : Row). leb r.size (4096 * i.slots)) others read.rows)) _ _ m g.1 in
-    (eqb-true _ _ (not-false _ f.0), not-false _ h.0)
-
 abbrev no_said : Row
 no_said = record { guid = []; size = 0; version = 0; digest = [] }
 
@@ -81,10 +62,10 @@ module _ (L : Layout) (p : List (List ℕ)) (fits : IsTrue (fits_layout L)) (com
   says =
       let bytes = manifest_part p in
       let found = ok-is (manifest_of L.rows bytes) parts.1 in
-      let it = sizes-say L.rows bytes found.0 found.1 in
+      let it = manifest-holds L.rows bytes found.0 found.1 in
       let whole : take (manifest_size (length L.rows - 1)) bytes ≡ bytes = ap (λ (n : ℕ). take n bytes) (sym parts.2) ∙ take-length bytes in (
-        length-map-range_with_len (row_at bytes) 0 (num_at 4 bytes 12) ∙ it.0,
-        subst (λ (xs : List ℕ). IsTrue (all_paired (λ i r. leb r.size (4096 * i.slots)) (drop 1 L.rows) (manifest_at xs).rows)) whole it.1,
+        length-map-range_with_len (row_at bytes) 0 (num_at 4 bytes 12) ∙ it.count,
+        subst (λ (xs : List ℕ). IsTrue (all_paired (λ i r. leb r.size (4096 * i.slots)) (drop 1 L.rows) (manifest_at xs).rows)) whole it.sizes,
       )
 
   -- each image of a complete package is within its slot

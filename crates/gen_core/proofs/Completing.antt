@@ -1,18 +1,17 @@
 -- The images of a package that is made from a number are complete, and it installs them.
-use Rattle.std.proofs.Common.{◌≡◌, ℕ, suc, ◌+◌, ◌-◌, ◌*◌, ◌<◌, ◌≤◌, not, ◌&&◌, ◌==◌, List, [], ◌∷◌, length, get_or, take, drop, map, None, Ok, is_ok, refl, sym, ap, subst, ◌∙◌, arith, IsTrue, leb, ltb, eq-eqb, append-nil}
+use Rattle.std.proofs.Common.{◌≡◌, ℕ, suc, ◌-◌, ◌*◌, ◌<◌, ◌≤◌, ◌&&◌, ◌==◌, List, [], ◌∷◌, length, get_or, take, drop, map, None, Ok, is_ok, refl, sym, ap, subst, ◌∙◌, arith, IsTrue, leb, ltb, eq-eqb, append-nil}
 use Rattle.std.proofs.lemmas.Bool.{and_from, and_parts, le-leb, lt-ltb}
 use Rattle.std.proofs.lemmas.List.{length-map}
 use Rattle.std.proofs.Math.Seq.{take-length}
 use Rattle.std.specs.List.{list_all}
 use Rattle.sha2.specs.Sha256.{sha256}
 use Rattle.sha2.proofs.Facts256.{length-sha256}
-use Rattle.base_core.specs.Bytes.{num_at, same_bytes}
+use Rattle.base_core.specs.Bytes.{same_bytes}
 use Rattle.fwu_formats.specs.Layout.{ImageRow, is_row}
-use Rattle.fwu_formats.specs.Manifest.{FitsImages, Manifest, Row, all_paired, has_form, is_complete, is_image_of, is_manifest_row, is_version_too_high, manifest_at, manifest_bytes, manifest_magic, manifest_of, manifest_size, version}
+use Rattle.fwu_formats.specs.Manifest.{FitsImages, Manifest, all_paired, is_complete, is_image_of, is_manifest_row, manifest_at, manifest_bytes, manifest_of, manifest_size, version}
 use Rattle.fwu_formats.specs.Package.{Part, packed}
-use Rattle.fwu_formats.specs.declared.kinds.ManifestFault.{ManifestFault}
 use Rattle.fwu_formats.proofs.ManifestWritten.{written-is-read}
-use Rattle.fwu_formats.proofs.SealLaws.{was_not_refused}
+use Rattle.fwu_formats.proofs.Read.{manifest-holds}
 use Rattle.fwu_formats.proofs.Tables.{tables-are-read}
 use Rattle.fip_tables.specs.Packing.{pack_fault}
 use Rattle.fip_tables.proofs.Again.{passed-is-read}
@@ -22,7 +21,6 @@ use Rattle.gen_core.proofs.Making.{AreImages, FitSizes, guids_of, images-are, ro
 use Rattle.gen_core.proofs.Packing.{FitRows, fit-guids, fit-length, generated-fit, have-fields, manifest-length, parts-pass}
 use Rattle.gen_core.proofs.Installing.{entries-fit, images-found, none-missing, none-skipped}
 use Rattle.base_core.proofs.Spelled.{same_refl}
-use Rattle.base_core.proofs.Results.{same-Ok}
 
 -- ---- the manifest says what the images are
 
@@ -73,25 +71,6 @@ images-are-said number (p ∷ ps) =
 
 -- ---- the manifest is read again
 
--- what a manifest that was read says
-says : (rows : List ImageRow) (bytes : List ℕ) (m : Manifest) → manifest_of rows bytes ≡ Ok m → length bytes ≡ manifest_size (length rows - 1)
-    → manifest_at bytes ≡ m
-unfolding manifest_of
-says rows bytes m e len =
-    let count = length rows - 1 in
-    let others = drop 1 rows in
-    let read = manifest_at (take (manifest_size count) bytes) in
-    let a = was_not_refused (ltb (length bytes) (manifest_size count)) _ _ m e in
-    let b = was_not_refused (not (num_at 4 bytes 0 == manifest_magic)) _ _ m a.1 in
-    let c = was_not_refused (not (has_form bytes)) _ _ m b.1 in
-    let d = was_not_refused (is_version_too_high bytes) _ _ m c.1 in
-    let f = was_not_refused (not (num_at 4 bytes 12 == count)) _ _ m d.1 in
-    let g = was_not_refused (not (all_paired (λ (i : ImageRow) (r : Row). same_bytes i.guid r.guid) others read.rows)) _ _ m f.1 in
-    let h = was_not_refused (not (all_paired (λ (i : ImageRow) (r : Row). leb r.size (4096 * i.slots)) others read.rows)) _ _ m g.1 in
-    let i = was_not_refused (not (same_bytes (drop (16 + 56 * count) (take (manifest_size count) bytes))
-    (sha256 (take (16 + 56 * count) bytes)))) _ _ m h.1 in
-    ap manifest_at (sym (ap (λ (n : ℕ). take n bytes) (sym len) ∙ take-length bytes)) ∙ same-Ok {F = ManifestFault} read m i.1
-
 module _ (r : ImageRow) (rows : List ImageRow) (sizes : List ℕ) (number security : ℕ) (images : AreImages (r ∷ rows)) (fit : FitSizes (r ∷ rows) sizes)
     (low : number < 4294967296) (least : security ≤ 223) where
   abbrev ps : List Part
@@ -129,7 +108,7 @@ module _ (r : ImageRow) (rows : List ImageRow) (sizes : List ℕ) (number securi
   bytes-length = omega (arith, manifest-length number security rows ps each fits, counted)
 
   at : manifest_at bytes ≡ m
-  at = says (r ∷ rows) bytes m read bytes-length
+  at = ap manifest_at (sym (ap (λ (n : ℕ). take n bytes) (sym bytes-length) ∙ take-length bytes)) ∙ (manifest-holds (r ∷ rows) bytes m read).is
 
   pub are-complete : IsTrue (is_complete (r ∷ rows) (generated_images (r ∷ rows) sizes number security))
   unfolding is_complete

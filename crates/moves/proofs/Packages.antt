@@ -1,17 +1,15 @@
 -- A bank whose slots begin with the images of a complete package holds the package.
-use Rattle.std.proofs.Common.{◌≡◌, cond, ℕ, zero, suc, ◌+◌, ◌-◌, ◌*◌, ◌<◌, ◌≤◌, Bool, not, ◌&&◌, ◌==◌, List, [], ◌∷◌, length, get_or, take, drop, Some, None, Ok, refl, sym, ap, ◌∙◌, arith, IsTrue, ext_get_or, eqb-true, leb, ltb, length-take, length-drop, get_or-drop}
-use Rattle.std.proofs.lemmas.Bool.{and_parts, not-false, le-ltb}
+use Rattle.std.proofs.Common.{◌≡◌, cond, ℕ, zero, suc, ◌+◌, ◌-◌, ◌*◌, ◌<◌, ◌≤◌, Bool, ◌&&◌, ◌==◌, List, [], ◌∷◌, length, get_or, take, drop, Some, None, Ok, refl, sym, ap, ◌∙◌, arith, IsTrue, ext_get_or, eqb-true, ltb, length-take, length-drop, get_or-drop}
+use Rattle.std.proofs.lemmas.Bool.{and_parts, le-ltb}
 use Rattle.std.proofs.lemmas.List.{take-take, drop-take}
 use Rattle.std.proofs.lemmas.List.FromFn.{length-map-range_with_len, get_or-map-range_with_len}
 use Rattle.std.specs.Prelude.{is_ok}
-use Rattle.base_core.specs.Bytes.{num, num_at, listed, same_bytes}
-use Rattle.sha2.specs.Sha256.{sha256}
-use Rattle.fwu_formats.specs.declared.kinds.ManifestFault.{ManifestFault}
+use Rattle.base_core.specs.Bytes.{num, num_at, listed}
 use Rattle.fwu_formats.specs.Layout.{ImageRow, Layout}
-use Rattle.fwu_formats.specs.Manifest.{Row, Manifest, manifest_of, manifest_at, manifest_size, manifest_magic, manifest_part, has_form, is_version_too_high, all_paired, is_image_of, is_complete}
+use Rattle.fwu_formats.specs.Manifest.{Row, Manifest, manifest_of, manifest_at, manifest_size, manifest_part, all_paired, is_image_of, is_complete}
 use Rattle.fwu_formats.specs.Image.{slot, images_in, if_complete, package_by, package_in}
-use Rattle.fwu_formats.proofs.SealLaws.{was_not_refused}
-use Rattle.base_core.proofs.Results.{ok-is, same-Ok}
+use Rattle.fwu_formats.proofs.Read.{manifest-holds}
+use Rattle.base_core.proofs.Results.{ok-is}
 
 -- ---- a manifest is read from its own bytes alone
 
@@ -32,23 +30,6 @@ manifest-front rows xs n is le =
   where
     long : (a b c : ℕ) → c ≤ a → c ≤ b → ltb a c ≡ ltb b c
     long a b c p q = le-ltb a c p ∙ sym (le-ltb b c q)
-
--- what a manifest that was read says
-manifest-says : (rows : List ImageRow) (xs : List ℕ) (m : Manifest) → manifest_of rows xs ≡ Ok m → (num_at 4 xs 12 ≡ length rows - 1) × (m ≡ manifest_at (take (manifest_size (length rows - 1)) xs))
-unfolding manifest_of
-manifest-says rows xs m e =
-    let count = length rows - 1 in
-    let others = drop 1 rows in
-    let read = manifest_at (take (manifest_size count) xs) in
-    let a = was_not_refused (ltb (length xs) (manifest_size count)) _ _ m e in
-    let b = was_not_refused (not (num_at 4 xs 0 == manifest_magic)) _ _ m a.1 in
-    let c = was_not_refused (not (has_form xs)) _ _ m b.1 in
-    let d = was_not_refused (is_version_too_high xs) _ _ m c.1 in
-    let f = was_not_refused (not (num_at 4 xs 12 == count)) _ _ m d.1 in
-    let g = was_not_refused (not (all_paired (λ (i : ImageRow) (r : Row). same_bytes i.guid r.guid) others read.rows)) _ _ m f.1 in
-    let h = was_not_refused (not (all_paired (λ (i : ImageRow) (r : Row). leb r.size (4096 * i.slots)) others read.rows)) _ _ m g.1 in
-    let i = was_not_refused (not (same_bytes (drop (16 + 56 * count) (take (manifest_size count) xs)) (sha256 (take (16 + 56 * count) xs)))) _ _ m h.1 in
-    (eqb-true _ _ (not-false _ f.0), sym (same-Ok {F = ManifestFault} read m i.1))
 
 paired-at : (rows : List Row) (images : List (List ℕ)) (d : Row) (j : ℕ) → IsTrue (all_paired is_image_of rows images) → j < length rows → j < length images → length (get_or images j []) ≡ (get_or rows j d).size
 paired-at [] images d j all lt other = absurd (omega (arith, lt))
@@ -87,13 +68,13 @@ module _ (L : Layout) (image : List ℕ) (b : ℕ) (p : List (List ℕ)) (images
   reads =
       let found = ok-is (manifest_of L.rows bytes) parts.1 in
       let at_first : manifest_of L.rows first ≡ Ok found.0 = sym (manifest-front L.rows first (length bytes) parts.2 long) ∙ ap (manifest_of L.rows) begins ∙ found.1 in
-      let says = manifest-says L.rows first found.0 at_first in
-      at_first ∙ ap Ok (says.1 ∙ ap (λ (n : ℕ). manifest_at (take n first)) (sym parts.2) ∙ ap manifest_at begins)
+      let says = manifest-holds L.rows first found.0 at_first in
+      at_first ∙ ap Ok (sym says.is ∙ ap (λ (n : ℕ). manifest_at (take n first)) (sym parts.2) ∙ ap manifest_at begins)
 
   rows-count : length said.rows ≡ length L.rows - 1
   rows-count =
-      let says = manifest-says L.rows first said reads in
-      length-map-range_with_len _ 0 (num_at 4 bytes 12) ∙ ap (λ (l : List ℕ). num_at 4 l 12) (sym begins) ∙ num-front first (length bytes) 12 (omega (arith, parts.2)) ∙ says.0
+      let says = manifest-holds L.rows first said reads in
+      length-map-range_with_len _ 0 (num_at 4 bytes 12) ∙ ap (λ (l : List ℕ). num_at 4 l 12) (sym begins) ∙ num-front first (length bytes) 12 (omega (arith, parts.2)) ∙ says.count
 
   abbrev no_row : Row
   no_row = record { guid = []; size = 0; version = 0; digest = [] }

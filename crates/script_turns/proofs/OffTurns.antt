@@ -84,24 +84,11 @@ module _ (passes : List ℕ → Bool) (tells : Bool) (files : Option Directory) 
 
   leaves-off : (c : Call) → IsTrue (needs_bank c) → LeavesOff c
   unfolding answer
-  leaves-off call.Discover asks = record { made = refl; cut = tt; replies = (refl, refl); takes = same-device; touches = refl; no_boot = refl; numbers = refl; answers = λ E s. refl }
-  leaves-off (call.Begin n) asks = record { made = refl; cut = tt; replies = (refl, refl); takes = same-device; touches = refl; no_boot = refl; numbers = refl; answers = λ E s. refl }
-  leaves-off (call.BeginPartial types) asks = record { made = refl; cut = tt; replies = (refl, refl); takes = same-device; touches = refl; no_boot = refl; numbers = refl; answers = λ E s. refl }
-  leaves-off (call.OpenRead guid) asks = record { made = refl; cut = tt; replies = (refl, refl); takes = same-device; touches = refl; no_boot = refl; numbers = refl; answers = λ E s. refl }
-  leaves-off (call.OpenWrite guid) asks = record { made = refl; cut = tt; replies = (refl, refl); takes = same-device; touches = refl; no_boot = refl; numbers = refl; answers = λ E s. refl }
-  leaves-off (call.Write handle bytes) asks = record { made = refl; cut = tt; replies = (refl, refl); takes = same-device; touches = refl; no_boot = refl; numbers = refl; answers = λ E s. refl }
-  leaves-off (call.Read handle room) asks = record { made = refl; cut = tt; replies = (refl, refl); takes = same-device; touches = refl; no_boot = refl; numbers = refl; answers = λ E s. refl }
-  leaves-off (call.Commit handle request) asks = record { made = refl; cut = tt; replies = (refl, refl); takes = same-device; touches = refl; no_boot = refl; numbers = refl; answers = λ E s. refl }
-  leaves-off call.End asks = record { made = refl; cut = tt; replies = (refl, refl); takes = same-device; touches = refl; no_boot = refl; numbers = refl; answers = λ E s. refl }
-  leaves-off call.Cancel asks = record { made = refl; cut = tt; replies = (refl, refl); takes = same-device; touches = refl; no_boot = refl; numbers = refl; answers = λ E s. refl }
-  leaves-off (call.Accepts guid) asks = record { made = refl; cut = tt; replies = (refl, refl); takes = same-device; touches = refl; no_boot = refl; numbers = refl; answers = λ E s. refl }
-  leaves-off call.Previous asks = record { made = refl; cut = tt; replies = (refl, refl); takes = same-device; touches = refl; no_boot = refl; numbers = refl; answers = λ E s. refl }
-  leaves-off (call.Send name request) asks = record { made = refl; cut = tt; replies = (refl, refl); takes = same-device; touches = refl; no_boot = refl; numbers = refl; answers = λ E s. refl }
-  leaves-off (call.SendPartial name request) asks = record { made = refl; cut = tt; replies = (refl, refl); takes = same-device; touches = refl; no_boot = refl; numbers = refl; answers = λ E s. refl }
   leaves-off call.Boot asks = absurd cc
   leaves-off (call.Cut n k) asks = absurd cc
   leaves-off call.Show asks = absurd cc
   leaves-off call.NoCall asks = absurd cc
+  leaves-off q asks = record { made = refl; cut = tt; replies = (refl, refl); takes = same-device; touches = refl; no_boot = refl; numbers = refl; answers = λ E s. refl }
 
   pub off-turn : (c : Call) → IsTrue (needs_bank c) → Turns passes tells files c (quiet_turn c reply.IsOff) here here was was
   off-turn c asks = stays-off c (leaves-off c asks)

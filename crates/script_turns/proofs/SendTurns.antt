@@ -204,25 +204,17 @@ GoesBy partly (Err Gone) a E old new s x = ⊥
 goes-whole : (result : Result Sent SendStop) (E : Setting) (toc : Toc) (p : List (List ℕ)) (request : ℕ) (old new : agent.Moment) (s : State) (x : Session) → SendEndsBy result E toc p request old new s x
     → GoesBy false result (send_answer E toc p request s x) E old new s x
 goes-whole (Ok sent) E toc p request old new s x h = h
-goes-whole (Err (MissingImage guid)) E toc p request old new s x h = h
-goes-whole (Err (ImageTooLarge guid)) E toc p request old new s x h = h
-goes-whole (Err (Begin st)) E toc p request old new s x h = h
-goes-whole (Err (End st)) E toc p request old new s x h = h
 goes-whole (Err ReadFailed) E toc p request old new s x h = h.1
 goes-whole (Err Lost) E toc p request old new s x h = h.1
 goes-whole (Err Fault) E toc p request old new s x h = h.1
-goes-whole (Err Gone) E toc p request old new s x h = h
+goes-whole (Err q) E toc p request old new s x h = h
 
 goes-over : (result : Result Sent SendStop) (a : Answer) (E : Setting) (old new : agent.Moment) (s : State) (x : Session) → GoesAs result a E old new s x → GoesBy true result a E old new s x
 goes-over (Ok sent) a E old new s x h = h
-goes-over (Err (MissingImage guid)) a E old new s x h = h
-goes-over (Err (ImageTooLarge guid)) a E old new s x h = h
-goes-over (Err (Begin st)) a E old new s x h = h
-goes-over (Err (End st)) a E old new s x h = h
 goes-over (Err ReadFailed) a E old new s x h = h.1
 goes-over (Err Lost) a E old new s x h = h.1
 goes-over (Err Fault) a E old new s x h = h.1
-goes-over (Err Gone) a E old new s x h = h
+goes-over (Err q) a E old new s x h = h
 
 -- What either kind says of an agent that isn't gone: each machine that the agent shows goes by an answer, which is the machine's own
 -- where the device and the files are told.
@@ -273,38 +265,29 @@ module _ (files : Option Directory) (name : List ℕ) (request : ℕ) (passes : 
 -- no sending changes which blocks are guarded, nor the layout
 stays-by : (partly : Bool) (result : Result Sent SendStop) (a : Answer) (E : Setting) (old new : agent.Moment) (s : State) (x : Session) → GoesBy partly result a E old new s x → Stays old new
 stays-by partly (Ok sent) a E old new s x h = h.1.stays
-stays-by partly (Err (MissingImage guid)) a E old new s x h = h.1.stays
-stays-by partly (Err (ImageTooLarge guid)) a E old new s x h = h.1.stays
-stays-by partly (Err (Begin st)) a E old new s x h = h.1.stays
-stays-by partly (Err (End st)) a E old new s x h = h.1.stays
 stays-by partly (Err ReadFailed) a E old new s x h = h.stays
 stays-by partly (Err Lost) a E old new s x h = h.stays
 stays-by partly (Err Fault) a E old new s x h = h.stays
 stays-by partly (Err Gone) a E old new s x h = absurd h
+stays-by partly (Err q) a E old new s x h = h.1.stays
 
 guarded-by : (partly : Bool) (result : Result Sent SendStop) (a : Answer) (E : Setting) (old new : agent.Moment) (s : State) (x : Session) → GoesBy partly result a E old new s x
     → IsTrue old.tells → IsAtRest old.told → GuardedBy (flash_of result) new.told
 guarded-by partly (Ok sent) a E old new s x h = h.1.guarded
-guarded-by partly (Err (MissingImage guid)) a E old new s x h = h.1.guarded
-guarded-by partly (Err (ImageTooLarge guid)) a E old new s x h = h.1.guarded
-guarded-by partly (Err (Begin st)) a E old new s x h = h.1.guarded
-guarded-by partly (Err (End st)) a E old new s x h = h.1.guarded
 guarded-by partly (Err ReadFailed) a E old new s x h = h.guarded
 guarded-by partly (Err Lost) a E old new s x h = h.guarded
 guarded-by partly (Err Fault) a E old new s x h = h.guarded
 guarded-by partly (Err Gone) a E old new s x h = absurd h
+guarded-by partly (Err q) a E old new s x h = h.1.guarded
 
 keeps-by : (partly : Bool) (result : Result Sent SendStop) (a : Answer) (E : Setting) (old new : agent.Moment) (s : State) (x : Session) → GoesBy partly result a E old new s x
     → IsTrue old.tells → KeepsSparedByAll old.fields old.told new.told
 keeps-by partly (Ok sent) a E old new s x h = h.1.keeps
-keeps-by partly (Err (MissingImage guid)) a E old new s x h = h.1.keeps
-keeps-by partly (Err (ImageTooLarge guid)) a E old new s x h = h.1.keeps
-keeps-by partly (Err (Begin st)) a E old new s x h = h.1.keeps
-keeps-by partly (Err (End st)) a E old new s x h = h.1.keeps
 keeps-by partly (Err ReadFailed) a E old new s x h = h.keeps
 keeps-by partly (Err Lost) a E old new s x h = h.keeps
 keeps-by partly (Err Fault) a E old new s x h = h.keeps
 keeps-by partly (Err Gone) a E old new s x h = absurd h
+keeps-by partly (Err q) a E old new s x h = h.1.keeps
 
 -- a sending is a composed call
 always-composed : (partly : Bool) (name : List ℕ) (request : ℕ) → IsFalse (is_composed (send_call partly name request)) → ⊥
@@ -553,72 +536,36 @@ module _ (partly : Bool) (passes : List ℕ → Bool) (tells : Bool) (files : Op
 
   lost-sent : (result : Result Sent SendStop) → sent_reply partly result ≡ reply.Lost → IsErrOf (flash_of result) flash_stop.Lost
   lost-sent (Ok sent) e = absurd (let calm = done-calm partly sent in let stop = ap is_stop e in false≢true (sym calm ∙ stop))
-  lost-sent (Err (MissingImage guid)) e = absurd cc
-  lost-sent (Err (ImageTooLarge guid)) e = absurd cc
-  lost-sent (Err (Begin st)) e = absurd cc
-  lost-sent (Err (End st)) e = absurd cc
-  lost-sent (Err ReadFailed) e = absurd cc
   lost-sent (Err Lost) e = refl
-  lost-sent (Err Fault) e = absurd cc
-  lost-sent (Err Gone) e = absurd cc
+  lost-sent (Err s) e = absurd cc
 
   failed-sent : (result : Result Sent SendStop) → sent_reply partly result ≡ reply.Fault → IsErrOf (flash_of result) flash_stop.Failed
   failed-sent (Ok sent) e = absurd (let calm = done-calm partly sent in let stop = ap is_stop e in false≢true (sym calm ∙ stop))
-  failed-sent (Err (MissingImage guid)) e = absurd cc
-  failed-sent (Err (ImageTooLarge guid)) e = absurd cc
-  failed-sent (Err (Begin st)) e = absurd cc
-  failed-sent (Err (End st)) e = absurd cc
-  failed-sent (Err ReadFailed) e = absurd cc
-  failed-sent (Err Lost) e = absurd cc
   failed-sent (Err Fault) e = refl
-  failed-sent (Err Gone) e = absurd cc
+  failed-sent (Err s) e = absurd cc
 
   unread-sent : (result : Result Sent SendStop) → sent_reply partly result ≡ reply.ReadFault → result ≡ Err ReadFailed
   unread-sent (Ok sent) e = absurd (let calm = done-calm partly sent in let stop = ap is_stop e in false≢true (sym calm ∙ stop))
-  unread-sent (Err (MissingImage guid)) e = absurd cc
-  unread-sent (Err (ImageTooLarge guid)) e = absurd cc
-  unread-sent (Err (Begin st)) e = absurd cc
-  unread-sent (Err (End st)) e = absurd cc
   unread-sent (Err ReadFailed) e = refl
-  unread-sent (Err Lost) e = absurd cc
-  unread-sent (Err Fault) e = absurd cc
-  unread-sent (Err Gone) e = absurd cc
+  unread-sent (Err s) e = absurd cc
 
   -- a stop of the flash is told
   told-stops : (result : Result Sent SendStop) → stops_in (flash_of result) ≤ stops_in (stop_told (sent_reply partly result))
   told-stops (Ok sent) = let none = ap (λ (r : Result (Unit {0}) FlashStop). stops_in r) (done-told partly sent) in omega (arith, none)
   told-stops (Err (MissingImage guid)) = omega arith
-  told-stops (Err (ImageTooLarge guid)) = omega arith
-  told-stops (Err (Begin st)) = omega arith
-  told-stops (Err (End st)) = omega arith
-  told-stops (Err ReadFailed) = omega arith
-  told-stops (Err Lost) = omega arith
-  told-stops (Err Fault) = omega arith
-  told-stops (Err Gone) = omega arith
+  told-stops (Err s) = omega arith
 
   -- and a failure of the files
   told-unread : (result : Result Sent SendStop) → unread_in result ≤ unread_told (sent_reply partly result)
   told-unread (Ok sent) = omega (arith, done-read partly sent)
   told-unread (Err (MissingImage guid)) = omega arith
-  told-unread (Err (ImageTooLarge guid)) = omega arith
-  told-unread (Err (Begin st)) = omega arith
-  told-unread (Err (End st)) = omega arith
-  told-unread (Err ReadFailed) = omega arith
-  told-unread (Err Lost) = omega arith
-  told-unread (Err Fault) = omega arith
-  told-unread (Err Gone) = omega arith
+  told-unread (Err s) = omega arith
 
   -- whether the device has power
   powers : (result : Result Sent SendStop) → is_ok (flash_of result) ≡ power_after true (sent_reply partly result)
   powers (Ok sent) = done-power partly sent
   powers (Err (MissingImage guid)) = refl
-  powers (Err (ImageTooLarge guid)) = refl
-  powers (Err (Begin st)) = refl
-  powers (Err (End st)) = refl
-  powers (Err ReadFailed) = refl
-  powers (Err Lost) = refl
-  powers (Err Fault) = refl
-  powers (Err Gone) = refl
+  powers (Err s) = refl
 
   -- what was done to the device
   done-takes : (kind : Bool) (sent : Sent) (toc : Toc) (from to : TurnMoment) → IsTableOf files name (Ok toc) → TakesSent (writes_to_send kind f toc) from.armed to.armed
@@ -649,13 +596,7 @@ module _ (partly : Bool) (passes : List ℕ → Bool) (tells : Bool) (files : Op
       → StaysFree (sent_reply partly result) (at (Some f) t w cs armed true) (at (on_sent result g) u v ds arming power)
   sent-free (Ok sent) power free = subst (λ (told : Result (Unit {0}) FlashStop). StaysUnarmed told armed arming cs ds) (sym (done-told partly sent)) free
   sent-free (Err (MissingImage guid)) power free = free
-  sent-free (Err (ImageTooLarge guid)) power free = free
-  sent-free (Err (Begin st)) power free = free
-  sent-free (Err (End st)) power free = free
-  sent-free (Err ReadFailed) power free = free
-  sent-free (Err Lost) power free = free
-  sent-free (Err Fault) power free = free
-  sent-free (Err Gone) power free = free
+  sent-free (Err s) power free = free
 
   -- the turn of a sending that ended, on a device that has power
   pub sent-turn : (result : Result Sent SendStop) (power : Bool) → power ≡ is_ok (flash_of result) → (result ≡ Err Gone → ⊥) → (Lacks files name → ⊥)
@@ -716,13 +657,7 @@ moment-sent a there result is = ap (λ (h : Bool). moment_where h a) is ∙ ap (
     kept : (sent : Result Sent SendStop) (f : Fields) → on_where (is_answered sent) f ≡ on_sent sent f
     kept (Ok sent) f = refl
     kept (Err (MissingImage guid)) f = refl
-    kept (Err (ImageTooLarge guid)) f = refl
-    kept (Err (Begin st)) f = refl
-    kept (Err (End st)) f = refl
-    kept (Err ReadFailed) f = refl
-    kept (Err Lost) f = refl
-    kept (Err Fault) f = refl
-    kept (Err Gone) f = refl
+    kept (Err s) f = refl
 
 pub with-power : (m : TurnMoment) → IsTrue m.power → m ≡ at m.on m.told m.writes m.counts m.armed true
 with-power m power = ap (λ (on : Bool). at m.on m.told m.writes m.counts m.armed on) power

@@ -22,7 +22,8 @@ use Rattle.update_client.specs.declared.stops.SendStop.TheVariants.{End, Lost, F
 use Rattle.std.specs.List.{list_all}
 use Rattle.agent_machine.specs.Filling.{between}
 use Rattle.update_client.specs.Halts.{Halts, stopped_as}
-use Rattle.update_client.proofs.WrittenPiece.{call-halts, no-success}
+use Rattle.agent_calls.proofs.Copies.{no-success}
+use Rattle.update_client.proofs.WrittenPiece.{call-halts}
 use Rattle.update_client.specs.Finishes.{FinishesSend, FinishesBy, end_moves}
 use Rattle.update_client.proofs.Staging.{end-answer, end-answers, cancel-answers}
 

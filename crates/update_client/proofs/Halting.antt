@@ -8,7 +8,7 @@ use Rattle.agent_machine.specs.Moment.{Moment}
 use Rattle.agent_machine.specs.Goes.{GoesByMoves}
 use Rattle.agent_machine.proofs.Going.{goes-then}
 use Rattle.update_client.specs.declared.stops.SendStop.{SendStop}
-use Rattle.update_client.specs.declared.stops.SendStop.TheVariants.{MissingImage, ImageTooLarge, Begin, End, ReadFailed, Lost, Fault, Gone}
+use Rattle.update_client.specs.declared.stops.SendStop.TheVariants.{ReadFailed, Lost, Fault}
 use Rattle.update_client.specs.Halts.{Halts}
 
 -- what was done before a call that halts
@@ -23,20 +23,11 @@ halts-after (Err ReadFailed) E old mid new s boot x y first next = record {
 }
 halts-after (Err Lost) E old mid new s boot x y first next = goes-then E (Err flash_stop.Lost) old mid new s [] [] x y first next
 halts-after (Err Fault) E old mid new s boot x y first next = goes-then E (Err flash_stop.Failed) old mid new s [] [] x y first next
-halts-after (Err (MissingImage g)) E old mid new s boot x y first next = absurd next
-halts-after (Err (ImageTooLarge g)) E old mid new s boot x y first next = absurd next
-halts-after (Err (Begin st)) E old mid new s boot x y first next = absurd next
-halts-after (Err (End st)) E old mid new s boot x y first next = absurd next
-halts-after (Err Gone) E old mid new s boot x y first next = absurd next
+halts-after (Err q) E old mid new s boot x y first next = absurd next
 
 -- at a stop nothing is said of the session
 pub other-end : (T U : Type 0) (stop : SendStop) (E : Setting) (old new : Moment) (s : State) (boot : ℕ) (y z : Session)
     → Halts {T = T} (Err stop) E old new s boot y → Halts {T = U} (Err stop) E old new s boot z
-other-end T U ReadFailed E old new s boot y z h = h
 other-end T U Lost E old new s boot y z h = record { shows = tt; does = h.does; guarded = h.guarded; keeps = h.keeps; touches = h.touches; stays = h.stays }
 other-end T U Fault E old new s boot y z h = record { shows = tt; does = h.does; guarded = h.guarded; keeps = h.keeps; touches = h.touches; stays = h.stays }
-other-end T U (MissingImage g) E old new s boot y z h = h
-other-end T U (ImageTooLarge g) E old new s boot y z h = h
-other-end T U (Begin st) E old new s boot y z h = h
-other-end T U (End st) E old new s boot y z h = h
-other-end T U Gone E old new s boot y z h = h
+other-end T U q E old new s boot y z h = h

@@ -20,7 +20,7 @@ use Rattle.agent_machine.specs.Moment.{Moment, Shows}
 use Rattle.agent_machine.specs.Meets.{GoesBy, IsStopped}
 use Rattle.agent_machine.specs.Goes.{GoesByMoves}
 use Rattle.update_client.specs.declared.stops.SendStop.{SendStop}
-use Rattle.update_client.specs.declared.stops.SendStop.TheVariants.{MissingImage, ImageTooLarge, Begin, End, ReadFailed, Lost, Fault, Gone}
+use Rattle.update_client.specs.declared.stops.SendStop.TheVariants.{End, ReadFailed, Lost, Fault, Gone}
 use Rattle.agent_machine.specs.Filling.{between}
 use Rattle.update_client.specs.Halts.{Halts, is_unread}
 use Rattle.update_client.specs.Images.{SendsImages, sent_parts}
@@ -28,7 +28,7 @@ use Rattle.update_client.specs.Finishes.{FinishesSend, FinishesBy, InstallsImage
 use Rattle.agent_machine.proofs.Going.{goes-then, goes-stopped}
 use Rattle.agent_machine.proofs.CallGoing.{MeetsAs, call-goes, call-replies}
 use Rattle.update_client.proofs.Staging.{cancel-answers}
-use Rattle.update_client.proofs.WrittenPiece.{no-success}
+use Rattle.agent_calls.proofs.Copies.{no-success}
 
 -- ---- what told files have
 
@@ -88,10 +88,7 @@ finishes-after (Err Lost) E old mid new s boot x p bits first next = goes-then E
     (On boot None no_handles) first next
 finishes-after (Err Fault) E old mid new s boot x p bits first next = goes-then E (Err flash_stop.Failed) old mid new s [] (end_moves E s p bits) x
     (On boot None no_handles) first next
-finishes-after (Err (MissingImage g)) E old mid new s boot x p bits first next = absurd next
-finishes-after (Err (ImageTooLarge g)) E old mid new s boot x p bits first next = absurd next
-finishes-after (Err (Begin st)) E old mid new s boot x p bits first next = absurd next
-finishes-after (Err Gone) E old mid new s boot x p bits first next = absurd next
+finishes-after (Err q) E old mid new s boot x p bits first next = absurd next
 
 -- at a stop of the flash nothing is said of the session, and what was to follow may be named
 pub stopped-at : (e : FlashStop) (E : Setting) (old new : Moment) (s : State) (ms ns : List Move) (y z : Session)
@@ -184,18 +181,8 @@ interrupted told name entries request passes old new halt other sent = record {
     by-stop Lost E s boot other p bits y h = stopped-at flash_stop.Lost E old new s [] (end_moves E s p bits) y (On boot None no_handles) h
     by-stop Fault E s boot other p bits y h = stopped-at flash_stop.Failed E old new s [] (end_moves E s p bits) y (On boot None no_handles) h
     by-stop ReadFailed E s boot other p bits y h = absurd cc
-    by-stop (MissingImage g) E s boot other p bits y h = absurd h
-    by-stop (ImageTooLarge g) E s boot other p bits y h = absurd h
-    by-stop (Begin st) E s boot other p bits y h = absurd h
-    by-stop (End st) E s boot other p bits y h = absurd h
-    by-stop Gone E s boot other p bits y h = absurd h
+    by-stop q E s boot other p bits y h = absurd h
 
 pub unread-is : (halt : SendStop) → is_unread halt ≡ true → halt ≡ ReadFailed
 unread-is ReadFailed is = refl
-unread-is (MissingImage g) is = absurd cc
-unread-is (ImageTooLarge g) is = absurd cc
-unread-is (Begin st) is = absurd cc
-unread-is (End st) is = absurd cc
-unread-is Lost is = absurd cc
-unread-is Fault is = absurd cc
-unread-is Gone is = absurd cc
+unread-is s is = absurd cc

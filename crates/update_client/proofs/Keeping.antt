@@ -12,7 +12,7 @@ use Rattle.agent_machine.proofs.Spending.{call-spent, none-spent, spent-then}
 use Rattle.agent_calls.specs.declared.agent.Agent.{Agent}
 use Rattle.agent_calls.specs.Shown.{AgentGoes, SpentBy, device, gone, moment}
 use Rattle.update_client.specs.declared.stops.SendStop.{SendStop}
-use Rattle.update_client.specs.declared.stops.SendStop.TheVariants.{MissingImage, ImageTooLarge, Begin, End, ReadFailed, Lost, Fault, Gone}
+use Rattle.update_client.specs.declared.stops.SendStop.TheVariants.{MissingImage, End, ReadFailed, Lost, Fault, Gone}
 use Rattle.update_client.specs.Halts.{StopsEnd, StopsWithin, flash_of, stopped_as}
 use Rattle.update_client.specs.Pieces.{KeepsBeside, ReadsPieceBy, SparesOthers}
 use Rattle.update_client.proofs.Sparing.{spares-none, spares-then}
@@ -43,25 +43,18 @@ reads-stopped T stop.Gone n = record { later = omega arith; once = omega arith; 
 -- the end reads no file
 stops-ended : (T : Type 0) (r : Result T SendStop) → StopsEnd r → StopsWithin r
 stops-ended T (Ok x) stops = tt
-stops-ended T (Err (MissingImage guid)) stops = stops
-stops-ended T (Err (ImageTooLarge guid)) stops = stops
-stops-ended T (Err (Begin q)) stops = stops
 stops-ended T (Err (End q)) stops = tt
 stops-ended T (Err ReadFailed) stops = tt
 stops-ended T (Err Lost) stops = tt
 stops-ended T (Err Fault) stops = tt
-stops-ended T (Err Gone) stops = stops
+stops-ended T (Err s) stops = stops
 
 reads-ended : (T : Type 0) (r : Result T SendStop) (n : ℕ) → StopsEnd r → ReadsPieceBy n n r
 reads-ended T (Ok x) n stops = reads-done x n
-reads-ended T (Err (MissingImage guid)) n stops = absurd stops
-reads-ended T (Err (ImageTooLarge guid)) n stops = absurd stops
-reads-ended T (Err (Begin q)) n stops = absurd stops
 reads-ended T (Err (End q)) n stops = record { later = omega arith; once = omega arith; failed = λ e. absurd cc }
-reads-ended T (Err ReadFailed) n stops = absurd stops
 reads-ended T (Err Lost) n stops = record { later = omega arith; once = omega arith; failed = λ e. absurd cc }
 reads-ended T (Err Fault) n stops = record { later = omega arith; once = omega arith; failed = λ e. absurd cc }
-reads-ended T (Err Gone) n stops = absurd stops
+reads-ended T (Err s) n stops = absurd stops
 
 -- ---- one after the other
 
@@ -170,10 +163,4 @@ module _ {D H : Type 0} {F : flash.Ghosts D} (g : Ghosts H) (at_rest : (f : H) (
 
       stops-on : (q : SendStop) → StopsWithin {T = T} (Err q) → StopsWithin {T = U} (Err q)
       stops-on (MissingImage guid) stops = stops
-      stops-on (ImageTooLarge guid) stops = stops
-      stops-on (Begin q) stops = stops
-      stops-on (End q) stops = stops
-      stops-on ReadFailed stops = stops
-      stops-on Lost stops = stops
-      stops-on Fault stops = stops
-      stops-on Gone stops = stops
+      stops-on s stops = stops

@@ -1,45 +1,17 @@
 -- The entry of each image opens that image, since the types differ.
-use Rattle.std.proofs.Common.{◌≡◌, ◌≢◌, cond, ℕ, ◌*◌, ◌<◌, ◌≤◌, Bool, true, false, List, [], ◌∷◌, length, map, replicate, zero, suc, get_or, inl, inr, Option, Some, None, refl, sym, ap, subst, ◌∙◌, arith}
-use Rattle.std.specs.Prelude.{IsTrue, ltb}
-use Rattle.std.specs.List.{position_or_len, find, range_with_len}
-use Rattle.std.proofs.lemmas.Bool.{cases_Bool, lt-ltb}
-use Rattle.std.proofs.lemmas.List.{length-map, length-replicate, get_or-map}
+use Rattle.std.proofs.Common.{◌≡◌, cond, ℕ, ◌*◌, ◌<◌, ◌≤◌, Bool, true, false, List, [], ◌∷◌, length, map, replicate, zero, suc, get_or, Option, Some, refl, sym, ap, subst, ◌∙◌, arith}
+use Rattle.std.specs.Prelude.{IsTrue}
+use Rattle.std.specs.List.{find, range_with_len}
+use Rattle.std.proofs.lemmas.List.{length-replicate}
 use Rattle.std.proofs.lemmas.List.FromFn.{length-range_with_len, get_or-range_with_len}
 use Rattle.fwu_model.specs.Session.{Nothing}
-use Rattle.std.proofs.lemmas.List.Sums.{position_or_len_is}
-use Rattle.base_core.specs.Bytes.{same_bytes}
-use Rattle.fwu_formats.specs.Layout.{ImageRow, find_image, are_distinct, slot_bytes}
+use Rattle.fwu_formats.specs.Layout.{find_image, are_distinct, slot_bytes}
 use Rattle.fwu_formats.specs.Package.{Entry, Toc, has_guid}
 use Rattle.fwu_model.specs.Sound.{Setting}
-use Rattle.fwu_model.proofs.Staging.{same-self, same-is, distinct-at}
+use Rattle.fwu_model.proofs.Staging.{same-is}
+use Rattle.agent_calls.proofs.OwnRows.{guid_in, own-image}
 use Rattle.update_client.specs.Choosing.{AreChosen, no_row}
 use Rattle.update_client.specs.Images.{AreUnstaged, no_entry}
-
-abbrev pub guid_in : List ImageRow → ℕ → List ℕ
-guid_in rows k = (get_or rows k no_row).guid
-
-differs : (xs ys : List ℕ) → xs ≢ ys → same_bytes xs ys ≡ false
-differs xs ys ne = elim (cases_Bool (same_bytes xs ys)) [ inl e ↦ absurd (ne (same-is xs ys e)) | inr e ↦ e ]
-
-own-place : (rows : List ImageRow) (k : ℕ) → IsTrue (are_distinct (map (λ r. r.guid) rows)) → k < length rows
-    → position_or_len (λ (r : ImageRow). same_bytes r.guid (guid_in rows k)) rows ≡ k
-own-place rows k distinct lt =
-    position_or_len_is (λ (r : ImageRow). same_bytes r.guid (guid_in rows k)) rows k no_row (omega (arith, lt))
-    (λ j below. differs (guid_in rows j) (guid_in rows k) (other j below)) (λ there. same-self (guid_in rows k))
-  where
-    other : (j : ℕ) → j < k → guid_in rows j ≢ guid_in rows k
-    other j below e =
-        let len = length-map rows (λ (q : ImageRow). q.guid) in
-        let far : j < length rows = omega (arith, below, lt) in
-        distinct-at (map (λ (q : ImageRow). q.guid) rows) j k distinct (omega (arith, len, far)) (omega (arith, len, lt))
-        (λ z. absurd (omega (arith, z, below)))
-        (get_or-map (λ (q : ImageRow). q.guid) rows j no_row [] far ∙ e ∙ sym (get_or-map (λ (q : ImageRow). q.guid) rows k no_row [] lt))
-
-pub own-image : (rows : List ImageRow) (k : ℕ) → IsTrue (are_distinct (map (λ r. r.guid) rows)) → k < length rows
-    → find_image rows (guid_in rows k) ≡ Some k
-own-image rows k distinct lt =
-    ap (λ (i : ℕ). cond (ltb i (length rows)) (Some i) None) (own-place rows k distinct lt) ∙ ap (λ (b : Bool). cond b (Some k) None)
-    (lt-ltb k (length rows) lt)
 
 pub found-has : (guid : List ℕ) (es : List Entry) (e : Entry) → find (has_guid guid) es ≡ Some e → e.guid ≡ guid
 found-has guid [] e is = absurd cc

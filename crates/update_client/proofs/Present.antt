@@ -16,7 +16,8 @@ use Rattle.fwu_model.specs.Reply as reply
 use Rattle.update_client.specs.Choosing.{no_row}
 use Rattle.fwu_model.specs.Answer.{copied_part, first_size_fault, has_image, or_else, sent_over, size_fault, skipped}
 use Rattle.update_client.specs.Images.{AreUnstaged, no_entry}
-use Rattle.update_client.proofs.OwnImages.{found-has, guid_in, own-image}
+use Rattle.agent_calls.proofs.OwnRows.{guid_in, own-image}
+use Rattle.update_client.proofs.OwnImages.{found-has}
 use Rattle.update_client.specs.Partial.{AreSendable, kept_parts, places, present}
 
 -- ---- how many they are

@@ -69,46 +69,22 @@ early-no-end T o halt P is = elim (early-cases o halt is) [
 -- the end reads no file
 pub end-read : (T : Type 0) (result : Result T SendStop) (P : Type 0) → StopsEnd result → OnUnread result P
 end-read T (Ok x) P stops = tt
-end-read T (Err (MissingImage g)) P stops = tt
-end-read T (Err (ImageTooLarge g)) P stops = tt
-end-read T (Err (Begin st)) P stops = tt
-end-read T (Err (End st)) P stops = tt
 end-read T (Err ReadFailed) P stops = absurd stops
-end-read T (Err Lost) P stops = tt
-end-read T (Err Fault) P stops = tt
-end-read T (Err Gone) P stops = tt
+end-read T (Err s) P stops = tt
 
 pub other-read : (T : Type 0) (st : SendStop) (P : Type 0) → is_unread st ≡ false → OnUnread {T = T} (Err st) P
-other-read T (MissingImage g) P other = tt
-other-read T (ImageTooLarge g) P other = tt
-other-read T (Begin st) P other = tt
-other-read T (End st) P other = tt
 other-read T ReadFailed P other = absurd cc
-other-read T Lost P other = tt
-other-read T Fault P other = tt
-other-read T Gone P other = tt
+other-read T s P other = tt
 
 -- ---- handed on
 
 pub unread-then : (T U : Type 0) (st : SendStop) (P Q : Type 0) → (P → Q) → OnUnread {T = T} (Err st) P → OnUnread {T = U} (Err st) Q
-unread-then T U (MissingImage g) P Q by is = tt
-unread-then T U (ImageTooLarge g) P Q by is = tt
-unread-then T U (Begin st) P Q by is = tt
-unread-then T U (End st) P Q by is = tt
 unread-then T U ReadFailed P Q by is = by is
-unread-then T U Lost P Q by is = tt
-unread-then T U Fault P Q by is = tt
-unread-then T U Gone P Q by is = tt
+unread-then T U s P Q by is = tt
 
 pub end-then : (T U : Type 0) (st : SendStop) (P Q : Type 0) → (P → Q) → OnRefusedEnd {T = T} (Err st) P → OnRefusedEnd {T = U} (Err st) Q
-end-then T U (MissingImage g) P Q by is = tt
-end-then T U (ImageTooLarge g) P Q by is = tt
-end-then T U (Begin st) P Q by is = tt
 end-then T U (End st) P Q by is = by is
-end-then T U ReadFailed P Q by is = tt
-end-then T U Lost P Q by is = tt
-end-then T U Fault P Q by is = tt
-end-then T U Gone P Q by is = tt
+end-then T U s P Q by is = tt
 
 pub end-of : (T : Type 0) (result : Result T SendStop) (P Q : Type 0) → (P → Q) → OnRefusedEnd result P → OnRefusedEnd result Q
 end-of T (Ok x) P Q by is = tt
@@ -171,7 +147,4 @@ images-no-end told name size entries request (ImageTooLarge g) old new a b sent 
 images-no-end told name size entries request (Begin q) old new a b sent = tt
 images-no-end told name size entries request (End q) old new a b sent =
     λ E s boot parts places layout are shows. absurd (sent.goes E s boot parts places layout are shows)
-images-no-end told name size entries request ReadFailed old new a b sent = tt
-images-no-end told name size entries request Lost old new a b sent = tt
-images-no-end told name size entries request Fault old new a b sent = tt
-images-no-end told name size entries request Gone old new a b sent = tt
+images-no-end told name size entries request s old new a b sent = tt

@@ -204,10 +204,7 @@ module _ (E : Setting) (s : State) (boot : ℕ) (staging : Option (List Staged))
     sent-halted ReadFailed last = sent-unread last
     sent-halted Lost last = sent-stopped flash_stop.Lost last
     sent-halted Fault last = sent-stopped flash_stop.Failed last
-    sent-halted (MissingImage g) last = absurd last
-    sent-halted (ImageTooLarge g) last = absurd last
-    sent-halted (Begin st) last = absurd last
-    sent-halted Gone last = absurd last
+    sent-halted s last = absurd last
 
 -- ---- the exits
 

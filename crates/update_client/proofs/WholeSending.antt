@@ -208,10 +208,7 @@ module _ (E : Setting) (toc : Toc) (p : List (List ℕ)) (request : ℕ) (s : St
       sent-halted ReadFailed last = sent-unread last
       sent-halted Lost last = sent-stopped flash_stop.Lost last
       sent-halted Fault last = sent-stopped flash_stop.Failed last
-      sent-halted (MissingImage g) last = absurd last
-      sent-halted (ImageTooLarge g) last = absurd last
-      sent-halted (Begin st) last = absurd last
-      sent-halted Gone last = absurd last
+      sent-halted s last = absurd last
 
 -- begin, done: it may, and the staging stands with nothing staged
 begin-done : (E : Setting) (old mid : Moment) (s : State) (boot : ℕ) (staging : Option (List Staged)) (handles : List Handle)

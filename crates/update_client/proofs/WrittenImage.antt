@@ -1,5 +1,6 @@
 -- An image that is written piece by piece.
 use Rattle.std.proofs.Common.{◌≡◌, ℕ, zero, suc, ◌+◌, ◌≤◌, List, [], ◌∷◌, ◌++◌, take, drop, Option, Ok, Err, refl, sym, ap, ◌∙◌, arith, length-append}
+use Rattle.std.proofs.Math.Seq.{take-add}
 use Rattle.host_io.specs.Contents.{Directory}
 use Rattle.fwu_formats.specs.Package.{Entry, payload}
 use Rattle.fwu_model.specs.State.{State}
@@ -9,22 +10,10 @@ use Rattle.agent_machine.specs.Moment.{Moment}
 use Rattle.agent_machine.proofs.Going.{goes-then, goes-nothing}
 use Rattle.update_client.proofs.Halting.{halts-after}
 use Rattle.update_client.specs.declared.stops.SendStop.{SendStop}
-use Rattle.update_client.specs.declared.stops.SendStop.TheVariants.{MissingImage, ImageTooLarge, Begin, End, ReadFailed, Lost, Fault, Gone}
+use Rattle.update_client.specs.declared.stops.SendStop.TheVariants.{ReadFailed}
 use Rattle.agent_machine.specs.Filling.{within}
 use Rattle.update_client.specs.Halts.{Halts}
 use Rattle.update_client.specs.Pieces.{WritesPiece, WritesFirst, WritesImage}
-
-take-none : (n m : ℕ) → ◌≡◌ {A = List ℕ} (take n []) (take m [])
-take-none zero zero = refl
-take-none zero (suc m) = refl
-take-none (suc n) zero = refl
-take-none (suc n) (suc m) = refl
-
-take-more : (at n : ℕ) (l : List ℕ) → take at l ++ take n (drop at l) ≡ take (at + n) l
-take-more zero n l = let z : 0 + n ≡ n = omega arith in ap (λ (k : ℕ). take k l) (sym z)
-take-more (suc at) n [] = take-none n (suc at + n)
-take-more (suc at) n (x ∷ l) = let z : suc at + n ≡ suc (at + n) = omega arith in ap (λ (ys : List ℕ). x ∷ ys) (take-more at n l) ∙ ap
-    (λ (k : ℕ). take k (x ∷ l)) (sym z)
 
 pub first-none : (told : Option Directory) (name : List ℕ) (e : Entry) (m : Moment) → WritesFirst told name e 0 m m
 first-none told name e m = record {
@@ -41,7 +30,7 @@ module _ (told : Option Directory) (name : List ℕ) (e : Entry) (at : ℕ) (old
     bytes = first.bytes ++ piece.bytes;
     count = omega (arith, length-append first.bytes piece.bytes, first.count, piece.count.0);
     read = λ file tells. ap (λ (b : List ℕ). b ++ piece.bytes) (first.read file tells) ∙ ap (λ (b : List ℕ). take at (payload file e) ++ b)
-        (piece.read file tells) ∙ take-more at n (payload file e);
+        (piece.read file tells) ∙ sym (take-add at n (payload file e));
     goes = λ E s boot parts image layout below room shows.
         let one = first.goes E s boot parts image layout below room shows in
         goes-then E (Ok tt) old mid new s [] [] (within boot parts image first.bytes) (within boot parts image (first.bytes ++ piece.bytes)) one
@@ -65,13 +54,7 @@ module _ (told : Option Directory) (name : List ℕ) (e : Entry) (at : ℕ) (old
       as-unit : (stop : SendStop) (E : Setting) (mid new : Moment) (s : State) (boot : ℕ) (y : Session)
           → Halts {T = ℕ} (Err stop) E mid new s boot y → Halts {T = Unit {0}} (Err stop) E mid new s boot y
       as-unit ReadFailed E mid new s boot y h = h
-      as-unit Lost E mid new s boot y h = h
-      as-unit Fault E mid new s boot y h = h
-      as-unit (MissingImage g) E mid new s boot y h = h
-      as-unit (ImageTooLarge g) E mid new s boot y h = h
-      as-unit (Begin st) E mid new s boot y h = h
-      as-unit (End st) E mid new s boot y h = h
-      as-unit Gone E mid new s boot y h = h
+      as-unit q E mid new s boot y h = h
 
   -- that was all
   pub image-done : e.size ≤ at → at ≤ e.size → WritesImage told name e (Ok tt) old mid

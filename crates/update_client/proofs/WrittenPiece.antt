@@ -1,8 +1,7 @@
 -- A piece that is written, or not.
-use Rattle.std.proofs.Common.{◌≡◌, ◌≢◌, ℕ, ◌+◌, ◌<◌, ◌≤◌, Bool, List, [], ◌++◌, length, take, drop, get_or, set, Option, Some, Ok, Err, refl, sym, ap, subst, ◌∙◌, arith}
-use Rattle.std.specs.Prelude.{IsTrue, IsFalse, ◌==◌}
+use Rattle.std.proofs.Common.{◌≡◌, ◌≢◌, ℕ, ◌+◌, ◌<◌, ◌≤◌, Bool, List, [], ◌++◌, length, take, drop, get_or, set, Option, Some, Ok, Err, refl, sym, subst, ◌∙◌, arith}
+use Rattle.std.specs.Prelude.{IsFalse, ◌==◌}
 use Rattle.host_io.specs.Contents.{Directory}
-use Rattle.flash_core.specs.declared.flash.FlashStop.TheVariants as flash_stop
 use Rattle.fwu_formats.specs.Layout.{slot_bytes, find_image}
 use Rattle.fwu_formats.specs.Package.{Entry, payload}
 use Rattle.fwu_model.specs.State.{State}
@@ -21,7 +20,9 @@ use Rattle.agent_machine.specs.Moment.{Moment, Shows}
 use Rattle.agent_machine.specs.Meets.{GoesBy}
 use Rattle.agent_machine.specs.Goes.{GoesByMoves}
 use Rattle.agent_machine.proofs.Going.{goes-nothing, goes-then}
-use Rattle.agent_machine.proofs.CallGoing.{MeetsAs, call-goes, call-replies, call-stopped}
+use Rattle.agent_machine.proofs.CallGoing.{MeetsAs, call-goes}
+use Rattle.agent_calls.specs.Copies.{FollowsInStaging}
+use Rattle.agent_calls.proofs.Copies.{call-done, call-follows, no-opened, no-success}
 use Rattle.update_client.specs.declared.stops.SendStop.{SendStop}
 use Rattle.update_client.specs.declared.stops.SendStop.TheVariants.{ReadFailed}
 use Rattle.agent_machine.specs.Filling.{between, filled, within}
@@ -66,29 +67,14 @@ pub call-halts : {T : Type 0} (U : Type 0) (of : T → Reply) (st : Stop) (E : S
     (r : Reply) (boot : ℕ) (was now : Bool) → E.layout ≡ old.fields.layout → Shows old s x
     → answer E s x c ≡ answered r [] y → ((q : Status) → reply.Refused q ≢ r) → IsFalse was → GoesBy {T = T} (Err st) was now
     → MeetsAs of (Err st) E.passes c old new → Halts {T = U} (Err (stopped_as st)) E old new s boot z
-call-halts U of (stop.Status st) E c old new s x y z r boot was now layout shows is other here goes meets =
-    absurd (other st (call-replies E of (Err (stop.Status st)) c old new s x layout shows meets (reply.Refused st) refl ∙ ap (λ (w : Answer). w.reply) is))
-call-halts U of stop.Gone E c old new s x y z r boot was now layout shows is other here goes meets = absurd (gone-here (goes.gone.0 refl))
+call-halts U of st E c old new s x y z r boot was now layout shows is other here goes meets =
+    as-halts st (call-follows U of st E c old new s x y z r was now layout shows is other here goes meets)
   where
-    gone-here : IsTrue was → ⊥
-    gone-here is = cc
-call-halts U of stop.Lost E c old new s x y z r boot was now layout shows is other here goes meets =
-    subst (λ (w : Answer). GoesByMoves E (Err flash_stop.Lost) old new s w.moves z) is (call-stopped E of (Err stop.Lost) c old new s x layout shows meets refl z)
-call-halts U of stop.Fault E c old new s x y z r boot was now layout shows is other here goes meets =
-    subst (λ (w : Answer). GoesByMoves E (Err flash_stop.Failed) old new s w.moves z) is (call-stopped E of (Err stop.Fault) c old new s x layout shows meets refl z)
-
--- and where it is done
-pub call-done : {T : Type 0} (of : T → Reply) (v : T) (E : Setting) (c : Call) (old new : Moment) (s : State) (x y : Session) (r : Reply)
-    → E.layout ≡ old.fields.layout → Shows old s x
-    → answer E s x c ≡ answered r [] y → MeetsAs of (Ok v) E.passes c old new → GoesByMoves E (Ok tt) old new s [] y
-call-done of v E c old new s x y r layout shows is meets = subst (λ (w : Answer). GoesByMoves E (Ok tt) old new s w.moves w.next) is
-    (call-goes E of (Ok v) c old new s x layout shows meets (of v) refl)
-
-pub no-success : (q : Status) → reply.Refused q ≢ reply.Success
-no-success q is = cc
-
-no-opened : (q : Status) → reply.Refused q ≢ reply.Opened 1
-no-opened q is = cc
+    as-halts : (q : Stop) → FollowsInStaging {T = U} (Err q) E old new s z → Halts {T = U} (Err (stopped_as q)) E old new s boot z
+    as-halts (stop.Status st) h = absurd h
+    as-halts stop.Lost h = h
+    as-halts stop.Fault h = h
+    as-halts stop.Gone h = absurd h
 
 pub piece-stopped : (told : Option Directory) (name : List ℕ) (e : Entry) (at n : ℕ) (m new : Moment) (bytes : List ℕ) (st : Stop) (was now : Bool)
     → length bytes ≡ n → at + n ≤ e.size

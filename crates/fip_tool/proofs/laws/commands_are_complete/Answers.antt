@@ -19,13 +19,7 @@ by steps files now was text f g s t w x (Err stop.FileFault) e quiet clean = eli
   | inl refused ↦ absurd cc
   | inr cause ↦ absurd (quiet cause.1)
 ]
-by steps files now was text f g s t w x (Err stop.Usage) e quiet clean = absurd (let r = e.0 in cc)
-by steps files now was text f g s t w x (Err (stop.NotFip k)) e quiet clean = absurd (let r = e.0 in cc)
-by steps files now was text f g s t w x (Err (stop.NoSuchEntry k)) e quiet clean = absurd (let r = e.0 in cc)
-by steps files now was text f g s t w x (Err (stop.NotPacked k)) e quiet clean = absurd (let r = e.0 in cc)
-by steps files now was text f g s t w x (Err (stop.NoManifest k)) e quiet clean = absurd (let r = e.0 in cc)
-by steps files now was text f g s t w x (Err stop.TooLong) e quiet clean = absurd (let r = e.0 in cc)
-by steps files now was text f g s t w x (Err (stop.NotCapsule k)) e quiet clean = absurd (let r = e.0 in cc)
+by steps files now was text f g s t w x (Err q) e quiet clean = absurd (let r = e.0 in cc)
 
 pub returns : goal.returns
 returns c = λ steps files now was text f g s t status w x e quiet clean.

@@ -48,39 +48,28 @@ write_image-requires-clause-erased g c = λ tells i above under.
     c.loop-k.invariant.rest tells i (omega (arith, above, c.start-first.ensures)) (omega (arith, under, row, more, c.start-first.ensures))
 
 pub returns-in_err-write_image-clause-writes : goal.returns-in_err-write_image-clause-writes
-returns-in_err-write_image-clause-writes g c = record {
-  keeps =
-      λ tells.
-      let L = c.args.layout.now in
-      let k = c.loop-k.k in
-      let below : k < length L.rows = omega (arith, c.loop-k-test.true, ap length c.rows-rows.ensures.value) in
-      let row = ap (λ (l : List ImageRow). (get_or l k c.index-rows-k.result).slots) c.rows-rows.ensures.value ∙ ap (λ (r : ImageRow). r.slots) (get_or_default L.rows k c.index-rows-k.result no_row below) in
-      let more = slots_more_le L.rows k below in
-      let slots = (get_or c.rows-rows.result.now k c.index-rows-k.result).slots in
-      let first = c.start-first.result in
-      let high = 4096 * (8 + slot_total L.rows) in
-      keeps_then 32768 high (g.D.Flash.told c.args.flash.now) (g.D.Flash.told c.loop-k.flash) (g.D.Flash.told c.write_image.new.flash) (c.loop-k.invariant.keeps tells)
-      (keeps_wider (4096 * first) (4096 * (first + slots)) 32768 high (g.D.Flash.told c.loop-k.flash) (g.D.Flash.told c.write_image.new.flash) (omega (arith, c.start-first.ensures)) (omega (arith, row, more, c.start-first.ensures)) (c.write_image.ensures.writes.keeps tells));
-  left =
-      λ tells.
-      let m = g.D.Flash.told c.loop-k.flash in
-      let t = g.D.Flash.told c.write_image.new.flash in
-      left_then 8 (g.D.Flash.told c.args.flash.now) m t (c.loop-k.invariant.left tells) (left_fewer 8 c.start-first.result m t (omega (arith, c.start-first.ensures)) (c.write_image.ensures.writes.left tells));
-  goes = search rules;
-  spent = search rules;
-  touches =
-      let L = c.args.layout.now in
-      let k = c.loop-k.k in
-      let below : k < length L.rows = omega (arith, c.loop-k-test.true, ap length c.rows-rows.ensures.value) in
-      let row = ap (λ (l : List ImageRow). (get_or l k c.index-rows-k.result).slots) c.rows-rows.ensures.value ∙ ap (λ (r : ImageRow). r.slots) (get_or_default L.rows k c.index-rows-k.result no_row below) in
-      let more = slots_more_le L.rows k below in
-      let slots = (get_or c.rows-rows.result.now k c.index-rows-k.result).slots in
-      let first = c.start-first.result in
-      let high = 4096 * (8 + slot_total L.rows) in
-      touches_then 32768 high c.loop-k.invariant.touches
-      (touches_wider (4096 * first) (4096 * (first + slots)) 32768 high (omega (arith, c.start-first.ensures)) (omega (arith, row, more, c.start-first.ensures)) c.write_image.ensures.writes.touches);
-  stops = search rules;
-}
+returns-in_err-write_image-clause-writes g c =
+    let L = c.args.layout.now in
+    let k = c.loop-k.k in
+    let below : k < length L.rows = omega (arith, c.loop-k-test.true, ap length c.rows-rows.ensures.value) in
+    let row = ap (λ (l : List ImageRow). (get_or l k c.index-rows-k.result).slots) c.rows-rows.ensures.value ∙ ap (λ (r : ImageRow). r.slots) (get_or_default L.rows k c.index-rows-k.result no_row below) in
+    let more = slots_more_le L.rows k below in
+    let slots = (get_or c.rows-rows.result.now k c.index-rows-k.result).slots in
+    let first = c.start-first.result in
+    let high = 4096 * (8 + slot_total L.rows) in
+    let s = g.D.Flash.told c.args.flash.now in
+    let m = g.D.Flash.told c.loop-k.flash in
+    let t = g.D.Flash.told c.write_image.new.flash in
+    record {
+      keeps = λ tells. keeps_then 32768 high s m t (c.loop-k.invariant.keeps tells)
+          (keeps_wider (4096 * first) (4096 * (first + slots)) 32768 high m t (omega (arith, c.start-first.ensures)) (omega (arith, row, more, c.start-first.ensures)) (c.write_image.ensures.writes.keeps tells));
+      left = λ tells. left_then 8 s m t (c.loop-k.invariant.left tells) (left_fewer 8 first m t (omega (arith, c.start-first.ensures)) (c.write_image.ensures.writes.left tells));
+      goes = search rules;
+      spent = search rules;
+      touches = touches_then 32768 high c.loop-k.invariant.touches
+          (touches_wider (4096 * first) (4096 * (first + slots)) 32768 high (omega (arith, c.start-first.ensures)) (omega (arith, row, more, c.start-first.ensures)) c.write_image.ensures.writes.touches);
+      stops = search rules;
+    }
 
 pub loop-k-preserved : goal.loop-k-preserved
 loop-k-preserved g c =

@@ -25,23 +25,21 @@ program-requires-clause-blank g c = λ tells.
     erased_range 4096 (length bytes) (g.D.Flash.told c.args.flash.now).now (omega (arith, size, many, few)) (λ i above below. c.requires.erased tells i above (omega (arith, below, few)))
 
 pub returns-in_err-program-clause-writes : goal.returns-in_err-program-clause-writes
-returns-in_err-program-clause-writes g c = record {
-  keeps =
-      λ tells.
-      let s = g.D.Flash.told c.args.flash.now in
-      let size = (g.met.D.Flash.sound c.args.flash.now tells).size in
-      let many = (g.met.D.Flash.sizes c.args.flash.now).0 in
-      let bytes = take c.replica_size-size.result c.write.new.out in
-      let few : length bytes ≤ 4096 = omega (arith, length-take c.replica_size-size.result c.write.new.out, c.write.auto.out) in
-      subst (Keeps 4096 12288 s) (sym (c.program.ensures.content tells))
-      (keeps_written c.program.result 4096 12288 4096 bytes s s (omega arith) (omega (arith, few)) (omega (arith, size, many, few)) (keeps_same 4096 12288 s));
-  goes = search rules;
-  spent = search rules;
-  touches =
-      let bytes = take c.replica_size-size.result c.write.new.out in
-      let few : length bytes ≤ 4096 = omega (arith, length-take c.replica_size-size.result c.write.new.out, c.write.auto.out) in
-      touches_wider 4096 (4096 + length bytes) 4096 12288 (omega arith) (omega (arith, few)) c.program.ensures.touches;
-}
+returns-in_err-program-clause-writes g c =
+    let bytes = take c.replica_size-size.result c.write.new.out in
+    let few : length bytes ≤ 4096 = omega (arith, length-take c.replica_size-size.result c.write.new.out, c.write.auto.out) in
+    record {
+      keeps =
+          λ tells.
+          let s = g.D.Flash.told c.args.flash.now in
+          let size = (g.met.D.Flash.sound c.args.flash.now tells).size in
+          let many = (g.met.D.Flash.sizes c.args.flash.now).0 in
+          subst (Keeps 4096 12288 s) (sym (c.program.ensures.content tells))
+          (keeps_written c.program.result 4096 12288 4096 bytes s s (omega arith) (omega (arith, few)) (omega (arith, size, many, few)) (keeps_same 4096 12288 s));
+      goes = search rules;
+      spent = search rules;
+      touches = touches_wider 4096 (4096 + length bytes) 4096 12288 (omega arith) (omega (arith, few)) c.program.ensures.touches;
+    }
 
 pub program-requires-2-clause-blank : goal.program-requires-2-clause-blank
 program-requires-2-clause-blank g c = λ tells.
@@ -56,48 +54,44 @@ program-requires-2-clause-blank g c = λ tells.
     erased_range 8192 (length bytes) m.now (omega (arith, size, many, few, keeps.size)) (λ i above below. erased i above (omega (arith, below, few)))
 
 pub returns-in_err-program-2-clause-writes : goal.returns-in_err-program-2-clause-writes
-returns-in_err-program-2-clause-writes g c = record {
-  keeps =
-      λ tells.
-      let s = g.D.Flash.told c.args.flash.now in
-      let m = g.D.Flash.told c.program.new.self in
-      let size = (g.met.D.Flash.sound c.args.flash.now tells).size in
-      let many = (g.met.D.Flash.sizes c.args.flash.now).0 in
-      let bytes = take c.replica_size-size.result c.write.new.out in
-      let few : length bytes ≤ 4096 = omega (arith, length-take c.replica_size-size.result c.write.new.out, c.write.auto.out) in
-      let keeps = subst (Keeps 4096 12288 s) (sym (c.program.ensures.content tells)) (keeps_written c.program.result 4096 12288 4096 bytes s s (omega arith) (omega (arith, few)) (omega (arith, size, many, few)) (keeps_same 4096 12288 s)) in
-      subst (Keeps 4096 12288 s) (sym (c.program-2.ensures.content tells))
-      (keeps_written c.program-2.result 4096 12288 8192 bytes s m (omega arith) (omega (arith, few)) (omega (arith, size, many, few)) keeps);
-  goes = search rules;
-  spent = search rules;
-  touches =
-      let bytes = take c.replica_size-size.result c.write.new.out in
-      let few : length bytes ≤ 4096 = omega (arith, length-take c.replica_size-size.result c.write.new.out, c.write.auto.out) in
-      touches_then 4096 12288 (touches_wider 4096 (4096 + length bytes) 4096 12288 (omega arith) (omega (arith, few)) c.program.ensures.touches)
-      (touches_wider 8192 (8192 + length bytes) 4096 12288 (omega arith) (omega (arith, few)) c.program-2.ensures.touches);
-}
+returns-in_err-program-2-clause-writes g c =
+    let bytes = take c.replica_size-size.result c.write.new.out in
+    let few : length bytes ≤ 4096 = omega (arith, length-take c.replica_size-size.result c.write.new.out, c.write.auto.out) in
+    record {
+      keeps =
+          λ tells.
+          let s = g.D.Flash.told c.args.flash.now in
+          let m = g.D.Flash.told c.program.new.self in
+          let size = (g.met.D.Flash.sound c.args.flash.now tells).size in
+          let many = (g.met.D.Flash.sizes c.args.flash.now).0 in
+          let keeps = subst (Keeps 4096 12288 s) (sym (c.program.ensures.content tells)) (keeps_written c.program.result 4096 12288 4096 bytes s s (omega arith) (omega (arith, few)) (omega (arith, size, many, few)) (keeps_same 4096 12288 s)) in
+          subst (Keeps 4096 12288 s) (sym (c.program-2.ensures.content tells))
+          (keeps_written c.program-2.result 4096 12288 8192 bytes s m (omega arith) (omega (arith, few)) (omega (arith, size, many, few)) keeps);
+      goes = search rules;
+      spent = search rules;
+      touches = touches_then 4096 12288 (touches_wider 4096 (4096 + length bytes) 4096 12288 (omega arith) (omega (arith, few)) c.program.ensures.touches)
+          (touches_wider 8192 (8192 + length bytes) 4096 12288 (omega arith) (omega (arith, few)) c.program-2.ensures.touches);
+    }
 
 pub returns-clause-writes : goal.returns-clause-writes
-returns-clause-writes g c = record {
-  keeps =
-      λ tells.
-      let s = g.D.Flash.told c.args.flash.now in
-      let m = g.D.Flash.told c.program.new.self in
-      let size = (g.met.D.Flash.sound c.args.flash.now tells).size in
-      let many = (g.met.D.Flash.sizes c.args.flash.now).0 in
-      let bytes = take c.replica_size-size.result c.write.new.out in
-      let few : length bytes ≤ 4096 = omega (arith, length-take c.replica_size-size.result c.write.new.out, c.write.auto.out) in
-      let keeps = subst (Keeps 4096 12288 s) (sym (c.program.ensures.content tells)) (keeps_written c.program.result 4096 12288 4096 bytes s s (omega arith) (omega (arith, few)) (omega (arith, size, many, few)) (keeps_same 4096 12288 s)) in
-      let after = subst (Keeps 4096 12288 s) (sym (c.program-2.ensures.content tells)) (keeps_written c.program-2.result 4096 12288 8192 bytes s m (omega arith) (omega (arith, few)) (omega (arith, size, many, few)) keeps) in
-      subst (Keeps 4096 12288 s) (sym (c.barrier.ensures.content tells)) (keeps_settled c.barrier.result 4096 12288 s (g.D.Flash.told c.program-2.new.self) after);
-  goes = search rules;
-  spent = spent_barrier c.barrier.result 2 _ _ _ (spent_both 1 1 2 _ _ _ (omega arith) (spent_one _ _ c.in_ok-program.ensures.arming) (spent_one _ _ c.in_ok-program-2.ensures.arming)) c.barrier.ensures.arming;
-  touches =
-      let bytes = take c.replica_size-size.result c.write.new.out in
-      let few : length bytes ≤ 4096 = omega (arith, length-take c.replica_size-size.result c.write.new.out, c.write.auto.out) in
-      touches_still 4096 12288 (touches_then 4096 12288 (touches_wider 4096 (4096 + length bytes) 4096 12288 (omega arith) (omega (arith, few)) c.program.ensures.touches)
-      (touches_wider 8192 (8192 + length bytes) 4096 12288 (omega arith) (omega (arith, few)) c.program-2.ensures.touches)) c.barrier.ensures.writes;
-}
+returns-clause-writes g c =
+    let bytes = take c.replica_size-size.result c.write.new.out in
+    let few : length bytes ≤ 4096 = omega (arith, length-take c.replica_size-size.result c.write.new.out, c.write.auto.out) in
+    record {
+      keeps =
+          λ tells.
+          let s = g.D.Flash.told c.args.flash.now in
+          let m = g.D.Flash.told c.program.new.self in
+          let size = (g.met.D.Flash.sound c.args.flash.now tells).size in
+          let many = (g.met.D.Flash.sizes c.args.flash.now).0 in
+          let keeps = subst (Keeps 4096 12288 s) (sym (c.program.ensures.content tells)) (keeps_written c.program.result 4096 12288 4096 bytes s s (omega arith) (omega (arith, few)) (omega (arith, size, many, few)) (keeps_same 4096 12288 s)) in
+          let after = subst (Keeps 4096 12288 s) (sym (c.program-2.ensures.content tells)) (keeps_written c.program-2.result 4096 12288 8192 bytes s m (omega arith) (omega (arith, few)) (omega (arith, size, many, few)) keeps) in
+          subst (Keeps 4096 12288 s) (sym (c.barrier.ensures.content tells)) (keeps_settled c.barrier.result 4096 12288 s (g.D.Flash.told c.program-2.new.self) after);
+      goes = search rules;
+      spent = spent_barrier c.barrier.result 2 _ _ _ (spent_both 1 1 2 _ _ _ (omega arith) (spent_one _ _ c.in_ok-program.ensures.arming) (spent_one _ _ c.in_ok-program-2.ensures.arming)) c.barrier.ensures.arming;
+      touches = touches_still 4096 12288 (touches_then 4096 12288 (touches_wider 4096 (4096 + length bytes) 4096 12288 (omega arith) (omega (arith, few)) c.program.ensures.touches)
+          (touches_wider 8192 (8192 + length bytes) 4096 12288 (omega arith) (omega (arith, few)) c.program-2.ensures.touches)) c.barrier.ensures.writes;
+    }
 
 pub returns-clause-replicas : goal.returns-clause-replicas
 returns-clause-replicas g c = on_ok_from _ c.barrier.result (λ tells.
@@ -109,30 +103,22 @@ returns-clause-replicas g c = on_ok_from _ c.barrier.result (λ tells.
     ap (λ (n : ℕ). take n c.write.new.out) c.replica_size-size.ensures.value ∙ c.write.ensures.replica (omega (arith, c.replica_size-size.ensures.value, c.replica_size-size.ensures.small)) ∙ ap (replica_bytes L) meta in
     let read : meta_read L (padded given) ≡ Some (in_version 2 (first_meta L)) = ap (λ (l : List ℕ). meta_read L (padded l)) spelled ∙ replica_read L (first_meta L) c.rows-rows.ensures.fit fits in
     let now = (g.D.Flash.told c.barrier.new.self).now in
+    let s = g.D.Flash.told c.args.flash.now in
+    let m = g.D.Flash.told c.program.new.self in
+    let t = g.D.Flash.told c.program-2.new.self in
+    let size = (g.met.D.Flash.sound c.args.flash.now tells).size in
+    let many = (g.met.D.Flash.sizes c.args.flash.now).0 in
+    let bytes = take c.replica_size-size.result c.write.new.out in
+    let few : length bytes ≤ 4096 = omega (arith, length-take c.replica_size-size.result c.write.new.out, c.write.auto.out) in
+    let same : length m.now ≡ length s.now = (g.met.D.Flash.sound c.program.new.self tells).size ∙ ap (λ (n : ℕ). 4096 * n) c.in_ok-program.ensures.size ∙ sym size in
     let twice : HoldTwice given now = record {
       zero =
-          let s = g.D.Flash.told c.args.flash.now in
-          let m = g.D.Flash.told c.program.new.self in
-          let t = g.D.Flash.told c.program-2.new.self in
-          let size = (g.met.D.Flash.sound c.args.flash.now tells).size in
-          let many = (g.met.D.Flash.sizes c.args.flash.now).0 in
-          let bytes = take c.replica_size-size.result c.write.new.out in
-          let few : length bytes ≤ 4096 = omega (arith, length-take c.replica_size-size.result c.write.new.out, c.write.auto.out) in
-          let same : length m.now ≡ length s.now = (g.met.D.Flash.sound c.program.new.self tells).size ∙ ap (λ (n : ℕ). 4096 * n) c.in_ok-program.ensures.size ∙ sym size in
           let stands : HoldsThenErased 4096 4096 bytes m.now = subst (λ (u : Told). HoldsThenErased 4096 4096 bytes u.now) (sym (c.in_ok-program.ensures.content tells)) (stands_put 1 bytes s (omega (arith, size, many)) few (λ i above below. c.requires.erased tells i above (omega (arith, below)))) in
           let there : block 1 m.now ≡ padded bytes = block_padded 1 bytes m.now (omega (arith, size, many, same)) few stands in
           let keeps = subst (Keeps 8192 12288 m) (sym (c.program-2.ensures.content tells)) (keeps_written c.program-2.result 8192 12288 8192 bytes m m (omega arith) (omega (arith, few)) (omega (arith, size, many, few, same)) (keeps_same 8192 12288 m)) in
           let kept : block 1 t.now ≡ block 1 m.now = now_kept 1 8192 12288 m t (omega (arith, size, many, same)) (inl (omega arith)) keeps in
           ap (λ (u : Told). block 1 u.now) (c.barrier.ensures.content tells) ∙ ap (block 1) (now_settled c.barrier.result t) ∙ kept ∙ there;
       one =
-          let s = g.D.Flash.told c.args.flash.now in
-          let m = g.D.Flash.told c.program.new.self in
-          let t = g.D.Flash.told c.program-2.new.self in
-          let size = (g.met.D.Flash.sound c.args.flash.now tells).size in
-          let many = (g.met.D.Flash.sizes c.args.flash.now).0 in
-          let bytes = take c.replica_size-size.result c.write.new.out in
-          let few : length bytes ≤ 4096 = omega (arith, length-take c.replica_size-size.result c.write.new.out, c.write.auto.out) in
-          let same : length m.now ≡ length s.now = (g.met.D.Flash.sound c.program.new.self tells).size ∙ ap (λ (n : ℕ). 4096 * n) c.in_ok-program.ensures.size ∙ sym size in
           let as_long : length t.now ≡ length m.now = (g.met.D.Flash.sound c.program-2.new.self tells).size ∙ ap (λ (n : ℕ). 4096 * n) c.in_ok-program-2.ensures.size ∙ sym (g.met.D.Flash.sound c.program.new.self tells).size in
           let keeps = subst (Keeps 4096 8192 s) (sym (c.program.ensures.content tells)) (keeps_written c.program.result 4096 8192 4096 bytes s s (omega arith) (omega (arith, few)) (omega (arith, size, many, few)) (keeps_same 4096 8192 s)) in
           let erased = erased_stays 8192 12288 4096 8192 s m (inr (omega arith)) keeps (λ i above below. c.requires.erased tells i (omega (arith, above)) below) in

@@ -2,7 +2,7 @@ use Rattle.std.proofs.Common.{Err, subst}
 use Rattle.fwu_formats.specs.Package.{toc_of}
 use Rattle.fip_tables.specs.Files.{IsTocAnswer}
 use Rattle.fip_tables.specs.declared.toc.TocStop.{TocStop}
-use Rattle.flash_format.proofs.Ends.{ends-below}
+use Rattle.fwu_formats.proofs.Tables.{ends-below}
 use Rattle.flash_format.proofs.table.read_table.Goals as goal
 
 pub returns-in-Ok-clause-ends : goal.returns-in-Ok-clause-ends

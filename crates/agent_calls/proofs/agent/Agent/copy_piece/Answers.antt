@@ -1,8 +1,14 @@
-use Rattle.std.proofs.Common.{◌≡◌, ◌+◌, ◌<◌, ◌≤◌, ◌++◌, ◌*◌, ℕ, Bool, true, List, Option, Some, Ok, Err, sym, length, take, drop, refl, ap, ◌∙◌, subst, arith}
+use Rattle.std.proofs.Common.{◌≡◌, ◌+◌, ◌≤◌, ◌++◌, ◌*◌, ℕ, Bool, true, List, [], Option, Some, Ok, Err, sym, length, take, drop, refl, ap, ◌∙◌, subst, arith}
 use Rattle.std.proofs.lemmas.List.{length-take-le, take-append-le, take_all}
 use Rattle.std.specs.Prelude.{IsFalse}
 use Rattle.fwu_formats.specs.Layout.{start}
+use Rattle.fwu_model.specs.State.{State}
+use Rattle.fwu_model.specs.Sound.{Setting}
+use Rattle.fwu_model.specs.Session.{Session}
 use Rattle.agent_machine.specs.Fields.{Fields, target, total_of}
+use Rattle.agent_machine.specs.Goes.{GoesByMoves}
+use Rattle.agent_machine.specs.Meets.{Stays}
+use Rattle.agent_machine.specs.Moment.{Shows}
 use Rattle.flash_core.specs.declared.flash.Arming.{Arming}
 use Rattle.flash_core.specs.Counts.{lowered_by}
 use Rattle.slot_writer.specs.Writes.{writes_to_append}
@@ -25,82 +31,80 @@ returns-in-Err-clause-copies g c =
     piece-unread g.D.Flash.tells (g.D.Flash.told a.flash) (g.D.Flash.told b.flash) (g.D.Flash.writes a.flash) (g.D.Flash.writes b.flash)
     (fields a) (fields b) c.read_part.ensures.fields c.read_part.ensures.reads.content c.read_part.ensures.reads.writes c.args.image c.args.at c.stopped.result c.in-Err.stop c.stopped.ensures.stop
 
+-- ---- the piece that was read and written
+
+module _ (g : given.Over) (c : After-write_stream g) where
+  abbrev sent : List ℕ
+  sent = take c.min-size.result (c.read_part.new.out ++ drop c.min-size.result c.args.buf.now)
+
+  inside : c.args.at + c.min-size.result ≤ total_of (fields c.args.self.now) (Some c.args.image)
+  inside = omega (arith, c.min-size.ensures, c.requires.some)
+
+  small : c.min-size.result ≤ length c.args.buf.now
+  small = omega (arith, c.min-size.ensures, c.requires.room)
+
+  size : length c.read_part.new.out ≡ c.min-size.result
+  size = c.read_part.auto.out ∙ length-take-le c.min-size.result c.args.buf.now small
+
+  whole : sent ≡ c.read_part.new.out
+  whole =
+      let n = c.min-size.result in
+      let out = c.read_part.new.out in
+      take-append-le n out (drop n c.args.buf.now) (omega (arith, size)) ∙ take_all n out (omega (arith, size))
+
+  long : length sent ≡ c.min-size.result
+  long = ap length whole ∙ size
+
+  still : IsFalse (gone c.read_part.new.self)
+  still = subst IsFalse (sym c.in-Ok.ensures.gone) refl
+
+  stays : Stays (moment c.args.self.now) (moment c.read_part.new.self)
+  stays =
+      let a = c.args.self.now in
+      let b = c.read_part.new.self in
+      read-stays g.D.Flash.tells (g.D.Flash.told a.flash) (g.D.Flash.told b.flash) (g.D.Flash.writes a.flash) (g.D.Flash.writes b.flash) (fields a) (fields b)
+      c.read_part.ensures.fields c.read_part.ensures.reads.content c.read_part.ensures.reads.writes
+
+  goes : (E : Setting) (s : State) (x : Session) → Shows (moment c.args.self.now) s x
+      → GoesByMoves E (Ok tt) (moment c.args.self.now) (moment c.read_part.new.self) s [] x
+  goes =
+      let a = c.args.self.now in
+      let b = c.read_part.new.self in
+      read-goes g.D.Flash.tells (g.D.Flash.told a.flash) (g.D.Flash.told b.flash) (g.D.Flash.writes a.flash) (g.D.Flash.writes b.flash) (fields a) (fields b)
+      c.read_part.ensures.fields c.read_part.ensures.reads.content c.read_part.ensures.reads.writes
+
 pub returns-in-Ok-write_stream-clause-copies : goal.returns-in-Ok-write_stream-clause-copies
 returns-in-Ok-write_stream-clause-copies g c =
+    let p = (goal.at.returns-in-Ok-write_stream-clause-copies g c).After-write_stream in
     let a = c.args.self.now in
     let f : Fields = fields a in
-    let b = c.read_part.new.self in
     let n = c.min-size.result in
-    let buf = c.args.buf.now in
-    let out = c.read_part.new.out in
     let here = c.requires.here in
-    let s = g.D.Flash.told a.flash in
-    let t = g.D.Flash.told b.flash in
-    let inside : c.args.at + n ≤ total_of f (Some c.args.image) = omega (arith, c.min-size.ensures, c.requires.some) in
-    let small : n ≤ length buf = omega (arith, c.min-size.ensures, c.requires.room) in
-    let size : length out ≡ n = c.read_part.auto.out ∙ length-take-le n buf small in
-    let whole : take n (out ++ drop n buf) ≡ out = take-append-le n out (drop n buf) (omega (arith, size)) ∙ take_all n out (omega (arith, size)) in
-    let still : IsFalse (gone b) = subst IsFalse (sym c.in-Ok.ensures.gone) refl in
-    let some : 0 < n = omega (arith, c.min-size.ensures, c.requires.some) in
-    piece-written (moment a) (moment b) (moment c.write_stream.new.self) (a.fitting here) c.args.image c.args.at n
-    (take n (out ++ drop n buf))
-    (λ E w x shows. read-goes g.D.Flash.tells s t (g.D.Flash.writes a.flash) (g.D.Flash.writes b.flash) f (fields b) c.read_part.ensures.fields
-    c.read_part.ensures.reads.content c.read_part.ensures.reads.writes E w x shows)
-    (read-stays g.D.Flash.tells s t (g.D.Flash.writes a.flash) (g.D.Flash.writes b.flash) f (fields b) c.read_part.ensures.fields
-    c.read_part.ensures.reads.content c.read_part.ensures.reads.writes)
-    c.requires.image (ap length whole ∙ size) inside some
-    (piece-held (moment a) (a.fitting here) (a.knows here) c.args.image c.args.at n c.requires.image inside (take n (out ++ drop n buf))
-    (λ tells. whole ∙ c.in-Ok.ensures.bytes tells
-    ∙ ap (λ (k : ℕ). take k (drop (4096 * start f.layout f.boot c.args.image + c.args.at) s.now)) (length-take-le n buf small)))
-    (c.in-Ok-write_stream.ensures.meets still)
+    piece-written (moment a) (moment c.read_part.new.self) (moment c.write_stream.new.self) (a.fitting here) c.args.image c.args.at n
+    (sent g p) (goes g p) (stays g p) c.requires.image (long g p) (inside g p) (omega (arith, c.min-size.ensures, c.requires.some))
+    (piece-held (moment a) (a.fitting here) (a.knows here) c.args.image c.args.at n c.requires.image (inside g p) (sent g p)
+    (λ tells. whole g p ∙ c.in-Ok.ensures.bytes tells
+    ∙ ap (λ (k : ℕ). take k (drop (4096 * start f.layout f.boot c.args.image + c.args.at) (g.D.Flash.told a.flash).now)) (length-take-le n c.args.buf.now (small g p))))
+    (c.in-Ok-write_stream.ensures.meets (still g p))
 
 pub returns-in-Err-write_stream-clause-copies : goal.returns-in-Err-write_stream-clause-copies
 returns-in-Err-write_stream-clause-copies g c =
+    let p = (goal.at.returns-in-Err-write_stream-clause-copies g c).After-write_stream in
     let a = c.args.self.now in
-    let f : Fields = fields a in
     let b = c.read_part.new.self in
-    let n = c.min-size.result in
-    let buf = c.args.buf.now in
-    let out = c.read_part.new.out in
-    let here = c.requires.here in
-    let s = g.D.Flash.told a.flash in
-    let t = g.D.Flash.told b.flash in
-    let inside : c.args.at + n ≤ total_of f (Some c.args.image) = omega (arith, c.min-size.ensures, c.requires.some) in
-    let small : n ≤ length buf = omega (arith, c.min-size.ensures, c.requires.room) in
-    let size : length out ≡ n = c.read_part.auto.out ∙ length-take-le n buf small in
-    let whole : take n (out ++ drop n buf) ≡ out = take-append-le n out (drop n buf) (omega (arith, size)) ∙ take_all n out (omega (arith, size)) in
-    let still : IsFalse (gone b) = subst IsFalse (sym c.in-Ok.ensures.gone) refl in
-    piece-stopped (moment a) (moment b) (moment c.write_stream.new.self) (a.fitting here) c.args.image c.args.at n
-    (take n (out ++ drop n buf))
-    (λ E w x shows. read-goes g.D.Flash.tells s t (g.D.Flash.writes a.flash) (g.D.Flash.writes b.flash) f (fields b) c.read_part.ensures.fields
-    c.read_part.ensures.reads.content c.read_part.ensures.reads.writes E w x shows)
-    (read-stays g.D.Flash.tells s t (g.D.Flash.writes a.flash) (g.D.Flash.writes b.flash) f (fields b) c.read_part.ensures.fields
-    c.read_part.ensures.reads.content c.read_part.ensures.reads.writes)
-    c.requires.image (ap length whole ∙ size) inside c.in-Err-write_stream.stop (gone b) (gone c.write_stream.new.self) still
-    c.in-Err-write_stream.ensures.goes.gone (c.in-Err-write_stream.ensures.meets still)
+    piece-stopped (moment a) (moment b) (moment c.write_stream.new.self) (a.fitting c.requires.here) c.args.image c.args.at c.min-size.result
+    (sent g p) (goes g p) (stays g p) c.requires.image (long g p) (inside g p) c.in-Err-write_stream.stop (gone b) (gone c.write_stream.new.self)
+    (still g p) c.in-Err-write_stream.ensures.goes.gone (c.in-Err-write_stream.ensures.meets (still g p))
 
 pub returns-in-Ok-write_stream-clause-takes : goal.returns-in-Ok-write_stream-clause-takes
 returns-in-Ok-write_stream-clause-takes g c =
+    let p = (goal.at.returns-in-Ok-write_stream-clause-takes g c).After-write_stream in
     let a = c.args.self.now in
-    let f : Fields = fields a in
     let b = c.read_part.new.self in
     let n = c.min-size.result in
-    let buf = c.args.buf.now in
-    let out = c.read_part.new.out in
-    let here = c.requires.here in
-    let s = g.D.Flash.told a.flash in
-    let t = g.D.Flash.told b.flash in
-    let inside : c.args.at + n ≤ total_of f (Some c.args.image) = omega (arith, c.min-size.ensures, c.requires.some) in
-    let small : n ≤ length buf = omega (arith, c.min-size.ensures, c.requires.room) in
-    let size : length out ≡ n = c.read_part.auto.out ∙ length-take-le n buf small in
-    let whole : take n (out ++ drop n buf) ≡ out = take-append-le n out (drop n buf) (omega (arith, size)) ∙ take_all n out (omega (arith, size)) in
-    let still : IsFalse (gone b) = subst IsFalse (sym c.in-Ok.ensures.gone) refl in
-    let long : length (take n (out ++ drop n buf)) ≡ n = ap length whole ∙ size in
-    piece-takes c.args.image c.args.at n (moment a) (moment b) (g.D.Flash.arming (device a)) (g.D.Flash.arming (device c.write_stream.new.self))
-    (λ E w x shows. read-goes g.D.Flash.tells s t (g.D.Flash.writes a.flash) (g.D.Flash.writes b.flash) f (fields b) c.read_part.ensures.fields
-    c.read_part.ensures.reads.content c.read_part.ensures.reads.writes E w x shows)
+    piece-takes c.args.image c.args.at n (moment a) (moment b) (g.D.Flash.arming (device a)) (g.D.Flash.arming (device c.write_stream.new.self)) (goes g p)
     (λ i writes. ((c.in-Ok-write_stream.ensures.image i writes).spent tt).lowered
-    ∙ ap (λ (m : ℕ). lowered_by (writes_to_append (size_of (part_at (fields b).session i)) m) (g.D.Flash.arming (device b))) long
+    ∙ ap (λ (m : ℕ). lowered_by (writes_to_append (size_of (part_at (fields b).session i)) m) (g.D.Flash.arming (device b))) (long g p)
     ∙ ap (λ (o : Option Arming). lowered_by (writes_to_append (size_of (part_at (fields b).session i)) n) o) c.in-Ok.ensures.reads.arming)
 
 -- ---- what it spends
@@ -113,17 +117,15 @@ returns-in-Err-clause-spent g c =
 pub returns-in-Ok-write_stream-clause-spent : goal.returns-in-Ok-write_stream-clause-spent
 returns-in-Ok-write_stream-clause-spent g c =
     let b = c.read_part.new.self in
-    let still : IsFalse (gone b) = subst IsFalse (sym c.in-Ok.ensures.gone) refl in
     spent-then (read-spent {g = g.D.Flash} (Ok tt) (gone b) (device c.args.self.now) (device b) c.in-Ok.ensures.gone c.in-Ok.ensures.reads)
-    (call-spent still c.in-Ok-write_stream.ensures.goes)
+    (call-spent (still g (goal.at.returns-in-Ok-write_stream-clause-spent g c).After-write_stream) c.in-Ok-write_stream.ensures.goes)
 
 pub returns-in-Err-write_stream-clause-spent : goal.returns-in-Err-write_stream-clause-spent
 returns-in-Err-write_stream-clause-spent g c =
     let b = c.read_part.new.self in
-    let still : IsFalse (gone b) = subst IsFalse (sym c.in-Ok.ensures.gone) refl in
     err-spent (Unit {0}) ℕ c.in-Err-write_stream.stop (gone c.write_stream.new.self) (device c.args.self.now) (device c.write_stream.new.self)
     (spent-then (read-spent {g = g.D.Flash} (Ok tt) (gone b) (device c.args.self.now) (device b) c.in-Ok.ensures.gone c.in-Ok.ensures.reads)
-    (call-spent still c.in-Err-write_stream.ensures.goes))
+    (call-spent (still g (goal.at.returns-in-Err-write_stream-clause-spent g c).After-write_stream) c.in-Err-write_stream.ensures.goes))
 
 -- ---- what it leaves as it was
 
@@ -149,9 +151,8 @@ module _ (g : given.Over) (c : After-write_stream g) where
   written =
       let b = c.read_part.new.self in
       let d = c.write_stream.new.self in
-      let still : IsFalse (gone b) = subst IsFalse (sym c.in-Ok.ensures.gone) refl in
       let w = c.write_stream.ensures in
-      let leaves = (w.meets still any).leaves in
+      let leaves = (w.meets (still g c) any).leaves in
       fills-by c.write_stream.result (moment b) (moment d)
       (λ done.
       let writes = w.writes done in

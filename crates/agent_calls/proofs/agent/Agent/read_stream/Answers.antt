@@ -2,32 +2,43 @@ use Rattle.std.proofs.Common.{◌-◌, ◌≤◌, [], Ok, Err, length, refl, sym
 use Rattle.std.proofs.lemmas.List.{length-take, length-take-le}
 use Rattle.flash_core.specs.declared.flash.FlashStop.{FlashStop}
 use Rattle.flash_core.specs.Calls.{Reads}
-use Rattle.flash_core.specs.Told.{Told}
 use Rattle.agent_kept.specs.declared.kinds.Plan.TheVariants as plan
 use Rattle.agent_state.specs.Settles.{IsPlanOf}
 use Rattle.agent_machine.specs.Fields.{Fields}
 use Rattle.agent_machine.specs.Directory.{piece_of}
-use Rattle.agent_machine.specs.Meets.{IsGot}
+use Rattle.agent_machine.specs.Meets.{IsGot, Stays}
 use Rattle.agent_machine.proofs.ReadAnswers.{read-refused, read-inside, read-lost, read-faulty, read-meets, carried-from, filled}
 use Rattle.agent_calls.specs.Records.{ReadsAlone}
 use Rattle.agent_calls.specs.Shown.{device, fields, moment}
 use Rattle.agent_calls.proofs.Beyond.{read-room, read-no-more, kept-beyond}
+use Rattle.agent_calls.proofs.Copies.{read-stays}
 use Rattle.agent_calls.proofs.Keeping.{alone, read-keeps, untouched}
 use Rattle.agent_calls.proofs.NoOther.{reads}
+use Rattle.agent_calls.proofs.agent.Agent.read_stream.Given as given
 use Rattle.agent_calls.proofs.agent.Agent.read_stream.Goals as goal
+use Rattle.agent_calls.proofs.agent.Agent.read_stream.Goals.{After-read_part, In-Read}
+
+module _ (g : given.Over) (c : In-Read g) where
+  room : c.in-Read.length ≤ length c.args.out.now
+  room =
+      read-room (fields c.args.self.now) c.args.h (length c.args.out.now) c.in-Ok.plan c.in-Ok.ensures.asked c.in-Read.handle
+      c.in-Read.image c.in-Read.at c.in-Read.length c.in-Read.total c.in-Read.is
+
+module _ (g : given.Over) (c : After-read_part g) where
+  stays : Stays (moment c.args.self.now) (moment c.read_part.new.self)
+  stays =
+      let d = g.D.Flash in
+      let a = c.args.self.now in
+      let b = c.read_part.new.self in
+      read-stays d.tells (d.told a.flash) (d.told b.flash) (d.writes a.flash) (d.writes b.flash) (fields a) (fields b) c.read_part.ensures.fields
+      c.read_part.ensures.reads.content c.read_part.ensures.reads.writes
 
 pub slice_bounds-read_part-end : goal.slice_bounds-read_part-end
-slice_bounds-read_part-end g c =
-    let a = c.args.self.now in
-    read-room (fields a) c.args.h (length c.args.out.now) c.in-Ok.plan c.in-Ok.ensures.asked c.in-Read.handle
-    c.in-Read.image c.in-Read.at c.in-Read.length c.in-Read.total c.in-Read.is
+slice_bounds-read_part-end g c = room g (goal.at.slice_bounds-read_part-end g c).In-Read
 
 pub slice_bounds-read_part-end-in-Read : goal.slice_bounds-read_part-end-in-Read
 slice_bounds-read_part-end-in-Read g c =
-    let a = c.args.self.now in
-    sym (length-take-le c.in-Read.length c.args.out.now
-    (read-room (fields a) c.args.h (length c.args.out.now) c.in-Ok.plan c.in-Ok.ensures.asked c.in-Read.handle
-    c.in-Read.image c.in-Read.at c.in-Read.length c.in-Read.total c.in-Read.is))
+    sym (length-take-le c.in-Read.length c.args.out.now (room g (goal.at.slice_bounds-read_part-end-in-Read g c).In-Read))
 
 pub read_part-requires-clause-within : goal.read_part-requires-clause-within
 read_part-requires-clause-within g c =
@@ -42,8 +53,7 @@ returns-in-Ok-read_part-clause-meets g c here passes =
     let a = c.args.self.now in
     let f : Fields = fields a in
     let n = c.in-Read.length in
-    let fits : n ≤ length c.args.out.now = read-room (fields a) c.args.h (length c.args.out.now) c.in-Ok.plan c.in-Ok.ensures.asked c.in-Read.handle
-    c.in-Read.image c.in-Read.at n c.in-Read.total c.in-Read.is in
+    let fits = room g (goal.at.returns-in-Ok-read_part-clause-meets g c).In-Read in
     read-meets (moment a) (a.fitting here) a.session.sound (a.knows here) c.args.h
     (length c.args.out.now) c.in-Ok.plan c.in-Ok.ensures.plans c.in-Read.handle c.in-Read.image c.in-Read.at n c.in-Read.total c.in-Read.is
     c.in-Ok.ensures.of
@@ -56,44 +66,25 @@ returns-in-Ok-read_part-clause-meets g c here passes =
     c.read_part.ensures.fields c.read_part.ensures.reads.content c.keep.ensures.carried)
 
 pub returns-in-Ok-read_part-clause-room : goal.returns-in-Ok-read_part-clause-room
-returns-in-Ok-read_part-clause-room g c =
-    let a = c.args.self.now in
-    read-room (fields a) c.args.h (length c.args.out.now) c.in-Ok.plan c.in-Ok.ensures.asked c.in-Read.handle
-    c.in-Read.image c.in-Read.at c.in-Read.length c.in-Read.total c.in-Read.is
+returns-in-Ok-read_part-clause-room g c = room g (goal.at.returns-in-Ok-read_part-clause-room g c).In-Read
 
 pub returns-in-Err-Lost-clause-meets : goal.returns-in-Err-Lost-clause-meets
 returns-in-Err-Lost-clause-meets g c here passes =
     let a = c.args.self.now in
-    let same = c.read_part.ensures.fields in
     read-lost (moment a) (a.fitting here) a.session.sound (a.knows here) c.args.h
     (length c.args.out.now) c.in-Ok.plan c.in-Ok.ensures.plans c.in-Read.handle c.in-Read.image c.in-Read.at c.in-Read.length c.in-Read.total c.in-Read.is
     c.in-Ok.ensures.of
     (moment c.read_part.new.self) c.read_part.ensures.reads.content c.read_part.ensures.reads.writes passes (IsGot g.D.Flash.tells _)
-    (record {
-      tells = refl;
-      layout = ap (λ (x : Fields). x.layout) same;
-      boot = ap (λ (x : Fields). x.boot) same;
-      counter = ap (λ (x : Fields). x.counter) same;
-      lengths = ap (λ (x : Fields). x.lengths) same;
-      guard = λ told. ap (λ (t : Told). t.guard) (c.read_part.ensures.reads.content told);
-    })
+    (stays g (goal.at.returns-in-Err-Lost-clause-meets g c).After-read_part)
 
 pub returns-in-Err-Failed-clause-meets : goal.returns-in-Err-Failed-clause-meets
 returns-in-Err-Failed-clause-meets g c here passes =
     let a = c.args.self.now in
-    let same = c.read_part.ensures.fields in
     read-faulty (moment a) (a.fitting here) a.session.sound (a.knows here) c.args.h
     (length c.args.out.now) c.in-Ok.plan c.in-Ok.ensures.plans c.in-Read.handle c.in-Read.image c.in-Read.at c.in-Read.length c.in-Read.total c.in-Read.is
     c.in-Ok.ensures.of
     (moment c.read_part.new.self) c.read_part.ensures.reads.content c.read_part.ensures.reads.writes passes (IsGot g.D.Flash.tells _)
-    (record {
-      tells = refl;
-      layout = ap (λ (x : Fields). x.layout) same;
-      boot = ap (λ (x : Fields). x.boot) same;
-      counter = ap (λ (x : Fields). x.counter) same;
-      lengths = ap (λ (x : Fields). x.lengths) same;
-      guard = λ told. ap (λ (t : Told). t.guard) (c.read_part.ensures.reads.content told);
-    })
+    (stays g (goal.at.returns-in-Err-Failed-clause-meets g c).After-read_part)
 
 -- a read has no other plan
 pub returns-in_default-clause-meets : goal.returns-in_default-clause-meets
@@ -111,8 +102,7 @@ pub returns-in-Ok-read_part-clause-beyond : goal.returns-in-Ok-read_part-clause-
 returns-in-Ok-read_part-clause-beyond g c image at total reads =
     let a = c.args.self.now in
     kept-beyond c.args.out.now c.read_part.new.out c.in-Read.length (total - at) c.read_part.auto.out
-    (read-room (fields a) c.args.h (length c.args.out.now) c.in-Ok.plan c.in-Ok.ensures.asked c.in-Read.handle
-    c.in-Read.image c.in-Read.at c.in-Read.length c.in-Read.total c.in-Read.is)
+    (room g (goal.at.returns-in-Ok-read_part-clause-beyond g c).In-Read)
     (read-no-more (fields a) c.args.h (length c.args.out.now) c.in-Ok.plan c.in-Ok.ensures.asked c.in-Read.handle c.in-Read.image c.in-Read.at
     c.in-Read.length c.in-Read.total c.in-Read.is image at total reads)
 
@@ -120,8 +110,7 @@ pub returns-in-Err-Lost-clause-beyond : goal.returns-in-Err-Lost-clause-beyond
 returns-in-Err-Lost-clause-beyond g c image at total reads =
     let a = c.args.self.now in
     kept-beyond c.args.out.now c.read_part.new.out c.in-Read.length (total - at) c.read_part.auto.out
-    (read-room (fields a) c.args.h (length c.args.out.now) c.in-Ok.plan c.in-Ok.ensures.asked c.in-Read.handle
-    c.in-Read.image c.in-Read.at c.in-Read.length c.in-Read.total c.in-Read.is)
+    (room g (goal.at.returns-in-Err-Lost-clause-beyond g c).In-Read)
     (read-no-more (fields a) c.args.h (length c.args.out.now) c.in-Ok.plan c.in-Ok.ensures.asked c.in-Read.handle c.in-Read.image c.in-Read.at
     c.in-Read.length c.in-Read.total c.in-Read.is image at total reads)
 
@@ -129,8 +118,7 @@ pub returns-in-Err-Failed-clause-beyond : goal.returns-in-Err-Failed-clause-beyo
 returns-in-Err-Failed-clause-beyond g c image at total reads =
     let a = c.args.self.now in
     kept-beyond c.args.out.now c.read_part.new.out c.in-Read.length (total - at) c.read_part.auto.out
-    (read-room (fields a) c.args.h (length c.args.out.now) c.in-Ok.plan c.in-Ok.ensures.asked c.in-Read.handle
-    c.in-Read.image c.in-Read.at c.in-Read.length c.in-Read.total c.in-Read.is)
+    (room g (goal.at.returns-in-Err-Failed-clause-beyond g c).In-Read)
     (read-no-more (fields a) c.args.h (length c.args.out.now) c.in-Ok.plan c.in-Ok.ensures.asked c.in-Read.handle c.in-Read.image c.in-Read.at
     c.in-Read.length c.in-Read.total c.in-Read.is image at total reads)
 
