@@ -7,7 +7,7 @@ use Rattle.step_flash.specs.declared.step.Step.{Step}
 use Rattle.step_flash.specs.declared.flash.StepFlash.{StepFlash}
 use Rattle.step_flash.specs.declared.flash.Unmade.{Unmade}
 use Rattle.step_flash.specs.declared.flash.Unmade.TheVariants.{NoFlash, NoMemory}
-use Rattle.step_flash.specs.Flash.{block_count, image_of, is_on, package_of, told_of, writes_of}
+use Rattle.step_flash.specs.Flash.{block_count, image_of, is_on, package_of, room_of, steps_of, told_of, writes_of}
 use Rattle.step_flash.specs.Guard.{start_with}
 use Rattle.step_flash.specs.Stopped.{under_as}
 use Rattle.step_flash.specs.Steps.{AreDoable, IsInsideWith, room_bytes, run_with}
@@ -58,6 +58,11 @@ pub record HandsOver (d : StepFlash) (told r : Report) (steps : List Step) (room
   pub doable : AreDoable (package_of d) (take r.bytes room) (start_with (image_of d) (package_of d)) (take r.steps steps)
   pub same : SameBut told r
   pub lie : LieAsCounted d (take r.steps steps)
+
+-- What is handed over is what the device noted: each step, in their order, and the bytes of the room.
+pub record GivesNoted (d : StepFlash) (steps : List Step) (room : List ℕ) : Type 0 where
+  pub steps_are : steps ≡ steps_of d
+  pub room_is : room ≡ room_of d
 
 -- there is no layout or no metadata, or no boot started the bank
 abbrev pub is_idle_number : ℕ → Bool

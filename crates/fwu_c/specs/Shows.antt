@@ -1,5 +1,5 @@
 -- What C is told of what a flash shows.
-use Rattle.std.specs.Prelude.{◌≡◌, ◌↔◌, ◌≤◌, ℕ, zero, suc, Bool, false, List, [], drop, length, take, None, Ok, Err, slice_index_or}
+use Rattle.std.specs.Prelude.{◌≡◌, ◌≢◌, ◌↔◌, ◌≤◌, ℕ, zero, suc, Bool, false, List, [], drop, length, take, None, Ok, Err, slice_index_or}
 use Rattle.base_core.specs.Bytes.{listed}
 use Rattle.fwu_formats.specs.Digests.{passes_any}
 use Rattle.fwu_formats.specs.Image.{layout_seen, deciding}
@@ -100,6 +100,8 @@ ShowsBy image (suc (suc (suc n))) s = ⊥
 pub record TellsShown (image : List ℕ) (number : ℕ) (old new : FlashShown) : Type 0 where
   -- at 1 nothing but the fault is told
   pub fault : number ≡ 1 → new ≡ record old { layout_fault = new.layout_fault }
+  -- and at each other answer the fault stays
+  pub fault_stays : number ≢ 1 → new.layout_fault ≡ old.layout_fault
   -- nothing is told behind the last bank
   pub behind : drop new.banks new.bank ≡ drop new.banks old.bank
   -- 6 comes of all bytes that are no flash, and of no others

@@ -1,10 +1,10 @@
 //! The steps of a device, handed over to C.
-ghost use Rattle.std.specs.Prelude.{◌≡◌, ◌≢◌, ◌⊎◌, ◌*◌, All, drop, length, IfSome, IsTrue};
+ghost use Rattle.std.specs.Prelude.{◌≡◌, ◌≢◌, ◌⊎◌, ◌*◌, All, drop, length, take, IfSome, IsFalse, IsTrue};
 ghost use Rattle.base_core.specs.Block.{block_bytes};
 ghost use Rattle.step_flash.specs.Flash.{NotedBy, block_count, image_of, package_of, told_of};
 ghost use Rattle.step_flash.specs.Guard.{start_with};
 ghost use Rattle.step_flash.specs.Steps.{AreDoable, IsInsideWith, room_bytes};
-ghost use Rattle.fwu_c.specs.Handed.{HandsOver, IsDeviceEnd, IsStartOfSteps, IsUntouched, KeepsReport, LieAsCounted, is_idle_number, unmade_code};
+ghost use Rattle.fwu_c.specs.Handed.{GivesNoted, HandsOver, IsDeviceEnd, IsStartOfSteps, IsUntouched, KeepsReport, LieAsCounted, is_idle_number, unmade_code};
 
 use crate::report::Report;
 use step_flash::{Step, StepFlash, StepParts, Unmade};
@@ -41,6 +41,8 @@ fn parts_of(flash: StepFlash<'_>, number: u32) -> Option<StepParts>
         parts.steps.items) }
     ensures theirs { IfSome result (λ parts. length parts.room.items ≡ room_bytes parts.steps.items) }
     ensures lie { IfSome result (λ parts. LieAsCounted flash.entry parts.steps.items) }
+    ensures given { IfSome result (λ parts. IsFalse (is_idle_number number) →
+        GivesNoted flash.entry parts.steps.items parts.room.items) }
     ensures none { IfSome result (λ parts. IsTrue (is_idle_number number) →
         (length parts.steps.items ≡ 0) × (length parts.room.items ≡ 0)) }
 {
@@ -72,6 +74,9 @@ pub fn hand_over(
     requires kept { KeepsReport number report.old told.now }
     ensures number { (result ≡ number) ⊎ (result ≡ 7) }
     ensures hands { result ≢ 7 → HandsOver flash.entry told.now report.new steps.new room.new }
+    // the steps that the device noted, and no others, in their order
+    ensures given { result ≢ 7 → IsFalse (is_idle_number result) →
+        GivesNoted flash.entry (take report.new.steps steps.new) (take report.new.bytes room.new) }
     ensures idle { IsTrue (is_idle_number result) → (report.new.steps ≡ 0) × (report.new.bytes ≡ 0) }
     ensures kept { KeepsReport result report.old report.new }
     ensures full { result ≡ 5 → report.new.steps ≡ length steps.old }

@@ -136,6 +136,7 @@ fn put_numbers(layout: &Layout, read: &Numbers, shown: &mut FlashShown)
     requires { AreNumbers (numbers read.now) }
     ensures told { TellsNumbers layout.now (numbers read.now) shown.new }
     ensures banks { shown.new.bank ≡ shown.old.bank }
+    ensures fault { shown.new.layout_fault ≡ shown.old.layout_fault }
 {
     shown.form = read.form;
     shown.active = read.active;
@@ -161,6 +162,7 @@ fn show_banks(
     ensures banks { result ≡ true → TellsBanks image.now layout.now (numbers read.now) shown.new }
     ensures behind { result ≡ true → drop shown.new.banks shown.new.bank ≡ drop shown.new.banks shown.old.bank }
     ensures told { TellsNumbers layout.now (numbers read.now) shown.new }
+    ensures fault { shown.new.layout_fault ≡ shown.old.layout_fault }
 {
     for bank in 0..read.states.len() {
         let Some(found) = find_bank(alloc, image, layout, read, bank as u32, block) else {

@@ -1,5 +1,5 @@
 -- Which call of the agent a request asks for, by its function and its arguments.
-use Rattle.std.specs.Prelude.{ℕ, ◌==◌, nat_le, if◌then◌else◌, List, length, take, drop, Option, Some, None, option_map}
+use Rattle.std.specs.Prelude.{◌≡◌, ℕ, ◌==◌, nat_le, if◌then◌else◌, List, length, take, drop, Option, Some, None, option_map}
 use Rattle.base_core.specs.Bytes.{num_at}
 use Rattle.fwu_model.specs.declared.kinds.Op.{Op}
 use Rattle.fwu_model.specs.declared.kinds.Op.TheVariants as op
@@ -71,3 +71,9 @@ shown (wire.Read handle room) = call.Read handle room
 shown (wire.Commit handle request atomic) = call.Commit handle request
 shown (wire.Accept guid) = call.Accepts guid
 shown wire.Previous = call.Previous
+
+-- The numbers that have no meaning are those of the arguments too.
+abbrev pub TellsUnused : List ℕ → AgentCall → Type 0
+TellsUnused args (wire.Begin flags count) = flags ≡ num_at 4 args 0
+TellsUnused args (wire.Commit handle request atomic) = atomic ≡ num_at 4 args 8
+TellsUnused args other = Unit {0}

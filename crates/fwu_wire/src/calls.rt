@@ -1,7 +1,7 @@
 //! What a request asks the agent for.
-ghost use Rattle.std.specs.Prelude.{◌≡◌, ◌≤◌, Some, IfSome, length, option_map};
+ghost use Rattle.std.specs.Prelude.{◌≡◌, ◌≤◌, Some, IfSome, drop, length, option_map};
 ghost use Rattle.fwu_wire.specs.Fitting.{AsksWithin};
-ghost use Rattle.fwu_wire.specs.Calls.{asks, asks_by, asks_open, asks_read, asks_write, of_length, op_of, shown};
+ghost use Rattle.fwu_wire.specs.Calls.{TellsUnused, asks, asks_by, asks_open, asks_read, asks_write, of_length, op_of, shown};
 
 use crate::functions::Function;
 use base_core::{Guid, le32_at};
@@ -51,6 +51,7 @@ pub enum AgentCall<'a> {
 fn begin_of<'a>(args: &[u8]) -> Option<AgentCall<'a>>
     ensures call { option_map shown result ≡ asks_by (Some Function.Begin) args.now }
     ensures within { IfSome result AsksWithin }
+    ensures unused { IfSome result (TellsUnused args.now) }
 {
     if args.len() != 8 {
         return None;
@@ -75,6 +76,7 @@ fn op_of(number: u32) -> Option<Op>
 fn open_of<'a>(args: &[u8]) -> Option<AgentCall<'a>>
     ensures call { option_map shown result ≡ asks_open args.now }
     ensures within { IfSome result AsksWithin }
+    ensures unused { IfSome result (TellsUnused args.now) }
 {
     if args.len() != 20 {
         return None;
@@ -91,6 +93,7 @@ fn open_of<'a>(args: &[u8]) -> Option<AgentCall<'a>>
 fn write_of<'a>(args: &'a [u8]) -> Option<AgentCall<'a>>
     ensures call { option_map shown result ≡ asks_write args.entry.now }
     ensures within { IfSome result AsksWithin }
+    ensures unused { IfSome result (TellsUnused args.entry.now) }
 {
     if args.len() < 4 {
         return None;
@@ -104,6 +107,7 @@ fn write_of<'a>(args: &'a [u8]) -> Option<AgentCall<'a>>
 fn read_of<'a>(args: &[u8]) -> Option<AgentCall<'a>>
     ensures call { option_map shown result ≡ asks_read args.now }
     ensures within { IfSome result AsksWithin }
+    ensures unused { IfSome result (TellsUnused args.now) }
 {
     if args.len() != 8 {
         return None;
@@ -121,6 +125,7 @@ fn read_of<'a>(args: &[u8]) -> Option<AgentCall<'a>>
 fn commit_of<'a>(args: &[u8]) -> Option<AgentCall<'a>>
     ensures call { option_map shown result ≡ asks_by (Some Function.Commit) args.now }
     ensures within { IfSome result AsksWithin }
+    ensures unused { IfSome result (TellsUnused args.now) }
 {
     if args.len() != 12 {
         return None;
@@ -135,6 +140,7 @@ fn commit_of<'a>(args: &[u8]) -> Option<AgentCall<'a>>
 fn accept_of<'a>(args: &[u8]) -> Option<AgentCall<'a>>
     ensures call { option_map shown result ≡ asks_by (Some Function.Accept) args.now }
     ensures within { IfSome result AsksWithin }
+    ensures unused { IfSome result (TellsUnused args.now) }
 {
     if args.len() != 16 {
         return None;
@@ -147,6 +153,7 @@ fn accept_of<'a>(args: &[u8]) -> Option<AgentCall<'a>>
 fn call_by<'a>(function: Function, args: &'a [u8]) -> Option<AgentCall<'a>>
     ensures call { option_map shown result ≡ asks_by (Some function) args.entry.now }
     ensures within { IfSome result AsksWithin }
+    ensures unused { IfSome result (TellsUnused args.entry.now) }
 {
     match function {
         Function::Discover if args.is_empty() => Some(AgentCall::Discover),
@@ -173,6 +180,7 @@ pub fn call_of<'a>(message: &'a [u8]) -> Option<AgentCall<'a>>
     requires { 4 ≤ length message.now }
     ensures call { option_map shown result ≡ asks message.entry.now }
     ensures within { IfSome result AsksWithin }
+    ensures unused { IfSome result (TellsUnused (drop 4 message.entry.now)) }
 {
     match Function::of(le32_at(message, 0)) {
         Some(function) => call_by(function, &message[4..]),

@@ -151,6 +151,11 @@ pub record ComesBackOn (old new : StepDevice) : Type 0 where
   pub made : (counts_of new).made ≡ (counts_of old).made
   pub counts : Idles (counts_of old) (counts_of new)
 
+-- Only a live device does a call. Whatever came of it, the device is live where it was.
+pub record StaysLive (result : Result (Unit {0}) FlashStop) (old new : StepDevice) : Type 0 where
+  pub done : OnOk result (IsTrue (is_live old))
+  pub stays : is_live new ≡ is_live old
+
 -- A call failed, and power went. This is told then, and no step was noted.
 pub record Fails (told : Told) (result : Result (Unit {0}) FlashStop) (old new : StepDevice) : Type 0 where
   pub stop : IsErrOf result Failed
@@ -161,6 +166,7 @@ pub record Fails (told : Told) (result : Result (Unit {0}) FlashStop) (old new :
   pub counts : Spends result (counts_of old) (counts_of new)
   pub kept : KeepsSteps old new
   pub still : (b : ℕ) → writes_of new b ≡ writes_of old b
+  pub live : is_live new ≡ is_live old
 
 -- What was noted is handed out as it is: the steps, in their order, and the room.
 pub record IsGivenOut (d : StepDevice) (parts : StepParts) : Type 0 where

@@ -241,9 +241,9 @@ fn lowered(arming: Option<Arming>) -> Option<Arming>
 }
 
 impl<'a> StepDevice<'a> {
-    ghost use Rattle.std.specs.Prelude.{◌≡◌, ◌+◌, ◌*◌, ◌<◌, ◌≤◌, length, IsTrue, IsFalse};
+    ghost use Rattle.std.specs.Prelude.{◌≡◌, ◌+◌, ◌*◌, ◌<◌, ◌≤◌, is_ok, length, IsTrue, IsFalse};
     ghost use Rattle.base_core.specs.Block.{blank};
-    ghost use Rattle.step_flash.specs.Device.{ArmsLoss, KeepsSteps, NotesProgram, NotesStep, ComesBackOn, ReadsImage, SettlesImage, Writes, is_on, block_count, told_of};
+    ghost use Rattle.step_flash.specs.Device.{ArmsLoss, KeepsSteps, NotesProgram, NotesStep, ComesBackOn, ReadsImage, SettlesImage, StaysLive, Writes, is_live, is_on, block_count, told_of};
     ghost use Rattle.step_flash.specs.Steps.{TakesProgram, barrier_step, erase_step};
 
     pub(crate) fn blocks(&self) -> u32
@@ -263,6 +263,8 @@ impl<'a> StepDevice<'a> {
         requires inside { at + length out.old ≤ block_bytes * block_count self.old }
         ensures reads { ReadsImage at out.old out.new result self.old self.new }
         ensures kept { KeepsSteps self.old self.new }
+        ensures live { StaysLive result self.old self.new }
+        ensures done { IsTrue (is_live self.old) → IsTrue (is_ok result) }
     {
         if !self.live {
             return self.failed();
@@ -276,6 +278,7 @@ impl<'a> StepDevice<'a> {
         requires inside { block < block_count self.old }
         ensures writes { Writes (block_bytes * block) (blank block_bytes) result self.old self.new }
         ensures noted { NotesStep (erase_step (block_bytes * block)) result self.old self.new }
+        ensures live { StaysLive result self.old self.new }
     {
         let at = BLOCK_BYTES * block;
         if !self.is_ready() || !note_erase(&mut self.steps, self.most, at) {
@@ -291,6 +294,7 @@ impl<'a> StepDevice<'a> {
         requires inside { at + length bytes.now ≤ block_bytes * block_count self.old }
         ensures writes { Writes at bytes.now result self.old self.new }
         ensures noted { NotesProgram at bytes.now result self.old self.new }
+        ensures live { StaysLive result self.old self.new }
     {
         if !self.is_ready()
             || !note_program(
@@ -312,6 +316,7 @@ impl<'a> StepDevice<'a> {
         requires on { IsTrue (is_on self.old) }
         ensures settles { SettlesImage result self.old self.new }
         ensures noted { NotesStep barrier_step result self.old self.new }
+        ensures live { StaysLive result self.old self.new }
     {
         if !self.live || !note_barrier(&mut self.steps, self.most) {
             return self.failed();
@@ -323,6 +328,7 @@ impl<'a> StepDevice<'a> {
         requires { 1 ≤ n }
         ensures arms { ArmsLoss n k self.old self.new }
         ensures kept { KeepsSteps self.old self.new }
+        ensures live { is_live self.new ≡ is_live self.old }
     {
         self.arming = Some(Arming { n, k });
         self.made = self.made.saturating_add(1);
@@ -331,6 +337,7 @@ impl<'a> StepDevice<'a> {
     pub(crate) fn power_on(&mut self)
         ensures back { ComesBackOn self.old self.new }
         ensures kept { KeepsSteps self.old self.new }
+        ensures live { IsFalse (is_live self.new) }
     {
         self.on = true;
         self.live = false;

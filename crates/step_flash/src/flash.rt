@@ -1,7 +1,7 @@
 //! The flash, as its callers hold it.
-ghost use Rattle.std.specs.Prelude.{◌≡◌, ℕ, ◌<◌, ◌≤◌, ◌+◌, ◌*◌, ◌%◌, None, true, [], All, IfErr, IfOk, IsFalse, IsTrue, length, slice_range};
+ghost use Rattle.std.specs.Prelude.{◌≡◌, ℕ, ◌<◌, ◌≤◌, ◌+◌, ◌*◌, ◌%◌, None, true, [], All, IfErr, IfOk, IsFalse, IsTrue, is_ok, length, slice_range};
 ghost use Rattle.base_core.specs.Block.{blank, block_bytes, granule_bytes};
-ghost use Rattle.step_flash.specs.Device.{ArmsLoss, IsGivenOut, KeepsSteps, NotesProgram, NotesStep, ComesBackOn, ReadsImage, SettlesImage, Writes};
+ghost use Rattle.step_flash.specs.Device.{ArmsLoss, IsGivenOut, KeepsSteps, NotesProgram, NotesStep, ComesBackOn, ReadsImage, SettlesImage, StaysLive, Writes};
 ghost use Rattle.step_flash.specs.Flash.{device_in, steps_of, NotedBy, arming_of, block_count, counts_of, image_of, is_live, is_on};
 ghost use Rattle.step_flash.specs.Flash.{flash_sizes, flash_sound, flash_ahead, most_of, package_of, told_of, writes_of};
 ghost use Rattle.flash_core.specs.Touches.{TouchesOnly};
@@ -151,6 +151,8 @@ impl<'a> Flash for StepFlash<'a> {
         requires inside { at + length out.old ≤ block_bytes * block_count self.old }
         ensures reads { ReadsImage at out.old out.new result (device_in self.old) (device_in self.new) }
         ensures kept { KeepsSteps (device_in self.old) (device_in self.new) }
+        ensures live { StaysLive result (device_in self.old) (device_in self.new) }
+        ensures done { IsTrue (is_live self.old) → IsTrue (is_ok result) }
     {
         self.device.read(at, out)
     }
@@ -160,6 +162,7 @@ impl<'a> Flash for StepFlash<'a> {
         requires inside { block < block_count self.old }
         ensures writes { Writes (block_bytes * block) (blank block_bytes) result (device_in self.old) (device_in self.new) }
         ensures noted { NotesStep (erase_step (block_bytes * block)) result (device_in self.old) (device_in self.new) }
+        ensures live { StaysLive result (device_in self.old) (device_in self.new) }
     {
         self.device.erase(block)
     }
@@ -173,6 +176,7 @@ impl<'a> Flash for StepFlash<'a> {
         requires blank { IsTrue true → slice_range (told_of self.old).now at (at + length bytes.now) ≡ blank (length bytes.now) }
         ensures writes { Writes at bytes.now result (device_in self.old) (device_in self.new) }
         ensures noted { NotesProgram at bytes.now result (device_in self.old) (device_in self.new) }
+        ensures live { StaysLive result (device_in self.old) (device_in self.new) }
     {
         self.device.program(at, bytes)
     }
@@ -181,6 +185,7 @@ impl<'a> Flash for StepFlash<'a> {
         requires on { IsTrue (is_on self.old) }
         ensures settles { SettlesImage result (device_in self.old) (device_in self.new) }
         ensures noted { NotesStep barrier_step result (device_in self.old) (device_in self.new) }
+        ensures live { StaysLive result (device_in self.old) (device_in self.new) }
     {
         self.device.barrier()
     }
@@ -189,6 +194,7 @@ impl<'a> Flash for StepFlash<'a> {
         requires { 1 ≤ n }
         ensures arms { ArmsLoss n k (device_in self.old) (device_in self.new) }
         ensures kept { KeepsSteps (device_in self.old) (device_in self.new) }
+        ensures live { is_live self.new ≡ is_live self.old }
     {
         self.device.arm(n, k);
     }
@@ -197,6 +203,7 @@ impl<'a> Flash for StepFlash<'a> {
         requires { IsFalse (is_on self.old) }
         ensures back { ComesBackOn (device_in self.old) (device_in self.new) }
         ensures kept { KeepsSteps (device_in self.old) (device_in self.new) }
+        ensures live { IsFalse (is_live self.new) }
     {
         self.device.power_on();
     }

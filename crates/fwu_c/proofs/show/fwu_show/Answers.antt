@@ -41,6 +41,7 @@ returns-in-Err-Metadata-clause-shows c = λ low.
 pub returns-in-Err-Layout-clause-tells : goal.returns-in-Err-Layout-clause-tells
 returns-in-Err-Layout-clause-tells c = record {
   fault = λ one. refl;
+  fault_stays = λ other. absurd (other refl);
   behind = refl;
   no_flash = no_six _ 1 (has_flash_size _ c.in-Ok.flash c.in-Ok.ensures.size) (λ six. omega (arith, six));
   untouched = λ low. absurd (omega (arith, low));

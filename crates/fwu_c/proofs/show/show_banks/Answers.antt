@@ -28,4 +28,5 @@ loop-bank-preserved c =
       c.find_bank.ensures.room ∙ c.loop-bank.invariant.3,
       drop-set-lt (bank + 1) told bank c.in-Some.found (omega arith)
           ∙ sym (drop-drop 1 bank told) ∙ ap (λ (ks : List BankShown). drop 1 ks) c.loop-bank.invariant.4 ∙ drop-drop 1 bank c.args.shown.now.bank,
+      c.loop-bank.invariant.5,
     )

@@ -17,4 +17,5 @@ returns c =
       counts = f.counts;
       kept = record { steps = f.kept.steps; room = f.kept.room; writes = f.kept.writes };
       still = f.still;
+      live = f.live;
     }
