@@ -213,7 +213,7 @@ module _ (passes : List ℕ → Bool) (tells : Bool) (one all : Directory) where
       → SameDevice old new ⊎ StopTakes false (Some all) name f old new
   read-with name f old new same (inl still) = inl still
   read-with name f old new same (inr by) =
-      inr (record { toc = by.toc; table = table-with name (Ok by.toc) same by.table; entries = by.entries; sent = by.sent; spent = by.spent })
+      inr (record { toc = by.toc; table = table-with name (Ok by.toc) same by.table; whole = by.whole; entries = by.entries; sent = by.sent; spent = by.spent })
 
   spent-with : (name : List ℕ) (f : Fields) (r : Reply) (old new : TurnMoment) → one name ≡ all name → SendTakes false (Some one) name f r old new → SendTakes false (Some all) name f r old new
   spent-with name f (reply.Sent images skipped) old new same by = record { toc = by.toc; table = table-with name (Ok by.toc) same by.table; whole = by.whole; spent = by.spent }

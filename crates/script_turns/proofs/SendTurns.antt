@@ -641,7 +641,7 @@ module _ (partly : Bool) (passes : List ℕ → Bool) (tells : Bool) (files : Op
   sent-takes (Err (Begin st)) power toc powered same table faults takes refused unread = let d = same tt in record { told = d.0; writes = d.1; counts = d.2; armed = d.3; power = powered }
   sent-takes (Err (End st)) power toc powered same table faults takes refused unread = record { toc = toc; table = table; whole = faults; spent = refused }
   sent-takes (Err ReadFailed) power toc powered same table faults takes refused unread =
-      inr (record { toc = toc; table = table; entries = unread.0; sent = unread.1; spent = unread.2 })
+      inr (record { toc = toc; table = table; whole = faults; entries = unread.0; sent = unread.1; spent = unread.2 })
   sent-takes (Err Lost) power toc powered same table faults takes refused unread = tt
   sent-takes (Err Fault) power toc powered same table faults takes refused unread = tt
   sent-takes (Err Gone) power toc powered same table faults takes refused unread = tt

@@ -142,6 +142,7 @@ pub record EndTakes (partial : Bool) (files : Option Directory) (name : List ℕ
 pub record StopTakes (partial : Bool) (files : Option Directory) (name : List ℕ) (f : Fields) (old new : TurnMoment) : Type 0 where
   pub toc : Toc
   pub table : IsTableOf files name (Ok toc)
+  pub whole : fault_of partial f toc ≡ None
   pub entries : List Entry
   pub sent : AreSent partial f.layout.rows toc entries
   pub spent : UnreadTakes (writes_before partial f toc) block_bytes entries old.armed new.armed
