@@ -77,6 +77,38 @@ fn sources(rt: HostRuntime) {
     drains(&rt, alloc, &mut StdSource::new(Faulty(0)), b"x!x!");
 }
 
+// A terminal: a reader that gives a byte, then its end, and behind that a byte again, and so on.
+#[derive(Drop)]
+struct Terminal {
+    gave: bool,
+}
+
+impl Read for Terminal {
+    fn read(&mut self, out: &mut [u8]) -> io::Result<usize> {
+        self.gave = !self.gave;
+        if out.is_empty() || !self.gave {
+            return Ok(0);
+        }
+        out[0] = b'x';
+        Ok(1)
+    }
+}
+
+impl SteadyRead for Terminal {
+    ghost tells = { false };
+
+    ghost steady = { λ _. refl };
+}
+
+// Each end is asked for once: what comes behind it is there for the next reads.
+#[test]
+fn an_end_is_asked_for_once(rt: HostRuntime) {
+    let alloc = rt.alloc();
+    let mut over = StdSource::new(Terminal { gave: false });
+    drains(&rt, alloc, &mut over, b"x");
+    drains(&rt, alloc, &mut over, b"x");
+}
+
 // A stream of which every other call is interrupted. It gives its bytes from the end, and takes them one at a time.
 #[derive(Drop)]
 struct Interrupted {
@@ -172,6 +204,40 @@ impl SteadyWrite for Stuck {
     ghost steady = { λ _. refl };
 }
 
+// A writer one call of which fails, counted from 1. The others are done.
+#[derive(Drop)]
+struct FailsOnce {
+    at: u32,
+}
+
+impl FailsOnce {
+    // One more call.
+    fn call(&mut self) -> io::Result<()> {
+        self.at = self.at.wrapping_sub(1);
+        if self.at == 0 {
+            return Err(io::Error::from(ErrorKind::Other));
+        }
+        Ok(())
+    }
+}
+
+impl Write for FailsOnce {
+    fn write(&mut self, bytes: &[u8]) -> io::Result<usize> {
+        self.call()?;
+        Ok(bytes.len())
+    }
+
+    fn flush(&mut self) -> io::Result<()> {
+        self.call()
+    }
+}
+
+impl SteadyWrite for FailsOnce {
+    ghost tells = { false };
+
+    ghost steady = { λ _. refl };
+}
+
 // The words are put into a writer.
 fn put_into<W: SteadyWrite + Drop>(rt: &impl Abort, writer: W, ends: [Result<(), WriteStop>; 3]) {
     put_words(rt, &mut StdSink::new(writer), ends);
@@ -197,6 +263,9 @@ fn sinks_that_fail(rt: HostRuntime) {
     let full = Err(WriteStop::Failed);
     put_into(&rt, Cursor::new([0; 6]), [Ok(()), full, full]);
     put_into(&rt, Stuck, [full; 3]);
+    // A write that failed, and a flush, is not made again.
+    put_into(&rt, FailsOnce { at: 1 }, [full, Ok(()), Ok(())]);
+    put_into(&rt, FailsOnce { at: 2 }, [full, Ok(()), Ok(())]);
 }
 
 // Writes a file, and gives its size afterwards.

@@ -155,3 +155,37 @@ fn a_repeat_is_no_turn(rt: HostRuntime) {
     let done = end_on(alloc, words, &mut files, &mut source, &mut sink, flash);
     holds(&rt, done.journal.len() == 3, BEGINS);
 }
+
+// Cancels, numbered from 1 on.
+fn cancels(rt: &impl Abort, alloc: Global, count: u32) -> Vec<u8> {
+    let mut bytes = Vec::new(alloc);
+    for before in 0..count {
+        let number = before.wrapping_add(1);
+        bytes.extend_from_slice(&[8, 0, 0, 0]).expect(rt, "memory");
+        bytes
+            .extend_from_slice(&number.to_le_bytes())
+            .expect(rt, "memory");
+        bytes.extend_from_slice(&[18, 0, 0, 0]).expect(rt, "memory");
+    }
+    bytes
+}
+
+// How many requests a long serving has: more than the writes of an image of 16 MiB.
+const MANY: u32 = 5000;
+
+// Memory is found for each of many requests, and each has its reply and its turn.
+#[test]
+fn a_long_serving(rt: HostRuntime) {
+    let alloc = rt.alloc();
+    let flash = flash_of(alloc, two_banks(alloc).expect(&rt, "memory"), &NO_TROUBLE).expect(
+        &rt, "memory",
+    );
+    let mut source = MemorySource::new(cancels(&rt, alloc, MANY), Vec::new(alloc));
+    let mut sink = MemorySink::new(alloc, Vec::new(alloc), Vec::new(alloc));
+    let words = words_of(alloc, "serve").expect(&rt, "memory");
+    let mut files = files_of(alloc, Vec::new(alloc), 0).expect(&rt, "memory");
+    let done = end_on(alloc, words, &mut files, &mut source, &mut sink, flash);
+    let turns = done.journal.len();
+    let is_so = done.status == 0 && turns == 5001 && sink.bytes().len() == 60000;
+    holds(&rt, is_so, "a long serving");
+}
