@@ -1,3 +1,4 @@
+pub mod Completes
 pub mod Converted
 pub mod Did
 pub mod DoneBy

@@ -14,5 +14,5 @@ mod unpack;
 mod writing;
 
 pub use fip_making::Stop;
-pub use laws::commands_are_complete;
+pub use laws::{commands_are_complete, listings_are_complete};
 pub use top::fip_top;
