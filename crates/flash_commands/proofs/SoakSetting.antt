@@ -213,17 +213,17 @@ module _ (passes : List ℕ → Bool) (tells : Bool) (one all : Directory) where
       → SameDevice old new ⊎ StopTakes false (Some all) name f old new
   read-with name f old new same (inl still) = inl still
   read-with name f old new same (inr by) =
-      inr (record { toc = by.toc; table = table-with name (Ok by.toc) same by.table; whole = by.whole; entries = by.entries; sent = by.sent; spent = by.spent })
+      inr (record { toc = by.toc; table = table-with name (Ok by.toc) same by.table; entries = by.entries; sent = by.sent; spent = by.spent })
 
   spent-with : (name : List ℕ) (f : Fields) (r : Reply) (old new : TurnMoment) → one name ≡ all name → SendTakes false (Some one) name f r old new → SendTakes false (Some all) name f r old new
-  spent-with name f (reply.Sent images skipped) old new same by = record { toc = by.toc; table = table-with name (Ok by.toc) same by.table; whole = by.whole; spent = by.spent }
-  spent-with name f (reply.SentPartial images skipped copied) old new same by = record { toc = by.toc; table = table-with name (Ok by.toc) same by.table; whole = by.whole; spent = by.spent }
+  spent-with name f (reply.Sent images skipped) old new same by = record { toc = by.toc; table = table-with name (Ok by.toc) same by.table; spent = by.spent }
+  spent-with name f (reply.SentPartial images skipped copied) old new same by = record { toc = by.toc; table = table-with name (Ok by.toc) same by.table; spent = by.spent }
   spent-with name f (reply.BadPackage g) old new same by = by
   spent-with name f (reply.BadCapsule g) old new same by = by
   spent-with name f (reply.Missing guid) old new same by = by
   spent-with name f (reply.TooLarge guid) old new same by = by
   spent-with name f (reply.BeginRefused st) old new same by = by
-  spent-with name f (reply.EndRefused st) old new same by = record { toc = by.toc; table = table-with name (Ok by.toc) same by.table; whole = by.whole; spent = by.spent }
+  spent-with name f (reply.EndRefused st) old new same by = record { toc = by.toc; table = table-with name (Ok by.toc) same by.table; spent = by.spent }
   spent-with name f reply.ReadFault old new same by = read-with name f old new same by
   spent-with name f r old new same by = tt
 

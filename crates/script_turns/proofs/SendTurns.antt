@@ -49,7 +49,7 @@ use Rattle.update_client.specs.declared.stops.SendStop.TheVariants.{MissingImage
 use Rattle.update_client.specs.Halts.{flash_of}
 use Rattle.update_client.specs.Pieces.{ReadsPieceBy, unread_in}
 use Rattle.update_client.specs.Choosing.{no_row}
-use Rattle.update_client.specs.Sends.{AnswersBy, FaultsBy, IsEarlySend, Sends, SendEndsBy, ended_session, send_answer}
+use Rattle.update_client.specs.Sends.{AnswersBy, IsEarlySend, Sends, SendEndsBy, ended_session, send_answer}
 use Rattle.update_client.specs.Partial.{GoesAs, SendsOver, WasBegun, over_answer}
 use Rattle.base_core.specs.Block.{block_bytes}
 use Rattle.agent_calls.specs.Takes.{Takes as TakesWrites}
@@ -61,7 +61,7 @@ use Rattle.script_turns.specs.Stage.{on_where}
 use Rattle.script_turns.specs.Powered.{TurnMoment, at, kept_at, IsAt, IsSafe, ShowsAt}
 use Rattle.script_turns.specs.Replies.{Replies, power_after}
 use Rattle.script_turns.specs.Sending.{AnswersSend, IsTableOf, LacksSent, SendSays, SendsAs, TellsBegun, done_reply, is_answered, on_sent, send_call, sent_reply}
-use Rattle.script_turns.specs.Takes.{AreSent, SendTakes, StaysFree, TakesOn, fault_of, stop_told, unread_told, writes_before, writes_to_send}
+use Rattle.script_turns.specs.Takes.{AreSent, SendTakes, StaysFree, TakesOn, stop_told, unread_told, writes_before, writes_to_send}
 use Rattle.script_turns.specs.Turning.{Makes, NoneFalls, Turns, quiet_turn}
 use Rattle.script_turns.proofs.CallTakes.{with}
 use Rattle.script_turns.proofs.Shows.{as-told, counts_none, shows-as, told-shows}
@@ -568,30 +568,29 @@ module _ (partly : Bool) (passes : List ℕ → Bool) (tells : Bool) (files : Op
   powers (Err s) = refl
 
   -- what was done to the device
-  done-takes : (kind : Bool) (sent : Sent) (toc : Toc) (from to : TurnMoment) → IsTableOf files name (Ok toc) → fault_of kind f toc ≡ None
-      → TakesSent (writes_to_send kind f toc) from.armed to.armed
+  done-takes : (kind : Bool) (sent : Sent) (toc : Toc) (from to : TurnMoment) → IsTableOf files name (Ok toc) → TakesSent (writes_to_send kind f toc) from.armed to.armed
       → SendTakes kind files name f (done_reply kind sent) from to
-  done-takes false sent toc from to table whole takes = record { toc = toc; table = table; whole = whole; spent = takes }
-  done-takes true sent toc from to table whole takes = record { toc = toc; table = table; whole = whole; spent = takes }
+  done-takes false sent toc from to table takes = record { toc = toc; table = table; spent = takes }
+  done-takes true sent toc from to table takes = record { toc = toc; table = table; spent = takes }
 
   -- up to a read of the file that failed
   abbrev unread_takes : Toc → Type 0
   unread_takes toc = (entries : List Entry) × AreSent partly f.layout.rows toc entries × UnreadTakes (writes_before partly f toc) block_bytes entries armed arming
 
   pub sent-takes : (result : Result Sent SendStop) (power : Bool) (toc : Toc) → power ≡ is_ok (flash_of result)
-      → (IsEarlySend result → (u ≡ t) × (v ≡ w) × (ds ≡ cs) × (arming ≡ armed)) → IsTableOf files name (Ok toc) → FaultsBy (fault_of partly f toc) result → OnOk result (TakesSent (writes_to_send partly f toc) armed arming)
+      → (IsEarlySend result → (u ≡ t) × (v ≡ w) × (ds ≡ cs) × (arming ≡ armed)) → IsTableOf files name (Ok toc) → OnOk result (TakesSent (writes_to_send partly f toc) armed arming)
       → OnRefusedEnd result (TakesWrites (writes_to_send partly f toc) armed arming) → OnUnread result (unread_takes toc)
       → SendTakes partly files name f (sent_reply partly result) (at (Some f) t w cs armed true) (at (on_sent result g) u v ds arming power)
-  sent-takes (Ok sent) power toc powered same table faults takes refused unread = done-takes partly sent toc _ _ table faults takes
-  sent-takes (Err (MissingImage guid)) power toc powered same table faults takes refused unread = let d = same tt in record { told = d.0; writes = d.1; counts = d.2; armed = d.3; power = powered }
-  sent-takes (Err (ImageTooLarge guid)) power toc powered same table faults takes refused unread = let d = same tt in record { told = d.0; writes = d.1; counts = d.2; armed = d.3; power = powered }
-  sent-takes (Err (Begin st)) power toc powered same table faults takes refused unread = let d = same tt in record { told = d.0; writes = d.1; counts = d.2; armed = d.3; power = powered }
-  sent-takes (Err (End st)) power toc powered same table faults takes refused unread = record { toc = toc; table = table; whole = faults; spent = refused }
-  sent-takes (Err ReadFailed) power toc powered same table faults takes refused unread =
-      inr (record { toc = toc; table = table; whole = faults; entries = unread.0; sent = unread.1; spent = unread.2 })
-  sent-takes (Err Lost) power toc powered same table faults takes refused unread = tt
-  sent-takes (Err Fault) power toc powered same table faults takes refused unread = tt
-  sent-takes (Err Gone) power toc powered same table faults takes refused unread = tt
+  sent-takes (Ok sent) power toc powered same table takes refused unread = done-takes partly sent toc _ _ table takes
+  sent-takes (Err (MissingImage guid)) power toc powered same table takes refused unread = let d = same tt in record { told = d.0; writes = d.1; counts = d.2; armed = d.3; power = powered }
+  sent-takes (Err (ImageTooLarge guid)) power toc powered same table takes refused unread = let d = same tt in record { told = d.0; writes = d.1; counts = d.2; armed = d.3; power = powered }
+  sent-takes (Err (Begin st)) power toc powered same table takes refused unread = let d = same tt in record { told = d.0; writes = d.1; counts = d.2; armed = d.3; power = powered }
+  sent-takes (Err (End st)) power toc powered same table takes refused unread = record { toc = toc; table = table; spent = refused }
+  sent-takes (Err ReadFailed) power toc powered same table takes refused unread =
+      inr (record { toc = toc; table = table; entries = unread.0; sent = unread.1; spent = unread.2 })
+  sent-takes (Err Lost) power toc powered same table takes refused unread = tt
+  sent-takes (Err Fault) power toc powered same table takes refused unread = tt
+  sent-takes (Err Gone) power toc powered same table takes refused unread = tt
 
   pub sent-free : (result : Result Sent SendStop) (power : Bool) → StaysUnarmed (flash_of result) armed arming cs ds
       → StaysFree (sent_reply partly result) (at (Some f) t w cs armed true) (at (on_sent result g) u v ds arming power)

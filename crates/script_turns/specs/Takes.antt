@@ -19,7 +19,7 @@ use Rattle.agent_calls.specs.Takes.{Takes as TakesWrites, writes_to_begin, write
 use Rattle.update_client.specs.Choosing.{AreChosen}
 use Rattle.update_client.specs.Takes.{DoneSendTakes as TakesSent, UnreadTakes, writes_sent}
 use Rattle.update_client.specs.Partial.{present, writes_copied, writes_over}
-use Rattle.fwu_model.specs.Answer.{are_named, first_image_fault, partial_fault}
+use Rattle.fwu_model.specs.Answer.{are_named}
 use Rattle.fwu_model.specs.Call.{Call}
 use Rattle.fwu_model.specs.Call as call
 use Rattle.fwu_model.specs.Reply.{Reply}
@@ -118,31 +118,22 @@ abbrev pub AreSent : Bool → List ImageRow → Toc → List Entry → Type 0
 AreSent false rows toc entries = AreChosen rows toc entries
 AreSent true rows toc entries = entries ≡ present rows toc
 
--- what a table lacks of the images of a layout: one that it hasn't, or one that is larger than its slot
-abbrev pub fault_of : Bool → Fields → Toc → Option Reply
-fault_of false f toc = first_image_fault f.layout.rows toc
-fault_of true f toc = partial_fault f.layout.rows toc
-
 -- by some table, that of the file where it is told: so many, and those of the switch
-pub record SentTakes (partial : Bool) (files : Option Directory) (name : List ℕ) (f : Fields) (old new : TurnMoment) : Type 0 where
+pub record SentTakes (files : Option Directory) (name : List ℕ) (writes : Toc → ℕ) (old new : TurnMoment) : Type 0 where
   pub toc : Toc
   pub table : IsTableOf files name (Ok toc)
-  -- on any files it is one whose images fit their slots
-  pub whole : fault_of partial f toc ≡ None
-  pub spent : TakesSent (writes_to_send partial f toc) old.armed new.armed
+  pub spent : TakesSent (writes toc) old.armed new.armed
 
 -- so many, and no switch
-pub record EndTakes (partial : Bool) (files : Option Directory) (name : List ℕ) (f : Fields) (old new : TurnMoment) : Type 0 where
+pub record EndTakes (files : Option Directory) (name : List ℕ) (writes : Toc → ℕ) (old new : TurnMoment) : Type 0 where
   pub toc : Toc
   pub table : IsTableOf files name (Ok toc)
-  pub whole : fault_of partial f toc ≡ None
-  pub spent : TakesWrites (writes_to_send partial f toc) old.armed new.armed
+  pub spent : TakesWrites (writes toc) old.armed new.armed
 
 -- those of the begin, of the first images, and of the first pieces of the next one, of which a further one could not be read
 pub record StopTakes (partial : Bool) (files : Option Directory) (name : List ℕ) (f : Fields) (old new : TurnMoment) : Type 0 where
   pub toc : Toc
   pub table : IsTableOf files name (Ok toc)
-  pub whole : fault_of partial f toc ≡ None
   pub entries : List Entry
   pub sent : AreSent partial f.layout.rows toc entries
   pub spent : UnreadTakes (writes_before partial f toc) block_bytes entries old.armed new.armed
@@ -151,14 +142,15 @@ pub record StopTakes (partial : Bool) (files : Option Directory) (name : List �
 -- takes those of its writes alone, and one whose file could not be read those up to that read. What was refused before anything was
 -- sent did nothing.
 abbrev pub SendTakes : Bool → Option Directory → List ℕ → Fields → Reply → TurnMoment → TurnMoment → Type 0
-SendTakes partial files name f (reply.Sent images skipped) old new = SentTakes partial files name f old new
-SendTakes partial files name f (reply.SentPartial images skipped copied) old new = SentTakes partial files name f old new
+SendTakes partial files name f (reply.Sent images skipped) old new = SentTakes files name (writes_to_send partial f) old new
+SendTakes partial files name f (reply.SentPartial images skipped copied) old new =
+    SentTakes files name (writes_to_send partial f) old new
 SendTakes partial files name f (reply.BadPackage g) old new = SameDevice old new
 SendTakes partial files name f (reply.BadCapsule g) old new = SameDevice old new
 SendTakes partial files name f (reply.Missing guid) old new = SameDevice old new
 SendTakes partial files name f (reply.TooLarge guid) old new = SameDevice old new
 SendTakes partial files name f (reply.BeginRefused st) old new = SameDevice old new
-SendTakes partial files name f (reply.EndRefused st) old new = EndTakes partial files name f old new
+SendTakes partial files name f (reply.EndRefused st) old new = EndTakes files name (writes_to_send partial f) old new
 SendTakes partial files name f reply.ReadFault old new = SameDevice old new ⊎ StopTakes partial files name f old new
 SendTakes partial files name f other old new = ⊤
 

@@ -29,7 +29,7 @@ returns-clause-turns g c =
     (sent-takes false (g.V.Verifier.passes c.args.verifier.now) g.D.Flash.tells (g.H.Files.contents c.args.files.now) (string_bytes c.args.name) c.args.request (fields agent) (fields new) _ _ _ _ _ _ _ _ 0 0 sent.result _ c.args.toc.now (sent.ensures.goes here).power
     (λ early. let same = sent.ensures.untouched early in
     (ap (λ (a : Agent _ g.D.Flash). g.D.Flash.told (agent_device a)) same, ap (λ (a : Agent _ g.D.Flash). g.D.Flash.writes (agent_device a)) same, ap (λ (a : Agent _ g.D.Flash). g.D.Flash.counts (agent_device a)) same, ap (λ (a : Agent _ g.D.Flash). g.D.Flash.arming (agent_device a)) same))
-    c.requires.table sent.ensures.faults sent.ensures.takes.done sent.ensures.takes.unswitched sent.ensures.takes.unread)
+    c.requires.table sent.ensures.takes.done sent.ensures.takes.unswitched sent.ensures.takes.unread)
     (sent-free false (g.V.Verifier.passes c.args.verifier.now) g.D.Flash.tells (g.H.Files.contents c.args.files.now) (string_bytes c.args.name) c.args.request (fields agent) (fields new) (g.D.Flash.told (agent_device agent)) (g.D.Flash.told (agent_device new)) (g.D.Flash.writes (agent_device agent)) (g.D.Flash.writes (agent_device new)) _ _ _ _ 0 0 sent.result true (sent.ensures.goes here).unarmed))
 
 pub returns-clause-reads : goal.returns-clause-reads
