@@ -60,11 +60,12 @@ GetsPower tells (Some f) old new = SameDevice old new
 
 -- ---- all of it
 
--- The flash had power, and its boot ended so. On any device, where it wasn't stopped, an armed loss came nearer by no more than the repair and the count of the
--- start, and by none where the boot found no layout or no metadata. What was started may be, by the numbers at entry, with the counter and
--- the trials that they make. It is of a version that some complete package has whose manifest passes, not below the counter, with
--- images of the lengths that are told. These numbers, also those of a stop, are numbers of a flash. Where the content is told, the end
--- is that of the bytes, sound or not, and so are what was written and how much nearer an armed loss came.
+-- The flash had power, and its boot ended so. On any device, where it wasn't stopped, an armed loss came nearer by no more than
+-- the repair and the count of the start, and by none where the boot found no layout or no metadata. What was started may be, by
+-- the numbers at entry, with the counter and the trials that they make. It is of a version that some complete package has whose
+-- manifest passes, not below the counter, with images of the lengths that are told. These numbers, also those of a stop, are
+-- numbers of a flash. Where the content is told, the end is that of the bytes, sound or not. So are what was written and how
+-- much nearer an armed loss came.
 pub record BootsAs (passes : List ℕ → Bool) (tells : Bool) (old : TurnMoment) (t : Turn) (new : TurnMoment) : Type 0 where
   pub mid : TurnMoment
   pub has : GetsPower tells old.on old mid
@@ -73,7 +74,8 @@ pub record BootsAs (passes : List ℕ → Bool) (tells : Bool) (old : TurnMoment
   pub numbers_are : t.numbers ≡ numbers_of_end end
   pub on_is : IsOnAfter end new.on
   pub idle : IdleEnd end mid.armed new.armed mid.counts new.counts
-  pub spent : TakesBoot end mid.armed new.armed
+  -- by the repair of the metadata, and by what the start is counted as; a loss that is armed stays so while power comes back
+  pub spent : TakesBoot end old.armed new.armed
   -- on any device: no blocks were erased or programmed but these, of blocks 1 to 6
   pub touches : TouchesBoot end mid.writes new.writes
   pub started : StartedBy end
