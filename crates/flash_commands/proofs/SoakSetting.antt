@@ -2,6 +2,7 @@
 use Rattle.std.proofs.Common.{◌≡◌, ◌⊎◌, ℕ, Bool, false, ◌||◌, ◌&&◌, not, ◌==◌, List, [], ◌∷◌, Option, Some, None, Result, Ok, Err, refl, sym, ap, subst, ◌∙◌, inl, inr}
 use Rattle.std.specs.Prelude.{if◌then◌else◌, nat_lt}
 use Rattle.std.proofs.lemmas.Option.{same_Some}
+use Rattle.flash_core.specs.declared.flash.Arming.{Arming}
 use Rattle.flash_core.specs.Told.{Told}
 use Rattle.host_io.specs.Contents.{Directory}
 use Rattle.fwu_formats.specs.Package.{Toc}
@@ -188,26 +189,27 @@ module _ (passes : List ℕ → Bool) (tells : Bool) (one all : Directory) where
   table-with : (name : List ℕ) (found : Result Toc Reply) → one name ≡ all name → IsTableOf (Some one) name found → IsTableOf (Some all) name found
   table-with name found same is = (λ file tells. is.0 file (same ∙ tells), is.1)
 
-  sends-with : (name : List ℕ) (request : ℕ) (r : Reply) (old new : agent.Moment) → one name ≡ all name → SendsBy passes (Some one) name request r old new → SendsBy passes (Some all) name request r old new
-  sends-with name request r old new same by = record {
+  sends-with : (name : List ℕ) (request : ℕ) (r : Reply) (old new : agent.Moment) (armed arming : Option Arming) → one name ≡ all name → SendsBy passes (Some one) name request r old new armed arming → SendsBy passes (Some all) name request r old new armed arming
+  sends-with name request r old new armed arming same by = record {
     toc = by.toc;
     images = by.images;
     table = table-with name (Ok by.toc) same by.table;
     read = λ file tells. by.read file (same ∙ tells);
     exact = by.exact;
     stays = by.stays;
+    spent = by.spent;
   }
 
-  answers-with : (name : List ℕ) (request : ℕ) (r : Reply) (old new : agent.Moment) → one name ≡ all name → AnswersSend false passes (Some one) name request r old new → AnswersSend false passes (Some all) name request r old new
-  answers-with name request (reply.BadPackage f) old new same (table, stays) = (table-with name (Err (reply.BadPackage f)) same table, stays)
-  answers-with name request (reply.BadCapsule f) old new same (table, stays) = (table-with name (Err (reply.BadCapsule f)) same table, stays)
-  answers-with name request r old new same by = sends-with name request r old new same by
+  answers-with : (name : List ℕ) (request : ℕ) (r : Reply) (old new : agent.Moment) (armed arming : Option Arming) → one name ≡ all name → AnswersSend false passes (Some one) name request r old new armed arming → AnswersSend false passes (Some all) name request r old new armed arming
+  answers-with name request (reply.BadPackage f) old new armed arming same (table, stays) = (table-with name (Err (reply.BadPackage f)) same table, stays)
+  answers-with name request (reply.BadCapsule f) old new armed arming same (table, stays) = (table-with name (Err (reply.BadCapsule f)) same table, stays)
+  answers-with name request r old new armed arming same by = sends-with name request r old new armed arming same by
 
   says-with : (name : List ℕ) (request : ℕ) (was : Option Fields) (before : TurnMoment) (r : Reply) (on : Option Fields) (now : TurnMoment) → one name ≡ all name → SendSays false passes tells (Some one) name request was before r on now
       → SendSays false passes tells (Some all) name request was before r on now
   says-with name request None before r on now same says = says
   says-with name request (Some f) before r None now same says = says
-  says-with name request (Some f) before r (Some g) now same says = answers-with name request r (kept_at tells f before.told before.writes) (kept_at tells g now.told now.writes) same says
+  says-with name request (Some f) before r (Some g) now same says = answers-with name request r (kept_at tells f before.told before.writes) (kept_at tells g now.told now.writes) before.armed now.armed same says
 
   read-with : (name : List ℕ) (f : Fields) (old new : TurnMoment) → one name ≡ all name → SameDevice old new ⊎ StopTakes false (Some one) name f old new
       → SameDevice old new ⊎ StopTakes false (Some all) name f old new
@@ -216,14 +218,11 @@ module _ (passes : List ℕ → Bool) (tells : Bool) (one all : Directory) where
       inr (record { toc = by.toc; table = table-with name (Ok by.toc) same by.table; entries = by.entries; sent = by.sent; spent = by.spent })
 
   spent-with : (name : List ℕ) (f : Fields) (r : Reply) (old new : TurnMoment) → one name ≡ all name → SendTakes false (Some one) name f r old new → SendTakes false (Some all) name f r old new
-  spent-with name f (reply.Sent images skipped) old new same by = record { toc = by.toc; table = table-with name (Ok by.toc) same by.table; spent = by.spent }
-  spent-with name f (reply.SentPartial images skipped copied) old new same by = record { toc = by.toc; table = table-with name (Ok by.toc) same by.table; spent = by.spent }
   spent-with name f (reply.BadPackage g) old new same by = by
   spent-with name f (reply.BadCapsule g) old new same by = by
   spent-with name f (reply.Missing guid) old new same by = by
   spent-with name f (reply.TooLarge guid) old new same by = by
   spent-with name f (reply.BeginRefused st) old new same by = by
-  spent-with name f (reply.EndRefused st) old new same by = record { toc = by.toc; table = table-with name (Ok by.toc) same by.table; spent = by.spent }
   spent-with name f reply.ReadFault old new same by = read-with name f old new same by
   spent-with name f r old new same by = tt
 

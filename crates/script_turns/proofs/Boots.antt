@@ -33,7 +33,7 @@ use Rattle.early_boot.specs.EndsBy.{BootEnds, EndsByBytes, EndsByMachine, IdleEn
 use Rattle.script_turns.specs.Powered.{TurnMoment, IsAt, IsSafe, ShowsAt}
 use Rattle.script_turns.specs.Booted.{BootsFrom}
 use Rattle.script_turns.specs.Replies.{LeavesOn, power_after}
-use Rattle.script_turns.specs.Takes.{BootTakes, StaysFree, TakesBy, stop_told}
+use Rattle.script_turns.specs.Takes.{StaysFree, TakesBy, stop_told}
 use Rattle.script_turns.specs.Touches.{TouchesByBoot}
 use Rattle.script_turns.specs.Turning.{NoneFalls, Turns, GetsPower, IsOnAfter, ShowsStarted, boot_turn, reply_of_end}
 use Rattle.script_turns.proofs.Shows.{as-told}
@@ -262,9 +262,6 @@ reached-had : (tells : Bool) (on : Option Fields) (old mid : TurnMoment) → Get
 reached-had tells None old mid has = has.idles.reached
 reached-had tells (Some f) old mid has = ap (λ (c : Counts). c.reached) has.counts
 
-boots-spent : (e : Ended) (old mid new : TurnMoment) → mid.armed ≡ old.armed → TakesBoot e mid.armed new.armed → BootTakes (reply_of_end e) old new
-boots-spent e old mid new armed spent = record { end = e; reply_is = refl; spent = subst (λ (a : Option Arming). TakesBoot e a new.armed) armed spent }
-
 boots-free : (e : Ended) (old mid new : TurnMoment) → mid.armed ≡ old.armed → old.counts.cuts ≤ mid.counts.cuts → mid.counts.reached ≡ old.counts.reached
     → StaysUnarmed (stop_of e) mid.armed new.armed mid.counts new.counts → StaysFree (reply_of_end e) old new
 boots-free e old mid new armed cuts reached unarmed = record {
@@ -391,7 +388,7 @@ module _ (passes : List ℕ → Bool) (tells : Bool) (files : Option Directory) 
             numbers_are = refl;
             on_is = ended.on_is;
             idle = ended.idle;
-            spent = ended.spent;
+            spent = subst (λ (a : Option Arming). TakesBoot e a new.armed) (armed-had tells on old mid has) ended.spent;
             touches = ended.touches_fewer;
             started = ended.started;
             permitted = ended.permitted;
@@ -415,12 +412,9 @@ module _ (passes : List ℕ → Bool) (tells : Bool) (files : Option Directory) 
             subst (λ (image : List ℕ). BootsFrom passes image (reply_of_end e)) (bytes-had tells on old mid told has clean) (boots-from passes e mid.told new.told (ended.ends told).by_bytes);
       }
     where
-      spends : BootTakes (reply_of_end e) old new
-      spends = boots-spent e old mid new (armed-had tells on old mid has) ended.spent
-
       takes : (o : Option Fields) → TakesBy files call.Boot o old (reply_of_end e) new
-      takes None = spends
-      takes (Some f) = spends
+      takes None = tt
+      takes (Some f) = tt
 
       guard : IsTrue tells → new.told.guard ≡ mid.told.guard
       guard told = guard-kept passes e mid.told new.told (ended.ends told).by_bytes

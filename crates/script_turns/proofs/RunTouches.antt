@@ -4,6 +4,7 @@ use Rattle.std.proofs.lemmas.List.Sums.{sum_by-append}
 use Rattle.std.proofs.lemmas.Option.{same_Some}
 use Rattle.base_core.specs.Block.{block_bytes}
 use Rattle.host_io.specs.Contents.{Directory}
+use Rattle.flash_core.specs.declared.flash.Arming.{Arming}
 use Rattle.fwu_formats.specs.Layout.{Layout}
 use Rattle.fwu_model.specs.Call.{Call}
 use Rattle.fwu_model.specs.Call as call
@@ -98,18 +99,20 @@ module _ (passes : List ℕ → Bool) (tells : Bool) (files : Option Directory) 
   call-on c (Some x) None f g old r new is are says = absurd cc
   call-on c None now f g old r new is are says = absurd cc
 
-  sends-to : (partial : Bool) (name : List ℕ) (request : ℕ) (r : Reply) (old new : agent.Moment) → SendsAs partial passes files name request r old new → IsSame old.fields new.fields
-  sends-to false name request r old new sends = same-stays old new sends.stays
-  sends-to true name request r old new sends = same-stays old new sends.stays
+  sends-to : (partial : Bool) (name : List ℕ) (request : ℕ) (r : Reply) (old new : agent.Moment) (armed arming : Option Arming)
+      → SendsAs partial passes files name request r old new armed arming → IsSame old.fields new.fields
+  sends-to false name request r old new armed arming sends = same-stays old new sends.stays
+  sends-to true name request r old new armed arming sends = same-stays old new sends.stays
 
-  sent-to : (partial : Bool) (name : List ℕ) (request : ℕ) (r : Reply) (old new : agent.Moment) → AnswersSend partial passes files name request r old new → IsSame old.fields new.fields
-  sent-to partial name request (reply.BadPackage fault) old new says = (ap (λ (m : agent.Moment). m.fields.layout) says.1, ap (λ (m : agent.Moment). m.fields.boot) says.1)
-  sent-to partial name request (reply.BadCapsule fault) old new says = (ap (λ (m : agent.Moment). m.fields.layout) says.1, ap (λ (m : agent.Moment). m.fields.boot) says.1)
-  sent-to partial name request other old new says = sends-to partial name request other old new says
+  sent-to : (partial : Bool) (name : List ℕ) (request : ℕ) (r : Reply) (old new : agent.Moment) (armed arming : Option Arming)
+      → AnswersSend partial passes files name request r old new armed arming → IsSame old.fields new.fields
+  sent-to partial name request (reply.BadPackage fault) old new armed arming says = (ap (λ (m : agent.Moment). m.fields.layout) says.1, ap (λ (m : agent.Moment). m.fields.boot) says.1)
+  sent-to partial name request (reply.BadCapsule fault) old new armed arming says = (ap (λ (m : agent.Moment). m.fields.layout) says.1, ap (λ (m : agent.Moment). m.fields.boot) says.1)
+  sent-to partial name request other old new armed arming says = sends-to partial name request other old new armed arming says
 
   send-on : (partial : Bool) (name : List ℕ) (request : ℕ) (on now : Option Fields) (f g : Fields) (old : TurnMoment) (r : Reply) (new : TurnMoment) → on ≡ Some f → now ≡ Some g
       → SendSays partial passes tells files name request on old r now new → IsSame f g
-  send-on partial name request (Some x) (Some y) f g old r new is are says = same-between x y f g (same_Some x f is) (same_Some y g are) (sent-to partial name request r _ _ says)
+  send-on partial name request (Some x) (Some y) f g old r new is are says = same-between x y f g (same_Some x f is) (same_Some y g are) (sent-to partial name request r _ _ _ _ says)
   send-on partial name request (Some x) None f g old r new is are says = absurd cc
   send-on partial name request None now f g old r new is are says = absurd cc
 

@@ -60,8 +60,8 @@ use Rattle.script_turns.specs.Calls.{is_composed, moment_where}
 use Rattle.script_turns.specs.Stage.{on_where}
 use Rattle.script_turns.specs.Powered.{TurnMoment, at, kept_at, IsAt, IsSafe, ShowsAt}
 use Rattle.script_turns.specs.Replies.{Replies, power_after}
-use Rattle.script_turns.specs.Sending.{AnswersSend, IsTableOf, LacksSent, SendSays, SendsAs, TellsBegun, done_reply, is_answered, on_sent, send_call, sent_reply}
-use Rattle.script_turns.specs.Takes.{AreSent, SendTakes, StaysFree, TakesOn, stop_told, unread_told, writes_before, writes_to_send}
+use Rattle.script_turns.specs.Sending.{AnswersSend, IsTableOf, LacksSent, SendSays, SendsAs, SpendsSent, TellsBegun, done_reply, is_answered, on_sent, send_call, sent_reply, writes_partly, writes_whole}
+use Rattle.script_turns.specs.Takes.{AreSent, SendTakes, StaysFree, TakesOn, stop_told, unread_told, writes_before}
 use Rattle.script_turns.specs.Turning.{Makes, NoneFalls, Turns, quiet_turn}
 use Rattle.script_turns.proofs.CallTakes.{with}
 use Rattle.script_turns.proofs.Shows.{as-told, counts_none, shows-as, told-shows}
@@ -216,20 +216,26 @@ goes-over (Err Lost) a E old new s x h = h.1
 goes-over (Err Fault) a E old new s x h = h.1
 goes-over (Err q) a E old new s x h = h
 
+-- the writes up to the end, by whether it is partial
+abbrev writes_to_send : Bool → Fields → Toc → ℕ
+writes_to_send false f toc = writes_whole f toc
+writes_to_send true f toc = writes_partly f toc
+
 -- What either kind says of an agent that isn't gone: each machine that the agent shows goes by an answer, which is the machine's own
 -- where the device and the files are told.
-pub record Sending (partly : Bool) (files : Option Directory) (name : List ℕ) (request : ℕ) (passes : List ℕ → Bool) (result : Result Sent SendStop) (old new : agent.Moment) : Type 0 where
+pub record Sending (partly : Bool) (files : Option Directory) (name : List ℕ) (toc : Toc) (request : ℕ) (passes : List ℕ → Bool) (result : Result Sent SendStop) (old new : agent.Moment) : Type 0 where
   pub answers : Setting → State → Session → Answer
   pub goes : (E : Setting) (s : State) (x : Session) → E.layout ≡ old.fields.layout → E.passes ≡ passes → agent.Shows old s x → GoesBy partly result (answers E s x) E old new s x
   pub own : IsTrue old.tells → (E : Setting) (s : State) (x : Session) → E.layout ≡ old.fields.layout → files ≡ Some E.files → agent.Shows old s x
       → answer E s x (send_call partly name request) ≡ answers E s x
   pub says : (r : Reply) → (TellsBegun r → WasBegun result) → ((E : Setting) (s : State) (x : Session) → E.layout ≡ old.fields.layout → E.passes ≡ passes → agent.Shows old s x
       → (r ≡ (answers E s x).reply) × agent.Shows new (after s (answers E s x).moves) (answers E s x).next)
-      → Stays old new → SendsAs partly passes files name request r old new
+      → Stays old new → (armed arming : Option Arming) → SpendsSent r (writes_to_send partly old.fields toc) armed arming
+      → SendsAs partly passes files name request r old new armed arming
 
 module _ (files : Option Directory) (name : List ℕ) (request : ℕ) (passes : List ℕ → Bool) (result : Result Sent SendStop) (old new : agent.Moment) (toc : Toc)
     (table : IsTableOf files name (Ok toc)) (there : Lacks files name → ⊥) where
-  pub sending-whole : Sends files name toc request passes result old new → Sending false files name request passes result old new
+  pub sending-whole : Sends files name toc request passes result old new → Sending false files name toc request passes result old new
   sending-whole sends = record {
     answers = λ E s x. send_answer E toc sends.images request s x;
     goes = λ E s x layout passes_are shows. goes-whole result E toc sends.images request old new s x (sends.goes E s x layout passes_are shows);
@@ -237,10 +243,11 @@ module _ (files : Option Directory) (name : List ℕ) (request : ℕ) (passes : 
         subst (λ (y : Session). answer E s y (send_call false name request) ≡ send_answer E toc sends.images request s y) (sym shows.means)
         (sends-as E files name request s old.fields.boot _ _ told there toc sends.images table
         (λ file tells. sends.read file tells ∙ ap (λ (l : Layout). images_of l.rows file toc) (sym layout)));
-    says = λ r begun exact stays. record { toc = toc; images = sends.images; table = table; read = sends.read; exact = exact; stays = stays };
+    says = λ r begun exact stays armed arming spent.
+        record { toc = toc; images = sends.images; table = table; read = sends.read; exact = exact; stays = stays; spent = spent };
   }
 
-  pub sending-over : SendsOver files name toc request passes result old new → Sending true files name request passes result old new
+  pub sending-over : SendsOver files name toc request passes result old new → Sending true files name toc request passes result old new
   sending-over sends = record {
     answers = λ E s x. over_answer E toc sends.images request s x;
     goes = λ E s x layout passes_are shows. goes-over result (over_answer E toc sends.images request s x) E old new s x (sends.goes E s x layout passes_are shows);
@@ -249,7 +256,7 @@ module _ (files : Option Directory) (name : List ℕ) (request : ℕ) (passes : 
         (sends-over E files name request s old.fields.boot _ _ told there toc sends.bytes sends.images table
         (λ file tells. sends.read file tells ∙ ap (λ (l : Layout). images_over l.rows file toc sends.bytes) (sym layout))
         (subst (λ (l : Layout). (i : ℕ) → i < length l.rows → has_image toc (get_or l.rows i no_row) ≡ false → sends.bytes i ≡ image_held s s.active i) (sym layout) (sends.copied test s x shows)));
-    says = λ r begun exact stays. record {
+    says = λ r begun exact stays armed arming spent. record {
       toc = toc;
       bytes = sends.bytes;
       copied = sends.copied;
@@ -259,6 +266,7 @@ module _ (files : Option Directory) (name : List ℕ) (request : ℕ) (passes : 
       read = sends.read;
       exact = exact;
       stays = stays;
+      spent = spent;
     };
   }
 
@@ -297,9 +305,9 @@ always-composed true name request whole = absurd cc
 abbrev with_layout : Fields → (List ℕ → Bool) → Setting
 with_layout f passes = record { layout = f.layout; files = λ _. None; passes = passes }
 
-stays-of : (partly : Bool) (files : Option Directory) (name : List ℕ) (request : ℕ) (passes : List ℕ → Bool) (result : Result Sent SendStop) (old new : agent.Moment)
-    → Sending partly files name request passes result old new → agent.Showing old → Stays old new
-stays-of partly files name request passes result old new sends one =
+stays-of : (partly : Bool) (files : Option Directory) (name : List ℕ) (toc : Toc) (request : ℕ) (passes : List ℕ → Bool) (result : Result Sent SendStop) (old new : agent.Moment)
+    → Sending partly files name toc request passes result old new → agent.Showing old → Stays old new
+stays-of partly files name toc request passes result old new sends one =
     let E = with_layout old.fields passes in
     stays-by partly result (sends.answers E one.state one.session) E old new one.state one.session (sends.goes E one.state one.session refl refl one.shows)
 
@@ -468,28 +476,31 @@ module _ (partly : Bool) (passes : List ℕ → Bool) (tells : Bool) (files : Op
   abbrev new : agent.Moment
   new = kept_at tells g u v
 
-  module _ (result : Result Sent SendStop) (sends : Sending partly files name request passes result old new) (stays : Stays old new) where
+  module _ (toc : Toc) (result : Result Sent SendStop) (sends : Sending partly files name toc request passes result old new) (stays : Stays old new) where
     -- what was answered
     says-answered : (r : Reply) → (TellsBegun r → WasBegun result)
         → ((E : Setting) (s : State) (x : Session) → E.layout ≡ f.layout → E.passes ≡ passes → agent.Shows old s x → AnswersBy r (sends.answers E s x) E old new s)
-        → SendsAs partly passes files name request r old new
-    says-answered r begun goes = sends.says r begun (λ E s x layout passes_are shows. let h = goes E s x layout passes_are shows in (h.0, h.1.shows)) stays
+        → SpendsSent r (writes_to_send partly f toc) armed arming → SendsAs partly passes files name request r old new armed arming
+    says-answered r begun goes spent =
+        sends.says r begun (λ E s x layout passes_are shows. let h = goes E s x layout passes_are shows in (h.0, h.1.shows)) stays armed arming spent
 
-  done-says : (kind : Bool) (sent : Sent) → SendsAs kind passes files name request (done_reply kind sent) old new → AnswersSend kind passes files name request (done_reply kind sent) old new
+  done-says : (kind : Bool) (sent : Sent) → SendsAs kind passes files name request (done_reply kind sent) old new armed arming
+      → AnswersSend kind passes files name request (done_reply kind sent) old new armed arming
   done-says false sent says = says
   done-says true sent says = says
 
-  says : (power : Bool) (result : Result Sent SendStop) → (result ≡ Err Gone → ⊥) → (sends : Sending partly files name request passes result old new) → Stays old new
+  says : (power : Bool) (toc : Toc) (result : Result Sent SendStop) → (result ≡ Err Gone → ⊥) → (sends : Sending partly files name toc request passes result old new) → Stays old new
+      → SpendsSent (sent_reply partly result) (writes_to_send partly f toc) armed arming
       → SendSays partly passes tells files name request (Some f) (at (Some f) t w cs armed true) (sent_reply partly result) (on_sent result g) (at (on_sent result g) u v ds arming power)
-  says power (Ok sent) there sends stays = done-says partly sent (says-answered (Ok sent) sends stays (done_reply partly sent) (λ tells. tt) sends.goes)
-  says power (Err (MissingImage guid)) there sends stays = says-answered (Err (MissingImage guid)) sends stays (reply.Missing guid) (λ tells. tells) sends.goes
-  says power (Err (ImageTooLarge guid)) there sends stays = says-answered (Err (ImageTooLarge guid)) sends stays (reply.TooLarge guid) (λ tells. tells) sends.goes
-  says power (Err (Begin st)) there sends stays = says-answered (Err (Begin st)) sends stays (reply.BeginRefused st) (λ tells. tells) sends.goes
-  says power (Err (End st)) there sends stays = says-answered (Err (End st)) sends stays (reply.EndRefused st) (λ tells. tt) sends.goes
-  says power (Err ReadFailed) there sends stays = tt
-  says power (Err Lost) there sends stays = tt
-  says power (Err Fault) there sends stays = tt
-  says power (Err Gone) there sends stays = absurd (there refl)
+  says power toc (Ok sent) there sends stays spent = done-says partly sent (says-answered toc (Ok sent) sends stays (done_reply partly sent) (λ tells. tt) sends.goes spent)
+  says power toc (Err (MissingImage guid)) there sends stays spent = says-answered toc (Err (MissingImage guid)) sends stays (reply.Missing guid) (λ tells. tells) sends.goes spent
+  says power toc (Err (ImageTooLarge guid)) there sends stays spent = says-answered toc (Err (ImageTooLarge guid)) sends stays (reply.TooLarge guid) (λ tells. tells) sends.goes spent
+  says power toc (Err (Begin st)) there sends stays spent = says-answered toc (Err (Begin st)) sends stays (reply.BeginRefused st) (λ tells. tells) sends.goes spent
+  says power toc (Err (End st)) there sends stays spent = says-answered toc (Err (End st)) sends stays (reply.EndRefused st) (λ tells. tt) sends.goes spent
+  says power toc (Err ReadFailed) there sends stays spent = tt
+  says power toc (Err Lost) there sends stays spent = tt
+  says power toc (Err Fault) there sends stays spent = tt
+  says power toc (Err Gone) there sends stays spent = absurd (there refl)
 
   module _ (yes : IsTrue tells) (E : Setting) (from : Condition) (passes_are : E.passes ≡ passes) (told : files ≡ Some E.files) (is : IsAt E from (Some f) t) where
     abbrev state : State
@@ -507,7 +518,7 @@ module _ (partly : Bool) (passes : List ℕ → Bool) (tells : Bool) (files : Op
         step-answered E from partly name request r f t u is (stays.guard yes) a g same no_stop goes.0 stays.layout
         (as-told tells g u (after state a.moves) a.next yes (shows-as tells g u (after state a.moves) a.next v goes.1.shows)) (goes.1.does yes is.shows.ready).all
 
-    leads : (result : Result Sent SendStop) → (result ≡ Err Gone → ⊥) → (sends : Sending partly files name request passes result old new) → Stays old new
+    leads : {toc : Toc} (result : Result Sent SendStop) → (result ≡ Err Gone → ⊥) → (sends : Sending partly files name toc request passes result old new) → Stays old new
         → Leads E from (quiet_turn what (sent_reply partly result)) (on_sent result g) u
     leads (Ok sent) there sends stays =
         leads-answered (done_reply partly sent) _ (sends.own yes E state from.session is.shows.layout told shown) (done-calm partly sent) (sends.goes E state from.session is.shows.layout passes_are shown) stays
@@ -567,30 +578,45 @@ module _ (partly : Bool) (passes : List ℕ → Bool) (tells : Bool) (files : Op
   powers (Err (MissingImage guid)) = refl
   powers (Err s) = refl
 
+  -- what an armed loss counts of one that is done, or whose end is refused
+  done-spent : (kind : Bool) (sent : Sent) (toc : Toc) → TakesSent (writes_to_send kind f toc) armed arming → SpendsSent (done_reply kind sent) (writes_to_send kind f toc) armed arming
+  done-spent false sent toc takes = takes
+  done-spent true sent toc takes = takes
+
+  pub sent-spent : (result : Result Sent SendStop) (toc : Toc) → OnOk result (TakesSent (writes_to_send partly f toc) armed arming)
+      → OnRefusedEnd result (TakesWrites (writes_to_send partly f toc) armed arming) → SpendsSent (sent_reply partly result) (writes_to_send partly f toc) armed arming
+  sent-spent (Ok sent) toc takes refused = done-spent partly sent toc takes
+  sent-spent (Err (MissingImage guid)) toc takes refused = tt
+  sent-spent (Err (ImageTooLarge guid)) toc takes refused = tt
+  sent-spent (Err (Begin st)) toc takes refused = tt
+  sent-spent (Err (End st)) toc takes refused = refused
+  sent-spent (Err ReadFailed) toc takes refused = tt
+  sent-spent (Err Lost) toc takes refused = tt
+  sent-spent (Err Fault) toc takes refused = tt
+  sent-spent (Err Gone) toc takes refused = tt
+
   -- what was done to the device
-  done-takes : (kind : Bool) (sent : Sent) (toc : Toc) (from to : TurnMoment) → IsTableOf files name (Ok toc) → TakesSent (writes_to_send kind f toc) from.armed to.armed
-      → SendTakes kind files name f (done_reply kind sent) from to
-  done-takes false sent toc from to table takes = record { toc = toc; table = table; spent = takes }
-  done-takes true sent toc from to table takes = record { toc = toc; table = table; spent = takes }
+  done-takes : (kind : Bool) (sent : Sent) (from to : TurnMoment) → SendTakes kind files name f (done_reply kind sent) from to
+  done-takes false sent from to = tt
+  done-takes true sent from to = tt
 
   -- up to a read of the file that failed
   abbrev unread_takes : Toc → Type 0
   unread_takes toc = (entries : List Entry) × AreSent partly f.layout.rows toc entries × UnreadTakes (writes_before partly f toc) block_bytes entries armed arming
 
   pub sent-takes : (result : Result Sent SendStop) (power : Bool) (toc : Toc) → power ≡ is_ok (flash_of result)
-      → (IsEarlySend result → (u ≡ t) × (v ≡ w) × (ds ≡ cs) × (arming ≡ armed)) → IsTableOf files name (Ok toc) → OnOk result (TakesSent (writes_to_send partly f toc) armed arming)
-      → OnRefusedEnd result (TakesWrites (writes_to_send partly f toc) armed arming) → OnUnread result (unread_takes toc)
+      → (IsEarlySend result → (u ≡ t) × (v ≡ w) × (ds ≡ cs) × (arming ≡ armed)) → IsTableOf files name (Ok toc) → OnUnread result (unread_takes toc)
       → SendTakes partly files name f (sent_reply partly result) (at (Some f) t w cs armed true) (at (on_sent result g) u v ds arming power)
-  sent-takes (Ok sent) power toc powered same table takes refused unread = done-takes partly sent toc _ _ table takes
-  sent-takes (Err (MissingImage guid)) power toc powered same table takes refused unread = let d = same tt in record { told = d.0; writes = d.1; counts = d.2; armed = d.3; power = powered }
-  sent-takes (Err (ImageTooLarge guid)) power toc powered same table takes refused unread = let d = same tt in record { told = d.0; writes = d.1; counts = d.2; armed = d.3; power = powered }
-  sent-takes (Err (Begin st)) power toc powered same table takes refused unread = let d = same tt in record { told = d.0; writes = d.1; counts = d.2; armed = d.3; power = powered }
-  sent-takes (Err (End st)) power toc powered same table takes refused unread = record { toc = toc; table = table; spent = refused }
-  sent-takes (Err ReadFailed) power toc powered same table takes refused unread =
+  sent-takes (Ok sent) power toc powered same table unread = done-takes partly sent _ _
+  sent-takes (Err (MissingImage guid)) power toc powered same table unread = let d = same tt in record { told = d.0; writes = d.1; counts = d.2; armed = d.3; power = powered }
+  sent-takes (Err (ImageTooLarge guid)) power toc powered same table unread = let d = same tt in record { told = d.0; writes = d.1; counts = d.2; armed = d.3; power = powered }
+  sent-takes (Err (Begin st)) power toc powered same table unread = let d = same tt in record { told = d.0; writes = d.1; counts = d.2; armed = d.3; power = powered }
+  sent-takes (Err (End st)) power toc powered same table unread = tt
+  sent-takes (Err ReadFailed) power toc powered same table unread =
       inr (record { toc = toc; table = table; entries = unread.0; sent = unread.1; spent = unread.2 })
-  sent-takes (Err Lost) power toc powered same table takes refused unread = tt
-  sent-takes (Err Fault) power toc powered same table takes refused unread = tt
-  sent-takes (Err Gone) power toc powered same table takes refused unread = tt
+  sent-takes (Err Lost) power toc powered same table unread = tt
+  sent-takes (Err Fault) power toc powered same table unread = tt
+  sent-takes (Err Gone) power toc powered same table unread = tt
 
   pub sent-free : (result : Result Sent SendStop) (power : Bool) → StaysUnarmed (flash_of result) armed arming cs ds
       → StaysFree (sent_reply partly result) (at (Some f) t w cs armed true) (at (on_sent result g) u v ds arming power)
@@ -599,13 +625,14 @@ module _ (partly : Bool) (passes : List ℕ → Bool) (tells : Bool) (files : Op
   sent-free (Err s) power free = free
 
   -- the turn of a sending that ended, on a device that has power
-  pub sent-turn : (result : Result Sent SendStop) (power : Bool) → power ≡ is_ok (flash_of result) → (result ≡ Err Gone → ⊥) → (Lacks files name → ⊥)
-      → Sending partly files name request passes result old new → ∥ agent.Showing old ∥₁ → (IsTrue tells → agent.Showing old)
+  pub sent-turn : (toc : Toc) (result : Result Sent SendStop) (power : Bool) → power ≡ is_ok (flash_of result) → (result ≡ Err Gone → ⊥) → (Lacks files name → ⊥)
+      → Sending partly files name toc request passes result old new → ∥ agent.Showing old ∥₁ → (IsTrue tells → agent.Showing old)
       → Spends (flash_of result) cs ds → ReadsPieceBy was are result → SparesBlocksByAll f w v
+      → SpendsSent (sent_reply partly result) (writes_to_send partly f toc) armed arming
       → SendTakes partly files name f (sent_reply partly result) (at (Some f) t w cs armed true) (at (on_sent result g) u v ds arming power)
       → StaysFree (sent_reply partly result) (at (Some f) t w cs armed true) (at (on_sent result g) u v ds arming power)
       → Turns passes tells files (send_call partly name request) (quiet_turn (send_call partly name request) (sent_reply partly result)) (at (Some f) t w cs armed true) (at (on_sent result g) u v ds arming power) was are
-  sent-turn result power powered there lacks_none sends some showing spent reads touches takes free = record {
+  sent-turn toc result power powered there lacks_none sends some showing spent reads touches taken takes free = record {
     call_is = refl;
     unnumbered = λ no. refl;
     counts = record { faults = spent.faults; cuts = spent.cuts; reached = spent.reached; chances = spent.chances };
@@ -620,7 +647,7 @@ module _ (partly : Bool) (passes : List ℕ → Bool) (tells : Bool) (files : Op
     later = reads.later;
     unread_once = omega (arith, reads.once, told-unread result);
     reads_none = λ e. absurd (always-reads partly name request e);
-    replies = replies-as partly passes tells files name request _ _ (sent_reply partly result) (says power result there sends stays);
+    replies = replies-as partly passes tells files name request _ _ (sent_reply partly result) (says power toc result there sends stays taken);
     takes = record { by_call = takes-as partly files name request f _ (sent_reply partly result) _ takes; unread = λ e none. absurd (none (reads.failed (unread-sent result e))) };
     touches = touches-sent partly name request f w v touches;
     power = powered ∙ powers result;
@@ -642,7 +669,7 @@ module _ (partly : Bool) (passes : List ℕ → Bool) (tells : Bool) (files : Op
   }
     where
       stays : Stays old new
-      stays = ∥∥₁_elim some (hlevel props) (stays-of partly files name request passes result old new sends)
+      stays = ∥∥₁_elim some (hlevel props) (stays-of partly files name toc request passes result old new sends)
 
 -- ---- what the code has
 

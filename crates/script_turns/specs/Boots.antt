@@ -74,7 +74,8 @@ pub record BootsAs (passes : List ℕ → Bool) (tells : Bool) (old : TurnMoment
   pub numbers_are : t.numbers ≡ numbers_of_end end
   pub on_is : IsOnAfter end new.on
   pub idle : IdleEnd end mid.armed new.armed mid.counts new.counts
-  pub spent : TakesBoot end mid.armed new.armed
+  -- by the repair of the metadata, and by what the start is counted as; a loss that is armed stays so while power comes back
+  pub spent : TakesBoot end old.armed new.armed
   -- on any device: no block was erased or programmed but these, which are of blocks 1 to 3, 5 and 6
   pub touches : TouchesBoot end mid.writes new.writes
   pub started : StartedBy end

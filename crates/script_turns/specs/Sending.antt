@@ -1,5 +1,7 @@
 -- What a turn of `send` says, whole or partial, on any device and of any file.
-use Rattle.std.specs.Prelude.{◌≡◌, ◌≢◌, ◌<◌, ℕ, Bool, true, false, List, length, Option, Some, None, Result, Ok, Err, IsTrue, ⊤, slice_index_or}
+use Rattle.std.specs.Prelude.{◌≡◌, ◌≢◌, ◌<◌, ℕ, ◌+◌, Bool, true, false, List, length, Option, Some, None, Result, Ok, Err, IsTrue, ⊤, slice_index_or}
+use Rattle.base_core.specs.Block.{block_bytes}
+use Rattle.flash_core.specs.declared.flash.Arming.{Arming}
 use Rattle.host_io.specs.Access.{Access, Asks}
 use Rattle.host_io.specs.Contents.{Directory}
 use Rattle.fwu_formats.specs.Package.{Toc}
@@ -15,12 +17,14 @@ use Rattle.fip_tables.specs.Files.{Lacks, Tells}
 use Rattle.agent_machine.specs.Fields.{Fields}
 use Rattle.agent_machine.specs.Moment as agent
 use Rattle.agent_machine.specs.Meets.{Stays}
+use Rattle.agent_calls.specs.Takes.{Takes as TakesWrites, writes_to_begin}
 use Rattle.update_client.specs.declared.stops.Sent.{Sent}
 use Rattle.update_client.specs.declared.stops.SendStop.{SendStop}
 use Rattle.update_client.specs.declared.stops.SendStop.TheVariants.{MissingImage, ImageTooLarge, Begin, End, ReadFailed, Lost, Fault, Gone}
 use Rattle.update_client.specs.Choosing.{no_row}
 use Rattle.update_client.specs.Sends.{send_answer}
-use Rattle.update_client.specs.Partial.{AreWhole, over_answer}
+use Rattle.update_client.specs.Takes.{DoneSendTakes as TakesSent, writes_sent}
+use Rattle.update_client.specs.Partial.{AreWhole, over_answer, writes_over}
 use Rattle.script_turns.specs.declared.tables.TableStop.TheVariants as table_stop
 use Rattle.script_turns.specs.Tables.{IsOfTable}
 use Rattle.script_turns.specs.Powered.{TurnMoment, kept_at}
@@ -53,10 +57,26 @@ IsUnnamed (call.Send name request) access = access ≢ Asks name
 IsUnnamed (call.SendPartial name request) access = access ≢ Asks name
 IsUnnamed other access = ⊤
 
+-- the writes of a sending up to its end: those of its begin, and of its images in pieces of 4096 bytes
+abbrev pub writes_whole : Fields → Toc → ℕ
+writes_whole f toc = writes_to_begin f + writes_sent block_bytes f.layout.rows toc
+
+-- of a partial one with those of the images that are copied
+abbrev pub writes_partly : Fields → Toc → ℕ
+writes_partly f toc = writes_to_begin f + writes_over block_bytes f.layout.rows f.lengths toc
+
+-- A sending that is done takes off an armed loss the erases and programs of its writes and of the switch, and no other. One whose
+-- end is refused takes those of its writes alone.
+abbrev pub SpendsSent : Reply → ℕ → Option Arming → Option Arming → Type 0
+SpendsSent (reply.Sent images skipped) writes armed arming = TakesSent writes armed arming
+SpendsSent (reply.SentPartial images skipped copied) writes armed arming = TakesSent writes armed arming
+SpendsSent (reply.EndRefused st) writes armed arming = TakesWrites writes armed arming
+SpendsSent other writes armed arming = ⊤
+
 -- Some table and images were sent, those of the file where it is told. The answer is that of each machine that the agent shows, and
--- it shows the machine after it.
+-- it shows the machine after it. An armed loss counts the writes of this same table.
 pub record SendsBy (passes : List ℕ → Bool) (files : Option Directory) (name : List ℕ) (request : ℕ) (r : Reply)
-    (old new : agent.Moment) : Type 0 where
+    (old new : agent.Moment) (armed arming : Option Arming) : Type 0 where
   pub toc : Toc
   pub images : List (List ℕ)
   pub table : IsTableOf files name (Ok toc)
@@ -65,6 +85,7 @@ pub record SendsBy (passes : List ℕ → Bool) (files : Option Directory) (name
       → (r ≡ (send_answer E toc images request s x).reply)
       × agent.Shows new (after s (send_answer E toc images request s x).moves) (send_answer E toc images request s x).next
   pub stays : Stays old new
+  pub spent : SpendsSent r (writes_whole old.fields toc) armed arming
 
 -- the reply of a partial sending tells that its begin was done
 abbrev pub TellsBegun : Reply → Type 0
@@ -74,9 +95,10 @@ TellsBegun other = ⊥
 
 -- Some table and images were sent over some bytes of the images that the table lacks. These are the active bank's where the device
 -- tells, and behind a begin that was done as many on any device. The images are those of the file over these bytes where it is
--- told. The answer is that of each machine that the agent shows, and it shows the machine after it.
+-- told. The answer is that of each machine that the agent shows, and it shows the machine after it. An armed loss counts the writes
+-- of this same table.
 pub record SendsOverBy (passes : List ℕ → Bool) (files : Option Directory) (name : List ℕ) (request : ℕ) (r : Reply)
-    (old new : agent.Moment) : Type 0 where
+    (old new : agent.Moment) (armed arming : Option Arming) : Type 0 where
   pub toc : Toc
   pub bytes : ℕ → List ℕ
   pub copied : IsTrue old.tells → (s : State) (x : Session) → agent.Shows old s x → (i : ℕ) → i < length old.fields.layout.rows
@@ -89,20 +111,24 @@ pub record SendsOverBy (passes : List ℕ → Bool) (files : Option Directory) (
       → (r ≡ (over_answer E toc images request s x).reply)
       × agent.Shows new (after s (over_answer E toc images request s x).moves) (over_answer E toc images request s x).next
   pub stays : Stays old new
+  pub spent : SpendsSent r (writes_partly old.fields toc) armed arming
 
 -- by whether it is partial
-abbrev pub SendsAs : Bool → (List ℕ → Bool) → Option Directory → List ℕ → ℕ → Reply → agent.Moment → agent.Moment → Type 0
-SendsAs false passes files name request r old new = SendsBy passes files name request r old new
-SendsAs true passes files name request r old new = SendsOverBy passes files name request r old new
+abbrev pub SendsAs : Bool → (List ℕ → Bool) → Option Directory → List ℕ → ℕ → Reply → agent.Moment → agent.Moment
+    → Option Arming → Option Arming → Type 0
+SendsAs false passes files name request r old new armed arming = SendsBy passes files name request r old new armed arming
+SendsAs true passes files name request r old new armed arming = SendsOverBy passes files name request r old new armed arming
 
 -- A file without a table is answered by its first fault, and the agent is as it was. Whatever the file, some bytes have that fault.
 -- Else what it holds is sent.
-abbrev pub AnswersSend : Bool → (List ℕ → Bool) → Option Directory → List ℕ → ℕ → Reply → agent.Moment → agent.Moment → Type 0
-AnswersSend partial passes files name request (reply.BadPackage f) old new =
+abbrev pub AnswersSend : Bool → (List ℕ → Bool) → Option Directory → List ℕ → ℕ → Reply → agent.Moment → agent.Moment
+    → Option Arming → Option Arming → Type 0
+AnswersSend partial passes files name request (reply.BadPackage f) old new armed arming =
     IsTableOf files name (Err (reply.BadPackage f)) × (new ≡ old)
-AnswersSend partial passes files name request (reply.BadCapsule f) old new =
+AnswersSend partial passes files name request (reply.BadCapsule f) old new armed arming =
     IsTableOf files name (Err (reply.BadCapsule f)) × (new ≡ old)
-AnswersSend partial passes files name request r old new = SendsAs partial passes files name request r old new
+AnswersSend partial passes files name request r old new armed arming =
+    SendsAs partial passes files name request r old new armed arming
 
 -- the flash stopped it, or the file could not be read
 abbrev pub IsSendStop : Reply → Type 0
@@ -117,8 +143,8 @@ abbrev pub SendSays : Bool → (List ℕ → Bool) → Bool → Option Directory
 SendSays partial passes tells files name request None before r on now = (r ≡ reply.IsOff) × (on ≡ None)
 SendSays partial passes tells files name request (Some f) before r None now = IsSendStop r
 SendSays partial passes tells files name request (Some f) before r (Some g) now =
-    AnswersSend partial passes files name request r
-    (kept_at tells f before.told before.writes) (kept_at tells g now.told now.writes)
+    AnswersSend partial passes files name request r (kept_at tells f before.told before.writes)
+    (kept_at tells g now.told now.writes) before.armed now.armed
 
 -- ---- a sending that ended
 

@@ -17,16 +17,13 @@ use Rattle.agent_machine.specs.Ends.{IsWriter, TakesSwitch}
 use Rattle.agent_machine.specs.Stored.{TakesStore}
 use Rattle.agent_calls.specs.Takes.{Takes as TakesWrites, writes_to_begin, writes_to_copy}
 use Rattle.update_client.specs.Choosing.{AreChosen}
-use Rattle.update_client.specs.Takes.{DoneSendTakes as TakesSent, UnreadTakes, writes_sent}
-use Rattle.update_client.specs.Partial.{present, writes_copied, writes_over}
+use Rattle.update_client.specs.Takes.{UnreadTakes}
+use Rattle.update_client.specs.Partial.{present, writes_copied}
 use Rattle.fwu_model.specs.Answer.{are_named}
 use Rattle.fwu_model.specs.Call.{Call}
 use Rattle.fwu_model.specs.Call as call
 use Rattle.fwu_model.specs.Reply.{Reply}
 use Rattle.fwu_model.specs.Reply as reply
-use Rattle.early_boot.specs.Ends.{Ended}
-use Rattle.early_boot.specs.EndsBy.{TakesBoot}
-use Rattle.script_turns.specs.Boots.{reply_of_end}
 use Rattle.script_turns.specs.Powered.{TurnMoment, SameDevice}
 use Rattle.script_turns.specs.Sending.{IsTableOf}
 
@@ -95,19 +92,6 @@ pub record ReadTakes (r : Reply) (old new : TurnMoment) : Type 0 where
   pub armed : new.armed ≡ arming_kept (stop_told r) old.armed
   pub reached : ReachesNone (stop_told r) old.counts new.counts
 
--- the writes of a sending up to its end: those of its begin, and of its images in pieces of 4096 bytes
-abbrev pub writes_whole : Fields → Toc → ℕ
-writes_whole f toc = writes_to_begin f + writes_sent block_bytes f.layout.rows toc
-
--- of a partial one with those of the images that are copied
-abbrev pub writes_partly : Fields → Toc → ℕ
-writes_partly f toc = writes_to_begin f + writes_over block_bytes f.layout.rows f.lengths toc
-
--- by whether it is partial
-abbrev pub writes_to_send : Bool → Fields → Toc → ℕ
-writes_to_send false f toc = writes_whole f toc
-writes_to_send true f toc = writes_partly f toc
-
 -- those of its begin, and of the copies of a partial one
 abbrev pub writes_before : Bool → Fields → Toc → ℕ
 writes_before false f toc = writes_to_begin f
@@ -118,19 +102,8 @@ abbrev pub AreSent : Bool → List ImageRow → Toc → List Entry → Type 0
 AreSent false rows toc entries = AreChosen rows toc entries
 AreSent true rows toc entries = entries ≡ present rows toc
 
--- by some table, that of the file where it is told: so many, and those of the switch
-pub record SentTakes (files : Option Directory) (name : List ℕ) (writes : Toc → ℕ) (old new : TurnMoment) : Type 0 where
-  pub toc : Toc
-  pub table : IsTableOf files name (Ok toc)
-  pub spent : TakesSent (writes toc) old.armed new.armed
-
--- so many, and no switch
-pub record EndTakes (files : Option Directory) (name : List ℕ) (writes : Toc → ℕ) (old new : TurnMoment) : Type 0 where
-  pub toc : Toc
-  pub table : IsTableOf files name (Ok toc)
-  pub spent : TakesWrites (writes toc) old.armed new.armed
-
--- those of the begin, of the first images, and of the first pieces of the next one, of which a further one could not be read
+-- By some table, that of the file where it is told: those of the begin, of the first images, and of the first pieces of the next
+-- one, of which a further one could not be read.
 pub record StopTakes (partial : Bool) (files : Option Directory) (name : List ℕ) (f : Fields) (old new : TurnMoment) : Type 0 where
   pub toc : Toc
   pub table : IsTableOf files name (Ok toc)
@@ -138,30 +111,19 @@ pub record StopTakes (partial : Bool) (files : Option Directory) (name : List �
   pub sent : AreSent partial f.layout.rows toc entries
   pub spent : UnreadTakes (writes_before partial f toc) block_bytes entries old.armed new.armed
 
--- A sending that is done takes the erases and programs of its writes and of the switch, and no other. One whose end is refused
--- takes those of its writes alone, and one whose file could not be read those up to that read. What was refused before anything was
--- sent did nothing.
+-- What was refused before anything was sent did nothing. A sending whose file could not be read takes the erases and programs of
+-- its writes up to that read. What one takes that is done, or whose end is refused, stands beside the table that was sent, in
+-- `SendsBy` and `SendsOverBy`.
 abbrev pub SendTakes : Bool → Option Directory → List ℕ → Fields → Reply → TurnMoment → TurnMoment → Type 0
-SendTakes partial files name f (reply.Sent images skipped) old new = SentTakes files name (writes_to_send partial f) old new
-SendTakes partial files name f (reply.SentPartial images skipped copied) old new =
-    SentTakes files name (writes_to_send partial f) old new
 SendTakes partial files name f (reply.BadPackage g) old new = SameDevice old new
 SendTakes partial files name f (reply.BadCapsule g) old new = SameDevice old new
 SendTakes partial files name f (reply.Missing guid) old new = SameDevice old new
 SendTakes partial files name f (reply.TooLarge guid) old new = SameDevice old new
 SendTakes partial files name f (reply.BeginRefused st) old new = SameDevice old new
-SendTakes partial files name f (reply.EndRefused st) old new = EndTakes files name (writes_to_send partial f) old new
 SendTakes partial files name f reply.ReadFault old new = SameDevice old new ⊎ StopTakes partial files name f old new
 SendTakes partial files name f other old new = ⊤
 
--- A boot comes as much nearer an armed loss as an end with this reply does. That is by the repair of the metadata, and by what the
--- start of a bank is counted as. A loss that is armed stays so while power comes back.
-pub record BootTakes (r : Reply) (old new : TurnMoment) : Type 0 where
-  pub end : Ended
-  pub reply_is : r ≡ reply_of_end end
-  pub spent : TakesBoot end old.armed new.armed
-
--- by what the agent kept
+-- By what the agent kept. What a boot takes stands beside its end, in `BootsAs`.
 abbrev pub TakesOn : Option Directory → Call → Fields → TurnMoment → Reply → TurnMoment → Type 0
 TakesOn files call.Discover f old r new = SameDevice old new
 TakesOn files (call.Begin n) f old r new = BeginsBy r f old new
@@ -177,14 +139,14 @@ TakesOn files (call.Accepts guid) f old r new = AcceptsBy r f new.on old new
 TakesOn files call.Previous f old r new = IsStoredBy r f new.on old new
 TakesOn files (call.Send name request) f old r new = SendTakes false files name f r old new
 TakesOn files (call.SendPartial name request) f old r new = SendTakes true files name f r old new
-TakesOn files call.Boot f old r new = BootTakes r old new
+TakesOn files call.Boot f old r new = ⊤
 TakesOn files (call.Cut n k) f old r new = ⊤
 TakesOn files call.Show f old r new = SameDevice old new
 TakesOn files call.NoCall f old r new = SameDevice old new
 
 -- no flash that is off is touched but by a boot and a `cut`
 abbrev pub TakesOff : Call → TurnMoment → Reply → TurnMoment → Type 0
-TakesOff call.Boot old r new = BootTakes r old new
+TakesOff call.Boot old r new = ⊤
 TakesOff (call.Cut n k) old r new = ⊤
 TakesOff other old r new = SameDevice old new
 
