@@ -170,10 +170,10 @@ FWU_ASSERT(sizeof(struct fwu_report) == 108 && offsetof(struct fwu_report, lengt
  *
  * It boots first, which writes nothing more where the loader's boot has been. The steps are one list: those of the boot, and
  * behind them those that make the update bank invalid, write its images, and make it active. No erase, program or copy lies in
- * block 0 or in the bank that the boot starts; where it starts none, each lies in blocks 1 to 6. Bytes that are found in the
- * package are told as copies (FWU_COPY), and need no room. It looks behind the last copy, and where the first 16 payloads begin.
- * A copy lies within the package. A driver that does an update's steps has to know copies. `package` stays as it is until the
- * steps are done.
+ * block 0, in block 4 or in the bank that the boot starts; where it starts none, each lies in blocks 1 to 6. Bytes that are found
+ * in the package are told as copies (FWU_COPY), and need no room. It looks behind the last copy, and where the first 16 payloads
+ * begin. A copy lies within the package. A driver that does an update's steps has to know copies. `package` stays as it is until
+ * the steps are done.
  *
  * 0: once all steps are done, in their order, the next boot tries the package first. 1 to 3: no bank may be started, as fwu_boot
  * says. 5, 16 to 19: nothing is installed. The steps that are told then needn't be done; to do the first ones of them harms no bank

@@ -5,6 +5,7 @@ use Rattle.std.proofs.Math.Nat.{mod-lt}
 use Rattle.base_core.specs.Block.{block_bytes}
 use Rattle.flash_core.specs.Touches.{TouchesOnly}
 use Rattle.fwu_formats.specs.Layout.{Layout, fits_layout, slot_total, start}
+use Rattle.fwu_formats.specs.Places.{counter_block}
 use Rattle.fwu_formats.proofs.SealLaws.{limits}
 use Rattle.fwu_model.proofs.Banks.{next-other}
 use Rattle.moves.proofs.Staged.{banks-order}
@@ -51,6 +52,10 @@ module _ (L : Layout) (bank : ℕ) (fits : IsTrue (fits_layout L)) where
   -- and so does block 0
   pub layout-spared : (k : ℕ) → k ≡ 0 → IsSparedByAll L bank (block_bytes * k)
   layout-spared k first = (inl (omega (arith, first)), inl (omega (arith, first)))
+
+  -- and block 4, which lies between them
+  pub marks-spared : IsSparedByAll L bank (block_bytes * counter_block)
+  marks-spared = (inr (omega arith), inl (omega arith))
 
   module _ (first mid d : StepFlash) (none : (k : ℕ) → writes_of first k ≡ 0)
       (booted : TouchesOnly block_bytes boot_reach (writes_of first) (writes_of mid))

@@ -35,10 +35,11 @@ use Rattle.fwu_c.specs.Updates.{on_trial, not_booted, tried, update_code, Report
 use Rattle.agent_machine.specs.Moment.{Moment}
 use Rattle.agent_machine.specs.Beside.{IsSparedByAll, SparesBlocksByAll}
 use Rattle.fwu_formats.proofs.Read.{layout-fits}
-use Rattle.step_flash.specs.Writes.{LiesWithin}
+use Rattle.step_flash.specs.Writes.{LiesBeside, LiesWithin}
+use Rattle.fwu_formats.specs.Places.{counter_block, first_record}
 use Rattle.fwu_c.specs.Agents.{BeginsAgent}
 use Rattle.fwu_c.proofs.SentPackage.{setting_of}
-use Rattle.fwu_c.proofs.Places.{has-blocks, in-use-unwritten, update-touches}
+use Rattle.fwu_c.proofs.Places.{has-blocks, in-use-unwritten, marks-spared, update-touches}
 use Rattle.fwu_c.proofs.Telling.{keeps_fault, lie_further, none_lie, told_handed}
 use Rattle.fwu_c.proofs.Booting.{code_few, counted_from_none, end_same, guard_kept, over, start_same}
 
@@ -131,11 +132,21 @@ told_denied image old old_steps old_room new steps room is same none same_steps 
 
 -- ---- the record
 
+-- beside block 4
+abbrev pub LieBesideMarks : List Step → Type 0
+LieBesideMarks steps = All (LiesBeside (block_bytes * counter_block) (block_bytes * first_record)) steps
+
+-- where the device counted nothing in block 4
+beside_marks_by : (d : StepFlash) (told r : Report) (steps : List Step) (room : List ℕ) → HandsOver d told r steps room
+    → writes_of d counter_block ≡ 0 → LieBesideMarks (take r.steps steps)
+beside_marks_by d told r steps room hands still = hands.lie.beside counter_block first_record (omega arith) (λ k low high.
+    let is : k ≡ counter_block = omega (arith, low, high) in ap (λ n. writes_of d n) is ∙ still)
+
 updates_by : (image file : List ℕ) (request : ℕ) (first d : StepFlash) (e : Updated) (number : ℕ) (old told r : Report) (steps : List Step) (room : List ℕ)
     → told_of first ≡ start_with image file → length image ≡ block_bytes * block_count first → block_count d ≡ block_count first
     → (told_of d).guard ≡ (told_of first).guard → UpdateEnds image file request e (told_of d) → HandsOver d told r steps room
-    → SparesInUse e (take r.steps steps) → number ≡ update_code e → ReportsUpdate e old r → UpdatesBy image file request number old r steps room
-updates_by image file request first d e number old told r steps room made size same_size kept ends hands spared is reports =
+    → SparesInUse e (take r.steps steps) → writes_of d counter_block ≡ 0 → number ≡ update_code e → ReportsUpdate e old r → UpdatesBy image file request number old r steps room
+updates_by image file request first d e number old told r steps room made size same_size kept ends hands spared still is reports =
     let o = over image file first d told r steps room made size same_size kept hands in
     record {
       end = e;
@@ -146,6 +157,7 @@ updates_by image file request first d e number old told r steps room made size s
       within = o.within;
       doable = o.doable;
       spared = spared;
+      beside_marks = beside_marks_by d told r steps room hands still;
       reports = reports;
     }
 
@@ -158,7 +170,7 @@ unbooted_by image file request first d number given old told r steps room made s
     updates_by image file request first d (not_booted none.end) number old told r steps room made size none.size
     (guard_kept (told_of first) (told_of d) none.end none.boots.by_bytes)
     (none.is, subst (λ (x : Told). BootEnds (λ m. passes_any m) x none.end (told_of d)) made none.boots) hands
-    (hands.lie.places 1 7 (counted_from_none block_bytes boot_reach unwritten none.touches)) (is ∙ none.number_is)
+    (hands.lie.places 1 7 (counted_from_none block_bytes boot_reach unwritten none.touches)) (none.marks_still ∙ unwritten counter_block) (is ∙ none.number_is)
     (end_same none.end old told r hands.same none.reports)
 
 -- a sending keeps the guard, since the boot before it left a flash that shows a state
@@ -207,7 +219,8 @@ tried_by image file request first mid d b outcome number old told r steps room m
       installs = installs;
     }) hands
     (hands.lie.beside (start b.layout b.bank 0) (start b.layout (b.bank + 1) 0) (has-blocks b.layout b.bank fits)
-    (in-use-unwritten b.layout b.bank fits first mid d unwritten boots.touches sent)) is (start_same b told r hands.same boots.reports)
+    (in-use-unwritten b.layout b.bank fits first mid d unwritten boots.touches sent))
+    (sent counter_block (marks-spared b.layout b.bank fits) ∙ boots.marks_still ∙ unwritten counter_block) is (start_same b told r hands.same boots.reports)
 
 -- nothing was tried
 pub denied_by : (image file : List ℕ) (request : ℕ) (old r : Report) (steps : List Step) (room : List ℕ) → IsOnTrial image
@@ -230,6 +243,7 @@ denied_by image file request old r steps room trial none empty =
       };
       doable = subst (λ (ss : List Step). AreDoable file (take r.bytes room) (start_with image file) ss) (sym no_steps) tt;
       spared = tt;
+      beside_marks = subst LieBesideMarks (sym no_steps) (λ k d lt. absurd (omega (arith, lt)));
       reports = (none, empty);
     }
 

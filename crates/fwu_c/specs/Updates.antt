@@ -5,6 +5,7 @@ use Rattle.flash_core.specs.Told.{Told}
 use Rattle.flash_core.specs.Touches.{TouchesOnly}
 use Rattle.fwu_formats.specs.Digests.{passes_any}
 use Rattle.fwu_formats.specs.Image.{layout_seen}
+use Rattle.fwu_formats.specs.Places.{counter_block, first_record}
 use Rattle.fwu_model.specs.State.{State, Numbers, bank, is_valid}
 use Rattle.fwu_model.specs.Seen.{seen}
 use Rattle.early_boot.specs.Started.{Started}
@@ -61,6 +62,7 @@ pub record ReportsBoot (b : Started) (first left : StepFlash) (old r : Report) :
   -- the device in it has the size of the first one
   pub size : block_count left ≡ block_count first
   pub touches : TouchesOnly block_bytes boot_reach (writes_of first) (writes_of left)
+  pub marks_still : writes_of left counter_block ≡ writes_of first counter_block
 
 -- for an agent
 pub record BootsUp (first left : StepFlash) (m : Moment) (gone : Bool) (old r : Report) : Type 0 where
@@ -80,6 +82,7 @@ pub record ReportsNone (number : ℕ) (first left : StepFlash) (old r : Report) 
   pub unlost : number ≢ 4
   pub size : block_count left ≡ block_count first
   pub touches : TouchesOnly block_bytes boot_reach (writes_of first) (writes_of left)
+  pub marks_still : writes_of left counter_block ≡ writes_of first counter_block
 
 -- the boot as the definitions say, and from what it leaves the sending
 pub record TriesPackage (image file : List ℕ) (request : ℕ) (b : Started) (n : Numbers) (outcome : SendOutcome)
@@ -121,4 +124,6 @@ pub record UpdatesBy (image file : List ℕ) (request number : ℕ) (old r : Rep
   pub doable : AreDoable file (take r.bytes room) (start_with image file) (take r.steps steps)
   -- no step meets the bank in use
   pub spared : SparesInUse end (take r.steps steps)
+  -- nor block 4, which has the counter's marks
+  pub beside_marks : All (LiesBeside (block_bytes * counter_block) (block_bytes * first_record)) (take r.steps steps)
   pub reports : ReportsUpdate end old r

@@ -1,10 +1,13 @@
 use Rattle.std.proofs.Common.{◌≡◌, ◌∙◌, ap, refl, subst, sym}
 use Rattle.fwu_formats.specs.Digests.{passes_any}
-use Rattle.early_boot.specs.Ends.{device_of, ended}
+use Rattle.fwu_formats.specs.Places.{counter_block}
+use Rattle.early_boot.specs.Ends.{booted, device_of, ended}
 use Rattle.early_boot.specs.EndsBy.{BootEnds}
+use Rattle.early_boot.proofs.Touching.{boot-spares}
 use Rattle.early_boot.specs.Numbers.{numbers}
+use Rattle.early_boot.specs.Started.{started}
 use Rattle.step_flash.specs.declared.flash.StepFlash.{StepFlash}
-use Rattle.step_flash.specs.Flash.{block_count, told_of}
+use Rattle.step_flash.specs.Flash.{block_count, told_of, writes_of}
 use Rattle.fwu_c.specs.Codes.{end_code}
 use Rattle.fwu_c.proofs.Booting.{boot_end_is, touched_back}
 use Rattle.fwu_c.proofs.Telling.{keeps_started}
@@ -20,6 +23,7 @@ returns-in-Ok c = rw c.in-Ok.ensures.ok (record {
   kept = keeps_started _ _ c.report_start.ensures.kept;
   size = c.in-Booted.ensures.boots.size;
   touches = c.in-Booted.ensures.boots.touches;
+  marks_still = boot-spares (booted (started c.in-Booted.booted) (numbers c.in-Booted.field-1)) _ _ c.in-Booted.ensures.boots.touches_fewer;
 })
 
 pub returns : goal.returns
@@ -42,4 +46,5 @@ returns c =
       unlost = λ four. end.0 (sym code ∙ four);
       size = ap (λ (d : StepFlash). block_count d) back ∙ boots.size;
       touches = touched_back c.args.flash (device_of c.boot_in.result) c.into_flash.result back boots.touches;
+      marks_still = ap (λ (d : StepFlash). writes_of d counter_block) back ∙ boot-spares (ended c.boot_in.result) _ _ boots.touches_fewer;
     }
