@@ -1,7 +1,6 @@
 -- What is done for what the words ask for, from what the parts of the command did.
-use Rattle.std.proofs.Common.{◌≡◌, ◌≢◌, ◌≤◌, ℕ, Bool, true, false, List, [], Option, Some, None, refl, sym, ap, subst, ◌∙◌, arith, inl, inr, ne_eqb}
-use Rattle.std.specs.Prelude.{◌||◌, ◌==◌, IsTrue, IsFalse}
-use Rattle.std.proofs.KnownBytes.{Consumes-nil}
+use Rattle.std.proofs.Common.{◌≡◌, ◌≢◌, ◌≤◌, ℕ, Bool, true, false, List, [], Option, Some, None, refl, sym, ap, subst, ◌∙◌, arith, inl, inr}
+use Rattle.std.specs.Prelude.{IsTrue, IsFalse}
 use Rattle.std.proofs.lemmas.Bool.{false≢true}
 use Rattle.std.proofs.lemmas.Option.{same_Some}
 use Rattle.fwu_formats.specs.Digests.{passes_any}
@@ -10,7 +9,6 @@ use Rattle.fwu_model.specs.Causes.{Faults, may_fail_before}
 use Rattle.fwu_model.specs.Reply.{Turn}
 use Rattle.fwu_model.specs.Asked as model
 use Rattle.fwu_model.specs.Asked.{script_asked}
-use Rattle.fwu_model.specs.Script.{is_too_long}
 use Rattle.fwu_model.specs.Wrote.{usage_line}
 use Rattle.fwu_model.specs.declared.kinds.Note.TheVariants as model_note
 use Rattle.fwu_words.specs.Order.{Asked, turns_of}
@@ -34,7 +32,7 @@ use Rattle.script_cmd.specs.ServeWays as serve
 use Rattle.script_cmd.specs.ShowedBy.{ShowedBy}
 use Rattle.flash_commands.specs.SoakWays.{SoakWay}
 use Rattle.flash_commands.specs.SoakWays as soak
-use Rattle.script_runs.specs.Sourced.{FailsOnce, ReadsInTime, TakesScript}
+use Rattle.script_runs.specs.Sourced.{FailsOnce, ReadsInTime, TakesScript, reads_all}
 use Rattle.script_cmd.specs.ByList.{ByList}
 use Rattle.script_runs.specs.Ways.{HasGoodList, Refuses, Way}
 use Rattle.script_runs.specs.Ways as way
@@ -49,31 +47,9 @@ use Rattle.script_runs.proofs.TableWays.{table-refused, table-starved, table-wit
 use Rattle.script_cmd.proofs.TopFormats.{formats-with-list, none-some, refused-formats, starved-formats}
 use Rattle.script_runs.proofs.TopPrints.{not-done}
 use Rattle.script_cmd.proofs.TopShows.{refused-shows, shows-with-list, starved-shows}
-use Rattle.script_runs.proofs.TopSources.{none-fails, unread-in-time}
+use Rattle.script_runs.proofs.TopSources.{none-fails, takes-nothing, unread-in-time}
 use Rattle.script_cmd.proofs.TopLists.{no-list-named}
 use Rattle.script_runs.proofs.TopWays.{refused-by, with-list}
-
--- one of two numbers, and not the second
-pub but-for : (status k : ℕ) → status ≢ k → IsTrue (may_fail_before status || (status == k)) → IsTrue (may_fail_before status)
-but-for status k other is = left-of (may_fail_before status) (status == k) (ne_eqb status k other) is
-  where
-    left-of : (b c : Bool) → c ≡ false → IsTrue (b || c) → IsTrue b
-    left-of true c none is = refl
-    left-of false c none is = absurd (false≢true (sym none ∙ is))
-
-nothing-long : is_too_long [] ≡ false
-unfolding is_too_long
-nothing-long = refl
-
--- where the source was not read, and the status is one that may come before that
-untaken : (journal : List Turn) (status : ℕ) (left rest : Option (List ℕ)) → rest ≡ left → journal ≡ [] → IsTrue (may_fail_before status) → TakesScript journal status left rest
-untaken journal status left rest same none fails = subst (TakesScript journal status left) (sym same) (record {
-  in_time = record { before = []; last = []; taken = Consumes-nil left; short = omega arith; within = nothing-long; few = omega arith };
-  too_long = λ eight. absurd (false≢true (sym (ap may_fail_before eight) ∙ fails));
-  within = λ other lacks. nothing-long;
-  ran = λ some. absurd (some none);
-  to_end = λ other whole. absurd (false≢true (sym whole ∙ fails));
-})
 
 -- what holds whichever manifests pass
 pub whichever : (Has : (List ℕ → Bool) → Type 0) (Idle : Type 0) (P : (List ℕ → Bool) → Type 0) (Q : Type 0) → ByList Has Idle P → ((passes : List ℕ → Bool) → P passes → Q) → Q
@@ -176,7 +152,7 @@ module _ {H I : Type 0} {passes : List ℕ → Bool} {tells : Bool} {blocks : �
     power = λ leaves zero. absurd (false≢true (sym (left-off from at) ∙ leaves));
     note = λ none. quiet (on-flash from at none);
     reads = record {
-      takes = λ runs other. whole (of-source from at runs);
+      takes = λ runs. whole (of-source from at runs);
       source = λ none. stays (of-boot from at none);
       list_first = λ none. absurd (none no-list-named);
       in_time = λ runs. timely;
@@ -345,7 +321,7 @@ module _ {H I : Type 0} {passes : List ℕ → Bool} {tells : Bool} {blocks : �
     power = λ leaves zero. absurd (omega (arith, zero, nine));
     note = λ other. ap is_beyond_model is;
     reads = record {
-      takes = λ runs other. untaken journal status left rest unread none (ap may_fail_before nine);
+      takes = λ runs. takes-nothing journal status left rest unread none (λ eight. omega (arith, eight, nine)) (ap reads_all nine);
       source = λ other. stays;
       list_first = λ lacks. stays;
       in_time = λ runs. unread-in-time left rest unread;
@@ -362,10 +338,10 @@ module _ {H I : Type 0} {passes : List ℕ → Bool} {tells : Bool} {blocks : �
   -- a list was refused, whatever is asked for
   pub answered-refused : (asked : Option Asked) (name : List ℕ) (planned : ℕ) (line : List ℕ) (met : Note)
       → ((script : Option (List ℕ)) (a : Option Asked) → Refuses a (record { list = Some name; files = told; script = script }) faults_before faults_after planned (noted met) line) → planned ≢ 0 → IsFalse (is_beyond_model met)
-      → journal ≡ [] → new ≡ old → old.armed ≡ None → said ≡ met → Prints line planned status taken_before taken_after faults_before.sink faults_after.sink → (IsFalse (may_fail_before status) → faults_after.files ≡ faults_before.files) → (status ≢ 13 → IsTrue (may_fail_before status))
+      → journal ≡ [] → new ≡ old → old.armed ≡ None → said ≡ met → Prints line planned status taken_before taken_after faults_before.sink faults_after.sink → (IsFalse (may_fail_before status) → faults_after.files ≡ faults_before.files) → status ≢ 8 → IsFalse (reads_all status)
       → source_after ≡ source → rest ≡ left → faults_after.source ≡ faults_before.source → Later faults_before faults_after
       → Answered passes (device-of tells blocks) (inputs-of asked (Some name) told left) (end-of journal status said) (world-of old taken_before faults_before) (world-of new taken_after faults_after) rest files files_after source source_after
-  answered-refused asked name planned line met why some beyond none same unarmed is prints counted fails stays unread once later = record {
+  answered-refused asked name planned line met why some beyond none same unarmed is prints counted some_less lacks_some stays unread once later = record {
     way = λ runs.
         refused-by passes tells journal status (noted said) old new taken_before taken_after asked (record { list = Some name; files = told; script = script_asked (in_short asked) left }) faults_before faults_after planned line (noted met) none same (ap noted is)
         (why (script_asked (in_short asked) left) asked) prints;
@@ -384,7 +360,7 @@ module _ {H I : Type 0} {passes : List ℕ → Bool} {tells : Bool} {blocks : �
     power = λ leaves zero. absurd (not-done line planned status taken_before taken_after faults_before.sink faults_after.sink some prints zero);
     note = λ other. ap is_beyond_model is ∙ beyond;
     reads = record {
-      takes = λ runs other. untaken journal status left rest unread none (fails other);
+      takes = λ runs. takes-nothing journal status left rest unread none some_less lacks_some;
       source = λ other. stays;
       list_first = λ lacks. stays;
       in_time = λ runs. unread-in-time left rest unread;

@@ -1,5 +1,5 @@
 -- What a command reads of its files and its source, and which failures it counts, whatever it is asked for.
-use Rattle.std.specs.Prelude.{◌≡◌, ◌≢◌, ◌≤◌, ℕ, List, Option, None, IsTrue, IsFalse}
+use Rattle.std.specs.Prelude.{◌≡◌, ◌≤◌, ℕ, List, Option, None, IsTrue, IsFalse}
 use Rattle.fwu_model.specs.Asked as model
 use Rattle.fwu_model.specs.Causes.{Faults, may_fail_before}
 use Rattle.script_cmd.specs.Asking.{asks_files, asks_package, asks_source}
@@ -18,9 +18,8 @@ pub record ReadsInputs {H I : Type 0} (inputs : Inputs) (ending : Ending Note) (
   pub source : IsFalse (asks_source inputs.asked) → source_after ≡ source_before
   pub list_first : (HasGoodList inputs.list inputs.files → ⊥) → source_after ≡ source_before
   pub in_time : in_short inputs.asked ≡ model.Source → ReadsInTime inputs.source rest
-  -- whether what was taken of a script is too long, and where nothing is left of it; behind a bad list it isn't read
-  pub takes : in_short inputs.asked ≡ model.Source → ending.status ≢ 13
-      → TakesScript ending.journal ending.status inputs.source rest
+  -- whether what was taken of a script is too long, and where nothing is left of it
+  pub takes : in_short inputs.asked ≡ model.Source → TakesScript ending.journal ending.status inputs.source rest
   pub source_count : in_short inputs.asked ≡ model.Source → FailsOnce ending.journal ending.status old.source new.source
   -- only `run`, `format` and a list read files, and where no turn is a `send`, `run` does not
   pub files : inputs.list ≡ None → IsFalse (asks_files inputs.asked) → files_after ≡ files_before

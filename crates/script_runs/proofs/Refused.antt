@@ -1,12 +1,12 @@
 -- Runs that have no first turn.
-use Rattle.std.proofs.Common.{◌≡◌, ◌≢◌, ◌==◌, ◌||◌, false, not, ◌∙◌, ℕ, Bool, List, [], Option, Some, inl, inr, refl, sym, ap, subst, arith}
+use Rattle.std.proofs.Common.{◌≡◌, ◌≢◌, ◌==◌, false, not, ◌∙◌, ℕ, Bool, List, [], Option, Some, inl, inr, refl, sym, ap, subst, arith}
 use Rattle.std.specs.Prelude.{IfSome, IsTrue, IsFalse}
 use Rattle.std.specs.Io.KnownBytes.{IsAtEnd}
-use Rattle.std.proofs.lemmas.Bool.{false≢true, or_parts}
-use Rattle.fwu_model.specs.Causes.{Faults, may_fail_before}
+use Rattle.std.proofs.lemmas.Bool.{false≢true}
+use Rattle.fwu_model.specs.Causes.{Faults}
 use Rattle.fwu_model.specs.Reply.{Turn}
 use Rattle.fwu_model.specs.Script.{is_too_long}
-use Rattle.fwu_model.specs.Wrote.{bad_script_line, may_lack, not_read_line, too_long_line}
+use Rattle.fwu_model.specs.Wrote.{bad_script_line, not_read_line, too_long_line}
 use Rattle.fwu_model.specs.declared.kinds.Note.TheVariants as model_note
 use Rattle.fwu_words.specs.Order as ask
 use Rattle.fwu_words.specs.declared.orders.Place.{Place}
@@ -17,7 +17,7 @@ use Rattle.host_io.specs.Printed.{Prints}
 use Rattle.script_turns.specs.Powered.{TurnMoment}
 use Rattle.script_runs.specs.Noted.{is_beyond_model, noted}
 use Rattle.script_runs.specs.Refusing.{LacksScript, plain_of, refusal_line, refusal_note, refusal_status, text_of, bad, starved, too_long, unread}
-use Rattle.script_runs.specs.Sourced.{FailsOnce, TakesScript, TakesText}
+use Rattle.script_runs.specs.Sourced.{FailsOnce, TakesScript, TakesText, reads_all}
 use Rattle.script_runs.specs.Ways.{AsksTurns, Given, HasGoodList, Way}
 use Rattle.script_runs.specs.Ways as way
 use Rattle.script_runs.specs.WaysByTable.{WayAt, untouched}
@@ -104,11 +104,9 @@ lacks-some met status taken takes was are prints zero = not-done (refusal_line m
 abbrev may_be_within : ℕ → Bool
 may_be_within status = not (status == 8)
 
--- one at which no read failed is none at which a line is cut
-not-lacking : (status : ℕ) → IsFalse (may_fail_before status) → IsFalse (may_lack status)
-not-lacking status whole =
-    let parts = or_parts ((status == 2) || (status == 3)) (status == 9) whole in
-    ap (λ (b : Bool). b || (status == 9)) (or_parts (status == 2) (status == 3) parts.0).1 ∙ parts.1
+-- one of a run that may not have read all
+abbrev leaves_some : ℕ → Bool
+leaves_some status = not (reads_all status)
 
 -- no such status comes of the line
 not-by : (met : Refusal) (status : ℕ) (taken takes : Option (List ℕ)) (was are : ℕ) (f : ℕ → Bool) → Prints (refusal_line met) (refusal_status met) status taken takes was are → IsTrue (f 3) → IsTrue (f 9) → IsTrue (f (refusal_status met)) → IsFalse (f status) → ⊥
@@ -117,27 +115,27 @@ not-by met status taken takes was are f prints three nine plan other = false≢t
 module _ (from : ScriptFrom) (left rest : Option (List ℕ)) (before after : ℕ) (journal : List Turn) (status : ℕ) (taken takes : Option (List ℕ)) (was are : ℕ) where
   -- a text that is not too long was read, and nothing ran; if it wasn't read to its end, by a status that tells so
   within-takes : (met : Refusal) → journal ≡ [] → Prints (refusal_line met) (refusal_status met) status taken takes was are → TakesText false left rest → IsTrue (may_be_within (refusal_status met))
-      → (IsFalse (may_fail_before status) → IsAtEnd rest) → TakesScript journal status left rest
+      → (IsTrue (reads_all status) → IsAtEnd rest) → TakesScript journal status left rest
   within-takes met none prints text plan end = record {
     in_time = text.in_time;
     too_long = λ eight. absurd (not-by met status taken takes was are may_be_within prints refl refl plan (ap may_be_within eight));
     within = λ other whole. text.is_long;
     ran = λ some. absurd (some none);
-    to_end = λ other whole. end whole;
+    to_end = end;
   }
 
   pub lacks-takes : (met : Refusal) → LacksScript from left before after met → journal ≡ [] → Prints (refusal_line met) (refusal_status met) status taken takes was are → TakesText (refusal_status met == 8) left rest
       → ((n : ℕ) → met ≡ why.BadScript n → IsAtEnd rest) → TakesScript journal status left rest
-  lacks-takes met (unread is once) none prints text end = within-takes met none prints text refl (λ whole. absurd (not-by met status taken takes was are may_fail_before prints refl refl refl whole))
+  lacks-takes met (unread is once) none prints text end = within-takes met none prints text refl (λ all. absurd (not-by met status taken takes was are leaves_some prints refl refl refl (ap not all)))
   lacks-takes met (too_long is long same) none prints text end = record {
     in_time = text.in_time;
     too_long = λ eight. text.is_long;
     within = λ other whole. absurd (other (printed-plan too_long_line 8 status taken takes was are prints whole));
     ran = λ some. absurd (some none);
-    to_end = λ other whole. absurd (other (printed-plan too_long_line 8 status taken takes was are prints (not-lacking status whole)));
+    to_end = λ all. absurd (not-by met status taken takes was are leaves_some prints refl refl refl (ap not all));
   }
-  lacks-takes met (bad n short wrong same) none prints text end = within-takes met none prints text refl (λ whole. end n refl)
-  lacks-takes met (starved same) none prints text end = within-takes met none prints text refl (λ whole. absurd (not-by met status taken takes was are may_fail_before prints refl refl refl whole))
+  lacks-takes met (bad n short wrong same) none prints text end = within-takes met none prints text refl (λ all. end n refl)
+  lacks-takes met (starved same) none prints text end = within-takes met none prints text refl (λ all. absurd (not-by met status taken takes was are leaves_some prints refl refl refl (ap not all)))
 
 -- it was read to its end, and a run of its calls, or none of them, came after
 pub read-takes : (left rest : Option (List ℕ)) (journal : List Turn) (status : ℕ) → TakesText false left rest → IsAtEnd rest → status ≢ 8 → TakesScript journal status left rest
@@ -146,5 +144,5 @@ read-takes left rest journal status text end other = record {
   too_long = λ eight. absurd (other eight);
   within = λ is whole. text.is_long;
   ran = λ some. (text.is_long, end);
-  to_end = λ is whole. end;
+  to_end = λ all. end;
 }

@@ -1,5 +1,5 @@
 -- What a run takes of the source.
-use Rattle.std.proofs.Common.{◌≡◌, true, false, ◌<◌, take, drop, take-append-drop, append_assoc, inl, inr, ◌≤◌, ◌+◌, ℕ, List, [], ◌∷◌, ◌++◌, Option, Some, None, length, arith, refl, sym, ap, subst, ◌∙◌, append-nil, length-append}
+use Rattle.std.proofs.Common.{◌≡◌, ◌≢◌, IsFalse, true, false, ◌<◌, take, drop, take-append-drop, append_assoc, inl, inr, ◌≤◌, ◌+◌, ℕ, List, [], ◌∷◌, ◌++◌, Option, Some, None, length, arith, refl, sym, ap, subst, ◌∙◌, append-nil, length-append}
 use Rattle.std.proofs.lemmas.Bool.{false≢true}
 use Rattle.std.proofs.lemmas.List.{take_all}
 use Rattle.std.specs.Io.KnownBytes.{Consumes, Keeps}
@@ -11,7 +11,7 @@ use Rattle.fwu_model.specs.Script.{is_too_long}
 use Rattle.script_text.specs.Limit.{Extent, IsExtentOf}
 use Rattle.script_text.proofs.Extents.{long-stays-long}
 use Rattle.host_io.specs.Printed.{Prints}
-use Rattle.script_runs.specs.Sourced.{FailsOnce, ReadsInTime, TakesText}
+use Rattle.script_runs.specs.Sourced.{FailsOnce, ReadsInTime, TakesScript, TakesText, reads_all}
 use Rattle.script_runs.proofs.TopPrints.{by-plan}
 use Rattle.script_runs.proofs.TopReads.{IsReading}
 
@@ -100,6 +100,17 @@ takes-long was mid new before middle limit text piece n r some short few within 
       ap is_too_long (sym (append_assoc text (take (n + 1) piece) (drop (n + 1) piece) ∙ ap (λ (l : List ℕ). text ++ l) (take-append-drop (n + 1) piece)))
       ∙ long-stays-long (text ++ take (n + 1) piece) (drop (n + 1) piece) (full within text r.extent);
 }
+
+-- nothing was read, and no turn ran
+pub takes-nothing : (journal : List Turn) (status : ℕ) (was now : Option (List ℕ)) → now ≡ was → journal ≡ [] → status ≢ 8 → IsFalse (reads_all status) → TakesScript journal status was now
+unfolding in-time-still
+takes-nothing journal status was now same none other leaves = subst (TakesScript journal status was) (sym same) (record {
+  in_time = in-time-still was;
+  too_long = λ eight. absurd (other eight);
+  within = λ is whole. nothing-long;
+  ran = λ some. absurd (some none);
+  to_end = λ all. absurd (false≢true (sym leaves ∙ all));
+})
 
 -- no call failed
 pub none-fails : (journal : List Turn) (status before after : ℕ) → after ≡ before → FailsOnce journal status before after

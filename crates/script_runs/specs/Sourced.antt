@@ -1,5 +1,5 @@
 -- What a run takes of the source, and how often that failed.
-use Rattle.std.specs.Prelude.{◌≡◌, ◌≢◌, ◌≤◌, ◌⊎◌, ◌++◌, ℕ, List, [], Bool, true, false, Option, Result, Ok, Err}
+use Rattle.std.specs.Prelude.{◌≡◌, ◌≢◌, ◌≤◌, ◌⊎◌, ◌++◌, ◌==◌, ◌||◌, ℕ, List, [], Bool, true, false, Option, Result, Ok, Err}
 use Rattle.std.specs.Prelude.{IsTrue, IsFalse, length}
 use Rattle.std.specs.Io.KnownBytes.{Consumes, IsAtEnd}
 use Rattle.host_io.specs.Calls.{raised}
@@ -32,6 +32,11 @@ stops_long (Err stop.Failed) = false
 stops_long (Err stop.TooLong) = true
 stops_long (Err stop.NoMemory) = false
 
+-- the statuses of a run whose script was read to the end of its source: all was done, a line is bad, the flash failed, nothing was
+-- booted, or the partition table gives no flash
+abbrev pub reads_all : ℕ → Bool
+reads_all status = (status == 0) || (status == 4) || (status == 5) || (status == 6) || (status == 10)
+
 -- What a run takes of the source that has its script, by its turns and its status.
 pub record TakesScript (journal : List Turn) (status : ℕ) (left_before left_after : Option (List ℕ)) : Type 0 where
   pub in_time : ReadsInTime left_before left_after
@@ -41,8 +46,8 @@ pub record TakesScript (journal : List Turn) (status : ℕ) (left_before left_af
   pub within : status ≢ 8 → IsFalse (may_lack status) → IsFalse (is_too_long (in_time.before ++ in_time.last))
   -- behind a turn it is not, and nothing is left of the source
   pub ran : journal ≢ [] → IsFalse (is_too_long (in_time.before ++ in_time.last)) × IsAtEnd left_after
-  -- nor is anything left at any status but 2, 3, 8 and 9: so where a line is bad, the whole source was read
-  pub to_end : status ≢ 8 → IsFalse (may_fail_before status) → IsAtEnd left_after
+  -- nor is anything left at these statuses: so where a line is bad, the whole source was read
+  pub to_end : IsTrue (reads_all status) → IsAtEnd left_after
 
 -- how many calls of the source have failed after a reading that ended so
 abbrev pub read_failures : {X : Type 0} → Result X SourceStop → ℕ → ℕ

@@ -1,5 +1,5 @@
-use Rattle.std.proofs.Common.{◌≡◌, ◌∙◌, ℕ, List, Err, arith, inl, inr, ap, refl, sym}
-use Rattle.std.specs.Prelude.{◌||◌, ◌==◌}
+use Rattle.std.proofs.Common.{◌≡◌, ◌≢◌, ◌∙◌, ℕ, List, Err, arith, inl, inr, ap, refl, sym}
+use Rattle.std.specs.Prelude.{◌==◌, not, Bool, true, false, IsTrue, IsFalse}
 use Rattle.std.proofs.lemmas.Bool.{false≢true}
 use Rattle.fwu_formats.specs.Digests.{digests_of, passes_listed}
 use Rattle.fwu_model.specs.Causes.{may_fail_before}
@@ -7,13 +7,21 @@ use Rattle.fwu_model.specs.Wrote.{bad_list_line, not_read_line}
 use Rattle.host_io.proofs.Once.{once-none}
 use Rattle.script_runs.specs.declared.done.Note.TheVariants as note
 use Rattle.script_runs.specs.Ways.{bad_list, list_not_read}
-use Rattle.script_cmd.proofs.AnsweredBy.{answered-refused, answered-starved, answered-with-list, but-for}
+use Rattle.script_cmd.proofs.AnsweredBy.{answered-refused, answered-starved, answered-with-list}
 use Rattle.script_runs.proofs.TopPrints.{by-plan}
 use Rattle.script_runs.proofs.TopPrints.{later}
 use Rattle.script_cmd.proofs.TopLists.{bytes-there, good-list, idles, idles-at, list-lacks, list-there, of-list, reads-list}
 use Rattle.script_turns.specs.Powered.{moment}
 use Rattle.script_cmd.proofs.Unasked.{asks-behind, asks-list}
+use Rattle.script_runs.specs.Sourced.{reads_all}
 use Rattle.script_cmd.proofs.answering.run_listed.Goals as goal
+
+is-false : (b : Bool) → IsTrue (not b) → IsFalse b
+is-false true held = absurd (false≢true held)
+is-false false held = refl
+
+not-at-8 : (k : ℕ) → IsTrue (not (k == 8)) → k ≢ 8
+not-at-8 k held is = false≢true (ap (λ (n : ℕ). not (n == 8)) (sym is) ∙ held)
 
 pub returns-in-Err-Failed-clause-answers : goal.returns-in-Err-Failed-clause-answers
 returns-in-Err-Failed-clause-answers g c =
@@ -27,7 +35,7 @@ returns-in-Err-Failed-clause-answers g c =
       λ passes.
           answered-refused _ name 2 not_read_line note.Nothing (λ script asked. list_not_read refl why) (λ two. absurd (omega arith)) refl
           e.no_turns same c.requires.unarmed e.note e.prints (λ whole. absurd (false≢true (sym whole ∙ by-plan not_read_line 2 _ _ _ _ _ e.prints may_fail_before refl refl refl)))
-          (λ other. by-plan not_read_line 2 _ _ _ _ _ e.prints may_fail_before refl refl refl)
+          (not-at-8 _ (by-plan not_read_line 2 _ _ _ _ _ e.prints (λ k. not (k == 8)) refl refl refl)) (is-false _ (by-plan not_read_line 2 _ _ _ _ _ e.prints (λ k. not (reads_all k)) refl refl refl))
           refl refl refl (record { files = c.read_list.ensures.reads.later; source = omega arith; sink = later _ _ _ _ _ _ _ e.prints }),
     )
 
@@ -60,7 +68,7 @@ returns-in-Err-BadLine-clause-answers g c =
       λ passes.
           answered-refused _ name 13 (bad_list_line line) (note.BadList line) (λ script asked. bad_list line refl (list-there files name read.bytes whole) bad) (λ thirteen. absurd (omega arith)) refl
           e.no_turns same c.requires.unarmed e.note e.prints (λ some. c.in-Err-BadLine.ensures.cause.bad line is)
-          (λ other. but-for _ 13 other (by-plan (bad_list_line line) 13 _ _ _ _ _ e.prints (λ k. may_fail_before k || (k == 13)) refl refl refl))
+          (not-at-8 _ (by-plan (bad_list_line line) 13 _ _ _ _ _ e.prints (λ k. not (k == 8)) refl refl refl)) (is-false _ (by-plan (bad_list_line line) 13 _ _ _ _ _ e.prints (λ k. not (reads_all k)) refl refl refl))
           refl refl refl (record { files = c.read_list.ensures.reads.later; source = omega arith; sink = later _ _ _ _ _ _ _ e.prints }),
     )
 
