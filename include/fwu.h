@@ -256,8 +256,8 @@ struct fwu_shown {
  * counted. `flash` has all its `length` bytes. The call takes a block of 4096 bytes from the work buffer (fwu_work), 160 for itself
  * and 160 for each bank.
  *
- * 0: `shown` tells all but the fault. 1: block 0 is no layout, and `layout_fault` alone is written. 2: neither replica is metadata
- * of the layout. 6: these bytes are no flash. 7: the work buffer has no room. From 2 on nothing is written. */
+ * 0: `shown` tells all but the fault, which stays as it was. 1: block 0 is no layout, and `layout_fault` alone is written. 2: neither
+ * replica is metadata of the layout. 6: these bytes are no flash. 7: the work buffer has no room. From 2 on nothing is written. */
 uint32_t fwu_show(const uint8_t *flash, size_t length, struct fwu_shown *shown);
 
 FWU_ASSERT(sizeof(struct fwu_bank) == 32 && offsetof(struct fwu_bank, accepted) == 16, "as in crates/fwu_c/src/show.rt");
