@@ -125,8 +125,8 @@ enum fwu_kind {
     FWU_COPY = 4     /* a program of the `length` bytes of the package from `from` on; fwu_update alone tells it */
 };
 
-/* What is to be done to the flash. `at` and `length` are bytes of the flash, `from` is bytes from the room's first one, or at a copy
- * from the package's first one. */
+/* What is to be done to the flash. `at` and `length` are bytes of the flash. `from` is bytes from the room's first one, or at a
+ * copy from the package's first one. */
 struct fwu_step {
     uint32_t kind; /* enum fwu_kind */
     uint32_t at;
@@ -165,24 +165,24 @@ FWU_ASSERT(sizeof(struct fwu_report) == 108 && offsetof(struct fwu_report, lengt
 /* ---- an update */
 
 /* Installs a package on a flash that lies in memory, and writes nothing to either. `package` has `bytes` bytes: the images of the
- * flash's layout, by their types. With `acceptance` 0 each image is accepted at once; with any other number the package is on trial,
- * and is started three times at most until its images are accepted. The other arguments are those of fwu_boot.
+ * flash's layout, by their types. With `acceptance` 0 each image is accepted at once; with any other number the package is on
+ * trial, and is started three times at most until its images are accepted. The other arguments are those of fwu_boot.
  *
  * It boots first, which writes nothing more where the loader's boot has been. The steps are one list: those of the boot, and
  * behind them those that make the update bank invalid, write its images, and make it active. No erase, program or copy lies in
- * block 0, in block 4 or in the bank that the boot starts; where it starts none, each lies in blocks 1 to 6. Bytes that are found
- * in the package are told as copies (FWU_COPY), and need no room. It looks behind the last copy, and where the first 16 payloads
- * begin. A copy lies within the package. A driver that does an update's steps has to know copies. `package` stays as it is until
- * the steps are done.
+ * block 0, in block 4 or in the bank that the boot starts; where it starts none, each lies in blocks 1 to 3, 5 and 6. Bytes that
+ * are found in the package are told as copies (FWU_COPY), and need no room. It looks behind the last copy, and where the first 16
+ * payloads begin. A copy lies within the package. A driver that does an update's steps has to know copies. `package` stays as it
+ * is until the steps are done.
  *
  * 0: once all steps are done, in their order, the next boot tries the package first. 1 to 3: no bank may be started, as fwu_boot
  * says. 5, 16 to 19: nothing is installed. The steps that are told then needn't be done; to do the first ones of them harms no bank
  * in use. Where the active bank is on trial no step is told, since a boot would count one more start of it. 6 and 7: nothing is
  * written, as fwu_boot says.
  *
- * What the report says at 0 and 16 to 19 is what fwu_boot says at 0, of the bank that runs. Where the active bank is on trial, only
- * `steps` and `bytes` are written, as 0. At 5 it is what it is at 0 where the boot in it started a bank, and else nothing but `steps`
- * and `bytes`. */
+ * What the report says at 0 and 16 to 19 is what fwu_boot says at 0, of the bank that runs. Where the active bank is on trial,
+ * only `steps` and `bytes` are written, as 0. At 5 it is what it is at 0 where the boot in it started a bank, and else nothing but
+ * `steps` and `bytes`. */
 uint32_t fwu_update(const uint8_t *flash, size_t length, const uint8_t *package, size_t bytes, uint32_t acceptance,
                     struct fwu_step *steps, size_t most, uint8_t *room, size_t size, struct fwu_report *report);
 
@@ -256,8 +256,9 @@ struct fwu_shown {
  * counted. `flash` has all its `length` bytes. The call takes a block of 4096 bytes from the work buffer (fwu_work), 160 for itself
  * and 160 for each bank.
  *
- * 0: `shown` tells all but the fault, which stays as it was. 1: block 0 is no layout, and `layout_fault` alone is written. 2: neither
- * replica is metadata of the layout. 6: these bytes are no flash. 7: the work buffer has no room. From 2 on nothing is written. */
+ * 0: `shown` tells all but the fault, which stays as it was. 1: block 0 is no layout, and `layout_fault` alone is written. 2:
+ * neither replica is metadata of the layout. 6: these bytes are no flash. 7: the work buffer has no room. From 2 on nothing is
+ * written. */
 uint32_t fwu_show(const uint8_t *flash, size_t length, struct fwu_shown *shown);
 
 FWU_ASSERT(sizeof(struct fwu_bank) == 32 && offsetof(struct fwu_bank, accepted) == 16, "as in crates/fwu_c/src/show.rt");
@@ -266,8 +267,8 @@ FWU_ASSERT(sizeof(struct fwu_shown) == 160 && offsetof(struct fwu_shown, bank) =
 /* ---- memory: demo/c/work.c */
 
 /* Gives the library memory: `size` bytes, of any alignment, which are the caller's again when the next call has returned. To be
- * called before fwu_show and each call that tells steps. No boot that was measured took more than 17,280 bytes; what an update takes
- * is in docs/FIRMWARE.md. */
+ * called before fwu_show and each call that tells steps. No boot that was measured took more than 17,280 bytes. What an update
+ * takes is in docs/FIRMWARE.md. */
 void fwu_work(void *memory, size_t size);
 
 /* The most bytes of the buffer that a call took so far. */
