@@ -48,7 +48,7 @@ outcome calls journal status old new =
       after = new.counts;
     }
 
--- from a sound flash the headline, for the calls that are asked for
+-- from a sound flash, where files and script are told too, the headline for the calls that are asked for
 abbrev pub HeadlineHolds : (List ℕ → Bool) → Bool → Inputs → Ending Note → World → World → Type 0
 HeadlineHolds passes tells inputs ending old new =
     IsTrue tells → (E : Setting) (start : State) (calls : List Call)
@@ -74,15 +74,16 @@ EndsHold asked g ending old new =
 -- those of the run.
 pub record RepliesHold (passes : List ℕ → Bool) (tells : Bool) (files : Option Directory)
     (journal : List Turn) (old new : World) : Type 0 where
-  -- what the agent keeps at last, where a bank was started
+  -- what the agent keeps at last, where a bank was started, and how often the files had failed as the turns began and ended
   pub on : Option Fields
   pub from : ℕ
   pub to : ℕ
   pub follows : Follows passes tells files journal old.flash
       (at on new.flash.told new.flash.writes new.flash.counts new.flash.armed new.flash.power) from to
   pub begins : old.faults.files ≤ from
-  -- From a device that is off, whatever its reads gave: blocks 0 and 4 were neither erased nor programmed. Where the turns have one
-  -- boot, and its agent is there at the end, nor was a block but 1 to 6 and those of the bank behind its own.
+  -- On a device that counts its writes, whatever its reads gave, from one on which no bank was started: blocks 0 and 4 were neither
+  -- erased nor programmed. Where the turns have one boot, and its agent is there at the end, nor was a block but 1 to 6 and those of
+  -- the bank behind its own.
   pub touches : old.flash.on ≡ None → RunTouches journal old.flash
       (at on new.flash.told new.flash.writes new.flash.counts new.flash.armed new.flash.power)
   pub ends : journal ≢ [] → to ≡ new.faults.files
@@ -133,7 +134,7 @@ pub record RanHolds (passes : List ℕ → Bool) (tells : Bool) (files : Option 
   -- From a flash with nothing dirty, sound or not: no loss may harm what is in use, and with power it is at rest.
   pub guarded : GuardedHolds tells old.flash new.flash
 
--- from a sound flash all is done, where nothing was lacking and nothing failed, unless memory was wanting
+-- from such a flash all is done, where nothing was lacking and nothing failed, unless memory was wanting
 abbrev pub CompleteHolds : (List ℕ → Bool) → Bool → Inputs → Ending Note → World → World → Type 0
 CompleteHolds passes tells inputs ending old new =
     IsTrue tells → (E : Setting) (start : State) (calls : List Call) (script : List ℕ)
@@ -205,8 +206,8 @@ WaysAreComplete =
 -- All that `run` or `boot` promises.
 pub record Promised (passes : List ℕ → Bool) (tells : Bool) (inputs : Inputs) (ending : Ending Note)
     (old new : World) : Type 0 where
-  -- From a sound flash the turns are those of the machine. Every image that a loss may leave shows a state that they lead to, and
-  -- each boot selects a complete and permitted package.
+  -- From a sound flash, where files and script are told too, the turns are those of the machine. Every image that a loss may leave
+  -- shows a state that they lead to, and each boot selects a complete and permitted package.
   pub headline : HeadlineHolds passes tells inputs ending old new
   -- Of a sink that tells its bytes, over every device, files and source: the lines of what was done, at every status.
   pub wrote : WroteHolds inputs.asked (given_to inputs) ending old new
@@ -217,5 +218,5 @@ pub record Promised (passes : List ℕ → Bool) (tells : Bool) (inputs : Inputs
   pub turns : RanHolds passes tells inputs.files ending.journal old new
   -- `boot` on any flash with nothing dirty, sound or not, where nothing failed.
   pub boot_word : BootWordHolds passes tells inputs.asked ending old.flash new.flash
-  -- From a sound flash all is done, where nothing was lacking and nothing failed, unless memory was wanting.
+  -- From such a flash all is done, where nothing was lacking and nothing failed, unless memory was wanting.
   pub complete : CompleteHolds passes tells inputs ending old new

@@ -23,7 +23,7 @@ use Rattle.script_runs.specs.declared.done.Note.{Note}
 pub record Serves {H I : Type 0} (passes : List ℕ → Bool) (device : Device) (inputs : Inputs)
     (ending : Ending Note) (old new : World) (rest : Option (List ℕ)) (files_before files_after : H)
     (source_before source_after : I) : Type 0 where
-  -- for `run` and `boot`, and for words that ask for nothing
+  -- for `run` and `boot`, and for words that ask for nothing: the headline, what was written, why it ended, and what each turn did
   pub promises : RunsOrNone inputs.asked → Promised passes device.tells inputs (in_model ending) old new
   -- for `run --gpt` and `boot --gpt`, which are `run` and `boot` on the flash behind the partition table
   pub by_table : (plain : Asked) → over_table inputs.asked ≡ Some plain

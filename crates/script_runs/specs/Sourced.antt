@@ -46,7 +46,7 @@ pub record TakesScript (journal : List Turn) (status : ℕ) (left_before left_af
   pub within : status ≢ 8 → IsFalse (may_lack status) → IsFalse (is_too_long (in_time.before ++ in_time.last))
   -- behind a turn it is not, and nothing is left of the source
   pub ran : journal ≢ [] → IsFalse (is_too_long (in_time.before ++ in_time.last)) × IsAtEnd left_after
-  -- nor is anything left at these statuses: so where a line is bad, the whole source was read
+  -- nor is anything left at these statuses: so at 4, a bad line, the whole source was read
   pub to_end : IsTrue (reads_all status) → IsAtEnd left_after
 
 -- how many calls of the source have failed after a reading that ended so

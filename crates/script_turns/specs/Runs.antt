@@ -95,7 +95,7 @@ abbrev pub SparesBanks : Fields → (ℕ → ℕ) → (ℕ → ℕ) → Type 0
 SparesBanks f old new = (b : ℕ) → (block_bytes * b + block_bytes ≤ block_bytes) ⊎ (block_bytes * 7 ≤ block_bytes * b)
     → IsBesideBank f.layout ((f.boot + 1) % f.layout.banks) (block_bytes * b) → new b ≡ old b
 
--- Which blocks a run erases or programs, on every device, whatever its reads give.
+-- Which blocks a run erases or programs, on every device that counts its writes, whatever its reads give.
 pub record RunTouches (journal : List Turn) (old new : TurnMoment) : Type 0 where
   -- never block 0, which has the layout, nor block 4, which has the counter's marks
   pub layout_still : new.writes layout_block ≡ old.writes layout_block
@@ -105,7 +105,7 @@ pub record RunTouches (journal : List Turn) (old new : TurnMoment) : Type 0 wher
   -- where one boot started a bank, whose agent is there at the end
   pub banks : boots_in journal ≤ 1 → (f : Fields) → new.on ≡ Some f → SparesBanks f old.writes new.writes
 
--- The turns of the journal were done, from a device that was off and unarmed. The files' faults were some, and are some.
+-- The turns of the journal were done, one after the other. The files' faults were some, and are some.
 pub record Ran (passes : List ℕ → Bool) (tells : Bool) (files : Option Directory)
     (journal : List Turn) (old new : TurnMoment) (from to : ℕ) : Type 0 where
   pub counts : NoneFalls old.counts new.counts

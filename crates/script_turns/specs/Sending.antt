@@ -119,8 +119,8 @@ abbrev pub SendsAs : Bool → (List ℕ → Bool) → Option Directory → List 
 SendsAs false passes files name request r old new armed arming = SendsBy passes files name request r old new armed arming
 SendsAs true passes files name request r old new armed arming = SendsOverBy passes files name request r old new armed arming
 
--- A file without a table is answered by its first fault, and the agent is as it was. Whatever the file, some bytes have that fault.
--- Else what it holds is sent.
+-- A file without a table is answered by its first fault, and the agent is as it was. Whatever the file, some bytes have the fault
+-- of a package, and some headers and items that of a capsule. Else what it holds is sent.
 abbrev pub AnswersSend : Bool → (List ℕ → Bool) → Option Directory → List ℕ → ℕ → Reply → agent.Moment → agent.Moment
     → Option Arming → Option Arming → Type 0
 AnswersSend partial passes files name request (reply.BadPackage f) old new armed arming =

@@ -43,8 +43,8 @@ fn types_in(entries: &[Entry]) -> [Guid; 16]
 
 /// Sends the images of the layout that a package has, over those of the active bank, and installs
 /// them. It does a partial begin, which copies the other images as accepted. For each image that the
-/// package has, in the layout's order, come an open, the writes of its payload and a commit, and
-/// then an end.
+/// package has, in the layout's order, come an open, the writes of its payload and a commit. Last
+/// comes an end.
 ///
 /// The package is the file `name`, and its table is the one that is given. An image is the payload
 /// of the entry of its type, wherever that stands in the table, and the entries of no image are
