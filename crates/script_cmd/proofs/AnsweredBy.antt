@@ -32,7 +32,7 @@ use Rattle.script_cmd.specs.ServeWays as serve
 use Rattle.script_cmd.specs.ShowedBy.{ShowedBy}
 use Rattle.flash_commands.specs.SoakWays.{SoakWay}
 use Rattle.flash_commands.specs.SoakWays as soak
-use Rattle.script_runs.specs.Sourced.{FailsOnce, ReadsInTime, TakesScript, reads_all}
+use Rattle.script_runs.specs.Sourced.{FailsOnce, TakesScript, reads_all}
 use Rattle.script_cmd.specs.ByList.{ByList}
 use Rattle.script_runs.specs.Ways.{HasGoodList, Refuses, Way}
 use Rattle.script_runs.specs.Ways as way
@@ -47,7 +47,7 @@ use Rattle.script_runs.proofs.TableWays.{table-refused, table-starved, table-wit
 use Rattle.script_cmd.proofs.TopFormats.{formats-with-list, none-some, refused-formats, starved-formats}
 use Rattle.script_runs.proofs.TopPrints.{not-done}
 use Rattle.script_cmd.proofs.TopShows.{refused-shows, shows-with-list, starved-shows}
-use Rattle.script_runs.proofs.TopSources.{none-fails, takes-nothing, unread-in-time}
+use Rattle.script_runs.proofs.TopSources.{none-fails, takes-nothing}
 use Rattle.script_cmd.proofs.TopLists.{no-list-named}
 use Rattle.script_runs.proofs.TopWays.{refused-by, with-list}
 
@@ -79,7 +79,7 @@ asks-turns origin.Source place.Partitions = refl
 asks-turns origin.Boot place.Flash = refl
 asks-turns origin.Boot place.Partitions = refl
 
-no-other : (from : ScriptFrom) (at : Place) (other : Asked) → is_turns other ≡ false → Some (turns_of from at) ≡ Some other → ⊥
+pub no-other : (from : ScriptFrom) (at : Place) (other : Asked) → is_turns other ≡ false → Some (turns_of from at) ≡ Some other → ⊥
 no-other from at other none is = false≢true (sym none ∙ ap is_turns (sym (same_Some (turns_of from at) other is)) ∙ asks-turns from at)
 
 -- a script of the source alone reads it and files, and a flash behind a table alone has more notes
@@ -139,10 +139,10 @@ module _ {H I : Type 0} {passes : List ℕ → Bool} {tells : Bool} {blocks : �
   -- the turns of a script, wherever it is from and wherever they take place
   pub answered-turns : (from : ScriptFrom) (at : Place) (asked : Option Asked) → asked ≡ Some (turns_of from at)
       → WayAt at passes (device-of tells blocks) (Some (plain_of from)) (record { list = None; files = told; script = text_of from left }) (end-of journal status said) (world-of old taken_before faults_before) (world-of new taken_after faults_after)
-      → (from ≡ origin.Source → TakesScript journal status left rest) → ReadsInTime left rest → FailsOnce journal status faults_before.source faults_after.source → (IsTrue (sends_none (calls_of journal)) → files_after ≡ files)
+      → (from ≡ origin.Source → TakesScript journal status left rest) → FailsOnce journal status faults_before.source faults_after.source → (IsTrue (sends_none (calls_of journal)) → files_after ≡ files)
       → (files_after ≡ files → faults_after.files ≡ faults_before.files) → (from ≡ origin.Boot → files_after ≡ files) → (from ≡ origin.Boot → source_after ≡ source) → (at ≡ place.Flash → IsFalse (is_beyond_model said)) → Later faults_before faults_after
       → Answered passes (device-of tells blocks) (inputs-of asked None told left) (end-of journal status said) (world-of old taken_before faults_before) (world-of new taken_after faults_after) rest files files_after source source_after
-  answered-turns from at asked is went whole timely once unsent counts kept stays quiet later = subst (λ (a : Option Asked). Answered passes (device-of tells blocks) (inputs-of a None told left) (end-of journal status said) (world-of old taken_before faults_before) (world-of new taken_after faults_after) rest files files_after source source_after) (sym is) (record {
+  answered-turns from at asked is went whole once unsent counts kept stays quiet later = subst (λ (a : Option Asked). Answered passes (device-of tells blocks) (inputs-of a None told left) (end-of journal status said) (world-of old taken_before faults_before) (world-of new taken_after faults_after) rest files files_after source source_after) (sym is) (record {
     way = λ runs. turns-way passes tells blocks told left journal status said old new taken_before taken_after faults_before faults_after from at runs went;
     by_table = λ plain over. turns-by-table passes tells blocks told left journal status said old new taken_before taken_after faults_before faults_after from at plain over went;
     shows = λ other. absurd (no-other from at ask.show refl other);
@@ -155,7 +155,6 @@ module _ {H I : Type 0} {passes : List ℕ → Bool} {tells : Bool} {blocks : �
       takes = λ runs. whole (of-source from at runs);
       source = λ none. stays (of-boot from at none);
       list_first = λ none. absurd (none no-list-named);
-      in_time = λ runs. timely;
       source_count = λ runs. once;
       files = λ unlisted none. kept (of-no-file from at none);
       unsent = λ unlisted other none. unsent none;
@@ -182,7 +181,6 @@ module _ {H I : Type 0} {passes : List ℕ → Bool} {tells : Bool} {blocks : �
       takes = λ runs. absurd (none-not-source runs);
       source = λ other. stays;
       list_first = λ none. stays;
-      in_time = λ runs. absurd (none-not-source runs);
       source_count = λ runs. absurd (none-not-source runs);
       files = λ unlisted other. kept;
       unsent = λ unlisted other none. kept;
@@ -211,7 +209,6 @@ module _ {H I : Type 0} {passes : List ℕ → Bool} {tells : Bool} {blocks : �
       takes = λ runs. absurd (none-not-source runs);
       source = λ other. stays;
       list_first = λ none. stays;
-      in_time = λ runs. absurd (none-not-source runs);
       source_count = λ runs. absurd (none-not-source runs);
       files = λ unlisted other. absurd (false≢true (sym other));
       unsent = λ unlisted other none. absurd (false≢true (sym other));
@@ -240,7 +237,6 @@ module _ {H I : Type 0} {passes : List ℕ → Bool} {tells : Bool} {blocks : �
       takes = λ runs. absurd (none-not-source runs);
       source = λ other. stays;
       list_first = λ none. stays;
-      in_time = λ runs. absurd (none-not-source runs);
       source_count = λ runs. absurd (none-not-source runs);
       files = λ unlisted other. kept;
       unsent = λ unlisted other none. kept;
@@ -267,7 +263,6 @@ module _ {H I : Type 0} {passes : List ℕ → Bool} {tells : Bool} {blocks : �
       takes = λ runs. absurd (none-not-source runs);
       source = λ other. absurd (false≢true (sym other));
       list_first = λ none. absurd (none no-list-named);
-      in_time = λ runs. absurd (none-not-source runs);
       source_count = λ runs. absurd (none-not-source runs);
       files = λ unlisted other. kept;
       unsent = λ unlisted other none. kept;
@@ -295,7 +290,6 @@ module _ {H I : Type 0} {passes : List ℕ → Bool} {tells : Bool} {blocks : �
       takes = λ runs. absurd (none-not-source (sym (ap in_short words) ∙ runs));
       source = λ other. stays;
       list_first = λ lacks. stays;
-      in_time = λ runs. unread-in-time left rest unread;
       source_count = λ runs. none-fails journal status faults_before.source faults_after.source once;
       files = λ unlisted other. kept;
       unsent = λ unlisted other unsent. kept;
@@ -324,7 +318,6 @@ module _ {H I : Type 0} {passes : List ℕ → Bool} {tells : Bool} {blocks : �
       takes = λ runs. takes-nothing journal status left rest unread none (λ eight. omega (arith, eight, nine)) (ap reads_all nine);
       source = λ other. stays;
       list_first = λ lacks. stays;
-      in_time = λ runs. unread-in-time left rest unread;
       source_count = λ runs. none-fails journal status faults_before.source faults_after.source once;
       files = λ unlisted other. kept unlisted;
       unsent = λ unlisted other unsent. kept unlisted;
@@ -363,7 +356,6 @@ module _ {H I : Type 0} {passes : List ℕ → Bool} {tells : Bool} {blocks : �
       takes = λ runs. takes-nothing journal status left rest unread none some_less lacks_some;
       source = λ other. stays;
       list_first = λ lacks. stays;
-      in_time = λ runs. unread-in-time left rest unread;
       source_count = λ runs. none-fails journal status faults_before.source faults_after.source once;
       files = λ unlisted other. absurd cc;
       unsent = λ unlisted other unsent. absurd cc;
@@ -396,7 +388,6 @@ module _ {H I : Type 0} {passes : List ℕ → Bool} {tells : Bool} {blocks : �
           takes = a.reads.takes;
           source = a.reads.source;
           list_first = λ lacks. absurd (lacks good);
-          in_time = a.reads.in_time;
           source_count = λ runs. subst (λ (n : ℕ). FailsOnce journal status n faults_after.source) (sym at_source) (a.reads.source_count runs);
           files = λ unlisted other. absurd cc;
           unsent = λ unlisted other unsent. absurd cc;

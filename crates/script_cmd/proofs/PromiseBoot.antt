@@ -1,5 +1,5 @@
 -- The one command `boot` goes by the bytes, whichever way the run ended.
-use Rattle.std.proofs.Common.{◌≡◌, ◌≢◌, ℕ, ◌<◌, Bool, false, ◌||◌, ◌==◌, List, [], ◌∷◌, ◌++◌, Option, Some, None, Ok, Err, slice_get, refl, sym, ap, subst, ◌∙◌, arith, inl, inr, IsTrue, IsFalse}
+use Rattle.std.proofs.Common.{◌≡◌, ◌≢◌, ◌⊎◌, ℕ, ◌<◌, Bool, false, ◌||◌, ◌==◌, List, [], ◌∷◌, ◌++◌, Option, Some, None, Ok, Err, slice_get, refl, sym, ap, subst, ◌∙◌, arith, inl, inr, IsTrue, IsFalse}
 use Rattle.std.specs.Prelude.{Result, codes, count_by}
 use Rattle.std.proofs.lemmas.Bool.{or_parts, or_from, false≢true}
 use Rattle.std.proofs.lemmas.Option.{same_Some}
@@ -20,7 +20,7 @@ use Rattle.fwu_model.specs.Reply as reply
 use Rattle.fwu_model.specs.Script.{script_of, is_too_long}
 use Rattle.fwu_model.specs.Asked.{script_asked}
 use Rattle.fwu_model.specs.Wrote.{may_lack}
-use Rattle.fwu_model.specs.Causes.{Faults, cuts_in, is_cut, may_fail_before, status_by, note_by}
+use Rattle.fwu_model.specs.Causes.{LossesAreCounted, Faults, cuts_in, is_cut, is_lost, may_fail_before, status_by, note_by}
 use Rattle.fwu_formats.specs.declared.kinds.LayoutFault.{LayoutFault}
 use Rattle.fwu_model.specs.declared.kinds.NoBoot.TheVariants as no_boot
 use Rattle.fwu_model.specs.declared.kinds.Note.{Note}
@@ -159,23 +159,35 @@ whole status fails =
     let more = or_parts ((status == 2) || (status == 3)) (status == 9) parts.0 in
     or_from (status == 3) (status == 9) (or_parts (status == 2) (status == 3) more.0).1 more.1
 
+not-lost : (t : Turn) (before after : Counts) → LossesAreCounted (t ∷ []) before after → (Rose before.cuts after.cuts → ⊥) → (Rose before.reached after.reached → ⊥) → t.reply ≢ reply.Lost
+not-lost t before after (inl counted) cuts reached is =
+    let one : count_by (λ (x : Turn). is_lost x.reply) (t ∷ []) ≡ 1 = ap (λ (r : Reply). count_by (λ (x : Reply). is_lost x) (r ∷ [])) is in
+    let less : before.cuts < after.cuts → ⊥ = λ lt. cuts (inl lt) in
+    let fewer : before.reached < after.reached → ⊥ = λ lt. reached (inl lt) in
+    omega arith
+not-lost t before after (inr (inl top)) cuts reached is = cuts (inr top)
+not-lost t before after (inr (inr top)) cuts reached is = reached (inr top)
+
 no-cut : (t : Turn) → t.call ≡ call.Boot → cuts_in (t ∷ []) ≡ 0
 no-cut t is = ap (λ (c : Call). count_by is_cut (c ∷ [])) is
 
 module _ (passes : List ℕ → Bool) (tells : Bool) (files : Option Directory) (status : ℕ) (noted : Note) (old : TurnMoment) (from to : ℕ) where
   by-turn : (t : Turn) (turns : List Turn) (new : TurnMoment) → Ran passes tells files (t ∷ turns) old new from to → ScriptEnded (call.Boot ∷ []) (t ∷ turns) status noted
-      → IsTrue tells → NothingDirty old.told → IsFalse (may_lack status) → old.armed ≡ None → (Rose old.counts.faults new.counts.faults → ⊥) → (Rose old.counts.cuts new.counts.cuts → ⊥)
+      → IsTrue tells → NothingDirty old.told → IsFalse (may_lack status) → (old.armed ≡ None) ⊎ (Rose old.counts.reached new.counts.reached → ⊥) → (Rose old.counts.faults new.counts.faults → ⊥) → (Rose old.counts.cuts new.counts.cuts → ⊥)
       → BootWordBy passes old.told.now status noted (t ∷ turns)
   by-turn t turns new did ended told clean lacks unarmed faults cuts =
       let one = one-boot t turns ended.calls.0 ended.calls.1 in
       let last : last_turn (t ∷ turns) ≡ Some t = ap (λ (ts : List Turn). last_turn (t ∷ ts)) one.1 in
       let uncut : cuts_in (t ∷ turns) ≡ 0 = ap (λ (ts : List Turn). cuts_in (t ∷ ts)) one.1 ∙ no-cut t one.0 in
-      let lost : t.reply ≢ reply.Lost = λ is. cuts ((did.free unarmed uncut).lost t (0, omega arith, refl) is) in
+      let lost : t.reply ≢ reply.Lost = elim unarmed [
+        | inl none ↦ λ is. cuts ((did.free none uncut).lost t (0, omega arith, refl) is)
+        | inr quiet ↦ not-lost t old.counts new.counts (subst (λ (ts : List Turn). LossesAreCounted (t ∷ ts) old.counts new.counts) one.1 did.lost_turns) cuts quiet
+      ] in
       by-reply passes old.told.now status noted (t ∷ turns) t refl (ended.status_is lacks ∙ ap status_of_last last) (ended.noted_is ∙ ap note_of_last last)
       t.reply refl (did.first told clean t refl one.0) lost (λ is. faults (did.fault_turns t (0, omega arith, refl) is))
 
   by-journal : (journal : List Turn) (new : TurnMoment) → Ran passes tells files journal old new from to → ScriptEnded (call.Boot ∷ []) journal status noted
-      → IsTrue tells → NothingDirty old.told → IsFalse (may_lack status) → old.armed ≡ None → (Rose old.counts.faults new.counts.faults → ⊥) → (Rose old.counts.cuts new.counts.cuts → ⊥)
+      → IsTrue tells → NothingDirty old.told → IsFalse (may_lack status) → (old.armed ≡ None) ⊎ (Rose old.counts.reached new.counts.reached → ⊥) → (Rose old.counts.faults new.counts.faults → ⊥) → (Rose old.counts.cuts new.counts.cuts → ⊥)
       → BootWordBy passes old.told.now status noted journal
   by-journal [] new did ended told clean lacks unarmed faults cuts = let none = ended.all_calls (ended.status_is lacks) in absurd (cc)
   by-journal (t ∷ turns) new did ended told clean lacks unarmed faults cuts = by-turn t turns new did ended told clean lacks unarmed faults cuts

@@ -40,5 +40,5 @@ module _ {H : Type 0} (g : Ghosts H) {asked : Option Asked} {list : Option (List
     unwritten = reads.unwritten;
     later = reads.later;
     spares = λ access un.
-        reads.spares access (record { list = λ name named_is. un.list name (is ∙ named_is); wanted = λ banks rows file asks. un.wanted banks rows file (words ∙ asks); sent = un.sent });
+        reads.spares access (record { list = λ name named_is. un.list name (is ∙ named_is); wanted = λ banks rows file asks. un.wanted banks rows file (words ∙ asks); sent = λ none. un.sent (λ seed rounds soaks. none seed rounds (sym words ∙ soaks)) });
   }

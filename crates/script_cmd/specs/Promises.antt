@@ -88,13 +88,14 @@ pub record RepliesHold (passes : List ℕ → Bool) (tells : Bool) (files : Opti
       (at on new.flash.told new.flash.writes new.flash.counts new.flash.armed new.flash.power)
   pub ends : journal ≢ [] → to ≡ new.faults.files
 
--- The one command `boot`, on any flash with nothing dirty and no loss armed, where no failure and no loss stopped it,
--- and the list had no bad line, goes by the bytes.
+-- The one command `boot`, on any flash with nothing dirty, where no failure and no loss stopped it, and the list had no bad line,
+-- goes by the bytes. Where no loss was armed none that is armed can stop it.
 abbrev pub BootWordHolds : (List ℕ → Bool) → Bool → Option Asked → Ending Note → TurnMoment → TurnMoment → Type 0
 BootWordHolds passes tells asked ending old new =
     IsTrue tells → NothingDirty old.told → asked ≡ Some ask.boot
     → IsFalse (may_fail_before ending.status || (ending.status == 13))
-    → old.armed ≡ None → (Rose old.counts.faults new.counts.faults → ⊥) → (Rose old.counts.cuts new.counts.cuts → ⊥)
+    → (old.armed ≡ None) ⊎ (Rose old.counts.reached new.counts.reached → ⊥)
+    → (Rose old.counts.faults new.counts.faults → ⊥) → (Rose old.counts.cuts new.counts.cuts → ⊥)
     → BootWordBy passes old.told.now ending.status ending.noted ending.journal
 
 -- What a run does to any device. Where no turn ran it is as it was. Its power is by the replies. No failure and no loss is counted

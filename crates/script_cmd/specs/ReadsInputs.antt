@@ -6,7 +6,7 @@ use Rattle.script_cmd.specs.Asking.{asks_files, asks_package, asks_source}
 use Rattle.script_runs.specs.Ending.{Ending}
 use Rattle.script_runs.specs.Refusing.{in_short}
 use Rattle.script_turns.specs.Runs.{calls_of, sends_none}
-use Rattle.script_runs.specs.Sourced.{FailsOnce, ReadsInTime, TakesScript}
+use Rattle.script_runs.specs.Sourced.{FailsOnce, TakesScript}
 use Rattle.script_runs.specs.Ways.{HasGoodList}
 use Rattle.script_cmd.specs.Handed.{Inputs}
 use Rattle.script_runs.specs.declared.done.Note.{Note}
@@ -17,8 +17,7 @@ pub record ReadsInputs {H I : Type 0} (inputs : Inputs) (ending : Ending Note) (
   -- only `run` and `serve` read the source, and not behind a list that told files lack, or that is none
   pub source : IsFalse (asks_source inputs.asked) → source_after ≡ source_before
   pub list_first : (HasGoodList inputs.list inputs.files → ⊥) → source_after ≡ source_before
-  pub in_time : in_short inputs.asked ≡ model.Source → ReadsInTime inputs.source rest
-  -- whether what was taken of a script is too long, and where nothing is left of it
+  -- how much is taken of a script, when that is too long, and when nothing is left of it
   pub takes : in_short inputs.asked ≡ model.Source → TakesScript ending.journal ending.status inputs.source rest
   pub source_count : in_short inputs.asked ≡ model.Source → FailsOnce ending.journal ending.status old.source new.source
   -- only `run`, `format` and a list read files, and where no turn is a `send`, `run` does not

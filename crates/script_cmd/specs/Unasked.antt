@@ -7,7 +7,8 @@ use Rattle.host_io.specs.Access.{Access, Asks}
 use Rattle.script_runs.specs.Running.{IsUnnamedIn}
 use Rattle.script_cmd.specs.Handed.{Inputs}
 
--- The words name no list and no package that this access is for, and no turn sends the file that it is for.
+-- The words name no list and no package that this access is for, and no turn sends the file that it is for. What a soak sends it
+-- makes itself.
 pub record IsUnasked (inputs : Inputs) (journal : List Turn) (access : Access) : Type 0 where
   -- the list of digests
   pub list : (name : List ℕ) → inputs.list ≡ Some name → access ≢ Asks name
@@ -15,4 +16,4 @@ pub record IsUnasked (inputs : Inputs) (journal : List Turn) (access : Access) :
   pub wanted : (banks : ℕ) (rows : List ImageRow) (file : List ℕ) → inputs.asked ≡ Some (ask.format banks rows file)
       → access ≢ Asks file
   -- what is sent
-  pub sent : IsUnnamedIn journal access
+  pub sent : ((seed rounds : ℕ) → inputs.asked ≡ Some (ask.soak seed rounds) → ⊥) → IsUnnamedIn journal access

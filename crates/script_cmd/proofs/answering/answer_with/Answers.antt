@@ -1,8 +1,8 @@
 use Rattle.host_io.proofs.Once.{once-none}
-use Rattle.script_cmd.proofs.AnsweredBy.{answered-format, answered-serve, answered-show, answered-soak, answered-starved, answered-turns, answered-usage}
+use Rattle.script_cmd.proofs.AnsweredBy.{answered-format, answered-serve, answered-show, answered-soak, answered-starved, answered-turns, answered-usage, no-other}
 use Rattle.script_cmd.proofs.TopFormats.{formatted-as}
 use Rattle.script_cmd.proofs.SoakTop.{soak-as}
-use Rattle.std.proofs.Common.{Some, None, ap, refl, arith}
+use Rattle.std.proofs.Common.{Some, None, ap, refl, sym, ◌∙◌, arith}
 use Rattle.fwu_words.specs.Order as ask
 use Rattle.script_runs.specs.Ways.{Given}
 use Rattle.script_cmd.proofs.TopShows.{showed-by}
@@ -18,7 +18,7 @@ returns-in-Ok-Turns-clause-answers g c =
     let e = c.run_turns.ensures in
     answered-turns c.in-Ok-Turns.order.from c.in-Ok-Turns.order.place _ (rw c.in-Ok-Turns.field-0-is at c.in-Ok-Turns.ensures)
     (e.way (record { list = None; files = g.H.Files.contents c.args.files.now; script = None }) (record { files = files; source = 0; sink = 0 }) (record { files = files; source = 0; sink = 0 }) no-list-named refl (omega arith))
-    e.takes e.in_time e.source_count e.unsent (ap g.H.Files.faults) e.boot_files e.boot_source e.note (record { files = e.later_files; source = e.later_source; sink = e.later_sink })
+    e.takes e.source_count e.unsent (ap g.H.Files.faults) e.boot_files e.boot_source e.note (record { files = e.later_files; source = e.later_source; sink = e.later_sink })
 
 pub returns-in-Ok-Show-clause-answers : goal.returns-in-Ok-Show-clause-answers
 returns-in-Ok-Show-clause-answers g c =
@@ -95,7 +95,14 @@ returns-in-Err-NoMemory-clause-once g c = once-none g.I.Source g.met.I.Source.at
 pub returns-in-Ok-Turns-clause-reads : goal.returns-in-Ok-Turns-clause-reads
 returns-in-Ok-Turns-clause-reads g c =
     let e = c.run_turns.ensures in
-    record { same = e.same_files; unwritten = e.unwritten; later = e.later_files; spares = λ access other. e.spares access other.sent }
+    record {
+      same = e.same_files;
+      unwritten = e.unwritten;
+      later = e.later_files;
+      spares = λ access other.
+          e.spares access (other.sent (λ seed rounds soaks.
+          no-other c.in-Ok-Turns.order.from c.in-Ok-Turns.order.place (ask.soak seed rounds) refl (sym (rw c.in-Ok-Turns.field-0-is at c.in-Ok-Turns.ensures) ∙ soaks)));
+    }
 
 pub returns-in-Ok-Show-clause-reads : goal.returns-in-Ok-Show-clause-reads
 returns-in-Ok-Show-clause-reads g c = asks-none g.H.Files g.met.H.Files.at_rest c.args.files.now
