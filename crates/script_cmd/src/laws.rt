@@ -28,8 +28,7 @@ pub fn ways_keep_the_headline()
     ensures { WaysKeepTheHeadline }
 {}
 
-/// The one command `boot` goes by the bytes of any flash with nothing dirty and no loss armed, where nothing failed and no power was
-/// lost.
+/// The one command `boot` goes by the bytes of any flash with nothing dirty, where nothing failed and no power was lost.
 pub fn ways_boot()
     ensures { WaysBoot }
 {}
