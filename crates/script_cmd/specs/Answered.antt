@@ -35,7 +35,7 @@ pub record Answered {H I : Type 0} (passes : List ℕ → Bool) (device : Device
   pub serves : inputs.asked ≡ Some ask.serve → ServeWay passes device.tells (given_all inputs) (in_model ending) old new rest
   pub power : IsTrue (leaves_on inputs.asked) → ending.status ≡ 0 → IsTrue new.flash.power
   pub note : IsFalse (asks_beyond inputs.asked) → IsFalse (is_beyond_model ending.noted)
-  -- what it reads of its files and its source, and which failures it counts
+  -- what it takes of its files and its source, where these tell it, and which failures they count, always
   pub reads : ReadsInputs inputs ending old.faults new.faults rest files_before files_after source_before source_after
 
 -- The same by the manifests of a list that was read (`Has` says of which), or nothing was done, and it holds whichever pass.

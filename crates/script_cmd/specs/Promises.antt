@@ -210,14 +210,16 @@ pub record Promised (passes : List ℕ → Bool) (tells : Bool) (inputs : Inputs
   -- From a sound flash, where files and script are told too, the turns are those of the machine. Every image that a loss may leave
   -- shows a state that they lead to, and each boot selects a complete and permitted package.
   pub headline : HeadlineHolds passes tells inputs ending old new
-  -- Of a sink that tells its bytes, over every device, files and source: the lines of what was done, at every status.
+  -- Of a sink that tells its bytes (the standard output does not), over every device, files and source: the lines of what was done,
+  -- at every status.
   pub wrote : WroteHolds inputs.asked (given_to inputs) ending old new
-  -- For every device, files, source and sink: which turns and causes ended the run.
+  -- For every device, files, source and sink: which turns and causes ended the run. Which calls they are, and why 4 and 8, where the
+  -- source tells its bytes; why 13, where the files do.
   pub ends : EndsHold inputs.asked (given_to inputs) ending old new
   -- For every device: what each turn did, and how the device is left. On any flash with nothing dirty no loss harms what is in
   -- use.
   pub turns : RanHolds passes tells inputs.files ending.journal old new
-  -- `boot` on any flash with nothing dirty, sound or not, where nothing failed.
+  -- `boot` on any told flash with nothing dirty, sound or not, where nothing failed, goes by the bytes.
   pub boot_word : BootWordHolds passes tells inputs.asked ending old.flash new.flash
   -- From such a flash all is done, where nothing was lacking and nothing failed, unless memory was wanting.
   pub complete : CompleteHolds passes tells inputs ending old new

@@ -14,17 +14,19 @@ use Rattle.script_runs.specs.declared.done.Note.{Note}
 -- `rest` is what the source tells afterwards; the files and the source are those before and after.
 pub record ReadsInputs {H I : Type 0} (inputs : Inputs) (ending : Ending Note) (old new : Faults) (rest : Option (List ℕ))
     (files_before files_after : H) (source_before source_after : I) : Type 0 where
-  -- only `run` and `serve` read the source, and not behind a list that told files lack, or that is none
+  -- the source is as it was but for `run` and `serve`, and behind a list that told files lack, or that is none
   pub source : IsFalse (asks_source inputs.asked) → source_after ≡ source_before
   pub list_first : (HasGoodList inputs.list inputs.files → ⊥) → source_after ≡ source_before
-  -- how much is taken of a script, when that is too long, and when nothing is left of it
+  -- Of a script that tells its bytes: how much was taken. 8 is of a text that is too long. Behind a turn, and at 0, 4, 5, 6 and 10,
+  -- nothing is left of it.
   pub takes : in_short inputs.asked ≡ model.Source → TakesScript ending.journal ending.status inputs.source rest
+  -- the source failed once at most, and then no turn ran, and the status is 2, 3 or 9
   pub source_count : in_short inputs.asked ≡ model.Source → FailsOnce ending.journal ending.status old.source new.source
-  -- only `run`, `format` and a list read files, and where no turn is a `send`, `run` does not
+  -- the files are as they were but for `run`, `format` and a list, and for a `run` in which no turn sends
   pub files : inputs.list ≡ None → IsFalse (asks_files inputs.asked) → files_after ≡ files_before
   pub unsent : inputs.list ≡ None → IsFalse (asks_package inputs.asked)
       → IsTrue (sends_none (calls_of ending.journal)) → files_after ≡ files_before
-  -- then no call of the files failed, but at a status by which the list may not have been read
+  -- where nothing was sent no call of the files failed, but at 2, 3 and 9, by which the list may not have been read
   pub list_alone : IsFalse (asks_package inputs.asked) → IsTrue (sends_none (calls_of ending.journal))
       → IsFalse (may_fail_before ending.status) → new.files ≡ old.files
   -- no count of failures falls

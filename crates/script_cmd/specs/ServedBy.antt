@@ -157,7 +157,8 @@ pub record ServedBy (passes : List ℕ → Bool) (tells : Bool) (g : Given) (end
   -- From a sound flash the turns are those of the machine. Every image that a loss may leave shows a state that they lead to, and
   -- each boot selects a complete and permitted package.
   pub headline : ServedHeadline passes tells g.files ending old.flash new.flash
-  -- For every device: what each turn did, how the device is left, and that no loss harms what is in use.
+  -- For every device: what each turn did, and how the device is left. On any told flash with nothing dirty no loss harms what is in
+  -- use.
   pub turns : RanHolds passes tells g.files ending.journal old new
   -- For every device, files, source and sink: each status has its cause.
   pub ends : ServedEnds g ending old new rest

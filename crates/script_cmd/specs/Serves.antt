@@ -23,26 +23,31 @@ use Rattle.script_runs.specs.declared.done.Note.{Note}
 pub record Serves {H I : Type 0} (passes : List ℕ → Bool) (device : Device) (inputs : Inputs)
     (ending : Ending Note) (old new : World) (rest : Option (List ℕ)) (files_before files_after : H)
     (source_before source_after : I) : Type 0 where
-  -- for `run` and `boot`, and for words that ask for nothing: the headline, what was written, why it ended, and what each turn did
+  -- `run`, `boot`, and words that ask for nothing. On any device: what each turn did, and why it ended. On a sound flash that is told,
+  -- with told files and a told script: the machine's run.
   pub promises : RunsOrNone inputs.asked → Promised passes device.tells inputs (in_model ending) old new
-  -- for `run --gpt` and `boot --gpt`, which are `run` and `boot` on the flash behind the partition table
+  -- `run --gpt` and `boot --gpt`: why no run began, or all that `promises` says, of the flash behind the partition table
   pub by_table : (plain : Asked) → over_table inputs.asked ≡ Some plain
       → PromisedByTable passes device (record inputs { asked = Some plain }) ending old new
-  -- for `show`: what it found and wrote, and that nothing changed and nothing is armed
+  -- `show`: no turn, nothing armed, nothing counted as written. Where the flash tells, the numbers are its own. With nothing dirty it
+  -- is as it was.
   pub shows : inputs.asked ≡ Some ask.show → ShowedBy device.tells (given_all inputs) (in_model ending) old new
-  -- for `format`: what became of the flash, exactly what is refused, and what was written
+  -- `format`: formatted, refused or stopped, with the line of that, and what a loss leaves. Of a told file exactly what is refused; of
+  -- any, nothing counted as written behind the last bank.
   pub formats : (banks : ℕ) (rows : List ImageRow) (file : List ℕ) → inputs.asked ≡ Some (ask.format banks rows file)
       → FormattedBy passes device (given_all inputs) file (record { banks = banks; rows = rows }) ending old new
-  -- for `soak`: its calls are a run of the machine from the flash as it was formatted, and the line is that of their totals
+  -- `soak`: at the status 0 all its calls were done, and the line is that of their totals. On a told flash whose front is guarded they
+  -- are a run of the machine, from the flash as it was formatted.
   pub soaks : (seed rounds : ℕ) → inputs.asked ≡ Some (ask.soak seed rounds)
       → SoakedBy device (given_all inputs) seed rounds ending old new
-  -- for `serve`: one boot and the calls of the requests are a run of the machine, and what was written is the frames of the replies
+  -- `serve`: a boot, and a turn for each request that acts, as those of `run`. A told sink has the frames of the replies. On a sound
+  -- flash that is told, with told files, the turns are a run of the machine.
   pub serves : inputs.asked ≡ Some ask.serve → ServedBy passes device.tells (given_all inputs) (in_model ending) old new rest
-  -- `show` and `format` leave the flash on where they are done
+  -- `show` and `format` leave the flash on where they are done; for the others power goes by the turns
   pub power : IsTrue (leaves_on inputs.asked) → ending.status ≡ 0 → IsTrue new.flash.power
-  -- what was noted is of the machine, but for `format`, `soak` and a partition table
+  -- only `format` and `soak` note an input, and only `--gpt` what a partition table lacks
   pub note : IsFalse (asks_beyond inputs.asked) → IsFalse (is_beyond_model ending.noted)
-  -- what it reads of its files and its source, and which failures it counts
+  -- what it takes of its files and its source, where these tell it, and which failures they count, always
   pub reads : ReadsInputs inputs ending old.faults new.faults rest files_before files_after source_before source_after
   -- the sink failed once where the status is 3, and else not at all
   pub sink_count : FailsAtThree ending.status old.faults.sink new.faults.sink

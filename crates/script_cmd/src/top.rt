@@ -44,10 +44,11 @@ pub fn fwu_top_with<D: Flash, H: Files, I: Source, O: Sink, V: Verifier>(
         (world D.Flash H.Files I.Source O.Sink flash files.old source.old sink.old)
         (world D.Flash H.Files I.Source O.Sink result.flash files.new source.new sink.new)
         (I.left source.new) files.old files.new source.old source.new }
-    // No file is asked for but the list that the words name, the package of `format` and what turns send. None is written.
+    // No file is asked for but the list that the words name, the package of `format` and what turns send. None is written. (Of the
+    // system's files only the second is a clause.)
     ensures reads { ReadsFiles H.Files (IsUnasked (unlisted H.Files I.Source (map string_bytes words.now) files.old source.old)
         (ending result).journal) files.old files.new }
-    // No read of the source is made behind one that gave no bytes or failed.
+    // No read of the source is made behind one that gave no bytes or failed. (Of the standard input it is no clause.)
     ensures once { ReadsOnce I.Source source.old source.new }
     ensures size { D.blocks result.flash ≡ D.blocks flash }
 {
@@ -74,10 +75,11 @@ pub fn fwu_top<D: Flash, H: Files, I: Source, O: Sink>(
         (world D.Flash H.Files I.Source O.Sink flash files.old source.old sink.old)
         (world D.Flash H.Files I.Source O.Sink result.flash files.new source.new sink.new)
         (I.left source.new) files.old files.new source.old source.new }
-    // No file is asked for but the list that the words name, the package of `format` and what turns send. None is written.
+    // No file is asked for but the list that the words name, the package of `format` and what turns send. None is written. (Of the
+    // system's files only the second is a clause.)
     ensures reads { ReadsFiles H.Files (IsUnasked (listed H.Files I.Source (map string_bytes words.now) files.old source.old)
         (ending result).journal) files.old files.new }
-    // No read of the source is made behind one that gave no bytes or failed.
+    // No read of the source is made behind one that gave no bytes or failed. (Of the standard input it is no clause.)
     ensures once { ReadsOnce I.Source source.old source.new }
     ensures size { D.blocks result.flash ≡ D.blocks flash }
 {
