@@ -82,8 +82,8 @@ pub record RepliesHold (passes : List ℕ → Bool) (tells : Bool) (files : Opti
       (at on new.flash.told new.flash.writes new.flash.counts new.flash.armed new.flash.power) from to
   pub begins : old.faults.files ≤ from
   -- On a device that counts its writes, whatever its reads gave, from one on which no bank was started: blocks 0 and 4 were neither
-  -- erased nor programmed. Where the turns have one boot, and its agent is there at the end, nor was a block but 1 to 6 and those of
-  -- the bank behind its own.
+  -- erased nor programmed. Where the turns have one boot, and its agent is there at the end, nor was a block but 1 to 6 and those
+  -- of the bank behind its own.
   pub touches : old.flash.on ≡ None → RunTouches journal old.flash
       (at on new.flash.told new.flash.writes new.flash.counts new.flash.armed new.flash.power)
   pub ends : journal ≢ [] → to ≡ new.faults.files
@@ -213,8 +213,8 @@ pub record Promised (passes : List ℕ → Bool) (tells : Bool) (inputs : Inputs
   -- Of a sink that tells its bytes (the standard output does not), over every device, files and source: the lines of what was done,
   -- at every status.
   pub wrote : WroteHolds inputs.asked (given_to inputs) ending old new
-  -- For every device, files, source and sink: which turns and causes ended the run. Which calls they are, and why 4 and 8, where the
-  -- source tells its bytes; why 13, where the files do.
+  -- For every device, files, source and sink: which turns and causes ended the run. Which calls they are, and why 4 and 8, where
+  -- the source tells its bytes; why 13, where the files do.
   pub ends : EndsHold inputs.asked (given_to inputs) ending old new
   -- For every device: what each turn did, and how the device is left. On any flash with nothing dirty no loss harms what is in
   -- use.

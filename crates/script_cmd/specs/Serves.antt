@@ -23,25 +23,25 @@ use Rattle.script_runs.specs.declared.done.Note.{Note}
 pub record Serves {H I : Type 0} (passes : List ℕ → Bool) (device : Device) (inputs : Inputs)
     (ending : Ending Note) (old new : World) (rest : Option (List ℕ)) (files_before files_after : H)
     (source_before source_after : I) : Type 0 where
-  -- `run`, `boot`, and words that ask for nothing. On any device: what each turn did, and why it ended. On a sound flash that is told,
-  -- with told files and a told script: the machine's run.
+  -- `run`, `boot`, and words that ask for nothing. On any device: what each turn did, and why it ended. On a sound flash that is
+  -- told, with told files and a told script: the machine's run.
   pub promises : RunsOrNone inputs.asked → Promised passes device.tells inputs (in_model ending) old new
   -- `run --gpt` and `boot --gpt`: why no run began, or all that `promises` says, of the flash behind the partition table
   pub by_table : (plain : Asked) → over_table inputs.asked ≡ Some plain
       → PromisedByTable passes device (record inputs { asked = Some plain }) ending old new
-  -- `show`: no turn, nothing armed, nothing counted as written. Where the flash tells, the numbers are its own. With nothing dirty it
-  -- is as it was.
+  -- `show`: no turn, nothing armed, nothing counted as written. Where the flash tells, the numbers are its own. With nothing dirty
+  -- it is as it was.
   pub shows : inputs.asked ≡ Some ask.show → ShowedBy device.tells (given_all inputs) (in_model ending) old new
-  -- `format`: formatted, refused or stopped, with the line of that, and what a loss leaves. Of a told file exactly what is refused; of
-  -- any, nothing counted as written behind the last bank.
+  -- `format`: formatted, refused or stopped, with the line of that, and what a loss leaves. Of a told file exactly what is refused;
+  -- of any, nothing counted as written behind the last bank.
   pub formats : (banks : ℕ) (rows : List ImageRow) (file : List ℕ) → inputs.asked ≡ Some (ask.format banks rows file)
       → FormattedBy passes device (given_all inputs) file (record { banks = banks; rows = rows }) ending old new
-  -- `soak`: at the status 0 all its calls were done, and the line is that of their totals. On a told flash whose front is guarded they
-  -- are a run of the machine, from the flash as it was formatted.
+  -- `soak`: at the status 0 all its calls were done, and the line is that of their totals. On a told flash whose front is guarded,
+  -- with no seal by chance, they are a run of the machine from the flash as it was formatted.
   pub soaks : (seed rounds : ℕ) → inputs.asked ≡ Some (ask.soak seed rounds)
       → SoakedBy device (given_all inputs) seed rounds ending old new
-  -- `serve`: a boot, and a turn for each request that acts, as those of `run`. A told sink has the frames of the replies. On a sound
-  -- flash that is told, with told files, the turns are a run of the machine.
+  -- `serve`: a boot, and a turn for each request that acts, as those of `run`. A told sink has the frames of the replies. On a
+  -- sound flash that is told, with told files, the turns are a run of the machine.
   pub serves : inputs.asked ≡ Some ask.serve → ServedBy passes device.tells (given_all inputs) (in_model ending) old new rest
   -- `show` and `format` leave the flash on where they are done; for the others power goes by the turns
   pub power : IsTrue (leaves_on inputs.asked) → ending.status ≡ 0 → IsTrue new.flash.power
