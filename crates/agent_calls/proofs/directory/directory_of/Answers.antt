@@ -41,14 +41,6 @@ loop-image-preserved c = record {
       c.index-rows-image.is c.rows-rows.ensures.value c.loop-image-test.true refl c.version_of-version.ensures c.bit-bit.ensures));
 }
 
-pub loop-image-init : goal.loop-image-init
-loop-image-init c = record {
-  size = search rules;
-  place = omega (arith, c.put4-formed.ensures.next_is, c.put4-counted.ensures.next_is, c.put4-sized.ensures.next_is, c.put4-end.ensures.next_is);
-  front = head-written c.args.layout.now _ c.args.bank _ _ _ _ c.put4-formed.ensures.front c.put4-counted.ensures.front c.put4-sized.ensures.front
-      c.put4-end.ensures.front (ap (λ (l : List ImageRow). length l) c.rows-rows.ensures.value);
-}
-
 pub returns-clause-spelled : goal.returns-clause-spelled
 unfolding directory_by
 returns-clause-spelled c =
@@ -61,6 +53,3 @@ returns-clause-spelled c =
     ap (λ (n : ℕ). take n c.loop-image.out) size ∙ c.loop-image.invariant.front
     ∙ ap (λ (n : ℕ). directory_head L c.args.bank
     ++ flat_map (directory_row_by L c.args.meta.now.meta c.args.bank c.args.lengths.now c.args.manifest.now) (listed n (λ k. k))) same
-
-pub returns-clause-room : goal.returns-clause-room
-returns-clause-room c = omega (arith, c.loop-image.invariant.size, c.rows-rows.ensures.high)

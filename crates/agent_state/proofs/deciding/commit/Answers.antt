@@ -25,15 +25,3 @@ returns-in-Writes-clause-decides c = λ m boot passes counter E s staged bytes s
     let stg = staging_meant k staged in
     let hs = handles_meant k in
     replies.commit-writes E s boot stg hs bytes c.args.handle c.args.acceptance_req c.in-Writes.image (c.args.acceptance_req == 0) (machine.handle-is k c.args.handle c.handle.result c.handle.ensures.zero c.handle.ensures.at ∙ ap handle_meant c.in-Writes.is) refl
-
-pub returns-in-Reads-clause-plan : goal.returns-in-Reads-clause-plan
-returns-in-Reads-clause-plan c = c.in-Reads.ensures.opened refl
-
-pub returns-in-Writes-clause-plan : goal.returns-in-Writes-clause-plan
-returns-in-Writes-clause-plan c =
-    let sound = c.args.session.now.sound in
-    let number = c.in-Writes.ensures.opened refl in
-    let image = c.in-Writes.image in
-    let place : ℕ = c.args.handle - 1 in
-    let is : handle_kept (kept c.args.session.now) place ≡ Writes image = sym (c.in-Writes.ensures.at (omega (arith, number.0))) in
-    (number, sound.within place image is, sound.staged place image is, sound.opened place image is, is)

@@ -54,15 +54,6 @@ previous-requires-clause-active g c = (meta-fits _ c.args.meta.now.meta c.requir
 pub previous-requires-clause-previous : goal.previous-requires-clause-previous
 previous-requires-clause-previous g c = (meta-fits _ c.args.meta.now.meta c.requires.fits).previous
 
-pub returns-in-Begin-clause-asked : goal.returns-in-Begin-clause-asked
-returns-in-Begin-clause-asked g c = subst (λ (r : Request). IsFor (kept c.args.session.now) c.args.meta.now.meta r c.begin.result) (sym c.in-Begin.is) c.begin.ensures.asked
-
-pub returns-in-Accept-clause-asked : goal.returns-in-Accept-clause-asked
-returns-in-Accept-clause-asked g c = subst (λ (r : Request). IsFor (kept c.args.session.now) c.args.meta.now.meta r c.accept.result) (sym c.in-Accept.is) c.accept.ensures.asked
-
-pub returns-in-Previous-clause-asked : goal.returns-in-Previous-clause-asked
-returns-in-Previous-clause-asked g c = subst (λ (r : Request). IsFor (kept c.args.session.now) c.args.meta.now.meta r c.previous.result) (sym c.in-Previous.is) c.previous.ensures.asked
-
 pub returns-in-Open-clause-asked : goal.returns-in-Open-clause-asked
 returns-in-Open-clause-asked g c = subst (λ (r : Request). IsFor (kept c.args.session.now) c.args.meta.now.meta r c.open.result) (sym c.in-Open.is) (c.open.ensures.asked c.args.meta.now.meta)
 
@@ -80,6 +71,3 @@ returns-in-End-clause-asked g c = subst (λ (r : Request). IsFor (kept c.args.se
 
 pub returns-in-Cancel-clause-asked : goal.returns-in-Cancel-clause-asked
 returns-in-Cancel-clause-asked g c = subst (λ (r : Request). IsFor (kept c.args.session.now) c.args.meta.now.meta r c.cancel.result) (sym c.in-Cancel.is) (c.cancel.ensures.asked c.args.meta.now.meta)
-
-pub returns-in-Discover-clause-asked : goal.returns-in-Discover-clause-asked
-returns-in-Discover-clause-asked g c = subst (λ (r : Request). IsFor (kept c.args.session.now) c.args.meta.now.meta r (Do plan.Tell)) (sym c.in-Discover.is) tt

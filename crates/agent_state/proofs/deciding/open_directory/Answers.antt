@@ -29,9 +29,3 @@ returns-in-Write-clause-decides c = λ guid found dir m boot passes counter E s 
     let hs = handles_meant k in
     let at = ap (λ (l : List ImageRow). find_image l guid) (sym speaks.rows) ∙ found in
     subst (λ (o : Op). DecidesAs E s (session_meant k boot staged) (call_of (request.Open guid o c.args.total) bytes) bytes (Refused status.Denied)) (sym c.in-Write.is) (replies.open-write-directory E s boot stg hs bytes guid at dir)
-
-pub returns-in-Read-clause-asked : goal.returns-in-Read-clause-asked
-returns-in-Read-clause-asked c = λ m guid found.
-    let k = kept c.args.session.now in
-    subst (λ (o : Op). IsFor k m (request.Open guid o c.args.total) c.opened.result) (sym c.in-Read.is)
-    (opened-for k m guid None op.Read c.args.total c.opened.result c.opened.ensures found)

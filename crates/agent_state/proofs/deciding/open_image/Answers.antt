@@ -28,12 +28,6 @@ returns-in-Write-clause-decides c = λ guid found m boot passes counter E s stag
     let at = ap (λ (l : List ImageRow). find_image l guid) (sym speaks.rows) ∙ found in
     subst (λ (o : Op). DecidesAs E s (session_meant k boot staged) (call_of (request.Open guid o c.args.total) bytes) bytes c.open_to_write.result) (sym c.in-Write.is) (c.open_to_write.ensures.decides guid found m boot passes counter E s staged bytes speaks tt)
 
-pub returns-in-Read-clause-asked : goal.returns-in-Read-clause-asked
-returns-in-Read-clause-asked c = λ m guid found.
-    let k = kept c.args.session.now in
-    subst (λ (o : Op). IsFor k m (request.Open guid o c.args.total) c.opened.result) (sym c.in-Read.is)
-    (opened-for k m guid (Some c.args.image) op.Read c.args.total c.opened.result c.opened.ensures found)
-
 pub returns-in-Write-clause-asked : goal.returns-in-Write-clause-asked
 returns-in-Write-clause-asked c = λ m guid found.
     let k = kept c.args.session.now in

@@ -44,7 +44,3 @@ returns-in-Nothing-clause-decides c = λ guid found m boot passes counter E s st
     let hs = handles_meant k in
     let at = ap (λ (l : List ImageRow). find_image l guid) (sym speaks.rows) ∙ found in
     subst (λ (x : Option (List Staged)). DecidesAs E s (On boot x hs) (call.OpenWrite guid) bytes c.opened.result) (sym (machine.is-staging k staged (sym c.is_staging.ensures ∙ c.if-not-is_staging.false))) (replies.opened-decides E s (On boot (Some (parts_meant k staged)) hs) (call.OpenWrite guid) bytes k (Some c.args.image) op.Write c.args.total c.opened.result c.opened.ensures (replies.open-write-nothing E s boot (parts_meant k staged) hs bytes guid c.args.image c.args.total at (ap is_committed (machine.part-is k staged c.args.image c.requires.within ∙ ap (λ (p : Part). part_meant p (staged c.args.image)) (sym c.part.ensures ∙ c.in-Nothing.is))) (ap is_open (machine.part-is k staged c.args.image c.requires.within ∙ ap (λ (p : Part). part_meant p (staged c.args.image)) (sym c.part.ensures ∙ c.in-Nothing.is)))))
-
-pub returns-in-Nothing-clause-asked : goal.returns-in-Nothing-clause-asked
-returns-in-Nothing-clause-asked c = λ m guid found.
-    opened-for (kept c.args.session.now) m guid (Some c.args.image) op.Write c.args.total c.opened.result c.opened.ensures found

@@ -26,11 +26,3 @@ returns-in-Reads-clause-decides c = λ m boot passes counter E s staged bytes sp
     let hs = handles_meant k in
     let there = machine.handle-place k c.args.handle c.handle.result c.handle.ensures.zero c.handle.ensures.at (λ e. machine.free-reads (sym e ∙ c.in-Reads.is)) ∙ c.in-Reads.is in
     replies.read-does E s boot stg hs bytes c.args.handle c.args.room c.in-Reads.image c.in-Reads.at _ c.in-Reads.total (machine.handle-is k c.args.handle c.handle.result c.handle.ensures.zero c.handle.ensures.at ∙ ap handle_meant c.in-Reads.is) (fits c.in-Reads.image c.in-Reads.at c.in-Reads.total there) (c.min.ensures ∙ ap (min c.args.room) c.from.ensures)
-
-pub returns-in-Reads-clause-plan : goal.returns-in-Reads-clause-plan
-returns-in-Reads-clause-plan c =
-    let number = c.in-Reads.ensures.opened refl in
-    let place : ℕ = c.args.handle - 1 in
-    let is : handle_kept (kept c.args.session.now) place ≡ Reads c.in-Reads.image c.in-Reads.at c.in-Reads.total = sym (c.in-Reads.ensures.at (omega (arith, number.0))) in
-    let within : c.in-Reads.at ≤ c.in-Reads.total = c.args.session.now.sound.readers place c.in-Reads.image c.in-Reads.at c.in-Reads.total is in
-    (number, is, omega (arith, within, c.min.ensures, c.from.ensures))

@@ -6,11 +6,6 @@ use Rattle.agent_state.specs.Settles.{bit_kept, bits_kept}
 use Rattle.agent_state.proofs.Collected.{bits-count, bits-step}
 use Rattle.agent_state.proofs.settling.committed_bits.Goals as goal
 
-pub push-requires : goal.push-requires
-push-requires c =
-    let k = kept c.args.session.now in
-    omega (arith, ap length c.loop-image.invariant, length-take c.loop-image.image (bits_kept k), c.loop-image-test.true, c.rows-image-end.ensures.few)
-
 pub loop-image-preserved : goal.loop-image-preserved
 loop-image-preserved c =
     let k = kept c.args.session.now in

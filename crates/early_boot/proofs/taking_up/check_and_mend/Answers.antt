@@ -24,20 +24,3 @@ pub returns-clause-mends : goal.returns-clause-mends
 returns-clause-mends g c tells =
     subst (λ (t : Told). MendsReplicas {T = Unit {0}} (Ok tt) c.args.shown.now t (g.D.Flash.told c.mend.new.flash)) (c.in_ok-chosen.ensures.reads.content tells)
     (c.in_ok-mend.ensures.mends tells)
-
-pub returns-in_err-chosen-clause-touches : goal.returns-in_err-chosen-clause-touches
-returns-in_err-chosen-clause-touches g c = repair-none c.args.shown.now.which _ _ c.in_err-chosen.ensures.reads.writes
-
-pub returns-in_default-clause-touches : goal.returns-in_default-clause-touches
-returns-in_default-clause-touches g c = repair-none c.args.shown.now.which _ _ c.in_ok-chosen.ensures.reads.writes
-
-pub returns-in_default-clause-refused : goal.returns-in_default-clause-refused
-returns-in_default-clause-refused g c = λ none. c.in_ok-chosen.ensures.reads.writes
-
-pub returns-in_err-mend-clause-touches : goal.returns-in_err-mend-clause-touches
-returns-in_err-mend-clause-touches g c =
-    subst (λ (w : ℕ → ℕ). TouchesRepair c.args.shown.now.which w (g.D.Flash.writes c.mend.new.flash)) c.in_ok-chosen.ensures.reads.writes c.in_err-mend.ensures.touches
-
-pub returns-clause-touches : goal.returns-clause-touches
-returns-clause-touches g c =
-    subst (λ (w : ℕ → ℕ). TouchesRepair c.args.shown.now.which w (g.D.Flash.writes c.mend.new.flash)) c.in_ok-chosen.ensures.reads.writes c.in_ok-mend.ensures.touches

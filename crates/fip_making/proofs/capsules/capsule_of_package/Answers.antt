@@ -27,20 +27,7 @@ returns-clause-told g c = λ told e.
     (c.capsule_of_entries.ensures.told told (subst (All (HasEntry (Some told) c.args.from.now)) (sym entries)
     (has-entries _ (Some told) c.args.from.now [] c.in_ok-toc.toc (sym e) (λ d k. c.in_ok-toc.ensures.told d k))))
 
-pub returns-clause-count : goal.returns-clause-count
-returns-clause-count g c =
-    let entries = c.as_slice.ensures ∙ ap (λ (t : Toc). t.entries) c.toc.view_is in
-    if-ok-as c.capsule_of_entries.result _ _ (λ m e. (c.in_ok-toc.toc, c.in_ok-toc.ensures.table, e ∙ ap length entries)) c.capsule_of_entries.ensures.count
-
 pub returns-in_err-toc-clause-told : goal.returns-in_err-toc-clause-told
 returns-in_err-toc-clause-told g c =
     rw (handed-on c.from_residual.result c.in_err-toc.field-0.0 c.from_residual.ensures.1) (λ told e.
     gives-err (λ (t : Toc). t) (made_by told) _ _ _ _ c.in_err-toc.field-0.0 (λ r. r) (capsule-err told c.args.from.now _) (c.in_err-toc.ensures.told told e))
-
-pub returns-clause-reads : goal.returns-clause-reads
-returns-clause-reads g c = alone-asked packing-of-enclosing c.in_ok-toc.ensures.reads c.capsule_of_entries.result c.capsule_of_entries.ensures.asks
-
-pub returns-in_err-toc-clause-reads : goal.returns-in_err-toc-clause-reads
-returns-in_err-toc-clause-reads g c =
-    rw (handed-on c.from_residual.result c.in_err-toc.field-0.0 c.from_residual.ensures.1)
-    (alone-stopped (package-of-enclosing c.in_err-toc.field-0.0 (c.in_err-toc.ensures.unnamed refl)) c.in_err-toc.ensures.reads)

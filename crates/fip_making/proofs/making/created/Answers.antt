@@ -12,10 +12,6 @@ use Rattle.fip_making.proofs.ReadsBy.{alone-asked, alone-stopped}
 use Rattle.fip_making.proofs.Refusing.{late-of-packing}
 use Rattle.fip_making.proofs.making.created.Goals as goal
 
-pub returns-in-Ok-clause-whole : goal.returns-in-Ok-clause-whole
-returns-in-Ok-clause-whole g c =
-    c.packed.ensures.whole _ (there-of-files _ _ c.in-Ok.payloads.items c.as_slice.result.now c.payloads_of_files.ensures.reads.only.same c.as_slice.ensures.value c.in-Ok.ensures.there)
-
 pub returns-in-Ok-clause-told : goal.returns-in-Ok-clause-told
 returns-in-Ok-clause-told g c = λ told e.
     gives-same (made_by told) _ _ _ _ c.packed.result (λ r. absurd r)
@@ -26,13 +22,3 @@ returns-in-Ok-clause-told g c = λ told e.
 pub returns-in-Err-clause-told : goal.returns-in-Err-clause-told
 returns-in-Err-clause-told g c = λ told e.
     gives-err (λ (v : Vec Payload Global). map (part_told told) v.items) (made_by told) _ _ _ _ c.in-Err.stop (λ r. r) (create-err told c.args.align (map part_view c.args.named.now) _) (c.in-Err.ensures.told told e)
-
-pub returns-in-Ok-clause-count : goal.returns-in-Ok-clause-count
-returns-in-Ok-clause-count g c =
-    subst (λ (n : ℕ). IfOk c.packed.result (λ m. m.count ≡ n)) (ap length c.as_slice.ensures.value ∙ c.in-Ok.ensures.count) c.packed.ensures.count
-
-pub returns-in-Ok-clause-reads : goal.returns-in-Ok-clause-reads
-returns-in-Ok-clause-reads g c = alone-asked (λ s own. own) c.in-Ok.ensures.reads c.packed.result c.packed.ensures.asks
-
-pub returns-in-Err-clause-reads : goal.returns-in-Err-clause-reads
-returns-in-Err-clause-reads g c = alone-stopped (late-of-packing c.in-Err.stop c.in-Err.ensures.reads.refusals) c.in-Err.ensures.reads

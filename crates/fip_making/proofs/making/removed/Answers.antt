@@ -19,18 +19,7 @@ returns-clause-told g c = λ told e.
     (remove-of told c.args.align c.args.from.now c.args.guids.now c.in_ok-toc.toc o)
     (c.without.ensures.told told (has-entries _ (Some told) c.args.from.now c.args.guids.now c.in_ok-toc.toc (sym e) (λ d k. c.in_ok-toc.ensures.told d k)))
 
-pub returns-clause-count : goal.returns-clause-count
-returns-clause-count g c = if-ok-as c.without.result _ _ (λ m e. (c.in_ok-toc.toc, c.in_ok-toc.ensures.table, c.in_ok-toc.ensures.all, e)) c.without.ensures.count
-
 pub returns-in_err-toc-clause-told : goal.returns-in_err-toc-clause-told
 returns-in_err-toc-clause-told g c =
     rw (handed-on c.from_residual.result c.in_err-toc.field-0.0 c.from_residual.ensures.1) (λ told e.
     gives-err (λ (t : Toc). t) (made_by told) _ _ _ _ c.in_err-toc.field-0.0 (λ r. r) (remove-err told c.args.align c.args.from.now c.args.guids.now _) (c.in_err-toc.ensures.told told e))
-
-pub returns-clause-reads : goal.returns-clause-reads
-returns-clause-reads g c = alone-asked packing-of-repacking c.in_ok-toc.ensures.reads c.without.result c.without.ensures.asks
-
-pub returns-in_err-toc-clause-reads : goal.returns-in_err-toc-clause-reads
-returns-in_err-toc-clause-reads g c =
-    rw (handed-on c.from_residual.result c.in_err-toc.field-0.0 c.from_residual.ensures.1)
-    (alone-stopped (entries-of-repacking c.in_err-toc.field-0.0 c.in_err-toc.ensures.reads.refusals.0) c.in_err-toc.ensures.reads)

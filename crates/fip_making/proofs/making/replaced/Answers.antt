@@ -36,13 +36,3 @@ returns-in-Ok-clause-told g c = λ told e.
       there-of-files _ (Some told) c.in-Ok.new.items c.as_slice.result.now (sym e) c.as_slice.ensures.value c.in-Ok.ensures.there,
       entries-in _ (Some told) c.args.from.now c.as_slice-entries.result.now c.args.toc.now.entries (sym e) entries c.requires,
     ))
-
-pub returns-in-Ok-clause-count : goal.returns-in-Ok-clause-count
-returns-in-Ok-clause-count g c =
-    subst (λ (n : ℕ). IfOk c.repacked.result (λ m. m.count ≡ n)) (ap length (c.as_slice-entries.ensures ∙ ap (λ (t : Toc). t.entries) c.toc.view_is)) c.repacked.ensures.count
-
-pub returns-in-Ok-clause-reads : goal.returns-in-Ok-clause-reads
-returns-in-Ok-clause-reads g c = alone-asked (λ s own. own) c.in-Ok.ensures.reads c.repacked.result c.repacked.ensures.asks
-
-pub returns-in-Err-clause-reads : goal.returns-in-Err-clause-reads
-returns-in-Err-clause-reads g c = alone-stopped (late-of-packing c.in-Err.stop c.in-Err.ensures.reads.refusals) c.in-Err.ensures.reads

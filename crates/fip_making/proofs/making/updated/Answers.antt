@@ -39,24 +39,3 @@ pub returns-clause-reads : goal.returns-clause-reads
 returns-clause-reads g c =
     alone-then g.met.H.Files.joins (reads-wider g.H.Files _ _ (λ access other. other.0) _ _ c.table_with.ensures.reads.files) c.in_ok-toc.ensures.reads.only.quiet packing-of-repacking
     (alone-wider (λ access other. other.1) c.replaced.ensures.reads)
-
-pub returns-in_err-toc-clause-reads : goal.returns-in_err-toc-clause-reads
-returns-in_err-toc-clause-reads g c =
-    rw (handed-on c.from_residual-in_err-toc.result c.in_err-toc.field-0.0 c.from_residual-in_err-toc.ensures.1)
-    (alone-wider (λ access other. other.0) (alone-stopped (entries-of-repacking c.in_err-toc.field-0.0 c.in_err-toc.ensures.reads.refusals.0) c.in_err-toc.ensures.reads))
-
-pub returns-in_err-types-clause-reads : goal.returns-in_err-types-clause-reads
-returns-in_err-types-clause-reads g c =
-    rw (handed-on c.from_residual.result stop.NoMemory c.from_residual.ensures.1) (alone-starved tt (reads-none g.H.Files _ g.met.H.Files.at_rest _) refl)
-
-pub returns-clause-package : goal.returns-clause-package
-returns-clause-package g c =
-    if-err-as c.replaced.result IsOfPacking (λ s. IsOfPacking s ⊎ ReadsFile g.H.Files c.args.from.now c.args.files.now c.replaced.new.files) (λ s packing. inl packing) c.replaced.ensures.reads.refusals
-
-pub returns-in_err-toc-clause-package : goal.returns-in_err-toc-clause-package
-returns-in_err-toc-clause-package g c =
-    rw (handed-on c.from_residual-in_err-toc.result c.in_err-toc.field-0.0 c.from_residual-in_err-toc.ensures.1) (inr c.table_with.ensures.reads.files)
-
-pub returns-in_err-types-clause-package : goal.returns-in_err-types-clause-package
-returns-in_err-types-clause-package g c =
-    rw (handed-on c.from_residual.result stop.NoMemory c.from_residual.ensures.1) (inl tt)

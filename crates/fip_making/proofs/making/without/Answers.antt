@@ -10,9 +10,6 @@ use Rattle.fip_making.proofs.Repacking.{kept-all, kept-updated}
 use Rattle.fip_making.proofs.Stopped.{handed-on}
 use Rattle.fip_making.proofs.making.without.Goals as goal
 
-pub returns-in_err-kept : goal.returns-in_err-kept
-returns-in_err-kept c = rw (handed-on c.from_residual.result stop.NoMemory c.from_residual.ensures.1) makes-starved
-
 pub returns : goal.returns
 returns c =
     let is-kept : Entry → Bool = λ e. not (is_named c.args.guids.now e) in

@@ -45,9 +45,6 @@ returns-clause-told g c = λ told e.
     (sizes-of told c.args.named.now c.loop-one.is_long (ap (λ (l : List ImageWord). longs_value told (map image_view l)) (sym all) ∙ c.loop-one.invariant.so-far told e))
     c.check_count.ensures.value
 
-pub returns-clause-reads : goal.returns-clause-reads
-returns-clause-reads g c = alone-asked (λ s own. own) (alone-done {IsOwn = IsManifestStop} {x = tt {0}} c.loop-one.invariant.files c.loop-one.invariant.quiet) c.check_count.result c.check_count.ensures.asks
-
 pub returns-in_err-more-clause-reads : goal.returns-in_err-more-clause-reads
 returns-in_err-more-clause-reads g c =
     rw (handed-on c.from_residual.result c.in_err-more.field-0.0 c.from_residual.ensures.1)

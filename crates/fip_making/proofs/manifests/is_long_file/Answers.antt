@@ -13,10 +13,3 @@ pub returns-in_err-size_of-clause-told : goal.returns-in_err-size_of-clause-told
 returns-in_err-size_of-clause-told g c =
     rw (handed-on c.from_residual.result c.in_err-size_of.field-0.0 c.from_residual.ensures.1) (λ told e.
     gives-err (λ (n : ℕ). n) (λ (long : Bool). long) _ _ _ _ c.in_err-size_of.field-0.0 (λ r. r) (long-stopped told (image_view c.args.named.now) _) (c.in_err-size_of.ensures.told told e))
-
-pub returns-clause-reads : goal.returns-clause-reads
-returns-clause-reads g c = alone-done c.size_of.ensures.reads.files c.in_ok-size_of.ensures.reads.only.quiet
-
-pub returns-in_err-size_of-clause-reads : goal.returns-in_err-size_of-clause-reads
-returns-in_err-size_of-clause-reads g c =
-    rw (handed-on c.from_residual.result c.in_err-size_of.field-0.0 c.from_residual.ensures.1) (alone-stopped c.in_err-size_of.ensures.reads.refusals.0 c.in_err-size_of.ensures.reads)

@@ -34,10 +34,6 @@ returns-in_err-rows-clause-told g c =
     gives-err (option_map (λ (v : Vec CodeRow Global). map row v.items)) (λ (m : ℕ × Vec ℕ Global). (m.0, m.1.items)) _ _ _ _ c.in_err-rows.field-0.0 (λ r. rose-from _ _ _ c.check_sizes.ensures.reads.only.later r) (value-stopped told c.args.security (map image_view c.args.named.now) _)
     (c.in_err-rows.ensures.told told (c.check_sizes.ensures.reads.only.same ∙ e)))
 
-pub returns-in_err-check_sizes-clause-reads : goal.returns-in_err-check_sizes-clause-reads
-returns-in_err-check_sizes-clause-reads g c =
-    rw (handed-on c.from_residual.result c.in_err-check_sizes.field-0.0 c.from_residual.ensures.1) (alone-stopped c.in_err-check_sizes.ensures.reads.refusals c.in_err-check_sizes.ensures.reads)
-
 pub returns-in_err-rows-clause-reads : goal.returns-in_err-rows-clause-reads
 returns-in_err-rows-clause-reads g c =
     rw (handed-on c.from_residual-in_err-rows.result c.in_err-rows.field-0.0 c.from_residual-in_err-rows.ensures.1)

@@ -16,10 +16,3 @@ pub returns-in_err-image-clause-told : goal.returns-in_err-image-clause-told
 returns-in_err-image-clause-told g c =
     rw (handed-on c.from_residual.result c.in_err-image.field-0.0 c.from_residual.ensures.1) (λ told e.
     gives-err (λ (v : Vec ℕ Global). v.items) (option_map row) _ _ _ _ c.in_err-image.field-0.0 (λ r. r) (row-stopped told (image_view c.args.named.now) _) (c.in_err-image.ensures.told told e))
-
-pub returns-clause-reads : goal.returns-clause-reads
-returns-clause-reads g c = alone-done c.read_file.ensures.reads.files c.in_ok-image.ensures.reads.only.quiet
-
-pub returns-in_err-image-clause-reads : goal.returns-in_err-image-clause-reads
-returns-in_err-image-clause-reads g c =
-    rw (handed-on c.from_residual.result c.in_err-image.field-0.0 c.from_residual.ensures.1) (alone-stopped c.in_err-image.ensures.reads.refusals c.in_err-image.ensures.reads)

@@ -38,9 +38,6 @@ returns-clause-told g c = λ told e.
     let all : take c.loop-one.one-index c.args.named.now ≡ c.args.named.now = take_all c.loop-one.one-index c.args.named.now (omega arith) in
     ap (λ (l : List ImageWord). rows_value told (map image_view l)) (sym all) ∙ c.loop-one.invariant.so-far told e
 
-pub returns-clause-reads : goal.returns-clause-reads
-returns-clause-reads g c = alone-done c.loop-one.invariant.files c.loop-one.invariant.quiet
-
 pub returns-in_err-more-clause-reads : goal.returns-in_err-more-clause-reads
 returns-in_err-more-clause-reads g c =
     rw (handed-on c.from_residual.result c.in_err-more.field-0.0 c.from_residual.ensures.1)

@@ -8,17 +8,11 @@ use Rattle.fip_making.proofs.Packings.{packs-not, packs-zeroed}
 use Rattle.fip_making.proofs.Stopped.{handed-on}
 use Rattle.fip_making.proofs.packing.packed.Goals as goal
 
-pub returns-in_err-outlines : goal.returns-in_err-outlines
-returns-in_err-outlines c = rw (handed-on c.from_residual.result stop.NoMemory c.from_residual.ensures.1) makes-starved
-
 pub returns-in_err-frame : goal.returns-in_err-frame
 returns-in_err-frame c =
     rw (handed-on c.from_residual-in_err-frame.result (packed_by c.in_err-frame.field-0.0) c.from_residual-in_err-frame.ensures.1)
     (makes-unpacked (λ (parts : List Part). pack_value c.args.serial c.args.flags parts c.args.align) c.args.payloads.now c.as_slice.result.now (c.as_slice.ensures.value ∙ c.in_ok-outlines.ensures)
     c.in_err-frame.field-0.0 (λ parts same f is. packs-not c.args.serial c.args.flags c.args.align parts c.as_slice.result.now same f (c.in_err-frame.ensures.fault.err f cc)))
-
-pub returns-in_err-new : goal.returns-in_err-new
-returns-in_err-new c = rw (handed-on c.from_residual-in_err-new.result stop.NoMemory c.from_residual-in_err-new.ensures.1) makes-starved
 
 pub returns : goal.returns
 returns c =

@@ -27,9 +27,3 @@ returns-in-None-clause-told c = λ told.
 pub returns-in-Some-clause-there : goal.returns-in-Some-clause-there
 returns-in-Some-clause-there c = λ told has.
     found-has (IsThere told) (λ (p : Payload). same_bytes p.guid c.entry.inside.guid) c.args.new.now c.in-Some.payload has.0 (sym c.in-Some.ensures)
-
-pub returns-in-None-clause-there : goal.returns-in-None-clause-there
-returns-in-None-clause-there c = λ told has.
-    let e = c.entry.inside in
-    let made : Payload = record { guid = e.guid; flags = e.flags; size = e.size; file = c.args.from; at = e.offset } in
-    entry-there told made c.args.from.now c.args.entry.now refl (ap (λ (x : Entry). x.size) c.entry.view_is) (ap (λ (x : Entry). x.offset) c.entry.view_is) has.1

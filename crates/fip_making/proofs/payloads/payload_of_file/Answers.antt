@@ -20,10 +20,3 @@ pub returns-in_err-size-clause-told : goal.returns-in_err-size-clause-told
 returns-in_err-size-clause-told g c =
     rw (handed-on c.from_residual.result c.in_err-size.field-0.0 c.from_residual.ensures.1) (λ told e.
     gives-err (λ n. n) (part_told told) _ _ _ _ c.in_err-size.field-0.0 (λ r. r) (payload-stopped told c.args.named.now _) (c.in_err-size.ensures.told told e))
-
-pub returns-clause-reads : goal.returns-clause-reads
-returns-clause-reads g c = alone-done c.size_of.ensures.reads.files c.in_ok-size.ensures.reads.only.quiet
-
-pub returns-in_err-size-clause-reads : goal.returns-in_err-size-clause-reads
-returns-in_err-size-clause-reads g c =
-    rw (handed-on c.from_residual.result c.in_err-size.field-0.0 c.from_residual.ensures.1) (alone-stopped c.in_err-size.ensures.reads.refusals.0 c.in_err-size.ensures.reads)

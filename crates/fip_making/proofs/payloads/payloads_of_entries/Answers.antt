@@ -27,9 +27,3 @@ loop-entry-preserved c =
           (c.payload_of_entry.ensures.there told (has.0, subst (HasEntry told c.args.from.now) (sym c.entry-item.is) (All-get_or (HasEntry told c.args.from.now) es i e c.loop-entry-test.true has.1))));
       count = omega (arith, ap length more, length-append c.loop-entry.payloads.items (p ∷ []), c.loop-entry.invariant.count);
     }
-
-pub returns-clause-told : goal.returns-clause-told
-returns-clause-told c = λ told.
-    let far : length c.args.entries.now ≤ c.loop-entry.entry-index = omega (arith, c.loop-entry-test.false) in
-    c.loop-entry.invariant.told told
-    ∙ ap (map (updated_part (bytes_in told c.args.from.now) (map (part_told told) c.args.new.now))) (take_all c.loop-entry.entry-index c.args.entries.now far)

@@ -36,14 +36,6 @@ loop-one-preserved g c =
           ∙ ap (λ (l : List Payload). Ok (map (part_told told) l)) (sym more);
     }
 
-pub returns-clause-told : goal.returns-clause-told
-returns-clause-told g c = λ told e.
-    let all : take c.loop-one.one-index c.args.named.now ≡ c.args.named.now = take_all c.loop-one.one-index c.args.named.now (omega (arith, c.loop-one-test.false)) in
-    ap (λ (l : List FileWord). parts_in told (map part_view l)) (sym all) ∙ c.loop-one.invariant.so-far told e
-
-pub returns-clause-reads : goal.returns-clause-reads
-returns-clause-reads g c = alone-done c.loop-one.invariant.files c.loop-one.invariant.quiet
-
 pub returns-in-Err-clause-reads : goal.returns-in-Err-clause-reads
 returns-in-Err-clause-reads g c = alone-then-stopped g.met.H.Files.joins c.loop-one.invariant.files c.loop-one.invariant.quiet (λ s late. late) (alone-wider (one-spared (λ (w : FileWord). w.file.now) _ _ _ c.one-item.is c.loop-one-test.true) c.in-Err.ensures.reads)
 

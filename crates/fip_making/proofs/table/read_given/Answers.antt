@@ -44,8 +44,6 @@ returns-then-some-eq0-clause-given g c =
 pub returns-clause-given : goal.returns-clause-given
 returns-clause-given g c = too-long _ _ _ _ c.loop-count.stream c.loop-count.count (Unit {0}) c.loop-count.invariant.read (omega (arith, c.loop-count-test.false))
 
--- ---- how often a call failed, and that no read is made behind the end or behind a failure
-
 pub returns-in_err-some-clause-source : goal.returns-in_err-some-clause-source
 returns-in_err-some-clause-source g c =
     let e = c.in_err-some.ensures.source in
@@ -68,16 +66,3 @@ returns-then-some-eq0-clause-source g c =
       sink = c.ended.ensures.asks.sink;
       refusals = if-err-as c.ended.result (Unstarved IsOfSource) IsOfSource (λ s own. own.0) c.ended.ensures.asks.refusals;
     }
-
-pub returns-clause-source : goal.returns-clause-source
-returns-clause-source g c = record {
-  once = once-bytes g.I.Source c.args.source.now c.loop-count.source c.loop-count.invariant.reads;
-  later = c.loop-count.invariant.read.later;
-  count = c.loop-count.invariant.read.none;
-  usage = λ e. cc;
-  sink = λ e. cc;
-  refusals = tt;
-}
-
-pub returns-then-some-eq0-clause-memory : goal.returns-then-some-eq0-clause-memory
-returns-then-some-eq0-clause-memory g c = never-starved IsOfSource c.ended.result c.ended.ensures.asks.refusals

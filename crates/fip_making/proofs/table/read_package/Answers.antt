@@ -35,11 +35,6 @@ returns-clause-reads g c =
     alone-then g.met.H.Files.joins c.size_of.ensures.reads.files c.in_ok-size.ensures.reads.only.quiet (λ s own. own)
     (alone-done {IsOwn = Unstarved IsPackageStop} c.in_ok-toc.ensures.reads c.in_ok-toc.ensures.cause.done)
 
-pub returns-in_err-size-clause-reads : goal.returns-in_err-size-clause-reads
-returns-in_err-size-clause-reads g c =
-    let own = c.in_err-size.ensures.reads.refusals in
-    rw (handed-on c.from_residual.result c.in_err-size.field-0.0 c.from_residual.ensures.1) (alone-stopped (late-of-package c.in_err-size.field-0.0 own.0, own.1) c.in_err-size.ensures.reads)
-
 pub returns-in_err-toc-clause-reads : goal.returns-in_err-toc-clause-reads
 returns-in_err-toc-clause-reads g c =
     let e = c.in_err-toc in
@@ -48,6 +43,3 @@ returns-in_err-toc-clause-reads g c =
       files = reads-after g.H.Files _ g.met.H.Files.joins _ _ _ c.size_of.ensures.reads.files e.ensures.reads;
       refusals = (toc-of-package e.field-0.0, toc-needs-none e.field-0.0);
     })
-
-pub returns-clause-table : goal.returns-clause-table
-returns-clause-table g c = let s = c.in_ok-toc.ensures.some in (s.bytes, s.answer)

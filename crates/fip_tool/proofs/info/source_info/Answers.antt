@@ -19,38 +19,3 @@ pub returns-in_err-toc-clause-given : goal.returns-in_err-toc-clause-given
 returns-in_err-toc-clause-given g c =
     rw (handed-on c.from_residual.result c.in_err-toc.field-0.0 c.from_residual.ensures.1) (let given = c.in_err-toc.ensures.given in
     (given.0, given.1, text-stopped (λ (text : Vec ℕ Global). text.items) _ _ _ given.0 c.in_err-toc.field-0.0 given.2))
-
-pub returns-clause-source : goal.returns-clause-source
-returns-clause-source g c =
-    let e = c.in_ok-toc.ensures.source in record {
-      once = e.once;
-      later = e.later;
-      count = e.count;
-      usage = λ same. cc;
-      sink = λ same. cc;
-      refusals = tt;
-    }
-
-pub returns-in_err-toc-clause-source : goal.returns-in_err-toc-clause-source
-returns-in_err-toc-clause-source g c =
-    let e = c.in_err-toc.ensures.source in
-    rw (handed-on c.from_residual.result c.in_err-toc.field-0.0 c.from_residual.ensures.1) (record {
-      once = e.once;
-      later = e.later;
-      count = e.count;
-      usage = λ same. e.usage cc;
-      sink = λ same. e.sink cc;
-      refusals = e.refusals;
-    })
-
-pub returns-in_err-info_text-clause-source : goal.returns-in_err-info_text-clause-source
-returns-in_err-info_text-clause-source g c =
-    let e = c.in_ok-toc.ensures.source in
-    rw (handed-on c.from_residual-in_err-info_text.result stop.NoMemory c.from_residual-in_err-info_text.ensures.1) (record {
-      once = e.once;
-      later = e.later;
-      count = e.count;
-      usage = λ same. cc;
-      sink = λ same. cc;
-      refusals = tt;
-    })

@@ -11,10 +11,6 @@ pub returns-in-Info : goal.returns-in-Info
 returns-in-Info g c =
     done-with-files g.met.I.Source.at_rest (asks.info c.in-Info.file.now) (ap (λ o. Some (view o)) c.in-Info.is) refl c.info.ensures.done
 
-pub returns-in-InfoOfSource : goal.returns-in-InfoOfSource
-returns-in-InfoOfSource g c =
-    done-of-source (ap (λ o. Some (view o)) c.in-InfoOfSource.is) c.info_of_source.ensures (g.met.H.Files.at_rest c.args.files.now)
-
 pub returns-in-Create : goal.returns-in-Create
 returns-in-Create g c =
     let o = c.in-Create in

@@ -34,16 +34,3 @@ returns-clause-done g c =
       later = put.later;
       sink_count = put.count;
     }
-
-pub returns-in_err-text-clause-done : goal.returns-in_err-text-clause-done
-returns-in_err-text-clause-done g c =
-    let e = c.in_err-text.ensures in
-    rw (handed-on c.from_residual.result c.in_err-text.field-0.0 c.from_residual.ensures.1) (done-unread c.in_err-text.field-0.0 e.reads (λ access other. other) (λ access other. other)
-    (λ told is. refused prints (λ (v : Vec ℕ Global). v.items) (info_value told c.args.name.now) told _ _ _ _ _ _ c.in_err-text.field-0.0 (e.told told is) (e.reads.only.same ∙ is) refl)
-    e.reads.refusals)
-
-pub returns-clause-files : goal.returns-clause-files
-returns-clause-files g c = c.file_info.ensures.reads.files
-
-pub returns-in_err-text-clause-files : goal.returns-in_err-text-clause-files
-returns-in_err-text-clause-files g c = c.file_info.ensures.reads.files

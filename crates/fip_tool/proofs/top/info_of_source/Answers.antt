@@ -33,21 +33,3 @@ returns g c =
       sink_count = put.count;
       refusals = if-err-as c.print.result IsLate IsOfSource late-of-source put.late;
     }
-
-pub returns-in_err-text : goal.returns-in_err-text
-returns-in_err-text g c =
-    let s = c.in_err-text.field-0.0 in
-    let read = c.in_err-text.ensures in
-    rw (handed-on c.from_residual.result s c.from_residual.ensures.1) (record {
-      listed = λ told.
-          let both = source-refused (λ (text : Vec ℕ Global). text.items) _ _ (g.O.Sink.taken c.args.sink.now) _ (Rose (g.O.Sink.faults c.args.sink.now) (g.O.Sink.faults c.args.sink.now)) read.given.0 s read.given.2 in
-          (read.given.0, read.given.1, refl, both.0, both.1);
-      once = read.source.once;
-      says = says-nothing (IsTexts asks.info_of_source) _ _ _ s (λ e. read.source.sink (err-same e)) refl;
-      cause = λ e. let same : c.in_err-text.field-0.0 ≡ stop.FileFault = cc in (rw same at read.given.2).1;
-      usage = λ e. read.source.usage cc;
-      later = omega arith;
-      source_count = read.source.count;
-      sink_count = still _ s (λ e. read.source.sink (err-same e));
-      refusals = read.source.refusals;
-    })

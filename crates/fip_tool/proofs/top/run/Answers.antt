@@ -8,11 +8,6 @@ use Rattle.fip_tool.proofs.top.run.Goals as goal
 pub command-requires : goal.command-requires
 command-requires g c = record { other = λ from prefix names e. asked-is-other from prefix names (map string_bytes c.args.words.now) (c.in-Ok.ensures ∙ ap Some e) }
 
-pub returns-in-Ok : goal.returns-in-Ok
-returns-in-Ok g c =
-    subst (λ (a : Option FipAsked). CommandDone g.H.Files g.I.Source g.O.Sink a c.command.result c.args.files.now c.command.new.files c.args.source.now c.command.new.source c.args.sink.now c.command.new.sink)
-    (sym c.in-Ok.ensures) c.command.ensures
-
 pub returns-in-Err-Usage : goal.returns-in-Err-Usage
 returns-in-Err-Usage g c = done-usage g.met.I.Source.at_rest (rw c.in-Err-Usage.field-0-is at c.in-Err-Usage.ensures) (g.met.H.Files.at_rest c.args.files.now)
 

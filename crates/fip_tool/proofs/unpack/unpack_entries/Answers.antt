@@ -20,19 +20,6 @@ use Rattle.fip_making.proofs.Stopped.{handed-on}
 use Rattle.fip_tool.proofs.unpack.unpack_entries.Goals as goal
 use Rattle.fip_tool.proofs.unpack.unpack_entries.Goals.{then-is_chosen+in_ok-unpack_entry, else-is_chosen}
 
-pub loop-entry-init : goal.loop-entry-init
-loop-entry-init g c = record {
-  silent = λ e. e;
-  spares = λ access asked made. g.met.H.Files.at_rest _ access;
-  quiet = refl;
-  unspoiled = (refl, refl);
-  wrote = refl;
-  later_sink = omega arith;
-  sink_count = refl;
-  said = Appends-nil _;
-  so-far = λ told bytes is stored. begins c.args.unpacked.now.prefix.now c.args.unpacked.now.from.now bytes told _ _ is stored;
-}
-
 pub unpack_entry-requires-clause-stored : goal.unpack_entry-requires-clause-stored
 unpack_entry-requires-clause-stored g c = λ bytes tells.
     subst (λ (x : Entry). x.offset + x.size ≤ length bytes) (sym c.entry-item.is)
@@ -132,30 +119,6 @@ returns-in_err-unpack_entry-clause-texts g c =
       later_sink = omega (arith, so-far.later_sink, put.later_sink);
       sink_count = put.sink_count ∙ ap (sink_failed c.in_err-unpack_entry.field-0.0) so-far.sink_count;
     })
-
-pub returns-clause-texts : goal.returns-clause-texts
-returns-clause-texts g c =
-    let p = λ (e : Entry). (length c.args.unpacked.now.names.now == 0) || is_named c.args.unpacked.now.names.now e in
-    let line = unpacked_line c.args.unpacked.now.prefix.now in
-    let start = (g.H.Files.writes c.args.files.now).done in
-    let so-far = c.loop-entry.invariant in
-    let all = take_all c.loop-entry.entry-index c.args.entries.now (omega (arith, c.loop-entry-test.false)) in
-    let said = subst (λ (l : List Entry). Appends (g.O.Sink.taken c.args.sink.now) (g.O.Sink.taken c.loop-entry.sink) (joined_texts (map line (filter p l)))) all so-far.said in record {
-      says = (map line (filter p c.args.entries.now), refl, said);
-      wrote = record {
-        texts = map line (filter p c.args.entries.now);
-        are = refl;
-        said = said;
-        count = so-far.wrote ∙ ap (λ (l : List Entry). raised_by (length (filter p l)) start) all ∙ ap (λ (n : ℕ). raised_by n start) (sym (length-map (filter p c.args.entries.now) line));
-      };
-      file_count = faults-none so-far.quiet;
-      cause = λ e. absurd cc;
-      late = tt;
-      usage = λ e. absurd cc;
-      later = omega (arith, so-far.quiet);
-      later_sink = so-far.later_sink;
-      sink_count = so-far.sink_count;
-    }
 
 pub returns-clause-told : goal.returns-clause-told
 returns-clause-told g c = λ told bytes is stored.

@@ -11,13 +11,6 @@ use Rattle.fip_making.proofs.Stopped.{handed-on}
 use Rattle.fip_making.specs.declared.stops.Stop.TheVariants as stop
 use Rattle.fip_tool.proofs.unpack.unpack_entry.Goals as goal
 
-pub join_and_print-requires : goal.join_and_print-requires
-join_and_print-requires g c =
-    let contents = g.H.Files.contents c.args.files.now in
-    let piece : Piece = record { gap = 0; file = c.args.from; at = c.entry.inside.offset; count = c.entry.inside.size } in
-    one-piece (HasPiece contents) piece
-    (subst (HasEntry contents c.args.from.now) (sym c.entry.view_is) (has-entry contents c.args.from.now c.args.entry.now c.requires.there c.requires.stored))
-
 pub returns : goal.returns
 returns g c =
     let e = c.join_and_print.ensures in

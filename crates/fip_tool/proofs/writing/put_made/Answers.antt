@@ -22,14 +22,6 @@ returns-clause-told g c = λ told value before e le gives.
     is (joined-made told made c.as_slice-frame.result.now c.as_slice-pieces.result.now c.as_slice-frame.ensures.value c.as_slice-pieces.ensures.value)
     (c.as_slice.ensures.value ∙ c.in_ok-line.ensures ∙ ap (made_line c.args.format made.count) (whole.sized told e)) le refl (c.join_and_print.ensures.told told e)
 
-pub join_and_print-requires : goal.join_and_print-requires
-join_and_print-requires g c =
-    let whole : IsWholeFile (g.H.Files.contents c.args.files.now) c.in-Ok.made = rw c.in-Ok.is at c.requires in
-    subst (All (HasPiece (g.H.Files.contents c.args.files.now))) (sym c.as_slice-pieces.ensures.value) whole.there
-
-pub returns-in-Err-clause-puts : goal.returns-in-Err-clause-puts
-returns-in-Err-clause-puts g c = subst (λ (m : Result Made Stop). PutsMade g.H.Files g.O.Sink c.args.format m (Err c.in-Err.stop) c.args.files.now c.args.files.now c.args.sink.now c.args.sink.now) (sym c.in-Err.is) (puts-stopped c.args.format c.in-Err.stop)
-
 pub returns-in_err-line-clause-puts : goal.returns-in_err-line-clause-puts
 returns-in_err-line-clause-puts g c =
     let made = c.in-Ok.made in
@@ -37,15 +29,3 @@ returns-in_err-line-clause-puts g c =
     rw (handed-on c.from_residual.result stop.NoMemory c.from_residual.ensures.1)
     (subst (λ (m : Result Made Stop). PutsMade g.H.Files g.O.Sink c.args.format m (Err stop.NoMemory) c.args.files.now c.args.files.now c.args.sink.now c.args.sink.now) (sym c.in-Ok.is)
     (puts-texts c.args.format made (made_line c.args.format made.count made.frame.size) refl (no-texts stop.NoMemory none refl (λ e. absurd cc) tt (λ e. absurd cc) (omega arith))))
-
-pub returns-clause-puts : goal.returns-clause-puts
-returns-clause-puts g c =
-    let made = c.in-Ok.made in
-    subst (λ (m : Result Made Stop). PutsMade g.H.Files g.O.Sink c.args.format m c.join_and_print.result c.args.files.now c.join_and_print.new.files c.args.sink.now c.join_and_print.new.sink) (sym c.in-Ok.is)
-    (puts-texts c.args.format made c.as_slice.result.now (c.as_slice.ensures.value ∙ c.in_ok-line.ensures) c.join_and_print.ensures.texts)
-
-pub returns-in-Err-clause-spares : goal.returns-in-Err-clause-spares
-returns-in-Err-clause-spares g c = λ access other. g.met.H.Files.at_rest _ access
-
-pub returns-in_err-line-clause-spares : goal.returns-in_err-line-clause-spares
-returns-in_err-line-clause-spares g c = λ access other. g.met.H.Files.at_rest _ access

@@ -11,34 +11,6 @@ use Rattle.flash_format.proofs.Ranges.{erased_stays}
 use Rattle.flash_format.proofs.Recorded.{on_ok_from, on_ok_map}
 use Rattle.flash_format.proofs.erasing.erase_all.Goals as goal
 
-pub returns-clause-writes : goal.returns-clause-writes
-returns-clause-writes g c = record {
-  keeps =
-      λ tells.
-      let s = g.D.Flash.told c.args.flash.now in
-      let m = g.D.Flash.told c.erase_layout.new.flash in
-      let t = g.D.Flash.told c.erase_behind.new.flash in
-      keeps_joined 0 4096 (4096 * c.args.count) s m t (omega arith) (omega (arith, c.requires.some)) (c.erase_layout.ensures.writes.keeps tells) (c.erase_behind.ensures.writes.keeps tells);
-  goes = search rules;
-  spent = spent_then c.erase_behind.result 1 (c.args.count - 1) c.args.count _ _ _ (omega (arith, c.requires.some)) c.in_ok-erase_layout.ensures.writes.spent c.erase_behind.ensures.writes.spent;
-  touches =
-      let high = 4096 * c.args.count in
-      touches_then 0 high (touches_wider 0 4096 0 high (omega arith) (omega (arith, c.requires.some)) c.erase_layout.ensures.writes.touches)
-      (touches_wider 4096 high 0 high (omega arith) (omega arith) c.erase_behind.ensures.writes.touches);
-}
-
-pub returns-clause-erased : goal.returns-clause-erased
-returns-clause-erased g c =
-    let m = g.D.Flash.told c.erase_layout.new.flash in
-    let t = g.D.Flash.told c.erase_behind.new.flash in
-    let high = 4096 * c.args.count in
-    on_ok_map (IsTrue g.D.Flash.tells → Erased 4096 high t.now) (IsTrue g.D.Flash.tells → Erased 0 high t.now) c.erase_behind.result
-    (λ rest tells i above below. elim (cases_lt i 4096) [
-      | inl l ↦ erased_stays 0 4096 4096 high m t (inl (omega arith)) (c.erase_behind.ensures.writes.keeps tells) (c.in_ok-erase_layout.ensures.erased tells) i above l
-      | inr r ↦ rest tells i r below
-    ])
-    c.erase_behind.ensures.erased
-
 pub returns-clause-clears : goal.returns-clause-clears
 returns-clause-clears g c = record {
   only =

@@ -62,23 +62,3 @@ returns-clause-ordered g c = λ tells.
     let filled = c.in_ok-fill.ensures.filled tells in
     let clean = filled.clean in
     in_order_filled (g.V.Verifier.passes c.args.verifier.now) c.args.plan.now.layout (g.D.Flash.told c.args.flash.now) s t clean (c.finish.ensures.keeps tells) filled.blank (c.finish.ensures.ordered tells clean) (c.finish.ensures.whole tells clean) (c.finish.ensures.at_most tells)
-
-pub returns-clause-spent : goal.returns-clause-spent
-returns-clause-spent g c =
-    let L = c.args.plan.now.layout in
-    let pieces = pieces_in c.args.plan.now.entries in
-    spent_then c.finish.result (blocks_needed L + pieces) 3 (writes_to_format L pieces 3) _ _ _ (omega arith) c.in_ok-fill.ensures.spent c.finish.ensures.spent
-
-pub returns-clause-worn : goal.returns-clause-worn
-returns-clause-worn g c = λ found is.
-    let L = c.args.plan.now.layout in
-    let pieces = pieces_in c.args.plan.now.entries in
-    let same : blocks_needed L + pieces ≡ writes_to_format L pieces 0 = omega arith in
-    c.finish.ensures.worn found is ∙ c.in_ok-fill.ensures.spent ∙ ap (λ (n : ℕ). lowered_by n (g.D.Flash.arming c.args.flash.now)) same
-
-pub returns-clause-touches : goal.returns-clause-touches
-returns-clause-touches g c =
-    let L = c.args.plan.now.layout in
-    let high = 4096 * blocks_needed L in
-    let enough = bank_within L c.rows-rows.ensures.fit in
-    touches_then 0 high c.fill.ensures.touches (touches_wider 0 12288 0 high (omega arith) (omega (arith, enough)) c.finish.ensures.touches)

@@ -79,14 +79,6 @@ returns-clause-whole g c = λ tells clean.
     whole_after (g.V.Verifier.passes c.args.verifier.now) c.args.layout.now c.in_ok-version.version s t c.rows-rows.ensures.fit (omega (arith, size, many)) (c.requires.erased tells) clean (c.in_ok-version.ensures.good tells)
     (subst (λ (m : Told). Keeps 0 12288 m t) same (c.write_records.ensures.writes.keeps tells)) (c.write_records.ensures.ordered tells (subst NothingDirty (sym same) clean))
 
-pub returns-clause-spent : goal.returns-clause-spent
-returns-clause-spent g c = c.in_ok-write_records.ensures.writes.spent ∙ ap (lowered_by 3) c.in_ok-version.ensures.arming
-
-pub returns-in_err-version-clause-worn : goal.returns-in_err-version-clause-worn
-returns-in_err-version-clause-worn g c =
-    rw (handed-on c.from_residual.result c.in_err-version.field-0.0 c.from_residual.ensures.1) (λ found is.
-    subst (λ (r : Result ℕ FormatStop). OnOk (flash_result r) (g.D.Flash.arming c.check_bank.new.flash ≡ g.D.Flash.arming c.args.flash.now)) is c.in_err-version.ensures.arming)
-
 pub returns-in_err-version-clause-at_most : goal.returns-in_err-version-clause-at_most
 returns-in_err-version-clause-at_most g c =
     λ tells.
@@ -94,12 +86,3 @@ returns-in_err-version-clause-at_most g c =
     let size = (g.met.D.Flash.sound c.args.flash.now tells).size in
     let many = (g.met.D.Flash.sizes c.args.flash.now).0 in
     subst (λ (u : Told). HasAtMost c.args.layout.now u.now) (sym (c.check_bank.ensures.content tells)) (inl (unlaid s.now (omega (arith, size, many)) (λ i above below. c.requires.erased tells i above (omega (arith, below)))))
-
-pub returns-in_err-version-clause-touches : goal.returns-in_err-version-clause-touches
-returns-in_err-version-clause-touches g c = touches_none 0 12288 c.check_bank.ensures.writes
-
-pub returns-in_err-write_records-clause-touches : goal.returns-in_err-write_records-clause-touches
-returns-in_err-write_records-clause-touches g c = touches_then 0 12288 (touches_none 0 12288 c.check_bank.ensures.writes) c.write_records.ensures.writes.touches
-
-pub returns-clause-touches : goal.returns-clause-touches
-returns-clause-touches g c = touches_then 0 12288 (touches_none 0 12288 c.check_bank.ensures.writes) c.write_records.ensures.writes.touches

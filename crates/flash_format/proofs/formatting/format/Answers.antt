@@ -133,15 +133,6 @@ returns-clause-blank g c = λ tells.
     let t = g.D.Flash.told c.carry_out.new.flash in
     subst (λ (l : Layout). IsBlank l t.now) (fitted_is L c.blocks-2.result K c.in_ok-plan.ensures.fits).is (c.in_ok-version.ensures.filled tells).blank
 
-pub returns-in_err-version-clause-clean : goal.returns-in_err-version-clause-clean
-returns-in_err-version-clause-clean g c =
-    rw (handed-on c.from_residual-in_err-version.result c.in_err-version.field-0.0 c.from_residual-in_err-version.ensures.1) (
-    let K = c.in_ok-plan.plan.layout in
-    let t = g.D.Flash.told c.carry_out.new.flash in
-    let A : Type 0 = IsTrue g.D.Flash.tells → IsFilled (g.H.Files.contents c.plan.new.files) c.args.name.now K c.in_ok-plan.plan.entries t in
-    let B : Type 0 = IsTrue g.D.Flash.tells → NothingDirty t in
-    finishes_err ℕ Formatted c.in_err-version.field-0.0 A B (λ filled tells. (filled tells).clean) c.in_err-version.ensures.filled)
-
 pub returns-in_err-version-clause-ordered : goal.returns-in_err-version-clause-ordered
 returns-in_err-version-clause-ordered g c =
     λ tells.
@@ -202,48 +193,6 @@ returns-in_err-version-clause-refuses g c = record {
       let stop : c.in_err-version.field-0.0 ≡ Input (Incomplete found) = cc in
       subst (λ (l : Layout). HasPassed (g.V.Verifier.passes c.args.verifier.now) l.rows 0 found) (fitted_is L c.blocks-2.result K c.in_ok-plan.ensures.fits).is
       (c.in_err-version.ensures.refuses.seen found (ap Err stop)));
-}
-
-pub returns-in_err-plan-clause-input : goal.returns-in_err-plan-clause-input
-returns-in_err-plan-clause-input g c = record {
-  layout = search rules;
-  answers =
-      rw (handed-on c.from_residual.result c.in_err-plan.field-0.0 c.from_residual.ensures.1) (λ file told.
-      let L : Layout = record { banks = c.args.banks; rows = c.args.rows.now } in
-      let answers = c.in_err-plan.ensures.input.answers file told in
-      subst (λ (n : ℕ). RefusesAs {T = Formatted} (refusal L n file) (Err c.in_err-plan.field-0.0)) c.blocks-2.ensures (answers_stop Plan Formatted c.in_err-plan.field-0.0 (refusal L c.blocks-2.result file) answers));
-  some =
-      rw (handed-on c.from_residual.result c.in_err-plan.field-0.0 c.from_residual.ensures.1) (
-      let L : Layout = record { banks = c.args.banks; rows = c.args.rows.now } in
-      let fits = fitted L c.blocks-2.result in
-      subst (λ (n : ℕ). IsOfBytes {T = Formatted} (fitted L n) (Err c.in_err-plan.field-0.0)) c.blocks-2.ensures
-      (of_stop Plan Formatted fits c.in_err-plan.field-0.0 c.in_err-plan.ensures.input.some));
-}
-
-pub returns-in_err-version-clause-input : goal.returns-in_err-version-clause-input
-returns-in_err-version-clause-input g c = record {
-  layout = search rules;
-  answers = search rules;
-  some =
-      rw (handed-on c.from_residual-in_err-version.result c.in_err-version.field-0.0 c.from_residual-in_err-version.ensures.1) (
-      let L : Layout = record { banks = c.args.banks; rows = c.args.rows.now } in
-      let fits = fitted L c.blocks-2.result in
-      let stop = c.in_err-version.field-0.0 in
-      subst (λ (n : ℕ). IsOfBytes {T = Formatted} (fitted L n) (Err stop)) c.blocks-2.ensures
-      (of_done Plan Formatted fits c.in_ok-plan.plan (Err stop) c.in_ok-plan.ensures.input.some
-      (λ early. c.in_err-version.ensures.stops (early_of Formatted ℕ stop early))));
-}
-
-pub returns-clause-input : goal.returns-clause-input
-returns-clause-input g c = record {
-  layout = search rules;
-  answers = search rules;
-  some =
-      let L : Layout = record { banks = c.args.banks; rows = c.args.rows.now } in
-      let fits = fitted L c.blocks-2.result in
-      let done : Formatted = record { layout = c.in_ok-plan.plan.layout; version = c.in_ok-version.version } in
-      subst (λ (n : ℕ). IsOfBytes {T = Formatted} (fitted L n) (Ok done)) c.blocks-2.ensures
-      (of_done Plan Formatted fits c.in_ok-plan.plan (Ok done) c.in_ok-plan.ensures.input.some (λ early. early));
 }
 
 pub returns-in_err-version-clause-reads : goal.returns-in_err-version-clause-reads

@@ -73,16 +73,6 @@ loop-k-preserved g c =
       none = omega (arith, before.none, done.reads.once);
     }
 
-pub returns-clause-writes : goal.returns-clause-writes
-returns-clause-writes g c = record {
-  keeps = search rules;
-  left = search rules;
-  goes = search rules;
-  spent = c.loop-k.invariant.spent ∙ ap (λ (n : ℕ). lowered_by n (g.D.Flash.arming c.args.flash.now)) (omega (arith, ap (λ (e : Entry). e.size) c.entry.view_is));
-  touches = c.loop-k.invariant.touches;
-  stops = search rules;
-}
-
 pub returns-in_err-write_piece-clause-reads : goal.returns-in_err-write_piece-clause-reads
 returns-in_err-write_piece-clause-reads g c = record {
   files = reads-then g.H.Files _ g.met.H.Files.joins _ _ _ c.loop-k.invariant.files c.write_piece.ensures.reads.files;

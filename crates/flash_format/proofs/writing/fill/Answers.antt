@@ -27,8 +27,6 @@ write_bank-requires-clause-erased g c = λ tells i above below.
     let enough = bank_within c.args.plan.now.layout c.rows-rows.ensures.fit in
     c.in_ok-erase_all.ensures.erased tells i (omega arith) (omega (arith, below, enough, c.blocks-2.ensures))
 
--- ---- after the bank was written
-
 module _ (g : given.Over) (c : After-write_bank g) where
   abbrev high : ℕ
   high = 4096 * blocks_needed c.args.plan.now.layout
@@ -144,22 +142,6 @@ returns-clause-clears g c =
       only = λ tells. subst (OnlyErased s) (sym (c.barrier.ensures.content tells)) (only_settled c.barrier.result s (told_then g p) (only g p tells));
       first = λ tells. inr (subst IsBare (sym (c.barrier.ensures.content tells)) (bare_settled c.barrier.result (told_then g p) (bare g p tells)));
     }
-
-pub erase_all-requires-clause-some : goal.erase_all-requires-clause-some
-erase_all-requires-clause-some g c =
-    let enough = bank_within c.args.plan.now.layout c.rows-rows.ensures.fit in
-    omega (arith, enough, c.blocks-2.ensures)
-
-pub returns-clause-spent : goal.returns-clause-spent
-returns-clause-spent g c =
-    let L = c.args.plan.now.layout in
-    let es = c.args.plan.now.entries in
-    let armed = g.D.Flash.arming c.erase_all.new.flash in
-    let wrote : g.D.Flash.arming c.write_bank.new.flash ≡ lowered_by (pieces_in es) armed = c.in_ok-write_bank.ensures.writes.spent ∙ ap (λ (l : List Entry). lowered_by (pieces_in l) armed) c.as_slice.ensures in
-    c.in_ok-barrier.ensures.arming ∙ spent_both c.blocks-2.result (pieces_in es) (blocks_needed L + pieces_in es) _ _ _ (omega (arith, c.blocks-2.ensures)) c.in_ok-erase_all.ensures.writes.spent wrote
-
-pub returns-in_err-write_bank-clause-bare : goal.returns-in_err-write_bank-clause-bare
-returns-in_err-write_bank-clause-bare g c = on_ok_from (IsTrue g.D.Flash.tells → IsBare (g.D.Flash.told c.write_bank.new.flash)) _ (bare g (goal.at.returns-in_err-write_bank-clause-bare g c).After-write_bank)
 
 pub returns-clause-bare : goal.returns-clause-bare
 returns-clause-bare g c = λ tells.

@@ -26,8 +26,3 @@ returns c =
     let rows : length c.rows-rows.result.now ≡ length c.args.block.now.layout.now.rows = ap (λ (l : List ImageRow). length l) c.rows-rows.ensures.value in
     let all : length c.rows-rows.result.now ≤ c.loop-image.image = c.loop-image-test.false in
     range-true (has_entry c.args.block.now.layout.now c.args.from c.args.block.now.bytes.now) (length c.args.block.now.layout.now.rows) (λ i lt. c.loop-image.invariant i (omega (arith, rows, all)))
-
-pub is_entry-requires : goal.is_entry-requires
-is_entry-requires c =
-    let size : 32 + 24 * c.banks.result ≡ entry_size c.args.block.now.layout.now = ap (λ n. 32 + 24 * n) c.banks.ensures.value in
-    omega (arith, c.entry_at-at.ensures.room, c.args.block.now.room, c.requires)

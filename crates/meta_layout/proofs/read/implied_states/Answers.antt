@@ -11,9 +11,3 @@ pub push-requires : goal.push-requires
 push-requires c =
     let count : length c.loop-bank.states ≡ c.loop-bank.bank = length-listed (state_at_v1 c.args.block.now.layout.now c.args.block.now.bytes.now) c.loop-bank.states c.loop-bank.bank c.loop-bank.invariant in
     omega (arith, count, c.loop-bank-test.true, c.banks-banks.ensures.high)
-
-pub returns : goal.returns
-returns c =
-    let low : c.loop-bank.bank ≤ c.banks-banks.result = c.loop-bank.auto.bank-end in
-    let high : c.banks-banks.result ≤ c.loop-bank.bank = c.loop-bank-test.false in
-    listed-count (state_at_v1 c.args.block.now.layout.now c.args.block.now.bytes.now) c.loop-bank.states c.loop-bank.bank c.args.block.now.layout.now.banks (omega (arith, low, high, c.banks-banks.ensures.value)) c.loop-bank.invariant

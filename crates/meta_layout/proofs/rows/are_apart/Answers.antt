@@ -14,6 +14,3 @@ returns-then-has_type c =
     apart-not c.args.rows.now c.loop-index.index c.index-rows-index.result c.has_type.result c.loop-index-test.true
     c.index-rows-index.is
     c.has_type.ensures (are_distinct (map (λ r. r.guid) c.args.rows.now)) c.loop-index.invariant c.if-has_type.true
-
-pub returns : goal.returns
-returns c = apart-end c.args.rows.now c.loop-index.index _ c.loop-index-test.false c.loop-index.invariant

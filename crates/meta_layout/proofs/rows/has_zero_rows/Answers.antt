@@ -4,9 +4,6 @@ use Rattle.meta_layout.specs.Rows.{has_zero}
 use Rattle.meta_layout.proofs.ImageRows.{range-true, range-false}
 use Rattle.meta_layout.proofs.rows.has_zero_rows.Goals as goal
 
-pub loop-index-preserved : goal.loop-index-preserved
-loop-index-preserved c = below_more _ _ c.loop-index.invariant (eq-eqb _ 0 (sym c.le32_at.ensures ∙ c.if-le32_at-ne0.false))
-
 pub returns-then-le32_at-ne0 : goal.returns-then-le32_at-ne0
 returns-then-le32_at-ne0 c =
     range-false (has_zero c.args.block.now) 0 c.args.count c.loop-index.index (omega arith) (omega arith) (ne_eqb _ 0 (λ e. c.if-le32_at-ne0.true (c.le32_at.ensures ∙ e)))

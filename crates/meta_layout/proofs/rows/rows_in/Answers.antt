@@ -10,9 +10,3 @@ pub push-requires : goal.push-requires
 push-requires c =
     let count : length c.loop-index.rows ≡ c.loop-index.index = length-listed (layout_row_at c.args.block.now) c.loop-index.rows c.loop-index.index c.loop-index.invariant in
     omega (arith, count, c.loop-index-test.true, c.requires.small)
-
-pub returns : goal.returns
-returns c =
-    let low : c.loop-index.index ≤ c.args.count = c.loop-index.auto.index-end in
-    let high : c.args.count ≤ c.loop-index.index = c.loop-index-test.false in
-    listed-count (layout_row_at c.args.block.now) c.loop-index.rows c.loop-index.index c.args.count (omega (arith, low, high)) c.loop-index.invariant

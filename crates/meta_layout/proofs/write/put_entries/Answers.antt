@@ -12,16 +12,6 @@ put_entry-end-requires-clause-bits c =
     let below : c.loop-image.image < length c.rows-rows.result.now = c.loop-image-test.true in
     has-bits c.args.layout.now c.args.meta.now.meta c.loop-image.image c.banks-banks.result c.requires.fit c.banks-banks.ensures.value (omega (arith, rows, below))
 
-pub put_entry-end-requires-clause-room : goal.put_entry-end-requires-clause-room
-put_entry-end-requires-clause-room c =
-    let rows : length c.rows-rows.result.now ≡ length c.args.layout.now.rows = ap (λ (l : List ImageRow). length l) c.rows-rows.ensures.value in
-    let below : c.loop-image.image < length c.rows-rows.result.now = c.loop-image-test.true in
-    let room : c.args.at + length c.args.layout.now.rows * (32 + 24 * c.banks-banks.result) ≤ length c.args.out.now =
-    subst (λ (n : ℕ). c.args.at + length c.args.layout.now.rows * (32 + 24 * n) ≤ length c.args.out.now) (sym c.banks-banks.ensures.value) c.requires.room in
-    let fits : c.loop-image.image * (32 + 24 * c.banks-banks.result) + (32 + 24 * c.banks-banks.result) ≤ length c.args.layout.now.rows * (32 + 24 * c.banks-banks.result) =
-    piece-within c.loop-image.image (length c.args.layout.now.rows) (32 + 24 * c.banks-banks.result) (omega (arith, rows, below)) in
-    omega (arith, room, fits, c.loop-image.invariant.place, c.loop-image.auto.out)
-
 pub loop-image-preserved : goal.loop-image-preserved
 loop-image-preserved c = record {
   place = omega (arith, c.put_entry-end.ensures.next_is, c.loop-image.invariant.place);
@@ -32,15 +22,3 @@ loop-image-preserved c = record {
       (entry-bytes c.args.layout.now c.args.meta.now.meta c.loop-image.image c.index-rows-image.result c.rows-rows.result.now c.banks-banks.result
       c.index-rows-image.is c.rows-rows.ensures.value c.loop-image-test.true c.banks-banks.ensures.value));
 }
-
-pub returns : goal.returns
-returns c =
-    let rows : length c.rows-rows.result.now ≡ length c.args.layout.now.rows = ap (λ (l : List ImageRow). length l) c.rows-rows.ensures.value in
-    let low : c.loop-image.image ≤ length c.rows-rows.result.now = c.loop-image.auto.image-end in
-    let high : length c.rows-rows.result.now ≤ c.loop-image.image = c.loop-image-test.false in
-    let same : c.loop-image.image ≡ length c.args.layout.now.rows = omega (arith, rows, low, high) in
-    record {
-      next_is = c.loop-image.invariant.place ∙ ap (λ n. c.args.at + n * (32 + 24 * c.banks-banks.result)) same ∙ ap (λ n. c.args.at + length c.args.layout.now.rows * (32 + 24 * n)) c.banks-banks.ensures.value;
-      size = omega (arith, c.loop-image.auto.out);
-      front = listed-all (entry_bytes c.args.layout.now c.args.meta.now.meta) c.loop-image.image (length c.args.layout.now.rows) (take c.args.at c.args.out.now) (take c.loop-image.end c.loop-image.out) same c.loop-image.invariant.front;
-    }

@@ -47,25 +47,6 @@ returns-in-Err-Fault-clause-finishes g c = finish-failed _ _ _ (subst
     (λ (q : Stop). MeetsAs {T = Unit {0}} (λ _. reply.Success) (Err q) (g.V.Verifier.passes c.args.verifier.now) call.End (moment c.args.agent.now)
     (moment c.end.new.self)) c.in-Err-Fault.field-0-is (c.in-Err-Fault.ensures.meets c.requires.here _ refl))
 
-pub returns-in-Ok-clause-takes : goal.returns-in-Ok-clause-takes
-returns-in-Ok-clause-takes g c = c.in-Ok.ensures.staging.spent
-
--- ---- a refused end
-
-pub returns-in-Ok-cancel-clause-unswitched : goal.returns-in-Ok-cancel-clause-unswitched
-returns-in-Ok-cancel-clause-unswitched g c =
-    c.in-Ok-cancel.ensures.still ∙ ap (λ a. device a)
-    (c.in-Err-Status.ensures.refused (subst (λ (q : Stop). IsRefused {T = Unit {0}} (Err q)) (sym c.in-Err-Status.field-0-is) tt))
-
-pub returns-in-Err-clause-unswitched : goal.returns-in-Err-clause-unswitched
-returns-in-Err-clause-unswitched g c =
-    let same = c.in-Err.ensures.still ∙ ap (λ a. device a)
-    (c.in-Err-Status.ensures.refused (subst (λ (q : Stop). IsRefused {T = Unit {0}} (Err q)) (sym c.in-Err-Status.field-0-is) tt)) in
-    subst (λ (st : SendStop). OnRefusedEnd {T = Unit {0}} (Err st) (device c.cancel.new.self ≡ device c.args.agent.now)) (sym c.stopped.ensures)
-    (end-as (Unit {0}) c.in-Err.stop (device c.cancel.new.self ≡ device c.args.agent.now) same)
-
--- ---- which blocks it erases or programs
-
 pub returns-in-Ok-clause-spares : goal.returns-in-Ok-clause-spares
 returns-in-Ok-clause-spares g c = spares-left (c.in-Ok.ensures.meets c.requires.here _ refl).leaves
 
@@ -76,14 +57,6 @@ returns-in-Ok-cancel-clause-spares g c =
     (gone c.end.new.self)) c.in-Err-Status.field-0-is c.in-Err-Status.ensures.goes.gone in
     spares-then (spares-left (c.in-Err-Status.ensures.meets c.requires.here _ refl).leaves)
     (spares-left (c.in-Ok-cancel.ensures.meets (still-here st _ _ c.requires.here goes) (g.V.Verifier.passes c.args.verifier.now)).leaves)
-
-pub returns-in-Err-clause-spares : goal.returns-in-Err-clause-spares
-returns-in-Err-clause-spares g c =
-    let st = c.in-Err-Status.status in
-    let goes = subst (λ (q : Stop). GoesBy {T = Unit {0}} (Err q) (gone c.args.agent.now)
-    (gone c.end.new.self)) c.in-Err-Status.field-0-is c.in-Err-Status.ensures.goes.gone in
-    spares-then (spares-left (c.in-Err-Status.ensures.meets c.requires.here _ refl).leaves)
-    (spares-left (c.in-Err.ensures.meets (still-here st _ _ c.requires.here goes) (g.V.Verifier.passes c.args.verifier.now)).leaves)
 
 pub returns-in-Err-Lost-clause-spares : goal.returns-in-Err-Lost-clause-spares
 returns-in-Err-Lost-clause-spares g c = spares-left (c.in-Err-Lost.ensures.meets c.requires.here _ refl).leaves

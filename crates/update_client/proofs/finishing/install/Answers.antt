@@ -33,8 +33,6 @@ returns-else-not-is_unread-clause-installs g c =
     let e = c.cancel-cancelled.ensures in
     uncancelled _ _ _ _ _ _ (moment c.send_images.new.agent) _ c.cancel-cancelled.result _ _ spent.gone_is e.goes.gone e.answers sent (e.meets spent.gone_is)
 
--- ---- what it takes
-
 pub returns-in-Ok-clause-takes : goal.returns-in-Ok-clause-takes
 returns-in-Ok-clause-takes g c =
     let entries = c.args.payloads.now.entries.now in
@@ -61,24 +59,6 @@ returns-then-not-is_unread-clause-takes g c = record {
       c.in-Err.ensures.sent;
   unread = other-read (Unit {0}) c.in-Err.stop _ (sym c.is_unread.ensures ∙ c.if-not-is_unread.true);
 }
-
--- a read that failed
-pub returns-else-not-is_unread-clause-takes : goal.returns-else-not-is_unread-clause-takes
-returns-else-not-is_unread-clause-takes g c =
-    let is : c.in-Err.stop ≡ ReadFailed = unread-is c.in-Err.stop (sym c.is_unread.ensures ∙ c.if-not-is_unread.false) in
-    let size = length c.args.buf.now in
-    let entries = c.args.payloads.now.entries.now in
-    let old = moment c.args.agent.now in
-    let armed = g.D.Flash.arming (device c.args.agent.now) in
-    record {
-      done = tt;
-      unswitched = tt;
-      unread = subst (λ d. ImagesStart size entries old armed (g.D.Flash.arming d)) (sym c.cancel-cancelled.ensures.still)
-          (subst (λ (st : SendStop). OnUnread {T = Unit {0}} (Err st) (ImagesStart size entries old armed (g.D.Flash.arming (device c.send_images.new.agent)))) is
-          c.in-Err.ensures.takes.unread);
-    }
-
--- ---- what it keeps
 
 pub returns-in-Ok-clause-keeps : goal.returns-in-Ok-clause-keeps
 returns-in-Ok-clause-keeps g c =

@@ -48,8 +48,6 @@ returns-in-Err-commit-clause-sent g c =
     c.in-Err-commit.stop _ _ c.in_ok-write_image.ensures.keeps.spent.gone_is c.in-Err-commit.ensures.goes.gone
     (c.in-Err-commit.ensures.meets c.in_ok-write_image.ensures.keeps.spent.gone_is))
 
--- ---- what it takes
-
 pub returns-in-Ok-commit-clause-takes : goal.returns-in-Ok-commit-clause-takes
 returns-in-Ok-commit-clause-takes g c =
     let opens = subst (λ (guid : List ℕ). (passes : List ℕ → Bool) → MeetsAs {T = ℕ} (λ k. reply.Opened k) (Ok c.in-Ok.field-0) passes (call.OpenWrite guid)
@@ -61,15 +59,6 @@ returns-in-Ok-commit-clause-takes g c =
           (g.D.Flash.arming d) (g.D.Flash.arming (device c.write_image.new.agent))) c.in-Ok.ensures.still c.in_ok-write_image.ensures.takes.done)
           (λ image writes. (c.in-Ok-commit.ensures.image c.in_ok-write_image.ensures.keeps.spent.gone_is image writes).spent.lowered);
       unread = tt;
-    }
-
-pub returns-in-Err-clause-takes : goal.returns-in-Err-clause-takes
-returns-in-Err-clause-takes g c =
-    let starts = ImageStarts (length c.args.buf.now) c.args.payload.now.entry.now (moment c.args.agent.now) (g.D.Flash.arming (device c.args.agent.now))
-    (g.D.Flash.arming (device c.open.new.self)) in
-    record {
-      done = tt;
-      unread = subst (λ (st : SendStop). OnUnread {T = Unit {0}} (Err st) starts) (sym c.stopped.ensures) (never-unread (Unit {0}) c.in-Err.stop starts);
     }
 
 pub returns-in_err-write_image-clause-takes : goal.returns-in_err-write_image-clause-takes
@@ -89,18 +78,6 @@ returns-in_err-write_image-clause-takes g c =
           (λ front. image-starts size entry c.in-Ok.field-0 (moment c.args.agent.now) (moment c.open.new.self) armed opened arming opens
           (ap (λ d. g.D.Flash.arming d) c.in-Ok.ensures.still) front) c.in_err-write_image.ensures.takes.unread;
     })
-
-pub returns-in-Err-commit-clause-takes : goal.returns-in-Err-commit-clause-takes
-returns-in-Err-commit-clause-takes g c =
-    let starts = ImageStarts (length c.args.buf.now) c.args.payload.now.entry.now (moment c.args.agent.now) (g.D.Flash.arming (device c.args.agent.now))
-    (g.D.Flash.arming (device c.commit.new.self)) in
-    record {
-      done = tt;
-      unread = subst (λ (st : SendStop). OnUnread {T = Unit {0}} (Err st) starts) (sym c.stopped-in-Err-commit.ensures)
-          (never-unread (Unit {0}) c.in-Err-commit.stop starts);
-    }
-
--- ---- what it keeps
 
 pub returns-in-Err-clause-keeps : goal.returns-in-Err-clause-keeps
 returns-in-Err-clause-keeps g c = rw c.stopped.ensures (keeps-stopped g.H.Files g.met.H.Files.at_rest g.met.H.Files.joins c.args.payload.now.name.now (Unit {0}) c.in-Err.stop c.args.agent.now c.open.new.self _ _

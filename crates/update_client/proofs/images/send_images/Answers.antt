@@ -51,11 +51,6 @@ returns-clause-takes g c = record {
   unread = tt;
 }
 
-pub returns-clause-keeps : goal.returns-clause-keeps
-returns-clause-keeps g c = c.loop-k.invariant.keeps
-
--- ---- an image that was not sent
-
 pub returns-in_err-send_image-clause-sent : goal.returns-in_err-send_image-clause-sent
 returns-in_err-send_image-clause-sent g c =
     rw (handed-on c.from_residual.result c.in_err-send_image.field-0.0 c.from_residual.ensures.1) (

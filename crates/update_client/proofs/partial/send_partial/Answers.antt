@@ -46,24 +46,6 @@ returns-in_err-entries-clause-sends g c =
     over-early _ _ _ _ _ (moment c.args.agent.now) c.in_err-entries.field-0.0 (subst (λ (rows : List ImageRow). refused_image
     (partial_fault rows c.args.toc.now) ≡ Some c.in_err-entries.field-0.0) c.rows.ensures.value c.in_err-entries.ensures))
 
-pub types_in-types-requires : goal.types_in-types-requires
-types_in-types-requires g c =
-    let agent = c.args.agent.now in
-    let L = agent.layout in
-    let toc = c.args.toc.now in
-    let fit = c.rows.ensures.fits in
-    let are = subst (λ (rs : List ImageRow). AreSendable rs toc c.in_ok-entries.entries) c.rows.ensures.value c.in_ok-entries.ensures in
-    let few = present_few L.rows toc in
-    omega (
-      arith,
-      few,
-      ap (λ (l : List Entry). length l) (c.as_slice.ensures ∙ are.entries_are),
-      c.rows.ensures.few,
-      ap (λ (l : List ImageRow). length l) c.rows.ensures.value,
-    )
-
--- ---- the types that are listed, and the begin of them
-
 module _ (g : given.Over) (c : After-begin_partial g) where
   abbrev named : List (List ℕ)
   named = types_of (present c.args.agent.now.layout.rows c.args.toc.now)
@@ -180,29 +162,12 @@ overflow_sub-copied g c =
     let few = present_few L.rows toc in
     omega (arith, few, c.len-images.ensures.length, ap (λ (l : List Entry). length l) are.entries_are, ap (λ (l : List ImageRow). length l) c.rows-2.ensures.value)
 
--- ---- what it costs
-
-pub returns-in-Err-clause-goes : goal.returns-in-Err-clause-goes
-returns-in-Err-clause-goes g c = λ here.
-    let a = device c.args.agent.now in
-    let b = c.begin_partial.new.self in
-    subst (λ (st : SendStop). Goes g.D.Flash (flash_of {T = Sent} (Err st)) a (device b)) (sym c.unbegun.ensures)
-    (goes-of (flash_of {T = Sent} (Err (unbegun_as c.in-Err.stop))) (gone b) a (device b)
-    (unbegun-spent (Unit {0}) Sent c.in-Err.stop (gone b) a (device b) (call-spent here c.in-Err.ensures.goes)))
-
-pub returns-clause-goes : goal.returns-clause-goes
-returns-clause-goes g c = λ here.
-    let b = c.install.new.agent in
-    goes-of (Ok tt) (gone b) (device c.args.agent.now) (device b) (spent-then (call-spent here c.in-Ok.ensures.goes) c.in_ok-install.ensures.keeps.spent)
-
 pub returns-in_err-install-clause-goes : goal.returns-in_err-install-clause-goes
 returns-in_err-install-clause-goes g c =
     let b = c.install.new.agent in
     rw (handed-on c.from_residual-in_err-install.result c.in_err-install.field-0.0 c.from_residual-in_err-install.ensures.1)
     (λ here. goes-of (flash_of {T = Sent} (Err c.in_err-install.field-0.0)) (gone b) (device c.args.agent.now) (device b)
     (spent-then (call-spent here c.in-Ok.ensures.goes) c.in_err-install.ensures.keeps.spent))
-
--- ---- which blocks it erases or programs
 
 pub returns-in-Err-clause-touches : goal.returns-in-Err-clause-touches
 returns-in-Err-clause-touches g c =
@@ -220,16 +185,6 @@ returns-in_err-install-clause-touches g c =
     let here = here-before _ _ c.in-Ok.ensures.goes.gone in
     (spares-then (begun-spares (c.in-Ok.ensures.begins here (g.V.Verifier.passes c.args.verifier.now)))
     c.in_err-install.ensures.keeps.spares).touches
-
--- ---- which files it asks for
-
-pub returns-in_err-entries-clause-files : goal.returns-in_err-entries-clause-files
-returns-in_err-entries-clause-files g c = reads-none g.H.Files _ g.met.H.Files.at_rest _
-
-pub returns-in-Err-clause-files : goal.returns-in-Err-clause-files
-returns-in-Err-clause-files g c = reads-none g.H.Files _ g.met.H.Files.at_rest _
-
--- ---- what it takes of an armed loss
 
 pub returns-clause-takes : goal.returns-clause-takes
 returns-clause-takes g c =
@@ -261,22 +216,6 @@ returns-clause-takes g c =
       unswitched = tt;
       unread = tt;
     }
-
-pub returns-in_err-entries-clause-takes : goal.returns-in_err-entries-clause-takes
-returns-in_err-entries-clause-takes g c =
-    rw (handed-on c.from_residual.result c.in_err-entries.field-0.0 c.from_residual.ensures.1) (record {
-      done = tt;
-      unswitched = early-no-end Sent _ c.in_err-entries.field-0.0 _ c.in_err-entries.ensures;
-      unread = early-read Sent _ c.in_err-entries.field-0.0 _ c.in_err-entries.ensures;
-    })
-
-pub returns-in-Err-clause-takes : goal.returns-in-Err-clause-takes
-returns-in-Err-clause-takes g c =
-    let f = fields c.args.agent.now in
-    subst (λ (st : SendStop). SendTakesBy {T = Sent} (Err st) (writes_to_begin f + writes_over (length c.args.buf.now) f.layout.rows f.lengths c.args.toc.now)
-    (writes_to_begin f + writes_copied f.layout.rows f.lengths c.args.toc.now) (length c.args.buf.now) (λ entries. entries ≡ present f.layout.rows c.args.toc.now)
-    (g.D.Flash.arming (device c.args.agent.now)) (g.D.Flash.arming (device c.begin_partial.new.self))) (sym c.unbegun.ensures)
-    (record { done = tt; unswitched = begin-no-end Sent c.in-Err.stop _; unread = begin-read Sent c.in-Err.stop _ })
 
 pub returns-in_err-install-clause-takes : goal.returns-in_err-install-clause-takes
 returns-in_err-install-clause-takes g c =

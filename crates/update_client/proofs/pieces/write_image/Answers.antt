@@ -72,13 +72,8 @@ returns-in_err-at-clause-takes g c =
           (ap (λ a. g.D.Flash.arming (device a)) same) c.loop-at.invariant.takes) c.in_err-at.ensures.unsent;
     })
 
--- ---- what it keeps
-
 pub returns-in_err-at-clause-keeps : goal.returns-in_err-at-clause-keeps
 returns-in_err-at-clause-keeps g c =
     let name = c.args.payload.now.name.now in
     rw (handed-on c.from_residual.result c.in_err-at.field-0.0 c.from_residual.ensures.1)
     (keeps-then g.H.Files g.met.H.Files.at_rest g.met.H.Files.joins name c.loop-at.invariant.keeps (keeps-on g.H.Files g.met.H.Files.at_rest g.met.H.Files.joins name (Unit {0}) c.in_err-at.field-0.0 c.in_err-at.ensures.keeps))
-
-pub returns-clause-keeps : goal.returns-clause-keeps
-returns-clause-keeps g c = c.loop-at.invariant.keeps

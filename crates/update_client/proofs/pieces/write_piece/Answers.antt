@@ -61,26 +61,6 @@ returns-in-Ok-write_stream-clause-takes g c =
     ((c.in-Ok-write_stream.ensures.image image writes).spent tt).lowered
     ∙ ap (λ (m : ℕ). lowered_by (writes_to_append (size_of (part_at (fields c.args.agent.now).session image)) m) (g.D.Flash.arming (device c.args.agent.now))) whole)
 
--- ---- what it keeps
-
-pub returns-in-Err-clause-keeps : goal.returns-in-Err-clause-keeps
-returns-in-Err-clause-keeps g c =
-    let n = c.min-size.result in
-    let buf = c.args.buf.now in
-    let agent = c.args.agent.now in
-    let out = c.payload_at.new.out in
-    let size : length out ≡ n = c.payload_at.auto.out ∙ length-take-le n buf (omega (arith, c.min-size.ensures)) in
-    let long : length (out ++ drop n buf) ≡ length buf = omega (arith, length-append out (drop n buf), length-drop n buf, size, c.min-size.ensures) in
-    let cause = c.in-Err.ensures.cause in
-    record {
-      stops = tt;
-      spent = none-spent g.D.Flash (gone agent) (device agent) c.requires.here (agent.power c.requires.here);
-      spares = spares-none (moment agent);
-      buffer = long;
-      files = c.in-Err.ensures.reads;
-      reads = record { later = cause.later; once = cause.once; failed = λ e. cause.failed };
-    }
-
 pub returns-in-Ok-write_stream-clause-keeps : goal.returns-in-Ok-write_stream-clause-keeps
 returns-in-Ok-write_stream-clause-keeps g c =
     let n = c.min-size.result in
@@ -110,10 +90,3 @@ returns-in-Err-write_stream-clause-keeps g c =
     c.in-Ok.ensures.reads c.in-Ok.ensures.cause.done)
     (keeps-stopped g.H.Files g.met.H.Files.at_rest g.met.H.Files.joins name ℕ c.in-Err-write_stream.stop agent c.write_stream.new.self _ _ c.requires.here c.in-Err-write_stream.ensures.goes
     (spares-left (c.in-Err-write_stream.ensures.meets c.requires.here (λ _. true)).leaves)))
-
--- ---- a read that failed
-
-pub returns-in-Err-write_stream-clause-unsent : goal.returns-in-Err-write_stream-clause-unsent
-returns-in-Err-write_stream-clause-unsent g c =
-    subst (λ (st : SendStop). OnUnread {T = ℕ} (Err st) (c.write_stream.new.self ≡ c.args.agent.now)) (sym c.stopped.ensures)
-    (never-unread ℕ c.in-Err-write_stream.stop (c.write_stream.new.self ≡ c.args.agent.now))

@@ -75,15 +75,6 @@ returns-clause-installs g c = λ here s x shows.
     let chosen = subst (λ (rows : List ImageRow). AreChosen rows c.args.toc.now c.in_ok-entries.entries) c.rows.ensures.value c.in_ok-entries.ensures in
     installs-done _ _ _ _ _ _ _ _ (returns-clause-sends g c here) (c.args.agent.now.fitting here).layout chosen.none s x shows
 
-pub returns-clause-counted : goal.returns-clause-counted
-returns-clause-counted g c =
-    record {
-      images = ap length c.rows-2.ensures.value;
-      skipped = c.skipped-skipped.ensures ∙ ap
-          (λ (rows : List ImageRow). skipped rows c.args.toc.now) c.rows-3.ensures.value;
-      copied = refl;
-    }
-
 pub returns-clause-switched : goal.returns-clause-switched
 returns-clause-switched g c = λ here.
     let agent = c.args.agent.now in
@@ -92,34 +83,12 @@ returns-clause-switched g c = λ here.
     record { now = i.now; session = i.session; shows = i.shows; active = i.installed.active; previous = i.installed.previous })
     (shows-some (fields agent) (agent.fitting here) g.D.Flash.tells (g.D.Flash.told agent.flash) {writes = g.D.Flash.writes agent.flash} (agent.knows here) (agent.some here))
 
--- ---- what it costs
-
-pub returns-in-Err-clause-goes : goal.returns-in-Err-clause-goes
-returns-in-Err-clause-goes g c = λ here.
-    let a = device c.args.agent.now in
-    let b = c.begin.new.self in
-    subst (λ (st : SendStop). Goes g.D.Flash (flash_of {T = Sent} (Err st)) a (device b)) (sym c.unbegun.ensures)
-    (goes-of (flash_of {T = Sent} (Err (unbegun_as c.in-Err.stop))) (gone b) a (device b)
-    (unbegun-spent (Unit {0}) Sent c.in-Err.stop (gone b) a (device b) (call-spent here c.in-Err.ensures.goes)))
-
-pub returns-clause-goes : goal.returns-clause-goes
-returns-clause-goes g c = λ here.
-    let b = c.install.new.agent in
-    goes-of (Ok tt) (gone b) (device c.args.agent.now) (device b) (spent-then (call-spent here c.in-Ok.ensures.goes) c.in_ok-install.ensures.keeps.spent)
-
 pub returns-in_err-install-clause-goes : goal.returns-in_err-install-clause-goes
 returns-in_err-install-clause-goes g c =
     let b = c.install.new.agent in
     rw (handed-on c.from_residual-in_err-install.result c.in_err-install.field-0.0 c.from_residual-in_err-install.ensures.1)
     (λ here. goes-of (flash_of {T = Sent} (Err c.in_err-install.field-0.0)) (gone b) (device c.args.agent.now) (device b)
     (spent-then (call-spent here c.in-Ok.ensures.goes) c.in_err-install.ensures.keeps.spent))
-
--- ---- which blocks it erases or programs
-
-pub returns-in-Err-clause-touches : goal.returns-in-Err-clause-touches
-returns-in-Err-clause-touches g c =
-    gone-spares {T = Unit {0}} (Err c.in-Err.stop) c.args.agent.now c.begin.new.self c.in-Err.ensures.goes
-    (λ here. (spares-left (c.in-Err.ensures.meets here (g.V.Verifier.passes c.args.verifier.now)).leaves).touches)
 
 pub returns-clause-touches : goal.returns-clause-touches
 returns-clause-touches g c =
@@ -132,16 +101,6 @@ returns-in_err-install-clause-touches g c =
     let here = here-before _ _ c.in-Ok.ensures.goes.gone in
     (spares-then (spares-left (c.in-Ok.ensures.meets here (g.V.Verifier.passes c.args.verifier.now)).leaves)
     c.in_err-install.ensures.keeps.spares).touches
-
--- ---- which files it asks for
-
-pub returns-in_err-entries-clause-files : goal.returns-in_err-entries-clause-files
-returns-in_err-entries-clause-files g c = reads-none g.H.Files _ g.met.H.Files.at_rest _
-
-pub returns-in-Err-clause-files : goal.returns-in-Err-clause-files
-returns-in-Err-clause-files g c = reads-none g.H.Files _ g.met.H.Files.at_rest _
-
--- ---- what it takes of an armed loss
 
 pub returns-clause-takes : goal.returns-clause-takes
 returns-clause-takes g c =
@@ -168,22 +127,6 @@ returns-clause-takes g c =
       unswitched = tt;
       unread = tt;
     }
-
-pub returns-in_err-entries-clause-takes : goal.returns-in_err-entries-clause-takes
-returns-in_err-entries-clause-takes g c =
-    rw (handed-on c.from_residual.result c.in_err-entries.field-0.0 c.from_residual.ensures.1) (record {
-      done = tt;
-      unswitched = early-no-end Sent _ c.in_err-entries.field-0.0 _ c.in_err-entries.ensures;
-      unread = early-read Sent _ c.in_err-entries.field-0.0 _ c.in_err-entries.ensures;
-    })
-
-pub returns-in-Err-clause-takes : goal.returns-in-Err-clause-takes
-returns-in-Err-clause-takes g c =
-    let f = fields c.args.agent.now in
-    subst (λ (st : SendStop). SendTakesBy {T = Sent} (Err st) (writes_to_begin f + writes_sent (length c.args.buf.now) f.layout.rows c.args.toc.now)
-    (writes_to_begin f) (length c.args.buf.now) (AreChosen f.layout.rows c.args.toc.now)
-    (g.D.Flash.arming (device c.args.agent.now)) (g.D.Flash.arming (device c.begin.new.self))) (sym c.unbegun.ensures)
-    (record { done = tt; unswitched = begin-no-end Sent c.in-Err.stop _; unread = begin-read Sent c.in-Err.stop _ })
 
 pub returns-in_err-install-clause-takes : goal.returns-in_err-install-clause-takes
 returns-in_err-install-clause-takes g c =

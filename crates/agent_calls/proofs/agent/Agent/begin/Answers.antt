@@ -66,6 +66,3 @@ returns-in-Ok-clause-keeps g c done =
     begin-keeps (fields a) fitting c.frees.result
     (c.frees.ensures ∙ begin-frees (fields a) fitting c.args.vendor_flags c.args.partial_count c.in-Ok.plan c.in-Ok.ensures.asked)
     c.carry_out.new.self.meta c.carry_out.ensures.planned
-
-pub returns-in-Ok-clause-restarts : goal.returns-in-Ok-clause-restarts
-returns-in-Ok-clause-restarts g c = ok-any c.carry_out.result c.carry_out.ensures.changed

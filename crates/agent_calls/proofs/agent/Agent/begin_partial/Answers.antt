@@ -58,11 +58,6 @@ module _ (g : given.Over) (c : After-rows-count g) where
   long-is : length (are_named c.args.self.now.layout.rows c.args.list.now) ≡ length c.args.self.now.layout.rows
   long-is = length-map c.args.self.now.layout.rows (λ (r : ImageRow). list_any (same_bytes r.guid) c.args.list.now)
 
-pub copy_images-requires-clause-each : goal.copy_images-requires-clause-each
-copy_images-requires-clause-each g c =
-    let begins = c.in-Ok-begin.ensures.meets c.if-self.false (λ _. true) in
-    ap (λ (l : List Bool). length l) (named-is g (goal.at.copy_images-requires-clause-each g c).After-rows-count) ∙ long-is g (goal.at.copy_images-requires-clause-each g c).After-rows-count ∙ ap (λ (L : Layout). length L.rows) (sym begins.leaves.stays.layout)
-
 pub returns-in-Err-begin-clause-begins : goal.returns-in-Err-begin-clause-begins
 returns-in-Err-begin-clause-begins g c = λ here passes.
     let a = c.args.self.now in
@@ -146,11 +141,6 @@ returns-in-Ok-begin-clause-spent g c = λ here.
     (takes-at (moment a) (moment b) (moment d) types (λ _. true) c.copy_images.result (a.fitting here)
     (known-is g (goal.at.returns-in-Ok-begin-clause-spent g c).After-rows-count) begins copied begun arming t)))
 
--- ---- the flash, and the metadata that is kept
-
-pub returns-in-Err-begin-clause-still : goal.returns-in-Err-begin-clause-still
-returns-in-Err-begin-clause-still g c = λ invalid all. c.in-Err-begin.ensures.still invalid
-
 pub returns-in-Ok-begin-clause-still : goal.returns-in-Ok-begin-clause-still
 returns-in-Ok-begin-clause-still g c = λ invalid all.
     ap (λ x. device x) (c.copy_images.ensures.still
@@ -176,15 +166,6 @@ returns-in-Ok-begin-clause-stores g c = λ done tells.
     let begins = begin.meets c.if-self.false (λ _. true) in
     stored-filled (flash_result c.copy_images.result) (moment a) (moment c.begin.new.self) (moment c.copy_images.new.self) refl begins.leaves.stays.layout
     (begin.keeps tt) (λ is. ap (λ d. g.D.Flash.told d) (begin.still is)) (λ used. begin.stores tt tells used) c.copy_images.ensures.fills tells
-
-pub returns-in-Err-begin-clause-keeps : goal.returns-in-Err-begin-clause-keeps
-returns-in-Err-begin-clause-keeps g c = λ done. c.in-Err-begin.ensures.keeps done
-
-pub returns-in-Ok-begin-clause-keeps : goal.returns-in-Ok-begin-clause-keeps
-returns-in-Ok-begin-clause-keeps g c = λ done. c.copy_images.ensures.fills.metadata ∙ c.in-Ok-begin.ensures.keeps tt
-
-pub returns-in-Ok-begin-clause-trials : goal.returns-in-Ok-begin-clause-trials
-returns-in-Ok-begin-clause-trials g c = c.copy_images.ensures.fills.trials ∙ c.in-Ok-begin.ensures.trials
 
 -- behind each image that is copied the block that it ends in is blank
 pub returns-in-Ok-begin-clause-padded : goal.returns-in-Ok-begin-clause-padded

@@ -10,16 +10,6 @@ use Rattle.agent_calls.specs.Shown.{fields, moment}
 use Rattle.agent_calls.proofs.NoOther.{cancels}
 use Rattle.agent_calls.proofs.agent.Agent.cancel.Goals as goal
 
-pub keep-requires-clause-quiet : goal.keep-requires-clause-quiet
-keep-requires-clause-quiet g c =
-    let f : Fields = fields c.args.self.now in
-    subst IsQuietPlan (sym (cancels f.session f.meta.meta c.in-Ok.plan c.in-Ok.ensures.asked)) tt
-
-pub keep-requires-clause-may : goal.keep-requires-clause-may
-keep-requires-clause-may g c =
-    let f : Fields = fields c.args.self.now in
-    subst (MayKeep g.D.Flash.tells f) (sym (cancels f.session f.meta.meta c.in-Ok.plan c.in-Ok.ensures.asked)) tt
-
 pub returns-in-Ok-clause-meets : goal.returns-in-Ok-clause-meets
 returns-in-Ok-clause-meets g c here passes =
     let a = c.args.self.now in

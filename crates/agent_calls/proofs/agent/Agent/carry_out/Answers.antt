@@ -79,28 +79,3 @@ returns-in-Err-clause-carries g c =
     (g.D.Flash.told c.args.self.now.flash) (g.D.Flash.told c.store_if.new.flash) c.is_stored-stored.result c.is_stored-stored.ensures g.D.Flash.tells
     (Err c.in-Err.stop) c.args.self.now.session.sound
     (c.args.self.now.knows c.requires.here) c.settle.ensures.settles c.in-Err.ensures.stores (metadata-blocks f c.in-Err.ensures.touches))
-
-pub returns-in-Ok-clause-spent : goal.returns-in-Ok-clause-spent
-returns-in-Ok-clause-spent g c =
-    takes-store (fields c.args.self.now) (g.D.Flash.arming c.args.self.now.flash) (g.D.Flash.arming c.store_if.new.flash) c.args.plan c.is_stored-stored.result
-    c.settle.new.meta c.requires.plan c.is_stored-stored.ensures c.settle.ensures.meta c.in-Ok.ensures.spent
-
-pub returns-in-Ok-clause-stores : goal.returns-in-Ok-clause-stores
-returns-in-Ok-clause-stores g c tells =
-    let f = fields c.args.self.now in
-    let s = g.D.Flash.told c.args.self.now.flash in
-    let t = g.D.Flash.told c.store_if.new.flash in
-    subst (λ (b : Bool). StoresIf {T = Unit {0}} b (Ok tt) f.layout (meta_planned f.session f.meta.meta c.args.plan) s t) c.is_stored-stored.ensures
-    (subst (λ (m : MetaRead). StoresIf {T = Unit {0}} c.is_stored-stored.result (Ok tt) f.layout m.meta s t) c.settle.ensures.meta
-    (c.in-Ok.ensures.stores tells))
-
-pub returns-in-Err-clause-stores : goal.returns-in-Err-clause-stores
-returns-in-Err-clause-stores g c tells =
-    let f = fields c.args.self.now in
-    let s = g.D.Flash.told c.args.self.now.flash in
-    let t = g.D.Flash.told c.store_if.new.flash in
-    subst (λ (r : CallResult). StoresIf (is_stored c.args.plan) r f.layout (meta_planned f.session f.meta.meta c.args.plan) s t) (sym c.stopped.ensures.stop)
-    (subst (λ (b : Bool). StoresIf {T = Unit {0}} b (Err c.in-Err.stop) f.layout (meta_planned f.session f.meta.meta c.args.plan) s t)
-    c.is_stored-stored.ensures
-    (subst (λ (m : MetaRead). StoresIf {T = Unit {0}} c.is_stored-stored.result (Err c.in-Err.stop) f.layout m.meta s t) c.settle.ensures.meta
-    (c.in-Err.ensures.stores tells)))

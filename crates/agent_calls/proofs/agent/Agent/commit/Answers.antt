@@ -15,12 +15,6 @@ use Rattle.agent_calls.specs.Shown.{moment, snapshot}
 use Rattle.agent_calls.proofs.Beyond.{writes-same}
 use Rattle.agent_calls.proofs.agent.Agent.commit.Goals as goal
 
-free-none : (image : ℕ) → Free ≡ Writes image → ⊥
-free-none image e = cc
-
-reads-none : (from : Option ℕ) (at total image : ℕ) → Reads from at total ≡ Writes image → ⊥
-reads-none from at total image e = cc
-
 pub returns-in-Free-clause-meets : goal.returns-in-Free-clause-meets
 returns-in-Free-clause-meets g c here passes =
     let a = c.args.self.now in
@@ -57,17 +51,3 @@ pub returns-in-Writes-clause-still : goal.returns-in-Writes-clause-still
 returns-in-Writes-clause-still g c none =
     let number = c.in-Writes.ensures.opened refl in
     absurd (none c.in-Writes.image (number.0, sym (c.in-Writes.ensures.at (omega (arith, number.0)))))
-
-pub returns-in-Free-clause-image : goal.returns-in-Free-clause-image
-returns-in-Free-clause-image g c here image writes = absurd (free-none image (c.in-Free.ensures.at (omega (arith, writes.0)) ∙ writes.1))
-
-pub returns-in-Reads-clause-image : goal.returns-in-Reads-clause-image
-returns-in-Reads-clause-image g c here image writes = absurd (reads-none _ _ _ image (c.in-Reads.ensures.at (omega (arith, writes.0)) ∙ writes.1))
-
-pub returns-in-Writes-clause-image : goal.returns-in-Writes-clause-image
-returns-in-Writes-clause-image g c here image writes =
-    subst (λ (i : ℕ). EndsImage g.D.Flash i c.commit_image.result (snapshot c.args.self.now) (snapshot c.commit_image.new.self))
-    (writes-same c.in-Writes.image image (c.in-Writes.ensures.at (omega (arith, writes.0)) ∙ writes.1)) c.commit_image.ensures.image
-
-pub returns-then-self-clause-image : goal.returns-then-self-clause-image
-returns-then-self-clause-image g c here = absurd (false≢true (sym here ∙ c.if-self.true))

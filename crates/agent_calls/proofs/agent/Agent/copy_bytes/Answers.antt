@@ -52,10 +52,6 @@ returns-clause-takes g c =
     front-taken-all c.args.image c.loop-at.at (moment c.args.self.now) (g.D.Flash.arming (device c.args.self.now)) (g.D.Flash.arming (device c.loop-at.self))
     (omega (arith, c.loop-at-test.false)) c.loop-at.invariant.takes
 
-pub returns-in-Err-clause-spent : goal.returns-in-Err-clause-spent
-returns-in-Err-clause-spent g c = err-spent ℕ (Unit {0}) c.in-Err.stop (gone c.copy_piece.new.self) (device c.args.self.now) (device c.copy_piece.new.self)
-    (spent-then c.loop-at.invariant.spent c.in-Err.ensures.spent)
-
 pub returns-in-Err-clause-fills : goal.returns-in-Err-clause-fills
 returns-in-Err-clause-fills g c =
     fills-then (moment c.args.self.now) (moment c.loop-at.self) (moment c.copy_piece.new.self) c.loop-at.invariant.fills c.in-Err.ensures.fills

@@ -45,13 +45,6 @@ returns-clause-copies g c =
     (c.in-Ok.ensures.meets here) (moment c.copy_bytes.new.self) c.in-Ok-copy_bytes.ensures.copies (moment c.commit.new.self) c.commit.result
     (gone c.copy_bytes.new.self) (gone c.commit.new.self) still c.commit.ensures.goes.gone (c.commit.ensures.meets still)
 
-pub returns-in-Err-clause-spent : goal.returns-in-Err-clause-spent
-returns-in-Err-clause-spent g c = err-spent ℕ (Unit {0}) c.in-Err.stop (gone c.open.new.self) (device c.args.self.now) (device c.open.new.self)
-    (call-spent c.requires.here c.in-Err.ensures.goes)
-
-pub returns-in-Err-copy_bytes-clause-spent : goal.returns-in-Err-copy_bytes-clause-spent
-returns-in-Err-copy_bytes-clause-spent g c = spent-then (call-spent c.requires.here c.in-Ok.ensures.goes) c.in-Err-copy_bytes.ensures.spent
-
 pub returns-clause-spent : goal.returns-clause-spent
 returns-clause-spent g c =
     let copied = c.in-Ok-copy_bytes.ensures.spent in
@@ -70,8 +63,6 @@ returns-clause-takes g c =
     (g.D.Flash.arming (device c.copy_bytes.new.self))) c.in-Ok.ensures.still c.in-Ok-copy_bytes.ensures.takes)
     (λ i writes. lowered-of _ c.commit.result (c.commit.ensures.image still i writes).spent.lowered)
 
--- ---- what it leaves as it was
-
 any : List ℕ → Bool
 any _ = true
 
@@ -81,9 +72,6 @@ module _ (g : given.Over) (c : After-open g) where
       let o = c.open.ensures in
       fills-still (moment c.args.self.now) (moment c.open.new.self) (o.meets c.requires.here any).leaves.stays o.records.metadata o.records.trials
       (λ told. ap (λ d. g.D.Flash.told d) o.still) (ap (λ d. g.D.Flash.writes d) o.still)
-
-pub returns-in-Err-clause-fills : goal.returns-in-Err-clause-fills
-returns-in-Err-clause-fills g c = opened g (goal.at.returns-in-Err-clause-fills g c).After-open
 
 module _ (g : given.Over) (c : After-copy_bytes g) where
   copied : FillsBank (moment c.args.self.now) (moment c.open.new.self) → FillsBank (moment c.args.self.now) (moment c.copy_bytes.new.self)

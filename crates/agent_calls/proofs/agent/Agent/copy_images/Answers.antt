@@ -32,13 +32,6 @@ loop-image-preserved-then-named-image g c =
       still = before.still;
     }
 
-pub copy_image-requires-clause-here : goal.copy_image-requires-clause-here
-copy_image-requires-clause-here g c = c.loop-image.invariant.spent.gone_is
-
-pub copy_image-requires-clause-image : goal.copy_image-requires-clause-image
-copy_image-requires-clause-image g c =
-    omega (arith, c.loop-image-test.true, c.requires.each, ap (λ (L : Layout). length L.rows) c.loop-image.invariant.first.stays.layout)
-
 pub returns-in-Err-clause-copies : goal.returns-in-Err-clause-copies
 returns-in-Err-clause-copies g c =
     copies-stopped c.args.named.now c.loop-image.image (moment c.args.self.now) (moment c.loop-image.self) c.loop-image.invariant.first
@@ -77,8 +70,3 @@ returns-in-Err-clause-spent g c = spent-then c.loop-image.invariant.spent c.in-E
 pub returns-in-Err-clause-fills : goal.returns-in-Err-clause-fills
 returns-in-Err-clause-fills g c =
     fills-then (moment c.args.self.now) (moment c.loop-image.self) (moment c.copy_image.new.self) c.loop-image.invariant.fills c.in-Err.ensures.fills
-
-pub returns-in-Err-clause-still : goal.returns-in-Err-clause-still
-returns-in-Err-clause-still g c = λ all.
-    absurd (unnamed c.args.named.now c.loop-image.image c.loop-image-test.true all
-    (get_or_default c.args.named.now c.loop-image.image true false c.loop-image-test.true ∙ c.if-named-image.false))

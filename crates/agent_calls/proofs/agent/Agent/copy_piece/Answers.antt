@@ -31,8 +31,6 @@ returns-in-Err-clause-copies g c =
     piece-unread g.D.Flash.tells (g.D.Flash.told a.flash) (g.D.Flash.told b.flash) (g.D.Flash.writes a.flash) (g.D.Flash.writes b.flash)
     (fields a) (fields b) c.read_part.ensures.fields c.read_part.ensures.reads.content c.read_part.ensures.reads.writes c.args.image c.args.at c.stopped.result c.in-Err.stop c.stopped.ensures.stop
 
--- ---- the piece that was read and written
-
 module _ (g : given.Over) (c : After-write_stream g) where
   abbrev sent : List ℕ
   sent = take c.min-size.result (c.read_part.new.out ++ drop c.min-size.result c.args.buf.now)
@@ -107,27 +105,12 @@ returns-in-Ok-write_stream-clause-takes g c =
     ∙ ap (λ (m : ℕ). lowered_by (writes_to_append (size_of (part_at (fields b).session i)) m) (g.D.Flash.arming (device b))) (long g p)
     ∙ ap (λ (o : Option Arming). lowered_by (writes_to_append (size_of (part_at (fields b).session i)) n) o) c.in-Ok.ensures.reads.arming)
 
--- ---- what it spends
-
-pub returns-in-Err-clause-spent : goal.returns-in-Err-clause-spent
-returns-in-Err-clause-spent g c =
-    stopped-spent ℕ c.stopped.result c.in-Err.stop c.stopped.ensures.stop (gone c.read_part.new.self) (device c.args.self.now) (device c.read_part.new.self)
-    (read-spent {g = g.D.Flash} (Err c.in-Err.stop) (gone c.read_part.new.self) (device c.args.self.now) (device c.read_part.new.self) c.in-Err.ensures.gone c.in-Err.ensures.reads)
-
-pub returns-in-Ok-write_stream-clause-spent : goal.returns-in-Ok-write_stream-clause-spent
-returns-in-Ok-write_stream-clause-spent g c =
-    let b = c.read_part.new.self in
-    spent-then (read-spent {g = g.D.Flash} (Ok tt) (gone b) (device c.args.self.now) (device b) c.in-Ok.ensures.gone c.in-Ok.ensures.reads)
-    (call-spent (still g (goal.at.returns-in-Ok-write_stream-clause-spent g c).After-write_stream) c.in-Ok-write_stream.ensures.goes)
-
 pub returns-in-Err-write_stream-clause-spent : goal.returns-in-Err-write_stream-clause-spent
 returns-in-Err-write_stream-clause-spent g c =
     let b = c.read_part.new.self in
     err-spent (Unit {0}) ℕ c.in-Err-write_stream.stop (gone c.write_stream.new.self) (device c.args.self.now) (device c.write_stream.new.self)
     (spent-then (read-spent {g = g.D.Flash} (Ok tt) (gone b) (device c.args.self.now) (device b) c.in-Ok.ensures.gone c.in-Ok.ensures.reads)
     (call-spent (still g (goal.at.returns-in-Err-write_stream-clause-spent g c).After-write_stream) c.in-Err-write_stream.ensures.goes))
-
--- ---- what it leaves as it was
 
 any : List ℕ → Bool
 any _ = true
@@ -142,9 +125,6 @@ module _ (g : given.Over) (c : After-read_part g) where
       c.read_part.ensures.fields c.read_part.ensures.reads.content c.read_part.ensures.reads.writes)
       (ap (λ (f : Fields). f.meta) c.read_part.ensures.fields) (ap (λ (f : Fields). f.trials) c.read_part.ensures.fields) c.read_part.ensures.reads.content
       c.read_part.ensures.reads.writes
-
-pub returns-in-Err-clause-fills : goal.returns-in-Err-clause-fills
-returns-in-Err-clause-fills g c = read g (goal.at.returns-in-Err-clause-fills g c).After-read_part
 
 module _ (g : given.Over) (c : After-write_stream g) where
   written : FillsBank (moment c.read_part.new.self) (moment c.write_stream.new.self)

@@ -21,12 +21,3 @@ returns-in-Err-clause-meets g c here passes same =
     subst (λ (v : List ℕ → Bool). Meets {T = Unit {0}} (λ value r. r ≡ Success) (Err (stop.Status c.in-Err.status)) v call.End (moment a) (moment a)) (sym same)
     (refused-meets (moment a) (a.fitting here) a.session.sound (g.V.Verifier.passes c.args.verifier.now) request.End []
     (λ E s setting speaks. tt) c.in-Err.status c.in-Err.ensures.refused (λ value r. r ≡ Success))
-
-pub returns-then-self-clause-staging : goal.returns-then-self-clause-staging
-returns-then-self-clause-staging g c = unended-staging g.D.Flash stop.Gone (snapshot c.args.self.now) (λ done. done)
-
-pub returns-in-Ok-clause-staging : goal.returns-in-Ok-clause-staging
-returns-in-Ok-clause-staging g c = c.switch.ensures.staging
-
-pub returns-in-Err-clause-staging : goal.returns-in-Err-clause-staging
-returns-in-Err-clause-staging g c = unended-staging g.D.Flash (stop.Status c.in-Err.status) (snapshot c.args.self.now) (λ done. done)

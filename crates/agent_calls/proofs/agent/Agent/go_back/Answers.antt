@@ -82,17 +82,6 @@ returns-in-Err-clause-meets g c =
     stopped-meets g.D.Flash.tells (fields a) (a.fitting c.requires.here) a.session.sound (g.D.Flash.told a.flash)
     (g.D.Flash.told c.is_bank_good.new.flash) c.in-Err.ensures.reads.content c.in-Err.ensures.reads.writes (g.V.Verifier.passes c.args.verifier.now) c.stopped.result c.stopped.ensures.stopped
 
-pub returns-then-not-may_try-clause-changes : goal.returns-then-not-may_try-clause-changes
-returns-then-not-may_try-clause-changes g c =
-    unchanged g.D.Flash (g.V.Verifier.passes c.args.verifier.now) (stop.Status status.Denied) (snapshot c.args.self.now) (λ done. done)
-
-pub returns-then-not-goes_back-clause-changes : goal.returns-then-not-goes_back-clause-changes
-returns-then-not-goes_back-clause-changes g c =
-    let a = c.args.self.now in
-    looked g.D.Flash (g.V.Verifier.passes c.args.verifier.now) status.Denied (snapshot a) _
-    (promised c.may_try.result (may_try_kept a.meta.meta (kept a.session) a.boot) true c.may_try.ensures c.if-not-may_try.false)
-    c.in-Ok.ensures.reads.content c.in-Ok.ensures.reads.arming c.in-Ok.ensures.reads.writes
-
 -- the read before the store left content and arming as they were; the decision was one that the verdict rules, so that it was good
 pub returns-else-not-goes_back-clause-changes : goal.returns-else-not-goes_back-clause-changes
 returns-else-not-goes_back-clause-changes g c =

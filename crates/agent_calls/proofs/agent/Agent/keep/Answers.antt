@@ -39,12 +39,3 @@ returns-clause-carried g c =
     quiet-carried g.D.Flash.tells (g.D.Flash.told c.args.self.now.flash) (fields c.args.self.now) (kept c.settle.new.session) c.settle.new.meta []
     c.args.plan.now (c.args.self.now.fitting here) c.args.self.now.session.sound (c.args.self.now.knows here)
     c.requires.quiet c.requires.plan c.requires.may c.settle.ensures.session c.settle.ensures.meta c.settle.ensures.settles
-
-pub returns-clause-records : goal.returns-clause-records
-returns-clause-records g c =
-    let f : Fields = fields c.args.self.now in
-    record {
-      rests = refl;
-      metadata = c.settle.ensures.meta ∙ ap (λ (m : Meta). record f.meta { meta = m }) (quiet-meta f.session f.meta.meta c.args.plan.now c.requires.quiet);
-      trials = refl;
-    }

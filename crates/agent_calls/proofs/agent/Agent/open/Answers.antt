@@ -6,14 +6,6 @@ use Rattle.agent_calls.specs.Shown.{fields, moment}
 use Rattle.agent_calls.proofs.NoOther.{opens}
 use Rattle.agent_calls.proofs.agent.Agent.open.Goals as goal
 
-pub keep-requires-clause-plan : goal.keep-requires-clause-plan
-keep-requires-clause-plan g c =
-    let a = c.args.self.now in
-    let f : Fields = fields a in
-    subst (IsPlanOf f.session)
-    (opens-asked f (a.fitting c.if-self.false) c.args.guid c.args.op c.find-image.result c.total-total.result c.find-image.ensures.value
-    c.in-Ok.plan c.in-Ok.ensures.asked c.in-Open.handle c.in-Open.image c.in-Open.op c.in-Open.total c.in-Open.is) c.in-Ok.ensures.of
-
 pub returns-in-Open-clause-meets : goal.returns-in-Open-clause-meets
 returns-in-Open-clause-meets g c here passes =
     let a = c.args.self.now in
@@ -23,12 +15,6 @@ returns-in-Open-clause-meets g c here passes =
     (opens-asked (fields a) (a.fitting here) c.args.guid c.args.op c.find-image.result c.total-total.result c.find-image.ensures.value
     c.in-Ok.plan c.in-Ok.ensures.asked c.in-Open.handle c.in-Open.image c.in-Open.op c.in-Open.total c.in-Open.is) (moment c.keep.new.self)
     (ap g.D.Flash.told c.keep.ensures.device) (ap g.D.Flash.writes c.keep.ensures.device) c.keep.ensures.carried passes
-
--- an open has no other plan
-pub returns-in_default-clause-meets : goal.returns-in_default-clause-meets
-returns-in_default-clause-meets g c =
-    let f : Fields = fields c.args.self.now in
-    absurd (opens f.session f.meta.meta c.args.guid c.args.op c.total-total.result c.in-Ok.plan c.in-Ok.ensures.asked c.in_default.not-Open)
 
 pub returns-in-Err-clause-meets : goal.returns-in-Err-clause-meets
 returns-in-Err-clause-meets g c here passes =

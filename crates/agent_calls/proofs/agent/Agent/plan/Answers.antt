@@ -26,9 +26,3 @@ returns-in-Refused-clause-plans g c passes =
     let f : Fields = fields c.args.self.now in
     refuses-any passes_any passes f.meta f.counter f.session f.boot c.args.request.now c.requires.plain c.in-Refused.status
     (subst (λ (d : Decision). DecidesRequest passes_any f.meta f.counter f.session f.boot c.args.request.now d) c.in-Refused.is c.decide.ensures.decides)
-
--- none of these requests waits for a verdict
-pub returns-in-ByVerdict-clause-plans : goal.returns-in-ByVerdict-clause-plans
-returns-in-ByVerdict-clause-plans g c passes =
-    let f : Fields = fields c.args.self.now in
-    absurd (waits f.meta.meta c.args.request.now c.requires.plain c.in-ByVerdict.bank c.in-ByVerdict.ensures.asked)

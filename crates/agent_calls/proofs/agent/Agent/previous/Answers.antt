@@ -29,18 +29,3 @@ returns-in-Refused-clause-meets g c = λ here passes same.
     refused-meets-previous g.D.Flash.tells (fields a) (a.fitting here) a.session.sound s s (λ is. refl) refl passes c.in-Refused.status
     (subst (λ (ps : List ℕ → Bool). DecidesRequest ps a.meta a.counter (kept a.session) a.boot request.Previous (decision.Refused c.in-Refused.status))
     (sym same) c.in-Refused.ensures.decides)
-
-pub returns-clause-meets : goal.returns-clause-meets
-returns-clause-meets g c = λ here passes same.
-    subst (λ (ps : List ℕ → Bool). MeetsPrevious c.go_back.result ps (moment c.args.self.now) (moment c.go_back.new.self)) (sym same)
-    c.go_back.ensures.meets
-
-pub returns-then-self-clause-changes : goal.returns-then-self-clause-changes
-returns-then-self-clause-changes g c = unchanged g.D.Flash (g.V.Verifier.passes c.args.verifier.now) stop.Gone (snapshot c.args.self.now) (λ done. done)
-
-pub returns-in-Refused-clause-changes : goal.returns-in-Refused-clause-changes
-returns-in-Refused-clause-changes g c =
-    unchanged g.D.Flash (g.V.Verifier.passes c.args.verifier.now) (stop.Status c.in-Refused.status) (snapshot c.args.self.now) (λ done. done)
-
-pub returns-clause-changes : goal.returns-clause-changes
-returns-clause-changes g c = c.go_back.ensures.changes

@@ -33,21 +33,6 @@ module _ (g : given.Over) (c : After-read_part g) where
       read-stays d.tells (d.told a.flash) (d.told b.flash) (d.writes a.flash) (d.writes b.flash) (fields a) (fields b) c.read_part.ensures.fields
       c.read_part.ensures.reads.content c.read_part.ensures.reads.writes
 
-pub slice_bounds-read_part-end : goal.slice_bounds-read_part-end
-slice_bounds-read_part-end g c = room g (goal.at.slice_bounds-read_part-end g c).In-Read
-
-pub slice_bounds-read_part-end-in-Read : goal.slice_bounds-read_part-end-in-Read
-slice_bounds-read_part-end-in-Read g c =
-    sym (length-take-le c.in-Read.length c.args.out.now (room g (goal.at.slice_bounds-read_part-end-in-Read g c).In-Read))
-
-pub read_part-requires-clause-within : goal.read_part-requires-clause-within
-read_part-requires-clause-within g c =
-    let a = c.args.self.now in
-    let here = c.if-self.false in
-    let inside = read-inside (moment a) (a.fitting here) c.in-Read.handle c.in-Read.image c.in-Read.at c.in-Read.length c.in-Read.total
-    (subst (IsPlanOf (fields a).session) c.in-Read.is c.in-Ok.ensures.of) in
-    omega (arith, inside, length-take c.in-Read.length c.args.out.now)
-
 pub returns-in-Ok-read_part-clause-meets : goal.returns-in-Ok-read_part-clause-meets
 returns-in-Ok-read_part-clause-meets g c here passes =
     let a = c.args.self.now in
@@ -64,9 +49,6 @@ returns-in-Ok-read_part-clause-meets g c here passes =
     (carried-from (plan.Read c.in-Read.handle c.in-Read.image c.in-Read.at n c.in-Read.total) [] g.D.Flash.tells (g.D.Flash.told a.flash)
     (g.D.Flash.told c.read_part.new.self.flash) f (fields c.read_part.new.self) (moment c.keep.new.self)
     c.read_part.ensures.fields c.read_part.ensures.reads.content c.keep.ensures.carried)
-
-pub returns-in-Ok-read_part-clause-room : goal.returns-in-Ok-read_part-clause-room
-returns-in-Ok-read_part-clause-room g c = room g (goal.at.returns-in-Ok-read_part-clause-room g c).In-Read
 
 pub returns-in-Err-Lost-clause-meets : goal.returns-in-Err-Lost-clause-meets
 returns-in-Err-Lost-clause-meets g c here passes =
@@ -86,78 +68,8 @@ returns-in-Err-Failed-clause-meets g c here passes =
     (moment c.read_part.new.self) c.read_part.ensures.reads.content c.read_part.ensures.reads.writes passes (IsGot g.D.Flash.tells _)
     (stays g (goal.at.returns-in-Err-Failed-clause-meets g c).After-read_part)
 
--- a read has no other plan
-pub returns-in_default-clause-meets : goal.returns-in_default-clause-meets
-returns-in_default-clause-meets g c =
-    let f : Fields = fields c.args.self.now in
-    absurd (reads f.session f.meta.meta c.args.h (length c.args.out.now) c.in-Ok.plan c.in-Ok.ensures.asked c.in_default.not-Read)
-
 pub returns-in-Err-clause-meets : goal.returns-in-Err-clause-meets
 returns-in-Err-clause-meets g c here passes =
     let a = c.args.self.now in
     read-refused (moment a) (a.fitting here) a.session.sound (a.knows here) c.args.h (length c.args.out.now)
     (IsGot g.D.Flash.tells _) c.in-Err.status c.in-Err.ensures.plans passes
-
-pub returns-in-Ok-read_part-clause-beyond : goal.returns-in-Ok-read_part-clause-beyond
-returns-in-Ok-read_part-clause-beyond g c image at total reads =
-    let a = c.args.self.now in
-    kept-beyond c.args.out.now c.read_part.new.out c.in-Read.length (total - at) c.read_part.auto.out
-    (room g (goal.at.returns-in-Ok-read_part-clause-beyond g c).In-Read)
-    (read-no-more (fields a) c.args.h (length c.args.out.now) c.in-Ok.plan c.in-Ok.ensures.asked c.in-Read.handle c.in-Read.image c.in-Read.at
-    c.in-Read.length c.in-Read.total c.in-Read.is image at total reads)
-
-pub returns-in-Err-Lost-clause-beyond : goal.returns-in-Err-Lost-clause-beyond
-returns-in-Err-Lost-clause-beyond g c image at total reads =
-    let a = c.args.self.now in
-    kept-beyond c.args.out.now c.read_part.new.out c.in-Read.length (total - at) c.read_part.auto.out
-    (room g (goal.at.returns-in-Err-Lost-clause-beyond g c).In-Read)
-    (read-no-more (fields a) c.args.h (length c.args.out.now) c.in-Ok.plan c.in-Ok.ensures.asked c.in-Read.handle c.in-Read.image c.in-Read.at
-    c.in-Read.length c.in-Read.total c.in-Read.is image at total reads)
-
-pub returns-in-Err-Failed-clause-beyond : goal.returns-in-Err-Failed-clause-beyond
-returns-in-Err-Failed-clause-beyond g c image at total reads =
-    let a = c.args.self.now in
-    kept-beyond c.args.out.now c.read_part.new.out c.in-Read.length (total - at) c.read_part.auto.out
-    (room g (goal.at.returns-in-Err-Failed-clause-beyond g c).In-Read)
-    (read-no-more (fields a) c.args.h (length c.args.out.now) c.in-Ok.plan c.in-Ok.ensures.asked c.in-Read.handle c.in-Read.image c.in-Read.at
-    c.in-Read.length c.in-Read.total c.in-Read.is image at total reads)
-
-pub returns-in-Ok-read_part-clause-records : goal.returns-in-Ok-read_part-clause-records
-returns-in-Ok-read_part-clause-records g c =
-    let was = c.read_part.ensures.fields in
-    let kept = c.keep.ensures.records in
-    record {
-      rests = kept.rests ∙ ap (λ (x : Fields). x.rests) was;
-      metadata = kept.metadata ∙ ap (λ (x : Fields). x.meta) was;
-      trials = kept.trials ∙ ap (λ (x : Fields). x.trials) was;
-    }
-
-pub returns-in-Err-Lost-clause-records : goal.returns-in-Err-Lost-clause-records
-returns-in-Err-Lost-clause-records g c = read-keeps (fields c.args.self.now) (fields c.read_part.new.self) c.read_part.ensures.fields
-
-pub returns-in-Err-Failed-clause-records : goal.returns-in-Err-Failed-clause-records
-returns-in-Err-Failed-clause-records g c = read-keeps (fields c.args.self.now) (fields c.read_part.new.self) c.read_part.ensures.fields
-
-pub returns-in-Ok-read_part-clause-reads : goal.returns-in-Ok-read_part-clause-reads
-returns-in-Ok-read_part-clause-reads g c =
-    let a = c.args.self.now in
-    subst (λ d. ReadsAlone {X = Unit {0}} g.D.Flash (Ok tt) (device a) d) (sym c.keep.ensures.device) (alone c.in-Ok-read_part.ensures.reads)
-
-pub returns-in-Err-Lost-clause-reads : goal.returns-in-Err-Lost-clause-reads
-returns-in-Err-Lost-clause-reads g c =
-    alone (subst (λ (e : FlashStop). Reads {X = Unit {0}} g.D.Flash (Err e) (device c.args.self.now) (device c.read_part.new.self))
-    c.in-Err-Lost.field-0-is c.in-Err-Lost.ensures.reads)
-
-pub returns-in-Err-Failed-clause-reads : goal.returns-in-Err-Failed-clause-reads
-returns-in-Err-Failed-clause-reads g c =
-    alone (subst (λ (e : FlashStop). Reads {X = Unit {0}} g.D.Flash (Err e) (device c.args.self.now) (device c.read_part.new.self))
-    c.in-Err-Failed.field-0-is c.in-Err-Failed.ensures.reads)
-
-pub returns-then-self-clause-reads : goal.returns-then-self-clause-reads
-returns-then-self-clause-reads g c = untouched g.D.Flash (device c.args.self.now)
-
-pub returns-in_default-clause-reads : goal.returns-in_default-clause-reads
-returns-in_default-clause-reads g c = untouched g.D.Flash (device c.args.self.now)
-
-pub returns-in-Err-clause-reads : goal.returns-in-Err-clause-reads
-returns-in-Err-clause-reads g c = untouched g.D.Flash (device c.args.self.now)

@@ -35,10 +35,6 @@ invariant_of-result g c =
           c.lengths-lengths.ensures.front count (c.into_parts-flash.ensures.knows tells);
     }
 
-pub returns-clause-session : goal.returns-clause-session
-returns-clause-session g c s x shows = starts-session _ c.args.booted.chosen.bank c.bank-boot.ensures.value c.new-session.ensures.idle
-    c.new-session.ensures.closed s x shows
-
 pub returns-clause-shows : goal.returns-clause-shows
 returns-clause-shows g c tells =
     let layout = c.into_parts-flash.result.1 in

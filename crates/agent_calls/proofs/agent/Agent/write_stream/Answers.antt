@@ -17,19 +17,6 @@ use Rattle.agent_calls.proofs.Keeping.{unwritten-image}
 use Rattle.agent_calls.proofs.NoOther.{writes}
 use Rattle.agent_calls.proofs.agent.Agent.write_stream.Goals as goal
 
-pub write_image-requires-clause-plan : goal.write_image-requires-clause-plan
-write_image-requires-clause-plan g c =
-    let f : Fields = fields c.args.self.now in
-    let of = subst (IsPlanOf f.session) c.in-Write.is c.in-Ok.ensures.of in
-    let own = subst (IsPlanFor f.session f.meta.meta (request.Write c.args.handle (length c.args.bytes.now))) c.in-Write.is c.in-Ok.ensures.asked in
-    (of.0, of.1, of.2, omega (arith, of.3, own.3))
-
--- a write has no other plan
-pub keep-requires : goal.keep-requires
-keep-requires g c =
-    let f : Fields = fields c.args.self.now in
-    absurd (writes f.session f.meta.meta c.args.handle (length c.args.bytes.now) c.in-Ok.plan c.in-Ok.ensures.asked c.in_default.not-Write)
-
 pub returns-in-Write-clause-meets : goal.returns-in-Write-clause-meets
 returns-in-Write-clause-meets g c here passes =
     let f : Fields = fields c.args.self.now in
@@ -39,34 +26,8 @@ returns-in-Write-clause-meets g c here passes =
     (subst (λ (p : Plan). DecidesRequest passes f.meta f.counter f.session f.boot r (decision.Do p))
     (c.in-Write.is ∙ ap (plan.Write c.in-Write.number c.in-Write.image c.in-Write.at) own.3) (c.in-Ok.ensures.plans passes))
 
-pub returns-in_default : goal.returns-in_default
-returns-in_default g c =
-    let f : Fields = fields c.args.self.now in
-    absurd (writes f.session f.meta.meta c.args.handle (length c.args.bytes.now) c.in-Ok.plan c.in-Ok.ensures.asked c.in_default.not-Write)
-
 pub returns-in-Err-clause-meets : goal.returns-in-Err-clause-meets
 returns-in-Err-clause-meets g c here passes =
     let a = c.args.self.now in
     refused-meets (moment a) (a.fitting here) a.session.sound passes (request.Write c.args.handle (length c.args.bytes.now)) c.args.bytes.now
     (λ E s setting speaks. refl) c.in-Err.status (c.in-Err.ensures.plans passes) (λ value reply. reply ≡ Success)
-
-pub returns-in-Write-clause-writes : goal.returns-in-Write-clause-writes
-returns-in-Write-clause-writes g c done =
-    let f : Fields = fields c.args.self.now in
-    let own = subst (IsPlanFor f.session f.meta.meta (request.Write c.args.handle (length c.args.bytes.now))) c.in-Write.is c.in-Ok.ensures.asked in
-    (c.in-Write.image, own.1)
-
-pub returns-in-Write-clause-image : goal.returns-in-Write-clause-image
-returns-in-Write-clause-image g c image writes =
-    let a = c.args.self.now in
-    let f : Fields = fields a in
-    let own = subst (IsPlanFor f.session f.meta.meta (request.Write c.args.handle (length c.args.bytes.now))) c.in-Write.is c.in-Ok.ensures.asked in
-    let is : c.in-Write.image ≡ image = writes-same c.in-Write.image image (sym own.1 ∙ writes) in
-    subst (λ (i : ℕ). AppendsImage g.D.Flash i c.args.bytes.now c.write_image.result (snapshot a) (snapshot c.write_image.new.self)) is c.write_image.ensures.image
-
-pub returns-then-self-clause-image : goal.returns-then-self-clause-image
-returns-then-self-clause-image g c image writes = unwritten-image g.D.Flash stop.Gone (snapshot c.args.self.now) (λ done. done) image c.args.bytes.now
-
-pub returns-in-Err-clause-image : goal.returns-in-Err-clause-image
-returns-in-Err-clause-image g c image writes =
-    unwritten-image g.D.Flash (stop.Status c.in-Err.status) (snapshot c.args.self.now) (λ done. done) image c.args.bytes.now

@@ -7,6 +7,3 @@ use Rattle.meta_layout.proofs.layout.Layout.make.Goals as goal
 pub returns-then-rows-gt-MOST_IMAGES : goal.returns-then-rows-gt-MOST_IMAGES
 returns-then-rows-gt-MOST_IMAGES c =
     fitted-bad (record { banks = c.args.banks; rows = c.args.rows.now }) c.args.blocks (too-many (record { banks = c.args.banks; rows = c.args.rows.now }) c.if-rows-gt-MOST_IMAGES.true)
-
-pub returns : goal.returns
-returns c = c.of_rows.ensures ∙ ap (λ (l : List ImageRow). fitted (record { banks = c.args.banks; rows = l }) c.args.blocks) c.rows_of.ensures

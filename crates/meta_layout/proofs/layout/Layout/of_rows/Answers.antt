@@ -11,21 +11,11 @@ returns-then-not-is_layout c =
     let test : c.is_layout.result ≡ fits_layout L = c.is_layout.ensures ∙ ap (λ (l : List ImageRow). fits_layout (record { banks = c.args.banks; rows = l })) c.as_slice-listed.ensures.value in
     fitted-bad L c.args.blocks (sym test ∙ c.if-not-is_layout.true)
 
-pub slot_sum-requires-clause-few : goal.slot_sum-requires-clause-few
-slot_sum-requires-clause-few c =
-    let count : length c.as_slice-listed.result.now ≡ length c.args.rows = ap (λ (l : List ImageRow). length l) c.as_slice-listed.ensures.value in
-    omega (arith, count, c.as_slice-listed.ensures.few)
-
 pub slot_sum-requires-clause-fit : goal.slot_sum-requires-clause-fit
 slot_sum-requires-clause-fit c = rows-fit (record { banks = c.args.banks; rows = c.as_slice-listed.result.now }) (sym c.is_layout.ensures ∙ c.if-not-is_layout.false)
 
 pub blocks_for-requires-clause-few : goal.blocks_for-requires-clause-few
 blocks_for-requires-clause-few c = (limits (record { banks = c.args.banks; rows = c.as_slice-listed.result.now }) (sym c.is_layout.ensures ∙ c.if-not-is_layout.false)).most_banks
-
-pub blocks_for-requires-clause-small : goal.blocks_for-requires-clause-small
-blocks_for-requires-clause-small c =
-    let most = (limits (record { banks = c.args.banks; rows = c.as_slice-listed.result.now }) (sym c.is_layout.ensures ∙ c.if-not-is_layout.false)).most_images in
-    omega (arith, most, c.slot_sum.ensures.bound)
 
 pub returns-then-blocks-blocks_for : goal.returns-then-blocks-blocks_for
 returns-then-blocks-blocks_for c =
@@ -33,9 +23,6 @@ returns-then-blocks-blocks_for c =
     let test : c.is_layout.result ≡ fits_layout L = c.is_layout.ensures ∙ ap (λ (l : List ImageRow). fits_layout (record { banks = c.args.banks; rows = l })) c.as_slice-listed.ensures.value in
     let needed : c.blocks_for.result ≡ blocks_needed L = c.blocks_for.ensures.value ∙ ap (λ n. 8 + c.args.banks * n) (c.slot_sum.ensures.sum ∙ ap slot_total c.as_slice-listed.ensures.value) in
     fitted-beyond L c.args.blocks (sym test ∙ c.if-not-is_layout.false) (rw needed at c.if-blocks-blocks_for.true)
-
-pub invariant_of-result : goal.invariant_of-result
-invariant_of-result c = subst (λ (l : List ImageRow). IsTrue (fits_layout (record { banks = c.args.banks; rows = l }))) c.as_slice-listed.ensures.value (sym c.is_layout.ensures ∙ c.if-not-is_layout.false)
 
 pub returns : goal.returns
 returns c =

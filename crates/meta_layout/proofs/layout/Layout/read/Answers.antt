@@ -21,22 +21,11 @@ returns-then-block-size c =
     short-rows c.args.block.now c.args.blocks c.if-block-lt32.false (sym c.le32_at.ensures ∙ c.if-le32_at-ne-MAGIC.false) (sym c.has_size.ensures ∙ c.if-not-has_size.false)
     (rw c.le32_at-size.ensures at c.if-block-size.true)
 
-pub is_checked-requires-clause-low : goal.is_checked-requires-clause-low
-is_checked-requires-clause-low c =
-    let s = sized c.args.block.now (sym c.has_size.ensures ∙ c.if-not-has_size.false) in
-    omega (arith, s.size, c.le32_at-size.ensures)
-
 pub returns-then-not-is_checked : goal.returns-then-not-is_checked
 returns-then-not-is_checked c =
     bad-sum c.args.block.now c.args.blocks c.if-block-lt32.false (sym c.le32_at.ensures ∙ c.if-le32_at-ne-MAGIC.false) (sym c.has_size.ensures ∙ c.if-not-has_size.false)
     (rw c.le32_at-size.ensures at c.if-block-size.false)
     (ap (λ n. num_at 4 c.args.block.now 0 == crc (part c.args.block.now 4 n)) (sym c.le32_at-size.ensures) ∙ sym c.is_checked.ensures ∙ c.if-not-is_checked.true)
-
-pub are_rest_zero-requires : goal.are_rest_zero-requires
-are_rest_zero-requires c =
-    let s = sized c.args.block.now (sym c.has_size.ensures ∙ c.if-not-has_size.false) in
-    let room : c.le32_at-size.result ≤ length c.args.block.now = c.if-block-size.false in
-    omega (arith, s.size, c.le32_at-images.ensures, c.le32_at-size.ensures, room)
 
 pub returns-then-not-are_rest_zero : goal.returns-then-not-are_rest_zero
 returns-then-not-are_rest_zero c =
@@ -44,17 +33,6 @@ returns-then-not-are_rest_zero c =
     (rw c.le32_at-size.ensures at c.if-block-size.false)
     (ap (λ n. num_at 4 c.args.block.now 0 == crc (part c.args.block.now 4 n)) (sym c.le32_at-size.ensures) ∙ sym c.is_checked.ensures ∙ c.if-not-is_checked.false)
     (ap (λ n. are_zero (part c.args.block.now 20 32) && has_row_zeros c.args.block.now n) (sym c.le32_at-images.ensures) ∙ sym c.are_rest_zero.ensures ∙ c.if-not-are_rest_zero.true)
-
-pub rows_in-requires-clause-small : goal.rows_in-requires-clause-small
-rows_in-requires-clause-small c =
-    let s = sized c.args.block.now (sym c.has_size.ensures ∙ c.if-not-has_size.false) in
-    omega (arith, s.few, c.le32_at-images.ensures)
-
-pub rows_in-requires-clause-room : goal.rows_in-requires-clause-room
-rows_in-requires-clause-room c =
-    let s = sized c.args.block.now (sym c.has_size.ensures ∙ c.if-not-has_size.false) in
-    let room : c.le32_at-size.result ≤ length c.args.block.now = c.if-block-size.false in
-    omega (arith, s.size, c.le32_at-images.ensures, c.le32_at-size.ensures, room)
 
 made : (block : List ℕ) (banks images : ℕ) (rows : List ImageRow) → banks ≡ num_at 4 block 8 → images ≡ num_at 4 block 12 → rows ≡ listed images (layout_row_at block)
     → (let L : Layout = record { banks = banks; rows = rows } in L ≡ layout_at block)

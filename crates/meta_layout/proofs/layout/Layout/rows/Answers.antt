@@ -3,9 +3,3 @@ use Rattle.meta_layout.proofs.layout.Layout.rows.Goals as goal
 
 pub returns-clause-low : goal.returns-clause-low
 returns-clause-low c = rw (← c.self.view_is) (limits (record { banks = c.self.inside.banks; rows = c.self.inside.rows }) c.self.invariant).fewest_images
-
-pub returns-clause-high : goal.returns-clause-high
-returns-clause-high c = rw (← c.self.view_is) (limits (record { banks = c.self.inside.banks; rows = c.self.inside.rows }) c.self.invariant).most_images
-
-pub returns-clause-fit : goal.returns-clause-fit
-returns-clause-fit c = rw (← c.self.view_is) c.self.invariant
