@@ -11,11 +11,6 @@ use Rattle.fwu_c.proofs.Booting.{below_seven, boot_end_is, boot_idle, boots_by, 
 use Rattle.fwu_c.proofs.Telling.{lie_further, told_handed}
 use Rattle.fwu_c.proofs.boot.boot_over.Goals as goal
 
-pub hand_over-requires-clause-known : goal.hand_over-requires-clause-known
-hand_over-requires-clause-known c =
-    subst (λ n. IsDeviceEnd n) (sym c.report_end-number.ensures.number)
-    (boot_end_is (ended c.boot_in-end.result) c.args.flash (device_of c.boot_in-end.result) c.boot_in-end.ensures.boots.costs)
-
 pub hand_over-requires-clause-idle : goal.hand_over-requires-clause-idle
 hand_over-requires-clause-idle c = λ idle.
     let back : c.into_flash.result ≡ device_of c.boot_in-end.result = c.into_flash.ensures in
@@ -23,9 +18,6 @@ hand_over-requires-clause-idle c = λ idle.
     (boot_idle (ended c.boot_in-end.result) (told_of c.args.flash) (told_of (device_of c.boot_in-end.result))
     (image_of c.args.flash, [], c.requires.new.fresh)
     (c.boot_in-end.ensures.boots.ends refl).by_bytes (subst (λ n. IsTrue (is_idle_number n)) c.report_end-number.ensures.number idle))
-
-pub hand_over-requires-clause-kept : goal.hand_over-requires-clause-kept
-hand_over-requires-clause-kept c = c.report_end-number.ensures.kept
 
 pub returns-clause-tells : goal.returns-clause-tells
 returns-clause-tells c =

@@ -34,23 +34,3 @@ returns-in-Accept-clause-touches c =
     (λ done. let found = accept.found done in (accept.image found.0 found.1).touches)
     (λ refused. ap (λ a. writes_of (device a)) (accept.refused refused))
     (λ gone. ap (λ a. writes_of (device a)) (accept.goes.untouched gone))
-
-pub returns-in-Previous-clause-touches : goal.returns-in-Previous-clause-touches
-returns-in-Previous-clause-touches c = c.previous.ensures.changes.touches
-
-pub returns-in-Accept-clause-refused : goal.returns-in-Accept-clause-refused
-returns-in-Accept-clause-refused c = λ refused. ap (λ a. told_of (device a)) (c.accept.ensures.refused refused)
-
-pub returns-in-Previous-clause-refused : goal.returns-in-Previous-clause-refused
-returns-in-Previous-clause-refused c = λ refused. c.previous.ensures.changes.content refused refl
-
-pub returns-in-Accept-clause-again : goal.returns-in-Accept-clause-again
-returns-in-Accept-clause-again c = λ b from accepted.
-    let is : IsAccepted (call.Accepts c.in-Accept.guid) b = subst (λ (k : Call). IsAccepted k b) (ap (λ (a : AgentCall). call_of a) c.in-Accept.is) accepted in
-    ap (λ d. told_of d) ((c.accept.ensures.image is.0
-    (subst (λ (L : Layout). find_image L.rows c.in-Accept.guid ≡ Some is.0) (sym from.layout) is.1)).still
-    (subst (λ (m : MetaRead). IsTrue (bit_at m.meta m.meta.active is.0)) (sym from.meta) is.2))
-
-pub returns-in-Previous-clause-again : goal.returns-in-Previous-clause-again
-returns-in-Previous-clause-again c = λ b from accepted.
-    absurd (subst (λ (k : Call). IsAccepted k b) (ap (λ (a : AgentCall). call_of a) c.in-Previous.is) accepted)

@@ -9,11 +9,5 @@ call_over-requires-clause-new c = let ok = c.in-Ok.ensures in made_new _ _ _ ok.
 pub returns-in-Err-clause-tells : goal.returns-in-Err-clause-tells
 returns-in-Err-clause-tells c = told_unmade _ c.in-Err.why _ _ _ _ c.in-Err.ensures.unmade c.unmade_number.ensures
 
-pub returns-in_default-clause-tells : goal.returns-in_default-clause-tells
-returns-in_default-clause-tells c = told_no_room _ _ _ _ (has_flash_size _ c.in-Ok.flash c.in-Ok.ensures.size)
-
-pub returns-clause-tells : goal.returns-clause-tells
-returns-clause-tells c = tells_of_image _ _ _ _ _ _ _ _ _ c.in-Ok.ensures.image c.call_over.ensures.tells
-
 pub returns-clause-calls : goal.returns-clause-calls
 returns-clause-calls c = λ tells. call_of_image _ _ _ _ _ _ _ _ _ c.in-Ok.ensures.image (c.call_over.ensures.calls tells)

@@ -4,19 +4,6 @@ use Rattle.fwu_c.proofs.Calls.{stop_unlost}
 use Rattle.fwu_c.proofs.Telling.{keeps_but_fault, keeps_started, keeps_stays, starts_stay}
 use Rattle.fwu_c.proofs.calling.taken_up.Goals as goal
 
-pub returns-in-BadLayout : goal.returns-in-BadLayout
-returns-in-BadLayout c = record {
-  end = bad_layout c.in-BadLayout.fault;
-  is = tt;
-  number_is = refl;
-  ends = c.in-BadLayout.ensures.takes.ends refl;
-  reports = c.fault_number-told.ensures;
-  kept = keeps_but_fault _ _;
-  unlost = λ e. omega (arith, e);
-  size = c.in-BadLayout.ensures.takes.size;
-  touches = c.in-BadLayout.ensures.takes.touches;
-}
-
 pub returns-in-NoMetadata : goal.returns-in-NoMetadata
 returns-in-NoMetadata c = record {
   end = no_metadata;
@@ -41,19 +28,6 @@ returns-in-NotStarted c = record {
   unlost = λ e. omega (arith, e);
   size = c.in-NotStarted.ensures.takes.size;
   touches = c.in-NotStarted.ensures.takes.touches;
-}
-
-pub returns : goal.returns
-returns c = record {
-  end = stopped c.in-Stopped.stop;
-  is = tt;
-  number_is = c.stop_number.ensures;
-  ends = c.in-Stopped.ensures.takes.ends refl;
-  reports = starts_stay _;
-  kept = keeps_stays _ _;
-  unlost = λ e. stop_unlost c.in-Stopped.stop c.args.flash c.in-Stopped.flash c.in-Stopped.ensures.takes.costs (sym c.stop_number.ensures ∙ e);
-  size = c.in-Stopped.ensures.takes.size;
-  touches = c.in-Stopped.ensures.takes.touches;
 }
 
 pub returns-in-Ok : goal.returns-in-Ok

@@ -13,6 +13,3 @@ returns-then-is_idle-clause-noted c =
 pub returns-then-is_idle-clause-theirs : goal.returns-then-is_idle-clause-theirs
 returns-then-is_idle-clause-theirs c =
     ap (λ (r : List ℕ). length r) c.clear-then-is_idle.ensures.items ∙ sym (ap (λ (ss : List Step). room_bytes ss) c.clear.ensures.items ∙ no_room_bytes)
-
-pub returns-then-is_idle-clause-lie : goal.returns-then-is_idle-clause-lie
-returns-then-is_idle-clause-lie c = none_counted c.args.flash _ c.clear.ensures.items

@@ -16,9 +16,3 @@ loop-image-preserved c =
           ∙ pushed (λ i. bit_number (slice_index_or c.args.bits.now i false)) (take image accepted) image c.bit_in.result c.loop-image.invariant.0 c.bit_in.ensures,
       length-set accepted image c.bit_in.result ∙ all,
     )
-
-pub returns : goal.returns
-returns c =
-    let all : c.loop-image.image ≡ 16 = omega (arith, c.loop-image-test.false, c.loop-image.auto.image-end) in
-    sym (take_all 16 c.loop-image.accepted (omega (arith, c.loop-image.invariant.1)))
-    ∙ subst (λ n. take n c.loop-image.accepted ≡ listed n (λ i. bit_number (slice_index_or c.args.bits.now i false))) all c.loop-image.invariant.0

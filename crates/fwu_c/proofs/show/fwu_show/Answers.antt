@@ -13,10 +13,6 @@ pub returns-in-Err-clause-tells : goal.returns-in-Err-clause-tells
 returns-in-Err-clause-tells c = tells_nothing _ _ _
     (rw c.unmade_number.ensures (unmade_by c.args.image.now c.in-Err.why c.in-Err.ensures.unmade))
 
-pub returns-in_default-clause-tells : goal.returns-in_default-clause-tells
-returns-in_default-clause-tells c = tells_none _ 7 _
-    (has_flash_size _ c.in-Ok.flash c.in-Ok.ensures.size) (λ six. omega (arith, six))
-
 pub show_all-requires-clause-numbers : goal.show_all-requires-clause-numbers
 show_all-requires-clause-numbers c =
     subst (λ (i : List ℕ). ShowsNumbers i (numbers c.in-Ok-read_numbers_in.read)) (ap (λ t. t.now) c.in-Ok.ensures.content ∙ start_now c.args.image.now) (c.in-Ok-read_numbers_in.ensures.numbers refl)
@@ -46,10 +42,3 @@ returns-in-Err-Layout-clause-tells c = record {
   no_flash = no_six _ 1 (has_flash_size _ c.in-Ok.flash c.in-Ok.ensures.size) (λ six. omega (arith, six));
   untouched = λ low. absurd (omega (arith, low));
 }
-
-pub returns-in-Err-Metadata-clause-tells : goal.returns-in-Err-Metadata-clause-tells
-returns-in-Err-Metadata-clause-tells c = tells_none _ 2 _
-    (has_flash_size _ c.in-Ok.flash c.in-Ok.ensures.size) (λ six. omega (arith, six))
-
-pub returns-clause-tells : goal.returns-clause-tells
-returns-clause-tells c = tells_none _ 7 _ (has_flash_size _ c.in-Ok.flash c.in-Ok.ensures.size) (λ six. omega (arith, six))

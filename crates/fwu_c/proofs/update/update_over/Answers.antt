@@ -9,9 +9,6 @@ use Rattle.fwu_c.proofs.Telling.{idle_starts, keeps_fault, lie_further, told_han
 use Rattle.fwu_c.proofs.Updating.{none_end_is, outcome_end_is, outcome_starts, sending_spares, tried_by, tried_places, unbooted_by}
 use Rattle.fwu_c.proofs.update.update_over.Goals as goal
 
-pub install-requires-clause-here : goal.install-requires-clause-here
-install-requires-clause-here c = (rw c.in-Some-Ok.field-0-is at c.in-Some-Ok.ensures).begins.here
-
 pub hand_over-requires : goal.hand_over-requires
 hand_over-requires c =
     let i = c.in-Some in
@@ -74,9 +71,3 @@ returns-in-Some-Err-clause-tells c =
     (λ not. lie_further block_bytes boot_reach _ _ (reach_inside boot_reach _ c.args.flash (omega arith) c.requires.new.size)
     ((h.hands not).lie.places 1 7 (counted_from_none block_bytes boot_reach c.requires.new.unwritten
     (rw c.in-Some-Err.field-0-is at c.in-Some-Err.ensures).touches))) h.behind h.full h.untouched
-
-pub returns-in-None-clause-tells : goal.returns-in-None-clause-tells
-returns-in-None-clause-tells c = told_no_room _ _ _ _ (has_flash_size (image_of c.args.flash) c.args.flash c.requires.new.size)
-
-pub returns-in_default-clause-tells : goal.returns-in_default-clause-tells
-returns-in_default-clause-tells c = told_no_room _ _ _ _ (has_flash_size (image_of c.args.flash) c.args.flash c.requires.new.size)

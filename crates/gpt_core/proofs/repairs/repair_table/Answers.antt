@@ -31,25 +31,3 @@ returns-in-RepairBackup-clause-mends g c tells guarded =
     let s = g.D.Flash.told c.args.flash.now in
     let is = subst (λ (w : WhichTable). table_in_image n s.now ≡ Some (t, w)) c.in-RepairBackup.is (c.requires.read tells) in
     mends_from c.mend-in-RepairBackup.result n t _ (c.mend-in-RepairBackup.ensures.steps tells (ready_backup n t s (g.met.D.Flash.sound c.args.flash.now tells).size guarded is))
-
-pub returns-in-Same-clause-spent : goal.returns-in-Same-clause-spent
-returns-in-Same-clause-spent g c =
-    let e = blocks_of (entry_number_of c.args.table.now) in
-    let armed = g.D.Flash.arming c.args.flash.now in
-    subst (λ (w : WhichTable). armed ≡ lowered_by (writes_to_mend w e) armed) (sym c.in-Same.is) (spent_none armed)
-
-pub returns-in-RepairPrimary-clause-spent : goal.returns-in-RepairPrimary-clause-spent
-returns-in-RepairPrimary-clause-spent g c =
-    let e = blocks_of (entry_number_of c.args.table.now) in
-    spent_as c.mend.result _ _ _ _ (ap (λ (w : WhichTable). writes_to_mend w e) (sym c.in-RepairPrimary.is)) c.mend.ensures.writes.spent
-
-pub returns-in-RepairBackup-clause-spent : goal.returns-in-RepairBackup-clause-spent
-returns-in-RepairBackup-clause-spent g c =
-    let e = blocks_of (entry_number_of c.args.table.now) in
-    spent_as c.mend-in-RepairBackup.result _ _ _ _ (ap (λ (w : WhichTable). writes_to_mend w e) (sym c.in-RepairBackup.is)) c.mend-in-RepairBackup.ensures.writes.spent
-
-pub returns-in-RepairPrimary-clause-settled : goal.returns-in-RepairPrimary-clause-settled
-returns-in-RepairPrimary-clause-settled g c = on_ok_weaker c.mend.result (λ clean tells was. clean tells) c.mend.ensures.settled
-
-pub returns-in-RepairBackup-clause-settled : goal.returns-in-RepairBackup-clause-settled
-returns-in-RepairBackup-clause-settled g c = on_ok_weaker c.mend-in-RepairBackup.result (λ clean tells was. clean tells) c.mend-in-RepairBackup.ensures.settled

@@ -42,35 +42,3 @@ returns-clause-steps g c tells x =
     (c.write_entries.ensures.writes.goes.size ∙ c.clear_header.ensures.writes.goes.size) (c.write_header.ensures.steps tells) in
     writes x.w x.t x.header_is filled
     (ap (λ k. copy_in x.w n (overwritten (4096 * k) c.args.head.now v.now)) x.header_is ∙ x.spells v.now filled.cleared.ready.size filled.cleared.empty filled.entries)
-
-pub returns-in_err-clear_header-clause-writes : goal.returns-in_err-clear_header-clause-writes
-returns-in_err-clear_header-clause-writes g c low high spans = record {
-  keeps = λ tells. keeps_wider _ _ low high _ _ spans.header_low spans.header_high (c.clear_header.ensures.writes.keeps tells);
-  goes = search rules;
-  spent = search rules;
-  touches = touches_wider _ _ low high spans.header_low spans.header_high c.clear_header.ensures.writes.touches;
-}
-
-pub returns-in_err-write_entries-clause-writes : goal.returns-in_err-write_entries-clause-writes
-returns-in_err-write_entries-clause-writes g c low high spans = record {
-  keeps = λ tells.
-      keeps_then low high _ _ _ (keeps_wider _ _ low high _ _ spans.header_low spans.header_high (c.clear_header.ensures.writes.keeps tells)) (keeps_wider _ _ low high _ _ spans.first_low spans.first_high (c.write_entries.ensures.writes.keeps tells));
-  goes = search rules;
-  spent = search rules;
-  touches = touches_then low high (touches_wider _ _ low high spans.header_low spans.header_high c.clear_header.ensures.writes.touches) (touches_wider _ _ low high spans.first_low spans.first_high c.write_entries.ensures.writes.touches);
-}
-
-pub returns-clause-writes : goal.returns-clause-writes
-returns-clause-writes g c low high spans =
-    let k = 2 * ((length c.args.entries.now + 4095) / 4096) in
-    record {
-      keeps = λ tells.
-          keeps_then low high _ _ _
-          (keeps_then low high _ _ _ (keeps_wider _ _ low high _ _ spans.header_low spans.header_high (c.clear_header.ensures.writes.keeps tells)) (keeps_wider _ _ low high _ _ spans.first_low spans.first_high (c.write_entries.ensures.writes.keeps tells)))
-          (keeps_wider _ _ low high _ _ spans.header_low spans.header_high (c.write_header.ensures.writes.keeps tells));
-      goes = search rules;
-      spent = spent_then c.write_header.result (1 + k) 1 (2 + k) _ _ _ (omega arith) (spent_both 1 k (1 + k) _ _ _ refl c.in_ok-clear_header.ensures.writes.spent c.in_ok-write_entries.ensures.writes.spent) c.write_header.ensures.writes.spent;
-      touches = touches_then low high (touches_then low high (touches_wider _ _ low high spans.header_low spans.header_high c.clear_header.ensures.writes.touches)
-          (touches_wider _ _ low high spans.first_low spans.first_high c.write_entries.ensures.writes.touches))
-          (touches_wider _ _ low high spans.header_low spans.header_high c.write_header.ensures.writes.touches);
-    }

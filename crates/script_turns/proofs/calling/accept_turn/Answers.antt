@@ -17,6 +17,3 @@ returns-clause-turns g c passes =
     (meta-by a b _ live h.goes ((image : ℕ) × (find_image (fields a).layout.rows c.args.guid ≡ Some image) × ((fields b).meta ≡ meta_accepted (fields a) image))
     (λ d. let found = h.found d in (found.0, found.1, (h.image found.0 found.1).keeps d))) refl (λ previous. previous) (λ q same. same) (h.meets live passes)
     (λ files. takes-accept a b _ h.spent h.refused)
-
-pub returns-clause-leaves : goal.returns-clause-leaves
-returns-clause-leaves g c = leaves-by _ _ c.done.result _ c.requires.alive c.accept-result.ensures.goes c.done.ensures.here c.done.ensures.short

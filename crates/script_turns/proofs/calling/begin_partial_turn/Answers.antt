@@ -12,6 +12,3 @@ returns-clause-turns g c passes =
     turns-begun a b c.done.result c.begin_partial-result.result live h.goes passes types c.done.ensures.turn c.done.ensures.here
     (rw c.as_slice.ensures.value at (h.begins live passes))
     (λ files. takes-partial a b _ types (rw c.as_slice.ensures.value at (h.spent live)) h.refused)
-
-pub returns-clause-leaves : goal.returns-clause-leaves
-returns-clause-leaves g c = leaves-by _ _ c.done.result _ c.requires.alive c.begin_partial-result.ensures.goes c.done.ensures.here c.done.ensures.short

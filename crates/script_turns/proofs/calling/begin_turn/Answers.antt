@@ -15,6 +15,3 @@ returns-clause-turns g c passes =
     turns-done a b c.done.result c.begin-result.result live h.goes passes (call.Begin c.args.partial_count) c.done.ensures.turn c.done.ensures.here
     (meta-by a b _ live h.goes ((fields b).meta ≡ meta_begun (fields a)) h.keeps) refl (λ previous. previous) (λ q same. same) (h.meets live passes)
     (λ files. takes-begin a b _ h.keeps h.still h.spent h.refused)
-
-pub returns-clause-leaves : goal.returns-clause-leaves
-returns-clause-leaves g c = leaves-by _ _ c.done.result _ c.requires.alive c.begin-result.ensures.goes c.done.ensures.here c.done.ensures.short

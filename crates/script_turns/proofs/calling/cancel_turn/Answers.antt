@@ -13,6 +13,3 @@ returns-clause-turns g c passes =
     turns-done a b c.done.result c.cancel-result.result live h.goes passes call.Cancel c.done.ensures.turn c.done.ensures.here
     h.records.metadata refl (λ previous. previous) (λ q same. same) (h.meets live passes)
     (λ files. same-device a b _ _ h.still)
-
-pub returns-clause-leaves : goal.returns-clause-leaves
-returns-clause-leaves g c = leaves-by _ _ c.done.result _ c.requires.alive c.cancel-result.ensures.goes c.done.ensures.here c.done.ensures.short

@@ -15,6 +15,3 @@ returns-clause-turns g c =
     turns-done a b c.done.result c.end-result.result live h.goes (g.V.Verifier.passes c.args.verifier.now) call.End c.done.ensures.turn c.done.ensures.here
     (meta-by a b _ live h.goes ((fields b).meta ≡ meta_ended (fields a)) h.staging.keeps) refl (λ previous. previous) (λ q same. same) (h.meets live (g.V.Verifier.passes c.args.verifier.now) refl)
     (λ files. takes-switch a b _ h.staging.spent h.refused)
-
-pub returns-clause-leaves : goal.returns-clause-leaves
-returns-clause-leaves g c = leaves-by _ _ c.done.result _ c.requires.alive c.end-result.ensures.goes c.done.ensures.here c.done.ensures.short

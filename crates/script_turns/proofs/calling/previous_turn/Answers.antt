@@ -17,6 +17,3 @@ returns-clause-turns g c =
     (meta-either (meta-by a b _ live h.goes (((fields b).meta ≡ (fields a).meta) ⊎ ((fields b).meta ≡ meta_back (fields a))) h.changes.either))
     (called-previous _ (g.V.Verifier.passes c.args.verifier.now) _ _ (never-gone c.previous-result.result _ _ h.goes.gone live) (h.meets live (g.V.Verifier.passes c.args.verifier.now) refl) h.changes.passed)
     (λ files. stores-by _ (fields a) (fields b) _ _ h.changes.spent h.changes.arming h.changes.writes)
-
-pub returns-clause-leaves : goal.returns-clause-leaves
-returns-clause-leaves g c = leaves-by _ _ c.done.result _ c.requires.alive c.previous-result.ensures.goes c.done.ensures.here c.done.ensures.short

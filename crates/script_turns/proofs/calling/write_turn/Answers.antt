@@ -13,6 +13,3 @@ returns-clause-turns g c passes =
     turns-done a b c.done.result c.write_stream-result.result live h.goes passes (call.Write c.args.handle c.args.bytes.items) c.done.ensures.turn c.done.ensures.here
     h.records.metadata refl (λ previous. previous) (λ q same. same) (rw c.as_slice.ensures.value at (h.meets live passes))
     (λ files. takes-write a b _ c.args.handle c.args.bytes.items (never-gone c.write_stream-result.result _ _ h.goes.gone live) (λ done image writes. rw c.as_slice.ensures.value at ((h.image image writes).spent done)) h.refused)
-
-pub returns-clause-leaves : goal.returns-clause-leaves
-returns-clause-leaves g c = leaves-by _ _ c.done.result _ c.requires.alive c.write_stream-result.ensures.goes c.done.ensures.here c.done.ensures.short

@@ -60,8 +60,6 @@ returns-in-Err-ReadFailed-clause-turns g c =
     (moment-as agent c.stopped.result.here false c.stopped.ensures.here)
     (unread-table c.args.partial _ _ _ _ _ _ _ _ _ _ _ _ _ read.cause.later read.cause.once (unread-by (g.H.Files.contents c.args.files.now) (string_bytes c.args.name) _ _ (read.cause.failed refl)))
 
--- ---- which files it asks for
-
 pub returns-in-Ok-clause-reads : goal.returns-in-Ok-clause-reads
 returns-in-Ok-clause-reads g c =
     let read = rw c.as_str.ensures.value at c.read_table.ensures in
@@ -71,12 +69,3 @@ pub returns-in-Ok-2-clause-reads : goal.returns-in-Ok-2-clause-reads
 returns-in-Ok-2-clause-reads g c =
     let read = rw c.as_str.ensures.value at c.read_table.ensures in
     reads-then g.H.Files _ g.met.H.Files.joins _ _ _ read.reads c.send_by.ensures.reads
-
-pub returns-in-Err-Package-clause-reads : goal.returns-in-Err-Package-clause-reads
-returns-in-Err-Package-clause-reads g c = let read = rw c.as_str.ensures.value at c.read_table.ensures in read.reads
-
-pub returns-in-Err-Capsule-clause-reads : goal.returns-in-Err-Capsule-clause-reads
-returns-in-Err-Capsule-clause-reads g c = let read = rw c.as_str.ensures.value at c.read_table.ensures in read.reads
-
-pub returns-in-Err-ReadFailed-clause-reads : goal.returns-in-Err-ReadFailed-clause-reads
-returns-in-Err-ReadFailed-clause-reads g c = let read = rw c.as_str.ensures.value at c.read_table.ensures in read.reads

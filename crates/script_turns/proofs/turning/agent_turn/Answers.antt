@@ -10,17 +10,5 @@ pub returns-in_default-clause-turns : goal.returns-in_default-clause-turns
 returns-in_default-clause-turns g c =
     c.call_turn.ensures.turns (g.H.Files.contents c.args.files.now) (g.H.Files.faults c.args.files.now)
 
--- ---- which files it asks for
-
-pub returns-in-Send-clause-reads : goal.returns-in-Send-clause-reads
-returns-in-Send-clause-reads g c =
-    subst (λ (what : Call). ReadsFiles g.H.Files (IsUnnamed what) c.args.files.now c.send_turn.new.files) (sym (ap shown c.in-Send.is))
-    c.send_turn.ensures.reads
-
-pub returns-in-SendPartial-clause-reads : goal.returns-in-SendPartial-clause-reads
-returns-in-SendPartial-clause-reads g c =
-    subst (λ (what : Call). ReadsFiles g.H.Files (IsUnnamed what) c.args.files.now c.send_turn-in-SendPartial.new.files) (sym (ap shown c.in-SendPartial.is))
-    c.send_turn-in-SendPartial.ensures.reads
-
 pub returns-in_default-clause-reads : goal.returns-in_default-clause-reads
 returns-in_default-clause-reads g c = reads-none g.H.Files _ g.met.H.Files.at_rest _

@@ -24,9 +24,6 @@ returns-in-Boot-clause-fits g c = fitting c.boot_in.new.powered
 pub returns-in-Some-clause-fits : goal.returns-in-Some-clause-fits
 returns-in-Some-clause-fits g c = fits-stage c.stage_turn.new.stage
 
-pub returns-in-Boot-clause-reads : goal.returns-in-Boot-clause-reads
-returns-in-Boot-clause-reads g c = reads-none g.H.Files _ g.met.H.Files.at_rest _
-
 pub returns-in-Some-clause-missing : goal.returns-in-Some-clause-missing
 returns-in-Some-clause-missing g c lacks some =
     let is : c.args.powered.now.inside ≡ Some c.in-Some.stage = cc in
