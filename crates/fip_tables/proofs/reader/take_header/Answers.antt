@@ -7,14 +7,6 @@ use Rattle.fip_tables.specs.declared.reader.Stage.TheVariants as stage
 use Rattle.fip_tables.proofs.Groups.{after-bad-header, after-header}
 use Rattle.fip_tables.proofs.reader.take_header.Goals as goal
 
-pub returns-in-Ok : goal.returns-in-Ok
-returns-in-Ok c = λ bytes h.
-    let group = c.args.group.now in
-    let held = subst (λ (t : Toc). ReaderHoldsAt stage.Header t group bytes) (sym c.toc.view_is) h in
-    let toc : Toc = record { serial = c.toc.inside.serial; flags = c.toc.inside.flags; entries = c.toc.inside.entries } in
-    after-header toc group c.in-Ok.serial c.in-Ok.flags bytes held.0 c.requires held.1
-    (subst (λ (r : Result (ℕ × ℕ) FipFault). IsHeaderOf group r) c.in-Ok.is c.header_in.ensures)
-
 pub returns-in-Err : goal.returns-in-Err
 returns-in-Err c = λ bytes h.
     let group = c.args.group.now in

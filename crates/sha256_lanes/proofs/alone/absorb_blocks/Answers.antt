@@ -2,9 +2,6 @@ use Rattle.std.proofs.Common.{◌≡◌, ◌+◌, ◌-◌, ◌*◌, ◌≤◌, �
 use Rattle.sha256_lanes.proofs.Blocks.{block_more, none_more, whole_piece}
 use Rattle.sha256_lanes.proofs.alone.absorb_blocks.Goals as goal
 
-pub pieces-init : goal.pieces-init
-pieces-init c = (omega arith, λ m held. none_more c.args.words.now m held)
-
 pub pieces-preserved : goal.pieces-preserved
 pieces-preserved c =
     let at = 64 * c.pieces.i in
@@ -16,8 +13,3 @@ pieces-preserved c =
           (block_more c.pieces.words m c.args.piece.now _ at
           (c.pieces.invariant.1 m held) (omega arith) (ap (λ (n : ℕ). take n (drop at c.args.piece.now)) width)),
     )
-
-pub returns : goal.returns
-returns c = λ m held.
-    let done : length c.args.piece.now ≤ 64 * c.pieces.i = omega (arith, c.requires) in
-    whole_piece c.pieces.words m _ (64 * c.pieces.i) done (c.pieces.invariant.1 m held)

@@ -3,9 +3,6 @@ use Rattle.sha256_lanes.specs.Lanes.{lane, of_four}
 use Rattle.sha256_lanes.proofs.Blocks.{block_more, none_more, four_lengths, four_parts, whole_piece}
 use Rattle.sha256_lanes.proofs.lanes.absorb_blocks.Goals as goal
 
-pub pieces-init : goal.pieces-init
-pieces-init c = (omega arith, λ j lt m held. none_more (lane j c.args.state.now) m held)
-
 pub pieces-preserved : goal.pieces-preserved
 pieces-preserved c =
     let at = 64 * c.pieces.i in
@@ -18,9 +15,3 @@ pieces-preserved c =
           (block_more (lane j c.pieces.state) m (of_four c.args.a.now c.args.b.now c.args.c.now c.args.d.now j) _ at
           (c.pieces.invariant.1 j lt m held) (omega (arith, long)) (four_parts c.args.a.now c.args.b.now c.args.c.now c.args.d.now at _ width j lt)),
     )
-
-pub returns : goal.returns
-returns c = λ j lt m held.
-    let long = four_lengths c.args.a.now c.args.b.now c.args.c.now c.args.d.now c.requires.second c.requires.third c.requires.fourth j lt in
-    let done : length (of_four c.args.a.now c.args.b.now c.args.c.now c.args.d.now j) ≤ 64 * c.pieces.i = omega (arith, long, c.requires.whole) in
-    whole_piece (lane j c.pieces.state) m _ (64 * c.pieces.i) done (c.pieces.invariant.1 j lt m held)

@@ -15,8 +15,3 @@ loop-k-preserved c =
       search (rules, places),
       digest_more c.loop-k.digest c.args.words.now bytes k _ c.loop-k.invariant.1 (omega arith) (c.copy_from_slice.ensures.after ∙ c.to_be_bytes.ensures),
     )
-
-pub returns : goal.returns
-returns c =
-    let all : c.loop-k.k ≡ 8 = omega arith in
-    sym (take_all (4 * c.loop-k.k) c.loop-k.digest (omega arith)) ∙ c.loop-k.invariant.1 ∙ ap (digest_bytes c.args.words.now) all

@@ -15,6 +15,3 @@ loop-t-preserved c =
       length-set w t read ∙ c.loop-t.invariant.0,
       λ j lt. words_more (λ k. word_at (block j) (4 * k)) j w t read (omega arith) (c.loop-t.invariant.1 j lt) (of_read j lt),
     )
-
-pub returns : goal.returns
-returns c = λ j lt t below. c.loop-t.invariant.1 j lt t (omega arith)

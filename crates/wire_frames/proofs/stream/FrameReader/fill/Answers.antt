@@ -6,16 +6,6 @@ use Rattle.host_io.proofs.Once.{bytes-none, bytes-then, once-bytes, once-then}
 use Rattle.wire_frames.proofs.Filling.{taken-more}
 use Rattle.wire_frames.proofs.stream.FrameReader.fill.Goals as goal
 
-pub loop-at-init : goal.loop-at-init
-loop-at-init g c = record {
-  came = Consumes-nil _;
-  taken = omega arith;
-  most = omega arith;
-  within = omega arith;
-  faults = refl;
-  reads = bytes-none g.I.Source g.met.I.Source.at_rest c.args.source.now;
-}
-
 pub loop-at-preserved : goal.loop-at-preserved
 loop-at-preserved g c =
     let at = c.loop-at.at in
@@ -46,12 +36,4 @@ returns-in-Err-clause-reads g c = record {
   later = search rules;
   goes = tt;
   once = once-then g.I.Source g.met.I.Source.joins c.args.source.now c.loop-at.source c.read_some.new.source c.loop-at.invariant.reads c.read_some.ensures.reads.once;
-}
-
-pub returns-clause-reads : goal.returns-clause-reads
-returns-clause-reads g c = record {
-  faults = search rules;
-  later = search rules;
-  goes = c.loop-at.invariant.reads;
-  once = once-bytes g.I.Source c.args.source.now c.loop-at.source c.loop-at.invariant.reads;
 }

@@ -30,8 +30,6 @@ returns-in-Err-fill-clause-stops g c =
     (partial-body head got n c.fill.auto.out c.length_in-length.ensures.value c.if-length-lt-FEWEST_BODY_BYTES.false few fewer)
     (λ is. absurd (false≢true is)) (λ is. omega (arith, length-append head got, c.fill.auto.out)))
 
--- ---- what was read
-
 pub returns-in-Ok-clause-reads : goal.returns-in-Ok-clause-reads
 returns-in-Ok-clause-reads g c = record {
   faults = search rules;
