@@ -7,9 +7,6 @@ use Rattle.sha256_lanes.specs.Holding.{IsOfBlocks}
 use Rattle.sha256_lanes.specs.Lanes.{of_four}
 use Rattle.sha256_lanes.proofs.FourLanes.{below_four}
 
-pub none_more : (h m : List ℕ) → IsOfBlocks h m → IsOfBlocks h (m ++ [])
-none_more h m held = rw (append-nil m) held
-
 -- one block more of a piece
 pub block_more : (h m piece block : List ℕ) (at : ℕ) → IsOfBlocks h (m ++ take at piece) → at + 64 ≤ length piece
     → block ≡ take 64 (drop at piece) → IsOfBlocks (compress h block) (m ++ take (at + 64) piece)
@@ -32,10 +29,6 @@ four_lengths a b c d eb ec ed = below_four _ refl eb ec ed
 pub four_parts : (a b c d : List ℕ) (at n : ℕ) → n ≡ 64 → (j : ℕ) → j < 4
     → of_four (take n (drop at a)) (take n (drop at b)) (take n (drop at c)) (take n (drop at d)) j ≡ take 64 (drop at (of_four a b c d j))
 four_parts a b c d at n e = rw e (below_four _ refl refl refl refl)
-
--- a piece of which all is taken in
-pub whole_piece : (h m piece : List ℕ) (n : ℕ) → length piece ≤ n → IsOfBlocks h (m ++ take n piece) → IsOfBlocks h (m ++ piece)
-whole_piece h m piece n fits held = rw (take_all n piece fits) at held
 
 pub of_whole_blocks : (h m : List ℕ) → IsOfBlocks h m → length m % 64 ≡ 0
 unfolding IsOfBlocks

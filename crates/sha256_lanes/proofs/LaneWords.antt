@@ -48,9 +48,6 @@ next_word_same w x t after same =
 pub ch_same : {x y z x' y' z' : ℕ} → x ≡ x' → y ≡ y' → z ≡ z' → ch x y z ≡ ch x' y' z'
 ch_same p q r = cc
 
-pub maj_same : {x y z x' y' z' : ℕ} → x ≡ x' → y ≡ y' → z ≡ z' → maj x y z ≡ maj x' y' z'
-maj_same p q r = cc
-
 pub eight_same : {a b c d e f g h a' b' c' d' e' f' g' h' : ℕ}
     → a ≡ a' → b ≡ b' → c ≡ c' → d ≡ d' → e ≡ e' → f ≡ f' → g ≡ g' → h ≡ h'
     → a ∷ b ∷ c ∷ d ∷ e ∷ f ∷ g ∷ h ∷ [] ≡ a' ∷ b' ∷ c' ∷ d' ∷ e' ∷ f' ∷ g' ∷ h' ∷ []

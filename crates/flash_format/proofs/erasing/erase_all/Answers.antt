@@ -1,7 +1,6 @@
 use Rattle.std.proofs.Common.{◌-◌, ◌*◌, inl, inr, arith, rules}
 use Rattle.std.specs.Prelude.{IsTrue}
 use Rattle.std.proofs.lemmas.Bool.{cases_lt}
-use Rattle.flash_core.proofs.Calls.{keeps_joined}
 use Rattle.flash_core.proofs.Spent.{spent_then}
 use Rattle.flash_core.proofs.Touches.{touches_then, touches_wider}
 use Rattle.flash_format.specs.Places.{Erased}

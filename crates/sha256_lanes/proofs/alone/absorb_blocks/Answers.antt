@@ -1,5 +1,5 @@
 use Rattle.std.proofs.Common.{◌≡◌, ◌+◌, ◌-◌, ◌*◌, ◌≤◌, ℕ, length, take, drop, ap, arith}
-use Rattle.sha256_lanes.proofs.Blocks.{block_more, none_more, whole_piece}
+use Rattle.sha256_lanes.proofs.Blocks.{block_more}
 use Rattle.sha256_lanes.proofs.alone.absorb_blocks.Goals as goal
 
 pub pieces-preserved : goal.pieces-preserved

@@ -1,6 +1,6 @@
 use Rattle.std.proofs.Common.{◌≡◌, ◌+◌, ◌-◌, ◌*◌, ◌≤◌, length, arith}
 use Rattle.sha256_lanes.specs.Lanes.{lane, of_four}
-use Rattle.sha256_lanes.proofs.Blocks.{block_more, none_more, four_lengths, four_parts, whole_piece}
+use Rattle.sha256_lanes.proofs.Blocks.{block_more, four_lengths, four_parts}
 use Rattle.sha256_lanes.proofs.lanes.absorb_blocks.Goals as goal
 
 pub pieces-preserved : goal.pieces-preserved
