@@ -374,9 +374,9 @@ module _ {H I : Type 0} {passes : List ℕ → Bool} {tells : Bool} {blocks : �
   answered-with-list asked name mid_told mid mid_files a same good counted at_source at_sink unarmed =
       let later : faults_before.files ≤ mid.files = omega arith in
       record {
-        way = λ runs. with-list passes tells journal status (noted said) old new taken_before taken_after asked mid_told told name (script_asked (in_short asked) left) faults_before mid faults_after same good later at_source at_sink (a.way runs);
+        way = λ runs. with-list passes tells journal status (noted said) old new taken_before taken_after asked mid_told told name (script_asked (in_short asked) left) faults_before mid faults_after same good counted at_source at_sink (a.way runs);
         by_table = λ plain over.
-            table-with-list passes tells blocks journal status said old new taken_before taken_after (Some plain) mid_told told name (script_asked (in_short (Some plain)) left) faults_before mid faults_after same good later at_source at_sink (a.by_table plain over);
+            table-with-list passes tells blocks journal status said old new taken_before taken_after (Some plain) mid_told told name (script_asked (in_short (Some plain)) left) faults_before mid faults_after same good counted at_source at_sink (a.by_table plain over);
         shows = λ words. shows-with-list tells mid_told told name left old new status (noted said) journal taken_before taken_after faults_before mid faults_after good later at_source at_sink (a.shows words);
         formats = λ banks rows file words.
             formats-with-list passes tells mid_told told name left file (record { banks = banks; rows = rows }) blocks old new status said journal taken_before taken_after faults_before mid faults_after same good counted at_source at_sink unarmed (a.formats banks rows file words);

@@ -212,7 +212,7 @@ ways-boot passes tells inputs end old new (refused planned line empty same why p
     let g = given_to inputs in
     absurd (false≢true (sym fails ∙ by-plan line planned end.status old.taken new.taken old.faults.sink new.faults.sink prints (λ k. may_fail_before k || (k == 13)) refl refl
     (no-refusal inputs.asked g old.faults new.faults planned end.noted line boot (boot-script inputs.asked inputs.source boot) why)))
-ways-boot passes tells inputs end old new (ran calls on from good asks has before turns ended printed) told clean boot fails unarmed faults cuts =
+ways-boot passes tells inputs end old new (ran calls on good asks has turns ended printed) told clean boot fails unarmed faults cuts =
     let is = (some-at (script_asked (in_short inputs.asked) inputs.source) (λ b. (is_too_long b ≡ false) × (script_of b ≡ Ok calls)) (codes "boot\n") has (boot-script inputs.asked inputs.source boot)).1 in
     let same : calls ≡ call.Boot ∷ [] = same-calls calls (call.Boot ∷ []) (sym is ∙ boot-is-script) in
-    by-journal passes tells inputs.files end.status end.noted old.flash from new.faults.files end.journal (at on new.flash.told new.flash.writes new.flash.counts new.flash.armed new.flash.power) turns (subst (λ (c : List Call). ScriptEnded c end.journal end.status end.noted) same ended) told clean (whole end.status fails) unarmed faults cuts
+    by-journal passes tells inputs.files end.status end.noted old.flash old.faults.files new.faults.files end.journal (at on new.flash.told new.flash.writes new.flash.counts new.flash.armed new.flash.power) turns (subst (λ (c : List Call). ScriptEnded c end.journal end.status end.noted) same ended) told clean (whole end.status fails) unarmed faults cuts

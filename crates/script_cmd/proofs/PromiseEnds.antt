@@ -1,5 +1,5 @@
 -- Why a run ended as it did, whichever way that was.
-use Rattle.std.proofs.Common.{◌≡◌, ◌≢◌, ◌≤◌, ℕ, suc, ◌-◌, Bool, true, false, not, ◌||◌, ◌==◌, List, [], ◌∷◌, length, Option, Some, None, Ok, Err, slice_get, Contains, refl, sym, ap, subst, ◌∙◌, arith, inl, inr, ◌⊎◌, IsTrue, IsFalse, IfSome, IsSome, eqb-true}
+use Rattle.std.proofs.Common.{◌≡◌, ◌≢◌, ℕ, suc, ◌-◌, Bool, true, false, not, ◌||◌, ◌==◌, List, [], ◌∷◌, length, Option, Some, None, Ok, Err, slice_get, Contains, refl, sym, ap, subst, ◌∙◌, arith, inl, inr, ◌⊎◌, IsTrue, IsFalse, IfSome, IsSome, eqb-true}
 use Rattle.std.specs.List.{list_all}
 use Rattle.std.proofs.lemmas.Bool.{cases_Bool, or_cases, false≢true, and_from, not_from_false}
 use Rattle.base_core.specs.Counts.{Rose}
@@ -29,7 +29,6 @@ use Rattle.script_runs.specs.Ways.{Given, HasGoodList, AsksTurns, HasCalls, Refu
 use Rattle.script_cmd.specs.Promises.{EndsHold, WaysEnd}
 use Rattle.script_runs.proofs.PromiseWords.{asks-turns, same-calls}
 use Rattle.script_runs.proofs.TopPrints.{raised-rose, printed-plan, by-plan, printed-rose}
-use Rattle.script_turns.proofs.RunTurns.{not-read-around}
 use Rattle.script_cmd.proofs.PromiseTurns.{last-get, is_ran, none-ended, ran-at, ran-status, lack-cases, some-from, some-at}
 
 -- ---- no turn
@@ -252,8 +251,8 @@ all-from : {X : Type 0} (f : X → Bool) (xs : List X) → ((n : ℕ) (x : X) �
 all-from f [] h = refl
 all-from f (x ∷ xs) h = and_from (f x) (list_all f xs) (h 0 x refl) (all-from f xs (λ n y is. h (suc n) y is))
 
-module _ (passes : List ℕ → Bool) (tells : Bool) (asked : Option Asked) (g : Given) (journal : List Turn) (status : ℕ) (noted : Note) (old new : TurnMoment) (taken_before taken_after : Option (List ℕ)) (faults_before faults_after : Faults) (calls : List Call) (from : ℕ)
-    (before : faults_before.files ≤ from) (turns : Ran passes tells g.files journal old new from faults_after.files) (ended : ScriptEnded calls journal status noted) where
+module _ (passes : List ℕ → Bool) (tells : Bool) (asked : Option Asked) (g : Given) (journal : List Turn) (status : ℕ) (noted : Note) (old new : TurnMoment) (taken_before taken_after : Option (List ℕ)) (faults_before faults_after : Faults) (calls : List Call)
+    (turns : Ran passes tells g.files journal old new faults_before.files faults_after.files) (ended : ScriptEnded calls journal status noted) where
   is : IsTrue (is_ran status)
   is = ran-status calls journal status noted ended
 
@@ -302,7 +301,7 @@ module _ (passes : List ℕ → Bool) (tells : Bool) (asked : Option Asked) (g :
     made = turns.made;
     lost_turns = turns.lost_turns;
     fault_turns = turns.fault_turns;
-    read_faults = λ t within reads. not-read-around g.files faults_before.files from faults_after.files faults_after.files t.call before (omega arith) (turns.unread_turns t within reads);
+    read_faults = turns.unread_turns;
     ends = turns.ends;
     by_last = last-is;
     by_none = before-first;
@@ -338,5 +337,5 @@ ways-end passes tells asked g end old new (starved empty same nine quiet stuck) 
     none-ends asked g end old new empty same (starved-ends asked g old.faults new.faults end.status end.noted old.flash.counts nine quiet)
 ways-end passes tells asked g end old new (refused planned line empty same why prints) =
     none-ends asked g end old new empty same (refused-ends asked g old.faults new.faults end.status end.noted old.flash.counts planned line old.taken new.taken why prints)
-ways-end passes tells asked g end old new (ran calls on from good asks has before turns ended printed) =
-    ran-ends passes tells asked g end.journal end.status end.noted old.flash (at on new.flash.told new.flash.writes new.flash.counts new.flash.armed new.flash.power) old.taken new.taken old.faults new.faults calls from before turns ended good asks has printed
+ways-end passes tells asked g end old new (ran calls on good asks has turns ended printed) =
+    ran-ends passes tells asked g end.journal end.status end.noted old.flash (at on new.flash.told new.flash.writes new.flash.counts new.flash.armed new.flash.power) old.taken new.taken old.faults new.faults calls turns ended good asks has printed

@@ -126,5 +126,5 @@ ways-keep-the-headline passes tells inputs end old new (refused planned line emp
     (λ e.
     let whole : IsFalse (may_lack end.status) = subst (λ (k : ℕ). IsFalse (may_lack k)) (sym e) refl in
     (why-planned inputs.asked (given_to inputs) old.faults new.faults planned end.noted line why).1 (sym (printed-plan line planned end.status old.taken new.taken old.faults.sink new.faults.sink prints whole) ∙ e))
-ways-keep-the-headline passes tells inputs end old new (ran calls on from good asks has before turns ended printed) =
-    ran-keeps passes tells inputs.asked inputs.files inputs.source end.status old.flash end.journal end.noted new.flash calls on from new.faults.files has turns ended
+ways-keep-the-headline passes tells inputs end old new (ran calls on good asks has turns ended printed) =
+    ran-keeps passes tells inputs.asked inputs.files inputs.source end.status old.flash end.journal end.noted new.flash calls on old.faults.files new.faults.files has turns ended

@@ -1,5 +1,5 @@
 -- What holds of the turns of a run, whichever way it ended.
-use Rattle.std.proofs.Common.{◌≡◌, ◌≢◌, ◌≤◌, ℕ, Bool, true, false, List, [], Contains, Option, Some, None, IsTrue, slice_get, inl, refl, sym, ap, subst, arith}
+use Rattle.std.proofs.Common.{◌≡◌, ◌≢◌, ℕ, Bool, true, false, List, [], Contains, Option, Some, None, IsTrue, slice_get, inl, refl, sym, ap, subst, arith}
 use Rattle.std.proofs.lemmas.Bool.{false≢true}
 use Rattle.flash_core.specs.Told.{Told, NothingDirty}
 use Rattle.flash_core.specs.May.{Guards}
@@ -52,10 +52,8 @@ none-holds : (passes : List ℕ → Bool) (tells : Bool) (files : Option Directo
 none-holds passes tells files old new = record {
   replies = record {
     on = old.flash.on;
-    from = old.faults.files;
     to = old.faults.files;
     follows = (refl, refl);
-    begins = omega arith;
     touches = λ off. record { layout_still = refl; marks_still = refl; unbooted = λ none. (off, refl); banks = λ one f is b out beside. refl };
     ends = λ some. absurd (some refl);
   };
@@ -71,10 +69,10 @@ idle-holds passes tells files journal old new empty same =
 
 -- ---- turns ran
 
-pub ran-holds : (passes : List ℕ → Bool) (tells : Bool) (files : Option Directory) (journal : List Turn) (on : Option Fields) (from to : ℕ) (old new : World) → old.faults.files ≤ from → (journal ≢ [] → to ≡ new.faults.files)
-    → Ran passes tells files journal old.flash (at on new.flash.told new.flash.writes new.flash.counts new.flash.armed new.flash.power) from to → RanHolds passes tells files journal old new
-ran-holds passes tells files journal on from to old new before after turns = record {
-  replies = record { on = on; from = from; to = to; follows = turns.follows; begins = before; touches = λ off. turns.touches; ends = after };
+pub ran-holds : (passes : List ℕ → Bool) (tells : Bool) (files : Option Directory) (journal : List Turn) (on : Option Fields) (to : ℕ) (old new : World) → (journal ≢ [] → to ≡ new.faults.files)
+    → Ran passes tells files journal old.flash (at on new.flash.told new.flash.writes new.flash.counts new.flash.armed new.flash.power) old.faults.files to → RanHolds passes tells files journal old new
+ran-holds passes tells files journal on to old new after turns = record {
+  replies = record { on = on; to = to; follows = turns.follows; touches = λ off. turns.touches; ends = after };
   device = record {
     untouched = λ empty.
         let same = turns.untouched empty in
@@ -96,8 +94,8 @@ ran-holds passes tells files journal on from to old new before after turns = rec
 pub ways-hold : (passes : List ℕ → Bool) (tells : Bool) (asked : Option Asked) (g : Given) (end : Ending Note) (old new : World) → Way passes tells asked g end old new → RanHolds passes tells g.files end.journal old new
 ways-hold passes tells asked g end old new (starved empty same nine quiet stuck) = idle-holds passes tells g.files end.journal old new empty same
 ways-hold passes tells asked g end old new (refused planned line empty same why prints) = idle-holds passes tells g.files end.journal old new empty same
-ways-hold passes tells asked g end old new (ran calls on from good asks has before turns ended printed) =
-    ran-holds passes tells g.files end.journal on from new.faults.files old new before (λ some. refl) turns
+ways-hold passes tells asked g end old new (ran calls on good asks has turns ended printed) =
+    ran-holds passes tells g.files end.journal on new.faults.files old new (λ some. refl) turns
 
 pub ways-reply : WaysReply
 ways-reply passes tells asked g end old new way = (ways-hold passes tells asked g end old new way).replies

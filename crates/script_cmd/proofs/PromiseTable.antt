@@ -68,7 +68,7 @@ module _ (passes : List ℕ → Bool) (device : Device) (inputs : Inputs) (end :
   runs-by-table (starved calls reads none looks nine is quiet) began = absurd (not-begun began none (λ zero_is. absurd (omega arith)))
   runs-by-table (lacked calls why reads none looks lacks is prints) began = absurd (not-begun began none (not-nothing _ 10 end.status old.taken new.taken old.faults.sink new.faults.sink (λ ten. absurd (omega arith)) prints))
   runs-by-table (stopped calls reads none stops is prints) began = absurd (not-begun began none (not-nothing _ 5 end.status old.taken new.taken old.faults.sink new.faults.sink (λ five. absurd (omega arith)) prints))
-  runs-by-table (ran calls p start on from reads starts before does beside touches ended beyond printed) began = record {
+  runs-by-table (ran calls p start on reads starts does beside touches ended beyond printed) began = record {
     places = p;
     start = start;
     starts = starts;
@@ -77,7 +77,7 @@ module _ (passes : List ℕ → Bool) (device : Device) (inputs : Inputs) (end :
     unwritten = repair-spares device.blocks starts.has.table starts.has.which p old.flash.writes start.writes starts.has.gives starts.touches;
     seen = start-seen p start starts;
     promises = promised passes device.tells inputs (in_model end) (record old { flash = seen_at p start }) (record new { flash = seen_at p new.flash })
-        (way.ran calls on from reads.good reads.asks reads.has before does ended printed);
+        (way.ran calls on reads.good reads.asks reads.has does ended printed);
   }
 
   -- the places of the run are those of the table that was handed in
@@ -145,7 +145,7 @@ module _ (passes : List ℕ → Bool) (device : Device) (inputs : Inputs) (end :
       → Way passes device.tells inputs.asked (given_to inputs) (in_model end) (record old { flash = seen_at p old.flash }) (record new { flash = seen_at p new.flash })
   untouched-seen p other none (way.starved empty same nine quiet same_bytes) = way.starved empty (ap (seen_at p) same) nine quiet same_bytes
   untouched-seen p other none (way.refused planned line empty same why prints) = way.refused planned line empty (ap (seen_at p) same) why prints
-  untouched-seen p other none (way.ran calls on from good asks has before does ended printed) = absurd (none-ended calls end.journal end.status (noted end.noted) none other ended)
+  untouched-seen p other none (way.ran calls on good asks has does ended printed) = absurd (none-ended calls end.journal end.status (noted end.noted) none other ended)
 
   gives-all : (image : List ℕ) (p : Places) → TableGives device.blocks image p → lacked_in device.blocks image ≡ None
   gives-all image p gives = ap (lacked_of device.blocks) gives.decides ∙ ap lacked_by gives.gives
@@ -163,9 +163,9 @@ module _ (passes : List ℕ → Bool) (device : Device) (inputs : Inputs) (end :
       caused : Rose old.flash.counts.faults new.flash.counts.faults ⊎ Rose old.flash.counts.cuts new.flash.counts.cuts → ⊥
       caused (inl fault) = served.no_fault fault
       caused (inr cut) = no_cut none cut
-  complete-by-table (ran calls q start on from reads starts before does beside touches ended beyond printed) told p E s asked_calls script clean gives premises asks is served no_cut =
+  complete-by-table (ran calls q start on reads starts does beside touches ended beyond printed) told p E s asked_calls script clean gives premises asks is served no_cut =
       (promised passes device.tells inputs (in_model end) (record old { flash = seen_at q start }) (record new { flash = seen_at q new.flash })
-      (way.ran calls on from reads.good reads.asks reads.has before does ended printed)).complete told E s asked_calls script
+      (way.ran calls on reads.good reads.asks reads.has does ended printed)).complete told E s asked_calls script
       (start-premises told clean p q start starts gives E s premises) asks is (served-from asked_calls p q start script starts.waits.falls.faults served)
 
   -- ---- where no turn ran
@@ -203,7 +203,7 @@ module _ (passes : List ℕ → Bool) (device : Device) (inputs : Inputs) (end :
   kept-by-table (starved calls reads none looks nine quiet same) told p clean gives empty some = kept-woken p clean gives new.flash.told (looks.wakes told)
   kept-by-table (lacked calls why reads none looks lacks noted_is prints) told p clean gives empty some = kept-woken p clean gives new.flash.told (looks.wakes told)
   kept-by-table (stopped calls reads none stops noted_is prints) told p clean gives empty some = kept-stopped p clean gives stops.woken (stops.wakes told) (stops.left told)
-  kept-by-table (ran calls q start on from reads starts before does beside touches ended beyond printed) told p clean gives empty some = absurd (none-ended calls end.journal end.status (noted end.noted) empty some ended)
+  kept-by-table (ran calls q start on reads starts does beside touches ended beyond printed) told p clean gives empty some = absurd (none-ended calls end.journal end.status (noted end.noted) empty some ended)
 
   pub promised-by-table : Ends → PromisedByTable passes device inputs end old new
   promised-by-table w = record {

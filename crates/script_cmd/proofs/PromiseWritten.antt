@@ -117,7 +117,7 @@ ways-write passes tells asked g end old new (starved empty same nine quiet stuck
 )
 ways-write passes tells asked g end old new (refused planned line empty same why prints) before told =
     subst (λ (j : List Turn). WroteHolds asked g (record end { journal = j }) old new) (sym empty) (refused-writes asked g end.status planned end.noted line old new why prints) before told
-ways-write passes tells asked g end old new (ran calls on from good asks has later turns ended printed) before told =
+ways-write passes tells asked g end old new (ran calls on good asks has turns ended printed) before told =
     let h = printed.bytes before told in (
       h.0,
       h.1,

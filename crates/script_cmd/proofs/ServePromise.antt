@@ -300,7 +300,7 @@ module _ (passes : List ℕ → Bool) (tells : Bool) (g : Given) (ending : Endin
   hold : ServeWay passes tells g ending old new rest → RanHolds passes tells g.files ending.journal old new
   hold (list_refused none same unread refused) = idle-holds passes tells g.files ending.journal old new none same
   hold (starved none same unread nine quiet stuck) = idle-holds passes tells g.files ending.journal old new none same
-  hold (served good unarmed unread e is said by) = ran-holds passes tells g.files ending.journal by.on old.faults.files old.faults.files old new (omega arith) (λ some. sym unread) by.holds.ran
+  hold (served good unarmed unread e is said by) = ran-holds passes tells g.files ending.journal by.on old.faults.files old new (λ some. sym unread) by.holds.ran
 
   why-ended : ServeWay passes tells g ending old new rest → ServedEnds g ending old new rest
   why-ended (list_refused none same unread (planned, line, why, prints)) = list-ends g ending old new rest planned line none why prints unread

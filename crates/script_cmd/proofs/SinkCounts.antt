@@ -69,7 +69,7 @@ module _ (old new : World) where
   way-counts passes tells asked g end (way.starved empty same nine quiet stuck) = counts-none end.status old.faults.sink new.faults.sink nine stuck.1
   way-counts passes tells asked g end (way.refused planned line empty same why prints) =
       counts-line line planned end.status old.taken new.taken old.faults.sink new.faults.sink (refused-other asked g old.faults new.faults planned end.noted line why) prints
-  way-counts passes tells asked g end (way.ran calls on from good asks has before turns ended printed) = printed.count
+  way-counts passes tells asked g end (way.ran calls on good asks has turns ended printed) = printed.count
 
   table-counts : (passes : List ℕ → Bool) (device : Device) (asked : Option Asked) (g : Given) (end : Ending Note) → WayByTable passes device asked g end old new → FailsAtThree end.status old.faults.sink new.faults.sink
   table-counts passes device asked g end (table.untouched none same other beyond went) = way-counts passes device.tells asked g (in_model end) went
@@ -78,7 +78,7 @@ module _ (old new : World) where
       counts-line (no_table_line why) 10 end.status old.taken new.taken old.faults.sink new.faults.sink (λ three. absurd (omega (arith, three))) prints
   table-counts passes device asked g end (table.stopped calls reads none stops is prints) =
       counts-line flash_fault_line 5 end.status old.taken new.taken old.faults.sink new.faults.sink (λ three. absurd (omega (arith, three))) prints
-  table-counts passes device asked g end (table.ran calls p start on from reads starts before turns beside touches ended beyond printed) = printed.count
+  table-counts passes device asked g end (table.ran calls p start on reads starts turns beside touches ended beyond printed) = printed.count
 
   list-counts : (asked : Asked) (g : Given) (status : ℕ) (noted : model.Note) → RefusedList asked g status noted old new → FailsAtThree status old.faults.sink new.faults.sink
   list-counts asked g status noted (planned, line, why, prints) =

@@ -70,17 +70,15 @@ EndsHold asked g ending old new =
     old.flash.counts new.flash.counts old.faults new.faults
 
 -- What each turn did, on any device, one after the other from the device as it was handed in to what is left of it. It says its
--- reply, what the agent keeps, what an armed loss counts, and its causes. The files' faults as the turns began and ended are among
--- those of the run.
+-- reply, what the agent keeps, what an armed loss counts, and its causes. The files' faults begin with those that the files had
+-- counted when they were handed in, so none comes before the first turn. Where a turn ran none comes behind the last.
 pub record RepliesHold (passes : List ℕ → Bool) (tells : Bool) (files : Option Directory)
     (journal : List Turn) (old new : World) : Type 0 where
-  -- what the agent keeps at last, where a bank was started, and how often the files had failed as the turns began and ended
+  -- what the agent keeps at last, where a bank was started, and how often the files had failed as the turns ended
   pub on : Option Fields
-  pub from : ℕ
   pub to : ℕ
   pub follows : Follows passes tells files journal old.flash
-      (at on new.flash.told new.flash.writes new.flash.counts new.flash.armed new.flash.power) from to
-  pub begins : old.faults.files ≤ from
+      (at on new.flash.told new.flash.writes new.flash.counts new.flash.armed new.flash.power) old.faults.files to
   -- On a device that counts its writes, whatever its reads gave, from one on which no bank was started: blocks 0 and 4 were neither
   -- erased nor programmed. Where the turns have one boot, and its agent is there at the end, nor was a block but 1 to 6 and those
   -- of the bank behind its own.

@@ -1,5 +1,5 @@
 -- The ways that a run behind a partition table may end, from what its parts did.
-use Rattle.std.proofs.Common.{◌≡◌, ◌≢◌, ◌≤◌, ℕ, Bool, List, [], Option, Some, None, sym, ap, subst, ◌∙◌, arith}
+use Rattle.std.proofs.Common.{◌≡◌, ◌≢◌, ℕ, Bool, List, [], Option, Some, None, sym, ap, subst, ◌∙◌, arith}
 use Rattle.std.specs.Prelude.{IsTrue, IsFalse}
 use Rattle.fwu_model.specs.Call.{Call}
 use Rattle.fwu_model.specs.Reply.{Turn}
@@ -18,7 +18,7 @@ use Rattle.script_runs.specs.Ways.{Given, HasGoodList, Refuses}
 use Rattle.script_runs.specs.Ways as way
 use Rattle.script_runs.specs.WaysByTable.{ReadsScript, WayByTable, untouched, starved, lacked, stopped, ran}
 use Rattle.script_runs.proofs.Shapes.{device-of, end-of, world-of}
-use Rattle.script_runs.proofs.TopWays.{ran-told, refused-by, with-list}
+use Rattle.script_runs.proofs.TopWays.{ran-from, refused-by, with-list}
 
 pub not-nothing : (line : List ℕ) (planned status : ℕ) (taken_before taken_after : Option (List ℕ)) (faults_before faults_after : ℕ) → planned ≢ 0 → Prints line planned status taken_before taken_after faults_before faults_after → status ≢ 0
 not-nothing line planned status taken_before taken_after faults_before faults_after some (all is appends later) zero_is = some (sym is ∙ zero_is)
@@ -55,18 +55,18 @@ module _ (passes : List ℕ → Bool) (tells : Bool) (blocks : ℕ) (journal : L
 
   -- a way without a list is one behind a list that was read and is one
   pub table-with-list : (asked : Option Asked) (told files : Option Directory) (name : List ℕ) (script : Option (List ℕ)) (first faults_before faults_after : Faults) → told ≡ files → HasGoodList (Some name) files
-      → first.files ≤ faults_before.files → first.source ≡ faults_before.source → first.sink ≡ faults_before.sink
+      → faults_before.files ≡ first.files → first.source ≡ faults_before.source → first.sink ≡ faults_before.sink
       → WayByTable passes (device-of tells blocks) asked (record { list = None; files = told; script = script }) (end-of journal status said) (world-of old taken_before faults_before) (world-of new taken_after faults_after)
       → WayByTable passes (device-of tells blocks) asked (record { list = Some name; files = files; script = script }) (end-of journal status said) (world-of old taken_before first) (world-of new taken_after faults_after)
-  table-with-list asked told files name script first faults_before faults_after same_files good later source sink (untouched none same other beyond w) =
-      untouched none same other beyond (with-list passes tells journal status (noted said) old new taken_before taken_after asked told files name script first faults_before faults_after same_files good later source sink w)
-  table-with-list asked told files name script first faults_before faults_after same_files good later source sink (starved calls reads none looks nine is quiet) =
+  table-with-list asked told files name script first faults_before faults_after same_files good counted source sink (untouched none same other beyond w) =
+      untouched none same other beyond (with-list passes tells journal status (noted said) old new taken_before taken_after asked told files name script first faults_before faults_after same_files good counted source sink w)
+  table-with-list asked told files name script first faults_before faults_after same_files good counted source sink (starved calls reads none looks nine is quiet) =
       starved calls (record { good = good; asks = reads.asks; has = reads.has }) none looks nine is (quiet.0, quiet.1 ∙ sym sink)
-  table-with-list asked told files name script first faults_before faults_after same_files good later source sink (lacked calls why reads none looks lacks is prints) =
+  table-with-list asked told files name script first faults_before faults_after same_files good counted source sink (lacked calls why reads none looks lacks is prints) =
       lacked calls why (record { good = good; asks = reads.asks; has = reads.has }) none looks lacks is (subst (λ (n : ℕ). Prints (no_table_line why) 10 status taken_before taken_after n faults_after.sink) (sym sink) prints)
-  table-with-list asked told files name script first faults_before faults_after same_files good later source sink (stopped calls reads none stops is prints) =
+  table-with-list asked told files name script first faults_before faults_after same_files good counted source sink (stopped calls reads none stops is prints) =
       stopped calls (record { good = good; asks = reads.asks; has = reads.has }) none stops is (subst (λ (n : ℕ). Prints flash_fault_line 5 status taken_before taken_after n faults_after.sink) (sym sink) prints)
-  table-with-list asked told files name script first faults_before faults_after same_files good later source sink (ran calls p start on from reads starts from_later does beside touches ended beyond printed) =
-      ran calls p start on from (record { good = good; asks = reads.asks; has = reads.has }) starts (omega arith)
-      (ran-told passes tells files told journal (seen_at p start) (seen_at p (at on new.told new.writes new.counts new.armed new.power)) from faults_after.files (sym same_files) does)
+  table-with-list asked told files name script first faults_before faults_after same_files good counted source sink (ran calls p start on reads starts does beside touches ended beyond printed) =
+      ran calls p start on (record { good = good; asks = reads.asks; has = reads.has }) starts
+      (ran-from passes tells files told journal (seen_at p start) (seen_at p (at on new.told new.writes new.counts new.armed new.power)) faults_before.files first.files faults_after.files (sym same_files) counted does)
       beside touches ended beyond (subst (λ (n : ℕ). Printed journal status taken_before taken_after n faults_after.sink) (sym sink) printed)

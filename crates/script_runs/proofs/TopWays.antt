@@ -42,6 +42,11 @@ pub ran-told : (passes : List ℕ → Bool) (tells : Bool) (files told : Option 
     → Ran passes tells files journal old new from to
 ran-told passes tells files told journal old new from to same did = subst (λ (f : Option Directory). Ran passes tells f journal old new from to) (sym same) did
 
+-- and so they are from a count of the files' faults that is the same
+pub ran-from : (passes : List ℕ → Bool) (tells : Bool) (files told : Option Directory) (journal : List Turn) (old new : TurnMoment) (was from to : ℕ) → files ≡ told → was ≡ from → Ran passes tells told journal old new was to
+    → Ran passes tells files journal old new from to
+ran-from passes tells files told journal old new was from to same counted did = subst (λ (n : ℕ). Ran passes tells files journal old new n to) counted (ran-told passes tells files told journal old new was to same did)
+
 module _ (passes : List ℕ → Bool) (tells : Bool) (journal : List Turn) (status : ℕ) (noted : Note) (old new : TurnMoment) (taken_before taken_after : Option (List ℕ)) where
   -- nothing ran, and the line of the cause was put
   pub refused-by : (asked : Option Asked) (g : Given) (faults_before faults_after : Faults) (planned : ℕ) (line : List ℕ) (told : Note) → journal ≡ [] → new ≡ old → noted ≡ told → Refuses asked g faults_before faults_after planned told line
@@ -50,15 +55,15 @@ module _ (passes : List ℕ → Bool) (tells : Bool) (journal : List Turn) (stat
 
   -- a way without a list is one behind a list that was read and is one
   pub with-list : (asked : Option Asked) (told files : Option Directory) (name : List ℕ) (script : Option (List ℕ)) (first faults_before faults_after : Faults) → told ≡ files → HasGoodList (Some name) files
-      → first.files ≤ faults_before.files → first.source ≡ faults_before.source → first.sink ≡ faults_before.sink
+      → faults_before.files ≡ first.files → first.source ≡ faults_before.source → first.sink ≡ faults_before.sink
       → Way passes tells asked (record { list = None; files = told; script = script }) (end-of journal status noted) (world-of old taken_before faults_before) (world-of new taken_after faults_after)
       → Way passes tells asked (record { list = Some name; files = files; script = script }) (end-of journal status noted) (world-of old taken_before first) (world-of new taken_after faults_after)
-  with-list asked told files name script first faults_before faults_after same_files good later source sink (starved none same nine quiet stuck) = starved none same nine quiet (stuck.0, stuck.1 ∙ sym sink)
-  with-list asked told files name script first faults_before faults_after same_files good later source sink (refused planned line none same why prints) =
+  with-list asked told files name script first faults_before faults_after same_files good counted source sink (starved none same nine quiet stuck) = starved none same nine quiet (stuck.0, stuck.1 ∙ sym sink)
+  with-list asked told files name script first faults_before faults_after same_files good counted source sink (refused planned line none same why prints) =
       refused planned line none same
-      (refuses asked told files name script first faults_before faults_after planned noted line good later source why)
+      (refuses asked told files name script first faults_before faults_after planned noted line good (omega arith) source why)
       (subst (λ (n : ℕ). Prints line planned status taken_before taken_after n faults_after.sink) (sym sink) prints)
-  with-list asked told files name script first faults_before faults_after same_files good later source sink (ran calls on from listed asks has from_later does ended printed) =
-      ran calls on from good asks has (omega arith)
-      (ran-told passes tells files told journal old (at on new.told new.writes new.counts new.armed new.power) from faults_after.files (sym same_files) does)
+  with-list asked told files name script first faults_before faults_after same_files good counted source sink (ran calls on listed asks has does ended printed) =
+      ran calls on good asks has
+      (ran-from passes tells files told journal old (at on new.told new.writes new.counts new.armed new.power) faults_before.files first.files faults_after.files (sym same_files) counted does)
       ended (subst (λ (n : ℕ). Printed journal status taken_before taken_after n faults_after.sink) (sym sink) printed)

@@ -6,7 +6,6 @@ use Rattle.host_io.specs.declared.files.Files as files
 use Rattle.host_io.specs.declared.source.Source as source
 use Rattle.host_io.specs.declared.sink.Sink as sink
 use Rattle.host_io.specs.Printed.{Prints}
-use Rattle.fwu_model.specs.Causes.{Faults}
 use Rattle.fwu_words.specs.Order.{Asked}
 use Rattle.fwu_words.specs.declared.orders.Place.{Place}
 use Rattle.fwu_words.specs.declared.orders.Turns.{Turns}
@@ -20,17 +19,17 @@ use Rattle.script_runs.specs.declared.done.Done.{Done}
 abbrev pub PrintsTo : {O : Type 0} → sink.Ghosts O → List ℕ → ℕ → ℕ → O → O → Type 0
 PrintsTo o piece planned status old new = Prints piece planned status (o.taken old) (o.taken new) (o.faults old) (o.faults new)
 
--- one of the ways of a run at this place; what else counts failures did so before and after
+-- one of the ways of a run at this place, where the source had failed so often before and after
 abbrev pub GoesAt : {D H O : Type 0} → Place → flash.Ghosts D → files.Ghosts H → sink.Ghosts O → (List ℕ → Bool) → Option Asked
-    → Given → Faults → Faults → D → O → Done D → H → O → Type 0
-GoesAt at d h o passes asked g before after flash sink done files_after sink_after =
-    WayAt at passes (device_of d flash) asked g (ending done) (moment_world d o before flash sink)
-    (moment_world d o (record after { files = h.faults files_after }) done.flash sink_after)
+    → Given → ℕ → ℕ → D → H → O → Done D → H → O → Type 0
+GoesAt at d h o passes asked g before after flash files sink done files_after sink_after =
+    WayAt at passes (device_of d flash) asked g (ending done)
+    (moment_world d o (record { files = h.faults files; source = before; sink = o.faults sink }) flash sink)
+    (moment_world d o (record { files = h.faults files_after; source = after; sink = o.faults sink_after }) done.flash sink_after)
 
 -- the same for what the words ask for, of a source that counts its failures
 abbrev pub GoesFor : {D H I O : Type 0} → Turns → flash.Ghosts D → files.Ghosts H → source.Ghosts I → sink.Ghosts O
-    → (List ℕ → Bool) → Given → Faults → Faults → D → I → O → Done D → H → I → O → Type 0
-GoesFor order d h i o passes g before after flash source sink done files_after source_after sink_after =
+    → (List ℕ → Bool) → Given → D → H → I → O → Done D → H → I → O → Type 0
+GoesFor order d h i o passes g flash files source sink done files_after source_after sink_after =
     GoesAt order.place d h o passes (Some (plain_of order.from)) (record g { script = text_of order.from (i.left source) })
-    (record before { source = i.faults source }) (record after { source = i.faults source_after })
-    flash sink done files_after sink_after
+    (i.faults source) (i.faults source_after) flash files sink done files_after sink_after

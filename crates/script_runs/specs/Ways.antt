@@ -1,5 +1,5 @@
 -- The ways that `run` or `boot` may end: before the first turn, or by the turns of a script.
-use Rattle.std.specs.Prelude.{◌≡◌, ◌⊎◌, ℕ, ◌≤◌, Bool, false, List, [], Option, Some, None, Ok, Err, IfSome, IsTrue, IsSome}
+use Rattle.std.specs.Prelude.{◌≡◌, ◌⊎◌, ℕ, Bool, false, List, [], Option, Some, None, Ok, Err, IfSome, IsTrue, IsSome}
 use Rattle.flash_core.specs.Counts.{Rose}
 use Rattle.fwu_model.specs.Call.{Call}
 use Rattle.agent_machine.specs.Fields.{Fields}
@@ -78,7 +78,8 @@ moment_world d o faults flash sink =
 abbrev pub device_of : {D : Type 0} → flash.Ghosts D → D → Device
 device_of d flash = record { tells = d.tells; blocks = d.blocks flash }
 
--- Nothing ran for want of memory; or for a cause, whose line was put into the sink; or the turns of the script ran.
+-- Nothing ran for want of memory; or for a cause, whose line was put into the sink; or the turns of the script ran, and no fault of
+-- the files was counted but by them.
 pub data Way (passes : List ℕ → Bool) (tells : Bool) (asked : Option Asked) (g : Given)
     (ending : Ending Note) (old new : World) : Type 0 where
   starved : ending.journal ≡ [] → new.flash ≡ old.flash → ending.status ≡ 9 → ending.noted ≡ note.Nothing
@@ -88,11 +89,10 @@ pub data Way (passes : List ℕ → Bool) (tells : Bool) (asked : Option Asked) 
       → Refuses asked g old.faults new.faults planned ending.noted line
       → Prints line planned ending.status old.taken new.taken old.faults.sink new.faults.sink
       → Way passes tells asked g ending old new
-  ran : (calls : List Call) (on : Option Fields) (from : ℕ) → HasGoodList g.list g.files → AsksTurns asked
+  ran : (calls : List Call) (on : Option Fields) → HasGoodList g.list g.files → AsksTurns asked
       → HasCalls g.script calls
-      → old.faults.files ≤ from
       → Ran passes tells g.files ending.journal old.flash
-      (at on new.flash.told new.flash.writes new.flash.counts new.flash.armed new.flash.power) from new.faults.files
+      (at on new.flash.told new.flash.writes new.flash.counts new.flash.armed new.flash.power) old.faults.files new.faults.files
       → ScriptEnded calls ending.journal ending.status ending.noted
       → Printed ending.journal ending.status old.taken new.taken old.faults.sink new.faults.sink
       → Way passes tells asked g ending old new

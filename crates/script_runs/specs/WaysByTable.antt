@@ -1,5 +1,5 @@
 -- The ways that `run --gpt` or `boot --gpt` may end, and what they promise.
-use Rattle.std.specs.Prelude.{◌≡◌, ◌≢◌, ◌≤◌, ℕ, Bool, List, [], Option, Some, IsTrue, IsFalse}
+use Rattle.std.specs.Prelude.{◌≡◌, ◌≢◌, ℕ, Bool, List, [], Option, Some, IsTrue, IsFalse}
 use Rattle.gpt_core.specs.declared.layout.Places.{Places}
 use Rattle.gpt_core.specs.Beside.{Beside, TouchesPlaces}
 use Rattle.fwu_model.specs.Call.{Call}
@@ -27,7 +27,7 @@ pub record ReadsScript (asked : Option Asked) (g : Given) (calls : List Call) : 
 
 -- It ended before the device was touched, as without a table. Or power came, and before the first turn memory was
 -- wanting, or the table gave no flash, or the device stopped. Or the turns ran on the flash that the device has at
--- the table's places.
+-- the table's places, and no fault of the files was counted but by them.
 pub data WayByTable (passes : List ℕ → Bool) (device : Device) (asked : Option Asked) (g : Given)
     (ending : Ending Note) (old new : World) : Type 0 where
   untouched : ending.journal ≡ [] → new.flash ≡ old.flash → ending.status ≢ 0 → IsFalse (is_beyond_model ending.noted)
@@ -47,11 +47,11 @@ pub data WayByTable (passes : List ℕ → Bool) (device : Device) (asked : Opti
       → StopsBefore device.tells device.blocks old.flash new.flash → ending.noted ≡ note.Nothing
       → Prints flash_fault_line 5 ending.status old.taken new.taken old.faults.sink new.faults.sink
       → WayByTable passes device asked g ending old new
-  ran : (calls : List Call) (p : Places) (start : TurnMoment) (on : Option Fields) (from : ℕ)
+  ran : (calls : List Call) (p : Places) (start : TurnMoment) (on : Option Fields)
       → ReadsScript asked g calls → Starts device.tells device.blocks old.flash p start
-      → old.faults.files ≤ from
       → Ran passes device.tells g.files ending.journal (seen_at p start)
-      (seen_at p (at on new.flash.told new.flash.writes new.flash.counts new.flash.armed new.flash.power)) from new.faults.files
+      (seen_at p (at on new.flash.told new.flash.writes new.flash.counts new.flash.armed new.flash.power))
+      old.faults.files new.faults.files
       → (IsTrue device.tells → Beside p start.told new.flash.told)
       → TouchesPlaces p start.writes new.flash.writes
       → ScriptEnded calls ending.journal ending.status (noted ending.noted) → IsFalse (is_beyond_model ending.noted)

@@ -2,7 +2,6 @@
 ghost use Rattle.std.specs.Prelude.{◌≡◌, ◌≤◌, [], None, IfSome, IsTrue, IsFalse};
 ghost use Rattle.host_io.specs.Access.{Access};
 ghost use Rattle.host_io.specs.Once.{ReadsOnce};
-ghost use Rattle.fwu_model.specs.Causes.{Faults};
 ghost use Rattle.fwu_journal.specs.Shown.{turns};
 ghost use Rattle.fwu_words.specs.declared.orders.Place.TheVariants as place;
 ghost use Rattle.fwu_words.specs.declared.orders.ScriptFrom.TheVariants as origin;
@@ -37,10 +36,9 @@ pub fn run_turns<D: Flash, H: Files, I: Source, O: Sink, V: Verifier>(
 ) -> Done<D>
     requires off { IsFalse (D.on flash) }
     requires unarmed { D.arming flash ≡ None }
-    ensures way { (g : Given) (was are : Faults) → HasGoodList g.list g.files
-        → g.files ≡ H.contents files.old → was.files ≤ H.faults files.old
-        → GoesFor order D.Flash H.Files I.Source O.Sink (V.passes verifier.now) g was are
-        flash source.old sink.old result files.new source.new sink.new }
+    ensures way { (g : Given) → HasGoodList g.list g.files → g.files ≡ H.contents files.old
+        → GoesFor order D.Flash H.Files I.Source O.Sink (V.passes verifier.now) g
+        flash files.old source.old sink.old result files.new source.new sink.new }
     ensures note { order.place ≡ place.Flash → IsFalse (is_beyond_model result.note) }
     // What it reads: for one boot neither the source nor a file, and only the file of a `send`.
     ensures boot_source { order.from ≡ origin.Boot → source.new ≡ source.old }

@@ -1,8 +1,7 @@
 //! Runs on the flash that a device has behind a GUID partition table.
-ghost use Rattle.std.specs.Prelude.{◌≡◌, ◌≢◌, ◌≤◌, Option, None, IsTrue, IsFalse};
+ghost use Rattle.std.specs.Prelude.{◌≡◌, ◌≢◌, ◌≤◌, ℕ, Option, None, IsTrue, IsFalse};
 ghost use Rattle.host_io.specs.Access.{Access};
 ghost use Rattle.flash_core.specs.Told.{NothingDirty};
-ghost use Rattle.fwu_model.specs.Causes.{Faults};
 ghost use Rattle.agent_machine.specs.Fields.{Fields};
 ghost use Rattle.fwu_journal.specs.Shown.{turns};
 ghost use Rattle.fwu_words.specs.Order.{Asked};
@@ -129,9 +128,9 @@ pub fn run_by_table<D: Flash, H: Files, O: Sink, V: Verifier>(
 ) -> Done<D>
     requires off { IsFalse (D.on flash) }
     requires unarmed { D.arming flash ≡ None }
-    ensures way { (asked : Option Asked) (g : Given) (before after : Faults)
-        → ReadsScript asked g ready.script → g.files ≡ H.contents files.old → before.files ≤ H.faults files.old
-        → GoesAt place.Partitions D.Flash H.Files O.Sink (V.passes verifier.now) asked g before after flash sink.old
+    ensures way { (asked : Option Asked) (g : Given) (before after : ℕ)
+        → ReadsScript asked g ready.script → g.files ≡ H.contents files.old
+        → GoesAt place.Partitions D.Flash H.Files O.Sink (V.passes verifier.now) asked g before after flash files.old sink.old
         result files.new sink.new }
     ensures later { O.faults sink.old ≤ O.faults sink.new }
     ensures later_files { H.faults files.old ≤ H.faults files.new }

@@ -14,10 +14,9 @@ use Rattle.script_cmd.proofs.answering.answer_with.Goals as goal
 
 pub returns-in-Ok-Turns-clause-answers : goal.returns-in-Ok-Turns-clause-answers
 returns-in-Ok-Turns-clause-answers g c =
-    let files = g.H.Files.faults c.args.files.now in
     let e = c.run_turns.ensures in
     answered-turns c.in-Ok-Turns.order.from c.in-Ok-Turns.order.place _ (rw c.in-Ok-Turns.field-0-is at c.in-Ok-Turns.ensures)
-    (e.way (record { list = None; files = g.H.Files.contents c.args.files.now; script = None }) (record { files = files; source = 0; sink = 0 }) (record { files = files; source = 0; sink = 0 }) no-list-named refl (omega arith))
+    (e.way (record { list = None; files = g.H.Files.contents c.args.files.now; script = None }) no-list-named refl)
     e.takes e.source_count e.unsent (ap g.H.Files.faults) e.boot_files e.boot_source e.note (record { files = e.later_files; source = e.later_source; sink = e.later_sink })
 
 pub returns-in-Ok-Show-clause-answers : goal.returns-in-Ok-Show-clause-answers

@@ -14,10 +14,10 @@ use Rattle.script_runs.proofs.at_place.run_turns.Goals as goal
 -- ---- no script
 
 pub returns-in-Err-clause-way : goal.returns-in-Err-clause-way
-returns-in-Err-clause-way g c = λ given was are listed told before.
+returns-in-Err-clause-way g c = λ given listed told.
     let e = c.refuse.ensures in
-    lacks-at _ _ _ _ _ _ _ _ _ _ c.args.order.from given (g.I.Source.left c.args.source.now) (record was { source = g.I.Source.faults c.args.source.now; sink = g.O.Sink.faults c.args.sink.now })
-    (record are { files = g.H.Files.faults c.args.files.now; source = g.I.Source.faults c.script_of.new.source; sink = g.O.Sink.faults c.refuse.new.sink }) c.in-Err.why c.args.order.place listed c.in-Err.ensures.lacks e.no_turns
+    lacks-at _ _ _ _ _ _ _ _ _ _ c.args.order.from given (g.I.Source.left c.args.source.now) (record { files = g.H.Files.faults c.args.files.now; source = g.I.Source.faults c.args.source.now; sink = g.O.Sink.faults c.args.sink.now })
+    (record { files = g.H.Files.faults c.args.files.now; source = g.I.Source.faults c.script_of.new.source; sink = g.O.Sink.faults c.refuse.new.sink }) c.in-Err.why c.args.order.place listed c.in-Err.ensures.lacks e.no_turns
     (ap (moment g.D.Flash) e.flash) e.note e.prints
     (λ none. let stuck = e.starved none in (stuck.0, ap g.O.Sink.taken stuck.1, ap g.O.Sink.faults stuck.1))
 
@@ -41,13 +41,13 @@ returns-in-Err-clause-takes g c source =
 -- ---- on the device
 
 pub returns-in-Flash-clause-way : goal.returns-in-Flash-clause-way
-returns-in-Flash-clause-way g c = λ given was are listed told before.
+returns-in-Flash-clause-way g c = λ given listed told.
     let e = c.run_script.ensures in
     let from = c.args.order.from in
     let left = g.I.Source.left c.args.source.now in
-    subst (λ (p : Place). GoesAt p g.D.Flash g.H.Files g.O.Sink (g.V.Verifier.passes c.args.verifier.now) (Some (plain_of from)) (record given { script = text_of from left }) (record was { source = g.I.Source.faults c.args.source.now })
-    (record are { source = g.I.Source.faults c.script_of.new.source }) c.args.flash c.args.sink.now c.run_script.result c.run_script.new.files c.run_script.new.sink) (sym c.in-Flash.is)
-    (ran _ e.ran.0 (g.H.Files.faults c.args.files.now) listed (asks-of from) c.in-Ok.ensures.script before (ran-told _ _ _ _ _ _ _ _ _ told (rw c.off.ensures.device at e.ran.1)) e.ends.ended e.ends.printed)
+    subst (λ (p : Place). GoesAt p g.D.Flash g.H.Files g.O.Sink (g.V.Verifier.passes c.args.verifier.now) (Some (plain_of from)) (record given { script = text_of from left }) (g.I.Source.faults c.args.source.now)
+    (g.I.Source.faults c.script_of.new.source) c.args.flash c.args.files.now c.args.sink.now c.run_script.result c.run_script.new.files c.run_script.new.sink) (sym c.in-Flash.is)
+    (ran _ e.ran.0 listed (asks-of from) c.in-Ok.ensures.script (ran-told _ _ _ _ _ _ _ _ _ told (rw c.off.ensures.device at e.ran.1)) e.ends.ended e.ends.printed)
 
 pub returns-in-Flash-clause-boot_files : goal.returns-in-Flash-clause-boot_files
 returns-in-Flash-clause-boot_files g c = λ boot. c.run_script.ensures.keeps.unread (c.in-Ok.ensures.boot_sends boot)
@@ -62,13 +62,13 @@ returns-in-Flash-clause-takes g c source =
 -- ---- behind its partition table
 
 pub returns-in-Partitions-clause-way : goal.returns-in-Partitions-clause-way
-returns-in-Partitions-clause-way g c = λ given was are listed told before.
+returns-in-Partitions-clause-way g c = λ given listed told.
     let from = c.args.order.from in
     let left = g.I.Source.left c.args.source.now in
-    subst (λ (p : Place). GoesAt p g.D.Flash g.H.Files g.O.Sink (g.V.Verifier.passes c.args.verifier.now) (Some (plain_of from)) (record given { script = text_of from left }) (record was { source = g.I.Source.faults c.args.source.now })
-    (record are { source = g.I.Source.faults c.script_of.new.source }) c.args.flash c.args.sink.now c.run_by_table.result c.run_by_table.new.files c.run_by_table.new.sink) (sym c.in-Partitions.is)
-    (c.run_by_table.ensures.way (Some (plain_of from)) (record given { script = text_of from left }) (record was { source = g.I.Source.faults c.args.source.now }) (record are { source = g.I.Source.faults c.script_of.new.source })
-    (record { good = listed; asks = asks-of from; has = c.in-Ok.ensures.script }) told before)
+    subst (λ (p : Place). GoesAt p g.D.Flash g.H.Files g.O.Sink (g.V.Verifier.passes c.args.verifier.now) (Some (plain_of from)) (record given { script = text_of from left }) (g.I.Source.faults c.args.source.now)
+    (g.I.Source.faults c.script_of.new.source) c.args.flash c.args.files.now c.args.sink.now c.run_by_table.result c.run_by_table.new.files c.run_by_table.new.sink) (sym c.in-Partitions.is)
+    (c.run_by_table.ensures.way (Some (plain_of from)) (record given { script = text_of from left }) (g.I.Source.faults c.args.source.now) (g.I.Source.faults c.script_of.new.source)
+    (record { good = listed; asks = asks-of from; has = c.in-Ok.ensures.script }) told)
 
 pub returns-in-Partitions-clause-boot_files : goal.returns-in-Partitions-clause-boot_files
 returns-in-Partitions-clause-boot_files g c = λ boot. c.run_by_table.ensures.files (c.in-Ok.ensures.boot_sends boot)

@@ -7,26 +7,26 @@ use Rattle.script_runs.proofs.TopPrints.{later}
 use Rattle.script_runs.proofs.partitioned.run_by_table.Goals as goal
 
 pub returns-in-Ok-clause-way : goal.returns-in-Ok-clause-way
-returns-in-Ok-clause-way g c = λ asked given was are reads told later.
+returns-in-Ok-clause-way g c = λ asked given was are reads told.
     let e = c.run_at.ensures in
-    ran c.args.ready.script c.in-Ok.places (moment g.D.Flash c.open.new.flash) e.ran.0 (g.H.Files.faults c.args.files.now) reads c.in-Ok.ensures.opens later (ran-told _ _ _ _ _ _ _ _ _ told e.ran.1) e.beside e.touches e.ends.ended e.ends.plain e.ends.printed
+    ran c.args.ready.script c.in-Ok.places (moment g.D.Flash c.open.new.flash) e.ran.0 reads c.in-Ok.ensures.opens (ran-told _ _ _ _ _ _ _ _ _ told e.ran.1) e.beside e.touches e.ends.ended e.ends.plain e.ends.printed
 
 pub returns-in-Err-Lacks-clause-way : goal.returns-in-Err-Lacks-clause-way
-returns-in-Err-Lacks-clause-way g c = λ asked given was are reads told later.
+returns-in-Err-Lacks-clause-way g c = λ asked given was are reads told.
     let e = c.refuse.ensures in
     let opens = rw c.in-Err-Lacks.field-0-is at c.in-Err-Lacks.ensures.opens in
     lacked-way _ _ _ _ _ _ _ _ _ _ asked given _ _ _ c.args.ready.script c.in-Err-Lacks.lack reads e.no_turns opens.0 opens.1
     (ap (moment g.D.Flash) e.flash) e.note e.prints
 
 pub returns-in-Err-Stopped-clause-way : goal.returns-in-Err-Stopped-clause-way
-returns-in-Err-Stopped-clause-way g c = λ asked given was are reads told later.
+returns-in-Err-Stopped-clause-way g c = λ asked given was are reads told.
     let e = c.refuse-in-Err-Stopped.ensures in
     let opens = rw c.in-Err-Stopped.field-0-is at c.in-Err-Stopped.ensures.opens in
     stopped-way _ _ _ _ _ _ _ _ _ _ asked given _ _ _ c.args.ready.script reads e.no_turns opens
     (ap (moment g.D.Flash) e.flash) e.note e.prints
 
 pub returns-clause-way : goal.returns-clause-way
-returns-clause-way g c = λ asked given was are reads told later.
+returns-clause-way g c = λ asked given was are reads told.
     let e = c.refuse-in-Err-NoMemory.ensures in
     let stuck = e.starved refl in
     let opens = rw c.in-Err-NoMemory.field-0-is at c.in-Err-NoMemory.ensures.opens in
