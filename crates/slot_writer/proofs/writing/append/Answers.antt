@@ -37,17 +37,3 @@ returns-clause-kept g c =
     subst (λ (l : List ℕ). OnOk c.append_whole-2.result (take (length l % 16) left ≡ drop (length l - length l % 16) l)) (take_rest bytes room) c.append_whole-2.ensures.kept in
     on_ok_weaker {P = take (length (drop room bytes) % 16) left ≡ drop (length (drop room bytes) - length (drop room bytes) % 16) (drop room bytes)} c.append_whole-2.result
     (kept-filled c.args.size room c.args.rest.now bytes left some (omega arith) enough c.told-rest) kept
-
-pub returns-clause-arming : goal.returns-clause-arming
-returns-clause-arming g c =
-    let bytes = c.args.bytes.now in
-    let some : 0 < c.args.size % 16 = omega (arith, c.if-kept-eq0.false) in
-    let room : ℕ = 16 - c.args.size % 16 in
-    let enough : room ≤ length bytes = omega (arith, c.if-kept-bytes-lt-GRANULE.false, some) in
-    let m : ℕ = length (take (length bytes - room) (drop room bytes)) in
-    let m_is : length bytes ≡ room + m = omega (arith, enough, ap length (take_rest bytes room), length-drop room bytes) in
-    let n : ℕ = length c.keep-2.new.rest in
-    let sum : writes_behind (done_of c.args.size) n + writes_behind (done_of c.args.size + 16) (m - m % 16) ≡ writes_to_append c.args.size (length bytes) =
-    ap (λ (k : ℕ). writes_behind (done_of c.args.size) k + writes_behind (done_of c.args.size + 16) (m - m % 16)) c.keep-2.array_long ∙ appends-filled c.args.size room (length bytes) m some (omega arith) m_is in
-    spends_then_arming tt c.append_whole-2.result (writes_behind (done_of c.args.size) n) (writes_behind (done_of c.args.size + 16) (m - m % 16)) (writes_to_append c.args.size (length bytes)) _ _ _ _ _ _ sum
-    c.in_ok-program_behind.ensures.goes.costs.cuts c.in_ok-program_behind.ensures.arming c.append_whole-2.ensures.arming

@@ -36,20 +36,3 @@ loop-block-preserved g c = record {
       subst (Erases (Ok tt) c.args.first (b + 1) s) (sym (c.in_ok-erase.ensures.content tells))
       (erase_more c.args.first c.args.end b s _ (omega arith) (omega arith) room _ tt (c.loop-block.invariant.erases tells));
 }
-
-pub returns-in_err-erase-clause-arming : goal.returns-in_err-erase-clause-arming
-returns-in_err-erase-clause-arming g c =
-    let p = err_from_is_err_and c.from_residual.result c.from_residual.ensures.1 in
-    spends_stopped c.in_err-erase.field-0.0 c.from_residual.result (c.loop-block.block - c.args.first + 1) _ _ _ _ _ (p.1 ∙ ap Err p.2)
-    (spends_then_arming tt (Err c.in_err-erase.field-0.0) (c.loop-block.block - c.args.first) 1 _ _ _ _ _ _ _ refl c.loop-block.invariant.costs.cuts c.loop-block.invariant.arming
-    (spends_one (Err c.in_err-erase.field-0.0) _ _ _ _ c.in_err-erase.ensures.arming c.in_err-erase.ensures.reached))
-
-pub returns-clause-arming : goal.returns-clause-arming
-returns-clause-arming g c =
-    subst (λ (n : ℕ). SpendsArming {T = Unit {0}} (Ok tt) n (g.D.Flash.arming c.args.flash.now) (g.D.Flash.arming c.loop-block.flash) (g.D.Flash.counts c.args.flash.now) (g.D.Flash.counts c.loop-block.flash)) (omega arith)
-    c.loop-block.invariant.arming
-
-pub returns-in_err-erase-clause-touches : goal.returns-in_err-erase-clause-touches
-returns-in_err-erase-clause-touches g c =
-    touches_then (4096 * c.args.first) (4096 * c.args.end) c.loop-block.invariant.touches
-    (touches_wider (4096 * c.loop-block.block) (4096 * c.loop-block.block + 4096) (4096 * c.args.first) (4096 * c.args.end) (omega arith) (omega arith) c.in_err-erase.ensures.touches)

@@ -14,13 +14,3 @@ returns-clause-finishes g c tells =
     let fits : 4096 * c.args.first + 4096 * blocks_for c.args.size ≤ length s.now = omega (arith, c.requires.inside, (g.met.D.Flash.sound c.args.flash.now tells).size) in
     subst (FinishesImage c.barrier.result c.args.first c.args.size c.args.rest.now s) (sym (c.barrier.ensures.content tells))
     (finished-by c.args.first c.args.size c.granule_for.result c.args.rest.now c.padded-last.result s m c.granule_for.ensures c.told-rest fits c.padded-last.ensures (c.in_ok-program_behind.ensures.programs tells) c.barrier.result)
-
-pub returns-clause-arming : goal.returns-clause-arming
-returns-clause-arming g c =
-    let size = c.args.size in
-    let n : ℕ = length (take c.granule_for.result c.padded-last.result) in
-    let n_is : n ≡ 16 * ((size % 16 + 15) / 16) =
-    length-take-le c.granule_for.result c.padded-last.result (omega (arith, c.granule_for.ensures, padded_size (size % 16) c.args.rest.now c.padded-last.result (omega arith) c.told-rest c.padded-last.ensures)) ∙ c.granule_for.ensures in
-    spends_then_arming tt c.barrier.result (writes_behind (done_of size) n) 0 (writes_to_finish size) _ _ _ _ _ _
-    (ap (λ (k : ℕ). writes_behind (done_of size) k + 0) n_is ∙ finishes-kept size)
-    c.in_ok-program_behind.ensures.goes.costs.cuts c.in_ok-program_behind.ensures.arming (spends_barrier c.barrier.result _ _ _ _ c.barrier.ensures.arming c.barrier.ensures.reached)

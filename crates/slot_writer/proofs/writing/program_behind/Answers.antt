@@ -22,13 +22,3 @@ returns-clause-programs g c tells =
     let room : 4096 * (c.args.first + blocks_for (c.args.done + length c.args.bytes.now)) ≤ length s.now = omega (arith, c.requires.inside, (g.met.D.Flash.sound c.args.flash.now tells).size) in
     subst (Programs c.program.result c.args.first c.args.done c.args.bytes.now s) (sym (c.program.ensures.content tells))
     (programs_written c.args.first c.args.done _ _ c.args.bytes.now s (g.D.Flash.told c.erase_blocks.new.flash) (ap (λ (n : ℕ). c.args.first + n) c.blocks_for.ensures) (ap (λ (n : ℕ). c.args.first + n) c.blocks_for-2.ensures) some c.in_ok-erase_blocks.field-0 room (c.requires.ahead tells) (c.in_ok-erase_blocks.ensures.erases tells) c.program.result)
-
-pub returns-clause-arming : goal.returns-clause-arming
-returns-clause-arming g c =
-    let done = c.args.done in
-    let n = length c.args.bytes.now in
-    let some : 0 < length c.args.bytes.now = search rules in
-    let erased : ℕ = c.args.first + c.blocks_for-2.result - (c.args.first + c.blocks_for.result) in
-    let total : erased + 1 ≡ writes_behind done n = omega (arith, c.blocks_for.ensures, c.blocks_for-2.ensures, behind-some done n some) in
-    spends_then_arming tt c.program.result erased 1 (writes_behind done n) _ _ _ _ _ _ total c.in_ok-erase_blocks.ensures.goes.costs.cuts c.in_ok-erase_blocks.ensures.arming
-    (spends_one c.program.result _ _ _ _ c.program.ensures.arming c.program.ensures.reached)
