@@ -2,7 +2,7 @@
 use Rattle.std.proofs.Common.{◌≡◌, ◌≢◌, ℕ, zero, suc, ◌+◌, ◌*◌, ◌<◌, ◌≤◌, Bool, true, false, cond, ◌&&◌, ◌||◌, List, [], ◌∷◌, ◌++◌, length, take, map, get_or, set, replicate, Option, Some, None, refl, sym, ap, subst, ◌∙◌, arith, inl, inr, length-set, get_or-set_same, get_or-set_other, ext_get_or, append-nil, IsTrue, ltb}
 use Rattle.std.specs.Prelude.{flat_map}
 use Rattle.std.specs.List.{list_any, list_all, range_with_len, position_or_len}
-use Rattle.std.proofs.lemmas.Bool.{lt-ltb, le-ltb, cases_eq, cases_lt, cases_Bool}
+use Rattle.std.proofs.lemmas.Bool.{lt-ltb, le-ltb, cases_eq, cases_lt}
 use Rattle.std.proofs.lemmas.List.{length-replicate, length-map, length-append, get_or-map, set-set, take_all, length-take}
 use Rattle.std.proofs.lemmas.List.FromFn.{length-map-range_with_len, get_or-map-range_with_len}
 use Rattle.std.proofs.lemmas.List.Sums.{position_or_len_is}
@@ -22,17 +22,12 @@ use Rattle.fwu_model.specs.Answer.{Answer, answered, refused, answer, answer_beg
 use Rattle.fwu_model.specs.InRow.{replies_of, moves_of, session_of, is_done, ComeTo, piece_count, piece, copy_calls, copy_unless, begin_calls}
 use Rattle.fwu_model.specs.Law.{PartialBeginsAreCalls}
 use Rattle.fwu_model.proofs.Sessions.{nothing-at}
-use Rattle.fwu_model.proofs.Staging.{same-self, same-is, distinct-at}
+use Rattle.fwu_model.proofs.Matches.{no_row}
+use Rattle.fwu_model.proofs.Staging.{same-self, differs, distinct-at}
 use Rattle.fwu_model.proofs.Selects.{layout-distinct}
 use Rattle.fwu_model.proofs.ImageSizes.{image-fits}
 
-abbrev no_row : ImageRow
-no_row = record { guid = []; slots = 0 }
-
 -- ---- the type of an image finds it
-
-differs : (xs ys : List ℕ) → xs ≢ ys → same_bytes xs ys ≡ false
-differs xs ys ne = elim (cases_Bool (same_bytes xs ys)) [ inl e ↦ absurd (ne (same-is xs ys e)) | inr e ↦ e ]
 
 own-place : (rows : List ImageRow) (k : ℕ) → IsTrue (are_distinct (map (λ r. r.guid) rows)) → k < length rows
     → position_or_len (λ (r : ImageRow). same_bytes r.guid (type_of_image rows k)) rows ≡ k
