@@ -182,29 +182,31 @@ module _ (named : List Bool) (bytes : ℕ → List ℕ) where
       past : k ≤ i → k + 1 ≤ i
       past le = elim (cases_lt k i) [ inl lt ↦ omega (arith, lt) | inr ge ↦ absurd (ne (omega (arith, le, ge))) ]
 
+  -- a list with these images is what is staged
+  first-is : (k : ℕ) (ys : List Staged) → length ys ≡ length named
+      → ((i : ℕ) → i < length named → part named k bytes i ≡ get_or ys i Nothing) → copied_first named k bytes ≡ ys
+  first-is k ys count same =
+      let long = first-long k in
+      ext_get_or Nothing (copied_first named k bytes) ys (long ∙ sym count) (λ i below.
+      let lt : i < length named = omega (arith, below, long) in
+      first-at k i lt ∙ same i lt)
+
   first-none : copied_first named 0 bytes ≡ replicate (length named) Nothing
   first-none =
-      let long = first-long 0 in
-      ext_get_or Nothing (copied_first named 0 bytes) (replicate (length named) Nothing) (long ∙ sym (length-replicate (length named) Nothing)) (λ i below.
-      first-at 0 i (omega (arith, below, long)) ∙ over 0 i (omega arith) ∙ sym (nothing-at (length named) i))
+      first-is 0 (replicate (length named) Nothing) (length-replicate (length named) Nothing) (λ i lt.
+      over 0 i (omega arith) ∙ sym (nothing-at (length named) i))
 
   first-all : copied_first named (length named) bytes ≡ copied_parts named bytes
   unfolding copied_parts
   first-all =
       let g = λ (i : ℕ). copied_part (get_or named i true) (bytes i) in
-      let long = first-long (length named) in
-      let also = length-map-range_with_len g 0 (length named) in
-      ext_get_or Nothing (copied_first named (length named) bytes) (listed (length named) g) (long ∙ sym also) (λ i below.
-      let lt : i < length named = omega (arith, below, long) in
-      first-at (length named) i lt ∙ under (length named) i lt ∙ sym (get_or-map-range_with_len g 0 (length named) i i Nothing lt (omega arith)))
+      first-is (length named) (listed (length named) g) (length-map-range_with_len g 0 (length named)) (λ i lt.
+      under (length named) i lt ∙ sym (get_or-map-range_with_len g 0 (length named) i i Nothing lt (omega arith)))
 
   -- an image that is named stays nothing
   next-named : (k : ℕ) → get_or named k true ≡ true → copied_first named (k + 1) bytes ≡ copied_first named k bytes
   next-named k is =
-      let long = first-long (k + 1) in
-      ext_get_or Nothing (copied_first named (k + 1) bytes) (copied_first named k bytes) (long ∙ sym (first-long k)) (λ i below.
-      let lt : i < length named = omega (arith, below, long) in
-      first-at (k + 1) i lt ∙ same i ∙ sym (first-at k i lt))
+      first-is (k + 1) (copied_first named k bytes) (first-long k) (λ i lt. same i ∙ sym (first-at k i lt))
     where
       same : (i : ℕ) → part named (k + 1) bytes i ≡ part named k bytes i
       same i = elim (cases_eq i k) [
@@ -217,22 +219,14 @@ module _ (named : List Bool) (bytes : ℕ → List ℕ) where
   next-copied : (k : ℕ) → get_or named k true ≡ false → k < length named
       → set (copied_first named k bytes) k (Committed (bytes k) true) ≡ copied_first named (k + 1) bytes
   next-copied k is below-k =
+      let y = Committed (bytes k) true in
       let old = copied_first named k bytes in
-      let long = first-long k in
-      let size = length-set old k (Committed (bytes k) true) in
-      ext_get_or Nothing (set old k (Committed (bytes k) true)) (copied_first named (k + 1) bytes) (size ∙ long ∙ sym (first-long (k + 1))) (λ i below.
-      let lt : i < length named = omega (arith, below, size, long) in
-      by-place i lt ∙ sym (first-at (k + 1) i lt))
-    where
-      by-place : (i : ℕ) → i < length named → get_or (set (copied_first named k bytes) k (Committed (bytes k) true)) i Nothing ≡ part named (k + 1) bytes i
-      by-place i lt = elim (cases_eq i k) [
+      sym (first-is (k + 1) (set old k y) (length-set old k y ∙ first-long k) (λ i lt. elim (cases_eq i k) [
         | inl e ↦
-            ap (λ (j : ℕ). get_or (set (copied_first named k bytes) k (Committed (bytes k) true)) j Nothing) e
-            ∙ get_or-set_same (copied_first named k bytes) k (Committed (bytes k) true) Nothing (omega (arith, below-k, first-long k))
-            ∙ ap (λ (j : ℕ). Committed (bytes j) true) (sym e)
-            ∙ sym (under (k + 1) i (omega (arith, e)) ∙ ap (λ (b : Bool). copied_part b (bytes i)) (ap (λ (j : ℕ). get_or named j true) e ∙ is))
-        | inr ne ↦ get_or-set_other (copied_first named k bytes) k i (Committed (bytes k) true) Nothing ne ∙ first-at k i lt ∙ sym (elsewhere k i ne)
-      ]
+            let here : get_or (set old k y) k Nothing ≡ y = get_or-set_same old k y Nothing (omega (arith, below-k, first-long k)) in
+            rw e (under (k + 1) k (omega arith) ∙ ap (λ (b : Bool). copied_part b (bytes k)) is ∙ sym here)
+        | inr ne ↦ elsewhere k i ne ∙ sym (get_or-set_other old k i y Nothing ne ∙ first-at k i lt)
+      ]))
 
   module _ (E : Setting) (s : State) (boot : ℕ) (many : length named ≡ length E.layout.rows)
       (distinct : IsTrue (are_distinct (map (λ r. r.guid) E.layout.rows)))

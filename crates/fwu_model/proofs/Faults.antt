@@ -55,4 +55,5 @@ table_or-kind says (Err f) is = is f
 pub table-kind : (file : List ℕ) → NoBootErr (table_in file)
 table-kind file =
     cond_both (is_capsule file) (table_or reply.BadCapsule (capsule_of file)) (table_or reply.BadPackage (toc_of file)) NoBootErr
-    (λ e. table_or-kind reply.BadCapsule (capsule_of file) (λ f. refl)) (λ e. table_or-kind reply.BadPackage (toc_of file) (λ f. refl))
+    (λ e. table_or-kind reply.BadCapsule (capsule_of file) (λ f. refl))
+    (λ e. table_or-kind reply.BadPackage (toc_of file) (λ f. refl))
