@@ -3,7 +3,7 @@ use Rattle.std.proofs.Common.{◌≡◌, ◌≢◌, ℕ, zero, suc, ◌+◌, ◌
 use Rattle.std.specs.Prelude.{flat_map}
 use Rattle.std.specs.List.{list_any, list_all, range_with_len, position_or_len}
 use Rattle.std.proofs.lemmas.Bool.{lt-ltb, le-ltb, cases_eq, cases_lt}
-use Rattle.std.proofs.lemmas.List.{length-replicate, length-map, length-append, get_or-map, set-set, take_all, length-take}
+use Rattle.std.proofs.lemmas.List.{length-replicate, length-map, length-append, set-set, take_all, length-take}
 use Rattle.std.proofs.lemmas.List.FromFn.{length-map-range_with_len, get_or-map-range_with_len}
 use Rattle.std.proofs.lemmas.List.Sums.{position_or_len_is}
 use Rattle.std.proofs.Math.Seq.{take-add}
@@ -23,7 +23,7 @@ use Rattle.fwu_model.specs.InRow.{replies_of, moves_of, session_of, is_done, Com
 use Rattle.fwu_model.specs.Law.{PartialBeginsAreCalls}
 use Rattle.fwu_model.proofs.Sessions.{nothing-at}
 use Rattle.fwu_model.proofs.Matches.{no_row}
-use Rattle.fwu_model.proofs.Staging.{same-self, differs, distinct-at}
+use Rattle.fwu_model.proofs.Staging.{same-self, differs, type-other}
 use Rattle.fwu_model.proofs.Selects.{layout-distinct}
 use Rattle.fwu_model.proofs.ImageSizes.{image-fits}
 
@@ -32,16 +32,11 @@ use Rattle.fwu_model.proofs.ImageSizes.{image-fits}
 own-place : (rows : List ImageRow) (k : ℕ) → IsTrue (are_distinct (map (λ r. r.guid) rows)) → k < length rows
     → position_or_len (λ (r : ImageRow). same_bytes r.guid (type_of_image rows k)) rows ≡ k
 own-place rows k distinct lt =
-    position_or_len_is (λ (r : ImageRow). same_bytes r.guid (type_of_image rows k)) rows k no_row (omega (arith, lt))
-    (λ j below. differs (type_of_image rows j) (type_of_image rows k) (other j below)) (λ there. same-self (type_of_image rows k))
-  where
-    other : (j : ℕ) → j < k → type_of_image rows j ≢ type_of_image rows k
-    other j below e =
-        let len = length-map rows (λ (q : ImageRow). q.guid) in
-        let far : j < length rows = omega (arith, below, lt) in
-        distinct-at (map (λ (q : ImageRow). q.guid) rows) j k distinct (omega (arith, len, far)) (omega (arith, len, lt))
-        (λ z. absurd (omega (arith, z, below)))
-        (get_or-map (λ (q : ImageRow). q.guid) rows j no_row [] far ∙ e ∙ sym (get_or-map (λ (q : ImageRow). q.guid) rows k no_row [] lt))
+    let type = type_of_image rows k in
+    position_or_len_is (λ (r : ImageRow). same_bytes r.guid type) rows k no_row (omega (arith, lt)) (λ j below.
+    differs (type_of_image rows j) type (type-other rows j k distinct (omega (arith, below, lt)) lt
+    (λ z. absurd (omega (arith, z, below)))))
+    (λ there. same-self type)
 
 finds-own : (rows : List ImageRow) (k : ℕ) → IsTrue (are_distinct (map (λ r. r.guid) rows)) → k < length rows
     → find_image rows (type_of_image rows k) ≡ Some k
@@ -223,7 +218,7 @@ module _ (named : List Bool) (bytes : ℕ → List ℕ) where
       let old = copied_first named k bytes in
       sym (first-is (k + 1) (set old k y) (length-set old k y ∙ first-long k) (λ i lt. elim (cases_eq i k) [
         | inl e ↦
-            let here : get_or (set old k y) k Nothing ≡ y = get_or-set_same old k y Nothing (omega (arith, below-k, first-long k)) in
+            let here = get_or-set_same old k y Nothing (omega (arith, below-k, first-long k)) in
             rw e (under (k + 1) k (omega arith) ∙ ap (λ (b : Bool). copied_part b (bytes k)) is ∙ sym here)
         | inr ne ↦ elsewhere k i ne ∙ sym (get_or-set_other old k i y Nothing ne ∙ first-at k i lt)
       ]))
