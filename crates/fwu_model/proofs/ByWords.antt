@@ -1,7 +1,5 @@
 -- What a run gives that has no partial update: it is told by the words of its journal alone.
-use Rattle.std.proofs.Common.{◌≡◌, ℕ, ◌<◌, Bool, true, false, cond, ◌&&◌, List, [], ◌∷◌, ◌++◌, length, map, Option, refl, sym, ap, ap₂, ◌∙◌, arith, ext_get_or, IsFalse}
-use Rattle.std.specs.List.{list_any}
-use Rattle.std.proofs.lemmas.Bool.{or_parts}
+use Rattle.std.proofs.Common.{◌≡◌, ℕ, ◌<◌, Bool, true, false, cond, List, [], ◌∷◌, length, map, Option, refl, sym, ap, ◌∙◌, arith, ext_get_or, IsFalse}
 use Rattle.std.proofs.lemmas.List.{length-map, get_or-map}
 use Rattle.std.proofs.lemmas.List.FromFn.{length-map-range_with_len, get_or-map-range_with_len}
 use Rattle.base_core.specs.Bytes.{listed}
@@ -12,8 +10,7 @@ use Rattle.fwu_model.specs.Call.{Call}
 use Rattle.fwu_model.specs.Call as call
 use Rattle.fwu_model.specs.Reply.{Reply, Turn}
 use Rattle.fwu_model.specs.Answer.{type_of_image}
-use Rattle.fwu_model.specs.Run.{Condition, start_of, state_at_turn, RunsOn, Runs}
-use Rattle.fwu_model.specs.Given.{is_success, maybe_done, bytes_given, Since, package_given, file_given, given_by, begins, copied_by, since_begin, given_on, given}
+use Rattle.fwu_model.specs.Given.{maybe_done, bytes_given, Since, package_given, file_given, given_by}
 
 abbrev pub is_partial : Call → Bool
 is_partial (call.BeginPartial types) = true

@@ -2,8 +2,8 @@
 use Rattle.std.proofs.Common.{◌≡◌, ◌≢◌, ℕ, zero, suc, ◌+◌, ◌*◌, ◌<◌, ◌≤◌, Bool, true, false, cond, ◌&&◌, ◌||◌, List, [], ◌∷◌, ◌++◌, length, take, map, get_or, set, replicate, Option, Some, None, refl, sym, ap, subst, ◌∙◌, arith, inl, inr, length-set, get_or-set_same, get_or-set_other, ext_get_or, append-nil, IsTrue, ltb}
 use Rattle.std.specs.Prelude.{flat_map}
 use Rattle.std.specs.List.{list_any, list_all, range_with_len, position_or_len}
-use Rattle.std.proofs.lemmas.Bool.{lt-ltb, le-ltb, cases_eq, cases_lt, cases_Bool}
-use Rattle.std.proofs.lemmas.List.{length-replicate, length-map, length-append, get_or-map, set-set, take_all, length-take}
+use Rattle.std.proofs.lemmas.Bool.{lt-ltb, le-ltb, cases_eq, cases_lt}
+use Rattle.std.proofs.lemmas.List.{length-replicate, length-map, length-append, set-set, take_all, length-take}
 use Rattle.std.proofs.lemmas.List.FromFn.{length-map-range_with_len, get_or-map-range_with_len}
 use Rattle.std.proofs.lemmas.List.Sums.{position_or_len_is}
 use Rattle.std.proofs.Math.Seq.{take-add}
@@ -22,31 +22,21 @@ use Rattle.fwu_model.specs.Answer.{Answer, answered, refused, answer, answer_beg
 use Rattle.fwu_model.specs.InRow.{replies_of, moves_of, session_of, is_done, ComeTo, piece_count, piece, copy_calls, copy_unless, begin_calls}
 use Rattle.fwu_model.specs.Law.{PartialBeginsAreCalls}
 use Rattle.fwu_model.proofs.Sessions.{nothing-at}
-use Rattle.fwu_model.proofs.Staging.{same-self, same-is, distinct-at}
+use Rattle.fwu_model.proofs.Matches.{no_row}
+use Rattle.fwu_model.proofs.Staging.{same-self, differs, type-other}
 use Rattle.fwu_model.proofs.Selects.{layout-distinct}
 use Rattle.fwu_model.proofs.ImageSizes.{image-fits}
 
-abbrev no_row : ImageRow
-no_row = record { guid = []; slots = 0 }
-
 -- ---- the type of an image finds it
-
-differs : (xs ys : List ℕ) → xs ≢ ys → same_bytes xs ys ≡ false
-differs xs ys ne = elim (cases_Bool (same_bytes xs ys)) [ inl e ↦ absurd (ne (same-is xs ys e)) | inr e ↦ e ]
 
 own-place : (rows : List ImageRow) (k : ℕ) → IsTrue (are_distinct (map (λ r. r.guid) rows)) → k < length rows
     → position_or_len (λ (r : ImageRow). same_bytes r.guid (type_of_image rows k)) rows ≡ k
 own-place rows k distinct lt =
-    position_or_len_is (λ (r : ImageRow). same_bytes r.guid (type_of_image rows k)) rows k no_row (omega (arith, lt))
-    (λ j below. differs (type_of_image rows j) (type_of_image rows k) (other j below)) (λ there. same-self (type_of_image rows k))
-  where
-    other : (j : ℕ) → j < k → type_of_image rows j ≢ type_of_image rows k
-    other j below e =
-        let len = length-map rows (λ (q : ImageRow). q.guid) in
-        let far : j < length rows = omega (arith, below, lt) in
-        distinct-at (map (λ (q : ImageRow). q.guid) rows) j k distinct (omega (arith, len, far)) (omega (arith, len, lt))
-        (λ z. absurd (omega (arith, z, below)))
-        (get_or-map (λ (q : ImageRow). q.guid) rows j no_row [] far ∙ e ∙ sym (get_or-map (λ (q : ImageRow). q.guid) rows k no_row [] lt))
+    let type = type_of_image rows k in
+    position_or_len_is (λ (r : ImageRow). same_bytes r.guid type) rows k no_row (omega (arith, lt)) (λ j below.
+    differs (type_of_image rows j) type (type-other rows j k distinct (omega (arith, below, lt)) lt
+    (λ z. absurd (omega (arith, z, below)))))
+    (λ there. same-self type)
 
 finds-own : (rows : List ImageRow) (k : ℕ) → IsTrue (are_distinct (map (λ r. r.guid) rows)) → k < length rows
     → find_image rows (type_of_image rows k) ≡ Some k
@@ -187,29 +177,31 @@ module _ (named : List Bool) (bytes : ℕ → List ℕ) where
       past : k ≤ i → k + 1 ≤ i
       past le = elim (cases_lt k i) [ inl lt ↦ omega (arith, lt) | inr ge ↦ absurd (ne (omega (arith, le, ge))) ]
 
+  -- a list with these images is what is staged
+  first-is : (k : ℕ) (ys : List Staged) → length ys ≡ length named
+      → ((i : ℕ) → i < length named → part named k bytes i ≡ get_or ys i Nothing) → copied_first named k bytes ≡ ys
+  first-is k ys count same =
+      let long = first-long k in
+      ext_get_or Nothing (copied_first named k bytes) ys (long ∙ sym count) (λ i below.
+      let lt : i < length named = omega (arith, below, long) in
+      first-at k i lt ∙ same i lt)
+
   first-none : copied_first named 0 bytes ≡ replicate (length named) Nothing
   first-none =
-      let long = first-long 0 in
-      ext_get_or Nothing (copied_first named 0 bytes) (replicate (length named) Nothing) (long ∙ sym (length-replicate (length named) Nothing)) (λ i below.
-      first-at 0 i (omega (arith, below, long)) ∙ over 0 i (omega arith) ∙ sym (nothing-at (length named) i))
+      first-is 0 (replicate (length named) Nothing) (length-replicate (length named) Nothing) (λ i lt.
+      over 0 i (omega arith) ∙ sym (nothing-at (length named) i))
 
   first-all : copied_first named (length named) bytes ≡ copied_parts named bytes
   unfolding copied_parts
   first-all =
       let g = λ (i : ℕ). copied_part (get_or named i true) (bytes i) in
-      let long = first-long (length named) in
-      let also = length-map-range_with_len g 0 (length named) in
-      ext_get_or Nothing (copied_first named (length named) bytes) (listed (length named) g) (long ∙ sym also) (λ i below.
-      let lt : i < length named = omega (arith, below, long) in
-      first-at (length named) i lt ∙ under (length named) i lt ∙ sym (get_or-map-range_with_len g 0 (length named) i i Nothing lt (omega arith)))
+      first-is (length named) (listed (length named) g) (length-map-range_with_len g 0 (length named)) (λ i lt.
+      under (length named) i lt ∙ sym (get_or-map-range_with_len g 0 (length named) i i Nothing lt (omega arith)))
 
   -- an image that is named stays nothing
   next-named : (k : ℕ) → get_or named k true ≡ true → copied_first named (k + 1) bytes ≡ copied_first named k bytes
   next-named k is =
-      let long = first-long (k + 1) in
-      ext_get_or Nothing (copied_first named (k + 1) bytes) (copied_first named k bytes) (long ∙ sym (first-long k)) (λ i below.
-      let lt : i < length named = omega (arith, below, long) in
-      first-at (k + 1) i lt ∙ same i ∙ sym (first-at k i lt))
+      first-is (k + 1) (copied_first named k bytes) (first-long k) (λ i lt. same i ∙ sym (first-at k i lt))
     where
       same : (i : ℕ) → part named (k + 1) bytes i ≡ part named k bytes i
       same i = elim (cases_eq i k) [
@@ -222,22 +214,14 @@ module _ (named : List Bool) (bytes : ℕ → List ℕ) where
   next-copied : (k : ℕ) → get_or named k true ≡ false → k < length named
       → set (copied_first named k bytes) k (Committed (bytes k) true) ≡ copied_first named (k + 1) bytes
   next-copied k is below-k =
+      let y = Committed (bytes k) true in
       let old = copied_first named k bytes in
-      let long = first-long k in
-      let size = length-set old k (Committed (bytes k) true) in
-      ext_get_or Nothing (set old k (Committed (bytes k) true)) (copied_first named (k + 1) bytes) (size ∙ long ∙ sym (first-long (k + 1))) (λ i below.
-      let lt : i < length named = omega (arith, below, size, long) in
-      by-place i lt ∙ sym (first-at (k + 1) i lt))
-    where
-      by-place : (i : ℕ) → i < length named → get_or (set (copied_first named k bytes) k (Committed (bytes k) true)) i Nothing ≡ part named (k + 1) bytes i
-      by-place i lt = elim (cases_eq i k) [
+      sym (first-is (k + 1) (set old k y) (length-set old k y ∙ first-long k) (λ i lt. elim (cases_eq i k) [
         | inl e ↦
-            ap (λ (j : ℕ). get_or (set (copied_first named k bytes) k (Committed (bytes k) true)) j Nothing) e
-            ∙ get_or-set_same (copied_first named k bytes) k (Committed (bytes k) true) Nothing (omega (arith, below-k, first-long k))
-            ∙ ap (λ (j : ℕ). Committed (bytes j) true) (sym e)
-            ∙ sym (under (k + 1) i (omega (arith, e)) ∙ ap (λ (b : Bool). copied_part b (bytes i)) (ap (λ (j : ℕ). get_or named j true) e ∙ is))
-        | inr ne ↦ get_or-set_other (copied_first named k bytes) k i (Committed (bytes k) true) Nothing ne ∙ first-at k i lt ∙ sym (elsewhere k i ne)
-      ]
+            let here = get_or-set_same old k y Nothing (omega (arith, below-k, first-long k)) in
+            rw e (under (k + 1) k (omega arith) ∙ ap (λ (b : Bool). copied_part b (bytes k)) is ∙ sym here)
+        | inr ne ↦ elsewhere k i ne ∙ sym (get_or-set_other old k i y Nothing ne ∙ first-at k i lt)
+      ]))
 
   module _ (E : Setting) (s : State) (boot : ℕ) (many : length named ≡ length E.layout.rows)
       (distinct : IsTrue (are_distinct (map (λ r. r.guid) E.layout.rows)))

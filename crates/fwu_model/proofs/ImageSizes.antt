@@ -13,9 +13,7 @@ use Rattle.base_core.proofs.Results.{ok-is}
 use Rattle.fwu_formats.proofs.Read.{manifest-holds}
 use Rattle.fwu_formats.proofs.SealLaws.{limits}
 use Rattle.fwu_formats.proofs.Written.{rows-fit}
-
-abbrev no_row : ImageRow
-no_row = record { guid = []; slots = 0 }
+use Rattle.fwu_model.proofs.Matches.{no_row}
 
 sized-at : (rows : List Row) (images : List (List ℕ)) (d : Row) (j : ℕ) → IsTrue (all_paired is_image_of rows images) → j < length rows
     → j < length images → length (get_or images j []) ≡ (get_or rows j d).size
