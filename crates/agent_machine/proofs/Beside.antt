@@ -99,13 +99,6 @@ module _ (f : Fields) {a b : ℕ → ℕ} where
       by (inl low) = inl (omega (arith, low))
       by (inr high) = inr (omega (arith, high))
 
-  pub marks-block : TouchesOnly (4096 * 3) (4096 * 3 + 4096) a b → SparesBlocks f a b
-  marks-block touches n spared = touches n (by spared.0)
-    where
-      by : IsBesideMetadata (4096 * n) → (4096 * n + 4096 ≤ 4096 * 3) ⊎ (4096 * 3 + 4096 ≤ 4096 * n)
-      by (inl low) = inl (omega (arith, low))
-      by (inr high) = inr (omega (arith, high))
-
 -- ---- a slot of the update bank
 
 slot-inside : (L : Layout) (bank image i : ℕ) → IsBesideBank L bank i

@@ -73,14 +73,8 @@ module _ (old new : Moment) (fitting : Fitting old.fields) (sound : SessionSound
       (sym (quiet-moves (state_before old) (staging_before old) p quiet)) (does-nothing {T = Unit {0}} (Ok tt) E (state_before old) old.told ready)))
       (λ tells rest. subst IsAtRest (sym told) rest) (λ tells. spared-told (IsSpared old.fields) old.told new.told told)
       (blocks-still (IsSpared old.fields) still)
-      (λ tells. decides-same old.fields.layout old.fields.meta new.fields.meta old.told new.told told) (record {
-        tells = out.tells;
-        layout = out.beside.layout;
-        boot = out.beside.boot;
-        counter = out.beside.counter;
-        lengths = out.beside.lengths;
-        guard = λ tells. ap (λ (t : Told). t.guard) told;
-      })
+      (λ tells. decides-same old.fields.layout old.fields.meta new.fields.meta old.told new.told told)
+      (let guard : new.told.guard ≡ old.told.guard = ap (λ (t : Told). t.guard) told in assumption)
 
   pub quiet-meets : {T : Type 0} (Says : T → Reply → Type 0) (value : T)
       → ((E : Setting) (s : State) (x : Session) → IsSettingOf old.fields passes E → Shows old s x → Says value (planned_in E s x bytes p).reply)

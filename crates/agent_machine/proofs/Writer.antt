@@ -4,7 +4,7 @@ use Rattle.std.proofs.lemmas.List.FromFn.{length-map-range_with_len}
 use Rattle.std.proofs.Math.ListN as listn
 use Rattle.sha2.specs.declared.Sha256.{Sha256}
 use Rattle.fwu_model.specs.State.{State}
-use Rattle.fwu_model.specs.Session.{Session, On, Staged, no_handles}
+use Rattle.fwu_model.specs.Session.{On, Staged, no_handles}
 use Rattle.fwu_model.specs.Session as machine
 use Rattle.agent_kept.specs.declared.parts.Part.{Part}
 use Rattle.agent_kept.specs.declared.parts.Part.TheVariants.{Nothing, Open, Committed}
