@@ -1,13 +1,15 @@
 -- What a call answers to each machine that the agent shows, from what is decided and how that is settled.
-use Rattle.std.proofs.Common.{◌≡◌, ℕ, zero, suc, ◌+◌, ◌-◌, ◌*◌, ◌<◌, ◌≤◌, min, Bool, true, false, cond, List, [], ◌++◌, length, get_or, take, map, flat_map, Option, Some, None, Result, Ok, Err, leb, refl, sym, ap, ap₂, ◌∙◌, subst, arith, IsTrue}
+use Rattle.std.proofs.Common.{◌≡◌, ◌⊎◌, inl, inr, ℕ, zero, suc, ◌+◌, ◌-◌, ◌*◌, ◌<◌, ◌≤◌, min, Bool, true, false, cond, List, [], ◌++◌, length, get_or, take, map, flat_map, Option, Some, None, Result, Ok, Err, leb, refl, sym, ap, ap₂, ◌∙◌, subst, arith, IsTrue}
 use Rattle.std.proofs.Math.ListN as listn
 use Rattle.std.proofs.lemmas.List.{length-append, get_or-take}
 use Rattle.std.proofs.lemmas.Bool.{and_parts, leb-true}
+use Rattle.std.specs.Prelude.{IsErr}
 use Rattle.std.specs.List.{range_with_len, list_all}
 use Rattle.sha2.specs.declared.Sha256.{Sha256}
 use Rattle.sha2.specs.Sha256.{sha256}
 use Rattle.sha2.specs.Hashers.{Holds256}
 use Rattle.base_core.specs.Bytes.{le, listed}
+use Rattle.flash_core.specs.Told.{Told}
 use Rattle.flash_core.specs.declared.flash.FlashStop.{FlashStop}
 use Rattle.flash_core.specs.declared.flash.FlashStop.TheVariants as flash_stop
 use Rattle.fwu_formats.proofs.Same.{listed-same}
@@ -25,7 +27,7 @@ use Rattle.fwu_model.specs.Reply.{Reply}
 use Rattle.fwu_model.specs.Answer.{staged_bytes as bytes_of, Answer, answer, refused, content, directory, directory_row, booted_package, held_package, version_in}
 use Rattle.fwu_model.specs.Calm.{IsAtRest}
 use Rattle.moves.specs.Moved.{Does, GuardedBy, IsReady}
-use Rattle.moves.proofs.Composed.{does-nothing}
+use Rattle.moves.proofs.Composed.{does-idle, does-nothing}
 use Rattle.agent_kept.specs.declared.parts.Part.{Part}
 use Rattle.agent_kept.specs.declared.parts.Part.TheVariants.{Nothing, Open, Committed}
 use Rattle.agent_kept.specs.declared.parts.Handle.TheVariants.{Reads}
@@ -46,7 +48,7 @@ pub use Rattle.agent_machine.specs.Fields.{IsImageOrDirectory}
 use Rattle.agent_machine.specs.Machine.{state_in, session_in, staged_bytes}
 use Rattle.agent_machine.specs.Knows.{Fitting, SessionSound, Knows}
 use Rattle.agent_machine.specs.Beside.{IsSpared, KeepsSpared, SparesBlocks}
-use Rattle.agent_machine.proofs.Beside.{spared-same}
+use Rattle.agent_machine.proofs.Beside.{blocks-still, spared-told}
 use Rattle.agent_machine.specs.Moment.{Moment, SpeaksOf, Shows}
 pub use Rattle.agent_machine.specs.Carries.{MeansSame, planned_moves, SameBeside, state_before, staging_before, CarriedOut}
 use Rattle.agent_machine.specs.Meets.{IsSettingOf, IsStopped, Stays, LeavesFlash, Meets, flash_result}
@@ -150,18 +152,35 @@ FitsEach f passes r bytes = (E : Setting) (s : State) → IsSettingOf f passes E
 stays-same : (m : Moment) → Stays m m
 stays-same m = assumption
 
--- an answer without moves, on a flash that stays
+-- a flash at rest is guarded, whether or not it stopped then
+pub rest-guarded : (result : Result (Unit {0}) FlashStop) (t : Told) → IsAtRest t → GuardedBy result t
+rest-guarded (Ok x) t rest = rest
+rest-guarded (Err cause) t rest = rest.guarded
+
+-- An answer without moves, or a stop before the first of them, on a flash that stays.
+pub still-leaves : (result : Result (Unit {0}) FlashStop) (passes : List ℕ → Bool) (c : Call) (old new : Moment)
+    → (IsTrue old.tells → new.told ≡ old.told) → new.writes ≡ old.writes → Stays old new
+    → ((E : Setting) (s : State) (x : Session) → IsSettingOf old.fields passes E → Shows old s x → IsTrue old.tells
+    → ((answer E s x c).moves ≡ []) ⊎ IsErr result)
+    → LeavesFlash result passes c old new
+still-leaves result passes c old new told still stays idle = record {
+  does = λ E s x setting shows tells ready.
+      let ready-then : IsReady E new.told s = subst (λ (t : Told). IsReady E t s) (sym (told tells)) ready in
+      elim (idle E s x setting shows tells) [
+        | inl none ↦ subst (λ (ms : List Move). Does result E s ms new.told) (sym none) (does-nothing result E s new.told ready-then)
+        | inr err ↦ does-idle result E s (answer E s x c).moves new.told err ready-then.calm
+      ];
+  guarded = λ tells rest. rest-guarded result new.told (subst IsAtRest (sym (told tells)) rest);
+  keeps = λ tells. spared-told (IsSpared old.fields) old.told new.told (told tells);
+  touches = blocks-still (IsSpared old.fields) still;
+  decides = λ tells. decides-same old.fields.layout old.fields.meta new.fields.meta old.told new.told (told tells);
+  stays = stays;
+}
+
 pub leaves-nothing : (m : Moment) (passes : List ℕ → Bool) (c : Call)
     → ((E : Setting) (s : State) (x : Session) → IsSettingOf m.fields passes E → Shows m s x → (answer E s x c).moves ≡ []) → LeavesFlash (Ok tt) passes c m m
-leaves-nothing m passes c none = record {
-  does = λ E s x setting shows tells ready. subst (λ (ms : List Move). Does {T = Unit {0}} (Ok tt) E s ms m.told) (sym (none E s x setting shows))
-      (does-nothing {T = Unit {0}} (Ok tt) E s m.told ready);
-  guarded = λ tells rest. rest;
-  keeps = λ tells. spared-same (IsSpared m.fields) m.told;
-  touches = λ b spared. refl;
-  decides = λ tells. decides-same m.fields.layout m.fields.meta m.fields.meta m.told m.told refl;
-  stays = stays-same m;
-}
+leaves-nothing m passes c none =
+    still-leaves (Ok tt) passes c m m (λ tells. refl) refl (stays-same m) (λ E s x setting shows tells. inl (none E s x setting shows))
 
 module _ (m : Moment) (fitting : Fitting m.fields) (sound : SessionSound m.fields) (passes : List ℕ → Bool) (r : Request) (bytes : List ℕ)
     (fits : FitsEach m.fields passes r bytes) where
@@ -229,20 +248,10 @@ planned-moves E s boot stg hs bytes q = refl
 
 -- no plan changes the version
 pub planned-form : (s : State) (stg : Option (List Staged)) (p : Plan) → (after s (planned_moves s stg p)).form ≡ s.form
-planned-form s stg plan.Tell = refl
 planned-form s stg (plan.BeginPartial true named) = refl
-planned-form s stg (plan.BeginPartial false named) = refl
 planned-form s stg (plan.Begin true) = refl
-planned-form s stg (plan.Begin false) = refl
-planned-form s stg (plan.Open h image o total) = refl
-planned-form s stg (plan.Write h image at n) = refl
-planned-form s stg (plan.Read h image at n total) = refl
-planned-form s stg (plan.Commit h image bit) = refl
-planned-form s stg plan.End = refl
-planned-form s stg plan.Cancel = refl
 planned-form s stg (plan.Accept image true) = refl
-planned-form s stg (plan.Accept image false) = refl
-planned-form s stg plan.Back = refl
+planned-form s stg other = refl
 
 -- ---- a plan that was carried out
 
@@ -271,7 +280,7 @@ module _ (old new : Moment) (fitting : Fitting old.fields) (sound : SessionSound
       (fits E s setting shows.speaks))
 
   -- the moves of the answer, where the device tells its content
-  moves-told : (E : Setting) (s : State) (x : Session) → IsSettingOf was passes E → Shows old s x → IsTrue old.tells
+  pub moves-told : (E : Setting) (s : State) (x : Session) → IsSettingOf was passes E → Shows old s x → IsTrue old.tells
       → (answer E s x call).moves ≡ planned_moves (state_before old) (staging_before old) p
   moves-told E s x setting shows tells =
       ap (λ (a : Answer). a.moves) (planned-is E s x setting shows)
@@ -390,6 +399,5 @@ module _ (old new : Moment) (fitting : Fitting old.fields) (sound : SessionSound
 pub stopped-meets : {T : Type 0} (Says : T → Reply → Type 0) (r : Stop) (passes : List ℕ → Bool) (c : Call) (old new : Moment) → IsStopped {T = T} (Err r)
     → LeavesFlash (flash_result {T = T} (Err r)) passes c old new → Meets {T = T} Says (Err r) passes c old new
 stopped-meets Says (stop.Status refusal) passes c old new stopped leaves = absurd stopped
-stopped-meets Says stop.Lost passes c old new stopped leaves = record { exact = λ E s x setting shows. tt; leaves = leaves }
-stopped-meets Says stop.Fault passes c old new stopped leaves = record { exact = λ E s x setting shows. tt; leaves = leaves }
 stopped-meets Says stop.Gone passes c old new stopped leaves = absurd stopped
+stopped-meets Says cause passes c old new stopped leaves = record { exact = λ E s x setting shows. tt; leaves = leaves }

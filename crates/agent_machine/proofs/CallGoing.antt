@@ -20,9 +20,7 @@ use Rattle.agent_machine.specs.Goes.{GoesByMoves}
 abbrev pub reply_of : {T : Type 0} → (T → Reply) → Result T Stop → Option Reply
 reply_of of (Ok x) = Some (of x)
 reply_of of (Err (stop.Status st)) = Some (Refused st)
-reply_of of (Err stop.Lost) = None
-reply_of of (Err stop.Fault) = None
-reply_of of (Err stop.Gone) = None
+reply_of of (Err cause) = None
 
 -- a call whose value says which reply it is
 abbrev pub MeetsAs : {T : Type 0} → (T → Reply) → Result T Stop → (List ℕ → Bool) → Call → Moment → Moment → Type 0
@@ -38,9 +36,7 @@ replied : {T : Type 0} (E : Setting) (of : T → Reply) (result : Result T Stop)
     → Answers (λ value a. a ≡ of value) result E s x c new → reply_of of result ≡ Some r → RepliesByMachine E s x c new r
 replied E of (Ok v) c new s x r has is = record { reply_is = sym (some-is (of v) r is) ∙ sym has.0; shows = has.1 }
 replied E of (Err (stop.Status st)) c new s x r has is = record { reply_is = sym (some-is (Refused st) r is) ∙ sym has.0; shows = has.1 }
-replied E of (Err stop.Lost) c new s x r has is = absurd (no-reply r is)
-replied E of (Err stop.Fault) c new s x r has is = absurd (no-reply r is)
-replied E of (Err stop.Gone) c new s x r has is = absurd (no-reply r is)
+replied E of (Err cause) c new s x r has is = absurd (no-reply r is)
 
 on-ok : {P : Type 0} (result : Result (Unit {0}) FlashStop) → P → OnOk result P
 on-ok (Ok u) p = p

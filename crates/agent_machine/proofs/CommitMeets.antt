@@ -1,16 +1,14 @@
 -- What the commit of an image says.
-use Rattle.std.proofs.Common.{◌≡◌, ℕ, ◌+◌, ◌-◌, ◌*◌, ◌<◌, ◌≤◌, Bool, true, false, List, [], length, get_or, Some, Ok, Err, refl, sym, ap, subst, arith, IsTrue, ◌∙◌}
+use Rattle.std.proofs.Common.{◌≡◌, ℕ, ◌+◌, ◌-◌, ◌*◌, ◌<◌, ◌≤◌, Bool, true, false, List, [], length, get_or, Some, Ok, refl, sym, ap, subst, arith, IsTrue, ◌∙◌}
 use Rattle.std.proofs.Math.Logic.{∥∥₁_map}
 use Rattle.flash_core.specs.Told.{Told}
 use Rattle.flash_core.specs.Touches.{TouchesOnly}
 use Rattle.sha2.specs.declared.Sha256.{Sha256}
 use Rattle.fwu_formats.specs.Layout.{ImageRow, start, blocks_needed}
-use Rattle.fwu_model.specs.Calm.{IsAtRest}
 use Rattle.fwu_model.specs.Session.{Session}
 use Rattle.fwu_model.specs.Call as call
 use Rattle.fwu_model.specs.Reply.{Success}
 use Rattle.moves.specs.Law.{CallResult}
-use Rattle.moves.specs.Moved.{GuardedBy}
 use Rattle.moves.proofs.Composed.{does-nothing}
 use Rattle.slot_writer.specs.Slots.{FinishesImage, blocks_for, done_of}
 use Rattle.agent_kept.specs.declared.kinds.Plan.TheVariants as plan
@@ -32,7 +30,7 @@ use Rattle.agent_machine.specs.Moment.{Moment}
 use Rattle.agent_machine.specs.Knows.{Fitting, SessionSound, Knows, SomeStaged}
 use Rattle.agent_machine.specs.Law.{StaysKnown}
 use Rattle.agent_machine.specs.Meets.{LeavesFlash, Meets}
-use Rattle.agent_machine.proofs.Answered.{leaves-by, done-meets}
+use Rattle.agent_machine.proofs.Answered.{rest-guarded, leaves-by, done-meets}
 use Rattle.agent_machine.proofs.Committing.{slot-room, finish-blocks, finish-spares, finish-stays, committed-means, committed-state, committed-knows}
 use Rattle.agent_machine.proofs.Room.{ReadsWell, set-readers, old-readers, free-well, fitting-again, staged-before}
 
@@ -75,10 +73,6 @@ module _ (f : Fields) (tells : Bool) (s t : Told) (number image : ℕ) (bit : Bo
     stays told = finish-stays result f image size s t fitting sound (knows told) (fitting.free fits.2) image-there (room told)
         (slot-room f fitting sound image image-there) (finishes told)
 
-    guarded-by : (r : CallResult) → IsAtRest t → GuardedBy r t
-    guarded-by (Ok u) rest = rest
-    guarded-by (Err why) rest = rest.guarded
-
     pub commit-leaves : {old_writes new_writes : ℕ → ℕ} → Touches old_writes new_writes → (passes : List ℕ → Bool) (h req most : ℕ)
         → DecidesRequest passes f.meta f.counter f.session f.boot (request.Commit h req most) (Do (plan.Commit number (Some image) bit)) → (g : Fields)
         → g.layout ≡ f.layout → g.boot ≡ f.boot → g.counter ≡ f.counter → g.lengths ≡ f.lengths
@@ -87,7 +81,7 @@ module _ (f : Fields) (tells : Bool) (s t : Told) (number image : ℕ) (bit : Bo
         leaves-by (old old_writes) (record { tells = tells; told = t; writes = new_writes; fields = g }) fitting sound knows passes (request.Commit h req most) []
         (λ E st setting speaks. tt) (plan.Commit number (Some image) bit) decides result
         (λ told E setting ready. does-nothing result E (state_in f s.now) t ((stays told).ready E setting.layout ready.calm ready.guarded))
-        (λ told rest. guarded-by result ((stays told).rests rest))
+        (λ told rest. rest-guarded result t ((stays told).rests rest))
         (λ told. finish-spares result f image size s t (fitting.active fits.2) (slot-room f fitting sound image image-there) (finishes told))
         (finish-blocks f image size (fitting.active fits.2) (slot-room f fitting sound image image-there) touches)
         (λ told. decides-kept f.layout f.meta _ _ s t (omega arith) (finishes told).keeps g.meta)

@@ -1,5 +1,5 @@
 -- What the agent knows is what its flash shows.
-use Rattle.std.proofs.Common.{◌≡◌, ℕ, List, Option, Some, refl, sym, ap, ◌∙◌}
+use Rattle.std.proofs.Common.{◌≡◌, ℕ, Bool, List, Option, Some, refl, sym, ap, ◌∙◌, subst}
 use Rattle.base_core.specs.Block.{block}
 use Rattle.flash_core.specs.Told.{Told}
 use Rattle.flash_core.specs.May.{Guards}
@@ -40,3 +40,10 @@ known-ready E f t same knows calm guards = record {
   where
     some-is : (x y : MetaRead) → ◌≡◌ {A = Option MetaRead} (Some x) (Some y) → x ≡ y
     some-is x y e = cc
+
+-- what holds in the settings that have the layout by their form holds in each that has it
+pub in-layout : (P : Setting → Type 0) (L : Layout)
+    → ((files : List ℕ → Option (List ℕ)) (passes : List ℕ → Bool) → P (record { layout = L; files = files; passes = passes }))
+    → (E : Setting) → E.layout ≡ L → P E
+in-layout P L here E same =
+    subst P (ap (λ (l : Layout). record { layout = l; files = E.files; passes = E.passes }) (sym same)) (here E.files E.passes)

@@ -23,7 +23,7 @@ use Rattle.moves.proofs.Read.{deciding-fits}
 use Rattle.agent_machine.specs.Fields.{Fields, target}
 use Rattle.agent_machine.specs.Machine.{state_in}
 use Rattle.agent_machine.specs.Knows.{Fitting, Knows}
-use Rattle.agent_machine.proofs.Known.{both-decides, known-shown, known-ready}
+use Rattle.agent_machine.proofs.Known.{both-decides, in-layout, known-shown, known-ready}
 
 -- What a store of the metadata of a move is: on a calm flash under this premise, on any flash, and on any flash at rest.
 pub record StoreMeets (result : CallResult) (f : Fields) (Premise : Setting → Type 0) (move : Move) (s t : Told) : Type 0 where
@@ -71,10 +71,7 @@ module _ (result : CallResult) (f : Fields) (s t : Told) (fitting : Fitting f) (
   anywhere : (Premise : Setting → Type 0) (move : Move) → ((files : List ℕ → Option (List ℕ)) (passes : List ℕ → Bool) → Premise
       (of-layout files passes) → IsCalm (of-layout files passes) s state → Guards 1 7 s → Does result (of-layout files passes) state (move ∷ []) t)
       → (E : Setting) → E.layout ≡ L → Premise E → IsCalm E s state → Guards 1 7 s → Does result E state (move ∷ []) t
-  anywhere Premise move here E same premise calm guards =
-      let path : of-layout E.files E.passes ≡ E = ap (λ (l : Layout). record { layout = l; files = E.files; passes = E.passes }) (sym same) in
-      subst (λ (e : Setting). Does result e state (move ∷ []) t) path
-      (here E.files E.passes (subst Premise (sym path) premise) (subst (λ (e : Setting). IsCalm e s state) (sym path) calm) guards)
+  anywhere Premise move = in-layout (λ (E : Setting). Premise E → IsCalm E s state → Guards 1 7 s → Does result E state (move ∷ []) t) L
 
   kept : (new : Meta) → Stores result L new s t → (IsAtRest s → QuietBy L new s) → IsAtRest s → GuardedBy result t
   kept new stores quiet rest =

@@ -83,18 +83,12 @@ spent-goes result old new done here spent = record {
 }
   where
     not-gone : {T : Type 0} (r : Result T Stop) → IsDone r → IsErrOf r stop.Gone → ⊥
-    not-gone (Ok x) done e = absurd cc
-    not-gone (Err (stop.Status st)) done e = done
-    not-gone (Err stop.Lost) done e = absurd cc
-    not-gone (Err stop.Fault) done e = absurd cc
     not-gone (Err stop.Gone) done e = done
+    not-gone other done e = absurd cc
 
     unrefused : {T : Type 0} (r : Result T Stop) → IsDone r → IsRefused r → ⊥
-    unrefused (Ok x) done e = e
     unrefused (Err (stop.Status st)) done e = done
-    unrefused (Err stop.Lost) done e = e
-    unrefused (Err stop.Fault) done e = e
-    unrefused (Err stop.Gone) done e = e
+    unrefused other done e = e
 
     goes-by : {T : Type 0} (r : Result T Stop) → IsDone r → (was now : Bool) → IsFalse was → now ≡ not (is_ok (flash_result r)) → GoesBy r was now
     goes-by (Ok x) done was now here is = record {
@@ -102,6 +96,5 @@ spent-goes result old new done here spent = record {
       later = (λ now-gone. absurd (is-gone now now-gone is), λ one. absurd (neither was here one));
     }
     goes-by (Err (stop.Status st)) done was now here is = absurd done
-    goes-by (Err stop.Lost) done was now here is = record { gone = (λ e. absurd cc, λ is. absurd (is-gone was is here)); later = (λ now-gone. inr tt, λ one. is) }
-    goes-by (Err stop.Fault) done was now here is = record { gone = (λ e. absurd cc, λ is. absurd (is-gone was is here)); later = (λ now-gone. inr tt, λ one. is) }
     goes-by (Err stop.Gone) done was now here is = absurd done
+    goes-by (Err cause) done was now here is = record { gone = (λ e. absurd cc, λ is. absurd (is-gone was is here)); later = (λ now-gone. inr tt, λ one. is) }

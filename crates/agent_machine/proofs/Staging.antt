@@ -1,5 +1,5 @@
 -- Writes in the slot of a staged image: the state, the other images and what is known of them stay.
-use Rattle.std.proofs.Common.{◌≡◌, ◌≢◌, ◌⊎◌, inl, inr, ℕ, zero, suc, ◌+◌, ◌*◌, ◌%◌, ◌<◌, ◌≤◌, Bool, List, [], ◌∷◌, ◌++◌, length, get_or, take, drop, Option, refl, sym, ap, ◌∙◌, subst, arith, IsTrue}
+use Rattle.std.proofs.Common.{◌≡◌, ◌≢◌, ◌⊎◌, inl, inr, ℕ, zero, suc, ◌+◌, ◌*◌, ◌%◌, ◌<◌, ◌≤◌, List, [], ◌∷◌, ◌++◌, length, get_or, take, drop, refl, sym, ap, ◌∙◌, subst, arith, IsTrue}
 use Rattle.std.proofs.lemmas.Bool.{cases_lt}
 use Rattle.std.proofs.lemmas.List.{length-take, length-drop, get_or-take, get_or-drop, get_or_default, same_lists}
 use Rattle.flash_core.specs.Told.{Told}
@@ -28,7 +28,7 @@ use Rattle.agent_machine.specs.Fields.{Fields, target, rest_of}
 use Rattle.agent_machine.specs.Machine.{state_in, part_bytes}
 use Rattle.agent_machine.specs.Knows.{Fitting, SessionSound, Knows}
 use Rattle.agent_machine.specs.Law.{StaysKnown}
-use Rattle.agent_machine.proofs.Known.{both-decides, known-shown, known-ready, state-held}
+use Rattle.agent_machine.proofs.Known.{both-decides, in-layout, known-shown, known-ready, state-held}
 
 slots-order : (rows : List ImageRow) (i j : ℕ) → i < j
     → slot_total (take i rows) + (get_or rows i (record { guid = []; slots = 0 })).slots ≤ slot_total (take j rows)
@@ -158,17 +158,10 @@ module _ (f : Fields) (image : ℕ) (s t : Told) (fitting : Fitting f) (sound : 
     part-kept (Open size hasher) rest le = ap (λ (l : List ℕ). l ++ take (size % 16) rest) (front-kept (done_of size) (omega (arith, le)))
     part-kept (Committed size digest bit) rest le = front-kept size le
 
-  abbrev of-layout : (List ℕ → Option (List ℕ)) → (List ℕ → Bool) → Setting
-  of-layout files passes = record { layout = L; files = files; passes = passes }
-
-  ready-here : (files : List ℕ → Option (List ℕ)) (passes : List ℕ → Bool) → IsCalm (of-layout files passes) s state → Guards 1 7 s
-      → IsReady (of-layout files passes) t state
-  ready-here files passes calm guards = let E = of-layout files passes in staged-ready E s t state u (known-ready E f s refl knows calm guards) free in-bank
-
   ready-after : (E : Setting) → E.layout ≡ L → IsCalm E s state → Guards 1 7 s → IsReady E t state
-  ready-after E same calm guards =
-      let path : of-layout E.files E.passes ≡ E = ap (λ (l : Layout). record { layout = l; files = E.files; passes = E.passes }) (sym same) in
-      subst (λ (e : Setting). IsReady e t state) path (ready-here E.files E.passes (subst (λ (e : Setting). IsCalm e s state) (sym path) calm) guards)
+  ready-after = in-layout (λ (E : Setting). IsCalm E s state → Guards 1 7 s → IsReady E t state) L (λ files passes calm guards.
+      let E : Setting = record { layout = L; files = files; passes = passes } in
+      staged-ready E s t state u (known-ready E f s refl knows calm guards) free in-bank)
 
   pub stays-known : StaysKnown f image s t
   stays-known = record {

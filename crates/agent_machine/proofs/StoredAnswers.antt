@@ -4,7 +4,7 @@ use Rattle.std.proofs.lemmas.Bool.{cases_Bool, and_parts}
 use Rattle.fwu_formats.specs.Layout.{find_image}
 use Rattle.fwu_model.specs.declared.kinds.Status.{Status}
 use Rattle.fwu_model.specs.declared.kinds.Status.TheVariants as status
-use Rattle.fwu_model.specs.State.{State, Move, Free, Accept, Back, bank, is_invalid, update_bank}
+use Rattle.fwu_model.specs.State.{State, Move, Free, Accept, Back, bank, update_bank}
 use Rattle.fwu_model.specs.Sound.{Setting}
 use Rattle.fwu_model.specs.Session.{Session, Staged, On, Handle, nothing_staged, no_handles}
 use Rattle.fwu_model.specs.Call as call
@@ -38,29 +38,16 @@ module _ (E : Setting) (s : State) (boot : ℕ) (stg : Option (List Staged)) (hs
 
   -- ---- begin
 
+  other-move : (b : Bool) (u : ℕ) (move : Move) (rest : List Move) → (Free u ≡ move → ⊥) → cond b [] (Free u ∷ []) ≡ move ∷ rest → ⊥
+  other-move true u move rest not e = absurd cc
+  other-move false u move rest not e = not (let same : Free u ≡ move = cc in same)
+
   begin-moves-are : (p : Plan) → begin_moves s ≡ (planned E s boot stg hs [] p).moves → begin_moves s ≡ cond (frees p) (Free (update_bank s) ∷ []) []
   unfolding planned
-  begin-moves-are plan.Tell e = e
-  begin-moves-are (plan.BeginPartial store named) e = e
-  begin-moves-are (plan.Begin store) e = e
-  begin-moves-are (plan.Open h image o total) e = e
-  begin-moves-are (plan.Write h image at n) e = e
-  begin-moves-are (plan.Read h image at n total) e = e
-  begin-moves-are (plan.Commit h image bit) e = e
-  begin-moves-are plan.End e = elim (cases_Bool (is_invalid (bank s (update_bank s)).state)) [
-    | inl yes_ ↦ absurd (let f = sym (ap (λ (b : Bool). cond b [] (Free (update_bank s) ∷ [])) yes_) ∙ e in cc)
-    | inr no_ ↦ absurd (let f = sym (ap (λ (b : Bool). cond b [] (Free (update_bank s) ∷ [])) no_) ∙ e in cc)
-  ]
-  begin-moves-are plan.Cancel e = e
-  begin-moves-are (plan.Accept image true) e = elim (cases_Bool (is_invalid (bank s (update_bank s)).state)) [
-    | inl yes_ ↦ absurd (let f = sym (ap (λ (b : Bool). cond b [] (Free (update_bank s) ∷ [])) yes_) ∙ e in cc)
-    | inr no_ ↦ absurd (let f = sym (ap (λ (b : Bool). cond b [] (Free (update_bank s) ∷ [])) no_) ∙ e in cc)
-  ]
-  begin-moves-are (plan.Accept image false) e = e
-  begin-moves-are plan.Back e = elim (cases_Bool (is_invalid (bank s (update_bank s)).state)) [
-    | inl yes_ ↦ absurd (let f = sym (ap (λ (b : Bool). cond b [] (Free (update_bank s) ∷ [])) yes_) ∙ e in cc)
-    | inr no_ ↦ absurd (let f = sym (ap (λ (b : Bool). cond b [] (Free (update_bank s) ∷ [])) no_) ∙ e in cc)
-  ]
+  begin-moves-are plan.End e = absurd (other-move _ (update_bank s) _ [] (λ same. absurd cc) e)
+  begin-moves-are (plan.Accept image true) e = absurd (other-move _ (update_bank s) (Accept image) [] (λ same. absurd cc) e)
+  begin-moves-are plan.Back e = absurd (other-move _ (update_bank s) Back [] (λ same. absurd cc) e)
+  begin-moves-are other e = e
 
   begin-done : (n : ℕ) → cannot_begin s boot stg ≡ false → (n == 0) ≡ true
       → answer E s here (call.Begin n) ≡ answered Success (begin_moves s) (On boot (nothing_staged E) no_handles)

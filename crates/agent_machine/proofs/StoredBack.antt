@@ -1,9 +1,8 @@
 -- What going back is: by the session, the numbers of the banks and the verdict on the previous one.
-use Rattle.std.proofs.Common.{◌≡◌, ◌⊎◌, inl, inr, ℕ, Bool, true, false, ◌&&◌, ◌||◌, not, ◌==◌, cond, List, [], ◌∷◌, Option, Some, None, Result, Ok, Err, refl, sym, ap, ap₂, ◌∙◌, subst, IsTrue}
+use Rattle.std.proofs.Common.{◌≡◌, ◌⊎◌, inl, inr, ℕ, Bool, true, false, ◌&&◌, ◌||◌, not, ◌==◌, cond, List, [], ◌∷◌, Option, Some, None, Result, Err, refl, sym, ap, ap₂, ◌∙◌, subst, IsTrue}
 use Rattle.std.specs.Prelude.{IsErr}
 use Rattle.std.proofs.lemmas.Bool.{and_parts, and_from, cases_Bool}
 use Rattle.flash_core.specs.declared.flash.FlashStop.{FlashStop}
-use Rattle.flash_core.specs.declared.flash.FlashStop.TheVariants as flash_stop
 use Rattle.flash_core.specs.Told.{Told}
 use Rattle.fwu_formats.specs.Layout.{Layout}
 use Rattle.fwu_formats.specs.Metadata.{Meta, state_at}
@@ -17,11 +16,10 @@ use Rattle.fwu_model.specs.Session.{Session, Staged, Handle, On}
 use Rattle.fwu_model.specs.Call as call
 use Rattle.fwu_model.specs.Reply.{Success}
 use Rattle.fwu_model.specs.Answer.{Answer, answer, answered, refused, may_go_back}
-use Rattle.fwu_model.specs.Calm.{IsCalm, IsAtRest}
+use Rattle.fwu_model.specs.Calm.{IsAtRest}
 use Rattle.fwu_model.proofs.Banks.{accepted-used}
 use Rattle.meta_layout.proofs.Fits.{meta-fits}
-use Rattle.moves.specs.Moved.{GuardedBy, IsReady}
-use Rattle.moves.proofs.Composed.{does-idle}
+use Rattle.moves.specs.Moved.{IsReady}
 use Rattle.moves.proofs.MetaMoves.{bank-at}
 use Rattle.agent_kept.specs.declared.kinds.Request.TheVariants as request
 use Rattle.agent_kept.specs.declared.kinds.Plan.{Plan}
@@ -35,9 +33,8 @@ use Rattle.agent_state.specs.Ruled.{ruled_as}
 use Rattle.agent_state.proofs.Machine.{leave-is, other-is, is-idle}
 use Rattle.agent_state.proofs.Replies.{accepting, previous-staging}
 use Rattle.agent_machine.specs.Deciding.{KeepsOldOrNew}
-use Rattle.agent_machine.proofs.Deciding.{decides-same}
 use Rattle.agent_machine.specs.Beside.{IsSpared, KeepsSpared}
-use Rattle.agent_machine.proofs.Beside.{blocks-still, blocks-then, spared-told}
+use Rattle.agent_machine.proofs.Beside.{blocks-still, blocks-then}
 use Rattle.agent_machine.specs.declared.stop.Stop.{Stop}
 use Rattle.agent_machine.specs.declared.stop.Stop.TheVariants as stop
 use Rattle.agent_machine.specs.Fields.{Fields}
@@ -46,9 +43,10 @@ use Rattle.agent_machine.specs.Knows.{Fitting, SessionSound, Knows}
 use Rattle.agent_machine.specs.Meets.{IsRefused, IsSettingOf, IsStopped, LeavesFlash, MeetsPrevious, flash_result, may_try}
 use Rattle.agent_machine.specs.Moment.{Moment, Shows, SpeaksOf}
 use Rattle.agent_machine.specs.Stored.{CarriesOut, MayBeDone, may_try_kept, is_to_do}
+use Rattle.agent_machine.proofs.Answered.{still-leaves}
 use Rattle.agent_machine.proofs.StoredAnswers.{asks, stays, goes, denied-alone}
 use Rattle.agent_machine.proofs.StoredCalls.{refused-of, planned-of, plain-of}
-use Rattle.agent_machine.proofs.StoredMeets.{shows-still, same-leaves, refused-answers, refused-previous, carried-previous, back-planned}
+use Rattle.agent_machine.proofs.StoredMeets.{shows-still, same-stays, same-leaves, refused-answers, refused-previous, carried-previous, back-planned}
 
 -- ---- what the bank holds
 
@@ -185,35 +183,17 @@ module _ (tells : Bool) (f : Fields) (fitting : Fitting f) (sound : SessionSound
 
   -- the flash stopped the reading
   stopped-leaves : (result : Result (Unit {0}) FlashStop) → IsErr result → LeavesFlash result passes call.Previous old mid
-  stopped-leaves result err = record {
-    does = λ E x y setting shows is ready. does-idle result E x (answer E x y call.Previous).moves t err
-        (subst (λ (u : Told). IsCalm E u x) (sym (same is)) ready.calm);
-    guarded = λ is rest. by result err (subst IsAtRest (sym (same is)) rest);
-    keeps = λ is. spared-told (IsSpared f) s t (same is);
-    touches = blocks-still (IsSpared f) still;
-    decides = λ is. decides-same f.layout f.meta f.meta s t (same is);
-    stays = record { tells = refl; layout = refl; boot = refl; counter = refl; lengths = refl; guard = λ is. ap (λ (u : Told). u.guard) (same is) };
-  }
-    where
-      by : (r : Result (Unit {0}) FlashStop) → IsErr r → IsAtRest t → GuardedBy r t
-      by (Ok x) e rest = absurd (true-false false e refl)
-      by (Err x) e rest = rest.guarded
+  stopped-leaves result err =
+      still-leaves result passes call.Previous old mid same still (same-stays tells f s t same still) (λ E x y setting shows is. inr err)
 
   pub stopped-meets : (r : Stop) → IsStopped {T = Unit {0}} (Err r) → MeetsPrevious (Err r) passes old mid
   stopped-meets (stop.Status st) is = absurd is
-  stopped-meets stop.Lost is = record {
-    exact = λ E x y setting shows tells_it. tt;
-    shows = λ x y shows. tt;
-    leaves = stopped-leaves
-        (Err flash_stop.Lost) refl;
-  }
-  stopped-meets stop.Fault is = record {
-    exact = λ E x y setting shows tells_it. tt;
-    shows = λ x y shows. tt;
-    leaves = stopped-leaves
-        (Err flash_stop.Failed) refl;
-  }
   stopped-meets stop.Gone is = absurd is
+  stopped-meets cause is = record {
+    exact = λ E x y setting shows tells_it. tt;
+    shows = λ x y shows. tt;
+    leaves = stopped-leaves (flash_result {T = Unit {0}} (Err cause)) refl;
+  }
 
   module _ (knows : IsTrue tells → Knows f s) (may : may_try_kept f.meta.meta f.session f.boot ≡ true) (d : Decision)
       (decides : DecidesRequest passes f.meta f.counter f.session f.boot request.Previous d) (good : Bool)

@@ -7,8 +7,6 @@ use Rattle.flash_core.specs.Touches.{TouchesOnly}
 use Rattle.fwu_formats.specs.Layout.{ImageRow, start, slot_bytes, blocks_needed}
 use Rattle.fwu_formats.specs.Metadata.{MetaRead}
 use Rattle.fwu_model.specs.Seen.{state_of}
-use Rattle.fwu_model.specs.Calm.{IsAtRest}
-use Rattle.moves.specs.Moved.{GuardedBy}
 use Rattle.moves.proofs.Composed.{does-nothing}
 use Rattle.slot_writer.specs.Slots.{Appends, blocks_for, done_of}
 use Rattle.agent_kept.specs.declared.parts.Handle.{Handle}
@@ -31,7 +29,7 @@ use Rattle.agent_machine.specs.Meets.{LeavesFlash, Meets, IsStopped, flash_resul
 use Rattle.agent_machine.specs.declared.stop.Stop.{Stop}
 use Rattle.fwu_model.specs.Reply.{Success}
 use Rattle.agent_machine.specs.Law.{StaysKnown, WriteMeets}
-use Rattle.agent_machine.proofs.Answered.{FitsEach, leaves-by, done-meets, stopped-meets}
+use Rattle.agent_machine.proofs.Answered.{FitsEach, rest-guarded, leaves-by, done-meets, stopped-meets}
 use Rattle.agent_machine.proofs.Meeting.{success-says}
 use Rattle.agent_machine.proofs.Room.{ReadsWell, fitting-again, old-readers, staged-before, appends-blocks, appends-spare, appends-stay}
 use Rattle.agent_machine.proofs.Showing.{some-after, kept-after}
@@ -61,17 +59,13 @@ module _ (old new : Moment) (image first size number at n : ℕ) (left bytes : L
           (decides : DecidesRequest passes f.meta f.counter f.session f.boot r (decision.Do (plan.Write number image at n))) (tells-same : new.tells ≡ old.tells)
           (beside : SameBeside f new.fields) (touches : TouchesOnly (4096 * first + done_of size)
           (4096 * (first + blocks_for (done_of (size + length bytes)))) old.writes new.writes) where
-        guards : (result : Result (Unit {0}) FlashStop) (t : Told) → IsAtRest t → GuardedBy result t
-        guards (Ok x) t rest = rest
-        guards (Err stop) t rest = rest.guarded
-
         -- a prefix of no moves
         pub write-leaves : LeavesFlash result passes (call_of r bytes) old new
         write-leaves =
             leaves-by old new fitting sound knows passes r bytes fits_request (plan.Write number image at n) decides result
             (λ tells E setting ready. does-nothing result E (state_in f old.told.now) new.told
             ((write-stays tells).ready E setting.layout ready.calm ready.guarded))
-            (λ tells rest. guards result new.told ((write-stays tells).rests rest))
+            (λ tells rest. rest-guarded result new.told ((write-stays tells).rests rest))
             (λ tells. appends-spare result f image first size (rest_of f image) bytes left old.told new.told (fitting.active of.1) first-is
             (omega (arith, size-is, fits)) (appends tells))
             (appends-blocks f image first size bytes (fitting.active of.1) first-is (omega (arith, size-is, fits)) touches)
