@@ -38,10 +38,10 @@ after_plan f p k = record f {
 
 -- ---- nothing is kept of any image
 
-nothing-open : (n : ℕ) (x : Sha256) → ◌≡◌ {A = Part} Nothing (Open n x) → ⊥
+pub nothing-open : (n : ℕ) (x : Sha256) → ◌≡◌ {A = Part} Nothing (Open n x) → ⊥
 nothing-open n x e = absurd cc
 
-nothing-committed : (n : ℕ) (digest : List ℕ) (bit : Bool) → ◌≡◌ {A = Part} Nothing (Committed n digest bit) → ⊥
+pub nothing-committed : (n : ℕ) (digest : List ℕ) (bit : Bool) → ◌≡◌ {A = Part} Nothing (Committed n digest bit) → ⊥
 nothing-committed n digest bit e = absurd cc
 
 pub not-both : (b : Bool) → b ≡ false → b ≡ true → ⊥

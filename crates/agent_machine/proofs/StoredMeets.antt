@@ -104,19 +104,6 @@ module _ (tells : Bool) (f : Fields) (s t : Told) {old_writes new_writes : ℕ �
     leaves = same-leaves passes c (λ E x y setting shows tells_it. ap (λ (a : Answer). a.moves) (is E x y setting shows));
   }
 
-  -- an answer without a move, after which the session is the same
-  pub idle-meets : (passes : List ℕ → Bool) (c : Call) → ((E : Setting) (x : State) (y : Session) → IsSettingOf f passes E → Shows old x y
-      → answer E x y c ≡ answered Success [] y)
-      → Meets {T = Unit {0}} Succeeds (Ok tt) passes c old new
-  idle-meets passes c is = record {
-    exact = λ E x y setting shows. (
-      ap (λ (a : Answer). a.reply) (is E x y setting shows),
-      subst (λ (a : Answer). Shows new (after x a.moves) a.next)
-          (sym (is E x y setting shows)) (shows-still x y shows),
-    );
-    leaves = same-leaves passes c (λ E x y setting shows tells_it. ap (λ (a : Answer). a.moves) (is E x y setting shows));
-  }
-
   -- a refused previous
   pub refused-previous : (passes : List ℕ → Bool) → ((E : Setting) (x : State) (y : Session) → IsSettingOf f passes E → Shows old x y → IsTrue tells
       → answer E x y Previous ≡ refused status.Denied y)
