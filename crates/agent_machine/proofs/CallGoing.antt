@@ -9,7 +9,7 @@ use Rattle.fwu_model.specs.Sound.{Setting}
 use Rattle.fwu_model.specs.Call.{Call}
 use Rattle.fwu_model.specs.Reply.{Reply, Refused}
 use Rattle.fwu_model.specs.Answer.{answer}
-use Rattle.agent_machine.proofs.Beside.{blocks-once, spared-once}
+use Rattle.agent_machine.proofs.Going.{leaves-goes}
 use Rattle.agent_machine.specs.declared.stop.Stop.{Stop}
 use Rattle.agent_machine.specs.declared.stop.Stop.TheVariants as stop
 use Rattle.agent_machine.specs.Moment.{Moment, Shows}
@@ -52,24 +52,14 @@ pub call-goes : {T : Type 0} (E : Setting) (of : T → Reply) (result : Result T
     → E.layout ≡ old.fields.layout → Shows old s x
     → MeetsAs of result E.passes c old new → (r : Reply) → reply_of of result ≡ Some r
     → GoesByMoves E (flash_result result) old new s (answer E s x c).moves (answer E s x c).next
-call-goes E of result c old new s x layout shows meets r is = record {
-  shows = on-ok (flash_result result) (replied E of result c new s x r (meets.exact E s x (record { layout = layout; verifier = refl }) shows) is).shows;
-  does = λ tells ready. meets.leaves.does E s x (record { layout = layout; verifier = refl }) shows tells ready;
-  guarded = meets.leaves.guarded;
-  keeps = λ tells. spared-once old.fields old.told new.told (meets.leaves.keeps tells);
-  touches = blocks-once old.fields meets.leaves.touches;
-  stays = meets.leaves.stays;
-}
+call-goes E of result c old new s x layout shows meets r is =
+    leaves-goes E (flash_result result) c old new s x _ layout shows meets.leaves (on-ok (flash_result result)
+    (replied E of result c new s x r (meets.exact E s x (record { layout = layout; verifier = refl }) shows) is).shows)
 
 pub call-stopped : {T : Type 0} (E : Setting) (of : T → Reply) (result : Result T Stop) (c : Call) (old new : Moment) (s : State) (x : Session)
     → E.layout ≡ old.fields.layout → Shows old s x
     → MeetsAs of result E.passes c old new → IsErr (flash_result result) → (y : Session)
     → GoesByMoves E (flash_result result) old new s (answer E s x c).moves y
-call-stopped E of result c old new s x layout shows meets err y = record {
-  shows = IfOk-from_err (flash_result result) (λ _. Shows new (after s (answer E s x c).moves) y) err;
-  does = λ tells ready. meets.leaves.does E s x (record { layout = layout; verifier = refl }) shows tells ready;
-  guarded = meets.leaves.guarded;
-  keeps = λ tells. spared-once old.fields old.told new.told (meets.leaves.keeps tells);
-  touches = blocks-once old.fields meets.leaves.touches;
-  stays = meets.leaves.stays;
-}
+call-stopped E of result c old new s x layout shows meets err y =
+    leaves-goes E (flash_result result) c old new s x y layout shows meets.leaves
+    (IfOk-from_err (flash_result result) (λ _. Shows new (after s (answer E s x c).moves) y) err)

@@ -32,7 +32,7 @@ use Rattle.agent_machine.proofs.Answered.{kept-same, content-total}
 use Rattle.agent_machine.proofs.Showing.{some-after, kept-after}
 use Rattle.agent_machine.proofs.Room.{MayStage, ReadsWell, free-well, writer-well, old-readers, set-readers, staged-before, fitting-again, rows-some}
 use Rattle.agent_machine.proofs.Writing.{bytes-here, bytes-there, open-not-committed}
-use Rattle.agent_machine.proofs.Stored.{nothing-staged}
+use Rattle.agent_machine.proofs.Stored.{nothing-means, nothing-staged}
 
 false-true : {b : Bool} → b ≡ false → b ≡ true → ⊥
 false-true a b = absurd cc
@@ -97,9 +97,7 @@ module _ (tells : Bool) (f : Fields) (k : Kept) (bytes : List ℕ) (fitting : Fi
 
     empty-still : HasNothing k → Still
     empty-still nothing =
-        let means : MeansSame k (staged_after p bytes was) (staged_bytes g t.now) = λ i lt.
-        ap (λ (q : Part). part_meant q (staged_bytes g t.now i)) (nothing i)
-        ∙ sym (ap (λ (q : Part). part_meant q (staged_after p bytes was i)) (nothing i)) in
+        let means : MeansSame k (staged_after p bytes was) (staged_bytes g t.now) = nothing-means k _ (staged_bytes g t.now) nothing in
         let has : HasStaged g t = nothing-staged g t nothing in
         assumption
 
