@@ -1,20 +1,18 @@
 -- What a call answers to each machine that the agent shows, from what is decided and how that is settled.
-use Rattle.std.proofs.Common.{◌≡◌, ◌⊎◌, inl, inr, ℕ, zero, suc, ◌+◌, ◌-◌, ◌*◌, ◌<◌, ◌≤◌, min, Bool, true, false, cond, List, [], ◌++◌, length, get_or, take, map, flat_map, Option, Some, None, Result, Ok, Err, leb, refl, sym, ap, ap₂, ◌∙◌, subst, arith, IsTrue}
+use Rattle.std.proofs.Common.{◌≡◌, ◌⊎◌, inl, inr, ℕ, zero, suc, ◌+◌, ◌-◌, ◌*◌, ◌<◌, ◌≤◌, min, Bool, true, false, cond, List, [], ◌++◌, length, get_or, take, map, flat_map, Option, Some, None, Result, Ok, Err, refl, sym, ap, ap₂, ◌∙◌, subst, arith, IsTrue}
 use Rattle.std.proofs.Math.ListN as listn
 use Rattle.std.proofs.lemmas.List.{length-append, get_or-take}
-use Rattle.std.proofs.lemmas.Bool.{and_parts, leb-true}
 use Rattle.std.specs.Prelude.{IsErr}
-use Rattle.std.specs.List.{range_with_len, list_all}
-use Rattle.sha2.specs.declared.Sha256.{Sha256}
+use Rattle.std.specs.List.{range_with_len}
 use Rattle.sha2.specs.Sha256.{sha256}
 use Rattle.sha2.specs.Hashers.{Holds256}
 use Rattle.base_core.specs.Bytes.{le, listed}
 use Rattle.flash_core.specs.Told.{Told}
 use Rattle.flash_core.specs.declared.flash.FlashStop.{FlashStop}
-use Rattle.flash_core.specs.declared.flash.FlashStop.TheVariants as flash_stop
 use Rattle.fwu_formats.proofs.Same.{listed-same}
+use Rattle.fwu_formats.proofs.SealLaws.{limits}
 use Rattle.fwu_formats.proofs.Written.{rows-limits, rows-fit}
-use Rattle.fwu_formats.specs.Layout.{ImageRow, Layout, fits_layout, is_row, are_distinct, slot_bytes}
+use Rattle.fwu_formats.specs.Layout.{ImageRow, Layout, fits_layout, slot_bytes}
 use Rattle.fwu_formats.specs.Manifest.{manifest_size}
 use Rattle.fwu_formats.specs.Metadata.{bit_number}
 use Rattle.fwu_model.specs.declared.kinds.Status.{Status}
@@ -68,11 +66,7 @@ rows-total f from (suc n) each =
     length-append (f from) (flat_map f (map (λ (i : ℕ). i) (range_with_len (from + 1) n))) ∙ omega (arith, rest, here)
 
 four-behind : (guid : List ℕ) (a b c d : ℕ) → length (guid ++ le 4 a ++ le 4 b ++ le 4 c ++ le 4 d) ≡ length guid + 16
-four-behind guid a b c d =
-    length-append (guid ++ le 4 a ++ le 4 b ++ le 4 c) (le 4 d)
-    ∙ ap (λ (n : ℕ). n + 4) (length-append (guid ++ le 4 a ++ le 4 b) (le 4 c)
-    ∙ ap (λ (n : ℕ). n + 4) (length-append (guid ++ le 4 a) (le 4 b) ∙ ap (λ (n : ℕ). n + 4) (length-append guid (le 4 a))))
-    ∙ omega arith
+four-behind guid a b c d = simp length-append (omega arith)
 
 pub directory-total : (E : Setting) (s : State) (boot : ℕ) → IsTrue (fits_layout E.layout)
     → length (directory E s boot) ≡ directory_size (length E.layout.rows)
@@ -108,14 +102,9 @@ pub record Limits (L : Layout) : Type 0 where
   pub few_rows : length L.rows ≤ 16
 
 pub layout-limits : (L : Layout) → IsTrue (fits_layout L) → Limits L
-unfolding fits_layout
 layout-limits L h =
-    let five = and_parts _ (are_distinct (map (λ (r : ImageRow). r.guid) L.rows)) h in
-    let four = and_parts _ (list_all is_row L.rows) five.0 in
-    let three = and_parts _ (leb (length L.rows) 16) four.0 in
-    let two = and_parts _ (leb 2 (length L.rows)) three.0 in
-    let one = and_parts (leb 2 L.banks) (leb L.banks 4) two.0 in
-    record { banks = leb-true _ _ one.0; few_banks = leb-true _ _ one.1; rows = leb-true _ _ two.1; few_rows = leb-true _ _ three.1 }
+    let all = limits L h in
+    record { banks = all.fewest_banks; few_banks = all.most_banks; rows = all.fewest_images; few_rows = all.most_images }
 
 -- ---- the machines that are spoken of
 
@@ -211,22 +200,17 @@ module _ (m : Moment) (fitting : Fitting m.fields) (sound : SessionSound m.field
 -- what is kept speaks of these alone
 pub kept-same : (k : Kept) (staged other : ℕ → List ℕ) → 1 ≤ length k.rows → MeansSame k staged other → IsKept k staged → IsKept k other
 kept-same k staged other some same is = record {
-  opened = λ i size hasher lt e. subst (λ (l : List ℕ). (size ≡ length l) × ∥ Holds256 hasher l ∥₁) (sym (opened-is i size hasher lt e))
+  opened = λ i size hasher lt e. subst (λ (l : List ℕ). (size ≡ length l) × ∥ Holds256 hasher l ∥₁) (sym (ap bytes_of (meant-is i (Open size hasher) lt e)))
       (is.opened i size hasher lt e);
-  committed = λ i size digest bit lt e. subst (λ (l : List ℕ). (size ≡ length l) × (digest ≡ sha256 l)) (sym (committed-is i size digest bit lt e))
+  committed = λ i size digest bit lt e. subst (λ (l : List ℕ). (size ≡ length l) × (digest ≡ sha256 l)) (sym (ap bytes_of (meant-is i (Committed size digest bit) lt e)))
       (is.committed i size digest bit lt e);
   front =
       subst (λ (l : List ℕ). take (min (manifest_size (length k.rows - 1)) (length l)) k.front ≡ take (manifest_size (length k.rows - 1)) l)
       (sym (front-is (part_at k 0) (other 0) (staged 0) (same 0 (omega (arith, some))))) is.front;
 }
   where
-    opened-is : (i size : ℕ) (hasher : Sha256) → i < length k.rows → part_at k i ≡ Open size hasher → other i ≡ staged i
-    opened-is i size hasher lt e = ap bytes_of (ap (λ (p : Part). part_meant p (other i)) (sym e) ∙ same i lt
-        ∙ ap (λ (p : Part). part_meant p (staged i)) e)
-
-    committed-is : (i size : ℕ) (digest : List ℕ) (bit : Bool) → i < length k.rows → part_at k i ≡ Committed size digest bit → other i ≡ staged i
-    committed-is i size digest bit lt e = ap bytes_of (ap (λ (p : Part). part_meant p (other i)) (sym e) ∙ same i lt
-        ∙ ap (λ (p : Part). part_meant p (staged i)) e)
+    meant-is : (i : ℕ) (p : Part) → i < length k.rows → part_at k i ≡ p → part_meant p (other i) ≡ part_meant p (staged i)
+    meant-is i p lt e = subst (λ (q : Part). part_meant q (other i) ≡ part_meant q (staged i)) e (same i lt)
 
     front-is : (p : Part) (a b : List ℕ) → part_meant p a ≡ part_meant p b → take (size_of p) a ≡ take (size_of p) b
     front-is Nothing a b e = refl
@@ -306,15 +290,6 @@ module _ (old new : Moment) (fitting : Fitting old.fields) (sound : SessionSound
     decides = decides;
     stays = stays;
   }
-
-  -- a call that the flash stopped
-  pub lost-meets : {T : Type 0} (Says : T → Reply → Type 0) → LeavesFlash (Err flash_stop.Lost) passes call old new
-      → Meets {T = T} Says (Err stop.Lost) passes call old new
-  lost-meets Says leaves = record { exact = λ E s x setting shows. tt; leaves = leaves }
-
-  pub fault-meets : {T : Type 0} (Says : T → Reply → Type 0) → LeavesFlash (Err flash_stop.Failed) passes call old new
-      → Meets {T = T} Says (Err stop.Fault) passes call old new
-  fault-meets Says leaves = record { exact = λ E s x setting shows. tt; leaves = leaves }
 
   module _ (out : CarriedOut p bytes old new) where
     settled : (E : Setting) (s : State) (staged : ℕ → List ℕ) → IsSettingOf was passes E → SpeaksOf was s → IsKept k staged

@@ -31,7 +31,7 @@ use Rattle.agent_machine.specs.Knows.{Fitting, SessionSound, Knows, SomeStaged}
 use Rattle.agent_machine.specs.Law.{StaysKnown}
 use Rattle.agent_machine.specs.Meets.{LeavesFlash, Meets}
 use Rattle.agent_machine.proofs.Answered.{rest-guarded, leaves-by, done-meets}
-use Rattle.agent_machine.proofs.Committing.{slot-room, finish-blocks, finish-spares, finish-stays, committed-means, committed-state, committed-knows}
+use Rattle.agent_machine.proofs.Committing.{slot-room, finish-blocks, finish-spares, finish-stays, CommitLeaves, committed}
 use Rattle.agent_machine.proofs.Room.{ReadsWell, set-readers, old-readers, free-well, fitting-again, staged-before}
 
 -- ---- an image is committed
@@ -70,8 +70,8 @@ module _ (f : Fields) (tells : Bool) (s t : Told) (number image : ℕ) (bit : Bo
 
   module _ (result : CallResult) (finishes : IsTrue tells → FinishesImage result first size (rest_of f image) s t) where
     stays : IsTrue tells → StaysKnown f image s t
-    stays told = finish-stays result f image size s t fitting sound (knows told) (fitting.free fits.2) image-there (room told)
-        (slot-room f fitting sound image image-there) (finishes told)
+    stays told = finish-stays result f image size s t (slot-room f fitting sound image image-there) (finishes told) fitting sound (knows told)
+        (fitting.free fits.2) image-there (room told)
 
     pub commit-leaves : {old_writes new_writes : ℕ → ℕ} → Touches old_writes new_writes → (passes : List ℕ → Bool) (h req most : ℕ)
         → DecidesRequest passes f.meta f.counter f.session f.boot (request.Commit h req most) (Do (plan.Commit number (Some image) bit)) → (g : Fields)
@@ -82,7 +82,7 @@ module _ (f : Fields) (tells : Bool) (s t : Told) (number image : ℕ) (bit : Bo
         (λ E st setting speaks. tt) (plan.Commit number (Some image) bit) decides result
         (λ told E setting ready. does-nothing result E (state_in f s.now) t ((stays told).ready E setting.layout ready.calm ready.guarded))
         (λ told rest. rest-guarded result t ((stays told).rests rest))
-        (λ told. finish-spares result f image size s t (fitting.active fits.2) (slot-room f fitting sound image image-there) (finishes told))
+        (λ told. finish-spares result f image size s t (slot-room f fitting sound image image-there) (finishes told) (fitting.active fits.2))
         (finish-blocks f image size (fitting.active fits.2) (slot-room f fitting sound image image-there) touches)
         (λ told. decides-kept f.layout f.meta _ _ s t (omega arith) (finishes told).keeps g.meta)
         (record { tells = refl; layout = layout; boot = boot; counter = counter; lengths = lengths; guard = λ told. (finishes told).keeps.guard })
@@ -113,10 +113,13 @@ module _ (f : Fields) (tells : Bool) (s t : Told) (number image : ℕ) (bit : Bo
       ends-at : IsTrue tells → FinishesImage {T = Unit {0}} (Ok tt) first was-open.0 (rest_of f image) s t
       ends-at told = subst (λ (n : ℕ). FinishesImage {T = Unit {0}} (Ok tt) first n (rest_of f image) s t) size-is (finishes told)
 
-      pub commit-knows : IsTrue tells → Knows g t
-      commit-knows told =
-          committed-knows f k image (number - 1) was-open.0 was-open.1 bit s t fitting sound (knows told) (fitting.free fits.2) image-there
+      leaves : IsTrue tells → CommitLeaves f k s t
+      leaves told =
+          committed f k image (number - 1) was-open.0 was-open.1 bit s t fitting sound (knows told) (fitting.free fits.2) image-there
           (room told) was-open.2 commits (ends-at told)
+
+      pub commit-knows : IsTrue tells → Knows g t
+      commit-knows told = (leaves told).known
 
       pub commit-meets : {old_writes new_writes : ℕ → ℕ} → Touches old_writes new_writes → (passes : List ℕ → Bool) (h req most : ℕ)
           → DecidesRequest passes f.meta f.counter f.session f.boot (request.Commit h req most) (Do (plan.Commit number (Some image) bit))
@@ -134,12 +137,8 @@ module _ (f : Fields) (tells : Bool) (s t : Told) (number image : ℕ) (bit : Bo
             total = λ E st same speaks. tt;
             trials = λ st staged speaks kept. speaks.trials_are;
             held = λ st staged speaks kept. refl;
-            state_is = λ told.
-                committed-state f k image (number - 1) was-open.0 was-open.1 bit s t fitting sound (knows told) (fitting.free fits.2) image-there
-                (room told) was-open.2 commits (ends-at told);
-            staged_are = λ told.
-                committed-means f k image (number - 1) was-open.0 was-open.1 bit s t fitting sound (knows told) (fitting.free fits.2) image-there
-                (room told) was-open.2 commits (ends-at told);
+            state_is = λ told. (leaves told).state_is;
+            staged_are = λ told. (leaves told).means;
           })
           (λ value r. r ≡ Success) tt
           (λ E st x setting shows. ap (λ (y : Session). (planned_in E st y [] (plan.Commit number (Some image) bit)).reply) shows.means)

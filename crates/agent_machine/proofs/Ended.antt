@@ -64,6 +64,12 @@ stored-is f st staged p is =
 
 -- ---- nothing is staged any more
 
+-- what a flash has of an agent after an end
+pub record EndLeaves (f g : Fields) (s t : Told) (next : State) : Type 0 where
+  pub known : Knows g t
+  pub state_is : state_in g t.now ≡ next
+  pub means : MeansSame g.session (staged_bytes f s.now) (staged_bytes g t.now)
+
 module _ (f : Fields) (k : Kept) (meta : MetaRead) (fitting : Fitting f) (restarts : Restarts false f.session k)
     (is : meta ≡ record f.meta { meta = meta_after f.meta.meta (Switch (next_bank f.meta.meta) [] (bits_kept f.session)) }) where
   abbrev L : Layout
@@ -129,7 +135,7 @@ module _ (f : Fields) (k : Kept) (meta : MetaRead) (fitting : Fitting f) (restar
     both : BothHold L meta t.now
     both = subst (λ (n : ℕ). BothHold L (in_version n meta.meta) t.now) (sym form-two) stores.both
 
-    pub ended-state : state_in g t.now ≡ next
+    ended-state : state_in g t.now ≡ next
     ended-state = state-held L t.now meta next seen both
 
     held-same : package_in L t.now f.boot ≡ package_in L s.now f.boot
@@ -143,11 +149,7 @@ module _ (f : Fields) (k : Kept) (meta : MetaRead) (fitting : Fitting f) (restar
         ∙ ap is_invalid (get_or-set_other (meta_in state).states (update_bank state) f.boot (state_by bits) Invalid (boot-other state (sym state-meta) staging))
         ∙ ap (λ (x : Meta). is_invalid (state_at x f.boot)) state-meta
 
-    -- nothing is staged, whatever the bytes are
-    pub ended-means : MeansSame k (staged_bytes f s.now) (staged_bytes g t.now)
-    ended-means = nothing-means k (staged_bytes f s.now) (staged_bytes g t.now) restarts.nothing
-
-    pub ended-knows : Knows g t
+    ended-knows : Knows g t
     ended-knows = record {
       layout_is = seen.layout;
       both = both;
@@ -159,4 +161,12 @@ module _ (f : Fields) (k : Kept) (meta : MetaRead) (fitting : Fitting f) (restar
       held = ap is_some held-same ∙ knows.held;
       lengths_are = knows.lengths_are ∙ ap (λ (o : Option (List (List ℕ))). map (λ (bytes : List ℕ). length bytes) (held_package o)) (sym held-same);
       staged = nothing-staged g t restarts.nothing;
+    }
+
+    -- nothing is staged, whatever the bytes are
+    pub ended-leaves : EndLeaves f g s t next
+    ended-leaves = record {
+      known = ended-knows;
+      state_is = ended-state;
+      means = nothing-means k (staged_bytes f s.now) (staged_bytes g t.now) restarts.nothing;
     }

@@ -26,7 +26,7 @@ use Rattle.agent_machine.specs.Directory.{piece_of}
 use Rattle.agent_machine.specs.Knows.{Fitting, SessionSound, Knows}
 use Rattle.agent_machine.specs.Moment.{Moment, Shows}
 use Rattle.agent_machine.specs.Meets.{IsGot, LeavesFlash, Meets, Stays}
-use Rattle.agent_machine.proofs.Answered.{FitsEach, shown-totals, refused-meets, done-meets, lost-meets, fault-meets, moves-told, still-leaves, content-total}
+use Rattle.agent_machine.proofs.Answered.{FitsEach, shown-totals, refused-meets, done-meets, stopped-meets, moves-told, still-leaves, content-total}
 use Rattle.fwu_model.specs.State.{State}
 use Rattle.agent_machine.proofs.Room.{old-readers}
 use Rattle.agent_machine.proofs.Reading.{piece-is}
@@ -40,6 +40,8 @@ pub carried-from : (p : Plan) (bytes : List ℕ) (tells : Bool) (s t : Told) {ol
 carried-from p bytes tells s t {old_writes = old_writes} {new_writes = new_writes} f g new fields told out =
     let here : CarriedOut p bytes (record { tells = tells; told = t; writes = new_writes; fields = f }) new = subst
     (λ (x : Fields). CarriedOut p bytes (record { tells = tells; told = t; writes = new_writes; fields = x }) new) fields out in
+    let at : IsTrue tells → CarriedOut p bytes (record { tells = tells; told = s; writes = new_writes; fields = f }) new = λ is. subst
+    (λ (x : Told). CarriedOut p bytes (record { tells = tells; told = x; writes = new_writes; fields = f }) new) (told is) here in
     record {
       tells = here.tells;
       beside = here.beside;
@@ -47,10 +49,8 @@ carried-from p bytes tells s t {old_writes = old_writes} {new_writes = new_write
       total = here.total;
       trials = here.trials;
       held = here.held;
-      state_is = λ is. (subst (λ (x : Told). CarriedOut p bytes (record { tells = tells; told = x; writes = new_writes; fields = f }) new) (told is)
-          here).state_is is;
-      staged_are = λ is. (subst (λ (x : Told). CarriedOut p bytes (record { tells = tells; told = x; writes = new_writes; fields = f }) new) (told is)
-          here).staged_are is;
+      state_is = λ is. (at is).state_is is;
+      staged_are = λ is. (at is).staged_are is;
     }
 
 -- a piece of so many bytes was filled at the front of the buffer
@@ -136,11 +136,11 @@ module _ (old : Moment) (fitting : Fitting old.fields) (sound : SessionSound old
 
       pub read-lost : (Says : ℕ × ℕ → Reply → Type 0) → Stays old new → Meets {T = ℕ × ℕ} Says (Err stop.Lost) passes (call_of asked []) old new
       read-lost Says stays =
-          lost-meets old new fitting sound knows passes asked [] (reader-fits passes) own (reads passes) Says (leaves (Err flash_stop.Lost) stays)
+          stopped-meets Says stop.Lost passes (call_of asked []) old new tt (leaves (Err flash_stop.Lost) stays)
 
       pub read-faulty : (Says : ℕ × ℕ → Reply → Type 0) → Stays old new → Meets {T = ℕ × ℕ} Says (Err stop.Fault) passes (call_of asked []) old new
       read-faulty Says stays =
-          fault-meets old new fitting sound knows passes asked [] (reader-fits passes) own (reads passes) Says (leaves (Err flash_stop.Failed) stays)
+          stopped-meets Says stop.Fault passes (call_of asked []) old new tt (leaves (Err flash_stop.Failed) stays)
 
       pub read-meets : (out : List ℕ) → (IsTrue old.tells → take n out ≡ piece_of f.layout f.meta.meta f.boot f.lengths old.told.now image at n)
           → CarriedOut own [] old new
