@@ -156,7 +156,8 @@ still-leaves result passes c old new told still stays idle = record {
   does = λ E s x setting shows tells ready.
       let ready-then : IsReady E new.told s = subst (λ (t : Told). IsReady E t s) (sym (told tells)) ready in
       elim (idle E s x setting shows tells) [
-        | inl none ↦ subst (λ (ms : List Move). Does result E s ms new.told) (sym none) (does-nothing result E s new.told ready-then)
+        | inl none ↦ subst (λ (ms : List Move). Does result E s ms new.told) (sym none)
+            (does-nothing result E s new.told ready-then)
         | inr err ↦ does-idle result E s (answer E s x c).moves new.told err ready-then.calm
       ];
   guarded = λ tells rest. rest-guarded result new.told (subst IsAtRest (sym (told tells)) rest);
@@ -169,7 +170,8 @@ still-leaves result passes c old new told still stays idle = record {
 pub leaves-nothing : (m : Moment) (passes : List ℕ → Bool) (c : Call)
     → ((E : Setting) (s : State) (x : Session) → IsSettingOf m.fields passes E → Shows m s x → (answer E s x c).moves ≡ []) → LeavesFlash (Ok tt) passes c m m
 leaves-nothing m passes c none =
-    still-leaves (Ok tt) passes c m m (λ tells. refl) refl (stays-same m) (λ E s x setting shows tells. inl (none E s x setting shows))
+    still-leaves (Ok tt) passes c m m (λ tells. refl) refl (stays-same m)
+    (λ E s x setting shows tells. inl (none E s x setting shows))
 
 module _ (m : Moment) (fitting : Fitting m.fields) (sound : SessionSound m.fields) (passes : List ℕ → Bool) (r : Request) (bytes : List ℕ)
     (fits : FitsEach m.fields passes r bytes) where
@@ -200,9 +202,11 @@ module _ (m : Moment) (fitting : Fitting m.fields) (sound : SessionSound m.field
 -- what is kept speaks of these alone
 pub kept-same : (k : Kept) (staged other : ℕ → List ℕ) → 1 ≤ length k.rows → MeansSame k staged other → IsKept k staged → IsKept k other
 kept-same k staged other some same is = record {
-  opened = λ i size hasher lt e. subst (λ (l : List ℕ). (size ≡ length l) × ∥ Holds256 hasher l ∥₁) (sym (ap bytes_of (meant-is i (Open size hasher) lt e)))
+  opened = λ i size hasher lt e. subst (λ (l : List ℕ). (size ≡ length l) × ∥ Holds256 hasher l ∥₁)
+      (sym (ap bytes_of (meant-is i (Open size hasher) lt e)))
       (is.opened i size hasher lt e);
-  committed = λ i size digest bit lt e. subst (λ (l : List ℕ). (size ≡ length l) × (digest ≡ sha256 l)) (sym (ap bytes_of (meant-is i (Committed size digest bit) lt e)))
+  committed = λ i size digest bit lt e. subst (λ (l : List ℕ). (size ≡ length l) × (digest ≡ sha256 l))
+      (sym (ap bytes_of (meant-is i (Committed size digest bit) lt e)))
       (is.committed i size digest bit lt e);
   front =
       subst (λ (l : List ℕ). take (min (manifest_size (length k.rows - 1)) (length l)) k.front ≡ take (manifest_size (length k.rows - 1)) l)

@@ -85,7 +85,8 @@ module _ (f : Fields) where
 
 module _ (f : Fields) {a b : ℕ → ℕ} where
   pub metadata-blocks : TouchesOnly (4096 * 1) (4096 * 3) a b → SparesBlocks f a b
-  metadata-blocks touches n spared = touches n (elim (spared.0) [ inl low ↦ inl (omega (arith, low)) | inr high ↦ inr (omega (arith, high)) ])
+  metadata-blocks touches n spared =
+      touches n (elim (spared.0) [ inl low ↦ inl (omega (arith, low)) | inr high ↦ inr (omega (arith, high)) ])
 
 -- ---- a slot of the update bank
 

@@ -70,7 +70,8 @@ module _ (f : Fields) (tells : Bool) (s t : Told) (number image : ℕ) (bit : Bo
 
   module _ (result : CallResult) (finishes : IsTrue tells → FinishesImage result first size (rest_of f image) s t) where
     stays : IsTrue tells → StaysKnown f image s t
-    stays told = finish-stays result f image size s t (slot-room f fitting sound image image-there) (finishes told) fitting sound (knows told)
+    stays told = finish-stays result f image size s t (slot-room f fitting sound image image-there) (finishes told) fitting sound
+        (knows told)
         (fitting.free fits.2) image-there (room told)
 
     pub commit-leaves : {old_writes new_writes : ℕ → ℕ} → Touches old_writes new_writes → (passes : List ℕ → Bool) (h req most : ℕ)
@@ -82,7 +83,8 @@ module _ (f : Fields) (tells : Bool) (s t : Told) (number image : ℕ) (bit : Bo
         (λ E st setting speaks. tt) (plan.Commit number (Some image) bit) decides result
         (λ told E setting ready. does-nothing result E (state_in f s.now) t ((stays told).ready E setting.layout ready.calm ready.guarded))
         (λ told rest. rest-guarded result t ((stays told).rests rest))
-        (λ told. finish-spares result f image size s t (slot-room f fitting sound image image-there) (finishes told) (fitting.active fits.2))
+        (λ told. finish-spares result f image size s t (slot-room f fitting sound image image-there) (finishes told)
+        (fitting.active fits.2))
         (finish-blocks f image size (fitting.active fits.2) (slot-room f fitting sound image image-there) touches)
         (λ told. decides-kept f.layout f.meta _ _ s t (omega arith) (finishes told).keeps g.meta)
         (record { tells = refl; layout = layout; boot = boot; counter = counter; lengths = lengths; guard = λ told. (finishes told).keeps.guard })
@@ -115,7 +117,8 @@ module _ (f : Fields) (tells : Bool) (s t : Told) (number image : ℕ) (bit : Bo
 
       leaves : IsTrue tells → CommitLeaves f k s t
       leaves told =
-          committed f k image (number - 1) was-open.0 was-open.1 bit s t fitting sound (knows told) (fitting.free fits.2) image-there
+          committed f k image (number - 1) was-open.0 was-open.1 bit s t fitting sound (knows told)
+          (fitting.free fits.2) image-there
           (room told) was-open.2 commits (ends-at told)
 
       pub commit-knows : IsTrue tells → Knows g t

@@ -35,17 +35,22 @@ slot-room f fitting sound image lt =
     omega (arith, sound.sizes image (omega (arith, count, lt)), slot)
 
 -- what ending an image leaves of the others, at any exit
-module _ {T : Type 0} (result : Result T FlashStop) (f : Fields) (image size : ℕ) (s t : Told) (fits : size ≤ slot_bytes f.layout image)
+module _ {T : Type 0} (result : Result T FlashStop) (f : Fields) (image size : ℕ) (s t : Told)
+    (fits : size ≤ slot_bytes f.layout image)
     (finishes : FinishesImage result (start f.layout (target f) image) size (rest_of f image) s t) where
-  finish-keeps : Keeps (4096 * start f.layout (target f) image) (4096 * start f.layout (target f) image + slot_bytes f.layout image) s t
+  finish-keeps : Keeps (4096 * start f.layout (target f) image) (4096 * start f.layout (target f) image + slot_bytes f.layout image)
+      s t
   finish-keeps =
       let first : ℕ = start f.layout (target f) image in
-      keeps_wider (4096 * first + done_of size) (4096 * (first + blocks_for size)) (4096 * first) (4096 * first + slot_bytes f.layout image) s t
+      keeps_wider (4096 * first + done_of size) (4096 * (first + blocks_for size)) (4096 * first)
+      (4096 * first + slot_bytes f.layout image) s t
       (omega arith) (omega (arith, fits)) finishes.keeps
 
-  pub finish-stays : Fitting f → SessionSound f → Knows f s → IsTrue (is_invalid (state_at f.meta.meta (target f))) → image < length f.layout.rows
+  pub finish-stays : Fitting f → SessionSound f → Knows f s → IsTrue (is_invalid (state_at f.meta.meta (target f)))
+      → image < length f.layout.rows
       → blocks_needed f.layout * 4096 ≤ length s.now → StaysKnown f image s t
-  finish-stays fitting sound knows invalid within room = stays-known f image s t fitting sound knows invalid within room finish-keeps
+  finish-stays fitting sound knows invalid within room =
+      stays-known f image s t fitting sound knows invalid within room finish-keeps
 
   -- nor does anything change beside the update bank
   pub finish-spares : f.boot ≡ f.meta.meta.active → KeepsSpared f s t

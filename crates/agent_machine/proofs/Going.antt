@@ -67,7 +67,8 @@ goes-nothing E a s x shows = record {
 
 -- what a call leaves of the flash, with the session that it leaves where the flash didn't stop it
 pub leaves-goes : (E : Setting) (result : Result (Unit {0}) FlashStop) (c : Call) (old new : Moment) (s : State) (x y : Session)
-    → E.layout ≡ old.fields.layout → Shows old s x → LeavesFlash result E.passes c old new → OnOk result (Shows new (after s (answer E s x c).moves) y)
+    → E.layout ≡ old.fields.layout → Shows old s x → LeavesFlash result E.passes c old new
+    → OnOk result (Shows new (after s (answer E s x c).moves) y)
     → GoesByMoves E result old new s (answer E s x c).moves y
 leaves-goes E result c old new s x y layout shows leaves next = record {
   shows = next;
@@ -80,10 +81,12 @@ leaves-goes E result c old new s x y layout shows leaves next = record {
 
 module _ (E : Setting) (c : Call) (old new : Moment) (layout : E.layout ≡ old.fields.layout) where
   met-by : (r : Reply) → LeavesFlash (Ok tt) E.passes c old new
-      → ((s : State) (x : Session) → IsSettingOf old.fields E.passes E → Shows old s x → RepliesByMachine E s x c new r) → Met E c r old new
+      → ((s : State) (x : Session) → IsSettingOf old.fields E.passes E → Shows old s x → RepliesByMachine E s x c new r)
+      → Met E c r old new
   met-by r leaves replies = record {
     replies = λ s x shows. replies s x (record { layout = layout; verifier = refl }) shows;
-    goes = λ s x shows. leaves-goes E (Ok tt) c old new s x _ layout shows leaves (replies s x (record { layout = layout; verifier = refl }) shows).shows;
+    goes = λ s x shows. leaves-goes E (Ok tt) c old new s x _ layout shows leaves
+        (replies s x (record { layout = layout; verifier = refl }) shows).shows;
     layout = leaves.stays.layout;
   }
 

@@ -71,7 +71,8 @@ module _ (result : CallResult) (f : Fields) (s t : Told) (fitting : Fitting f) (
   anywhere : (Premise : Setting → Type 0) (move : Move) → ((files : List ℕ → Option (List ℕ)) (passes : List ℕ → Bool) → Premise
       (of-layout files passes) → IsCalm (of-layout files passes) s state → Guards 1 7 s → Does result (of-layout files passes) state (move ∷ []) t)
       → (E : Setting) → E.layout ≡ L → Premise E → IsCalm E s state → Guards 1 7 s → Does result E state (move ∷ []) t
-  anywhere Premise move = in-layout (λ (E : Setting). Premise E → IsCalm E s state → Guards 1 7 s → Does result E state (move ∷ []) t) L
+  anywhere Premise move = in-layout (λ (E : Setting). Premise E → IsCalm E s state → Guards 1 7 s
+      → Does result E state (move ∷ []) t) L
 
   kept : (new : Meta) → Stores result L new s t → (IsAtRest s → QuietBy L new s) → IsAtRest s → GuardedBy result t
   kept new stores quiet rest =

@@ -41,10 +41,12 @@ false-true a b = absurd cc
 
 -- The handles alone; or nothing is kept of any image, and no handle is open; or an image is opened.
 data Change (tells : Bool) (f : Fields) (k : Kept) (bytes : List ℕ) (p : Plan) : Type 0 where
-  Handles : (handles : List Handle) → k ≡ record f.session { handles = handles } → ((place : ℕ) → ReadsWell f (get_or handles place Free))
+  Handles : (handles : List Handle) → k ≡ record f.session { handles = handles }
+      → ((place : ℕ) → ReadsWell f (get_or handles place Free))
       → ((was : ℕ → List ℕ) (i : ℕ) → staged_after p bytes was i ≡ was i) → Change tells f k bytes p
   Restarted : k.rows ≡ f.session.rows → HasNothing k → k.handles ≡ replicate 32 Free → MayStage f k
-      → (k.staging ≡ true → IsTrue tells → IsTrue (is_accepted (state_at f.meta.meta f.meta.meta.active))) → Change tells f k bytes p
+      → (k.staging ≡ true → IsTrue tells → IsTrue (is_accepted (state_at f.meta.meta f.meta.meta.active)))
+      → Change tells f k bytes p
   Opened : (image place : ℕ) → f.session.staging ≡ true → OpensPart f.session image place k
       → ((was : ℕ → List ℕ) (i : ℕ) → staged_after p bytes was i ≡ with_bytes was image [] i) → Change tells f k bytes p
 
@@ -52,18 +54,22 @@ module _ (tells : Bool) (f : Fields) (k : Kept) (bytes : List ℕ) (fitting : Fi
   handle-set : (p : Plan) (number : ℕ) (h : Handle) → k ≡ with_handle f.session number h → ReadsWell f h
       → ((was : ℕ → List ℕ) (i : ℕ) → staged_after p bytes was i ≡ was i) → Change tells f k bytes p
   handle-set p number h e well staged =
-      Handles (set f.session.handles (number - 1) h) e (set-readers f f.session.handles (number - 1) h (old-readers f fitting) well) staged
+      Handles (set f.session.handles (number - 1) h) e (set-readers f f.session.handles (number - 1) h (old-readers f fitting) well)
+      staged
 
-  reader-well : (image : Option ℕ) (at total : ℕ) → (total ≡ total_of f image) × IsImageOrDirectory f image → ReadsWell f (Reads image at total)
+  reader-well : (image : Option ℕ) (at total : ℕ) → (total ≡ total_of f image) × IsImageOrDirectory f image
+      → ReadsWell f (Reads image at total)
   reader-well image at total well other place n e =
       let same : image ≡ other = cc in
       let much : total ≡ n = cc in
       subst (λ (o : Option ℕ). (n ≡ total_of f o) × IsImageOrDirectory f o) same (sym much ∙ well.0, well.1)
 
-  change-of : (p : Plan) → IsQuietPlan p → IsPlanOf f.session p → MayKeep tells f p → Changes f.session bytes p k → Change tells f k bytes p
+  change-of : (p : Plan) → IsQuietPlan p → IsPlanOf f.session p → MayKeep tells f p → Changes f.session bytes p k
+      → Change tells f k bytes p
   change-of plan.Tell quiet of may e = Handles f.session.handles e (old-readers f fitting) (λ was i. refl)
   change-of (plan.Begin false) quiet of may c = Restarted c.rows c.nothing c.closed (λ on. (may.0, may.1)) (λ on told. may.2 told)
-  change-of (plan.Open number None op.Read total) quiet of may e = handle-set _ number (Reads None 0 total) e (reader-well None 0 total may) (λ was i. refl)
+  change-of (plan.Open number None op.Read total) quiet of may e =
+      handle-set _ number (Reads None 0 total) e (reader-well None 0 total may) (λ was i. refl)
   change-of (plan.Open number (Some image) op.Read total) quiet of may e =
       handle-set _ number (Reads (Some image) 0 total) e (reader-well (Some image) 0 total may) (λ was i. refl)
   change-of (plan.Open number None op.Write total) quiet of may c = absurd c
@@ -90,14 +96,17 @@ module _ (tells : Bool) (f : Fields) (k : Kept) (bytes : List ℕ) (fitting : Fi
       pub means : MeansSame k (staged_after p bytes was) (staged_bytes g t.now)
       pub ahead : (image size : ℕ) (hasher : Sha256) → image < length f.layout.rows → part_at k image ≡ Open size hasher
           → IsBlankAhead (start f.layout (target f) image) (done_of size) t.now
-      pub padded : (image size : ℕ) (digest : List ℕ) (bit : Bool) → image < length f.layout.rows → part_at k image ≡ Committed size digest bit
+      pub padded : (image size : ℕ) (digest : List ℕ) (bit : Bool) → image < length f.layout.rows
+          → part_at k image ≡ Committed size digest bit
           → IsBlankAhead (start f.layout (target f) image) size t.now
-      pub sure : (image size : ℕ) (digest : List ℕ) (bit : Bool) → image < length f.layout.rows → part_at k image ≡ Committed size digest bit
+      pub sure : (image size : ℕ) (digest : List ℕ) (bit : Bool) → image < length f.layout.rows
+          → part_at k image ≡ Committed size digest bit
           → Quiet (4096 * start f.layout (target f) image) (4096 * start f.layout (target f) image + slot_bytes f.layout image) t
 
     empty-still : HasNothing k → Still
     empty-still nothing =
-        let means : MeansSame k (staged_after p bytes was) (staged_bytes g t.now) = nothing-means k _ (staged_bytes g t.now) nothing in
+        let means : MeansSame k (staged_after p bytes was) (staged_bytes g t.now) =
+        nothing-means k _ (staged_bytes g t.now) nothing in
         let has : HasStaged g t = nothing-staged g t nothing in
         assumption
 
@@ -132,14 +141,16 @@ module _ (tells : Bool) (f : Fields) (k : Kept) (bytes : List ℕ) (fitting : Fi
       bytes-after i = elim (cases_eq i image) [
         | inl same ↦ ap (λ (q : Part). part_bytes (start f.layout (target f) i) q (rest_of f i) t.now) (opened i same)
             ∙ sym (bytes-here was image []) ∙ ap (with_bytes was image []) (sym same)
-        | inr ne ↦ ap (λ (q : Part). part_bytes (start f.layout (target f) i) q (rest_of f i) t.now) (opens.others i ne) ∙ sym (bytes-there was image [] i ne)
+        | inr ne ↦ ap (λ (q : Part). part_bytes (start f.layout (target f) i) q (rest_of f i) t.now) (opens.others i ne)
+            ∙ sym (bytes-there was image [] i ne)
       ]
 
       open-still : ((i : ℕ) → staged_after p bytes was i ≡ with_bytes was image [] i) → Still
       open-still staged = record {
         means = λ i lt. ap (part_meant (part_at k i)) (bytes-after i ∙ sym (staged i));
         ahead = λ i size hasher lt is. elim (cases_eq i image) [
-          | inl same ↦ λ at above below. let none : 0 ≡ size = ap size_of (sym (opened i same) ∙ is) in absurd (omega (arith, none, above, below))
+          | inl same ↦ λ at above below. let none : 0 ≡ size = ap size_of (sym (opened i same) ∙ is) in
+              absurd (omega (arith, none, above, below))
           | inr ne ↦ knows.staged.ahead i size hasher lt (sym (opens.others i ne) ∙ is)
         ];
         padded = λ i size digest bit lt is. knows.staged.padded i size digest bit lt (committed-before i size digest bit is);
@@ -159,7 +170,8 @@ module _ (tells : Bool) (f : Fields) (k : Kept) (bytes : List ℕ) (fitting : Fi
         → (k.staging ≡ true → IsTrue (is_accepted (state_at f.meta.meta f.meta.meta.active))) → Knows g t
     quiet-known change some kept accepted =
         let it : Still = still change in
-        let kept-now : IsKept k (staged_bytes g t.now) = kept-same k (staged_after p bytes was) (staged_bytes g t.now) some it.means kept in
+        let kept-now : IsKept k (staged_bytes g t.now) =
+        kept-same k (staged_after p bytes was) (staged_bytes g t.now) some it.means kept in
         assumption
 
   -- ---- the fields after such a plan
@@ -171,11 +183,13 @@ module _ (tells : Bool) (f : Fields) (k : Kept) (bytes : List ℕ) (fitting : Fi
   quiet-fitting : (p : Plan) → Change tells f k bytes p → Fitting (with_session f k f.rests)
   quiet-fitting p (Handles handles e readers staged) =
       subst (λ (x : Kept). Fitting (with_session f x f.rests)) (sym e)
-      (fitting-again f (record f.session { handles = handles }) f.rests fitting refl (staged-before f f.session fitting refl) fitting.idle fitting.rests readers)
+      (fitting-again f (record f.session { handles = handles }) f.rests fitting refl (staged-before f f.session fitting refl)
+      fitting.idle fitting.rests readers)
   quiet-fitting p (Restarted rows nothing closed may accepted) =
       fitting-again f k f.rests fitting rows may (λ off. nothing) fitting.rests (closed-readers closed)
   quiet-fitting p (Opened image place on opens staged) =
-      fitting-again f k f.rests fitting opens.rows (staged-before f k fitting opens.staging) (λ off. absurd (false-true (sym opens.staging ∙ off) on))
+      fitting-again f k f.rests fitting opens.rows (staged-before f k fitting opens.staging)
+      (λ off. absurd (false-true (sym opens.staging ∙ off) on))
       fitting.rests (λ at. subst (λ (hs : List Handle). ReadsWell f (get_or hs at Free)) (sym opens.handles)
       (set-readers f f.session.handles place (Writes image) (old-readers f fitting) (writer-well f image) at))
 
@@ -247,7 +261,8 @@ module _ (tells : Bool) (t : Told) (f : Fields) (k : Kept) (new_meta : MetaRead)
   keeps-known told =
       let it = knows told in
       with-meta (λ (g : Fields). Knows g t)
-      (quiet-known tells f k bytes fitting t it p change (rows-some (with_session f k f.rests) (quiet-fitting tells f k bytes fitting p change))
+      (quiet-known tells f k bytes fitting t it p change
+      (rows-some (with_session f k f.rests) (quiet-fitting tells f k bytes fitting p change))
       (kept-after f fitting sound t it bytes p new_meta k settles (keeps-total tells f fitting p may))
       (quiet-accepted tells f k bytes fitting p change told it.accepted))
 

@@ -40,7 +40,8 @@ pub carried-from : (p : Plan) (bytes : List ℕ) (tells : Bool) (s t : Told) {ol
 carried-from p bytes tells s t {old_writes = old_writes} {new_writes = new_writes} f g new fields told out =
     let here : CarriedOut p bytes (record { tells = tells; told = t; writes = new_writes; fields = f }) new = subst
     (λ (x : Fields). CarriedOut p bytes (record { tells = tells; told = t; writes = new_writes; fields = x }) new) fields out in
-    let at : IsTrue tells → CarriedOut p bytes (record { tells = tells; told = s; writes = new_writes; fields = f }) new = λ is. subst
+    let at : IsTrue tells → CarriedOut p bytes (record { tells = tells; told = s; writes = new_writes; fields = f }) new =
+    λ is. subst
     (λ (x : Told). CarriedOut p bytes (record { tells = tells; told = x; writes = new_writes; fields = f }) new) (told is) here in
     record {
       tells = here.tells;
@@ -132,7 +133,8 @@ module _ (old : Moment) (fitting : Fitting old.fields) (sound : SessionSound old
     module _ (new : Moment) (told : IsTrue old.tells → new.told ≡ old.told) (still : new.writes ≡ old.writes) (passes : List ℕ → Bool) where
       leaves : (result : Result (Unit {0}) FlashStop) → Stays old new → LeavesFlash result passes (call_of asked []) old new
       leaves result stays = still-leaves result passes (call_of asked []) old new told still stays (λ E s x setting shows tells.
-          inl (moves-told old new fitting sound knows passes asked [] (reader-fits passes) own (reads passes) E s x setting shows tells))
+          inl (moves-told old new fitting sound knows passes asked [] (reader-fits passes) own (reads passes) E s x setting shows
+          tells))
 
       pub read-lost : (Says : ℕ × ℕ → Reply → Type 0) → Stays old new → Meets {T = ℕ × ℕ} Says (Err stop.Lost) passes (call_of asked []) old new
       read-lost Says stays =

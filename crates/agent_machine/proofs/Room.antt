@@ -120,14 +120,19 @@ rows-some f fitting =
 module _ {T : Type 0} (result : Result T FlashStop) (f : Fields) (image first size : ℕ) (rest bytes left : List ℕ) (s t : Told)
     (at : first ≡ start f.layout (target f) image) (fits : size + length bytes ≤ slot_bytes f.layout image)
     (appends : Appends result first size rest bytes left s t) where
-  appends-keeps : Keeps (4096 * start f.layout (target f) image) (4096 * start f.layout (target f) image + slot_bytes f.layout image) s t
+  appends-keeps : Keeps (4096 * start f.layout (target f) image)
+      (4096 * start f.layout (target f) image + slot_bytes f.layout image) s t
   appends-keeps =
-      keeps_wider (4096 * first + done_of size) (4096 * (first + blocks_for (done_of (size + length bytes)))) (4096 * start f.layout (target f) image)
-      (4096 * start f.layout (target f) image + slot_bytes f.layout image) s t (omega (arith, at)) (omega (arith, at, fits)) appends.keeps
+      keeps_wider (4096 * first + done_of size) (4096 * (first + blocks_for (done_of (size + length bytes))))
+      (4096 * start f.layout (target f) image)
+      (4096 * start f.layout (target f) image + slot_bytes f.layout image) s t (omega (arith, at))
+      (omega (arith, at, fits)) appends.keeps
 
-  pub appends-stay : Fitting f → SessionSound f → Knows f s → IsTrue (is_invalid (state_at f.meta.meta (target f))) → image < length f.layout.rows
+  pub appends-stay : Fitting f → SessionSound f → Knows f s → IsTrue (is_invalid (state_at f.meta.meta (target f)))
+      → image < length f.layout.rows
       → blocks_needed f.layout * 4096 ≤ length s.now → StaysKnown f image s t
-  appends-stay fitting sound knows invalid within room = stays-known f image s t fitting sound knows invalid within room appends-keeps
+  appends-stay fitting sound knows invalid within room =
+      stays-known f image s t fitting sound knows invalid within room appends-keeps
 
   -- nor does anything change beside the update bank
   pub appends-spare : f.boot ≡ f.meta.meta.active → KeepsSpared f s t

@@ -97,4 +97,5 @@ spent-goes result old new done here spent = record {
     }
     goes-by (Err (stop.Status st)) done was now here is = absurd done
     goes-by (Err stop.Gone) done was now here is = absurd done
-    goes-by (Err cause) done was now here is = record { gone = (λ e. absurd cc, λ is. absurd (is-gone was is here)); later = (λ now-gone. inr tt, λ one. is) }
+    goes-by (Err cause) done was now here is =
+        record { gone = (λ e. absurd cc, λ is. absurd (is-gone was is here)); later = (λ now-gone. inr tt, λ one. is) }

@@ -80,7 +80,8 @@ no-reader k place image at total closed is = not-free-reads image at total
     (sym (ap (λ (hs : List Handle). get_or hs place handle.Free) closed ∙ frees 32 place) ∙ is)
 
 -- the fields after a restart, with this metadata
-pub restarted-fitting : (f : Fields) (k : Kept) (meta : MetaRead) (trials : ℕ) (staging : Bool) → Fitting f → Restarts staging f.session k
+pub restarted-fitting : (f : Fields) (k : Kept) (meta : MetaRead) (trials : ℕ) (staging : Bool) → Fitting f
+    → Restarts staging f.session k
     → IsTrue (fits_meta f.layout meta.meta) → (k.staging ≡ true → f.boot ≡ meta.meta.active)
     → (k.staging ≡ true → IsTrue (is_invalid (state_at meta.meta (target (record f { meta = meta })))))
     → Fitting (record f { meta = meta; session = k; trials = trials })
@@ -174,7 +175,8 @@ module _ (f : Fields) (fitting : Fitting f) where
       → Fitting (record f { meta = record f.meta { meta = new }; trials = trials })
   still-fitting new trials off fits =
       let active : f.session.staging ≡ true → f.boot ≡ new.active = λ on. absurd (not-both f.session.staging off on) in
-      let free : f.session.staging ≡ true → IsTrue (is_invalid (state_at new ((new.active + 1) % L.banks))) = λ on. absurd (not-both f.session.staging off on) in
+      let free : f.session.staging ≡ true → IsTrue (is_invalid (state_at new ((new.active + 1) % L.banks))) =
+      λ on. absurd (not-both f.session.staging off on) in
       assumption
 
   pub accepted-fitting : (image : ℕ) (store : Bool) → MayAccept f image → Fitting (after_plan f (plan.Accept image store) f.session)

@@ -166,7 +166,8 @@ module _ (tells : Bool) (f : Fields) (fitting : Fitting f) (sound : SessionSound
   -- the flash stopped the reading
   stopped-leaves : (result : Result (Unit {0}) FlashStop) → IsErr result → LeavesFlash result passes call.Previous old mid
   stopped-leaves result err =
-      still-leaves result passes call.Previous old mid same still (same-stays tells f s t same still) (λ E x y setting shows is. inr err)
+      still-leaves result passes call.Previous old mid same still (same-stays tells f s t same still)
+      (λ E x y setting shows is. inr err)
 
   pub stopped-meets : (r : Stop) → IsStopped {T = Unit {0}} (Err r) → MeetsPrevious (Err r) passes old mid
   stopped-meets (stop.Status st) is = absurd is
@@ -197,7 +198,8 @@ module _ (tells : Bool) (f : Fields) (fitting : Fitting f) (sound : SessionSound
           (asked f x shows.speaks shows.staged E may ∙ ap (by_verdict (session_meant f.session f.boot shows.staged)) verdict-here)
 
       -- and it is gone back where the verdict is good
-      ruled-good : (e : Decision) → DecidesRequest passes f.meta f.counter f.session f.boot request.Previous e → is_to_do (ruled_as e good) ≡ good
+      ruled-good : (e : Decision) → DecidesRequest passes f.meta f.counter f.session f.boot request.Previous e
+          → is_to_do (ruled_as e good) ≡ good
       ruled-good (decision.Refused st) decided = elim (cases_Bool good) [
         | inl fine ↦
             let refused-it = refused-of old fitting sound passes request.Previous (λ e z. tt) st decided E x y setting shows in
@@ -213,7 +215,8 @@ module _ (tells : Bool) (f : Fields) (fitting : Fitting f) (sound : SessionSound
     -- the verdict is bad
     pub bad-meets : is_to_do (ruled_as d good) ≡ false → MeetsPrevious (Err (stop.Status status.Denied)) passes old mid
     bad-meets does = refused-previous tells f s t same still passes
-        (λ E x y setting shows is. ruled-is E x y setting shows is ∙ ap (by_verdict y) (sym (ruled-good E x y setting shows is d decides) ∙ does))
+        (λ E x y setting shows is. ruled-is E x y setting shows is
+        ∙ ap (by_verdict y) (sym (ruled-good E x y setting shows is d decides) ∙ does))
 
     -- from the moment before the reading
     carried-from : (result : Result (Unit {0}) FlashStop) (new : Moment) → CarriesOut result plan.Back mid new → CarriesOut result plan.Back old new
@@ -226,7 +229,8 @@ module _ (tells : Bool) (f : Fields) (fitting : Fitting f) (sound : SessionSound
       touches = blocks-then (IsSpared f) (blocks-still (IsSpared f) still) carries.touches;
       decides = λ is. subst (λ (u : Told). KeepsOldOrNew f.layout f.meta new.fields.meta u new.told) (same is) (carries.decides is);
       stays =
-          let guard : IsTrue tells → new.told.guard ≡ s.guard = λ is. carries.stays.guard is ∙ ap (λ (u : Told). u.guard) (same is) in
+          let guard : IsTrue tells → new.told.guard ≡ s.guard = λ is. carries.stays.guard is
+          ∙ ap (λ (u : Told). u.guard) (same is) in
           assumption;
     }
 

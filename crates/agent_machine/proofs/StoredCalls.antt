@@ -58,11 +58,14 @@ module _ (m : Moment) (fitting : Fitting m.fields) (sound : SessionSound m.field
   planned-of p decides E s x setting shows = decided-of (decision.Do p) decides E s x setting shows
 
   -- in the words of what is kept
-  pub planned-meant : (p : Plan) → Decided (decision.Do p) → (E : Setting) (s : State) (x : Session) → IsSettingOf f passes E → (shows : Shows m s x)
-      → answer E s (session_meant f.session f.boot shows.staged) (call_of r []) ≡ planned E s f.boot (staging_meant f.session shows.staged)
+  pub planned-meant : (p : Plan) → Decided (decision.Do p) → (E : Setting) (s : State) (x : Session) → IsSettingOf f passes E
+      → (shows : Shows m s x)
+      → answer E s (session_meant f.session f.boot shows.staged) (call_of r []) ≡ planned E s f.boot
+      (staging_meant f.session shows.staged)
       (handles_meant f.session) [] p
   planned-meant p decides E s x setting shows =
-      subst (λ (y : Session). answer E s y (call_of r []) ≡ planned_in E s y [] p) shows.means (planned-of p decides E s x setting shows)
+      subst (λ (y : Session). answer E s y (call_of r []) ≡ planned_in E s y [] p) shows.means
+      (planned-of p decides E s x setting shows)
 
 -- some machine is shown: a fact of numbers that holds of each holds
 module _ (f : Fields) (t : Told) (fitting : Fitting f) (some : ∥ SomeStaged f.session ∥₁) where
@@ -93,7 +96,8 @@ module _ (f : Fields) (fitting : Fitting f) (sound : SessionSound f) (passes : L
         → Begins E s f.boot (staging_meant f.session shows.staged) (handles_meant f.session) n p
     begins-as E s x setting shows =
         begins E s f.boot (staging_meant f.session shows.staged) (handles_meant f.session) n p
-        (planned-meant (moment-of tells t writes f) fitting sound passes (request.Begin flags n) (λ e y. tt) p decides E s x setting shows)
+        (planned-meant (moment-of tells t writes f) fitting sound passes (request.Begin flags n) (λ e y. tt) p decides E s x setting
+        shows)
 
     -- the machine's answer is that of the plan to begin
     pub begin-answers : (E : Setting) (s : State) (x : Session) → IsSettingOf f passes E → Shows (moment-of tells t writes f) s x
@@ -132,13 +136,15 @@ module _ (f : Fields) (fitting : Fitting f) (sound : SessionSound f) (passes : L
         → Accepts E s f.boot (staging_meant f.session shows.staged) (handles_meant f.session) guid
     accepts-as E s x setting shows =
         accepts E s f.boot (staging_meant f.session shows.staged) (handles_meant f.session) guid p
-        (planned-meant (moment-of tells t writes f) fitting sound passes (request.Accept guid) (λ e y. tt) p decides E s x setting shows)
+        (planned-meant (moment-of tells t writes f) fitting sound passes (request.Accept guid) (λ e y. tt) p decides E s x setting
+        shows)
 
     -- a plan to accept is the machine's answer
     pub accept-answers : (E : Setting) (s : State) (x : Session) → IsSettingOf f passes E → Shows (moment-of tells t writes f) s x
         → (image : ℕ) (store : Bool) → p ≡ plan.Accept image store → AnswersBy E s x (call.Accepts guid) (plan.Accept image store)
     accept-answers E s x setting shows image store is = record {
-      is = planned-of (moment-of tells t writes f) fitting sound passes (request.Accept guid) (λ e y. tt) p decides E s x setting shows
+      is = planned-of (moment-of tells t writes f) fitting sound passes (request.Accept guid) (λ e y. tt) p decides E s x setting
+          shows
           ∙ ap (planned_in E s x []) is;
       reply = success-says (moment-of tells t writes f) [] (plan.Accept image store) tt E s x shows;
       may = tt;
@@ -154,7 +160,8 @@ module _ (f : Fields) (fitting : Fitting f) (sound : SessionSound f) (passes : L
   pub accept-may : Told → ∥ SomeStaged f.session ∥₁ → (image : ℕ) → image < length f.session.rows → MayAccept f image
   accept-may t some image within = record {
     idle = bools-alike f t fitting some f.session.staging false (λ s x shows.
-        no-staging f.session shows.staged (accepts-as false t (plain-of f passes) s x (record { layout = refl; verifier = refl }) shows).idle);
+        no-staging f.session shows.staged
+        (accepts-as false t (plain-of f passes) s x (record { layout = refl; verifier = refl }) shows).idle);
     booted = numbers-alike f t fitting some f.boot f.meta.meta.active (λ s x shows.
         (accepts-as false t (plain-of f passes) s x (record { layout = refl; verifier = refl }) shows).booted
         ∙ sym (active-is s f.meta shows.speaks.meta));

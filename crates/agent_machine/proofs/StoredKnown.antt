@@ -90,7 +90,8 @@ module _ (f : Fields) (s t : Told) (fitting : Fitting f) (knows : Knows f s) whe
   pub restarted-known : (k : Kept) → MayBegin f false → Restarts true f.session k → t ≡ s → Knows (after_plan f (plan.Begin false) k) t
   restarted-known k may restarts same =
       let accepted : k.staging ≡ true → IsTrue (is_accepted (state_at m m.active)) = λ on. begin-accepted false may in
-      let has : HasStaged (after_plan f (plan.Begin false) k) s = nothing-staged (after_plan f (plan.Begin false) k) s restarts.nothing in
+      let has : HasStaged (after_plan f (plan.Begin false) k) s =
+      nothing-staged (after_plan f (plan.Begin false) k) s restarts.nothing in
       let known : Knows (after_plan f (plan.Begin false) k) s = assumption in
       subst (λ (u : Told). Knows (after_plan f (plan.Begin false) k) u) (sym same) known
 

@@ -44,12 +44,14 @@ module _ (result : Result (Unit {0}) Stop) (passes : List ℕ → Bool) (c : Cal
   by-carried (Err (stop.Status st)) E s x not carries setting shows by = absurd (not tt)
   by-carried (Err cause) E s x not carries setting shows by = tt
 
-  leaves-carried : ((E : Setting) (s : State) (x : Session) → IsSettingOf old.fields passes E → Shows old s x → IsTrue old.tells → AnswersBy E s x c p)
+  leaves-carried : ((E : Setting) (s : State) (x : Session) → IsSettingOf old.fields passes E → Shows old s x → IsTrue old.tells
+      → AnswersBy E s x c p)
       → LeavesFlash (flash_result result) passes c old new
   leaves-carried by = record {
     does = λ E s x setting shows tells ready.
         let it = by E s x setting shows tells in
-        subst (λ (a : Answer). Does (flash_result result) E s a.moves new.told) (sym it.is) (carried.does E s x setting.layout shows it.may tells ready);
+        subst (λ (a : Answer). Does (flash_result result) E s a.moves new.told) (sym it.is)
+        (carried.does E s x setting.layout shows it.may tells ready);
     guarded = carried.guarded;
     keeps = carried.keeps;
     touches = carried.touches;
@@ -89,7 +91,8 @@ module _ (tells : Bool) (f : Fields) (s t : Told) {old_writes new_writes : ℕ �
   -- a refusal, or an answer that changes nothing
   pub same-leaves : (passes : List ℕ → Bool) (c : Call) → ((E : Setting) (x : State) (y : Session) → IsSettingOf f passes E → Shows old x y
       → IsTrue tells → (answer E x y c).moves ≡ []) → LeavesFlash (Ok tt) passes c old new
-  same-leaves passes c none = still-leaves (Ok tt) passes c old new same still same-stays (λ E x y setting shows is. inl (none E x y setting shows is))
+  same-leaves passes c none = still-leaves (Ok tt) passes c old new same still same-stays
+      (λ E x y setting shows is. inl (none E x y setting shows is))
 
   pub refused-answers : (passes : List ℕ → Bool) (c : Call) (st : Status) (E : Setting) (x : State) (y : Session) → Shows old x y
       → answer E x y c ≡ refused st y → Answers Succeeds (Err (stop.Status st)) E x y c new

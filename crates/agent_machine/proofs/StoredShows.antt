@@ -128,11 +128,13 @@ module _ (tells : Bool) (f : Fields) (s t : Told) (result : CallResult) (p : Pla
         guarded = meets.guarded;
         guard = stores.writes.keeps.guard;
         keeps = stores-spare f result f.layout new s t stores;
-        decides = decides-stores result f.layout f.meta _ new s t (ap (λ (n : ℕ). record { form = n; meta = new }) known.version) stores;
+        decides = decides-stores result f.layout f.meta _ new s t (ap (λ (n : ℕ). record { form = n; meta = new }) known.version)
+            stores;
       }
 
   -- nothing was to be stored
-  same-leaves : ((E : Setting) (staged : ℕ → List ℕ) → planned_from E (state_in f s.now) staged ≡ []) → (after_plan f p k).meta ≡ f.meta
+  same-leaves : ((E : Setting) (staged : ℕ → List ℕ) → planned_from E (state_in f s.now) staged ≡ [])
+      → (after_plan f p k).meta ≡ f.meta
       → IsTrue (is_ok result) × (t ≡ s) → Leaves
   same-leaves moves meta still = record {
     state = λ E staged ok. ap (after (state_in f s.now)) (moves E staged)
@@ -194,12 +196,21 @@ module _ (tells : Bool) (f : Fields) (s t : Told) (result : CallResult) (p : Pla
             let here = (shows.told is).0 in
             subst (λ (z : Session). Does result E x (planned_in E x z [] p).moves t) (sym shows.means)
             (subst (λ (z : State). Does result E z (planned_from E z shows.staged) t) (sym here)
-            ((parts.leaves is).does E shows.staged same (subst (λ (z : State). MayBeDone E z p) here may) (subst (IsReady E s) here ready)));
+            ((parts.leaves is).does E shows.staged same (subst (λ (z : State). MayBeDone E z p) here may)
+            (subst (IsReady E s) here ready)));
         guarded = λ is. (parts.leaves is).guarded;
         keeps = λ is. (parts.leaves is).keeps;
         touches = touches;
         decides = λ is. (parts.leaves is).decides;
-        stays = record { tells = refl; layout = refl; boot = refl; counter = refl; lengths = refl; guard = λ is. (parts.leaves is).guard };
+        stays = record {
+          tells = refl;
+          layout = refl;
+          boot = refl;
+          counter = refl;
+          lengths = refl;
+          guard =
+              λ is. (parts.leaves is).guard;
+        };
       }
 
 -- ---- each plan
@@ -216,7 +227,8 @@ module _ (tells : Bool) (f : Fields) (s t : Told) (result : CallResult) (fitting
   freed-bank : update_bank (state_in f s.now) ≡ target f
   freed-bank = ap (λ (n : ℕ). (m.active + 1) % n) (bank-count f.layout s.now f.meta (state_in f s.now) refl)
 
-  restarted-session : (k : Kept) → Restarts true f.session k → (a b : ℕ → List ℕ) → session_meant k f.boot a ≡ session_meant k f.boot b
+  restarted-session : (k : Kept) → Restarts true f.session k → (a b : ℕ → List ℕ)
+      → session_meant k f.boot a ≡ session_meant k f.boot b
   restarted-session k restarts a b =
       restarts-staging k f.boot a restarts.nothing restarts.staging_is restarts.closed
       ∙ sym (restarts-staging k f.boot b restarts.nothing restarts.staging_is restarts.closed)
@@ -260,7 +272,8 @@ module _ (tells : Bool) (f : Fields) (s t : Told) (result : CallResult) (fitting
     session = λ a b. idle-session f.session f.boot a b may.idle;
     leaves = λ is. stored-leaves tells f s t result (plan.Accept image true) f.session (λ E. Unit {0}) (Accept image) (knows is)
         (λ E staged. refl) (λ E may_be. tt) (stores is)
-        ((stores-meet result f s t fitting (knows is)).accept image (accepting-used f s t fitting (knows is) image may) (stores is));
+        ((stores-meet result f s t fitting (knows is)).accept image (accepting-used f s t fitting (knows is) image may)
+        (stores is));
   }
 
   pub unchanged-parts : (image : ℕ) → MayAccept f image → Settles f.session f.meta [] (plan.Accept image false) f.meta f.session
@@ -284,6 +297,7 @@ module _ (tells : Bool) (f : Fields) (s t : Told) (result : CallResult) (fitting
     settles = settles;
     speaks = λ E x staged of meta. back-speaks f x of fitting meta;
     session = λ a b. idle-session f.session f.boot a b may.idle;
-    leaves = λ is. stored-leaves tells f s t result plan.Back f.session _ Back (knows is) (λ E staged. refl) (λ E may_be. may_be) (stores is)
+    leaves = λ is. stored-leaves tells f s t result plan.Back f.session _ Back (knows is) (λ E staged. refl) (λ E may_be. may_be)
+        (stores is)
         ((stores-meet result f s t fitting (knows is)).back (back-accepted f s t fitting (knows is) may) (stores is));
   }

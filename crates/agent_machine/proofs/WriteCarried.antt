@@ -52,7 +52,8 @@ module _ (old new : Moment) (image first size number at n : ℕ) (left bytes : L
     where
       pub write-stays : IsTrue old.tells → StaysKnown f image old.told new.told
       write-stays tells =
-          appends-stay result f image first size (rest_of f image) bytes left old.told new.told first-is (omega (arith, size-is, fits)) (appends tells)
+          appends-stay result f image first size (rest_of f image) bytes left old.told new.told first-is
+          (omega (arith, size-is, fits)) (appends tells)
           fitting sound (knows tells) (fitting.free of.1) within (room tells)
 
       module _ (passes : List ℕ → Bool) (r : Request) (fits_request : FitsEach f passes r bytes)
@@ -66,7 +67,8 @@ module _ (old new : Moment) (image first size number at n : ℕ) (left bytes : L
             (λ tells E setting ready. does-nothing result E (state_in f old.told.now) new.told
             ((write-stays tells).ready E setting.layout ready.calm ready.guarded))
             (λ tells rest. rest-guarded result new.told ((write-stays tells).rests rest))
-            (λ tells. appends-spare result f image first size (rest_of f image) bytes left old.told new.told first-is (omega (arith, size-is, fits))
+            (λ tells. appends-spare result f image first size (rest_of f image) bytes left old.told new.told first-is
+            (omega (arith, size-is, fits))
             (appends tells) (fitting.active of.1))
             (appends-blocks f image first size bytes (fitting.active of.1) first-is (omega (arith, size-is, fits)) touches)
             (λ tells. decides-kept f.layout f.meta _ _ old.told new.told (omega (arith, first-is)) (appends tells).keeps new.fields.meta)
