@@ -1,11 +1,10 @@
 -- What no call of the agent changes.
-use Rattle.std.proofs.Common.{◌≡◌, ◌⊎◌, inl, inr, ℕ, suc, ◌+◌, ◌*◌, ◌%◌, ◌<◌, ◌≤◌, List, take, Result, Ok, refl, sym, ap, ◌∙◌, subst, arith}
-use Rattle.std.proofs.Math.Nat.{suc-mul}
+use Rattle.std.proofs.Common.{◌≡◌, ◌⊎◌, inl, inr, ℕ, ◌+◌, ◌*◌, ◌%◌, ◌<◌, ◌≤◌, take, Result, Ok, refl, sym, ap, ◌∙◌, subst, arith}
 use Rattle.flash_core.specs.Told.{Told}
 use Rattle.flash_core.specs.May.{Keeps}
 use Rattle.flash_core.specs.Touches.{TouchesOnly}
 use Rattle.flash_core.specs.declared.flash.FlashStop.{FlashStop}
-use Rattle.fwu_formats.specs.Layout.{ImageRow, Layout, slot_bytes, slot_total, start}
+use Rattle.fwu_formats.specs.Layout.{Layout, slot_bytes, slot_total, start}
 use Rattle.fwu_formats.specs.Metadata.{Meta}
 use Rattle.fwu_formats.proofs.Same.{slots-fit}
 use Rattle.marks_core.specs.Marks.{Clears}
@@ -93,15 +92,11 @@ module _ (f : Fields) {a b : ℕ → ℕ} where
 slot-inside : (L : Layout) (bank image i : ℕ) → IsBesideBank L bank i
     → (i < 4096 * start L bank image) ⊎ (4096 * start L bank image + slot_bytes L image ≤ i)
 slot-inside L bank image i (inl low) =
-    inl (omega (arith, low, none L.rows))
-  where
-    none : (rows : List ImageRow) → slot_total (take 0 rows) ≡ 0
-    none rows = refl
+    let none : slot_total (take 0 L.rows) ≡ 0 = refl in
+    inl (omega (arith, low, none))
 slot-inside L bank image i (inr high) =
-    let more : suc bank * slot_total L.rows ≡ bank * slot_total L.rows + slot_total L.rows = suc-mul bank (slot_total L.rows) in
-    let next : suc bank ≡ bank + 1 = omega arith in
-    let total : (bank + 1) * slot_total L.rows ≡ bank * slot_total L.rows + slot_total L.rows = ap (λ (n : ℕ). n * slot_total L.rows) (sym next) ∙ more in
-    inr (omega (arith, high, total, slots-fit L.rows image))
+    let next : (bank + 1) * slot_total L.rows ≡ bank * slot_total L.rows + slot_total L.rows = grind arith in
+    inr (omega (arith, high, next, slots-fit L.rows image))
 
 -- what is written in a slot of a staging, which is of the active bank
 pub slot-spares : (f : Fields) (image : ℕ) (s t : Told) → f.boot ≡ f.meta.meta.active

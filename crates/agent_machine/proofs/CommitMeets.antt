@@ -1,5 +1,5 @@
 -- What the commit of an image says.
-use Rattle.std.proofs.Common.{◌≡◌, ℕ, ◌+◌, ◌-◌, ◌*◌, ◌<◌, ◌≤◌, Bool, true, false, List, [], length, get_or, Some, Ok, refl, sym, ap, subst, arith, IsTrue, ◌∙◌}
+use Rattle.std.proofs.Common.{◌≡◌, ℕ, ◌+◌, ◌-◌, ◌*◌, ◌<◌, ◌≤◌, Bool, true, List, [], length, get_or, Some, Ok, refl, sym, ap, subst, arith, IsTrue, ◌∙◌}
 use Rattle.std.proofs.Math.Logic.{∥∥₁_map}
 use Rattle.flash_core.specs.Told.{Told}
 use Rattle.flash_core.specs.Touches.{TouchesOnly}
@@ -32,6 +32,7 @@ use Rattle.agent_machine.specs.Law.{StaysKnown}
 use Rattle.agent_machine.specs.Meets.{LeavesFlash, Meets}
 use Rattle.agent_machine.proofs.Answered.{rest-guarded, leaves-by, done-meets}
 use Rattle.agent_machine.proofs.Committing.{slot-room, finish-blocks, finish-spares, finish-stays, CommitLeaves, committed}
+use Rattle.agent_machine.proofs.Stored.{not-both}
 use Rattle.agent_machine.proofs.Room.{ReadsWell, set-readers, old-readers, free-well, fitting-again, staged-before}
 
 -- ---- an image is committed
@@ -95,15 +96,10 @@ module _ (f : Fields) (tells : Bool) (s t : Told) (number image : ℕ) (bit : Bo
     abbrev g : Fields
     g = with_session f k f.rests
 
-    not-idle : k.staging ≡ false → ⊥
-    not-idle off = true-false (sym fits.2 ∙ sym commits.staging ∙ off)
-      where
-        true-false : true ≡ false → ⊥
-        true-false e = absurd cc
-
     pub commit-fitting : Fitting g
     commit-fitting =
-        fitting-again f k f.rests fitting commits.rows (staged-before f k fitting commits.staging) (λ off. absurd (not-idle off)) fitting.rests
+        fitting-again f k f.rests fitting commits.rows (staged-before f k fitting commits.staging)
+        (λ off. absurd (not-both k.staging off (commits.staging ∙ fits.2))) fitting.rests
         (λ place. subst (λ (hs : List Handle). ReadsWell f (get_or hs place Free)) (sym commits.handles)
         (set-readers f f.session.handles (number - 1) Free (old-readers f fitting) (free-well f) place))
 

@@ -14,7 +14,7 @@ use Rattle.fwu_model.specs.State.{is_invalid}
 use Rattle.slot_writer.specs.Slots.{FinishesImage, IsBlankAhead, blocks_for, done_of}
 use Rattle.agent_kept.specs.declared.parts.Part.{Part}
 use Rattle.agent_kept.specs.declared.parts.Part.TheVariants.{Nothing, Open, Committed}
-use Rattle.agent_kept.specs.Kept.{Kept, IsKept, CommitsPart, CommitsTo, part_at, part_meant, size_of, slot_room_of}
+use Rattle.agent_kept.specs.Kept.{Kept, IsKept, CommitsPart, CommitsTo, part_at, part_meant, size_of}
 use Rattle.agent_kept.proofs.After.{kept-committed}
 use Rattle.agent_machine.specs.Beside.{KeepsSpared, SparesBlocks}
 use Rattle.agent_machine.proofs.Beside.{slot-blocks, slot-spares}
@@ -23,16 +23,9 @@ use Rattle.agent_machine.specs.Machine.{state_in, staged_bytes, part_bytes}
 use Rattle.agent_machine.specs.Knows.{Fitting, SessionSound, Knows}
 use Rattle.agent_machine.specs.Law.{StaysKnown}
 use Rattle.agent_machine.proofs.Answered.{MeansSame, kept-same}
+pub use Rattle.agent_machine.proofs.Staging.{slot-room}
 use Rattle.agent_machine.proofs.Staging.{stays-known}
 use Rattle.agent_machine.proofs.Writing.{known-again, open-not-committed}
-
--- a staged image is within its slot
-pub slot-room : (f : Fields) → Fitting f → SessionSound f → (image : ℕ) → image < length f.layout.rows
-    → size_of (part_at f.session image) ≤ slot_bytes f.layout image
-slot-room f fitting sound image lt =
-    let count : length f.session.rows ≡ length f.layout.rows = ap (λ (l : List ImageRow). length l) fitting.rows in
-    let slot : slot_room_of f.session.rows image ≡ slot_bytes f.layout image = ap (λ (l : List ImageRow). slot_room_of l image) fitting.rows in
-    omega (arith, sound.sizes image (omega (arith, count, lt)), slot)
 
 -- what ending an image leaves of the others, at any exit
 module _ {T : Type 0} (result : Result T FlashStop) (f : Fields) (image size : ℕ) (s t : Told)

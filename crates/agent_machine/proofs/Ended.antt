@@ -8,6 +8,7 @@ use Rattle.fwu_formats.specs.declared.kinds.BankState.TheVariants.{Invalid}
 use Rattle.fwu_formats.specs.Layout.{ImageRow, Layout}
 use Rattle.fwu_formats.specs.Metadata.{Meta, MetaRead, state_at, fits_meta}
 use Rattle.fwu_formats.specs.Image.{package_in}
+use Rattle.fwu_formats.proofs.Same.{map-same}
 use Rattle.fwu_formats.proofs.SealLaws.{limits}
 use Rattle.fwu_model.specs.Replica.{BothHold, in_version}
 use Rattle.fwu_model.specs.State.{State, Bank, Switch, bank, no_bank, update_bank, after, is_invalid, state_by}
@@ -42,10 +43,6 @@ bit-meant : (p : Part) (bytes : List ℕ) → bit_kept p ≡ committed_bit (part
 bit-meant Nothing bytes = refl
 bit-meant (Open size hasher) bytes = refl
 bit-meant (Committed size digest bit) bytes = refl
-
-map-same : (f g : ℕ → Bool) (xs : List ℕ) → ((i : ℕ) → f i ≡ g i) → map f xs ≡ map g xs
-map-same f g [] same = refl
-map-same f g (x ∷ xs) same = ap₂ (λ (a : Bool) (l : List Bool). a ∷ l) (same x) (map-same f g xs same)
 
 bits-meant : (k : Kept) (staged : ℕ → List ℕ) → bits_kept k ≡ staged_bits (parts_meant k staged)
 bits-meant k staged =

@@ -32,10 +32,7 @@ use Rattle.agent_machine.proofs.Answered.{kept-same, content-total}
 use Rattle.agent_machine.proofs.Showing.{some-after, kept-after}
 use Rattle.agent_machine.proofs.Room.{MayStage, ReadsWell, free-well, writer-well, old-readers, set-readers, staged-before, fitting-again, rows-some}
 use Rattle.agent_machine.proofs.Writing.{bytes-here, bytes-there, open-not-committed}
-use Rattle.agent_machine.proofs.Stored.{nothing-means, nothing-staged}
-
-false-true : {b : Bool} → b ≡ false → b ≡ true → ⊥
-false-true a b = absurd cc
+use Rattle.agent_machine.proofs.Stored.{not-both, nothing-means, nothing-staged}
 
 -- ---- what changes
 
@@ -79,7 +76,8 @@ module _ (tells : Bool) (f : Fields) (k : Kept) (bytes : List ℕ) (fitting : Fi
       (reader-well image (at + n) total (old-readers f fitting (number - 1) image at total of.1)) (λ was i. refl)
   change-of (plan.Commit number None bit) quiet of may e = handle-set _ number Free e (free-well f) (λ was i. refl)
   change-of plan.Cancel quiet of may c =
-      Restarted c.rows c.nothing c.closed (λ on. absurd (false-true c.staging_is on)) (λ on. absurd (false-true c.staging_is on))
+      Restarted c.rows c.nothing c.closed (λ on. absurd (not-both k.staging c.staging_is on))
+      (λ on. absurd (not-both k.staging c.staging_is on))
   change-of (plan.Accept image false) quiet of may e = Handles f.session.handles e (old-readers f fitting) (λ was i. refl)
   change-of other quiet of may c = absurd quiet
 
@@ -189,7 +187,7 @@ module _ (tells : Bool) (f : Fields) (k : Kept) (bytes : List ℕ) (fitting : Fi
       fitting-again f k f.rests fitting rows may (λ off. nothing) fitting.rests (closed-readers closed)
   quiet-fitting p (Opened image place on opens staged) =
       fitting-again f k f.rests fitting opens.rows (staged-before f k fitting opens.staging)
-      (λ off. absurd (false-true (sym opens.staging ∙ off) on))
+      (λ off. absurd (not-both k.staging off (opens.staging ∙ on)))
       fitting.rests (λ at. subst (λ (hs : List Handle). ReadsWell f (get_or hs at Free)) (sym opens.handles)
       (set-readers f f.session.handles place (Writes image) (old-readers f fitting) (writer-well f image) at))
 

@@ -8,12 +8,11 @@ use Rattle.flash_core.specs.Told.{Told}
 use Rattle.flash_core.specs.May.{Keeps}
 use Rattle.flash_core.specs.Touches.{TouchesOnly}
 use Rattle.flash_core.proofs.Calls.{keeps_wider}
-use Rattle.fwu_formats.specs.Layout.{ImageRow, Layout, start, slot_total, slot_bytes, blocks_needed, fits_layout}
+use Rattle.fwu_formats.specs.Layout.{ImageRow, Layout, start, slot_bytes, blocks_needed, fits_layout}
 use Rattle.fwu_formats.specs.Metadata.{state_at, fits_meta}
 use Rattle.fwu_formats.proofs.Written.{rows-limits, rows-fit}
 use Rattle.fwu_model.specs.State.{is_invalid}
 use Rattle.meta_layout.proofs.Fits.{meta-fits}
-use Rattle.moves.proofs.SamePackages.{slots-fit}
 use Rattle.agent_state.specs.Decides.{IsMetaOf}
 use Rattle.slot_writer.specs.Slots.{Appends, blocks_for, done_of}
 use Rattle.agent_kept.specs.declared.parts.Handle.{Handle}
@@ -24,6 +23,7 @@ use Rattle.agent_machine.proofs.Beside.{slot-blocks, slot-spares}
 use Rattle.agent_machine.specs.Fields.{Fields, total_of, target, with_session}
 use Rattle.agent_machine.specs.Knows.{Fitting, SessionSound, Knows}
 use Rattle.agent_machine.specs.Law.{StaysKnown}
+pub use Rattle.agent_machine.proofs.Staging.{slot-inside}
 use Rattle.agent_machine.proofs.Staging.{stays-known}
 use Rattle.agent_machine.proofs.Answered.{IsImageOrDirectory, layout-limits}
 
@@ -37,13 +37,6 @@ slots-small L h image = elim (cases_lt image (length L.rows)) [
   | inr past ↦ let none : (get_or L.rows image (record { guid = []; slots = 0 })).slots ≡ 0 = ap (λ (r : ImageRow). r.slots)
       (get_or_past L.rows image (record { guid = []; slots = 0 }) past) in omega (arith, none)
 ]
-
-pub slot-inside : (L : Layout) (bank image : ℕ) → bank < L.banks → 4096 * start L bank image + slot_bytes L image ≤ 4096 * blocks_needed L
-slot-inside L bank image lt =
-    let fits = slots-fit L.rows image in
-    let next : (bank + 1) * slot_total L.rows ≡ bank * slot_total L.rows + slot_total L.rows = grind arith in
-    let most : (bank + 1) * slot_total L.rows ≤ L.banks * slot_total L.rows = grind arith in
-    omega (arith, fits, next, most)
 
 -- ---- readers
 

@@ -66,9 +66,6 @@ spent-then {g = g} {result = result} {a = a} {b = b} {c = c} first second = reco
 
 -- ---- the record of both
 
-is-gone : (b : Bool) → IsTrue b → IsFalse b → ⊥
-is-gone b is here = false≢true (sym here ∙ is)
-
 -- what isn't refused and isn't Gone goes as what was spent
 pub spent-goes : {A D T : Type 0} {g : Ghosts D} (result : Result T Stop) (old new : AgentAt A D) → IsDone result → IsFalse old.gone
     → Spent g (flash_result result) new.gone old.device new.device → CallGoes g result old new
@@ -92,10 +89,10 @@ spent-goes result old new done here spent = record {
 
     goes-by : {T : Type 0} (r : Result T Stop) → IsDone r → (was now : Bool) → IsFalse was → now ≡ not (is_ok (flash_result r)) → GoesBy r was now
     goes-by (Ok x) done was now here is = record {
-      gone = (λ e. absurd cc, λ is. absurd (is-gone was is here));
-      later = (λ now-gone. absurd (is-gone now now-gone is), λ one. absurd (neither was here one));
+      gone = (λ e. absurd cc, λ is. absurd (not-both was here is));
+      later = (λ now-gone. absurd (not-both now is now-gone), λ one. absurd (neither was here one));
     }
     goes-by (Err (stop.Status st)) done was now here is = absurd done
     goes-by (Err stop.Gone) done was now here is = absurd done
     goes-by (Err cause) done was now here is =
-        record { gone = (λ e. absurd cc, λ is. absurd (is-gone was is here)); later = (λ now-gone. inr tt, λ one. is) }
+        record { gone = (λ e. absurd cc, λ is. absurd (not-both was here is)); later = (λ now-gone. inr tt, λ one. is) }

@@ -44,6 +44,24 @@ slots-order (r ∷ rows) (suc i) (suc j) lt = omega (
   slots-order rows i j (omega (arith, lt)),
 )
 
+-- a slot is within the blocks of the layout
+pub slot-inside : (L : Layout) (bank image : ℕ) → bank < L.banks
+    → 4096 * start L bank image + slot_bytes L image ≤ 4096 * blocks_needed L
+slot-inside L bank image lt =
+    let fits = slots-fit L.rows image in
+    let next : (bank + 1) * slot_total L.rows ≡ bank * slot_total L.rows + slot_total L.rows = grind arith in
+    let most : (bank + 1) * slot_total L.rows ≤ L.banks * slot_total L.rows = grind arith in
+    omega (arith, fits, next, most)
+
+-- a staged image is within its slot
+pub slot-room : (f : Fields) → Fitting f → SessionSound f → (image : ℕ) → image < length f.layout.rows
+    → size_of (part_at f.session image) ≤ slot_bytes f.layout image
+slot-room f fitting sound image lt =
+    let count : length f.session.rows ≡ length f.layout.rows = ap (λ (l : List ImageRow). length l) fitting.rows in
+    let slot : slot_room_of f.session.rows image ≡ slot_bytes f.layout image =
+    ap (λ (l : List ImageRow). slot_room_of l image) fitting.rows in
+    omega (arith, sound.sizes image (omega (arith, count, lt)), slot)
+
 module _ (f : Fields) (image : ℕ) (s t : Told) (fitting : Fitting f) (sound : SessionSound f) (knows : Knows f s)
     (invalid : IsTrue (is_invalid (state_at f.meta.meta (target f)))) (within : image < length f.layout.rows)
     (room : blocks_needed f.layout * 4096 ≤ length s.now)
@@ -62,13 +80,6 @@ module _ (f : Fields) (image : ℕ) (s t : Told) (fitting : Fitting f) (sound : 
 
   abbrev high : ℕ
   high = 4096 * start L u image + slot_bytes L image
-
-  -- a staged image is within its slot
-  in-slot : (other : ℕ) → other < length L.rows → size_of (part_at f.session other) ≤ slot_bytes L other
-  in-slot other lt =
-      let count : length f.session.rows ≡ length L.rows = ap (λ (l : List ImageRow). length l) fitting.rows in
-      let slot : slot_room_of f.session.rows other ≡ slot_bytes L other = ap (λ (l : List ImageRow). slot_room_of l other) fitting.rows in
-      omega (arith, sound.sizes other (omega (arith, count, lt)), slot)
 
   below : u < L.banks
   below =
@@ -132,12 +143,7 @@ module _ (f : Fields) (image : ℕ) (s t : Told) (fitting : Fitting f) (sound : 
     ]
 
     within-flash : to ≤ length s.now
-    within-flash =
-        let fits = slots-fit L.rows other in
-        let lt = below in
-        let next : (u + 1) * slot_total L.rows ≡ u * slot_total L.rows + slot_total L.rows = grind arith in
-        let most : (u + 1) * slot_total L.rows ≤ L.banks * slot_total L.rows = grind arith in
-        omega (arith, fits, next, most, room)
+    within-flash = omega (arith, slot-inside L u other below, room)
 
     front-kept : (n : ℕ) → n ≤ slot_bytes L other → take n (drop from t.now) ≡ take n (drop from s.now)
     front-kept n le =
@@ -169,13 +175,14 @@ module _ (f : Fields) (image : ℕ) (s t : Told) (fitting : Fitting f) (sound : 
     layout_is = shown-after.layout;
     both = both-after;
     held = held-after;
-    others = λ other not there. part-kept other not there (part_at f.session other) (rest_of f other) (in-slot other there);
+    others = λ other not there. part-kept other not there (part_at f.session other) (rest_of f other)
+        (slot-room f fitting sound other there);
     ahead = λ other size hasher not there is i above under.
-        let le : size ≤ slot_bytes L other = omega (arith, ap size_of is, in-slot other there) in
+        let le : size ≤ slot_bytes L other = omega (arith, ap size_of is, slot-room f fitting sound other there) in
         keeps.now i (outside other not there i (omega (arith, above)) (omega (arith, under, le)))
         ∙ knows.staged.ahead other size hasher there is i above under;
     padded = λ other size digest bit not there is i above under.
-        let le : size ≤ slot_bytes L other = omega (arith, ap size_of is, in-slot other there) in
+        let le : size ≤ slot_bytes L other = omega (arith, ap size_of is, slot-room f fitting sound other there) in
         keeps.now i (outside other not there i (omega (arith, above)) (omega (arith, under, le)))
         ∙ knows.staged.padded other size digest bit there is i above under;
     sure = λ other size digest bit not there is i above under. keeps.sure i (outside other not there i above under)

@@ -1,5 +1,6 @@
 -- What an agent knows after the plan of a begin, an accept or a previous: its fields fit each other, and, where metadata was stored, its flash shows them.
 use Rattle.std.proofs.Common.{◌≡◌, ◌≢◌, ℕ, ◌+◌, ◌-◌, ◌%◌, ◌<◌, ◌≤◌, min, Bool, true, false, ◌&&◌, ◌||◌, not, ◌==◌, List, [], length, get_or, set, take, replicate, Option, Some, refl, sym, ap, ◌∙◌, subst, arith, IsTrue, IsFalse, eqb-true, get_or-set_same, get_or-set_other}
+use Rattle.std.proofs.lemmas.Bool.{not-false}
 use Rattle.std.proofs.lemmas.List.{take_all}
 use Rattle.flash_core.specs.Told.{Told}
 use Rattle.sha2.specs.declared.Sha256.{Sha256}
@@ -131,16 +132,12 @@ module _ (f : Fields) (fitting : Fitting f) where
 
   module _ (store : Bool) (may : MayBegin f store) where
     pub begin-booted : f.boot ≡ m.active
-    begin-booted = eqb-true _ _ (by (f.boot == m.active) (by-or (not f.session.staging && is_valid (state_at m m.active))
+    begin-booted = eqb-true _ _ (not-false (f.boot == m.active) (by-or (not f.session.staging && is_valid (state_at m m.active))
         (not (f.boot == m.active)) may.begins).1)
       where
         by-or : (a b : Bool) → (a || b) ≡ false → (a ≡ false) × (b ≡ false)
         by-or true b e = absurd cc
         by-or false b e = (refl, e)
-
-        by : (a : Bool) → not a ≡ false → a ≡ true
-        by true e = refl
-        by false e = absurd cc
 
     pub begin-settled : f.session.staging ≡ false → IsFalse (is_valid (state_at m m.active))
     begin-settled off = by f.session.staging (is_valid (state_at m m.active)) (not (f.boot == m.active)) off may.begins

@@ -1,6 +1,6 @@
 -- What the machine answers where a decision of a begin, an accept or a previous is no refusal.
 use Rattle.std.proofs.Common.{◌≡◌, ℕ, Bool, true, false, ◌&&◌, not, ◌==◌, cond, List, [], ◌∷◌, Option, Some, None, refl, sym, ap, ◌∙◌, IsTrue, eqb-true, inl, inr}
-use Rattle.std.proofs.lemmas.Bool.{cases_Bool, and_parts}
+use Rattle.std.proofs.lemmas.Bool.{cases_Bool, and_parts, cond-true, cond-false, not-false}
 use Rattle.fwu_formats.specs.Layout.{find_image}
 use Rattle.fwu_model.specs.declared.kinds.Status.{Status}
 use Rattle.fwu_model.specs.declared.kinds.Status.TheVariants as status
@@ -16,14 +16,6 @@ use Rattle.agent_kept.specs.Plans.{planned, by_verdict}
 use Rattle.agent_state.proofs.Replies.{begin-denied, accept-elsewhere, accept-staging, previous-stays, previous-alone, previous-asks, previous-staging}
 use Rattle.agent_machine.specs.Meets.{may_try}
 use Rattle.agent_machine.specs.Stored.{frees}
-
-if-true : {X : Type 0} (c : Bool) (a b : X) → c ≡ true → cond c a b ≡ a
-if-true true a b e = refl
-if-true false a b e = absurd cc
-
-if-false : {X : Type 0} (c : Bool) (a b : X) → c ≡ false → cond c a b ≡ b
-if-false true a b e = absurd cc
-if-false false a b e = refl
 
 -- a plan is no refusal
 not-refused : (E : Setting) (s : State) (boot : ℕ) (stg : Option (List Staged)) (hs : List Handle) (p : Plan) (st : Status) (y : Session)
@@ -52,11 +44,11 @@ module _ (E : Setting) (s : State) (boot : ℕ) (stg : Option (List Staged)) (hs
   begin-done : (n : ℕ) → cannot_begin s boot stg ≡ false → (n == 0) ≡ true
       → answer E s here (call.Begin n) ≡ answered Success (begin_moves s) (On boot (nothing_staged E) no_handles)
   unfolding answer answer_begin
-  begin-done n can zero = if-false (cannot_begin s boot stg) _ _ can ∙ if-false (not (n == 0)) _ _ (ap not zero)
+  begin-done n can zero = cond-false (cannot_begin s boot stg) _ _ can ∙ cond-false (not (n == 0)) _ _ (ap not zero)
 
   begin-refused : (n : ℕ) → cannot_begin s boot stg ≡ false → (n == 0) ≡ false → answer E s here (call.Begin n) ≡ refused status.NotAvailable here
   unfolding answer answer_begin
-  begin-refused n can later = if-false (cannot_begin s boot stg) _ _ can ∙ if-true (not (n == 0)) _ _ (ap not later)
+  begin-refused n can later = cond-false (cannot_begin s boot stg) _ _ can ∙ cond-true (not (n == 0)) _ _ (ap not later)
 
   -- What the decision of a begin is where it is no refusal: it may begin, and frees the update bank where that is in use.
   pub record Begins (n : ℕ) (p : Plan) : Type 0 where
@@ -96,17 +88,14 @@ module _ (E : Setting) (s : State) (boot : ℕ) (hs : List Handle) where
 
   accept-here : (guid : List ℕ) → is_elsewhere s boot ≡ false → answer E s idle (call.Accepts guid) ≡ accept_image s boot hs (find_image E.layout.rows guid)
   unfolding answer answer_accept
-  accept-here guid at = if-false (is_elsewhere s boot) _ _ at
+  accept-here guid at = cond-false (is_elsewhere s boot) _ _ at
 
   accepts-by : (guid : List ℕ) (p : Plan) (found : Option ℕ) → is_elsewhere s boot ≡ false
       → answer E s idle (call.Accepts guid) ≡ accept_image s boot hs found → answer E s idle (call.Accepts guid) ≡ planned E s boot None hs [] p
       → Accepts E s boot None hs guid
   accepts-by guid p None at found e = absurd (not-refused E s boot None hs p status.Unknown idle (sym e ∙ found))
-  accepts-by guid p (Some image) at found e = record { idle = refl; booted = eqb-true _ _ (same (boot == s.active) at); image = image; is = found }
-    where
-      same : (b : Bool) → not b ≡ false → b ≡ true
-      same true h = refl
-      same false h = absurd cc
+  accepts-by guid p (Some image) at found e =
+      record { idle = refl; booted = eqb-true _ _ (not-false (boot == s.active) at); image = image; is = found }
 
   accepts-idle : (guid : List ℕ) (p : Plan) → answer E s idle (call.Accepts guid) ≡ planned E s boot None hs [] p → Accepts E s boot None hs guid
   accepts-idle guid p e = elim (cases_Bool (is_elsewhere s boot)) [

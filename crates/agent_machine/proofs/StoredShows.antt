@@ -1,5 +1,5 @@
 -- The machine that is shown after the plan of a begin, an accept or a previous, and what its store is to the machine.
-use Rattle.std.proofs.Common.{◌≡◌, ◌≢◌, ℕ, ◌+◌, ◌%◌, Bool, true, false, cond, List, [], ◌∷◌, length, set, take, map, Option, Ok, Err, refl, sym, ap, ap₂, ◌∙◌, subst, IsTrue, get_or-set_other, length-set}
+use Rattle.std.proofs.Common.{◌≡◌, ◌≢◌, ℕ, Bool, true, false, cond, List, [], ◌∷◌, length, set, take, map, Option, Ok, Err, refl, sym, ap, ap₂, ◌∙◌, subst, IsTrue, get_or-set_other, length-set}
 use Rattle.std.specs.Prelude.{OnOk, is_ok}
 use Rattle.flash_core.specs.Told.{Told}
 use Rattle.fwu_formats.specs.Layout.{Layout}
@@ -13,7 +13,6 @@ use Rattle.fwu_model.specs.MoveMetas.{meta_in, meta_after, bits_in}
 use Rattle.fwu_model.specs.Calm.{IsAtRest}
 use Rattle.moves.specs.Moved.{IsReady, Does, GuardedBy, ShowsAfter}
 use Rattle.moves.specs.Law.{CallResult}
-use Rattle.moves.proofs.Agree.{bank-count}
 use Rattle.moves.proofs.Composed.{does-nothing}
 use Rattle.replicas.specs.Stores.{Stores}
 use Rattle.agent_kept.specs.declared.kinds.Plan.{Plan}
@@ -36,6 +35,7 @@ use Rattle.agent_machine.specs.Knows.{Fitting, Knows}
 use Rattle.agent_machine.specs.Moment.{Moment, Shows, SpeaksOf}
 use Rattle.agent_machine.specs.Stored.{MayBegin, MayAccept, MayGoBack, MayBeDone, CarriesOut}
 use Rattle.agent_machine.proofs.Answered.{rest-guarded}
+use Rattle.agent_machine.proofs.Known.{update-is}
 use Rattle.agent_machine.proofs.Moving.{StoreMeets, stores-meet}
 use Rattle.agent_machine.proofs.Stored.{after_plan, next-target, target-other, begin-booted, bits-after}
 use Rattle.agent_machine.proofs.StoredKnown.{state-after, begin-accepted, accepting-used, back-accepted}
@@ -223,10 +223,6 @@ module _ (tells : Bool) (f : Fields) (s t : Told) (result : CallResult) (fitting
   abbrev m : Meta
   m = f.meta.meta
 
-  -- the bank that the state frees
-  freed-bank : update_bank (state_in f s.now) ≡ target f
-  freed-bank = ap (λ (n : ℕ). (m.active + 1) % n) (bank-count f.layout s.now f.meta (state_in f s.now) refl)
-
   restarted-session : (k : Kept) → Restarts true f.session k → (a b : ℕ → List ℕ)
       → session_meant k f.boot a ≡ session_meant k f.boot b
   restarted-session k restarts a b =
@@ -243,7 +239,7 @@ module _ (tells : Bool) (f : Fields) (s t : Told) (result : CallResult) (fitting
     speaks = λ E x staged of meta. begun-speaks f x of fitting k may meta;
     session = restarted-session k restarts;
     leaves = λ is. stored-leaves tells f s t result (plan.Begin true) k (λ E. Unit {0}) (Free (target f)) (knows is)
-        (λ E staged. ap (λ (b : ℕ). Free b ∷ []) freed-bank) (λ E may_be. tt) (stores is)
+        (λ E staged. ap (λ (b : ℕ). Free b ∷ []) (update-is f s.now)) (λ E may_be. tt) (stores is)
         ((stores-meet result f s t fitting (knows is)).free (begin-accepted f s t fitting (knows is) true may)
         (subst (λ (b : ℕ). Stores result f.layout (meta_after m (Free b)) s t) (next-target f fitting) (stores is)));
   }

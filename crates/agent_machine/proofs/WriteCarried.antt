@@ -1,5 +1,5 @@
 -- A write that was carried out, or stopped, on the flash.
-use Rattle.std.proofs.Common.{◌≡◌, ℕ, ◌+◌, ◌*◌, ◌<◌, ◌≤◌, Bool, true, false, List, length, get_or, set, Result, Ok, Err, refl, sym, ap, ◌∙◌, subst, arith, IsTrue}
+use Rattle.std.proofs.Common.{◌≡◌, ℕ, ◌+◌, ◌*◌, ◌<◌, ◌≤◌, Bool, List, length, get_or, set, Result, Ok, Err, refl, sym, ap, ◌∙◌, subst, arith, IsTrue}
 use Rattle.std.proofs.lemmas.List.{length-set}
 use Rattle.flash_core.specs.declared.flash.FlashStop.{FlashStop}
 use Rattle.flash_core.specs.Told.{Told}
@@ -31,6 +31,7 @@ use Rattle.fwu_model.specs.Reply.{Success}
 use Rattle.agent_machine.specs.Law.{StaysKnown, WriteMeets}
 use Rattle.agent_machine.proofs.Answered.{FitsEach, rest-guarded, leaves-by, done-meets, stopped-meets}
 use Rattle.agent_machine.proofs.Meeting.{success-says}
+use Rattle.agent_machine.proofs.Stored.{not-both}
 use Rattle.agent_machine.proofs.Room.{ReadsWell, fitting-again, old-readers, staged-before, appends-blocks, appends-spare, appends-stay}
 use Rattle.agent_machine.proofs.Showing.{some-after, kept-after}
 use Rattle.agent_machine.proofs.Writing.{means-written, write-meets}
@@ -109,20 +110,15 @@ module _ (tells : Bool) (s t : Told) (f : Fields) (k : Kept) (new_meta : MetaRea
   write-fitting =
       with-meta Fitting
       (fitting-again f k rests fitting wrote.rest.rows (staged-before f k fitting wrote.rest.staging)
-      (λ off. absurd (not-both (sym (wrote.rest.staging ∙ of.1) ∙ off)))
+      (λ off. absurd (not-both k.staging off (wrote.rest.staging ∙ of.1)))
       (length-set f.rests image left ∙ fitting.rests)
       (λ place. subst (λ (hs : List Handle). ReadsWell f (get_or hs place Free)) (sym wrote.rest.handles) (old-readers f fitting place)))
-    where
-      not-both : ◌≡◌ {A = Bool} true false → ⊥
-      not-both e = absurd cc
 
   write-it : IsTrue tells → WriteMeets f (with_session f k rests) image bytes s t
   write-it told = write-meets f k image number at bytes left s t fitting sound (knows told) of.1 there (room told) fits wrote (kept told) (appends-at told)
 
   pub write-known : IsTrue tells → Knows after_it t
-  write-known told =
-      with-meta (λ (g : Fields). Knows g t)
-      (write-it told).known
+  write-known told = with-meta (λ (g : Fields). Knows g t) (write-it told).known
 
   pub write-some : ∥ SomeStaged f.session ∥₁ → ∥ SomeStaged k ∥₁
   write-some some = some-after f fitting sound bytes (plan.Write number image at (length bytes)) new_meta k settles (λ E state same speaks. tt) some
@@ -136,9 +132,7 @@ module _ (tells : Bool) (s t : Told) (f : Fields) (k : Kept) (new_meta : MetaRea
     total = λ E state same speaks. tt;
     trials = λ state staged speaks kept. speaks.trials_are;
     held = λ state staged speaks kept. refl;
-    state_is = λ told.
-        ap (state_of f.layout t.now) meta
-        ∙ (write-it told).state_is;
+    state_is = λ told. ap (state_of f.layout t.now) meta ∙ (write-it told).state_is;
     staged_are = λ told.
         with-meta (λ (g : Fields). MeansSame k (staged_after (plan.Write number image at (length bytes)) bytes (staged_bytes f s.now))
         (staged_bytes g t.now))
