@@ -32,9 +32,10 @@ use Rattle.agent_kept.specs.declared.parts.Handle.TheVariants.{Reads}
 use Rattle.agent_kept.specs.declared.kinds.Request.{Request}
 use Rattle.agent_kept.specs.declared.kinds.Plan.{Plan}
 use Rattle.agent_kept.specs.declared.kinds.Plan.TheVariants as plan
+use Rattle.agent_kept.specs.declared.kinds.Decision.{Decision}
 use Rattle.agent_kept.specs.declared.kinds.Decision.TheVariants as decision
 use Rattle.agent_kept.specs.Kept.{Kept, IsKept, HasTotals, size_of, part_at, handle_kept, part_meant, handles_meant, staging_meant, session_meant}
-use Rattle.agent_kept.specs.Plans.{call_of, planned, planned_in, SpeaksWhole, loosely, FitsRequest}
+use Rattle.agent_kept.specs.Plans.{call_of, planned, planned_in, SpeaksWhole, loosely, DecidesAs, FitsRequest}
 use Rattle.agent_state.specs.Decides.{DecidesRequest}
 use Rattle.agent_state.specs.Settles.{SettlesIn, staged_after}
 use Rattle.agent_machine.specs.Deciding.{KeepsOldOrNew}
@@ -181,12 +182,19 @@ module _ (m : Moment) (fitting : Fitting m.fields) (sound : SessionSound m.field
   abbrev c : Call
   c = call_of r bytes
 
+  -- what is decided is so of each machine that is shown
+  pub decided-as : (d : Decision) → DecidesRequest passes f.meta f.counter f.session f.boot r d
+      → (E : Setting) (s : State) (x : Session)
+      → IsSettingOf f passes E → Shows m s x → DecidesAs E s x c bytes d
+  decided-as d decides E s x setting shows =
+      subst (λ (y : Session). DecidesAs E s y c bytes d) (sym shows.means)
+      (decides E s shows.staged bytes (loosely E s passes f.meta f.counter f.session f.boot shows.staged
+      (shown-speaks f fitting sound E s passes shows.staged setting shows.speaks shows.kept))
+      (fits E s setting shows.speaks))
+
   module _ (st : Status) (decides : DecidesRequest passes f.meta f.counter f.session f.boot r (decision.Refused st)) where
     pub refused-is : (E : Setting) (s : State) (x : Session) → IsSettingOf f passes E → Shows m s x → answer E s x c ≡ refused st x
-    refused-is E s x setting shows =
-        subst (λ (y : Session). answer E s y c ≡ refused st y) (sym shows.means)
-        (decides E s shows.staged bytes (loosely E s passes f.meta f.counter f.session f.boot shows.staged (shown-speaks f fitting sound E s passes shows.staged setting shows.speaks shows.kept))
-        (fits E s setting shows.speaks))
+    refused-is = decided-as (decision.Refused st) decides
 
     -- what is refused changes nothing
     pub refused-meets : {T : Type 0} (Says : T → Reply → Type 0) → Meets {T = T} Says (Err (stop.Status st)) passes c m m
@@ -262,10 +270,7 @@ module _ (old new : Moment) (fitting : Fitting old.fields) (sound : SessionSound
   meant staged = session_meant k was.boot staged
 
   pub planned-is : (E : Setting) (s : State) (x : Session) → IsSettingOf was passes E → Shows old s x → answer E s x call ≡ planned_in E s x bytes p
-  planned-is E s x setting shows =
-      subst (λ (y : Session). answer E s y call ≡ planned_in E s y bytes p) (sym shows.means)
-      (decides E s shows.staged bytes (loosely E s passes was.meta was.counter was.session was.boot shows.staged (shown-speaks was fitting sound E s passes shows.staged setting shows.speaks shows.kept))
-      (fits E s setting shows.speaks))
+  planned-is = decided-as old fitting sound passes r bytes fits (decision.Do p) decides
 
   -- the moves of the answer, where the device tells its content
   pub moves-told : (E : Setting) (s : State) (x : Session) → IsSettingOf was passes E → Shows old s x → IsTrue old.tells

@@ -64,12 +64,9 @@ module _ (result : CallResult) (f : Fields) (s t : Told) (fitting : Fitting f) (
   abbrev of-layout : (List ℕ → Option (List ℕ)) → (List ℕ → Bool) → Setting
   of-layout files passes = record { layout = L; files = files; passes = passes }
 
-  -- in every setting of the layout, where it holds in those that have it by their form
-  anywhere : (Premise : Setting → Type 0) (move : Move) → ((files : List ℕ → Option (List ℕ)) (passes : List ℕ → Bool) → Premise
-      (of-layout files passes) → IsCalm (of-layout files passes) s state → Guards 1 7 s → Does result (of-layout files passes) state (move ∷ []) t)
-      → (E : Setting) → E.layout ≡ L → Premise E → IsCalm E s state → Guards 1 7 s → Does result E state (move ∷ []) t
-  anywhere Premise move = in-layout (λ (E : Setting). Premise E → IsCalm E s state → Guards 1 7 s
-      → Does result E state (move ∷ []) t) L
+  -- what the move does in a setting with the premise
+  abbrev DoesIn : (Setting → Type 0) → Move → Setting → Type 0
+  DoesIn Premise move E = Premise E → IsCalm E s state → Guards 1 7 s → Does result E state (move ∷ []) t
 
   kept : (new : Meta) → Stores result L new s t → (IsAtRest s → QuietBy L new s) → IsAtRest s → GuardedBy result t
   kept new stores quiet rest =
@@ -87,7 +84,7 @@ module _ (result : CallResult) (f : Fields) (s t : Told) (fitting : Fitting f) (
         let active : IsTrue (is_accepted (bank state state.active).state) = ap is_accepted (state-is L s.now f.meta state refl m.active active-below)
         ∙ accepted in
         record {
-          does = anywhere (λ E. Unit {0}) (Free (target f)) (λ files passes premise calm guards.
+          does = in-layout (DoesIn (λ E. Unit {0}) (Free (target f))) L (λ files passes premise calm guards.
               let E = of-layout files passes in
               subst (λ (b : ℕ). Does result E state (Free b ∷ []) t) (update-is f s.now)
               (free-does result E s t state m (known-ready E f s refl knows calm guards) decided active at));
@@ -98,7 +95,7 @@ module _ (result : CallResult) (f : Fields) (s t : Told) (fitting : Fitting f) (
               (used-now rest));
         };
     accept = λ image used stores. record {
-      does = anywhere (λ E. Unit {0}) (Accept image) (λ files passes premise calm guards.
+      does = in-layout (DoesIn (λ E. Unit {0}) (Accept image)) L (λ files passes premise calm guards.
           let E = of-layout files passes in
           accept-does result E s t state m (known-ready E f s refl knows calm guards) decided image stores);
       shows = accept-shows result L s t state m shown decided image used stores;
@@ -108,7 +105,8 @@ module _ (result : CallResult) (f : Fields) (s t : Told) (fitting : Fitting f) (
         let previous : IsTrue (is_accepted (bank state state.previous).state) = ap is_accepted
         (state-is L s.now f.meta state refl m.previous previous-below) ∙ accepted in
         record {
-          does = anywhere (λ E. IsTrue (holds_permitted E state.counter (bank state state.previous).held)) Back (λ files passes premise calm guards.
+          does = in-layout (DoesIn (λ E. IsTrue (holds_permitted E state.counter (bank state state.previous).held)) Back) L
+              (λ files passes premise calm guards.
               let E = of-layout files passes in
               back-does result E s t state m (known-ready E f s refl knows calm guards) decided previous premise stores);
           shows = back-shows result L s t state m shown decided accepted stores;

@@ -150,11 +150,6 @@ module _ (old : Moment) (fitting : Fitting old.fields) (sound : SessionSound old
       read-meets out read carried =
           done-meets old new fitting sound knows passes asked [] (reader-fits passes) own (reads passes) carried (IsGot old.tells out) (n, total)
           (λ E s x setting shows. read-says old fitting number image at n total of knows E s x setting.layout shows out read)
-          (leaves (Ok tt) (record {
-            tells = carried.tells;
-            layout = carried.beside.layout;
-            boot = carried.beside.boot;
-            counter = carried.beside.counter;
-            lengths = carried.beside.lengths;
-            guard = λ is. ap (λ (t : Told). t.guard) (told is);
-          }))
+          (leaves (Ok tt)
+          (let guard : IsTrue old.tells → new.told.guard ≡ old.told.guard = λ is. ap (λ (t : Told). t.guard) (told is) in
+          assumption))

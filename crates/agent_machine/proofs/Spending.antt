@@ -45,13 +45,10 @@ none-spent g gone a here power = record {
 -- a call of an agent that isn't gone
 pub call-spent : {A D T : Type 0} {g : Ghosts D} {result : Result T Stop} {old new : AgentAt A D} → IsFalse old.gone → CallGoes g result old new
     → Spent g (flash_result result) new.gone old.device new.device
-call-spent {result = result} {old = old} {new = new} here goes = record {
-  gone_is = gone-by result old.gone new.gone here goes.gone;
-  power = goes.power here;
-  size = goes.size;
-  costs = goes.costs;
-  unarmed = goes.unarmed;
-}
+call-spent {g = g} {result = result} {old = old} {new = new} here goes =
+    let gone_is : new.gone ≡ not (is_ok (flash_result result)) = gone-by result old.gone new.gone here goes.gone in
+    let power : g.on new.device ≡ is_ok (flash_result result) = goes.power here in
+    assumption
 
 -- calls that were done, and one more
 pub spent-then : {D : Type 0} {g : Ghosts D} {result : Result (Unit {0}) FlashStop} {amid gone : Bool} {a b c : D}

@@ -18,7 +18,7 @@ use Rattle.agent_kept.specs.declared.kinds.Plan.TheVariants as plan
 use Rattle.agent_kept.specs.declared.kinds.Decision.{Decision}
 use Rattle.agent_kept.specs.declared.kinds.Decision.TheVariants as decision
 use Rattle.agent_kept.specs.Kept.{Kept, session_meant, staging_meant, handles_meant, parts_meant}
-use Rattle.agent_kept.specs.Plans.{call_of, planned, planned_in, loosely, FitsRequest, DecidesAs}
+use Rattle.agent_kept.specs.Plans.{call_of, planned, planned_in, FitsRequest, DecidesAs}
 use Rattle.agent_state.specs.Decides.{DecidesRequest, cannot_begin_kept}
 use Rattle.agent_state.proofs.Machine.{state-is, active-is, cannot-is}
 use Rattle.agent_machine.specs.Fields.{Fields, target}
@@ -26,7 +26,7 @@ use Rattle.agent_machine.specs.Knows.{Fitting, SessionSound, SomeStaged}
 use Rattle.agent_machine.specs.Meets.{IsSettingOf}
 use Rattle.agent_machine.specs.Moment.{Moment, Shows, Showing}
 use Rattle.agent_machine.specs.Stored.{MayBegin, MayAccept, frees}
-use Rattle.agent_machine.proofs.Answered.{shown-speaks}
+use Rattle.agent_machine.proofs.Answered.{decided-as}
 use Rattle.agent_machine.proofs.Meeting.{success-says}
 use Rattle.agent_machine.proofs.Showing.{shows-some}
 use Rattle.agent_machine.proofs.StoredAnswers.{Accepts, Begins, begins, accepts}
@@ -45,9 +45,7 @@ module _ (m : Moment) (fitting : Fitting m.fields) (sound : SessionSound m.field
 
   pub decided-of : (d : Decision) → Decided d → (E : Setting) (s : State) (x : Session) → IsSettingOf f passes E → Shows m s x
       → DecidesAs E s x (call_of r []) [] d
-  decided-of d decides E s x setting shows =
-      subst (λ (y : Session). DecidesAs E s y (call_of r []) [] d) (sym shows.means)
-      (decides E s shows.staged [] (loosely E s passes f.meta f.counter f.session f.boot shows.staged (shown-speaks f fitting sound E s passes shows.staged setting shows.speaks shows.kept)) (fits E s))
+  decided-of d decides = decided-as m fitting sound passes r [] (λ E s setting speaks. fits E s) d decides
 
   pub refused-of : (st : Status) → Decided (decision.Refused st) → (E : Setting) (s : State) (x : Session) → IsSettingOf f passes E → Shows m s x
       → answer E s x (call_of r []) ≡ refused st x

