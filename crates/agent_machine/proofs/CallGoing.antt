@@ -1,5 +1,5 @@
 -- A call of the agent whose value says which reply it is.
-use Rattle.std.proofs.Common.{◌≡◌, ℕ, List, Option, Some, None, Result, Ok, Err, refl, sym, ◌∙◌}
+use Rattle.std.proofs.Common.{◌≡◌, ℕ, List, Option, Some, None, Result, Ok, Err, refl}
 use Rattle.std.proofs.lemmas.Result.{IfOk-from_err}
 use Rattle.std.specs.Prelude.{IsErr, OnOk, Bool}
 use Rattle.flash_core.specs.declared.flash.FlashStop.{FlashStop}
@@ -26,17 +26,11 @@ reply_of of (Err cause) = None
 abbrev pub MeetsAs : {T : Type 0} → (T → Reply) → Result T Stop → (List ℕ → Bool) → Call → Moment → Moment → Type 0
 MeetsAs of result passes c old new = Meets (λ value r. r ≡ of value) result passes c old new
 
-some-is : (a b : Reply) → ◌≡◌ {A = Option Reply} (Some a) (Some b) → a ≡ b
-some-is a b e = cc
-
-no-reply : (r : Reply) → ◌≡◌ {A = Option Reply} None (Some r) → ⊥
-no-reply r e = cc
-
 replied : {T : Type 0} (E : Setting) (of : T → Reply) (result : Result T Stop) (c : Call) (new : Moment) (s : State) (x : Session) (r : Reply)
     → Answers (λ value a. a ≡ of value) result E s x c new → reply_of of result ≡ Some r → RepliesByMachine E s x c new r
-replied E of (Ok v) c new s x r has is = record { reply_is = sym (some-is (of v) r is) ∙ sym has.0; shows = has.1 }
-replied E of (Err (stop.Status st)) c new s x r has is = record { reply_is = sym (some-is (Refused st) r is) ∙ sym has.0; shows = has.1 }
-replied E of (Err cause) c new s x r has is = absurd (no-reply r is)
+replied E of (Ok v) c new s x r has is = record { reply_is = cc; shows = has.1 }
+replied E of (Err (stop.Status st)) c new s x r has is = record { reply_is = cc; shows = has.1 }
+replied E of (Err cause) c new s x r has is = absurd cc
 
 on-ok : {P : Type 0} (result : Result (Unit {0}) FlashStop) → P → OnOk result P
 on-ok (Ok u) p = p

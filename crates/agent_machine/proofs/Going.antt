@@ -106,15 +106,7 @@ module _ (E : Setting) (c : Call) (old new : Moment) (layout : E.layout ≡ old.
 
 pub all-go : (E : Setting) (cs : List Call) (rs : List Reply) (old new : Moment) (s : State) (x : Session) → Shows old s x → CallsMet E cs rs old new
     → RanCalls E cs rs old new s x
-all-go E [] [] old new s x shows Done = record {
-  replies_are = refl;
-  shows = shows;
-  does = λ tells ready. does-nothing {T = Unit {0}} (Ok tt) E s old.told ready;
-  guarded = λ tells rest. rest;
-  keeps = λ tells. spared-same (IsSparedByAll old.fields.layout old.fields.boot) old.told;
-  touches = λ b spared. refl;
-  layout = refl;
-}
+all-go E [] [] old new s x shows Done = let none : GoesByMoves E (Ok tt) old old s [] x = goes-nothing E old s x shows in assumption
 all-go E (c ∷ cs) (r ∷ rs) old new s x shows (Then {mid = mid} met calls) =
     let a = answer E s x c in
     let here = met.replies s x shows in

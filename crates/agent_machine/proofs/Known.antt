@@ -34,12 +34,10 @@ known-ready E f t same knows calm guards = record {
   guarded = guards;
   one = λ r is.
       let at : deciding f.layout t.now ≡ Some r = ap (λ (l : Layout). deciding l t.now) (sym same) ∙ is in
-      let e : r ≡ f.meta = some-is r f.meta (sym at ∙ both-decides f.layout t.now f.meta knows.both) in
+      let both : ◌≡◌ {A = Option MetaRead} (Some r) (Some f.meta) = sym at ∙ both-decides f.layout t.now f.meta knows.both in
+      let e : r ≡ f.meta = cc in
       ap (λ (l : Layout). meta_read l (block 2 t.now)) same ∙ knows.both.one ∙ ap Some (sym e);
 }
-  where
-    some-is : (x y : MetaRead) → ◌≡◌ {A = Option MetaRead} (Some x) (Some y) → x ≡ y
-    some-is x y e = cc
 
 -- what holds in the settings that have the layout by their form holds in each that has it
 pub in-layout : (P : Setting → Type 0) (L : Layout)

@@ -261,7 +261,7 @@ module _ (tells : Bool) (t : Told) (f : Fields) (k : Kept) (new_meta : MetaRead)
       with-meta (λ (g : Fields). Knows g t)
       (quiet-known tells f k bytes fitting t it p change
       (rows-some (with_session f k f.rests) (quiet-fitting tells f k bytes fitting p change))
-      (kept-after f fitting sound t it bytes p new_meta k settles (keeps-total tells f fitting p may))
+      (kept-after f fitting sound bytes p new_meta k settles (keeps-total tells f fitting p may) t it)
       (quiet-accepted tells f k bytes fitting p change told it.accepted))
 
   pub keeps-some : ∥ SomeStaged f.session ∥₁ → ∥ SomeStaged k ∥₁

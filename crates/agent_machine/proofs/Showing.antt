@@ -142,25 +142,24 @@ module _ (f : Fields) (fitting : Fitting f) where
 abbrev plain : Fields → Setting
 plain f = record { layout = f.layout; files = λ _. None; passes = λ _. true }
 
--- what is kept afterwards fits some bytes of the staged images
-pub some-after : (f : Fields) → Fitting f → SessionSound f → (bytes : List ℕ) (p : Plan) (new_meta : MetaRead) (k : Kept)
-    → Settles f.session f.meta bytes p new_meta k
-    → ((E : Setting) (s : State) → E.layout ≡ f.layout → SpeaksOf f s → HasTotal E s f.boot p) → ∥ SomeStaged f.session ∥₁ → ∥ SomeStaged k ∥₁
-some-after f fitting sound bytes p new_meta k settles total some =
-    ∥∥₁_map some (λ (one : SomeStaged f.session).
-    let speaks = shown-speaks f fitting sound (plain f) (state_made f) (λ _. true) one.staged (record { layout = refl; verifier = refl })
-    (made-speaks f fitting) one.kept in
-    let settled = settles (plain f) (state_made f) (λ _. true) f.counter f.boot one.staged speaks
-    (total (plain f) (state_made f) refl (made-speaks f fitting)) in
-    record { staged = staged_after p bytes one.staged; kept = settled.spoken.kept })
+module _ (f : Fields) (fitting : Fitting f) (sound : SessionSound f) (bytes : List ℕ) (p : Plan) (new_meta : MetaRead) (k : Kept)
+    (settles : Settles f.session f.meta bytes p new_meta k)
+    (total : (E : Setting) (s : State) → E.layout ≡ f.layout → SpeaksOf f s → HasTotal E s f.boot p) where
+  kept-by : (s : State) (staged : ℕ → List ℕ) → SpeaksOf f s → IsKept f.session staged → IsKept k (staged_after p bytes staged)
+  kept-by s staged speaks kept =
+      let whole = shown-speaks f fitting sound (plain f) s (λ _. true) staged (record { layout = refl; verifier = refl }) speaks
+      kept in
+      (settles (plain f) s (λ _. true) f.counter f.boot staged whole (total (plain f) s refl speaks)).spoken.kept
 
--- what is kept after a plan fits the bytes that the flash has, with those of the plan
-pub kept-after : (f : Fields) → Fitting f → SessionSound f → (t : Told) → Knows f t → (bytes : List ℕ) (p : Plan) (new_meta : MetaRead) (k : Kept)
-    → Settles f.session f.meta bytes p new_meta k
-    → ((E : Setting) (s : State) → E.layout ≡ f.layout → SpeaksOf f s → HasTotal E s f.boot p) → IsKept k (staged_after p bytes (staged_bytes f t.now))
-kept-after f fitting sound t knows bytes p new_meta k settles total =
-    let speaks-of = known-speaks f fitting t knows in
-    let speaks = shown-speaks f fitting sound (plain f) (state_in f t.now) (λ _. true) (staged_bytes f t.now) (record { layout = refl; verifier = refl })
-    speaks-of knows.staged.kept in
-    (settles (plain f) (state_in f t.now) (λ _. true) f.counter f.boot (staged_bytes f t.now) speaks
-    (total (plain f) (state_in f t.now) refl speaks-of)).spoken.kept
+  -- what is kept afterwards fits some bytes of the staged images
+  pub some-after : ∥ SomeStaged f.session ∥₁ → ∥ SomeStaged k ∥₁
+  some-after some = ∥∥₁_map some (λ (one : SomeStaged f.session).
+      record {
+        staged = staged_after p bytes one.staged;
+        kept =
+            kept-by (state_made f) one.staged (made-speaks f fitting) one.kept;
+      })
+
+  -- and those that the flash has, with those of the plan
+  pub kept-after : (t : Told) → Knows f t → IsKept k (staged_after p bytes (staged_bytes f t.now))
+  kept-after t knows = kept-by (state_in f t.now) (staged_bytes f t.now) (known-speaks f fitting t knows) knows.staged.kept

@@ -1,9 +1,7 @@
 -- A plan that may be carried out, whichever it is: what is known after it, and what it is to the machine.
-use Rattle.std.proofs.Common.{◌≡◌, ℕ, Bool, true, false, List, [], Ok, refl, sym, ap, ap₂, ◌∙◌, subst, IsTrue}
+use Rattle.std.proofs.Common.{◌≡◌, ℕ, Bool, true, false, [], Ok, refl, sym, ap, ap₂, ◌∙◌, subst, IsTrue}
 use Rattle.flash_core.specs.Told.{Told}
-use Rattle.fwu_formats.specs.Layout.{ImageRow}
-use Rattle.fwu_formats.specs.Metadata.{MetaRead, fits_meta}
-use Rattle.meta_layout.proofs.Fits.{meta-fits}
+use Rattle.fwu_formats.specs.Metadata.{MetaRead}
 use Rattle.moves.specs.Law.{CallResult}
 use Rattle.agent_kept.specs.declared.kinds.Plan.{Plan}
 use Rattle.agent_kept.specs.declared.kinds.Plan.TheVariants as plan
@@ -16,6 +14,7 @@ use Rattle.agent_machine.specs.Fields.{Fields}
 use Rattle.agent_machine.specs.Knows.{Fitting, Knows, SessionSound, SomeStaged}
 use Rattle.agent_machine.specs.Stored.{CarriesOut, MayCarryOut, StoresIf, is_stored, trials_planned}
 use Rattle.agent_machine.proofs.Answered.{shown-speaks}
+use Rattle.agent_machine.proofs.Room.{meta-of-session}
 use Rattle.agent_machine.proofs.Stored.{after_plan, kept-nothing, begun-fitting, accepted-fitting, back-fitting}
 use Rattle.agent_machine.proofs.StoredKnown.{begun-known, restarted-known, accepted-known, back-known}
 use Rattle.agent_machine.proofs.StoredShows.{Parts, SpeaksWell, carried, begun-parts, restarted-parts, accepted-parts, unchanged-parts, back-parts}
@@ -85,10 +84,7 @@ planned-settles f other m k may settles = settles
 
 -- the metadata fits what is kept
 pub is-meta-of : (f : Fields) → Fitting f → IsMetaOf f.session f.meta.meta
-is-meta-of f fitting =
-    let whole = meta-fits f.layout f.meta.meta fitting.meta in
-    subst (λ (n : ℕ). IsTrue (fits_meta (record { banks = n; rows = f.session.rows }) f.meta.meta)) (sym whole.states)
-    (subst (λ (rs : List ImageRow). IsTrue (fits_meta (record { banks = f.layout.banks; rows = rs }) f.meta.meta)) (sym fitting.rows) fitting.meta)
+is-meta-of = meta-of-session
 
 module _ (f : Fields) (fitting : Fitting f) (p : Plan) (k : Kept) (m : MetaRead) (trials : ℕ) (may : MayCarryOut f p) (changes : Changes f.session [] p k)
     (m-is : m ≡ record f.meta { meta = meta_planned f.session f.meta.meta p }) (trials-are : trials ≡ trials_planned p m.meta f.trials) where

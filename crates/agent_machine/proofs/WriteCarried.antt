@@ -104,7 +104,8 @@ module _ (tells : Bool) (s t : Told) (f : Fields) (k : Kept) (new_meta : MetaRea
       (subst (λ (n : ℕ). Appends {T = Unit {0}} (Ok tt) first n (rest_of f image) bytes left s t) size-is (appends told))
 
   kept : IsTrue tells → IsKept k (staged_after (plan.Write number image at (length bytes)) bytes (staged_bytes f s.now))
-  kept told = kept-after f fitting sound s (knows told) bytes (plan.Write number image at (length bytes)) new_meta k settles (λ E state same speaks. tt)
+  kept told = kept-after f fitting sound bytes (plan.Write number image at (length bytes)) new_meta k settles
+      (λ E state same speaks. tt) s (knows told)
 
   pub write-fitting : Fitting after_it
   write-fitting =
