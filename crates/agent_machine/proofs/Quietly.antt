@@ -160,9 +160,6 @@ module _ (tells : Bool) (f : Fields) (k : Kept) (bytes : List ℕ) (fitting : Fi
     still (Restarted rows nothing closed may accepted) = empty-still nothing
     still (Opened image place on opens staged) = open-still image place opens (staged was)
 
-    quiet-means : Change tells f k bytes p → MeansSame k (staged_after p bytes was) (staged_bytes g t.now)
-    quiet-means change = (still change).means
-
     -- what an agent with another session knows of the same flash
     quiet-known : Change tells f k bytes p → 1 ≤ length k.rows → IsKept k (staged_after p bytes was)
         → (k.staging ≡ true → IsTrue (is_accepted (state_at f.meta.meta f.meta.meta.active))) → Knows g t
@@ -280,5 +277,5 @@ module _ (tells : Bool) (t : Told) (f : Fields) (k : Kept) (new_meta : MetaRead)
     state_is = λ told. ap (state_of f.layout t.now) same-meta
         ∙ sym (ap (after (state_in f t.now)) (quiet-moves (state_in f t.now) (staging_meant f.session (staged_bytes f t.now)) p quiet));
     staged_are = λ told. with-meta (λ (g : Fields). MeansSame k (staged_after p bytes (staged_bytes f t.now)) (staged_bytes g t.now))
-        (quiet-means tells f k bytes fitting t (knows told) p change);
+        (still tells f k bytes fitting t (knows told) p change).means;
   }

@@ -12,8 +12,8 @@ use Rattle.fwu_model.specs.Answer.{Answer, answer, answered, refused}
 use Rattle.moves.specs.Moved.{Does}
 use Rattle.agent_kept.specs.declared.kinds.Plan.{Plan}
 use Rattle.agent_kept.specs.declared.kinds.Plan.TheVariants as plan
-use Rattle.agent_kept.specs.Kept.{Kept, session_meant}
-use Rattle.agent_kept.specs.Plans.{planned, planned_in}
+use Rattle.agent_kept.specs.Kept.{staging_meant, handles_meant}
+use Rattle.agent_kept.specs.Plans.{planned_in}
 use Rattle.agent_machine.specs.declared.stop.Stop.{Stop}
 use Rattle.agent_machine.specs.declared.stop.Stop.TheVariants as stop
 use Rattle.agent_machine.specs.Fields.{Fields}
@@ -21,6 +21,7 @@ use Rattle.agent_machine.specs.Machine.{state_in, session_in}
 use Rattle.agent_machine.specs.Moment.{Moment, Shows}
 use Rattle.agent_machine.specs.Meets.{Answers, GoesBack, IsRefused, IsSettingOf, LeavesFlash, Meets, MeetsPrevious, Stays, flash_result, may_try}
 use Rattle.agent_machine.proofs.Answered.{still-leaves}
+use Rattle.agent_machine.proofs.StoredAnswers.{back-is}
 use Rattle.agent_machine.specs.Stored.{CarriesOut, MayBeDone}
 
 abbrev Succeeds : Unit {0} → Reply → Type 0
@@ -120,15 +121,10 @@ module _ (tells : Bool) (f : Fields) (s t : Told) {old_writes new_writes : ℕ �
 -- ---- previous
 
 -- what is shown of an agent is a session that is on
-back-next : (E : Setting) (s : State) (k : Kept) (boot : ℕ) (staged : ℕ → List ℕ)
-    → planned_in E s (session_meant k boot staged) [] plan.Back ≡ answered Success (Back ∷ []) (session_meant k boot staged)
-unfolding planned
-back-next E s k boot staged = refl
-
 pub back-planned : (E : Setting) (m : Moment) (s : State) (x : Session) → Shows m s x → planned_in E s x [] plan.Back ≡ answered Success (Back ∷ []) x
 back-planned E m s x shows =
     subst (λ (y : Session). planned_in E s y [] plan.Back ≡ answered Success (Back ∷ []) y) (sym shows.means)
-    (back-next E s m.fields.session m.fields.boot shows.staged)
+    (back-is E s m.fields.boot (staging_meant m.fields.session shows.staged) (handles_meant m.fields.session))
 
 module _ (result : Result (Unit {0}) Stop) (passes : List ℕ → Bool) (old new : Moment) (carried : CarriesOut (flash_result result) plan.Back old new)
     (answered_it : IsRefused result → ⊥)
