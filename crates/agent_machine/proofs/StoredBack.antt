@@ -10,7 +10,7 @@ use Rattle.fwu_formats.specs.Image.{package_in}
 use Rattle.fwu_formats.proofs.Read.{package-complete}
 use Rattle.fwu_model.specs.declared.kinds.Status.{Status}
 use Rattle.fwu_model.specs.declared.kinds.Status.TheVariants as status
-use Rattle.fwu_model.specs.State.{State, Bank, Back, bank, is_valid, is_accepted}
+use Rattle.fwu_model.specs.State.{State, Bank, bank, is_valid, is_accepted}
 use Rattle.fwu_model.specs.Sound.{Setting, is_permitted, holds_permitted}
 use Rattle.fwu_model.specs.Session.{Session, Staged, Handle, On}
 use Rattle.fwu_model.specs.Call as call
