@@ -1,18 +1,18 @@
 -- What a call answers to each machine that the agent shows, from what is decided and how that is settled.
-use Rattle.std.proofs.Common.{◌≡◌, inr, ℕ, zero, suc, ◌+◌, ◌-◌, ◌*◌, ◌<◌, ◌≤◌, min, Bool, true, false, cond, List, [], ◌++◌, length, get_or, take, map, flat_map, Option, Some, None, Result, Ok, Err, leb, refl, sym, ap, ap₂, ◌∙◌, subst, arith, IsTrue}
+use Rattle.std.proofs.Common.{◌≡◌, ◌⊎◌, inl, inr, ℕ, zero, suc, ◌+◌, ◌-◌, ◌*◌, ◌<◌, ◌≤◌, min, Bool, true, false, cond, List, [], ◌++◌, length, get_or, take, map, flat_map, Option, Some, None, Result, Ok, Err, refl, sym, ap, ap₂, ◌∙◌, subst, arith, IsTrue}
 use Rattle.std.proofs.Math.ListN as listn
 use Rattle.std.proofs.lemmas.List.{length-append, get_or-take}
-use Rattle.std.proofs.lemmas.Bool.{and_parts, leb-true}
-use Rattle.std.specs.List.{range_with_len, list_all}
-use Rattle.sha2.specs.declared.Sha256.{Sha256}
+use Rattle.std.specs.Prelude.{IsErr}
+use Rattle.std.specs.List.{range_with_len}
 use Rattle.sha2.specs.Sha256.{sha256}
 use Rattle.sha2.specs.Hashers.{Holds256}
 use Rattle.base_core.specs.Bytes.{le, listed}
+use Rattle.flash_core.specs.Told.{Told}
 use Rattle.flash_core.specs.declared.flash.FlashStop.{FlashStop}
-use Rattle.flash_core.specs.declared.flash.FlashStop.TheVariants as flash_stop
 use Rattle.fwu_formats.proofs.Same.{listed-same}
+use Rattle.fwu_formats.proofs.SealLaws.{limits}
 use Rattle.fwu_formats.proofs.Written.{rows-limits, rows-fit}
-use Rattle.fwu_formats.specs.Layout.{ImageRow, Layout, fits_layout, is_row, are_distinct, slot_bytes}
+use Rattle.fwu_formats.specs.Layout.{ImageRow, Layout, fits_layout, slot_bytes}
 use Rattle.fwu_formats.specs.Manifest.{manifest_size}
 use Rattle.fwu_formats.specs.Metadata.{bit_number}
 use Rattle.fwu_model.specs.declared.kinds.Status.{Status}
@@ -25,16 +25,17 @@ use Rattle.fwu_model.specs.Reply.{Reply}
 use Rattle.fwu_model.specs.Answer.{staged_bytes as bytes_of, Answer, answer, refused, content, directory, directory_row, booted_package, held_package, version_in}
 use Rattle.fwu_model.specs.Calm.{IsAtRest}
 use Rattle.moves.specs.Moved.{Does, GuardedBy, IsReady}
-use Rattle.moves.proofs.Composed.{does-nothing}
+use Rattle.moves.proofs.Composed.{does-idle, does-nothing}
 use Rattle.agent_kept.specs.declared.parts.Part.{Part}
 use Rattle.agent_kept.specs.declared.parts.Part.TheVariants.{Nothing, Open, Committed}
 use Rattle.agent_kept.specs.declared.parts.Handle.TheVariants.{Reads}
 use Rattle.agent_kept.specs.declared.kinds.Request.{Request}
 use Rattle.agent_kept.specs.declared.kinds.Plan.{Plan}
 use Rattle.agent_kept.specs.declared.kinds.Plan.TheVariants as plan
+use Rattle.agent_kept.specs.declared.kinds.Decision.{Decision}
 use Rattle.agent_kept.specs.declared.kinds.Decision.TheVariants as decision
 use Rattle.agent_kept.specs.Kept.{Kept, IsKept, HasTotals, size_of, part_at, handle_kept, part_meant, handles_meant, staging_meant, session_meant}
-use Rattle.agent_kept.specs.Plans.{call_of, planned, planned_in, SpeaksWhole, loosely, FitsRequest}
+use Rattle.agent_kept.specs.Plans.{call_of, planned, planned_in, SpeaksWhole, loosely, DecidesAs, FitsRequest}
 use Rattle.agent_state.specs.Decides.{DecidesRequest}
 use Rattle.agent_state.specs.Settles.{SettlesIn, staged_after}
 use Rattle.agent_machine.specs.Deciding.{KeepsOldOrNew}
@@ -46,10 +47,10 @@ pub use Rattle.agent_machine.specs.Fields.{IsImageOrDirectory}
 use Rattle.agent_machine.specs.Machine.{state_in, session_in, staged_bytes}
 use Rattle.agent_machine.specs.Knows.{Fitting, SessionSound, Knows}
 use Rattle.agent_machine.specs.Beside.{IsSpared, KeepsSpared, SparesBlocks}
-use Rattle.agent_machine.proofs.Beside.{spared-same}
+use Rattle.agent_machine.proofs.Beside.{blocks-still, spared-told}
 use Rattle.agent_machine.specs.Moment.{Moment, SpeaksOf, Shows}
 pub use Rattle.agent_machine.specs.Carries.{MeansSame, planned_moves, SameBeside, state_before, staging_before, CarriedOut}
-use Rattle.agent_machine.specs.Meets.{IsSettingOf, IsStopped, Stays, LeavesFlash, Meets, GoesBy, flash_result}
+use Rattle.agent_machine.specs.Meets.{IsSettingOf, IsStopped, Stays, LeavesFlash, Meets, flash_result}
 
 -- ---- how many bytes there are to read
 
@@ -66,11 +67,7 @@ rows-total f from (suc n) each =
     length-append (f from) (flat_map f (map (λ (i : ℕ). i) (range_with_len (from + 1) n))) ∙ omega (arith, rest, here)
 
 four-behind : (guid : List ℕ) (a b c d : ℕ) → length (guid ++ le 4 a ++ le 4 b ++ le 4 c ++ le 4 d) ≡ length guid + 16
-four-behind guid a b c d =
-    length-append (guid ++ le 4 a ++ le 4 b ++ le 4 c) (le 4 d)
-    ∙ ap (λ (n : ℕ). n + 4) (length-append (guid ++ le 4 a ++ le 4 b) (le 4 c)
-    ∙ ap (λ (n : ℕ). n + 4) (length-append (guid ++ le 4 a) (le 4 b) ∙ ap (λ (n : ℕ). n + 4) (length-append guid (le 4 a))))
-    ∙ omega arith
+four-behind guid a b c d = simp length-append (omega arith)
 
 pub directory-total : (E : Setting) (s : State) (boot : ℕ) → IsTrue (fits_layout E.layout)
     → length (directory E s boot) ≡ directory_size (length E.layout.rows)
@@ -106,14 +103,9 @@ pub record Limits (L : Layout) : Type 0 where
   pub few_rows : length L.rows ≤ 16
 
 pub layout-limits : (L : Layout) → IsTrue (fits_layout L) → Limits L
-unfolding fits_layout
 layout-limits L h =
-    let five = and_parts _ (are_distinct (map (λ (r : ImageRow). r.guid) L.rows)) h in
-    let four = and_parts _ (list_all is_row L.rows) five.0 in
-    let three = and_parts _ (leb (length L.rows) 16) four.0 in
-    let two = and_parts _ (leb 2 (length L.rows)) three.0 in
-    let one = and_parts (leb 2 L.banks) (leb L.banks 4) two.0 in
-    record { banks = leb-true _ _ one.0; few_banks = leb-true _ _ one.1; rows = leb-true _ _ two.1; few_rows = leb-true _ _ three.1 }
+    let all = limits L h in
+    record { banks = all.fewest_banks; few_banks = all.most_banks; rows = all.fewest_images; few_rows = all.most_images }
 
 -- ---- the machines that are spoken of
 
@@ -148,20 +140,39 @@ FitsEach f passes r bytes = (E : Setting) (s : State) → IsSettingOf f passes E
 -- ---- a refusal
 
 stays-same : (m : Moment) → Stays m m
-stays-same m = record { tells = refl; layout = refl; boot = refl; counter = refl; lengths = refl; guard = λ told. refl }
+stays-same m = assumption
 
--- an answer without moves, on a flash that stays
+-- a flash at rest is guarded, whether or not it stopped then
+pub rest-guarded : (result : Result (Unit {0}) FlashStop) (t : Told) → IsAtRest t → GuardedBy result t
+rest-guarded (Ok x) t rest = rest
+rest-guarded (Err cause) t rest = rest.guarded
+
+-- An answer without moves, or a stop before the first of them, on a flash that stays.
+pub still-leaves : (result : Result (Unit {0}) FlashStop) (passes : List ℕ → Bool) (c : Call) (old new : Moment)
+    → (IsTrue old.tells → new.told ≡ old.told) → new.writes ≡ old.writes → Stays old new
+    → ((E : Setting) (s : State) (x : Session) → IsSettingOf old.fields passes E → Shows old s x → IsTrue old.tells
+    → ((answer E s x c).moves ≡ []) ⊎ IsErr result)
+    → LeavesFlash result passes c old new
+still-leaves result passes c old new told still stays idle = record {
+  does = λ E s x setting shows tells ready.
+      let ready-then : IsReady E new.told s = subst (λ (t : Told). IsReady E t s) (sym (told tells)) ready in
+      elim (idle E s x setting shows tells) [
+        | inl none ↦ subst (λ (ms : List Move). Does result E s ms new.told) (sym none)
+            (does-nothing result E s new.told ready-then)
+        | inr err ↦ does-idle result E s (answer E s x c).moves new.told err ready-then.calm
+      ];
+  guarded = λ tells rest. rest-guarded result new.told (subst IsAtRest (sym (told tells)) rest);
+  keeps = λ tells. spared-told (IsSpared old.fields) old.told new.told (told tells);
+  touches = blocks-still (IsSpared old.fields) still;
+  decides = λ tells. decides-same old.fields.layout old.fields.meta new.fields.meta old.told new.told (told tells);
+  stays = stays;
+}
+
 pub leaves-nothing : (m : Moment) (passes : List ℕ → Bool) (c : Call)
     → ((E : Setting) (s : State) (x : Session) → IsSettingOf m.fields passes E → Shows m s x → (answer E s x c).moves ≡ []) → LeavesFlash (Ok tt) passes c m m
-leaves-nothing m passes c none = record {
-  does = λ E s x setting shows tells ready. subst (λ (ms : List Move). Does {T = Unit {0}} (Ok tt) E s ms m.told) (sym (none E s x setting shows))
-      (does-nothing {T = Unit {0}} (Ok tt) E s m.told ready);
-  guarded = λ tells rest. rest;
-  keeps = λ tells. spared-same (IsSpared m.fields) m.told;
-  touches = λ b spared. refl;
-  decides = λ tells. decides-same m.fields.layout m.fields.meta m.fields.meta m.told m.told refl;
-  stays = stays-same m;
-}
+leaves-nothing m passes c none =
+    still-leaves (Ok tt) passes c m m (λ tells. refl) refl (stays-same m)
+    (λ E s x setting shows tells. inl (none E s x setting shows))
 
 module _ (m : Moment) (fitting : Fitting m.fields) (sound : SessionSound m.fields) (passes : List ℕ → Bool) (r : Request) (bytes : List ℕ)
     (fits : FitsEach m.fields passes r bytes) where
@@ -171,12 +182,19 @@ module _ (m : Moment) (fitting : Fitting m.fields) (sound : SessionSound m.field
   abbrev c : Call
   c = call_of r bytes
 
+  -- what is decided is so of each machine that is shown
+  pub decided-as : (d : Decision) → DecidesRequest passes f.meta f.counter f.session f.boot r d
+      → (E : Setting) (s : State) (x : Session)
+      → IsSettingOf f passes E → Shows m s x → DecidesAs E s x c bytes d
+  decided-as d decides E s x setting shows =
+      subst (λ (y : Session). DecidesAs E s y c bytes d) (sym shows.means)
+      (decides E s shows.staged bytes (loosely E s passes f.meta f.counter f.session f.boot shows.staged
+      (shown-speaks f fitting sound E s passes shows.staged setting shows.speaks shows.kept))
+      (fits E s setting shows.speaks))
+
   module _ (st : Status) (decides : DecidesRequest passes f.meta f.counter f.session f.boot r (decision.Refused st)) where
     pub refused-is : (E : Setting) (s : State) (x : Session) → IsSettingOf f passes E → Shows m s x → answer E s x c ≡ refused st x
-    refused-is E s x setting shows =
-        subst (λ (y : Session). answer E s y c ≡ refused st y) (sym shows.means)
-        (decides E s shows.staged bytes (loosely E s passes f.meta f.counter f.session f.boot shows.staged (shown-speaks f fitting sound E s passes shows.staged setting shows.speaks shows.kept))
-        (fits E s setting shows.speaks))
+    refused-is = decided-as (decision.Refused st) decides
 
     -- what is refused changes nothing
     pub refused-meets : {T : Type 0} (Says : T → Reply → Type 0) → Meets {T = T} Says (Err (stop.Status st)) passes c m m
@@ -192,22 +210,19 @@ module _ (m : Moment) (fitting : Fitting m.fields) (sound : SessionSound m.field
 -- what is kept speaks of these alone
 pub kept-same : (k : Kept) (staged other : ℕ → List ℕ) → 1 ≤ length k.rows → MeansSame k staged other → IsKept k staged → IsKept k other
 kept-same k staged other some same is = record {
-  opened = λ i size hasher lt e. subst (λ (l : List ℕ). (size ≡ length l) × ∥ Holds256 hasher l ∥₁) (sym (opened-is i size hasher lt e))
+  opened = λ i size hasher lt e. subst (λ (l : List ℕ). (size ≡ length l) × ∥ Holds256 hasher l ∥₁)
+      (sym (ap bytes_of (meant-is i (Open size hasher) lt e)))
       (is.opened i size hasher lt e);
-  committed = λ i size digest bit lt e. subst (λ (l : List ℕ). (size ≡ length l) × (digest ≡ sha256 l)) (sym (committed-is i size digest bit lt e))
+  committed = λ i size digest bit lt e. subst (λ (l : List ℕ). (size ≡ length l) × (digest ≡ sha256 l))
+      (sym (ap bytes_of (meant-is i (Committed size digest bit) lt e)))
       (is.committed i size digest bit lt e);
   front =
       subst (λ (l : List ℕ). take (min (manifest_size (length k.rows - 1)) (length l)) k.front ≡ take (manifest_size (length k.rows - 1)) l)
       (sym (front-is (part_at k 0) (other 0) (staged 0) (same 0 (omega (arith, some))))) is.front;
 }
   where
-    opened-is : (i size : ℕ) (hasher : Sha256) → i < length k.rows → part_at k i ≡ Open size hasher → other i ≡ staged i
-    opened-is i size hasher lt e = ap bytes_of (ap (λ (p : Part). part_meant p (other i)) (sym e) ∙ same i lt
-        ∙ ap (λ (p : Part). part_meant p (staged i)) e)
-
-    committed-is : (i size : ℕ) (digest : List ℕ) (bit : Bool) → i < length k.rows → part_at k i ≡ Committed size digest bit → other i ≡ staged i
-    committed-is i size digest bit lt e = ap bytes_of (ap (λ (p : Part). part_meant p (other i)) (sym e) ∙ same i lt
-        ∙ ap (λ (p : Part). part_meant p (staged i)) e)
+    meant-is : (i : ℕ) (p : Part) → i < length k.rows → part_at k i ≡ p → part_meant p (other i) ≡ part_meant p (staged i)
+    meant-is i p lt e = subst (λ (q : Part). part_meant q (other i) ≡ part_meant q (staged i)) e (same i lt)
 
     front-is : (p : Part) (a b : List ℕ) → part_meant p a ≡ part_meant p b → take (size_of p) a ≡ take (size_of p) b
     front-is Nothing a b e = refl
@@ -229,20 +244,10 @@ planned-moves E s boot stg hs bytes q = refl
 
 -- no plan changes the version
 pub planned-form : (s : State) (stg : Option (List Staged)) (p : Plan) → (after s (planned_moves s stg p)).form ≡ s.form
-planned-form s stg plan.Tell = refl
 planned-form s stg (plan.BeginPartial true named) = refl
-planned-form s stg (plan.BeginPartial false named) = refl
 planned-form s stg (plan.Begin true) = refl
-planned-form s stg (plan.Begin false) = refl
-planned-form s stg (plan.Open h image o total) = refl
-planned-form s stg (plan.Write h image at n) = refl
-planned-form s stg (plan.Read h image at n total) = refl
-planned-form s stg (plan.Commit h image bit) = refl
-planned-form s stg plan.End = refl
-planned-form s stg plan.Cancel = refl
 planned-form s stg (plan.Accept image true) = refl
-planned-form s stg (plan.Accept image false) = refl
-planned-form s stg plan.Back = refl
+planned-form s stg other = refl
 
 -- ---- a plan that was carried out
 
@@ -265,13 +270,10 @@ module _ (old new : Moment) (fitting : Fitting old.fields) (sound : SessionSound
   meant staged = session_meant k was.boot staged
 
   pub planned-is : (E : Setting) (s : State) (x : Session) → IsSettingOf was passes E → Shows old s x → answer E s x call ≡ planned_in E s x bytes p
-  planned-is E s x setting shows =
-      subst (λ (y : Session). answer E s y call ≡ planned_in E s y bytes p) (sym shows.means)
-      (decides E s shows.staged bytes (loosely E s passes was.meta was.counter was.session was.boot shows.staged (shown-speaks was fitting sound E s passes shows.staged setting shows.speaks shows.kept))
-      (fits E s setting shows.speaks))
+  planned-is = decided-as old fitting sound passes r bytes fits (decision.Do p) decides
 
   -- the moves of the answer, where the device tells its content
-  moves-told : (E : Setting) (s : State) (x : Session) → IsSettingOf was passes E → Shows old s x → IsTrue old.tells
+  pub moves-told : (E : Setting) (s : State) (x : Session) → IsSettingOf was passes E → Shows old s x → IsTrue old.tells
       → (answer E s x call).moves ≡ planned_moves (state_before old) (staging_before old) p
   moves-told E s x setting shows tells =
       ap (λ (a : Answer). a.moves) (planned-is E s x setting shows)
@@ -297,15 +299,6 @@ module _ (old new : Moment) (fitting : Fitting old.fields) (sound : SessionSound
     decides = decides;
     stays = stays;
   }
-
-  -- a call that the flash stopped
-  pub lost-meets : {T : Type 0} (Says : T → Reply → Type 0) → LeavesFlash (Err flash_stop.Lost) passes call old new
-      → Meets {T = T} Says (Err stop.Lost) passes call old new
-  lost-meets Says leaves = record { exact = λ E s x setting shows. tt; leaves = leaves }
-
-  pub fault-meets : {T : Type 0} (Says : T → Reply → Type 0) → LeavesFlash (Err flash_stop.Failed) passes call old new
-      → Meets {T = T} Says (Err stop.Fault) passes call old new
-  fault-meets Says leaves = record { exact = λ E s x setting shows. tt; leaves = leaves }
 
   module _ (out : CarriedOut p bytes old new) where
     settled : (E : Setting) (s : State) (staged : ℕ → List ℕ) → IsSettingOf was passes E → SpeaksOf was s → IsKept k staged
@@ -390,13 +383,5 @@ module _ (old new : Moment) (fitting : Fitting old.fields) (sound : SessionSound
 pub stopped-meets : {T : Type 0} (Says : T → Reply → Type 0) (r : Stop) (passes : List ℕ → Bool) (c : Call) (old new : Moment) → IsStopped {T = T} (Err r)
     → LeavesFlash (flash_result {T = T} (Err r)) passes c old new → Meets {T = T} Says (Err r) passes c old new
 stopped-meets Says (stop.Status refusal) passes c old new stopped leaves = absurd stopped
-stopped-meets Says stop.Lost passes c old new stopped leaves = record { exact = λ E s x setting shows. tt; leaves = leaves }
-stopped-meets Says stop.Fault passes c old new stopped leaves = record { exact = λ E s x setting shows. tt; leaves = leaves }
 stopped-meets Says stop.Gone passes c old new stopped leaves = absurd stopped
-
--- it makes the agent gone
-pub stopped-goes : {T : Type 0} (r : Stop) → IsStopped {T = T} (Err r) → GoesBy {T = T} (Err r) false true
-stopped-goes (stop.Status refusal) stopped = absurd stopped
-stopped-goes stop.Lost stopped = record { gone = (λ e. absurd cc, λ e. absurd cc); later = (λ e. inr tt, λ e. refl) }
-stopped-goes stop.Fault stopped = record { gone = (λ e. absurd cc, λ e. absurd cc); later = (λ e. inr tt, λ e. refl) }
-stopped-goes stop.Gone stopped = absurd stopped
+stopped-meets Says cause passes c old new stopped leaves = record { exact = λ E s x setting shows. tt; leaves = leaves }

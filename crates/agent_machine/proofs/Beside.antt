@@ -1,16 +1,15 @@
 -- What no call of the agent changes.
-use Rattle.std.proofs.Common.{◌≡◌, ◌⊎◌, inl, inr, ℕ, suc, ◌+◌, ◌*◌, ◌%◌, ◌<◌, ◌≤◌, List, take, Result, Ok, refl, sym, ap, ◌∙◌, subst, arith}
-use Rattle.std.proofs.Math.Nat.{suc-mul}
+use Rattle.std.proofs.Common.{◌≡◌, ◌⊎◌, inl, inr, ℕ, ◌+◌, ◌*◌, ◌%◌, ◌<◌, ◌≤◌, take, Result, Ok, refl, sym, ap, ◌∙◌, subst, arith}
 use Rattle.flash_core.specs.Told.{Told}
 use Rattle.flash_core.specs.May.{Keeps}
 use Rattle.flash_core.specs.Touches.{TouchesOnly}
 use Rattle.flash_core.specs.declared.flash.FlashStop.{FlashStop}
-use Rattle.fwu_formats.specs.Layout.{ImageRow, Layout, slot_bytes, slot_total, start}
+use Rattle.fwu_formats.specs.Layout.{Layout, slot_bytes, slot_total, start}
 use Rattle.fwu_formats.specs.Metadata.{Meta}
 use Rattle.fwu_formats.proofs.Same.{slots-fit}
 use Rattle.marks_core.specs.Marks.{Clears}
 use Rattle.replicas.specs.Stores.{Stores}
-use Rattle.agent_machine.specs.Beside.{IsBesideBank, IsBesideMetadata, IsSpared, IsSparedByAll, KeepsSpared, KeepsSparedByAll, KeepsWhere}
+use Rattle.agent_machine.specs.Beside.{IsBesideBank, IsSpared, IsSparedByAll, KeepsSpared, KeepsSparedByAll, KeepsWhere}
 use Rattle.agent_machine.specs.Beside.{SparesBlocks, SparesBlocksByAll, SparesBlocksWhere}
 use Rattle.agent_machine.specs.Ends.{ClearsAndStores}
 use Rattle.agent_machine.specs.Fields.{Fields, target}
@@ -62,18 +61,10 @@ blocks-fewer P Q fewer one n spared = one n (fewer (4096 * n) spared)
 
 module _ (f : Fields) where
   beside-replicas : (i : ℕ) → IsSpared f i → (i < 4096 * 1) ⊎ (4096 * 3 ≤ i)
-  beside-replicas i spared = by spared.0
-    where
-      by : IsBesideMetadata i → (i < 4096 * 1) ⊎ (4096 * 3 ≤ i)
-      by (inl low) = inl low
-      by (inr high) = inr (omega (arith, high))
+  beside-replicas i spared = elim (spared.0) [ inl low ↦ inl low | inr high ↦ inr (omega (arith, high)) ]
 
   beside-marks : (i : ℕ) → IsSpared f i → (i < 4096 * 3) ⊎ (4096 * 3 + 4096 ≤ i)
-  beside-marks i spared = by spared.0
-    where
-      by : IsBesideMetadata i → (i < 4096 * 3) ⊎ (4096 * 3 + 4096 ≤ i)
-      by (inl low) = inl (omega (arith, low))
-      by (inr high) = inr (omega (arith, high))
+  beside-marks i spared = elim (spared.0) [ inl low ↦ inl (omega (arith, low)) | inr high ↦ inr (omega (arith, high)) ]
 
   -- a store of metadata
   pub stores-spare : {T : Type 0} (result : Result T FlashStop) (L : Layout) (m : Meta) (s t : Told) → Stores result L m s t → KeepsSpared f s t
@@ -93,33 +84,19 @@ module _ (f : Fields) where
 
 module _ (f : Fields) {a b : ℕ → ℕ} where
   pub metadata-blocks : TouchesOnly (4096 * 1) (4096 * 3) a b → SparesBlocks f a b
-  metadata-blocks touches n spared = touches n (by spared.0)
-    where
-      by : IsBesideMetadata (4096 * n) → (4096 * n + 4096 ≤ 4096 * 1) ⊎ (4096 * 3 ≤ 4096 * n)
-      by (inl low) = inl (omega (arith, low))
-      by (inr high) = inr (omega (arith, high))
-
-  pub marks-block : TouchesOnly (4096 * 3) (4096 * 3 + 4096) a b → SparesBlocks f a b
-  marks-block touches n spared = touches n (by spared.0)
-    where
-      by : IsBesideMetadata (4096 * n) → (4096 * n + 4096 ≤ 4096 * 3) ⊎ (4096 * 3 + 4096 ≤ 4096 * n)
-      by (inl low) = inl (omega (arith, low))
-      by (inr high) = inr (omega (arith, high))
+  metadata-blocks touches n spared =
+      touches n (elim (spared.0) [ inl low ↦ inl (omega (arith, low)) | inr high ↦ inr (omega (arith, high)) ])
 
 -- ---- a slot of the update bank
 
 slot-inside : (L : Layout) (bank image i : ℕ) → IsBesideBank L bank i
     → (i < 4096 * start L bank image) ⊎ (4096 * start L bank image + slot_bytes L image ≤ i)
 slot-inside L bank image i (inl low) =
-    inl (omega (arith, low, none L.rows))
-  where
-    none : (rows : List ImageRow) → slot_total (take 0 rows) ≡ 0
-    none rows = refl
+    let none : slot_total (take 0 L.rows) ≡ 0 = refl in
+    inl (omega (arith, low, none))
 slot-inside L bank image i (inr high) =
-    let more : suc bank * slot_total L.rows ≡ bank * slot_total L.rows + slot_total L.rows = suc-mul bank (slot_total L.rows) in
-    let next : suc bank ≡ bank + 1 = omega arith in
-    let total : (bank + 1) * slot_total L.rows ≡ bank * slot_total L.rows + slot_total L.rows = ap (λ (n : ℕ). n * slot_total L.rows) (sym next) ∙ more in
-    inr (omega (arith, high, total, slots-fit L.rows image))
+    let next : (bank + 1) * slot_total L.rows ≡ bank * slot_total L.rows + slot_total L.rows = grind arith in
+    inr (omega (arith, high, next, slots-fit L.rows image))
 
 -- what is written in a slot of a staging, which is of the active bank
 pub slot-spares : (f : Fields) (image : ℕ) (s t : Told) → f.boot ≡ f.meta.meta.active
@@ -133,12 +110,10 @@ slot-spares f image s t active keeps =
 pub slot-blocks : (f : Fields) (image low high : ℕ) {a b : ℕ → ℕ} → f.boot ≡ f.meta.meta.active → 4096 * start f.layout (target f) image ≤ low
     → high ≤ 4096 * start f.layout (target f) image + slot_bytes f.layout image → TouchesOnly low high a b → SparesBlocks f a b
 slot-blocks f image low high active above below touches n spared =
-    touches n (by (slot-inside f.layout (target f) image (4096 * n) (spared.1 active)))
-  where
-    by : (4096 * n < 4096 * start f.layout (target f) image) ⊎ (4096 * start f.layout (target f) image + slot_bytes f.layout image ≤ 4096 * n)
-        → (4096 * n + 4096 ≤ low) ⊎ (high ≤ 4096 * n)
-    by (inl before) = inl (omega (arith, before, above))
-    by (inr behind) = inr (omega (arith, behind, below))
+    touches n (elim (slot-inside f.layout (target f) image (4096 * n) (spared.1 active)) [
+      | inl before ↦ inl (omega (arith, before, above))
+      | inr behind ↦ inr (omega (arith, behind, below))
+    ])
 
 -- ---- calls in a row
 

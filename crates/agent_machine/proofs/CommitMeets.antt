@@ -1,17 +1,14 @@
 -- What the commit of an image says.
-use Rattle.std.proofs.Common.{◌≡◌, ℕ, ◌+◌, ◌-◌, ◌*◌, ◌<◌, ◌≤◌, Bool, true, false, List, [], length, get_or, Some, Ok, Err, refl, sym, ap, subst, arith, IsTrue, ◌∙◌}
+use Rattle.std.proofs.Common.{◌≡◌, ℕ, ◌+◌, ◌-◌, ◌*◌, ◌<◌, ◌≤◌, Bool, true, List, [], length, get_or, Some, Ok, refl, sym, ap, subst, arith, IsTrue, ◌∙◌}
 use Rattle.std.proofs.Math.Logic.{∥∥₁_map}
 use Rattle.flash_core.specs.Told.{Told}
 use Rattle.flash_core.specs.Touches.{TouchesOnly}
 use Rattle.sha2.specs.declared.Sha256.{Sha256}
 use Rattle.fwu_formats.specs.Layout.{ImageRow, start, blocks_needed}
-use Rattle.fwu_model.specs.Calm.{IsAtRest}
 use Rattle.fwu_model.specs.Session.{Session}
-use Rattle.fwu_model.specs.Call.{Call}
 use Rattle.fwu_model.specs.Call as call
 use Rattle.fwu_model.specs.Reply.{Success}
 use Rattle.moves.specs.Law.{CallResult}
-use Rattle.moves.specs.Moved.{GuardedBy}
 use Rattle.moves.proofs.Composed.{does-nothing}
 use Rattle.slot_writer.specs.Slots.{FinishesImage, blocks_for, done_of}
 use Rattle.agent_kept.specs.declared.kinds.Plan.TheVariants as plan
@@ -33,8 +30,9 @@ use Rattle.agent_machine.specs.Moment.{Moment}
 use Rattle.agent_machine.specs.Knows.{Fitting, SessionSound, Knows, SomeStaged}
 use Rattle.agent_machine.specs.Law.{StaysKnown}
 use Rattle.agent_machine.specs.Meets.{LeavesFlash, Meets}
-use Rattle.agent_machine.proofs.Answered.{leaves-by, done-meets}
-use Rattle.agent_machine.proofs.Committing.{slot-room, finish-blocks, finish-spares, finish-stays, committed-means, committed-state, committed-knows}
+use Rattle.agent_machine.proofs.Answered.{rest-guarded, leaves-by, done-meets}
+use Rattle.agent_machine.proofs.Committing.{slot-room, finish-blocks, finish-spares, finish-stays, CommitLeaves, committed}
+use Rattle.agent_machine.proofs.Stored.{not-both}
 use Rattle.agent_machine.proofs.Room.{ReadsWell, set-readers, old-readers, free-well, fitting-again, staged-before}
 
 -- ---- an image is committed
@@ -73,12 +71,9 @@ module _ (f : Fields) (tells : Bool) (s t : Told) (number image : ℕ) (bit : Bo
 
   module _ (result : CallResult) (finishes : IsTrue tells → FinishesImage result first size (rest_of f image) s t) where
     stays : IsTrue tells → StaysKnown f image s t
-    stays told = finish-stays result f image size s t fitting sound (knows told) (fitting.free fits.2) image-there (room told)
-        (slot-room f fitting sound image image-there) (finishes told)
-
-    guarded-by : (r : CallResult) → IsAtRest t → GuardedBy r t
-    guarded-by (Ok u) rest = rest
-    guarded-by (Err why) rest = rest.guarded
+    stays told = finish-stays result f image size s t (slot-room f fitting sound image image-there) (finishes told) fitting sound
+        (knows told)
+        (fitting.free fits.2) image-there (room told)
 
     pub commit-leaves : {old_writes new_writes : ℕ → ℕ} → Touches old_writes new_writes → (passes : List ℕ → Bool) (h req most : ℕ)
         → DecidesRequest passes f.meta f.counter f.session f.boot (request.Commit h req most) (Do (plan.Commit number (Some image) bit)) → (g : Fields)
@@ -88,8 +83,9 @@ module _ (f : Fields) (tells : Bool) (s t : Told) (number image : ℕ) (bit : Bo
         leaves-by (old old_writes) (record { tells = tells; told = t; writes = new_writes; fields = g }) fitting sound knows passes (request.Commit h req most) []
         (λ E st setting speaks. tt) (plan.Commit number (Some image) bit) decides result
         (λ told E setting ready. does-nothing result E (state_in f s.now) t ((stays told).ready E setting.layout ready.calm ready.guarded))
-        (λ told rest. guarded-by result ((stays told).rests rest))
-        (λ told. finish-spares result f image size s t (fitting.active fits.2) (slot-room f fitting sound image image-there) (finishes told))
+        (λ told rest. rest-guarded result t ((stays told).rests rest))
+        (λ told. finish-spares result f image size s t (slot-room f fitting sound image image-there) (finishes told)
+        (fitting.active fits.2))
         (finish-blocks f image size (fitting.active fits.2) (slot-room f fitting sound image image-there) touches)
         (λ told. decides-kept f.layout f.meta _ _ s t (omega arith) (finishes told).keeps g.meta)
         (record { tells = refl; layout = layout; boot = boot; counter = counter; lengths = lengths; guard = λ told. (finishes told).keeps.guard })
@@ -100,15 +96,10 @@ module _ (f : Fields) (tells : Bool) (s t : Told) (number image : ℕ) (bit : Bo
     abbrev g : Fields
     g = with_session f k f.rests
 
-    not-idle : k.staging ≡ false → ⊥
-    not-idle off = true-false (sym fits.2 ∙ sym commits.staging ∙ off)
-      where
-        true-false : true ≡ false → ⊥
-        true-false e = absurd cc
-
     pub commit-fitting : Fitting g
     commit-fitting =
-        fitting-again f k f.rests fitting commits.rows (staged-before f k fitting commits.staging) (λ off. absurd (not-idle off)) fitting.rests
+        fitting-again f k f.rests fitting commits.rows (staged-before f k fitting commits.staging)
+        (λ off. absurd (not-both k.staging off (commits.staging ∙ fits.2))) fitting.rests
         (λ place. subst (λ (hs : List Handle). ReadsWell f (get_or hs place Free)) (sym commits.handles)
         (set-readers f f.session.handles (number - 1) Free (old-readers f fitting) (free-well f) place))
 
@@ -120,10 +111,14 @@ module _ (f : Fields) (tells : Bool) (s t : Told) (number image : ℕ) (bit : Bo
       ends-at : IsTrue tells → FinishesImage {T = Unit {0}} (Ok tt) first was-open.0 (rest_of f image) s t
       ends-at told = subst (λ (n : ℕ). FinishesImage {T = Unit {0}} (Ok tt) first n (rest_of f image) s t) size-is (finishes told)
 
-      pub commit-knows : IsTrue tells → Knows g t
-      commit-knows told =
-          committed-knows f k image (number - 1) was-open.0 was-open.1 bit s t fitting sound (knows told) (fitting.free fits.2) image-there
+      leaves : IsTrue tells → CommitLeaves f k s t
+      leaves told =
+          committed f k image (number - 1) was-open.0 was-open.1 bit s t fitting sound (knows told)
+          (fitting.free fits.2) image-there
           (room told) was-open.2 commits (ends-at told)
+
+      pub commit-knows : IsTrue tells → Knows g t
+      commit-knows told = (leaves told).known
 
       pub commit-meets : {old_writes new_writes : ℕ → ℕ} → Touches old_writes new_writes → (passes : List ℕ → Bool) (h req most : ℕ)
           → DecidesRequest passes f.meta f.counter f.session f.boot (request.Commit h req most) (Do (plan.Commit number (Some image) bit))
@@ -141,12 +136,8 @@ module _ (f : Fields) (tells : Bool) (s t : Told) (number image : ℕ) (bit : Bo
             total = λ E st same speaks. tt;
             trials = λ st staged speaks kept. speaks.trials_are;
             held = λ st staged speaks kept. refl;
-            state_is = λ told.
-                committed-state f k image (number - 1) was-open.0 was-open.1 bit s t fitting sound (knows told) (fitting.free fits.2) image-there
-                (room told) was-open.2 commits (ends-at told);
-            staged_are = λ told.
-                committed-means f k image (number - 1) was-open.0 was-open.1 bit s t fitting sound (knows told) (fitting.free fits.2) image-there
-                (room told) was-open.2 commits (ends-at told);
+            state_is = λ told. (leaves told).state_is;
+            staged_are = λ told. (leaves told).means;
           })
           (λ value r. r ≡ Success) tt
           (λ E st x setting shows. ap (λ (y : Session). (planned_in E st y [] (plan.Commit number (Some image) bit)).reply) shows.means)

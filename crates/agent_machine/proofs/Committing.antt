@@ -4,6 +4,7 @@ use Rattle.std.proofs.lemmas.Bool.{cases_eq}
 use Rattle.std.specs.Prelude.{Result}
 use Rattle.flash_core.specs.declared.flash.FlashStop.{FlashStop}
 use Rattle.flash_core.specs.Told.{Told}
+use Rattle.flash_core.specs.May.{Keeps}
 use Rattle.flash_core.specs.Touches.{TouchesOnly}
 use Rattle.flash_core.proofs.Calls.{keeps_wider, quiet_fresh}
 use Rattle.sha2.specs.declared.Sha256.{Sha256}
@@ -13,7 +14,7 @@ use Rattle.fwu_model.specs.State.{is_invalid}
 use Rattle.slot_writer.specs.Slots.{FinishesImage, IsBlankAhead, blocks_for, done_of}
 use Rattle.agent_kept.specs.declared.parts.Part.{Part}
 use Rattle.agent_kept.specs.declared.parts.Part.TheVariants.{Nothing, Open, Committed}
-use Rattle.agent_kept.specs.Kept.{Kept, IsKept, CommitsPart, CommitsTo, part_at, part_meant, size_of, slot_room_of}
+use Rattle.agent_kept.specs.Kept.{Kept, IsKept, CommitsPart, CommitsTo, part_at, part_meant, size_of}
 use Rattle.agent_kept.proofs.After.{kept-committed}
 use Rattle.agent_machine.specs.Beside.{KeepsSpared, SparesBlocks}
 use Rattle.agent_machine.proofs.Beside.{slot-blocks, slot-spares}
@@ -22,24 +23,42 @@ use Rattle.agent_machine.specs.Machine.{state_in, staged_bytes, part_bytes}
 use Rattle.agent_machine.specs.Knows.{Fitting, SessionSound, Knows}
 use Rattle.agent_machine.specs.Law.{StaysKnown}
 use Rattle.agent_machine.proofs.Answered.{MeansSame, kept-same}
+pub use Rattle.agent_machine.proofs.Staging.{slot-room}
 use Rattle.agent_machine.proofs.Staging.{stays-known}
-use Rattle.agent_machine.proofs.Writing.{known-again}
+use Rattle.agent_machine.proofs.Writing.{known-again, open-not-committed}
 
--- a staged image is within its slot
-pub slot-room : (f : Fields) → Fitting f → SessionSound f → (image : ℕ) → image < length f.layout.rows
-    → size_of (part_at f.session image) ≤ slot_bytes f.layout image
-slot-room f fitting sound image lt =
-    let count : length f.session.rows ≡ length f.layout.rows = ap (λ (l : List ImageRow). length l) fitting.rows in
-    let slot : slot_room_of f.session.rows image ≡ slot_bytes f.layout image = ap (λ (l : List ImageRow). slot_room_of l image) fitting.rows in
-    omega (arith, sound.sizes image (omega (arith, count, lt)), slot)
+-- what ending an image leaves of the others, at any exit
+module _ {T : Type 0} (result : Result T FlashStop) (f : Fields) (image size : ℕ) (s t : Told)
+    (fits : size ≤ slot_bytes f.layout image)
+    (finishes : FinishesImage result (start f.layout (target f) image) size (rest_of f image) s t) where
+  finish-keeps : Keeps (4096 * start f.layout (target f) image) (4096 * start f.layout (target f) image + slot_bytes f.layout image)
+      s t
+  finish-keeps =
+      let first : ℕ = start f.layout (target f) image in
+      keeps_wider (4096 * first + done_of size) (4096 * (first + blocks_for size)) (4096 * first)
+      (4096 * first + slot_bytes f.layout image) s t
+      (omega arith) (omega (arith, fits)) finishes.keeps
+
+  pub finish-stays : Fitting f → SessionSound f → Knows f s → IsTrue (is_invalid (state_at f.meta.meta (target f)))
+      → image < length f.layout.rows
+      → blocks_needed f.layout * 4096 ≤ length s.now → StaysKnown f image s t
+  finish-stays fitting sound knows invalid within room =
+      stays-known f image s t fitting sound knows invalid within room finish-keeps
+
+  -- nor does anything change beside the update bank
+  pub finish-spares : f.boot ≡ f.meta.meta.active → KeepsSpared f s t
+  finish-spares active = slot-spares f image s t active finish-keeps
 
 ended : (size : ℕ) (hasher : Sha256) (bit : Bool) (q : Part) → CommitsTo (Open size hasher) q bit → (digest : List ℕ) × (q ≡ Committed size digest bit)
 ended size hasher bit Nothing c = absurd c
 ended size hasher bit (Open n other) c = absurd c
 ended size hasher bit (Committed n digest b) c = (digest, ap₂ (λ (m : ℕ) (x : Bool). Committed m digest x) c.0 c.1)
 
-ended-not-open : (n m : ℕ) (x : Sha256) (digest : List ℕ) (bit : Bool) → ◌≡◌ {A = Part} (Open n x) (Committed m digest bit) → ⊥
-ended-not-open n m x digest bit e = absurd cc
+-- what a flash has of an agent's images after a commit
+pub record CommitLeaves (f : Fields) (k : Kept) (s t : Told) : Type 0 where
+  pub known : Knows (with_session f k f.rests) t
+  pub state_is : state_in (with_session f k f.rests) t.now ≡ state_in f s.now
+  pub means : MeansSame k (staged_bytes f s.now) (staged_bytes (with_session f k f.rests) t.now)
 
 module _ (f : Fields) (k : Kept) (image place size : ℕ) (hasher : Sha256) (bit : Bool) (s t : Told) (fitting : Fitting f) (sound : SessionSound f)
     (knows : Knows f s)
@@ -57,9 +76,7 @@ module _ (f : Fields) (k : Kept) (image place size : ℕ) (hasher : Sha256) (bit
   fits = omega (arith, ap size_of was, slot-room f fitting sound image within)
 
   stays : StaysKnown f image s t
-  stays = stays-known f image s t fitting sound knows invalid within room
-      (keeps_wider (4096 * first + done_of size) (4096 * (first + blocks_for size)) (4096 * first) (4096 * first + slot_bytes f.layout image) s t
-      (omega arith) (omega (arith, fits)) finishes.keeps)
+  stays = finish-stays {T = Unit {0}} (Ok tt) f image size s t fits finishes fitting sound knows invalid within room
 
   part : (digest : List ℕ) × (part_at k image ≡ Committed size digest bit)
   part = ended size hasher bit (part_at k image) (subst (λ (p : Part). CommitsTo p (part_at k image) bit) was commits.part)
@@ -73,14 +90,11 @@ module _ (f : Fields) (k : Kept) (image place size : ℕ) (hasher : Sha256) (bit
   others-same other ne lt = ap (λ (p : Part). part_bytes (start f.layout (target f) other) p (rest_of f other) t.now) (commits.others other ne)
       ∙ stays.others other ne lt
 
-  pub committed-bytes : (other : ℕ) → other < length f.layout.rows → staged_bytes g t.now other ≡ staged_bytes f s.now other
+  committed-bytes : (other : ℕ) → other < length f.layout.rows → staged_bytes g t.now other ≡ staged_bytes f s.now other
   committed-bytes other lt = elim (cases_eq other image) [
     | inl same ↦ subst (λ (j : ℕ). staged_bytes g t.now j ≡ staged_bytes f s.now j) (sym same) image-same
     | inr ne ↦ others-same other ne lt
   ]
-
-  pub committed-state : state_in g t.now ≡ state_in f s.now
-  committed-state = stays.state_is
 
   rows-same : length k.rows ≡ length f.layout.rows
   rows-same = ap (λ (l : List ImageRow). length l) (commits.rows ∙ fitting.rows)
@@ -88,7 +102,7 @@ module _ (f : Fields) (k : Kept) (image place size : ℕ) (hasher : Sha256) (bit
   within-kept : image < length f.session.rows
   within-kept = omega (arith, within, ap (λ (l : List ImageRow). length l) fitting.rows)
 
-  pub committed-means : MeansSame k (staged_bytes f s.now) (staged_bytes g t.now)
+  committed-means : MeansSame k (staged_bytes f s.now) (staged_bytes g t.now)
   committed-means i lt = ap (part_meant (part_at k i)) (committed-bytes i (omega (arith, lt, rows-same)))
 
   kept-after : IsKept k (staged_bytes g t.now)
@@ -96,11 +110,11 @@ module _ (f : Fields) (k : Kept) (image place size : ℕ) (hasher : Sha256) (bit
       kept-same k (staged_bytes f s.now) (staged_bytes g t.now) (omega (arith, within, rows-same)) committed-means
       (kept-committed f.session k image place bit (staged_bytes f s.now) knows.staged.kept within-kept commits)
 
-  pub committed-knows : Knows g t
+  committed-knows : Knows g t
   committed-knows = known-again f k f.rests image s t knows stays commits.staging (record {
     kept = kept-after;
     ahead = λ other n h lt is. elim (cases_eq other image) [
-      | inl same ↦ absurd (ended-not-open n size h part.0 bit (sym is ∙ ap (λ (j : ℕ). part_at k j) same ∙ part.1))
+      | inl same ↦ absurd (open-not-committed n size h part.0 bit (sym is ∙ ap (λ (j : ℕ). part_at k j) same ∙ part.1))
       | inr ne ↦ stays.ahead other n h ne lt (sym (commits.others other ne) ∙ is)
     ];
     padded = λ other n d b lt is. elim (cases_eq other image) [
@@ -112,25 +126,8 @@ module _ (f : Fields) (k : Kept) (image place size : ℕ) (hasher : Sha256) (bit
     sure = λ other n d b lt is. quiet_fresh _ _ t finishes.stable;
   })
 
--- what ending an image leaves of the others, at any exit
-pub finish-stays : {T : Type 0} (result : Result T FlashStop) (f : Fields) (image size : ℕ) (s t : Told) → Fitting f → SessionSound f → Knows f s
-    → IsTrue (is_invalid (state_at f.meta.meta (target f)))
-    → image < length f.layout.rows → blocks_needed f.layout * 4096 ≤ length s.now → size ≤ slot_bytes f.layout image
-    → FinishesImage result (start f.layout (target f) image) size (rest_of f image) s t → StaysKnown f image s t
-finish-stays result f image size s t fitting sound knows invalid within room fits finishes =
-    let first : ℕ = start f.layout (target f) image in
-    stays-known f image s t fitting sound knows invalid within room
-    (keeps_wider (4096 * first + done_of size) (4096 * (first + blocks_for size)) (4096 * first) (4096 * first + slot_bytes f.layout image) s t
-    (omega arith) (omega (arith, fits)) finishes.keeps)
-
--- nor does anything change beside the update bank
-pub finish-spares : {T : Type 0} (result : Result T FlashStop) (f : Fields) (image size : ℕ) (s t : Told) → f.boot ≡ f.meta.meta.active
-    → size ≤ slot_bytes f.layout image → FinishesImage result (start f.layout (target f) image) size (rest_of f image) s t → KeepsSpared f s t
-finish-spares result f image size s t active fits finishes =
-    let first : ℕ = start f.layout (target f) image in
-    slot-spares f image s t active
-    (keeps_wider (4096 * first + done_of size) (4096 * (first + blocks_for size)) (4096 * first) (4096 * first + slot_bytes f.layout image) s t
-    (omega arith) (omega (arith, fits)) finishes.keeps)
+  pub committed : CommitLeaves f k s t
+  committed = record { known = committed-knows; state_is = stays.state_is; means = committed-means }
 
 -- nor is any other block erased or programmed
 pub finish-blocks : (f : Fields) (image size : ℕ) {old_writes new_writes : ℕ → ℕ} → f.boot ≡ f.meta.meta.active → size ≤ slot_bytes f.layout image

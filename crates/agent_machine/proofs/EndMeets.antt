@@ -40,7 +40,7 @@ use Rattle.agent_machine.proofs.Answered.{shown-speaks, leaves-by, done-meets}
 use Rattle.agent_machine.proofs.Committing.{slot-room}
 use Rattle.agent_machine.proofs.Showing.{known-speaks}
 use Rattle.agent_machine.proofs.EndingMeets.{ended-may, ends-meet, permitted-in, state-meta}
-use Rattle.agent_machine.proofs.Ended.{stored-is, ended-held, ended-means, ended-state, ended-knows}
+use Rattle.agent_machine.proofs.Ended.{stored-is, ended-held, EndLeaves, ended-leaves}
 use Rattle.agent_machine.specs.Ends.{ClearsAndStores}
 
 -- a store that was done came after a clear that was done
@@ -151,17 +151,14 @@ module _ (f : Fields) (k : Kept) (meta : MetaRead) (passes : List ℕ → Bool) 
 
   module _ (restarts : Restarts false f.session k) (settles : Settles f.session f.meta [] plan.End meta k)
       (ended : IsTrue tells → (mid : Told) × Clears {T = Unit {0}} (Ok tt) 3 s mid × Stores {T = Unit {0}} (Ok tt) f.layout meta.meta mid t) where
-    pub end-knows : IsTrue tells → Knows g t
-    end-knows told =
+    leaves : IsTrue tells → EndLeaves f g s t (after state (Switch (update_bank state) p bits ∷ []))
+    leaves told =
         let known = knows told in
         let e = ended told in
-        ended-knows f k meta fitting restarts is s e.0 t known staging (state-of known) p (ends known) e.1 e.2
+        ended-leaves f k meta fitting restarts is s e.0 t known staging (state-of known) p (ends known) e.1 e.2
 
-    state-next : IsTrue tells → state_in g t.now ≡ after state (planned_moves state (staging_meant f.session staged) plan.End)
-    state-next told =
-        let known = knows told in
-        let e = ended told in
-        ended-state f k meta fitting restarts is s e.0 t known staging (state-of known) p (ends known) e.1 e.2 ∙ ap (after state) (sym moves-are)
+    pub end-knows : IsTrue tells → Knows g t
+    end-knows told = (leaves told).known
 
     pub end-meets : {old_writes new_writes : ℕ → ℕ} → SparesBlocks f old_writes new_writes
         → Meets {T = Unit {0}} (λ value r. r ≡ Success) (Ok tt) passes call.End (old old_writes) (new new_writes)
@@ -178,11 +175,8 @@ module _ (f : Fields) (k : Kept) (meta : MetaRead) (passes : List ℕ → Bool) 
               let stg = staging_meant f.session bytes in
               ended-held f k meta fitting restarts is st
               (record { state = state_by (bits_staged stg); bits = bits_staged stg; held = Some (package_staged stg) }) speaks.meta staging;
-          state_is = state-next;
-          staged_are = λ told.
-              let known = knows told in
-              let e = ended told in
-              ended-means f k meta fitting restarts is s e.0 t known staging (state-of known) p (ends known) e.1 e.2;
+          state_is = λ told. (leaves told).state_is ∙ ap (after state) (sym moves-are);
+          staged_are = λ told. (leaves told).means;
         })
         (λ value r. r ≡ Success) tt (λ E st x setting shows. ap (λ (y : Session). (planned_in E st y [] plan.End).reply) shows.means)
         (end-leaves (Ok tt) (λ told. inl (ended told)) touches)

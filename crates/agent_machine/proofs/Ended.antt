@@ -1,14 +1,14 @@
 -- The staging has ended, and its package is active: what the agent knows afterwards.
-use Rattle.std.proofs.Common.{◌≡◌, ◌≢◌, inr, ℕ, ◌+◌, ◌<◌, Bool, true, false, List, [], ◌∷◌, length, get_or, map, Option, Some, Ok, refl, sym, ap, ap₂, ◌∙◌, subst, arith, IsTrue, get_or-set_other, set}
+use Rattle.std.proofs.Common.{◌≡◌, ◌≢◌, inr, ℕ, ◌+◌, ◌<◌, Bool, true, false, List, [], ◌∷◌, length, get_or, map, Option, Ok, refl, sym, ap, ap₂, ◌∙◌, subst, arith, IsTrue, get_or-set_other, set}
 use Rattle.std.proofs.Math.Nat.{mod-lt}
 use Rattle.std.specs.List.{range_with_len}
 use Rattle.std.specs.Prelude.{is_some}
 use Rattle.flash_core.specs.Told.{Told}
-use Rattle.sha2.specs.declared.Sha256.{Sha256}
 use Rattle.fwu_formats.specs.declared.kinds.BankState.TheVariants.{Invalid}
 use Rattle.fwu_formats.specs.Layout.{ImageRow, Layout}
 use Rattle.fwu_formats.specs.Metadata.{Meta, MetaRead, state_at, fits_meta}
 use Rattle.fwu_formats.specs.Image.{package_in}
+use Rattle.fwu_formats.proofs.Same.{map-same}
 use Rattle.fwu_formats.proofs.SealLaws.{limits}
 use Rattle.fwu_model.specs.Replica.{BothHold, in_version}
 use Rattle.fwu_model.specs.State.{State, Bank, Switch, bank, no_bank, update_bank, after, is_invalid, state_by}
@@ -24,12 +24,8 @@ use Rattle.moves.proofs.Fitting.{fits-switch}
 use Rattle.moves.proofs.SamePackages.{package-same}
 use Rattle.agent_kept.specs.declared.parts.Part.{Part}
 use Rattle.agent_kept.specs.declared.parts.Part.TheVariants.{Nothing, Open, Committed}
-use Rattle.agent_kept.specs.declared.parts.Handle.{Handle}
-use Rattle.agent_kept.specs.declared.parts.Handle.TheVariants.{Free, Reads}
-use Rattle.agent_kept.specs.Kept.{Kept, Restarts, handle_kept, part_at, part_meant, parts_meant}
-use Rattle.agent_kept.proofs.After.{kept-restarted}
+use Rattle.agent_kept.specs.Kept.{Kept, Restarts, part_at, part_meant, parts_meant}
 use Rattle.agent_kept.proofs.Installable.{map-twice}
-use Rattle.agent_kept.proofs.Sounds.{frees}
 use Rattle.agent_state.specs.Decides.{next_bank}
 use Rattle.agent_state.specs.Settles.{bit_kept, bits_kept}
 use Rattle.agent_state.proofs.Collected.{bits-count}
@@ -39,6 +35,7 @@ use Rattle.agent_machine.specs.Machine.{state_in, staged_bytes}
 use Rattle.agent_machine.specs.Carries.{MeansSame}
 use Rattle.agent_machine.specs.Knows.{Fitting, Knows}
 use Rattle.agent_machine.proofs.Known.{state-held}
+use Rattle.agent_machine.proofs.Stored.{not-both, nothing-means, nothing-staged, restarted-fitting}
 
 -- ---- the bits
 
@@ -46,10 +43,6 @@ bit-meant : (p : Part) (bytes : List ℕ) → bit_kept p ≡ committed_bit (part
 bit-meant Nothing bytes = refl
 bit-meant (Open size hasher) bytes = refl
 bit-meant (Committed size digest bit) bytes = refl
-
-map-same : (f g : ℕ → Bool) (xs : List ℕ) → ((i : ℕ) → f i ≡ g i) → map f xs ≡ map g xs
-map-same f g [] same = refl
-map-same f g (x ∷ xs) same = ap₂ (λ (a : Bool) (l : List Bool). a ∷ l) (same x) (map-same f g xs same)
 
 bits-meant : (k : Kept) (staged : ℕ → List ℕ) → bits_kept k ≡ staged_bits (parts_meant k staged)
 bits-meant k staged =
@@ -68,6 +61,12 @@ stored-is f st staged p is =
 
 -- ---- nothing is staged any more
 
+-- what a flash has of an agent after an end
+pub record EndLeaves (f g : Fields) (s t : Told) (next : State) : Type 0 where
+  pub known : Knows g t
+  pub state_is : state_in g t.now ≡ next
+  pub means : MeansSame g.session (staged_bytes f s.now) (staged_bytes g t.now)
+
 module _ (f : Fields) (k : Kept) (meta : MetaRead) (fitting : Fitting f) (restarts : Restarts false f.session k)
     (is : meta ≡ record f.meta { meta = meta_after f.meta.meta (Switch (next_bank f.meta.meta) [] (bits_kept f.session)) }) where
   abbrev L : Layout
@@ -79,18 +78,6 @@ module _ (f : Fields) (k : Kept) (meta : MetaRead) (fitting : Fitting f) (restar
   abbrev g : Fields
   g = record f { meta = meta; session = k; trials = 0 }
 
-  idle : k.staging ≡ true → ⊥
-  idle on = not-both (sym restarts.staging_is ∙ on)
-    where
-      not-both : false ≡ true → ⊥
-      not-both e = absurd cc
-
-  not-reading : (place : ℕ) (image : Option ℕ) (at total : ℕ) → handle_kept k place ≡ Reads image at total → ⊥
-  not-reading place image at total e = free-reads (sym (ap (λ (hs : List Handle). get_or hs place Free) restarts.closed ∙ frees 32 place) ∙ e)
-    where
-      free-reads : Free ≡ Reads image at total → ⊥
-      free-reads e = absurd cc
-
   whole : MetaFits L m
   whole = meta-fits L m fitting.meta
 
@@ -101,22 +88,12 @@ module _ (f : Fields) (k : Kept) (meta : MetaRead) (fitting : Fitting f) (restar
   next-below = let lt = mod-lt (m.active + 1) {m = length m.states} (omega (arith, whole.active, whole.states)) in omega (arith, lt, whole.states)
 
   pub ended-fitting : Fitting g
-  ended-fitting = record {
-    layout = fitting.layout;
-    meta = subst (λ (x : Meta). IsTrue (fits_meta L x)) (sym meta-is-new)
-        (fits-switch L m fitting.meta (next_bank m) [] (bits_kept f.session) next-below
-        (bits-count f.session ∙ ap (λ (l : List ImageRow). length l) fitting.rows));
-    boot = fitting.boot;
-    rows = restarts.rows ∙ fitting.rows;
-    lengths = fitting.lengths;
-    within = fitting.within;
-    rests = fitting.rests;
-    active = λ on. absurd (idle on);
-    free = λ on. absurd (idle on);
-    idle = λ off. restarts.nothing;
-    readers = λ place image at total e. absurd (not-reading place image at total e);
-    readable = λ place image at total e. absurd (not-reading place (Some image) at total e);
-  }
+  ended-fitting =
+      restarted-fitting f k meta 0 false fitting restarts
+      (subst (λ (x : Meta). IsTrue (fits_meta L x)) (sym meta-is-new)
+      (fits-switch L m fitting.meta (next_bank m) [] (bits_kept f.session) next-below
+      (bits-count f.session ∙ ap (λ (l : List ImageRow). length l) fitting.rows)))
+      (λ on. absurd (not-both k.staging restarts.staging_is on)) (λ on. absurd (not-both k.staging restarts.staging_is on))
 
   -- the bank that was started is another one than the one switched to
   boot-other : (st : State) → m ≡ meta_in st → f.session.staging ≡ true → f.boot ≢ update_bank st
@@ -155,7 +132,7 @@ module _ (f : Fields) (k : Kept) (meta : MetaRead) (fitting : Fitting f) (restar
     both : BothHold L meta t.now
     both = subst (λ (n : ℕ). BothHold L (in_version n meta.meta) t.now) (sym form-two) stores.both
 
-    pub ended-state : state_in g t.now ≡ next
+    ended-state : state_in g t.now ≡ next
     ended-state = state-held L t.now meta next seen both
 
     held-same : package_in L t.now f.boot ≡ package_in L s.now f.boot
@@ -169,40 +146,24 @@ module _ (f : Fields) (k : Kept) (meta : MetaRead) (fitting : Fitting f) (restar
         ∙ ap is_invalid (get_or-set_other (meta_in state).states (update_bank state) f.boot (state_by bits) Invalid (boot-other state (sym state-meta) staging))
         ∙ ap (λ (x : Meta). is_invalid (state_at x f.boot)) state-meta
 
-    not-open : (i n : ℕ) (hasher : Sha256) → part_at k i ≡ Open n hasher → ⊥
-    not-open i n hasher e = nothing-open (sym (restarts.nothing i) ∙ e)
-      where
-        nothing-open : ◌≡◌ {A = Part} Nothing (Open n hasher) → ⊥
-        nothing-open e = absurd cc
-
-    not-committed : (i n : ℕ) (digest : List ℕ) (bit : Bool) → part_at k i ≡ Committed n digest bit → ⊥
-    not-committed i n digest bit e = nothing-committed (sym (restarts.nothing i) ∙ e)
-      where
-        nothing-committed : ◌≡◌ {A = Part} Nothing (Committed n digest bit) → ⊥
-        nothing-committed e = absurd cc
-
-    -- nothing is staged, whatever the bytes are
-    pub ended-means : MeansSame k (staged_bytes f s.now) (staged_bytes g t.now)
-    ended-means i lt = nothing (part_at k i) (restarts.nothing i)
-      where
-        nothing : (q : Part) → q ≡ Nothing → part_meant q (staged_bytes g t.now i) ≡ part_meant q (staged_bytes f s.now i)
-        nothing q e = ap (λ (x : Part). part_meant x (staged_bytes g t.now i)) e ∙ sym (ap (λ (x : Part). part_meant x (staged_bytes f s.now i)) e)
-
-    pub ended-knows : Knows g t
+    ended-knows : Knows g t
     ended-knows = record {
       layout_is = seen.layout;
       both = both;
       version = form-two;
       used = used-same ∙ knows.used;
-      accepted = λ on. absurd (idle on);
+      accepted = λ on. absurd (not-both k.staging restarts.staging_is on);
       counter_is = knows.counter_is ∙ sym (ap (λ (x : State). x.counter) ended-state);
       trials_are = sym (ap (λ (x : State). x.trials) ended-state);
       held = ap is_some held-same ∙ knows.held;
       lengths_are = knows.lengths_are ∙ ap (λ (o : Option (List (List ℕ))). map (λ (bytes : List ℕ). length bytes) (held_package o)) (sym held-same);
-      staged = record {
-        kept = kept-restarted false f.session k (staged_bytes g t.now) restarts;
-        ahead = λ i n hasher lt e. absurd (not-open i n hasher e);
-        padded = λ i n digest bit lt e. absurd (not-committed i n digest bit e);
-        sure = λ i n digest bit lt e. absurd (not-committed i n digest bit e);
-      };
+      staged = nothing-staged g t restarts.nothing;
+    }
+
+    -- nothing is staged, whatever the bytes are
+    pub ended-leaves : EndLeaves f g s t next
+    ended-leaves = record {
+      known = ended-knows;
+      state_is = ended-state;
+      means = nothing-means k (staged_bytes f s.now) (staged_bytes g t.now) restarts.nothing;
     }

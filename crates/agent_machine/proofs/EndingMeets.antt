@@ -1,5 +1,5 @@
 -- What is staged may be installed: the update bank holds the package, and is sure.
-use Rattle.std.proofs.Common.{◌≡◌, inl, inr, ℕ, suc, ◌+◌, ◌*◌, ◌%◌, ◌<◌, ◌≤◌, Bool, true, false, ◌&&◌, not, cond, List, [], ◌∷◌, length, get_or, take, drop, Some, None, refl, sym, ap, ◌∙◌, subst, arith, IsTrue, IsFalse, leb}
+use Rattle.std.proofs.Common.{◌≡◌, inl, inr, ℕ, suc, ◌+◌, ◌*◌, ◌<◌, ◌≤◌, Bool, true, false, ◌&&◌, not, cond, List, [], ◌∷◌, length, get_or, take, drop, Some, None, refl, sym, ap, ◌∙◌, subst, arith, IsTrue, IsFalse, leb}
 use Rattle.std.proofs.lemmas.Bool.{and_parts, cases_lt}
 use Rattle.std.proofs.lemmas.List.{take-take, length-map}
 use Rattle.std.proofs.lemmas.List.Sums.{sum_by-cons}
@@ -13,7 +13,7 @@ use Rattle.fwu_formats.specs.Manifest.{is_complete, version, manifest_part}
 use Rattle.fwu_formats.specs.Image.{slot}
 use Rattle.fwu_model.specs.declared.kinds.Status.{Status}
 use Rattle.fwu_model.specs.declared.kinds.Status.TheVariants as status
-use Rattle.fwu_model.specs.State.{State, bank, update_bank, is_accepted}
+use Rattle.fwu_model.specs.State.{State, bank, is_accepted}
 use Rattle.fwu_model.specs.Sound.{Setting, is_permitted}
 use Rattle.fwu_model.specs.Session.{Staged, Handle, On, is_committed}
 use Rattle.fwu_model.specs.Call as call
@@ -23,7 +23,7 @@ use Rattle.fwu_model.specs.Answer.{Answer, answer, answer_end, is_writer, staged
 use Rattle.fwu_model.specs.MoveMetas.{meta_in}
 use Rattle.fwu_model.specs.Replica.{BothHold, in_version}
 use Rattle.moves.specs.StoreLaw.{EndsBy}
-use Rattle.moves.proofs.Agree.{bank-count, state-is}
+use Rattle.moves.proofs.Agree.{state-is}
 use Rattle.moves.proofs.MetaIn.{meta-is}
 use Rattle.moves.proofs.Switching.{ends-by}
 use Rattle.meta_layout.proofs.Fits.{MetaFits, meta-fits}
@@ -37,7 +37,7 @@ use Rattle.agent_kept.proofs.Installable.{each-committed, map-twice}
 use Rattle.agent_machine.specs.Fields.{Fields, target}
 use Rattle.agent_machine.specs.Machine.{state_in, staged_bytes, part_bytes}
 use Rattle.agent_machine.specs.Knows.{Fitting, Knows}
-use Rattle.agent_machine.proofs.Known.{known-shown}
+use Rattle.agent_machine.proofs.Known.{known-shown, update-is}
 
 -- ---- what an answered end says
 
@@ -154,9 +154,6 @@ module _ (f : Fields) (passes : List ℕ → Bool) (s : Told) (fitting : Fitting
   whole : MetaFits L m
   whole = meta-fits L m fitting.meta
 
-  pub u-is : update_bank state ≡ target f
-  u-is = ap (λ (b : ℕ). (m.active + 1) % b) (bank-count L s.now f.meta state refl)
-
   pub state-meta : meta_in state ≡ m
   state-meta = meta-is L s.now f.meta state whole refl
 
@@ -171,8 +168,9 @@ module _ (f : Fields) (passes : List ℕ → Bool) (s : Told) (fitting : Fitting
   ends-meet =
       ends-by L state p bits s (known-shown f s knows) knows.version both-two active-accepted some
       (length-map (parts_meant f.session staged) answer.committed_bit ∙ length-map-range_with_len _ 0 n ∙ count-is) tests.1
-      (λ i below. subst (λ (b : ℕ). take (length (get_or p i [])) (slot L s.now b i) ≡ get_or p i []) (sym u-is) (holds i below))
-      (subst (λ (b : ℕ). Quiet (4096 * start L b 0) (4096 * start L (b + 1) 0) s) (sym u-is) sure)
+      (λ i below. subst (λ (b : ℕ). take (length (get_or p i [])) (slot L s.now b i) ≡ get_or p i []) (sym (update-is f s.now))
+      (holds i below))
+      (subst (λ (b : ℕ). Quiet (4096 * start L b 0) (4096 * start L (b + 1) 0) s) (sym (update-is f s.now)) sure)
 
   pub permitted-in : (E : Setting) → E.layout ≡ L → E.passes ≡ passes → IsTrue (is_permitted E state.counter p)
   permitted-in E same verifier = ap (λ (v : List ℕ → Bool). leb state.counter (version p) && v (manifest_part p)) verifier ∙ tests.2

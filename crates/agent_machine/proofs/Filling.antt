@@ -1,6 +1,7 @@
 -- The machine's answers while an image of a staging is opened, written through handle 1 and committed.
-use Rattle.std.proofs.Common.{◌≡◌, cond, ℕ, zero, suc, ◌+◌, ◌<◌, ◌≤◌, Bool, List, [], ◌∷◌, ◌++◌, length, get_or, set, Some, refl, ap, ◌∙◌, get_or-set_same}
+use Rattle.std.proofs.Common.{◌≡◌, cond, ℕ, ◌+◌, ◌<◌, ◌≤◌, Bool, List, [], ◌++◌, length, get_or, set, Some, ap, ◌∙◌, get_or-set_same}
 use Rattle.std.proofs.lemmas.Bool.{le-ltb}
+use Rattle.std.proofs.lemmas.List.{set-set}
 use Rattle.std.specs.Prelude.{nat_lt, ◌==◌, ◌||◌}
 use Rattle.fwu_formats.specs.Layout.{slot_bytes, find_image}
 use Rattle.fwu_model.specs.State.{State}
@@ -11,11 +12,6 @@ use Rattle.fwu_model.specs.Call as call
 use Rattle.fwu_model.specs.Reply as reply
 use Rattle.fwu_model.specs.Answer.{answer, answered, refused, opened, appended, staged_bytes, is_full, answer_open_write, open_image, answer_write, answer_commit}
 use Rattle.agent_machine.specs.Filling.{between, within, filled}
-
-set-set : (xs : List Staged) (i : ℕ) (y z : Staged) → set (set xs i y) i z ≡ set xs i z
-set-set [] i y z = refl
-set-set (x ∷ xs) zero y z = refl
-set-set (x ∷ xs) (suc i) y z = ap (λ (l : List Staged). x ∷ l) (set-set xs i y z)
 
 module _ (E : Setting) (s : State) (boot : ℕ) (parts : List Staged) (image : ℕ) where
   open-image-at : get_or parts image Nothing ≡ Nothing

@@ -1,7 +1,7 @@
 -- Calls of the agent in a row.
 use Rattle.std.proofs.Common.{◌≡◌, List, [], ◌∷◌, ◌++◌, Result, Ok, Err, refl, sym, ap, subst, ◌∙◌, IsTrue}
 use Rattle.std.proofs.lemmas.Result.{on_ok_weaker, IfOk-from_err}
-use Rattle.std.specs.Prelude.{IsErr}
+use Rattle.std.specs.Prelude.{IsErr, OnOk}
 use Rattle.flash_core.specs.declared.flash.FlashStop.{FlashStop}
 use Rattle.fwu_model.specs.declared.kinds.Status.{Status}
 use Rattle.fwu_model.specs.State.{State, Move, after}
@@ -10,12 +10,13 @@ use Rattle.fwu_model.specs.Sound.{Setting}
 use Rattle.fwu_model.specs.Call.{Call}
 use Rattle.fwu_model.specs.Reply.{Reply, Refused}
 use Rattle.fwu_model.specs.Answer.{answer}
+use Rattle.moves.specs.Moved.{Does, IsReady}
 use Rattle.moves.proofs.Composed.{after-append, does-then, does-stopped, does-nothing}
 use Rattle.agent_machine.specs.Beside.{IsSparedByAll}
 use Rattle.agent_machine.proofs.Beside.{blocks-further, blocks-once, spared-further, spared-once, spared-same}
 use Rattle.agent_machine.specs.declared.stop.Stop.TheVariants as stop
 use Rattle.agent_machine.specs.Moment.{Moment, Shows}
-use Rattle.agent_machine.specs.Meets.{LeavesFlash, Meets, Stays}
+use Rattle.agent_machine.specs.Meets.{IsSettingOf, LeavesFlash, Meets, RepliesByMachine, Stays}
 use Rattle.agent_machine.specs.Goes.{GoesByMoves, Met, CallsMet, Done, Then, RanCalls, moves_of, session_of}
 
 stays-then : (a b c : Moment) → Stays a b → Stays b c → Stays a c
@@ -45,14 +46,11 @@ goes-then E result a b c s ms ns y z first second = record {
 -- what was stopped did a prefix of whatever was to follow
 pub goes-stopped : (E : Setting) (result : Result (Unit {0}) FlashStop) (a b : Moment) (s : State) (ms ns : List Move) (y z : Session) → IsErr result
     → GoesByMoves E result a b s ms y → GoesByMoves E result a b s (ms ++ ns) z
-goes-stopped E result a b s ms ns y z err goes = record {
-  shows = IfOk-from_err result (λ _. Shows b (after s (ms ++ ns)) z) err;
-  does = λ tells ready. does-stopped result result E s ms ns b.told err (goes.does tells ready);
-  guarded = goes.guarded;
-  keeps = goes.keeps;
-  touches = goes.touches;
-  stays = goes.stays;
-}
+goes-stopped E result a b s ms ns y z err goes =
+    let shows : OnOk result (Shows b (after s (ms ++ ns)) z) = IfOk-from_err result (λ _. Shows b (after s (ms ++ ns)) z) err in
+    let does : IsTrue a.tells → IsReady E a.told s → Does result E s (ms ++ ns) b.told = λ tells ready.
+    does-stopped result result E s ms ns b.told err (goes.does tells ready) in
+    assumption
 
 -- no call
 pub goes-nothing : (E : Setting) (a : Moment) (s : State) (x : Session) → Shows a s x → GoesByMoves E (Ok tt) a a s [] x
@@ -62,56 +60,53 @@ goes-nothing E a s x shows = record {
   guarded = λ tells rest. rest;
   keeps = λ tells. spared-same (IsSparedByAll a.fields.layout a.fields.boot) a.told;
   touches = λ b spared. refl;
-  stays = record { tells = refl; layout = refl; boot = refl; counter = refl; lengths = refl; guard = λ told. refl };
+  stays = assumption;
 }
 
 -- ---- one call
 
+-- what a call leaves of the flash, with the session that it leaves where the flash didn't stop it
+pub leaves-goes : (E : Setting) (result : Result (Unit {0}) FlashStop) (c : Call) (old new : Moment) (s : State) (x y : Session)
+    → E.layout ≡ old.fields.layout → Shows old s x → LeavesFlash result E.passes c old new
+    → OnOk result (Shows new (after s (answer E s x c).moves) y)
+    → GoesByMoves E result old new s (answer E s x c).moves y
+leaves-goes E result c old new s x y layout shows leaves next = record {
+  shows = next;
+  does = λ tells ready. leaves.does E s x (record { layout = layout; verifier = refl }) shows tells ready;
+  guarded = leaves.guarded;
+  keeps = λ tells. spared-once old.fields old.told new.told (leaves.keeps tells);
+  touches = blocks-once old.fields leaves.touches;
+  stays = leaves.stays;
+}
+
 module _ (E : Setting) (c : Call) (old new : Moment) (layout : E.layout ≡ old.fields.layout) where
-  leaves-goes : (s : State) (x : Session) → Shows old s x → LeavesFlash (Ok tt) E.passes c old new
-      → Shows new (after s (answer E s x c).moves) (answer E s x c).next → GoesByMoves E (Ok tt) old new s (answer E s x c).moves (answer E s x c).next
-  leaves-goes s x shows leaves next = record {
-    shows = next;
-    does = λ tells ready. leaves.does E s x (record { layout = layout; verifier = refl }) shows tells ready;
-    guarded = leaves.guarded;
-    keeps = λ tells. spared-once old.fields old.told new.told (leaves.keeps tells);
-    touches = blocks-once old.fields leaves.touches;
-    stays = leaves.stays;
+  met-by : (r : Reply) → LeavesFlash (Ok tt) E.passes c old new
+      → ((s : State) (x : Session) → IsSettingOf old.fields E.passes E → Shows old s x → RepliesByMachine E s x c new r)
+      → Met E c r old new
+  met-by r leaves replies = record {
+    replies = λ s x shows. replies s x (record { layout = layout; verifier = refl }) shows;
+    goes = λ s x shows. leaves-goes E (Ok tt) c old new s x _ layout shows leaves
+        (replies s x (record { layout = layout; verifier = refl }) shows).shows;
+    layout = leaves.stays.layout;
   }
 
   -- a call that was answered, by what its value says of the reply
   pub answered-met : {T : Type 0} (Says : T → Reply → Type 0) (value : T) (r : Reply) → ((q : Reply) → Says value q → r ≡ q)
       → Meets {T = T} Says (Ok value) E.passes c old new → Met E c r old new
-  answered-met Says value r says meets = record {
-    replies = λ s x shows. let it = meets.exact E s x (record { layout = layout; verifier = refl })
-        shows in record { reply_is = says (answer E s x c).reply it.0; shows = it.1 };
-    goes = λ s x shows. leaves-goes s x shows meets.leaves (meets.exact E s x (record { layout = layout; verifier = refl }) shows).1;
-    layout = meets.leaves.stays.layout;
-  }
+  answered-met Says value r says meets = met-by r meets.leaves (λ s x setting shows.
+      let it = meets.exact E s x setting shows in record { reply_is = says (answer E s x c).reply it.0; shows = it.1 })
 
   -- and one that was refused
   pub refused-met : {T : Type 0} (Says : T → Reply → Type 0) (st : Status) → Meets {T = T} Says (Err (stop.Status st)) E.passes c old new
       → Met E c (Refused st) old new
-  refused-met Says st meets = record {
-    replies = λ s x shows. let it = meets.exact E s x (record { layout = layout; verifier = refl }) shows in record { reply_is = sym it.0; shows = it.1 };
-    goes = λ s x shows. leaves-goes s x shows meets.leaves (meets.exact E s x (record { layout = layout; verifier = refl }) shows).1;
-    layout = meets.leaves.stays.layout;
-  }
+  refused-met Says st meets = met-by (Refused st) meets.leaves (λ s x setting shows.
+      let it = meets.exact E s x setting shows in record { reply_is = sym it.0; shows = it.1 })
 
 -- ---- a list of calls
 
 pub all-go : (E : Setting) (cs : List Call) (rs : List Reply) (old new : Moment) (s : State) (x : Session) → Shows old s x → CallsMet E cs rs old new
     → RanCalls E cs rs old new s x
-all-go E [] [] old new s x shows Done = record {
-  replies_are = refl;
-  shows = shows;
-  does = λ tells ready. does-nothing {T = Unit {0}} (Ok tt) E s old.told
-      ready;
-  guarded = λ tells rest. rest;
-  keeps = λ tells. spared-same (IsSparedByAll old.fields.layout old.fields.boot) old.told;
-  touches = λ b spared. refl;
-  layout = refl;
-}
+all-go E [] [] old new s x shows Done = let none : GoesByMoves E (Ok tt) old old s [] x = goes-nothing E old s x shows in assumption
 all-go E (c ∷ cs) (r ∷ rs) old new s x shows (Then {mid = mid} met calls) =
     let a = answer E s x c in
     let here = met.replies s x shows in

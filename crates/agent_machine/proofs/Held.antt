@@ -1,7 +1,8 @@
 -- What a bank holds is the first bytes of its slots.
-use Rattle.std.proofs.Common.{◌≡◌, inl, inr, cond, ℕ, zero, suc, ◌+◌, ◌-◌, ◌<◌, ◌≤◌, Bool, ◌&&◌, ◌==◌, List, [], length, get_or, take}
-use Rattle.std.proofs.Common.{Option, Some, None, Result, Ok, Err, sym, ap, ◌∙◌, subst, arith, IsTrue, eqb-true}
-use Rattle.std.proofs.lemmas.Bool.{cases_Bool, and_parts}
+use Rattle.std.proofs.Common.{◌≡◌, ℕ, zero, suc, ◌+◌, ◌-◌, ◌<◌, ◌≤◌, ◌&&◌, ◌==◌, List, [], length, get_or, take}
+use Rattle.std.proofs.Common.{Some, Result, Ok, Err, sym, ap, ◌∙◌, subst, arith, IsTrue, eqb-true}
+use Rattle.std.proofs.lemmas.Bool.{and_parts}
+use Rattle.std.proofs.lemmas.Option.{cond_some}
 use Rattle.std.proofs.lemmas.List.{length-take, take_min}
 use Rattle.std.proofs.lemmas.List.FromFn.{length-map-range_with_len, get_or-map-range_with_len}
 use Rattle.std.specs.Prelude.{is_ok}
@@ -20,13 +21,9 @@ front-of : (n : ℕ) (xs : List ℕ) → take n xs ≡ take (length (take n xs))
 front-of n xs = sym (take_min n xs) ∙ ap (λ (k : ℕ). take k xs) (sym (length-take n xs))
 
 whole : (L : Layout) (q p : List (List ℕ)) → if_complete L.rows q ≡ Some p → (q ≡ p) × IsTrue (is_complete L.rows p)
-whole L q p e = elim (cases_Bool (is_complete L.rows q)) [
-  | inl is ↦ let same : q ≡ p = some-is q p (ap (λ (c : Bool). cond c (Some q) None) (sym is) ∙ e) in (same, ap (is_complete L.rows) (sym same) ∙ is)
-  | inr none ↦ absurd (let f : ◌≡◌ {A = Option (List (List ℕ))} None (Some p) = ap (λ (c : Bool). cond c (Some q) None) (sym none) ∙ e in cc)
-]
-  where
-    some-is : (x y : List (List ℕ)) → ◌≡◌ {A = Option (List (List ℕ))} (Some x) (Some y) → x ≡ y
-    some-is x y e = cc
+whole L q p e =
+    let both = cond_some (is_complete L.rows q) q p e in
+    (both.1, ap (is_complete L.rows) (sym both.1) ∙ both.0)
 
 held-by : (L : Layout) (image : List ℕ) (b : ℕ) (r : Result Manifest ManifestFault) (p : List (List ℕ)) → package_by L image b r ≡ Some p
     → (m : Manifest) × (images_in L image b m ≡ p) × IsTrue (is_complete L.rows p)

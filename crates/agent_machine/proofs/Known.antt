@@ -1,5 +1,5 @@
 -- What the agent knows is what its flash shows.
-use Rattle.std.proofs.Common.{◌≡◌, ℕ, List, Option, Some, refl, sym, ap, ◌∙◌}
+use Rattle.std.proofs.Common.{◌≡◌, ℕ, ◌+◌, ◌%◌, Bool, List, Option, Some, refl, sym, ap, ◌∙◌, subst}
 use Rattle.base_core.specs.Block.{block}
 use Rattle.flash_core.specs.Told.{Told}
 use Rattle.flash_core.specs.May.{Guards}
@@ -7,13 +7,13 @@ use Rattle.fwu_formats.specs.Layout.{Layout}
 use Rattle.fwu_formats.specs.Metadata.{MetaRead, meta_read}
 use Rattle.fwu_formats.specs.Image.{deciding, first_some}
 use Rattle.fwu_model.specs.Replica.{BothHold}
-use Rattle.fwu_model.specs.State.{State}
+use Rattle.fwu_model.specs.State.{State, update_bank}
 use Rattle.fwu_model.specs.Sound.{Setting}
 use Rattle.fwu_model.specs.Seen.{state_of}
 use Rattle.fwu_model.specs.Calm.{IsCalm}
 use Rattle.moves.specs.Moved.{IsReady, IsShown}
-use Rattle.moves.proofs.Agree.{shown-as, shown-by}
-use Rattle.agent_machine.specs.Fields.{Fields}
+use Rattle.moves.proofs.Agree.{bank-count, shown-as, shown-by}
+use Rattle.agent_machine.specs.Fields.{Fields, target}
 use Rattle.agent_machine.specs.Machine.{state_in}
 use Rattle.agent_machine.specs.Knows.{Knows}
 
@@ -34,9 +34,18 @@ known-ready E f t same knows calm guards = record {
   guarded = guards;
   one = λ r is.
       let at : deciding f.layout t.now ≡ Some r = ap (λ (l : Layout). deciding l t.now) (sym same) ∙ is in
-      let e : r ≡ f.meta = some-is r f.meta (sym at ∙ both-decides f.layout t.now f.meta knows.both) in
+      let both : ◌≡◌ {A = Option MetaRead} (Some r) (Some f.meta) = sym at ∙ both-decides f.layout t.now f.meta knows.both in
+      let e : r ≡ f.meta = cc in
       ap (λ (l : Layout). meta_read l (block 2 t.now)) same ∙ knows.both.one ∙ ap Some (sym e);
 }
-  where
-    some-is : (x y : MetaRead) → ◌≡◌ {A = Option MetaRead} (Some x) (Some y) → x ≡ y
-    some-is x y e = cc
+
+-- what holds in the settings that have the layout by their form holds in each that has it
+pub in-layout : (P : Setting → Type 0) (L : Layout)
+    → ((files : List ℕ → Option (List ℕ)) (passes : List ℕ → Bool) → P (record { layout = L; files = files; passes = passes }))
+    → (E : Setting) → E.layout ≡ L → P E
+in-layout P L here E same =
+    subst P (ap (λ (l : Layout). record { layout = l; files = E.files; passes = E.passes }) (sym same)) (here E.files E.passes)
+
+-- the bank that an update is staged in, in the words of what the flash shows
+pub update-is : (f : Fields) (now : List ℕ) → update_bank (state_in f now) ≡ target f
+update-is f now = ap (λ (n : ℕ). (f.meta.meta.active + 1) % n) (bank-count f.layout now f.meta (state_in f now) refl)

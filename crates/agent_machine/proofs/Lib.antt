@@ -34,6 +34,5 @@ pub mod Opens
 pub mod ReadAnswers
 pub mod CallGoing
 pub mod Filling
-pub mod Taking
 pub mod Writer
 pub mod Spending

@@ -1,14 +1,11 @@
 -- A call that is done: what it says of the reply, and where its plan needs no flash.
-use Rattle.std.proofs.Common.{◌≡◌, ℕ, Bool, List, Option, Ok, refl, sym, ap, subst, IsTrue}
+use Rattle.std.proofs.Common.{◌≡◌, ◌∙◌, inl, ℕ, Bool, List, Option, Ok, refl, sym, ap, subst, IsTrue}
 use Rattle.flash_core.specs.Told.{Told}
-use Rattle.fwu_model.specs.State.{State, Move}
+use Rattle.fwu_model.specs.State.{State}
 use Rattle.fwu_model.specs.Sound.{Setting}
 use Rattle.fwu_model.specs.Session.{Session, Staged}
 use Rattle.fwu_model.specs.Session as session
 use Rattle.fwu_model.specs.Reply.{Reply, Success}
-use Rattle.fwu_model.specs.Calm.{IsAtRest}
-use Rattle.moves.specs.Moved.{Does}
-use Rattle.moves.proofs.Composed.{does-nothing}
 use Rattle.agent_kept.specs.declared.kinds.Request.{Request}
 use Rattle.agent_kept.specs.declared.kinds.Plan.{Plan}
 use Rattle.agent_kept.specs.declared.kinds.Plan.TheVariants as plan
@@ -16,15 +13,12 @@ use Rattle.agent_kept.specs.declared.kinds.Decision.TheVariants as decision
 use Rattle.agent_kept.specs.Kept.{handles_meant, staging_meant}
 use Rattle.agent_kept.specs.Plans.{call_of, planned, planned_in}
 use Rattle.agent_state.specs.Decides.{DecidesRequest}
-use Rattle.agent_machine.proofs.Deciding.{decides-same}
-use Rattle.agent_machine.specs.Beside.{IsSpared}
-use Rattle.agent_machine.proofs.Beside.{blocks-still, spared-told}
 use Rattle.agent_machine.specs.Asks.{IsQuietPlan}
-use Rattle.agent_machine.specs.Carries.{CarriedOut, planned_moves, state_before, staging_before}
+use Rattle.agent_machine.specs.Carries.{CarriedOut, state_before, staging_before}
 use Rattle.agent_machine.specs.Knows.{Fitting, SessionSound, Knows}
 use Rattle.agent_machine.specs.Moment.{Moment, Shows}
-use Rattle.agent_machine.specs.Meets.{IsSettingOf, LeavesFlash, Meets}
-use Rattle.agent_machine.proofs.Answered.{FitsEach, leaves-by, done-meets}
+use Rattle.agent_machine.specs.Meets.{IsSettingOf, LeavesFlash, Meets, Stays}
+use Rattle.agent_machine.proofs.Answered.{FitsEach, moves-told, still-leaves, done-meets}
 use Rattle.agent_machine.proofs.Quietly.{quiet-moves}
 
 -- ---- the reply
@@ -32,16 +26,9 @@ use Rattle.agent_machine.proofs.Quietly.{quiet-moves}
 -- whose reply is success, and no more
 abbrev pub SaysSuccess : Plan → Type 0
 SaysSuccess plan.Tell = ⊥
-SaysSuccess (plan.BeginPartial store named) = Unit {0}
-SaysSuccess (plan.Begin store) = Unit {0}
 SaysSuccess (plan.Open h image o total) = ⊥
-SaysSuccess (plan.Write h image at n) = Unit {0}
 SaysSuccess (plan.Read h image at n total) = ⊥
-SaysSuccess (plan.Commit h image bit) = Unit {0}
-SaysSuccess plan.End = Unit {0}
-SaysSuccess plan.Cancel = Unit {0}
-SaysSuccess (plan.Accept image store) = Unit {0}
-SaysSuccess plan.Back = Unit {0}
+SaysSuccess other = Unit {0}
 
 success-planned : (E : Setting) (s : State) (boot : ℕ) (stg : Option (List Staged)) (hs : List session.Handle) (bytes : List ℕ) (p : Plan) → SaysSuccess p
     → (planned E s boot stg hs bytes p).reply ≡ Success
@@ -66,21 +53,11 @@ module _ (old new : Moment) (fitting : Fitting old.fields) (sound : SessionSound
     (told : new.told ≡ old.told) (still : new.writes ≡ old.writes) (out : CarriedOut p bytes old new) where
   pub quiet-leaves : LeavesFlash (Ok tt) passes (call_of r bytes) old new
   quiet-leaves =
-      leaves-by old new fitting sound knows passes r bytes fits p decides (Ok tt)
-      (λ tells E setting ready.
-      subst (λ (t : Told). Does {T = Unit {0}} (Ok tt) E (state_before old) (planned_moves (state_before old) (staging_before old) p) t) (sym told)
-      (subst (λ (ms : List Move). Does {T = Unit {0}} (Ok tt) E (state_before old) ms old.told)
-      (sym (quiet-moves (state_before old) (staging_before old) p quiet)) (does-nothing {T = Unit {0}} (Ok tt) E (state_before old) old.told ready)))
-      (λ tells rest. subst IsAtRest (sym told) rest) (λ tells. spared-told (IsSpared old.fields) old.told new.told told)
-      (blocks-still (IsSpared old.fields) still)
-      (λ tells. decides-same old.fields.layout old.fields.meta new.fields.meta old.told new.told told) (record {
-        tells = out.tells;
-        layout = out.beside.layout;
-        boot = out.beside.boot;
-        counter = out.beside.counter;
-        lengths = out.beside.lengths;
-        guard = λ tells. ap (λ (t : Told). t.guard) told;
-      })
+      let guard : new.told.guard ≡ old.told.guard = ap (λ (t : Told). t.guard) told in
+      let stays : Stays old new = assumption in
+      still-leaves (Ok tt) passes (call_of r bytes) old new (λ tells. told) still stays (λ E s x setting shows tells.
+      inl (moves-told old new fitting sound knows passes r bytes fits p decides E s x setting shows tells
+      ∙ quiet-moves (state_before old) (staging_before old) p quiet))
 
   pub quiet-meets : {T : Type 0} (Says : T → Reply → Type 0) (value : T)
       → ((E : Setting) (s : State) (x : Session) → IsSettingOf old.fields passes E → Shows old s x → Says value (planned_in E s x bytes p).reply)

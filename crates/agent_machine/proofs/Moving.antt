@@ -1,5 +1,5 @@
 -- A store of the metadata of a move, by what the agent knows.
-use Rattle.std.proofs.Common.{◌≡◌, ℕ, ◌+◌, ◌%◌, ◌<◌, List, [], ◌∷◌, Bool, Option, Some, refl, sym, ap, ◌∙◌, subst, arith, IsTrue, IsFalse}
+use Rattle.std.proofs.Common.{◌≡◌, ℕ, ◌+◌, ◌<◌, List, [], ◌∷◌, Bool, Option, Some, refl, sym, ap, ◌∙◌, subst, arith, IsTrue, IsFalse}
 use Rattle.std.proofs.Math.Nat.{mod-lt}
 use Rattle.flash_core.specs.Told.{Told}
 use Rattle.flash_core.specs.May.{Guards}
@@ -15,7 +15,7 @@ use Rattle.moves.specs.Moved.{Does, IsShown, ShowsAfter, GuardedBy}
 use Rattle.fwu_model.specs.MoveMetas.{meta_after}
 use Rattle.moves.specs.StoreLaw.{QuietBy}
 use Rattle.moves.specs.Law.{CallResult}
-use Rattle.moves.proofs.Agree.{bank-count, state-is}
+use Rattle.moves.proofs.Agree.{state-is}
 use Rattle.moves.proofs.Stored.{free-does, accept-does, back-does}
 use Rattle.moves.proofs.StoredPlain.{free-shows, accept-shows, back-shows, store-guarded, quiet-free, quiet-accept, quiet-back}
 use Rattle.moves.proofs.Guarded.{rest-used}
@@ -23,7 +23,7 @@ use Rattle.moves.proofs.Read.{deciding-fits}
 use Rattle.agent_machine.specs.Fields.{Fields, target}
 use Rattle.agent_machine.specs.Machine.{state_in}
 use Rattle.agent_machine.specs.Knows.{Fitting, Knows}
-use Rattle.agent_machine.proofs.Known.{both-decides, known-shown, known-ready}
+use Rattle.agent_machine.proofs.Known.{both-decides, in-layout, known-shown, known-ready, update-is}
 
 -- What a store of the metadata of a move is: on a calm flash under this premise, on any flash, and on any flash at rest.
 pub record StoreMeets (result : CallResult) (f : Fields) (Premise : Setting → Type 0) (move : Move) (s t : Told) : Type 0 where
@@ -61,20 +61,12 @@ module _ (result : CallResult) (f : Fields) (s t : Told) (fitting : Fitting f) (
   previous-below : m.previous < L.banks
   previous-below = (deciding-fits L s.now (in_version 2 m) decided).previous
 
-  u-is : update_bank state ≡ target f
-  u-is = ap (λ (n : ℕ). (m.active + 1) % n) (bank-count L s.now f.meta state refl)
-
   abbrev of-layout : (List ℕ → Option (List ℕ)) → (List ℕ → Bool) → Setting
   of-layout files passes = record { layout = L; files = files; passes = passes }
 
-  -- in every setting of the layout, where it holds in those that have it by their form
-  anywhere : (Premise : Setting → Type 0) (move : Move) → ((files : List ℕ → Option (List ℕ)) (passes : List ℕ → Bool) → Premise
-      (of-layout files passes) → IsCalm (of-layout files passes) s state → Guards 1 7 s → Does result (of-layout files passes) state (move ∷ []) t)
-      → (E : Setting) → E.layout ≡ L → Premise E → IsCalm E s state → Guards 1 7 s → Does result E state (move ∷ []) t
-  anywhere Premise move here E same premise calm guards =
-      let path : of-layout E.files E.passes ≡ E = ap (λ (l : Layout). record { layout = l; files = E.files; passes = E.passes }) (sym same) in
-      subst (λ (e : Setting). Does result e state (move ∷ []) t) path
-      (here E.files E.passes (subst Premise (sym path) premise) (subst (λ (e : Setting). IsCalm e s state) (sym path) calm) guards)
+  -- what the move does in a setting with the premise
+  abbrev DoesIn : (Setting → Type 0) → Move → Setting → Type 0
+  DoesIn Premise move E = Premise E → IsCalm E s state → Guards 1 7 s → Does result E state (move ∷ []) t
 
   kept : (new : Meta) → Stores result L new s t → (IsAtRest s → QuietBy L new s) → IsAtRest s → GuardedBy result t
   kept new stores quiet rest =
@@ -88,21 +80,22 @@ module _ (result : CallResult) (f : Fields) (s t : Told) (fitting : Fitting f) (
   stores-meet = record {
     free = λ accepted stores.
         let at : Stores result L (meta_after m (Free (update_bank state))) s t = subst (λ (b : ℕ). Stores result L (meta_after m (Free b)) s t)
-        (sym u-is) stores in
+        (sym (update-is f s.now)) stores in
         let active : IsTrue (is_accepted (bank state state.active).state) = ap is_accepted (state-is L s.now f.meta state refl m.active active-below)
         ∙ accepted in
         record {
-          does = anywhere (λ E. Unit {0}) (Free (target f)) (λ files passes premise calm guards.
+          does = in-layout (DoesIn (λ E. Unit {0}) (Free (target f))) L (λ files passes premise calm guards.
               let E = of-layout files passes in
-              subst (λ (b : ℕ). Does result E state (Free b ∷ []) t) u-is
+              subst (λ (b : ℕ). Does result E state (Free b ∷ []) t) (update-is f s.now)
               (free-does result E s t state m (known-ready E f s refl knows calm guards) decided active at));
-          shows = subst (λ (b : ℕ). ShowsAfter result L state (Free b ∷ []) t) u-is (free-shows result L s t state m shown decided at);
+          shows = subst (λ (b : ℕ). ShowsAfter result L state (Free b ∷ []) t) (update-is f s.now)
+              (free-shows result L s t state m shown decided at);
           guarded = kept (meta_after m (Free (target f))) stores (λ rest.
               quiet-free L m (target f) s (deciding-fits L s.now (in_version 2 m) decided) (mod-lt (m.active + 1) (omega (arith, active-below)))
               (used-now rest));
         };
     accept = λ image used stores. record {
-      does = anywhere (λ E. Unit {0}) (Accept image) (λ files passes premise calm guards.
+      does = in-layout (DoesIn (λ E. Unit {0}) (Accept image)) L (λ files passes premise calm guards.
           let E = of-layout files passes in
           accept-does result E s t state m (known-ready E f s refl knows calm guards) decided image stores);
       shows = accept-shows result L s t state m shown decided image used stores;
@@ -112,7 +105,8 @@ module _ (result : CallResult) (f : Fields) (s t : Told) (fitting : Fitting f) (
         let previous : IsTrue (is_accepted (bank state state.previous).state) = ap is_accepted
         (state-is L s.now f.meta state refl m.previous previous-below) ∙ accepted in
         record {
-          does = anywhere (λ E. IsTrue (holds_permitted E state.counter (bank state state.previous).held)) Back (λ files passes premise calm guards.
+          does = in-layout (DoesIn (λ E. IsTrue (holds_permitted E state.counter (bank state state.previous).held)) Back) L
+              (λ files passes premise calm guards.
               let E = of-layout files passes in
               back-does result E s t state m (known-ready E f s refl knows calm guards) decided previous premise stores);
           shows = back-shows result L s t state m shown decided accepted stores;

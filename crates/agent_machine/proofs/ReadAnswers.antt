@@ -1,5 +1,5 @@
 -- A read: what it says, and what it leaves.
-use Rattle.std.proofs.Common.{◌≡◌, ℕ, ◌+◌, ◌≤◌, Bool, List, [], ◌++◌, length, take, drop, Option, Result, Ok, Err, refl, sym, ◌-◌}
+use Rattle.std.proofs.Common.{◌≡◌, inl, ℕ, ◌+◌, ◌≤◌, Bool, List, [], ◌++◌, length, take, drop, Option, Result, Ok, Err, refl, sym, ◌-◌}
 use Rattle.std.proofs.Common.{ap, ◌∙◌, subst, arith, IsTrue}
 use Rattle.std.proofs.lemmas.List.{length-take-le, take_at, length-take, length-drop}
 use Rattle.flash_core.specs.declared.flash.FlashStop.{FlashStop}
@@ -8,11 +8,8 @@ use Rattle.flash_core.specs.Told.{Told}
 use Rattle.fwu_model.specs.declared.kinds.Status.{Status}
 use Rattle.fwu_model.specs.Session.{Session, Staged, Handle}
 use Rattle.fwu_model.specs.Sound.{Setting}
-use Rattle.fwu_model.specs.Calm.{IsAtRest}
 use Rattle.fwu_model.specs.Reply.{Reply}
 use Rattle.fwu_model.specs.Answer.{content}
-use Rattle.moves.specs.Moved.{Does, GuardedBy}
-use Rattle.moves.proofs.Composed.{does-nothing}
 use Rattle.agent_kept.specs.declared.kinds.Plan.{Plan}
 use Rattle.agent_kept.specs.declared.kinds.Plan.TheVariants as plan
 use Rattle.agent_kept.specs.declared.kinds.Request.{Request}
@@ -22,25 +19,18 @@ use Rattle.agent_kept.specs.Kept.{staging_meant, handles_meant}
 use Rattle.agent_kept.specs.Plans.{call_of, planned, planned_in}
 use Rattle.agent_state.specs.Decides.{DecidesRequest}
 use Rattle.agent_state.specs.Settles.{IsPlanOf}
-use Rattle.agent_machine.proofs.Deciding.{decides-same}
-use Rattle.agent_machine.specs.Beside.{IsSpared}
-use Rattle.agent_machine.proofs.Beside.{blocks-still, spared-told}
 use Rattle.agent_machine.specs.declared.stop.Stop.TheVariants as stop
 use Rattle.agent_machine.specs.Fields.{Fields, total_of, IsImageOrDirectory}
-use Rattle.agent_machine.specs.Carries.{CarriedOut, state_before}
+use Rattle.agent_machine.specs.Carries.{CarriedOut}
 use Rattle.agent_machine.specs.Directory.{piece_of}
 use Rattle.agent_machine.specs.Knows.{Fitting, SessionSound, Knows}
 use Rattle.agent_machine.specs.Moment.{Moment, Shows}
 use Rattle.agent_machine.specs.Meets.{IsGot, LeavesFlash, Meets, Stays}
-use Rattle.agent_machine.proofs.Answered.{FitsEach, shown-totals, refused-meets, done-meets, lost-meets, fault-meets, leaves-by, content-total}
+use Rattle.agent_machine.proofs.Answered.{FitsEach, shown-totals, refused-meets, done-meets, stopped-meets, moves-told, still-leaves, content-total}
 use Rattle.fwu_model.specs.State.{State}
 use Rattle.agent_machine.proofs.Room.{old-readers}
 use Rattle.agent_machine.proofs.Reading.{piece-is}
 use Rattle.fwu_model.specs.Reply as reply
-
-guarded-by : (r : Result (Unit {0}) FlashStop) (t : Told) → IsAtRest t → GuardedBy r t
-guarded-by (Ok x) t rest = rest
-guarded-by (Err e) t rest = rest.guarded
 
 -- what is told counts where it is told alone
 pub carried-from : (p : Plan) (bytes : List ℕ) (tells : Bool) (s t : Told) {old_writes new_writes : ℕ → ℕ} (f g : Fields) (new : Moment) → g ≡ f
@@ -50,6 +40,9 @@ pub carried-from : (p : Plan) (bytes : List ℕ) (tells : Bool) (s t : Told) {ol
 carried-from p bytes tells s t {old_writes = old_writes} {new_writes = new_writes} f g new fields told out =
     let here : CarriedOut p bytes (record { tells = tells; told = t; writes = new_writes; fields = f }) new = subst
     (λ (x : Fields). CarriedOut p bytes (record { tells = tells; told = t; writes = new_writes; fields = x }) new) fields out in
+    let at : IsTrue tells → CarriedOut p bytes (record { tells = tells; told = s; writes = new_writes; fields = f }) new =
+    λ is. subst
+    (λ (x : Told). CarriedOut p bytes (record { tells = tells; told = x; writes = new_writes; fields = f }) new) (told is) here in
     record {
       tells = here.tells;
       beside = here.beside;
@@ -57,10 +50,8 @@ carried-from p bytes tells s t {old_writes = old_writes} {new_writes = new_write
       total = here.total;
       trials = here.trials;
       held = here.held;
-      state_is = λ is. (subst (λ (x : Told). CarriedOut p bytes (record { tells = tells; told = x; writes = new_writes; fields = f }) new) (told is)
-          here).state_is is;
-      staged_are = λ is. (subst (λ (x : Told). CarriedOut p bytes (record { tells = tells; told = x; writes = new_writes; fields = f }) new) (told is)
-          here).staged_are is;
+      state_is = λ is. (at is).state_is is;
+      staged_are = λ is. (at is).staged_are is;
     }
 
 -- a piece of so many bytes was filled at the front of the buffer
@@ -141,21 +132,17 @@ module _ (old : Moment) (fitting : Fitting old.fields) (sound : SessionSound old
 
     module _ (new : Moment) (told : IsTrue old.tells → new.told ≡ old.told) (still : new.writes ≡ old.writes) (passes : List ℕ → Bool) where
       leaves : (result : Result (Unit {0}) FlashStop) → Stays old new → LeavesFlash result passes (call_of asked []) old new
-      leaves result stays =
-          leaves-by old new fitting sound knows passes asked [] (reader-fits passes) own (reads passes) result
-          (λ tells E setting ready. subst (λ (t : Told). Does result E (state_before old) [] t) (sym (told tells))
-          (does-nothing result E (state_before old) old.told ready))
-          (λ tells rest. guarded-by result new.told (subst IsAtRest (sym (told tells)) rest)) (λ tells. spared-told (IsSpared f) old.told new.told (told tells))
-          (blocks-still (IsSpared f) still)
-          (λ tells. decides-same f.layout f.meta new.fields.meta old.told new.told (told tells)) stays
+      leaves result stays = still-leaves result passes (call_of asked []) old new told still stays (λ E s x setting shows tells.
+          inl (moves-told old new fitting sound knows passes asked [] (reader-fits passes) own (reads passes) E s x setting shows
+          tells))
 
       pub read-lost : (Says : ℕ × ℕ → Reply → Type 0) → Stays old new → Meets {T = ℕ × ℕ} Says (Err stop.Lost) passes (call_of asked []) old new
       read-lost Says stays =
-          lost-meets old new fitting sound knows passes asked [] (reader-fits passes) own (reads passes) Says (leaves (Err flash_stop.Lost) stays)
+          stopped-meets Says stop.Lost passes (call_of asked []) old new tt (leaves (Err flash_stop.Lost) stays)
 
       pub read-faulty : (Says : ℕ × ℕ → Reply → Type 0) → Stays old new → Meets {T = ℕ × ℕ} Says (Err stop.Fault) passes (call_of asked []) old new
       read-faulty Says stays =
-          fault-meets old new fitting sound knows passes asked [] (reader-fits passes) own (reads passes) Says (leaves (Err flash_stop.Failed) stays)
+          stopped-meets Says stop.Fault passes (call_of asked []) old new tt (leaves (Err flash_stop.Failed) stays)
 
       pub read-meets : (out : List ℕ) → (IsTrue old.tells → take n out ≡ piece_of f.layout f.meta.meta f.boot f.lengths old.told.now image at n)
           → CarriedOut own [] old new
@@ -163,11 +150,6 @@ module _ (old : Moment) (fitting : Fitting old.fields) (sound : SessionSound old
       read-meets out read carried =
           done-meets old new fitting sound knows passes asked [] (reader-fits passes) own (reads passes) carried (IsGot old.tells out) (n, total)
           (λ E s x setting shows. read-says old fitting number image at n total of knows E s x setting.layout shows out read)
-          (leaves (Ok tt) (record {
-            tells = carried.tells;
-            layout = carried.beside.layout;
-            boot = carried.beside.boot;
-            counter = carried.beside.counter;
-            lengths = carried.beside.lengths;
-            guard = λ is. ap (λ (t : Told). t.guard) (told is);
-          }))
+          (leaves (Ok tt)
+          (let guard : IsTrue old.tells → new.told.guard ≡ old.told.guard = λ is. ap (λ (t : Told). t.guard) (told is) in
+          assumption))

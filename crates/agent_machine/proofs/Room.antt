@@ -5,14 +5,14 @@ use Rattle.std.proofs.lemmas.List.{length-set, get_or-set_same, get_or-set_other
 use Rattle.std.specs.Prelude.{Result}
 use Rattle.flash_core.specs.declared.flash.FlashStop.{FlashStop}
 use Rattle.flash_core.specs.Told.{Told}
+use Rattle.flash_core.specs.May.{Keeps}
 use Rattle.flash_core.specs.Touches.{TouchesOnly}
 use Rattle.flash_core.proofs.Calls.{keeps_wider}
-use Rattle.fwu_formats.specs.Layout.{ImageRow, Layout, start, slot_total, slot_bytes, blocks_needed, fits_layout}
+use Rattle.fwu_formats.specs.Layout.{ImageRow, Layout, start, slot_bytes, blocks_needed, fits_layout}
 use Rattle.fwu_formats.specs.Metadata.{state_at, fits_meta}
 use Rattle.fwu_formats.proofs.Written.{rows-limits, rows-fit}
 use Rattle.fwu_model.specs.State.{is_invalid}
 use Rattle.meta_layout.proofs.Fits.{meta-fits}
-use Rattle.moves.proofs.SamePackages.{slots-fit}
 use Rattle.agent_state.specs.Decides.{IsMetaOf}
 use Rattle.slot_writer.specs.Slots.{Appends, blocks_for, done_of}
 use Rattle.agent_kept.specs.declared.parts.Handle.{Handle}
@@ -23,6 +23,7 @@ use Rattle.agent_machine.proofs.Beside.{slot-blocks, slot-spares}
 use Rattle.agent_machine.specs.Fields.{Fields, total_of, target, with_session}
 use Rattle.agent_machine.specs.Knows.{Fitting, SessionSound, Knows}
 use Rattle.agent_machine.specs.Law.{StaysKnown}
+pub use Rattle.agent_machine.proofs.Staging.{slot-inside}
 use Rattle.agent_machine.proofs.Staging.{stays-known}
 use Rattle.agent_machine.proofs.Answered.{IsImageOrDirectory, layout-limits}
 
@@ -36,13 +37,6 @@ slots-small L h image = elim (cases_lt image (length L.rows)) [
   | inr past ↦ let none : (get_or L.rows image (record { guid = []; slots = 0 })).slots ≡ 0 = ap (λ (r : ImageRow). r.slots)
       (get_or_past L.rows image (record { guid = []; slots = 0 }) past) in omega (arith, none)
 ]
-
-pub slot-inside : (L : Layout) (bank image : ℕ) → bank < L.banks → 4096 * start L bank image + slot_bytes L image ≤ 4096 * blocks_needed L
-slot-inside L bank image lt =
-    let fits = slots-fit L.rows image in
-    let next : (bank + 1) * slot_total L.rows ≡ bank * slot_total L.rows + slot_total L.rows = grind arith in
-    let most : (bank + 1) * slot_total L.rows ≤ L.banks * slot_total L.rows = grind arith in
-    omega (arith, fits, next, most)
 
 -- ---- readers
 
@@ -115,23 +109,27 @@ rows-some f fitting =
     omega (arith, limits.rows, count)
 
 -- ---- what was appended stays in the slot, at any exit
-pub appends-stay : {T : Type 0} (result : Result T FlashStop) (f : Fields) (image first size : ℕ) (rest bytes left : List ℕ) (s t : Told) → Fitting f
-    → SessionSound f → Knows f s → IsTrue (is_invalid (state_at f.meta.meta (target f))) → image < length f.layout.rows
-    → blocks_needed f.layout * 4096 ≤ length s.now → first ≡ start f.layout (target f) image → size + length bytes ≤ slot_bytes f.layout image
-    → Appends result first size rest bytes left s t → StaysKnown f image s t
-appends-stay result f image first size rest bytes left s t fitting sound knows invalid within room at fits appends =
-    stays-known f image s t fitting sound knows invalid within room
-    (keeps_wider (4096 * first + done_of size) (4096 * (first + blocks_for (done_of (size + length bytes)))) (4096 * start f.layout (target f) image)
-    (4096 * start f.layout (target f) image + slot_bytes f.layout image) s t (omega (arith, at)) (omega (arith, at, fits)) appends.keeps)
 
--- nor does anything change beside the update bank
-pub appends-spare : {T : Type 0} (result : Result T FlashStop) (f : Fields) (image first size : ℕ) (rest bytes left : List ℕ) (s t : Told)
-    → f.boot ≡ f.meta.meta.active → first ≡ start f.layout (target f) image → size + length bytes ≤ slot_bytes f.layout image
-    → Appends result first size rest bytes left s t → KeepsSpared f s t
-appends-spare result f image first size rest bytes left s t active at fits appends =
-    slot-spares f image s t active
-    (keeps_wider (4096 * first + done_of size) (4096 * (first + blocks_for (done_of (size + length bytes)))) (4096 * start f.layout (target f) image)
-    (4096 * start f.layout (target f) image + slot_bytes f.layout image) s t (omega (arith, at)) (omega (arith, at, fits)) appends.keeps)
+module _ {T : Type 0} (result : Result T FlashStop) (f : Fields) (image first size : ℕ) (rest bytes left : List ℕ) (s t : Told)
+    (at : first ≡ start f.layout (target f) image) (fits : size + length bytes ≤ slot_bytes f.layout image)
+    (appends : Appends result first size rest bytes left s t) where
+  appends-keeps : Keeps (4096 * start f.layout (target f) image)
+      (4096 * start f.layout (target f) image + slot_bytes f.layout image) s t
+  appends-keeps =
+      keeps_wider (4096 * first + done_of size) (4096 * (first + blocks_for (done_of (size + length bytes))))
+      (4096 * start f.layout (target f) image)
+      (4096 * start f.layout (target f) image + slot_bytes f.layout image) s t (omega (arith, at))
+      (omega (arith, at, fits)) appends.keeps
+
+  pub appends-stay : Fitting f → SessionSound f → Knows f s → IsTrue (is_invalid (state_at f.meta.meta (target f)))
+      → image < length f.layout.rows
+      → blocks_needed f.layout * 4096 ≤ length s.now → StaysKnown f image s t
+  appends-stay fitting sound knows invalid within room =
+      stays-known f image s t fitting sound knows invalid within room appends-keeps
+
+  -- nor does anything change beside the update bank
+  pub appends-spare : f.boot ≡ f.meta.meta.active → KeepsSpared f s t
+  appends-spare active = slot-spares f image s t active appends-keeps
 
 -- nor is any other block erased or programmed
 pub appends-blocks : (f : Fields) (image first size : ℕ) (bytes : List ℕ) {old_writes new_writes : ℕ → ℕ} → f.boot ≡ f.meta.meta.active

@@ -1,14 +1,14 @@
 -- An agent that isn't gone shows some machine.
-use Rattle.std.proofs.Common.{◌≡◌, ℕ, zero, suc, ◌<◌, ◌==◌, Bool, true, false, cond, List, [], ◌∷◌, length, get_or, take, map, replicate, Option, Some, None, refl, sym, ap, ap₂, ◌∙◌, arith, eq-eqb, ext_get_or, IsTrue}
+use Rattle.std.proofs.Common.{◌≡◌, ℕ, ◌<◌, ◌==◌, Bool, true, false, cond, List, [], ◌∷◌, length, get_or, take, map, replicate, Option, Some, None, refl, sym, ap, ap₂, ◌∙◌, arith, eq-eqb, ext_get_or, IsTrue}
 use Rattle.std.proofs.Math.Logic.{∥∥₁_map}
-use Rattle.std.proofs.lemmas.List.{length-map, get_or-map}
+use Rattle.std.proofs.lemmas.List.{length-replicate, length-map, get_or-map}
 use Rattle.std.proofs.lemmas.List.FromFn.{length-map-range_with_len, get_or-map-range_with_len}
 use Rattle.base_core.specs.Bytes.{listed}
 use Rattle.flash_core.specs.Told.{Told}
 use Rattle.fwu_formats.specs.declared.kinds.BankState.{BankState}
 use Rattle.fwu_formats.specs.declared.kinds.BankState.TheVariants.{Invalid}
 use Rattle.fwu_formats.specs.Layout.{Layout}
-use Rattle.fwu_formats.specs.Metadata.{Meta, MetaRead, state_at}
+use Rattle.fwu_formats.specs.Metadata.{MetaRead, state_at}
 use Rattle.fwu_formats.specs.Image.{package_in}
 use Rattle.fwu_model.specs.State.{State, Bank, bank, no_bank}
 use Rattle.fwu_model.specs.Sound.{Setting}
@@ -53,11 +53,7 @@ state_made f = record {
 
 lengths-made : (lengths : List ℕ) → lengths ≡ map (λ (bytes : List ℕ). length bytes) (package_of lengths)
 lengths-made [] = refl
-lengths-made (n ∷ lengths) = ap₂ (λ (m : ℕ) (l : List ℕ). m ∷ l) (sym (long n)) (lengths-made lengths)
-  where
-    long : (k : ℕ) → length {A = ℕ} (replicate k 0) ≡ k
-    long zero = refl
-    long (suc k) = ap suc (long k)
+lengths-made (n ∷ lengths) = ap₂ (λ (m : ℕ) (l : List ℕ). m ∷ l) (sym (length-replicate n 0)) (lengths-made lengths)
 
 -- a part of each bank that is listed
 listed-parts : {X : Type 0} (n : ℕ) (g : ℕ → Bank) (part : Bank → X) (d : X) (xs : List X) → length xs ≡ n → ((b : ℕ) → part (g b) ≡ get_or xs b d)
@@ -70,18 +66,11 @@ listed-parts n g part d xs len is =
     let lt : i < n = omega (arith, below, size, count) in
     get_or-map part all i no_bank d (omega (arith, lt, count)) ∙ ap part (get_or-map-range_with_len g 0 n i i no_bank lt (omega arith)) ∙ is i)
 
-metas-are : (active previous : ℕ) (a b : List BankState) (c d : List (List Bool)) → a ≡ b → c ≡ d
-    → ◌≡◌ {A = Meta} (record { active = active; previous = previous; states = a; bits = c })
-    (record { active = active; previous = previous; states = b; bits = d })
-metas-are active previous a b c d p q = ap₂ (λ (x : List BankState) (y : List (List Bool)).
-    record { active = active; previous = previous; states = x; bits = y }) p q
-
 module _ (f : Fields) (fitting : Fitting f) where
   made-meta : f.meta.meta ≡ meta_in (state_made f)
   made-meta =
       let whole = meta-fits f.layout f.meta.meta fitting.meta in
-      metas-are f.meta.meta.active f.meta.meta.previous f.meta.meta.states (map (λ (k : Bank). k.state) (state_made f).banks) f.meta.meta.bits
-      (map (λ (k : Bank). k.bits) (state_made f).banks)
+      ap₂ (λ (states : List BankState) (bits : List (List Bool)). record f.meta.meta { states = states; bits = bits })
       (sym (listed-parts f.layout.banks (bank_of f) (λ (k : Bank). k.state) Invalid f.meta.meta.states whole.states (λ b. refl)))
       (sym (listed-parts f.layout.banks (bank_of f) (λ (k : Bank). k.bits) [] f.meta.meta.bits whole.bits (λ b. refl)))
 
@@ -134,10 +123,13 @@ module _ (f : Fields) (fitting : Fitting f) where
   -- and on a device that tells nothing each that fits what is kept
   pub made-shows : (t : Told) {writes : ℕ → ℕ} (some : SomeStaged f.session)
       → Shows (record { tells = false; told = t; writes = writes; fields = f }) (state_made f) (session_meant f.session f.boot some.staged)
-  made-shows t some = record { told = λ is. absurd (untrue is); speaks = made-speaks; staged = some.staged; kept = some.kept; means = refl }
-    where
-      untrue : IsTrue false → ⊥
-      untrue e = absurd cc
+  made-shows t some = record {
+    told = λ is. absurd (let e : false ≡ true = is in cc);
+    speaks = made-speaks;
+    staged = some.staged;
+    kept = some.kept;
+    means = refl;
+  }
 
   pub shows-some : (tells : Bool) (t : Told) {writes : ℕ → ℕ} → (IsTrue tells → Knows f t) → ∥ SomeStaged f.session ∥₁
       → ∥ Showing (record { tells = tells; told = t; writes = writes; fields = f }) ∥₁
@@ -150,25 +142,24 @@ module _ (f : Fields) (fitting : Fitting f) where
 abbrev plain : Fields → Setting
 plain f = record { layout = f.layout; files = λ _. None; passes = λ _. true }
 
--- what is kept afterwards fits some bytes of the staged images
-pub some-after : (f : Fields) → Fitting f → SessionSound f → (bytes : List ℕ) (p : Plan) (new_meta : MetaRead) (k : Kept)
-    → Settles f.session f.meta bytes p new_meta k
-    → ((E : Setting) (s : State) → E.layout ≡ f.layout → SpeaksOf f s → HasTotal E s f.boot p) → ∥ SomeStaged f.session ∥₁ → ∥ SomeStaged k ∥₁
-some-after f fitting sound bytes p new_meta k settles total some =
-    ∥∥₁_map some (λ (one : SomeStaged f.session).
-    let speaks = shown-speaks f fitting sound (plain f) (state_made f) (λ _. true) one.staged (record { layout = refl; verifier = refl })
-    (made-speaks f fitting) one.kept in
-    let settled = settles (plain f) (state_made f) (λ _. true) f.counter f.boot one.staged speaks
-    (total (plain f) (state_made f) refl (made-speaks f fitting)) in
-    record { staged = staged_after p bytes one.staged; kept = settled.spoken.kept })
+module _ (f : Fields) (fitting : Fitting f) (sound : SessionSound f) (bytes : List ℕ) (p : Plan) (new_meta : MetaRead) (k : Kept)
+    (settles : Settles f.session f.meta bytes p new_meta k)
+    (total : (E : Setting) (s : State) → E.layout ≡ f.layout → SpeaksOf f s → HasTotal E s f.boot p) where
+  kept-by : (s : State) (staged : ℕ → List ℕ) → SpeaksOf f s → IsKept f.session staged → IsKept k (staged_after p bytes staged)
+  kept-by s staged speaks kept =
+      let whole = shown-speaks f fitting sound (plain f) s (λ _. true) staged (record { layout = refl; verifier = refl }) speaks
+      kept in
+      (settles (plain f) s (λ _. true) f.counter f.boot staged whole (total (plain f) s refl speaks)).spoken.kept
 
--- what is kept after a plan fits the bytes that the flash has, with those of the plan
-pub kept-after : (f : Fields) → Fitting f → SessionSound f → (t : Told) → Knows f t → (bytes : List ℕ) (p : Plan) (new_meta : MetaRead) (k : Kept)
-    → Settles f.session f.meta bytes p new_meta k
-    → ((E : Setting) (s : State) → E.layout ≡ f.layout → SpeaksOf f s → HasTotal E s f.boot p) → IsKept k (staged_after p bytes (staged_bytes f t.now))
-kept-after f fitting sound t knows bytes p new_meta k settles total =
-    let speaks-of = known-speaks f fitting t knows in
-    let speaks = shown-speaks f fitting sound (plain f) (state_in f t.now) (λ _. true) (staged_bytes f t.now) (record { layout = refl; verifier = refl })
-    speaks-of knows.staged.kept in
-    (settles (plain f) (state_in f t.now) (λ _. true) f.counter f.boot (staged_bytes f t.now) speaks
-    (total (plain f) (state_in f t.now) refl speaks-of)).spoken.kept
+  -- what is kept afterwards fits some bytes of the staged images
+  pub some-after : ∥ SomeStaged f.session ∥₁ → ∥ SomeStaged k ∥₁
+  some-after some = ∥∥₁_map some (λ (one : SomeStaged f.session).
+      record {
+        staged = staged_after p bytes one.staged;
+        kept =
+            kept-by (state_made f) one.staged (made-speaks f fitting) one.kept;
+      })
+
+  -- and those that the flash has, with those of the plan
+  pub kept-after : (t : Told) → Knows f t → IsKept k (staged_after p bytes (staged_bytes f t.now))
+  kept-after t knows = kept-by (state_in f t.now) (staged_bytes f t.now) (known-speaks f fitting t knows) knows.staged.kept

@@ -45,13 +45,10 @@ none-spent g gone a here power = record {
 -- a call of an agent that isn't gone
 pub call-spent : {A D T : Type 0} {g : Ghosts D} {result : Result T Stop} {old new : AgentAt A D} → IsFalse old.gone → CallGoes g result old new
     → Spent g (flash_result result) new.gone old.device new.device
-call-spent {result = result} {old = old} {new = new} here goes = record {
-  gone_is = gone-by result old.gone new.gone here goes.gone;
-  power = goes.power here;
-  size = goes.size;
-  costs = goes.costs;
-  unarmed = goes.unarmed;
-}
+call-spent {g = g} {result = result} {old = old} {new = new} here goes =
+    let gone_is : new.gone ≡ not (is_ok (flash_result result)) = gone-by result old.gone new.gone here goes.gone in
+    let power : g.on new.device ≡ is_ok (flash_result result) = goes.power here in
+    assumption
 
 -- calls that were done, and one more
 pub spent-then : {D : Type 0} {g : Ghosts D} {result : Result (Unit {0}) FlashStop} {amid gone : Bool} {a b c : D}
@@ -65,9 +62,6 @@ spent-then {g = g} {result = result} {a = a} {b = b} {c = c} first second = reco
 }
 
 -- ---- the record of both
-
-is-gone : (b : Bool) → IsTrue b → IsFalse b → ⊥
-is-gone b is here = false≢true (sym here ∙ is)
 
 -- what isn't refused and isn't Gone goes as what was spent
 pub spent-goes : {A D T : Type 0} {g : Ghosts D} (result : Result T Stop) (old new : AgentAt A D) → IsDone result → IsFalse old.gone
@@ -83,25 +77,19 @@ spent-goes result old new done here spent = record {
 }
   where
     not-gone : {T : Type 0} (r : Result T Stop) → IsDone r → IsErrOf r stop.Gone → ⊥
-    not-gone (Ok x) done e = absurd cc
-    not-gone (Err (stop.Status st)) done e = done
-    not-gone (Err stop.Lost) done e = absurd cc
-    not-gone (Err stop.Fault) done e = absurd cc
     not-gone (Err stop.Gone) done e = done
+    not-gone other done e = absurd cc
 
     unrefused : {T : Type 0} (r : Result T Stop) → IsDone r → IsRefused r → ⊥
-    unrefused (Ok x) done e = e
     unrefused (Err (stop.Status st)) done e = done
-    unrefused (Err stop.Lost) done e = e
-    unrefused (Err stop.Fault) done e = e
-    unrefused (Err stop.Gone) done e = e
+    unrefused other done e = e
 
     goes-by : {T : Type 0} (r : Result T Stop) → IsDone r → (was now : Bool) → IsFalse was → now ≡ not (is_ok (flash_result r)) → GoesBy r was now
     goes-by (Ok x) done was now here is = record {
-      gone = (λ e. absurd cc, λ is. absurd (is-gone was is here));
-      later = (λ now-gone. absurd (is-gone now now-gone is), λ one. absurd (neither was here one));
+      gone = (λ e. absurd cc, λ is. absurd (not-both was here is));
+      later = (λ now-gone. absurd (not-both now is now-gone), λ one. absurd (neither was here one));
     }
     goes-by (Err (stop.Status st)) done was now here is = absurd done
-    goes-by (Err stop.Lost) done was now here is = record { gone = (λ e. absurd cc, λ is. absurd (is-gone was is here)); later = (λ now-gone. inr tt, λ one. is) }
-    goes-by (Err stop.Fault) done was now here is = record { gone = (λ e. absurd cc, λ is. absurd (is-gone was is here)); later = (λ now-gone. inr tt, λ one. is) }
     goes-by (Err stop.Gone) done was now here is = absurd done
+    goes-by (Err cause) done was now here is =
+        record { gone = (λ e. absurd cc, λ is. absurd (not-both was here is)); later = (λ now-gone. inr tt, λ one. is) }

@@ -1,5 +1,5 @@
 -- Writes in the slot of a staged image: the state, the other images and what is known of them stay.
-use Rattle.std.proofs.Common.{◌≡◌, ◌≢◌, ◌⊎◌, inl, inr, ℕ, zero, suc, ◌+◌, ◌*◌, ◌%◌, ◌<◌, ◌≤◌, Bool, List, [], ◌∷◌, ◌++◌, length, get_or, take, drop, Option, refl, sym, ap, ◌∙◌, subst, arith, IsTrue}
+use Rattle.std.proofs.Common.{◌≡◌, ◌≢◌, ◌⊎◌, inl, inr, ℕ, zero, suc, ◌+◌, ◌*◌, ◌%◌, ◌<◌, ◌≤◌, List, [], ◌∷◌, ◌++◌, length, get_or, take, drop, refl, sym, ap, ◌∙◌, subst, arith, IsTrue}
 use Rattle.std.proofs.lemmas.Bool.{cases_lt}
 use Rattle.std.proofs.lemmas.List.{length-take, length-drop, get_or-take, get_or-drop, get_or_default, same_lists}
 use Rattle.flash_core.specs.Told.{Told}
@@ -28,7 +28,7 @@ use Rattle.agent_machine.specs.Fields.{Fields, target, rest_of}
 use Rattle.agent_machine.specs.Machine.{state_in, part_bytes}
 use Rattle.agent_machine.specs.Knows.{Fitting, SessionSound, Knows}
 use Rattle.agent_machine.specs.Law.{StaysKnown}
-use Rattle.agent_machine.proofs.Known.{both-decides, known-shown, known-ready, state-held}
+use Rattle.agent_machine.proofs.Known.{both-decides, in-layout, known-shown, known-ready, state-held}
 
 slots-order : (rows : List ImageRow) (i j : ℕ) → i < j
     → slot_total (take i rows) + (get_or rows i (record { guid = []; slots = 0 })).slots ≤ slot_total (take j rows)
@@ -43,6 +43,24 @@ slots-order (r ∷ rows) (suc i) (suc j) lt = omega (
       (take j rows),
   slots-order rows i j (omega (arith, lt)),
 )
+
+-- a slot is within the blocks of the layout
+pub slot-inside : (L : Layout) (bank image : ℕ) → bank < L.banks
+    → 4096 * start L bank image + slot_bytes L image ≤ 4096 * blocks_needed L
+slot-inside L bank image lt =
+    let fits = slots-fit L.rows image in
+    let next : (bank + 1) * slot_total L.rows ≡ bank * slot_total L.rows + slot_total L.rows = grind arith in
+    let most : (bank + 1) * slot_total L.rows ≤ L.banks * slot_total L.rows = grind arith in
+    omega (arith, fits, next, most)
+
+-- a staged image is within its slot
+pub slot-room : (f : Fields) → Fitting f → SessionSound f → (image : ℕ) → image < length f.layout.rows
+    → size_of (part_at f.session image) ≤ slot_bytes f.layout image
+slot-room f fitting sound image lt =
+    let count : length f.session.rows ≡ length f.layout.rows = ap (λ (l : List ImageRow). length l) fitting.rows in
+    let slot : slot_room_of f.session.rows image ≡ slot_bytes f.layout image =
+    ap (λ (l : List ImageRow). slot_room_of l image) fitting.rows in
+    omega (arith, sound.sizes image (omega (arith, count, lt)), slot)
 
 module _ (f : Fields) (image : ℕ) (s t : Told) (fitting : Fitting f) (sound : SessionSound f) (knows : Knows f s)
     (invalid : IsTrue (is_invalid (state_at f.meta.meta (target f)))) (within : image < length f.layout.rows)
@@ -62,13 +80,6 @@ module _ (f : Fields) (image : ℕ) (s t : Told) (fitting : Fitting f) (sound : 
 
   abbrev high : ℕ
   high = 4096 * start L u image + slot_bytes L image
-
-  -- a staged image is within its slot
-  in-slot : (other : ℕ) → other < length L.rows → size_of (part_at f.session other) ≤ slot_bytes L other
-  in-slot other lt =
-      let count : length f.session.rows ≡ length L.rows = ap (λ (l : List ImageRow). length l) fitting.rows in
-      let slot : slot_room_of f.session.rows other ≡ slot_bytes L other = ap (λ (l : List ImageRow). slot_room_of l other) fitting.rows in
-      omega (arith, sound.sizes other (omega (arith, count, lt)), slot)
 
   below : u < L.banks
   below =
@@ -132,12 +143,7 @@ module _ (f : Fields) (image : ℕ) (s t : Told) (fitting : Fitting f) (sound : 
     ]
 
     within-flash : to ≤ length s.now
-    within-flash =
-        let fits = slots-fit L.rows other in
-        let lt = below in
-        let next : (u + 1) * slot_total L.rows ≡ u * slot_total L.rows + slot_total L.rows = grind arith in
-        let most : (u + 1) * slot_total L.rows ≤ L.banks * slot_total L.rows = grind arith in
-        omega (arith, fits, next, most, room)
+    within-flash = omega (arith, slot-inside L u other below, room)
 
     front-kept : (n : ℕ) → n ≤ slot_bytes L other → take n (drop from t.now) ≡ take n (drop from s.now)
     front-kept n le =
@@ -158,17 +164,10 @@ module _ (f : Fields) (image : ℕ) (s t : Told) (fitting : Fitting f) (sound : 
     part-kept (Open size hasher) rest le = ap (λ (l : List ℕ). l ++ take (size % 16) rest) (front-kept (done_of size) (omega (arith, le)))
     part-kept (Committed size digest bit) rest le = front-kept size le
 
-  abbrev of-layout : (List ℕ → Option (List ℕ)) → (List ℕ → Bool) → Setting
-  of-layout files passes = record { layout = L; files = files; passes = passes }
-
-  ready-here : (files : List ℕ → Option (List ℕ)) (passes : List ℕ → Bool) → IsCalm (of-layout files passes) s state → Guards 1 7 s
-      → IsReady (of-layout files passes) t state
-  ready-here files passes calm guards = let E = of-layout files passes in staged-ready E s t state u (known-ready E f s refl knows calm guards) free in-bank
-
   ready-after : (E : Setting) → E.layout ≡ L → IsCalm E s state → Guards 1 7 s → IsReady E t state
-  ready-after E same calm guards =
-      let path : of-layout E.files E.passes ≡ E = ap (λ (l : Layout). record { layout = l; files = E.files; passes = E.passes }) (sym same) in
-      subst (λ (e : Setting). IsReady e t state) path (ready-here E.files E.passes (subst (λ (e : Setting). IsCalm e s state) (sym path) calm) guards)
+  ready-after = in-layout (λ (E : Setting). IsCalm E s state → Guards 1 7 s → IsReady E t state) L (λ files passes calm guards.
+      let E : Setting = record { layout = L; files = files; passes = passes } in
+      staged-ready E s t state u (known-ready E f s refl knows calm guards) free in-bank)
 
   pub stays-known : StaysKnown f image s t
   stays-known = record {
@@ -176,13 +175,14 @@ module _ (f : Fields) (image : ℕ) (s t : Told) (fitting : Fitting f) (sound : 
     layout_is = shown-after.layout;
     both = both-after;
     held = held-after;
-    others = λ other not there. part-kept other not there (part_at f.session other) (rest_of f other) (in-slot other there);
+    others = λ other not there. part-kept other not there (part_at f.session other) (rest_of f other)
+        (slot-room f fitting sound other there);
     ahead = λ other size hasher not there is i above under.
-        let le : size ≤ slot_bytes L other = omega (arith, ap size_of is, in-slot other there) in
+        let le : size ≤ slot_bytes L other = omega (arith, ap size_of is, slot-room f fitting sound other there) in
         keeps.now i (outside other not there i (omega (arith, above)) (omega (arith, under, le)))
         ∙ knows.staged.ahead other size hasher there is i above under;
     padded = λ other size digest bit not there is i above under.
-        let le : size ≤ slot_bytes L other = omega (arith, ap size_of is, in-slot other there) in
+        let le : size ≤ slot_bytes L other = omega (arith, ap size_of is, slot-room f fitting sound other there) in
         keeps.now i (outside other not there i (omega (arith, above)) (omega (arith, under, le)))
         ∙ knows.staged.padded other size digest bit there is i above under;
     sure = λ other size digest bit not there is i above under. keeps.sure i (outside other not there i above under)

@@ -1,10 +1,11 @@
 -- What an agent knows after the plan of a begin, an accept or a previous: its fields fit each other, and, where metadata was stored, its flash shows them.
 use Rattle.std.proofs.Common.{◌≡◌, ◌≢◌, ℕ, ◌+◌, ◌-◌, ◌%◌, ◌<◌, ◌≤◌, min, Bool, true, false, ◌&&◌, ◌||◌, not, ◌==◌, List, [], length, get_or, set, take, replicate, Option, Some, refl, sym, ap, ◌∙◌, subst, arith, IsTrue, IsFalse, eqb-true, get_or-set_same, get_or-set_other}
+use Rattle.std.proofs.lemmas.Bool.{not-false}
 use Rattle.std.proofs.lemmas.List.{take_all}
 use Rattle.flash_core.specs.Told.{Told}
 use Rattle.sha2.specs.declared.Sha256.{Sha256}
 use Rattle.fwu_formats.specs.Layout.{Layout}
-use Rattle.fwu_formats.specs.Metadata.{Meta, state_at, fits_meta}
+use Rattle.fwu_formats.specs.Metadata.{Meta, MetaRead, state_at, fits_meta}
 use Rattle.fwu_formats.specs.Manifest.{manifest_size}
 use Rattle.fwu_formats.specs.declared.kinds.BankState.TheVariants.{Invalid}
 use Rattle.fwu_formats.proofs.SealLaws.{limits}
@@ -19,12 +20,13 @@ use Rattle.agent_kept.specs.declared.parts.Part.{Part}
 use Rattle.agent_kept.specs.declared.parts.Part.TheVariants.{Nothing, Open, Committed}
 use Rattle.agent_kept.specs.declared.parts.Handle.{Handle}
 use Rattle.agent_kept.specs.declared.parts.Handle.TheVariants as handle
-use Rattle.agent_kept.specs.Kept.{Kept, IsKept, HasNothing, Restarts, part_at, handle_kept, size_of}
+use Rattle.agent_kept.specs.Kept.{Kept, IsKept, HasNothing, Restarts, part_at, part_meant, handle_kept, size_of}
 use Rattle.agent_kept.proofs.Sounds.{frees, not-free-reads}
 use Rattle.agent_state.specs.Decides.{next_bank}
 use Rattle.agent_state.specs.Settles.{meta_planned}
 use Rattle.agent_machine.specs.Fields.{Fields, target}
 use Rattle.agent_machine.specs.Machine.{staged_bytes}
+use Rattle.agent_machine.specs.Carries.{MeansSame}
 use Rattle.agent_machine.specs.Knows.{Fitting, HasStaged}
 use Rattle.agent_machine.specs.Stored.{MayBegin, MayAccept, MayGoBack, trials_planned}
 
@@ -38,10 +40,10 @@ after_plan f p k = record f {
 
 -- ---- nothing is kept of any image
 
-nothing-open : (n : ℕ) (x : Sha256) → ◌≡◌ {A = Part} Nothing (Open n x) → ⊥
+pub nothing-open : (n : ℕ) (x : Sha256) → ◌≡◌ {A = Part} Nothing (Open n x) → ⊥
 nothing-open n x e = absurd cc
 
-nothing-committed : (n : ℕ) (digest : List ℕ) (bit : Bool) → ◌≡◌ {A = Part} Nothing (Committed n digest bit) → ⊥
+pub nothing-committed : (n : ℕ) (digest : List ℕ) (bit : Bool) → ◌≡◌ {A = Part} Nothing (Committed n digest bit) → ⊥
 nothing-committed n digest bit e = absurd cc
 
 pub not-both : (b : Bool) → b ≡ false → b ≡ true → ⊥
@@ -68,10 +70,36 @@ nothing-staged g t none = record {
   sure = λ i size digest bit lt is. absurd (nothing-committed size digest bit (sym (none i) ∙ is));
 }
 
+-- whatever the bytes are
+pub nothing-means : (k : Kept) (staged other : ℕ → List ℕ) → HasNothing k → MeansSame k staged other
+nothing-means k staged other none i lt =
+    ap (λ (p : Part). part_meant p (other i)) (none i) ∙ sym (ap (λ (p : Part). part_meant p (staged i)) (none i))
+
 pub no-reader : (k : Kept) (place : ℕ) (image : Option ℕ) (at total : ℕ) → k.handles ≡ replicate 32 handle.Free
     → handle_kept k place ≡ handle.Reads image at total → ⊥
 no-reader k place image at total closed is = not-free-reads image at total
     (sym (ap (λ (hs : List Handle). get_or hs place handle.Free) closed ∙ frees 32 place) ∙ is)
+
+-- the fields after a restart, with this metadata
+pub restarted-fitting : (f : Fields) (k : Kept) (meta : MetaRead) (trials : ℕ) (staging : Bool) → Fitting f
+    → Restarts staging f.session k
+    → IsTrue (fits_meta f.layout meta.meta) → (k.staging ≡ true → f.boot ≡ meta.meta.active)
+    → (k.staging ≡ true → IsTrue (is_invalid (state_at meta.meta (target (record f { meta = meta })))))
+    → Fitting (record f { meta = meta; session = k; trials = trials })
+restarted-fitting f k meta trials staging fitting restarts fits active free = record {
+  layout = fitting.layout;
+  meta = fits;
+  boot = fitting.boot;
+  rows = restarts.rows ∙ fitting.rows;
+  lengths = fitting.lengths;
+  within = fitting.within;
+  rests = fitting.rests;
+  active = active;
+  free = free;
+  readers = λ place image at total is. absurd (no-reader k place image at total restarts.closed is);
+  readable = λ place image at total is. absurd (no-reader k place (Some image) at total restarts.closed is);
+  idle = λ off. restarts.nothing;
+}
 
 -- ---- the banks
 
@@ -104,16 +132,12 @@ module _ (f : Fields) (fitting : Fitting f) where
 
   module _ (store : Bool) (may : MayBegin f store) where
     pub begin-booted : f.boot ≡ m.active
-    begin-booted = eqb-true _ _ (by (f.boot == m.active) (by-or (not f.session.staging && is_valid (state_at m m.active))
+    begin-booted = eqb-true _ _ (not-false (f.boot == m.active) (by-or (not f.session.staging && is_valid (state_at m m.active))
         (not (f.boot == m.active)) may.begins).1)
       where
         by-or : (a b : Bool) → (a || b) ≡ false → (a ≡ false) × (b ≡ false)
         by-or true b e = absurd cc
         by-or false b e = (refl, e)
-
-        by : (a : Bool) → not a ≡ false → a ≡ true
-        by true e = refl
-        by false e = absurd cc
 
     pub begin-settled : f.session.staging ≡ false → IsFalse (is_valid (state_at m m.active))
     begin-settled off = by f.session.staging (is_valid (state_at m m.active)) (not (f.boot == m.active)) off may.begins
@@ -137,52 +161,20 @@ module _ (f : Fields) (fitting : Fitting f) where
   bits-after image = get_or-set_same m.bits m.active (accepted_bits m image) [] (omega (arith, whole.active, whole.bits))
 
   pub begun-fitting : (store : Bool) (k : Kept) → MayBegin f store → Restarts true f.session k → Fitting (after_plan f (plan.Begin store) k)
-  begun-fitting true k may restarts = record {
-    layout = fitting.layout;
-    meta = fits-free L m fitting.meta (next_bank m) next-below_banks;
-    boot = fitting.boot;
-    rows = restarts.rows ∙ fitting.rows;
-    lengths = fitting.lengths;
-    within = fitting.within;
-    rests = fitting.rests;
-    active = λ on. begin-booted true may;
-    free = λ on. ap is_invalid state-freed;
-    readers = λ place image at total is. absurd (no-reader k place image at total restarts.closed is);
-    readable = λ place image at total is. absurd (no-reader k place (Some image) at total restarts.closed is);
-    idle = λ off. absurd (not-both k.staging off restarts.staging_is);
-  }
-  begun-fitting false k may restarts = record {
-    layout = fitting.layout;
-    meta = fitting.meta;
-    boot = fitting.boot;
-    rows = restarts.rows ∙ fitting.rows;
-    lengths = fitting.lengths;
-    within = fitting.within;
-    rests = fitting.rests;
-    active = λ on. begin-booted false may;
-    free = λ on. may.free refl;
-    readers = λ place image at total is. absurd (no-reader k place image at total restarts.closed is);
-    readable = λ place image at total is. absurd (no-reader k place (Some image) at total restarts.closed is);
-    idle = λ off. absurd (not-both k.staging off restarts.staging_is);
-  }
+  begun-fitting true k may restarts =
+      restarted-fitting f k (record f.meta { meta = meta_after m (Free (next_bank m)) }) f.trials true fitting restarts
+      (fits-free L m fitting.meta (next_bank m) next-below_banks) (λ on. begin-booted true may) (λ on. ap is_invalid state-freed)
+  begun-fitting false k may restarts =
+      restarted-fitting f k f.meta f.trials true fitting restarts fitting.meta (λ on. begin-booted false may) (λ on. may.free refl)
 
   -- where the session stays, and nothing is staged
   still-fitting : (new : Meta) (trials : ℕ) → f.session.staging ≡ false → IsTrue (fits_meta L new)
       → Fitting (record f { meta = record f.meta { meta = new }; trials = trials })
-  still-fitting new trials off fits = record {
-    layout = fitting.layout;
-    meta = fits;
-    boot = fitting.boot;
-    rows = fitting.rows;
-    lengths = fitting.lengths;
-    within = fitting.within;
-    rests = fitting.rests;
-    active = λ on. absurd (not-both f.session.staging off on);
-    free = λ on. absurd (not-both f.session.staging off on);
-    readers = fitting.readers;
-    readable = fitting.readable;
-    idle = fitting.idle;
-  }
+  still-fitting new trials off fits =
+      let active : f.session.staging ≡ true → f.boot ≡ new.active = λ on. absurd (not-both f.session.staging off on) in
+      let free : f.session.staging ≡ true → IsTrue (is_invalid (state_at new ((new.active + 1) % L.banks))) =
+      λ on. absurd (not-both f.session.staging off on) in
+      assumption
 
   pub accepted-fitting : (image : ℕ) (store : Bool) → MayAccept f image → Fitting (after_plan f (plan.Accept image store) f.session)
   accepted-fitting image true may = still-fitting (meta_after m (Accept image)) _ may.idle (fits-accept L m fitting.meta image)

@@ -1,10 +1,10 @@
 -- What the machine answers where a decision of a begin, an accept or a previous is no refusal.
 use Rattle.std.proofs.Common.{◌≡◌, ℕ, Bool, true, false, ◌&&◌, not, ◌==◌, cond, List, [], ◌∷◌, Option, Some, None, refl, sym, ap, ◌∙◌, IsTrue, eqb-true, inl, inr}
-use Rattle.std.proofs.lemmas.Bool.{cases_Bool, and_parts}
+use Rattle.std.proofs.lemmas.Bool.{cases_Bool, and_parts, cond-true, cond-false, not-false}
 use Rattle.fwu_formats.specs.Layout.{find_image}
 use Rattle.fwu_model.specs.declared.kinds.Status.{Status}
 use Rattle.fwu_model.specs.declared.kinds.Status.TheVariants as status
-use Rattle.fwu_model.specs.State.{State, Move, Free, Accept, Back, bank, is_invalid, update_bank}
+use Rattle.fwu_model.specs.State.{State, Move, Free, Accept, Back, bank, update_bank}
 use Rattle.fwu_model.specs.Sound.{Setting}
 use Rattle.fwu_model.specs.Session.{Session, Staged, On, Handle, nothing_staged, no_handles}
 use Rattle.fwu_model.specs.Call as call
@@ -16,14 +16,6 @@ use Rattle.agent_kept.specs.Plans.{planned, by_verdict}
 use Rattle.agent_state.proofs.Replies.{begin-denied, accept-elsewhere, accept-staging, previous-stays, previous-alone, previous-asks, previous-staging}
 use Rattle.agent_machine.specs.Meets.{may_try}
 use Rattle.agent_machine.specs.Stored.{frees}
-
-if-true : {X : Type 0} (c : Bool) (a b : X) → c ≡ true → cond c a b ≡ a
-if-true true a b e = refl
-if-true false a b e = absurd cc
-
-if-false : {X : Type 0} (c : Bool) (a b : X) → c ≡ false → cond c a b ≡ b
-if-false true a b e = absurd cc
-if-false false a b e = refl
 
 -- a plan is no refusal
 not-refused : (E : Setting) (s : State) (boot : ℕ) (stg : Option (List Staged)) (hs : List Handle) (p : Plan) (st : Status) (y : Session)
@@ -38,38 +30,25 @@ module _ (E : Setting) (s : State) (boot : ℕ) (stg : Option (List Staged)) (hs
 
   -- ---- begin
 
+  other-move : (b : Bool) (u : ℕ) (move : Move) (rest : List Move) → (Free u ≡ move → ⊥) → cond b [] (Free u ∷ []) ≡ move ∷ rest → ⊥
+  other-move true u move rest not e = absurd cc
+  other-move false u move rest not e = not (let same : Free u ≡ move = cc in same)
+
   begin-moves-are : (p : Plan) → begin_moves s ≡ (planned E s boot stg hs [] p).moves → begin_moves s ≡ cond (frees p) (Free (update_bank s) ∷ []) []
   unfolding planned
-  begin-moves-are plan.Tell e = e
-  begin-moves-are (plan.BeginPartial store named) e = e
-  begin-moves-are (plan.Begin store) e = e
-  begin-moves-are (plan.Open h image o total) e = e
-  begin-moves-are (plan.Write h image at n) e = e
-  begin-moves-are (plan.Read h image at n total) e = e
-  begin-moves-are (plan.Commit h image bit) e = e
-  begin-moves-are plan.End e = elim (cases_Bool (is_invalid (bank s (update_bank s)).state)) [
-    | inl yes_ ↦ absurd (let f = sym (ap (λ (b : Bool). cond b [] (Free (update_bank s) ∷ [])) yes_) ∙ e in cc)
-    | inr no_ ↦ absurd (let f = sym (ap (λ (b : Bool). cond b [] (Free (update_bank s) ∷ [])) no_) ∙ e in cc)
-  ]
-  begin-moves-are plan.Cancel e = e
-  begin-moves-are (plan.Accept image true) e = elim (cases_Bool (is_invalid (bank s (update_bank s)).state)) [
-    | inl yes_ ↦ absurd (let f = sym (ap (λ (b : Bool). cond b [] (Free (update_bank s) ∷ [])) yes_) ∙ e in cc)
-    | inr no_ ↦ absurd (let f = sym (ap (λ (b : Bool). cond b [] (Free (update_bank s) ∷ [])) no_) ∙ e in cc)
-  ]
-  begin-moves-are (plan.Accept image false) e = e
-  begin-moves-are plan.Back e = elim (cases_Bool (is_invalid (bank s (update_bank s)).state)) [
-    | inl yes_ ↦ absurd (let f = sym (ap (λ (b : Bool). cond b [] (Free (update_bank s) ∷ [])) yes_) ∙ e in cc)
-    | inr no_ ↦ absurd (let f = sym (ap (λ (b : Bool). cond b [] (Free (update_bank s) ∷ [])) no_) ∙ e in cc)
-  ]
+  begin-moves-are plan.End e = absurd (other-move _ (update_bank s) _ [] (λ same. absurd cc) e)
+  begin-moves-are (plan.Accept image true) e = absurd (other-move _ (update_bank s) (Accept image) [] (λ same. absurd cc) e)
+  begin-moves-are plan.Back e = absurd (other-move _ (update_bank s) Back [] (λ same. absurd cc) e)
+  begin-moves-are other e = e
 
   begin-done : (n : ℕ) → cannot_begin s boot stg ≡ false → (n == 0) ≡ true
       → answer E s here (call.Begin n) ≡ answered Success (begin_moves s) (On boot (nothing_staged E) no_handles)
   unfolding answer answer_begin
-  begin-done n can zero = if-false (cannot_begin s boot stg) _ _ can ∙ if-false (not (n == 0)) _ _ (ap not zero)
+  begin-done n can zero = cond-false (cannot_begin s boot stg) _ _ can ∙ cond-false (not (n == 0)) _ _ (ap not zero)
 
   begin-refused : (n : ℕ) → cannot_begin s boot stg ≡ false → (n == 0) ≡ false → answer E s here (call.Begin n) ≡ refused status.NotAvailable here
   unfolding answer answer_begin
-  begin-refused n can later = if-false (cannot_begin s boot stg) _ _ can ∙ if-true (not (n == 0)) _ _ (ap not later)
+  begin-refused n can later = cond-false (cannot_begin s boot stg) _ _ can ∙ cond-true (not (n == 0)) _ _ (ap not later)
 
   -- What the decision of a begin is where it is no refusal: it may begin, and frees the update bank where that is in use.
   pub record Begins (n : ℕ) (p : Plan) : Type 0 where
@@ -94,22 +73,6 @@ module _ (E : Setting) (s : State) (boot : ℕ) (stg : Option (List Staged)) (hs
     ]
   ]
 
-  -- a begin waits for no verdict
-  pub begin-waits : (n : ℕ) (good : Bool) → answer E s here (call.Begin n) ≡ by_verdict here good → answer E s here (call.Begin n) ≡ refused status.Denied here
-  begin-waits n false e = e
-  begin-waits n true e = elim (cases_Bool (cannot_begin s boot stg)) [
-    | inl cannot ↦ begin-denied E s boot stg hs [] n cannot
-    | inr can ↦ elim (cases_Bool (n == 0)) [
-      | inl zero ↦ absurd (no-back (is_invalid (bank s (update_bank s)).state)
-          (sym (ap (λ (a : Answer). a.moves) (begin-done n can zero)) ∙ ap (λ (a : Answer). a.moves) e))
-      | inr later ↦ absurd (let r = ap (λ (a : Answer). a.reply) (sym (begin-refused n can later) ∙ e) in cc)
-    ]
-  ]
-    where
-      no-back : (b : Bool) → cond b [] (Free (update_bank s) ∷ []) ≡ Back ∷ [] → ⊥
-      no-back true h = absurd cc
-      no-back false h = absurd cc
-
   -- ---- accept
 
   -- what an accept does, where it is no refusal
@@ -125,17 +88,14 @@ module _ (E : Setting) (s : State) (boot : ℕ) (hs : List Handle) where
 
   accept-here : (guid : List ℕ) → is_elsewhere s boot ≡ false → answer E s idle (call.Accepts guid) ≡ accept_image s boot hs (find_image E.layout.rows guid)
   unfolding answer answer_accept
-  accept-here guid at = if-false (is_elsewhere s boot) _ _ at
+  accept-here guid at = cond-false (is_elsewhere s boot) _ _ at
 
   accepts-by : (guid : List ℕ) (p : Plan) (found : Option ℕ) → is_elsewhere s boot ≡ false
       → answer E s idle (call.Accepts guid) ≡ accept_image s boot hs found → answer E s idle (call.Accepts guid) ≡ planned E s boot None hs [] p
       → Accepts E s boot None hs guid
   accepts-by guid p None at found e = absurd (not-refused E s boot None hs p status.Unknown idle (sym e ∙ found))
-  accepts-by guid p (Some image) at found e = record { idle = refl; booted = eqb-true _ _ (same (boot == s.active) at); image = image; is = found }
-    where
-      same : (b : Bool) → not b ≡ false → b ≡ true
-      same true h = refl
-      same false h = absurd cc
+  accepts-by guid p (Some image) at found e =
+      record { idle = refl; booted = eqb-true _ _ (not-false (boot == s.active) at); image = image; is = found }
 
   accepts-idle : (guid : List ℕ) (p : Plan) → answer E s idle (call.Accepts guid) ≡ planned E s boot None hs [] p → Accepts E s boot None hs guid
   accepts-idle guid p e = elim (cases_Bool (is_elsewhere s boot)) [
@@ -153,46 +113,6 @@ pub back-is : (E : Setting) (s : State) (boot : ℕ) (stg : Option (List Staged)
     → planned E s boot stg hs [] plan.Back ≡ answered Success (Back ∷ []) (On boot stg hs)
 unfolding planned
 back-is E s boot stg hs = refl
-
--- a plan that accepts an image
-abbrev pub is_accept : Plan → Bool
-is_accept (plan.Accept image store) = true
-is_accept other = false
-
-module _ (E : Setting) (s : State) (boot : ℕ) (stg : Option (List Staged)) (hs : List Handle) where
-  no-accept : (b : Bool) (image : ℕ) (other : Move) (rest : List Move) → ((i : ℕ) → Accept i ≡ other → ⊥) → cond b [] (Accept image ∷ []) ≡ other ∷ rest → ⊥
-  no-accept true image other rest not h = absurd cc
-  no-accept false image other rest not h = not image (let e : Accept image ≡ other = cc in e)
-
-  -- any other plan than an accept has no move here
-  other-moves : (image : ℕ) (p : Plan) → is_accept p ≡ false → accept_moves s image ≡ (planned E s boot stg hs [] p).moves → accept_moves s image ≡ []
-  unfolding planned
-  other-moves image (plan.BeginPartial true named) not e = absurd (no-accept _ image (Free (update_bank s)) [] (λ i h. absurd cc) e)
-  other-moves image (plan.Begin true) not e = absurd (no-accept _ image (Free (update_bank s)) [] (λ i h. absurd cc) e)
-  other-moves image plan.End not e = absurd (no-accept _ image _ [] (λ i h. absurd cc) e)
-  other-moves image (plan.Accept target store) not e = absurd cc
-  other-moves image plan.Back not e = absurd (no-accept _ image Back [] (λ i h. absurd cc) e)
-  other-moves image s not e = e
-
-  pub accept-other : (guid : List ℕ) (p : Plan) → is_accept p ≡ false → answer E s (On boot stg hs) (call.Accepts guid) ≡ planned E s boot stg hs [] p
-      → answer E s (On boot stg hs) (call.Accepts guid) ≡ answered Success [] (On boot stg hs)
-  accept-other guid p not e =
-      let by = accepts E s boot stg hs guid p e in
-      by.is ∙ ap (λ (ms : List Move). answered Success ms (On boot stg hs))
-      (other-moves by.image p not (sym (ap (λ (a : Answer). a.moves) by.is) ∙ ap (λ (a : Answer). a.moves) e))
-
-  -- an accept waits for no verdict
-  accept-moves-back : (b : Bool) (image : ℕ) → cond b [] (Accept image ∷ []) ≡ Back ∷ [] → ⊥
-  accept-moves-back true image h = absurd cc
-  accept-moves-back false image h = absurd cc
-
-pub accept-waits : (E : Setting) (s : State) (boot : ℕ) (stg : Option (List Staged)) (hs : List Handle) (guid : List ℕ) (good : Bool)
-    → answer E s (On boot stg hs) (call.Accepts guid) ≡ by_verdict (On boot stg hs) good
-    → answer E s (On boot stg hs) (call.Accepts guid) ≡ refused status.Denied (On boot stg hs)
-accept-waits E s boot stg hs guid false e = e
-accept-waits E s boot stg hs guid true e =
-    let by = accepts E s boot stg hs guid plan.Back (e ∙ sym (back-is E s boot stg hs)) in
-    absurd (accept-moves-back E s boot stg hs _ by.image (sym (ap (λ (a : Answer). a.moves) by.is) ∙ ap (λ (a : Answer). a.moves) e))
 
 -- ---- previous
 
@@ -241,9 +161,3 @@ denied-alone E s boot None hs st e = elim (cases_Bool (may_try s (On boot None h
     | inl good ↦ absurd (let r = ap (λ (a : Answer). a.reply) (sym e ∙ asks E s boot hs may ∙ ap (by_verdict (On boot None hs)) good) in cc)
   ]
 ]
-
--- a verdict that may go back, or not
-pub verdict-goes : (E : Setting) (s : State) (boot : ℕ) (stg : Option (List Staged)) (hs : List Handle) (good : Bool)
-    → answer E s (On boot stg hs) call.Previous ≡ by_verdict (On boot stg hs) good → good ≡ true
-    → answer E s (On boot stg hs) call.Previous ≡ planned E s boot stg hs [] plan.Back
-verdict-goes E s boot stg hs good e is = e ∙ ap (by_verdict (On boot stg hs)) is ∙ sym (back-is E s boot stg hs)

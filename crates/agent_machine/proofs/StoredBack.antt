@@ -1,9 +1,8 @@
 -- What going back is: by the session, the numbers of the banks and the verdict on the previous one.
-use Rattle.std.proofs.Common.{◌≡◌, ◌⊎◌, inl, inr, ℕ, Bool, true, false, ◌&&◌, ◌||◌, not, ◌==◌, cond, List, [], ◌∷◌, Option, Some, None, Result, Ok, Err, refl, sym, ap, ap₂, ◌∙◌, subst, IsTrue}
+use Rattle.std.proofs.Common.{◌≡◌, inl, inr, ℕ, Bool, true, false, ◌&&◌, ◌||◌, not, ◌==◌, cond, List, [], Option, Some, None, Result, Err, refl, sym, ap, ap₂, ◌∙◌, subst, IsTrue}
 use Rattle.std.specs.Prelude.{IsErr}
 use Rattle.std.proofs.lemmas.Bool.{and_parts, and_from, cases_Bool}
 use Rattle.flash_core.specs.declared.flash.FlashStop.{FlashStop}
-use Rattle.flash_core.specs.declared.flash.FlashStop.TheVariants as flash_stop
 use Rattle.flash_core.specs.Told.{Told}
 use Rattle.fwu_formats.specs.Layout.{Layout}
 use Rattle.fwu_formats.specs.Metadata.{Meta, state_at}
@@ -11,33 +10,29 @@ use Rattle.fwu_formats.specs.Image.{package_in}
 use Rattle.fwu_formats.proofs.Read.{package-complete}
 use Rattle.fwu_model.specs.declared.kinds.Status.{Status}
 use Rattle.fwu_model.specs.declared.kinds.Status.TheVariants as status
-use Rattle.fwu_model.specs.State.{State, Bank, Back, bank, is_valid, is_accepted}
+use Rattle.fwu_model.specs.State.{State, Bank, bank, is_valid, is_accepted}
 use Rattle.fwu_model.specs.Sound.{Setting, is_permitted, holds_permitted}
 use Rattle.fwu_model.specs.Session.{Session, Staged, Handle, On}
 use Rattle.fwu_model.specs.Call as call
-use Rattle.fwu_model.specs.Reply.{Success}
-use Rattle.fwu_model.specs.Answer.{Answer, answer, answered, refused, may_go_back}
-use Rattle.fwu_model.specs.Calm.{IsCalm, IsAtRest}
+use Rattle.fwu_model.specs.Answer.{Answer, answer, refused, may_go_back}
+use Rattle.fwu_model.specs.Calm.{IsAtRest}
 use Rattle.fwu_model.proofs.Banks.{accepted-used}
 use Rattle.meta_layout.proofs.Fits.{meta-fits}
-use Rattle.moves.specs.Moved.{GuardedBy, IsReady}
-use Rattle.moves.proofs.Composed.{does-idle}
+use Rattle.moves.specs.Moved.{IsReady}
 use Rattle.moves.proofs.MetaMoves.{bank-at}
 use Rattle.agent_kept.specs.declared.kinds.Request.TheVariants as request
-use Rattle.agent_kept.specs.declared.kinds.Plan.{Plan}
 use Rattle.agent_kept.specs.declared.kinds.Plan.TheVariants as plan
 use Rattle.agent_kept.specs.declared.kinds.Decision.{Decision}
 use Rattle.agent_kept.specs.declared.kinds.Decision.TheVariants as decision
 use Rattle.agent_kept.specs.Kept.{session_meant, staging_meant, handles_meant, parts_meant}
-use Rattle.agent_kept.specs.Plans.{planned_in, by_verdict}
+use Rattle.agent_kept.specs.Plans.{by_verdict}
 use Rattle.agent_state.specs.Decides.{DecidesRequest, has_other_kept}
 use Rattle.agent_state.specs.Ruled.{ruled_as}
 use Rattle.agent_state.proofs.Machine.{leave-is, other-is, is-idle}
 use Rattle.agent_state.proofs.Replies.{accepting, previous-staging}
 use Rattle.agent_machine.specs.Deciding.{KeepsOldOrNew}
-use Rattle.agent_machine.proofs.Deciding.{decides-same}
 use Rattle.agent_machine.specs.Beside.{IsSpared, KeepsSpared}
-use Rattle.agent_machine.proofs.Beside.{blocks-still, blocks-then, spared-told}
+use Rattle.agent_machine.proofs.Beside.{blocks-still, blocks-then}
 use Rattle.agent_machine.specs.declared.stop.Stop.{Stop}
 use Rattle.agent_machine.specs.declared.stop.Stop.TheVariants as stop
 use Rattle.agent_machine.specs.Fields.{Fields}
@@ -45,10 +40,11 @@ use Rattle.agent_machine.specs.Machine.{state_in}
 use Rattle.agent_machine.specs.Knows.{Fitting, SessionSound, Knows}
 use Rattle.agent_machine.specs.Meets.{IsRefused, IsSettingOf, IsStopped, LeavesFlash, MeetsPrevious, flash_result, may_try}
 use Rattle.agent_machine.specs.Moment.{Moment, Shows, SpeaksOf}
-use Rattle.agent_machine.specs.Stored.{MayGoBack, CarriesOut, MayBeDone, may_try_kept, is_to_do}
+use Rattle.agent_machine.specs.Stored.{CarriesOut, MayBeDone, may_try_kept, is_to_do}
+use Rattle.agent_machine.proofs.Answered.{still-leaves}
 use Rattle.agent_machine.proofs.StoredAnswers.{asks, stays, goes, denied-alone}
-use Rattle.agent_machine.proofs.StoredCalls.{refused-of, planned-of, plain-of}
-use Rattle.agent_machine.proofs.StoredMeets.{shows-still, same-leaves, refused-answers, refused-previous, carried-previous, back-planned}
+use Rattle.agent_machine.proofs.StoredCalls.{refused-of, planned-meant, plain-of}
+use Rattle.agent_machine.proofs.StoredMeets.{shows-still, same-stays, same-leaves, refused-answers, refused-previous, carried-previous, back-planned}
 
 -- ---- what the bank holds
 
@@ -102,9 +98,6 @@ module _ (f : Fields) (s : State) (of : SpeaksOf f s) (staged : ℕ → List ℕ
 
 -- ---- by the verdict
 
-bool-is : (a b : Bool) → a ≡ b → IsTrue b → IsTrue a
-bool-is a b e h = e ∙ h
-
 -- On a device that tells its content the verdict decides.
 module _ (f : Fields) (fitting : Fitting f) (t : Told) (passes : List ℕ → Bool) (may : may_try_kept f.meta.meta f.session f.boot ≡ true) (good : Bool)
     (good-is : (E : Setting) → IsSettingOf f passes E → good ≡ holds_permitted E f.counter (package_in f.layout t.now f.meta.meta.previous)) where
@@ -135,25 +128,9 @@ module _ (f : Fields) (fitting : Fitting f) (t : Told) (passes : List ℕ → Bo
 
 -- ---- what going back says at each exit
 
-true-false : (b : Bool) → b ≡ true → b ≡ false → ⊥
-true-false b t f = absurd (let e : true ≡ false = sym t ∙ f in cc)
-
-success-refused : (y : Session) (st : Status) → answered Success (Back ∷ []) y ≡ refused st y → ⊥
-success-refused y st e = absurd (let r = ap (λ (a : Answer). a.reply) e in cc)
-
--- the verdict was good where it is gone back
-good-of : (d : Decision) (good : Bool) → is_to_do (ruled_as d good) ≡ true → (good ≡ true) ⊎ ((p : Plan) × (d ≡ decision.Do p))
-good-of (decision.Refused st) good e = absurd (true-false false e refl)
-good-of (decision.Do p) good e = inr (p, refl)
-good-of (decision.ByVerdict b) true e = inl refl
-good-of (decision.ByVerdict b) false e = absurd (true-false false e refl)
-
--- and where it isn't, it was bad, or going back was refused
-bad-of : (d : Decision) (good : Bool) → is_to_do (ruled_as d good) ≡ false → (good ≡ false) ⊎ ((st : Status) × (d ≡ decision.Refused st))
-bad-of (decision.Refused st) good e = inr (st, refl)
-bad-of (decision.Do p) good e = absurd (true-false true refl e)
-bad-of (decision.ByVerdict b) true e = absurd (true-false true refl e)
-bad-of (decision.ByVerdict b) false e = inl refl
+by-verdict : (b : ℕ) (good : Bool) → is_to_do (ruled_as (decision.ByVerdict b) good) ≡ good
+by-verdict b true = refl
+by-verdict b false = refl
 
 module _ (tells : Bool) (f : Fields) (fitting : Fitting f) (sound : SessionSound f) (s t : Told)
     {old_writes new_writes : ℕ → ℕ} (same : IsTrue tells → t ≡ s) (still : new_writes ≡ old_writes) (passes : List ℕ → Bool) where
@@ -188,87 +165,58 @@ module _ (tells : Bool) (f : Fields) (fitting : Fitting f) (sound : SessionSound
 
   -- the flash stopped the reading
   stopped-leaves : (result : Result (Unit {0}) FlashStop) → IsErr result → LeavesFlash result passes call.Previous old mid
-  stopped-leaves result err = record {
-    does = λ E x y setting shows is ready. does-idle result E x (answer E x y call.Previous).moves t err
-        (subst (λ (u : Told). IsCalm E u x) (sym (same is)) ready.calm);
-    guarded = λ is rest. by result err (subst IsAtRest (sym (same is)) rest);
-    keeps = λ is. spared-told (IsSpared f) s t (same is);
-    touches = blocks-still (IsSpared f) still;
-    decides = λ is. decides-same f.layout f.meta f.meta s t (same is);
-    stays = record { tells = refl; layout = refl; boot = refl; counter = refl; lengths = refl; guard = λ is. ap (λ (u : Told). u.guard) (same is) };
-  }
-    where
-      by : (r : Result (Unit {0}) FlashStop) → IsErr r → IsAtRest t → GuardedBy r t
-      by (Ok x) e rest = absurd (true-false false e refl)
-      by (Err x) e rest = rest.guarded
+  stopped-leaves result err =
+      still-leaves result passes call.Previous old mid same still (same-stays tells f s t same still)
+      (λ E x y setting shows is. inr err)
 
   pub stopped-meets : (r : Stop) → IsStopped {T = Unit {0}} (Err r) → MeetsPrevious (Err r) passes old mid
   stopped-meets (stop.Status st) is = absurd is
-  stopped-meets stop.Lost is = record {
-    exact = λ E x y setting shows tells_it. tt;
-    shows = λ x y shows. tt;
-    leaves = stopped-leaves
-        (Err flash_stop.Lost) refl;
-  }
-  stopped-meets stop.Fault is = record {
-    exact = λ E x y setting shows tells_it. tt;
-    shows = λ x y shows. tt;
-    leaves = stopped-leaves
-        (Err flash_stop.Failed) refl;
-  }
   stopped-meets stop.Gone is = absurd is
+  stopped-meets cause is = record {
+    exact = λ E x y setting shows tells_it. tt;
+    shows = λ x y shows. tt;
+    leaves = stopped-leaves (flash_result {T = Unit {0}} (Err cause)) refl;
+  }
 
   module _ (knows : IsTrue tells → Knows f s) (may : may_try_kept f.meta.meta f.session f.boot ≡ true) (d : Decision)
       (decides : DecidesRequest passes f.meta f.counter f.session f.boot request.Previous d) (good : Bool)
       (good-is : IsTrue tells → (E : Setting) → IsSettingOf f passes E → good ≡ holds_permitted E f.counter
       (package_in f.layout s.now f.meta.meta.previous)) where
     module _ (E : Setting) (x : State) (y : Session) (setting : IsSettingOf f passes E) (shows : Shows old x y) (is : IsTrue tells) where
-      abbrev now_is : State
-      now_is = state_in f s.now
-
-      here-is : x ≡ now_is
+      here-is : x ≡ state_in f s.now
       here-is = (shows.told is).0
+
+      verdict-here : may_go_back E x (bank x x.previous).held ≡ good
+      verdict-here =
+          ap (λ (z : State). may_go_back E z (bank z z.previous).held) here-is
+          ∙ verdict-is f fitting s passes may good (good-is is) E setting (sym (knows is).counter_is)
 
       -- the machine's answer is the verdict's
       ruled-is : answer E x y call.Previous ≡ by_verdict y good
       ruled-is =
           subst (λ (z : Session). answer E x z call.Previous ≡ by_verdict z good) (sym shows.means)
-          (asked f x shows.speaks shows.staged E may
-          ∙ ap (by_verdict (session_meant f.session f.boot shows.staged))
-          (ap (λ (z : State). may_go_back E z (bank z z.previous).held) here-is ∙ verdict-is f fitting s passes may good (good-is is) E setting
-          (sym (knows is).counter_is)))
+          (asked f x shows.speaks shows.staged E may ∙ ap (by_verdict (session_meant f.session f.boot shows.staged)) verdict-here)
 
-      no-plan : (p : Plan) → d ≡ decision.Do p → good ≡ false → ⊥
-      no-plan p d-is bad =
-          let planned-it = planned-of old fitting sound passes request.Previous (λ e z. tt) p
-          (subst (DecidesRequest passes f.meta f.counter f.session f.boot request.Previous) d-is decides) E x y setting shows in
+      -- and it is gone back where the verdict is good
+      ruled-good : (e : Decision) → DecidesRequest passes f.meta f.counter f.session f.boot request.Previous e
+          → is_to_do (ruled_as e good) ≡ good
+      ruled-good (decision.Refused st) decided = elim (cases_Bool good) [
+        | inl fine ↦
+            let refused-it = refused-of old fitting sound passes request.Previous (λ e z. tt) st decided E x y setting shows in
+            absurd (let r = ap (λ (a : Answer). a.reply) (sym refused-it ∙ ruled-is ∙ ap (by_verdict y) fine) in cc)
+        | inr bad ↦ sym bad
+      ]
+      ruled-good (decision.Do p) decided =
           let there = goes E x f.boot (staging_meant f.session shows.staged) (handles_meant f.session) p
-          (subst (λ (z : Session). answer E x z call.Previous ≡ planned_in E x z [] p) shows.means planned-it) in
-          true-false good (sym (verdict-is f fitting s passes may good (good-is is) E setting (sym (knows is).counter_is)) ∙ sym
-          (ap (λ (z : State). may_go_back E z (bank z z.previous).held) here-is) ∙ there.good) bad
-
-      no-refusal : (st : Status) → d ≡ decision.Refused st → good ≡ true → ⊥
-      no-refusal st d-is fine =
-          let refused-it = refused-of old fitting sound passes request.Previous (λ e z. tt) st
-          (subst (DecidesRequest passes f.meta f.counter f.session f.boot request.Previous) d-is decides) E x y setting shows in
-          success-refused y st (sym (ruled-is ∙ ap (by_verdict y) fine) ∙ refused-it)
-
-      is-good : is_to_do (ruled_as d good) ≡ true → good ≡ true
-      is-good does = elim (good-of d good does) [
-        | inl fine ↦ fine
-        | inr planned-it ↦ elim (cases_Bool good) [ inl fine ↦ fine | inr bad ↦ absurd (no-plan planned-it.0 planned-it.1 bad) ]
-      ]
-
-      is-bad : is_to_do (ruled_as d good) ≡ false → good ≡ false
-      is-bad does = elim (bad-of d good does) [
-        | inl bad ↦ bad
-        | inr refused-it ↦ elim (cases_Bool good) [ inl fine ↦ absurd (no-refusal refused-it.0 refused-it.1 fine) | inr bad ↦ bad ]
-      ]
+          (planned-meant old fitting sound passes request.Previous (λ e z. tt) p decided E x y setting shows) in
+          sym there.good ∙ verdict-here
+      ruled-good (decision.ByVerdict b) decided = by-verdict b good
 
     -- the verdict is bad
     pub bad-meets : is_to_do (ruled_as d good) ≡ false → MeetsPrevious (Err (stop.Status status.Denied)) passes old mid
     bad-meets does = refused-previous tells f s t same still passes
-        (λ E x y setting shows is. ruled-is E x y setting shows is ∙ ap (by_verdict y) (is-bad E x y setting shows is does))
+        (λ E x y setting shows is. ruled-is E x y setting shows is
+        ∙ ap (by_verdict y) (sym (ruled-good E x y setting shows is d decides) ∙ does))
 
     -- from the moment before the reading
     carried-from : (result : Result (Unit {0}) FlashStop) (new : Moment) → CarriesOut result plan.Back mid new → CarriesOut result plan.Back old new
@@ -280,14 +228,10 @@ module _ (tells : Bool) (f : Fields) (fitting : Fitting f) (sound : SessionSound
       keeps = λ is. subst (λ (u : Told). KeepsSpared f u new.told) (same is) (carries.keeps is);
       touches = blocks-then (IsSpared f) (blocks-still (IsSpared f) still) carries.touches;
       decides = λ is. subst (λ (u : Told). KeepsOldOrNew f.layout f.meta new.fields.meta u new.told) (same is) (carries.decides is);
-      stays = record {
-        tells = carries.stays.tells;
-        layout = carries.stays.layout;
-        boot = carries.stays.boot;
-        counter = carries.stays.counter;
-        lengths = carries.stays.lengths;
-        guard = λ is. carries.stays.guard is ∙ ap (λ (u : Told). u.guard) (same is);
-      };
+      stays =
+          let guard : IsTrue tells → new.told.guard ≡ s.guard = λ is. carries.stays.guard is
+          ∙ ap (λ (u : Told). u.guard) (same is) in
+          assumption;
     }
 
     -- the verdict is good, and it was gone back
@@ -297,13 +241,10 @@ module _ (tells : Bool) (f : Fields) (fitting : Fitting f) (sound : SessionSound
         carried-previous result passes old new (carried-from (flash_result result) new carries) answered_it
         (λ x y shows. subst (λ (z : Session). IsTrue (may_try x z)) (sym shows.means) (tried f x shows.speaks shows.staged may))
         (λ E x y setting shows is.
-        let fine = is-good E x y setting shows is does in
+        let fine = sym (ruled-good E x y setting shows is d decides) ∙ does in
         record {
           is = ruled-is E x y setting shows is ∙ ap (by_verdict y) fine ∙ sym (back-planned E old x y shows);
           reply = ap (λ (a : Answer). a.reply) (back-planned E old x y shows);
           may = subst (λ (z : State). MayBeDone E z plan.Back) (sym (here-is E x y setting shows is))
               (permitted-is f fitting s passes may good (good-is is) E setting (sym (knows is).counter_is) fine);
         })
-
-    pub may-back : MayGoBack f
-    may-back = record { idle = (accepting f.session.staging _ (and_parts _ _ may).0).0; other = (and_parts _ _ may).1 }

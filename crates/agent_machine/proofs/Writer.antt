@@ -1,10 +1,11 @@
 -- Within an image: what the agent keeps of the handle that writes it, and how many bytes it has.
-use Rattle.std.proofs.Common.{◌≡◌, cond, ℕ, ◌<◌, Bool, true, false, List, length, get_or, set, Option, Some, None, refl, sym, ap, ◌∙◌, arith, length-set, get_or-set_same}
+use Rattle.std.proofs.Common.{◌≡◌, ℕ, ◌<◌, List, length, get_or, set, Option, Some, refl, sym, ap, ◌∙◌, arith, length-set, get_or-set_same}
 use Rattle.std.proofs.lemmas.List.FromFn.{length-map-range_with_len}
+use Rattle.std.proofs.lemmas.Option.{cond_some}
 use Rattle.std.proofs.Math.ListN as listn
 use Rattle.sha2.specs.declared.Sha256.{Sha256}
 use Rattle.fwu_model.specs.State.{State}
-use Rattle.fwu_model.specs.Session.{Session, On, Staged, no_handles}
+use Rattle.fwu_model.specs.Session.{On, Staged, no_handles}
 use Rattle.fwu_model.specs.Session as machine
 use Rattle.agent_kept.specs.declared.parts.Part.{Part}
 use Rattle.agent_kept.specs.declared.parts.Part.TheVariants.{Nothing, Open, Committed}
@@ -32,11 +33,7 @@ session-is : (boot b : ℕ) (parts : List Staged) (hs : List machine.Handle) (st
 session-is boot b parts hs staging gs e = (cc, cc)
 
 staged-is : (k : Kept) (bytes : ℕ → List ℕ) (parts : List Staged) → Some parts ≡ staging_meant k bytes → parts ≡ parts_meant k bytes
-staged-is k bytes parts e = by-test k.staging e
-  where
-    by-test : (b : Bool) → Some parts ≡ cond b (Some (parts_meant k bytes)) None → parts ≡ parts_meant k bytes
-    by-test true e = cc
-    by-test false e = absurd cc
+staged-is k bytes parts e = sym (cond_some k.staging (parts_meant k bytes) parts (sym e)).1
 
 module _ (old : Moment) (s : State) (boot : ℕ) (parts : List Staged) (i : ℕ) (before : List ℕ) (below : i < length parts)
     (shows : Shows old s (within boot parts i before)) where

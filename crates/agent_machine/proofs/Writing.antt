@@ -80,8 +80,9 @@ module _ (f : Fields) (k : Kept) (image number at : ℕ) (bytes left : List ℕ)
   size = size_of (part_at f.session image)
 
   stays : StaysKnown f image s t
-  stays = appends-stay {T = Unit {0}} (Ok tt) f image first size (rest_of f image) bytes left s t fitting sound knows (fitting.free staging) within room
-      refl fits appends
+  stays = appends-stay {T = Unit {0}} (Ok tt) f image first size (rest_of f image) bytes left s t refl fits appends fitting sound
+      knows
+      (fitting.free staging) within room
 
   part : (n : ℕ) × (hasher : Sha256) × (next : Sha256) × (part_at f.session image ≡ Open n hasher) × (part_at k image ≡ Open (n + length bytes) next)
   part = grown (part_at f.session image) (part_at k image) bytes wrote.part
