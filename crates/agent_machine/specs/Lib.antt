@@ -14,4 +14,3 @@ pub mod Stored
 pub mod Directory
 pub mod CallGoes
 pub mod Filling
-pub mod Takes
