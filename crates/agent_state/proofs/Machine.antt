@@ -9,7 +9,7 @@ use Rattle.fwu_formats.specs.Metadata.{Meta, MetaRead, state_at}
 use Rattle.fwu_model.specs.State.{State, Bank, bank, no_bank, is_valid, is_accepted, update_bank}
 use Rattle.fwu_model.specs.Sound.{Setting}
 use Rattle.fwu_model.specs.Session as session
-use Rattle.fwu_model.specs.Session.{Session, Staged, On, staged_at}
+use Rattle.fwu_model.specs.Session.{Staged, staged_at}
 use Rattle.fwu_model.specs.Answer.{agent_state, is_trial, cannot_begin, is_elsewhere, staged_bytes, handle_at, may_leave, has_other}
 use Rattle.agent_kept.specs.declared.parts.Part.{Part}
 use Rattle.agent_kept.specs.declared.parts.Part.TheVariants.{Nothing, Open, Committed}

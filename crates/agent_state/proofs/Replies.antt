@@ -321,11 +321,6 @@ pub accept-denied : (E : Setting) (s : State) (boot : ℕ) (bytes : List ℕ) (k
     → answer E s (session_meant k boot staged) (call.Accepts guid) ≡ refused status.Denied (session_meant k boot staged)
 accept-denied E s boot bytes k active staged guid at e = denied E s boot bytes (handles_meant k) (parts_meant k staged) guid k.staging (boot == active) e (ap (λ (a : ℕ). not (boot == a)) (sym at))
 
-both-tests : (a b : Bool) → (not a || not b) ≡ false → (a ≡ true) × (b ≡ true)
-both-tests true true e = (refl, refl)
-both-tests true false e = absurd cc
-both-tests false b e = absurd cc
-
 pub open-unknown : (E : Setting) (s : State) (boot : ℕ) (stg : Option (List Staged)) (hs : List session.Handle) (bytes guid : List ℕ) (o : Op) (total : ℕ) → find_image E.layout.rows guid ≡ None → same_bytes guid dir_guid ≡ false
     → answer E s (On boot stg hs) (call_of (request.Open guid o total) bytes) ≡ refused status.Unknown (On boot stg hs)
 open-unknown E s boot stg hs bytes guid op.Read total e d = open-read-unknown E s boot stg hs bytes guid e d

@@ -1,9 +1,8 @@
 -- What the loops keep that make a capsule.
-use Rattle.std.proofs.Common.{◌≡◌, ◌∙◌, ◌≤◌, ◌<◌, ◌+◌, ◌*◌, ◌++◌, ◌∷◌, [], ℕ, List, length, get_or, drop, ap, sym, append_assoc}
+use Rattle.std.proofs.Common.{◌≡◌, ◌∙◌, ◌≤◌, ◌<◌, ◌+◌, ◌*◌, ◌++◌, ℕ, List, length, get_or, drop, ap, append_assoc}
 use Rattle.std.proofs.lemmas.List.{drop_more}
-use Rattle.base_core.specs.Bytes.{le}
 use Rattle.fwu_formats.specs.Package.{Part}
-use Rattle.capsule_tables.specs.Making.{capsule_size, head_gaps, heads_bytes, item_head, made_head, places_bytes}
+use Rattle.capsule_tables.specs.Making.{capsule_size, head_gaps, heads_bytes, places_bytes}
 use Rattle.capsule_tables.proofs.MadeZeros.{sizes, sizes-cons}
 
 -- so many parts are counted

@@ -1,7 +1,7 @@
 -- The lowest fault of the images, image by image, and those that the table has.
 use Rattle.std.proofs.Common.{◌≡◌, cond, ℕ, suc, ◌+◌, ◌-◌, ◌*◌, ◌<◌, ◌≤◌, Bool, true, false, List, [], ◌∷◌, ◌++◌, length, get_or, drop, Option, Some, None, refl, sym, ap, subst, ◌∙◌, arith, add-one, drop-cons, ne_eqb}
 use Rattle.std.proofs.lemmas.Bool.{le-ltb}
-use Rattle.std.proofs.lemmas.List.{get_or-append_right, get_or_default, drop_all, append-nil}
+use Rattle.std.proofs.lemmas.List.{get_or_default, drop_all, append-nil}
 use Rattle.std.proofs.lemmas.Option.{same_Some}
 use Rattle.std.proofs.lemmas.List.Elements.{All-head, All-tail}
 use Rattle.std.specs.Prelude.{◌==◌, ◌||◌, is_some, not}
@@ -25,23 +25,11 @@ module _ (fault : ImageRow → Option Entry → Option ImageFault) (rows : List 
   split = ap (λ (l : List ImageRow). lowest_fault fault l toc)
       (drop-cons rows k no_row below ∙ ap (λ (n : ℕ). row ∷ drop n rows) (sym (add-one k)))
 
-  -- an image that has no fault
-  pub passes_on : fault row (entry_of toc row.guid) ≡ None → lowest_fault fault (drop k rows) toc ≡ lowest_fault fault (drop (k + 1) rows) toc
-  passes_on none = split ∙ ap (λ (o : Option ImageFault). or_else o behind) none
-
-  -- an image that has one
-  pub stops_here : (f : ImageFault) → fault row (entry_of toc row.guid) ≡ Some f → lowest_fault fault (drop k rows) toc ≡ Some f
-  stops_here f is = split ∙ ap (λ (o : Option ImageFault). or_else o behind) is
-
 -- a payload that fits its slot
 pub fits : (row : ImageRow) (e : Entry) → e.size ≤ 4096 * row.slots → size_fault row (Some e) ≡ None
 fits row e fit = ap (λ (b : Bool). cond b (Some (TooLarge row.guid)) None) (le-ltb (4096 * row.slots) e.size fit)
 
 -- ---- the entries
-
--- the entry that was added last
-pub last_pushed : (es : List Entry) (e : Entry) (k : ℕ) → length es ≡ k → get_or (es ++ e ∷ []) k no_entry ≡ e
-last_pushed es e k is = let none : k - k ≡ 0 = omega arith in get_or-append_right es (e ∷ []) k k no_entry is (omega arith) ∙ ap (λ (n : ℕ). get_or (e ∷ []) n no_entry) none
 
 -- what holds of each entry holds of the one that is found
 pub found_has : (P : Entry → Type 0) (guid : List ℕ) (es : List Entry) (e : Entry) → All P es → find (has_guid guid) es ≡ Some e → P e

@@ -79,13 +79,6 @@ holds-on (Faulty f) toc pending bytes more done h = record {
   lasts = h.lasts;
 }
 
--- a table of so many bytes, by the first entry beyond them
-pub within-some : (bytes : List ℕ) (toc : Toc) (i : ℕ) → position (is_beyond bytes) toc.entries ≡ Some i → within bytes toc (position (is_beyond bytes) toc.entries) ≡ Err (fault.Beyond i)
-within-some bytes toc i e = ap (within bytes toc) e
-
-pub within-none : (bytes : List ℕ) (toc : Toc) → position (is_beyond bytes) toc.entries ≡ None → within bytes toc (position (is_beyond bytes) toc.entries) ≡ Ok toc
-within-none bytes toc e = ap (within bytes toc) e
-
 -- an answer that tells nothing but the fault, of a table that is known
 pub as-answered : (result : Result (Unit {0}) FipFault) (whole ends : Result Toc FipFault) (seen toc : Toc) → seen ≡ toc → whole ≡ ends
     → MatchResult result (λ u. ends ≡ Ok seen) (λ f. ends ≡ Err f) → MatchResult result (λ u. whole ≡ Ok toc) (λ f. whole ≡ Err f)

@@ -8,9 +8,7 @@ use Rattle.fwu_formats.specs.Package.{Entry, Toc, entry_at, entry_limit, entries
 use Rattle.fwu_formats.specs.declared.kinds.FipFault.{FipFault}
 use Rattle.fwu_formats.specs.declared.kinds.FipFault.TheVariants as fault
 use Rattle.fip_tables.specs.Decoded.{entry_from, IsHeaderOf}
-use Rattle.fip_tables.specs.Stream.{HasTableFront, HasLastingFault, ReaderHoldsAt, IsAmongEntries, IsPastMarker}
-use Rattle.fip_tables.specs.declared.reader.Stage.{Stage}
-use Rattle.fip_tables.specs.declared.reader.Stage.TheVariants.{Header, Table, Whole, Faulty}
+use Rattle.fip_tables.specs.Stream.{HasLastingFault, IsAmongEntries, IsPastMarker}
 use Rattle.fip_tables.proofs.Fronts.{entry-front, entry-of-group, header-front, num-front}
 use Rattle.fip_tables.proofs.Steps.{another-is-too-many, bad-name, by-fault, equal-is-duplicate, marker-ends, new-is-read, zero-serial}
 
@@ -90,19 +88,6 @@ module _ (toc : Toc) (group : List ℕ) (e : Entry) (bytes : List ℕ) (h : HasE
 
 -- ---- the header
 
-pub after-header : (toc : Toc) (group : List ℕ) (serial flags : ℕ) (bytes : List ℕ) → group ≡ bytes → length group ≡ 16 → toc.entries ≡ [] → IsHeaderOf group (Ok (serial, flags))
-    → IsAmongEntries (record { serial = serial; flags = flags; entries = toc.entries }) [] bytes
-after-header toc group serial flags bytes is whole none header =
-    let all : length bytes ≡ 16 = sym (ap length is) ∙ whole in
-    let parts = subst (λ (xs : List ℕ). IsHeaderOf xs (Ok (serial, flags))) is header in
-    record {
-      header = record { long = omega (arith, all); name = parts.0; some = parts.1; serial = parts.2; flags = parts.3 };
-      few = omega (arith, ap length none);
-      begins = subst (HasTableFront bytes) (sym none) (λ rest left at. ap (λ (n : ℕ). entries_from (bytes ++ rest) [] 0 n) (let same : entry_limit ≡ left = omega (arith, at) in same));
-      place = omega (arith, ap length none, all);
-      rest = sym (drop_of_length-le bytes {i = 16 + 40 * length toc.entries} (omega (arith, ap length none, all)));
-    }
-
 pub after-bad-header : (f : FipFault) (group bytes : List ℕ) → group ≡ bytes → length group ≡ 16 → IsHeaderOf group (Err f) → HasLastingFault f bytes
 after-bad-header fault.BadName group bytes is whole header = record {
   first = λ rest.
@@ -123,10 +108,3 @@ after-bad-header (fault.NoEnd i) group bytes is whole header = absurd header
 after-bad-header fault.TooMany group bytes is whole header = absurd header
 after-bad-header (fault.Duplicate i) group bytes is whole header = absurd header
 after-bad-header (fault.Beyond i) group bytes is whole header = absurd header
-
--- past the table no bytes are held back
-pub nothing-pending : (at : Stage) (toc : Toc) (pending other bytes : List ℕ) → (at ≡ Header → ⊥) → (at ≡ Table → ⊥) → ReaderHoldsAt at toc pending bytes → ReaderHoldsAt at toc other bytes
-nothing-pending Header toc pending other bytes a b h = absurd (a refl)
-nothing-pending Table toc pending other bytes a b h = absurd (b refl)
-nothing-pending Whole toc pending other bytes a b h = h
-nothing-pending (Faulty f) toc pending other bytes a b h = h

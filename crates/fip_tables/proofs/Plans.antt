@@ -7,7 +7,7 @@ use Rattle.base_core.specs.Bytes.{le}
 use Rattle.fwu_formats.specs.Package.{Entry, Part, fip_name, packed, packed_entries, payloads, table_bytes}
 use Rattle.fip_tables.specs.Packing.{AreOutlines, zeroed}
 use Rattle.std.specs.Prelude.{flat_map}
-use Rattle.fip_tables.specs.Frame.{AreSixteen, toc_entry_bytes, last_end, marker, tabled, table_end}
+use Rattle.fip_tables.specs.Frame.{AreSixteen, toc_entry_bytes, last_end, marker, table_end}
 
 -- the first payloads are placed
 pub record IsPlanning (parts : List Part) (a : ℕ) (entries : List Entry) (end at : ℕ) : Type 0 where
@@ -46,12 +46,6 @@ appended v a b c d g o s f p q r t =
     t ∙ ap (λ (x : List ℕ). x ++ f) (r ∙ ap (λ (x : List ℕ). x ++ s) (q ∙ ap (λ (x : List ℕ). x ++ o) p))
     ∙ append_assoc ((v ++ g) ++ o) s f ∙ append_assoc (v ++ g) o (s ++ f) ∙ append_assoc v g (o ++ (s ++ f))
     ∙ ap (λ (x : List ℕ). v ++ x) (sym (append_assoc g o (s ++ f)) ∙ sym (append_assoc (g ++ o) s f))
-
--- a header, entries and a marker, one after another
-pub tabled-bytes : (serial flags : ℕ) (entries : List Entry) (size : ℕ) (a b c : List ℕ) → a ≡ le 4 fip_name ++ le 4 serial ++ le 8 flags → b ≡ a ++ flat_map toc_entry_bytes entries
-    → c ≡ b ++ toc_entry_bytes (marker size) → c ≡ tabled serial flags entries size
-tabled-bytes serial flags entries size a b c p q r =
-    r ∙ ap (λ (x : List ℕ). x ++ toc_entry_bytes (marker size)) (q ∙ ap (λ (x : List ℕ). x ++ flat_map toc_entry_bytes entries) p)
 
 -- ---- the table of a package
 

@@ -1,9 +1,9 @@
 -- What a file tells.
-use Rattle.std.proofs.Common.{◌≡◌, ◌≤◌, ◌+◌, ◌-◌, ◌++◌, ℕ, List, Option, Some, None, option_map, IfSome, IsSomeAnd, length, take, drop, arith, sym, ap, subst, ◌∙◌}
+use Rattle.std.proofs.Common.{◌≡◌, ◌≤◌, ◌+◌, ◌-◌, ◌++◌, ℕ, List, Option, Some, None, option_map, IfSome, length, take, drop, arith, sym, ap, subst, ◌∙◌}
 use Rattle.std.proofs.lemmas.List.{drop-drop, drop-take, take-take, take-append-drop}
 use Rattle.std.proofs.lemmas.Option.{same_Some}
 use Rattle.std.proofs.Math.Seq.{take-add}
-use Rattle.host_io.specs.Contents.{Directory, HasRange, TellsRange, TellsSize}
+use Rattle.host_io.specs.Contents.{Directory, TellsRange, TellsSize}
 use Rattle.fip_tables.specs.Files.{Tells}
 
 -- a part of a piece is that part of the whole

@@ -1,11 +1,10 @@
 -- No loss armed: one call after another.
-use Rattle.std.proofs.Common.{◌≡◌, ◌∙◌, refl, ap, subst, Option, None}
-use Rattle.std.specs.Prelude.{Result, Ok, Err}
+use Rattle.std.proofs.Common.{◌∙◌, Option}
+use Rattle.std.specs.Prelude.{Result, Ok}
 use Rattle.flash_core.specs.declared.flash.Arming.{Arming}
 use Rattle.flash_core.specs.declared.flash.Counts.{Counts}
 use Rattle.flash_core.specs.declared.flash.FlashStop.{FlashStop}
-use Rattle.flash_core.specs.declared.flash.FlashStop.TheVariants.{Lost, Failed}
-use Rattle.flash_core.specs.Counts.{StaysUnarmed, Fires, IsDue, arming_spent}
+use Rattle.flash_core.specs.Counts.{StaysUnarmed}
 
 -- after calls that were done, one more that was done
 pub unarmed_then : {T : Type 0} (result : Result T FlashStop) (a b c : Option Arming) (x y z : Counts) → StaysUnarmed {T = Unit {0}} (Ok tt) a b x y → StaysUnarmed result b c y z → StaysUnarmed {T = Unit {0}} (Ok tt) a c x z

@@ -14,7 +14,7 @@ use Rattle.agent_kept.specs.declared.kinds.Request.TheVariants as request
 use Rattle.agent_kept.specs.Plans.{call_of}
 use Rattle.agent_machine.specs.declared.stop.Stop as agents
 use Rattle.agent_machine.specs.declared.stop.Stop.TheVariants as agent_stop
-use Rattle.agent_machine.specs.Meets.{GoesBack, IsGot, IsSettingOf, Meets, MeetsPrevious}
+use Rattle.agent_machine.specs.Meets.{IsGot, Meets, MeetsPrevious}
 use Rattle.agent_machine.specs.Meets as meets
 use Rattle.agent_machine.specs.CallGoes.{AgentAt, CallGoes}
 use Rattle.flash_core.specs.declared.flash.Flash.{Ghosts}
@@ -100,55 +100,6 @@ meets-previous (Err agent_stop.Gone) bytes passes old new live m passed = absurd
 -- ---- what each call promises
 
 module _ {A D : Type 0} {g : Ghosts D} (old new : AgentAt A D) where
-  -- of an answer or a refusal that is made a reply
-  pub goes-said : {T : Type 0} (says : T → AgentReply) (answer : Result T agents.Stop) → ((value : T) → agents_answer (Ok (says value)) ≡ Ok tt)
-      → CallGoes g answer old new → CallGoes g (agents_answer (said says answer)) old new
-  goes-said says (Ok value) plain h = subst (λ (r : Result (Unit {0}) agents.Stop). CallGoes g r old new) (sym (plain value)) (record {
-    gone = record { gone = (λ is. absurd (cc), λ was. absurd (let e = h.gone.gone.1 was in cc)); later = (λ is. h.gone.later.0 is, λ is. h.gone.later.1 is) };
-    untouched = λ is. absurd (cc);
-    refused = λ is. absurd is;
-    power = h.power;
-    size = h.size;
-    costs = h.costs;
-    unarmed = h.unarmed;
-  })
-  goes-said says (Err (agent_stop.Status st)) plain h = record {
-    gone = record { gone = (λ is. absurd (cc), λ was. absurd (let e = h.gone.gone.1 was in cc)); later = (λ is. h.gone.later.0 is, λ is. h.gone.later.1 is) };
-    untouched = λ is. absurd (cc);
-    refused = h.refused;
-    power = h.power;
-    size = h.size;
-    costs = h.costs;
-    unarmed = h.unarmed;
-  }
-  goes-said says (Err agent_stop.Lost) plain h = record {
-    gone = record { gone = (λ is. absurd (cc), λ was. absurd (let e = h.gone.gone.1 was in cc)); later = (λ is. h.gone.later.0 is, λ is. h.gone.later.1 is) };
-    untouched = λ is. absurd (cc);
-    refused = λ is. absurd is;
-    power = h.power;
-    size = h.size;
-    costs = h.costs;
-    unarmed = h.unarmed;
-  }
-  goes-said says (Err agent_stop.Fault) plain h = record {
-    gone = record { gone = (λ is. absurd (cc), λ was. absurd (let e = h.gone.gone.1 was in cc)); later = (λ is. h.gone.later.0 is, λ is. h.gone.later.1 is) };
-    untouched = λ is. absurd (cc);
-    refused = λ is. absurd is;
-    power = h.power;
-    size = h.size;
-    costs = h.costs;
-    unarmed = h.unarmed;
-  }
-  goes-said says (Err agent_stop.Gone) plain h = record {
-    gone = record { gone = (λ is. h.gone.gone.0 refl, λ was. refl); later = (λ is. h.gone.later.0 is, λ is. h.gone.later.1 is) };
-    untouched = λ is. h.untouched refl;
-    refused = λ is. absurd is;
-    power = h.power;
-    size = h.size;
-    costs = h.costs;
-    unarmed = h.unarmed;
-  }
-
   -- where it isn't told which reply it was
   pub goes-told : (r : AgentReply) → CallGoes g (agents_answer (Ok r)) old new → CallGoes {T = Unit {0}} g (Ok tt) old new
   goes-told (wire.Refused st) h = record {

@@ -172,18 +172,6 @@ pub next_less : (jobs after : List (Option Job)) (j size next : ℕ) → IsNextP
 next_less jobs after j size next piece some gone least =
     omega (arith, least j piece.lane, ap left (gone j piece.lane), left_less size (job_at jobs j) some piece.within piece.none)
 
--- before any image
-pub nothing_yet : {D : Type 0} (g : Ghosts D) (d : D) (work : Work) → AreReadable g d work.images → work.bad ≡ length work.images.rows.now - 1 → work.next ≡ 0
-    → ((j : ℕ) → j < 4 → job_at work.jobs j ≡ None) → work.block ≡ place work.images.rows.now work.images.first 1 → IsUnderWay g d work
-nothing_yet g d work readable bad next none block = record {
-  readable = readable;
-  most = omega arith;
-  bad = λ under. absurd (omega (arith, under, bad));
-  good = λ k below low free. absurd (omega (arith, below, next));
-  lanes_are = λ j lt job is. let no : job_at work.jobs j ≡ None = none j lt in absurd cc;
-  begins = block ∙ ap (λ (n : ℕ). place work.images.rows.now work.images.first (n + 1)) (sym next);
-}
-
 module _ {D : Type 0} (g : Ghosts D) (d : D) (work : Work) (way : IsUnderWay g d work) where
   -- what a lane reads next lies in its image, and that on the device
   pub piece_inside : (size j : ℕ) (job : Job) → IsPieceOfJobs work.jobs size → j < 4 → job_at work.jobs j ≡ Some job → job.at + job.done + size ≤ block_bytes * g.blocks d

@@ -36,15 +36,6 @@ takes_erase (Ok x) clear armed amid arming unclear erased kept = subst (λ (b : 
 takes_erase (Err stop) clear armed amid arming unclear erased kept = tt
 
 module _ (b blocks : ℕ) (on : Bool) (s : Told) (sound : IsSound blocks on s) (within : b < blocks) where
-  -- nothing was written
-  pub read_stopped : {T : Type 0} (result : Result T FlashStop) → IsErr result → Clears result b s s
-  read_stopped result err = record {
-    keeps = keeps_same _ _ s;
-    idle = λ none. refl;
-    erased = IfOk-from_err result _ err;
-    quiet = λ quiet. IfOk-from_err result _ err;
-  }
-
   pub was_clear : {T : Type 0} (x : T) (out : List ℕ) → out ≡ block b s.now → is_blank out ≡ true → Clears {T = T} (Ok x) b s s
   was_clear x out is all = record {
     keeps = keeps_same _ _ s;

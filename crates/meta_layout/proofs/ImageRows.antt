@@ -1,20 +1,11 @@
 -- Image rows: tests of all of them, their types, and the sum of their slots.
-use Rattle.std.proofs.Common.{zero, suc, ◌-◌, length-drop, take_all, false, not, get_or, drop, drop-cons, add-one, arith, ◌⊎◌, inl, inr, ◌≡◌, ℕ, ◌+◌, ◌<◌, ◌≤◌, Bool, true, false, ◌&&◌, nat_le, ◌==◌, IsTrue, eq-eqb, List, [], ◌∷◌, ◌++◌, length, take, map, refl, ap, sym, ◌∙◌}
-use Rattle.std.proofs.lemmas.List.{take_more, drop_all}
-use Rattle.fwu_formats.proofs.Written.{rows-limits}
-use Rattle.base_core.specs.Bytes.{same_bytes, are_bytes}
-use Rattle.fwu_formats.specs.Layout.{ImageRow, nil_guid, dir_guid, is_row, are_distinct, slot_total}
+use Rattle.std.proofs.Common.{zero, suc, ◌-◌, length-drop, take_all, false, not, get_or, drop, drop-cons, add-one, arith, ◌⊎◌, inl, inr, ◌≡◌, ℕ, ◌+◌, ◌<◌, ◌≤◌, Bool, true, false, ◌&&◌, IsTrue, List, [], ◌∷◌, ◌++◌, length, take, map, refl, ap, sym, ◌∙◌}
+use Rattle.std.proofs.lemmas.List.{take_more}
+use Rattle.base_core.specs.Bytes.{same_bytes}
+use Rattle.fwu_formats.specs.Layout.{ImageRow, is_row, are_distinct}
 use Rattle.std.specs.List.{list_all, list_any, range_with_len}
 use Rattle.std.proofs.lemmas.Bool.{cases_lt, and_parts, and_from}
 use Rattle.fwu_formats.proofs.Spell.{all-range}
-use Rattle.std.proofs.lemmas.Grind.{common_steps}
-
-pub row-fits : (r : ImageRow) (nil directory b : Bool) → length r.guid ≡ 16 → IsTrue (are_bytes r.guid)
-    → nil ≡ same_bytes r.guid nil_guid → directory ≡ same_bytes r.guid dir_guid
-    → b ≡ (not nil && not directory && nat_le 1 r.slots && nat_le r.slots 256) → b ≡ is_row r
-row-fits r nil directory b sixteen bytes none dir so =
-    let long : (length r.guid == 16) ≡ true = eq-eqb (length r.guid) 16 sixteen in
-    rw (long, bytes, ← none, ← dir) so
 
 -- a test of the numbers of a range
 pub range-true : (test : ℕ → Bool) (n : ℕ) → ((i : ℕ) → i < n → test i ≡ true) → true ≡ list_all test (range_with_len 0 n)
@@ -70,25 +61,6 @@ module _ (rows : List ImageRow) (i : ℕ) (row : ImageRow) (again : Bool) (lt : 
 
   pub apart-not : again ≡ true → false ≡ whole
   apart-not on = sym (split ∙ ap (λ b. not b && are_distinct (types (drop (i + 1) rows))) on)
-
-pub apart-end : (rows : List ImageRow) (i : ℕ) (whole : Bool) → length rows ≤ i → are_distinct (types (drop i rows)) ≡ whole → true ≡ whole
-apart-end rows i whole h so = ap (λ l. are_distinct (types l)) (sym (drop_all i rows h)) ∙ so
-
--- the blocks of the first rows
-pub total-more : (rows : List ImageRow) (i : ℕ) (d : ImageRow) → i < length rows → slot_total (take (i + 1) rows) ≡ slot_total (take i rows) + (get_or rows i d).slots
-total-more rows i d lt = grind (arith, common_steps)
-
--- a row that a loop has come to
-module _ (rows : List ImageRow) (i : ℕ) (row : ImageRow) (fit : IsTrue (list_all is_row rows)) (lt : i < length rows) (is : row ≡ get_or rows i row) where
-  pub row-bound : row.slots ≤ 256
-  row-bound = let e : row.slots ≡ (get_or rows i row).slots = ap (λ (r : ImageRow). r.slots) is in omega (arith, e, (rows-limits row rows fit i lt).slots)
-
-  pub row-total : (total : ℕ) → total ≡ slot_total (take i rows) → total + row.slots ≡ slot_total (take (i + 1) rows)
-  row-total total so =
-      ap (λ n. n + row.slots) so ∙ ap (λ (r : ImageRow). slot_total (take i rows) + r.slots) is ∙ sym (total-more rows i row lt)
-
-pub total-all : (rows : List ImageRow) (i total : ℕ) → length rows ≤ i → total ≡ slot_total (take i rows) → total ≡ slot_total rows
-total-all rows i total h so = so ∙ ap slot_total (take_all i rows h)
 
 -- a list that takes the elements of another
 pub taken : (given rows next : List ImageRow) (i : ℕ) (row : ImageRow) → i < length given → row ≡ get_or given i row → rows ≡ take i given → next ≡ rows ++ row ∷ [] → next ≡ take (i + 1) given

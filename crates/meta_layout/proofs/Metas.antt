@@ -1,13 +1,11 @@
 -- A metadata block, test by test.
 use Rattle.std.proofs.Common.{◌≡◌, ℕ, zero, suc, ◌≤◌, ◌<◌, Bool, true, false, ◌==◌, eq-eqb, List, [], ◌∷◌, length, take, map, replicate, ltb, Ok, Err, refl, sym, ap, ◌∙◌, arith}
 use Rattle.std.proofs.lemmas.Bool.{lt-ltb, ne_eqb}
-use Rattle.base_core.specs.Bytes.{num_at, part, listed}
+use Rattle.base_core.specs.Bytes.{num_at, part}
 use Rattle.base_core.specs.Crc.{crc}
 use Rattle.fwu_formats.specs.Layout.{Layout}
-use Rattle.fwu_formats.specs.Metadata.{MetaRead, meta_size, meta_size_v1, read_v2, read_v1, meta_of, fits_v2, fits_v1, meta_at, meta_at_v1, state_at_v1, bits_from}
-use Rattle.fwu_formats.specs.declared.kinds.BankState.{BankState}
+use Rattle.fwu_formats.specs.Metadata.{MetaRead, meta_size, meta_size_v1, read_v2, read_v1, meta_of, fits_v2, fits_v1, meta_at, meta_at_v1}
 use Rattle.fwu_formats.specs.declared.kinds.MetaFault.TheVariants as fault
-use Rattle.meta_layout.specs.Entries.{state_from, bits_at_v1}
 use Rattle.meta_layout.proofs.Layouts.{ge-ltb}
 
 take-falses : (n m : ℕ) → n ≤ m → take n (replicate m false) ≡ replicate n false
@@ -57,16 +55,6 @@ module _ (L : Layout) (block : List ℕ) (size : ℕ) (sum : Bool) where
     one-ok good fits r so = let e : (num_at 4 block 0 == crc (part block 4 (meta_size_v1 L))) ≡ true = summed-one ∙ good in rw (e, fits, so) refl
 
 module _ (L : Layout) (block : List ℕ) where
-  pub two-value : (active previous : ℕ) (states : List BankState) (bits : List (List Bool))
-      → active ≡ num_at 4 block 8 → previous ≡ num_at 4 block 12 → states ≡ listed L.banks (state_from block) → bits ≡ listed L.banks (bits_from L 0x28 block)
-      → (let r : MetaRead = record { form = 2; meta = record { active = active; previous = previous; states = states; bits = bits } } in r ≡ record { form = 2; meta = meta_at L block })
-  two-value active previous states bits ea ep es ebits = rw (es, ebits, ea, ep) refl
-
-  pub one-value : (active previous : ℕ) (states : List BankState) (bits : List (List Bool))
-      → active ≡ num_at 4 block 8 → previous ≡ num_at 4 block 12 → states ≡ listed L.banks (state_at_v1 L block) → bits ≡ listed L.banks (bits_at_v1 L block)
-      → (let r : MetaRead = record { form = 1; meta = record { active = active; previous = previous; states = states; bits = bits } } in r ≡ record { form = 1; meta = meta_at_v1 L block })
-  one-value active previous states bits ea ep es ebits = rw (es, ebits, ea, ep) refl
-
   pub meta-short : length block < meta_size L → Err fault.Short ≡ meta_of L block
   unfolding meta_of
   meta-short few = let e : ltb (length block) (meta_size L) ≡ true = lt-ltb _ _ few in rw e refl

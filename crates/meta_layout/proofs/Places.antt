@@ -27,9 +27,6 @@ pushed f xs i x so is = ap (λ l. l ++ x ∷ []) so ∙ ap (λ z. listed i f ++ 
 pub length-listed : {X : Type 0} (f : ℕ → X) (xs : List X) (i : ℕ) → xs ≡ listed i f → length xs ≡ i
 length-listed f xs i so = ap (λ l. length l) so ∙ length-map-range_with_len f 0 i
 
-pub listed-count : {X : Type 0} (f : ℕ → X) (xs : List X) (i j : ℕ) → i ≡ j → xs ≡ listed i f → xs ≡ listed j f
-listed-count f xs i j e so = so ∙ ap (λ n. listed n f) e
-
 pub and-true : (b : Bool) → (b && true) ≡ b
 and-true true = refl
 and-true false = refl

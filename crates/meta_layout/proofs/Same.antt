@@ -61,10 +61,6 @@ bits-tell = record { one = one; itself = itself }
     itself true = refl
     itself false = refl
 
--- what is compared is known by another name
-pub told-as : {X : Type 0} (b : Bool) (x y v w : X) → (IsTrue b ↔ (x ≡ y)) → x ≡ v → y ≡ w → IsTrue b ↔ (v ≡ w)
-told-as b x y v w h ex ey = (λ t. sym ex ∙ h.0 t ∙ ey, λ e. h.1 (ex ∙ e ∙ sym ey))
-
 made : (f g a b p q : ℕ) (s t : List BankState) (u v : List (List Bool)) → f ≡ g → a ≡ b → p ≡ q → s ≡ t → u ≡ v
     → ◌≡◌ {A = MetaRead} (record { form = f; meta = record { active = a; previous = p; states = s; bits = u } }) (record { form = g; meta = record { active = b; previous = q; states = t; bits = v } })
 made f g a b p q s t u v ef ea ep es eu = cc

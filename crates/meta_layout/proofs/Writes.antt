@@ -1,17 +1,14 @@
 -- Bytes that are written one after another.
-use Rattle.std.proofs.Common.{◌%◌, IsTrue, map, ◌≡◌, ℕ, ◌+◌, ◌-◌, ◌≤◌, ◌<◌, List, [], ◌∷◌, ◌++◌, length, get_or, take, drop, replicate, refl, sym, ap, ◌∙◌, arith, append_assoc, append-nil, length-append}
+use Rattle.std.proofs.Common.{IsTrue, map, ◌≡◌, ℕ, ◌+◌, ◌-◌, ◌≤◌, ◌<◌, List, [], ◌∷◌, ◌++◌, length, get_or, take, drop, replicate, refl, sym, ap, ◌∙◌, arith, append_assoc, append-nil, length-append}
 use Rattle.std.proofs.Math.Seq.{take-append-add}
 use Rattle.std.proofs.lemmas.List.{take-replicate, length-replicate, take_all, drop-replicate, get_or_default, length-drop, drop_all, drop-take, drop-append-le, length-take-le, drop_at, take_more}
 use Rattle.std.specs.Prelude.{flat_map}
 use Rattle.fwu_formats.specs.Metadata.{Meta, meta_size, entry_size, state_byte, fits_meta, entry_bytes, entries_bytes, meta_body}
-use Rattle.fwu_formats.specs.declared.kinds.BankState.{BankState}
-use Rattle.fwu_formats.specs.declared.kinds.BankState.TheVariants.{Invalid}
 use Rattle.meta_layout.proofs.Fits.{meta-fits, row-length}
 use Rattle.meta_layout.specs.Entries.{HasBits, meta_entry_of, state_bytes, front_bytes, rest_bytes}
-use Rattle.base_core.specs.Bytes.{overwritten, le, part, listed}
+use Rattle.base_core.specs.Bytes.{overwritten, le, part}
 use Rattle.base_core.specs.Crc.{crc}
 use Rattle.fwu_formats.specs.Layout.{ImageRow, Layout, nil_guid, row_bytes, layout_magic, layout_size, layout_body}
-use Rattle.fwu_formats.proofs.OneSpelling.{map-last}
 
 pub three : (first a b c : List ℕ) → ((first ++ a) ++ b) ++ c ≡ first ++ ((a ++ b) ++ c)
 three first a b c = simp append_assoc
@@ -66,9 +63,6 @@ written body out w new size low room long is so =
     let inner : part one 4 size ≡ body = ap (λ (l : List ℕ). take (size - 4) (drop 4 l)) plain ∙ ap (take (size - 4)) (drop_at (take 4 out) w 4 four) ∙ is in
     so ∙ ap (λ l. le 4 (crc l) ++ l ++ replicate (length one - size) 0xFF) inner ∙ ap (λ n. le 4 (crc body) ++ body ++ replicate (n - size) 0xFF) count
 
-pub listed-all : (f : ℕ → List ℕ) (i n : ℕ) (first after : List ℕ) → i ≡ n → after ≡ first ++ flat_map f (listed i (λ k. k)) → after ≡ first ++ flat_map f (listed n (λ k. k))
-listed-all f i n first after e so = so ∙ ap (λ k. first ++ flat_map f (listed k (λ x. x))) e
-
 -- ---- metadata that fits
 
 pub has-bits : (L : Layout) (m : Meta) (image banks : ℕ) → IsTrue (fits_meta L m) → banks ≡ L.banks → image < length L.rows → HasBits m banks image
@@ -86,13 +80,6 @@ entry-bytes L m image row rows banks is same lt count =
     let guid : row.guid ≡ (get_or L.rows image none).guid =
     ap (λ (r : ImageRow). r.guid) (is ∙ get_or_default rows image row none lt ∙ ap (λ l. get_or l image none) same) in
     rw (guid, count) refl
-
-pub states-more : (states : List BankState) (i v : ℕ) (s : BankState) (first before after : List ℕ) → i < length states → s ≡ get_or states i Invalid → v ≡ state_byte s
-    → v < 256 → before ≡ first ++ map state_byte (take i states) → after ≡ before ++ le 1 v → after ≡ first ++ map state_byte (take (i + 1) states)
-states-more states i v s first before after lt is byte small so next =
-    let low : v % 256 ≡ v = omega arith in
-    next ∙ ap (λ n. before ++ n ∷ []) (low ∙ byte) ∙ ap (λ l. l ++ state_byte s ∷ []) so ∙ append_assoc first (map state_byte (take i states)) (state_byte s ∷ [])
-    ∙ ap (λ l. first ++ l) (sym (map-last (take i states) s) ∙ ap (λ z. map state_byte (take i states ++ z ∷ [])) is ∙ ap (map state_byte) (sym (take_more states i Invalid lt)))
 
 pub unused : (banks : ℕ) → banks ≤ 4 → (let four : List ℕ = 255 ∷ 255 ∷ 255 ∷ 255 ∷ [] in take (4 - banks) (drop banks four) ≡ replicate (4 - banks) 255)
 unused banks h = ap (λ (l : List ℕ). take (4 - banks) l) (drop-replicate banks 4 255) ∙ take_all (4 - banks) (replicate (4 - banks) 255) (omega (arith, length-replicate {A = ℕ} (4 - banks) 255))

@@ -23,9 +23,6 @@ nothing-long = refl
 pub in-time-still : (was : Option (List ℕ)) → ReadsInTime was was
 in-time-still was = record { before = []; last = []; taken = Consumes-nil was; short = omega arith; within = nothing-long; few = omega arith }
 
-pub unread-in-time : (was now : Option (List ℕ)) → now ≡ was → ReadsInTime was now
-unread-in-time was now same = subst (ReadsInTime was) (sym same) (in-time-still was)
-
 -- a read that failed took nothing
 kept : (was mid new : Option (List ℕ)) (text : List ℕ) → Consumes was mid text → Keeps mid new → Consumes was new text
 kept None mid new text c k = tt

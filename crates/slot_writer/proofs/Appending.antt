@@ -3,8 +3,8 @@ use Rattle.std.proofs.Common.{◌≡◌, inl, inr, ℕ, ◌+◌, ◌-◌, ◌*�
 use Rattle.std.proofs.lemmas.List.{length-take, length-take-le, length-drop, get_or-take, get_or-drop, get_or_default, same_lists, take-append-drop, length-append, length-replicate, get_or-replicate, get_or-append_right, take-take, drop-take, drop-drop, append_assoc, append-nil}
 use Rattle.std.proofs.lemmas.Bool.{cases_lt}
 use Rattle.std.proofs.Math.Seq.{take-append-add, take-append_seam}
-use Rattle.std.proofs.lemmas.Result.{IfOk-from_err, on_ok_weaker}
-use Rattle.std.specs.Prelude.{Result, Ok, Err, IsErr}
+use Rattle.std.proofs.lemmas.Result.{on_ok_weaker}
+use Rattle.std.specs.Prelude.{Result, Ok, Err}
 use Rattle.flash_core.specs.declared.flash.FlashStop.{FlashStop}
 use Rattle.flash_core.specs.Told.{Told, settle, settled}
 use Rattle.flash_core.specs.May.{Keeps}
@@ -60,21 +60,6 @@ module _ (first size whole : ℕ) (rest bytes left : List ℕ) (s t : Told) (gra
     ahead = λ i above below. programs.ahead i (omega (arith, above, now_done, count)) (subst (λ (k : ℕ). i < 4096 * (first + blocks_for k)) (now_done ∙ ap (λ (k : ℕ). size + k) (sym count)) below);
     stable = programs.stable;
   }
-
-settled-err : {T E : Type 0} (result : Result T E) (t : Told) → IsErr result → t ≡ settled result t
-settled-err (Ok x) t err = absurd cc
-settled-err (Err e) t err = refl
-
--- a stop on the way
-pub stopped-appends : {T U : Type 0} (given : Result T FlashStop) (result : Result U FlashStop) (first done size : ℕ) (rest some bytes left : List ℕ) (s t : Told)
-    → IsErr result → done_of size ≤ done → done + length some ≤ done_of (size + length bytes) → Programs given first done some s t → Appends result first size rest bytes left s t
-stopped-appends given result first done size rest some bytes left s t err from less programs = record {
-  keeps = keeps_wider (4096 * first + done) (4096 * (first + blocks_for (done + length some))) (4096 * first + done_of size) (4096 * (first + blocks_for (done_of (size + length bytes)))) s t (omega (arith, from)) (omega (arith, less)) programs.keeps;
-  idle = λ same. programs.idle (omega (arith, from, less, same));
-  written = IfOk-from_err result _ err;
-  ahead = IfOk-from_err result _ err;
-  stable = programs.stable;
-}
 
 -- bytes that fill no granule are kept alone
 pub kept-appended : (first size : ℕ) (rest bytes left : List ℕ) (s : Told) → size % 16 + length bytes < 16 → take (size % 16 + length bytes) left ≡ take (size % 16) rest ++ bytes → IsBlankAhead first (done_of size) s.now
@@ -184,15 +169,3 @@ module _ (first size n : ℕ) (rest last : List ℕ) (s m : Told) (n_is : n ≡ 
     stable = settle-fresh m;
   }
   finished-by (Err stop) = record { keeps = keeps_here; idle = idle_here; written = tt; padded = tt; stable = tt }
-
-pub stopped-finishes : {T U : Type 0} (given : Result T FlashStop) (result : Result U FlashStop) (first size n : ℕ) (rest last : List ℕ) (s t : Told)
-    → IsErr result → n ≡ 16 * ((size % 16 + 15) / 16) → n ≤ length last → Programs given first (done_of size) (take n last) s t → FinishesImage result first size rest s t
-stopped-finishes given result first size n rest last s t err n_is within programs =
-    let count : length (take n last) ≡ n = length-take-le n last within in
-    record {
-      keeps = keeps_wider (4096 * first + done_of size) (4096 * (first + blocks_for (done_of size + length (take n last)))) (4096 * first + done_of size) (4096 * (first + blocks_for size)) s t (omega arith) (omega (arith, count, n_is)) programs.keeps;
-      idle = λ none. programs.idle (omega (arith, count, n_is, none)) ∙ settled-err result s err;
-      written = IfOk-from_err result _ err;
-      padded = IfOk-from_err result _ err;
-      stable = IfOk-from_err result _ err;
-    }

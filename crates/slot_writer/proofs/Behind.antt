@@ -2,8 +2,7 @@
 use Rattle.std.proofs.Common.{◌≡◌, inl, inr, ℕ, ◌+◌, ◌-◌, ◌*◌, ◌<◌, ◌≤◌, List, length, get_or, drop, slice_range, sym, ◌∙◌, ap, arith}
 use Rattle.std.proofs.lemmas.Bool.{cases_lt}
 use Rattle.std.proofs.lemmas.List.{length-take, length-drop, get_or-take, get_or-drop, get_or_default, same_lists}
-use Rattle.std.proofs.lemmas.Result.{IfOk-from_err}
-use Rattle.std.specs.Prelude.{Result, Ok, Err, IsErr}
+use Rattle.std.specs.Prelude.{Result, Ok, Err}
 use Rattle.base_core.specs.Block.{blank}
 use Rattle.base_core.proofs.Blocks.{length-blank, get_or-blank}
 use Rattle.flash_core.specs.declared.flash.FlashStop.{FlashStop}
@@ -17,25 +16,12 @@ use Rattle.slot_writer.specs.Slots.{Erases, Programs, IsBlankAhead, blocks_for}
 pub reached : (n : ℕ) → n ≤ 4096 * blocks_for n
 reached n = omega arith
 
-pub reached-more : (n k : ℕ) → blocks_for n ≤ blocks_for (n + k)
-reached-more n k = omega arith
-
 module _ (first done low high : ℕ) (bytes : List ℕ) (s m : Told) (low_is : low ≡ first + blocks_for done) (high_is : high ≡ first + blocks_for (done + length bytes)) (some : 0 < length bytes) where
   abbrev at : ℕ
   at = 4096 * first + done
 
   abbrev end : ℕ
   end = first + blocks_for (done + length bytes)
-
-  -- the erase was stopped
-  pub programs_unerased : {T U : Type 0} (given : Result T FlashStop) (result : Result U FlashStop) → IsErr result → Erases given low high s m → Programs result first done bytes s m
-  programs_unerased given result err erases = record {
-    keeps = keeps_wider (4096 * low) (4096 * high) at (4096 * end) s m (omega (arith, reached done, low_is)) (omega (arith, high_is)) erases.keeps;
-    idle = λ none. absurd (omega (arith, none, some));
-    written = IfOk-from_err result _ err;
-    ahead = IfOk-from_err result _ err;
-    stable = erases.stable;
-  }
 
   module _ {T : Type 0} (x : T) (room : 4096 * end ≤ length s.now) (ahead : IsBlankAhead first done s.now) (erases : Erases {T = T} (Ok x) low high s m) where
     wide : Keeps at (4096 * end) s m

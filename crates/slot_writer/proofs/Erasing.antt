@@ -1,5 +1,5 @@
 -- One more erased block.
-use Rattle.std.proofs.Common.{◌≡◌, refl, ◌⊎◌, inl, inr, ℕ, ◌+◌, ◌-◌, ◌*◌, ◌<◌, ◌≤◌, List, length, get_or, ◌∙◌, ap, arith}
+use Rattle.std.proofs.Common.{◌≡◌, ◌⊎◌, inl, inr, ℕ, ◌+◌, ◌-◌, ◌*◌, ◌<◌, ◌≤◌, List, length, get_or, ◌∙◌, ap, arith}
 use Rattle.std.proofs.lemmas.Bool.{cases_lt}
 use Rattle.std.proofs.lemmas.Result.{IfOk-from_err}
 use Rattle.std.specs.Prelude.{Result, Ok, IsErr}
@@ -8,7 +8,7 @@ use Rattle.base_core.proofs.Blocks.{length-blank, get_or-blank}
 use Rattle.flash_core.specs.declared.flash.FlashStop.{FlashStop}
 use Rattle.flash_core.specs.Told.{Told, overwritten, put, halt}
 use Rattle.flash_core.proofs.Images.{overwritten_below, overwritten_inside}
-use Rattle.flash_core.proofs.Calls.{keeps_same, keeps_wider, keeps_put, keeps_halt, now-put, stable-put, stable-halt}
+use Rattle.flash_core.proofs.Calls.{keeps_wider, keeps_put, keeps_halt, now-put, stable-put, stable-halt}
 use Rattle.slot_writer.specs.Slots.{Erases}
 
 module _ (first end b : ℕ) (s t : Told) (from : first ≤ b) (more : b < end) (room : 4096 * end ≤ length s.now) (T : Type 0) (x : T) (so_far : Erases {T = T} (Ok x) first b s t) where
@@ -34,6 +34,3 @@ module _ (first end b : ℕ) (s t : Told) (from : first ≤ b) (more : b < end) 
       at : (i : ℕ) → 4096 * first ≤ i → i < 4096 * (b + 1) → (i < 4096 * b) ⊎ (4096 * b ≤ i) → get_or (overwritten (4096 * b) (blank 4096) t.now) i 0 ≡ 255
       at i low high (inl below) = overwritten_below (4096 * b) (blank 4096) t.now fits i 0 below ∙ so_far.erased i low below
       at i low high (inr here) = overwritten_inside (4096 * b) (blank 4096) t.now fits i 0 here (omega (arith, length-blank 4096)) ∙ get_or-blank 4096 (i - 4096 * b) 0 (omega arith)
-
-pub erase_none : (first : ℕ) (T : Type 0) (x : T) (s : Told) → Erases {T = T} (Ok x) first first s s
-erase_none first T x s = record { keeps = keeps_same _ _ s; erased = λ i low high. absurd (omega (arith, low, high)); stable = refl }

@@ -1,5 +1,4 @@
 pub mod Keeping
-pub mod Counting
 pub mod Spending
 pub mod Erasing
 pub mod Behind

@@ -1,13 +1,12 @@
 -- What erases and programs leave of an arming, one after the other.
-use Rattle.std.proofs.Common.{◌≡◌, ℕ, ◌+◌, ◌-◌, ◌<◌, ◌≤◌, ◌∙◌, refl, sym, ap, subst, arith, Option, Some, None}
+use Rattle.std.proofs.Common.{◌≡◌, ℕ, ◌+◌, ◌-◌, ◌<◌, ◌≤◌, ◌∙◌, refl, ap, arith, Option, Some, None}
 use Rattle.std.specs.Prelude.{Result, Ok, Err}
-use Rattle.std.specs.Option.{ForSome}
 use Rattle.flash_core.specs.declared.flash.Arming.{Arming}
 use Rattle.flash_core.specs.declared.flash.Counts.{Counts}
 use Rattle.flash_core.specs.declared.flash.FlashStop.{FlashStop}
-use Rattle.flash_core.specs.Counts.{ReachesNone, Fires, arming_spent, arming_kept, lowered_by}
+use Rattle.flash_core.specs.Counts.{Fires, arming_spent, lowered_by}
 use Rattle.flash_core.proofs.Spent.{lowered_then}
-use Rattle.flash_core.proofs.Unarmed.{unarmed_kept, unarmed_none, unarmed_spent, unarmed_stopped, unarmed_then}
+use Rattle.flash_core.proofs.Unarmed.{unarmed_none, unarmed_spent, unarmed_then}
 use Rattle.slot_writer.specs.Writes.{SpendsArming}
 
 -- one erase or program
@@ -48,27 +47,6 @@ spends_none x (Some armed) counts = record {
   unarmed = unarmed_none x (Some armed) counts;
 }
 
--- a barrier
-pub spends_barrier : {T : Type 0} (result : Result T FlashStop) (armed arming : Option Arming) (old new : Counts) → arming ≡ arming_kept result armed → ReachesNone result old new → SpendsArming result 0 armed arming old new
-spends_barrier (Ok x) armed arming old new is none = record {
-  lowered = is ∙ lowered_none armed;
-  passed = passed_none armed;
-  unarmed = unarmed_kept (Ok x) armed arming old new is none;
-}
-  where
-    lowered_none : (o : Option Arming) → o ≡ lowered_by 0 o
-    lowered_none None = refl
-    lowered_none (Some a) = ap (λ (n : ℕ). Some (record { n = n; k = a.k })) (omega arith)
-
-    passed_none : (o : Option Arming) → ForSome o (λ a. 1 ≤ a.n → 0 < a.n)
-    passed_none None = λ a e. absurd cc
-    passed_none (Some a) = λ b e some. some
-spends_barrier (Err stop) armed arming old new is none = record {
-  lowered = tt;
-  passed = tt;
-  unarmed = unarmed_kept (Err stop) armed arming old new is none;
-}
-
 -- calls that were done, and one more
 pub spends_then_arming : {T U : Type 0} (x : T) (result : Result U FlashStop) (i j n : ℕ) (a b c : Option Arming) (u v w : Counts) → i + j ≡ n → u.cuts ≤ v.cuts → SpendsArming {T = T} (Ok x) i a b u v → SpendsArming result j b c v w → SpendsArming result n a c u w
 spends_then_arming x (Ok y) i j n a b c u v w sum less first second = record {
@@ -85,8 +63,3 @@ spends_then_arming x (Err stop) i j n a b c u v w sum less first second = record
   passed = tt;
   unarmed = unarmed_then x (Err stop) a b c u v w less first.unarmed second.unarmed;
 }
-
--- a call that was stopped, by what stopped it
-pub spends_stopped : {T U : Type 0} (stop : FlashStop) (result : Result U FlashStop) (i j : ℕ) (a b : Option Arming) (u v : Counts) → result ≡ Err stop → SpendsArming {T = T} (Err stop) i a b u v → SpendsArming result j a b u v
-spends_stopped {U = U} stop result i j a b u v is spends =
-    subst (λ (r : Result U FlashStop). SpendsArming r j a b u v) (sym is) (record { lowered = tt; passed = tt; unarmed = unarmed_stopped stop spends.unarmed })

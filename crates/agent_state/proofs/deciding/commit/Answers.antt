@@ -1,6 +1,5 @@
-use Rattle.std.proofs.Common.{◌≡◌, ℕ, ◌-◌, ◌==◌, refl, sym, ap, ◌∙◌, arith}
-use Rattle.agent_kept.specs.declared.parts.Handle.TheVariants.{Writes}
-use Rattle.agent_kept.specs.Kept.{kept, handle_kept, handles_meant, staging_meant, handle_meant}
+use Rattle.std.proofs.Common.{◌-◌, ◌==◌, refl, ap, ◌∙◌}
+use Rattle.agent_kept.specs.Kept.{kept, handles_meant, staging_meant, handle_meant}
 use Rattle.agent_state.proofs.Machine as machine
 use Rattle.agent_state.proofs.Replies as replies
 use Rattle.agent_state.proofs.deciding.commit.Goals as goal

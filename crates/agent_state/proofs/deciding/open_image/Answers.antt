@@ -8,7 +8,6 @@ use Rattle.fwu_model.specs.declared.kinds.Op.{Op}
 use Rattle.agent_kept.specs.declared.kinds.Request.TheVariants as request
 use Rattle.agent_kept.specs.Plans.{DecidesAs, call_of}
 use Rattle.agent_state.proofs.Replies as replies
-use Rattle.agent_state.proofs.Asking.{opened-for}
 use Rattle.agent_state.specs.Asked.{IsFor}
 use Rattle.agent_state.proofs.deciding.open_image.Goals as goal
 

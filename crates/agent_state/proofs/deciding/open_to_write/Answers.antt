@@ -10,7 +10,6 @@ use Rattle.agent_kept.specs.Kept.{kept, handles_meant, staging_meant, parts_mean
 use Rattle.agent_kept.specs.Plans.{DecidesAs}
 use Rattle.agent_state.proofs.Machine as machine
 use Rattle.agent_state.proofs.Replies as replies
-use Rattle.agent_state.proofs.Asking.{opened-for}
 use Rattle.agent_state.proofs.deciding.open_to_write.Goals as goal
 
 pub returns-then-not-is_staging-clause-decides : goal.returns-then-not-is_staging-clause-decides

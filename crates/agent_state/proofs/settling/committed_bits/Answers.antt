@@ -1,5 +1,5 @@
 use Rattle.std.proofs.Common.{◌<◌, Bool, List, [], ◌∷◌, ◌++◌, length, take, sym, ap, ◌∙◌, arith}
-use Rattle.std.proofs.lemmas.List.{length-take, take_all}
+use Rattle.std.proofs.lemmas.List.{take_all}
 use Rattle.fwu_formats.specs.Layout.{ImageRow}
 use Rattle.agent_kept.specs.Kept.{kept}
 use Rattle.agent_state.specs.Settles.{bit_kept, bits_kept}

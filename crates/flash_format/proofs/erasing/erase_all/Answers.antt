@@ -1,13 +1,7 @@
-use Rattle.std.proofs.Common.{◌-◌, ◌*◌, inl, inr, arith, rules}
-use Rattle.std.specs.Prelude.{IsTrue}
-use Rattle.std.proofs.lemmas.Bool.{cases_lt}
-use Rattle.flash_core.proofs.Spent.{spent_then}
-use Rattle.flash_core.proofs.Touches.{touches_then, touches_wider}
-use Rattle.flash_format.specs.Places.{Erased}
+use Rattle.std.proofs.Common.{◌-◌, ◌*◌, inr, arith}
 use Rattle.flash_format.proofs.Clearing.{only_then}
 use Rattle.flash_format.proofs.Ordered.{bare_fresh, bare_stays}
-use Rattle.flash_format.proofs.Ranges.{erased_stays}
-use Rattle.flash_format.proofs.Recorded.{on_ok_from, on_ok_map}
+use Rattle.flash_format.proofs.Recorded.{on_ok_from}
 use Rattle.flash_format.proofs.erasing.erase_all.Goals as goal
 
 pub returns-clause-clears : goal.returns-clause-clears

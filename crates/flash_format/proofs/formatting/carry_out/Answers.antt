@@ -1,19 +1,13 @@
-use Rattle.std.proofs.Common.{◌≡◌, ◌+◌, ℕ, length, ap, subst, ◌∙◌, arith, Result, Err, ◌*◌}
+use Rattle.std.proofs.Common.{◌≡◌, ℕ, length, ap, subst, arith, Result, Err}
 use Rattle.std.specs.Prelude.{IsTrue, OnOk}
-use Rattle.flash_core.specs.Counts.{lowered_by}
-use Rattle.flash_core.proofs.Spent.{spent_then}
-use Rattle.fwu_formats.specs.Layout.{blocks_needed}
-use Rattle.flash_core.proofs.Touches.{touches_then, touches_wider}
 use Rattle.flash_format.specs.Cleared.{IsBare}
 use Rattle.flash_core.specs.Told.{NothingDirty}
 use Rattle.flash_format.specs.Planned.{IsFilled}
-use Rattle.flash_format.specs.Takes.{pieces_in, writes_to_format}
 use Rattle.flash_format.specs.Stops.{flash_result}
 use Rattle.flash_format.specs.declared.stops.FormatStop.{FormatStop}
 use Rattle.flash_format.specs.declared.stops.FormatStop.TheVariants.{ReadFailed}
 use Rattle.flash_format.proofs.Given.{finishes_more}
 use Rattle.flash_format.proofs.Ordered.{bare_is_unlaid, blank_stays, images_stay, in_order_before, in_order_filled}
-use Rattle.flash_format.proofs.Plans.{bank_within}
 use Rattle.flash_format.proofs.Stopped.{handed-on}
 use Rattle.flash_format.proofs.formatting.carry_out.Goals as goal
 

@@ -1,13 +1,8 @@
-use Rattle.std.proofs.Common.{inl, sym, ap, subst, ◌∙◌, arith, ◌≡◌, ℕ, Result, rules}
-use Rattle.std.specs.Prelude.{OnOk}
+use Rattle.std.proofs.Common.{inl, sym, subst, arith, rules}
 use Rattle.flash_core.specs.Told.{Told, NothingDirty}
 use Rattle.flash_core.specs.May.{Keeps}
 use Rattle.flash_core.proofs.Calls.{keeps_same}
-use Rattle.flash_core.specs.Counts.{lowered_by}
-use Rattle.flash_core.proofs.Touches.{touches_none, touches_then}
 use Rattle.flash_format.specs.Formatted.{HasAtMost, IsWholeFormat}
-use Rattle.flash_format.specs.Stops.{flash_result}
-use Rattle.flash_format.specs.declared.stops.FormatStop.{FormatStop}
 use Rattle.flash_format.proofs.Formats.{formatted, refused}
 use Rattle.flash_format.proofs.Ordered.{bare_fresh, bare_unlaid, ordered_before}
 use Rattle.flash_format.proofs.Showing.{unlaid}

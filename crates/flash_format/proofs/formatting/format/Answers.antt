@@ -10,18 +10,13 @@ use Rattle.fwu_formats.specs.Package.{Toc, toc_of}
 use Rattle.fip_tables.specs.Files.{Tells}
 use Rattle.image_check.specs.Passed.{HasPassed}
 use Rattle.flash_format.specs.Formatted.{HoldsImages, IsBlank, IsInOrder, IsRefusedFormat}
-use Rattle.flash_core.specs.Told.{NothingDirty}
 use Rattle.flash_format.specs.Planned.{IsFilled}
-use Rattle.flash_format.specs.Choosing.{refusal}
-use Rattle.flash_format.specs.Stops.{RefusesAs, FormatFinishes, IsOfBytes}
-use Rattle.flash_format.specs.declared.plan.Plan.{Plan}
-use Rattle.meta_layout.specs.Rows.{fitted}
+use Rattle.flash_format.specs.Stops.{FormatFinishes}
 use Rattle.flash_format.specs.Takes.{FormatTakes, pieces_in}
 use Rattle.flash_format.specs.declared.formatting.Formatted.{Formatted}
 use Rattle.flash_format.specs.declared.stops.FormatStop.{FormatStop}
 use Rattle.flash_format.specs.declared.stops.FormatStop.TheVariants.{Input}
 use Rattle.flash_format.specs.declared.stops.InputFault.TheVariants.{Incomplete}
-use Rattle.flash_format.proofs.Answered.{answers_stop, early_of, of_done, of_stop}
 use Rattle.flash_format.proofs.Formats.{not_refused}
 use Rattle.flash_format.proofs.Given.{fitted_is, hold_given, finishes_err}
 use Rattle.flash_format.proofs.Taking.{pieces_fit, pieces_told}

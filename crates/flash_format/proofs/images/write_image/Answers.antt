@@ -3,7 +3,6 @@ use Rattle.std.specs.Prelude.{Ok, Option}
 use Rattle.flash_core.proofs.Calls.{keeps_wider, keeps_then}
 use Rattle.flash_core.proofs.Costs.{spends_then}
 use Rattle.flash_core.proofs.Spent.{spent_both}
-use Rattle.flash_core.specs.Counts.{lowered_by}
 use Rattle.host_io.specs.Contents.{Directory}
 use Rattle.host_io.proofs.Reading.{reads-then}
 use Rattle.fip_tables.specs.Files.{Tells}

@@ -1,12 +1,7 @@
-use Rattle.std.proofs.Common.{◌≡◌, List, Some, subst, rules}
+use Rattle.std.proofs.Common.{List, subst, rules}
 use Rattle.fwu_formats.specs.Layout.{ImageRow}
-use Rattle.fip_tables.specs.Images.{AreImages, images_fault}
-use Rattle.flash_format.specs.Choosing.{refused}
-use Rattle.flash_format.specs.declared.plan.Plan.{Plan}
-use Rattle.flash_format.specs.declared.stops.FormatStop.TheVariants.{Input}
-use Rattle.flash_format.proofs.Answered.{of_chosen, of_refused, of_table}
+use Rattle.fip_tables.specs.Images.{AreImages}
 use Rattle.flash_format.proofs.Plans.{planned_from}
-use Rattle.flash_format.proofs.Stopped.{handed-on}
 use Rattle.flash_format.proofs.planning.plan_of.Goals as goal
 
 pub returns-clause-plans : goal.returns-clause-plans

@@ -1,7 +1,3 @@
-use Rattle.std.proofs.Common.{Err, subst}
-use Rattle.fwu_formats.specs.Package.{toc_of}
-use Rattle.fip_tables.specs.Files.{IsTocAnswer}
-use Rattle.fip_tables.specs.declared.toc.TocStop.{TocStop}
 use Rattle.fwu_formats.proofs.Tables.{ends-below}
 use Rattle.flash_format.proofs.table.read_table.Goals as goal
 

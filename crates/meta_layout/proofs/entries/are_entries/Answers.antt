@@ -1,6 +1,6 @@
-use Rattle.std.proofs.Common.{◌≡◌, ◌<◌, ◌≤◌, ◌+◌, ◌*◌, ◌∙◌, List, length, arith, below_more, sym, ap}
+use Rattle.std.proofs.Common.{◌≡◌, ◌<◌, ◌≤◌, ◌∙◌, List, length, arith, below_more, sym, ap}
 use Rattle.fwu_formats.specs.Layout.{ImageRow}
-use Rattle.fwu_formats.specs.Metadata.{has_entry, entry_size}
+use Rattle.fwu_formats.specs.Metadata.{has_entry}
 use Rattle.meta_layout.proofs.ImageRows.{range-true, range-false}
 use Rattle.meta_layout.proofs.Places.{entry-is}
 use Rattle.meta_layout.proofs.entries.are_entries.Goals as goal

@@ -1,6 +1,6 @@
-use Rattle.std.proofs.Common.{◌≡◌, ◌≤◌, length, ◌∙◌, arith}
+use Rattle.std.proofs.Common.{◌≡◌, length, ◌∙◌, arith}
 use Rattle.meta_layout.specs.Entries.{bits_at_v1}
-use Rattle.meta_layout.proofs.Places.{pushed, length-listed, listed-count}
+use Rattle.meta_layout.proofs.Places.{pushed, length-listed}
 use Rattle.meta_layout.proofs.read.all_counted_bits.Goals as goal
 
 pub loop-bank-preserved : goal.loop-bank-preserved

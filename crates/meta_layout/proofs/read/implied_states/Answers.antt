@@ -1,6 +1,6 @@
-use Rattle.std.proofs.Common.{◌≡◌, ◌≤◌, length, ◌∙◌, arith}
+use Rattle.std.proofs.Common.{◌≡◌, length, ◌∙◌, arith}
 use Rattle.fwu_formats.specs.Metadata.{state_at_v1}
-use Rattle.meta_layout.proofs.Places.{pushed, length-listed, listed-count}
+use Rattle.meta_layout.proofs.Places.{pushed, length-listed}
 use Rattle.meta_layout.proofs.read.implied_states.Goals as goal
 
 pub loop-bank-preserved : goal.loop-bank-preserved

@@ -1,6 +1,6 @@
 use Rattle.std.proofs.Common.{map}
 use Rattle.fwu_formats.specs.Layout.{are_distinct}
-use Rattle.meta_layout.proofs.ImageRows.{apart-more, apart-not, apart-end}
+use Rattle.meta_layout.proofs.ImageRows.{apart-more, apart-not}
 use Rattle.meta_layout.proofs.rows.are_apart.Goals as goal
 
 pub loop-index-preserved : goal.loop-index-preserved

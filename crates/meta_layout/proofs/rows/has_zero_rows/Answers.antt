@@ -1,4 +1,4 @@
-use Rattle.std.proofs.Common.{◌∙◌, arith, eq-eqb, below_more, sym}
+use Rattle.std.proofs.Common.{◌∙◌, arith}
 use Rattle.std.proofs.lemmas.Bool.{ne_eqb}
 use Rattle.meta_layout.specs.Rows.{has_zero}
 use Rattle.meta_layout.proofs.ImageRows.{range-true, range-false}

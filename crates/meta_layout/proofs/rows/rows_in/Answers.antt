@@ -1,6 +1,6 @@
-use Rattle.std.proofs.Common.{◌≡◌, ◌≤◌, length, ◌∙◌, arith}
+use Rattle.std.proofs.Common.{◌≡◌, length, ◌∙◌, arith}
 use Rattle.meta_layout.specs.Rows.{layout_row_at}
-use Rattle.meta_layout.proofs.Places.{pushed, length-listed, listed-count}
+use Rattle.meta_layout.proofs.Places.{pushed, length-listed}
 use Rattle.meta_layout.proofs.rows.rows_in.Goals as goal
 
 pub loop-index-preserved : goal.loop-index-preserved

@@ -1,10 +1,9 @@
-use Rattle.std.proofs.Common.{◌≡◌, ◌+◌, ◌*◌, ◌<◌, ◌≤◌, ◌++◌, ℕ, List, length, take, ap, sym, subst, ◌∙◌, arith}
+use Rattle.std.proofs.Common.{◌≡◌, ◌+◌, ◌<◌, ◌++◌, List, length, take, ap, ◌∙◌, arith}
 use Rattle.fwu_formats.specs.Layout.{ImageRow}
 use Rattle.fwu_formats.specs.Metadata.{entry_bytes}
 use Rattle.fwu_formats.proofs.OneSpelling.{listed-more}
-use Rattle.meta_layout.proofs.Writes.{has-bits, entry-bytes, listed-all}
+use Rattle.meta_layout.proofs.Writes.{has-bits, entry-bytes}
 use Rattle.meta_layout.proofs.write.put_entries.Goals as goal
-use Rattle.base_core.proofs.Lists.{piece-within}
 
 pub put_entry-end-requires-clause-bits : goal.put_entry-end-requires-clause-bits
 put_entry-end-requires-clause-bits c =

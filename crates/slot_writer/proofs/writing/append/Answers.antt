@@ -1,11 +1,8 @@
-use Rattle.std.proofs.Common.{◌≡◌, ℕ, ◌+◌, ◌-◌, ◌*◌, ◌%◌, ◌<◌, ◌≤◌, List, length, take, drop, sym, ap, ◌∙◌, subst, arith}
-use Rattle.std.proofs.lemmas.List.{length-drop, length-take-le, take_all, take_rest}
+use Rattle.std.proofs.Common.{◌≡◌, ℕ, ◌+◌, ◌-◌, ◌*◌, ◌%◌, ◌<◌, ◌≤◌, List, length, take, drop, sym, ◌∙◌, subst, arith}
+use Rattle.std.proofs.lemmas.List.{length-take-le, take_all, take_rest}
 use Rattle.std.specs.Prelude.{OnOk}
 use Rattle.slot_writer.specs.Slots.{Appends, done_of}
 use Rattle.slot_writer.proofs.Behind.{reached}
-use Rattle.slot_writer.specs.Writes.{writes_behind, writes_to_append}
-use Rattle.slot_writer.proofs.Counting.{appends-filled}
-use Rattle.slot_writer.proofs.Spending.{spends_then_arming}
 use Rattle.slot_writer.proofs.Keeping.{kept-filled}
 use Rattle.slot_writer.proofs.Appending.{filled-appended}
 use Rattle.slot_writer.proofs.writing.append.Goals as goal

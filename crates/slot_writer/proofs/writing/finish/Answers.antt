@@ -1,10 +1,6 @@
-use Rattle.std.proofs.Common.{◌≡◌, ℕ, ◌+◌, ◌*◌, ◌/◌, ◌%◌, ◌≤◌, length, take, sym, ap, ◌∙◌, subst, arith}
-use Rattle.std.proofs.lemmas.List.{length-take-le}
-use Rattle.slot_writer.specs.Slots.{FinishesImage, blocks_for, done_of}
-use Rattle.slot_writer.specs.Writes.{writes_behind, writes_to_finish}
-use Rattle.slot_writer.proofs.Appending.{finished-by, padded_size}
-use Rattle.slot_writer.proofs.Counting.{finishes-kept}
-use Rattle.slot_writer.proofs.Spending.{spends_barrier, spends_then_arming}
+use Rattle.std.proofs.Common.{◌+◌, ◌*◌, ◌≤◌, length, sym, subst, arith}
+use Rattle.slot_writer.specs.Slots.{FinishesImage, blocks_for}
+use Rattle.slot_writer.proofs.Appending.{finished-by}
 use Rattle.slot_writer.proofs.writing.finish.Goals as goal
 
 pub returns-clause-finishes : goal.returns-clause-finishes

@@ -1,9 +1,6 @@
-use Rattle.std.proofs.Common.{rules, ◌≡◌, ℕ, ◌+◌, ◌-◌, ◌*◌, ◌≤◌, ◌<◌, length, sym, subst, arith, ap}
+use Rattle.std.proofs.Common.{rules, ℕ, ◌+◌, ◌-◌, ◌*◌, ◌≤◌, ◌<◌, length, sym, subst, arith, ap}
 use Rattle.slot_writer.specs.Slots.{Programs, blocks_for}
-use Rattle.slot_writer.specs.Writes.{writes_behind}
 use Rattle.slot_writer.proofs.Behind.{range_blank, programs_written}
-use Rattle.slot_writer.proofs.Counting.{behind-some}
-use Rattle.slot_writer.proofs.Spending.{spends_one, spends_then_arming}
 use Rattle.slot_writer.proofs.writing.program_behind.Goals as goal
 
 -- src/writing.rt:58:5

@@ -1,7 +1,6 @@
 use Rattle.std.proofs.Common.{rules}
 use Rattle.gen_core.specs.Rounds.{round_of}
 use Rattle.gen_core.proofs.rounds.Round.draw.Goals as goal
-use Rattle.gen_core.proofs.rounds.Round.draw.Goals.{then-draw-eq0, else-draw-eq0}
 
 pub returns-clause-drawn : goal.returns-clause-drawn
 unfolding round_of

@@ -1,6 +1,3 @@
-use Rattle.std.proofs.Common.{List, ap, ◌∙◌}
-use Rattle.fwu_formats.specs.Layout.{ImageRow}
-use Rattle.meta_layout.specs.Rows.{fitted}
 use Rattle.meta_layout.proofs.Layouts.{fitted-bad, too-many}
 use Rattle.meta_layout.proofs.layout.Layout.make.Goals as goal
 

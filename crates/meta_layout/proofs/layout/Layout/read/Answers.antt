@@ -1,9 +1,9 @@
-use Rattle.std.proofs.Common.{refl, ◌≡◌, ℕ, ◌≤◌, ◌&&◌, ◌==◌, List, length, sym, ap, ◌∙◌, arith}
+use Rattle.std.proofs.Common.{refl, ◌≡◌, ℕ, ◌&&◌, ◌==◌, List, sym, ap, ◌∙◌}
 use Rattle.base_core.specs.Bytes.{num_at, part, listed}
 use Rattle.base_core.specs.Crc.{crc}
 use Rattle.fwu_formats.specs.Layout.{Layout, ImageRow, layout_at, are_zero}
 use Rattle.meta_layout.specs.Rows.{has_row_zeros, layout_row_at, fitted}
-use Rattle.meta_layout.proofs.Layouts.{short, bad-magic, bad-size, short-rows, bad-sum, not-zero, as-fitted, sized}
+use Rattle.meta_layout.proofs.Layouts.{short, bad-magic, bad-size, short-rows, bad-sum, not-zero, as-fitted}
 use Rattle.meta_layout.proofs.layout.Layout.read.Goals as goal
 
 pub returns-then-block-lt32 : goal.returns-then-block-lt32

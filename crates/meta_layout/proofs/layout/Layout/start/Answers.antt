@@ -1,6 +1,6 @@
-use Rattle.std.proofs.Common.{◌≡◌, ◌+◌, ◌*◌, List, length, take, ap, sym, subst, ◌∙◌, arith, IsTrue, length-take}
+use Rattle.std.proofs.Common.{List, sym, subst, IsTrue}
 use Rattle.std.specs.List.{list_all}
-use Rattle.fwu_formats.specs.Layout.{ImageRow, is_row, slot_total}
+use Rattle.fwu_formats.specs.Layout.{ImageRow, is_row}
 use Rattle.fwu_formats.proofs.Written.{rows-fit}
 use Rattle.meta_layout.proofs.ImageRows.{front-fit}
 use Rattle.meta_layout.proofs.layout.Layout.start.Goals as goal

@@ -1,8 +1,8 @@
-use Rattle.std.proofs.Common.{◌≡◌, ◌≤◌, ◌+◌, ◌-◌, ◌++◌, List, ℕ, ◌∙◌, refl, ap, subst, sym, length, take, drop, arith, length-append, rules}
+use Rattle.std.proofs.Common.{◌≡◌, ◌≤◌, ◌+◌, ◌-◌, ◌++◌, List, ℕ, ◌∙◌, ap, subst, sym, length, take, drop, arith, length-append, rules}
 use Rattle.std.specs.Io.KnownBytes.{Consumes}
-use Rattle.std.proofs.KnownBytes.{Consumes-nil, Consumes-trans}
+use Rattle.std.proofs.KnownBytes.{Consumes-trans}
 use Rattle.std.proofs.lemmas.List.{length-take-le, length-drop, take_rest}
-use Rattle.host_io.proofs.Once.{bytes-none, bytes-then, once-bytes, once-then}
+use Rattle.host_io.proofs.Once.{bytes-then, once-then}
 use Rattle.wire_frames.proofs.Filling.{taken-more}
 use Rattle.wire_frames.proofs.stream.FrameReader.fill.Goals as goal
 
