@@ -51,11 +51,8 @@ setting-of f passes = record { layout = f.layout; files = λ _. None; passes = p
 
 -- what was done or stopped by the flash isn't refused
 pub done-unrefused : (q : Result (Unit {0}) Stop) → IsDone q → IsRefused q → ⊥
-done-unrefused (Ok u) is refused = refused
-done-unrefused (Err stop.Lost) is refused = refused
-done-unrefused (Err stop.Fault) is refused = refused
 done-unrefused (Err (stop.Status st)) is refused = is
-done-unrefused (Err stop.Gone) is refused = refused
+done-unrefused q is refused = refused
 
 -- ---- the machine's answers
 
@@ -260,14 +257,12 @@ module _ (old new : Moment) (types : List (List ℕ)) (named : List Bool) (passe
       → (IsStopped {T = Unit {0}} (Err q) → (E : Setting) (s : State) (x : Session) → E.layout ≡ old.fields.layout → Shows old s x
       → (answer E s x (call.Begin 0)).reply ≡ Success) → MeetsAs {T = Unit {0}} (λ _. Success) (Err q) passes (call.Begin 0) old new
       → BeginsPartly types named passes (Err q) old new
-  unbegun-stopped stop.Lost same were meets =
-      unbegun stop.Lost (λ done. begun-count (were tt)) (λ E s x setting shows. begun-reply E s x setting shows (were tt E s x setting.layout shows)) meets
-  unbegun-stopped stop.Fault same were meets =
-      unbegun stop.Fault (λ done. begun-count (were tt)) (λ E s x setting shows. begun-reply E s x setting shows (were tt E s x setting.layout shows)) meets
   unbegun-stopped stop.Gone same were meets = unbegun stop.Gone (λ done. absurd done) (λ E s x setting shows. tt) meets
   unbegun-stopped (stop.Status st) same were meets =
       subst (λ (m : Moment). BeginsPartly types named passes (Err (stop.Status st)) old m) (sym (same tt))
       (refused-partly old types named passes st (refused-by st meets))
+  unbegun-stopped q same were meets =
+      unbegun q (λ done. begun-count (were tt)) (λ E s x setting shows. begun-reply E s x setting shows (were tt E s x setting.layout shows)) meets
 
 -- ---- begun, and then copied
 
@@ -350,10 +345,9 @@ module _ (old mid new : Moment) (types : List (List ℕ)) (passes : List ℕ →
       → GoesByMoves E (flash_result q) old new s (begin_moves s) (between old.fields.boot (copied_parts named copied.bytes))
       → AnswersAs q a s new
   answers-by (Ok u) a s E is follows goes = (ap (λ (b : Answer). b.reply) is, subst (λ (b : Answer). Shows new (after s b.moves) b.next) (sym is) goes.shows)
-  answers-by (Err stop.Lost) a s E is follows goes = ap (λ (b : Answer). b.reply) is
-  answers-by (Err stop.Fault) a s E is follows goes = ap (λ (b : Answer). b.reply) is
   answers-by (Err (stop.Status st)) a s E is follows goes = absurd follows
   answers-by (Err stop.Gone) a s E is follows goes = absurd follows
+  answers-by (Err q) a s E is follows goes = ap (λ (b : Answer). b.reply) is
 
   abbrev plain : Setting
   plain = setting-of old.fields passes
@@ -390,10 +384,9 @@ module _ (old mid new : Moment) (types : List (List ℕ)) (passes : List ℕ →
   stops-by : (q : Stop) (E : Setting) (s : State) (x : Session)
       → FollowsInStaging {T = Unit {0}} (Err q) E mid new (after s (begin_moves s)) (between old.fields.boot (copied_parts named copied.bytes))
       → (asked E s x).reply ≡ Success → AnswersAs (Err q) (asked E s x) s new
-  stops-by stop.Lost E s x follows is = is
-  stops-by stop.Fault E s x follows is = is
   stops-by (stop.Status st) E s x follows is = absurd follows
   stops-by stop.Gone E s x follows is = absurd follows
+  stops-by q E s x follows is = is
 
   partly-by : (r : Result (Unit {0}) Stop) → r ≡ result → (IsTrue old.tells → (s : State) × (x : Session) × Shows old s x)
       → SparesBlocksByAll old.fields old.writes new.writes → BeginsPartly types named passes r old new
@@ -440,11 +433,9 @@ module _ (old mid new : Moment) (types : List (List ℕ)) (passes : List ℕ →
 
   -- some machine is shown, so it was neither refused nor was the agent gone
   follows-one : (q : Result (Unit {0}) Stop) (E : Setting) (s : State) (y : Session) → FollowsInStaging q E mid new s y → IsDone q
-  follows-one (Ok u) E s y h = tt
-  follows-one (Err stop.Lost) E s y h = tt
-  follows-one (Err stop.Fault) E s y h = tt
   follows-one (Err (stop.Status st)) E s y h = absurd h
   follows-one (Err stop.Gone) E s y h = absurd h
+  follows-one q E s y h = tt
 
   zero-one : ◌≡◌ {A = ℕ} 0 1 → ⊥
   zero-one e = absurd cc
@@ -458,11 +449,9 @@ module _ (old mid new : Moment) (types : List (List ℕ)) (passes : List ℕ →
           absurd (none (follows-one result plain (after w.state (begin_moves w.state)) _ (follows-at plain w.state w.session plain-fits w.shows)))))
 
       by-cases : (q : Result (Unit {0}) Stop) → q ≡ result → IsDone result
-      by-cases (Ok u) e = subst IsDone e tt
-      by-cases (Err stop.Lost) e = subst IsDone e tt
-      by-cases (Err stop.Fault) e = subst IsDone e tt
       by-cases (Err (stop.Status st)) e = absurd (never (λ is. subst IsDone (sym e) is))
       by-cases (Err stop.Gone) e = absurd (never (λ is. subst IsDone (sym e) is))
+      by-cases q e = subst IsDone e tt
 
   -- what the copies take
   pub takes-at : (b c : Option Arming) → CopiesTake named (length old.fields.layout.rows) mid b c → Showing old

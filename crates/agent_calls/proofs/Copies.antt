@@ -1,5 +1,5 @@
 -- Copies of images of the bank that was started, step by step.
-use Rattle.std.proofs.Common.{◌≡◌, ◌≢◌, ◌*◌, ℕ, zero, suc, ◌+◌, ◌<◌, ◌≤◌, Bool, true, List, [], ◌∷◌, ◌++◌, length, get_or, take, drop, Option, Some, None, Result, Ok, Err, refl, sym, ap, subst, ◌∙◌, arith, length-append}
+use Rattle.std.proofs.Common.{◌≡◌, ◌≢◌, ◌*◌, ℕ, ◌+◌, ◌<◌, ◌≤◌, Bool, true, List, [], ◌++◌, length, get_or, take, drop, Option, Some, None, Result, Ok, Err, refl, sym, ap, subst, ◌∙◌, arith, length-append}
 use Rattle.std.specs.Prelude.{IsTrue, IsFalse, IsErr}
 use Rattle.std.proofs.lemmas.List.{take_all}
 use Rattle.std.proofs.Math.Seq.{take-add}
@@ -69,10 +69,9 @@ follows-after (Err stop.Gone) E old mid new s x y first next = absurd next
 -- at a stop nothing is said of the session
 pub other-end : (T U : Type 0) (st : Stop) (E : Setting) (old new : Moment) (s : State) (y z : Session)
     → FollowsInStaging {T = T} (Err st) E old new s y → FollowsInStaging {T = U} (Err st) E old new s z
-other-end T U stop.Lost E old new s y z h = record { shows = tt; does = h.does; guarded = h.guarded; keeps = h.keeps; touches = h.touches; stays = h.stays }
-other-end T U stop.Fault E old new s y z h = record { shows = tt; does = h.does; guarded = h.guarded; keeps = h.keeps; touches = h.touches; stays = h.stays }
 other-end T U (stop.Status st) E old new s y z h = h
 other-end T U stop.Gone E old new s y z h = h
+other-end T U q E old new s y z h = record { shows = tt; does = h.does; guarded = h.guarded; keeps = h.keeps; touches = h.touches; stays = h.stays }
 
 -- a call whose answer within a staging is known, and no refusal: at a stop the flash stopped it
 pub call-follows : {T : Type 0} (U : Type 0) (of : T → Reply) (st : Stop) (E : Setting) (c : Call) (old new : Moment) (s : State) (x y z : Session)
@@ -165,10 +164,9 @@ module _ (tells : Bool) (s t : Told) (v w : ℕ → ℕ) (f g : Fields) (fields 
 -- a stop of the flash, as that of a copy
 pub flash-follows : (T : Type 0) (q : Stop) (e : FlashStop) (E : Setting) (old new : Moment) (s : State) (y : Session)
     → flash_result {T = Unit {0}} (Err q) ≡ Err e → GoesByMoves E (Err e) old new s [] y → FollowsInStaging {T = T} (Err q) E old new s y
-flash-follows T stop.Lost e E old new s y is goes = subst (λ (r : Result (Unit {0}) FlashStop). GoesByMoves E r old new s [] y) (sym is) goes
-flash-follows T stop.Fault e E old new s y is goes = subst (λ (r : Result (Unit {0}) FlashStop). GoesByMoves E r old new s [] y) (sym is) goes
 flash-follows T (stop.Status st) e E old new s y is goes = absurd cc
 flash-follows T stop.Gone e E old new s y is goes = absurd cc
+flash-follows T q e E old new s y is goes = subst (λ (r : Result (Unit {0}) FlashStop). GoesByMoves E r old new s [] y) (sym is) goes
 
 abbrev plain : Fields → Setting
 plain f = record { layout = f.layout; files = λ _. None; passes = λ _. true }

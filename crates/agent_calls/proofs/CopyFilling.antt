@@ -109,11 +109,9 @@ module _ (a b : Moment) (stays : Stays a b) (metadata : b.fields.meta ≡ a.fiel
 -- by how a call ended
 pub fills-by : (q : Result (Unit {0}) Stop) (a b : Moment) → (IsDone q → FillsBank a b) → (IsRefused q → b ≡ a) → (IsErrOf q stop.Gone → b ≡ a)
     → FillsBank a b
-fills-by (Ok u) a b done refused gone = done tt
-fills-by (Err stop.Lost) a b done refused gone = done tt
-fills-by (Err stop.Fault) a b done refused gone = done tt
 fills-by (Err (stop.Status st)) a b done refused gone = fills-same a b (refused tt)
 fills-by (Err stop.Gone) a b done refused gone = fills-same a b (gone refl)
+fills-by q a b done refused gone = done tt
 
 -- by whether the first handle writes
 pub fills-ended : (a b : Moment) → ((image : ℕ) → IsWriter a.fields 1 image → FillsBank a b)

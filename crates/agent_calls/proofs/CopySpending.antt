@@ -27,9 +27,7 @@ read-spent {g = g} result gone a b is reads = record {
 
 same-stop : (T U : Type 0) (q : Stop) → flash_result {T = T} (Err q) ≡ flash_result {T = U} (Err q)
 same-stop T U (stop.Status st) = refl
-same-stop T U stop.Lost = refl
-same-stop T U stop.Fault = refl
-same-stop T U stop.Gone = refl
+same-stop T U q = refl
 
 -- a stop, whatever the value would have been
 pub err-spent : {D : Type 0} {g : Ghosts D} (T U : Type 0) (q : Stop) (gone : Bool) (a b : D) → Spent g (flash_result {T = T} (Err q)) gone a b

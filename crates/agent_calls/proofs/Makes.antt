@@ -60,17 +60,8 @@ module _ (f : Fields) (fitting : Fitting f) where
   -- the update bank is made invalid where it isn't
   pub begin-frees : (flags count : ℕ) (p : Plan) → IsPlanFor f.session m (request.Begin flags count) p
       → frees p ≡ not (is_invalid (state_at m (target f)))
-  begin-frees flags count plan.Tell asked = absurd asked
-  begin-frees flags count (plan.BeginPartial store named) asked = absurd asked
   begin-frees flags count (plan.Begin store) asked = asked ∙ ap (λ (b : ℕ). not (is_invalid (state_at m b))) (next-target f fitting)
-  begin-frees flags count (plan.Open h image o total) asked = absurd asked
-  begin-frees flags count (plan.Write h image at n) asked = absurd asked
-  begin-frees flags count (plan.Read h image at n total) asked = absurd asked
-  begin-frees flags count (plan.Commit h image bit) asked = absurd asked
-  begin-frees flags count plan.End asked = absurd asked
-  begin-frees flags count plan.Cancel asked = absurd asked
-  begin-frees flags count (plan.Accept image store) asked = absurd asked
-  begin-frees flags count plan.Back asked = absurd asked
+  begin-frees flags count p asked = absurd asked
 
   module _ (store : Bool) (is : store ≡ not (is_invalid (state_at m (target f)))) where
     pub begin-stores : IsFalse (is_invalid (state_at m (target f))) → (result : CallResult) (s t : Told)

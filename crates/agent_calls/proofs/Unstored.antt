@@ -1,16 +1,14 @@
 -- Plans of which nothing is stored, since there is nothing to change.
-use Rattle.std.proofs.Common.{◌≡◌, ℕ, Bool, false, not, List, Some, IsTrue}
-use Rattle.fwu_formats.specs.Layout.{find_image}
-use Rattle.fwu_formats.specs.Metadata.{state_at, bit_at}
+use Rattle.std.proofs.Common.{◌≡◌, ℕ, Bool, false, not, IsTrue}
+use Rattle.fwu_formats.specs.Metadata.{state_at}
 use Rattle.fwu_model.specs.State.{is_invalid}
 use Rattle.agent_kept.specs.declared.kinds.Request.TheVariants as request
 use Rattle.agent_kept.specs.declared.kinds.Plan.{Plan}
-use Rattle.agent_kept.specs.declared.kinds.Plan.TheVariants as plan
 use Rattle.agent_state.specs.Asked.{IsPlanFor}
 use Rattle.agent_machine.specs.Fields.{Fields, target}
 use Rattle.agent_machine.specs.Knows.{Fitting}
 use Rattle.agent_machine.specs.Stored.{frees}
-use Rattle.agent_calls.proofs.Makes.{begin-frees, accept-sets}
+use Rattle.agent_calls.proofs.Makes.{begin-frees}
 
 unless-true : (b store : Bool) → store ≡ not b → IsTrue b → store ≡ false
 unless-true b store is holds = cc
@@ -20,10 +18,3 @@ pub begin-stores-none : (f : Fields) → Fitting f → (flags count : ℕ) (p : 
     → IsTrue (is_invalid (state_at f.meta.meta (target f))) → frees p ≡ false
 begin-stores-none f fitting flags count p asked free =
     unless-true (is_invalid (state_at f.meta.meta (target f))) (frees p) (begin-frees f fitting flags count p asked) free
-
--- an accept stores nothing where the bit is set
-pub accept-stores-none : (f : Fields) → Fitting f → (guid : List ℕ) (image : ℕ) (store : Bool)
-    → IsPlanFor f.session f.meta.meta (request.Accept guid) (plan.Accept image store)
-    → (other : ℕ) → find_image f.layout.rows guid ≡ Some other → IsTrue (bit_at f.meta.meta f.meta.meta.active other) → store ≡ false
-accept-stores-none f fitting guid image store asked other found set =
-    unless-true (bit_at f.meta.meta f.meta.meta.active other) store (accept-sets f fitting guid image store asked other found) set

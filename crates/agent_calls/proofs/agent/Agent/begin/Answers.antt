@@ -8,7 +8,7 @@ use Rattle.agent_machine.proofs.StoredCalls.{begin-may, begin-answers, refused-o
 use Rattle.agent_machine.proofs.StoredMeets.{AnswersBy, carried-meets, refused-meets}
 use Rattle.agent_calls.specs.Shown.{fields, moment}
 use Rattle.agent_machine.specs.Meets.{flash_result}
-use Rattle.agent_calls.proofs.Makes.{ok-any, begin-frees, begin-stores, begin-keeps}
+use Rattle.agent_calls.proofs.Makes.{begin-frees, begin-stores, begin-keeps}
 use Rattle.agent_calls.proofs.Unstored.{begin-stores-none}
 use Rattle.agent_calls.proofs.agent.Agent.begin.Goals as goal
 

@@ -2,7 +2,7 @@ use Rattle.std.proofs.Common.{◌≡◌, ◌+◌, ℕ, Bool, List, length, take,
 use Rattle.std.specs.List.{list_any}
 use Rattle.std.proofs.lemmas.List.{length-map}
 use Rattle.base_core.specs.Bytes.{same_bytes}
-use Rattle.fwu_formats.specs.Layout.{ImageRow, Layout}
+use Rattle.fwu_formats.specs.Layout.{ImageRow}
 use Rattle.agent_kept.specs.declared.kinds.Request.TheVariants as request
 use Rattle.agent_machine.proofs.Showing.{known-shows, shows-some}
 use Rattle.agent_machine.proofs.StoredCalls.{refused-of}

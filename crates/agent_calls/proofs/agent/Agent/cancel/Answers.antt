@@ -2,7 +2,6 @@ use Rattle.std.proofs.Common.{◌≡◌, [], sym, ap, subst}
 use Rattle.fwu_model.specs.Reply.{Success}
 use Rattle.agent_kept.specs.declared.kinds.Request.TheVariants as request
 use Rattle.agent_machine.specs.Asks.{IsQuietPlan}
-use Rattle.agent_machine.specs.Carries.{MayKeep}
 use Rattle.agent_machine.specs.Fields.{Fields}
 use Rattle.agent_machine.proofs.Answered.{refused-meets}
 use Rattle.agent_machine.proofs.Meeting.{SaysSuccess, quiet-success}

@@ -9,7 +9,6 @@ use Rattle.agent_calls.proofs.CopyFilling.{fills-behind, fills-ended, fills-stil
 use Rattle.agent_calls.proofs.CopyTaking.{copy-takes, lowered-of}
 use Rattle.agent_calls.proofs.Copies.{image-unopened, image-uncopied, image-ended}
 use Rattle.agent_machine.proofs.Spending.{call-spent, spent-then}
-use Rattle.agent_calls.proofs.CopySpending.{err-spent}
 use Rattle.agent_calls.proofs.OwnRows.{found-at}
 use Rattle.agent_calls.proofs.agent.Agent.copy_image.Given as given
 use Rattle.agent_calls.proofs.agent.Agent.copy_image.Goals as goal

@@ -1,4 +1,4 @@
-use Rattle.std.proofs.Common.{◌≡◌, ◌+◌, ◌≤◌, ◌++◌, ◌*◌, ℕ, Bool, true, List, [], Option, Some, Ok, Err, sym, length, take, drop, refl, ap, ◌∙◌, subst, arith}
+use Rattle.std.proofs.Common.{◌≡◌, ◌+◌, ◌≤◌, ◌++◌, ◌*◌, ℕ, Bool, true, List, [], Option, Some, Ok, sym, length, take, drop, refl, ap, ◌∙◌, subst, arith}
 use Rattle.std.proofs.lemmas.List.{length-take-le, take-append-le, take_all}
 use Rattle.std.specs.Prelude.{IsFalse}
 use Rattle.fwu_formats.specs.Layout.{start}
@@ -14,7 +14,7 @@ use Rattle.flash_core.specs.Counts.{lowered_by}
 use Rattle.slot_writer.specs.Writes.{writes_to_append}
 use Rattle.agent_kept.specs.Kept.{part_at, size_of}
 use Rattle.agent_machine.proofs.Spending.{call-spent, spent-then}
-use Rattle.agent_calls.proofs.CopySpending.{err-spent, read-spent, stopped-spent}
+use Rattle.agent_calls.proofs.CopySpending.{err-spent, read-spent}
 use Rattle.agent_calls.specs.Copies.{FillsBank}
 use Rattle.agent_calls.proofs.CopyFilling.{fills-by, fills-behind, fills-still, fills-then, slot-behind}
 use Rattle.agent_calls.proofs.CopyTaking.{piece-takes}

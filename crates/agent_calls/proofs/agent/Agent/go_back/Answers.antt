@@ -3,7 +3,6 @@ use Rattle.std.specs.Prelude.{Option, OnOk}
 use Rattle.flash_core.specs.declared.flash.Arming.{Arming}
 use Rattle.flash_core.specs.Told.{Told}
 use Rattle.flash_core.proofs.Touches.{touches_none, touches_then}
-use Rattle.fwu_model.specs.declared.kinds.Status.TheVariants as status
 use Rattle.fwu_model.specs.State.{Back}
 use Rattle.fwu_model.specs.MoveMetas.{meta_after}
 use Rattle.moves.specs.Law.{CallResult}
@@ -16,8 +15,8 @@ use Rattle.agent_machine.specs.Fields.{Fields}
 use Rattle.agent_machine.specs.Stored.{TakesStore, is_to_do, may_try_kept}
 use Rattle.meta_layout.proofs.Fits.{meta-fits}
 use Rattle.agent_machine.proofs.StoredBack.{untried-meets, stopped-meets, bad-meets, back-meets}
-use Rattle.agent_calls.specs.Shown.{fields, moment, snapshot}
-use Rattle.agent_calls.proofs.GoingBack.{looked, not-refused, tried, unchanged}
+use Rattle.agent_calls.specs.Shown.{fields, moment}
+use Rattle.agent_calls.proofs.GoingBack.{not-refused, tried}
 use Rattle.agent_calls.proofs.StoredVerdict.{back-is-good, good-permitted, promised}
 use Rattle.agent_calls.proofs.Makes.{ok-any, back-stopped}
 use Rattle.agent_calls.proofs.agent.Agent.go_back.Goals as goal

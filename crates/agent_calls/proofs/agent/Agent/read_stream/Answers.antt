@@ -1,18 +1,12 @@
-use Rattle.std.proofs.Common.{◌-◌, ◌≤◌, [], Ok, Err, length, refl, sym, ap, ◌∙◌, subst, arith}
-use Rattle.std.proofs.lemmas.List.{length-take, length-take-le}
-use Rattle.flash_core.specs.declared.flash.FlashStop.{FlashStop}
-use Rattle.flash_core.specs.Calls.{Reads}
+use Rattle.std.proofs.Common.{◌≤◌, [], length, refl, ap, ◌∙◌}
 use Rattle.agent_kept.specs.declared.kinds.Plan.TheVariants as plan
-use Rattle.agent_state.specs.Settles.{IsPlanOf}
 use Rattle.agent_machine.specs.Fields.{Fields}
 use Rattle.agent_machine.specs.Directory.{piece_of}
 use Rattle.agent_machine.specs.Meets.{IsGot, Stays}
-use Rattle.agent_machine.proofs.ReadAnswers.{read-refused, read-inside, read-lost, read-faulty, read-meets, carried-from, filled}
-use Rattle.agent_calls.specs.Records.{ReadsAlone}
+use Rattle.agent_machine.proofs.ReadAnswers.{read-refused, read-lost, read-faulty, read-meets, carried-from, filled}
 use Rattle.agent_calls.specs.Shown.{device, fields, moment}
-use Rattle.agent_calls.proofs.Beyond.{read-room, read-no-more, kept-beyond}
+use Rattle.agent_calls.proofs.Beyond.{read-room}
 use Rattle.agent_calls.proofs.Copies.{read-stays}
-use Rattle.agent_calls.proofs.Keeping.{alone, read-keeps, untouched}
 use Rattle.agent_calls.proofs.NoOther.{reads}
 use Rattle.agent_calls.proofs.agent.Agent.read_stream.Given as given
 use Rattle.agent_calls.proofs.agent.Agent.read_stream.Goals as goal
