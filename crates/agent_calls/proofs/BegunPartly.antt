@@ -262,7 +262,8 @@ module _ (old new : Moment) (types : List (List ℕ)) (named : List Bool) (passe
       subst (λ (m : Moment). BeginsPartly types named passes (Err (stop.Status st)) old m) (sym (same tt))
       (refused-partly old types named passes st (refused-by st meets))
   unbegun-stopped q same were meets =
-      unbegun q (λ done. begun-count (were tt)) (λ E s x setting shows. begun-reply E s x setting shows (were tt E s x setting.layout shows)) meets
+      unbegun q (λ done. begun-count (were tt)) (λ E s x setting shows. begun-reply E s x setting shows
+      (were tt E s x setting.layout shows)) meets
 
 -- ---- begun, and then copied
 

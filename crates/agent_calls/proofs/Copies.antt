@@ -71,7 +71,8 @@ pub other-end : (T U : Type 0) (st : Stop) (E : Setting) (old new : Moment) (s :
     → FollowsInStaging {T = T} (Err st) E old new s y → FollowsInStaging {T = U} (Err st) E old new s z
 other-end T U (stop.Status st) E old new s y z h = h
 other-end T U stop.Gone E old new s y z h = h
-other-end T U q E old new s y z h = record { shows = tt; does = h.does; guarded = h.guarded; keeps = h.keeps; touches = h.touches; stays = h.stays }
+other-end T U q E old new s y z h =
+    record { shows = tt; does = h.does; guarded = h.guarded; keeps = h.keeps; touches = h.touches; stays = h.stays }
 
 -- a call whose answer within a staging is known, and no refusal: at a stop the flash stopped it
 pub call-follows : {T : Type 0} (U : Type 0) (of : T → Reply) (st : Stop) (E : Setting) (c : Call) (old new : Moment) (s : State) (x y z : Session)
@@ -166,7 +167,8 @@ pub flash-follows : (T : Type 0) (q : Stop) (e : FlashStop) (E : Setting) (old n
     → flash_result {T = Unit {0}} (Err q) ≡ Err e → GoesByMoves E (Err e) old new s [] y → FollowsInStaging {T = T} (Err q) E old new s y
 flash-follows T (stop.Status st) e E old new s y is goes = absurd cc
 flash-follows T stop.Gone e E old new s y is goes = absurd cc
-flash-follows T q e E old new s y is goes = subst (λ (r : Result (Unit {0}) FlashStop). GoesByMoves E r old new s [] y) (sym is) goes
+flash-follows T q e E old new s y is goes =
+    subst (λ (r : Result (Unit {0}) FlashStop). GoesByMoves E r old new s [] y) (sym is) goes
 
 abbrev plain : Fields → Setting
 plain f = record { layout = f.layout; files = λ _. None; passes = λ _. true }

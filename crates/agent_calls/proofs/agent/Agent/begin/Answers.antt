@@ -22,7 +22,8 @@ module _ (g : given.Over) (c : After-carry_out g) where
   frees-is =
       let a = c.args.self.now in
       c.frees.ensures
-      ∙ begin-frees (fields a) (a.fitting c.if-self.false) c.args.vendor_flags c.args.partial_count c.in-Ok.plan c.in-Ok.ensures.asked
+      ∙ begin-frees (fields a) (a.fitting c.if-self.false) c.args.vendor_flags c.args.partial_count c.in-Ok.plan
+      c.in-Ok.ensures.asked
 
 pub carry_out-requires-clause-plan : goal.carry_out-requires-clause-plan
 carry_out-requires-clause-plan g c =
@@ -64,11 +65,13 @@ returns-in-Ok-clause-still g c = λ free.
 pub returns-in-Ok-clause-stores : goal.returns-in-Ok-clause-stores
 returns-in-Ok-clause-stores g c done tells used =
     let a = c.args.self.now in
-    begin-stores (fields a) (a.fitting c.if-self.false) c.frees.result (frees-is g (goal.at.returns-in-Ok-clause-stores g c).After-carry_out) used
+    begin-stores (fields a) (a.fitting c.if-self.false) c.frees.result (frees-is g (goal.at.returns-in-Ok-clause-stores g
+    c).After-carry_out) used
     (flash_result c.carry_out.result) (g.D.Flash.told a.flash) (g.D.Flash.told c.carry_out.new.self.flash) (c.carry_out.ensures.stores tells)
 
 pub returns-in-Ok-clause-keeps : goal.returns-in-Ok-clause-keeps
 returns-in-Ok-clause-keeps g c done =
     let a = c.args.self.now in
-    begin-keeps (fields a) (a.fitting c.if-self.false) c.frees.result (frees-is g (goal.at.returns-in-Ok-clause-keeps g c).After-carry_out)
+    begin-keeps (fields a) (a.fitting c.if-self.false) c.frees.result (frees-is g (goal.at.returns-in-Ok-clause-keeps g
+    c).After-carry_out)
     c.carry_out.new.self.meta c.carry_out.ensures.planned

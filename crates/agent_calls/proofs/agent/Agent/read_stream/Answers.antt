@@ -17,7 +17,8 @@ module _ (g : given.Over) (c : In-Read g) where
   room : c.in-Read.length ≤ length c.args.out.now
   room =
       let f : Fields = fields c.args.self.now in
-      let own = subst (IsPlanFor f.session f.meta.meta (request.Read c.args.h (length c.args.out.now))) c.in-Read.is c.in-Ok.ensures.asked in
+      let own = subst (IsPlanFor f.session f.meta.meta (request.Read c.args.h (length c.args.out.now))) c.in-Read.is
+      c.in-Ok.ensures.asked in
       omega (arith, own.2)
 
 module _ (g : given.Over) (c : After-read_part g) where

@@ -57,16 +57,23 @@ invariant_of-self g c =
       power = λ still. c.in-Ok.ensures.goes.power;
       inside = λ still. omega (arith, a.inside here, c.in-Ok.ensures.goes.size);
       fitting = λ still.
-          write-fitting g.D.Flash.tells s t (f g p) k c.settle.new.meta c.args.image c.start-first.result c.size-size.result c.args.number c.args.at
-          c.append.new.rest c.args.bytes.now (fitting g p) a.session.sound (a.knows here) c.requires.plan (room g p) (fits g p) (first g p)
+          write-fitting g.D.Flash.tells s t (f g p) k c.settle.new.meta c.args.image c.start-first.result c.size-size.result
+          c.args.number c.args.at
+          c.append.new.rest c.args.bytes.now (fitting g p) a.session.sound (a.knows here) c.requires.plan (room g p) (fits g p)
+          (first g p)
           c.size-size.ensures c.in-Ok.ensures.appends c.settle.ensures.session c.settle.ensures.meta c.settle.ensures.settles;
       some = λ still.
-          write-some g.D.Flash.tells s t (f g p) k c.settle.new.meta c.args.image c.start-first.result c.size-size.result c.args.number c.args.at
-          c.append.new.rest c.args.bytes.now (fitting g p) a.session.sound (a.knows here) c.requires.plan (room g p) (fits g p) (first g p)
-          c.size-size.ensures c.in-Ok.ensures.appends c.settle.ensures.session c.settle.ensures.meta c.settle.ensures.settles (a.some here);
+          write-some g.D.Flash.tells s t (f g p) k c.settle.new.meta c.args.image c.start-first.result c.size-size.result
+          c.args.number c.args.at
+          c.append.new.rest c.args.bytes.now (fitting g p) a.session.sound (a.knows here) c.requires.plan (room g p) (fits g p)
+          (first g p)
+          c.size-size.ensures c.in-Ok.ensures.appends c.settle.ensures.session c.settle.ensures.meta c.settle.ensures.settles
+          (a.some here);
       knows = λ still.
-          write-known g.D.Flash.tells s t (f g p) k c.settle.new.meta c.args.image c.start-first.result c.size-size.result c.args.number c.args.at
-          c.append.new.rest c.args.bytes.now (fitting g p) a.session.sound (a.knows here) c.requires.plan (room g p) (fits g p) (first g p)
+          write-known g.D.Flash.tells s t (f g p) k c.settle.new.meta c.args.image c.start-first.result c.size-size.result
+          c.args.number c.args.at
+          c.append.new.rest c.args.bytes.now (fitting g p) a.session.sound (a.knows here) c.requires.plan (room g p) (fits g p)
+          (first g p)
           c.size-size.ensures c.in-Ok.ensures.appends c.settle.ensures.session c.settle.ensures.meta c.settle.ensures.settles;
     }
 
@@ -74,8 +81,10 @@ pub returns-in-Ok-clause-meets : goal.returns-in-Ok-clause-meets
 returns-in-Ok-clause-meets g c passes h decides =
     let p = (goal.at.returns-in-Ok-clause-meets g c).After-append in
     let a = c.args.self.now in
-    write-done g.D.Flash.tells (g.D.Flash.told a.flash) (g.D.Flash.told c.append.new.flash) (f g p) (kept c.settle.new.session) c.settle.new.meta
-    c.args.image c.start-first.result c.size-size.result c.args.number c.args.at c.append.new.rest c.args.bytes.now (fitting g p) a.session.sound
+    write-done g.D.Flash.tells (g.D.Flash.told a.flash) (g.D.Flash.told c.append.new.flash) (f g p) (kept c.settle.new.session)
+    c.settle.new.meta
+    c.args.image c.start-first.result c.size-size.result c.args.number c.args.at c.append.new.rest c.args.bytes.now (fitting g p)
+    a.session.sound
     (a.knows c.requires.here) c.requires.plan (room g p) (fits g p) (first g p) c.size-size.ensures c.in-Ok.ensures.appends
     c.settle.ensures.session c.settle.ensures.meta c.settle.ensures.settles passes h decides c.in-Ok.ensures.touches
 
@@ -107,11 +116,14 @@ returns-in-Ok-clause-image g c =
       appends = λ done tells.
           appended f (fitting g p) c.args.image c.size-size.result c.args.bytes.now c.append.new.rest c.requires.plan.0 size (Ok tt)
           c.start-first.result (d.told a.flash) (d.told b) (first g p) (c.in-Ok.ensures.appends tells);
-      keeps = left-kept f (fitting g p) c.args.image c.size-size.result c.args.bytes.now c.append.new.rest c.requires.plan.0 size c.in-Ok.ensures.kept;
+      keeps =
+          left-kept f (fitting g p) c.args.image c.size-size.result c.args.bytes.now c.append.new.rest c.requires.plan.0 size
+          c.in-Ok.ensures.kept;
       grows = c.settle.ensures.session;
       others = λ other apart. get_or-set_other f.rests c.args.image other c.append.new.rest [] apart;
       still = λ same. c.in-Ok.ensures.still (subst (λ (m : ℕ). done_of (m + n) ≡ done_of m) (sym size) same);
-      touches = touched f c.args.image c.size-size.result c.args.bytes.now size c.start-first.result (first g p) c.in-Ok.ensures.touches;
+      touches =
+          touched f c.args.image c.size-size.result c.args.bytes.now size c.start-first.result (first g p) c.in-Ok.ensures.touches;
       spent = λ done.
           subst (λ (m : ℕ). SpendsArming {T = Unit {0}} (Ok tt) (writes_to_append m n) (d.arming a.flash) (d.arming b) (d.counts a.flash) (d.counts b))
           size c.in-Ok.ensures.arming;
@@ -129,15 +141,18 @@ returns-in-Err-clause-image g c =
     record {
       appends = λ done tells.
           subst (λ (r : CallResult). Appends r (start f.layout (target f) c.args.image) (size_of (part_at f.session c.args.image)) (rest_of f c.args.image)
-          c.args.bytes.now (left_of f (fitting g p) c.args.image c.size-size.result c.args.bytes.now c.append.new.rest c.requires.plan.0 size)
+          c.args.bytes.now (left_of f (fitting g p) c.args.image c.size-size.result c.args.bytes.now c.append.new.rest
+          c.requires.plan.0 size)
           (d.told a.flash) (d.told b)) (sym c.stopped.ensures.stop)
-          (appended f (fitting g p) c.args.image c.size-size.result c.args.bytes.now c.append.new.rest c.requires.plan.0 size (Err c.in-Err.stop)
+          (appended f (fitting g p) c.args.image c.size-size.result c.args.bytes.now c.append.new.rest c.requires.plan.0 size
+          (Err c.in-Err.stop)
           c.start-first.result (d.told a.flash) (d.told b) (first g p) (c.in-Err.ensures.appends tells));
       keeps = tt;
       grows = tt;
       others = λ other apart. get_or-set_other f.rests c.args.image other c.append.new.rest [] apart;
       still = λ same. c.in-Err.ensures.still (subst (λ (m : ℕ). done_of (m + n) ≡ done_of m) (sym size) same);
-      touches = touched f c.args.image c.size-size.result c.args.bytes.now size c.start-first.result (first g p) c.in-Err.ensures.touches;
+      touches =
+          touched f c.args.image c.size-size.result c.args.bytes.now size c.start-first.result (first g p) c.in-Err.ensures.touches;
       spent = λ done.
           subst (λ (r : CallResult). SpendsArming r (writes_to_append (size_of (part_at f.session c.args.image)) n) (d.arming a.flash) (d.arming b)
           (d.counts a.flash) (d.counts b)) (sym c.stopped.ensures.stop)
