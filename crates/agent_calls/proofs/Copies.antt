@@ -81,10 +81,9 @@ pub call-follows : {T : Type 0} (U : Type 0) (of : T → Reply) (st : Stop) (E :
     → MeetsAs of (Err st) E.passes c old new → FollowsInStaging {T = U} (Err st) E old new s z
 call-follows U of (stop.Status st) E c old new s x y z r was now layout shows is other here goes meets =
     absurd (other st (call-replies E of (Err (stop.Status st)) c old new s x layout shows meets (reply.Refused st) refl ∙ ap (λ (w : Answer). w.reply) is))
-call-follows U of stop.Gone E c old new s x y z r was now layout shows is other here goes meets = absurd (gone-here (goes.gone.0 refl))
-  where
-    gone-here : IsTrue was → ⊥
-    gone-here is = cc
+call-follows U of stop.Gone E c old new s x y z r was now layout shows is other here goes meets =
+    let there : IsTrue was = goes.gone.0 refl in
+    absurd cc
 call-follows U of stop.Lost E c old new s x y z r was now layout shows is other here goes meets =
     subst (λ (w : Answer). GoesByMoves E (Err flash_stop.Lost) old new s w.moves z) is (call-stopped E of (Err stop.Lost) c old new s x layout shows meets refl z)
 call-follows U of stop.Fault E c old new s x y z r was now layout shows is other here goes meets =
