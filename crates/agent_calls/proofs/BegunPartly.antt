@@ -91,10 +91,10 @@ module _ (E : Setting) (s : State) (boot : ℕ) (staging : Option (List Staged))
       by-test : (b : Bool) → cannot_begin s boot staging ≡ b
           → (begins_over E s x types bytes ≡ cond (names_unknown E.layout.rows types) (refused status.Unknown x) partly)
           × (answer E s x (call.Begin 0) ≡ begun) × (cannot_begin s boot staging ≡ false)
-      by-test true e = absurd (not-done (sym is ∙ ap (λ (a : Answer). a.reply) (begin-is E s boot staging handles) ∙ ap (λ (b : Bool). (cond b (refused status.Denied x) begun).reply) e))
-        where
-          not-done : Success ≡ Refused status.Denied → ⊥
-          not-done z = absurd cc
+      by-test true e =
+          let z : Success ≡ Refused status.Denied = sym is ∙ ap (λ (a : Answer). a.reply) (begin-is E s boot staging handles)
+          ∙ ap (λ (b : Bool). (cond b (refused status.Denied x) begun).reply) e in
+          absurd cc
       by-test false e = (
         ap (λ (b : Bool). cond b (refused status.Denied x) (cond (names_unknown E.layout.rows types) (refused status.Unknown x) partly)) e,
         begin-is E s boot staging handles ∙ ap (λ (b : Bool). cond b (refused status.Denied x) begun) e,

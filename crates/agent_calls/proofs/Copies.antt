@@ -169,7 +169,7 @@ flash-follows T stop.Gone e E old new s y is goes = absurd cc
 flash-follows T q e E old new s y is goes =
     subst (λ (r : Result (Unit {0}) FlashStop). GoesByMoves E r old new s [] y) (sym is) goes
 
-abbrev plain : Fields → Setting
+abbrev pub plain : Fields → Setting
 plain f = record { layout = f.layout; files = λ _. None; passes = λ _. true }
 
 -- what is read is of the image that the bank holds

@@ -1,6 +1,6 @@
 -- What the copies and a partial begin leave as it was beside the update bank.
 use Rattle.std.proofs.Common.{◌≡◌, inl, inr, ℕ, ◌+◌, ◌*◌, ◌%◌, ◌<◌, ◌≤◌, Bool, true, false, cond, not, List, length, get_or, All, Result, Ok, Err, is_ok, refl, sym, ap, subst, ◌∙◌, arith}
-use Rattle.std.specs.Prelude.{IsTrue, IsFalse, IsErr, IsErrOf}
+use Rattle.std.specs.Prelude.{IsTrue, IsFalse, IsErrOf}
 use Rattle.std.proofs.lemmas.Bool.{cases_lt}
 use Rattle.std.proofs.lemmas.List.Elements.{All-get_or}
 use Rattle.flash_core.specs.Told.{Told}
@@ -181,8 +181,5 @@ stored-filled result a b c tells layout begun none some fills told = record {
   stores = stores-by a.fields (Ok tt) a.told b.told (λ is. (refl, none is)) some;
   fills = bank-same (λ (L : Layout) (bank : ℕ). KeepsWhere (IsBesideBank L bank) b.told c.told) a.fields b.fields layout
       (ap (λ (r : MetaRead). r.meta.active) begun ∙ begun-active a.fields) (fills.beside (subst IsTrue (sym tells) told));
-  last = λ err. absurd (no-error err);
+  last = λ err. absurd cc;
 }
-  where
-    no-error : IsErr {T = Unit {0}} {E = FlashStop} (Ok tt) → ⊥
-    no-error err = cc

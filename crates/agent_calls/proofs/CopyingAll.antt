@@ -1,13 +1,12 @@
 -- Copies of all images that aren't named, one after another.
-use Rattle.std.proofs.Common.{◌≡◌, ◌≢◌, ℕ, ◌+◌, ◌<◌, ◌≤◌, Bool, true, false, cond, List, [], length, get_or, set, replicate, Some, None, Ok, Err, inl, inr, refl, sym, ap, subst, ◌∙◌, arith, length-set, ltb, eq-eqb, ne_eqb, get_or-set_same, get_or-set_other, ext_get_or}
+use Rattle.std.proofs.Common.{◌≡◌, ◌≢◌, ℕ, ◌+◌, ◌<◌, ◌≤◌, Bool, true, false, cond, List, [], length, get_or, set, replicate, Some, Ok, Err, inl, inr, refl, sym, ap, subst, ◌∙◌, arith, length-set, ltb, eq-eqb, ne_eqb, get_or-set_same, get_or-set_other, ext_get_or}
 use Rattle.std.specs.Prelude.{IsTrue, ◌==◌}
 use Rattle.std.proofs.lemmas.Bool.{lt-ltb, le-ltb, cases_eq, cases_lt}
 use Rattle.std.proofs.lemmas.List.{get_or-replicate, length-replicate}
 use Rattle.std.proofs.lemmas.List.FromFn.{length-map-range_with_len, get_or-map-range_with_len}
-use Rattle.fwu_model.specs.Sound.{Setting}
 use Rattle.fwu_model.specs.Session.{Staged, Nothing, Committed}
 use Rattle.agent_machine.specs.declared.stop.Stop.{Stop}
-use Rattle.agent_machine.specs.Fields.{Fields, total_of}
+use Rattle.agent_machine.specs.Fields.{total_of}
 use Rattle.agent_machine.specs.Moment.{Moment, Shows}
 use Rattle.agent_machine.specs.Goes.{GoesByMoves}
 use Rattle.agent_machine.proofs.Going.{goes-nothing, goes-then}
@@ -15,7 +14,7 @@ use Rattle.agent_machine.specs.Filling.{between, filled}
 use Rattle.agent_calls.specs.Partly.{copied_first}
 use Rattle.fwu_model.specs.Answer.{copied_part, copied_parts, image_held}
 use Rattle.agent_calls.specs.Copies.{CopiesImage, CopiesFirst, CopiesImages}
-use Rattle.agent_calls.proofs.Copies.{follows-after, other-end, stays-none, stays-then}
+use Rattle.agent_calls.proofs.Copies.{plain, follows-after, other-end, stays-none, stays-then}
 
 -- ---- the parts, place by place
 
@@ -125,9 +124,6 @@ copies-none named m = record {
       (subst (λ (ps : List Staged). Shows m s (between boot ps)) (sym (first-none named (λ i. []))) shows);
 }
 
-abbrev plain : Fields → Setting
-plain f = record { layout = f.layout; files = λ _. None; passes = λ _. true }
-
 module _ (named : List Bool) (k : ℕ) (old mid : Moment) (first : CopiesFirst named k old mid) where
   pub copies-named : get_or named k true ≡ true → CopiesFirst named (k + 1) old mid
   copies-named is = record {
@@ -142,9 +138,6 @@ module _ (named : List Bool) (k : ℕ) (old mid : Moment) (first : CopiesFirst n
       other i not e = let both : false ≡ true = sym not ∙ ap (λ (j : ℕ). get_or named j true) e ∙ is in cc
 
   module _ (new : Moment) (below : k < length named) where
-    nothing-there : get_or (copied_first named k first.bytes) k Nothing ≡ Nothing
-    nothing-there = first-at named k first.bytes k below ∙ over named k first.bytes k (omega arith)
-
     within-parts : k < length (copied_first named k first.bytes)
     within-parts = omega (arith, below, first-long named k first.bytes)
 
@@ -161,7 +154,8 @@ module _ (named : List Bool) (k : ℕ) (old mid : Moment) (first : CopiesFirst n
           let one = first.goes (plain old.fields) s boot refl shows in
           elim (cases_eq i k) [
             | inl e ↦ with-same first.bytes k image.bytes i e
-                ∙ image.read (subst IsTrue (sym one.stays.tells) tells) s boot (copied_first named k first.bytes) within-parts nothing-there one.shows
+                ∙ image.read (subst IsTrue (sym one.stays.tells) tells) s boot (copied_first named k first.bytes) within-parts
+                (first-empty named k first.bytes below) one.shows
                 ∙ ap (λ (j : ℕ). image_held s boot j) (sym e)
             | inr ne ↦ with-other first.bytes k image.bytes i ne ∙ first.read tells s boot shows i (omega (arith, lt, ne)) not
           ];
@@ -170,7 +164,8 @@ module _ (named : List Bool) (k : ℕ) (old mid : Moment) (first : CopiesFirst n
           let parts = copied_first named k first.bytes in
           subst (λ (ps : List Staged). GoesByMoves E (Ok tt) old new s [] (between boot ps)) (next-copied named k first.bytes image.bytes is below)
           (goes-then E (Ok tt) old mid new s [] [] (between boot parts) (between boot (filled parts k image.bytes true)) one
-          (image.goes E s boot parts (layout ∙ sym one.stays.layout) within-parts nothing-there one.shows));
+          (image.goes E s boot parts (layout ∙ sym one.stays.layout) within-parts (first-empty named k first.bytes below)
+          one.shows));
     }
 
     pub copies-stopped : (st : Stop) → CopiesImage k (Err st) mid new → CopiesImages named (Err st) old new
@@ -184,7 +179,8 @@ module _ (named : List Bool) (k : ℕ) (old mid : Moment) (first : CopiesFirst n
           let parts = copied_first named k first.bytes in
           other-end (Unit {0}) (Unit {0}) st E old new s (between boot (filled parts k image.bytes true)) (between boot (copied_first named (length named) first.bytes))
           (follows-after {T = Unit {0}} (Err st) E old mid new s (between boot parts) (between boot (filled parts k image.bytes true)) one
-          (image.goes E s boot parts (layout ∙ sym one.stays.layout) within-parts nothing-there one.shows));
+          (image.goes E s boot parts (layout ∙ sym one.stays.layout) within-parts (first-empty named k first.bytes below)
+          one.shows));
     }
 
   pub copies-done : k ≡ length named → CopiesImages named (Ok tt) old mid
