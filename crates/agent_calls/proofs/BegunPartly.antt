@@ -6,7 +6,6 @@ use Rattle.std.proofs.lemmas.Bool.{or_parts, not-false}
 use Rattle.std.proofs.lemmas.List.{length-map, length-replicate}
 use Rattle.base_core.specs.Bytes.{same_bytes}
 use Rattle.flash_core.specs.declared.flash.FlashStop.{FlashStop}
-use Rattle.flash_core.specs.declared.flash.FlashStop.TheVariants as flash_stop
 use Rattle.std.proofs.Math.Logic.{∥∥₁_elim}
 use Rattle.std.specs.Coded.{Coded-set, coded_ℕ}
 use Rattle.fwu_formats.specs.Layout.{Layout, ImageRow}
@@ -330,11 +329,9 @@ module _ (old mid new : Moment) (types : List (List ℕ)) (passes : List ℕ →
   goes-by : (q : Result (Unit {0}) Stop) (E : Setting) (s : State) (x : Session) → IsSettingOf old.fields passes E → Shows old s x
       → FollowsInStaging q E mid new (after s (begin_moves s)) (between old.fields.boot (copied_parts named copied.bytes))
       → GoesByMoves E (flash_result q) old new s (begin_moves s) (between old.fields.boot (copied_parts named copied.bytes))
-  goes-by (Ok u) E s x setting shows h = then-goes (Ok tt) E s x setting shows h
-  goes-by (Err stop.Lost) E s x setting shows h = then-goes (Err flash_stop.Lost) E s x setting shows h
-  goes-by (Err stop.Fault) E s x setting shows h = then-goes (Err flash_stop.Failed) E s x setting shows h
   goes-by (Err (stop.Status st)) E s x setting shows h = absurd h
   goes-by (Err stop.Gone) E s x setting shows h = absurd h
+  goes-by q E s x setting shows h = then-goes (flash_result q) E s x setting shows h
 
   goes-all : (E : Setting) (s : State) (x : Session) → IsSettingOf old.fields passes E → Shows old s x
       → GoesByMoves E (flash_result result) old new s (begin_moves s) (between old.fields.boot (copied_parts named copied.bytes))
