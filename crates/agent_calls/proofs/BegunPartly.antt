@@ -1,12 +1,11 @@
 -- A partial begin: a begin, and then the copies.
-use Rattle.std.proofs.Common.{◌≡◌, ◌≢◌, cond, ℕ, ◌+◌, ◌*◌, ◌%◌, ◌<◌, Bool, true, false, List, [], ◌∷◌, ◌++◌, length, get_or, replicate, Option, Some, None, Result, Ok, Err, refl, sym, ap, subst, ◌∙◌, get_or-set_other, IsTrue, eqb-true, OnOk, arith}
+use Rattle.std.proofs.Common.{◌≡◌, ◌≢◌, cond, ℕ, ◌+◌, ◌*◌, ◌%◌, ◌<◌, Bool, true, false, List, [], ◌∷◌, append-nil, length, get_or, replicate, Option, Some, None, Result, Ok, Err, refl, sym, ap, subst, ◌∙◌, get_or-set_other, IsTrue, eqb-true, OnOk, arith}
 use Rattle.std.specs.Prelude.{◌==◌}
 use Rattle.std.specs.List.{list_any}
 use Rattle.std.proofs.lemmas.Bool.{or_parts, not-false}
 use Rattle.std.proofs.lemmas.List.{length-map, length-replicate}
 use Rattle.base_core.specs.Bytes.{same_bytes}
 use Rattle.flash_core.specs.declared.flash.FlashStop.{FlashStop}
-use Rattle.flash_core.specs.declared.flash.FlashStop.TheVariants as flash_stop
 use Rattle.std.proofs.Math.Logic.{∥∥₁_elim}
 use Rattle.std.specs.Coded.{Coded-set, coded_ℕ}
 use Rattle.fwu_formats.specs.Layout.{Layout, ImageRow}
@@ -18,7 +17,7 @@ use Rattle.fwu_model.specs.Reply.{Success, Refused}
 use Rattle.fwu_model.specs.declared.kinds.Status.{Status}
 use Rattle.fwu_model.specs.declared.kinds.Status.TheVariants as status
 use Rattle.fwu_model.specs.Answer.{Answer, answer, answer_begin, answered, refused, cannot_begin, begin_moves, is_elsewhere, is_trial, agent_state, held_package}
-use Rattle.moves.specs.Moved.{Does, GuardedBy}
+use Rattle.moves.specs.Moved.{Does}
 use Rattle.moves.proofs.Composed.{does-nothing}
 use Rattle.agent_kept.specs.Kept.{staging_meant, handles_meant}
 use Rattle.agent_state.proofs.Machine.{active-is}
@@ -51,11 +50,8 @@ setting-of f passes = record { layout = f.layout; files = λ _. None; passes = p
 
 -- what was done or stopped by the flash isn't refused
 pub done-unrefused : (q : Result (Unit {0}) Stop) → IsDone q → IsRefused q → ⊥
-done-unrefused (Ok u) is refused = refused
-done-unrefused (Err stop.Lost) is refused = refused
-done-unrefused (Err stop.Fault) is refused = refused
 done-unrefused (Err (stop.Status st)) is refused = is
-done-unrefused (Err stop.Gone) is refused = refused
+done-unrefused q is refused = refused
 
 -- ---- the machine's answers
 
@@ -94,10 +90,10 @@ module _ (E : Setting) (s : State) (boot : ℕ) (staging : Option (List Staged))
       by-test : (b : Bool) → cannot_begin s boot staging ≡ b
           → (begins_over E s x types bytes ≡ cond (names_unknown E.layout.rows types) (refused status.Unknown x) partly)
           × (answer E s x (call.Begin 0) ≡ begun) × (cannot_begin s boot staging ≡ false)
-      by-test true e = absurd (not-done (sym is ∙ ap (λ (a : Answer). a.reply) (begin-is E s boot staging handles) ∙ ap (λ (b : Bool). (cond b (refused status.Denied x) begun).reply) e))
-        where
-          not-done : Success ≡ Refused status.Denied → ⊥
-          not-done z = absurd cc
+      by-test true e =
+          let z : Success ≡ Refused status.Denied = sym is ∙ ap (λ (a : Answer). a.reply) (begin-is E s boot staging handles)
+          ∙ ap (λ (b : Bool). (cond b (refused status.Denied x) begun).reply) e in
+          absurd cc
       by-test false e = (
         ap (λ (b : Bool). cond b (refused status.Denied x) (cond (names_unknown E.layout.rows types) (refused status.Unknown x) partly)) e,
         begin-is E s boot staging handles ∙ ap (λ (b : Bool). cond b (refused status.Denied x) begun) e,
@@ -260,14 +256,13 @@ module _ (old new : Moment) (types : List (List ℕ)) (named : List Bool) (passe
       → (IsStopped {T = Unit {0}} (Err q) → (E : Setting) (s : State) (x : Session) → E.layout ≡ old.fields.layout → Shows old s x
       → (answer E s x (call.Begin 0)).reply ≡ Success) → MeetsAs {T = Unit {0}} (λ _. Success) (Err q) passes (call.Begin 0) old new
       → BeginsPartly types named passes (Err q) old new
-  unbegun-stopped stop.Lost same were meets =
-      unbegun stop.Lost (λ done. begun-count (were tt)) (λ E s x setting shows. begun-reply E s x setting shows (were tt E s x setting.layout shows)) meets
-  unbegun-stopped stop.Fault same were meets =
-      unbegun stop.Fault (λ done. begun-count (were tt)) (λ E s x setting shows. begun-reply E s x setting shows (were tt E s x setting.layout shows)) meets
   unbegun-stopped stop.Gone same were meets = unbegun stop.Gone (λ done. absurd done) (λ E s x setting shows. tt) meets
   unbegun-stopped (stop.Status st) same were meets =
       subst (λ (m : Moment). BeginsPartly types named passes (Err (stop.Status st)) old m) (sym (same tt))
       (refused-partly old types named passes st (refused-by st meets))
+  unbegun-stopped q same were meets =
+      unbegun q (λ done. begun-count (were tt)) (λ E s x setting shows. begun-reply E s x setting shows
+      (were tt E s x setting.layout shows)) meets
 
 -- ---- begun, and then copied
 
@@ -277,10 +272,6 @@ pub partly-touched : (old mid new : Moment) → Stays old mid → SparesBlocks o
 partly-touched old mid new stays begun active fills =
     blocks-further old.fields mid.fields stays.layout stays.boot (blocks-once old.fields begun)
     (λ b spared. fills.touches b (subst (λ (n : ℕ). IsBesideBank mid.fields.layout ((n + 1) % mid.fields.layout.banks) (4096 * b)) active spared.1))
-
-append-nil : (ms : List Move) → ms ++ [] ≡ ms
-append-nil [] = refl
-append-nil (m ∷ ms) = ap (λ (l : List Move). m ∷ l) (append-nil ms)
 
 module _ (old mid new : Moment) (types : List (List ℕ)) (passes : List ℕ → Bool) (result : Result (Unit {0}) Stop) (fitting : Fitting old.fields)
     (known : names_unknown old.fields.layout.rows types ≡ false)
@@ -292,21 +283,25 @@ module _ (old mid new : Moment) (types : List (List ℕ)) (passes : List ℕ →
   count-is : length named ≡ length old.fields.layout.rows
   count-is = length-map old.fields.layout.rows (λ (r : ImageRow). list_any (same_bytes r.guid) types)
 
-  -- the begin
-  pub record Begun (E : Setting) (s : State) (x : Session) : Type 0 where
-    pub is : begins_over E s x types copied.bytes ≡ answered Success (begin_moves s) (between old.fields.boot (copied_parts named copied.bytes))
+  -- the begin, whatever bytes are kept of the bank that was started
+  pub record Begun (bytes : ℕ → List ℕ) (E : Setting) (s : State) (x : Session) : Type 0 where
+    pub is : begins_over E s x types bytes ≡ answered Success (begin_moves s) (between old.fields.boot (copied_parts named bytes))
     pub goes : GoesByMoves E (Ok tt) old mid s (begin_moves s) (between old.fields.boot (replicate (length named) Nothing))
     pub booted : old.fields.boot ≡ s.active
 
-  begun-at : (E : Setting) (s : State) (x : Session) → IsSettingOf old.fields passes E → Shows old s x → Begun E s x
-  begun-at E s x setting shows =
+  begun-at : (bytes : ℕ → List ℕ) (E : Setting) (s : State) (x : Session) → IsSettingOf old.fields passes E → Shows old s x
+      → Begun bytes E s x
+  begun-at bytes E s x setting shows =
       let meets = subst (λ (v : List ℕ → Bool). MeetsAs {T = Unit {0}} (λ _. Success) (Ok tt) v (call.Begin 0) old mid) (sym setting.verifier) begins in
       let replied = sym (call-replies E (λ (_ : Unit {0}). Success) (Ok tt) (call.Begin 0) old mid s x setting.layout shows meets Success refl) in
       let unknown = ap (λ (L : Layout). names_unknown L.rows types) setting.layout ∙ known in
-      let with = begun-with old E s x shows types copied.bytes replied unknown in
+      let with = begun-with old E s x shows types bytes replied unknown in
       let rows : length E.layout.rows ≡ length named = ap (λ (L : Layout). length L.rows) setting.layout ∙ sym count-is in
       record {
-        is = with.0 ∙ ap (λ (L : Layout). answered Success (begin_moves s) (between old.fields.boot (copied_parts (are_named L.rows types) copied.bytes))) setting.layout;
+        is = with.0
+            ∙ ap (λ (L : Layout). answered Success (begin_moves s) (between old.fields.boot (copied_parts (are_named L.rows types)
+            bytes)))
+            setting.layout;
         goes = subst (λ (n : ℕ). GoesByMoves E (Ok tt) old mid s (begin_moves s) (between old.fields.boot (replicate n Nothing))) rows
             (subst (λ (a : Answer). GoesByMoves E (Ok tt) old mid s a.moves a.next) with.1
             (call-goes E (λ (_ : Unit {0}). Success) (Ok tt) (call.Begin 0) old mid s x setting.layout shows meets Success refl));
@@ -317,7 +312,7 @@ module _ (old mid new : Moment) (types : List (List ℕ)) (passes : List ℕ →
   follows-at : (E : Setting) (s : State) (x : Session) → IsSettingOf old.fields passes E → Shows old s x
       → FollowsInStaging result E mid new (after s (begin_moves s)) (between old.fields.boot (copied_parts named copied.bytes))
   follows-at E s x setting shows =
-      let at = begun-at E s x setting shows in
+      let at = begun-at copied.bytes E s x setting shows in
       subst (λ (ps : List Staged). FollowsInStaging result E mid new (after s (begin_moves s)) (between old.fields.boot ps)) (first-all named copied.bytes)
       (copied.goes E (after s (begin_moves s)) old.fields.boot (setting.layout ∙ sym at.goes.stays.layout) at.goes.shows)
 
@@ -326,7 +321,7 @@ module _ (old mid new : Moment) (types : List (List ℕ)) (passes : List ℕ →
       → GoesByMoves E r mid new (after s (begin_moves s)) [] (between old.fields.boot (copied_parts named copied.bytes))
       → GoesByMoves E r old new s (begin_moves s) (between old.fields.boot (copied_parts named copied.bytes))
   then-goes r E s x setting shows next =
-      let at = begun-at E s x setting shows in
+      let at = begun-at copied.bytes E s x setting shows in
       subst (λ (ms : List Move). GoesByMoves E r old new s ms (between old.fields.boot (copied_parts named copied.bytes))) (append-nil (begin_moves s))
       (goes-then E r old mid new s (begin_moves s) [] (between old.fields.boot (replicate (length named) Nothing))
       (between old.fields.boot (copied_parts named copied.bytes)) at.goes next)
@@ -334,11 +329,9 @@ module _ (old mid new : Moment) (types : List (List ℕ)) (passes : List ℕ →
   goes-by : (q : Result (Unit {0}) Stop) (E : Setting) (s : State) (x : Session) → IsSettingOf old.fields passes E → Shows old s x
       → FollowsInStaging q E mid new (after s (begin_moves s)) (between old.fields.boot (copied_parts named copied.bytes))
       → GoesByMoves E (flash_result q) old new s (begin_moves s) (between old.fields.boot (copied_parts named copied.bytes))
-  goes-by (Ok u) E s x setting shows h = then-goes (Ok tt) E s x setting shows h
-  goes-by (Err stop.Lost) E s x setting shows h = then-goes (Err flash_stop.Lost) E s x setting shows h
-  goes-by (Err stop.Fault) E s x setting shows h = then-goes (Err flash_stop.Failed) E s x setting shows h
   goes-by (Err (stop.Status st)) E s x setting shows h = absurd h
   goes-by (Err stop.Gone) E s x setting shows h = absurd h
+  goes-by q E s x setting shows h = then-goes (flash_result q) E s x setting shows h
 
   goes-all : (E : Setting) (s : State) (x : Session) → IsSettingOf old.fields passes E → Shows old s x
       → GoesByMoves E (flash_result result) old new s (begin_moves s) (between old.fields.boot (copied_parts named copied.bytes))
@@ -350,10 +343,9 @@ module _ (old mid new : Moment) (types : List (List ℕ)) (passes : List ℕ →
       → GoesByMoves E (flash_result q) old new s (begin_moves s) (between old.fields.boot (copied_parts named copied.bytes))
       → AnswersAs q a s new
   answers-by (Ok u) a s E is follows goes = (ap (λ (b : Answer). b.reply) is, subst (λ (b : Answer). Shows new (after s b.moves) b.next) (sym is) goes.shows)
-  answers-by (Err stop.Lost) a s E is follows goes = ap (λ (b : Answer). b.reply) is
-  answers-by (Err stop.Fault) a s E is follows goes = ap (λ (b : Answer). b.reply) is
   answers-by (Err (stop.Status st)) a s E is follows goes = absurd follows
   answers-by (Err stop.Gone) a s E is follows goes = absurd follows
+  answers-by (Err q) a s E is follows goes = ap (λ (b : Answer). b.reply) is
 
   abbrev plain : Setting
   plain = setting-of old.fields passes
@@ -361,108 +353,99 @@ module _ (old mid new : Moment) (types : List (List ℕ)) (passes : List ℕ →
   plain-fits : IsSettingOf old.fields passes plain
   plain-fits = record { layout = refl; verifier = refl }
 
-  count-by : (q : Result (Unit {0}) Stop) → OnOk q ((i : ℕ) → i < length named → get_or named i true ≡ false → length (copied.bytes i) ≡ total_of mid.fields (Some i))
-      → OnOk q ((i : ℕ) → i < length named → get_or named i true ≡ false → length (copied.bytes i) ≡ total_of old.fields (Some i))
-  count-by (Ok u) count = λ i lt un. count i lt un ∙ ap (λ (l : List ℕ). get_or l i 0) begins.leaves.stays.lengths
-  count-by (Err q) count = tt
-
   -- done
   read-done : (IsTrue mid.tells → (s : State) (boot : ℕ) → Shows mid s (between boot (replicate (length named) Nothing))
       → (i : ℕ) → i < length named → get_or named i true ≡ false → copied.bytes i ≡ image_held s boot i)
       → IsTrue old.tells → (s : State) (x : Session) → Shows old s x → (i : ℕ) → i < length named → get_or named i true ≡ false
       → copied.bytes i ≡ image_held s s.active i
   read-done read tells s y shows i lt un =
-      let at = begun-at plain s y plain-fits shows in
+      let at = begun-at copied.bytes plain s y plain-fits shows in
       read (subst IsTrue (sym begins.leaves.stays.tells) tells) (after s (begin_moves s)) old.fields.boot at.goes.shows i lt un
       ∙ still-held old fitting s y shows at.booted i ∙ ap (λ (b : ℕ). image_held s b i) at.booted
 
   -- or stopped on the way: the moves are those of a begin, whatever was to be copied
-  abbrev asked : (E : Setting) (s : State) (x : Session) → Answer
-  asked E s x = begins_over E s x types (held old)
-
-  asked-is : (E : Setting) (s : State) (x : Session) → IsSettingOf old.fields passes E → Shows old s x
-      → asked E s x ≡ answered Success (begin_moves s) (between old.fields.boot (copied_parts (are_named E.layout.rows types) (held old)))
-  asked-is E s x setting shows =
-      let meets = subst (λ (v : List ℕ → Bool). MeetsAs {T = Unit {0}} (λ _. Success) (Ok tt) v (call.Begin 0) old mid) (sym setting.verifier) begins in
-      let replied = sym (call-replies E (λ (_ : Unit {0}). Success) (Ok tt) (call.Begin 0) old mid s x setting.layout shows meets Success refl) in
-      (begun-with old E s x shows types (held old) replied (ap (λ (L : Layout). names_unknown L.rows types) setting.layout ∙ known)).0
-
-  stops-by : (q : Stop) (E : Setting) (s : State) (x : Session)
+  stops-by : (q : Stop) (a : Answer) (E : Setting) (s : State)
       → FollowsInStaging {T = Unit {0}} (Err q) E mid new (after s (begin_moves s)) (between old.fields.boot (copied_parts named copied.bytes))
-      → (asked E s x).reply ≡ Success → AnswersAs (Err q) (asked E s x) s new
-  stops-by stop.Lost E s x follows is = is
-  stops-by stop.Fault E s x follows is = is
-  stops-by (stop.Status st) E s x follows is = absurd follows
-  stops-by stop.Gone E s x follows is = absurd follows
+      → a.reply ≡ Success → AnswersAs (Err q) a s new
+  stops-by (stop.Status st) a E s follows is = absurd follows
+  stops-by stop.Gone a E s follows is = absurd follows
+  stops-by q a E s follows is = is
 
-  partly-by : (r : Result (Unit {0}) Stop) → r ≡ result → (IsTrue old.tells → (s : State) × (x : Session) × Shows old s x)
-      → SparesBlocksByAll old.fields old.writes new.writes → BeginsPartly types named passes r old new
-  partly-by (Ok u) e some touches = record {
-    bytes = copied.bytes;
-    count = λ done. subst (λ (q : Result (Unit {0}) Stop). OnOk q ((i : ℕ) → i < length named → get_or named i true ≡ false → length (copied.bytes i) ≡ total_of old.fields (Some i))) (sym e) (count-by result copied.count);
-    read = read-done (subst (λ (q : Result (Unit {0}) Stop). OnOk q (IsTrue mid.tells → (s : State) (boot : ℕ) → Shows mid s (between boot (replicate (length named) Nothing))
-        → (i : ℕ) → i < length named → get_or named i true ≡ false → copied.bytes i ≡ image_held s boot i)) (sym e) copied.read);
-    exact = λ E s x setting shows. subst (λ (q : Result (Unit {0}) Stop). AnswersAs q (begins_over E s x types copied.bytes) s new) (sym e)
-        (answers-by result (begins_over E s x types copied.bytes) s E (begun-at E s x setting shows).is (follows-at E s x setting shows) (goes-all E s x setting shows));
-    does = λ E s x setting shows tells ready.
-        subst (λ (q : Result (Unit {0}) Stop). Does (flash_result q) E s (begins_over E s x types copied.bytes).moves new.told) (sym e)
-        (subst (λ (ms : List Move). Does (flash_result result) E s ms new.told) (sym (ap (λ (a : Answer). a.moves) (begun-at E s x setting shows).is))
-        ((goes-all E s x setting shows).does tells ready));
-    guarded = λ tells rest. subst (λ (q : Result (Unit {0}) Stop). GuardedBy (flash_result q) new.told) (sym e)
-        (let w = some tells in (goes-all plain w.0 w.1 plain-fits w.2).guarded tells rest);
-    keeps = λ tells. let w = some tells in (goes-all plain w.0 w.1 plain-fits w.2).keeps tells;
-    touches = touches;
-    stays = stays-then old mid new begins.leaves.stays copied.stays;
-  }
-  partly-by (Err q) e some touches = record {
-    bytes = held old;
-    count = λ done i lt un. held-count old (λ tells.
+  module _ (some : IsTrue old.tells → (s : State) × (x : Session) × Shows old s x)
+      (touches : SparesBlocksByAll old.fields old.writes new.writes) where
+    partly-with : (bytes : ℕ → List ℕ)
+        → (IsDone result → (i : ℕ) → i < length named → get_or named i true ≡ false → length (bytes i) ≡ total_of old.fields
+        (Some i))
+        → (IsTrue old.tells → (s : State) (x : Session) → Shows old s x → (i : ℕ) → i < length named → get_or named i true ≡ false
+        → bytes i ≡ image_held s s.active i)
+        → ((E : Setting) (s : State) (x : Session) → IsSettingOf old.fields passes E → Shows old s x
+        → AnswersAs result (begins_over E s x types bytes) s new)
+        → BeginsPartly types named passes result old new
+    partly-with bytes count read exact = record {
+      bytes = bytes;
+      count = count;
+      read = read;
+      exact = exact;
+      does = λ E s x setting shows tells ready.
+          subst (λ (ms : List Move). Does (flash_result result) E s ms new.told)
+          (sym (ap (λ (a : Answer). a.moves) (begun-at bytes E s x setting shows).is))
+          ((goes-all E s x setting shows).does tells ready);
+      guarded = λ tells rest. let w = some tells in (goes-all plain w.0 w.1 plain-fits w.2).guarded tells rest;
+      keeps = λ tells. let w = some tells in (goes-all plain w.0 w.1 plain-fits w.2).keeps tells;
+      touches = touches;
+      stays = stays-then old mid new begins.leaves.stays copied.stays;
+    }
+
+    at-ok : {A : Type 0} (u : Unit {0}) → Ok u ≡ result → OnOk result A → A
+    at-ok {A = A} u e holds = subst (λ (q : Result (Unit {0}) Stop). OnOk q A) (sym e) holds
+
+    partly-by : (r : Result (Unit {0}) Stop) → r ≡ result → BeginsPartly types named passes result old new
+    partly-by (Ok u) e =
+        let count : (i : ℕ) → i < length named → get_or named i true ≡ false → length (copied.bytes i) ≡ total_of mid.fields
+        (Some i) =
+        at-ok u e copied.count in
+        partly-with copied.bytes (λ done i lt un. count i lt un ∙ ap (λ (l : List ℕ). get_or l i 0) begins.leaves.stays.lengths)
+        (read-done (at-ok u e copied.read))
+        (λ E s x setting shows.
+        answers-by result (begins_over E s x types copied.bytes) s E (begun-at copied.bytes E s x setting shows).is
+        (follows-at E s x setting shows)
+        (goes-all E s x setting shows))
+    partly-by (Err q) e =
+        partly-with (held old) (λ done i lt un. held-count old (λ tells.
         let w = some tells in
-        record { state = w.0; session = w.1; shows = w.2; is = (begun-at plain w.0 w.1 plain-fits w.2).booted }) i (omega (arith, lt, count-is));
-    read = λ tells s x shows i lt un. held-is old s x shows tells i;
-    exact = λ E s x setting shows. stops-by q E s x
-        (subst (λ (r : Result (Unit {0}) Stop). FollowsInStaging r E mid new (after s (begin_moves s)) (between old.fields.boot (copied_parts named copied.bytes))) (sym e) (follows-at E s x setting shows))
-        (ap (λ (a : Answer). a.reply) (asked-is E s x setting shows));
-    does = λ E s x setting shows tells ready.
-        subst (λ (r : Result (Unit {0}) Stop). Does (flash_result r) E s (asked E s x).moves new.told) (sym e)
-        (subst (λ (ms : List Move). Does (flash_result result) E s ms new.told) (sym (ap (λ (a : Answer). a.moves) (asked-is E s x setting shows)))
-        ((goes-all E s x setting shows).does tells ready));
-    guarded = λ tells rest. subst (λ (r : Result (Unit {0}) Stop). GuardedBy (flash_result r) new.told) (sym e)
-        (let w = some tells in (goes-all plain w.0 w.1 plain-fits w.2).guarded tells rest);
-    keeps = λ tells. let w = some tells in (goes-all plain w.0 w.1 plain-fits w.2).keeps tells;
-    touches = touches;
-    stays = stays-then old mid new begins.leaves.stays copied.stays;
-  }
+        record { state = w.0; session = w.1; shows = w.2; is = (begun-at (held old) plain w.0 w.1 plain-fits w.2).booted })
+        i (omega (arith, lt, count-is)))
+        (λ tells s x shows i lt un. held-is old s x shows tells i)
+        (λ E s x setting shows.
+        subst (λ (r : Result (Unit {0}) Stop). AnswersAs r (begins_over E s x types (held old)) s new) e
+        (stops-by q (begins_over E s x types (held old)) E s
+        (subst (λ (r : Result (Unit {0}) Stop). FollowsInStaging r E mid new (after s (begin_moves s))
+        (between old.fields.boot (copied_parts named copied.bytes))) (sym e) (follows-at E s x setting shows))
+        (ap (λ (a : Answer). a.reply) (begun-at (held old) E s x setting shows).is)))
 
-  pub begun-partly : (IsTrue old.tells → (s : State) × (x : Session) × Shows old s x) → SparesBlocksByAll old.fields old.writes new.writes
-      → BeginsPartly types named passes result old new
-  begun-partly some touches = partly-by result refl some touches
+    pub begun-partly : BeginsPartly types named passes result old new
+    begun-partly = partly-by result refl
 
   -- some machine is shown, so it was neither refused nor was the agent gone
   follows-one : (q : Result (Unit {0}) Stop) (E : Setting) (s : State) (y : Session) → FollowsInStaging q E mid new s y → IsDone q
-  follows-one (Ok u) E s y h = tt
-  follows-one (Err stop.Lost) E s y h = tt
-  follows-one (Err stop.Fault) E s y h = tt
   follows-one (Err (stop.Status st)) E s y h = absurd h
   follows-one (Err stop.Gone) E s y h = absurd h
-
-  zero-one : ◌≡◌ {A = ℕ} 0 1 → ⊥
-  zero-one e = absurd cc
+  follows-one q E s y h = tt
 
   pub only-done : ∥ Showing old ∥₁ → IsDone result
   only-done showing = by-cases result refl
     where
       never : (IsDone result → ⊥) → ⊥
       never none =
-          zero-one (∥∥₁_elim showing (Coded-set coded_ℕ 0 1) (λ (w : Showing old).
-          absurd (none (follows-one result plain (after w.state (begin_moves w.state)) _ (follows-at plain w.state w.session plain-fits w.shows)))))
+          let one : ◌≡◌ {A = ℕ} 0 1 = ∥∥₁_elim showing (Coded-set coded_ℕ 0 1) (λ (w : Showing old).
+          absurd (none (follows-one result plain (after w.state (begin_moves w.state)) _
+          (follows-at plain w.state w.session plain-fits w.shows)))) in
+          cc
 
       by-cases : (q : Result (Unit {0}) Stop) → q ≡ result → IsDone result
-      by-cases (Ok u) e = subst IsDone e tt
-      by-cases (Err stop.Lost) e = subst IsDone e tt
-      by-cases (Err stop.Fault) e = subst IsDone e tt
       by-cases (Err (stop.Status st)) e = absurd (never (λ is. subst IsDone (sym e) is))
       by-cases (Err stop.Gone) e = absurd (never (λ is. subst IsDone (sym e) is))
+      by-cases q e = subst IsDone e tt
 
   -- what the copies take
   pub takes-at : (b c : Option Arming) → CopiesTake named (length old.fields.layout.rows) mid b c → Showing old
@@ -470,4 +453,4 @@ module _ (old mid new : Moment) (types : List (List ℕ)) (passes : List ℕ →
   takes-at b c takes w =
       subst (λ (l : List ℕ). Takes (writes_to_copy named l (length old.fields.layout.rows)) b c) begins.leaves.stays.lengths
       (takes plain (after w.state (begin_moves w.state)) old.fields.boot (sym begins.leaves.stays.layout)
-      (begun-at plain w.state w.session plain-fits w.shows).goes.shows)
+      (begun-at copied.bytes plain w.state w.session plain-fits w.shows).goes.shows)

@@ -1,12 +1,11 @@
 -- Copies of images of the bank that was started, step by step.
-use Rattle.std.proofs.Common.{◌≡◌, ◌≢◌, ◌*◌, ℕ, zero, suc, ◌+◌, ◌<◌, ◌≤◌, Bool, true, List, [], ◌∷◌, ◌++◌, length, get_or, take, drop, Option, Some, None, Result, Ok, Err, refl, sym, ap, subst, ◌∙◌, arith, length-append}
-use Rattle.std.specs.Prelude.{IsTrue, IsFalse, IsErr}
+use Rattle.std.proofs.Common.{◌≡◌, ◌≢◌, ◌*◌, ℕ, ◌+◌, ◌<◌, ◌≤◌, Bool, true, List, [], ◌++◌, length, get_or, take, drop, Option, Some, None, Result, Ok, Err, refl, sym, ap, subst, ◌∙◌, arith, length-append}
+use Rattle.std.specs.Prelude.{IsTrue, IsFalse, IsErr, OnOk}
 use Rattle.std.proofs.lemmas.List.{take_all}
 use Rattle.std.proofs.Math.Seq.{take-add}
 use Rattle.std.proofs.lemmas.Result.{IfOk-from_err}
 use Rattle.flash_core.specs.Told.{Told}
 use Rattle.flash_core.specs.declared.flash.FlashStop.{FlashStop}
-use Rattle.flash_core.specs.declared.flash.FlashStop.TheVariants as flash_stop
 use Rattle.fwu_formats.specs.Layout.{slot_bytes, find_image, Layout, start}
 use Rattle.fwu_model.specs.State.{State}
 use Rattle.fwu_model.specs.Sound.{Setting}
@@ -60,19 +59,17 @@ any _ = true
 
 pub follows-after : {T : Type 0} (result : Result T Stop) (E : Setting) (old mid new : Moment) (s : State) (x y : Session)
     → GoesByMoves E (Ok tt) old mid s [] x → FollowsInStaging result E mid new s y → FollowsInStaging result E old new s y
-follows-after (Ok v) E old mid new s x y first next = goes-then E (Ok tt) old mid new s [] [] x y first next
-follows-after (Err stop.Lost) E old mid new s x y first next = goes-then E (Err flash_stop.Lost) old mid new s [] [] x y first next
-follows-after (Err stop.Fault) E old mid new s x y first next = goes-then E (Err flash_stop.Failed) old mid new s [] [] x y first next
 follows-after (Err (stop.Status st)) E old mid new s x y first next = absurd next
 follows-after (Err stop.Gone) E old mid new s x y first next = absurd next
+follows-after q E old mid new s x y first next = goes-then E (flash_result q) old mid new s [] [] x y first next
 
 -- at a stop nothing is said of the session
 pub other-end : (T U : Type 0) (st : Stop) (E : Setting) (old new : Moment) (s : State) (y z : Session)
     → FollowsInStaging {T = T} (Err st) E old new s y → FollowsInStaging {T = U} (Err st) E old new s z
-other-end T U stop.Lost E old new s y z h = record { shows = tt; does = h.does; guarded = h.guarded; keeps = h.keeps; touches = h.touches; stays = h.stays }
-other-end T U stop.Fault E old new s y z h = record { shows = tt; does = h.does; guarded = h.guarded; keeps = h.keeps; touches = h.touches; stays = h.stays }
 other-end T U (stop.Status st) E old new s y z h = h
 other-end T U stop.Gone E old new s y z h = h
+other-end T U q E old new s y z h =
+    record { shows = tt; does = h.does; guarded = h.guarded; keeps = h.keeps; touches = h.touches; stays = h.stays }
 
 -- a call whose answer within a staging is known, and no refusal: at a stop the flash stopped it
 pub call-follows : {T : Type 0} (U : Type 0) (of : T → Reply) (st : Stop) (E : Setting) (c : Call) (old new : Moment) (s : State) (x y z : Session)
@@ -81,14 +78,12 @@ pub call-follows : {T : Type 0} (U : Type 0) (of : T → Reply) (st : Stop) (E :
     → MeetsAs of (Err st) E.passes c old new → FollowsInStaging {T = U} (Err st) E old new s z
 call-follows U of (stop.Status st) E c old new s x y z r was now layout shows is other here goes meets =
     absurd (other st (call-replies E of (Err (stop.Status st)) c old new s x layout shows meets (reply.Refused st) refl ∙ ap (λ (w : Answer). w.reply) is))
-call-follows U of stop.Gone E c old new s x y z r was now layout shows is other here goes meets = absurd (gone-here (goes.gone.0 refl))
-  where
-    gone-here : IsTrue was → ⊥
-    gone-here is = cc
-call-follows U of stop.Lost E c old new s x y z r was now layout shows is other here goes meets =
-    subst (λ (w : Answer). GoesByMoves E (Err flash_stop.Lost) old new s w.moves z) is (call-stopped E of (Err stop.Lost) c old new s x layout shows meets refl z)
-call-follows U of stop.Fault E c old new s x y z r was now layout shows is other here goes meets =
-    subst (λ (w : Answer). GoesByMoves E (Err flash_stop.Failed) old new s w.moves z) is (call-stopped E of (Err stop.Fault) c old new s x layout shows meets refl z)
+call-follows U of stop.Gone E c old new s x y z r was now layout shows is other here goes meets =
+    let there : IsTrue was = goes.gone.0 refl in
+    absurd cc
+call-follows {T = T} U of q E c old new s x y z r was now layout shows is other here goes meets =
+    subst (λ (w : Answer). GoesByMoves E (flash_result {T = T} (Err q)) old new s w.moves z) is
+    (call-stopped E of (Err q) c old new s x layout shows meets refl z)
 
 -- and where it is done
 pub call-done : {T : Type 0} (of : T → Reply) (v : T) (E : Setting) (c : Call) (old new : Moment) (s : State) (x y : Session) (r : Reply)
@@ -142,19 +137,11 @@ module _ (tells : Bool) (s t : Told) (v w : ℕ → ℕ) (f g : Fields) (fields 
   touches-none : SparesBlocksByAll f v w
   touches-none = blocks-still (IsSparedByAll f.layout f.boot) counts
 
-  pub read-goes : (E : Setting) (q : State) (x : Session) → Shows earlier q x → GoesByMoves E (Ok tt) earlier behind q [] x
-  read-goes E q x shows = record {
-    shows = read-shows q x shows;
-    does = λ is ready. does-nothing {T = Unit {0}} (Ok tt) E q t (subst (λ (u : Told). IsReady E u q) (sym (told is)) ready);
-    guarded = guarded-by (Ok tt);
-    keeps = keeps-all;
-    touches = touches-none;
-    stays = read-stays;
-  }
-
-  pub read-stopped : (r : Result (Unit {0}) FlashStop) → IsErr r → (E : Setting) (q : State) (y : Session) → GoesByMoves E r earlier behind q [] y
-  read-stopped r err E q y = record {
-    shows = IfOk-from_err r (λ _. Shows behind q y) err;
+  -- whatever it ended with
+  read-ends : (r : Result (Unit {0}) FlashStop) (E : Setting) (q : State) (y : Session) → OnOk r (Shows behind q y)
+      → GoesByMoves E r earlier behind q [] y
+  read-ends r E q y shows = record {
+    shows = shows;
     does = λ is ready. does-nothing r E q t (subst (λ (u : Told). IsReady E u q) (sym (told is)) ready);
     guarded = guarded-by r;
     keeps = keeps-all;
@@ -162,15 +149,22 @@ module _ (tells : Bool) (s t : Told) (v w : ℕ → ℕ) (f g : Fields) (fields 
     stays = read-stays;
   }
 
+  pub read-goes : (E : Setting) (q : State) (x : Session) → Shows earlier q x → GoesByMoves E (Ok tt) earlier behind q [] x
+  read-goes E q x shows = read-ends (Ok tt) E q x (read-shows q x shows)
+
+  pub read-stopped : (r : Result (Unit {0}) FlashStop) → IsErr r → (E : Setting) (q : State) (y : Session)
+      → GoesByMoves E r earlier behind q [] y
+  read-stopped r err E q y = read-ends r E q y (IfOk-from_err r (λ _. Shows behind q y) err)
+
 -- a stop of the flash, as that of a copy
 pub flash-follows : (T : Type 0) (q : Stop) (e : FlashStop) (E : Setting) (old new : Moment) (s : State) (y : Session)
     → flash_result {T = Unit {0}} (Err q) ≡ Err e → GoesByMoves E (Err e) old new s [] y → FollowsInStaging {T = T} (Err q) E old new s y
-flash-follows T stop.Lost e E old new s y is goes = subst (λ (r : Result (Unit {0}) FlashStop). GoesByMoves E r old new s [] y) (sym is) goes
-flash-follows T stop.Fault e E old new s y is goes = subst (λ (r : Result (Unit {0}) FlashStop). GoesByMoves E r old new s [] y) (sym is) goes
 flash-follows T (stop.Status st) e E old new s y is goes = absurd cc
 flash-follows T stop.Gone e E old new s y is goes = absurd cc
+flash-follows T q e E old new s y is goes =
+    subst (λ (r : Result (Unit {0}) FlashStop). GoesByMoves E r old new s [] y) (sym is) goes
 
-abbrev plain : Fields → Setting
+abbrev pub plain : Fields → Setting
 plain f = record { layout = f.layout; files = λ _. None; passes = λ _. true }
 
 -- what is read is of the image that the bank holds

@@ -1,6 +1,6 @@
 -- What the copies and a partial begin leave as it was beside the update bank.
 use Rattle.std.proofs.Common.{◌≡◌, inl, inr, ℕ, ◌+◌, ◌*◌, ◌%◌, ◌<◌, ◌≤◌, Bool, true, false, cond, not, List, length, get_or, All, Result, Ok, Err, is_ok, refl, sym, ap, subst, ◌∙◌, arith}
-use Rattle.std.specs.Prelude.{IsTrue, IsFalse, IsErr, IsErrOf}
+use Rattle.std.specs.Prelude.{IsTrue, IsFalse, IsErrOf}
 use Rattle.std.proofs.lemmas.Bool.{cases_lt}
 use Rattle.std.proofs.lemmas.List.Elements.{All-get_or}
 use Rattle.flash_core.specs.Told.{Told}
@@ -109,11 +109,9 @@ module _ (a b : Moment) (stays : Stays a b) (metadata : b.fields.meta ≡ a.fiel
 -- by how a call ended
 pub fills-by : (q : Result (Unit {0}) Stop) (a b : Moment) → (IsDone q → FillsBank a b) → (IsRefused q → b ≡ a) → (IsErrOf q stop.Gone → b ≡ a)
     → FillsBank a b
-fills-by (Ok u) a b done refused gone = done tt
-fills-by (Err stop.Lost) a b done refused gone = done tt
-fills-by (Err stop.Fault) a b done refused gone = done tt
 fills-by (Err (stop.Status st)) a b done refused gone = fills-same a b (refused tt)
 fills-by (Err stop.Gone) a b done refused gone = fills-same a b (gone refl)
+fills-by q a b done refused gone = done tt
 
 -- by whether the first handle writes
 pub fills-ended : (a b : Moment) → ((image : ℕ) → IsWriter a.fields 1 image → FillsBank a b)
@@ -183,8 +181,5 @@ stored-filled result a b c tells layout begun none some fills told = record {
   stores = stores-by a.fields (Ok tt) a.told b.told (λ is. (refl, none is)) some;
   fills = bank-same (λ (L : Layout) (bank : ℕ). KeepsWhere (IsBesideBank L bank) b.told c.told) a.fields b.fields layout
       (ap (λ (r : MetaRead). r.meta.active) begun ∙ begun-active a.fields) (fills.beside (subst IsTrue (sym tells) told));
-  last = λ err. absurd (no-error err);
+  last = λ err. absurd cc;
 }
-  where
-    no-error : IsErr {T = Unit {0}} {E = FlashStop} (Ok tt) → ⊥
-    no-error err = cc

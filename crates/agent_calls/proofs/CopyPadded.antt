@@ -40,12 +40,10 @@ next-is : (E : Setting) (s : State) (boot : ℕ) (staging : Option (List Staged)
     → (begins_over E s (On boot staging handles) types bytes).next ≡ between boot (copied_parts (are_named E.layout.rows types) bytes)
 next-is E s boot staging handles types bytes is = by (cannot_begin s boot staging) (names_unknown E.layout.rows types) is
   where
-    by : (b u : Bool)
-        → (cond b (refused status.Denied (On boot staging handles)) (cond u (refused status.Unknown (On boot staging handles))
-        (answered Success (begin_moves s) (between boot (copied_parts (are_named E.layout.rows types) bytes))))).reply ≡ Success
-        → (cond b (refused status.Denied (On boot staging handles)) (cond u (refused status.Unknown (On boot staging handles))
-        (answered Success (begin_moves s) (between boot (copied_parts (are_named E.layout.rows types) bytes))))).next
-        ≡ between boot (copied_parts (are_named E.layout.rows types) bytes)
+    by : (b u : Bool) → let began = between boot (copied_parts (are_named E.layout.rows types) bytes) in
+        let a = cond b (refused status.Denied (On boot staging handles))
+        (cond u (refused status.Unknown (On boot staging handles)) (answered Success (begin_moves s) began)) in
+        a.reply ≡ Success → a.next ≡ began
     by true u h = absurd cc
     by false true h = absurd cc
     by false false h = refl

@@ -1,5 +1,5 @@
 -- What a read spends, and calls that the flash stopped.
-use Rattle.std.proofs.Common.{◌≡◌, Bool, not, Result, Ok, Err, is_ok, refl, sym, subst, ◌∙◌}
+use Rattle.std.proofs.Common.{◌≡◌, Bool, not, Result, Ok, Err, is_ok, refl, subst, ◌∙◌}
 use Rattle.std.specs.Prelude.{is_err}
 use Rattle.flash_core.specs.declared.flash.Flash.{Ghosts}
 use Rattle.flash_core.specs.declared.flash.FlashStop.{FlashStop}
@@ -27,17 +27,9 @@ read-spent {g = g} result gone a b is reads = record {
 
 same-stop : (T U : Type 0) (q : Stop) → flash_result {T = T} (Err q) ≡ flash_result {T = U} (Err q)
 same-stop T U (stop.Status st) = refl
-same-stop T U stop.Lost = refl
-same-stop T U stop.Fault = refl
-same-stop T U stop.Gone = refl
+same-stop T U q = refl
 
 -- a stop, whatever the value would have been
 pub err-spent : {D : Type 0} {g : Ghosts D} (T U : Type 0) (q : Stop) (gone : Bool) (a b : D) → Spent g (flash_result {T = T} (Err q)) gone a b
     → Spent g (flash_result {T = U} (Err q)) gone a b
 err-spent {g = g} T U q gone a b spent = subst (λ (f : Result (Unit {0}) FlashStop). Spent g f gone a b) (same-stop T U q) spent
-
--- a stop of the flash, as that of a call
-pub stopped-spent : {D : Type 0} {g : Ghosts D} (T : Type 0) (q : Stop) (e : FlashStop) → flash_result {T = Unit {0}} (Err q) ≡ Err e → (gone : Bool) (a b : D)
-    → Spent g (Err e) gone a b → Spent g (flash_result {T = T} (Err q)) gone a b
-stopped-spent {g = g} T q e is gone a b spent =
-    err-spent (Unit {0}) T q gone a b (subst (λ (f : Result (Unit {0}) FlashStop). Spent g f gone a b) (sym is) spent)

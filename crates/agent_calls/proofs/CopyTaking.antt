@@ -1,5 +1,5 @@
 -- What the copies take of an armed loss.
-use Rattle.std.proofs.Common.{◌≡◌, ℕ, suc, ◌+◌, ◌*◌, ◌<◌, ◌≤◌, Bool, true, false, cond, List, [], length, get_or, Option, Some, Result, Ok, Err, refl, sym, ap, subst, ◌∙◌, arith, None}
+use Rattle.std.proofs.Common.{◌≡◌, ℕ, suc, ◌+◌, ◌*◌, ◌<◌, ◌≤◌, Bool, true, false, cond, List, [], length, get_or, Option, Some, Result, Ok, Err, refl, sym, ap, subst, ◌∙◌, arith}
 use Rattle.std.specs.Prelude.{OnOk}
 use Rattle.flash_core.specs.declared.flash.Arming.{Arming}
 use Rattle.flash_core.specs.Counts.{lowered_by}
@@ -15,7 +15,7 @@ use Rattle.agent_kept.specs.declared.parts.Handle.TheVariants.{Writes}
 use Rattle.agent_kept.specs.Kept.{part_at, handle_kept, size_of}
 use Rattle.agent_machine.specs.declared.stop.Stop.{Stop}
 use Rattle.agent_machine.specs.Ends.{IsWriter}
-use Rattle.agent_machine.specs.Fields.{Fields, total_of}
+use Rattle.agent_machine.specs.Fields.{total_of}
 use Rattle.agent_machine.specs.Goes.{GoesByMoves}
 use Rattle.agent_machine.specs.Meets.{flash_result}
 use Rattle.agent_machine.specs.Moment.{Moment, Shows}
@@ -23,14 +23,11 @@ use Rattle.agent_machine.specs.Filling.{within}
 use Rattle.agent_calls.specs.Copies.{CopiesFront, CopiesBytes, CopiesFirst}
 use Rattle.agent_calls.specs.Takes.{Takes, PieceTakes, FrontTakes, CopyTakes, CopiesTake, piece_at, pieces_of, writes_of_image, writes_of_pieces, writes_to_copy}
 use Rattle.agent_machine.proofs.CallGoing.{MeetsAs}
-use Rattle.agent_calls.proofs.Copies.{image-opened}
+use Rattle.agent_calls.proofs.Copies.{plain, image-opened}
 use Rattle.agent_calls.proofs.CopyingAll.{first-long, first-empty}
 use Rattle.agent_calls.proofs.Pieces.{Pieces, next-piece, pieces-all, pieces-more, pieces-none}
 use Rattle.agent_calls.proofs.Taking.{takes-as, takes-none, takes-then}
 use Rattle.agent_machine.proofs.Writer.{writer, written}
-
-abbrev plain : Fields → Setting
-plain f = record { layout = f.layout; files = λ _. None; passes = λ _. true }
 
 -- ---- a piece
 

@@ -1,13 +1,12 @@
 -- Copies of all images that aren't named, one after another.
-use Rattle.std.proofs.Common.{◌≡◌, ◌≢◌, ℕ, zero, suc, ◌+◌, ◌<◌, ◌≤◌, Bool, true, false, cond, List, [], length, get_or, set, replicate, Some, None, Ok, Err, inl, inr, refl, sym, ap, subst, ◌∙◌, arith, length-set, ltb, eq-eqb, ne_eqb, get_or-set_same, get_or-set_other, ext_get_or}
+use Rattle.std.proofs.Common.{◌≡◌, ◌≢◌, ℕ, ◌+◌, ◌<◌, ◌≤◌, Bool, true, false, cond, List, [], length, get_or, set, replicate, Some, Ok, Err, inl, inr, refl, sym, ap, subst, ◌∙◌, arith, length-set, ltb, eq-eqb, ne_eqb, get_or-set_same, get_or-set_other, ext_get_or}
 use Rattle.std.specs.Prelude.{IsTrue, ◌==◌}
 use Rattle.std.proofs.lemmas.Bool.{lt-ltb, le-ltb, cases_eq, cases_lt}
-use Rattle.std.proofs.lemmas.List.{length-replicate}
+use Rattle.std.proofs.lemmas.List.{get_or-replicate, length-replicate}
 use Rattle.std.proofs.lemmas.List.FromFn.{length-map-range_with_len, get_or-map-range_with_len}
-use Rattle.fwu_model.specs.Sound.{Setting}
 use Rattle.fwu_model.specs.Session.{Staged, Nothing, Committed}
 use Rattle.agent_machine.specs.declared.stop.Stop.{Stop}
-use Rattle.agent_machine.specs.Fields.{Fields, total_of}
+use Rattle.agent_machine.specs.Fields.{total_of}
 use Rattle.agent_machine.specs.Moment.{Moment, Shows}
 use Rattle.agent_machine.specs.Goes.{GoesByMoves}
 use Rattle.agent_machine.proofs.Going.{goes-nothing, goes-then}
@@ -15,7 +14,7 @@ use Rattle.agent_machine.specs.Filling.{between, filled}
 use Rattle.agent_calls.specs.Partly.{copied_first}
 use Rattle.fwu_model.specs.Answer.{copied_part, copied_parts, image_held}
 use Rattle.agent_calls.specs.Copies.{CopiesImage, CopiesFirst, CopiesImages}
-use Rattle.agent_calls.proofs.Copies.{follows-after, other-end, stays-none, stays-then}
+use Rattle.agent_calls.proofs.Copies.{plain, follows-after, other-end, stays-none, stays-then}
 
 -- ---- the parts, place by place
 
@@ -34,16 +33,12 @@ under named k bytes i lt = ap (λ (b : Bool). cond b (copied_part (get_or named 
 over : (named : List Bool) (k : ℕ) (bytes : ℕ → List ℕ) (i : ℕ) → k ≤ i → part named k bytes i ≡ Nothing
 over named k bytes i le = ap (λ (b : Bool). cond b (copied_part (get_or named i true) (bytes i)) Nothing) (le-ltb i k le)
 
-nothing-at : (n i : ℕ) → get_or (replicate n Nothing) i Nothing ≡ Nothing
-nothing-at zero i = refl
-nothing-at (suc n) zero = refl
-nothing-at (suc n) (suc i) = nothing-at n i
-
 first-none : (named : List Bool) (bytes : ℕ → List ℕ) → copied_first named 0 bytes ≡ replicate (length named) Nothing
 first-none named bytes =
     let long = first-long named 0 bytes in
     ext_get_or Nothing (copied_first named 0 bytes) (replicate (length named) Nothing) (long ∙ sym (length-replicate (length named) Nothing)) (λ i below.
-    first-at named 0 bytes i (omega (arith, below, long)) ∙ over named 0 bytes i (omega arith) ∙ sym (nothing-at (length named) i))
+    first-at named 0 bytes i (omega (arith, below, long)) ∙ over named 0 bytes i (omega arith)
+    ∙ sym (get_or-replicate (length named) i Nothing Nothing (omega (arith, below, long))))
 
 pub first-all : (named : List Bool) (bytes : ℕ → List ℕ) → copied_first named (length named) bytes ≡ copied_parts named bytes
 unfolding copied_parts
@@ -69,12 +64,9 @@ next-named named k bytes is =
       | inl lt ↦ under named (k + 1) bytes i (omega (arith, lt)) ∙ sym (under named k bytes i lt)
       | inr le ↦ elim (cases_eq i k) [
         | inl e ↦ under named (k + 1) bytes i (omega (arith, e)) ∙ ap (λ (b : Bool). copied_part b (bytes i)) (ap (λ (j : ℕ). get_or named j true) e ∙ is) ∙ sym (over named k bytes i le)
-        | inr ne ↦ over named (k + 1) bytes i (past i le ne) ∙ sym (over named k bytes i le)
+        | inr ne ↦ over named (k + 1) bytes i (omega (arith, le, ne)) ∙ sym (over named k bytes i le)
       ]
     ]
-      where
-        past : (i : ℕ) → k ≤ i → i ≢ k → k + 1 ≤ i
-        past i le ne = elim (cases_lt k i) [ inl lt ↦ omega (arith, lt) | inr ge ↦ absurd (ne (omega (arith, le, ge))) ]
 
 -- these bytes of one image, and those of the others as they were
 abbrev pub with_bytes : (ℕ → List ℕ) → ℕ → List ℕ → ℕ → List ℕ
@@ -114,11 +106,8 @@ next-copied named k bytes new is below-k =
         elsewhere i ne = elim (cases_lt i k) [
           | inl lt ↦ under named k bytes i lt ∙ ap (λ (xs : List ℕ). copied_part (get_or named i true) xs) (sym (with-other bytes k new i ne))
               ∙ sym (under named (k + 1) (with_bytes bytes k new) i (omega (arith, lt)))
-          | inr le ↦ over named k bytes i le ∙ sym (over named (k + 1) (with_bytes bytes k new) i (past i le ne))
+          | inr le ↦ over named k bytes i le ∙ sym (over named (k + 1) (with_bytes bytes k new) i (omega (arith, le, ne)))
         ]
-          where
-            past : (i : ℕ) → k ≤ i → i ≢ k → k + 1 ≤ i
-            past i le ne = elim (cases_lt k i) [ inl lt ↦ omega (arith, lt) | inr ge ↦ absurd (ne (omega (arith, le, ge))) ]
 
 pub first-empty : (named : List Bool) (k : ℕ) (bytes : ℕ → List ℕ) → k < length named → get_or (copied_first named k bytes) k Nothing ≡ Nothing
 first-empty named k bytes below = first-at named k bytes k below ∙ over named k bytes k (omega arith)
@@ -135,19 +124,13 @@ copies-none named m = record {
       (subst (λ (ps : List Staged). Shows m s (between boot ps)) (sym (first-none named (λ i. []))) shows);
 }
 
-abbrev plain : Fields → Setting
-plain f = record { layout = f.layout; files = λ _. None; passes = λ _. true }
-
-split : (i k : ℕ) → i < k + 1 → i ≢ k → i < k
-split i k lt ne = elim (cases_lt i k) [ inl less ↦ less | inr le ↦ absurd (ne (omega (arith, lt, le))) ]
-
 module _ (named : List Bool) (k : ℕ) (old mid : Moment) (first : CopiesFirst named k old mid) where
   pub copies-named : get_or named k true ≡ true → CopiesFirst named (k + 1) old mid
   copies-named is = record {
     stays = first.stays;
     bytes = first.bytes;
-    count = λ i lt not. first.count i (split i k lt (other i not)) not;
-    read = λ tells s boot shows i lt not. first.read tells s boot shows i (split i k lt (other i not)) not;
+    count = λ i lt not. first.count i (omega (arith, lt, other i not)) not;
+    read = λ tells s boot shows i lt not. first.read tells s boot shows i (omega (arith, lt, other i not)) not;
     goes = λ E s boot layout shows. subst (λ (ps : List Staged). GoesByMoves E (Ok tt) old mid s [] (between boot ps)) (sym (next-named named k first.bytes is)) (first.goes E s boot layout shows);
   }
     where
@@ -155,9 +138,6 @@ module _ (named : List Bool) (k : ℕ) (old mid : Moment) (first : CopiesFirst n
       other i not e = let both : false ≡ true = sym not ∙ ap (λ (j : ℕ). get_or named j true) e ∙ is in cc
 
   module _ (new : Moment) (below : k < length named) where
-    nothing-there : get_or (copied_first named k first.bytes) k Nothing ≡ Nothing
-    nothing-there = first-at named k first.bytes k below ∙ over named k first.bytes k (omega arith)
-
     within-parts : k < length (copied_first named k first.bytes)
     within-parts = omega (arith, below, first-long named k first.bytes)
 
@@ -167,22 +147,25 @@ module _ (named : List Bool) (k : ℕ) (old mid : Moment) (first : CopiesFirst n
       bytes = with_bytes first.bytes k image.bytes;
       count = λ i lt not. elim (cases_eq i k) [
         | inl e ↦ ap (λ (xs : List ℕ). length xs) (with-same first.bytes k image.bytes i e) ∙ image.count ∙ ap (λ (l : List ℕ). get_or l k 0) first.stays.lengths ∙ ap (λ (j : ℕ). total_of old.fields (Some j)) (sym e)
-        | inr ne ↦ ap (λ (xs : List ℕ). length xs) (with-other first.bytes k image.bytes i ne) ∙ first.count i (split i k lt ne) not
+        | inr ne ↦ ap (λ (xs : List ℕ). length xs) (with-other first.bytes k image.bytes i ne)
+            ∙ first.count i (omega (arith, lt, ne)) not
       ];
       read = λ tells s boot shows i lt not.
           let one = first.goes (plain old.fields) s boot refl shows in
           elim (cases_eq i k) [
             | inl e ↦ with-same first.bytes k image.bytes i e
-                ∙ image.read (subst IsTrue (sym one.stays.tells) tells) s boot (copied_first named k first.bytes) within-parts nothing-there one.shows
+                ∙ image.read (subst IsTrue (sym one.stays.tells) tells) s boot (copied_first named k first.bytes) within-parts
+                (first-empty named k first.bytes below) one.shows
                 ∙ ap (λ (j : ℕ). image_held s boot j) (sym e)
-            | inr ne ↦ with-other first.bytes k image.bytes i ne ∙ first.read tells s boot shows i (split i k lt ne) not
+            | inr ne ↦ with-other first.bytes k image.bytes i ne ∙ first.read tells s boot shows i (omega (arith, lt, ne)) not
           ];
       goes = λ E s boot layout shows.
           let one = first.goes E s boot layout shows in
           let parts = copied_first named k first.bytes in
           subst (λ (ps : List Staged). GoesByMoves E (Ok tt) old new s [] (between boot ps)) (next-copied named k first.bytes image.bytes is below)
           (goes-then E (Ok tt) old mid new s [] [] (between boot parts) (between boot (filled parts k image.bytes true)) one
-          (image.goes E s boot parts (layout ∙ sym one.stays.layout) within-parts nothing-there one.shows));
+          (image.goes E s boot parts (layout ∙ sym one.stays.layout) within-parts (first-empty named k first.bytes below)
+          one.shows));
     }
 
     pub copies-stopped : (st : Stop) → CopiesImage k (Err st) mid new → CopiesImages named (Err st) old new
@@ -196,7 +179,8 @@ module _ (named : List Bool) (k : ℕ) (old mid : Moment) (first : CopiesFirst n
           let parts = copied_first named k first.bytes in
           other-end (Unit {0}) (Unit {0}) st E old new s (between boot (filled parts k image.bytes true)) (between boot (copied_first named (length named) first.bytes))
           (follows-after {T = Unit {0}} (Err st) E old mid new s (between boot parts) (between boot (filled parts k image.bytes true)) one
-          (image.goes E s boot parts (layout ∙ sym one.stays.layout) within-parts nothing-there one.shows));
+          (image.goes E s boot parts (layout ∙ sym one.stays.layout) within-parts (first-empty named k first.bytes below)
+          one.shows));
     }
 
   pub copies-done : k ≡ length named → CopiesImages named (Ok tt) old mid

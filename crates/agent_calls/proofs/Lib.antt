@@ -1,15 +1,10 @@
 mod Starting
 mod Discovered
-mod NoOther
 pub mod OwnRows
 pub mod StoredVerdict
 pub mod Listing
-mod Unstored
 mod Makes
-mod GoingBack
-mod Keeping
 mod Appending
-mod Beyond
 pub mod CopySpending
 pub mod Copies
 pub mod CopyingAll

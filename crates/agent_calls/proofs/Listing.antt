@@ -1,11 +1,11 @@
 -- A row of the directory, as it is written.
-use Rattle.std.proofs.Common.{◌≡◌, ℕ, ◌*◌, ◌<◌, ◌≤◌, Bool, List, [], ◌++◌, length, get_or, append-nil, ap, sym, ◌∙◌, arith, IsTrue}
+use Rattle.std.proofs.Common.{◌≡◌, ℕ, ◌*◌, ◌<◌, ◌≤◌, Bool, List, [], ◌++◌, length, get_or, ap, ◌∙◌, arith, IsTrue}
 use Rattle.std.proofs.lemmas.List.{get_or_default}
 use Rattle.base_core.specs.Bytes.{le}
 use Rattle.fwu_formats.specs.Layout.{ImageRow, Layout, fits_layout}
 use Rattle.fwu_formats.specs.Metadata.{Meta, bit_number, bit_at}
 use Rattle.fwu_formats.proofs.Written.{rows-fit, rows-limits}
-use Rattle.agent_machine.specs.Directory.{version_by, directory_row_by, directory_head}
+use Rattle.agent_machine.specs.Directory.{version_by, directory_row_by}
 
 abbrev no_row : ImageRow
 no_row = record { guid = []; slots = 0 }
@@ -33,8 +33,3 @@ row-small L rows image row fits same lt is =
     let here : row.slots ≡ (get_or L.rows image no_row).slots = ap (λ (r : ImageRow). r.slots)
     (is ∙ get_or_default rows image row no_row lt ∙ ap (λ (l : List ImageRow). get_or l image no_row) same) in
     omega (arith, small, here)
-
--- the directory's first four numbers, one after another
-pub head-written : (L : Layout) (images bank : ℕ) (a b c d : List ℕ) → a ≡ [] ++ le 4 1 → b ≡ a ++ le 4 images → c ≡ b ++ le 4 32 → d ≡ c ++ le 4 bank
-    → images ≡ length L.rows → d ≡ directory_head L bank ++ []
-head-written L images bank a b c d ea eb ec ed counted = rw (ed, ec, eb, ea, counted) (sym (append-nil (directory_head L bank)))

@@ -1,12 +1,12 @@
 -- What a call makes of the metadata, by its request.
-use Rattle.std.proofs.Common.{◌≡◌, inl, ℕ, ◌*◌, ◌≤◌, Bool, true, false, not, cond, List, [], length, Some, sym, ap, ◌∙◌, subst, arith, IsFalse}
+use Rattle.std.proofs.Common.{◌≡◌, inl, ℕ, ◌*◌, ◌≤◌, Bool, true, false, not, cond, List, [], length, sym, ap, ◌∙◌, subst, arith, IsFalse}
 use Rattle.std.specs.Prelude.{Result, Ok, Err, OnOk}
 use Rattle.flash_core.specs.declared.flash.FlashStop.{FlashStop}
 use Rattle.flash_core.specs.Told.{Told}
 use Rattle.flash_core.proofs.Calls.{keeps_same, block_quiet}
-use Rattle.fwu_formats.specs.Layout.{ImageRow, find_image, blocks_needed}
-use Rattle.fwu_formats.specs.Metadata.{Meta, MetaRead, state_at, bit_at}
-use Rattle.fwu_model.specs.State.{Free, Switch, Accept, Back, is_invalid}
+use Rattle.fwu_formats.specs.Layout.{blocks_needed}
+use Rattle.fwu_formats.specs.Metadata.{Meta, MetaRead, state_at}
+use Rattle.fwu_model.specs.State.{Free, Switch, Back, is_invalid}
 use Rattle.fwu_model.specs.MoveMetas.{meta_after}
 use Rattle.moves.specs.Law.{CallResult}
 use Rattle.moves.proofs.Fitting.{fits-back}
@@ -20,9 +20,9 @@ use Rattle.agent_state.specs.Decides.{next_bank}
 use Rattle.agent_state.specs.Settles.{bits_kept, meta_planned}
 use Rattle.agent_machine.specs.Fields.{Fields, target}
 use Rattle.agent_machine.specs.Knows.{Fitting}
-use Rattle.agent_machine.specs.Stored.{StoresIf, frees, trials_planned}
+use Rattle.agent_machine.specs.Stored.{StoresIf, frees}
 use Rattle.agent_machine.proofs.Stored.{next-target}
-use Rattle.agent_calls.specs.Metas.{meta_begun, meta_accepted, meta_ended}
+use Rattle.agent_calls.specs.Metas.{meta_begun, meta_ended}
 
 -- what holds at each exit holds of an answer
 pub ok-any : {T E A : Type 0} (r : Result T E) → A → OnOk r A
@@ -33,9 +33,6 @@ ok-any (Err e) a = tt
 chosen : {X : Type 0} (done store : Bool) (new old other : X) → store ≡ not done → new ≡ other → cond store new old ≡ cond done old other
 chosen true store new old other is same = ap (λ (b : Bool). cond b new old) is
 chosen false store new old other is same = ap (λ (b : Bool). cond b new old) is ∙ same
-
-some-same : (a b : ℕ) → Some a ≡ Some b → a ≡ b
-some-same a b e = cc
 
 -- a store that was stopped before it wrote anything
 unwritten : (stop : FlashStop) (new : List ℕ) (s : Told) → 12288 ≤ length s.now → WritesBoth {T = Unit {0}} (Err stop) new s s
@@ -60,17 +57,8 @@ module _ (f : Fields) (fitting : Fitting f) where
   -- the update bank is made invalid where it isn't
   pub begin-frees : (flags count : ℕ) (p : Plan) → IsPlanFor f.session m (request.Begin flags count) p
       → frees p ≡ not (is_invalid (state_at m (target f)))
-  begin-frees flags count plan.Tell asked = absurd asked
-  begin-frees flags count (plan.BeginPartial store named) asked = absurd asked
   begin-frees flags count (plan.Begin store) asked = asked ∙ ap (λ (b : ℕ). not (is_invalid (state_at m b))) (next-target f fitting)
-  begin-frees flags count (plan.Open h image o total) asked = absurd asked
-  begin-frees flags count (plan.Write h image at n) asked = absurd asked
-  begin-frees flags count (plan.Read h image at n total) asked = absurd asked
-  begin-frees flags count (plan.Commit h image bit) asked = absurd asked
-  begin-frees flags count plan.End asked = absurd asked
-  begin-frees flags count plan.Cancel asked = absurd asked
-  begin-frees flags count (plan.Accept image store) asked = absurd asked
-  begin-frees flags count plan.Back asked = absurd asked
+  begin-frees flags count p asked = absurd asked
 
   module _ (store : Bool) (is : store ≡ not (is_invalid (state_at m (target f)))) where
     pub begin-stores : IsFalse (is_invalid (state_at m (target f))) → (result : CallResult) (s t : Told)
@@ -85,37 +73,6 @@ module _ (f : Fields) (fitting : Fitting f) where
         planned ∙ ap (λ (x : Meta). record f.meta { meta = x })
         (chosen (is_invalid (state_at m (target f))) store (meta_after m (Free (next_bank m))) m (meta_after m (Free (target f))) is
         (ap (λ (b : ℕ). meta_after m (Free b)) (next-target f fitting)))
-
-  -- ---- accept
-
-  module _ (guid : List ℕ) (image : ℕ) (store : Bool) (asked : IsPlanFor f.session m (request.Accept guid) (plan.Accept image store)) (other : ℕ)
-      (found : find_image f.layout.rows guid ≡ Some other) where
-    accept-same : image ≡ other
-    accept-same = some-same image other (sym asked.0 ∙ ap (λ (l : List ImageRow). find_image l guid) fitting.rows ∙ found)
-
-    -- the bit is set where it isn't
-    pub accept-sets : store ≡ not (bit_at m m.active other)
-    accept-sets = asked.1 ∙ ap (λ (i : ℕ). not (bit_at m m.active i)) accept-same
-
-    pub accept-stores : IsFalse (bit_at m m.active other) → (result : CallResult) (s t : Told)
-        → StoresIf store result f.layout (meta_planned f.session m (plan.Accept image store)) s t
-        → Stores result f.layout (meta_after m (Accept other)) s t
-    accept-stores clear result s t stores =
-        subst (λ (b : Bool). StoresIf b result f.layout (meta_planned f.session m (plan.Accept other b)) s t) (accept-sets ∙ ap not clear)
-        (subst (λ (i : ℕ). StoresIf store result f.layout (meta_planned f.session m (plan.Accept i store)) s t) accept-same stores)
-
-    pub accept-keeps : (new : MetaRead) → new ≡ record f.meta { meta = meta_planned f.session m (plan.Accept image store) } → new ≡ meta_accepted f other
-    accept-keeps new planned =
-        planned ∙ ap (λ (x : Meta). record f.meta { meta = x })
-        (chosen (bit_at m m.active other) store (meta_after m (Accept image)) m (meta_after m (Accept other)) accept-sets
-        (ap (λ (i : ℕ). meta_after m (Accept i)) accept-same))
-
-    pub accept-trials : (new : MetaRead) (trials : ℕ) → new ≡ record f.meta { meta = meta_planned f.session m (plan.Accept image store) }
-        → trials ≡ trials_planned (plan.Accept image store) (meta_planned f.session m (plan.Accept image store)) f.trials
-        → trials ≡ trials_planned (plan.Accept other (not (bit_at m m.active other))) new.meta f.trials
-    accept-trials new trials planned told =
-        told ∙ ap (λ (x : Meta). trials_planned (plan.Accept image store) x f.trials) (sym (ap (λ (r : MetaRead). r.meta) planned))
-        ∙ ap (λ (b : Bool). trials_planned (plan.Accept other b) new.meta f.trials) accept-sets
 
   -- ---- previous
 

@@ -95,16 +95,7 @@ pub record IsPartial (k : Kept) (types : List (List ℕ)) (p : Plan) : Type 0 wh
 
 pub partial-plan : (k : Kept) (m : Meta) (flags : ℕ) (list : _) (p : Plan) → IsPlanFor k m (request.BeginPartial flags list) p → IsPartial k list.now p
 partial-plan k m flags list (plan.BeginPartial store named) is = record { store = store; is = refl; named = is.1 }
-partial-plan k m flags list plan.Tell is = absurd is
-partial-plan k m flags list (plan.Begin store) is = absurd is
-partial-plan k m flags list (plan.Open h image o total) is = absurd is
-partial-plan k m flags list (plan.Write h image at n) is = absurd is
-partial-plan k m flags list (plan.Read h image at n total) is = absurd is
-partial-plan k m flags list (plan.Commit h image bit) is = absurd is
-partial-plan k m flags list plan.End is = absurd is
-partial-plan k m flags list plan.Cancel is = absurd is
-partial-plan k m flags list (plan.Accept image store) is = absurd is
-partial-plan k m flags list plan.Back is = absurd is
+partial-plan k m flags list p is = absurd is
 
 -- so the list names no unknown type
 pub plan-known : (f : Fields) (t : Told) (fitting : Fitting f) (sound : SessionSound f) (some : ∥ SomeStaged f.session ∥₁) (passes : List ℕ → Bool)

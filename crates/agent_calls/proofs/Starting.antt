@@ -1,17 +1,14 @@
 -- What an agent knows that starts from a bank that was booted.
-use Rattle.std.proofs.Common.{◌≡◌, ℕ, ◌+◌, ◌-◌, ◌*◌, ◌<◌, min, Bool, true, false, List, [], ◌∷◌, length, get_or, take, replicate, Option, Some, None, refl, sym, ap, ◌∙◌, subst, arith, IsTrue}
-use Rattle.std.proofs.lemmas.List.{length-take, take_all, get_or-take}
+use Rattle.std.proofs.Common.{◌≡◌, ℕ, ◌+◌, ◌-◌, ◌*◌, ◌<◌, min, false, List, [], length, get_or, take, replicate, None, sym, ap, ◌∙◌, subst, arith, IsTrue}
+use Rattle.std.proofs.lemmas.List.{nil_from_length, length-take, take_all, get_or-take}
 use Rattle.flash_core.specs.Told.{Told}
-use Rattle.sha2.specs.declared.Sha256.{Sha256}
 use Rattle.fwu_formats.specs.Layout.{Layout, fits_layout}
 use Rattle.fwu_formats.specs.Metadata.{MetaRead, fits_meta}
 use Rattle.early_boot.specs.Knows.{KnowsStarted}
 use Rattle.early_boot.specs.Choosing.{LengthsFitSlots}
 use Rattle.early_boot.specs.Tells.{Started}
-use Rattle.agent_kept.specs.declared.parts.Part.{Part}
-use Rattle.agent_kept.specs.declared.parts.Part.TheVariants.{Nothing, Open, Committed}
 use Rattle.agent_kept.specs.declared.parts.Handle.{Handle}
-use Rattle.agent_kept.specs.declared.parts.Handle.TheVariants.{Free, Reads}
+use Rattle.agent_kept.specs.declared.parts.Handle.TheVariants.{Free}
 use Rattle.agent_kept.specs.Kept.{Kept, IsKept, HasNothing, part_at, handle_kept, size_of}
 use Rattle.agent_kept.proofs.Sounds.{frees, restarts-idle}
 use Rattle.fwu_model.specs.State.{State}
@@ -24,33 +21,18 @@ use Rattle.agent_machine.proofs.Known.{state-held}
 use Rattle.agent_machine.proofs.Showing.{known-shows}
 use Rattle.moves.specs.Moved.{IsShown}
 
-nil-of : (l : List ℕ) → length l ≡ 0 → l ≡ []
-nil-of [] e = refl
-nil-of (x ∷ l) e = absurd (omega (arith, e))
-
-not-open : (p : Part) (size : ℕ) (hasher : Sha256) → p ≡ Nothing → p ≡ Open size hasher → ⊥
-not-open p size hasher a b = absurd cc
-
-not-committed : (p : Part) (size : ℕ) (digest : List ℕ) (bit : Bool) → p ≡ Nothing → p ≡ Committed size digest bit → ⊥
-not-committed p size digest bit a b = absurd cc
-
-not-reading : (h : Handle) (image : Option ℕ) (at total : ℕ) → h ≡ Free → h ≡ Reads image at total → ⊥
-not-reading h image at total a b = absurd cc
-
-not-both : {b : Bool} → b ≡ false → b ≡ true → ⊥
-not-both a b = absurd cc
-
 -- bytes of which nothing is kept
 pub nothing-kept : (k : Kept) → HasNothing k → (staged : ℕ → List ℕ) → IsKept k staged
 nothing-kept k nothing staged = record {
-  opened = λ i size hasher lt is. absurd (not-open (part_at k i) size hasher (nothing i) is);
-  committed = λ i size digest bit lt is. absurd (not-committed (part_at k i) size digest bit (nothing i) is);
+  opened = λ i size hasher lt is. absurd (cc (nothing i));
+  committed = λ i size digest bit lt is. absurd (cc (nothing i));
   front = none (take (size_of (part_at k 0)) (staged 0)) (omega (arith, length-take (size_of (part_at k 0)) (staged 0), ap size_of (nothing 0)));
 }
   where
     none : (l : List ℕ) → length l ≡ 0 → take (min (48 + 56 * (length k.rows - 1)) (length l)) k.front ≡ take (48 + 56 * (length k.rows - 1)) l
     none l empty =
-        ap (λ (n : ℕ). take n k.front) (let e : min (48 + 56 * (length k.rows - 1)) (length l) ≡ 0 = omega (arith, empty) in e) ∙ sym (nil-of l empty)
+        ap (λ (n : ℕ). take n k.front) (let e : min (48 + 56 * (length k.rows - 1)) (length l) ≡ 0 = omega (arith, empty) in e)
+        ∙ sym (nil_from_length l empty)
         ∙ sym (take_all (48 + 56 * (length k.rows - 1)) l (omega (arith, empty)))
 
 pub starts-some : (k : Kept) → HasNothing k → ∥ SomeStaged k ∥₁
@@ -75,11 +57,11 @@ module _ (f : Fields) (rows : f.session.rows ≡ f.layout.rows) (nothing : HasNo
         ∙ ap (λ (l : List ℕ). get_or l image 0) front in
         omega (arith, same, within image lt);
     rests = rests;
-    active = λ is. absurd (not-both idle is);
-    free = λ is. absurd (not-both idle is);
+    active = λ is. absurd cc;
+    free = λ is. absurd cc;
     idle = λ off. nothing;
-    readers = λ place image at total is. absurd (not-reading (handle_kept f.session place) image at total (free place) is);
-    readable = λ place image at total is. absurd (not-reading (handle_kept f.session place) (Some image) at total (free place) is);
+    readers = λ place image at total is. absurd (cc (free place));
+    readable = λ place image at total is. absurd (cc (free place));
   }
 
   pub starts-known : (t : Told) (b : Started) → f.layout ≡ b.layout → f.meta ≡ b.meta → f.boot ≡ b.bank → f.trials ≡ b.trials → f.counter ≡ b.counter
@@ -94,16 +76,16 @@ module _ (f : Fields) (rows : f.session.rows ≡ f.layout.rows) (nothing : HasNo
         both = known.both;
         version = known.form_two;
         used = known.used;
-        accepted = λ is. absurd (not-both idle is);
+        accepted = λ is. absurd cc;
         counter_is = counter ∙ known.counter_is;
         trials_are = trials ∙ known.trials_are;
         held = known.held;
         lengths_are = ap (λ (n : ℕ). take n f.lengths) (sym count) ∙ front ∙ known.lengths_are;
         staged = record {
           kept = nothing-kept f.session nothing (staged_bytes f t.now);
-          ahead = λ i size hasher lt is. absurd (not-open (part_at f.session i) size hasher (nothing i) is);
-          padded = λ i size digest bit lt is. absurd (not-committed (part_at f.session i) size digest bit (nothing i) is);
-          sure = λ i size digest bit lt is. absurd (not-committed (part_at f.session i) size digest bit (nothing i) is);
+          ahead = λ i size hasher lt is. absurd (cc (nothing i));
+          padded = λ i size digest bit lt is. absurd (cc (nothing i));
+          sure = λ i size digest bit lt is. absurd (cc (nothing i));
         };
       }
 

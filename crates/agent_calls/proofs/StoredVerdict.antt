@@ -1,26 +1,20 @@
 -- The verdict on a bank is good exactly where it holds a package that may be gone back to.
 use Rattle.std.proofs.Common.{◌≡◌, ℕ, Bool, true, false, List, refl, sym, ap₂, ◌∙◌, subst, IsTrue}
 use Rattle.std.proofs.lemmas.Bool.{false≢true}
-use Rattle.fwu_formats.specs.Layout.{ImageRow, Layout, fits_layout}
+use Rattle.fwu_formats.specs.Layout.{Layout, fits_layout}
 use Rattle.fwu_formats.specs.Metadata.{Meta}
 use Rattle.fwu_formats.specs.Image.{package_in}
 use Rattle.fwu_model.specs.Sound.{Setting, holds_permitted}
-use Rattle.image_check.specs.declared.bank.Verdict.{Verdict}
-use Rattle.image_check.specs.declared.bank.Verdict.TheVariants as verdict
-use Rattle.image_check.specs.Passed.{HasPassed}
 use Rattle.image_check.specs.Verdict.{verdict_on}
 use Rattle.image_check.specs.Law.{verdict_may_start}
 use Rattle.image_check.proofs.Permitted.{held}
 use Rattle.agent_kept.specs.declared.kinds.Request.TheVariants as request
-use Rattle.agent_kept.specs.declared.kinds.Plan.{Plan}
-use Rattle.agent_kept.specs.declared.kinds.Plan.TheVariants as plan
 use Rattle.agent_kept.specs.declared.kinds.Decision.{Decision}
 use Rattle.agent_kept.specs.declared.kinds.Decision.TheVariants as decision
 use Rattle.agent_kept.specs.Kept.{Kept}
-use Rattle.agent_state.specs.Asked.{IsFor, IsPlanFor}
+use Rattle.agent_state.specs.Asked.{IsFor}
 use Rattle.agent_state.specs.Ruled.{ruled_as}
 use Rattle.agent_machine.specs.Stored.{is_to_do}
-use Rattle.agent_calls.specs.GoneBack.{SomePassed}
 
 pub good-permitted : (E : Setting) (L : Layout) (passes : List ℕ → Bool) (counter : ℕ) (image : List ℕ) (bank previous : ℕ) (good : Bool)
     → IsTrue (fits_layout L) → E.layout ≡ L → E.passes ≡ passes → bank ≡ previous
@@ -36,32 +30,9 @@ promised answer value other is was = sym is ∙ was
 
 -- ---- on every device
 
--- a bank that may be started had a manifest that passes
-pub good-passed : (passes : List ℕ → Bool) (rows : List ImageRow) (counter : ℕ) (found : Verdict) → HasPassed passes rows counter found
-    → IsTrue (verdict_may_start found) → SomePassed passes rows counter
-good-passed passes rows counter (verdict.Good v) has may = (v, has)
-good-passed passes rows counter verdict.BadManifest has may = absurd (false≢true may)
-good-passed passes rows counter verdict.NotAccepted has may = absurd (false≢true may)
-good-passed passes rows counter (verdict.BadImage image) has may = absurd (false≢true may)
-good-passed passes rows counter (verdict.BelowCounter v least) has may = absurd (false≢true may)
-
--- going back is no plan that is made without a verdict
-no-plan : (k : Kept) (m : Meta) (p : Plan) → IsPlanFor k m request.Previous p → ⊥
-no-plan k m plan.Tell asked = asked
-no-plan k m (plan.BeginPartial store named) asked = asked
-no-plan k m (plan.Begin store) asked = asked
-no-plan k m (plan.Open h image o total) asked = asked
-no-plan k m (plan.Write h image at n) asked = asked
-no-plan k m (plan.Read h image at n total) asked = asked
-no-plan k m (plan.Commit h image bit) asked = asked
-no-plan k m plan.End asked = asked
-no-plan k m plan.Cancel asked = asked
-no-plan k m (plan.Accept image store) asked = asked
-no-plan k m plan.Back asked = asked
-
--- so where it is done, the verdict was good
+-- going back is no plan that is made without a verdict, so where it is done, the verdict was good
 pub back-is-good : (k : Kept) (m : Meta) (d : Decision) (good : Bool) → IsFor k m request.Previous d → is_to_do (ruled_as d good) ≡ true → IsTrue good
 back-is-good k m (decision.Refused st) good asked does = absurd (false≢true does)
-back-is-good k m (decision.Do p) good asked does = absurd (no-plan k m p asked)
+back-is-good k m (decision.Do p) good asked does = absurd asked
 back-is-good k m (decision.ByVerdict b) true asked does = refl
 back-is-good k m (decision.ByVerdict b) false asked does = absurd (false≢true does)

@@ -51,9 +51,6 @@ module _ (f : Fields) where
   abbrev freed : Meta
   freed = meta_after m (Free b)
 
-  never : false ≡ true → ⊥
-  never e = absurd cc
-
   -- It stores metadata exactly where the update bank isn't invalid: there the metadata is not as it was.
   pub takes-begin : (new : MetaRead) (armed arming : Option Arming) → TakesStore f.meta new armed arming → new ≡ meta_begun f
       → (is_invalid (state_at m b) ≡ true → arming ≡ armed) → Takes (writes_to_begin f) armed arming
@@ -61,10 +58,10 @@ module _ (f : Fields) where
     where
       by-store : is_invalid (state_at m b) ≡ false → TakesStore f.meta new armed arming → Takes 4 armed arming
       by-store is (inl stored) = takes-four armed arming stored
-      by-store is (inr same) = absurd (never (
-          sym is ∙ ap (λ (l : MetaRead). is_invalid (state_at l.meta b)) (sym same.0 ∙ begun)
-          ∙ ap (λ (i : Bool). is_invalid (state_at (cond i m freed) b)) is ∙ ap is_invalid (set-there m.states b)
-          ))
+      by-store is (inr same) =
+          let both : false ≡ true = sym is ∙ ap (λ (l : MetaRead). is_invalid (state_at l.meta b)) (sym same.0 ∙ begun)
+          ∙ ap (λ (i : Bool). is_invalid (state_at (cond i m freed) b)) is ∙ ap is_invalid (set-there m.states b) in
+          absurd cc
 
       by-test : (invalid : Bool) → is_invalid (state_at m b) ≡ invalid → Takes (cond invalid 0 4) armed arming
       by-test true is = still is ∙ takes-none armed
@@ -83,14 +80,9 @@ k_of (Some a) = a.k
 -- it is a plain fact, and so no matter which
 pub takes-some : {A : Type 0} (writes : ℕ) (armed arming : Option Arming) → ∥ A ∥₁ → (A → Takes writes armed arming) → Takes writes armed arming
 takes-some writes None None some by = refl
-takes-some writes None (Some y) some by = absurd (∥∥₁_elim some (λ p q. absurd p) (λ a. never (by a)))
-  where
-    never : Some y ≡ None → ⊥
-    never e = absurd cc
-takes-some writes (Some x) None some by = absurd (∥∥₁_elim some (λ p q. absurd p) (λ a. never (by a)))
-  where
-    never : None ≡ lowered_by writes (Some x) → ⊥
-    never e = absurd cc
+takes-some writes None (Some y) some by = absurd (∥∥₁_elim some (λ p q. absurd p) (λ a. let e : Some y ≡ None = by a in cc))
+takes-some writes (Some x) None some by =
+    absurd (∥∥₁_elim some (λ p q. absurd p) (λ a. let e : None ≡ lowered_by writes (Some x) = by a in cc))
 takes-some writes (Some x) (Some y) some by =
     both (∥∥₁_elim some (ℕ_set y.n (x.n - writes)) (λ a. ap n_of (by a))) (∥∥₁_elim some (ℕ_set y.k x.k) (λ a. ap k_of (by a)))
   where

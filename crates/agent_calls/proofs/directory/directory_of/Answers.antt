@@ -1,4 +1,4 @@
-use Rattle.std.proofs.Common.{◌≡◌, ℕ, ◌≤◌, ◌++◌, List, length, take, refl, ap, ◌∙◌, arith, rules}
+use Rattle.std.proofs.Common.{◌≡◌, ℕ, ◌≤◌, ◌++◌, List, length, take, refl, ap, ◌∙◌, arith}
 use Rattle.std.specs.Prelude.{flat_map}
 use Rattle.base_core.specs.Bytes.{listed}
 use Rattle.fwu_formats.specs.Layout.{ImageRow}
@@ -6,7 +6,7 @@ use Rattle.fwu_formats.proofs.OneSpelling.{listed-more}
 use Rattle.meta_layout.proofs.Fits.{meta-fits, row-length}
 use Rattle.agent_machine.specs.Fields.{directory_size}
 use Rattle.agent_machine.specs.Directory.{directory_head, directory_row_by, directory_by}
-use Rattle.agent_calls.proofs.Listing.{row-by, row-small, head-written}
+use Rattle.agent_calls.proofs.Listing.{row-by, row-small}
 use Rattle.agent_calls.proofs.directory.directory_of.Goals as goal
 
 pub bit-bit-requires-clause-below : goal.bit-bit-requires-clause-below

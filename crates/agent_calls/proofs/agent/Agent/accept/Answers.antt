@@ -1,21 +1,12 @@
-use Rattle.std.proofs.Common.{◌≡◌, Some, ◌<◌, ℕ, List, length, Bool, true, refl, subst}
-use Rattle.fwu_formats.specs.Layout.{ImageRow, find_image}
+use Rattle.std.proofs.Common.{◌<◌, ℕ, List, length, Bool, true, refl, subst}
 use Rattle.fwu_model.specs.Call as call
 use Rattle.agent_kept.specs.declared.kinds.Request.TheVariants as request
 use Rattle.agent_kept.specs.declared.kinds.Plan.TheVariants as plan
 use Rattle.agent_kept.specs.Kept.{kept}
 use Rattle.agent_state.specs.Settles.{IsPlanOf}
-use Rattle.agent_machine.specs.declared.stop.Stop.TheVariants as stop
-use Rattle.agent_machine.specs.Meets.{flash_result}
 use Rattle.agent_machine.proofs.StoredCalls.{accept-may, accept-answers, refused-of}
 use Rattle.agent_machine.proofs.StoredMeets.{carried-meets, refused-meets}
-use Rattle.agent_calls.specs.Shown.{fields, moment, snapshot}
-use Rattle.agent_state.specs.Asked.{IsPlanFor}
-use Rattle.agent_machine.specs.Fields.{Fields}
-use Rattle.agent_calls.proofs.Keeping.{unaccepted-image}
-use Rattle.agent_calls.proofs.NoOther.{accepts}
-use Rattle.agent_calls.proofs.Makes.{ok-any, accept-stores, accept-keeps, accept-trials}
-use Rattle.agent_calls.proofs.Unstored.{accept-stores-none}
+use Rattle.agent_calls.specs.Shown.{fields, moment}
 use Rattle.agent_calls.proofs.agent.Agent.accept.Goals as goal
 
 pub returns-in-Err-clause-meets : goal.returns-in-Err-clause-meets

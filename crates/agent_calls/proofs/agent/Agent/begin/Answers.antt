@@ -1,16 +1,29 @@
-use Rattle.std.proofs.Common.{ℕ, List, Bool, true, refl, sym, ap, ◌∙◌, subst}
+use Rattle.std.proofs.Common.{◌≡◌, ℕ, List, Bool, true, not, refl, sym, ap, ◌∙◌, subst}
+use Rattle.fwu_formats.specs.Metadata.{state_at}
+use Rattle.fwu_model.specs.State.{is_invalid}
 use Rattle.fwu_model.specs.Call as call
 use Rattle.fwu_model.specs.Answer.{Answer}
 use Rattle.agent_kept.specs.declared.kinds.Request.TheVariants as request
 use Rattle.agent_kept.specs.declared.kinds.Plan.TheVariants as plan
+use Rattle.agent_machine.specs.Fields.{target}
 use Rattle.agent_machine.specs.Stored.{MayBegin}
 use Rattle.agent_machine.proofs.StoredCalls.{begin-may, begin-answers, refused-of}
 use Rattle.agent_machine.proofs.StoredMeets.{AnswersBy, carried-meets, refused-meets}
 use Rattle.agent_calls.specs.Shown.{fields, moment}
 use Rattle.agent_machine.specs.Meets.{flash_result}
-use Rattle.agent_calls.proofs.Makes.{ok-any, begin-frees, begin-stores, begin-keeps}
-use Rattle.agent_calls.proofs.Unstored.{begin-stores-none}
+use Rattle.agent_calls.proofs.Makes.{begin-frees, begin-stores, begin-keeps}
+use Rattle.agent_calls.proofs.agent.Agent.begin.Given as given
 use Rattle.agent_calls.proofs.agent.Agent.begin.Goals as goal
+use Rattle.agent_calls.proofs.agent.Agent.begin.Goals.{After-carry_out}
+
+-- a begin stores where the update bank isn't invalid
+module _ (g : given.Over) (c : After-carry_out g) where
+  frees-is : c.frees.result ≡ not (is_invalid (state_at c.args.self.now.meta.meta (target (fields c.args.self.now))))
+  frees-is =
+      let a = c.args.self.now in
+      c.frees.ensures
+      ∙ begin-frees (fields a) (a.fitting c.if-self.false) c.args.vendor_flags c.args.partial_count c.in-Ok.plan
+      c.in-Ok.ensures.asked
 
 pub carry_out-requires-clause-plan : goal.carry_out-requires-clause-plan
 carry_out-requires-clause-plan g c =
@@ -47,22 +60,18 @@ returns-in-Ok-clause-begun g c = λ stopped here E s x layout shows.
 
 pub returns-in-Ok-clause-still : goal.returns-in-Ok-clause-still
 returns-in-Ok-clause-still g c = λ free.
-    let a = c.args.self.now in
-    c.carry_out.ensures.still (c.frees.ensures
-    ∙ begin-stores-none (fields a) (a.fitting c.if-self.false) c.args.vendor_flags c.args.partial_count c.in-Ok.plan c.in-Ok.ensures.asked free)
+    c.carry_out.ensures.still (frees-is g (goal.at.returns-in-Ok-clause-still g c).After-carry_out ∙ ap not free)
 
 pub returns-in-Ok-clause-stores : goal.returns-in-Ok-clause-stores
 returns-in-Ok-clause-stores g c done tells used =
     let a = c.args.self.now in
-    let fitting = a.fitting c.if-self.false in
-    begin-stores (fields a) fitting c.frees.result
-    (c.frees.ensures ∙ begin-frees (fields a) fitting c.args.vendor_flags c.args.partial_count c.in-Ok.plan c.in-Ok.ensures.asked) used
+    begin-stores (fields a) (a.fitting c.if-self.false) c.frees.result (frees-is g (goal.at.returns-in-Ok-clause-stores g
+    c).After-carry_out) used
     (flash_result c.carry_out.result) (g.D.Flash.told a.flash) (g.D.Flash.told c.carry_out.new.self.flash) (c.carry_out.ensures.stores tells)
 
 pub returns-in-Ok-clause-keeps : goal.returns-in-Ok-clause-keeps
 returns-in-Ok-clause-keeps g c done =
     let a = c.args.self.now in
-    let fitting = a.fitting c.if-self.false in
-    begin-keeps (fields a) fitting c.frees.result
-    (c.frees.ensures ∙ begin-frees (fields a) fitting c.args.vendor_flags c.args.partial_count c.in-Ok.plan c.in-Ok.ensures.asked)
+    begin-keeps (fields a) (a.fitting c.if-self.false) c.frees.result (frees-is g (goal.at.returns-in-Ok-clause-keeps g
+    c).After-carry_out)
     c.carry_out.new.self.meta c.carry_out.ensures.planned

@@ -2,7 +2,7 @@ use Rattle.std.proofs.Common.{◌≡◌, ◌+◌, ℕ, Bool, List, length, take,
 use Rattle.std.specs.List.{list_any}
 use Rattle.std.proofs.lemmas.List.{length-map}
 use Rattle.base_core.specs.Bytes.{same_bytes}
-use Rattle.fwu_formats.specs.Layout.{ImageRow, Layout}
+use Rattle.fwu_formats.specs.Layout.{ImageRow}
 use Rattle.agent_kept.specs.declared.kinds.Request.TheVariants as request
 use Rattle.agent_machine.proofs.Showing.{known-shows, shows-some}
 use Rattle.agent_machine.proofs.StoredCalls.{refused-of}
@@ -12,7 +12,7 @@ use Rattle.agent_calls.specs.Shown.{agent_at, device, fields, moment}
 use Rattle.std.specs.Prelude.{All, Err, IsTrue, OnOk}
 use Rattle.agent_calls.specs.Takes.{CopiesTake, Takes, writes_to_begin, writes_to_copy}
 use Rattle.agent_machine.specs.Beside.{SparesBlocksByAll}
-use Rattle.agent_machine.specs.Moment.{Shows}
+use Rattle.agent_machine.specs.Moment.{Showing, Shows}
 use Rattle.fwu_model.specs.Session.{Session}
 use Rattle.fwu_model.specs.State.{State}
 use Rattle.agent_calls.proofs.CopyFilling.{stored-alone, stored-filled}
@@ -20,7 +20,7 @@ use Rattle.agent_calls.proofs.CopyPadded.{copied-padded, on-ok}
 use Rattle.agent_calls.proofs.CopyTaking.{when-done}
 use Rattle.agent_calls.proofs.Taking.{takes-begin, takes-some, takes-then}
 use Rattle.fwu_model.specs.Answer.{are_named, names_unknown}
-use Rattle.agent_calls.specs.Copies.{CopiesImages}
+use Rattle.agent_calls.specs.Copies.{BeginsPartly, CopiesImages}
 use Rattle.agent_calls.proofs.BegunPartly.{held, refused-partly, unbegun-stopped, begun-partly, only-done, partly-touched, takes-at, done-unrefused}
 use Rattle.agent_calls.proofs.PlannedPartly.{IsPartial, named-are, partial-plan, plan-known, refused-partial}
 use Rattle.agent_calls.proofs.agent.Agent.begin_partial.Given as given
@@ -42,6 +42,15 @@ module _ (g : given.Over) (c : After-rows-count g) where
   partial =
       partial-plan (fields c.args.self.now).session (fields c.args.self.now).meta.meta c.args.vendor_flags c.args.list c.in-Ok.plan c.in-Ok.ensures.asked
 
+  some : IsTrue g.D.Flash.tells → (s : State) × (x : Session) × Shows (moment c.args.self.now) s x
+  some tells =
+      let a = c.args.self.now in (
+        _,
+        _,
+        known-shows (fields a) (a.fitting c.if-self.false) g.D.Flash.tells (g.D.Flash.told a.flash)
+            (a.knows c.if-self.false tells),
+      )
+
   known-is : names_unknown c.args.self.now.layout.rows c.args.list.now ≡ false
   known-is =
       let a = c.args.self.now in
@@ -60,16 +69,30 @@ module _ (g : given.Over) (c : After-rows-count g) where
 
 pub returns-in-Err-begin-clause-begins : goal.returns-in-Err-begin-clause-begins
 returns-in-Err-begin-clause-begins g c = λ here passes.
+    let rows = (goal.at.returns-in-Err-begin-clause-begins g c).After-rows-count in
     let a = c.args.self.now in
     let types = c.args.list.now in
-    unbegun-stopped (moment a) (moment c.begin.new.self) types (are_named a.layout.rows types) passes (known-is g (goal.at.returns-in-Err-begin-clause-begins g c).After-rows-count)
-    (long-is g (goal.at.returns-in-Err-begin-clause-begins g c).After-rows-count)
-    (λ tells. (_, _, known-shows (fields a) (a.fitting here) g.D.Flash.tells (g.D.Flash.told a.flash) (a.knows here tells)))
+    unbegun-stopped (moment a) (moment c.begin.new.self) types (are_named a.layout.rows types) passes (known-is g rows)
+    (long-is g rows) (some g rows)
     c.in-Err-begin.stop (λ is. ap (λ b. moment b) (c.in-Err-begin.ensures.refused is))
     (λ is E s x layout shows. c.in-Err-begin.ensures.begun is here E s x layout shows) (c.in-Err-begin.ensures.meets here passes)
 
--- the begin and the copies spare all but the metadata and the update bank
+-- ---- begun, and then copied
+
 module _ (g : given.Over) (c : goal.After-copy_images g) where
+  abbrev rows : After-rows-count g
+  rows = (goal.at.returns-in-Ok-begin-clause-goes g c).After-rows-count
+
+  abbrev named : List Bool
+  named = are_named c.args.self.now.layout.rows c.args.list.now
+
+  copied : CopiesImages named c.copy_images.result (moment c.begin.new.self) (moment c.copy_images.new.self)
+  copied =
+      subst (λ (l : List Bool). CopiesImages l c.copy_images.result (moment c.begin.new.self) (moment c.copy_images.new.self))
+      (named-is g rows)
+      c.copy_images.ensures.copies
+
+  -- the begin and the copies spare all but the metadata and the update bank
   touched : SparesBlocksByAll (fields c.args.self.now) (g.D.Flash.writes c.args.self.now.flash) (g.D.Flash.writes c.copy_images.new.self.flash)
   touched =
       let here = c.if-self.false in
@@ -79,33 +102,30 @@ module _ (g : given.Over) (c : goal.After-copy_images g) where
       partly-touched (moment c.args.self.now) (moment b) (moment c.copy_images.new.self) begins.stays begins.touches
       ((b.fitting still).active c.in-Ok-begin.ensures.restarts.staging_is) c.copy_images.ensures.fills
 
-pub returns-in-Ok-begin-clause-begins : goal.returns-in-Ok-begin-clause-begins
-returns-in-Ok-begin-clause-begins g c = λ here passes.
-    let a = c.args.self.now in
-    let b = c.begin.new.self in
-    let d = c.copy_images.new.self in
-    let types = c.args.list.now in
-    let begins = c.in-Ok-begin.ensures.meets here in
-    let copied = subst (λ (l : List Bool). CopiesImages l c.copy_images.result (moment b) (moment d)) (named-is g (goal.at.returns-in-Ok-begin-clause-begins g c).After-rows-count) c.copy_images.ensures.copies in
-    begun-partly (moment a) (moment b) (moment d) types passes c.copy_images.result (a.fitting here)
-    (known-is g (goal.at.returns-in-Ok-begin-clause-begins g c).After-rows-count) (begins passes) copied
-    (λ tells. (_, _, known-shows (fields a) (a.fitting here) g.D.Flash.tells (g.D.Flash.told a.flash) (a.knows here tells)))
-    (touched g c)
+  partly : (passes : List ℕ → Bool)
+      → BeginsPartly c.args.list.now named passes c.copy_images.result (moment c.args.self.now) (moment c.copy_images.new.self)
+  partly passes =
+      let here = c.if-self.false in
+      begun-partly (moment c.args.self.now) (moment c.begin.new.self) (moment c.copy_images.new.self) c.args.list.now passes
+      c.copy_images.result
+      (c.args.self.now.fitting here) (known-is g rows) (c.in-Ok-begin.ensures.meets here passes) copied (some g rows) touched
 
--- the copies were done, or the flash stopped them
-module _ (g : given.Over) (c : goal.After-copy_images g) where
+  shown : ∥ Showing (moment c.args.self.now) ∥₁
+  shown =
+      let a = c.args.self.now in
+      let here = c.if-self.false in
+      shows-some (fields a) (a.fitting here) g.D.Flash.tells (g.D.Flash.told a.flash) (a.knows here) (a.some here)
+
+  -- the copies were done, or the flash stopped them
   done : IsDone c.copy_images.result
   done =
-      let a = c.args.self.now in
-      let b = c.begin.new.self in
-      let d = c.copy_images.new.self in
-      let types = c.args.list.now in
       let here = c.if-self.false in
-      let begins = c.in-Ok-begin.ensures.meets here (λ _. true) in
-      let copied = subst (λ (l : List Bool). CopiesImages l c.copy_images.result (moment b) (moment d)) (named-is g (goal.at.returns-in-Ok-begin-clause-goes g c).After-rows-count) c.copy_images.ensures.copies in
-      only-done (moment a) (moment b) (moment d) types (λ _. true) c.copy_images.result (a.fitting here)
-      (known-is g (goal.at.returns-in-Ok-begin-clause-goes g c).After-rows-count) begins copied
-      (shows-some (fields a) (a.fitting here) g.D.Flash.tells (g.D.Flash.told a.flash) (a.knows here) (a.some here))
+      only-done (moment c.args.self.now) (moment c.begin.new.self) (moment c.copy_images.new.self) c.args.list.now (λ _. true)
+      c.copy_images.result
+      (c.args.self.now.fitting here) (known-is g rows) (c.in-Ok-begin.ensures.meets here (λ _. true)) copied shown
+
+pub returns-in-Ok-begin-clause-begins : goal.returns-in-Ok-begin-clause-begins
+returns-in-Ok-begin-clause-begins g c = λ here passes. partly g c passes
 
 pub returns-in-Ok-begin-clause-goes : goal.returns-in-Ok-begin-clause-goes
 returns-in-Ok-begin-clause-goes g c =
@@ -122,30 +142,27 @@ returns-in-Ok-begin-clause-spent g c = λ here.
     let b = c.begin.new.self in
     let d = c.copy_images.new.self in
     let types = c.args.list.now in
-    let named = are_named a.layout.rows types in
-    let copies = writes_to_copy named a.lengths (length a.layout.rows) in
+    let copies = writes_to_copy (named g c) a.lengths (length a.layout.rows) in
     let armed = g.D.Flash.arming (device a) in
     let begun = g.D.Flash.arming (device b) in
     let arming = g.D.Flash.arming (device d) in
-    let begins = c.in-Ok-begin.ensures.meets here (λ _. true) in
-    let copied = subst (λ (l : List Bool). CopiesImages l c.copy_images.result (moment b) (moment d)) (named-is g (goal.at.returns-in-Ok-begin-clause-spent g c).After-rows-count) c.copy_images.ensures.copies in
-    let takes = subst (λ (n : ℕ). OnOk c.copy_images.result (CopiesTake (are_named a.layout.rows types) n (moment b) begun arming)) (long-is g (goal.at.returns-in-Ok-begin-clause-spent g c).After-rows-count)
-    (subst (λ (l : List Bool). OnOk c.copy_images.result (CopiesTake l (length l) (moment b) begun arming)) (named-is g (goal.at.returns-in-Ok-begin-clause-spent g c).After-rows-count) c.copy_images.ensures.takes) in
+    let takes = subst (λ (n : ℕ). OnOk c.copy_images.result (CopiesTake (named g c) n (moment b) begun arming))
+    (long-is g (rows g c))
+    (subst (λ (l : List Bool). OnOk c.copy_images.result (CopiesTake l (length l) (moment b) begun arming)) (named-is g (rows g c))
+    c.copy_images.ensures.takes) in
     let begun-with : Takes (writes_to_begin (fields a)) armed begun =
     takes-begin (fields a) _ armed begun c.in-Ok-begin.ensures.spent (c.in-Ok-begin.ensures.keeps tt)
     (λ is. ap (λ d. g.D.Flash.arming d) (c.in-Ok-begin.ensures.still is)) in
     when-done _ _ c.copy_images.result takes (λ t.
     takes-then (writes_to_begin (fields a)) copies (writes_to_begin (fields a) + copies) armed begun arming refl begun-with
-    (takes-some copies begun arming
-    (shows-some (fields a) (a.fitting here) g.D.Flash.tells (g.D.Flash.told a.flash) (a.knows here) (a.some here))
-    (takes-at (moment a) (moment b) (moment d) types (λ _. true) c.copy_images.result (a.fitting here)
-    (known-is g (goal.at.returns-in-Ok-begin-clause-spent g c).After-rows-count) begins copied begun arming t)))
+    (takes-some copies begun arming (shown g c)
+    (takes-at (moment a) (moment b) (moment d) types (λ _. true) c.copy_images.result (a.fitting here) (known-is g (rows g c))
+    (c.in-Ok-begin.ensures.meets here (λ _. true)) (copied g c) begun arming t)))
 
 pub returns-in-Ok-begin-clause-still : goal.returns-in-Ok-begin-clause-still
 returns-in-Ok-begin-clause-still g c = λ invalid all.
-    ap (λ x. device x) (c.copy_images.ensures.still
-    (subst (All IsTrue) (sym (named-is g (goal.at.returns-in-Ok-begin-clause-still g c).After-rows-count)) all))
-    ∙ c.in-Ok-begin.ensures.still invalid
+    ap (λ x. device x) (c.copy_images.ensures.still (subst (All IsTrue) (sym (named-is g (rows g c))) all)) ∙
+    c.in-Ok-begin.ensures.still invalid
 
 pub returns-in-Err-begin-clause-stores : goal.returns-in-Err-begin-clause-stores
 returns-in-Err-begin-clause-stores g c = λ done tells.
@@ -170,18 +187,8 @@ returns-in-Ok-begin-clause-stores g c = λ done tells.
 -- behind each image that is copied the block that it ends in is blank
 pub returns-in-Ok-begin-clause-padded : goal.returns-in-Ok-begin-clause-padded
 returns-in-Ok-begin-clause-padded g c =
-    let a = c.args.self.now in
-    let b = c.begin.new.self in
     let d = c.copy_images.new.self in
-    let here = c.if-self.false in
-    let rows = (goal.at.returns-in-Ok-begin-clause-goes g c).After-rows-count in
-    let types = c.args.list.now in
-    let some : IsTrue g.D.Flash.tells → (s : State) × (x : Session) × Shows (moment a) s x = λ tells. (_, _, known-shows (fields a) (a.fitting here) g.D.Flash.tells (g.D.Flash.told a.flash) (a.knows here tells)) in
-    let copied = subst (λ (l : List Bool). CopiesImages l c.copy_images.result (moment b) (moment d)) (named-is g rows) c.copy_images.ensures.copies in
-    let begins = begun-partly (moment a) (moment b) (moment d) types (λ _. true) c.copy_images.result (a.fitting here)
-    (known-is g rows) (c.in-Ok-begin.ensures.meets here (λ _. true)) copied some
-    (touched g c) in
-    copied-padded (moment a) (moment d) types (λ _. true) c.copy_images.result begins
+    copied-padded (moment c.args.self.now) (moment d) c.args.list.now (λ _. true) c.copy_images.result (partly g c (λ _. true))
     (on-ok c.copy_images.result (λ ok. c.copy_images.ensures.fills.metadata ∙ c.in-Ok-begin.ensures.keeps tt))
-    (on-ok c.copy_images.result (λ ok. (d.fitting (c.copy_images.ensures.spent.gone_is ∙ ok)).rows)) some
+    (on-ok c.copy_images.result (λ ok. (d.fitting (c.copy_images.ensures.spent.gone_is ∙ ok)).rows)) (some g (rows g c))
     (on-ok c.copy_images.result (λ ok tells. (d.knows (c.copy_images.ensures.spent.gone_is ∙ ok) tells).staged.padded))

@@ -1,14 +1,22 @@
-use Rattle.std.proofs.Common.{◌≡◌, [], sym, ap, subst}
+use Rattle.std.proofs.Common.{◌≡◌, [], refl, sym, ap, subst}
 use Rattle.fwu_model.specs.Reply.{Success}
+use Rattle.fwu_formats.specs.Metadata.{Meta}
+use Rattle.agent_kept.specs.declared.kinds.Plan.{Plan}
+use Rattle.agent_kept.specs.declared.kinds.Plan.TheVariants as plan
 use Rattle.agent_kept.specs.declared.kinds.Request.TheVariants as request
+use Rattle.agent_kept.specs.Kept.{Kept}
+use Rattle.agent_state.specs.Asked.{IsPlanFor}
 use Rattle.agent_machine.specs.Asks.{IsQuietPlan}
-use Rattle.agent_machine.specs.Carries.{MayKeep}
 use Rattle.agent_machine.specs.Fields.{Fields}
 use Rattle.agent_machine.proofs.Answered.{refused-meets}
 use Rattle.agent_machine.proofs.Meeting.{SaysSuccess, quiet-success}
 use Rattle.agent_calls.specs.Shown.{fields, moment}
-use Rattle.agent_calls.proofs.NoOther.{cancels}
 use Rattle.agent_calls.proofs.agent.Agent.cancel.Goals as goal
+
+-- what is planned of a cancel is one
+cancels : (k : Kept) (m : Meta) (p : Plan) → IsPlanFor k m request.Cancel p → p ≡ plan.Cancel
+cancels k m plan.Cancel asked = refl
+cancels k m p asked = absurd asked
 
 pub returns-in-Ok-clause-meets : goal.returns-in-Ok-clause-meets
 returns-in-Ok-clause-meets g c here passes =

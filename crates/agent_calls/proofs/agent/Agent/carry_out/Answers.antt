@@ -1,13 +1,9 @@
-use Rattle.std.proofs.Common.{Bool, length, Ok, Err, Result, sym, subst, arith}
+use Rattle.std.proofs.Common.{length, Ok, Err, Result, sym, subst, arith}
 use Rattle.flash_core.specs.declared.flash.FlashStop.{FlashStop}
 use Rattle.meta_layout.proofs.Fits.{meta-fits}
 use Rattle.agent_kept.specs.Kept.{kept}
-use Rattle.fwu_formats.specs.Metadata.{MetaRead}
-use Rattle.moves.specs.Law.{CallResult}
-use Rattle.agent_state.specs.Settles.{meta_planned}
-use Rattle.agent_machine.specs.Stored.{CarriesOut, StoresIf, is_stored}
+use Rattle.agent_machine.specs.Stored.{CarriesOut}
 use Rattle.agent_machine.proofs.Beside.{metadata-blocks}
-use Rattle.agent_machine.proofs.StoredSpends.{takes-store}
 use Rattle.agent_machine.proofs.StoredPlans.{is-meta-of, after-fitting, after-some, after-known, after-carried}
 use Rattle.agent_calls.specs.Shown.{fields, moment}
 use Rattle.agent_calls.proofs.agent.Agent.carry_out.Goals as goal

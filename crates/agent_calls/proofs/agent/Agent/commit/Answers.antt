@@ -1,18 +1,14 @@
-use Rattle.std.proofs.Common.{◌≡◌, ◌==◌, ℕ, [], Option, None, refl, sym, ap, ◌∙◌, subst, arith}
-use Rattle.std.proofs.lemmas.Bool.{false≢true}
+use Rattle.std.proofs.Common.{◌≡◌, ◌==◌, [], None, refl, sym, ap, ◌∙◌, arith}
 use Rattle.fwu_model.specs.declared.kinds.Status.TheVariants as status
 use Rattle.fwu_model.specs.Reply.{Success}
 use Rattle.agent_kept.specs.declared.kinds.Plan.TheVariants as plan
-use Rattle.agent_kept.specs.declared.parts.Handle.TheVariants.{Free, Reads, Writes}
 use Rattle.agent_kept.specs.declared.kinds.Request.TheVariants as request
 use Rattle.agent_kept.specs.Kept.{Kept, kept, handles_meant, handle_meant, staging_meant}
 use Rattle.agent_state.proofs.Machine.{handle-is}
 use Rattle.agent_state.proofs.Replies.{commit-free, commit-reads, commit-writes}
 use Rattle.agent_machine.proofs.Answered.{refused-meets}
 use Rattle.agent_machine.proofs.Meeting.{quiet-success}
-use Rattle.agent_calls.specs.Images.{EndsImage}
-use Rattle.agent_calls.specs.Shown.{moment, snapshot}
-use Rattle.agent_calls.proofs.Beyond.{writes-same}
+use Rattle.agent_calls.specs.Shown.{moment}
 use Rattle.agent_calls.proofs.agent.Agent.commit.Goals as goal
 
 pub returns-in-Free-clause-meets : goal.returns-in-Free-clause-meets

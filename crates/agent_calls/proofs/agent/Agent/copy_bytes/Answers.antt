@@ -7,7 +7,6 @@ use Rattle.agent_calls.proofs.CopyFilling.{fills-none, fills-then}
 use Rattle.agent_calls.proofs.Copies.{front-none, front-more, bytes-stopped, bytes-done}
 use Rattle.agent_calls.proofs.CopyTaking.{front-taken-none, front-taken-more, front-taken-all}
 use Rattle.agent_machine.proofs.Spending.{none-spent, spent-then}
-use Rattle.agent_calls.proofs.CopySpending.{err-spent}
 use Rattle.agent_calls.proofs.agent.Agent.copy_bytes.Goals as goal
 
 pub loop-at-init : goal.loop-at-init

@@ -1,4 +1,4 @@
-use Rattle.std.proofs.Common.{◌<◌, ℕ, Bool, List, Some, length, sym, ap, subst, true}
+use Rattle.std.proofs.Common.{◌<◌, Some, length, sym, ap, subst, true}
 use Rattle.fwu_formats.specs.Layout.{Layout}
 use Rattle.agent_calls.specs.Shown.{device, fields, gone, moment}
 use Rattle.agent_machine.specs.Fields.{target, total_of}
@@ -9,7 +9,6 @@ use Rattle.agent_calls.proofs.CopyFilling.{fills-behind, fills-ended, fills-stil
 use Rattle.agent_calls.proofs.CopyTaking.{copy-takes, lowered-of}
 use Rattle.agent_calls.proofs.Copies.{image-unopened, image-uncopied, image-ended}
 use Rattle.agent_machine.proofs.Spending.{call-spent, spent-then}
-use Rattle.agent_calls.proofs.CopySpending.{err-spent}
 use Rattle.agent_calls.proofs.OwnRows.{found-at}
 use Rattle.agent_calls.proofs.agent.Agent.copy_image.Given as given
 use Rattle.agent_calls.proofs.agent.Agent.copy_image.Goals as goal
@@ -63,14 +62,12 @@ returns-clause-takes g c =
     (g.D.Flash.arming (device c.copy_bytes.new.self))) c.in-Ok.ensures.still c.in-Ok-copy_bytes.ensures.takes)
     (λ i writes. lowered-of _ c.commit.result (c.commit.ensures.image still i writes).spent.lowered)
 
-any : List ℕ → Bool
-any _ = true
-
 module _ (g : given.Over) (c : After-open g) where
   opened : FillsBank (moment c.args.self.now) (moment c.open.new.self)
   opened =
       let o = c.open.ensures in
-      fills-still (moment c.args.self.now) (moment c.open.new.self) (o.meets c.requires.here any).leaves.stays o.records.metadata o.records.trials
+      fills-still (moment c.args.self.now) (moment c.open.new.self) (o.meets c.requires.here (λ _. true)).leaves.stays
+      o.records.metadata o.records.trials
       (λ told. ap (λ d. g.D.Flash.told d) o.still) (ap (λ d. g.D.Flash.writes d) o.still)
 
 module _ (g : given.Over) (c : After-copy_bytes g) where
@@ -87,7 +84,7 @@ returns-clause-fills g c =
     let d = c.commit.new.self in
     let still = c.in-Ok-copy_bytes.ensures.spent.gone_is in
     let e = c.commit.ensures in
-    let leaves = (e.meets still any).leaves in
+    let leaves = (e.meets still (λ _. true)).leaves in
     fills-then (moment c.args.self.now) (moment b) (moment d)
     (copied g (goal.at.returns-clause-fills g c).After-copy_bytes (opened g (goal.at.returns-clause-fills g c).After-open))
     (fills-ended (moment b) (moment d)

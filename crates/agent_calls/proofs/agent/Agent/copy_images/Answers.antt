@@ -1,6 +1,5 @@
-use Rattle.std.proofs.Common.{◌≡◌, ℕ, true, false, length, get_or, refl, ap, subst, ◌∙◌, arith}
+use Rattle.std.proofs.Common.{◌≡◌, ℕ, true, false, length, get_or, refl, subst, ◌∙◌, arith}
 use Rattle.std.proofs.lemmas.List.{get_or_default}
-use Rattle.fwu_formats.specs.Layout.{Layout}
 use Rattle.agent_calls.specs.Shown.{device, gone, moment}
 use Rattle.agent_calls.proofs.CopyFilling.{fills-none, fills-then, unnamed}
 use Rattle.agent_calls.proofs.CopyingAll.{copies-none, copies-named, copies-more, copies-stopped, copies-done}

@@ -5,8 +5,7 @@ use Rattle.agent_kept.specs.declared.kinds.Request.TheVariants as request
 use Rattle.agent_machine.specs.declared.stop.Stop.TheVariants as stop
 use Rattle.agent_machine.specs.Meets.{Meets}
 use Rattle.agent_machine.proofs.Answered.{refused-meets}
-use Rattle.agent_calls.specs.Shown.{moment, snapshot}
-use Rattle.agent_calls.proofs.Keeping.{unended-staging}
+use Rattle.agent_calls.specs.Shown.{moment}
 use Rattle.agent_calls.proofs.agent.Agent.end.Goals as goal
 
 pub returns-in-Ok-clause-meets : goal.returns-in-Ok-clause-meets

@@ -1,26 +1,33 @@
-use Rattle.std.proofs.Common.{inl, inr, true, false, refl, sym, subst, arith}
-use Rattle.std.specs.Prelude.{Option, OnOk}
+use Rattle.std.proofs.Common.{◌≡◌, Bool, inl, inr, true, false, refl, sym, subst, arith}
+use Rattle.std.specs.Prelude.{Option, OnOk, Err}
 use Rattle.flash_core.specs.declared.flash.Arming.{Arming}
 use Rattle.flash_core.specs.Told.{Told}
 use Rattle.flash_core.proofs.Touches.{touches_none, touches_then}
-use Rattle.fwu_model.specs.declared.kinds.Status.TheVariants as status
 use Rattle.fwu_model.specs.State.{Back}
 use Rattle.fwu_model.specs.MoveMetas.{meta_after}
 use Rattle.moves.specs.Law.{CallResult}
 use Rattle.replicas.specs.Stores.{Stores}
 use Rattle.agent_kept.specs.Kept.{kept}
 use Rattle.agent_state.specs.Ruled.{ruled_as}
-use Rattle.agent_machine.specs.Meets.{flash_result}
+use Rattle.agent_machine.specs.Meets.{IsRefused, IsStopped, flash_result}
+use Rattle.agent_machine.specs.declared.stop.Stop.{Stop}
 use Rattle.agent_machine.specs.declared.stop.Stop.TheVariants as stop
 use Rattle.agent_machine.specs.Fields.{Fields}
 use Rattle.agent_machine.specs.Stored.{TakesStore, is_to_do, may_try_kept}
 use Rattle.meta_layout.proofs.Fits.{meta-fits}
 use Rattle.agent_machine.proofs.StoredBack.{untried-meets, stopped-meets, bad-meets, back-meets}
-use Rattle.agent_calls.specs.Shown.{fields, moment, snapshot}
-use Rattle.agent_calls.proofs.GoingBack.{looked, not-refused, tried, unchanged}
+use Rattle.agent_calls.specs.Shown.{fields, moment}
 use Rattle.agent_calls.proofs.StoredVerdict.{back-is-good, good-permitted, promised}
 use Rattle.agent_calls.proofs.Makes.{ok-any, back-stopped}
 use Rattle.agent_calls.proofs.agent.Agent.go_back.Goals as goal
+
+-- what may be tried isn't refused without a look
+tried : {A : Type 0} (b : Bool) → b ≡ true → b ≡ false → A
+tried b is not = absurd cc
+
+not-refused : (e : Stop) → IsStopped {T = Unit {0}} (Err e) → IsRefused {T = Unit {0}} (Err e) → ⊥
+not-refused (stop.Status st) stopped refused = stopped
+not-refused q stopped refused = refused
 
 pub may_try-requires-clause-active : goal.may_try-requires-clause-active
 may_try-requires-clause-active g c =

@@ -1,9 +1,8 @@
-use Rattle.std.proofs.Common.{[], refl, ap, ◌∙◌}
-use Rattle.fwu_formats.specs.Metadata.{Meta}
+use Rattle.std.proofs.Common.{[]}
 use Rattle.agent_kept.specs.Kept.{kept}
 use Rattle.agent_machine.specs.Fields.{Fields}
 use Rattle.agent_machine.proofs.Room.{meta-of-session}
-use Rattle.agent_machine.proofs.Quietly.{keeps-fitting, keeps-known, keeps-some, quiet-carried, quiet-meta}
+use Rattle.agent_machine.proofs.Quietly.{keeps-fitting, keeps-known, keeps-some, quiet-carried}
 use Rattle.agent_calls.specs.Shown.{fields}
 use Rattle.agent_calls.proofs.agent.Agent.keep.Goals as goal
 

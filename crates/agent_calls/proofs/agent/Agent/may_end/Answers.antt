@@ -1,7 +1,5 @@
-use Rattle.agent_kept.specs.Kept.{kept}
 use Rattle.agent_machine.proofs.Room.{meta-of-session, rows-some}
 use Rattle.agent_calls.specs.Shown.{fields}
-use Rattle.agent_calls.proofs.NoOther.{ends}
 use Rattle.agent_calls.proofs.agent.Agent.may_end.Goals as goal
 
 pub decide-requires-clause-some : goal.decide-requires-clause-some

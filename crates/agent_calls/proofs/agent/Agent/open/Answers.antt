@@ -1,9 +1,6 @@
-use Rattle.std.proofs.Common.{ap, subst}
-use Rattle.agent_state.specs.Settles.{IsPlanOf}
-use Rattle.agent_machine.specs.Fields.{Fields}
+use Rattle.std.proofs.Common.{ap}
 use Rattle.agent_machine.proofs.Opens.{open-refused, opens-asked, open-meets}
 use Rattle.agent_calls.specs.Shown.{fields, moment}
-use Rattle.agent_calls.proofs.NoOther.{opens}
 use Rattle.agent_calls.proofs.agent.Agent.open.Goals as goal
 
 pub returns-in-Open-clause-meets : goal.returns-in-Open-clause-meets

@@ -6,7 +6,6 @@ use Rattle.agent_machine.specs.Fields.{Fields}
 use Rattle.agent_machine.proofs.Room.{meta-of-session, rows-some}
 use Rattle.agent_machine.proofs.Verdicts.{refuses-any, plans-any}
 use Rattle.agent_calls.specs.Shown.{fields}
-use Rattle.agent_calls.proofs.NoOther.{waits}
 use Rattle.agent_calls.proofs.agent.Agent.plan.Goals as goal
 
 pub decide-requires-clause-some : goal.decide-requires-clause-some

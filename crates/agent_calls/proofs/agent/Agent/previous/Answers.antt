@@ -7,10 +7,7 @@ use Rattle.agent_state.specs.Decides.{DecidesRequest}
 use Rattle.agent_machine.proofs.Answered.{layout-limits}
 use Rattle.agent_machine.proofs.StoredPlans.{is-meta-of}
 use Rattle.agent_machine.proofs.StoredBack.{refused-meets-previous}
-use Rattle.agent_machine.specs.declared.stop.Stop.TheVariants as stop
-use Rattle.agent_machine.specs.Meets.{MeetsPrevious}
-use Rattle.agent_calls.specs.Shown.{fields, moment, snapshot}
-use Rattle.agent_calls.proofs.GoingBack.{unchanged}
+use Rattle.agent_calls.specs.Shown.{fields}
 use Rattle.agent_calls.proofs.agent.Agent.previous.Goals as goal
 
 pub decide-decision-requires-clause-some : goal.decide-decision-requires-clause-some

@@ -1,28 +1,25 @@
-use Rattle.std.proofs.Common.{◌-◌, ◌≤◌, [], Ok, Err, length, refl, sym, ap, ◌∙◌, subst, arith}
-use Rattle.std.proofs.lemmas.List.{length-take, length-take-le}
-use Rattle.flash_core.specs.declared.flash.FlashStop.{FlashStop}
-use Rattle.flash_core.specs.Calls.{Reads}
+use Rattle.std.proofs.Common.{◌≤◌, [], length, refl, ap, ◌∙◌, subst, arith}
 use Rattle.agent_kept.specs.declared.kinds.Plan.TheVariants as plan
-use Rattle.agent_state.specs.Settles.{IsPlanOf}
+use Rattle.agent_kept.specs.declared.kinds.Request.TheVariants as request
+use Rattle.agent_state.specs.Asked.{IsPlanFor}
 use Rattle.agent_machine.specs.Fields.{Fields}
 use Rattle.agent_machine.specs.Directory.{piece_of}
 use Rattle.agent_machine.specs.Meets.{IsGot, Stays}
-use Rattle.agent_machine.proofs.ReadAnswers.{read-refused, read-inside, read-lost, read-faulty, read-meets, carried-from, filled}
-use Rattle.agent_calls.specs.Records.{ReadsAlone}
-use Rattle.agent_calls.specs.Shown.{device, fields, moment}
-use Rattle.agent_calls.proofs.Beyond.{read-room, read-no-more, kept-beyond}
+use Rattle.agent_machine.proofs.ReadAnswers.{read-refused, read-lost, read-faulty, read-meets, carried-from, filled}
+use Rattle.agent_calls.specs.Shown.{fields, moment}
 use Rattle.agent_calls.proofs.Copies.{read-stays}
-use Rattle.agent_calls.proofs.Keeping.{alone, read-keeps, untouched}
-use Rattle.agent_calls.proofs.NoOther.{reads}
 use Rattle.agent_calls.proofs.agent.Agent.read_stream.Given as given
 use Rattle.agent_calls.proofs.agent.Agent.read_stream.Goals as goal
 use Rattle.agent_calls.proofs.agent.Agent.read_stream.Goals.{After-read_part, In-Read}
 
+-- a plan to read reads no more than there is room for
 module _ (g : given.Over) (c : In-Read g) where
   room : c.in-Read.length ≤ length c.args.out.now
   room =
-      read-room (fields c.args.self.now) c.args.h (length c.args.out.now) c.in-Ok.plan c.in-Ok.ensures.asked c.in-Read.handle
-      c.in-Read.image c.in-Read.at c.in-Read.length c.in-Read.total c.in-Read.is
+      let f : Fields = fields c.args.self.now in
+      let own = subst (IsPlanFor f.session f.meta.meta (request.Read c.args.h (length c.args.out.now))) c.in-Read.is
+      c.in-Ok.ensures.asked in
+      omega (arith, own.2)
 
 module _ (g : given.Over) (c : After-read_part g) where
   stays : Stays (moment c.args.self.now) (moment c.read_part.new.self)

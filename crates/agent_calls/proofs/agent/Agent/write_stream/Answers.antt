@@ -1,20 +1,14 @@
-use Rattle.std.proofs.Common.{◌≡◌, ℕ, length, refl, sym, ap, ◌∙◌, subst, arith}
+use Rattle.std.proofs.Common.{◌≡◌, length, refl, ap, ◌∙◌, subst}
 use Rattle.fwu_model.specs.Reply.{Success}
 use Rattle.agent_kept.specs.declared.kinds.Plan.{Plan}
 use Rattle.agent_kept.specs.declared.kinds.Plan.TheVariants as plan
 use Rattle.agent_kept.specs.declared.kinds.Request.TheVariants as request
 use Rattle.agent_kept.specs.declared.kinds.Decision.TheVariants as decision
 use Rattle.agent_state.specs.Decides.{DecidesRequest}
-use Rattle.agent_state.specs.Settles.{IsPlanOf}
-use Rattle.agent_machine.specs.declared.stop.Stop.TheVariants as stop
 use Rattle.agent_machine.specs.Fields.{Fields}
 use Rattle.agent_machine.proofs.Answered.{refused-meets}
-use Rattle.agent_calls.specs.Images.{AppendsImage}
-use Rattle.agent_calls.specs.Shown.{fields, moment, snapshot}
+use Rattle.agent_calls.specs.Shown.{fields, moment}
 use Rattle.agent_state.specs.Asked.{IsPlanFor}
-use Rattle.agent_calls.proofs.Beyond.{writes-same}
-use Rattle.agent_calls.proofs.Keeping.{unwritten-image}
-use Rattle.agent_calls.proofs.NoOther.{writes}
 use Rattle.agent_calls.proofs.agent.Agent.write_stream.Goals as goal
 
 pub returns-in-Write-clause-meets : goal.returns-in-Write-clause-meets
