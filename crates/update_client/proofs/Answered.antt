@@ -16,7 +16,7 @@ use Rattle.update_client.specs.declared.stops.Sent.{Sent}
 use Rattle.update_client.specs.declared.stops.SendStop.{SendStop}
 use Rattle.update_client.specs.Choosing.{no_row}
 use Rattle.update_client.specs.Partial.{GoesAs, SendsOver, over_answer}
-use Rattle.update_client.proofs.WholePartly.{never-off}
+use Rattle.update_client.proofs.Packaged.{never-off}
 
 -- ---- images over bytes that are the same where the table lacks them
 

@@ -1,5 +1,5 @@
 -- What the calls of a sending spend, with its own stops.
-use Rattle.std.proofs.Common.{◌≡◌, Bool, true, false, Result, Ok, Err, refl, subst, IsFalse}
+use Rattle.std.proofs.Common.{◌≡◌, Bool, true, false, Result, Ok, Err, refl, ap, subst, IsFalse, IsTrue}
 use Rattle.flash_core.specs.declared.flash.Flash.{Ghosts}
 use Rattle.flash_core.specs.declared.flash.FlashStop.{FlashStop}
 use Rattle.flash_core.specs.Calls.{Goes}
@@ -50,3 +50,7 @@ here-before true now goes = absurd (no-gone (goes.gone.1 refl))
   where
     no-gone : ◌≡◌ {A = Result (Unit {0}) Stop} (Ok tt) (Err stop.Gone) → ⊥
     no-gone e = absurd cc
+
+-- an agent that is there is never answered to be gone
+pub not-gone : {T : Type 0} (q : Stop) (was : Bool) → IsFalse was → (◌≡◌ {A = Result T Stop} (Err q) (Err stop.Gone) → IsTrue was) → q ≡ stop.Gone → ⊥
+not-gone q was here gone e = let there : was ≡ true = gone (ap (λ (k : Stop). Err k) e) in absurd cc

@@ -67,6 +67,12 @@ sent-all front (b ∷ images) a bit size =
 
 -- ---- the end, and the begin
 
+-- what is staged is this package with these bits
+pub record IsPacked (sent : List Staged) (p : List (List ℕ)) (bits : List Bool) : Type 0 where
+  pub package_is : staged_package sent ≡ p
+  pub bits_are : staged_bits sent ≡ bits
+  pub committed : list_all is_committed sent ≡ true
+
 all-committed : (bit : Bool) (p : List (List ℕ)) → list_all is_committed (map (λ (b : List ℕ). Committed b bit) p) ≡ true
 all-committed bit [] = refl
 all-committed bit (b ∷ p) = all-committed bit p
@@ -85,18 +91,15 @@ whole-sent : (n : ℕ) (bit : Bool) (images : List (List ℕ)) → length images
 whole-sent n bit images all =
     ap (λ (k : ℕ). sent_parts (replicate k Nothing) images (range_with_len 0 k) bit) (sym all) ∙ sent-all [] images 0 bit refl
 
-pub whole-package : (n : ℕ) (bit : Bool) (images : List (List ℕ)) → length images ≡ n
-    → staged_package (sent_parts (replicate n Nothing) images (range_with_len 0 n) bit) ≡ images
-whole-package n bit images all = ap (λ (ps : List Staged). staged_package ps) (whole-sent n bit images all) ∙ package-is bit images
-
-pub whole-bits : (n : ℕ) (bit : Bool) (images : List (List ℕ)) → length images ≡ n
-    → staged_bits (sent_parts (replicate n Nothing) images (range_with_len 0 n) bit) ≡ replicate n bit
-whole-bits n bit images all = ap (λ (ps : List Staged). staged_bits ps) (whole-sent n bit images all) ∙ bits-are bit images
-    ∙ ap (λ (k : ℕ). replicate k bit) all
-
-pub whole-committed : (n : ℕ) (bit : Bool) (images : List (List ℕ)) → length images ≡ n
-    → list_all is_committed (sent_parts (replicate n Nothing) images (range_with_len 0 n) bit) ≡ true
-whole-committed n bit images all = ap (λ (ps : List Staged). list_all is_committed ps) (whole-sent n bit images all) ∙ all-committed bit images
+pub whole-packed : (n : ℕ) (bit : Bool) (images : List (List ℕ)) → length images ≡ n
+    → IsPacked (sent_parts (replicate n Nothing) images (range_with_len 0 n) bit) images (replicate n bit)
+whole-packed n bit images all =
+    let is = whole-sent n bit images all in
+    record {
+      package_is = ap (λ (ps : List Staged). staged_package ps) is ∙ package-is bit images;
+      bits_are = ap (λ (ps : List Staged). staged_bits ps) is ∙ bits-are bit images ∙ ap (λ (k : ℕ). replicate k bit) all;
+      committed = ap (λ (ps : List Staged). list_all is_committed ps) is ∙ all-committed bit images;
+    }
 
 -- all images committed: the end goes by whether they may be installed
 abbrev pub end-answer : Setting → State → ℕ → List Staged → Bool → Answer

@@ -22,7 +22,7 @@ use Rattle.update_client.specs.Images.{SendsFirst, SendsImages, no_entry, sent_p
 use Rattle.update_client.specs.Takes.{PayloadFrontTakes, ImageStarts, ImagesStart, ImagesTake, OnRefusedEnd, OnUnread, writes_in, writes_up_to}
 use Rattle.update_client.proofs.ImagesTaking.{FirstTaken}
 use Rattle.update_client.proofs.Staging.{sent-long, sent-other}
-use Rattle.update_client.proofs.WholeSending.{early-cases}
+use Rattle.update_client.proofs.Packaged.{early-cases}
 use Rattle.update_client.proofs.WrittenPiece.{image-opened}
 
 -- ---- which stop it is
