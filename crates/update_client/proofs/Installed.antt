@@ -20,7 +20,7 @@ use Rattle.agent_machine.specs.Moment.{Moment, Shows}
 use Rattle.agent_machine.specs.Meets.{GoesBy, IsStopped}
 use Rattle.agent_machine.specs.Goes.{GoesByMoves}
 use Rattle.update_client.specs.declared.stops.SendStop.{SendStop}
-use Rattle.update_client.specs.declared.stops.SendStop.TheVariants.{End, ReadFailed, Lost, Fault, Gone}
+use Rattle.update_client.specs.declared.stops.SendStop.TheVariants.{End, ReadFailed, Lost, Fault}
 use Rattle.agent_machine.specs.Filling.{between}
 use Rattle.update_client.specs.Halts.{Halts, is_unread}
 use Rattle.update_client.specs.Images.{SendsImages, sent_parts}

@@ -21,7 +21,7 @@ use Rattle.agent_machine.proofs.Going.{goes-then, goes-nothing, goes-stopped}
 use Rattle.agent_machine.specs.Filling.{between}
 use Rattle.agent_calls.specs.Copies.{AnswersAs}
 use Rattle.update_client.specs.declared.stops.SendStop.{SendStop}
-use Rattle.update_client.specs.declared.stops.SendStop.TheVariants.{MissingImage, ImageTooLarge, Begin, End, ReadFailed, Lost, Fault, Gone}
+use Rattle.update_client.specs.declared.stops.SendStop.TheVariants.{MissingImage, ImageTooLarge, End, ReadFailed, Lost, Fault}
 use Rattle.update_client.specs.Choosing.{refused_image}
 use Rattle.update_client.specs.Finishes.{FinishesSend, end_moves}
 use Rattle.update_client.specs.Halts.{unbegun_as}

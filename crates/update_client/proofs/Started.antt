@@ -1,8 +1,7 @@
 -- A staging that was begun for some images: they are sent into it, and it ends.
-use Rattle.std.proofs.Common.{◌≡◌, ℕ, ◌+◌, Bool, true, false, List, length, take, Option, None, Result, Ok, Err, refl, sym, ap, subst, ◌∙◌, arith}
+use Rattle.std.proofs.Common.{◌≡◌, ℕ, ◌+◌, Bool, false, List, length, take, Option, None, Result, Ok, Err, refl, sym, ap, subst, ◌∙◌, arith}
 use Rattle.std.specs.Prelude.{◌==◌, IsTrue}
 use Rattle.std.proofs.lemmas.List.{take_all}
-use Rattle.std.specs.List.{list_all}
 use Rattle.host_io.specs.Contents.{Directory}
 use Rattle.flash_core.specs.declared.flash.Arming.{Arming}
 use Rattle.fwu_formats.proofs.SealLaws.{limits}
@@ -10,11 +9,11 @@ use Rattle.fwu_formats.specs.Layout.{Layout, fits_layout}
 use Rattle.fwu_formats.specs.Package.{Entry}
 use Rattle.fwu_model.specs.State.{State, after}
 use Rattle.fwu_model.specs.Sound.{Setting}
-use Rattle.fwu_model.specs.Session.{Session, On, Staged, Handle, is_committed}
+use Rattle.fwu_model.specs.Session.{Session, On, Staged, Handle}
 use Rattle.fwu_model.specs.Reply.{Reply}
 use Rattle.fwu_model.specs.Reply as reply
 use Rattle.fwu_model.specs.declared.kinds.Status.TheVariants as status
-use Rattle.fwu_model.specs.Answer.{Answer, begin_moves, cannot_begin, install_package, install_unless, staged_bits, staged_package}
+use Rattle.fwu_model.specs.Answer.{Answer, begin_moves, cannot_begin, install_package, install_unless, staged_bits}
 use Rattle.agent_machine.specs.Ends.{TakesSwitch}
 use Rattle.agent_machine.specs.Filling.{between}
 use Rattle.agent_machine.specs.Goes.{GoesByMoves}

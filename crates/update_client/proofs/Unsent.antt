@@ -15,7 +15,7 @@ use Rattle.agent_calls.specs.Takes.{Takes, writes_of_pieces}
 use Rattle.agent_calls.proofs.Pieces.{next-piece}
 use Rattle.agent_calls.proofs.Taking.{takes-then}
 use Rattle.update_client.specs.declared.stops.SendStop.{SendStop}
-use Rattle.update_client.specs.declared.stops.SendStop.TheVariants.{MissingImage, ImageTooLarge, Begin, End, ReadFailed, Lost, Fault, Gone}
+use Rattle.update_client.specs.declared.stops.SendStop.TheVariants.{MissingImage, ImageTooLarge, Begin, End, ReadFailed}
 use Rattle.update_client.specs.Choosing.{refused_image}
 use Rattle.update_client.specs.Halts.{StopsEnd, is_unread, stopped_as, unbegun_as}
 use Rattle.update_client.specs.Images.{SendsFirst, SendsImages, no_entry, sent_parts}

@@ -1,52 +1,39 @@
 -- A sending as one answer of the machine, or a part of one.
-use Rattle.std.proofs.Common.{◌≡◌, cond, ℕ, suc, ◌+◌, ◌<◌, ◌≤◌, Bool, true, false, List, [], ◌∷◌, ◌++◌, ◌⊎◌, inl, inr, length, take, map, get_or, set, replicate, Option, Some, None, Result, Ok, Err, refl, sym, ap, subst, ◌∙◌, arith, append-nil, get_or-set_same, length-set}
-use Rattle.std.proofs.lemmas.Bool.{and_parts}
-use Rattle.std.proofs.Math.Nat.{mod-lt, ℕ_set}
+use Rattle.std.proofs.Common.{◌≡◌, ℕ, suc, ◌+◌, ◌<◌, Bool, false, List, [], ◌∷◌, length, map, get_or, replicate, Option, Some, None, Result, Ok, Err, refl, sym, ap, subst, ◌∙◌, arith}
+use Rattle.std.proofs.Math.Nat.{ℕ_set}
 use Rattle.std.proofs.Math.Logic.{∥∥₁_elim}
-use Rattle.fwu_formats.proofs.SealLaws.{limits}
-use Rattle.std.specs.Prelude.{◌%◌, ◌==◌, IsTrue, IsFalse, not}
-use Rattle.flash_core.specs.declared.flash.Arming.{Arming}
-use Rattle.flash_core.specs.declared.flash.FlashStop.{FlashStop}
-use Rattle.flash_core.specs.declared.flash.FlashStop.TheVariants as flash_stop
+use Rattle.std.specs.Prelude.{◌%◌, ◌==◌, IsTrue}
 use Rattle.host_io.specs.Contents.{Directory}
-use Rattle.fwu_formats.specs.Layout.{Layout, ImageRow, fits_layout, are_distinct}
+use Rattle.fwu_formats.specs.Layout.{Layout, ImageRow, fits_layout}
 use Rattle.fwu_formats.specs.Package.{Toc, Entry, entry_of, payload}
-use Rattle.fwu_model.specs.State.{Bank, State, Move, Free, Switch, after, bank, freed, is_invalid, no_bank, state_by, update_bank}
+use Rattle.fwu_model.specs.State.{State, update_bank}
 use Rattle.fwu_model.specs.Sound.{Setting}
-use Rattle.fwu_model.specs.Session.{Session, Off, On, Staged, Handle, no_handles, Nothing}
+use Rattle.fwu_model.specs.Session.{Session, On, Staged, Handle, Nothing}
 use Rattle.fwu_model.specs.Call as call
 use Rattle.fwu_model.specs.Reply.{Reply}
 use Rattle.fwu_model.specs.Reply as reply
-use Rattle.fwu_model.specs.declared.kinds.Status.{Status}
-use Rattle.fwu_model.specs.declared.kinds.Status.TheVariants as status
-use Rattle.fwu_model.specs.Answer.{staged_bits, Answer, answer, answered, refused, may_install, cannot_begin, begin_moves, bits_for, send_unless, first_image_fault, images_of, payload_of, skipped}
-use Rattle.fip_tables.specs.Files.{Tells}
+use Rattle.fwu_model.specs.Answer.{Answer, answer, cannot_begin, begin_moves, first_image_fault, images_of, payload_of, skipped}
 use Rattle.agent_machine.specs.declared.stop.Stop.{Stop}
 use Rattle.agent_machine.specs.declared.stop.Stop.TheVariants as stop
 use Rattle.fwu_formats.specs.Metadata.{Meta}
 use Rattle.agent_machine.specs.Fields.{target}
 use Rattle.agent_machine.specs.Moment.{Moment, Shows, Showing}
-use Rattle.agent_machine.specs.Meets.{GoesBy, IsStopped}
+use Rattle.agent_machine.specs.Meets.{IsStopped}
 use Rattle.agent_machine.specs.Goes.{GoesByMoves}
 use Rattle.update_client.specs.declared.stops.Sent.{Sent}
 use Rattle.update_client.specs.declared.stops.SendStop.{SendStop}
-use Rattle.update_client.specs.declared.stops.SendStop.TheVariants.{MissingImage, ImageTooLarge, Begin, End, ReadFailed, Lost, Fault, Gone}
+use Rattle.update_client.specs.declared.stops.SendStop.TheVariants.{Begin}
 use Rattle.std.specs.List.{range_with_len}
 use Rattle.agent_machine.specs.Filling.{between}
 use Rattle.update_client.specs.Halts.{unbegun_as}
 use Rattle.update_client.specs.Choosing.{AreChosen, refused_image, no_row, no_entry}
-use Rattle.update_client.specs.Takes.{ImagesTake, writes_in, writes_sent}
-use Rattle.agent_calls.specs.Takes.{Takes}
 use Rattle.update_client.specs.Images.{AreUnstaged, sent_parts}
-use Rattle.update_client.specs.Finishes.{FinishesSend, InstallsImages, end_moves}
+use Rattle.update_client.specs.Finishes.{InstallsImages}
 use Rattle.update_client.specs.Sends.{Installs, AllowsBegin, IsInstalled, IsSwitched, Sends, SendEndsBy, send_answer}
-use Rattle.agent_machine.proofs.Going.{goes-then, goes-nothing}
 use Rattle.agent_machine.proofs.CallGoing.{MeetsAs, call-goes, call-replies, call-stopped}
-use Rattle.update_client.proofs.Staging.{begin-answers, begun-keeps, begun-may}
+use Rattle.update_client.proofs.Staging.{begin-answers}
 use Rattle.update_client.proofs.Installed.{told_value, told-is}
 use Rattle.update_client.proofs.OwnImages.{are-images}
-use Rattle.update_client.proofs.ImagesTaking.{images-taken, writes-chosen}
-use Rattle.agent_calls.proofs.Taking.{takes-as}
 use Rattle.agent_machine.specs.Meets.{flash_result}
 use Rattle.agent_calls.specs.Copies.{AnswersAs}
 use Rattle.update_client.specs.Partial.{GoesAs}

@@ -12,7 +12,7 @@ use Rattle.agent_machine.proofs.Spending.{call-spent, spent-then}
 use Rattle.update_client.proofs.Keeping.{keeps-ended, keeps-then}
 use Rattle.update_client.proofs.Sparing.{spares-left, spares-then}
 use Rattle.update_client.proofs.Spending.{unstopped}
-use Rattle.update_client.specs.Takes.{ImagesStart, ImagesTake, OnUnread}
+use Rattle.update_client.specs.Takes.{ImagesTake}
 use Rattle.update_client.proofs.Unsent.{end-of, end-read, images-no-end, other-read}
 use Rattle.update_client.proofs.finishing.install.Goals as goal
 

@@ -1,35 +1,26 @@
-use Rattle.std.proofs.Common.{◌≡◌, ◌+◌, ◌^◌, ◌<◌, ◌≤◌, ℕ, Bool, true, false, List, length, take, Option, Some, Result, Ok, Err, refl, sym, ap, subst, ◌∙◌, arith, IsTrue, IsFalse}
-use Rattle.host_io.proofs.Reading.{reads-none}
+use Rattle.std.proofs.Common.{◌≡◌, ◌+◌, ◌^◌, ◌<◌, ◌≤◌, ℕ, false, List, length, take, Some, Ok, Err, sym, ap, subst, ◌∙◌, arith, IsFalse}
 use Rattle.fwu_formats.specs.Layout.{ImageRow}
 use Rattle.fwu_formats.specs.Package.{Entry}
 use Rattle.fwu_model.specs.Answer.{skipped, are_named, names_unknown, partial_fault}
-use Rattle.agent_machine.specs.declared.stop.Stop.{Stop}
 use Rattle.agent_calls.specs.Shown.{device, fields, gone, moment}
-use Rattle.flash_core.specs.declared.flash.Arming.{Arming}
-use Rattle.agent_machine.specs.Ends.{TakesSwitch}
 use Rattle.agent_calls.specs.Takes.{Takes, writes_to_begin, writes_to_copy}
-use Rattle.agent_calls.proofs.Taking.{takes-some, takes-then}
 use Rattle.agent_machine.proofs.Showing.{shows-some}
-use Rattle.update_client.specs.Takes.{InstallTakes, writes_in, ImagesStart, ImagesTake, SendTakesBy, UnreadTakes, writes_up_to}
+use Rattle.update_client.specs.Takes.{writes_in}
 use Rattle.agent_calls.specs.Copies.{BeginsPartly}
-use Rattle.flash_core.specs.Calls.{Goes}
 use Rattle.update_client.specs.declared.stops.Sent.{Sent}
-use Rattle.update_client.specs.declared.stops.SendStop.{SendStop}
-use Rattle.update_client.specs.Halts.{flash_of, unbegun_as}
+use Rattle.update_client.specs.Halts.{flash_of}
 use Rattle.agent_machine.proofs.Spending.{call-spent, spent-then}
 use Rattle.update_client.proofs.Sparing.{begun-spares, gone-spares, spares-then}
-use Rattle.update_client.proofs.Spending.{goes-of, here-before, not-gone, unbegun-spent}
+use Rattle.update_client.proofs.Spending.{goes-of, here-before, not-gone}
 use Rattle.update_client.specs.Choosing.{refused_image}
 use Rattle.update_client.specs.Packages.{HoldsPayloads}
-use Rattle.update_client.specs.Finishes.{InstallsImages}
-use Rattle.update_client.specs.Partial.{AreSendable, SendsOver, present, types_of, writes_copied, writes_over}
+use Rattle.update_client.specs.Partial.{AreSendable, present, types_of, writes_copied, writes_over}
 use Rattle.fip_tables.proofs.Chosen.{present_few}
 use Rattle.update_client.proofs.Named.{known-types}
-use Rattle.update_client.proofs.Present.{counted-by, placed-in, present-have, rows-found, rows-some}
+use Rattle.update_client.proofs.Present.{counted-by, present-have, rows-found, rows-some}
 use Rattle.update_client.proofs.WholeSending.{switches}
 use Rattle.update_client.proofs.WholePartly.{installs-over, over-early, over-unbegun, over-done, over-halted, over-started}
 use Rattle.update_client.proofs.Stopped.{handed-on}
-use Rattle.update_client.proofs.Unsent.{begin-no-end, begin-read, early-no-end, early-read, end-then, unread-then}
 use Rattle.update_client.proofs.partial.send_partial.Given as given
 use Rattle.update_client.proofs.partial.send_partial.Goals as goal
 use Rattle.update_client.proofs.partial.send_partial.Goals.{After-install}

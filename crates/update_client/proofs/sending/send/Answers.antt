@@ -1,30 +1,22 @@
-use Rattle.std.proofs.Common.{◌≡◌, ◌+◌, ◌^◌, ◌<◌, ◌≤◌, List, length, Option, Some, Ok, Err, refl, sym, ap, subst, ◌∙◌}
-use Rattle.host_io.proofs.Reading.{reads-none}
+use Rattle.std.proofs.Common.{◌≡◌, ◌+◌, ◌^◌, ◌<◌, ◌≤◌, List, length, Some, Err, sym, ap, subst, ◌∙◌}
 use Rattle.fwu_formats.specs.Layout.{ImageRow}
 use Rattle.fwu_formats.specs.Package.{Entry}
 use Rattle.fwu_model.specs.Answer.{first_image_fault, skipped}
-use Rattle.flash_core.specs.Calls.{Goes}
 use Rattle.agent_calls.specs.Shown.{device, fields, gone, moment}
-use Rattle.update_client.specs.declared.stops.SendStop.{SendStop}
 use Rattle.update_client.specs.Choosing.{AreChosen, refused_image}
-use Rattle.update_client.specs.Halts.{flash_of, unbegun_as}
+use Rattle.update_client.specs.Halts.{flash_of}
 use Rattle.update_client.specs.Packages.{HoldsPayloads}
-use Rattle.update_client.specs.Finishes.{InstallsImages}
-use Rattle.update_client.specs.Sends.{Sends}
 use Rattle.update_client.specs.declared.stops.Sent.{Sent}
-use Rattle.update_client.specs.Takes.{InstallTakes, writes_sent, ImagesStart, ImagesTake, SendTakesBy, UnreadTakes, writes_up_to}
+use Rattle.update_client.specs.Takes.{writes_sent}
 use Rattle.agent_machine.proofs.Showing.{shows-some}
 use Rattle.update_client.proofs.Chosen.{chosen_have}
 use Rattle.agent_machine.proofs.Spending.{call-spent, spent-then}
-use Rattle.update_client.proofs.Sparing.{gone-spares, spares-left, spares-then}
-use Rattle.update_client.proofs.Spending.{goes-of, here-before, not-gone, unbegun-spent}
-use Rattle.agent_calls.proofs.Taking.{takes-begin, takes-some, takes-then}
+use Rattle.update_client.proofs.Sparing.{spares-left, spares-then}
+use Rattle.update_client.proofs.Spending.{goes-of, here-before, not-gone}
+use Rattle.agent_calls.proofs.Taking.{takes-begin}
 use Rattle.agent_calls.specs.Takes.{Takes, writes_to_begin}
-use Rattle.agent_machine.specs.Ends.{TakesSwitch}
-use Rattle.flash_core.specs.declared.flash.Arming.{Arming}
 use Rattle.update_client.proofs.WholeSending.{installs-done, sends-early, sends-unbegun, sends-done, sends-halted, switches, whole-started}
 use Rattle.update_client.proofs.Stopped.{handed-on}
-use Rattle.update_client.proofs.Unsent.{begin-no-end, begin-read, early-no-end, early-read, end-then, unread-then}
 use Rattle.update_client.proofs.sending.send.Given as given
 use Rattle.update_client.proofs.sending.send.Goals as goal
 use Rattle.update_client.proofs.sending.send.Goals.{After-begin, After-install}
