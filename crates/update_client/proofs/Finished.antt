@@ -1,5 +1,5 @@
 -- The end of a staging that has all images.
-use Rattle.std.proofs.Common.{◌≡◌, cond, ℕ, Bool, true, false, List, [], ◌∷◌, ◌++◌, inl, inr, None, Result, Ok, Err, refl, sym, ap, subst, ◌∙◌}
+use Rattle.std.proofs.Common.{◌≡◌, cond, ℕ, Bool, true, false, List, [], ◌∷◌, ◌++◌, inl, inr, None, Result, Ok, Err, refl, sym, ap, subst, ◌∙◌, append-nil}
 use Rattle.std.specs.Prelude.{IsFalse}
 use Rattle.flash_core.specs.declared.flash.FlashStop.TheVariants as flash_stop
 use Rattle.fwu_model.specs.State.{State, Move, Switch, update_bank, after}
@@ -98,10 +98,6 @@ module _ (passes : List ℕ → Bool) (old mid : Moment) where
           × GoesByMoves E (Ok tt) old mid s (cond b (Switch (update_bank s) (staged_package parts) (staged_bits parts) ∷ []) []) (between boot parts)
       by-test true replied goes = absurd cc
       by-test false replied goes = (cc, refl, goes)
-
-append-nil : (ms : List Move) → ms ++ [] ≡ ms
-append-nil [] = refl
-append-nil (m ∷ ms) = ap (λ (l : List Move). m ∷ l) (append-nil ms)
 
 -- a refusal leaves the agent there
 pub still-here : {T : Type 0} (st : Status) (was now : Bool) → IsFalse was → GoesBy {T = T} (Err (stop.Status st)) was now

@@ -20,4 +20,3 @@ mod Over
 mod Present
 mod Named
 mod WholePartly
-pub mod Answered

@@ -17,7 +17,7 @@ use Rattle.update_client.specs.Images.{sent_parts}
 
 -- ---- the images that are sent
 
-set-place : (xs ys : List Staged) (y z : Staged) → set (xs ++ y ∷ ys) (length xs) z ≡ xs ++ z ∷ ys
+pub set-place : (xs ys : List Staged) (y z : Staged) → set (xs ++ y ∷ ys) (length xs) z ≡ xs ++ z ∷ ys
 set-place [] ys y z = refl
 set-place (x ∷ xs) ys y z = ap (λ (l : List Staged). x ∷ l) (set-place xs ys y z)
 
@@ -43,13 +43,9 @@ sent-other parts (b ∷ images) (p ∷ places) bit i le apart =
     sent-other (set parts p (Committed b bit)) images places bit i (omega (arith, le)) (λ j lt. apart (suc j) (omega (arith, lt)))
     ∙ get_or-set_other parts p i (Committed b bit) Nothing (λ e. apart 0 (omega arith) (sym e))
 
-append-one : (l : List Staged) (y : Staged) (rest : List Staged) → (l ++ y ∷ []) ++ rest ≡ l ++ y ∷ rest
+pub append-one : (l : List Staged) (y : Staged) (rest : List Staged) → (l ++ y ∷ []) ++ rest ≡ l ++ y ∷ rest
 append-one [] y rest = refl
 append-one (x ∷ l) y rest = ap (λ (ys : List Staged). x ∷ ys) (append-one l y rest)
-
-append-none : (l : List Staged) → l ++ [] ≡ l
-append-none [] = refl
-append-none (x ∷ l) = ap (λ (ys : List Staged). x ∷ ys) (append-none l)
 
 -- all images of a layout, one after another
 pub sent-all : (front : List Staged) (images : List (List ℕ)) (a : ℕ) (bit : Bool) → length front ≡ a
