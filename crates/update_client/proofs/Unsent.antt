@@ -1,5 +1,5 @@
 -- A sending that was not done, by how it ended.
-use Rattle.std.proofs.Common.{◌≡◌, ◌*◌, ◌<◌, ℕ, Bool, false, List, inl, inr, length, take, get_or, Option, Some, Result, Ok, Err, refl, sym, subst, ◌∙◌, arith}
+use Rattle.std.proofs.Common.{◌≡◌, ◌*◌, ◌<◌, ℕ, Bool, false, List, length, take, get_or, Option, Result, Ok, Err, refl, sym, subst, ◌∙◌, arith}
 use Rattle.std.specs.Prelude.{◌==◌}
 use Rattle.flash_core.specs.declared.flash.Arming.{Arming}
 use Rattle.host_io.specs.Contents.{Directory}
@@ -7,8 +7,6 @@ use Rattle.fwu_formats.specs.Package.{Entry}
 use Rattle.fwu_model.specs.Call as call
 use Rattle.fwu_model.specs.Reply.{Reply}
 use Rattle.fwu_model.specs.Reply as reply
-use Rattle.agent_machine.specs.declared.stop.Stop.{Stop}
-use Rattle.agent_machine.specs.declared.stop.Stop.TheVariants as stop
 use Rattle.agent_machine.specs.Moment.{Moment}
 use Rattle.agent_machine.proofs.CallGoing.{MeetsAs}
 use Rattle.agent_calls.specs.Takes.{Takes, writes_of_pieces}
@@ -16,8 +14,7 @@ use Rattle.agent_calls.proofs.Pieces.{next-piece}
 use Rattle.agent_calls.proofs.Taking.{takes-then}
 use Rattle.update_client.specs.declared.stops.SendStop.{SendStop}
 use Rattle.update_client.specs.declared.stops.SendStop.TheVariants.{MissingImage, ImageTooLarge, Begin, End, ReadFailed}
-use Rattle.update_client.specs.Choosing.{refused_image}
-use Rattle.update_client.specs.Halts.{StopsEnd, is_unread, stopped_as, unbegun_as}
+use Rattle.update_client.specs.Halts.{StopsEnd, is_unread}
 use Rattle.update_client.specs.Images.{SendsFirst, SendsImages, no_entry, sent_parts}
 use Rattle.update_client.specs.Takes.{PayloadFrontTakes, ImageStarts, ImagesStart, ImagesTake, OnRefusedEnd, OnUnread, writes_in, writes_up_to}
 use Rattle.update_client.proofs.ImagesTaking.{FirstTaken}
