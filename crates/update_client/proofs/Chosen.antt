@@ -23,17 +23,17 @@ abbrev reply_of : ImageFault → Reply
 reply_of (Missing guid) = reply.Missing guid
 reply_of (TooLarge guid) = reply.TooLarge guid
 
+too-large : (r : ImageRow) (b : Bool) (rest : Option Reply) (faults : Option ImageFault) → rest ≡ option_map reply_of faults
+    → machine_else (cond b (Some (reply.TooLarge r.guid)) None) rest ≡ option_map reply_of (or_else (cond b (Some (TooLarge r.guid)) None) faults)
+too-large r true rest faults is = refl
+too-large r false rest faults is = is
+
 -- ---- of all images
 
 next-fault : (r : ImageRow) (o : Option Entry) (rest : Option Reply) (faults : Option ImageFault) → rest ≡ option_map reply_of faults
     → machine_else (machine_fault r o) rest ≡ option_map reply_of (or_else (image_fault r o) faults)
 next-fault r None rest faults is = refl
-next-fault r (Some e) rest faults is = by-test (nat_lt (4096 * r.slots) e.size)
-  where
-    by-test : (b : Bool) → machine_else (cond b (Some (reply.TooLarge r.guid)) None) rest
-        ≡ option_map reply_of (or_else (cond b (Some (TooLarge r.guid)) None) faults)
-    by-test true = refl
-    by-test false = is
+next-fault r (Some e) rest faults is = too-large r (nat_lt (4096 * r.slots) e.size) rest faults is
 
 same-fault : (rows : List ImageRow) (toc : Toc) → first_image_fault rows toc ≡ option_map reply_of (images_fault rows toc)
 unfolding first_image_fault
@@ -45,12 +45,7 @@ same-fault (r ∷ rows) toc = next-fault r (entry_of toc r.guid) (first_image_fa
 next-size : (r : ImageRow) (o : Option Entry) (rest : Option Reply) (faults : Option ImageFault) → rest ≡ option_map reply_of faults
     → machine_else (size_fault r o) rest ≡ option_map reply_of (or_else (table_fault r o) faults)
 next-size r None rest faults is = is
-next-size r (Some e) rest faults is = by-test (nat_lt (4096 * r.slots) e.size)
-  where
-    by-test : (b : Bool) → machine_else (cond b (Some (reply.TooLarge r.guid)) None) rest
-        ≡ option_map reply_of (or_else (cond b (Some (TooLarge r.guid)) None) faults)
-    by-test true = refl
-    by-test false = is
+next-size r (Some e) rest faults is = too-large r (nat_lt (4096 * r.slots) e.size) rest faults is
 
 same-size : (rows : List ImageRow) (toc : Toc) → first_size_fault rows toc ≡ option_map reply_of (lowest_fault table_fault rows toc)
 unfolding first_size_fault

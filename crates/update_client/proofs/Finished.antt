@@ -1,6 +1,6 @@
 -- The end of a staging that has all images.
-use Rattle.std.proofs.Common.{◌≡◌, cond, ℕ, Bool, true, false, List, [], ◌∷◌, ◌++◌, inl, inr, None, Result, Ok, Err, refl, sym, ap, subst, ◌∙◌}
-use Rattle.std.specs.Prelude.{IsFalse}
+use Rattle.std.proofs.Common.{◌≡◌, cond, ℕ, Bool, true, false, List, [], ◌∷◌, inl, inr, None, Result, Ok, Err, refl, sym, ap, subst, ◌∙◌, append-nil}
+use Rattle.std.specs.Prelude.{IsErr, IsFalse}
 use Rattle.flash_core.specs.declared.flash.FlashStop.TheVariants as flash_stop
 use Rattle.fwu_model.specs.State.{State, Move, Switch, update_bank, after}
 use Rattle.fwu_model.specs.Sound.{Setting}
@@ -14,7 +14,7 @@ use Rattle.fwu_model.specs.Answer.{Answer, may_install, staged_bits, staged_pack
 use Rattle.agent_machine.specs.declared.stop.Stop.{Stop}
 use Rattle.agent_machine.specs.declared.stop.Stop.TheVariants as stop
 use Rattle.agent_machine.specs.Moment.{Moment, Shows}
-use Rattle.agent_machine.specs.Meets.{GoesBy}
+use Rattle.agent_machine.specs.Meets.{GoesBy, flash_result}
 use Rattle.agent_machine.specs.Goes.{GoesByMoves}
 use Rattle.agent_machine.proofs.Going.{goes-then}
 use Rattle.agent_machine.proofs.CallGoing.{MeetsAs, call-goes, call-replies, call-stopped}
@@ -61,19 +61,21 @@ module _ (passes : List ℕ → Bool) (old mid : Moment) where
       by-test true replied goes = (refl, goes)
       by-test false replied goes = absurd cc
 
-  pub finish-lost : MeetsAs of (Err stop.Lost) passes call.End old mid → FinishesBy passes (Err Lost) old mid
-  finish-lost meets E s boot parts layout verifier all shows =
-      subst (λ (ms : List Move). GoesByMoves E (Err flash_stop.Lost) old mid s ms (On boot None no_handles))
+  -- stopped by the flash
+  ended-by : (q : Stop) → IsErr (flash_result {T = Unit {0}} (Err q)) → MeetsAs of (Err q) passes call.End old mid
+      → (E : Setting) (s : State) (boot : ℕ) (parts : List Staged) → E.layout ≡ old.fields.layout → E.passes ≡ passes
+      → list_all is_committed parts ≡ true → Shows old s (between boot parts)
+      → GoesByMoves E (flash_result {T = Unit {0}} (Err q)) old mid s (end_moves E s (staged_package parts) (staged_bits parts)) (On boot None no_handles)
+  ended-by q err meets E s boot parts layout verifier all shows =
+      subst (λ (ms : List Move). GoesByMoves E (flash_result {T = Unit {0}} (Err q)) old mid s ms (On boot None no_handles))
       (ap (λ (a : Answer). a.moves) (end-answers E s boot parts all) ∙ moves-are E s boot parts)
-      (call-stopped E of (Err stop.Lost) call.End old mid s (between boot parts) layout shows (by-passes (Err stop.Lost) E verifier meets) refl
-      (On boot None no_handles))
+      (call-stopped E of (Err q) call.End old mid s (between boot parts) layout shows (by-passes (Err q) E verifier meets) err (On boot None no_handles))
+
+  pub finish-lost : MeetsAs of (Err stop.Lost) passes call.End old mid → FinishesBy passes (Err Lost) old mid
+  finish-lost = ended-by stop.Lost refl
 
   pub finish-failed : MeetsAs of (Err stop.Fault) passes call.End old mid → FinishesBy passes (Err Fault) old mid
-  finish-failed meets E s boot parts layout verifier all shows =
-      subst (λ (ms : List Move). GoesByMoves E (Err flash_stop.Failed) old mid s ms (On boot None no_handles))
-      (ap (λ (a : Answer). a.moves) (end-answers E s boot parts all) ∙ moves-are E s boot parts)
-      (call-stopped E of (Err stop.Fault) call.End old mid s (between boot parts) layout shows (by-passes (Err stop.Fault) E verifier meets) refl
-      (On boot None no_handles))
+  finish-failed = ended-by stop.Fault refl
 
   -- refused: which status, and that nothing moved
   pub end-refused : (st : Status) → MeetsAs of (Err (stop.Status st)) passes call.End old mid
@@ -98,10 +100,6 @@ module _ (passes : List ℕ → Bool) (old mid : Moment) where
           × GoesByMoves E (Ok tt) old mid s (cond b (Switch (update_bank s) (staged_package parts) (staged_bits parts) ∷ []) []) (between boot parts)
       by-test true replied goes = absurd cc
       by-test false replied goes = (cc, refl, goes)
-
-append-nil : (ms : List Move) → ms ++ [] ≡ ms
-append-nil [] = refl
-append-nil (m ∷ ms) = ap (λ (l : List Move). m ∷ l) (append-nil ms)
 
 -- a refusal leaves the agent there
 pub still-here : {T : Type 0} (st : Status) (was now : Bool) → IsFalse was → GoesBy {T = T} (Err (stop.Status st)) was now

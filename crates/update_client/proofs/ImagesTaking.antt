@@ -127,11 +127,6 @@ images-take-all size entries k old a b all takes E s boot parts places layout ar
     subst (λ (l : List Entry). Takes (writes_in size l) a b) (take_all k entries all ∙ sym (take_all (length entries) entries (omega arith)))
     (takes E s boot parts places layout are shows)
 
--- all of them
-pub images-taken : (size : ℕ) (entries : List Entry) (a b : Option Arming) → Takes (writes_in size (take (length entries) entries)) a b
-    → Takes (writes_in size entries) a b
-images-taken size entries a b takes = subst (λ (l : List Entry). Takes (writes_in size l) a b) (take_all (length entries) entries (omega arith)) takes
-
 -- the entries are those of the types of the images
 pub writes-chosen : (size : ℕ) (rows : List ImageRow) (toc : Toc) (entries : List Entry) → length entries ≡ length rows
     → ((k : ℕ) → k < length rows → entry_of toc (get_or rows k no_row).guid ≡ Some (get_or entries k no_entry))

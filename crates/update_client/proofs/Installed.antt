@@ -1,11 +1,10 @@
 -- The images sent into a staging, and its end.
-use Rattle.std.proofs.Common.{◌≡◌, ℕ, Bool, true, false, List, [], ◌++◌, length, map, Option, Some, None, Result, Ok, Err, refl, sym, ap, subst, ◌∙◌}
+use Rattle.std.proofs.Common.{◌≡◌, ℕ, Bool, true, false, List, [], length, map, Option, Some, None, Result, Ok, Err, refl, sym, ap, subst, ◌∙◌}
 use Rattle.std.specs.Prelude.{IsFalse, IsTrue, ◌==◌}
-use Rattle.flash_core.specs.declared.flash.FlashStop.{FlashStop}
 use Rattle.flash_core.specs.declared.flash.FlashStop.TheVariants as flash_stop
 use Rattle.host_io.specs.Contents.{Directory}
 use Rattle.fwu_formats.specs.Package.{Entry, payload}
-use Rattle.fwu_model.specs.State.{State, Move}
+use Rattle.fwu_model.specs.State.{State}
 use Rattle.fwu_model.specs.Sound.{Setting}
 use Rattle.fwu_model.specs.Session.{Session, On, Staged, Handle, no_handles}
 use Rattle.fwu_model.specs.Call as call
@@ -20,10 +19,10 @@ use Rattle.agent_machine.specs.Moment.{Moment, Shows}
 use Rattle.agent_machine.specs.Meets.{GoesBy, IsStopped}
 use Rattle.agent_machine.specs.Goes.{GoesByMoves}
 use Rattle.update_client.specs.declared.stops.SendStop.{SendStop}
-use Rattle.update_client.specs.declared.stops.SendStop.TheVariants.{End, ReadFailed, Lost, Fault, Gone}
+use Rattle.update_client.specs.declared.stops.SendStop.TheVariants.{End, ReadFailed, Lost, Fault}
 use Rattle.agent_machine.specs.Filling.{between}
 use Rattle.update_client.specs.Halts.{Halts, is_unread}
-use Rattle.update_client.specs.Images.{SendsImages, sent_parts}
+use Rattle.update_client.specs.Images.{AreUnstaged, SendsImages, sent_parts}
 use Rattle.update_client.specs.Finishes.{FinishesSend, FinishesBy, InstallsImages, end_moves}
 use Rattle.agent_machine.proofs.Going.{goes-then, goes-stopped}
 use Rattle.agent_machine.proofs.CallGoing.{MeetsAs, call-goes, call-replies}
@@ -90,13 +89,6 @@ finishes-after (Err Fault) E old mid new s boot x p bits first next = goes-then 
     (On boot None no_handles) first next
 finishes-after (Err q) E old mid new s boot x p bits first next = absurd next
 
--- at a stop of the flash nothing is said of the session, and what was to follow may be named
-pub stopped-at : (e : FlashStop) (E : Setting) (old new : Moment) (s : State) (ms ns : List Move) (y z : Session)
-    → GoesByMoves E (Err e) old new s ms y → GoesByMoves E (Err e) old new s (ms ++ ns) z
-stopped-at e E old new s ms ns y z goes =
-    let all = goes-stopped E (Err e) old new s ms ns y y refl goes in
-    record { shows = tt; does = all.does; guarded = all.guarded; keeps = all.keeps; touches = all.touches; stays = all.stays }
-
 -- a cancel within a staging is neither refused nor stopped
 pub no-cancel : (halt : Stop) (E : Setting) (old new : Moment) (s : State) (boot : ℕ) (parts : List Staged) (handles : List Handle) (was now : Bool)
     → E.layout ≡ old.fields.layout → Shows old s (On boot (Some parts) handles)
@@ -129,20 +121,15 @@ module _ (told : Option Directory) (name : List ℕ) (entries : List Entry) (req
         (finishes E s boot now (layout ∙ sym two.stays.layout) verifier whole two.shows);
   }
 
-  uninstalled : SendsImages told name entries request (Err ReadFailed) old mid
-      → ((v : List ℕ → Bool) → MeetsAs success (Ok tt) v call.Cancel mid new)
-      → InstallsImages told name entries request passes (Err ReadFailed) old new
-  uninstalled sent cancels = record {
+  -- the images of one that was not done
+  undone : (result : Result (Unit {0}) SendStop) → ((E : Setting) (s : State) (boot : ℕ) (parts : List Staged) (places : List ℕ) → E.layout ≡ old.fields.layout
+      → AreUnstaged E entries places parts → Shows old s (between boot parts) → (p : List (List ℕ)) (bits : List Bool) → FinishesSend result E old new s boot p bits)
+      → InstallsImages told name entries request passes result old new
+  undone result goes = record {
     images = entry_images told name entries;
     count = entry-images-long told name entries;
-    read = λ file tells. entry-images-are told name entries file tells;
-    goes = λ E s boot parts places layout verifier are whole shows.
-        let still = sent.goes E s boot parts places layout are shows in
-        let there = On boot (Some still.parts) still.handles in
-        let last = subst (λ (a : Answer). GoesByMoves E (Ok tt) mid new s a.moves a.next) (cancel-answers E s boot still.parts still.handles)
-        (call-goes E success (Ok tt) call.Cancel mid new s there (layout ∙ sym still.goes.stays.layout) still.goes.shows
-        (cancels E.passes) reply.Success refl) in
-        goes-then E (Ok tt) old mid new s [] [] there (On boot None no_handles) still.goes last;
+    read = entry-images-are told name entries;
+    goes = λ E s boot parts places layout verifier are whole shows. goes E s boot parts places layout are shows _ _;
   }
 
   -- a read failed, and the staging was cancelled: within a staging that is neither refused nor stopped
@@ -150,38 +137,33 @@ module _ (told : Option Directory) (name : List ℕ) (entries : List Entry) (req
       → (IsStopped result → ⊥) → SendsImages told name entries request (Err ReadFailed) old mid
       → ((v : List ℕ → Bool) → MeetsAs success result v call.Cancel mid new)
       → InstallsImages told name entries request passes (Err ReadFailed) old new
-  uncancelled (Ok x) was now here goes still sent meets = uninstalled sent meets
-  uncancelled (Err halt) was now here goes still sent meets = record {
-    images = entry_images told name entries;
-    count = entry-images-long told name entries;
-    read = λ file tells. entry-images-are told name entries file tells;
-    goes = λ E s boot parts places layout verifier are whole shows.
-        let there = sent.goes E s boot parts places layout are shows in
-        absurd (no-cancel halt E mid new s boot there.parts there.handles was now
-        (layout ∙ sym there.goes.stays.layout) there.goes.shows here goes still meets);
-  }
+  uncancelled (Ok x) was now here goes still sent cancels = undone (Err ReadFailed) (λ E s boot parts places layout are shows p bits.
+      let one = sent.goes E s boot parts places layout are shows in
+      let there = On boot (Some one.parts) one.handles in
+      let last = subst (λ (a : Answer). GoesByMoves E (Ok tt) mid new s a.moves a.next) (cancel-answers E s boot one.parts one.handles)
+      (call-goes E success (Ok tt) call.Cancel mid new s there (layout ∙ sym one.goes.stays.layout) one.goes.shows
+      (cancels E.passes) reply.Success refl) in
+      goes-then E (Ok tt) old mid new s [] [] there (On boot None no_handles) one.goes last)
+  uncancelled (Err halt) was now here goes still sent cancels = undone (Err ReadFailed) (λ E s boot parts places layout are shows p bits.
+      let there = sent.goes E s boot parts places layout are shows in
+      absurd (no-cancel halt E mid new s boot there.parts there.handles was now
+      (layout ∙ sym there.goes.stays.layout) there.goes.shows here goes still cancels))
 
--- the flash stopped it on the way
-pub interrupted : (told : Option Directory) (name : List ℕ) (entries : List Entry) (request : ℕ) (passes : List ℕ → Bool) (old new : Moment)
-    (halt : SendStop) → is_unread halt ≡ false → SendsImages told name entries request (Err halt) old new
-    → InstallsImages told name entries request passes (Err halt) old new
-interrupted told name entries request passes old new halt other sent = record {
-  images = entry_images told name entries;
-  count = entry-images-long told name entries;
-  read = λ file tells. entry-images-are told name entries file tells;
-  goes = λ E s boot parts places layout verifier are whole shows.
-      by-stop halt E s boot other (staged_package (sent_parts parts (entry_images told name entries) places (request == 0)))
-      (staged_bits (sent_parts parts (entry_images told name entries) places (request == 0)))
-      (between boot (sent_parts parts sent.images places (request == 0))) (sent.goes E s boot parts places layout are shows);
-}
-  where
-    by-stop : (halt : SendStop) (E : Setting) (s : State) (boot : ℕ) → is_unread halt ≡ false → (p : List (List ℕ)) (bits : List Bool) (y : Session)
-        → Halts {T = Unit {0}} (Err halt) E old new s boot y
-        → FinishesSend (Err halt) E old new s boot p bits
-    by-stop Lost E s boot other p bits y h = stopped-at flash_stop.Lost E old new s [] (end_moves E s p bits) y (On boot None no_handles) h
-    by-stop Fault E s boot other p bits y h = stopped-at flash_stop.Failed E old new s [] (end_moves E s p bits) y (On boot None no_handles) h
-    by-stop ReadFailed E s boot other p bits y h = absurd cc
-    by-stop q E s boot other p bits y h = absurd h
+  -- the flash stopped it on the way
+  pub interrupted : (halt : SendStop) → is_unread halt ≡ false → SendsImages told name entries request (Err halt) old new
+      → InstallsImages told name entries request passes (Err halt) old new
+  interrupted halt other sent = undone (Err halt) (λ E s boot parts places layout are shows p bits.
+      by-stop halt E s boot other p bits (between boot (sent_parts parts sent.images places (request == 0))) (sent.goes E s boot parts places layout are shows))
+    where
+      by-stop : (halt : SendStop) (E : Setting) (s : State) (boot : ℕ) → is_unread halt ≡ false → (p : List (List ℕ)) (bits : List Bool) (y : Session)
+          → Halts {T = Unit {0}} (Err halt) E old new s boot y
+          → FinishesSend (Err halt) E old new s boot p bits
+      by-stop Lost E s boot other p bits y h =
+          goes-stopped E (Err flash_stop.Lost) old new s [] (end_moves E s p bits) y (On boot None no_handles) refl h
+      by-stop Fault E s boot other p bits y h =
+          goes-stopped E (Err flash_stop.Failed) old new s [] (end_moves E s p bits) y (On boot None no_handles) refl h
+      by-stop ReadFailed E s boot other p bits y h = absurd cc
+      by-stop q E s boot other p bits y h = absurd h
 
 pub unread-is : (halt : SendStop) → is_unread halt ≡ true → halt ≡ ReadFailed
 unread-is ReadFailed is = refl

@@ -12,7 +12,7 @@ use Rattle.agent_machine.proofs.Spending.{call-spent, none-spent, spent-then}
 use Rattle.agent_calls.specs.declared.agent.Agent.{Agent}
 use Rattle.agent_calls.specs.Shown.{AgentGoes, SpentBy, device, gone, moment}
 use Rattle.update_client.specs.declared.stops.SendStop.{SendStop}
-use Rattle.update_client.specs.declared.stops.SendStop.TheVariants.{MissingImage, End, ReadFailed, Lost, Fault, Gone}
+use Rattle.update_client.specs.declared.stops.SendStop.TheVariants.{MissingImage, End, ReadFailed, Lost, Fault}
 use Rattle.update_client.specs.Halts.{StopsEnd, StopsWithin, flash_of, stopped_as}
 use Rattle.update_client.specs.Pieces.{KeepsBeside, ReadsPieceBy, SparesOthers}
 use Rattle.update_client.proofs.Sparing.{spares-none, spares-then}

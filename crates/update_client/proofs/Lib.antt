@@ -7,6 +7,8 @@ pub mod Finished
 pub mod Chosen
 pub mod OwnImages
 pub mod Installed
+mod Packaged
+mod Started
 pub mod WholeSending
 mod Spending
 mod Sparing
@@ -18,5 +20,3 @@ mod Over
 mod Present
 mod Named
 mod WholePartly
-mod InstalledOver
-pub mod Answered

@@ -8,6 +8,7 @@ use Rattle.fwu_model.specs.Session.{Staged, Nothing, Committed, is_committed}
 use Rattle.fwu_model.specs.Answer.{staged_package, staged_bits}
 use Rattle.fwu_model.specs.Answer.{copied_part, has_image, payload_or}
 use Rattle.update_client.specs.Images.{sent_parts}
+use Rattle.update_client.proofs.Staging.{append-one, set-place}
 use Rattle.update_client.specs.Partial.{present, places, kept_parts, over_images}
 
 -- the parts then: each image committed, a sent one by the request
@@ -16,18 +17,6 @@ done_parts toc bytes bit a [] images = []
 done_parts toc bytes bit a (r ∷ rows) [] = Committed (bytes a) true ∷ done_parts toc bytes bit (a + 1) rows []
 done_parts toc bytes bit a (r ∷ rows) (b ∷ images) =
     cond (has_image toc r) (Committed b bit ∷ done_parts toc bytes bit (a + 1) rows images) (Committed (bytes a) true ∷ done_parts toc bytes bit (a + 1) rows (b ∷ images))
-
-append-one : (l : List Staged) (y : Staged) (rest : List Staged) → (l ++ y ∷ []) ++ rest ≡ l ++ y ∷ rest
-append-one [] y rest = refl
-append-one (x ∷ l) y rest = ap (λ (ys : List Staged). x ∷ ys) (append-one l y rest)
-
-append-none : (l : List Staged) → l ++ [] ≡ l
-append-none [] = refl
-append-none (x ∷ l) = ap (λ (ys : List Staged). x ∷ ys) (append-none l)
-
-set-place : (xs ys : List Staged) (y z : Staged) → set (xs ++ y ∷ ys) (length xs) z ≡ xs ++ z ∷ ys
-set-place [] ys y z = refl
-set-place (x ∷ xs) ys y z = ap (λ (l : List Staged). x ∷ l) (set-place xs ys y z)
 
 module _ (toc : Toc) (bytes : ℕ → List ℕ) (bit : Bool) where
   abbrev step : (front : List Staged) → ℕ → List ImageRow → List (List ℕ) → Type 0

@@ -2,7 +2,6 @@
 use Rattle.std.proofs.Common.{◌≡◌, cond, ℕ, zero, suc, ◌+◌, ◌*◌, ◌<◌, ◌≤◌, map, subst, Bool, true, false, List, [], ◌∷◌, length, get_or, Option, Some, None, refl, sym, ap, ◌∙◌, arith, ltb-false}
 use Rattle.std.specs.Prelude.{IsTrue, count_by, ltb, not, is_some}
 use Rattle.std.specs.List.{All, cons_option, list_any}
-use Rattle.std.proofs.lemmas.Bool.{and_parts}
 use Rattle.agent_machine.proofs.Answered.{layout-limits}
 use Rattle.fip_tables.proofs.Chosen.{found_has}
 use Rattle.std.proofs.lemmas.List.{get_or_default}
@@ -17,7 +16,7 @@ use Rattle.update_client.specs.Choosing.{no_row}
 use Rattle.fwu_model.specs.Answer.{copied_part, first_size_fault, has_image, or_else, sent_over, size_fault, skipped}
 use Rattle.update_client.specs.Images.{AreUnstaged, no_entry}
 use Rattle.agent_calls.proofs.OwnRows.{guid_in, own-image}
-use Rattle.update_client.proofs.OwnImages.{found-has}
+use Rattle.update_client.proofs.OwnImages.{distinct, found-has}
 use Rattle.update_client.specs.Partial.{AreSendable, kept_parts, places, present}
 
 -- ---- how many they are
@@ -213,10 +212,6 @@ present-have P rows toc all k d below =
     (found_has P (get_or rows p.at no_row).guid toc.entries (get_or (present rows toc) k no_entry) all p.entry)
 
 -- the types of a layout's images are known
-distinct : (L : Layout) → IsTrue (fits_layout L) → IsTrue (are_distinct (map (λ r. r.guid) L.rows))
-unfolding fits_layout
-distinct L fit = (and_parts _ (are_distinct (map (λ (r : ImageRow). r.guid) L.rows)) fit).1
-
 pub rows-found : (L : Layout) (i : ℕ) → IsTrue (fits_layout L) → i < length L.rows → is_some (find_image L.rows (get_or L.rows i no_row).guid) ≡ true
 rows-found L i fit lt = ap (λ (o : Option ℕ). is_some o) (own-image L.rows i (distinct L fit) lt)
 

@@ -1,5 +1,5 @@
 -- What the calls of a sending spend, with its own stops.
-use Rattle.std.proofs.Common.{◌≡◌, Bool, true, false, Result, Ok, Err, refl, subst, IsFalse}
+use Rattle.std.proofs.Common.{◌≡◌, Bool, true, false, Result, Ok, Err, refl, ap, subst, IsFalse, IsTrue}
 use Rattle.flash_core.specs.declared.flash.Flash.{Ghosts}
 use Rattle.flash_core.specs.declared.flash.FlashStop.{FlashStop}
 use Rattle.flash_core.specs.Calls.{Goes}
@@ -7,7 +7,7 @@ use Rattle.agent_machine.specs.declared.stop.Stop.{Stop}
 use Rattle.agent_machine.specs.declared.stop.Stop.TheVariants as stop
 use Rattle.agent_machine.specs.Meets.{GoesBy, IsStopped, flash_result}
 use Rattle.agent_machine.specs.CallGoes.{Spent}
-use Rattle.update_client.specs.Halts.{flash_of, stopped_as, unbegun_as}
+use Rattle.update_client.specs.Halts.{flash_of, stopped_as}
 
 same-flash : (T U : Type 0) (q : Stop) → flash_result {T = T} (Err q) ≡ flash_of {T = U} (Err (stopped_as q))
 same-flash T U (stop.Status st) = refl
@@ -19,17 +19,6 @@ same-flash T U stop.Gone = refl
 pub stop-spent : {D : Type 0} {g : Ghosts D} (T U : Type 0) (q : Stop) (gone : Bool) (a b : D) → Spent g (flash_result {T = T} (Err q)) gone a b
     → Spent g (flash_of {T = U} (Err (stopped_as q))) gone a b
 stop-spent {g = g} T U q gone a b spent = subst (λ (f : Result (Unit {0}) FlashStop). Spent g f gone a b) (same-flash T U q) spent
-
--- the stop of a begin, as that of a sending
-unbegun-flash : (T U : Type 0) (q : Stop) → flash_result {T = T} (Err q) ≡ flash_of {T = U} (Err (unbegun_as q))
-unbegun-flash T U (stop.Status st) = refl
-unbegun-flash T U stop.Lost = refl
-unbegun-flash T U stop.Fault = refl
-unbegun-flash T U stop.Gone = refl
-
-pub unbegun-spent : {D : Type 0} {g : Ghosts D} (T U : Type 0) (q : Stop) (gone : Bool) (a b : D) → Spent g (flash_result {T = T} (Err q)) gone a b
-    → Spent g (flash_of {T = U} (Err (unbegun_as q))) gone a b
-unbegun-spent {g = g} T U q gone a b spent = subst (λ (f : Result (Unit {0}) FlashStop). Spent g f gone a b) (unbegun-flash T U q) spent
 
 -- a call that the flash did not stop
 pub unstopped : {T : Type 0} (result : Result T Stop) → (IsStopped result → ⊥) → flash_result result ≡ Ok tt
@@ -50,3 +39,7 @@ here-before true now goes = absurd (no-gone (goes.gone.1 refl))
   where
     no-gone : ◌≡◌ {A = Result (Unit {0}) Stop} (Ok tt) (Err stop.Gone) → ⊥
     no-gone e = absurd cc
+
+-- an agent that is there is never answered to be gone
+pub not-gone : {T : Type 0} (q : Stop) (was : Bool) → IsFalse was → (◌≡◌ {A = Result T Stop} (Err q) (Err stop.Gone) → IsTrue was) → q ≡ stop.Gone → ⊥
+not-gone q was here gone e = let there : was ≡ true = gone (ap (λ (k : Stop). Err k) e) in absurd cc

@@ -17,7 +17,7 @@ use Rattle.update_client.specs.Images.{sent_parts}
 
 -- ---- the images that are sent
 
-set-place : (xs ys : List Staged) (y z : Staged) → set (xs ++ y ∷ ys) (length xs) z ≡ xs ++ z ∷ ys
+pub set-place : (xs ys : List Staged) (y z : Staged) → set (xs ++ y ∷ ys) (length xs) z ≡ xs ++ z ∷ ys
 set-place [] ys y z = refl
 set-place (x ∷ xs) ys y z = ap (λ (l : List Staged). x ∷ l) (set-place xs ys y z)
 
@@ -43,13 +43,9 @@ sent-other parts (b ∷ images) (p ∷ places) bit i le apart =
     sent-other (set parts p (Committed b bit)) images places bit i (omega (arith, le)) (λ j lt. apart (suc j) (omega (arith, lt)))
     ∙ get_or-set_other parts p i (Committed b bit) Nothing (λ e. apart 0 (omega arith) (sym e))
 
-append-one : (l : List Staged) (y : Staged) (rest : List Staged) → (l ++ y ∷ []) ++ rest ≡ l ++ y ∷ rest
+pub append-one : (l : List Staged) (y : Staged) (rest : List Staged) → (l ++ y ∷ []) ++ rest ≡ l ++ y ∷ rest
 append-one [] y rest = refl
 append-one (x ∷ l) y rest = ap (λ (ys : List Staged). x ∷ ys) (append-one l y rest)
-
-append-none : (l : List Staged) → l ++ [] ≡ l
-append-none [] = refl
-append-none (x ∷ l) = ap (λ (ys : List Staged). x ∷ ys) (append-none l)
 
 -- all images of a layout, one after another
 pub sent-all : (front : List Staged) (images : List (List ℕ)) (a : ℕ) (bit : Bool) → length front ≡ a
@@ -66,6 +62,12 @@ sent-all front (b ∷ images) a bit size =
     ∙ append-one front c (map (λ (x : List ℕ). Committed x bit) images)
 
 -- ---- the end, and the begin
+
+-- what is staged is this package with these bits
+pub record IsPacked (sent : List Staged) (p : List (List ℕ)) (bits : List Bool) : Type 0 where
+  pub package_is : staged_package sent ≡ p
+  pub bits_are : staged_bits sent ≡ bits
+  pub committed : list_all is_committed sent ≡ true
 
 all-committed : (bit : Bool) (p : List (List ℕ)) → list_all is_committed (map (λ (b : List ℕ). Committed b bit) p) ≡ true
 all-committed bit [] = refl
@@ -85,18 +87,15 @@ whole-sent : (n : ℕ) (bit : Bool) (images : List (List ℕ)) → length images
 whole-sent n bit images all =
     ap (λ (k : ℕ). sent_parts (replicate k Nothing) images (range_with_len 0 k) bit) (sym all) ∙ sent-all [] images 0 bit refl
 
-pub whole-package : (n : ℕ) (bit : Bool) (images : List (List ℕ)) → length images ≡ n
-    → staged_package (sent_parts (replicate n Nothing) images (range_with_len 0 n) bit) ≡ images
-whole-package n bit images all = ap (λ (ps : List Staged). staged_package ps) (whole-sent n bit images all) ∙ package-is bit images
-
-pub whole-bits : (n : ℕ) (bit : Bool) (images : List (List ℕ)) → length images ≡ n
-    → staged_bits (sent_parts (replicate n Nothing) images (range_with_len 0 n) bit) ≡ replicate n bit
-whole-bits n bit images all = ap (λ (ps : List Staged). staged_bits ps) (whole-sent n bit images all) ∙ bits-are bit images
-    ∙ ap (λ (k : ℕ). replicate k bit) all
-
-pub whole-committed : (n : ℕ) (bit : Bool) (images : List (List ℕ)) → length images ≡ n
-    → list_all is_committed (sent_parts (replicate n Nothing) images (range_with_len 0 n) bit) ≡ true
-whole-committed n bit images all = ap (λ (ps : List Staged). list_all is_committed ps) (whole-sent n bit images all) ∙ all-committed bit images
+pub whole-packed : (n : ℕ) (bit : Bool) (images : List (List ℕ)) → length images ≡ n
+    → IsPacked (sent_parts (replicate n Nothing) images (range_with_len 0 n) bit) images (replicate n bit)
+whole-packed n bit images all =
+    let is = whole-sent n bit images all in
+    record {
+      package_is = ap (λ (ps : List Staged). staged_package ps) is ∙ package-is bit images;
+      bits_are = ap (λ (ps : List Staged). staged_bits ps) is ∙ bits-are bit images ∙ ap (λ (k : ℕ). replicate k bit) all;
+      committed = ap (λ (ps : List Staged). list_all is_committed ps) is ∙ all-committed bit images;
+    }
 
 -- all images committed: the end goes by whether they may be installed
 abbrev pub end-answer : Setting → State → ℕ → List Staged → Bool → Answer

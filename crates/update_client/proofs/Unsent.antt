@@ -1,5 +1,5 @@
 -- A sending that was not done, by how it ended.
-use Rattle.std.proofs.Common.{◌≡◌, ◌*◌, ◌<◌, ℕ, Bool, false, List, inl, inr, length, take, get_or, Option, Some, Result, Ok, Err, refl, sym, subst, ◌∙◌, arith}
+use Rattle.std.proofs.Common.{◌≡◌, ◌*◌, ◌<◌, ℕ, Bool, false, List, length, take, get_or, Option, Result, Ok, Err, refl, sym, subst, ◌∙◌, arith}
 use Rattle.std.specs.Prelude.{◌==◌}
 use Rattle.flash_core.specs.declared.flash.Arming.{Arming}
 use Rattle.host_io.specs.Contents.{Directory}
@@ -7,64 +7,21 @@ use Rattle.fwu_formats.specs.Package.{Entry}
 use Rattle.fwu_model.specs.Call as call
 use Rattle.fwu_model.specs.Reply.{Reply}
 use Rattle.fwu_model.specs.Reply as reply
-use Rattle.agent_machine.specs.declared.stop.Stop.{Stop}
-use Rattle.agent_machine.specs.declared.stop.Stop.TheVariants as stop
 use Rattle.agent_machine.specs.Moment.{Moment}
 use Rattle.agent_machine.proofs.CallGoing.{MeetsAs}
 use Rattle.agent_calls.specs.Takes.{Takes, writes_of_pieces}
 use Rattle.agent_calls.proofs.Pieces.{next-piece}
 use Rattle.agent_calls.proofs.Taking.{takes-then}
 use Rattle.update_client.specs.declared.stops.SendStop.{SendStop}
-use Rattle.update_client.specs.declared.stops.SendStop.TheVariants.{MissingImage, ImageTooLarge, Begin, End, ReadFailed, Lost, Fault, Gone}
-use Rattle.update_client.specs.Choosing.{refused_image}
-use Rattle.update_client.specs.Halts.{StopsEnd, is_unread, stopped_as, unbegun_as}
+use Rattle.update_client.specs.declared.stops.SendStop.TheVariants.{MissingImage, ImageTooLarge, Begin, End, ReadFailed}
+use Rattle.update_client.specs.Halts.{StopsEnd, is_unread}
 use Rattle.update_client.specs.Images.{SendsFirst, SendsImages, no_entry, sent_parts}
 use Rattle.update_client.specs.Takes.{PayloadFrontTakes, ImageStarts, ImagesStart, ImagesTake, OnRefusedEnd, OnUnread, writes_in, writes_up_to}
 use Rattle.update_client.proofs.ImagesTaking.{FirstTaken}
 use Rattle.update_client.proofs.Staging.{sent-long, sent-other}
-use Rattle.update_client.proofs.WholeSending.{early-cases}
 use Rattle.update_client.proofs.WrittenPiece.{image-opened}
 
 -- ---- which stop it is
-
--- no stop of the agent is a failed read
-pub never-unread : (T : Type 0) (q : Stop) (P : Type 0) → OnUnread {T = T} (Err (stopped_as q)) P
-never-unread T (stop.Status st) P = tt
-never-unread T stop.Lost P = tt
-never-unread T stop.Fault P = tt
-never-unread T stop.Gone P = tt
-
-pub begin-read : (T : Type 0) (q : Stop) (P : Type 0) → OnUnread {T = T} (Err (unbegun_as q)) P
-begin-read T (stop.Status st) P = tt
-begin-read T stop.Lost P = tt
-begin-read T stop.Fault P = tt
-begin-read T stop.Gone P = tt
-
--- nor is that of a begin a refused end
-pub begin-no-end : (T : Type 0) (q : Stop) (P : Type 0) → OnRefusedEnd {T = T} (Err (unbegun_as q)) P
-begin-no-end T (stop.Status st) P = tt
-begin-no-end T stop.Lost P = tt
-begin-no-end T stop.Fault P = tt
-begin-no-end T stop.Gone P = tt
-
-pub end-as : (T : Type 0) (q : Stop) (P : Type 0) → P → OnRefusedEnd {T = T} (Err (stopped_as q)) P
-end-as T (stop.Status st) P holds = holds
-end-as T stop.Lost P holds = tt
-end-as T stop.Fault P holds = tt
-end-as T stop.Gone P holds = tt
-
--- an image at fault is neither
-pub early-read : (T : Type 0) (o : Option Reply) (halt : SendStop) (P : Type 0) → refused_image o ≡ Some halt → OnUnread {T = T} (Err halt) P
-early-read T o halt P is = elim (early-cases o halt is) [
-  | inl m ↦ subst (λ (h : SendStop). OnUnread {T = T} (Err h) P) (sym m.1) tt
-  | inr l ↦ subst (λ (h : SendStop). OnUnread {T = T} (Err h) P) (sym l.1) tt
-]
-
-pub early-no-end : (T : Type 0) (o : Option Reply) (halt : SendStop) (P : Type 0) → refused_image o ≡ Some halt → OnRefusedEnd {T = T} (Err halt) P
-early-no-end T o halt P is = elim (early-cases o halt is) [
-  | inl m ↦ subst (λ (h : SendStop). OnRefusedEnd {T = T} (Err h) P) (sym m.1) tt
-  | inr l ↦ subst (λ (h : SendStop). OnRefusedEnd {T = T} (Err h) P) (sym l.1) tt
-]
 
 -- the end reads no file
 pub end-read : (T : Type 0) (result : Result T SendStop) (P : Type 0) → StopsEnd result → OnUnread result P

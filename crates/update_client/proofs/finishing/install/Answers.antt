@@ -12,14 +12,14 @@ use Rattle.agent_machine.proofs.Spending.{call-spent, spent-then}
 use Rattle.update_client.proofs.Keeping.{keeps-ended, keeps-then}
 use Rattle.update_client.proofs.Sparing.{spares-left, spares-then}
 use Rattle.update_client.proofs.Spending.{unstopped}
-use Rattle.update_client.specs.Takes.{ImagesStart, ImagesTake, OnUnread}
+use Rattle.update_client.specs.Takes.{ImagesTake}
 use Rattle.update_client.proofs.Unsent.{end-of, end-read, images-no-end, other-read}
 use Rattle.update_client.proofs.finishing.install.Goals as goal
 
 pub returns-then-not-is_unread-clause-installs : goal.returns-then-not-is_unread-clause-installs
 returns-then-not-is_unread-clause-installs g c =
     let other : is_unread c.in-Err.stop ≡ false = sym c.is_unread.ensures ∙ c.if-not-is_unread.true in
-    interrupted _ _ _ _ _ _ _ c.in-Err.stop other c.in-Err.ensures.sent
+    interrupted _ _ _ _ _ _ (moment c.send_images.new.agent) _ c.in-Err.stop other c.in-Err.ensures.sent
 
 pub returns-in-Ok-clause-installs : goal.returns-in-Ok-clause-installs
 returns-in-Ok-clause-installs g c = installed _ _ _ _ _ _ (moment c.send_images.new.agent) _ c.finish.result c.in-Ok.ensures.sent c.finish.ensures.finishes

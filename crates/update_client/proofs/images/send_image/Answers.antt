@@ -8,12 +8,12 @@ use Rattle.agent_calls.specs.Takes.{pieces_of}
 use Rattle.update_client.specs.declared.stops.SendStop.{SendStop}
 use Rattle.update_client.specs.Pieces.{SendsImage}
 use Rattle.update_client.proofs.WrittenPiece.{image-unopened, image-unwritten, image-sent, image-uncommitted}
-use Rattle.update_client.specs.Takes.{FirstTake, PayloadFrontTakes, ImageStarts, OnUnread}
+use Rattle.update_client.specs.Takes.{FirstTake, PayloadFrontTakes, ImageStarts}
 use Rattle.update_client.proofs.ImagesTaking.{image-takes}
 use Rattle.update_client.proofs.Keeping.{keeps-called, keeps-stopped, keeps-then}
 use Rattle.update_client.proofs.Sparing.{spares-left}
 use Rattle.update_client.proofs.Stopped.{handed-on}
-use Rattle.update_client.proofs.Unsent.{image-starts, never-unread, unread-then}
+use Rattle.update_client.proofs.Unsent.{image-starts, unread-then}
 use Rattle.update_client.proofs.images.send_image.Goals as goal
 
 pub returns-in-Err-clause-sent : goal.returns-in-Err-clause-sent
