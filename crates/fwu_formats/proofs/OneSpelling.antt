@@ -4,7 +4,7 @@ use Rattle.std.specs.Prelude.{flat_map, nat_lt}
 use Rattle.std.specs.List.{list_all, range_with_len}
 use Rattle.std.proofs.Math.Nat.{suc-mul}
 use Rattle.std.proofs.Math.Seq.{take-add}
-use Rattle.std.proofs.lemmas.Bool.{and_parts, and_from, not-false, cond_both, cases_lt, or_cases}
+use Rattle.std.proofs.lemmas.Bool.{and_parts, and_from, not-false, cond_both, or_cases}
 use Rattle.std.proofs.lemmas.List.{drop-drop, length-take-le, get_or-take, get_or-drop}
 use Rattle.std.proofs.lemmas.List.FromFn.{get_or-map-range_with_len, length-map-range_with_len, map-range_with_len_more}
 use Rattle.base_core.specs.Bytes.{num, le, num_at, part, same_bytes, listed, are_bytes}
@@ -17,15 +17,12 @@ use Rattle.fwu_formats.specs.declared.kinds.BankState.{BankState}
 use Rattle.fwu_formats.specs.declared.kinds.MetaFault.{MetaFault}
 use Rattle.fwu_formats.specs.declared.kinds.MetaFault.TheVariants as fault
 use Rattle.fwu_formats.proofs.SealLaws.{layout-holds, was_not_refused, limits}
+pub use Rattle.fwu_formats.proofs.Spell.{all-at}
+use Rattle.fwu_formats.proofs.Spell.{each-range}
 use Rattle.base_core.proofs.Results.{same-Ok}
 use Rattle.base_core.proofs.Lists.{piece-within}
 
 -- ---- lists
-
-pub all-at : {X : Type 0} (test : X → Bool) (xs : List X) (i : ℕ) (d : X) → IsTrue (list_all test xs) → i < length xs → IsTrue (test (get_or xs i d))
-all-at test [] i d h lt = absurd (omega arith)
-all-at test (x ∷ xs) zero d h lt = (and_parts (test x) _ h).0
-all-at test (x ∷ xs) (suc i) d h lt = all-at test xs i d (and_parts (test x) _ h).1 (omega arith)
 
 flat-last : {X : Type 0} (f : X → List ℕ) (xs : List X) (x : X) → flat_map f (xs ++ x ∷ []) ≡ flat_map f xs ++ f x
 flat-last f [] x = append-nil (f x)
@@ -82,16 +79,6 @@ a-state v h = elim (or_cases ((v == 0xFF) || (v == 0xFE)) (v == 0xFC) h) [
   ]
   | inr is ↦ subst IsState (sym (eqb-true v 0xFC is)) (record { back = refl; small = omega arith })
 ]
-
--- a test that holds in a range
-at-range : (test : ℕ → Bool) (from n i : ℕ) → IsTrue (list_all test (range_with_len from n)) → from ≤ i → i < from + n → IsTrue (test i)
-at-range test from zero i h low high = absurd (omega (arith, low, high))
-at-range test from (suc n) i h low high =
-    let both = and_parts (test from) _ h in
-    elim (cases_lt from i) [
-      | inl below ↦ at-range test (from + 1) n i both.1 (omega (arith, below)) (omega (arith, high))
-      | inr same ↦ let here : from ≡ i = omega (arith, low, same) in subst (λ (k : ℕ). IsTrue (test k)) here both.0
-    ]
 
 module _ (block : List ℕ) (bytes : IsTrue (are_bytes block)) where
   pub field : (at n : ℕ) → at + n ≤ length block → take n (drop at block) ≡ le n (num_at n block at)
@@ -181,14 +168,16 @@ module _ (block : List ℕ) (bytes : IsTrue (are_bytes block)) where
         let typed = same_is (take 16 (drop at block)) (guid_of image) inner.0 in
         let nowhere = same_is (take 16 (drop (at + 16) block)) nil_guid inner.1 in
         let banked = pieces (bank_bytes image) (at + 32) 24 L.banks (λ bank below.
-        ap (λ (k : ℕ). take 24 (drop k block)) (omega arith) ∙ bank-spelled image bank lt below inside (at-range (λ bank. has_bank_entry (guid_of image) block (at + 32 + 24 * bank)) 0 L.banks bank outer.1 (omega arith) (omega (arith, below)))) in
+        ap (λ (k : ℕ). take 24 (drop k block)) (omega arith) ∙ bank-spelled image bank lt below inside
+        (each-range (λ bank. has_bank_entry (guid_of image) block (at + 32 + 24 * bank)) 0 L.banks outer.1 bank (omega arith) (omega (arith, below)))) in
         let size : entry_size L ≡ 32 + L.banks * 24 = omega arith in
         ap (λ (k : ℕ). take k (drop at block)) size ∙ next at 32 (L.banks * 24) (guid_of image ++ nil_guid) (flat_map (bank_bytes image) (listed L.banks (λ bank. bank))) (next at 16 16 (guid_of image) nil_guid typed nowhere) banked
 
     entries-spelled : IsTrue (has_entries L 0x28 block) → take (length L.rows * entry_size L) (drop 0x28 block) ≡ entries_bytes L m
     entries-spelled h =
         pieces (entry_bytes L m) 0x28 (entry_size L) (length L.rows) (λ image lt.
-        entry-spelled image lt (let h = piece-within image (length L.rows) (entry_size L) lt in omega (arith, h, room)) (at-range (has_entry L 0x28 block) 0 (length L.rows) image h (omega arith) (omega (arith, lt))))
+        entry-spelled image lt (let h = piece-within image (length L.rows) (entry_size L) lt in omega (arith, h, room))
+        (each-range (has_entry L 0x28 block) 0 (length L.rows) h image (omega arith) (omega (arith, lt))))
 
     body-spelled : num_at 4 block 4 ≡ 2 → num_at 4 block 16 ≡ meta_size L → IsTrue (fits_v2 L block) → part block 4 (meta_size L) ≡ meta_body L m
     body-spelled version size h =
@@ -287,7 +276,8 @@ module _ (block : List ℕ) (bytes : IsTrue (are_bytes block)) (images : ℕ) (f
 
   rows-spelled : IsTrue (list_all (λ i. num_at 4 block (52 + 24 * i) == 0) (range_with_len 0 images)) → take (images * 24) (drop 32 block) ≡ flat_map row_bytes (listed images (row_at block))
   rows-spelled zeros =
-      pieces block bytes (λ i. row_bytes (row_at block i)) 32 24 images (λ i lt. row-spelled i lt (eqb-true _ 0 (at-range (λ k. num_at 4 block (52 + 24 * k) == 0) 0 images i zeros (omega arith) (omega (arith, lt)))))
+      pieces block bytes (λ i. row_bytes (row_at block i)) 32 24 images (λ i lt.
+      row-spelled i lt (eqb-true _ 0 (each-range (λ k. num_at 4 block (52 + 24 * k) == 0) 0 images zeros i (omega arith) (omega (arith, lt)))))
       ∙ flat-map (λ i. row_bytes (row_at block i)) (λ (k : ℕ). k) (range_with_len 0 images) ∙ sym (flat-map row_bytes (row_at block) (range_with_len 0 images))
 
   layout_body-spelled : num_at 4 block 4 ≡ layout_magic → num_at 4 block 12 ≡ images → num_at 4 block 16 ≡ 32 + 24 * images → IsTrue (has_zeros block) → part block 4 (32 + 24 * images) ≡ layout_body (layout_at block)

@@ -105,7 +105,7 @@ entries-read bytes front i (suc left) es is are e =
 abbrev pub headed : List ℕ → List Entry → Toc
 headed bytes es = record { serial = num_at 4 bytes 4; flags = num_at 8 bytes 8; entries = es }
 
-found-none : {X : Type 0} (p : X → Bool) (xs : List X) (d : X) → All (λ x. p x ≡ false) xs → position p xs ≡ None
+pub found-none : {X : Type 0} (p : X → Bool) (xs : List X) (d : X) → All (λ x. p x ≡ false) xs → position p xs ≡ None
 found-none p xs d none =
     let at : position_or_len p xs ≡ length xs = position_or_len_is p xs (length xs) d (omega arith) (λ k lt. none k d lt) (λ lt. absurd (omega (arith, lt))) in
     let past : ltb (position_or_len p xs) (length xs) ≡ false = le-ltb (position_or_len p xs) (length xs) (omega (arith, at)) in
