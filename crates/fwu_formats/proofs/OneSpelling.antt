@@ -1,5 +1,6 @@
 -- What is read has one spelling: the bytes follow from the value.
 use Rattle.std.proofs.Common.{◌≡◌, ℕ, zero, suc, ◌+◌, ◌-◌, ◌*◌, ◌/◌, ◌%◌, ◌<◌, ◌≤◌, inl, inr, Bool, false, not, ◌||◌, ◌==◌, IsTrue, ltb, leb, leb-true, eqb-true, ltb-true, ltb-false, List, [], ◌∷◌, ◌++◌, length, get_or, take, drop, drop-cons, map, replicate, Result, Ok, Err, refl, sym, ap, subst, ◌∙◌, arith, length-drop, zero-add, append-nil, append_assoc}
+use Rattle.std.proofs.lemmas.Bool.Decides.{nat_tests}
 use Rattle.std.specs.Prelude.{flat_map, nat_lt}
 use Rattle.std.specs.List.{list_all, range_with_len}
 use Rattle.std.proofs.Math.Nat.{suc-mul}
@@ -11,7 +12,7 @@ use Rattle.base_core.specs.Bytes.{num, le, num_at, part, same_bytes, listed, are
 use Rattle.base_core.specs.Crc.{crc}
 use Rattle.base_core.proofs.Spelled.{same_is}
 use Rattle.fwu_formats.specs.Layout.{Layout, ImageRow, nil_guid, fits_layout, layout_magic, layout_of, layout_at, layout_size, layout_body, layout_bytes, row_bytes, has_zeros}
-use Rattle.fwu_formats.specs.Metadata.{Meta, MetaRead, meta_of, meta_bytes, meta_body, meta_size, meta_size_v1, entry_size, entry_place, entry_bytes, entries_bytes, bit_at, bit_number, bits_from, has_bank_entry, has_entry, has_entries, has_states, has_indices, has_fields, header_fields, is_state_byte, state_byte, state_of_byte, meta_at, meta_at_v1, read_v2, read_v1, fits_v2, fits_v1}
+use Rattle.fwu_formats.specs.Metadata.{Field, Meta, MetaRead, meta_of, meta_bytes, meta_body, meta_size, meta_size_v1, entry_size, entry_place, entry_bytes, entries_bytes, bit_at, bit_number, bits_from, has_bank_entry, has_entry, has_entries, has_states, has_indices, has_fields, header_fields, is_state_byte, state_byte, state_of_byte, meta_at, meta_at_v1, read_v2, read_v1, fits_v2, fits_v1}
 use Rattle.fwu_formats.specs.Counter.{is_record, record_magic, record_size, record_body, record_bytes, recorded}
 use Rattle.fwu_formats.specs.declared.kinds.BankState.{BankState}
 use Rattle.fwu_formats.specs.declared.kinds.MetaFault.{MetaFault}
@@ -185,33 +186,29 @@ module _ (block : List ℕ) (bytes : IsTrue (are_bytes block)) where
         let e = and_parts _ (has_entries L 0x28 block) h in
         let s = and_parts _ (has_states L block) e.0 in
         let i = and_parts (has_fields (header_fields L) block) (has_indices L block) s.0 in
-        let h1 = and_parts (num_at 2 block 0x14 == 0x20) _ i.0 in
-        let h2 = and_parts (num_at 2 block 0x16 == 0) _ h1.1 in
-        let h3 = and_parts (num_at 4 block 0x1C == 0) _ h2.1 in
-        let h4 = and_parts (num_at 1 block 0x20 == L.banks) _ h3.1 in
-        let h5 = and_parts (num_at 1 block 0x21 == 0) _ h4.1 in
-        let h6 = and_parts (num_at 2 block 0x22 == length L.rows) _ h5.1 in
-        let h7 = and_parts (num_at 2 block 0x24 == entry_size L) _ h6.1 in
-        let h8 = and_parts (num_at 2 block 0x26 == 24) _ h7.1 in
+        let none : Field = record { bytes = 0; at = 0; value = 0 } in
+        let said = λ (k : ℕ) (lt : k < 8).
+        let f = get_or (header_fields L) k none in
+        eqb-true (num_at f.bytes block f.at) f.value (all-at (λ f. num_at f.bytes block f.at == f.value) (header_fields L) k none i.0 lt) in
         let st = and_parts (list_all is_state_byte (take L.banks (drop 0x18 block))) _ s.1 in
         let few : L.banks ≤ 4 = limit.most_banks in
         let a = next-num 4 0 4 2 [] (omega (arith, room)) refl version in
         let b = next-num 4 4 4 m.active _ (omega (arith, room)) a refl in
         let c = next-num 4 8 4 m.previous _ (omega (arith, room)) b refl in
         let d = next-num 4 12 4 (meta_size L) _ (omega (arith, room)) c size in
-        let f = next-num 4 16 2 0x20 _ (omega (arith, room)) d (eqb-true _ 0x20 h1.0) in
-        let g = next-num 4 18 2 0 _ (omega (arith, room)) f (eqb-true _ 0 h2.0) in
+        let f = next-num 4 16 2 0x20 _ (omega (arith, room)) d (said 0 (omega arith)) in
+        let g = next-num 4 18 2 0 _ (omega (arith, room)) f (said 1 (omega arith)) in
         let states = next 4 20 L.banks _ (map state_byte m.states) g (states-spelled L.banks L.banks (omega (arith, room, few)) st.0 (omega arith)) in
         let place : 4 + (20 + L.banks) ≡ 24 + L.banks = omega arith in
         let erased = next 4 (20 + L.banks) (4 - L.banks) _ (replicate (4 - L.banks) 0xFF) states
         (ap (λ (k : ℕ). take (4 - L.banks) (drop k block)) place ∙ unused-spelled L.banks few (omega (arith, room)) st.1) in
         let whole : 24 ≡ 20 + L.banks + (4 - L.banks) = omega (arith, few) in
-        let o = next-num 4 24 4 0 _ (omega (arith, room)) (ap (λ (k : ℕ). take k (drop 4 block)) whole ∙ erased) (eqb-true _ 0 h3.0) in
-        let p = next-num 4 28 1 L.banks _ (omega (arith, room)) o (eqb-true _ L.banks h4.0) in
-        let q = next-num 4 29 1 0 _ (omega (arith, room)) p (eqb-true _ 0 h5.0) in
-        let r = next-num 4 30 2 (length L.rows) _ (omega (arith, room)) q (eqb-true _ (length L.rows) h6.0) in
-        let u = next-num 4 32 2 (entry_size L) _ (omega (arith, room)) r (eqb-true _ (entry_size L) h7.0) in
-        let v = next-num 4 34 2 24 _ (omega (arith, room)) u (eqb-true _ 24 h8.0) in
+        let o = next-num 4 24 4 0 _ (omega (arith, room)) (ap (λ (k : ℕ). take k (drop 4 block)) whole ∙ erased) (said 2 (omega arith)) in
+        let p = next-num 4 28 1 L.banks _ (omega (arith, room)) o (said 3 (omega arith)) in
+        let q = next-num 4 29 1 0 _ (omega (arith, room)) p (said 4 (omega arith)) in
+        let r = next-num 4 30 2 (length L.rows) _ (omega (arith, room)) q (said 5 (omega arith)) in
+        let u = next-num 4 32 2 (entry_size L) _ (omega (arith, room)) r (said 6 (omega arith)) in
+        let v = next-num 4 34 2 24 _ (omega (arith, room)) u (said 7 (omega arith)) in
         let w = next 4 36 (length L.rows * entry_size L) _ (entries_bytes L m) v (entries-spelled e.1) in
         let n : meta_size L - 4 ≡ 36 + length L.rows * entry_size L = omega arith in
         ap (λ (k : ℕ). take k (drop 4 block)) n ∙ w
@@ -323,18 +320,15 @@ pub record-one-spelling : (block : List ℕ) → IsTrue (are_bytes block) → Is
 unfolding is_record record_bytes
 record-one-spelling block bytes is =
     let v = num_at 4 block 8 in
-    let zeros = and_parts _ (list_all (λ b. b == 0) (part block 20 32)) is in
-    let unused = and_parts _ (num_at 4 block 12 == 0) zeros.0 in
-    let magic = and_parts _ (num_at 4 block 4 == record_magic) unused.0 in
-    let sum = and_parts _ (num_at 4 block 0 == crc (part block 4 32)) magic.0 in
-    let size = and_parts (leb 32 (length block)) (num_at 4 block 16 == 32) sum.0 in
-    let room : 32 ≤ length block = leb-true 32 (length block) size.0 in
+    let zeros : IsTrue (list_all (λ b. b == 0) (part block 20 32)) = grind (arith, nat_tests) in
+    let room : 32 ≤ length block = grind (arith, nat_tests) in
+    let sum : num_at 4 block 0 ≡ crc (part block 4 32) = grind (arith, nat_tests) in
     let value : recorded block ≡ v = rw is refl in
-    let gap : part block 20 32 ≡ replicate 12 0 = all-one 0 (part block 20 32) zeros.1 ∙ ap (λ k. replicate k 0) (length-take-le 12 (drop 20 block) (omega (arith, length-drop 20 block, room))) in
-    let a = next-num block bytes 4 0 4 record_magic [] (omega (arith, room)) refl (eqb-true _ record_magic magic.1) in
+    let gap : part block 20 32 ≡ replicate 12 0 = all-one 0 (part block 20 32) zeros ∙ ap (λ k. replicate k 0) (length-take-le 12 (drop 20 block) (omega (arith, length-drop 20 block, room))) in
+    let a = next-num block bytes 4 0 4 record_magic [] (omega (arith, room)) refl (grind (arith, nat_tests)) in
     let b = next-num block bytes 4 4 4 v _ (omega (arith, room)) a refl in
-    let c = next-num block bytes 4 8 4 0 _ (omega (arith, room)) b (eqb-true _ 0 unused.1) in
-    let d = next-num block bytes 4 12 4 32 _ (omega (arith, room)) c (eqb-true _ 32 size.1) in
+    let c = next-num block bytes 4 8 4 0 _ (omega (arith, room)) b (grind (arith, nat_tests)) in
+    let d = next-num block bytes 4 12 4 32 _ (omega (arith, room)) c (grind (arith, nat_tests)) in
     let body : take 28 (drop 4 block) ≡ record_body v = next block bytes 4 16 12 _ (replicate 12 0) d gap in
-    take-add 4 28 block ∙ ap (λ l. l ++ take 28 (drop 4 block)) (field block bytes 0 4 (omega (arith, room)) ∙ ap (le 4) (eqb-true _ _ sum.1 ∙ ap crc body))
+    take-add 4 28 block ∙ ap (λ l. l ++ take 28 (drop 4 block)) (field block bytes 0 4 (omega (arith, room)) ∙ ap (le 4) (sum ∙ ap crc body))
     ∙ ap (λ l. le 4 (crc (record_body v)) ++ l) body ∙ ap (λ (n : ℕ). le 4 (crc (record_body n)) ++ record_body n) (sym value)
