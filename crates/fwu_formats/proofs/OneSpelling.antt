@@ -1,26 +1,24 @@
 -- What is read has one spelling: the bytes follow from the value.
-use Rattle.std.proofs.Common.{◌≡◌, ℕ, zero, suc, ◌+◌, ◌-◌, ◌*◌, ◌/◌, ◌%◌, ◌<◌, ◌≤◌, inl, inr, Bool, false, not, ◌||◌, ◌==◌, IsTrue, ltb, leb, leb-true, eqb-true, ltb-true, ltb-false, List, [], ◌∷◌, ◌++◌, length, get_or, take, drop, drop-cons, map, replicate, Result, Ok, Err, refl, sym, ap, subst, ◌∙◌, arith, length-drop, zero-add, append-nil, append_assoc}
+use Rattle.std.proofs.Common.{◌≡◌, ℕ, zero, suc, ◌+◌, ◌-◌, ◌*◌, ◌/◌, ◌%◌, ◌<◌, ◌≤◌, inl, inr, Bool, false, ◌||◌, ◌==◌, IsTrue, ltb, eqb-true, ltb-true, List, [], ◌∷◌, ◌++◌, length, get_or, take, drop, drop-cons, map, replicate, Ok, refl, sym, ap, subst, ◌∙◌, arith, length-drop, zero-add, append-nil, append_assoc}
 use Rattle.std.proofs.lemmas.Bool.Decides.{nat_tests}
 use Rattle.std.specs.Prelude.{flat_map, nat_lt}
 use Rattle.std.specs.List.{list_all, range_with_len}
 use Rattle.std.proofs.Math.Nat.{suc-mul}
 use Rattle.std.proofs.Math.Seq.{take-add}
-use Rattle.std.proofs.lemmas.Bool.{and_parts, and_from, not-false, cond_both, or_cases}
+use Rattle.std.proofs.lemmas.Bool.{and_parts, and_from, or_cases}
 use Rattle.std.proofs.lemmas.List.{drop-drop, length-take-le, get_or-take, get_or-drop}
 use Rattle.std.proofs.lemmas.List.FromFn.{get_or-map-range_with_len, length-map-range_with_len, map-range_with_len_more}
 use Rattle.base_core.specs.Bytes.{num, le, num_at, part, same_bytes, listed, are_bytes}
 use Rattle.base_core.specs.Crc.{crc}
 use Rattle.base_core.proofs.Spelled.{same_is}
 use Rattle.fwu_formats.specs.Layout.{Layout, ImageRow, nil_guid, fits_layout, layout_magic, layout_of, layout_at, layout_size, layout_body, layout_bytes, row_bytes, has_zeros}
-use Rattle.fwu_formats.specs.Metadata.{Field, Meta, MetaRead, meta_of, meta_bytes, meta_body, meta_size, meta_size_v1, entry_size, entry_place, entry_bytes, entries_bytes, bit_at, bit_number, bits_from, has_bank_entry, has_entry, has_entries, has_states, has_indices, has_fields, header_fields, is_state_byte, state_byte, state_of_byte, meta_at, meta_at_v1, read_v2, read_v1, fits_v2, fits_v1}
+use Rattle.fwu_formats.specs.Metadata.{Field, Meta, MetaRead, meta_of, meta_bytes, meta_body, meta_size, entry_size, entry_place, entry_bytes, entries_bytes, bit_at, bit_number, bits_from, has_bank_entry, has_entry, has_entries, has_states, has_indices, has_fields, header_fields, is_state_byte, state_byte, state_of_byte, meta_at, fits_v2}
 use Rattle.fwu_formats.specs.Counter.{is_record, record_magic, record_size, record_body, record_bytes, recorded}
 use Rattle.fwu_formats.specs.declared.kinds.BankState.{BankState}
-use Rattle.fwu_formats.specs.declared.kinds.MetaFault.{MetaFault}
 use Rattle.fwu_formats.specs.declared.kinds.MetaFault.TheVariants as fault
-use Rattle.fwu_formats.proofs.SealLaws.{layout-holds, was_not_refused, limits}
+use Rattle.fwu_formats.proofs.SealLaws.{layout-holds, meta-holds, limits}
 pub use Rattle.fwu_formats.proofs.Spell.{all-at}
 use Rattle.fwu_formats.proofs.Spell.{each-range}
-use Rattle.base_core.proofs.Results.{same-Ok}
 use Rattle.base_core.proofs.Lists.{piece-within}
 
 -- ---- lists
@@ -222,33 +220,12 @@ module _ (block : List ℕ) (bytes : IsTrue (are_bytes block)) where
 
 -- metadata of version 2 has one spelling
 pub meta-one-spelling : (L : Layout) (m : Meta) (block : List ℕ) → IsTrue (fits_layout L) → IsTrue (are_bytes block) → meta_of L block ≡ Ok (record { form = 2; meta = m }) → take (meta_size L) block ≡ meta_bytes L m
-unfolding meta_of
 meta-one-spelling L m block fits bytes e =
-    let r : MetaRead = record { form = 2; meta = m } in
-    let a = was_not_refused (ltb (length block) (meta_size L)) fault.Short _ r e in
-    let room = ltb-false (length block) (meta_size L) a.0 in
-    cond_both (num_at 4 block 4 == 2) (read_v2 L block) _ (λ (x : Result MetaRead MetaFault). x ≡ Ok r → take (meta_size L) block ≡ meta_bytes L m)
-    (λ two h. from-two room (eqb-true (num_at 4 block 4) 2 two) h)
-    (λ not_two h. cond_both (num_at 4 block 4 == 1) (read_v1 L block) (Err fault.NotTwo) (λ (x : Result MetaRead MetaFault). x ≡ Ok r → take (meta_size L) block ≡ meta_bytes L m)
-    (λ one g. absurd (not-one g))
-    (λ not_v1 g. absurd cc) h) a.1
-  where
-    from-two : meta_size L ≤ length block → num_at 4 block 4 ≡ 2 → read_v2 L block ≡ Ok (record { form = 2; meta = m }) → take (meta_size L) block ≡ meta_bytes L m
-    from-two room version h =
-        let r : MetaRead = record { form = 2; meta = m } in
-        let c = was_not_refused (not (num_at 4 block 16 == meta_size L)) _ _ r h in
-        let d = was_not_refused (not (num_at 4 block 0 == crc (part block 4 (meta_size L)))) _ _ r c.1 in
-        let f = was_not_refused (not (fits_v2 L block)) _ _ r d.1 in
-        let same : meta_at L block ≡ m = ap (λ (x : MetaRead). x.meta) (same-Ok {F = MetaFault} (record { form = 2; meta = meta_at L block }) r f.1) in
-        block-spelled block bytes L fits room version (eqb-true _ (meta_size L) (not-false _ c.0)) (eqb-true _ _ (not-false _ d.0)) (not-false _ f.0) ∙ ap (meta_bytes L) same
-
-    not-one : read_v1 L block ≡ Ok (record { form = 2; meta = m }) → ⊥
-    not-one h =
-        let r : MetaRead = record { form = 2; meta = m } in
-        let d = was_not_refused (not (num_at 4 block 0 == crc (part block 4 (meta_size_v1 L)))) _ _ r h in
-        let f = was_not_refused (not (fits_v1 L block)) _ _ r d.1 in
-        let forms : 1 ≡ 2 = ap (λ (x : MetaRead). x.form) (same-Ok {F = MetaFault} (record { form = 1; meta = meta_at_v1 L block }) r f.1) in
-        omega (arith, forms)
+    let all = meta-holds L block (record { form = 2; meta = m }) e in
+    elim all.1 [
+      | inl two ↦ block-spelled block bytes L fits all.0 two.version two.size two.sum two.fits ∙ ap (λ (x : MetaRead). meta_bytes L x.meta) two.is
+      | inr one ↦ absurd (let forms : 1 ≡ 2 = ap (λ (x : MetaRead). x.form) one.is in omega (arith, forms))
+    ]
 
 -- ---- layouts
 
