@@ -1,11 +1,11 @@
 -- What is read has one spelling: the bytes follow from the value.
-use Rattle.std.proofs.Common.{◌≡◌, ℕ, zero, suc, ◌+◌, ◌-◌, ◌*◌, ◌/◌, ◌%◌, ◌<◌, ◌≤◌, inl, inr, Bool, false, ◌||◌, ◌==◌, IsTrue, ltb, eqb-true, ltb-true, List, [], ◌∷◌, ◌++◌, length, get_or, take, drop, drop-cons, map, replicate, Ok, refl, sym, ap, subst, ◌∙◌, arith, length-drop, zero-add, append-nil, append_assoc}
+use Rattle.std.proofs.Common.{◌≡◌, ℕ, zero, suc, ◌+◌, ◌-◌, ◌*◌, ◌/◌, ◌%◌, ◌<◌, ◌≤◌, inl, inr, Bool, false, ◌==◌, IsTrue, ltb, eqb-true, ltb-true, List, [], ◌∷◌, ◌++◌, length, get_or, take, drop, drop-cons, map, replicate, Ok, refl, sym, ap, subst, ◌∙◌, arith, length-drop, zero-add, append-nil, append_assoc}
 use Rattle.std.proofs.lemmas.Bool.Decides.{nat_tests}
 use Rattle.std.specs.Prelude.{flat_map, nat_lt}
 use Rattle.std.specs.List.{list_all, range_with_len}
 use Rattle.std.proofs.Math.Nat.{suc-mul}
 use Rattle.std.proofs.Math.Seq.{take-add}
-use Rattle.std.proofs.lemmas.Bool.{and_parts, and_from, or_cases}
+use Rattle.std.proofs.lemmas.Bool.{and_parts, and_from}
 use Rattle.std.proofs.lemmas.List.{drop-drop, length-take-le, get_or-take, get_or-drop}
 use Rattle.std.proofs.lemmas.List.FromFn.{get_or-map-range_with_len, length-map-range_with_len, map-range_with_len_more}
 use Rattle.base_core.specs.Bytes.{num, le, num_at, part, same_bytes, listed, are_bytes}
@@ -62,22 +62,14 @@ all-one v [] h = refl
 all-one v (b ∷ bytes) h = let both = and_parts (b == v) _ h in let first = eqb-true b v both.0 in let rest = all-one v bytes both.1 in cc
 
 small-bit : (v : ℕ) → v < 2 → bit_number (v == 1) ≡ v
-small-bit zero h = refl
-small-bit (suc zero) h = refl
-small-bit (suc (suc v)) h = absurd (omega (arith, h))
+small-bit v h = grind (arith, nat_tests)
 
 record IsState (v : ℕ) : Type 0 where
   back : state_byte (state_of_byte v) ≡ v
   small : v < 256
 
 a-state : (v : ℕ) → IsTrue (is_state_byte v) → IsState v
-a-state v h = elim (or_cases ((v == 0xFF) || (v == 0xFE)) (v == 0xFC) h) [
-  | inl first ↦ elim (or_cases (v == 0xFF) (v == 0xFE) first) [
-    | inl is ↦ subst IsState (sym (eqb-true v 0xFF is)) (record { back = refl; small = omega arith })
-    | inr is ↦ subst IsState (sym (eqb-true v 0xFE is)) (record { back = refl; small = omega arith })
-  ]
-  | inr is ↦ subst IsState (sym (eqb-true v 0xFC is)) (record { back = refl; small = omega arith })
-]
+a-state v h = record { back = grind (arith, nat_tests); small = grind (arith, nat_tests) }
 
 module _ (block : List ℕ) (bytes : IsTrue (are_bytes block)) where
   pub field : (at n : ℕ) → at + n ≤ length block → take n (drop at block) ≡ le n (num_at n block at)
@@ -153,11 +145,9 @@ module _ (block : List ℕ) (bytes : IsTrue (are_bytes block)) where
         → IsTrue (has_bank_entry (guid_of image) block (entry_place L 0x28 image + 32 + 24 * bank)) → take 24 (drop (entry_place L 0x28 image + 32 + 24 * bank) block) ≡ bank_bytes image bank
     bank-spelled image bank lt below inside h =
         let p = entry_place L 0x28 image + 32 + 24 * bank in
-        let outer = and_parts _ (num_at 4 block (p + 20) == 0) h in
-        let inner = and_parts (same_bytes (take 16 (drop p block)) (guid_of image)) (ltb (num_at 4 block (p + 16)) 2) outer.0 in
-        let bit : num_at 4 block (p + 16) ≡ bit_number (bit_at m bank image) = sym (small-bit (num_at 4 block (p + 16)) (ltb-true _ 2 inner.1)) ∙ ap bit_number (sym (bit-is image bank lt below)) in
-        let typed = same_is (take 16 (drop p block)) (guid_of image) inner.0 in
-        next-num p 20 4 0 (guid_of image ++ le 4 (bit_number (bit_at m bank image))) (omega (arith, below, inside)) (next-num p 16 4 (bit_number (bit_at m bank image)) (guid_of image) (omega (arith, below, inside)) typed bit) (eqb-true _ 0 outer.1)
+        let bit : num_at 4 block (p + 16) ≡ bit_number (bit_at m bank image) = sym (small-bit (num_at 4 block (p + 16)) (grind (arith, nat_tests))) ∙ ap bit_number (sym (bit-is image bank lt below)) in
+        let typed = same_is (take 16 (drop p block)) (guid_of image) (grind (arith, nat_tests)) in
+        next-num p 20 4 0 (guid_of image ++ le 4 (bit_number (bit_at m bank image))) (omega (arith, below, inside)) (next-num p 16 4 (bit_number (bit_at m bank image)) (guid_of image) (omega (arith, below, inside)) typed bit) (grind (arith, nat_tests))
 
     entry-spelled : (image : ℕ) → image < length L.rows → entry_place L 0x28 image + entry_size L ≤ length block → IsTrue (has_entry L 0x28 block image) → take (entry_size L) (drop (entry_place L 0x28 image) block) ≡ entry_bytes L m image
     entry-spelled image lt inside h =

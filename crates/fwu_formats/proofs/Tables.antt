@@ -1,7 +1,7 @@
 -- A package is read exactly where the equations of its table hold.
 use Rattle.std.proofs.Common.{◌≡◌, ◌≢◌, ℕ, zero, suc, ◌+◌, ◌*◌, ◌<◌, ◌≤◌, Bool, true, false, cond, not, ◌==◌, List, [], ◌∷◌, ◌++◌, length, get_or, take, Option, Some, None, Result, Ok, Err, refl, sym, ap, subst, ◌∙◌, arith, inl, inr, IsTrue, IsFalse, ltb, ltb-false, le-ltb, eq-eqb, ne_eqb, eqb-true, length-append, length-take, ext_get_or, ◌^◌}
 use Rattle.std.specs.List.{All, AllPairs, list_any, position_or_len}
-use Rattle.std.specs.Prelude.{position, if◌then◌else◌}
+use Rattle.std.specs.Prelude.{position}
 use Rattle.std.proofs.lemmas.Bool.{cases_Bool, cases_lt, cond_both, not-false}
 use Rattle.std.proofs.lemmas.List.Folds.{list_any_at, list_any_none}
 use Rattle.std.proofs.lemmas.List.FromFn.{length-map-range_with_len, get_or-map-range_with_len}
@@ -204,23 +204,7 @@ tables-are-read = record { read = read-there; table = table-of }
 -- ---- each payload of a package ends within it
 
 pub ends-within : (bytes : List ℕ) (toc : Toc) → toc_of bytes ≡ Ok toc → All (λ e. e.offset + e.size ≤ length bytes) toc.entries
-unfolding toc_of
-ends-within bytes toc e = go (ltb (length bytes) 16) (not (num_at 4 bytes 0 == fip_name)) (num_at 4 bytes 4 == 0) (entries_from bytes [] 0 entry_limit) e
-  where
-    by : (es : List Entry) (o : Option ℕ) → position (is_beyond bytes) es ≡ o → within bytes (headed bytes es) o ≡ Ok toc → All (λ e. e.offset + e.size ≤ length bytes) toc.entries
-    by es None none h =
-        let same : headed bytes es ≡ toc = cc in
-        subst (λ (t : Toc). All (λ e. e.offset + e.size ≤ length bytes) t.entries) same (λ k d lt. ltb-false (length bytes) _ (none-found (is_beyond bytes) es none k d lt))
-    by es (Some i) some h = cc
-
-    go : (a b c : Bool) (r : Result (List Entry) FipFault)
-        → (if a then Err fault.ShortHeader else if b then Err fault.BadName else if c then Err fault.ZeroSerial else with_entries bytes r) ≡ Ok toc
-        → All (λ e. e.offset + e.size ≤ length bytes) toc.entries
-    go true b c r h = cc
-    go false true c r h = cc
-    go false false true r h = cc
-    go false false false (Err f) h = cc
-    go false false false (Ok es) h = by es (position (is_beyond bytes) es) refl h
+ends-within bytes toc e = (table-of bytes toc e).within
 
 pub ends-below : (bytes : List ℕ) (toc : Toc) → length bytes < 2 ^ 64 → toc_of bytes ≡ Ok toc → All (λ e. e.offset + e.size < 2 ^ 64) toc.entries
 ends-below bytes toc short e = λ k d lt. let h = ends-within bytes toc e k d lt in omega (arith, h, short)
