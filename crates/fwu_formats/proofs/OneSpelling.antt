@@ -98,6 +98,19 @@ module _ (block : List ℕ) (bytes : IsTrue (are_bytes block)) where
   one-at : (at : ℕ) → at < length block → num_at 1 block at ≡ get_or block at 0
   one-at at lt = ap (λ (l : List ℕ). num (take 1 l)) (drop-cons block at 0 lt) ∙ omega arith
 
+  -- bytes that are all one
+  filled : (v at n : ℕ) → at + n ≤ length block → IsTrue (list_all (λ b. b == v) (take n (drop at block))) → take n (drop at block) ≡ replicate n v
+  filled v at n room h =
+      all-one v (take n (drop at block)) h
+      ∙ ap (λ k. replicate k v) (length-take-le n (drop at block) (omega (arith, length-drop at block, room)))
+
+  -- a body behind its checksum
+  sealed : (size : ℕ) (body : List ℕ) → 4 ≤ size → 4 ≤ length block → num_at 4 block 0 ≡ crc (part block 4 size) → part block 4 size ≡ body
+      → take size block ≡ le 4 (crc body) ++ body
+  sealed size body low room sum is =
+      let n : size ≡ 4 + (size - 4) = omega (arith, low) in
+      ap (λ (k : ℕ). take k block) n ∙ next 0 4 (size - 4) (le 4 (crc body)) body (field 0 4 room ∙ ap (le 4) (sum ∙ ap crc is)) is
+
   -- ---- the states
 
   state-at : (banks bank : ℕ) → 24 + banks ≤ length block → IsTrue (list_all is_state_byte (take banks (drop 24 block))) → bank < banks → IsState (num_at 1 block (24 + bank))
@@ -122,9 +135,8 @@ module _ (block : List ℕ) (bytes : IsTrue (are_bytes block)) where
   unused-spelled : (banks : ℕ) → banks ≤ 4 → 28 ≤ length block → IsTrue (list_all (λ b. b == 0xFF) (part block (24 + banks) 28)) → take (4 - banks) (drop (24 + banks) block) ≡ replicate (4 - banks) 0xFF
   unused-spelled banks few room h =
       let n : 28 - (24 + banks) ≡ 4 - banks = omega arith in
-      let erased : IsTrue (list_all (λ b. b == 0xFF) (take (4 - banks) (drop (24 + banks) block))) = subst (λ (k : ℕ). IsTrue (list_all (λ b. b == 0xFF) (take k (drop (24 + banks) block)))) n h in
-      let long : length (take (4 - banks) (drop (24 + banks) block)) ≡ 4 - banks = length-take-le (4 - banks) (drop (24 + banks) block) (omega (arith, length-drop (24 + banks) block, room, few)) in
-      all-one 0xFF _ erased ∙ ap (λ k. replicate k 0xFF) long
+      filled 0xFF (24 + banks) (4 - banks) (omega (arith, room, few))
+      (subst (λ (k : ℕ). IsTrue (list_all (λ b. b == 0xFF) (take k (drop (24 + banks) block)))) n h)
 
   module _ (L : Layout) (fits : IsTrue (fits_layout L)) (room : meta_size L ≤ length block) where
     abbrev m : Meta
@@ -204,9 +216,7 @@ module _ (block : List ℕ) (bytes : IsTrue (are_bytes block)) where
     block-spelled : num_at 4 block 4 ≡ 2 → num_at 4 block 16 ≡ meta_size L → num_at 4 block 0 ≡ crc (part block 4 (meta_size L)) → IsTrue (fits_v2 L block) → take (meta_size L) block ≡ meta_bytes L m
     unfolding meta_bytes
     block-spelled version size sum h =
-        let body = body-spelled version size h in
-        let n : meta_size L ≡ 4 + (meta_size L - 4) = omega arith in
-        ap (λ (k : ℕ). take k block) n ∙ take-add 4 (meta_size L - 4) block ∙ ap (λ l. l ++ part block 4 (meta_size L)) (field 0 4 (omega (arith, room)) ∙ ap (le 4) (sum ∙ ap crc body)) ∙ ap (λ l. le 4 (crc (meta_body L m)) ++ l) body
+        sealed (meta_size L) (meta_body L m) (omega arith) (omega (arith, room)) sum (body-spelled version size h)
 
 -- metadata of version 2 has one spelling
 pub meta-one-spelling : (L : Layout) (m : Meta) (block : List ℕ) → IsTrue (fits_layout L) → IsTrue (are_bytes block) → meta_of L block ≡ Ok (record { form = 2; meta = m }) → take (meta_size L) block ≡ meta_bytes L m
@@ -248,7 +258,7 @@ module _ (block : List ℕ) (bytes : IsTrue (are_bytes block)) (images : ℕ) (f
   layout_body-spelled magic count size zeros =
       let L = layout_at block in
       let z = and_parts (list_all (λ b. b == 0) (part block 20 32)) _ zeros in
-      let gap : part block 20 32 ≡ replicate 12 0 = all-one 0 (part block 20 32) z.0 ∙ ap (λ k. replicate k 0) (length-take-le 12 (drop 20 block) (omega (arith, length-drop 20 block, room))) in
+      let gap = filled block bytes 0 20 12 (omega (arith, room)) z.0 in
       let rows : length L.rows ≡ images = length-map-range_with_len (row_at block) 0 (num_at 4 block 12) ∙ count in
       let whole : 32 + 24 * images ≡ layout_size L = omega (arith, rows) in
       let a = next-num block bytes 4 0 4 layout_magic [] (omega (arith, room)) refl magic in
@@ -266,11 +276,10 @@ module _ (block : List ℕ) (bytes : IsTrue (are_bytes block)) (images : ℕ) (f
   unfolding layout_bytes
   layout_block-spelled magic count size sum zeros =
       let L = layout_at block in
-      let body = layout_body-spelled magic count size zeros in
       let rows : length L.rows ≡ images = length-map-range_with_len (row_at block) 0 (num_at 4 block 12) ∙ count in
-      let n : layout_size L ≡ 4 + (32 + 24 * images - 4) = omega (arith, rows) in
-      ap (λ (k : ℕ). take k block) n ∙ take-add 4 (32 + 24 * images - 4) block
-      ∙ ap (λ l. l ++ part block 4 (32 + 24 * images)) (field block bytes 0 4 (omega (arith, room)) ∙ ap (le 4) (sum ∙ ap crc body)) ∙ ap (λ l. le 4 (crc (layout_body L)) ++ l) body
+      let n : layout_size L ≡ 32 + 24 * images = omega (arith, rows) in
+      ap (λ (k : ℕ). take k block) n
+      ∙ sealed block bytes (32 + 24 * images) (layout_body L) (omega arith) (omega (arith, room)) sum (layout_body-spelled magic count size zeros)
 
 -- a layout has one spelling
 pub layout-one-spelling : (L : Layout) (blocks : ℕ) (block : List ℕ) → IsTrue (are_bytes block) → layout_of block blocks ≡ Ok L → take (layout_size L) block ≡ layout_bytes L
@@ -291,11 +300,11 @@ record-one-spelling block bytes is =
     let room : 32 ≤ length block = grind (arith, nat_tests) in
     let sum : num_at 4 block 0 ≡ crc (part block 4 32) = grind (arith, nat_tests) in
     let value : recorded block ≡ v = rw is refl in
-    let gap : part block 20 32 ≡ replicate 12 0 = all-one 0 (part block 20 32) zeros ∙ ap (λ k. replicate k 0) (length-take-le 12 (drop 20 block) (omega (arith, length-drop 20 block, room))) in
+    let gap = filled block bytes 0 20 12 (omega (arith, room)) zeros in
     let a = next-num block bytes 4 0 4 record_magic [] (omega (arith, room)) refl (grind (arith, nat_tests)) in
     let b = next-num block bytes 4 4 4 v _ (omega (arith, room)) a refl in
     let c = next-num block bytes 4 8 4 0 _ (omega (arith, room)) b (grind (arith, nat_tests)) in
     let d = next-num block bytes 4 12 4 32 _ (omega (arith, room)) c (grind (arith, nat_tests)) in
     let body : take 28 (drop 4 block) ≡ record_body v = next block bytes 4 16 12 _ (replicate 12 0) d gap in
-    take-add 4 28 block ∙ ap (λ l. l ++ take 28 (drop 4 block)) (field block bytes 0 4 (omega (arith, room)) ∙ ap (le 4) (sum ∙ ap crc body))
-    ∙ ap (λ l. le 4 (crc (record_body v)) ++ l) body ∙ ap (λ (n : ℕ). le 4 (crc (record_body n)) ++ record_body n) (sym value)
+    sealed block bytes 32 (record_body v) (omega arith) (omega (arith, room)) sum body
+    ∙ ap (λ (n : ℕ). le 4 (crc (record_body n)) ++ record_body n) (sym value)
