@@ -213,17 +213,16 @@ module _ (block : List ℕ) (bytes : IsTrue (are_bytes block)) where
         let n : meta_size L - 4 ≡ 36 + length L.rows * entry_size L = omega arith in
         ap (λ (k : ℕ). take k (drop 4 block)) n ∙ w
 
-    block-spelled : num_at 4 block 4 ≡ 2 → num_at 4 block 16 ≡ meta_size L → num_at 4 block 0 ≡ crc (part block 4 (meta_size L)) → IsTrue (fits_v2 L block) → take (meta_size L) block ≡ meta_bytes L m
-    unfolding meta_bytes
-    block-spelled version size sum h =
-        sealed (meta_size L) (meta_body L m) (omega arith) (omega (arith, room)) sum (body-spelled version size h)
-
 -- metadata of version 2 has one spelling
 pub meta-one-spelling : (L : Layout) (m : Meta) (block : List ℕ) → IsTrue (fits_layout L) → IsTrue (are_bytes block) → meta_of L block ≡ Ok (record { form = 2; meta = m }) → take (meta_size L) block ≡ meta_bytes L m
+unfolding meta_bytes
 meta-one-spelling L m block fits bytes e =
     let all = meta-holds L block (record { form = 2; meta = m }) e in
     elim all.1 [
-      | inl two ↦ block-spelled block bytes L fits all.0 two.version two.size two.sum two.fits ∙ ap (λ (x : MetaRead). meta_bytes L x.meta) two.is
+      | inl two ↦
+          let body = body-spelled block bytes L fits all.0 two.version two.size two.fits in
+          sealed block bytes (meta_size L) (meta_body L (meta_at L block)) (omega arith) (omega (arith, all.0)) two.sum body
+          ∙ ap (λ (x : MetaRead). meta_bytes L x.meta) two.is
       | inr one ↦ absurd (let forms : 1 ≡ 2 = ap (λ (x : MetaRead). x.form) one.is in omega (arith, forms))
     ]
 
@@ -271,24 +270,20 @@ module _ (block : List ℕ) (bytes : IsTrue (are_bytes block)) (images : ℕ) (f
       let n : 32 + 24 * images - 4 ≡ 28 + images * 24 = omega arith in
       ap (λ (k : ℕ). take k (drop 4 block)) n ∙ f
 
-  layout_block-spelled : num_at 4 block 4 ≡ layout_magic → num_at 4 block 12 ≡ images → num_at 4 block 16 ≡ 32 + 24 * images → num_at 4 block 0 ≡ crc (part block 4 (32 + 24 * images)) → IsTrue (has_zeros block)
-      → take (layout_size (layout_at block)) block ≡ layout_bytes (layout_at block)
-  unfolding layout_bytes
-  layout_block-spelled magic count size sum zeros =
-      let L = layout_at block in
-      let rows : length L.rows ≡ images = length-map-range_with_len (row_at block) 0 (num_at 4 block 12) ∙ count in
-      let n : layout_size L ≡ 32 + 24 * images = omega (arith, rows) in
-      ap (λ (k : ℕ). take k block) n
-      ∙ sealed block bytes (32 + 24 * images) (layout_body L) (omega arith) (omega (arith, room)) sum (layout_body-spelled magic count size zeros)
-
 -- a layout has one spelling
 pub layout-one-spelling : (L : Layout) (blocks : ℕ) (block : List ℕ) → IsTrue (are_bytes block) → layout_of block blocks ≡ Ok L → take (layout_size L) block ≡ layout_bytes L
+unfolding layout_bytes
 layout-one-spelling L blocks block bytes e =
     let r = layout-holds block blocks L e in
     let images = num_at 4 block 12 in
-    let sum : num_at 4 block 0 ≡ crc (part block 4 (32 + 24 * images)) = r.sum ∙ ap (λ (k : ℕ). crc (part block 4 k)) r.size in
+    let size = 32 + 24 * images in
+    let room : size ≤ length block = omega (arith, r.size, r.whole) in
+    let sum : num_at 4 block 0 ≡ crc (part block 4 size) = r.sum ∙ ap (λ (k : ℕ). crc (part block 4 k)) r.size in
+    let whole : layout_size (layout_at block) ≡ size = omega (arith, length-map-range_with_len (row_at block) 0 images) in
+    let body = layout_body-spelled block bytes images r.few room r.magic refl r.size r.zeros in
     subst (λ (x : Layout). take (layout_size x) block ≡ layout_bytes x) r.is
-    (layout_block-spelled block bytes images r.few (omega (arith, r.size, r.whole)) r.magic refl r.size sum r.zeros)
+    (ap (λ (k : ℕ). take k block) whole
+    ∙ sealed block bytes size (layout_body (layout_at block)) (omega arith) (omega (arith, room)) sum body)
 
 -- ---- records of the counter
 
