@@ -99,13 +99,15 @@ module _ (block : List ℕ) (bytes : IsTrue (are_bytes block)) where
   one-at at lt = ap (λ (l : List ℕ). num (take 1 l)) (drop-cons block at 0 lt) ∙ omega arith
 
   -- bytes that are all one
-  filled : (v at n : ℕ) → at + n ≤ length block → IsTrue (list_all (λ b. b == v) (take n (drop at block))) → take n (drop at block) ≡ replicate n v
+  filled : (v at n : ℕ) → at + n ≤ length block → IsTrue (list_all (λ b. b == v) (take n (drop at block)))
+      → take n (drop at block) ≡ replicate n v
   filled v at n room h =
       all-one v (take n (drop at block)) h
       ∙ ap (λ k. replicate k v) (length-take-le n (drop at block) (omega (arith, length-drop at block, room)))
 
   -- a body behind its checksum
-  sealed : (size : ℕ) (body : List ℕ) → 4 ≤ size → 4 ≤ length block → num_at 4 block 0 ≡ crc (part block 4 size) → part block 4 size ≡ body
+  sealed : (size : ℕ) (body : List ℕ) → 4 ≤ size → 4 ≤ length block → num_at 4 block 0 ≡ crc (part block 4 size)
+      → part block 4 size ≡ body
       → take size block ≡ le 4 (crc body) ++ body
   sealed size body low room sum is =
       let n : size ≡ 4 + (size - 4) = omega (arith, low) in
@@ -157,9 +159,12 @@ module _ (block : List ℕ) (bytes : IsTrue (are_bytes block)) where
         → IsTrue (has_bank_entry (guid_of image) block (entry_place L 0x28 image + 32 + 24 * bank)) → take 24 (drop (entry_place L 0x28 image + 32 + 24 * bank) block) ≡ bank_bytes image bank
     bank-spelled image bank lt below inside h =
         let p = entry_place L 0x28 image + 32 + 24 * bank in
-        let bit : num_at 4 block (p + 16) ≡ bit_number (bit_at m bank image) = sym (small-bit (num_at 4 block (p + 16)) (grind (arith, nat_tests))) ∙ ap bit_number (sym (bit-is image bank lt below)) in
+        let bit : num_at 4 block (p + 16) ≡ bit_number (bit_at m bank image) =
+        sym (small-bit (num_at 4 block (p + 16)) (grind (arith, nat_tests))) ∙ ap bit_number (sym (bit-is image bank lt below)) in
         let typed = same_is (take 16 (drop p block)) (guid_of image) (grind (arith, nat_tests)) in
-        next-num p 20 4 0 (guid_of image ++ le 4 (bit_number (bit_at m bank image))) (omega (arith, below, inside)) (next-num p 16 4 (bit_number (bit_at m bank image)) (guid_of image) (omega (arith, below, inside)) typed bit) (grind (arith, nat_tests))
+        next-num p 20 4 0 (guid_of image ++ le 4 (bit_number (bit_at m bank image))) (omega (arith, below, inside))
+        (next-num p 16 4 (bit_number (bit_at m bank image)) (guid_of image) (omega (arith, below, inside)) typed bit)
+        (grind (arith, nat_tests))
 
     entry-spelled : (image : ℕ) → image < length L.rows → entry_place L 0x28 image + entry_size L ≤ length block → IsTrue (has_entry L 0x28 block image) → take (entry_size L) (drop (entry_place L 0x28 image) block) ≡ entry_bytes L m image
     entry-spelled image lt inside h =
@@ -189,7 +194,8 @@ module _ (block : List ℕ) (bytes : IsTrue (are_bytes block)) where
         let none : Field = record { bytes = 0; at = 0; value = 0 } in
         let said = λ (k : ℕ) (lt : k < 8).
         let f = get_or (header_fields L) k none in
-        eqb-true (num_at f.bytes block f.at) f.value (all-at (λ f. num_at f.bytes block f.at == f.value) (header_fields L) k none i.0 lt) in
+        eqb-true (num_at f.bytes block f.at) f.value
+        (all-at (λ f. num_at f.bytes block f.at == f.value) (header_fields L) k none i.0 lt) in
         let st = and_parts (list_all is_state_byte (take L.banks (drop 0x18 block))) _ s.1 in
         let few : L.banks ≤ 4 = limit.most_banks in
         let a = next-num 4 0 4 2 [] (omega (arith, room)) refl version in
@@ -203,7 +209,8 @@ module _ (block : List ℕ) (bytes : IsTrue (are_bytes block)) where
         let erased = next 4 (20 + L.banks) (4 - L.banks) _ (replicate (4 - L.banks) 0xFF) states
         (ap (λ (k : ℕ). take (4 - L.banks) (drop k block)) place ∙ unused-spelled L.banks few (omega (arith, room)) st.1) in
         let whole : 24 ≡ 20 + L.banks + (4 - L.banks) = omega (arith, few) in
-        let o = next-num 4 24 4 0 _ (omega (arith, room)) (ap (λ (k : ℕ). take k (drop 4 block)) whole ∙ erased) (said 2 (omega arith)) in
+        let o =
+        next-num 4 24 4 0 _ (omega (arith, room)) (ap (λ (k : ℕ). take k (drop 4 block)) whole ∙ erased) (said 2 (omega arith)) in
         let p = next-num 4 28 1 L.banks _ (omega (arith, room)) o (said 3 (omega arith)) in
         let q = next-num 4 29 1 0 _ (omega (arith, room)) p (said 4 (omega arith)) in
         let r = next-num 4 30 2 (length L.rows) _ (omega (arith, room)) q (said 5 (omega arith)) in
@@ -250,7 +257,8 @@ module _ (block : List ℕ) (bytes : IsTrue (are_bytes block)) (images : ℕ) (f
   rows-spelled : IsTrue (list_all (λ i. num_at 4 block (52 + 24 * i) == 0) (range_with_len 0 images)) → take (images * 24) (drop 32 block) ≡ flat_map row_bytes (listed images (row_at block))
   rows-spelled zeros =
       pieces block bytes (λ i. row_bytes (row_at block i)) 32 24 images (λ i lt.
-      row-spelled i lt (eqb-true _ 0 (each-range (λ k. num_at 4 block (52 + 24 * k) == 0) 0 images zeros i (omega arith) (omega (arith, lt)))))
+      row-spelled i lt
+      (eqb-true _ 0 (each-range (λ k. num_at 4 block (52 + 24 * k) == 0) 0 images zeros i (omega arith) (omega (arith, lt)))))
       ∙ flat-map (λ i. row_bytes (row_at block i)) (λ (k : ℕ). k) (range_with_len 0 images) ∙ sym (flat-map row_bytes (row_at block) (range_with_len 0 images))
 
   layout_body-spelled : num_at 4 block 4 ≡ layout_magic → num_at 4 block 12 ≡ images → num_at 4 block 16 ≡ 32 + 24 * images → IsTrue (has_zeros block) → part block 4 (32 + 24 * images) ≡ layout_body (layout_at block)

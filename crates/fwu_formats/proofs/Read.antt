@@ -39,7 +39,9 @@ meta-whole L block r e =
     elim (meta-holds L block r e).1 [
       | inl two ↦ subst (λ (x : MetaRead). IsWholeMeta L x) two.is (record {
         form = inr refl;
-        bits = λ b lt. ap length (get_or-map-range_with_len (bits_from L 0x28 block) 0 L.banks b b [] lt (omega arith)) ∙ bits-length L 0x28 block b;
+        bits =
+            λ b lt. ap length (get_or-map-range_with_len (bits_from L 0x28 block) 0 L.banks b b [] lt (omega arith))
+            ∙ bits-length L 0x28 block b;
       })
       | inr one ↦
           let row = λ (b : ℕ). bits_v1 (state_at_v1 L block b) (bits_from L 0x10 block b) in

@@ -25,7 +25,8 @@ map-same f g (x ∷ xs) h =
 -- the same below a bound
 pub listed-same : {X : Type 0} (f g : ℕ → X) (n : ℕ) (d : X) → ((i : ℕ) → i < n → f i ≡ g i) → listed n f ≡ listed n g
 listed-same f g n d h =
-    listed-is f n d (listed n g) (length-map-range_with_len g 0 n) (λ i lt. h i lt ∙ sym (get_or-map-range_with_len g 0 n i i d lt (omega arith)))
+    listed-is f n d (listed n g) (length-map-range_with_len g 0 n)
+    (λ i lt. h i lt ∙ sym (get_or-map-range_with_len g 0 n i i d lt (omega arith)))
 
 -- two lists of one length that agree in a range have the same bytes there
 pub range-same : (xs ys : List ℕ) (at n : ℕ) → length xs ≡ length ys → ((place : ℕ) → at ≤ place → place < at + n → get_or xs place 0 ≡ get_or ys place 0) → take n (drop at xs) ≡ take n (drop at ys)
