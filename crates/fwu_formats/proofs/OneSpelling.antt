@@ -169,13 +169,14 @@ module _ (block : List ℕ) (bytes : IsTrue (are_bytes block)) where
     entry-spelled : (image : ℕ) → image < length L.rows → entry_place L 0x28 image + entry_size L ≤ length block → IsTrue (has_entry L 0x28 block image) → take (entry_size L) (drop (entry_place L 0x28 image) block) ≡ entry_bytes L m image
     entry-spelled image lt inside h =
         let at = entry_place L 0x28 image in
-        let outer = and_parts _ (list_all (λ bank. has_bank_entry (guid_of image) block (at + 32 + 24 * bank)) (range_with_len 0 L.banks)) h in
+        let test = λ (bank : ℕ). has_bank_entry (guid_of image) block (at + 32 + 24 * bank) in
+        let outer = and_parts _ (list_all test (range_with_len 0 L.banks)) h in
         let inner = and_parts (same_bytes (take 16 (drop at block)) (guid_of image)) (same_bytes (take 16 (drop (at + 16) block)) nil_guid) outer.0 in
         let typed = same_is (take 16 (drop at block)) (guid_of image) inner.0 in
         let nowhere = same_is (take 16 (drop (at + 16) block)) nil_guid inner.1 in
         let banked = pieces (bank_bytes image) (at + 32) 24 L.banks (λ bank below.
         ap (λ (k : ℕ). take 24 (drop k block)) (omega arith) ∙ bank-spelled image bank lt below inside
-        (each-range (λ bank. has_bank_entry (guid_of image) block (at + 32 + 24 * bank)) 0 L.banks outer.1 bank (omega arith) (omega (arith, below)))) in
+        (each-range test 0 L.banks outer.1 bank (omega arith) (omega (arith, below)))) in
         let size : entry_size L ≡ 32 + L.banks * 24 = omega arith in
         ap (λ (k : ℕ). take k (drop at block)) size ∙ next at 32 (L.banks * 24) (guid_of image ++ nil_guid) (flat_map (bank_bytes image) (listed L.banks (λ bank. bank))) (next at 16 16 (guid_of image) nil_guid typed nowhere) banked
 
