@@ -1,16 +1,16 @@
 -- A package is read exactly where the equations of its table hold.
-use Rattle.std.proofs.Common.{◌≡◌, ◌≢◌, ℕ, zero, suc, ◌+◌, ◌*◌, ◌<◌, ◌≤◌, Bool, true, false, cond, not, ◌==◌, List, [], ◌∷◌, ◌++◌, length, get_or, take, Option, Some, None, Result, Ok, Err, refl, sym, ap, subst, ◌∙◌, arith, inl, inr, IsTrue, IsFalse, ltb, ltb-false, le-ltb, eq-eqb, ne_eqb, eqb-true, length-append, length-take, ext_get_or, ◌^◌}
+use Rattle.std.proofs.Common.{◌≡◌, ◌≢◌, ℕ, zero, suc, ◌+◌, ◌*◌, ◌<◌, ◌≤◌, Bool, true, false, cond, not, ◌==◌, List, [], ◌∷◌, ◌++◌, length, get_or, take, Option, Some, None, Result, Ok, Err, refl, sym, ap, subst, ◌∙◌, arith, inl, inr, IsTrue, IsFalse, ltb, ltb-false, le-ltb, eq-eqb, ne_eqb, eqb-true, length-append, length-take, ◌^◌}
 use Rattle.std.specs.List.{All, AllPairs, list_any, position_or_len}
 use Rattle.std.specs.Prelude.{position}
 use Rattle.std.proofs.lemmas.Bool.{cases_Bool, cases_lt, cond_both, not-false}
 use Rattle.std.proofs.lemmas.List.Folds.{list_any_at, list_any_none}
-use Rattle.std.proofs.lemmas.List.FromFn.{length-map-range_with_len, get_or-map-range_with_len}
+use Rattle.std.proofs.lemmas.List.FromFn.{get_or-map-range_with_len}
 use Rattle.std.proofs.lemmas.List.Sums.{position_or_len_is}
 use Rattle.std.proofs.lemmas.List.{get_or_append_left, get_or-take, take_more}
 use Rattle.std.proofs.Math.Seq.{get_or-append_seam, take-length}
 use Rattle.std.proofs.lemmas.List.Elements.{All-append}
 use Rattle.std.proofs.lemmas.List.Quantifiers.{all_pairs_push}
-use Rattle.base_core.specs.Bytes.{num_at, same_bytes, listed}
+use Rattle.base_core.specs.Bytes.{num_at, same_bytes}
 use Rattle.base_core.proofs.Spelled.{same_is, same_refl}
 use Rattle.fwu_formats.specs.Layout.{nil_guid}
 use Rattle.fwu_formats.specs.Package.{Entry, Toc, IsTable, fip_name, entry_limit, entry_at, has_guid, entries_from, is_beyond, within, with_entries, toc_of}
@@ -18,7 +18,7 @@ use Rattle.fwu_formats.specs.Law.{TablesAreRead}
 use Rattle.fwu_formats.specs.declared.kinds.FipFault.{FipFault}
 use Rattle.fwu_formats.specs.declared.kinds.FipFault.TheVariants as fault
 use Rattle.fwu_formats.proofs.SealLaws.{was_not_refused}
-use Rattle.fwu_formats.proofs.Spell.{not_refused}
+use Rattle.fwu_formats.proofs.Spell.{listed-is, not_refused}
 use Rattle.base_core.proofs.Results.{same-Ok}
 use Rattle.base_core.proofs.Lists.{none-found}
 
@@ -120,8 +120,7 @@ module _ (bytes : List ℕ) (es : List Entry) where
     flags = refl;
     whole = read.whole;
     few = read.few;
-    entries = ext_get_or no_entry es (listed (length es) (entry_at bytes)) (sym (length-map-range_with_len (entry_at bytes) 0 (length es))) (λ k lt.
-        read.are.at k lt ∙ sym (get_or-map-range_with_len (entry_at bytes) 0 (length es) k k no_entry lt (omega arith)));
+    entries = sym (listed-is (entry_at bytes) (length es) no_entry es refl (λ k lt. sym (read.are.at k lt)));
     marker = read.marker;
     types = read.are.types;
     distinct = read.are.distinct;
