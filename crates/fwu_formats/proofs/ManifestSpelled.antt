@@ -1,8 +1,8 @@
 -- A manifest that is read has one spelling.
-use Rattle.std.proofs.Common.{◌≡◌, ◌⊎◌, inl, inr, ℕ, ◌+◌, ◌-◌, ◌*◌, ◌<◌, ◌≤◌, Bool, true, false, ◌&&◌, ◌||◌, ◌==◌, cond, IsTrue, IsFalse, ltb, leb, ltb-true, ltb-false, eqb-true, le-leb, leb-true, List, [], ◌++◌, length, take, drop, Ok, refl, sym, ap, ◌∙◌, arith}
+use Rattle.std.proofs.Common.{◌≡◌, ℕ, ◌+◌, ◌-◌, ◌*◌, ◌<◌, ◌≤◌, ◌&&◌, ◌||◌, ◌==◌, IsTrue, IsFalse, ltb, List, [], ◌++◌, length, take, drop, Ok, refl, sym, ap, ◌∙◌, arith}
 use Rattle.std.specs.Prelude.{flat_map}
 use Rattle.std.specs.List.{range_with_len}
-use Rattle.std.proofs.lemmas.Bool.{cases_Bool}
+use Rattle.std.proofs.lemmas.Bool.Decides.{nat_tests}
 use Rattle.std.proofs.lemmas.List.{take-take, take-append-drop, length-take-le}
 use Rattle.std.proofs.lemmas.List.FromFn.{length-map-range_with_len}
 use Rattle.sha2.specs.Sha256.{sha256}
@@ -15,29 +15,9 @@ use Rattle.fwu_formats.proofs.Read.{manifest-holds}
 use Rattle.fwu_formats.proofs.Spell.{num_front}
 use Rattle.fwu_formats.proofs.OneSpelling.{all-take, flat-map, next, next-num, pieces, layout-one-spelling, meta-one-spelling, record-one-spelling}
 
-by-form : (one two above : Bool) → IsTrue (one || (two && above)) → IsFalse (one && above) → ((one ≡ true) × (above ≡ false)) ⊎ ((two ≡ true) × (above ≡ true))
-by-form true two true has high = absurd cc
-by-form true two false has high = inl (refl, refl)
-by-form false true true has high = inr (refl, refl)
-by-form false true false has high = absurd cc
-by-form false false above has high = absurd cc
-
--- the form is the version's
 form-is : (form security : ℕ) → IsTrue ((form == 1) || ((form == 2) && ltb version_limit security)) → IsFalse ((form == 1) && ltb version_limit security) → form ≡ form_of security
 form-is form security has high =
-    elim (by-form (form == 1) (form == 2) (ltb version_limit security) has high) [
-      | inl narrow ↦ eqb-true form 1 narrow.0 ∙ sym (ap (λ (b : Bool). cond b 1 2) (le-leb security version_limit (ltb-false version_limit security narrow.1)))
-      | inr wide ↦
-          let over = ltb-true version_limit security wide.1 in
-          eqb-true form 2 wide.0 ∙ sym (ap (λ (b : Bool). cond b 1 2) (not-within security over))
-    ]
-  where
-    not-within : (v : ℕ) → version_limit < v → leb v version_limit ≡ false
-    not-within v over =
-        elim (cases_Bool (leb v version_limit)) [
-          | inl fits ↦ absurd (let le = leb-true v version_limit fits in omega (arith, le, over))
-          | inr past ↦ past
-        ]
+    grind (arith, nat_tests)
 
 module _ (B : List ℕ) (bytes : IsTrue (are_bytes B)) (count : ℕ) (room : manifest_size count ≤ length B) where
   row-spelled : (j : ℕ) → j < count → take 56 (drop (16 + j * 56) B) ≡ manifest_row_bytes (row_at B j)

@@ -1,31 +1,27 @@
 -- What is read has one spelling: the bytes follow from the value.
-use Rattle.std.proofs.Common.{◌≡◌, ℕ, zero, suc, ◌+◌, ◌-◌, ◌*◌, ◌/◌, ◌%◌, ◌<◌, ◌≤◌, inl, inr, Bool, false, not, ◌||◌, ◌==◌, IsTrue, ltb, leb, leb-true, eqb-true, ltb-true, ltb-false, List, [], ◌∷◌, ◌++◌, length, get_or, take, drop, drop-cons, map, replicate, Result, Ok, Err, refl, sym, ap, subst, ◌∙◌, arith, length-drop, zero-add, append-nil, append_assoc}
+use Rattle.std.proofs.Common.{◌≡◌, ℕ, zero, suc, ◌+◌, ◌-◌, ◌*◌, ◌/◌, ◌%◌, ◌<◌, ◌≤◌, inl, inr, Bool, false, ◌==◌, IsTrue, ltb, eqb-true, ltb-true, List, [], ◌∷◌, ◌++◌, length, get_or, take, drop, drop-cons, map, replicate, Ok, refl, sym, ap, subst, ◌∙◌, arith, length-drop, zero-add, append-nil, append_assoc}
+use Rattle.std.proofs.lemmas.Bool.Decides.{nat_tests}
 use Rattle.std.specs.Prelude.{flat_map, nat_lt}
 use Rattle.std.specs.List.{list_all, range_with_len}
 use Rattle.std.proofs.Math.Nat.{suc-mul}
 use Rattle.std.proofs.Math.Seq.{take-add}
-use Rattle.std.proofs.lemmas.Bool.{and_parts, and_from, not-false, cond_both, cases_lt, or_cases}
+use Rattle.std.proofs.lemmas.Bool.{and_parts, and_from}
 use Rattle.std.proofs.lemmas.List.{drop-drop, length-take-le, get_or-take, get_or-drop}
 use Rattle.std.proofs.lemmas.List.FromFn.{get_or-map-range_with_len, length-map-range_with_len, map-range_with_len_more}
 use Rattle.base_core.specs.Bytes.{num, le, num_at, part, same_bytes, listed, are_bytes}
 use Rattle.base_core.specs.Crc.{crc}
 use Rattle.base_core.proofs.Spelled.{same_is}
 use Rattle.fwu_formats.specs.Layout.{Layout, ImageRow, nil_guid, fits_layout, layout_magic, layout_of, layout_at, layout_size, layout_body, layout_bytes, row_bytes, has_zeros}
-use Rattle.fwu_formats.specs.Metadata.{Meta, MetaRead, meta_of, meta_bytes, meta_body, meta_size, meta_size_v1, entry_size, entry_place, entry_bytes, entries_bytes, bit_at, bit_number, bits_from, has_bank_entry, has_entry, has_entries, has_states, has_indices, has_fields, header_fields, is_state_byte, state_byte, state_of_byte, meta_at, meta_at_v1, read_v2, read_v1, fits_v2, fits_v1}
+use Rattle.fwu_formats.specs.Metadata.{Field, Meta, MetaRead, meta_of, meta_bytes, meta_body, meta_size, entry_size, entry_place, entry_bytes, entries_bytes, bit_at, bit_number, bits_from, has_bank_entry, has_entry, has_entries, has_states, has_indices, has_fields, header_fields, is_state_byte, state_byte, state_of_byte, meta_at, fits_v2}
 use Rattle.fwu_formats.specs.Counter.{is_record, record_magic, record_size, record_body, record_bytes, recorded}
 use Rattle.fwu_formats.specs.declared.kinds.BankState.{BankState}
-use Rattle.fwu_formats.specs.declared.kinds.MetaFault.{MetaFault}
 use Rattle.fwu_formats.specs.declared.kinds.MetaFault.TheVariants as fault
-use Rattle.fwu_formats.proofs.SealLaws.{layout-holds, was_not_refused, limits}
-use Rattle.base_core.proofs.Results.{same-Ok}
+use Rattle.fwu_formats.proofs.SealLaws.{layout-holds, meta-holds, limits}
+pub use Rattle.fwu_formats.proofs.Spell.{all-at}
+use Rattle.fwu_formats.proofs.Spell.{each-range}
 use Rattle.base_core.proofs.Lists.{piece-within}
 
 -- ---- lists
-
-pub all-at : {X : Type 0} (test : X → Bool) (xs : List X) (i : ℕ) (d : X) → IsTrue (list_all test xs) → i < length xs → IsTrue (test (get_or xs i d))
-all-at test [] i d h lt = absurd (omega arith)
-all-at test (x ∷ xs) zero d h lt = (and_parts (test x) _ h).0
-all-at test (x ∷ xs) (suc i) d h lt = all-at test xs i d (and_parts (test x) _ h).1 (omega arith)
 
 flat-last : {X : Type 0} (f : X → List ℕ) (xs : List X) (x : X) → flat_map f (xs ++ x ∷ []) ≡ flat_map f xs ++ f x
 flat-last f [] x = append-nil (f x)
@@ -66,32 +62,14 @@ all-one v [] h = refl
 all-one v (b ∷ bytes) h = let both = and_parts (b == v) _ h in let first = eqb-true b v both.0 in let rest = all-one v bytes both.1 in cc
 
 small-bit : (v : ℕ) → v < 2 → bit_number (v == 1) ≡ v
-small-bit zero h = refl
-small-bit (suc zero) h = refl
-small-bit (suc (suc v)) h = absurd (omega (arith, h))
+small-bit v h = grind (arith, nat_tests)
 
 record IsState (v : ℕ) : Type 0 where
   back : state_byte (state_of_byte v) ≡ v
   small : v < 256
 
 a-state : (v : ℕ) → IsTrue (is_state_byte v) → IsState v
-a-state v h = elim (or_cases ((v == 0xFF) || (v == 0xFE)) (v == 0xFC) h) [
-  | inl first ↦ elim (or_cases (v == 0xFF) (v == 0xFE) first) [
-    | inl is ↦ subst IsState (sym (eqb-true v 0xFF is)) (record { back = refl; small = omega arith })
-    | inr is ↦ subst IsState (sym (eqb-true v 0xFE is)) (record { back = refl; small = omega arith })
-  ]
-  | inr is ↦ subst IsState (sym (eqb-true v 0xFC is)) (record { back = refl; small = omega arith })
-]
-
--- a test that holds in a range
-at-range : (test : ℕ → Bool) (from n i : ℕ) → IsTrue (list_all test (range_with_len from n)) → from ≤ i → i < from + n → IsTrue (test i)
-at-range test from zero i h low high = absurd (omega (arith, low, high))
-at-range test from (suc n) i h low high =
-    let both = and_parts (test from) _ h in
-    elim (cases_lt from i) [
-      | inl below ↦ at-range test (from + 1) n i both.1 (omega (arith, below)) (omega (arith, high))
-      | inr same ↦ let here : from ≡ i = omega (arith, low, same) in subst (λ (k : ℕ). IsTrue (test k)) here both.0
-    ]
+a-state v h = record { back = grind (arith, nat_tests); small = grind (arith, nat_tests) }
 
 module _ (block : List ℕ) (bytes : IsTrue (are_bytes block)) where
   pub field : (at n : ℕ) → at + n ≤ length block → take n (drop at block) ≡ le n (num_at n block at)
@@ -120,6 +98,21 @@ module _ (block : List ℕ) (bytes : IsTrue (are_bytes block)) where
   one-at : (at : ℕ) → at < length block → num_at 1 block at ≡ get_or block at 0
   one-at at lt = ap (λ (l : List ℕ). num (take 1 l)) (drop-cons block at 0 lt) ∙ omega arith
 
+  -- bytes that are all one
+  filled : (v at n : ℕ) → at + n ≤ length block → IsTrue (list_all (λ b. b == v) (take n (drop at block)))
+      → take n (drop at block) ≡ replicate n v
+  filled v at n room h =
+      all-one v (take n (drop at block)) h
+      ∙ ap (λ k. replicate k v) (length-take-le n (drop at block) (omega (arith, length-drop at block, room)))
+
+  -- a body behind its checksum
+  sealed : (size : ℕ) (body : List ℕ) → 4 ≤ size → 4 ≤ length block → num_at 4 block 0 ≡ crc (part block 4 size)
+      → part block 4 size ≡ body
+      → take size block ≡ le 4 (crc body) ++ body
+  sealed size body low room sum is =
+      let n : size ≡ 4 + (size - 4) = omega (arith, low) in
+      ap (λ (k : ℕ). take k block) n ∙ next 0 4 (size - 4) (le 4 (crc body)) body (field 0 4 room ∙ ap (le 4) (sum ∙ ap crc is)) is
+
   -- ---- the states
 
   state-at : (banks bank : ℕ) → 24 + banks ≤ length block → IsTrue (list_all is_state_byte (take banks (drop 24 block))) → bank < banks → IsState (num_at 1 block (24 + bank))
@@ -144,9 +137,8 @@ module _ (block : List ℕ) (bytes : IsTrue (are_bytes block)) where
   unused-spelled : (banks : ℕ) → banks ≤ 4 → 28 ≤ length block → IsTrue (list_all (λ b. b == 0xFF) (part block (24 + banks) 28)) → take (4 - banks) (drop (24 + banks) block) ≡ replicate (4 - banks) 0xFF
   unused-spelled banks few room h =
       let n : 28 - (24 + banks) ≡ 4 - banks = omega arith in
-      let erased : IsTrue (list_all (λ b. b == 0xFF) (take (4 - banks) (drop (24 + banks) block))) = subst (λ (k : ℕ). IsTrue (list_all (λ b. b == 0xFF) (take k (drop (24 + banks) block)))) n h in
-      let long : length (take (4 - banks) (drop (24 + banks) block)) ≡ 4 - banks = length-take-le (4 - banks) (drop (24 + banks) block) (omega (arith, length-drop (24 + banks) block, room, few)) in
-      all-one 0xFF _ erased ∙ ap (λ k. replicate k 0xFF) long
+      filled 0xFF (24 + banks) (4 - banks) (omega (arith, room, few))
+      (subst (λ (k : ℕ). IsTrue (list_all (λ b. b == 0xFF) (take k (drop (24 + banks) block)))) n h)
 
   module _ (L : Layout) (fits : IsTrue (fits_layout L)) (room : meta_size L ≤ length block) where
     abbrev m : Meta
@@ -167,28 +159,32 @@ module _ (block : List ℕ) (bytes : IsTrue (are_bytes block)) where
         → IsTrue (has_bank_entry (guid_of image) block (entry_place L 0x28 image + 32 + 24 * bank)) → take 24 (drop (entry_place L 0x28 image + 32 + 24 * bank) block) ≡ bank_bytes image bank
     bank-spelled image bank lt below inside h =
         let p = entry_place L 0x28 image + 32 + 24 * bank in
-        let outer = and_parts _ (num_at 4 block (p + 20) == 0) h in
-        let inner = and_parts (same_bytes (take 16 (drop p block)) (guid_of image)) (ltb (num_at 4 block (p + 16)) 2) outer.0 in
-        let bit : num_at 4 block (p + 16) ≡ bit_number (bit_at m bank image) = sym (small-bit (num_at 4 block (p + 16)) (ltb-true _ 2 inner.1)) ∙ ap bit_number (sym (bit-is image bank lt below)) in
-        let typed = same_is (take 16 (drop p block)) (guid_of image) inner.0 in
-        next-num p 20 4 0 (guid_of image ++ le 4 (bit_number (bit_at m bank image))) (omega (arith, below, inside)) (next-num p 16 4 (bit_number (bit_at m bank image)) (guid_of image) (omega (arith, below, inside)) typed bit) (eqb-true _ 0 outer.1)
+        let bit : num_at 4 block (p + 16) ≡ bit_number (bit_at m bank image) =
+        sym (small-bit (num_at 4 block (p + 16)) (grind (arith, nat_tests))) ∙ ap bit_number (sym (bit-is image bank lt below)) in
+        let typed = same_is (take 16 (drop p block)) (guid_of image) (grind (arith, nat_tests)) in
+        next-num p 20 4 0 (guid_of image ++ le 4 (bit_number (bit_at m bank image))) (omega (arith, below, inside))
+        (next-num p 16 4 (bit_number (bit_at m bank image)) (guid_of image) (omega (arith, below, inside)) typed bit)
+        (grind (arith, nat_tests))
 
     entry-spelled : (image : ℕ) → image < length L.rows → entry_place L 0x28 image + entry_size L ≤ length block → IsTrue (has_entry L 0x28 block image) → take (entry_size L) (drop (entry_place L 0x28 image) block) ≡ entry_bytes L m image
     entry-spelled image lt inside h =
         let at = entry_place L 0x28 image in
-        let outer = and_parts _ (list_all (λ bank. has_bank_entry (guid_of image) block (at + 32 + 24 * bank)) (range_with_len 0 L.banks)) h in
+        let test = λ (bank : ℕ). has_bank_entry (guid_of image) block (at + 32 + 24 * bank) in
+        let outer = and_parts _ (list_all test (range_with_len 0 L.banks)) h in
         let inner = and_parts (same_bytes (take 16 (drop at block)) (guid_of image)) (same_bytes (take 16 (drop (at + 16) block)) nil_guid) outer.0 in
         let typed = same_is (take 16 (drop at block)) (guid_of image) inner.0 in
         let nowhere = same_is (take 16 (drop (at + 16) block)) nil_guid inner.1 in
         let banked = pieces (bank_bytes image) (at + 32) 24 L.banks (λ bank below.
-        ap (λ (k : ℕ). take 24 (drop k block)) (omega arith) ∙ bank-spelled image bank lt below inside (at-range (λ bank. has_bank_entry (guid_of image) block (at + 32 + 24 * bank)) 0 L.banks bank outer.1 (omega arith) (omega (arith, below)))) in
+        ap (λ (k : ℕ). take 24 (drop k block)) (omega arith) ∙ bank-spelled image bank lt below inside
+        (each-range test 0 L.banks outer.1 bank (omega arith) (omega (arith, below)))) in
         let size : entry_size L ≡ 32 + L.banks * 24 = omega arith in
         ap (λ (k : ℕ). take k (drop at block)) size ∙ next at 32 (L.banks * 24) (guid_of image ++ nil_guid) (flat_map (bank_bytes image) (listed L.banks (λ bank. bank))) (next at 16 16 (guid_of image) nil_guid typed nowhere) banked
 
     entries-spelled : IsTrue (has_entries L 0x28 block) → take (length L.rows * entry_size L) (drop 0x28 block) ≡ entries_bytes L m
     entries-spelled h =
         pieces (entry_bytes L m) 0x28 (entry_size L) (length L.rows) (λ image lt.
-        entry-spelled image lt (let h = piece-within image (length L.rows) (entry_size L) lt in omega (arith, h, room)) (at-range (has_entry L 0x28 block) 0 (length L.rows) image h (omega arith) (omega (arith, lt))))
+        entry-spelled image lt (let h = piece-within image (length L.rows) (entry_size L) lt in omega (arith, h, room))
+        (each-range (has_entry L 0x28 block) 0 (length L.rows) h image (omega arith) (omega (arith, lt))))
 
     body-spelled : num_at 4 block 4 ≡ 2 → num_at 4 block 16 ≡ meta_size L → IsTrue (fits_v2 L block) → part block 4 (meta_size L) ≡ meta_body L m
     body-spelled version size h =
@@ -196,73 +192,47 @@ module _ (block : List ℕ) (bytes : IsTrue (are_bytes block)) where
         let e = and_parts _ (has_entries L 0x28 block) h in
         let s = and_parts _ (has_states L block) e.0 in
         let i = and_parts (has_fields (header_fields L) block) (has_indices L block) s.0 in
-        let h1 = and_parts (num_at 2 block 0x14 == 0x20) _ i.0 in
-        let h2 = and_parts (num_at 2 block 0x16 == 0) _ h1.1 in
-        let h3 = and_parts (num_at 4 block 0x1C == 0) _ h2.1 in
-        let h4 = and_parts (num_at 1 block 0x20 == L.banks) _ h3.1 in
-        let h5 = and_parts (num_at 1 block 0x21 == 0) _ h4.1 in
-        let h6 = and_parts (num_at 2 block 0x22 == length L.rows) _ h5.1 in
-        let h7 = and_parts (num_at 2 block 0x24 == entry_size L) _ h6.1 in
-        let h8 = and_parts (num_at 2 block 0x26 == 24) _ h7.1 in
+        let none : Field = record { bytes = 0; at = 0; value = 0 } in
+        let said = λ (k : ℕ) (lt : k < 8).
+        let f = get_or (header_fields L) k none in
+        eqb-true (num_at f.bytes block f.at) f.value
+        (all-at (λ f. num_at f.bytes block f.at == f.value) (header_fields L) k none i.0 lt) in
         let st = and_parts (list_all is_state_byte (take L.banks (drop 0x18 block))) _ s.1 in
         let few : L.banks ≤ 4 = limit.most_banks in
         let a = next-num 4 0 4 2 [] (omega (arith, room)) refl version in
         let b = next-num 4 4 4 m.active _ (omega (arith, room)) a refl in
         let c = next-num 4 8 4 m.previous _ (omega (arith, room)) b refl in
         let d = next-num 4 12 4 (meta_size L) _ (omega (arith, room)) c size in
-        let f = next-num 4 16 2 0x20 _ (omega (arith, room)) d (eqb-true _ 0x20 h1.0) in
-        let g = next-num 4 18 2 0 _ (omega (arith, room)) f (eqb-true _ 0 h2.0) in
+        let f = next-num 4 16 2 0x20 _ (omega (arith, room)) d (said 0 (omega arith)) in
+        let g = next-num 4 18 2 0 _ (omega (arith, room)) f (said 1 (omega arith)) in
         let states = next 4 20 L.banks _ (map state_byte m.states) g (states-spelled L.banks L.banks (omega (arith, room, few)) st.0 (omega arith)) in
         let place : 4 + (20 + L.banks) ≡ 24 + L.banks = omega arith in
         let erased = next 4 (20 + L.banks) (4 - L.banks) _ (replicate (4 - L.banks) 0xFF) states
         (ap (λ (k : ℕ). take (4 - L.banks) (drop k block)) place ∙ unused-spelled L.banks few (omega (arith, room)) st.1) in
         let whole : 24 ≡ 20 + L.banks + (4 - L.banks) = omega (arith, few) in
-        let o = next-num 4 24 4 0 _ (omega (arith, room)) (ap (λ (k : ℕ). take k (drop 4 block)) whole ∙ erased) (eqb-true _ 0 h3.0) in
-        let p = next-num 4 28 1 L.banks _ (omega (arith, room)) o (eqb-true _ L.banks h4.0) in
-        let q = next-num 4 29 1 0 _ (omega (arith, room)) p (eqb-true _ 0 h5.0) in
-        let r = next-num 4 30 2 (length L.rows) _ (omega (arith, room)) q (eqb-true _ (length L.rows) h6.0) in
-        let u = next-num 4 32 2 (entry_size L) _ (omega (arith, room)) r (eqb-true _ (entry_size L) h7.0) in
-        let v = next-num 4 34 2 24 _ (omega (arith, room)) u (eqb-true _ 24 h8.0) in
+        let o =
+        next-num 4 24 4 0 _ (omega (arith, room)) (ap (λ (k : ℕ). take k (drop 4 block)) whole ∙ erased) (said 2 (omega arith)) in
+        let p = next-num 4 28 1 L.banks _ (omega (arith, room)) o (said 3 (omega arith)) in
+        let q = next-num 4 29 1 0 _ (omega (arith, room)) p (said 4 (omega arith)) in
+        let r = next-num 4 30 2 (length L.rows) _ (omega (arith, room)) q (said 5 (omega arith)) in
+        let u = next-num 4 32 2 (entry_size L) _ (omega (arith, room)) r (said 6 (omega arith)) in
+        let v = next-num 4 34 2 24 _ (omega (arith, room)) u (said 7 (omega arith)) in
         let w = next 4 36 (length L.rows * entry_size L) _ (entries_bytes L m) v (entries-spelled e.1) in
         let n : meta_size L - 4 ≡ 36 + length L.rows * entry_size L = omega arith in
         ap (λ (k : ℕ). take k (drop 4 block)) n ∙ w
 
-    block-spelled : num_at 4 block 4 ≡ 2 → num_at 4 block 16 ≡ meta_size L → num_at 4 block 0 ≡ crc (part block 4 (meta_size L)) → IsTrue (fits_v2 L block) → take (meta_size L) block ≡ meta_bytes L m
-    unfolding meta_bytes
-    block-spelled version size sum h =
-        let body = body-spelled version size h in
-        let n : meta_size L ≡ 4 + (meta_size L - 4) = omega arith in
-        ap (λ (k : ℕ). take k block) n ∙ take-add 4 (meta_size L - 4) block ∙ ap (λ l. l ++ part block 4 (meta_size L)) (field 0 4 (omega (arith, room)) ∙ ap (le 4) (sum ∙ ap crc body)) ∙ ap (λ l. le 4 (crc (meta_body L m)) ++ l) body
-
 -- metadata of version 2 has one spelling
 pub meta-one-spelling : (L : Layout) (m : Meta) (block : List ℕ) → IsTrue (fits_layout L) → IsTrue (are_bytes block) → meta_of L block ≡ Ok (record { form = 2; meta = m }) → take (meta_size L) block ≡ meta_bytes L m
-unfolding meta_of
+unfolding meta_bytes
 meta-one-spelling L m block fits bytes e =
-    let r : MetaRead = record { form = 2; meta = m } in
-    let a = was_not_refused (ltb (length block) (meta_size L)) fault.Short _ r e in
-    let room = ltb-false (length block) (meta_size L) a.0 in
-    cond_both (num_at 4 block 4 == 2) (read_v2 L block) _ (λ (x : Result MetaRead MetaFault). x ≡ Ok r → take (meta_size L) block ≡ meta_bytes L m)
-    (λ two h. from-two room (eqb-true (num_at 4 block 4) 2 two) h)
-    (λ not_two h. cond_both (num_at 4 block 4 == 1) (read_v1 L block) (Err fault.NotTwo) (λ (x : Result MetaRead MetaFault). x ≡ Ok r → take (meta_size L) block ≡ meta_bytes L m)
-    (λ one g. absurd (not-one g))
-    (λ not_v1 g. absurd cc) h) a.1
-  where
-    from-two : meta_size L ≤ length block → num_at 4 block 4 ≡ 2 → read_v2 L block ≡ Ok (record { form = 2; meta = m }) → take (meta_size L) block ≡ meta_bytes L m
-    from-two room version h =
-        let r : MetaRead = record { form = 2; meta = m } in
-        let c = was_not_refused (not (num_at 4 block 16 == meta_size L)) _ _ r h in
-        let d = was_not_refused (not (num_at 4 block 0 == crc (part block 4 (meta_size L)))) _ _ r c.1 in
-        let f = was_not_refused (not (fits_v2 L block)) _ _ r d.1 in
-        let same : meta_at L block ≡ m = ap (λ (x : MetaRead). x.meta) (same-Ok {F = MetaFault} (record { form = 2; meta = meta_at L block }) r f.1) in
-        block-spelled block bytes L fits room version (eqb-true _ (meta_size L) (not-false _ c.0)) (eqb-true _ _ (not-false _ d.0)) (not-false _ f.0) ∙ ap (meta_bytes L) same
-
-    not-one : read_v1 L block ≡ Ok (record { form = 2; meta = m }) → ⊥
-    not-one h =
-        let r : MetaRead = record { form = 2; meta = m } in
-        let d = was_not_refused (not (num_at 4 block 0 == crc (part block 4 (meta_size_v1 L)))) _ _ r h in
-        let f = was_not_refused (not (fits_v1 L block)) _ _ r d.1 in
-        let forms : 1 ≡ 2 = ap (λ (x : MetaRead). x.form) (same-Ok {F = MetaFault} (record { form = 1; meta = meta_at_v1 L block }) r f.1) in
-        omega (arith, forms)
+    let all = meta-holds L block (record { form = 2; meta = m }) e in
+    elim all.1 [
+      | inl two ↦
+          let body = body-spelled block bytes L fits all.0 two.version two.size two.fits in
+          sealed block bytes (meta_size L) (meta_body L (meta_at L block)) (omega arith) (omega (arith, all.0)) two.sum body
+          ∙ ap (λ (x : MetaRead). meta_bytes L x.meta) two.is
+      | inr one ↦ absurd (let forms : 1 ≡ 2 = ap (λ (x : MetaRead). x.form) one.is in omega (arith, forms))
+    ]
 
 -- ---- layouts
 
@@ -287,14 +257,16 @@ module _ (block : List ℕ) (bytes : IsTrue (are_bytes block)) (images : ℕ) (f
 
   rows-spelled : IsTrue (list_all (λ i. num_at 4 block (52 + 24 * i) == 0) (range_with_len 0 images)) → take (images * 24) (drop 32 block) ≡ flat_map row_bytes (listed images (row_at block))
   rows-spelled zeros =
-      pieces block bytes (λ i. row_bytes (row_at block i)) 32 24 images (λ i lt. row-spelled i lt (eqb-true _ 0 (at-range (λ k. num_at 4 block (52 + 24 * k) == 0) 0 images i zeros (omega arith) (omega (arith, lt)))))
+      pieces block bytes (λ i. row_bytes (row_at block i)) 32 24 images (λ i lt.
+      row-spelled i lt
+      (eqb-true _ 0 (each-range (λ k. num_at 4 block (52 + 24 * k) == 0) 0 images zeros i (omega arith) (omega (arith, lt)))))
       ∙ flat-map (λ i. row_bytes (row_at block i)) (λ (k : ℕ). k) (range_with_len 0 images) ∙ sym (flat-map row_bytes (row_at block) (range_with_len 0 images))
 
   layout_body-spelled : num_at 4 block 4 ≡ layout_magic → num_at 4 block 12 ≡ images → num_at 4 block 16 ≡ 32 + 24 * images → IsTrue (has_zeros block) → part block 4 (32 + 24 * images) ≡ layout_body (layout_at block)
   layout_body-spelled magic count size zeros =
       let L = layout_at block in
       let z = and_parts (list_all (λ b. b == 0) (part block 20 32)) _ zeros in
-      let gap : part block 20 32 ≡ replicate 12 0 = all-one 0 (part block 20 32) z.0 ∙ ap (λ k. replicate k 0) (length-take-le 12 (drop 20 block) (omega (arith, length-drop 20 block, room))) in
+      let gap = filled block bytes 0 20 12 (omega (arith, room)) z.0 in
       let rows : length L.rows ≡ images = length-map-range_with_len (row_at block) 0 (num_at 4 block 12) ∙ count in
       let whole : 32 + 24 * images ≡ layout_size L = omega (arith, rows) in
       let a = next-num block bytes 4 0 4 layout_magic [] (omega (arith, room)) refl magic in
@@ -307,25 +279,20 @@ module _ (block : List ℕ) (bytes : IsTrue (are_bytes block)) (images : ℕ) (f
       let n : 32 + 24 * images - 4 ≡ 28 + images * 24 = omega arith in
       ap (λ (k : ℕ). take k (drop 4 block)) n ∙ f
 
-  layout_block-spelled : num_at 4 block 4 ≡ layout_magic → num_at 4 block 12 ≡ images → num_at 4 block 16 ≡ 32 + 24 * images → num_at 4 block 0 ≡ crc (part block 4 (32 + 24 * images)) → IsTrue (has_zeros block)
-      → take (layout_size (layout_at block)) block ≡ layout_bytes (layout_at block)
-  unfolding layout_bytes
-  layout_block-spelled magic count size sum zeros =
-      let L = layout_at block in
-      let body = layout_body-spelled magic count size zeros in
-      let rows : length L.rows ≡ images = length-map-range_with_len (row_at block) 0 (num_at 4 block 12) ∙ count in
-      let n : layout_size L ≡ 4 + (32 + 24 * images - 4) = omega (arith, rows) in
-      ap (λ (k : ℕ). take k block) n ∙ take-add 4 (32 + 24 * images - 4) block
-      ∙ ap (λ l. l ++ part block 4 (32 + 24 * images)) (field block bytes 0 4 (omega (arith, room)) ∙ ap (le 4) (sum ∙ ap crc body)) ∙ ap (λ l. le 4 (crc (layout_body L)) ++ l) body
-
 -- a layout has one spelling
 pub layout-one-spelling : (L : Layout) (blocks : ℕ) (block : List ℕ) → IsTrue (are_bytes block) → layout_of block blocks ≡ Ok L → take (layout_size L) block ≡ layout_bytes L
+unfolding layout_bytes
 layout-one-spelling L blocks block bytes e =
     let r = layout-holds block blocks L e in
     let images = num_at 4 block 12 in
-    let sum : num_at 4 block 0 ≡ crc (part block 4 (32 + 24 * images)) = r.sum ∙ ap (λ (k : ℕ). crc (part block 4 k)) r.size in
+    let size = 32 + 24 * images in
+    let room : size ≤ length block = omega (arith, r.size, r.whole) in
+    let sum : num_at 4 block 0 ≡ crc (part block 4 size) = r.sum ∙ ap (λ (k : ℕ). crc (part block 4 k)) r.size in
+    let whole : layout_size (layout_at block) ≡ size = omega (arith, length-map-range_with_len (row_at block) 0 images) in
+    let body = layout_body-spelled block bytes images r.few room r.magic refl r.size r.zeros in
     subst (λ (x : Layout). take (layout_size x) block ≡ layout_bytes x) r.is
-    (layout_block-spelled block bytes images r.few (omega (arith, r.size, r.whole)) r.magic refl r.size sum r.zeros)
+    (ap (λ (k : ℕ). take k block) whole
+    ∙ sealed block bytes size (layout_body (layout_at block)) (omega arith) (omega (arith, room)) sum body)
 
 -- ---- records of the counter
 
@@ -333,18 +300,15 @@ pub record-one-spelling : (block : List ℕ) → IsTrue (are_bytes block) → Is
 unfolding is_record record_bytes
 record-one-spelling block bytes is =
     let v = num_at 4 block 8 in
-    let zeros = and_parts _ (list_all (λ b. b == 0) (part block 20 32)) is in
-    let unused = and_parts _ (num_at 4 block 12 == 0) zeros.0 in
-    let magic = and_parts _ (num_at 4 block 4 == record_magic) unused.0 in
-    let sum = and_parts _ (num_at 4 block 0 == crc (part block 4 32)) magic.0 in
-    let size = and_parts (leb 32 (length block)) (num_at 4 block 16 == 32) sum.0 in
-    let room : 32 ≤ length block = leb-true 32 (length block) size.0 in
+    let zeros : IsTrue (list_all (λ b. b == 0) (part block 20 32)) = grind (arith, nat_tests) in
+    let room : 32 ≤ length block = grind (arith, nat_tests) in
+    let sum : num_at 4 block 0 ≡ crc (part block 4 32) = grind (arith, nat_tests) in
     let value : recorded block ≡ v = rw is refl in
-    let gap : part block 20 32 ≡ replicate 12 0 = all-one 0 (part block 20 32) zeros.1 ∙ ap (λ k. replicate k 0) (length-take-le 12 (drop 20 block) (omega (arith, length-drop 20 block, room))) in
-    let a = next-num block bytes 4 0 4 record_magic [] (omega (arith, room)) refl (eqb-true _ record_magic magic.1) in
+    let gap = filled block bytes 0 20 12 (omega (arith, room)) zeros in
+    let a = next-num block bytes 4 0 4 record_magic [] (omega (arith, room)) refl (grind (arith, nat_tests)) in
     let b = next-num block bytes 4 4 4 v _ (omega (arith, room)) a refl in
-    let c = next-num block bytes 4 8 4 0 _ (omega (arith, room)) b (eqb-true _ 0 unused.1) in
-    let d = next-num block bytes 4 12 4 32 _ (omega (arith, room)) c (eqb-true _ 32 size.1) in
+    let c = next-num block bytes 4 8 4 0 _ (omega (arith, room)) b (grind (arith, nat_tests)) in
+    let d = next-num block bytes 4 12 4 32 _ (omega (arith, room)) c (grind (arith, nat_tests)) in
     let body : take 28 (drop 4 block) ≡ record_body v = next block bytes 4 16 12 _ (replicate 12 0) d gap in
-    take-add 4 28 block ∙ ap (λ l. l ++ take 28 (drop 4 block)) (field block bytes 0 4 (omega (arith, room)) ∙ ap (le 4) (eqb-true _ _ sum.1 ∙ ap crc body))
-    ∙ ap (λ l. le 4 (crc (record_body v)) ++ l) body ∙ ap (λ (n : ℕ). le 4 (crc (record_body n)) ++ record_body n) (sym value)
+    sealed block bytes 32 (record_body v) (omega arith) (omega (arith, room)) sum body
+    ∙ ap (λ (n : ℕ). le 4 (crc (record_body n)) ++ record_body n) (sym value)

@@ -1,15 +1,15 @@
 -- What was read: metadata has a known version and a bit for each image in each bank, a layout is within its limits, a bank's package is complete.
-use Rattle.std.proofs.Common.{◌≡◌, ℕ, ◌+◌, ◌-◌, ◌*◌, ◌<◌, ◌≤◌, Bool, false, not, ◌==◌, List, [], length, get_or, take, drop, Option, Some, None, Result, Ok, Err, refl, ap, subst, ◌∙◌, arith, inl, inr, ◌⊎◌, IsTrue, leb, ltb, ltb-false, eqb-true}
-use Rattle.std.proofs.lemmas.Bool.{cond_both, not-false}
+use Rattle.std.proofs.Common.{◌≡◌, ℕ, ◌+◌, ◌-◌, ◌*◌, ◌<◌, ◌≤◌, Bool, false, List, [], length, get_or, take, drop, Option, Some, None, Result, Ok, Err, refl, ap, subst, ◌∙◌, arith, inl, inr, ◌⊎◌, IsTrue, leb}
+use Rattle.std.proofs.lemmas.Bool.{cond_both}
+use Rattle.std.proofs.lemmas.Bool.Decides.{nat_tests}
 use Rattle.std.proofs.lemmas.List.{length-map}
 use Rattle.std.proofs.lemmas.List.FromFn.{length-map-range_with_len, get_or-map-range_with_len}
 use Rattle.std.proofs.lemmas.Option.{same_Some}
 use Rattle.base_core.specs.Block.{block}
-use Rattle.base_core.specs.Bytes.{num_at, part, same_bytes}
+use Rattle.base_core.specs.Bytes.{num_at, same_bytes}
 use Rattle.sha2.specs.Sha256.{sha256}
-use Rattle.base_core.specs.Crc.{crc}
 use Rattle.fwu_formats.specs.Layout.{Layout, ImageRow, layout_of, fits_layout}
-use Rattle.fwu_formats.specs.Metadata.{MetaRead, meta_of, meta_read, if_read, read_v2, read_v1, meta_at, meta_at_v1, meta_size, meta_size_v1, fits_v2, fits_v1, bits_from, state_at_v1, bits_v1}
+use Rattle.fwu_formats.specs.Metadata.{MetaRead, meta_of, meta_read, if_read, bits_from, state_at_v1, bits_v1}
 use Rattle.fwu_formats.specs.Manifest.{Manifest, all_paired, has_form, is_complete, is_version_too_high, manifest_at, manifest_magic, manifest_of, manifest_size}
 use Rattle.fwu_formats.specs.Image.{deciding, first_some, slot, images_in, if_complete, package_by, package_in}
 use Rattle.fwu_formats.specs.declared.kinds.BankState.{BankState}
@@ -17,8 +17,7 @@ use Rattle.fwu_formats.specs.declared.kinds.BankState.TheVariants.{Invalid, Vali
 use Rattle.fwu_formats.specs.declared.kinds.MetaFault.{MetaFault}
 use Rattle.fwu_formats.specs.declared.kinds.MetaFault.TheVariants as fault
 use Rattle.fwu_formats.specs.declared.kinds.ManifestFault.{ManifestFault}
-use Rattle.fwu_formats.proofs.SealLaws.{layout-holds, was_not_refused}
-use Rattle.base_core.proofs.Results.{same-Ok}
+use Rattle.fwu_formats.proofs.SealLaws.{layout-holds, meta-holds}
 
 -- ---- metadata that was read
 
@@ -35,37 +34,23 @@ v1-length Invalid bits = length-map bits (λ bit. false)
 v1-length Valid bits = refl
 v1-length Accepted bits = refl
 
-two-whole : (L : Layout) (block : List ℕ) (r : MetaRead) → read_v2 L block ≡ Ok r → IsWholeMeta L r
-two-whole L block r e =
-    let c = was_not_refused (not (num_at 4 block 16 == meta_size L)) _ _ r e in
-    let d = was_not_refused (not (num_at 4 block 0 == crc (part block 4 (meta_size L)))) _ _ r c.1 in
-    let f = was_not_refused (not (fits_v2 L block)) _ _ r d.1 in
-    let m = meta_at L block in
-    subst (λ (x : MetaRead). IsWholeMeta L x) (same-Ok {F = MetaFault} (record { form = 2; meta = m }) r f.1) (record {
-      form = inr refl;
-      bits = λ b lt. ap length (get_or-map-range_with_len (bits_from L 0x28 block) 0 L.banks b b [] lt (omega arith)) ∙ bits-length L 0x28 block b;
-    })
-
-one-whole : (L : Layout) (block : List ℕ) (r : MetaRead) → read_v1 L block ≡ Ok r → IsWholeMeta L r
-one-whole L block r e =
-    let d = was_not_refused (not (num_at 4 block 0 == crc (part block 4 (meta_size_v1 L)))) _ _ r e in
-    let f = was_not_refused (not (fits_v1 L block)) _ _ r d.1 in
-    let m = meta_at_v1 L block in
-    let row = λ (b : ℕ). bits_v1 (state_at_v1 L block b) (bits_from L 0x10 block b) in
-    subst (λ (x : MetaRead). IsWholeMeta L x) (same-Ok {F = MetaFault} (record { form = 1; meta = m }) r f.1) (record {
-      form = inl refl;
-      bits = λ b lt. ap length (get_or-map-range_with_len row 0 L.banks b b [] lt (omega arith)) ∙ v1-length (state_at_v1 L block b) (bits_from L 0x10 block b) ∙ bits-length L 0x10 block b;
-    })
-
 meta-whole : (L : Layout) (block : List ℕ) (r : MetaRead) → meta_of L block ≡ Ok r → IsWholeMeta L r
-unfolding meta_of
 meta-whole L block r e =
-    let a = was_not_refused (ltb (length block) (meta_size L)) fault.Short _ r e in
-    cond_both (num_at 4 block 4 == 2) (read_v2 L block) _ (λ (x : Result MetaRead MetaFault). x ≡ Ok r → IsWholeMeta L r)
-    (λ two h. two-whole L block r h)
-    (λ not_two h. cond_both (num_at 4 block 4 == 1) (read_v1 L block) (Err fault.NotTwo) (λ (x : Result MetaRead MetaFault). x ≡ Ok r → IsWholeMeta L r)
-    (λ one g. one-whole L block r g)
-    (λ not_v1 g. absurd cc) h) a.1
+    elim (meta-holds L block r e).1 [
+      | inl two ↦ subst (λ (x : MetaRead). IsWholeMeta L x) two.is (record {
+        form = inr refl;
+        bits =
+            λ b lt. ap length (get_or-map-range_with_len (bits_from L 0x28 block) 0 L.banks b b [] lt (omega arith))
+            ∙ bits-length L 0x28 block b;
+      })
+      | inr one ↦
+          let row = λ (b : ℕ). bits_v1 (state_at_v1 L block b) (bits_from L 0x10 block b) in
+          subst (λ (x : MetaRead). IsWholeMeta L x) one.is (record {
+            form = inl refl;
+            bits = λ b lt. ap length (get_or-map-range_with_len row 0 L.banks b b [] lt (omega arith))
+                ∙ v1-length (state_at_v1 L block b) (bits_from L 0x10 block b) ∙ bits-length L 0x10 block b;
+          })
+    ]
 
 -- metadata that is read is that of the block
 pub read-is : (L : Layout) (block : List ℕ) (r : MetaRead) → meta_read L block ≡ Some r → meta_of L block ≡ Ok r
@@ -106,25 +91,15 @@ pub record ManifestHolds (images : List ImageRow) (bytes : List ℕ) (m : Manife
 pub manifest-holds : (images : List ImageRow) (bytes : List ℕ) (m : Manifest) → manifest_of images bytes ≡ Ok m → ManifestHolds images bytes m
 unfolding manifest_of
 manifest-holds images bytes m e =
-    let count = length images - 1 in
-    let B = take (manifest_size count) bytes in
-    let a = was_not_refused (ltb (length bytes) (manifest_size count)) _ _ m e in
-    let b = was_not_refused (not (num_at 4 bytes 0 == manifest_magic)) _ _ m a.1 in
-    let c = was_not_refused (not (has_form bytes)) _ _ m b.1 in
-    let d = was_not_refused (is_version_too_high bytes) _ _ m c.1 in
-    let f = was_not_refused (not (num_at 4 bytes 12 == count)) _ _ m d.1 in
-    let g = was_not_refused (not (all_paired (λ i r. same_bytes i.guid r.guid) (drop 1 images) (manifest_at B).rows)) _ _ m f.1 in
-    let h = was_not_refused (not (all_paired (λ i r. leb r.size (4096 * i.slots)) (drop 1 images) (manifest_at B).rows)) _ _ m g.1 in
-    let k = was_not_refused (not (same_bytes (drop (16 + 56 * count) B) (sha256 (take (16 + 56 * count) bytes)))) _ _ m h.1 in
     record {
-      long = ltb-false (length bytes) (manifest_size count) a.0;
-      magic = eqb-true _ manifest_magic (not-false _ b.0);
-      form = not-false _ c.0;
-      version = d.0;
-      count = eqb-true _ count (not-false _ f.0);
-      sizes = not-false _ h.0;
-      digest = not-false _ k.0;
-      is = same-Ok {F = ManifestFault} (manifest_at B) m k.1;
+      long = grind (arith, nat_tests);
+      magic = grind (arith, nat_tests);
+      form = grind (arith, nat_tests);
+      version = grind (arith, nat_tests);
+      count = grind (arith, nat_tests);
+      sizes = grind (arith, nat_tests);
+      digest = grind (arith, nat_tests);
+      is = grind (arith, nat_tests);
     }
 
 -- ---- packages that are read

@@ -11,6 +11,7 @@ use Rattle.base_core.specs.Block.{block, granule}
 use Rattle.fwu_formats.specs.Counter.{counter_in}
 use Rattle.fwu_formats.specs.declared.kinds.ManifestFault.{ManifestFault}
 use Rattle.base_core.proofs.Lists.{prefix-same}
+use Rattle.fwu_formats.proofs.Spell.{listed-is}
 
 -- ---- equal parts of two images
 
@@ -24,22 +25,17 @@ map-same f g (x ∷ xs) h =
 -- the same below a bound
 pub listed-same : {X : Type 0} (f g : ℕ → X) (n : ℕ) (d : X) → ((i : ℕ) → i < n → f i ≡ g i) → listed n f ≡ listed n g
 listed-same f g n d h =
-    let left = length-map-range_with_len f 0 n in
-    let right = length-map-range_with_len g 0 n in
-    ext_get_or d (listed n f) (listed n g) (left ∙ sym right) (λ i below.
-    let lt : i < n = omega (arith, below, left) in
-    get_or-map-range_with_len f 0 n i i d lt (omega arith) ∙ h i lt ∙ sym (get_or-map-range_with_len g 0 n i i d lt (omega arith)))
+    listed-is f n d (listed n g) (length-map-range_with_len g 0 n)
+    (λ i lt. h i lt ∙ sym (get_or-map-range_with_len g 0 n i i d lt (omega arith)))
 
 -- two lists of one length that agree in a range have the same bytes there
 pub range-same : (xs ys : List ℕ) (at n : ℕ) → length xs ≡ length ys → ((place : ℕ) → at ≤ place → place < at + n → get_or xs place 0 ≡ get_or ys place 0) → take n (drop at xs) ≡ take n (drop at ys)
 range-same xs ys at n len same =
-    let left = length-take n (drop at xs) in
-    let right = length-take n (drop at ys) in
-    let cut_x = length-drop at xs in
-    let cut_y = length-drop at ys in
-    ext_get_or 0 (take n (drop at xs)) (take n (drop at ys)) (omega (arith, left, right, cut_x, cut_y, len)) (λ i below.
-    let lt : i < n = omega (arith, below, left) in
-    get_or-take n (drop at xs) i 0 lt ∙ get_or-drop at xs i 0 ∙ same (at + i) (omega arith) (omega (arith, lt)) ∙ sym (get_or-drop at ys i 0) ∙ sym (get_or-take n (drop at ys) i 0 lt))
+    let long = λ (zs : List ℕ). length-take n (drop at zs) in
+    ext_get_or 0 (take n (drop at xs)) (take n (drop at ys)) (omega (arith, long xs, long ys, length-drop {A = ℕ}, len)) (λ i below.
+    let lt : i < n = omega (arith, below, long xs) in
+    get_or-take n (drop at xs) i 0 lt ∙ get_or-drop at xs i 0 ∙ same (at + i) (omega arith) (omega (arith, lt))
+    ∙ sym (get_or-drop at ys i 0) ∙ sym (get_or-take n (drop at ys) i 0 lt))
 
 pub block-same : (xs ys : List ℕ) (k : ℕ) → length xs ≡ length ys → ((place : ℕ) → 4096 * k ≤ place → place < 4096 * (k + 1) → get_or xs place 0 ≡ get_or ys place 0) → block k xs ≡ block k ys
 unfolding block

@@ -1,16 +1,16 @@
 -- A package is read exactly where the equations of its table hold.
-use Rattle.std.proofs.Common.{◌≡◌, ◌≢◌, ℕ, zero, suc, ◌+◌, ◌*◌, ◌<◌, ◌≤◌, Bool, true, false, cond, not, ◌==◌, List, [], ◌∷◌, ◌++◌, length, get_or, take, Option, Some, None, Result, Ok, Err, refl, sym, ap, subst, ◌∙◌, arith, inl, inr, IsTrue, IsFalse, ltb, ltb-false, le-ltb, eq-eqb, ne_eqb, eqb-true, length-append, length-take, ext_get_or, ◌^◌}
+use Rattle.std.proofs.Common.{◌≡◌, ◌≢◌, ℕ, zero, suc, ◌+◌, ◌*◌, ◌<◌, ◌≤◌, Bool, true, false, cond, not, ◌==◌, List, [], ◌∷◌, ◌++◌, length, get_or, take, Option, Some, None, Result, Ok, Err, refl, sym, ap, subst, ◌∙◌, arith, inl, inr, IsTrue, IsFalse, ltb, ltb-false, le-ltb, eq-eqb, ne_eqb, eqb-true, length-append, length-take, ◌^◌}
 use Rattle.std.specs.List.{All, AllPairs, list_any, position_or_len}
-use Rattle.std.specs.Prelude.{position, if◌then◌else◌}
+use Rattle.std.specs.Prelude.{position}
 use Rattle.std.proofs.lemmas.Bool.{cases_Bool, cases_lt, cond_both, not-false}
 use Rattle.std.proofs.lemmas.List.Folds.{list_any_at, list_any_none}
-use Rattle.std.proofs.lemmas.List.FromFn.{length-map-range_with_len, get_or-map-range_with_len}
+use Rattle.std.proofs.lemmas.List.FromFn.{get_or-map-range_with_len}
 use Rattle.std.proofs.lemmas.List.Sums.{position_or_len_is}
 use Rattle.std.proofs.lemmas.List.{get_or_append_left, get_or-take, take_more}
 use Rattle.std.proofs.Math.Seq.{get_or-append_seam, take-length}
 use Rattle.std.proofs.lemmas.List.Elements.{All-append}
 use Rattle.std.proofs.lemmas.List.Quantifiers.{all_pairs_push}
-use Rattle.base_core.specs.Bytes.{num_at, same_bytes, listed}
+use Rattle.base_core.specs.Bytes.{num_at, same_bytes}
 use Rattle.base_core.proofs.Spelled.{same_is, same_refl}
 use Rattle.fwu_formats.specs.Layout.{nil_guid}
 use Rattle.fwu_formats.specs.Package.{Entry, Toc, IsTable, fip_name, entry_limit, entry_at, has_guid, entries_from, is_beyond, within, with_entries, toc_of}
@@ -18,7 +18,7 @@ use Rattle.fwu_formats.specs.Law.{TablesAreRead}
 use Rattle.fwu_formats.specs.declared.kinds.FipFault.{FipFault}
 use Rattle.fwu_formats.specs.declared.kinds.FipFault.TheVariants as fault
 use Rattle.fwu_formats.proofs.SealLaws.{was_not_refused}
-use Rattle.fwu_formats.proofs.Spell.{not_refused}
+use Rattle.fwu_formats.proofs.Spell.{listed-is, not_refused}
 use Rattle.base_core.proofs.Results.{same-Ok}
 use Rattle.base_core.proofs.Lists.{none-found}
 
@@ -105,7 +105,7 @@ entries-read bytes front i (suc left) es is are e =
 abbrev pub headed : List ℕ → List Entry → Toc
 headed bytes es = record { serial = num_at 4 bytes 4; flags = num_at 8 bytes 8; entries = es }
 
-found-none : {X : Type 0} (p : X → Bool) (xs : List X) (d : X) → All (λ x. p x ≡ false) xs → position p xs ≡ None
+pub found-none : {X : Type 0} (p : X → Bool) (xs : List X) (d : X) → All (λ x. p x ≡ false) xs → position p xs ≡ None
 found-none p xs d none =
     let at : position_or_len p xs ≡ length xs = position_or_len_is p xs (length xs) d (omega arith) (λ k lt. none k d lt) (λ lt. absurd (omega (arith, lt))) in
     let past : ltb (position_or_len p xs) (length xs) ≡ false = le-ltb (position_or_len p xs) (length xs) (omega (arith, at)) in
@@ -120,8 +120,7 @@ module _ (bytes : List ℕ) (es : List Entry) where
     flags = refl;
     whole = read.whole;
     few = read.few;
-    entries = ext_get_or no_entry es (listed (length es) (entry_at bytes)) (sym (length-map-range_with_len (entry_at bytes) 0 (length es))) (λ k lt.
-        read.are.at k lt ∙ sym (get_or-map-range_with_len (entry_at bytes) 0 (length es) k k no_entry lt (omega arith)));
+    entries = sym (listed-is (entry_at bytes) (length es) no_entry es refl (λ k lt. sym (read.are.at k lt)));
     marker = read.marker;
     types = read.are.types;
     distinct = read.are.distinct;
@@ -204,23 +203,7 @@ tables-are-read = record { read = read-there; table = table-of }
 -- ---- each payload of a package ends within it
 
 pub ends-within : (bytes : List ℕ) (toc : Toc) → toc_of bytes ≡ Ok toc → All (λ e. e.offset + e.size ≤ length bytes) toc.entries
-unfolding toc_of
-ends-within bytes toc e = go (ltb (length bytes) 16) (not (num_at 4 bytes 0 == fip_name)) (num_at 4 bytes 4 == 0) (entries_from bytes [] 0 entry_limit) e
-  where
-    by : (es : List Entry) (o : Option ℕ) → position (is_beyond bytes) es ≡ o → within bytes (headed bytes es) o ≡ Ok toc → All (λ e. e.offset + e.size ≤ length bytes) toc.entries
-    by es None none h =
-        let same : headed bytes es ≡ toc = cc in
-        subst (λ (t : Toc). All (λ e. e.offset + e.size ≤ length bytes) t.entries) same (λ k d lt. ltb-false (length bytes) _ (none-found (is_beyond bytes) es none k d lt))
-    by es (Some i) some h = cc
-
-    go : (a b c : Bool) (r : Result (List Entry) FipFault)
-        → (if a then Err fault.ShortHeader else if b then Err fault.BadName else if c then Err fault.ZeroSerial else with_entries bytes r) ≡ Ok toc
-        → All (λ e. e.offset + e.size ≤ length bytes) toc.entries
-    go true b c r h = cc
-    go false true c r h = cc
-    go false false true r h = cc
-    go false false false (Err f) h = cc
-    go false false false (Ok es) h = by es (position (is_beyond bytes) es) refl h
+ends-within bytes toc e = (table-of bytes toc e).within
 
 pub ends-below : (bytes : List ℕ) (toc : Toc) → length bytes < 2 ^ 64 → toc_of bytes ≡ Ok toc → All (λ e. e.offset + e.size < 2 ^ 64) toc.entries
 ends-below bytes toc short e = λ k d lt. let h = ends-within bytes toc e k d lt in omega (arith, h, short)
