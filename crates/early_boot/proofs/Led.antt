@@ -36,7 +36,7 @@ use Rattle.early_boot.specs.declared.counting_starts.Counting.{Counting}
 use Rattle.early_boot.specs.declared.counting_starts.Counting.TheVariants as counting
 use Rattle.early_boot.specs.Showing.{ShowsImage, state_shown, trials_in}
 use Rattle.early_boot.specs.Starting.{count_moves}
-use Rattle.early_boot.specs.CountingStarts.{CountedAs, CountsChosen, IsStartOf, Leads, WritesMove, WritesMoves, counting_in, counting_moves, counting_of, with_counts}
+use Rattle.early_boot.specs.CountingStarts.{IsStartOf, Leads, WritesMove, WritesMoves, counting_in, counting_moves, counting_of, with_counts}
 use Rattle.early_boot.proofs.Lookups.{bank-is}
 
 -- a stop from which the flash is guarded
@@ -296,19 +296,3 @@ module _ (shown : Shown) (s : Told) (shows : ShowsImage s.now shown) (fits : IsT
       let agree = front-kept shown.layout (4096 * 5) (4096 * 7) s t keeps in
       shows.trials_are
       ∙ ap (λ (n : ℕ). cond (is_valid (state_at shown.meta.meta active)) n 0) (sym (marks-agree shown.layout no_meta (4096 * 5) (4096 * 7) s.now t.now agree 3 3 (omega arith) (inl (omega arith)) (omega arith)))
-
--- ---- the counts that are shown then
-
-counted-as : (what : Counting) (shown after : Shown) (chosen : Chosen) → what ≡ counting_in shown chosen → CountedAs what chosen.version shown after
-    → CountsChosen shown after chosen
-counted-as what shown after chosen is counted = subst (λ (k : Counting). CountedAs k chosen.version shown after) is counted
-
-pub counted-nothing : (shown : Shown) (chosen : Chosen) → counting.Nothing ≡ counting_in shown chosen → CountsChosen shown (with_counts shown shown.trials shown.counter) chosen
-counted-nothing shown chosen is = counted-as counting.Nothing shown (with_counts shown shown.trials shown.counter) chosen is (record { counter = refl; trials = refl })
-
-pub counted-trial : (shown : Shown) (chosen : Chosen) (trials : ℕ) → trials ≤ 3 → counting.Trial ≡ counting_in shown chosen
-    → CountsChosen shown (with_counts shown trials shown.counter) chosen
-counted-trial shown chosen trials few is = counted-as counting.Trial shown (with_counts shown trials shown.counter) chosen is (record { counter = refl; trials = few })
-
-pub counted-raise : (shown : Shown) (chosen : Chosen) → counting.Raise ≡ counting_in shown chosen → CountsChosen shown (with_counts shown shown.trials chosen.version) chosen
-counted-raise shown chosen is = counted-as counting.Raise shown (with_counts shown shown.trials chosen.version) chosen is (record { counter = refl; trials = refl })

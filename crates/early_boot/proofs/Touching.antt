@@ -1,7 +1,6 @@
 -- Which blocks a boot may erase or program.
 use Rattle.std.proofs.Common.{◌≡◌, inl, inr, ℕ, Bool, true, false, cond, ◌==◌, Option, Some, None, Ok, Err, sym, ap, subst, ◌∙◌, arith}
-use Rattle.std.proofs.lemmas.Bool.{false≢true}
-use Rattle.std.specs.Prelude.{Result, IsErr, slice_index_or}
+use Rattle.std.specs.Prelude.{Result, slice_index_or}
 use Rattle.flash_core.specs.declared.flash.FlashStop.{FlashStop}
 use Rattle.flash_core.specs.declared.flash.FlashStop.TheVariants as flash_stop
 use Rattle.flash_core.specs.Touches.{TouchesOnly}
@@ -31,13 +30,6 @@ use Rattle.early_boot.specs.EndsBy.{TouchesBoot, TouchesStart, TouchesStopped, c
 pub touches-behind : (low high : ℕ) {a b c : ℕ → ℕ} → b ≡ a → TouchesOnly low high b c → TouchesOnly low high a c
 touches-behind low high same only = touches_then low high (touches_none low high same) only
 
--- what a start is counted as
-pub counted-touches : (k what : Counting) (a b : ℕ → ℕ) → what ≡ k → TouchesCounting k a b → TouchesCounting what a b
-counted-touches k what a b is only = subst (λ (x : Counting). TouchesCounting x a b) (sym is) only
-
-pub counting-behind : (k : Counting) (a b c : ℕ → ℕ) → b ≡ a → TouchesCounting k b c → TouchesCounting k a c
-counting-behind k a b c same only = subst (λ (w : ℕ → ℕ). TouchesCounting k w c) same only
-
 -- all of it lies in blocks 1 to 6
 counting-within : (k : Counting) (a b : ℕ → ℕ) → TouchesCounting k a b → TouchesOnly 4096 28672 a b
 counting-within counting.Nothing a b same = touches_none 4096 28672 same
@@ -58,27 +50,10 @@ repair-within RepairOne a b only = touches_wider 8192 12288 4096 12288 (omega ar
 repair-within MigrateZero a b only = only
 repair-within MigrateOne a b only = only
 
-pub repair-none : (which : Which) (a b : ℕ → ℕ) → b ≡ a → TouchesRepair which a b
-repair-none Same a b same = same
-repair-none RepairZero a b same = touches_none 4096 8192 same
-repair-none RepairOne a b same = touches_none 8192 12288 same
-repair-none MigrateZero a b same = touches_none 4096 12288 same
-repair-none MigrateOne a b same = touches_none 4096 12288 same
-
 pub boot-within : (result : Result (Option (Shown × Chosen)) FlashStop) (shown : Shown) (a b : ℕ → ℕ) → TouchesRepairAndStart result shown a b → TouchesOnly 4096 28672 a b
 boot-within result shown a b all =
     touches_then 4096 28672 (touches_wider 4096 12288 4096 28672 (omega arith) (omega arith) (repair-within shown.which a all.repaired all.repair))
     (found-within result (mended shown) all.repaired b all.start)
-
--- a stop that counted nothing, and one that may have
-pub stopped-nothing : (result : Result (Option (Shown × Chosen)) FlashStop) (shown : Shown) (a b : ℕ → ℕ) → IsErr result → b ≡ a → TouchesFound result shown a b
-stopped-nothing (Ok x) shown a b err same = absurd (false≢true err)
-stopped-nothing (Err stop) shown a b err same = inl same
-
-pub stopped-counting : (result : Result (Option (Shown × Chosen)) FlashStop) (shown : Shown) (chosen : Chosen) (a b : ℕ → ℕ) → IsErr result
-    → TouchesCounting (counting_in shown chosen) a b → TouchesFound result shown a b
-stopped-counting (Ok x) shown chosen a b err only = absurd (false≢true err)
-stopped-counting (Err stop) shown chosen a b err only = inr (chosen, only)
 
 -- behind reads
 pub boot-behind : (result : Result (Option (Shown × Chosen)) FlashStop) (shown : Shown) (a b c : ℕ → ℕ) → b ≡ a → TouchesRepairAndStart result shown b c → TouchesRepairAndStart result shown a c
