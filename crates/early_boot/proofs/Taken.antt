@@ -19,22 +19,11 @@ use Rattle.early_boot.specs.CountingStarts.{CountsLater, TakesCounting, TouchesC
 use Rattle.early_boot.specs.Starting.{TakesMendingAndStart, TakesRepairAndStart, TouchesRepairAndStart}
 use Rattle.early_boot.specs.Tells.{started_as}
 use Rattle.early_boot.specs.Ends.{no_bank}
-use Rattle.early_boot.specs.EndsBy.{TouchesStart, TakesBoot, TakesByBytes, TakesLoaded, TakesLoadedAndStart, TakesStart, counting_told, stopped_with, unshown_end}
+use Rattle.early_boot.specs.EndsBy.{TouchesStart, TakesBoot, TakesLoaded, TakesLoadedAndStart, TakesStart, counting_told, stopped_with, unshown_end}
 use Rattle.replicas.specs.Which.{form_read_of}
 use Rattle.replicas.specs.Repairs.{TakesRepair}
 
 -- ---- nothing was shown, or the flash stopped it
-
-pub unshown-takes : (why : Unshown) (image : List ℕ) (armed arming : Option Arming) → arming ≡ arming_kept (stop_in {T = Shown} (Err why)) armed
-    → TakesByBytes image (unshown_end why) armed arming
-unshown-takes (unshown.Layout f) image armed arming is = is
-unshown-takes unshown.Metadata image armed arming is = is
-unshown-takes (unshown.Flash flash_stop.Lost) image armed arming is = tt
-unshown-takes (unshown.Flash flash_stop.Failed) image armed arming is = tt
-
-pub stopped-takes : (stop : FlashStop) (n : Numbers) (image : List ℕ) (armed arming : Option Arming) → TakesByBytes image (stopped_with stop n) armed arming
-stopped-takes flash_stop.Lost n image armed arming = tt
-stopped-takes flash_stop.Failed n image armed arming = tt
 
 -- the same on any device
 

@@ -34,7 +34,7 @@ use Rattle.early_boot.specs.Tells.{started_as}
 use Rattle.early_boot.specs.TakenUp.{BootedRuns, IsTakeUp, MendsFound, OnceFound, RefusalIsIdle, SpendsFound, TakenByNumbers, TakesOnce, TakesTakeUp, not_started, running_bank, running_in, runs_from, stop_in_end, stopped, taken, unshown_as, was_started}
 use Rattle.early_boot.proofs.Boots.{past-migration}
 use Rattle.early_boot.proofs.Lookups.{some-of}
-use Rattle.early_boot.proofs.Left.{goes-done, goes-stopped, read-goes, read-unarmed}
+use Rattle.early_boot.proofs.Left.{goes-done, goes-stopped, read-all, read-goes}
 use Rattle.early_boot.proofs.Numbered.{numbers-are}
 use Rattle.early_boot.proofs.TakingUp.{none-ends, refused-ends, stopped-ends, taken-ends, taken-knows}
 
@@ -74,7 +74,7 @@ module _ {D : Type 0} (g : Ghosts D) (passes : List ℕ → Bool) (b : ℕ) (fla
         power = reads.power;
         size = reads.size;
         costs = reads.costs;
-        unarmed = read-unarmed g (stop_in_end (unshown_as why)) flash left reads;
+        unarmed = (read-all g (stop_in_end (unshown_as why)) flash left reads).unarmed;
         spent = unshown-spent why (g.arming flash) (g.arming left) (g.counts flash) (g.counts left) reads.arming reads.reached;
         once = λ tells. unshown-once why (g.told flash).now (g.arming flash) (g.arming left);
         touches = touches_none 4096 12288 reads.writes;

@@ -2,7 +2,6 @@
 use Rattle.std.proofs.Common.{◌≡◌, inl, inr, ℕ, Bool, true, false, cond, ◌==◌, Option, Some, None, Ok, Err, sym, ap, subst, ◌∙◌, arith}
 use Rattle.std.specs.Prelude.{Result, slice_index_or}
 use Rattle.flash_core.specs.declared.flash.FlashStop.{FlashStop}
-use Rattle.flash_core.specs.declared.flash.FlashStop.TheVariants as flash_stop
 use Rattle.flash_core.specs.Touches.{TouchesOnly}
 use Rattle.flash_core.proofs.Touches.{touches_none, touches_then, touches_wider}
 use Rattle.fwu_formats.specs.Metadata.{state_at}
@@ -13,8 +12,6 @@ use Rattle.early_boot.specs.declared.choosing.Chosen.{Chosen}
 use Rattle.early_boot.specs.declared.counting_starts.Counting.{Counting}
 use Rattle.early_boot.specs.declared.counting_starts.Counting.TheVariants as counting
 use Rattle.early_boot.specs.declared.showing.Shown.{Shown}
-use Rattle.early_boot.specs.declared.showing.Unshown.{Unshown}
-use Rattle.early_boot.specs.declared.showing.Unshown.TheVariants as unshown
 use Rattle.early_boot.specs.CountingStarts.{TouchesCounting, counting_in, counting_of}
 use Rattle.early_boot.specs.Mending.{mended}
 use Rattle.early_boot.specs.Numbers.{numbers_shown}
@@ -24,7 +21,7 @@ use Rattle.replicas.specs.declared.which.Which.TheVariants.{Same, RepairZero, Re
 use Rattle.replicas.specs.Which.{form_read_of}
 use Rattle.replicas.specs.Repairs.{TouchesRepair}
 use Rattle.early_boot.specs.Starting.{TouchesFound, TouchesRepairAndStart}
-use Rattle.early_boot.specs.EndsBy.{TouchesBoot, TouchesStart, TouchesStopped, counting_told, stopped_with, unshown_end}
+use Rattle.early_boot.specs.EndsBy.{TouchesBoot, TouchesStart, TouchesStopped, counting_told}
 
 -- after reads
 pub touches-behind : (low high : ℕ) {a b c : ℕ → ℕ} → b ≡ a → TouchesOnly low high b c → TouchesOnly low high a c
@@ -55,21 +52,7 @@ boot-within result shown a b all =
     touches_then 4096 28672 (touches_wider 4096 12288 4096 28672 (omega arith) (omega arith) (repair-within shown.which a all.repaired all.repair))
     (found-within result (mended shown) all.repaired b all.start)
 
--- behind reads
-pub boot-behind : (result : Result (Option (Shown × Chosen)) FlashStop) (shown : Shown) (a b c : ℕ → ℕ) → b ≡ a → TouchesRepairAndStart result shown b c → TouchesRepairAndStart result shown a c
-boot-behind result shown a b c same all = record {
-  repaired = all.repaired;
-  repair = subst (λ (w : ℕ → ℕ). TouchesRepair shown.which w all.repaired) same all.repair;
-  start = all.start;
-}
-
 -- ---- by the end
-
-pub unshown-touches : (why : Unshown) {old new : ℕ → ℕ} → new ≡ old → TouchesBoot (unshown_end why) old new
-unshown-touches (unshown.Layout f) same = same
-unshown-touches unshown.Metadata same = same
-unshown-touches (unshown.Flash flash_stop.Lost) same = same
-unshown-touches (unshown.Flash flash_stop.Failed) same = same
 
 -- A choice is counted by the state of the active bank and the counter that the numbers tell, or as nothing.
 module _ (shown : Shown) (n : Numbers) (read : n ≡ numbers_shown shown) (old new : ℕ → ℕ) where
@@ -84,7 +67,7 @@ module _ (shown : Shown) (n : Numbers) (read : n ≡ numbers_shown shown) (old n
   stopped-by-numbers stop (inr (chosen, only)) = counted-stop (chosen.bank == shown.meta.meta.active) chosen.version only
 
 module _ (shown : Shown) (n : Numbers) (read : n ≡ numbers_shown shown) (form : shown.meta.form ≡ form_read_of shown.which) (old new : ℕ → ℕ) where
-  stopped-start : (stop : FlashStop) → TouchesRepairAndStart (Err stop) shown old new → TouchesStart n (TouchesStopped n) old new
+  pub stopped-start : (stop : FlashStop) → TouchesRepairAndStart (Err stop) shown old new → TouchesStart n (TouchesStopped n) old new
   stopped-start stop all = record {
     which = shown.which;
     version_is = ap (λ (m : Numbers). m.form) read ∙ form;
@@ -92,10 +75,6 @@ module _ (shown : Shown) (n : Numbers) (read : n ≡ numbers_shown shown) (form 
     repair = all.repair;
     start = stopped-by-numbers shown n read all.repaired new stop all.start;
   }
-
-  pub stopped-touches : (stop : FlashStop) → TouchesRepairAndStart (Err stop) shown old new → TouchesBoot (stopped_with stop n) old new
-  stopped-touches flash_stop.Lost all = stopped-start flash_stop.Lost all
-  stopped-touches flash_stop.Failed all = stopped-start flash_stop.Failed all
 
   -- where no bank was started, the repair alone
   pub none-touches : (active previous : ℕ) → TouchesRepairAndStart (Ok None) shown old new → TouchesBoot (no_bank active previous) old new
