@@ -84,7 +84,13 @@ repaired-alone {T} x L r ms trials s t none writes =
 
 -- the same at another value
 pub counts-at : {T : Type 0} (x : T) (L : Layout) (r : MetaRead) (ms : List Move) (trials : ℕ) (s t : Told) → RepairsAndCounts {T = T} (Ok x) L r ms trials s t → RepairsAndCounts {T = Unit {0}} (Ok tt) L r ms trials s t
-counts-at x L r ms trials s t writes = record { repaired = writes.repaired; repairs = writes.repairs; counts = writes-at (Ok x) (Ok tt) (λ A a. a) ms trials writes.repaired t writes.counts }
+counts-at x L r ms trials s t writes =
+    record {
+      repaired = writes.repaired;
+      repairs = writes.repairs;
+      counts = writes-at (Ok x) (Ok tt) (λ A a. a) ms trials
+          writes.repaired t writes.counts;
+    }
 
 module _ {U : Type 0} (L : Layout) (r : MetaRead) (ms : List Move) (trials : ℕ) (s t : Told) where
   stopped-writes : {T : Type 0} (stop : FlashStop) (result : Result U FlashStop) → IsErr result → Repairs {T = T} (Err stop) L r s t → BootWrites result L r ms trials s t
@@ -94,7 +100,12 @@ module _ {U : Type 0} (L : Layout) (r : MetaRead) (ms : List Move) (trials : ℕ
   next-writes : {T : Type 0} (x : T) (result : Result U FlashStop) (m : Told) → Repairs {T = T} (Ok x) L r s m → WritesMoves result ms trials m t → BootWrites result L r ms trials s t
   next-writes {T} x (Ok y) m repairs counts = record { repaired = m; repairs = repairs-at {T = T} (Ok x) (Ok tt) L r s m (λ A a. a) repairs; counts = counts }
   next-writes {T} x (Err why) m repairs counts =
-      inr (record { repaired = m; repairs = repairs-at {T = T} (Ok x) (Ok tt) L r s m (λ A a. a) repairs; counts = writes-at {T = U} {U = Unit {0}} (Err why) (Err why) (λ A a. a) ms trials m t counts })
+      inr (record {
+        repaired = m;
+        repairs = repairs-at {T = T} (Ok x) (Ok tt) L r s m (λ A a. a) repairs;
+        counts = writes-at {T = U}
+            {U = Unit {0}} (Err why) (Err why) (λ A a. a) ms trials m t counts;
+      })
 
 module _ (passes : List ℕ → Bool) (shown : Shown) (s : Told) where
   abbrev state : State

@@ -66,7 +66,8 @@ module _ {T : Type 0} (result : Result T FlashStop) (s : Told) (room : 32768 ≤
 
   idle-start : (k : BankState) (counter v at : ℕ) → WritesMoves result (start_moves k counter v) at s s
   idle-start Invalid counter v at = refl
-  idle-start Valid counter v at = record { keeps = keeps_same (4096 * 3 + 16 * at) (4096 * 3 + 16 * at + 16) s; one_more = never _; stable = never _ }
+  idle-start Valid counter v at =
+      record { keeps = keeps_same (4096 * 3 + 16 * at) (4096 * 3 + 16 * at + 16) s; one_more = never _; stable = never _ }
   idle-start Accepted counter v at =
       cond_both (ltb counter v) (RaiseTo v ∷ []) [] (λ (ms : List Move). WritesMoves result ms at s s)
       (λ e. record { keeps = keeps_same 20480 28672 s; record_is = unwritten result _ s room err; counter = never _ })
@@ -91,16 +92,19 @@ module _ {T : Type 0} (result : Result T FlashStop) (s : Told) (room : 32768 ≤
 -- ---- by another result
 
 -- where one that is done passes what it holds on
-guarded-at : {T U : Type 0} (given : Result T FlashStop) (result : Result U FlashStop) (t : Told) → ((A : Type 0) → OnOk given A → OnOk result A)
+guarded-at : {T U : Type 0} (given : Result T FlashStop) (result : Result U FlashStop) (t : Told)
+    → ((A : Type 0) → OnOk given A → OnOk result A)
     → GuardedBy given t → GuardedBy result t
 guarded-at (Ok x) (Ok y) t pass guarded = guarded
 guarded-at (Ok x) (Err why) t pass rest = rest.guarded
 guarded-at (Err stop) (Ok y) t pass guarded = absurd (pass ⊥ tt)
 guarded-at (Err stop) (Err why) t pass guarded = guarded
 
-module _ {T U : Type 0} (given : Result T FlashStop) (result : Result U FlashStop) (pass : (A : Type 0) → OnOk given A → OnOk result A) where
+module _ {T U : Type 0} (given : Result T FlashStop) (result : Result U FlashStop)
+    (pass : (A : Type 0) → OnOk given A → OnOk result A) where
   writes-move : (m : Move) (at : ℕ) (s t : Told) → WritesMove given m at s t → WritesMove result m at s t
-  writes-move Trial at s t writes = record { keeps = writes.keeps; one_more = pass _ writes.one_more; stable = pass _ writes.stable }
+  writes-move Trial at s t writes =
+      record { keeps = writes.keeps; one_more = pass _ writes.one_more; stable = pass _ writes.stable }
   writes-move (RaiseTo v) at s t writes = record {
     keeps = writes.keeps;
     record_is = record { keeps = writes.record_is.keeps; either = writes.record_is.either; ok = pass _ writes.record_is.ok };
@@ -127,7 +131,8 @@ pub leads-done : {T U : Type 0} (x : T) (result : Result U FlashStop) (L : Layou
 leads-done x result = leads-at (Ok x) result (on-ok result)
 
 pub leads-stopped : {T U : Type 0} (stop : FlashStop) (result : Result U FlashStop) (L : Layout) (state : State) (ms : List Move) (s t : Told) → IsErr result → Leads {T = T} (Err stop) L state ms s t → Leads result L state ms s t
-leads-stopped {T} stop result L state ms s t err = leads-at {T = T} (Err stop) result (λ A a. IfOk-from_err result (λ x. A) err) L state ms s t
+leads-stopped {T} stop result L state ms s t err =
+    leads-at {T = T} (Err stop) result (λ A a. IfOk-from_err result (λ x. A) err) L state ms s t
 
 -- ---- what a start is counted as
 
@@ -141,14 +146,17 @@ Counted shown c counting.Raise =
 pub counted-in : (shown : Shown) (c : Chosen) (what : Counting) → counting_in shown c ≡ what → Counted shown c what
 counted-in shown c what is =
     subst (Counted shown c) is
-    (cond_both (eqb c.bank shown.meta.meta.active) (counting_of (state_at shown.meta.meta shown.meta.meta.active) shown.counter c.version) counting.Nothing (Counted shown c)
+    (cond_both (eqb c.bank shown.meta.meta.active)
+    (counting_of (state_at shown.meta.meta shown.meta.meta.active) shown.counter c.version) counting.Nothing (Counted shown c)
     (λ e. by-state (state_at shown.meta.meta shown.meta.meta.active) refl (eqb-true c.bank shown.meta.meta.active e)) (λ e. tt))
   where
-    by-state : (k : BankState) → state_at shown.meta.meta shown.meta.meta.active ≡ k → c.bank ≡ shown.meta.meta.active → Counted shown c (counting_of k shown.counter c.version)
+    by-state : (k : BankState) → state_at shown.meta.meta shown.meta.meta.active ≡ k → c.bank ≡ shown.meta.meta.active
+        → Counted shown c (counting_of k shown.counter c.version)
     by-state Invalid e here = tt
     by-state Valid e here = (here, e)
     by-state Accepted e here =
-        cond_both (ltb shown.counter c.version) counting.Raise counting.Nothing (Counted shown c) (λ below. (here, e, ltb-true shown.counter c.version below)) (λ above. tt)
+        cond_both (ltb shown.counter c.version) counting.Raise counting.Nothing (Counted shown c)
+        (λ below. (here, e, ltb-true shown.counter c.version below)) (λ above. tt)
 
 -- ---- by what is shown
 
@@ -233,7 +241,8 @@ module _ (shown : Shown) (s : Told) (shows : ShowsImage s.now shown) (fits : IsT
 
   -- and a raise one to the version of the active bank
   version-active : (c : Chosen) → counting_in shown c ≡ counting.Raise → IsStartOf state c → c.version ≡ version (booted_package state active)
-  version-active c is start = start.version_is ∙ ap (λ (b : ℕ). version (booted_package state b)) (counted-in shown c counting.Raise is).0
+  version-active c is start =
+      start.version_is ∙ ap (λ (b : ℕ). version (booted_package state b)) (counted-in shown c counting.Raise is).0
 
   -- ---- what a start of what was chosen writes, by what it is counted as
 
@@ -247,11 +256,13 @@ module _ (shown : Shown) (s : Told) (shows : ShowsImage s.now shown) (fits : IsT
     module _ {T : Type 0} (result : Result T FlashStop) (t : Told) where
       pub start-trial : counting_in shown c ≡ counting.Trial → Adds result 3 shown.trials s t → Leads result shown.layout state (chosen_moves state c.bank) s t
       start-trial is adds =
-          subst (λ (ms : List Move). Leads result shown.layout state ms s t) (moves-are counting.Trial is) (leads-trial result t (counted-in shown c counting.Trial is).1 (trials-left c is start) adds)
+          subst (λ (ms : List Move). Leads result shown.layout state ms s t) (moves-are counting.Trial is)
+          (leads-trial result t (counted-in shown c counting.Trial is).1 (trials-left c is start) adds)
 
       pub start-raise : counting_in shown c ≡ counting.Raise → Raises result c.version s t → Leads result shown.layout state (chosen_moves state c.bank) s t
       start-raise is raises =
-          subst (λ (ms : List Move). Leads result shown.layout state ms s t) (moves-are counting.Raise is) (leads-raise result t c.version (counted-in shown c counting.Raise is).1 (version-active c is start) raises)
+          subst (λ (ms : List Move). Leads result shown.layout state ms s t) (moves-are counting.Raise is)
+          (leads-raise result t c.version (counted-in shown c counting.Raise is).1 (version-active c is start) raises)
 
   -- ---- what is shown once a start was counted
 

@@ -39,8 +39,10 @@ use Rattle.early_boot.proofs.TakingUp.{none-ends, refused-ends, stopped-ends, ta
 -- ---- nothing was shown, so that nothing was written
 
 module _ {D : Type 0} (g : Ghosts D) (passes : List ℕ → Bool) (b : ℕ) (flash left : D) where
-  none-as : (e : TakenUp) → Reads {X = Unit {0}} g (stop_in_end e) flash left → TakesTakeUp e (g.arming flash) (g.arming left) (g.counts flash) (g.counts left)
-      → TakesOnce (g.told flash).now e (g.arming flash) (g.arming left) → RefusalIsIdle e (g.writes flash) (g.writes left) → TakenByNumbers passes b e
+  none-as : (e : TakenUp) → Reads {X = Unit {0}} g (stop_in_end e) flash left
+      → TakesTakeUp e (g.arming flash) (g.arming left) (g.counts flash) (g.counts left)
+      → TakesOnce (g.told flash).now e (g.arming flash) (g.arming left) → RefusalIsIdle e (g.writes flash) (g.writes left)
+      → TakenByNumbers passes b e
       → (IsTrue g.tells → TakeUpEnds passes b (g.told flash) e (g.told flash)) → IsTakeUp g passes b flash e left
   none-as e reads spent once refused numbers ends = record {
     power = reads.power;
@@ -73,14 +75,17 @@ module _ {D : Type 0} (g : Ghosts D) (passes : List ℕ → Bool) (b : ℕ) (fla
   both-touch = touches-behind 4096 12288 reads.writes (repair-within shown.which _ _ mended_only)
 
   -- by what was there at entry
-  found-from : (o : Option Chosen) → (IsTrue g.tells → o ≡ running_in passes (g.told mid).now shown b) → IsTrue g.tells → running_in passes (g.told flash).now shown b ≡ o
+  found-from : (o : Option Chosen) → (IsTrue g.tells → o ≡ running_in passes (g.told mid).now shown b) → IsTrue g.tells
+      → running_in passes (g.told flash).now shown b ≡ o
   found-from o found tells = sym (subst (λ (t : Told). o ≡ running_in passes t.now shown b) (reads.content tells) (found tells))
 
-  mends-from : (result : Result (Option Chosen) FlashStop) → (IsTrue g.tells → MendsFound result shown (g.told mid) (g.told left)) → IsTrue g.tells
+  mends-from : (result : Result (Option Chosen) FlashStop) → (IsTrue g.tells → MendsFound result shown (g.told mid) (g.told left))
+      → IsTrue g.tells
       → MendsFound result shown (g.told flash) (g.told left)
   mends-from result mends tells = subst (λ (t : Told). MendsFound result shown t (g.told left)) (reads.content tells) (mends tells)
 
-  pub refused-take-up : Goes {X = Option Chosen} g (Ok None) mid left → SpendsFound shown None (g.arming mid) (g.arming left) (g.counts mid) (g.counts left)
+  pub refused-take-up : Goes {X = Option Chosen} g (Ok None) mid left
+      → SpendsFound shown None (g.arming mid) (g.arming left) (g.counts mid) (g.counts left)
       → (IsTrue g.tells → None ≡ running_in passes (g.told mid).now shown b) → (IsTrue g.tells → MendsFound (Ok None) shown (g.told mid) (g.told left))
       → g.writes left ≡ g.writes mid → IsTakeUp g passes b flash not_started left
   refused-take-up went spent found mends untouched =
@@ -98,7 +103,9 @@ module _ {D : Type 0} (g : Ghosts D) (passes : List ℕ → Bool) (b : ℕ) (fla
         touches = both-touch;
         refused = untouched ∙ reads.writes;
         numbers = tt;
-        ends = λ tells. refused-ends passes shown b (g.told flash) (g.told left) (has.shows tells) has.fits (found-from None found tells) (mends-from (Ok None) mends tells);
+        ends = λ tells.
+            refused-ends passes shown b (g.told flash) (g.told left) (has.shows tells) has.fits (found-from None found tells)
+            (mends-from (Ok None) mends tells);
       }
 
   pub stopped-take-up : (stop : FlashStop) → Goes {X = Option Chosen} g (Err stop) mid left → (IsTrue g.tells → MendsFound (Err stop) shown (g.told mid) (g.told left))
@@ -115,15 +122,19 @@ module _ {D : Type 0} (g : Ghosts D) (passes : List ℕ → Bool) (b : ℕ) (fla
         touches = both-touch;
         refused = tt;
         numbers = tt;
-        ends = λ tells. stopped-ends passes shown b (g.told flash) (g.told left) (has.shows tells) has.fits stop (mends-from (Err stop) mends tells);
+        ends = λ tells.
+            stopped-ends passes shown b (g.told flash) (g.told left) (has.shows tells) has.fits stop
+            (mends-from (Err stop) mends tells);
       }
 
   module _ (c : Chosen) (found : IsTrue g.tells → Some c ≡ running_in passes (g.told mid).now shown b) (mends : IsTrue g.tells → MendsFound (Ok (Some c)) shown (g.told mid) (g.told left)) where
     pub knows-taken : IsTrue g.tells → KnowsStarted (started_as (mended shown) c) (g.told left)
     knows-taken tells =
-        taken-knows passes shown b (g.told flash) (g.told left) (has.shows tells) has.fits c (found-from (Some c) found tells) (mends-from (Ok (Some c)) mends tells)
+        taken-knows passes shown b (g.told flash) (g.told left) (has.shows tells) has.fits c (found-from (Some c) found tells)
+        (mends-from (Ok (Some c)) mends tells)
 
-    pub taken-take-up : Goes {X = Option Chosen} g (Ok (Some c)) mid left → SpendsFound shown (Some c) (g.arming mid) (g.arming left) (g.counts mid) (g.counts left)
+    pub taken-take-up : Goes {X = Option Chosen} g (Ok (Some c)) mid left
+        → SpendsFound shown (Some c) (g.arming mid) (g.arming left) (g.counts mid) (g.counts left)
         → (IsTrue g.tells → OnceFound shown (g.told mid).now (Some c) (g.arming mid) (g.arming left)) → IsFound passes shown (λ x. running_bank shown b ≡ Some x) c
         → IsTakeUp g passes b flash (taken (started_as (mended shown) c)) left
     taken-take-up went spent once is_found =
@@ -156,7 +167,8 @@ module _ {D : Type 0} (g : Ghosts D) (passes : List ℕ → Bool) (b : ℕ) (fla
             permitted = is_found.permitted;
           };
           ends = λ tells.
-              taken-ends passes shown b (g.told flash) (g.told left) (has.shows tells) has.fits c (found-from (Some c) found tells) (mends-from (Ok (Some c)) mends tells);
+              taken-ends passes shown b (g.told flash) (g.told left) (has.shows tells) has.fits c (found-from (Some c) found tells)
+              (mends-from (Ok (Some c)) mends tells);
         }
 
 -- ---- what a boot started may be taken up

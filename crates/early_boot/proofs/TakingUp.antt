@@ -186,7 +186,9 @@ module _ (passes : List ℕ → Bool) (shown : Shown) (b : ℕ) (old new : Told)
       ends-as = record {
         by_bytes = bank-as;
         by_machine = λ E s test calm guards.
-            subst (λ (y : State). IsCalm E old y → TakesReady E y b (started_as (mended shown) (chosen_as b (booted_package state b))) new) (state-seen old.now shown s shows calm.shows) (λ here. ready-as E here guards) calm;
+            subst (λ (y : State). IsCalm E old y → TakesReady E y b
+            (started_as (mended shown) (chosen_as b (booted_package state b))) new)
+            (state-seen old.now shown s shows calm.shows) (λ here. ready-as E here guards) calm;
         guarded = mends.guarded;
       }
 
@@ -210,7 +212,8 @@ module _ (passes : List ℕ → Bool) (shown : Shown) (b : ℕ) (old new : Told)
           same,
         );
         by_machine = λ E s test calm guards. (
-          subst (λ (y : State). runs_from E y b ≡ false) (state-seen old.now shown s shows calm.shows) (runs-setting E state b shown.layout passes test ∙ never),
+          subst (λ (y : State). runs_from E y b ≡ false) (state-seen old.now shown s shows calm.shows)
+              (runs-setting E state b shown.layout passes test ∙ never),
           subst (λ (t : Told). IsCalm E t s) (sym same) calm,
         );
         guarded = λ rest. subst IsAtRest (sym same) rest;
@@ -222,7 +225,8 @@ module _ (passes : List ℕ → Bool) (shown : Shown) (b : ℕ) (old new : Told)
   stopped-ends stop (inl same) = record {
     by_bytes = inl same;
     by_machine = λ E s test calm guards.
-        (does-idle {T = Unit {0}} (Err stop) E s (migrate_moves s) new refl (subst (λ (t : Told). IsCalm E t s) (sym same) calm)).each;
+        (does-idle {T = Unit {0}} (Err stop) E s (migrate_moves s) new refl
+        (subst (λ (t : Told). IsCalm E t s) (sym same) calm)).each;
     guarded = λ rest. (subst IsAtRest (sym same) rest).guarded;
   }
   stopped-ends stop (inr mends) = record {
@@ -235,17 +239,27 @@ module _ (passes : List ℕ → Bool) (shown : Shown) (b : ℕ) (old new : Told)
       others = mends.keeps;
     });
     by_machine = λ E s test calm guards.
-        subst (λ (y : State). IsCalm E old y → LeavesOneOf E (prefixes y (migrate_moves y)) new) (state-seen old.now shown s shows calm.shows) (λ here. (mends.does E here guards).each) calm;
+        subst (λ (y : State). IsCalm E old y → LeavesOneOf E (prefixes y (migrate_moves y)) new)
+        (state-seen old.now shown s shows calm.shows) (λ here. (mends.does E here guards).each) calm;
     guarded = mends.guarded;
   }
 
 -- ---- nothing was shown, and nothing was written
 
-pub none-ends : (passes : List ℕ → Bool) (b : ℕ) (old : Told) (why : Unshown) → ShowsNothing old.now why → TakeUpEnds passes b old (unshown_as why) old
+pub none-ends : (passes : List ℕ → Bool) (b : ℕ) (old : Told) (why : Unshown) → ShowsNothing old.now why
+    → TakeUpEnds passes b old (unshown_as why) old
 none-ends passes b old (unshown.Layout f) h =
-    record { by_bytes = (h, refl); by_machine = λ E s test calm guards. let layout = calm.sound.layout in cc; guarded = λ rest. rest }
+    record {
+      by_bytes = (h, refl);
+      by_machine = λ E s test calm guards. let layout = calm.sound.layout in cc;
+      guarded = λ rest. rest;
+    }
 none-ends passes b old unshown.Metadata h =
-    record { by_bytes = (h.0, h.1, h.2, refl); by_machine = λ E s test calm guards. seen-metadata old.now s h calm.shows; guarded = λ rest. rest }
+    record {
+      by_bytes = (h.0, h.1, h.2, refl);
+      by_machine = λ E s test calm guards. seen-metadata old.now s h calm.shows;
+      guarded = λ rest. rest;
+    }
 none-ends passes b old (unshown.Flash stop) h = record {
   by_bytes = inl refl;
   by_machine = λ E s test calm guards. (does-idle {T = Unit {0}} (Err stop) E s (migrate_moves s) old refl calm).each;

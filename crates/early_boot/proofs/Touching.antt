@@ -67,7 +67,8 @@ module _ (shown : Shown) (n : Numbers) (read : n ≡ numbers_shown shown) (old n
   stopped-by-numbers stop (inr (chosen, only)) = counted-stop (chosen.bank == shown.meta.meta.active) chosen.version only
 
 module _ (shown : Shown) (n : Numbers) (read : n ≡ numbers_shown shown) (form : shown.meta.form ≡ form_read_of shown.which) (old new : ℕ → ℕ) where
-  pub stopped-start : (stop : FlashStop) → TouchesRepairAndStart (Err stop) shown old new → TouchesStart n (TouchesStopped n) old new
+  pub stopped-start : (stop : FlashStop) → TouchesRepairAndStart (Err stop) shown old new
+      → TouchesStart n (TouchesStopped n) old new
   stopped-start stop all = record {
     which = shown.which;
     version_is = ap (λ (m : Numbers). m.form) read ∙ form;

@@ -21,7 +21,8 @@ invariant_of-booted-clause-knows g c tells =
     let chosen = c.in-Ok-Some.chosen in
     let found = rw c.in-Ok-Some.field-0-is at c.in-Ok-Some.ensures in
     subst (λ (x : Shown). KnowsStarted (started_as x chosen) (g.D.Flash.told c.check_and_mend.new.flash)) (sym c.mended.ensures)
-    (knows-taken g.D.Flash (g.V.Verifier.passes c.args.verifier.now) c.args.bank c.args.flash c.read_shown.new.flash c.check_and_mend.new.flash c.in-Ok.shown c.in-Ok.ensures.reads c.in-Ok.ensures.shown
+    (knows-taken g.D.Flash (g.V.Verifier.passes c.args.verifier.now) c.args.bank c.args.flash c.read_shown.new.flash
+    c.check_and_mend.new.flash c.in-Ok.shown c.in-Ok.ensures.reads c.in-Ok.ensures.shown
     found.touches chosen found.running found.mends tells)
 
 pub returns-in-Ok-Some : goal.returns-in-Ok-Some
@@ -32,7 +33,8 @@ returns-in-Ok-Some g c =
     record {
       takes =
           subst (λ (x : Shown). IsTakeUp g.D.Flash passes c.args.bank c.args.flash (taken (started_as x chosen)) c.check_and_mend.new.flash) (sym c.mended.ensures)
-          (taken-take-up g.D.Flash passes c.args.bank c.args.flash c.read_shown.new.flash c.check_and_mend.new.flash c.in-Ok.shown c.in-Ok.ensures.reads c.in-Ok.ensures.shown
+          (taken-take-up g.D.Flash passes c.args.bank c.args.flash c.read_shown.new.flash c.check_and_mend.new.flash c.in-Ok.shown
+          c.in-Ok.ensures.reads c.in-Ok.ensures.shown
           found.touches chosen found.running found.mends found.goes found.spent found.once found.found);
     }
 
@@ -42,7 +44,8 @@ returns-in-Ok-None g c =
     let none = rw c.in-Ok-None.field-0-is at c.in-Ok-None.ensures in
     record {
       takes =
-          refused-take-up g.D.Flash passes c.args.bank c.args.flash c.read_shown.new.flash c.check_and_mend.new.flash c.in-Ok.shown c.in-Ok.ensures.reads c.in-Ok.ensures.shown
+          refused-take-up g.D.Flash passes c.args.bank c.args.flash c.read_shown.new.flash c.check_and_mend.new.flash c.in-Ok.shown
+          c.in-Ok.ensures.reads c.in-Ok.ensures.shown
           none.touches none.goes none.spent none.running none.mends (none.refused refl);
     }
 
