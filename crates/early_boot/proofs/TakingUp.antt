@@ -91,9 +91,6 @@ none-of : (test : Bool) (x : Chosen) → cond test (Some x) None ≡ None → te
 none-of true x e = absurd cc
 none-of false x e = refl
 
-both-of : (run permitted : Bool) → IsTrue (run && permitted) → IsTrue run
-both-of run permitted h = (and_parts run permitted h).0
-
 some-held : (E : Setting) (counter : ℕ) (own : Option (List (List ℕ))) → IsTrue (holds_permitted E counter own) → IsTrue (is_some own)
 some-held E counter None h = absurd cc
 some-held E counter (Some p) h = refl
@@ -128,7 +125,7 @@ module _ (passes : List ℕ → Bool) (shown : Shown) (b : ℕ) (old new : Told)
     parts = some-of (runs_from E0 state b) (chosen_as b (booted_package state b)) c (sym found-by ∙ found)
 
     may : IsTrue (may_run b state.active state.previous (bank state b).state state.trials)
-    may = both-of _ _ parts.0
+    may = (and_parts _ _ parts.0).0
 
     held-old : (bank state b).held ≡ package_in shown.layout old.now b
     held-old = held-by shown.layout old.now shown.meta are b state.trials may

@@ -15,9 +15,9 @@ use Rattle.early_boot.specs.declared.showing.Shown.{Shown}
 use Rattle.early_boot.specs.CountingStarts.{TouchesCounting, counting_in, counting_of}
 use Rattle.early_boot.specs.Mending.{mended}
 use Rattle.early_boot.specs.Numbers.{numbers_shown}
-use Rattle.early_boot.specs.Ends.{Ended, booted, bad_layout, no_metadata, no_bank, lost, failed}
+use Rattle.early_boot.specs.Ends.{Ended, booted, no_bank, lost, failed}
 use Rattle.replicas.specs.declared.which.Which.{Which}
-use Rattle.replicas.specs.declared.which.Which.TheVariants.{Same, RepairZero, RepairOne, MigrateZero, MigrateOne}
+use Rattle.replicas.specs.declared.which.Which.TheVariants.{Same, RepairZero, RepairOne}
 use Rattle.replicas.specs.Which.{form_read_of}
 use Rattle.replicas.specs.Repairs.{TouchesRepair}
 use Rattle.early_boot.specs.Starting.{TouchesFound, TouchesRepairAndStart}
@@ -44,8 +44,7 @@ pub repair-within : (which : Which) (a b : ℕ → ℕ) → TouchesRepair which 
 repair-within Same a b same = touches_none 4096 12288 same
 repair-within RepairZero a b only = touches_wider 4096 8192 4096 12288 (omega arith) (omega arith) only
 repair-within RepairOne a b only = touches_wider 8192 12288 4096 12288 (omega arith) (omega arith) only
-repair-within MigrateZero a b only = only
-repair-within MigrateOne a b only = only
+repair-within migrates a b only = only
 
 pub boot-within : (result : Result (Option (Shown × Chosen)) FlashStop) (shown : Shown) (a b : ℕ → ℕ) → TouchesRepairAndStart result shown a b → TouchesOnly 4096 28672 a b
 boot-within result shown a b all =
@@ -105,10 +104,7 @@ start-spares n w v start = stopped-spares n start.repaired v start.start ∙ rep
 
 pub boot-spares : (e : Ended) (w v : ℕ → ℕ) → TouchesBoot e w v → v counter_block ≡ w counter_block
 boot-spares (booted b n) w v start = counting-spares (counting_told b n) start.repaired v start.start ∙ repair-spares start.which w start.repaired start.repair
-boot-spares (bad_layout f) w v same = same-at counter_block w v same
-boot-spares no_metadata w v same = same-at counter_block w v same
 boot-spares (no_bank active previous) w v (which, repair) = repair-spares which w v repair
-boot-spares (lost None) w v same = same-at counter_block w v same
 boot-spares (lost (Some n)) w v start = start-spares n w v start
-boot-spares (failed None) w v same = same-at counter_block w v same
 boot-spares (failed (Some n)) w v start = start-spares n w v start
+boot-spares e w v same = same-at counter_block w v same
