@@ -1,6 +1,6 @@
 -- What taking up a bank promises of its device, on any device: the reading, the check, and then the repair.
-use Rattle.std.proofs.Common.{◌≡◌, ℕ, ◌+◌, ◌==◌, ◌&&◌, ◌||◌, not, Bool, true, false, cond, List, [], ◌∷◌, Option, Some, None, Ok, Err, refl, sym, ap, subst, ◌∙◌, arith, eq-eqb, IsTrue, leb, le-leb, ltb, lt-ltb}
-use Rattle.std.proofs.lemmas.Bool.{and_from, and_parts, cond_both}
+use Rattle.std.proofs.Common.{◌≡◌, ℕ, ◌+◌, ◌==◌, ◌&&◌, ◌||◌, not, Bool, false, cond, List, [], ◌∷◌, Option, Some, None, Ok, Err, refl, sym, ap, subst, ◌∙◌, arith, eq-eqb, IsTrue, leb, le-leb, ltb, lt-ltb}
+use Rattle.std.proofs.lemmas.Bool.{and_from, and_parts, cond_both, not-true}
 use Rattle.std.proofs.lemmas.Option.{same_Some}
 use Rattle.std.specs.Prelude.{Result}
 use Rattle.flash_core.specs.declared.flash.Flash.{Ghosts}
@@ -208,16 +208,12 @@ booted-previous : (E : Setting) (s : State) (f : ℕ) → IsTrue (can_fall_back 
 booted-previous E s f h =
     let parts = and_parts _ _ h in
     let two = and_parts (not (s.previous == s.active)) _ parts.0 in
-    let away : (s.previous == s.active) ≡ false = turned (s.previous == s.active) two.0 in
+    let away : (s.previous == s.active) ≡ false = not-true (s.previous == s.active) two.0 in
     subst (λ (x : Bool). IsTrue (runs_from E (after (record s { form = f }) (cond x (start_moves (bank s s.previous).state s.counter (version (booted_package s s.previous))) [])) s.previous)) (sym away)
     (and_from _ _
     (subst (λ (x : Bool). IsTrue (cond x (was_started (bank s s.previous).state s.trials) (s.previous == s.previous && is_accepted (bank s s.previous).state))) (sym away)
     (and_from _ _ (eq-eqb s.previous s.previous refl) two.1))
     parts.1)
-  where
-    turned : (x : Bool) → IsTrue (not x) → x ≡ false
-    turned true h = absurd cc
-    turned false h = refl
 
 booted-at : (E : Setting) (s : State) (b f : ℕ) → choice E s ≡ Some b → IsTrue (runs_from E (after (record s { form = f }) (chosen_moves s b)) b)
 unfolding choice
