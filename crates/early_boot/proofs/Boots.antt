@@ -1,7 +1,6 @@
 -- A repair, then the choice and the count of a start, in one.
-use Rattle.std.proofs.Common.{◌≡◌, inl, inr, ℕ, ◌<◌, ◌≤◌, ◌==◌, not, ◌&&◌, ◌||◌, eq-eqb, ltb, ltb-true, cond, Bool, true, false, List, [], ◌∷◌, Option, Some, None, Result, Ok, Err, refl, sym, ap, subst, ◌∙◌, arith, IsTrue}
-use Rattle.std.proofs.lemmas.Bool.{cond_both, and_parts}
-use Rattle.std.proofs.lemmas.Option.{same_Some}
+use Rattle.std.proofs.Common.{◌≡◌, inl, inr, ℕ, ◌≤◌, ◌==◌, Bool, List, [], ◌∷◌, Option, Some, None, Result, Ok, Err, refl, sym, ap, subst, ◌∙◌, arith}
+use Rattle.std.proofs.lemmas.Bool.{cond_both}
 use Rattle.std.proofs.lemmas.Result.{IfOk-from_err, on_ok_weaker}
 use Rattle.std.specs.Prelude.{IsErr, OnOk}
 use Rattle.base_core.specs.Block.{block}
@@ -12,63 +11,21 @@ use Rattle.flash_core.proofs.Calls.{keeps_then, keeps_wider}
 use Rattle.fwu_formats.specs.Counter.{counter_in}
 use Rattle.fwu_formats.specs.Layout.{Layout}
 use Rattle.fwu_formats.specs.Metadata.{MetaRead, meta_read}
-use Rattle.fwu_model.specs.State.{State, Move, Migrate, bank, is_valid, is_accepted, after}
-use Rattle.fwu_formats.specs.Places.{trial_limit}
-use Rattle.fwu_model.specs.Sound.{Setting, choice, can_start, can_fall_back, holds_permitted}
+use Rattle.fwu_model.specs.State.{State, Move, Migrate, after}
+use Rattle.fwu_model.specs.Sound.{Setting, choice}
 use Rattle.fwu_model.specs.Answer.{migrate_moves}
 use Rattle.fwu_model.specs.Replica.{BothHold, in_version}
-use Rattle.fwu_formats.specs.declared.kinds.BankState.{BankState}
-use Rattle.fwu_formats.specs.declared.kinds.BankState.TheVariants.{Invalid, Valid, Accepted}
 use Rattle.fwu_formats.proofs.Same.{block-same}
 use Rattle.replicas.specs.Repairs.{Repairs}
 use Rattle.moves.specs.Moved.{IsShown}
 use Rattle.moves.proofs.Composed.{after-append, does-stopped, does-then}
-use Rattle.early_boot.specs.declared.choosing.Chosen.{Chosen}
 use Rattle.early_boot.specs.declared.showing.Shown.{Shown}
 use Rattle.early_boot.specs.Showing.{state_shown}
 use Rattle.early_boot.specs.Choosing.{boot_setting, chosen_in, with_package}
 use Rattle.early_boot.specs.Mending.{MendsReplicas, mended}
-use Rattle.early_boot.specs.CountingStarts.{IsStartOf, Leads, WritesMoves}
+use Rattle.early_boot.specs.CountingStarts.{Leads, WritesMoves}
 use Rattle.early_boot.specs.Starting.{BootWrites, Boots, RepairsAndCounts, all_moves, count_moves}
-use Rattle.early_boot.proofs.Endings.{chosen-parts}
-use Rattle.early_boot.proofs.Led.{guarded-stop, on-ok, writes-done, writes-stopped}
-
--- ---- what was chosen may be started
-
-tries : (k : BankState) (left : Bool) → IsTrue (is_accepted k || (is_valid k && left)) → IsTrue (is_valid k) → IsTrue left
-tries Invalid left h valid = absurd cc
-tries Valid left h valid = h
-tries Accepted left h valid = absurd cc
-
-by-start : (s : State) (permitted : Bool) → IsTrue ((is_accepted (bank s s.active).state || (is_valid (bank s s.active).state && ltb s.trials trial_limit)) && permitted) → IsTrue (is_valid (bank s s.active).state) → s.trials < trial_limit
-by-start s permitted h valid = ltb-true s.trials trial_limit (tries (bank s s.active).state (ltb s.trials trial_limit) (and_parts _ permitted h).0 valid)
-
--- a fallback isn't to the active bank
-never-back : (p a : ℕ) (rest permitted : Bool) → IsTrue (not (p == a) && rest && permitted) → p ≡ a → ⊥
-never-back p a rest permitted h e =
-    let other = (and_parts (not (p == a)) rest (and_parts (not (p == a) && rest) permitted h).0).0 in
-    differs (p == a) (eq-eqb p a e) other
-  where
-    differs : (same : Bool) → IsTrue same → IsTrue (not same) → ⊥
-    differs true h n = cc
-    differs false h n = cc
-
-pub start-left : (E : Setting) (s : State) (b : ℕ) → choice E s ≡ Some b → b ≡ s.active → IsTrue (is_valid (bank s b).state) → s.trials < trial_limit
-unfolding choice
-start-left E s b chosen here valid =
-    let on_trial : IsTrue (is_valid (bank s s.active).state) = ap (λ (k : ℕ). is_valid (bank s k).state) (sym here) ∙ valid in
-    cond_both (can_start E s) (Some s.active) (cond (can_fall_back E s) (Some s.previous) None) (λ (o : Option ℕ). o ≡ Some b → s.trials < trial_limit)
-    (λ h e. by-start s (holds_permitted E s.counter (bank s s.active).held) h on_trial)
-    (λ h e.
-    cond_both (can_fall_back E s) (Some s.previous) None (λ (o : Option ℕ). o ≡ Some b → s.trials < trial_limit)
-    (λ g f. absurd (never-back s.previous s.active (is_accepted (bank s s.previous).state) (holds_permitted E s.counter (bank s s.previous).held) g (same_Some s.previous b f ∙ here)))
-    (λ g f. absurd cc) e)
-    chosen
-
-pub chosen-start : (E : Setting) (s : State) (c : Chosen) → chosen_in E s ≡ Some c → IsStartOf s c
-chosen-start E s c found =
-    let parts = chosen-parts s (choice E s) c found in
-    record { version_is = parts.1; left = λ here valid. start-left E s c.bank parts.0 here valid }
+use Rattle.early_boot.proofs.Led.{guarded-stop, on-ok, writes-at}
 
 -- ---- a migration changes no choice
 
@@ -127,7 +84,13 @@ repaired-alone {T} x L r ms trials s t none writes =
 
 -- the same at another value
 pub counts-at : {T : Type 0} (x : T) (L : Layout) (r : MetaRead) (ms : List Move) (trials : ℕ) (s t : Told) → RepairsAndCounts {T = T} (Ok x) L r ms trials s t → RepairsAndCounts {T = Unit {0}} (Ok tt) L r ms trials s t
-counts-at x L r ms trials s t writes = record { repaired = writes.repaired; repairs = writes.repairs; counts = writes-done x (Ok tt) ms trials writes.repaired t writes.counts }
+counts-at x L r ms trials s t writes =
+    record {
+      repaired = writes.repaired;
+      repairs = writes.repairs;
+      counts = writes-at (Ok x) (Ok tt) (λ A a. a) ms trials
+          writes.repaired t writes.counts;
+    }
 
 module _ {U : Type 0} (L : Layout) (r : MetaRead) (ms : List Move) (trials : ℕ) (s t : Told) where
   stopped-writes : {T : Type 0} (stop : FlashStop) (result : Result U FlashStop) → IsErr result → Repairs {T = T} (Err stop) L r s t → BootWrites result L r ms trials s t
@@ -137,7 +100,12 @@ module _ {U : Type 0} (L : Layout) (r : MetaRead) (ms : List Move) (trials : ℕ
   next-writes : {T : Type 0} (x : T) (result : Result U FlashStop) (m : Told) → Repairs {T = T} (Ok x) L r s m → WritesMoves result ms trials m t → BootWrites result L r ms trials s t
   next-writes {T} x (Ok y) m repairs counts = record { repaired = m; repairs = repairs-at {T = T} (Ok x) (Ok tt) L r s m (λ A a. a) repairs; counts = counts }
   next-writes {T} x (Err why) m repairs counts =
-      inr (record { repaired = m; repairs = repairs-at {T = T} (Ok x) (Ok tt) L r s m (λ A a. a) repairs; counts = writes-stopped U {U = Unit {0}} why (Err why) ms trials m t refl counts })
+      inr (record {
+        repaired = m;
+        repairs = repairs-at {T = T} (Ok x) (Ok tt) L r s m (λ A a. a) repairs;
+        counts = writes-at {T = U}
+            {U = Unit {0}} (Err why) (Err why) (λ A a. a) ms trials m t counts;
+      })
 
 module _ (passes : List ℕ → Bool) (shown : Shown) (s : Told) where
   abbrev state : State

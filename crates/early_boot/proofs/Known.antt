@@ -1,5 +1,5 @@
 -- What a boot that started a bank knows of its flash.
-use Rattle.std.proofs.Common.{◌≡◌, inl, inr, ℕ, Bool, List, length, map, Option, Some, None, refl, sym, ap, ◌∙◌, arith, IsFalse}
+use Rattle.std.proofs.Common.{◌≡◌, inl, inr, ℕ, Bool, List, length, map, Option, Some, refl, sym, ap, ◌∙◌, arith, IsFalse}
 use Rattle.std.proofs.lemmas.Bool.{cases_Bool}
 use Rattle.std.specs.Prelude.{is_some}
 use Rattle.flash_core.specs.Told.{Told}
@@ -37,12 +37,12 @@ module _ (passes : List ℕ → Bool) (old : Told) (b : Started) (n : Numbers) (
 
   in-use : IsFalse (is_invalid (bank state b.bank).state)
   in-use = elim (cases_Bool (is_invalid (bank state b.bank).state)) [
-    | inl invalid ↦ absurd (some-none held-old.0 (sym held-old.2 ∙ (shown-are-formed b.layout old.now state starts.chose.has_layout starts.chose.shows).empty b.bank invalid))
+    | inl invalid ↦
+        let empty = (shown-are-formed b.layout old.now state starts.chose.has_layout starts.chose.shows).empty b.bank invalid in
+        let no = sym held-old.2 ∙ empty in
+        absurd cc
     | inr used ↦ used
   ]
-    where
-      some-none : (p : List (List ℕ)) → ◌≡◌ {A = Option (List (List ℕ))} (Some p) None → ⊥
-      some-none p e = absurd cc
 
   held-now : package_in b.layout t.now b.bank ≡ Some held-old.0
   held-now = package-same b.layout t.now old.now b.bank starts.others.size (λ place above below. starts.others.now place (inr (omega (arith, above)))) ∙ held-old.1

@@ -13,8 +13,8 @@ use Rattle.fwu_formats.specs.Metadata.{fits_meta, state_at, meta_read}
 use Rattle.fwu_formats.specs.Manifest.{version}
 use Rattle.fwu_formats.specs.Image.{marks}
 use Rattle.fwu_formats.specs.Counter.{counter_in}
-use Rattle.fwu_model.specs.State.{State, Bank, Move, Trial, RaiseTo, bank, is_valid, is_accepted, after}
-use Rattle.fwu_model.specs.Calm.{IsGuarded, IsAtRest}
+use Rattle.fwu_model.specs.State.{State, Bank, Move, Trial, RaiseTo, bank, is_valid, is_accepted}
+use Rattle.fwu_model.specs.Calm.{IsGuarded}
 use Rattle.fwu_model.specs.Answer.{booted_package, chosen_moves, start_moves}
 use Rattle.fwu_formats.specs.declared.kinds.BankState.{BankState}
 use Rattle.fwu_formats.specs.declared.kinds.BankState.TheVariants.{Invalid, Valid, Accepted}
@@ -22,7 +22,7 @@ use Rattle.marks_core.proofs.Counting.{blank_at_count}
 use Rattle.marks_core.proofs.Recording.{unwritten}
 use Rattle.marks_core.specs.Marks.{Adds}
 use Rattle.marks_core.specs.Raises.{Raises}
-use Rattle.moves.specs.Moved.{IsReady, IsShown, GuardedBy}
+use Rattle.moves.specs.Moved.{IsShown, GuardedBy}
 use Rattle.moves.proofs.Agree.{shown-as, shown-counter, counter-agrees, layout-kept, marks-agree, block-agrees, decides-agrees, front-kept, no_meta}
 use Rattle.moves.proofs.Composed.{does-nothing, does-idle}
 use Rattle.moves.proofs.Trials.{trial-does, trial-shows}
@@ -36,7 +36,7 @@ use Rattle.early_boot.specs.declared.counting_starts.Counting.{Counting}
 use Rattle.early_boot.specs.declared.counting_starts.Counting.TheVariants as counting
 use Rattle.early_boot.specs.Showing.{ShowsImage, state_shown, trials_in}
 use Rattle.early_boot.specs.Starting.{count_moves}
-use Rattle.early_boot.specs.CountingStarts.{CountedAs, CountsChosen, IsStartOf, Leads, WritesMove, WritesMoves, counting_in, counting_moves, counting_of, with_counts}
+use Rattle.early_boot.specs.CountingStarts.{IsStartOf, Leads, WritesMove, WritesMoves, counting_in, counting_moves, counting_of, with_counts}
 use Rattle.early_boot.proofs.Lookups.{bank-is}
 
 -- a stop from which the flash is guarded
@@ -47,27 +47,6 @@ guarded-stop (Err stop) t err guarded = guarded
 pub on-ok : {T : Type 0} (result : Result T FlashStop) (A : Type 0) → A → OnOk result A
 on-ok (Ok x) A a = a
 on-ok (Err e) A a = tt
-
--- what was written is the same at another value, or where a later read stopped
-writes-move : {T U : Type 0} (x : T) (result : Result U FlashStop) (m : Move) (at : ℕ) (s t : Told) → WritesMove {T = T} (Ok x) m at s t → WritesMove result m at s t
-writes-move x result Trial at s t writes = record { keeps = writes.keeps; one_more = on-ok result _ writes.one_more; stable = on-ok result _ writes.stable }
-writes-move x result (RaiseTo v) at s t writes =
-    record { keeps = writes.keeps; record_is = record { keeps = writes.record_is.keeps; either = writes.record_is.either; ok = on-ok result _ writes.record_is.ok }; counter = on-ok result _ writes.counter }
-writes-move x result q at s t writes = absurd writes
-
-pub writes-done : {T U : Type 0} (x : T) (result : Result U FlashStop) (ms : List Move) (at : ℕ) (s t : Told) → WritesMoves {T = T} (Ok x) ms at s t → WritesMoves result ms at s t
-writes-done x result [] at s t writes = writes
-writes-done x result (m ∷ ms) at s t writes = writes-move x result m at s t writes
-
-move-stopped : (T : Type 0) {U : Type 0} (stop : FlashStop) (result : Result U FlashStop) (m : Move) (at : ℕ) (s t : Told) → IsErr result → WritesMove {T = T} (Err stop) m at s t → WritesMove result m at s t
-move-stopped T stop result Trial at s t err writes = record { keeps = writes.keeps; one_more = IfOk-from_err result (λ x. _) err; stable = IfOk-from_err result (λ x. _) err }
-move-stopped T stop result (RaiseTo v) at s t err writes =
-    record { keeps = writes.keeps; record_is = record { keeps = writes.record_is.keeps; either = writes.record_is.either; ok = IfOk-from_err result (λ x. _) err }; counter = IfOk-from_err result (λ x. _) err }
-move-stopped T stop result q at s t err writes = absurd writes
-
-pub writes-stopped : (T : Type 0) {U : Type 0} (stop : FlashStop) (result : Result U FlashStop) (ms : List Move) (at : ℕ) (s t : Told) → IsErr result → WritesMoves {T = T} (Err stop) ms at s t → WritesMoves result ms at s t
-writes-stopped T stop result [] at s t err writes = writes
-writes-stopped T stop result (m ∷ ms) at s t err writes = move-stopped T stop result m at s t err writes
 
 -- a call that wrote nothing, and is done
 pub leads-nothing : {T : Type 0} (x : T) (L : Layout) (state : State) (s : Told) → IsShown L s.now state → Leads {T = T} (Ok x) L state [] s s
@@ -82,12 +61,16 @@ leads-nothing x L state s shown = record {
 
 -- and one that stopped before it wrote
 module _ {T : Type 0} (result : Result T FlashStop) (s : Told) (room : 32768 ≤ length s.now) (err : IsErr result) where
+  never : (A : Type 0) → OnOk result A
+  never A = IfOk-from_err result (λ x. A) err
+
   idle-start : (k : BankState) (counter v at : ℕ) → WritesMoves result (start_moves k counter v) at s s
   idle-start Invalid counter v at = refl
-  idle-start Valid counter v at = record { keeps = keeps_same (4096 * 3 + 16 * at) (4096 * 3 + 16 * at + 16) s; one_more = IfOk-from_err result (λ x. _) err; stable = IfOk-from_err result (λ x. _) err }
+  idle-start Valid counter v at =
+      record { keeps = keeps_same (4096 * 3 + 16 * at) (4096 * 3 + 16 * at + 16) s; one_more = never _; stable = never _ }
   idle-start Accepted counter v at =
       cond_both (ltb counter v) (RaiseTo v ∷ []) [] (λ (ms : List Move). WritesMoves result ms at s s)
-      (λ e. record { keeps = keeps_same 20480 28672 s; record_is = unwritten result _ s room err; counter = IfOk-from_err result (λ x. _) err })
+      (λ e. record { keeps = keeps_same 20480 28672 s; record_is = unwritten result _ s room err; counter = never _ })
       (λ e. refl)
 
   idle-count : (state : State) (o : Option ℕ) (at : ℕ) → WritesMoves result (count_moves state o) at s s
@@ -100,74 +83,80 @@ module _ {T : Type 0} (result : Result T FlashStop) (s : Told) (room : 32768 ≤
   leads-idle L state o = record {
     keeps = keeps_same 12288 28672 s;
     writes = idle-count state o state.trials;
-    counter = IfOk-from_err result (λ x. counter_in s.now ≡ (after state (count_moves state o)).counter) err;
-    shows = λ tidy. IfOk-from_err result (λ x. IsShown L s.now (after state (count_moves state o))) err;
+    counter = never _;
+    shows = λ tidy. never _;
     does = λ E ready. does-idle result E state (count_moves state o) s err ready.calm;
     guarded = λ rest. guarded-stop result s err rest.guarded;
   }
 
+-- ---- by another result
+
+-- where one that is done passes what it holds on
+guarded-at : {T U : Type 0} (given : Result T FlashStop) (result : Result U FlashStop) (t : Told)
+    → ((A : Type 0) → OnOk given A → OnOk result A)
+    → GuardedBy given t → GuardedBy result t
+guarded-at (Ok x) (Ok y) t pass guarded = guarded
+guarded-at (Ok x) (Err why) t pass rest = rest.guarded
+guarded-at (Err stop) (Ok y) t pass guarded = absurd (pass ⊥ tt)
+guarded-at (Err stop) (Err why) t pass guarded = guarded
+
+module _ {T U : Type 0} (given : Result T FlashStop) (result : Result U FlashStop)
+    (pass : (A : Type 0) → OnOk given A → OnOk result A) where
+  writes-move : (m : Move) (at : ℕ) (s t : Told) → WritesMove given m at s t → WritesMove result m at s t
+  writes-move Trial at s t writes =
+      record { keeps = writes.keeps; one_more = pass _ writes.one_more; stable = pass _ writes.stable }
+  writes-move (RaiseTo v) at s t writes = record {
+    keeps = writes.keeps;
+    record_is = record { keeps = writes.record_is.keeps; either = writes.record_is.either; ok = pass _ writes.record_is.ok };
+    counter = pass _ writes.counter;
+  }
+  writes-move q at s t writes = absurd writes
+
+  pub writes-at : (ms : List Move) (at : ℕ) (s t : Told) → WritesMoves given ms at s t → WritesMoves result ms at s t
+  writes-at [] at s t writes = writes
+  writes-at (m ∷ ms) at s t writes = writes-move m at s t writes
+
+  leads-at : (L : Layout) (state : State) (ms : List Move) (s t : Told) → Leads given L state ms s t → Leads result L state ms s t
+  leads-at L state ms s t leads = record {
+    keeps = leads.keeps;
+    writes = writes-at ms state.trials s t leads.writes;
+    counter = pass _ leads.counter;
+    shows = λ tidy. pass _ (leads.shows tidy);
+    does = λ E ready. record { each = (leads.does E ready).each; all = pass _ (leads.does E ready).all };
+    guarded = λ rest. guarded-at given result t pass (leads.guarded rest);
+  }
+
 -- the same at another value, or where a later read stopped
 pub leads-done : {T U : Type 0} (x : T) (result : Result U FlashStop) (L : Layout) (state : State) (ms : List Move) (s t : Told) → Leads {T = T} (Ok x) L state ms s t → Leads result L state ms s t
-leads-done x result L state ms s t leads = record {
-  keeps = leads.keeps;
-  writes = writes-done x result ms state.trials s t leads.writes;
-  counter = on-ok result _ leads.counter;
-  shows = λ tidy. on-ok result _ (leads.shows tidy);
-  does = λ E ready. record { each = (leads.does E ready).each; all = on-ok result _ (leads.does E ready).all };
-  guarded = λ rest. by-result result (leads.guarded rest);
-}
-  where
-    by-result : {V : Type 0} (r : Result V FlashStop) → IsAtRest t → GuardedBy r t
-    by-result (Ok y) rest = rest
-    by-result (Err stop) rest = rest.guarded
+leads-done x result = leads-at (Ok x) result (on-ok result)
 
 pub leads-stopped : {T U : Type 0} (stop : FlashStop) (result : Result U FlashStop) (L : Layout) (state : State) (ms : List Move) (s t : Told) → IsErr result → Leads {T = T} (Err stop) L state ms s t → Leads result L state ms s t
-leads-stopped {T} stop result L state ms s t err leads = record {
-  keeps = leads.keeps;
-  writes = writes-stopped T stop result ms state.trials s t err leads.writes;
-  counter = IfOk-from_err result (λ x. counter_in t.now ≡ (after state ms).counter) err;
-  shows = λ tidy. IfOk-from_err result (λ x. IsShown L t.now (after state ms)) err;
-  does = λ E ready. record { each = (leads.does E ready).each; all = IfOk-from_err result (λ x. IsReady E t (after state ms)) err };
-  guarded = λ rest. guarded-stop result t err (leads.guarded rest);
-}
+leads-stopped {T} stop result L state ms s t err =
+    leads-at {T = T} (Err stop) result (λ A a. IfOk-from_err result (λ x. A) err) L state ms s t
 
 -- ---- what a start is counted as
 
-counted-place : (shown : Shown) (c : Chosen) (what : Counting) → (counting.Nothing ≡ what → ⊥) → counting_in shown c ≡ what
-    → (c.bank ≡ shown.meta.meta.active) × (counting_of (state_at shown.meta.meta shown.meta.meta.active) shown.counter c.version ≡ what)
-counted-place shown c what other = by-place (eqb c.bank shown.meta.meta.active) refl
+-- what is known of a start that is counted as this
+abbrev Counted : Shown → Chosen → Counting → Type 0
+Counted shown c counting.Nothing = Unit {0}
+Counted shown c counting.Trial = (c.bank ≡ shown.meta.meta.active) × (state_at shown.meta.meta shown.meta.meta.active ≡ Valid)
+Counted shown c counting.Raise =
+    (c.bank ≡ shown.meta.meta.active) × (state_at shown.meta.meta shown.meta.meta.active ≡ Accepted) × (shown.counter < c.version)
+
+pub counted-in : (shown : Shown) (c : Chosen) (what : Counting) → counting_in shown c ≡ what → Counted shown c what
+counted-in shown c what is =
+    subst (Counted shown c) is
+    (cond_both (eqb c.bank shown.meta.meta.active)
+    (counting_of (state_at shown.meta.meta shown.meta.meta.active) shown.counter c.version) counting.Nothing (Counted shown c)
+    (λ e. by-state (state_at shown.meta.meta shown.meta.meta.active) refl (eqb-true c.bank shown.meta.meta.active e)) (λ e. tt))
   where
-    by-place : (here : Bool) → eqb c.bank shown.meta.meta.active ≡ here → cond here (counting_of (state_at shown.meta.meta shown.meta.meta.active) shown.counter c.version) counting.Nothing ≡ what
-        → (c.bank ≡ shown.meta.meta.active) × (counting_of (state_at shown.meta.meta shown.meta.meta.active) shown.counter c.version ≡ what)
-    by-place true e is = (eqb-true c.bank shown.meta.meta.active e, is)
-    by-place false e is = absurd (other is)
-
-pub counting-trial : (shown : Shown) (c : Chosen) → counting_in shown c ≡ counting.Trial → (c.bank ≡ shown.meta.meta.active) × (state_at shown.meta.meta shown.meta.meta.active ≡ Valid)
-counting-trial shown c is = let at = counted-place shown c counting.Trial (λ e. absurd cc) is in (at.0, by-state (state_at shown.meta.meta shown.meta.meta.active) at.1)
-  where
-    by-test : (test : Bool) → cond test counting.Raise counting.Nothing ≡ counting.Trial → ⊥
-    by-test true e = absurd cc
-    by-test false e = absurd cc
-
-    by-state : (k : BankState) → counting_of k shown.counter c.version ≡ counting.Trial → k ≡ Valid
-    by-state Invalid e = absurd cc
-    by-state Valid e = refl
-    by-state Accepted e = absurd (by-test (ltb shown.counter c.version) e)
-
-pub counting-raise : (shown : Shown) (c : Chosen) → counting_in shown c ≡ counting.Raise → (c.bank ≡ shown.meta.meta.active) × (state_at shown.meta.meta shown.meta.meta.active ≡ Accepted) × (shown.counter < c.version)
-counting-raise shown c is =
-    let at = counted-place shown c counting.Raise (λ e. absurd cc) is in
-    let found = by-state (state_at shown.meta.meta shown.meta.meta.active) at.1 in
-    (at.0, found.0, found.1)
-  where
-    by-test : (test : Bool) → ltb shown.counter c.version ≡ test → cond test counting.Raise counting.Nothing ≡ counting.Raise → shown.counter < c.version
-    by-test true e is = ltb-true shown.counter c.version e
-    by-test false e is = absurd cc
-
-    by-state : (k : BankState) → counting_of k shown.counter c.version ≡ counting.Raise → (k ≡ Accepted) × (shown.counter < c.version)
-    by-state Invalid e = absurd cc
-    by-state Valid e = absurd cc
-    by-state Accepted e = (refl, by-test (ltb shown.counter c.version) refl e)
+    by-state : (k : BankState) → state_at shown.meta.meta shown.meta.meta.active ≡ k → c.bank ≡ shown.meta.meta.active
+        → Counted shown c (counting_of k shown.counter c.version)
+    by-state Invalid e here = tt
+    by-state Valid e here = (here, e)
+    by-state Accepted e here =
+        cond_both (ltb shown.counter c.version) counting.Raise counting.Nothing (Counted shown c)
+        (λ below. (here, e, ltb-true shown.counter c.version below)) (λ above. tt)
 
 -- ---- by what is shown
 
@@ -245,14 +234,15 @@ module _ (shown : Shown) (s : Told) (shows : ShowsImage s.now shown) (fits : IsT
   -- a trial is one of the active bank, which has some left
   pub trials-left : (c : Chosen) → counting_in shown c ≡ counting.Trial → IsStartOf state c → shown.trials < 3
   trials-left c is start =
-      let here = counting-trial shown c is in
+      let here = counted-in shown c counting.Trial is in
       let in_state : IsTrue (is_valid (bank state c.bank).state) = ap (λ (b : ℕ). is_valid (bank state b).state) here.0 ∙ ap is_valid (active-in Valid here.1) in
       let left = start.left here.0 in_state in
       omega (arith, left, shows.trials_are)
 
   -- and a raise one to the version of the active bank
   version-active : (c : Chosen) → counting_in shown c ≡ counting.Raise → IsStartOf state c → c.version ≡ version (booted_package state active)
-  version-active c is start = start.version_is ∙ ap (λ (b : ℕ). version (booted_package state b)) (counting-raise shown c is).0
+  version-active c is start =
+      start.version_is ∙ ap (λ (b : ℕ). version (booted_package state b)) (counted-in shown c counting.Raise is).0
 
   -- ---- what a start of what was chosen writes, by what it is counted as
 
@@ -266,11 +256,13 @@ module _ (shown : Shown) (s : Told) (shows : ShowsImage s.now shown) (fits : IsT
     module _ {T : Type 0} (result : Result T FlashStop) (t : Told) where
       pub start-trial : counting_in shown c ≡ counting.Trial → Adds result 3 shown.trials s t → Leads result shown.layout state (chosen_moves state c.bank) s t
       start-trial is adds =
-          subst (λ (ms : List Move). Leads result shown.layout state ms s t) (moves-are counting.Trial is) (leads-trial result t (counting-trial shown c is).1 (trials-left c is start) adds)
+          subst (λ (ms : List Move). Leads result shown.layout state ms s t) (moves-are counting.Trial is)
+          (leads-trial result t (counted-in shown c counting.Trial is).1 (trials-left c is start) adds)
 
       pub start-raise : counting_in shown c ≡ counting.Raise → Raises result c.version s t → Leads result shown.layout state (chosen_moves state c.bank) s t
       start-raise is raises =
-          subst (λ (ms : List Move). Leads result shown.layout state ms s t) (moves-are counting.Raise is) (leads-raise result t c.version (counting-raise shown c is).1 (version-active c is start) raises)
+          subst (λ (ms : List Move). Leads result shown.layout state ms s t) (moves-are counting.Raise is)
+          (leads-raise result t c.version (counted-in shown c counting.Raise is).1 (version-active c is start) raises)
 
   -- ---- what is shown once a start was counted
 
@@ -296,19 +288,3 @@ module _ (shown : Shown) (s : Told) (shows : ShowsImage s.now shown) (fits : IsT
       let agree = front-kept shown.layout (4096 * 5) (4096 * 7) s t keeps in
       shows.trials_are
       ∙ ap (λ (n : ℕ). cond (is_valid (state_at shown.meta.meta active)) n 0) (sym (marks-agree shown.layout no_meta (4096 * 5) (4096 * 7) s.now t.now agree 3 3 (omega arith) (inl (omega arith)) (omega arith)))
-
--- ---- the counts that are shown then
-
-counted-as : (what : Counting) (shown after : Shown) (chosen : Chosen) → what ≡ counting_in shown chosen → CountedAs what chosen.version shown after
-    → CountsChosen shown after chosen
-counted-as what shown after chosen is counted = subst (λ (k : Counting). CountedAs k chosen.version shown after) is counted
-
-pub counted-nothing : (shown : Shown) (chosen : Chosen) → counting.Nothing ≡ counting_in shown chosen → CountsChosen shown (with_counts shown shown.trials shown.counter) chosen
-counted-nothing shown chosen is = counted-as counting.Nothing shown (with_counts shown shown.trials shown.counter) chosen is (record { counter = refl; trials = refl })
-
-pub counted-trial : (shown : Shown) (chosen : Chosen) (trials : ℕ) → trials ≤ 3 → counting.Trial ≡ counting_in shown chosen
-    → CountsChosen shown (with_counts shown trials shown.counter) chosen
-counted-trial shown chosen trials few is = counted-as counting.Trial shown (with_counts shown trials shown.counter) chosen is (record { counter = refl; trials = few })
-
-pub counted-raise : (shown : Shown) (chosen : Chosen) → counting.Raise ≡ counting_in shown chosen → CountsChosen shown (with_counts shown shown.trials chosen.version) chosen
-counted-raise shown chosen is = counted-as counting.Raise shown (with_counts shown shown.trials chosen.version) chosen is (record { counter = refl; trials = refl })

@@ -5,13 +5,17 @@ use Rattle.flash_core.specs.declared.flash.Flash.{Ghosts}
 use Rattle.flash_core.specs.declared.flash.FlashStop.{FlashStop}
 use Rattle.flash_core.specs.declared.flash.FlashStop.TheVariants.{Lost, Failed}
 use Rattle.flash_core.specs.Calls.{Goes, Reads}
-use Rattle.flash_core.specs.Counts.{StaysUnarmed}
 use Rattle.flash_core.proofs.Costs.{spends_then}
 use Rattle.flash_core.proofs.Unarmed.{unarmed_done, unarmed_kept, unarmed_stopped, unarmed_then}
 
 -- a read alone
-pub read-unarmed : {D : Type 0} (g : Ghosts D) (r : Result (Unit {0}) FlashStop) (a b : D) → Reads g r a b → StaysUnarmed r (g.arming a) (g.arming b) (g.counts a) (g.counts b)
-read-unarmed g r a b reads = unarmed_kept r (g.arming a) (g.arming b) (g.counts a) (g.counts b) reads.arming reads.reached
+pub read-all : {D X : Type 0} (g : Ghosts D) (r : Result X FlashStop) (a b : D) → Reads g r a b → Goes g r a b
+read-all g r a b reads = record {
+  power = reads.power;
+  size = reads.size;
+  costs = reads.costs;
+  unarmed = unarmed_kept r (g.arming a) (g.arming b) (g.counts a) (g.counts b) reads.arming reads.reached;
+}
 
 -- as the flash's own calls tell a result, whatever its value is
 pub goes-done : {D T : Type 0} (g : Ghosts D) (x : T) (a b : D) → Goes {X = T} g (Ok x) a b → Goes {X = Unit {0}} g (Ok tt) a b
@@ -62,5 +66,5 @@ read-goes g x r a b c reads goes = record {
   size = goes.size ∙ reads.size;
   costs = spends_then x r (g.counts a) (g.counts b) (g.counts c) reads.costs goes.costs;
   unarmed = unarmed_then x r (g.arming a) (g.arming b) (g.arming c) (g.counts a) (g.counts b) (g.counts c) reads.costs.cuts
-      (unarmed_kept (Ok x) (g.arming a) (g.arming b) (g.counts a) (g.counts b) reads.arming reads.reached) goes.unarmed;
+      (read-all g (Ok x) a b reads).unarmed goes.unarmed;
 }

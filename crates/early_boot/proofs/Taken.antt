@@ -1,48 +1,24 @@
 -- How much nearer an armed loss a boot comes, by the bytes that its device told at entry.
-use Rattle.std.proofs.Common.{◌≡◌, ℕ, ◌==◌, Bool, true, false, not, cond, List, Option, Some, None, Ok, Err, refl, sym, ap, subst, ◌∙◌}
+use Rattle.std.proofs.Common.{◌≡◌, ℕ, ◌==◌, Bool, true, false, not, cond, List, Option, Some, None, Ok, refl, sym, ap, subst, ◌∙◌}
 use Rattle.flash_core.specs.declared.flash.Arming.{Arming}
 use Rattle.flash_core.specs.declared.flash.FlashStop.{FlashStop}
 use Rattle.flash_core.specs.declared.flash.FlashStop.TheVariants as flash_stop
-use Rattle.flash_core.specs.Counts.{arming_kept}
 use Rattle.fwu_formats.specs.Metadata.{MetaRead, state_at}
 use Rattle.fwu_model.specs.State.{Numbers}
 use Rattle.early_boot.specs.declared.choosing.Chosen.{Chosen}
 use Rattle.early_boot.specs.declared.counting_starts.Counting.{Counting}
 use Rattle.early_boot.specs.declared.counting_starts.Counting.TheVariants as counting
 use Rattle.early_boot.specs.declared.showing.Shown.{Shown}
-use Rattle.early_boot.specs.declared.showing.Unshown.{Unshown}
-use Rattle.early_boot.specs.declared.showing.Unshown.TheVariants as unshown
-use Rattle.early_boot.specs.Showing.{ShowsImage, stop_in}
+use Rattle.early_boot.specs.Showing.{ShowsImage}
 use Rattle.early_boot.specs.Mending.{TakesMending, mended}
 use Rattle.early_boot.specs.Numbers.{numbers_shown}
 use Rattle.early_boot.specs.CountingStarts.{CountsLater, TakesCounting, TouchesCounting, counting_in, counting_of}
 use Rattle.early_boot.specs.Starting.{TakesMendingAndStart, TakesRepairAndStart, TouchesRepairAndStart}
 use Rattle.early_boot.specs.Tells.{started_as}
 use Rattle.early_boot.specs.Ends.{no_bank}
-use Rattle.early_boot.specs.EndsBy.{TouchesStart, TakesBoot, TakesByBytes, TakesLoaded, TakesLoadedAndStart, TakesStart, counting_told, stopped_with, unshown_end}
+use Rattle.early_boot.specs.EndsBy.{TouchesStart, TakesBoot, TakesLoaded, TakesLoadedAndStart, TakesStart, counting_told, stopped_with}
 use Rattle.replicas.specs.Which.{form_read_of}
 use Rattle.replicas.specs.Repairs.{TakesRepair}
-
--- ---- nothing was shown, or the flash stopped it
-
-pub unshown-takes : (why : Unshown) (image : List ℕ) (armed arming : Option Arming) → arming ≡ arming_kept (stop_in {T = Shown} (Err why)) armed
-    → TakesByBytes image (unshown_end why) armed arming
-unshown-takes (unshown.Layout f) image armed arming is = is
-unshown-takes unshown.Metadata image armed arming is = is
-unshown-takes (unshown.Flash flash_stop.Lost) image armed arming is = tt
-unshown-takes (unshown.Flash flash_stop.Failed) image armed arming is = tt
-
-pub stopped-takes : (stop : FlashStop) (n : Numbers) (image : List ℕ) (armed arming : Option Arming) → TakesByBytes image (stopped_with stop n) armed arming
-stopped-takes flash_stop.Lost n image armed arming = tt
-stopped-takes flash_stop.Failed n image armed arming = tt
-
--- the same on any device
-
-pub unshown-spent : (why : Unshown) (armed arming : Option Arming) → arming ≡ arming_kept (stop_in {T = Shown} (Err why)) armed → TakesBoot (unshown_end why) armed arming
-unshown-spent (unshown.Layout f) armed arming is = is
-unshown-spent unshown.Metadata armed arming is = is
-unshown-spent (unshown.Flash flash_stop.Lost) armed arming is = tt
-unshown-spent (unshown.Flash flash_stop.Failed) armed arming is = tt
 
 pub stopped-spent : (stop : FlashStop) (n : Numbers) (armed arming : Option Arming) → TakesBoot (stopped_with stop n) armed arming
 stopped-spent flash_stop.Lost n armed arming = tt

@@ -1,12 +1,10 @@
 -- What taking up a bank promises of its device, on any device: the reading, the check, and then the repair.
-use Rattle.std.proofs.Common.{◌≡◌, ℕ, ◌+◌, ◌==◌, ◌&&◌, ◌||◌, not, Bool, true, false, cond, List, [], ◌∷◌, Option, Some, None, Ok, Err, refl, sym, ap, subst, ◌∙◌, arith, eq-eqb, IsTrue, leb, le-leb, ltb, lt-ltb}
-use Rattle.std.proofs.lemmas.Bool.{and_from, and_parts, cond_both}
+use Rattle.std.proofs.Common.{◌≡◌, ℕ, ◌+◌, ◌==◌, ◌&&◌, ◌||◌, not, Bool, false, cond, List, [], ◌∷◌, Option, Some, None, Ok, Err, refl, sym, ap, subst, ◌∙◌, arith, eq-eqb, IsTrue, leb, le-leb, ltb, lt-ltb}
+use Rattle.std.proofs.lemmas.Bool.{and_from, and_parts, cond_both, not-true}
 use Rattle.std.proofs.lemmas.Option.{same_Some}
-use Rattle.std.specs.Prelude.{IfSome}
+use Rattle.std.specs.Prelude.{Result}
 use Rattle.flash_core.specs.declared.flash.Flash.{Ghosts}
 use Rattle.flash_core.specs.declared.flash.Arming.{Arming}
-use Rattle.flash_core.specs.declared.flash.Counts.{Counts}
-use Rattle.flash_core.specs.Counts.{ReachesNone, arming_kept}
 use Rattle.flash_core.specs.declared.flash.FlashStop.{FlashStop}
 use Rattle.flash_core.specs.Calls.{Goes, Reads}
 use Rattle.flash_core.specs.Told.{Told}
@@ -31,57 +29,43 @@ use Rattle.early_boot.specs.Choosing.{IsFound}
 use Rattle.early_boot.specs.Knows.{KnowsStarted}
 use Rattle.early_boot.specs.Mending.{TakesMending, mended}
 use Rattle.early_boot.specs.Tells.{started_as}
-use Rattle.early_boot.specs.TakenUp.{BootedRuns, IsTakeUp, MendsFound, OnceFound, RefusalIsIdle, SpendsFound, TakenByNumbers, TakesOnce, TakesTakeUp, not_started, running_bank, running_in, runs_from, stop_in_end, stopped, taken, unshown_as, was_started}
+use Rattle.early_boot.specs.TakenUp.{BootedRuns, IsTakeUp, TakeUpEnds, TakenUp, bad_layout, no_metadata, MendsFound, OnceFound, RefusalIsIdle, SpendsFound, TakenByNumbers, TakesOnce, TakesTakeUp, not_started, running_bank, running_in, runs_from, stop_in_end, stopped, taken, unshown_as, was_started}
 use Rattle.early_boot.proofs.Boots.{past-migration}
 use Rattle.early_boot.proofs.Lookups.{some-of}
-use Rattle.early_boot.proofs.Left.{goes-done, goes-stopped, read-goes, read-unarmed}
+use Rattle.early_boot.proofs.Left.{goes-done, goes-stopped, read-all, read-goes}
 use Rattle.early_boot.proofs.Numbered.{numbers-are}
 use Rattle.early_boot.proofs.TakingUp.{none-ends, refused-ends, stopped-ends, taken-ends, taken-knows}
 
--- ---- nothing was shown
-
-unshown-stop : (why : Unshown) → stop_in_end (unshown_as why) ≡ stop_in {T = Shown} (Err why)
-unshown-stop (unshown.Layout f) = refl
-unshown-stop unshown.Metadata = refl
-unshown-stop (unshown.Flash stop) = refl
-
-unshown-once : (why : Unshown) (image : List ℕ) (armed arming : Option Arming) → TakesOnce image (unshown_as why) armed arming
-unshown-once (unshown.Layout f) image armed arming = tt
-unshown-once unshown.Metadata image armed arming = tt
-unshown-once (unshown.Flash stop) image armed arming = tt
-
-unshown-numbers : (passes : List ℕ → Bool) (b : ℕ) (why : Unshown) → TakenByNumbers passes b (unshown_as why)
-unshown-numbers passes b (unshown.Layout f) = tt
-unshown-numbers passes b unshown.Metadata = tt
-unshown-numbers passes b (unshown.Flash stop) = tt
-
-unshown-spent : (why : Unshown) (armed arming : Option Arming) (old new : Counts) → arming ≡ arming_kept (stop_in_end (unshown_as why)) armed
-    → ReachesNone (stop_in_end (unshown_as why)) old new → TakesTakeUp (unshown_as why) armed arming old new
-unshown-spent (unshown.Layout f) armed arming old new is reached = record { arming_is = is; reached = reached }
-unshown-spent unshown.Metadata armed arming old new is reached = record { arming_is = is; reached = reached }
-unshown-spent (unshown.Flash stop) armed arming old new is reached = tt
-
-unshown-idle : (why : Unshown) (old new : ℕ → ℕ) → new ≡ old → RefusalIsIdle (unshown_as why) old new
-unshown-idle (unshown.Layout f) old new same = same
-unshown-idle unshown.Metadata old new same = same
-unshown-idle (unshown.Flash stop) old new same = tt
+-- ---- nothing was shown, so that nothing was written
 
 module _ {D : Type 0} (g : Ghosts D) (passes : List ℕ → Bool) (b : ℕ) (flash left : D) where
+  none-as : (e : TakenUp) → Reads {X = Unit {0}} g (stop_in_end e) flash left
+      → TakesTakeUp e (g.arming flash) (g.arming left) (g.counts flash) (g.counts left)
+      → TakesOnce (g.told flash).now e (g.arming flash) (g.arming left) → RefusalIsIdle e (g.writes flash) (g.writes left)
+      → TakenByNumbers passes b e
+      → (IsTrue g.tells → TakeUpEnds passes b (g.told flash) e (g.told flash)) → IsTakeUp g passes b flash e left
+  none-as e reads spent once refused numbers ends = record {
+    power = reads.power;
+    size = reads.size;
+    costs = reads.costs;
+    unarmed = (read-all g (stop_in_end e) flash left reads).unarmed;
+    spent = spent;
+    once = λ tells. once;
+    touches = touches_none 4096 12288 reads.writes;
+    refused = refused;
+    numbers = numbers;
+    ends = λ tells. subst (λ (t : Told). TakeUpEnds passes b (g.told flash) e t) (sym (reads.content tells)) (ends tells);
+  }
+
   pub none-take-up : (why : Unshown) → Reads g (stop_in {T = Shown} (Err why)) flash left → (IsTrue g.tells → ShowsNothing (g.told flash).now why) → IsTakeUp g passes b flash (unshown_as why) left
-  none-take-up why shown nothing =
-      let reads = subst (λ r. Reads g r flash left) (sym (unshown-stop why)) shown in
-      record {
-        power = reads.power;
-        size = reads.size;
-        costs = reads.costs;
-        unarmed = read-unarmed g (stop_in_end (unshown_as why)) flash left reads;
-        spent = unshown-spent why (g.arming flash) (g.arming left) (g.counts flash) (g.counts left) reads.arming reads.reached;
-        once = λ tells. unshown-once why (g.told flash).now (g.arming flash) (g.arming left);
-        touches = touches_none 4096 12288 reads.writes;
-        refused = unshown-idle why (g.writes flash) (g.writes left) reads.writes;
-        numbers = unshown-numbers passes b why;
-        ends = λ tells. none-ends (g.told flash) (g.told left) (reads.content tells) passes b why (nothing tells);
-      }
+  none-take-up (unshown.Layout f) reads nothing =
+      none-as (bad_layout f) reads (record { arming_is = reads.arming; reached = reads.reached }) tt reads.writes tt
+      (λ tells. none-ends passes b (g.told flash) (unshown.Layout f) (nothing tells))
+  none-take-up unshown.Metadata reads nothing =
+      none-as no_metadata reads (record { arming_is = reads.arming; reached = reads.reached }) tt reads.writes tt
+      (λ tells. none-ends passes b (g.told flash) unshown.Metadata (nothing tells))
+  none-take-up (unshown.Flash stop) reads nothing =
+      none-as (stopped stop) reads tt tt tt tt (λ tells. none-ends passes b (g.told flash) (unshown.Flash stop) (nothing tells))
 
 -- ---- the flash was read, and then the bank was checked
 
@@ -90,7 +74,18 @@ module _ {D : Type 0} (g : Ghosts D) (passes : List ℕ → Bool) (b : ℕ) (fla
   both-touch : TouchesOnly 4096 12288 (g.writes flash) (g.writes left)
   both-touch = touches-behind 4096 12288 reads.writes (repair-within shown.which _ _ mended_only)
 
-  refused-take-up : Goes {X = Option Chosen} g (Ok None) mid left → SpendsFound shown None (g.arming mid) (g.arming left) (g.counts mid) (g.counts left)
+  -- by what was there at entry
+  found-from : (o : Option Chosen) → (IsTrue g.tells → o ≡ running_in passes (g.told mid).now shown b) → IsTrue g.tells
+      → running_in passes (g.told flash).now shown b ≡ o
+  found-from o found tells = sym (subst (λ (t : Told). o ≡ running_in passes t.now shown b) (reads.content tells) (found tells))
+
+  mends-from : (result : Result (Option Chosen) FlashStop) → (IsTrue g.tells → MendsFound result shown (g.told mid) (g.told left))
+      → IsTrue g.tells
+      → MendsFound result shown (g.told flash) (g.told left)
+  mends-from result mends tells = subst (λ (t : Told). MendsFound result shown t (g.told left)) (reads.content tells) (mends tells)
+
+  pub refused-take-up : Goes {X = Option Chosen} g (Ok None) mid left
+      → SpendsFound shown None (g.arming mid) (g.arming left) (g.counts mid) (g.counts left)
       → (IsTrue g.tells → None ≡ running_in passes (g.told mid).now shown b) → (IsTrue g.tells → MendsFound (Ok None) shown (g.told mid) (g.told left))
       → g.writes left ≡ g.writes mid → IsTakeUp g passes b flash not_started left
   refused-take-up went spent found mends untouched =
@@ -109,9 +104,8 @@ module _ {D : Type 0} (g : Ghosts D) (passes : List ℕ → Bool) (b : ℕ) (fla
         refused = untouched ∙ reads.writes;
         numbers = tt;
         ends = λ tells.
-            let content = reads.content tells in
-            let none = subst (λ (t : Told). None ≡ running_in passes t.now shown b) content (found tells) in
-            refused-ends passes shown b (g.told flash) (g.told left) (has.shows tells) has.fits (sym none) (mends tells ∙ content);
+            refused-ends passes shown b (g.told flash) (g.told left) (has.shows tells) has.fits (found-from None found tells)
+            (mends-from (Ok None) mends tells);
       }
 
   pub stopped-take-up : (stop : FlashStop) → Goes {X = Option Chosen} g (Err stop) mid left → (IsTrue g.tells → MendsFound (Err stop) shown (g.told mid) (g.told left))
@@ -130,18 +124,17 @@ module _ {D : Type 0} (g : Ghosts D) (passes : List ℕ → Bool) (b : ℕ) (fla
         numbers = tt;
         ends = λ tells.
             stopped-ends passes shown b (g.told flash) (g.told left) (has.shows tells) has.fits stop
-            (subst (λ (t : Told). MendsFound (Err stop) shown t (g.told left)) (reads.content tells) (mends tells));
+            (mends-from (Err stop) mends tells);
       }
 
   module _ (c : Chosen) (found : IsTrue g.tells → Some c ≡ running_in passes (g.told mid).now shown b) (mends : IsTrue g.tells → MendsFound (Ok (Some c)) shown (g.told mid) (g.told left)) where
-    knows-taken : IsTrue g.tells → KnowsStarted (started_as (mended shown) c) (g.told left)
+    pub knows-taken : IsTrue g.tells → KnowsStarted (started_as (mended shown) c) (g.told left)
     knows-taken tells =
-        let content = reads.content tells in
-        taken-knows passes shown b (g.told flash) (g.told left) (has.shows tells) has.fits c
-        (sym (subst (λ (t : Told). Some c ≡ running_in passes t.now shown b) content (found tells)))
-        (subst (λ (t : Told). MendsFound (Ok (Some c)) shown t (g.told left)) content (mends tells))
+        taken-knows passes shown b (g.told flash) (g.told left) (has.shows tells) has.fits c (found-from (Some c) found tells)
+        (mends-from (Ok (Some c)) mends tells)
 
-    taken-take-up : Goes {X = Option Chosen} g (Ok (Some c)) mid left → SpendsFound shown (Some c) (g.arming mid) (g.arming left) (g.counts mid) (g.counts left)
+    pub taken-take-up : Goes {X = Option Chosen} g (Ok (Some c)) mid left
+        → SpendsFound shown (Some c) (g.arming mid) (g.arming left) (g.counts mid) (g.counts left)
         → (IsTrue g.tells → OnceFound shown (g.told mid).now (Some c) (g.arming mid) (g.arming left)) → IsFound passes shown (λ x. running_bank shown b ≡ Some x) c
         → IsTakeUp g passes b flash (taken (started_as (mended shown) c)) left
     taken-take-up went spent once is_found =
@@ -174,31 +167,9 @@ module _ {D : Type 0} (g : Ghosts D) (passes : List ℕ → Bool) (b : ℕ) (fla
             permitted = is_found.permitted;
           };
           ends = λ tells.
-              let content = reads.content tells in
-              taken-ends passes shown b (g.told flash) (g.told left) (has.shows tells) has.fits c
-              (sym (subst (λ (t : Told). Some c ≡ running_in passes t.now shown b) content (found tells)))
-              (subst (λ (t : Told). MendsFound (Ok (Some c)) shown t (g.told left)) content (mends tells));
+              taken-ends passes shown b (g.told flash) (g.told left) (has.shows tells) has.fits c (found-from (Some c) found tells)
+              (mends-from (Ok (Some c)) mends tells);
         }
-
-  -- by what the check found
-  pub knows-at : (o : Option Chosen) (c : Chosen) → o ≡ Some c → (IsTrue g.tells → o ≡ running_in passes (g.told mid).now shown b) → (IsTrue g.tells → MendsFound (Ok o) shown (g.told mid) (g.told left))
-      → IsTrue g.tells → KnowsStarted (started_as (mended shown) c) (g.told left)
-  knows-at None c is found mends tells = absurd cc
-  knows-at (Some x) c is found mends tells = subst (λ (y : Chosen). KnowsStarted (started_as (mended shown) y) (g.told left)) (same_Some x c is) (knows-taken x found mends tells)
-
-  pub taken-at : (o : Option Chosen) (c : Chosen) → o ≡ Some c → (IsTrue g.tells → o ≡ running_in passes (g.told mid).now shown b) → (IsTrue g.tells → MendsFound (Ok o) shown (g.told mid) (g.told left))
-      → Goes {X = Option Chosen} g (Ok o) mid left → SpendsFound shown o (g.arming mid) (g.arming left) (g.counts mid) (g.counts left)
-      → (IsTrue g.tells → OnceFound shown (g.told mid).now o (g.arming mid) (g.arming left)) → IfSome o (IsFound passes shown (λ x. running_bank shown b ≡ Some x))
-      → IsTakeUp g passes b flash (taken (started_as (mended shown) c)) left
-  taken-at None c is found mends went spent once is_found = absurd cc
-  taken-at (Some x) c is found mends went spent once is_found =
-      subst (λ (y : Chosen). IsTakeUp g passes b flash (taken (started_as (mended shown) y)) left) (same_Some x c is) (taken-take-up x found mends went spent once is_found)
-
-  pub refused-at : (o : Option Chosen) → o ≡ None → Goes {X = Option Chosen} g (Ok o) mid left → SpendsFound shown o (g.arming mid) (g.arming left) (g.counts mid) (g.counts left)
-      → (IsTrue g.tells → o ≡ running_in passes (g.told mid).now shown b) → (IsTrue g.tells → MendsFound (Ok o) shown (g.told mid) (g.told left))
-      → (o ≡ None → g.writes left ≡ g.writes mid) → IsTakeUp g passes b flash not_started left
-  refused-at None is went spent found mends untouched = refused-take-up went spent found mends (untouched is)
-  refused-at (Some x) is went spent found mends untouched = absurd cc
 
 -- ---- what a boot started may be taken up
 
@@ -237,16 +208,12 @@ booted-previous : (E : Setting) (s : State) (f : ℕ) → IsTrue (can_fall_back 
 booted-previous E s f h =
     let parts = and_parts _ _ h in
     let two = and_parts (not (s.previous == s.active)) _ parts.0 in
-    let away : (s.previous == s.active) ≡ false = turned (s.previous == s.active) two.0 in
+    let away : (s.previous == s.active) ≡ false = not-true (s.previous == s.active) two.0 in
     subst (λ (x : Bool). IsTrue (runs_from E (after (record s { form = f }) (cond x (start_moves (bank s s.previous).state s.counter (version (booted_package s s.previous))) [])) s.previous)) (sym away)
     (and_from _ _
     (subst (λ (x : Bool). IsTrue (cond x (was_started (bank s s.previous).state s.trials) (s.previous == s.previous && is_accepted (bank s s.previous).state))) (sym away)
     (and_from _ _ (eq-eqb s.previous s.previous refl) two.1))
     parts.1)
-  where
-    turned : (x : Bool) → IsTrue (not x) → x ≡ false
-    turned true h = absurd cc
-    turned false h = refl
 
 booted-at : (E : Setting) (s : State) (b f : ℕ) → choice E s ≡ Some b → IsTrue (runs_from E (after (record s { form = f }) (chosen_moves s b)) b)
 unfolding choice

@@ -1,7 +1,6 @@
 -- How taking up a bank ends, from what was shown and what was found of the bank.
 use Rattle.std.proofs.Common.{◌≡◌, inl, inr, ℕ, ◌<◌, ◌==◌, ◌&&◌, Bool, true, false, cond, eqb-true, List, length, map, Option, Some, None, Ok, Err, refl, sym, ap, subst, ◌∙◌, arith, IsTrue, IsFalse}
 use Rattle.std.proofs.lemmas.Bool.{and_parts, cases_Bool, cond_both}
-use Rattle.std.proofs.lemmas.Option.{same_Some}
 use Rattle.std.specs.Prelude.{is_some}
 use Rattle.flash_core.specs.declared.flash.FlashStop.{FlashStop}
 use Rattle.flash_core.specs.Told.{Told}
@@ -14,13 +13,11 @@ use Rattle.fwu_formats.specs.declared.kinds.BankState.{BankState}
 use Rattle.fwu_formats.specs.declared.kinds.BankState.TheVariants.{Invalid, Valid, Accepted}
 use Rattle.fwu_model.specs.State.{State, Bank, bank, is_invalid, is_accepted, numbers_of, after}
 use Rattle.fwu_model.specs.Sound.{Setting, holds_permitted}
-use Rattle.fwu_model.specs.Seen.{seen, state_of}
+use Rattle.fwu_model.specs.Seen.{state_of}
 use Rattle.fwu_model.specs.Answer.{booted_package, held_package, migrate_moves}
 use Rattle.fwu_model.specs.Calm.{IsCalm, IsAtRest}
 use Rattle.fwu_model.specs.Run.{prefixes}
 use Rattle.fwu_model.specs.Headline.{LeavesOneOf}
-use Rattle.fwu_model.proofs.Shown.{seen-by-metadata, shown-by}
-use Rattle.moves.specs.Moved.{GuardedBy}
 use Rattle.moves.proofs.Agree.{shown-as}
 use Rattle.moves.proofs.Composed.{does-idle}
 use Rattle.moves.proofs.SamePackages.{package-same}
@@ -34,8 +31,9 @@ use Rattle.early_boot.specs.Choosing.{boot_setting, candidate_in, chosen_as}
 use Rattle.early_boot.specs.Mending.{MendsReplicas, mended}
 use Rattle.early_boot.specs.Knows.{KnowsStarted}
 use Rattle.early_boot.specs.Tells.{started_as}
-use Rattle.early_boot.specs.TakenUp.{MendsFound, TakeUpEnds, TakesBank, TakesByBytes, TakesByMachine, TakesReady, may_run, not_started, running_in, runs_from, stop_in_end, stopped, taken, unshown_as, was_started}
-use Rattle.early_boot.proofs.Endings.{shown-numbers}
+use Rattle.early_boot.specs.TakenUp.{MendsFound, TakeUpEnds, TakesBank, TakesReady, may_run, not_started, running_in, runs_from, stopped, taken, unshown_as, was_started}
+use Rattle.early_boot.proofs.Endings.{sees, shown-numbers, state-seen}
+use Rattle.early_boot.proofs.Ended.{seen-metadata}
 use Rattle.early_boot.proofs.Lookups.{bank-is, found-by-test, some-of}
 
 -- ---- a bank that may run
@@ -93,9 +91,6 @@ none-of : (test : Bool) (x : Chosen) → cond test (Some x) None ≡ None → te
 none-of true x e = absurd cc
 none-of false x e = refl
 
-both-of : (run permitted : Bool) → IsTrue (run && permitted) → IsTrue run
-both-of run permitted h = (and_parts run permitted h).0
-
 some-held : (E : Setting) (counter : ℕ) (own : Option (List (List ℕ))) → IsTrue (holds_permitted E counter own) → IsTrue (is_some own)
 some-held E counter None h = absurd cc
 some-held E counter (Some p) h = refl
@@ -112,12 +107,6 @@ module _ (passes : List ℕ → Bool) (shown : Shown) (b : ℕ) (old new : Told)
 
   abbrev E0 : Setting
   E0 = boot_setting passes shown.layout
-
-  sees : seen old.now ≡ Some state
-  sees = seen-by-metadata.gives shown.layout old.now shown.meta shows.layout_is shows.loads.decides
-
-  state-seen : (s : State) → seen old.now ≡ Some s → state ≡ s
-  state-seen s is = same_Some state s (sym sees ∙ is)
 
   found-by : running_in passes old.now shown b ≡ cond (runs_from E0 state b) (Some (chosen_as b (booted_package state b))) None
   found-by =
@@ -136,7 +125,7 @@ module _ (passes : List ℕ → Bool) (shown : Shown) (b : ℕ) (old new : Told)
     parts = some-of (runs_from E0 state b) (chosen_as b (booted_package state b)) c (sym found-by ∙ found)
 
     may : IsTrue (may_run b state.active state.previous (bank state b).state state.trials)
-    may = both-of _ _ parts.0
+    may = (and_parts _ _ parts.0).0
 
     held-old : (bank state b).held ≡ package_in shown.layout old.now b
     held-old = held-by shown.layout old.now shown.meta are b state.trials may
@@ -171,7 +160,7 @@ module _ (passes : List ℕ → Bool) (shown : Shown) (b : ℕ) (old new : Told)
       bank-as = record {
         state = state;
         has_layout = shows.layout_is;
-        shows = sees;
+        shows = sees old.now shown shows;
         runs = λ E test. runs-setting E state b shown.layout passes test ∙ parts.0;
         bank_is = refl;
         version_is = refl;
@@ -194,7 +183,9 @@ module _ (passes : List ℕ → Bool) (shown : Shown) (b : ℕ) (old new : Told)
       ends-as = record {
         by_bytes = bank-as;
         by_machine = λ E s test calm guards.
-            subst (λ (y : State). IsCalm E old y → TakesReady E y b (started_as (mended shown) (chosen_as b (booted_package state b))) new) (state-seen s calm.shows) (λ here. ready-as E here guards) calm;
+            subst (λ (y : State). IsCalm E old y → TakesReady E y b
+            (started_as (mended shown) (chosen_as b (booted_package state b))) new)
+            (state-seen old.now shown s shows calm.shows) (λ here. ready-as E here guards) calm;
         guarded = mends.guarded;
       }
 
@@ -212,13 +203,14 @@ module _ (passes : List ℕ → Bool) (shown : Shown) (b : ℕ) (old new : Told)
             layout = shown.layout;
             state = state;
             has_layout = shows.layout_is;
-            shows = sees;
+            shows = sees old.now shown shows;
             runs_not = λ E test. runs-setting E state b shown.layout passes test ∙ never;
           },
           same,
         );
         by_machine = λ E s test calm guards. (
-          subst (λ (y : State). runs_from E y b ≡ false) (state-seen s calm.shows) (runs-setting E state b shown.layout passes test ∙ never),
+          subst (λ (y : State). runs_from E y b ≡ false) (state-seen old.now shown s shows calm.shows)
+              (runs-setting E state b shown.layout passes test ∙ never),
           subst (λ (t : Told). IsCalm E t s) (sym same) calm,
         );
         guarded = λ rest. subst IsAtRest (sym same) rest;
@@ -226,66 +218,47 @@ module _ (passes : List ℕ → Bool) (shown : Shown) (b : ℕ) (old new : Told)
 
   -- ---- the flash stopped it
 
-  module _ (stop : FlashStop) (ends : MendsFound (Err stop) shown old new) where
-    stop-bytes : TakesByBytes passes b old (stopped stop) new
-    stop-bytes = elim ends [
-      | inl same ↦ inl same
-      | inr mends ↦ inr (record {
-        layout = shown.layout;
-        has_layout = shows.layout_is;
-        decided = shown.meta;
-        decides = shows.loads.decides;
-        repairs = mends.repairs;
-        others = mends.keeps;
-      })
-    ]
-
-    stop-machine : (E : Setting) → IsCalm E old state → Guards 1 7 old → LeavesOneOf E (prefixes state (migrate_moves state)) new
-    stop-machine E calm guards = elim ends [
-      | inl same ↦ (does-idle {T = Unit {0}} (Err stop) E state (migrate_moves state) new refl (subst (λ (t : Told). IsCalm E t state) (sym same) calm)).each
-      | inr mends ↦ (mends.does E calm guards).each
-    ]
-
-    stop-guarded : IsAtRest old → GuardedBy (stop_in_end (stopped stop)) new
-    stop-guarded rest = elim ends [
-      | inl same ↦ (subst IsAtRest (sym same) rest).guarded
-      | inr mends ↦ mends.guarded rest
-    ]
-
-    pub stopped-ends : TakeUpEnds passes b old (stopped stop) new
-    stopped-ends = record {
-      by_bytes = stop-bytes;
-      by_machine = λ E s test calm guards.
-          subst (λ (y : State). IsCalm E old y → LeavesOneOf E (prefixes y (migrate_moves y)) new) (state-seen s calm.shows) (λ here. stop-machine E here guards) calm;
-      guarded = stop-guarded;
-    }
-
--- ---- nothing was shown
-
-module _ (old new : Told) (same : new ≡ old) where
-  none-bytes : (passes : List ℕ → Bool) (b : ℕ) (why : Unshown) → ShowsNothing old.now why → TakesByBytes passes b old (unshown_as why) new
-  none-bytes passes b (unshown.Layout f) h = (h, same)
-  none-bytes passes b unshown.Metadata h = (h.0, h.1, h.2, same)
-  none-bytes passes b (unshown.Flash stop) h = inl same
-
-  none-machine : (E : Setting) (s : State) (b : ℕ) (why : Unshown) → ShowsNothing old.now why → IsCalm E old s → TakesByMachine E s b (unshown_as why) new
-  none-machine E s b (unshown.Layout f) h calm = let layout = calm.sound.layout in cc
-  none-machine E s b unshown.Metadata h calm =
-      let found = shown-by h.0 old.now s h.1 calm.shows in
-      let decides = found.1 in
-      let none = h.2 in
-      cc
-  none-machine E s b (unshown.Flash stop) h calm =
-      (does-idle {T = Unit {0}} (Err stop) E s (migrate_moves s) new refl (subst (λ (t : Told). IsCalm E t s) (sym same) calm)).each
-
-  none-guarded : (why : Unshown) → IsAtRest old → GuardedBy (stop_in_end (unshown_as why)) new
-  none-guarded (unshown.Layout f) rest = subst IsAtRest (sym same) rest
-  none-guarded unshown.Metadata rest = subst IsAtRest (sym same) rest
-  none-guarded (unshown.Flash stop) rest = (subst IsAtRest (sym same) rest).guarded
-
-  pub none-ends : (passes : List ℕ → Bool) (b : ℕ) (why : Unshown) → ShowsNothing old.now why → TakeUpEnds passes b old (unshown_as why) new
-  none-ends passes b why h = record {
-    by_bytes = none-bytes passes b why h;
-    by_machine = λ E s test calm guards. none-machine E s b why h calm;
-    guarded = none-guarded why;
+  pub stopped-ends : (stop : FlashStop) → MendsFound (Err stop) shown old new → TakeUpEnds passes b old (stopped stop) new
+  stopped-ends stop (inl same) = record {
+    by_bytes = inl same;
+    by_machine = λ E s test calm guards.
+        (does-idle {T = Unit {0}} (Err stop) E s (migrate_moves s) new refl
+        (subst (λ (t : Told). IsCalm E t s) (sym same) calm)).each;
+    guarded = λ rest. (subst IsAtRest (sym same) rest).guarded;
   }
+  stopped-ends stop (inr mends) = record {
+    by_bytes = inr (record {
+      layout = shown.layout;
+      has_layout = shows.layout_is;
+      decided = shown.meta;
+      decides = shows.loads.decides;
+      repairs = mends.repairs;
+      others = mends.keeps;
+    });
+    by_machine = λ E s test calm guards.
+        subst (λ (y : State). IsCalm E old y → LeavesOneOf E (prefixes y (migrate_moves y)) new)
+        (state-seen old.now shown s shows calm.shows) (λ here. (mends.does E here guards).each) calm;
+    guarded = mends.guarded;
+  }
+
+-- ---- nothing was shown, and nothing was written
+
+pub none-ends : (passes : List ℕ → Bool) (b : ℕ) (old : Told) (why : Unshown) → ShowsNothing old.now why
+    → TakeUpEnds passes b old (unshown_as why) old
+none-ends passes b old (unshown.Layout f) h =
+    record {
+      by_bytes = (h, refl);
+      by_machine = λ E s test calm guards. let layout = calm.sound.layout in cc;
+      guarded = λ rest. rest;
+    }
+none-ends passes b old unshown.Metadata h =
+    record {
+      by_bytes = (h.0, h.1, h.2, refl);
+      by_machine = λ E s test calm guards. seen-metadata old.now s h calm.shows;
+      guarded = λ rest. rest;
+    }
+none-ends passes b old (unshown.Flash stop) h = record {
+  by_bytes = inl refl;
+  by_machine = λ E s test calm guards. (does-idle {T = Unit {0}} (Err stop) E s (migrate_moves s) old refl calm).each;
+  guarded = λ rest. rest.guarded;
+}

@@ -1,9 +1,7 @@
 -- Which blocks a boot may erase or program.
 use Rattle.std.proofs.Common.{◌≡◌, inl, inr, ℕ, Bool, true, false, cond, ◌==◌, Option, Some, None, Ok, Err, sym, ap, subst, ◌∙◌, arith}
-use Rattle.std.proofs.lemmas.Bool.{false≢true}
-use Rattle.std.specs.Prelude.{Result, IsErr, slice_index_or}
+use Rattle.std.specs.Prelude.{Result, slice_index_or}
 use Rattle.flash_core.specs.declared.flash.FlashStop.{FlashStop}
-use Rattle.flash_core.specs.declared.flash.FlashStop.TheVariants as flash_stop
 use Rattle.flash_core.specs.Touches.{TouchesOnly}
 use Rattle.flash_core.proofs.Touches.{touches_none, touches_then, touches_wider}
 use Rattle.fwu_formats.specs.Metadata.{state_at}
@@ -14,29 +12,20 @@ use Rattle.early_boot.specs.declared.choosing.Chosen.{Chosen}
 use Rattle.early_boot.specs.declared.counting_starts.Counting.{Counting}
 use Rattle.early_boot.specs.declared.counting_starts.Counting.TheVariants as counting
 use Rattle.early_boot.specs.declared.showing.Shown.{Shown}
-use Rattle.early_boot.specs.declared.showing.Unshown.{Unshown}
-use Rattle.early_boot.specs.declared.showing.Unshown.TheVariants as unshown
 use Rattle.early_boot.specs.CountingStarts.{TouchesCounting, counting_in, counting_of}
 use Rattle.early_boot.specs.Mending.{mended}
 use Rattle.early_boot.specs.Numbers.{numbers_shown}
-use Rattle.early_boot.specs.Ends.{Ended, booted, bad_layout, no_metadata, no_bank, lost, failed}
+use Rattle.early_boot.specs.Ends.{Ended, booted, no_bank, lost, failed}
 use Rattle.replicas.specs.declared.which.Which.{Which}
-use Rattle.replicas.specs.declared.which.Which.TheVariants.{Same, RepairZero, RepairOne, MigrateZero, MigrateOne}
+use Rattle.replicas.specs.declared.which.Which.TheVariants.{Same, RepairZero, RepairOne}
 use Rattle.replicas.specs.Which.{form_read_of}
 use Rattle.replicas.specs.Repairs.{TouchesRepair}
 use Rattle.early_boot.specs.Starting.{TouchesFound, TouchesRepairAndStart}
-use Rattle.early_boot.specs.EndsBy.{TouchesBoot, TouchesStart, TouchesStopped, counting_told, stopped_with, unshown_end}
+use Rattle.early_boot.specs.EndsBy.{TouchesBoot, TouchesStart, TouchesStopped, counting_told}
 
 -- after reads
 pub touches-behind : (low high : ℕ) {a b c : ℕ → ℕ} → b ≡ a → TouchesOnly low high b c → TouchesOnly low high a c
 touches-behind low high same only = touches_then low high (touches_none low high same) only
-
--- what a start is counted as
-pub counted-touches : (k what : Counting) (a b : ℕ → ℕ) → what ≡ k → TouchesCounting k a b → TouchesCounting what a b
-counted-touches k what a b is only = subst (λ (x : Counting). TouchesCounting x a b) (sym is) only
-
-pub counting-behind : (k : Counting) (a b c : ℕ → ℕ) → b ≡ a → TouchesCounting k b c → TouchesCounting k a c
-counting-behind k a b c same only = subst (λ (w : ℕ → ℕ). TouchesCounting k w c) same only
 
 -- all of it lies in blocks 1 to 6
 counting-within : (k : Counting) (a b : ℕ → ℕ) → TouchesCounting k a b → TouchesOnly 4096 28672 a b
@@ -55,46 +44,14 @@ pub repair-within : (which : Which) (a b : ℕ → ℕ) → TouchesRepair which 
 repair-within Same a b same = touches_none 4096 12288 same
 repair-within RepairZero a b only = touches_wider 4096 8192 4096 12288 (omega arith) (omega arith) only
 repair-within RepairOne a b only = touches_wider 8192 12288 4096 12288 (omega arith) (omega arith) only
-repair-within MigrateZero a b only = only
-repair-within MigrateOne a b only = only
-
-pub repair-none : (which : Which) (a b : ℕ → ℕ) → b ≡ a → TouchesRepair which a b
-repair-none Same a b same = same
-repair-none RepairZero a b same = touches_none 4096 8192 same
-repair-none RepairOne a b same = touches_none 8192 12288 same
-repair-none MigrateZero a b same = touches_none 4096 12288 same
-repair-none MigrateOne a b same = touches_none 4096 12288 same
+repair-within migrates a b only = only
 
 pub boot-within : (result : Result (Option (Shown × Chosen)) FlashStop) (shown : Shown) (a b : ℕ → ℕ) → TouchesRepairAndStart result shown a b → TouchesOnly 4096 28672 a b
 boot-within result shown a b all =
     touches_then 4096 28672 (touches_wider 4096 12288 4096 28672 (omega arith) (omega arith) (repair-within shown.which a all.repaired all.repair))
     (found-within result (mended shown) all.repaired b all.start)
 
--- a stop that counted nothing, and one that may have
-pub stopped-nothing : (result : Result (Option (Shown × Chosen)) FlashStop) (shown : Shown) (a b : ℕ → ℕ) → IsErr result → b ≡ a → TouchesFound result shown a b
-stopped-nothing (Ok x) shown a b err same = absurd (false≢true err)
-stopped-nothing (Err stop) shown a b err same = inl same
-
-pub stopped-counting : (result : Result (Option (Shown × Chosen)) FlashStop) (shown : Shown) (chosen : Chosen) (a b : ℕ → ℕ) → IsErr result
-    → TouchesCounting (counting_in shown chosen) a b → TouchesFound result shown a b
-stopped-counting (Ok x) shown chosen a b err only = absurd (false≢true err)
-stopped-counting (Err stop) shown chosen a b err only = inr (chosen, only)
-
--- behind reads
-pub boot-behind : (result : Result (Option (Shown × Chosen)) FlashStop) (shown : Shown) (a b c : ℕ → ℕ) → b ≡ a → TouchesRepairAndStart result shown b c → TouchesRepairAndStart result shown a c
-boot-behind result shown a b c same all = record {
-  repaired = all.repaired;
-  repair = subst (λ (w : ℕ → ℕ). TouchesRepair shown.which w all.repaired) same all.repair;
-  start = all.start;
-}
-
 -- ---- by the end
-
-pub unshown-touches : (why : Unshown) {old new : ℕ → ℕ} → new ≡ old → TouchesBoot (unshown_end why) old new
-unshown-touches (unshown.Layout f) same = same
-unshown-touches unshown.Metadata same = same
-unshown-touches (unshown.Flash flash_stop.Lost) same = same
-unshown-touches (unshown.Flash flash_stop.Failed) same = same
 
 -- A choice is counted by the state of the active bank and the counter that the numbers tell, or as nothing.
 module _ (shown : Shown) (n : Numbers) (read : n ≡ numbers_shown shown) (old new : ℕ → ℕ) where
@@ -109,7 +66,8 @@ module _ (shown : Shown) (n : Numbers) (read : n ≡ numbers_shown shown) (old n
   stopped-by-numbers stop (inr (chosen, only)) = counted-stop (chosen.bank == shown.meta.meta.active) chosen.version only
 
 module _ (shown : Shown) (n : Numbers) (read : n ≡ numbers_shown shown) (form : shown.meta.form ≡ form_read_of shown.which) (old new : ℕ → ℕ) where
-  stopped-start : (stop : FlashStop) → TouchesRepairAndStart (Err stop) shown old new → TouchesStart n (TouchesStopped n) old new
+  pub stopped-start : (stop : FlashStop) → TouchesRepairAndStart (Err stop) shown old new
+      → TouchesStart n (TouchesStopped n) old new
   stopped-start stop all = record {
     which = shown.which;
     version_is = ap (λ (m : Numbers). m.form) read ∙ form;
@@ -117,10 +75,6 @@ module _ (shown : Shown) (n : Numbers) (read : n ≡ numbers_shown shown) (form 
     repair = all.repair;
     start = stopped-by-numbers shown n read all.repaired new stop all.start;
   }
-
-  pub stopped-touches : (stop : FlashStop) → TouchesRepairAndStart (Err stop) shown old new → TouchesBoot (stopped_with stop n) old new
-  stopped-touches flash_stop.Lost all = stopped-start flash_stop.Lost all
-  stopped-touches flash_stop.Failed all = stopped-start flash_stop.Failed all
 
   -- where no bank was started, the repair alone
   pub none-touches : (active previous : ℕ) → TouchesRepairAndStart (Ok None) shown old new → TouchesBoot (no_bank active previous) old new
@@ -150,10 +104,7 @@ start-spares n w v start = stopped-spares n start.repaired v start.start ∙ rep
 
 pub boot-spares : (e : Ended) (w v : ℕ → ℕ) → TouchesBoot e w v → v counter_block ≡ w counter_block
 boot-spares (booted b n) w v start = counting-spares (counting_told b n) start.repaired v start.start ∙ repair-spares start.which w start.repaired start.repair
-boot-spares (bad_layout f) w v same = same-at counter_block w v same
-boot-spares no_metadata w v same = same-at counter_block w v same
 boot-spares (no_bank active previous) w v (which, repair) = repair-spares which w v repair
-boot-spares (lost None) w v same = same-at counter_block w v same
 boot-spares (lost (Some n)) w v start = start-spares n w v start
-boot-spares (failed None) w v same = same-at counter_block w v same
 boot-spares (failed (Some n)) w v start = start-spares n w v start
+boot-spares e w v same = same-at counter_block w v same

@@ -33,11 +33,7 @@ stays-moves : {T : Type 0} (result : Result T FlashStop) (ms : List Move) (at : 
 stays-moves result [] at s t writes = stays-same s t writes
 stays-moves result (move.Trial ∷ ms) at s t writes = stays-before (4096 * 3 + 16 * at) (4096 * 3 + 16 * at + 16) s t (omega arith) writes.keeps
 stays-moves result (move.RaiseTo v ∷ ms) at s t writes = stays-before (4096 * 5) (4096 * 7) s t (omega arith) writes.keeps
-stays-moves result (move.Free b ∷ ms) at s t writes = absurd writes
-stays-moves result (move.Switch b p bits ∷ ms) at s t writes = absurd writes
-stays-moves result (move.Accept image ∷ ms) at s t writes = absurd writes
-stays-moves result (move.Back ∷ ms) at s t writes = absurd writes
-stays-moves result (move.Migrate ∷ ms) at s t writes = absurd writes
+stays-moves result (m ∷ ms) at s t writes = absurd writes
 
 module _ (old : Told) (L : Layout) (r : MetaRead) (layout : layout_seen old.now ≡ Ok L) (decides : deciding L old.now ≡ Some r) (both : BothHold L (in_version 2 r.meta) old.now) where
   -- what decides is this, by this layout

@@ -52,22 +52,13 @@ moves-then (move.Trial ∷ ms) at s t writes j lt =
       | inr above ↦ inr (let more : at < j = omega (arith, above, other) in omega (arith, more))
     ]
 moves-then (move.RaiseTo v ∷ ms) at s t writes j lt = kept-granule (4096 * 5) (4096 * 7) j s t writes.keeps (inl (omega (arith, lt)))
-moves-then (move.Free b ∷ ms) at s t writes j lt = absurd writes
-moves-then (move.Switch b p bits ∷ ms) at s t writes j lt = absurd writes
-moves-then (move.Accept image ∷ ms) at s t writes j lt = absurd writes
-moves-then (move.Back ∷ ms) at s t writes j lt = absurd writes
-moves-then (move.Migrate ∷ ms) at s t writes j lt = absurd writes
+moves-then (m ∷ ms) at s t writes j lt = absurd writes
 
 -- the repair leaves them
 then-same : (ms : List Move) (at : ℕ) (x y : List ℕ) (j : ℕ) → granule 3 j x ≡ granule 3 j y → granule_then ms at x j ≡ granule_then ms at y j
 then-same [] at x y j e = e
 then-same (move.Trial ∷ ms) at x y j e = ap (cond (eqb j at) (replicate 16 0)) e
-then-same (move.RaiseTo v ∷ ms) at x y j e = e
-then-same (move.Free b ∷ ms) at x y j e = e
-then-same (move.Switch b p bits ∷ ms) at x y j e = e
-then-same (move.Accept image ∷ ms) at x y j e = e
-then-same (move.Back ∷ ms) at x y j e = e
-then-same (move.Migrate ∷ ms) at x y j e = e
+then-same (m ∷ ms) at x y j e = e
 
 pub granules-then : (L : Layout) (r : MetaRead) (ms : List Move) (at : ℕ) (old t : Told) → RepairsAndCounts {T = Unit {0}} (Ok tt) L r ms at old t → (j : ℕ) → j < 3 → granule 3 j t.now ≡ granule_then ms at old.now j
 granules-then L r ms at old t writes j lt =

@@ -1,9 +1,9 @@
-use Rattle.std.proofs.Common.{sym, subst}
+use Rattle.std.proofs.Common.{refl, sym, subst}
 use Rattle.early_boot.specs.declared.showing.Shown.{Shown}
 use Rattle.early_boot.specs.Knows.{KnowsStarted}
 use Rattle.early_boot.specs.Tells.{started_as}
 use Rattle.early_boot.specs.TakenUp.{IsTakeUp, TakenUp, device_left, taken, unshown_as}
-use Rattle.early_boot.proofs.TakenUp.{knows-at, none-take-up, refused-at, stopped-take-up, taken-at}
+use Rattle.early_boot.proofs.TakenUp.{knows-taken, none-take-up, refused-take-up, stopped-take-up, taken-take-up}
 use Rattle.early_boot.proofs.taking_up.take_up.Goals as goal
 
 pub returns-in-Err : goal.returns-in-Err
@@ -18,30 +18,35 @@ returns-in-Err g c =
 
 pub invariant_of-booted-clause-knows : goal.invariant_of-booted-clause-knows
 invariant_of-booted-clause-knows g c tells =
-    let passes = g.V.Verifier.passes c.args.verifier.now in
     let chosen = c.in-Ok-Some.chosen in
+    let found = rw c.in-Ok-Some.field-0-is at c.in-Ok-Some.ensures in
     subst (λ (x : Shown). KnowsStarted (started_as x chosen) (g.D.Flash.told c.check_and_mend.new.flash)) (sym c.mended.ensures)
-    (knows-at g.D.Flash passes c.args.bank c.args.flash c.read_shown.new.flash c.check_and_mend.new.flash c.in-Ok.shown c.in-Ok.ensures.reads c.in-Ok.ensures.shown c.in-Ok-Some.ensures.touches
-    c.in-Ok-Some.field-0 chosen c.in-Ok-Some.field-0-is c.in-Ok-Some.ensures.running c.in-Ok-Some.ensures.mends tells)
+    (knows-taken g.D.Flash (g.V.Verifier.passes c.args.verifier.now) c.args.bank c.args.flash c.read_shown.new.flash
+    c.check_and_mend.new.flash c.in-Ok.shown c.in-Ok.ensures.reads c.in-Ok.ensures.shown
+    found.touches chosen found.running found.mends tells)
 
 pub returns-in-Ok-Some : goal.returns-in-Ok-Some
 returns-in-Ok-Some g c =
     let passes = g.V.Verifier.passes c.args.verifier.now in
     let chosen = c.in-Ok-Some.chosen in
+    let found = rw c.in-Ok-Some.field-0-is at c.in-Ok-Some.ensures in
     record {
       takes =
           subst (λ (x : Shown). IsTakeUp g.D.Flash passes c.args.bank c.args.flash (taken (started_as x chosen)) c.check_and_mend.new.flash) (sym c.mended.ensures)
-          (taken-at g.D.Flash passes c.args.bank c.args.flash c.read_shown.new.flash c.check_and_mend.new.flash c.in-Ok.shown c.in-Ok.ensures.reads c.in-Ok.ensures.shown c.in-Ok-Some.ensures.touches
-          c.in-Ok-Some.field-0 chosen c.in-Ok-Some.field-0-is c.in-Ok-Some.ensures.running c.in-Ok-Some.ensures.mends c.in-Ok-Some.ensures.goes c.in-Ok-Some.ensures.spent c.in-Ok-Some.ensures.once c.in-Ok-Some.ensures.found);
+          (taken-take-up g.D.Flash passes c.args.bank c.args.flash c.read_shown.new.flash c.check_and_mend.new.flash c.in-Ok.shown
+          c.in-Ok.ensures.reads c.in-Ok.ensures.shown
+          found.touches chosen found.running found.mends found.goes found.spent found.once found.found);
     }
 
 pub returns-in-Ok-None : goal.returns-in-Ok-None
 returns-in-Ok-None g c =
     let passes = g.V.Verifier.passes c.args.verifier.now in
+    let none = rw c.in-Ok-None.field-0-is at c.in-Ok-None.ensures in
     record {
       takes =
-          refused-at g.D.Flash passes c.args.bank c.args.flash c.read_shown.new.flash c.check_and_mend.new.flash c.in-Ok.shown c.in-Ok.ensures.reads c.in-Ok.ensures.shown c.in-Ok-None.ensures.touches
-          c.in-Ok-None.field-0 c.in-Ok-None.field-0-is c.in-Ok-None.ensures.goes c.in-Ok-None.ensures.spent c.in-Ok-None.ensures.running c.in-Ok-None.ensures.mends c.in-Ok-None.ensures.refused;
+          refused-take-up g.D.Flash passes c.args.bank c.args.flash c.read_shown.new.flash c.check_and_mend.new.flash c.in-Ok.shown
+          c.in-Ok.ensures.reads c.in-Ok.ensures.shown
+          none.touches none.goes none.spent none.running none.mends (none.refused refl);
     }
 
 pub returns-in-Err-check_and_mend : goal.returns-in-Err-check_and_mend
