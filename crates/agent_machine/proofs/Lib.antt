@@ -25,7 +25,6 @@ pub mod StoredAnswers
 pub mod StoredPlans
 pub mod StoredCalls
 pub mod StoredBack
-pub mod StoredSpends
 pub mod Held
 pub mod Totals
 pub mod Directory

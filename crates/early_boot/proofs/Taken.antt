@@ -1,7 +1,6 @@
 -- How much nearer an armed loss a boot comes, by the bytes that its device told at entry.
 use Rattle.std.proofs.Common.{◌≡◌, ℕ, ◌==◌, Bool, true, false, not, cond, List, Option, Some, None, Ok, refl, sym, ap, subst, ◌∙◌}
 use Rattle.flash_core.specs.declared.flash.Arming.{Arming}
-use Rattle.flash_core.specs.declared.flash.FlashStop.{FlashStop}
 use Rattle.flash_core.specs.declared.flash.FlashStop.TheVariants as flash_stop
 use Rattle.fwu_formats.specs.Metadata.{MetaRead, state_at}
 use Rattle.fwu_model.specs.State.{Numbers}
@@ -16,13 +15,9 @@ use Rattle.early_boot.specs.CountingStarts.{CountsLater, TakesCounting, TouchesC
 use Rattle.early_boot.specs.Starting.{TakesMendingAndStart, TakesRepairAndStart, TouchesRepairAndStart}
 use Rattle.early_boot.specs.Tells.{started_as}
 use Rattle.early_boot.specs.Ends.{no_bank}
-use Rattle.early_boot.specs.EndsBy.{TouchesStart, TakesBoot, TakesLoaded, TakesLoadedAndStart, TakesStart, counting_told, stopped_with}
+use Rattle.early_boot.specs.EndsBy.{TouchesStart, TakesBoot, TakesLoaded, TakesLoadedAndStart, TakesStart, counting_told}
 use Rattle.replicas.specs.Which.{form_read_of}
 use Rattle.replicas.specs.Repairs.{TakesRepair}
-
-pub stopped-spent : (stop : FlashStop) (n : Numbers) (armed arming : Option Arming) → TakesBoot (stopped_with stop n) armed arming
-stopped-spent flash_stop.Lost n armed arming = tt
-stopped-spent flash_stop.Failed n armed arming = tt
 
 pub none-spent : (shown : Shown) (active previous : ℕ) (armed arming : Option Arming) → TakesRepairAndStart shown None armed arming → TakesBoot (no_bank active previous) armed arming
 none-spent shown active previous armed arming takes = (shown.which, subst (λ (left : Option Arming). TakesRepair shown.which armed left) (sym takes.start) takes.repair)

@@ -1,8 +1,7 @@
 -- Writes in a bank while it is invalid: no change is seen, and nothing in use is at risk, at any stop.
-use Rattle.std.proofs.Common.{◌≡◌, ◌⊎◌, inl, inr, ℕ, ◌+◌, ◌*◌, ◌<◌, ◌≤◌, List, [], Result, sym, ap, subst, ◌∙◌, arith, IsTrue, IsFalse}
+use Rattle.std.proofs.Common.{◌≡◌, ◌⊎◌, inl, inr, ℕ, ◌+◌, ◌*◌, ◌<◌, ◌≤◌, List, sym, ap, subst, ◌∙◌, arith, IsTrue, IsFalse}
 use Rattle.std.proofs.lemmas.Bool.{cases_lt}
 use Rattle.base_core.specs.Block.{block}
-use Rattle.flash_core.specs.declared.flash.FlashStop.{FlashStop}
 use Rattle.flash_core.specs.Told.{Told}
 use Rattle.flash_core.specs.May.{May, Keeps, Quiet}
 use Rattle.flash_core.proofs.Calls.{guards_kept}
@@ -14,9 +13,8 @@ use Rattle.fwu_model.specs.Seen.{SameWhereUsed}
 use Rattle.fwu_formats.proofs.Same.{block-same}
 use Rattle.fwu_model.proofs.Frame.{seen-where-used}
 use Rattle.replicas.proofs.Reading.{deciding_of}
-use Rattle.moves.specs.Moved.{IsReady, IsShown, Does}
+use Rattle.moves.specs.Moved.{IsReady, IsShown}
 use Rattle.fwu_model.specs.Calm.{IsAtRest}
-use Rattle.moves.proofs.Composed.{does-nothing}
 use Rattle.moves.proofs.Agree.{no_meta, Agrees, layout-agrees, decides-agrees, shown-meta, shown-by, used-below, used-at, at-used}
 use Rattle.moves.proofs.Guarded.{rest-used}
 use Rattle.base_core.proofs.Results.{same-Ok}
@@ -75,9 +73,6 @@ module _ (E : Setting) (s t : Told) (state : State) (u : ℕ) (ready : IsReady E
         guarded = guards_kept 1 7 (4096 * start E.layout u 0) (4096 * start E.layout (u + 1) 0) s t keeps ready.guarded;
         one = λ r is. ap (meta_read E.layout) one_same ∙ ready.one r (sym (deciding_of E.layout t.now s.now zero_same one_same) ∙ is);
       }
-
-  pub staged-does : {T : Type 0} (result : Result T FlashStop) → Does result E state [] t
-  staged-does result = does-nothing result E state t staged-ready
 
 -- On any flash at rest that shows a state: it is at rest again, at any exit.
 module _ (L : Layout) (s t : Told) (state : State) (u : ℕ) (shown : IsShown L s.now state) (rest : IsAtRest s) (invalid : IsTrue (is_invalid (bank state u).state)) (keeps : Keeps (4096 * start L u 0) (4096 * start L (u + 1) 0) s t) where
