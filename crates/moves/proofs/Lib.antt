@@ -14,7 +14,6 @@ pub mod MetaIn
 pub mod Fitting
 pub mod Stored
 pub mod Packages
-pub mod SlotBytes
 pub mod Cleared
 pub mod Staged
 pub mod Switching
