@@ -7,6 +7,7 @@
     prove.py test CRATE               proves the tests of a crate, builds and runs them
     prove.py program CRATE            proves and builds a program, as crates/CRATE/out/CRATE.llvm
     prove.py edits CRATE [EDIT ..]    tries wrong bodies, those of crates/CRATE/must-fail where none is named: the prover has to refuse each
+    prove.py spare CRATE              names the answers of its proofs that the prover finds by itself, with half of its limits: they can go
     prove.py stale                    names the libraries that the store lacks
 
 A library is found by a sum of its texts and of all that it stands on, so what was proved with the same texts is proved once, in
@@ -18,8 +19,10 @@ import concurrent.futures
 import contextlib
 import fcntl
 import functools
+import glob
 import hashlib
 import os
+import re
 import shutil
 import subprocess
 import sys
@@ -31,6 +34,8 @@ STORE = os.path.join(os.environ.get("XDG_CACHE_HOME") or os.path.expanduser("~/.
 KIT = os.path.dirname(os.path.dirname(os.path.realpath(shutil.which("rt") or sys.exit("rt isn't installed"))))
 PROVERS = os.cpu_count()
 TEXTS = ("src", "specs", "proofs")
+# a proof file names what a wrong body took away, which says nothing of the contract
+BY_NAME = r"(note: )?(\./)?proofs/.*(has no field|is not in scope|has no `|was not admitted)"
 
 
 def crates_named():
@@ -224,16 +229,65 @@ def is_refused(crate, edit):
             status = rattle(room, ["check", *words_of(crate), "--incremental", f"{room}/kept"], out)
             out.seek(0)
             said = out.read().decode(errors="replace").strip().split("\n")
-    refused = status == 1 and said[-1].startswith("logic=not-proved")
+    word = verdict(status, said)
     first = next((line for line in said if ": error" in line), said[-1])
-    print(f"{'refused' if refused else 'NOT REFUSED' if status == 0 else 'NOT TRIED'}: {os.path.basename(edit)}: {first[:160]}", flush=True)
-    return refused
+    print(f"{word}: {os.path.basename(edit)}: {first[:160]}", flush=True)
+    return word == "refused"
+
+
+def verdict(status, said):
+    """What a try of a wrong body came to, by the prover's status and its lines."""
+    if status == 0:
+        return "NOT REFUSED"
+    if status != 1 or not said[-1].startswith("logic=not-proved"):
+        return "NOT TRIED"
+    if any("does not cover" in line for line in said):
+        return "NOT COVERED, so no contract was asked"
+    told = [line for line in said if re.match(r"(note: )?\S+:\d+:\d+:", line) and (": error" in line or line.startswith("note: "))]
+    by_name = told and all(re.match(BY_NAME, line) for line in told)
+    return "REFUSED BY A NAME ALONE, which a proof file cites" if by_name else "refused"
 
 
 def edits(crate, named):
     folder = f"{folder_of(crate)}/must-fail"
     given = named or [f"{folder}/{name}" for name in sorted(os.listdir(folder)) if name.endswith(".edit")]
     return 0 if all([is_refused(crate, os.path.abspath(edit)) for edit in given]) else 1
+
+
+def asked_for(lines):
+    """The answers that the prover asks for, by their files."""
+    asked, file = {}, None
+    for line in lines:
+        help_line = re.match(r"help: write \./(proofs/\S+/Answers\.antt) with these lines", line)
+        answer = re.match(r"    pub (\S+) : goal\.", line)
+        if help_line:
+            file = help_line[1]
+        elif answer and file:
+            asked.setdefault(file, set()).add(answer[1])
+    return asked
+
+
+def answers_in(folder):
+    """The answers of a crate's proofs, by their files."""
+    files = glob.glob("proofs/**/Answers.antt", root_dir=folder, recursive=True)
+    return {file: re.findall(r"^pub (\S+) : goal\.", open(f"{folder}/{file}", encoding="utf-8").read(), re.M) for file in sorted(files)}
+
+
+def spare(crate):
+    """Proves a copy of a crate without its answers, and names those that the prover does not ask for, whole or in parts."""
+    with tempfile.TemporaryDirectory(dir=STORE) as room:
+        for part in TEXTS:
+            if os.path.isdir(f"{folder_of(crate)}/{part}"):
+                shutil.copytree(f"{folder_of(crate)}/{part}", f"{room}/{part}", ignore=shutil.ignore_patterns("Answers.antt"))
+        with open(f"{room}/log", "w+b") as out:
+            rattle(room, ["check", *words_of(crate), "--allow-holes", "--margin"], out)
+            out.seek(0)
+            asked = asked_for(out.read().decode(errors="replace").split("\n"))
+    for file, answers in answers_in(folder_of(crate)).items():
+        for answer in answers:
+            if not any(it == answer or it.startswith(f"{answer}-") or answer.startswith(f"{it}-") for it in asked.get(file, ())):
+                print(f"{file}: {answer}")
+    return 0
 
 
 def main(words):
@@ -243,7 +297,7 @@ def main(words):
         return 0
     if command == "build":
         return 0 if build(crates or NAMED) else 1
-    if command not in ("check", "test", "program", "edits") or not crates or crates[0] not in NAMED:
+    if command not in ("check", "test", "program", "edits", "spare") or not crates or crates[0] not in NAMED:
         sys.exit(__doc__)
     crate, rest = crates[0], crates[1:]
     if not build(below(crate)):
@@ -252,6 +306,8 @@ def main(words):
         return rattle(folder_of(crate), ["check", *words_of(crate), *kept_of(crate), *rest])
     if command == "program":
         return compiled(crate, f"{crate}.llvm", [])
+    if command == "spare":
+        return spare(crate)
     return test(crate) if command == "test" else edits(crate, rest)
 
 
