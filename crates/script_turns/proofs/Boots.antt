@@ -130,11 +130,9 @@ module _ (tells : Bool) (told : IsTrue tells) (E : Setting) (c : Condition) (s :
       → Leads E c (boot_turn e) on new
   step-boot passes (booted b n) (Some f) ready by starts shows = step-booted passes b n f ready by starts shows
   step-boot passes (booted b n) None ready by starts shows = absurd starts
-  step-boot passes (bad_layout f) on h by off shows = absurd h
-  step-boot passes no_metadata on h by off shows = absurd h
-  step-boot passes (no_bank active previous) on h by off shows = absurd h
   step-boot passes (lost n) on h by off shows = step-off reply.Lost n on off refl (λ e. absurd cc) (ap (λ (a : Answer). a.moves) same) h
   step-boot passes (failed n) on h by off shows = step-off reply.Fault n on off refl (λ e. absurd cc) (ap (λ (a : Answer). a.moves) same) h
+  step-boot passes other on h by off shows = absurd h
 
 -- whatever the session is, it boots as one that is off
 boots-again : (E : Setting) (s : State) (session : Session) → answer E s session call.Boot ≡ answer E s Off call.Boot
@@ -145,21 +143,14 @@ boots-again E s (On boot staging handles) = refl
 -- ---- what the reply and the flash say, by the end
 
 safe-after : (e : Ended) (new : Told) → Guards 1 7 new → GuardedBy (stop_of e) new → IsSafe (is_ok (stop_of e)) new
-safe-after (booted b n) new guards h = h
-safe-after (bad_layout f) new guards h = h
-safe-after no_metadata new guards h = h
-safe-after (no_bank active previous) new guards h = h
 safe-after (lost n) new guards h = (guards, h)
 safe-after (failed n) new guards h = (guards, h)
+safe-after other new guards h = h
 
 -- the device has power by the reply
 power-after-end : (e : Ended) (power : Bool) → is_ok (stop_of e) ≡ power_after power (reply_of_end e)
-power-after-end (booted b n) power = refl
-power-after-end (bad_layout f) power = refl
 power-after-end no_metadata power = refl
-power-after-end (no_bank active previous) power = refl
-power-after-end (lost n) power = refl
-power-after-end (failed n) power = refl
+power-after-end other power = refl
 
 boots-from : (passes : List ℕ → Bool) (e : Ended) (old new : Told) → EndsByBytes passes old e new → BootsFrom passes old.now (reply_of_end e)
 boots-from passes (booted b n) old new h = record { layout = b.layout; state = h.state; chose = h.chose; version_is = h.version_is }
@@ -171,12 +162,8 @@ boots-from passes (lost n) old new h = tt
 boots-from passes (failed n) old new h = tt
 
 reads-none : (e : Ended) → reply_of_end e ≢ reply.ReadFault
-reads-none (booted b n) h = cc
-reads-none (bad_layout f) h = cc
 reads-none no_metadata h = cc
-reads-none (no_bank active previous) h = cc
-reads-none (lost n) h = cc
-reads-none (failed n) h = cc
+reads-none other h = cc
 
 -- ---- the counts
 
@@ -189,12 +176,8 @@ rose-on a b c (inl lt) le = inl (omega arith)
 rose-on a b c (inr most) le = inr (omega arith)
 
 stop-of-reply : (e : Ended) → stop_of e ≡ stop_told (reply_of_end e)
-stop-of-reply (booted b n) = refl
-stop-of-reply (bad_layout f) = refl
 stop-of-reply no_metadata = refl
-stop-of-reply (no_bank active previous) = refl
-stop-of-reply (lost n) = refl
-stop-of-reply (failed n) = refl
+stop-of-reply other = refl
 
 -- Until the boot begins no count falls, no stop is counted, and no arming is made.
 record Waits (old was : Counts) : Type 0 where
@@ -223,24 +206,16 @@ module _ (old was are : Counts) (waiting : Waits old was) where
   }
 
   lost-then : (e : Ended) → Spends (stop_of e) was are → reply_of_end e ≡ reply.Lost → Rose old.cuts are.cuts ⊎ Rose old.reached are.reached
-  lost-then (booted b n) costs h = absurd cc
-  lost-then (bad_layout f) costs h = absurd cc
-  lost-then no_metadata costs h = absurd cc
-  lost-then (no_bank active previous) costs h = absurd cc
   lost-then (lost n) costs h = by-cause (costs.lost refl)
     where
       by-cause : Rose was.cuts are.cuts ⊎ Rose was.reached are.reached → Rose old.cuts are.cuts ⊎ Rose old.reached are.reached
       by-cause (inl rose) = inl (rose-later old.cuts was.cuts are.cuts waiting.falls.cuts rose)
       by-cause (inr rose) = inr (rose-later old.reached was.reached are.reached waiting.falls.reached rose)
-  lost-then (failed n) costs h = absurd cc
+  lost-then other costs h = absurd cc
 
   failed-then : (e : Ended) → Spends (stop_of e) was are → reply_of_end e ≡ reply.Fault → Rose old.faults are.faults
-  failed-then (booted b n) costs h = absurd cc
-  failed-then (bad_layout f) costs h = absurd cc
-  failed-then no_metadata costs h = absurd cc
-  failed-then (no_bank active previous) costs h = absurd cc
-  failed-then (lost n) costs h = absurd cc
   failed-then (failed n) costs h = rose-later old.faults was.faults are.faults waiting.falls.faults (costs.failed refl)
+  failed-then other costs h = absurd cc
 
   once-then : (e : Ended) → Spends (stop_of e) was are → all_stops are ≤ all_stops old + stops_in (stop_told (reply_of_end e))
   once-then e costs = omega (arith, waiting.once, costs.once, ap stops_in (stop-of-reply e))

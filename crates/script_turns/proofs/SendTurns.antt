@@ -191,15 +191,11 @@ module _ (E : Setting) (files : Option Directory) (name : List ℕ) (request : �
 
 -- by the machine's answer to it, whole or partial
 abbrev GoesBy : Bool → Result Sent SendStop → Answer → Setting → agent.Moment → agent.Moment → State → Session → Type 0
-GoesBy partly (Ok sent) a E old new s x = AnswersBy (done_reply partly sent) a E old new s
-GoesBy partly (Err (MissingImage guid)) a E old new s x = AnswersBy (reply.Missing guid) a E old new s
-GoesBy partly (Err (ImageTooLarge guid)) a E old new s x = AnswersBy (reply.TooLarge guid) a E old new s
-GoesBy partly (Err (Begin st)) a E old new s x = AnswersBy (reply.BeginRefused st) a E old new s
-GoesBy partly (Err (End st)) a E old new s x = AnswersBy (reply.EndRefused st) a E old new s
 GoesBy partly (Err ReadFailed) a E old new s x = GoesByMoves E (Ok tt) old new s (answer E s x (call.Begin 0)).moves (ended_session x)
 GoesBy partly (Err Lost) a E old new s x = GoesByMoves E (Err flash_stop.Lost) old new s a.moves (ended_session x)
 GoesBy partly (Err Fault) a E old new s x = GoesByMoves E (Err flash_stop.Failed) old new s a.moves (ended_session x)
 GoesBy partly (Err Gone) a E old new s x = ⊥
+GoesBy partly answered a E old new s x = AnswersBy (sent_reply partly answered) a E old new s
 
 goes-whole : (result : Result Sent SendStop) (E : Setting) (toc : Toc) (p : List (List ℕ)) (request : ℕ) (old new : agent.Moment) (s : State) (x : Session) → SendEndsBy result E toc p request old new s x
     → GoesBy false result (send_answer E toc p request s x) E old new s x
@@ -270,46 +266,31 @@ module _ (files : Option Directory) (name : List ℕ) (request : ℕ) (passes : 
     };
   }
 
--- no sending changes which blocks are guarded, nor the layout
-stays-by : (partly : Bool) (result : Result Sent SendStop) (a : Answer) (E : Setting) (old new : agent.Moment) (s : State) (x : Session) → GoesBy partly result a E old new s x → Stays old new
-stays-by partly (Ok sent) a E old new s x h = h.1.stays
-stays-by partly (Err ReadFailed) a E old new s x h = h.stays
-stays-by partly (Err Lost) a E old new s x h = h.stays
-stays-by partly (Err Fault) a E old new s x h = h.stays
-stays-by partly (Err Gone) a E old new s x h = absurd h
-stays-by partly (Err q) a E old new s x h = h.1.stays
-
-guarded-by : (partly : Bool) (result : Result Sent SendStop) (a : Answer) (E : Setting) (old new : agent.Moment) (s : State) (x : Session) → GoesBy partly result a E old new s x
-    → IsTrue old.tells → IsAtRest old.told → GuardedBy (flash_of result) new.told
-guarded-by partly (Ok sent) a E old new s x h = h.1.guarded
-guarded-by partly (Err ReadFailed) a E old new s x h = h.guarded
-guarded-by partly (Err Lost) a E old new s x h = h.guarded
-guarded-by partly (Err Fault) a E old new s x h = h.guarded
-guarded-by partly (Err Gone) a E old new s x h = absurd h
-guarded-by partly (Err q) a E old new s x h = h.1.guarded
-
-keeps-by : (partly : Bool) (result : Result Sent SendStop) (a : Answer) (E : Setting) (old new : agent.Moment) (s : State) (x : Session) → GoesBy partly result a E old new s x
-    → IsTrue old.tells → KeepsSparedByAll old.fields old.told new.told
-keeps-by partly (Ok sent) a E old new s x h = h.1.keeps
-keeps-by partly (Err ReadFailed) a E old new s x h = h.keeps
-keeps-by partly (Err Lost) a E old new s x h = h.keeps
-keeps-by partly (Err Fault) a E old new s x h = h.keeps
-keeps-by partly (Err Gone) a E old new s x h = absurd h
-keeps-by partly (Err q) a E old new s x h = h.1.keeps
+-- whatever the result, it goes by some moves
+moves-by : (partly : Bool) (result : Result Sent SendStop) (a : Answer) (E : Setting) (old new : agent.Moment) (s : State) (x : Session)
+    → GoesBy partly result a E old new s x → (ms : List Move) × (y : Session) × GoesByMoves E (flash_of result) old new s ms y
+moves-by partly (Ok sent) a E old new s x h = (a.moves, a.next, h.1)
+moves-by partly (Err ReadFailed) a E old new s x h = ((answer E s x (call.Begin 0)).moves, ended_session x, h)
+moves-by partly (Err Lost) a E old new s x h = (a.moves, ended_session x, h)
+moves-by partly (Err Fault) a E old new s x h = (a.moves, ended_session x, h)
+moves-by partly (Err Gone) a E old new s x h = absurd h
+moves-by partly (Err q) a E old new s x h = (a.moves, a.next, h.1)
 
 -- a sending is a composed call
 always-composed : (partly : Bool) (name : List ℕ) (request : ℕ) → IsFalse (is_composed (send_call partly name request)) → ⊥
 always-composed false name request whole = absurd cc
 always-composed true name request whole = absurd cc
 
-abbrev with_layout : Fields → (List ℕ → Bool) → Setting
-with_layout f passes = record { layout = f.layout; files = λ _. None; passes = passes }
-
-stays-of : (partly : Bool) (files : Option Directory) (name : List ℕ) (toc : Toc) (request : ℕ) (passes : List ℕ → Bool) (result : Result Sent SendStop) (old new : agent.Moment)
-    → Sending partly files name toc request passes result old new → agent.Showing old → Stays old new
-stays-of partly files name toc request passes result old new sends one =
-    let E = with_layout old.fields passes in
-    stays-by partly result (sends.answers E one.state one.session) E old new one.state one.session (sends.goes E one.state one.session refl refl one.shows)
+-- so that of an agent that shows some machine
+moves-of : (partly : Bool) (files : Option Directory) (name : List ℕ) (toc : Toc) (request : ℕ) (passes : List ℕ → Bool)
+    (result : Result Sent SendStop) (old new : agent.Moment) → Sending partly files name toc request passes result old new
+    → (one : agent.Showing old)
+    → (E : Setting) × (ms : List Move) × (y : Session) × GoesByMoves E (flash_of result) old new one.state ms y
+moves-of partly files name toc request passes result old new sends one =
+    let E : Setting = record { layout = old.fields.layout; files = λ _. None; passes = passes } in
+    let moves = moves-by partly result (sends.answers E one.state one.session) E old new one.state one.session
+    (sends.goes E one.state one.session refl refl one.shows) in
+    (E, moves.0, moves.1, moves.2)
 
 keeps-guards : (t u : Told) → u.guard ≡ t.guard → Guards 1 7 t → Guards 1 7 u
 keeps-guards t u same guards b low high = subst (λ (guard : List ℕ). IsTrue (list_any (λ k. k == b) guard)) (sym same) (guards b low high)
@@ -493,14 +474,12 @@ module _ (partly : Bool) (passes : List ℕ → Bool) (tells : Bool) (files : Op
       → SpendsSent (sent_reply partly result) (writes_to_send partly f toc) armed arming
       → SendSays partly passes tells files name request (Some f) (at (Some f) t w cs armed true) (sent_reply partly result) (on_sent result g) (at (on_sent result g) u v ds arming power)
   says power toc (Ok sent) there sends stays spent = done-says partly sent (says-answered toc (Ok sent) sends stays (done_reply partly sent) (λ tells. tt) sends.goes spent)
-  says power toc (Err (MissingImage guid)) there sends stays spent = says-answered toc (Err (MissingImage guid)) sends stays (reply.Missing guid) (λ tells. tells) sends.goes spent
-  says power toc (Err (ImageTooLarge guid)) there sends stays spent = says-answered toc (Err (ImageTooLarge guid)) sends stays (reply.TooLarge guid) (λ tells. tells) sends.goes spent
-  says power toc (Err (Begin st)) there sends stays spent = says-answered toc (Err (Begin st)) sends stays (reply.BeginRefused st) (λ tells. tells) sends.goes spent
-  says power toc (Err (End st)) there sends stays spent = says-answered toc (Err (End st)) sends stays (reply.EndRefused st) (λ tells. tt) sends.goes spent
   says power toc (Err ReadFailed) there sends stays spent = tt
   says power toc (Err Lost) there sends stays spent = tt
   says power toc (Err Fault) there sends stays spent = tt
   says power toc (Err Gone) there sends stays spent = absurd (there refl)
+  says power toc (Err s) there sends stays spent =
+      says-answered toc (Err s) sends stays (sent_reply partly (Err s)) (λ tells. tells) sends.goes spent
 
   module _ (yes : IsTrue tells) (E : Setting) (from : Condition) (passes_are : E.passes ≡ passes) (told : files ≡ Some E.files) (is : IsAt E from (Some f) t) where
     abbrev state : State
@@ -522,14 +501,6 @@ module _ (partly : Bool) (passes : List ℕ → Bool) (tells : Bool) (files : Op
         → Leads E from (quiet_turn what (sent_reply partly result)) (on_sent result g) u
     leads (Ok sent) there sends stays =
         leads-answered (done_reply partly sent) _ (sends.own yes E state from.session is.shows.layout told shown) (done-calm partly sent) (sends.goes E state from.session is.shows.layout passes_are shown) stays
-    leads (Err (MissingImage guid)) there sends stays =
-        leads-answered (reply.Missing guid) _ (sends.own yes E state from.session is.shows.layout told shown) refl (sends.goes E state from.session is.shows.layout passes_are shown) stays
-    leads (Err (ImageTooLarge guid)) there sends stays =
-        leads-answered (reply.TooLarge guid) _ (sends.own yes E state from.session is.shows.layout told shown) refl (sends.goes E state from.session is.shows.layout passes_are shown) stays
-    leads (Err (Begin st)) there sends stays =
-        leads-answered (reply.BeginRefused st) _ (sends.own yes E state from.session is.shows.layout told shown) refl (sends.goes E state from.session is.shows.layout passes_are shown) stays
-    leads (Err (End st)) there sends stays =
-        leads-answered (reply.EndRefused st) _ (sends.own yes E state from.session is.shows.layout told shown) refl (sends.goes E state from.session is.shows.layout passes_are shown) stays
     leads (Err ReadFailed) there sends stays =
         step-stopped E from partly name request reply.ReadFault f t u is (stays.guard yes) (answer E state from.session (call.Begin 0)).moves refl refl
         ((sends.goes E state from.session is.shows.layout passes_are shown).does yes is.shows.ready).each
@@ -542,6 +513,9 @@ module _ (partly : Bool) (passes : List ℕ → Bool) (tells : Bool) (files : Op
         (ap (λ (a : Answer). a.moves) (sends.own yes E state from.session is.shows.layout told shown)) refl
         ((sends.goes E state from.session is.shows.layout passes_are shown).does yes is.shows.ready).each
     leads (Err Gone) there sends stays = absurd (there refl)
+    leads (Err s) there sends stays =
+        leads-answered (sent_reply partly (Err s)) _ (sends.own yes E state from.session is.shows.layout told shown) refl
+        (sends.goes E state from.session is.shows.layout passes_are shown) stays
 
   -- ---- the causes of a stop
 
@@ -586,14 +560,8 @@ module _ (partly : Bool) (passes : List ℕ → Bool) (tells : Bool) (files : Op
   pub sent-spent : (result : Result Sent SendStop) (toc : Toc) → OnOk result (TakesSent (writes_to_send partly f toc) armed arming)
       → OnRefusedEnd result (TakesWrites (writes_to_send partly f toc) armed arming) → SpendsSent (sent_reply partly result) (writes_to_send partly f toc) armed arming
   sent-spent (Ok sent) toc takes refused = done-spent partly sent toc takes
-  sent-spent (Err (MissingImage guid)) toc takes refused = tt
-  sent-spent (Err (ImageTooLarge guid)) toc takes refused = tt
-  sent-spent (Err (Begin st)) toc takes refused = tt
   sent-spent (Err (End st)) toc takes refused = refused
-  sent-spent (Err ReadFailed) toc takes refused = tt
-  sent-spent (Err Lost) toc takes refused = tt
-  sent-spent (Err Fault) toc takes refused = tt
-  sent-spent (Err Gone) toc takes refused = tt
+  sent-spent (Err s) toc takes refused = tt
 
   -- what was done to the device
   done-takes : (kind : Bool) (sent : Sent) (from to : TurnMoment) → SendTakes kind files name f (done_reply kind sent) from to
@@ -608,15 +576,14 @@ module _ (partly : Bool) (passes : List ℕ → Bool) (tells : Bool) (files : Op
       → (IsEarlySend result → (u ≡ t) × (v ≡ w) × (ds ≡ cs) × (arming ≡ armed)) → IsTableOf files name (Ok toc) → OnUnread result (unread_takes toc)
       → SendTakes partly files name f (sent_reply partly result) (at (Some f) t w cs armed true) (at (on_sent result g) u v ds arming power)
   sent-takes (Ok sent) power toc powered same table unread = done-takes partly sent _ _
-  sent-takes (Err (MissingImage guid)) power toc powered same table unread = let d = same tt in record { told = d.0; writes = d.1; counts = d.2; armed = d.3; power = powered }
-  sent-takes (Err (ImageTooLarge guid)) power toc powered same table unread = let d = same tt in record { told = d.0; writes = d.1; counts = d.2; armed = d.3; power = powered }
-  sent-takes (Err (Begin st)) power toc powered same table unread = let d = same tt in record { told = d.0; writes = d.1; counts = d.2; armed = d.3; power = powered }
   sent-takes (Err (End st)) power toc powered same table unread = tt
   sent-takes (Err ReadFailed) power toc powered same table unread =
       inr (record { toc = toc; table = table; entries = unread.0; sent = unread.1; spent = unread.2 })
   sent-takes (Err Lost) power toc powered same table unread = tt
   sent-takes (Err Fault) power toc powered same table unread = tt
   sent-takes (Err Gone) power toc powered same table unread = tt
+  sent-takes (Err s) power toc powered same table unread =
+      let d = same tt in record { told = d.0; writes = d.1; counts = d.2; armed = d.3; power = powered }
 
   pub sent-free : (result : Result Sent SendStop) (power : Bool) → StaysUnarmed (flash_of result) armed arming cs ds
       → StaysFree (sent_reply partly result) (at (Some f) t w cs armed true) (at (on_sent result g) u v ds arming power)
@@ -654,22 +621,20 @@ module _ (partly : Bool) (passes : List ℕ → Bool) (tells : Bool) (files : Op
     guard = stays.guard;
     step = λ yes E from passes_are told is no_chance. leads yes E from passes_are told is result there sends stays;
     keeps = λ yes h on no.
-        let one = showing yes in
-        subst (λ (fields : Fields). KeepsSparedByAll fields t u) (same_Some f h on)
-        (keeps-by partly result (sends.answers (with_layout f passes) one.state one.session) (with_layout f passes) old new one.state one.session
-        (sends.goes (with_layout f passes) one.state one.session refl refl one.shows) yes);
+        subst (λ (fields : Fields). KeepsSparedByAll fields t u) (same_Some f h on) ((moves (showing yes)).3.keeps yes);
     spares = λ e h on no whole. absurd (always-composed partly name request whole);
     decides = λ e h on agents whole. absurd (always-composed partly name request whole);
-    safe = λ yes rest.
-        let one = showing yes in
-        subst (λ (b : Bool). IsSafe b u) (sym powered) (safe-by (flash_of result) t u (stays.guard yes) rest
-        (guarded-by partly result (sends.answers (with_layout f passes) one.state one.session) (with_layout f passes) old new one.state one.session
-        (sends.goes (with_layout f passes) one.state one.session refl refl one.shows) yes rest));
+    safe = λ yes rest. subst (λ (b : Bool). IsSafe b u) (sym powered)
+        (safe-by (flash_of result) t u (stays.guard yes) rest ((moves (showing yes)).3.guarded yes rest));
     boots = λ e off. absurd cc;
   }
     where
+      moves : (one : agent.Showing old)
+          → (E : Setting) × (ms : List Move) × (y : Session) × GoesByMoves E (flash_of result) old new one.state ms y
+      moves = moves-of partly files name toc request passes result old new sends
+
       stays : Stays old new
-      stays = ∥∥₁_elim some (hlevel props) (stays-of partly files name toc request passes result old new sends)
+      stays = ∥∥₁_elim some (hlevel props) (λ one. (moves one).3.stays)
 
 -- ---- what the code has
 
