@@ -1,7 +1,6 @@
 -- A boot of a flash, from how it ends: a step of a run, what no loss harms, and what the reply says of the bytes.
 use Rattle.std.proofs.Common.{◌≡◌, ◌≢◌, Contains, ℕ, ◌+◌, ◌≤◌, ◌==◌, Bool, true, false, List, [], ◌∷◌, ext_get_or, Option, Some, None, refl, sym, ap, subst, ◌∙◌, inl, inr, arith, IsTrue, IsFalse}
 use Rattle.std.specs.Prelude.{◌⊎◌, Result, Ok, is_ok}
-use Rattle.std.specs.List.{list_any}
 use Rattle.flash_core.specs.declared.flash.Counts.{Counts}
 use Rattle.std.specs.Prelude.{IsErrOf}
 use Rattle.flash_core.specs.declared.flash.FlashStop.{FlashStop}
@@ -36,13 +35,12 @@ use Rattle.script_turns.specs.Replies.{LeavesOn, power_after}
 use Rattle.script_turns.specs.Takes.{StaysFree, TakesBy, stop_told}
 use Rattle.script_turns.specs.Touches.{TouchesByBoot}
 use Rattle.script_turns.specs.Turning.{NoneFalls, Turns, GetsPower, IsOnAfter, ShowsStarted, boot_turn, reply_of_end}
+use Rattle.script_turns.proofs.RunTurns.{rose-after, rose-before}
 use Rattle.script_turns.proofs.Shows.{as-told}
+use Rattle.script_turns.proofs.Staying.{among, falls-same, safe-by, same-guards}
 use Rattle.script_turns.proofs.Touching.{touches-booted}
 
 -- ---- the guard
-
-same-guards : (old new : Told) → new.guard ≡ old.guard → Guards 1 7 old → Guards 1 7 new
-same-guards old new same guards b low high = subst (λ (g : List ℕ). IsTrue (list_any (λ k. k == b) g)) (sym same) (guards b low high)
 
 same-told : (old new : Told) → new ≡ old → new.guard ≡ old.guard
 same-told old new same = ap (λ (t : Told). t.guard) same
@@ -64,8 +62,8 @@ abbrev Leads : Setting → Condition → Turn → Option Fields → Told → Typ
 Leads E c t on new = (next : Condition) × Step E c t next × IsAt E next on new
 
 -- what shows one state shows it among others
-among : (E : Setting) (states : List State) (s : State) (t : Told) → Contains states s → LeavesOneOf E (s ∷ []) t → LeavesOneOf E states t
-among E states s t found leaves image may =
+among-all : (E : Setting) (states : List State) (s : State) (t : Told) → Contains states s → LeavesOneOf E (s ∷ []) t → LeavesOneOf E states t
+among-all E states s t found leaves image may =
     let shows = leaves image may in
     record { state = shows.state; one = only (Contains states) s shows.state found shows.one; shows = shows.shows; sound = shows.sound }
 
@@ -107,7 +105,7 @@ module _ (tells : Bool) (told : IsTrue tells) (E : Setting) (c : Condition) (s :
   step-stopped r None stop reads moves calm = (
     moved_on c call.Boot c.candidates Off,
     StoppedEarly stop (record { boot = refl; numbers = refl; reads = reads; next_is = refl }),
-    record { guard = guards; shows = (refl, among E c.candidates s new found (calm-stays E new s calm)) },
+    record { guard = guards; shows = (refl, among-all E c.candidates s new found (calm-stays E new s calm)) },
   )
   step-stopped r (Some n) stop reads moves stops = (
     moved_on c call.Boot (prefixes s (stopped_moves E s c.session call.Boot r)) Off,
@@ -142,11 +140,6 @@ boots-again E s (On boot staging handles) = refl
 
 -- ---- what the reply and the flash say, by the end
 
-safe-after : (e : Ended) (new : Told) → Guards 1 7 new → GuardedBy (stop_of e) new → IsSafe (is_ok (stop_of e)) new
-safe-after (lost n) new guards h = (guards, h)
-safe-after (failed n) new guards h = (guards, h)
-safe-after other new guards h = h
-
 -- the device has power by the reply
 power-after-end : (e : Ended) (power : Bool) → is_ok (stop_of e) ≡ power_after power (reply_of_end e)
 power-after-end no_metadata power = refl
@@ -167,14 +160,6 @@ reads-none other h = cc
 
 -- ---- the counts
 
-rose-later : (a b c : ℕ) → a ≤ b → Rose b c → Rose a c
-rose-later a b c le (inl lt) = inl (omega arith)
-rose-later a b c le (inr most) = inr most
-
-rose-on : (a b c : ℕ) → Rose a b → b ≤ c → Rose a c
-rose-on a b c (inl lt) le = inl (omega arith)
-rose-on a b c (inr most) le = inr (omega arith)
-
 stop-of-reply : (e : Ended) → stop_of e ≡ stop_told (reply_of_end e)
 stop-of-reply no_metadata = refl
 stop-of-reply other = refl
@@ -186,7 +171,7 @@ record Waits (old was : Counts) : Type 0 where
   made : was.made ≡ old.made
 
 waits-none : (was : Counts) → Waits was was
-waits-none was = record { falls = record { faults = omega arith; cuts = omega arith; reached = omega arith; chances = omega arith }; once = omega arith; made = refl }
+waits-none was = record { falls = falls-same was; once = omega arith; made = refl }
 
 waits : (tells : Bool) (on : Option Fields) (old mid : TurnMoment) → GetsPower tells on old mid → Waits old.counts mid.counts
 waits tells None old mid has = record {
@@ -209,12 +194,12 @@ module _ (old was are : Counts) (waiting : Waits old was) where
   lost-then (lost n) costs h = by-cause (costs.lost refl)
     where
       by-cause : Rose was.cuts are.cuts ⊎ Rose was.reached are.reached → Rose old.cuts are.cuts ⊎ Rose old.reached are.reached
-      by-cause (inl rose) = inl (rose-later old.cuts was.cuts are.cuts waiting.falls.cuts rose)
-      by-cause (inr rose) = inr (rose-later old.reached was.reached are.reached waiting.falls.reached rose)
+      by-cause (inl rose) = inl (rose-before old.cuts was.cuts are.cuts waiting.falls.cuts rose)
+      by-cause (inr rose) = inr (rose-before old.reached was.reached are.reached waiting.falls.reached rose)
   lost-then other costs h = absurd cc
 
   failed-then : (e : Ended) → Spends (stop_of e) was are → reply_of_end e ≡ reply.Fault → Rose old.faults are.faults
-  failed-then (failed n) costs h = rose-later old.faults was.faults are.faults waiting.falls.faults (costs.failed refl)
+  failed-then (failed n) costs h = rose-before old.faults was.faults are.faults waiting.falls.faults (costs.failed refl)
   failed-then other costs h = absurd cc
 
   once-then : (e : Ended) → Spends (stop_of e) was are → all_stops are ≤ all_stops old + stops_in (stop_told (reply_of_end e))
@@ -223,7 +208,7 @@ module _ (old was are : Counts) (waiting : Waits old was) where
 -- ---- what an armed loss counts
 
 reaches-then : {T : Type 0} (result : Result T FlashStop) (old was are : Counts) → old.cuts ≤ was.cuts → was.reached ≡ old.reached → ReachesNone result was are → ReachesNone result old are
-reaches-then result old was are cuts reached none = record { same = none.same ∙ reached; lost = λ h. rose-later old.cuts was.cuts are.cuts cuts (none.lost h) }
+reaches-then result old was are cuts reached none = record { same = none.same ∙ reached; lost = λ h. rose-before old.cuts was.cuts are.cuts cuts (none.lost h) }
 
 armed-had : (tells : Bool) (on : Option Fields) (old mid : TurnMoment) → GetsPower tells on old mid → mid.armed ≡ old.armed
 armed-had tells None old mid has = has.armed
@@ -305,13 +290,13 @@ begins tells None old mid last told has E c is le none =
     record { state = again.0; found = again.1; calm = again.2 }
   where
     no-chance : Rose old.counts.chances mid.counts.chances ⊎ NoChance old.told mid.told.now → NoChance old.told mid.told.now
-    no-chance (inl rose) = absurd (none (rose-on old.counts.chances mid.counts.chances last rose le))
+    no-chance (inl rose) = absurd (none (rose-after old.counts.chances mid.counts.chances last le rose))
     no-chance (inr h) = h
 begins tells (Some f) old mid last told has E c is le none =
     let s = is.shows.state in
     record {
       state = s;
-      found = subst (λ (states : List State). Contains states s) (sym is.shows.one) (0, omega arith, refl);
+      found = among c.candidates s is.shows.one;
       calm = subst (λ (t : Told). IsCalm E t s) (sym has.told) is.shows.ready.calm;
     }
 
@@ -382,7 +367,7 @@ module _ (passes : List ℕ → Bool) (tells : Bool) (files : Option Directory) 
         decides = λ told f on agents. absurd cc;
         safe = λ told safe.
             let rest = rests-had tells on old mid told has power safe in
-            subst (λ (b : Bool). IsSafe b new.told) (sym ended.power_is) (safe-after e new.told (same-guards mid.told new.told (guard told) rest.guard) ((ended.ends told).guarded rest));
+            subst (λ (b : Bool). IsSafe b new.told) (sym ended.power_is) (safe-by (stop_of e) mid.told new.told (guard told) rest ((ended.ends told).guarded rest));
         boots = λ told off clean is.
             subst (λ (image : List ℕ). BootsFrom passes image (reply_of_end e)) (bytes-had tells on old mid told has clean) (boots-from passes e mid.told new.told (ended.ends told).by_bytes);
       }

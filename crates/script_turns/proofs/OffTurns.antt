@@ -21,6 +21,8 @@ use Rattle.script_turns.specs.Takes.{TakesByCall}
 use Rattle.script_turns.specs.Touches.{Touches}
 use Rattle.script_turns.specs.Turning.{Makes, Turns, quiet_turn}
 use Rattle.flash_core.proofs.Unarmed.{unarmed_none}
+use Rattle.script_turns.proofs.Quiets.{same-device}
+use Rattle.script_turns.proofs.Staying.{falls-same}
 
 module _ (passes : List ℕ → Bool) (tells : Bool) (files : Option Directory) (t : Told) (w : ℕ → ℕ) (cs : Counts) (armed : Option Arming) (power : Bool) (was : ℕ) where
   abbrev here : TurnMoment
@@ -54,7 +56,7 @@ module _ (passes : List ℕ → Bool) (tells : Bool) (files : Option Directory) 
   stays-off c leaves = record {
     call_is = refl;
     unnumbered = λ no. refl;
-    counts = record { faults = omega arith; cuts = omega arith; reached = omega arith; chances = omega arith };
+    counts = falls-same cs;
     made = leaves.made;
     armed = leaves.cut;
     free = λ no. unarmed_none tt armed cs;
@@ -79,16 +81,13 @@ module _ (passes : List ℕ → Bool) (tells : Bool) (files : Option Directory) 
     boots = λ e off clean is. let boot = ap is_boot is in let no = leaves.no_boot in absurd cc;
   }
 
-  same-device : SameDevice here here
-  same-device = record { told = refl; writes = refl; counts = refl; armed = refl; power = refl }
-
   leaves-off : (c : Call) → IsTrue (needs_bank c) → LeavesOff c
   unfolding answer
   leaves-off call.Boot asks = absurd cc
   leaves-off (call.Cut n k) asks = absurd cc
   leaves-off call.Show asks = absurd cc
   leaves-off call.NoCall asks = absurd cc
-  leaves-off q asks = record { made = refl; cut = tt; replies = (refl, refl); takes = same-device; touches = refl; no_boot = refl; numbers = refl; answers = λ E s. refl }
+  leaves-off q asks = record { made = refl; cut = tt; replies = (refl, refl); takes = same-device here; touches = refl; no_boot = refl; numbers = refl; answers = λ E s. refl }
 
   pub off-turn : (c : Call) → IsTrue (needs_bank c) → Turns passes tells files c (quiet_turn c reply.IsOff) here here was was
   off-turn c asks = stays-off c (leaves-off c asks)

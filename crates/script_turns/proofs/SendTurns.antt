@@ -49,22 +49,27 @@ use Rattle.update_client.specs.declared.stops.SendStop.TheVariants.{MissingImage
 use Rattle.update_client.specs.Halts.{flash_of}
 use Rattle.update_client.specs.Pieces.{ReadsPieceBy, unread_in}
 use Rattle.update_client.specs.Choosing.{no_row}
-use Rattle.update_client.specs.Sends.{AnswersBy, IsEarlySend, Sends, SendEndsBy, ended_session, send_answer}
+use Rattle.update_client.specs.Sends.{AnswersBy, GoneBy, IsEarlySend, Sends, SendEndsBy, ended_session, send_answer}
 use Rattle.update_client.specs.Partial.{GoesAs, SendsOver, WasBegun, over_answer}
 use Rattle.base_core.specs.Block.{block_bytes}
 use Rattle.agent_calls.specs.Takes.{Takes as TakesWrites}
-use Rattle.update_client.specs.Takes.{OnRefusedEnd, OnUnread, DoneSendTakes as TakesSent, UnreadTakes}
+use Rattle.update_client.specs.Takes.{OnRefusedEnd, OnUnread, DoneSendTakes as TakesSent, SendTakesBy, UnreadTakes}
 use Rattle.agent_calls.specs.declared.agent.Agent.{Agent}
-use Rattle.agent_calls.specs.Shown.{fields}
+use Rattle.agent_calls.specs.Shown.{device, fields, gone, moment}
+use Rattle.flash_core.specs.Calls.{Goes}
+use Rattle.fwu_journal.specs.Shown.{turn}
+use Rattle.script_turns.specs.declared.turned.AgentTurn.{AgentTurn}
+use Rattle.script_turns.proofs.Fitting.{shows-here}
 use Rattle.script_turns.specs.Calls.{is_composed, moment_where}
 use Rattle.script_turns.specs.Stage.{on_where}
-use Rattle.script_turns.specs.Powered.{TurnMoment, at, kept_at, IsAt, IsSafe, ShowsAt}
+use Rattle.script_turns.specs.Powered.{SameDevice, TurnMoment, at, kept_at, IsAt, IsSafe, ShowsAt}
 use Rattle.script_turns.specs.Replies.{Replies, power_after}
 use Rattle.script_turns.specs.Sending.{AnswersSend, IsTableOf, LacksSent, SendSays, SendsAs, SpendsSent, TellsBegun, done_reply, is_answered, on_sent, send_call, sent_reply, writes_partly, writes_whole}
 use Rattle.script_turns.specs.Takes.{AreSent, SendTakes, StaysFree, TakesOn, stop_told, unread_told, writes_before}
 use Rattle.script_turns.specs.Turning.{Makes, NoneFalls, Turns, quiet_turn}
 use Rattle.script_turns.proofs.CallTakes.{with}
 use Rattle.script_turns.proofs.Shows.{as-told, counts_none, shows-as, told-shows}
+use Rattle.script_turns.proofs.Staying.{among, falls-same, no-stop, safe-by, same-guards}
 use Rattle.script_turns.proofs.Touching.{touches-sent}
 use Rattle.flash_core.proofs.Unarmed.{unarmed_none}
 
@@ -292,14 +297,6 @@ moves-of partly files name toc request passes result old new sends one =
     (sends.goes E one.state one.session refl refl one.shows) in
     (E, moves.0, moves.1, moves.2)
 
-keeps-guards : (t u : Told) → u.guard ≡ t.guard → Guards 1 7 t → Guards 1 7 u
-keeps-guards t u same guards b low high = subst (λ (guard : List ℕ). IsTrue (list_any (λ k. k == b) guard)) (sym same) (guards b low high)
-
--- the safety of a flash by its power
-safe-by : (result : Result (Unit {0}) FlashStop) (t u : Told) → u.guard ≡ t.guard → IsAtRest t → GuardedBy result u → IsSafe (is_ok result) u
-safe-by (Ok x) t u same rest now = now
-safe-by (Err stop) t u same rest now = (keeps-guards t u same rest.guard, now)
-
 -- ---- a step
 
 abbrev Leads : Setting → Condition → Turn → Option Fields → Told → Type 0
@@ -312,9 +309,6 @@ module _ (E : Setting) (from : Condition) (partly : Bool) (name : List ℕ) (req
   abbrev s : State
   s = is.shows.state
 
-  candidate : Contains from.candidates s
-  candidate = subst (λ (states : List State). Contains states s) (sym is.shows.one) (0, omega arith, refl)
-
   asks : IsTrue (asks_state from.session asked)
   asks = subst (λ (b : Bool). IsTrue (b || not (is_off from.session))) (sym (no-boot partly name request))
       (subst (λ (x : Session). IsTrue (not (is_off x))) (sym (is.shows.shows counts_none).means) refl)
@@ -326,13 +320,13 @@ module _ (E : Setting) (from : Condition) (partly : Bool) (name : List ℕ) (req
     moved_on from asked (after s a.moves ∷ []) a.next,
     Answered no_stop asks (record {
       state = s;
-      found = record { candidate = candidate; numbers = tt };
+      found = record { candidate = among from.candidates s is.shows.one; numbers = tt };
       numbers = no-numbers partly name request r;
       reply_is = replied ∙ sym (ap (λ (b : Answer). b.reply) same);
       next_is = sym (ap (λ (b : Answer). moved_on from asked (after s b.moves ∷ []) b.next) same);
     }),
     record {
-      guard = keeps-guards t u guard is.guard;
+      guard = same-guards t u guard is.guard;
       shows = record { state = after s a.moves; one = refl; layout = is.shows.layout ∙ sym layout; shows = shows; ready = ready };
     },
   )
@@ -344,12 +338,12 @@ module _ (E : Setting) (from : Condition) (partly : Bool) (name : List ℕ) (req
     moved_on from asked (prefixes s ms) Off,
     Stopped stop asks (record {
       state = s;
-      found = record { candidate = candidate; numbers = tt };
+      found = record { candidate = among from.candidates s is.shows.one; numbers = tt };
       numbers = no-numbers partly name request r;
       reads = λ e. does-send partly name request;
       next_is = sym (ap (λ (ns : List Move). moved_on from asked (prefixes s ns) Off) same);
     }),
-    record { guard = keeps-guards t u guard is.guard; shows = (refl, leaves) },
+    record { guard = same-guards t u guard is.guard; shows = (refl, leaves) },
   )
 
 -- ---- a file without a table
@@ -358,9 +352,6 @@ module _ (partly : Bool) (passes : List ℕ → Bool) (tells : Bool) (files : Op
   abbrev here : TurnMoment
   here = at (Some f) t w cs armed power
 
-  nothing-falls : NoneFalls cs cs
-  nothing-falls = record { faults = omega arith; cuts = omega arith; reached = omega arith; chances = omega arith }
-
   -- it is answered by its first fault
   pub bad-table : (r : Reply) → are ≤ was → IsFalse (is_stop r) → power_after power r ≡ power → IsTableOf files name (Err r)
       → SendSays partly passes tells files name request (Some f) here r (Some f) here → (Lacks files name → ⊥) → SendTakes partly files name f r here here → StaysFree r here here
@@ -368,20 +359,20 @@ module _ (partly : Bool) (passes : List ℕ → Bool) (tells : Bool) (files : Op
   bad-table r none no_stop keeps table says there early free = record {
     call_is = refl;
     unnumbered = λ no. refl;
-    counts = nothing-falls;
+    counts = falls-same cs;
     made = makes-none partly name request _ _ refl;
     armed = never-cuts partly name request r armed;
     free = λ no. free;
-    lost = λ e. absurd (let stop = ap is_stop e in cc);
-    failed = λ e. absurd (let stop = ap is_stop e in cc);
+    lost = λ e. absurd (no-stop r _ no_stop refl e);
+    failed = λ e. absurd (no-stop r _ no_stop refl e);
     once = omega arith;
-    unread = λ e. absurd (let stop = ap is_stop e in cc);
+    unread = λ e. absurd (no-stop r _ no_stop refl e);
     lacking = λ lacks some. absurd (there (lacks-sent partly files name request lacks));
     later = later;
     unread_once = omega (arith, none);
     reads_none = λ e. absurd (always-reads partly name request e);
     replies = replies-as partly passes tells files name request here here r says;
-    takes = record { by_call = takes-as partly files name request f here r here early; unread = λ e. absurd (let stop = ap is_stop e in cc) };
+    takes = record { by_call = takes-as partly files name request f here r here early; unread = λ e. absurd (no-stop r _ no_stop refl e) };
     touches = touches-sent partly name request f w w (λ b out. refl);
     power = sym keeps;
     guard = λ e. refl;
@@ -404,7 +395,7 @@ module _ (partly : Bool) (passes : List ℕ → Bool) (tells : Bool) (files : Op
   unread-table once cause = record {
     call_is = refl;
     unnumbered = λ no. refl;
-    counts = nothing-falls;
+    counts = falls-same cs;
     made = makes-none partly name request _ _ refl;
     armed = never-cuts partly name request reply.ReadFault armed;
     free = λ no. unarmed_none tt armed cs;
@@ -417,7 +408,10 @@ module _ (partly : Bool) (passes : List ℕ → Bool) (tells : Bool) (files : Op
     unread_once = omega (arith, once);
     reads_none = λ e. absurd (always-reads partly name request e);
     replies = replies-as partly passes tells files name request here (at None t w cs armed power) reply.ReadFault tt;
-    takes = record { by_call = takes-as partly files name request f here reply.ReadFault (at None t w cs armed power) (inl (record { told = refl; writes = refl; counts = refl; armed = refl; power = refl })); unread = λ e none. record { told = refl; writes = refl; counts = refl; armed = refl; power = refl } };
+    takes = record {
+      by_call = takes-as partly files name request f here reply.ReadFault (at None t w cs armed power) (inl still);
+      unread = λ e none. still;
+    };
     touches = touches-sent partly name request f w w (λ b out. refl);
     power = refl;
     guard = λ e. refl;
@@ -430,6 +424,9 @@ module _ (partly : Bool) (passes : List ℕ → Bool) (tells : Bool) (files : Op
     safe = λ e safe. safe;
     boots = λ e off. absurd cc;
   }
+    where
+      still : SameDevice here (at None t w cs armed power)
+      still = record { told = refl; writes = refl; counts = refl; armed = refl; power = refl }
 
 -- ---- a sending
 
@@ -438,17 +435,18 @@ done-calm : (partly : Bool) (sent : Sent) → IsFalse (is_stop (done_reply partl
 done-calm false sent = refl
 done-calm true sent = refl
 
-done-told : (partly : Bool) (sent : Sent) → stop_told (done_reply partly sent) ≡ Ok tt
-done-told false sent = refl
-done-told true sent = refl
+-- what a reply tells of its result: whether the flash stopped it, whether a file could not be read, and whether the device has power
+record TellsEnd (result : Result Sent SendStop) (r : Reply) : Type 0 where
+  stop_is : flash_of result ≡ stop_told r
+  unread_is : r ≡ reply.ReadFault → result ≡ Err ReadFailed
+  unread : unread_in result ≤ unread_told r
+  power_is : is_ok (flash_of result) ≡ power_after true r
 
-done-read : (partly : Bool) (sent : Sent) → unread_told (done_reply partly sent) ≡ 0
-done-read false sent = refl
-done-read true sent = refl
-
-done-power : (partly : Bool) (sent : Sent) → true ≡ power_after true (done_reply partly sent)
-done-power false sent = refl
-done-power true sent = refl
+tells-end : (partly : Bool) (result : Result Sent SendStop) → TellsEnd result (sent_reply partly result)
+tells-end false (Ok sent) = record { stop_is = refl; unread_is = λ e. absurd cc; unread = omega arith; power_is = refl }
+tells-end true (Ok sent) = record { stop_is = refl; unread_is = λ e. absurd cc; unread = omega arith; power_is = refl }
+tells-end partly (Err ReadFailed) = record { stop_is = refl; unread_is = λ e. refl; unread = omega arith; power_is = refl }
+tells-end partly (Err s) = record { stop_is = refl; unread_is = λ e. absurd cc; unread = omega arith; power_is = refl }
 
 module _ (partly : Bool) (passes : List ℕ → Bool) (tells : Bool) (files : Option Directory) (name : List ℕ) (request : ℕ) (f g : Fields) (t u : Told) (w v : ℕ → ℕ) (cs ds : Counts) (armed arming : Option Arming) (was are : ℕ) where
   abbrev old : agent.Moment
@@ -517,47 +515,12 @@ module _ (partly : Bool) (passes : List ℕ → Bool) (tells : Bool) (files : Op
         leads-answered (sent_reply partly (Err s)) _ (sends.own yes E state from.session is.shows.layout told shown) refl
         (sends.goes E state from.session is.shows.layout passes_are shown) stays
 
-  -- ---- the causes of a stop
-
-  lost-sent : (result : Result Sent SendStop) → sent_reply partly result ≡ reply.Lost → IsErrOf (flash_of result) flash_stop.Lost
-  lost-sent (Ok sent) e = absurd (let calm = done-calm partly sent in let stop = ap is_stop e in false≢true (sym calm ∙ stop))
-  lost-sent (Err Lost) e = refl
-  lost-sent (Err s) e = absurd cc
-
-  failed-sent : (result : Result Sent SendStop) → sent_reply partly result ≡ reply.Fault → IsErrOf (flash_of result) flash_stop.Failed
-  failed-sent (Ok sent) e = absurd (let calm = done-calm partly sent in let stop = ap is_stop e in false≢true (sym calm ∙ stop))
-  failed-sent (Err Fault) e = refl
-  failed-sent (Err s) e = absurd cc
-
-  unread-sent : (result : Result Sent SendStop) → sent_reply partly result ≡ reply.ReadFault → result ≡ Err ReadFailed
-  unread-sent (Ok sent) e = absurd (let calm = done-calm partly sent in let stop = ap is_stop e in false≢true (sym calm ∙ stop))
-  unread-sent (Err ReadFailed) e = refl
-  unread-sent (Err s) e = absurd cc
-
-  -- a stop of the flash is told
-  told-stops : (result : Result Sent SendStop) → stops_in (flash_of result) ≤ stops_in (stop_told (sent_reply partly result))
-  told-stops (Ok sent) = let none = ap (λ (r : Result (Unit {0}) FlashStop). stops_in r) (done-told partly sent) in omega (arith, none)
-  told-stops (Err (MissingImage guid)) = omega arith
-  told-stops (Err s) = omega arith
-
-  -- and a failure of the files
-  told-unread : (result : Result Sent SendStop) → unread_in result ≤ unread_told (sent_reply partly result)
-  told-unread (Ok sent) = omega (arith, done-read partly sent)
-  told-unread (Err (MissingImage guid)) = omega arith
-  told-unread (Err s) = omega arith
-
-  -- whether the device has power
-  powers : (result : Result Sent SendStop) → is_ok (flash_of result) ≡ power_after true (sent_reply partly result)
-  powers (Ok sent) = done-power partly sent
-  powers (Err (MissingImage guid)) = refl
-  powers (Err s) = refl
-
   -- what an armed loss counts of one that is done, or whose end is refused
   done-spent : (kind : Bool) (sent : Sent) (toc : Toc) → TakesSent (writes_to_send kind f toc) armed arming → SpendsSent (done_reply kind sent) (writes_to_send kind f toc) armed arming
   done-spent false sent toc takes = takes
   done-spent true sent toc takes = takes
 
-  pub sent-spent : (result : Result Sent SendStop) (toc : Toc) → OnOk result (TakesSent (writes_to_send partly f toc) armed arming)
+  sent-spent : (result : Result Sent SendStop) (toc : Toc) → OnOk result (TakesSent (writes_to_send partly f toc) armed arming)
       → OnRefusedEnd result (TakesWrites (writes_to_send partly f toc) armed arming) → SpendsSent (sent_reply partly result) (writes_to_send partly f toc) armed arming
   sent-spent (Ok sent) toc takes refused = done-spent partly sent toc takes
   sent-spent (Err (End st)) toc takes refused = refused
@@ -572,7 +535,7 @@ module _ (partly : Bool) (passes : List ℕ → Bool) (tells : Bool) (files : Op
   abbrev unread_takes : Toc → Type 0
   unread_takes toc = (entries : List Entry) × AreSent partly f.layout.rows toc entries × UnreadTakes (writes_before partly f toc) block_bytes entries armed arming
 
-  pub sent-takes : (result : Result Sent SendStop) (power : Bool) (toc : Toc) → power ≡ is_ok (flash_of result)
+  sent-takes : (result : Result Sent SendStop) (power : Bool) (toc : Toc) → power ≡ is_ok (flash_of result)
       → (IsEarlySend result → (u ≡ t) × (v ≡ w) × (ds ≡ cs) × (arming ≡ armed)) → IsTableOf files name (Ok toc) → OnUnread result (unread_takes toc)
       → SendTakes partly files name f (sent_reply partly result) (at (Some f) t w cs armed true) (at (on_sent result g) u v ds arming power)
   sent-takes (Ok sent) power toc powered same table unread = done-takes partly sent _ _
@@ -585,39 +548,43 @@ module _ (partly : Bool) (passes : List ℕ → Bool) (tells : Bool) (files : Op
   sent-takes (Err s) power toc powered same table unread =
       let d = same tt in record { told = d.0; writes = d.1; counts = d.2; armed = d.3; power = powered }
 
-  pub sent-free : (result : Result Sent SendStop) (power : Bool) → StaysUnarmed (flash_of result) armed arming cs ds
+  sent-free : (result : Result Sent SendStop) (power : Bool) → StaysUnarmed (flash_of result) armed arming cs ds
       → StaysFree (sent_reply partly result) (at (Some f) t w cs armed true) (at (on_sent result g) u v ds arming power)
-  sent-free (Ok sent) power free = subst (λ (told : Result (Unit {0}) FlashStop). StaysUnarmed told armed arming cs ds) (sym (done-told partly sent)) free
-  sent-free (Err (MissingImage guid)) power free = free
-  sent-free (Err s) power free = free
+  sent-free result power free =
+      subst (λ (told : Result (Unit {0}) FlashStop). StaysUnarmed told armed arming cs ds) (tells-end partly result).stop_is free
 
   -- the turn of a sending that ended, on a device that has power
-  pub sent-turn : (toc : Toc) (result : Result Sent SendStop) (power : Bool) → power ≡ is_ok (flash_of result) → (result ≡ Err Gone → ⊥) → (Lacks files name → ⊥)
+  sent-turn : (toc : Toc) (result : Result Sent SendStop) (power : Bool) → power ≡ is_ok (flash_of result) → (result ≡ Err Gone → ⊥) → (Lacks files name → ⊥)
       → Sending partly files name toc request passes result old new → ∥ agent.Showing old ∥₁ → (IsTrue tells → agent.Showing old)
       → Spends (flash_of result) cs ds → ReadsPieceBy was are result → SparesBlocksByAll f w v
-      → SpendsSent (sent_reply partly result) (writes_to_send partly f toc) armed arming
-      → SendTakes partly files name f (sent_reply partly result) (at (Some f) t w cs armed true) (at (on_sent result g) u v ds arming power)
-      → StaysFree (sent_reply partly result) (at (Some f) t w cs armed true) (at (on_sent result g) u v ds arming power)
+      → SendTakesBy result (writes_to_send partly f toc) (writes_before partly f toc) block_bytes (AreSent partly f.layout.rows toc) armed arming
+      → IsTableOf files name (Ok toc) → (IsEarlySend result → (u ≡ t) × (v ≡ w) × (ds ≡ cs) × (arming ≡ armed))
+      → StaysUnarmed (flash_of result) armed arming cs ds
       → Turns passes tells files (send_call partly name request) (quiet_turn (send_call partly name request) (sent_reply partly result)) (at (Some f) t w cs armed true) (at (on_sent result g) u v ds arming power) was are
-  sent-turn toc result power powered there lacks_none sends some showing spent reads touches taken takes free = record {
+  sent-turn toc result power powered there lacks_none sends some showing spent reads touches taken table early free = record {
     call_is = refl;
     unnumbered = λ no. refl;
     counts = record { faults = spent.faults; cuts = spent.cuts; reached = spent.reached; chances = spent.chances };
     made = makes-none partly name request cs.made ds.made spent.made;
     armed = never-cuts partly name request (sent_reply partly result) arming;
-    free = λ no. free;
-    lost = λ e. spent.lost (lost-sent result e);
-    failed = λ e. spent.failed (failed-sent result e);
-    once = omega (arith, spent.once, told-stops result);
-    unread = λ e. not-read partly files name request was are (inl (reads.failed (unread-sent result e)));
+    free = λ no. sent-free result power free;
+    lost = λ e. spent.lost (ends.stop_is ∙ ap stop_told e);
+    failed = λ e. spent.failed (ends.stop_is ∙ ap stop_told e);
+    once = omega (arith, spent.once, ap stops_in ends.stop_is);
+    unread = λ e. not-read partly files name request was are (inl (reads.failed (ends.unread_is e)));
     lacking = λ lacks some. absurd (lacks_none (lacks-sent partly files name request lacks));
     later = reads.later;
-    unread_once = omega (arith, reads.once, told-unread result);
+    unread_once = omega (arith, reads.once, ends.unread);
     reads_none = λ e. absurd (always-reads partly name request e);
-    replies = replies-as partly passes tells files name request _ _ (sent_reply partly result) (says power toc result there sends stays taken);
-    takes = record { by_call = takes-as partly files name request f _ (sent_reply partly result) _ takes; unread = λ e none. absurd (none (reads.failed (unread-sent result e))) };
+    replies = replies-as partly passes tells files name request _ _ (sent_reply partly result)
+        (says power toc result there sends stays (sent-spent result toc taken.done taken.unswitched));
+    takes = record {
+      by_call = takes-as partly files name request f _ (sent_reply partly result) _
+          (sent-takes result power toc powered early table taken.unread);
+      unread = λ e none. absurd (none (reads.failed (ends.unread_is e)));
+    };
     touches = touches-sent partly name request f w v touches;
-    power = powered ∙ powers result;
+    power = powered ∙ ends.power_is;
     guard = stays.guard;
     step = λ yes E from passes_are told is no_chance. leads yes E from passes_are told is result there sends stays;
     keeps = λ yes h on no.
@@ -629,6 +596,9 @@ module _ (partly : Bool) (passes : List ℕ → Bool) (tells : Bool) (files : Op
     boots = λ e off. absurd cc;
   }
     where
+      ends : TellsEnd result (sent_reply partly result)
+      ends = tells-end partly result
+
       moves : (one : agent.Showing old)
           → (E : Setting) × (ms : List Move) × (y : Session) × GoesByMoves E (flash_of result) old new one.state ms y
       moves = moves-of partly files name toc request passes result old new sends
@@ -643,7 +613,7 @@ pub moment-as : {D : Type 0} {F : Ghosts D} (a : Agent D F) (was there : Bool) �
 moment-as a was there is = ap (λ (h : Bool). moment_where h a) is
 
 -- after a sending
-pub moment-sent : {D : Type 0} {F : Ghosts D} (a : Agent D F) (there : Bool) (result : Result Sent SendStop) → there ≡ is_answered result → moment_where there a ≡ with (on_sent result (fields a)) a
+moment-sent : {D : Type 0} {F : Ghosts D} (a : Agent D F) (there : Bool) (result : Result Sent SendStop) → there ≡ is_answered result → moment_where there a ≡ with (on_sent result (fields a)) a
 moment-sent a there result is = ap (λ (h : Bool). moment_where h a) is ∙ ap (λ (on : Option Fields). with on a) (kept result (fields a))
   where
     kept : (sent : Result Sent SendStop) (f : Fields) → on_where (is_answered sent) f ≡ on_sent sent f
@@ -651,7 +621,7 @@ moment-sent a there result is = ap (λ (h : Bool). moment_where h a) is ∙ ap (
     kept (Err (MissingImage guid)) f = refl
     kept (Err s) f = refl
 
-pub with-power : (m : TurnMoment) → IsTrue m.power → m ≡ at m.on m.told m.writes m.counts m.armed true
+with-power : (m : TurnMoment) → IsTrue m.power → m ≡ at m.on m.told m.writes m.counts m.armed true
 with-power m power = ap (λ (on : Bool). at m.on m.told m.writes m.counts m.armed on) power
 
 -- the same turn from and to the same
@@ -667,5 +637,31 @@ lacks-file None name lacks = lacks
 lacks-file (Some all) name lacks = lacks
 
 -- an agent that knows its flash shows the machine there
-pub shows-known : (f : Fields) → Fitting f → (t : Told) (w : ℕ → ℕ) (tells : Bool) → Knows f t → agent.Showing (kept_at tells f t w)
+shows-known : (f : Fields) → Fitting f → (t : Told) (w : ℕ → ℕ) (tells : Bool) → Knows f t → agent.Showing (kept_at tells f t w)
 shows-known f fitting t w tells knows = record { state = state_in f t.now; session = session_in f t.now; shows = known-shows f fitting tells t {writes = w} knows }
+
+-- ---- the turn on an agent that is there
+
+module _ {D : Type 0} {F : Ghosts D} (partly : Bool) (a b : Agent D F) (passes : List ℕ → Bool) (files : Option Directory) (name : List ℕ)
+    (request : ℕ) (toc : Toc) (result : Result Sent SendStop) (was are : ℕ) (live : IsFalse (gone a)) where
+  pub sent-by : (fault : Option Reply) → GoneBy fault result (gone a) (gone b) → (IsEarlySend result → b ≡ a)
+      → Goes F (flash_of result) (device a) (device b) → ReadsPieceBy was are result
+      → SparesBlocksByAll (fields a) (F.writes (device a)) (F.writes (device b))
+      → SendTakesBy result (writes_to_send partly (fields a) toc) (writes_before partly (fields a) toc) block_bytes
+      (AreSent partly (fields a).layout.rows toc) (F.arming (device a)) (F.arming (device b))
+      → IsTableOf files name (Ok toc) → (Lacks files name → ⊥) → Sending partly files name toc request passes result (moment a) (moment b)
+      → (done : AgentTurn) → turn done.turn ≡ quiet_turn (send_call partly name request) (sent_reply partly result)
+      → done.here ≡ is_answered result
+      → Turns passes F.tells files (send_call partly name request) (turn done.turn) (moment_where true a) (moment_where done.here b) was are
+  sent-by fault gone_by untouched goes reads touches taken table there sends done turn_is here_is =
+      turns-as _ _ _ _ _ _ turn_is (with-power (moment_where true a) (a.power live)) (moment-sent b done.here result here_is)
+      (sent-turn partly passes F.tells files name request (fields a) (fields b) _ _ _ _ _ _ _ _ was are toc result _ goes.power
+      (λ e. let was_gone = (gone_by.gone.0 e).0 in absurd (cc (was_gone, live))) there sends (shows-here a live)
+      (λ test. shows-known (fields a) (a.fitting live) (F.told (device a)) (F.writes (device a)) F.tells (a.knows live test))
+      goes.costs reads touches taken table
+      (λ early. let same = untouched early in (
+        ap (λ (x : Agent D F). F.told (device x)) same,
+        ap (λ (x : Agent D F). F.writes (device x)) same,
+        ap (λ (x : Agent D F). F.counts (device x)) same,
+        ap (λ (x : Agent D F). F.arming (device x)) same,
+      )) goes.unarmed)
