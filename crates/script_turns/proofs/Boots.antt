@@ -1,5 +1,5 @@
 -- A boot of a flash, from how it ends: a step of a run, what no loss harms, and what the reply says of the bytes.
-use Rattle.std.proofs.Common.{◌≡◌, ◌≢◌, Contains, ℕ, ◌+◌, ◌≤◌, ◌==◌, Bool, true, false, List, [], ◌∷◌, ext_get_or, Option, Some, None, refl, sym, ap, subst, ◌∙◌, inl, inr, arith, IsTrue, IsFalse}
+use Rattle.std.proofs.Common.{◌≡◌, ◌≢◌, Contains, ℕ, ◌+◌, ◌≤◌, Bool, true, false, List, [], ◌∷◌, ext_get_or, Option, Some, None, refl, sym, ap, subst, ◌∙◌, inl, inr, arith, IsTrue, IsFalse}
 use Rattle.std.specs.Prelude.{◌⊎◌, Result, Ok, is_ok}
 use Rattle.flash_core.specs.declared.flash.Counts.{Counts}
 use Rattle.std.specs.Prelude.{IsErrOf}
@@ -24,7 +24,6 @@ use Rattle.fwu_model.specs.Headline.{LeavesOneOf}
 use Rattle.fwu_model.specs.Calm.{IsCalm, IsAtRest}
 use Rattle.fwu_model.proofs.Frame.{calm-again, calm-stays}
 use Rattle.fwu_model.proofs.Runs.{only}
-use Rattle.moves.specs.Moved.{GuardedBy}
 use Rattle.agent_machine.specs.Fields.{Fields}
 use Rattle.early_boot.specs.Started.{Started, started_session}
 use Rattle.early_boot.specs.Ends.{Ended, booted, bad_layout, no_metadata, no_bank, lost, failed, stop_of}

@@ -1,6 +1,6 @@
 -- The turn of a call of the agent, from what the agent's call says: the reply, what is kept, a step of a run, and what no loss harms.
-use Rattle.std.proofs.Common.{◌≡◌, ◌≢◌, Contains, ℕ, ◌+◌, ◌≤◌, ◌==◌, Bool, true, false, cond, not, ◌||◌, List, [], ◌∷◌, length, get_or, Option, Some, None, Result, Ok, Err, refl, sym, ap, subst, ◌∙◌, arith, IsTrue, IsFalse}
-use Rattle.std.specs.Prelude.{◌⊎◌, ◌<◌, MatchBool, IsSome, IsNone, is_ok, ⊤}
+use Rattle.std.proofs.Common.{◌≡◌, ◌≢◌, ℕ, Bool, true, false, cond, not, ◌||◌, List, [], ◌∷◌, length, get_or, Option, Some, None, Result, Ok, Err, refl, sym, ap, subst, ◌∙◌, arith, IsTrue, IsFalse}
+use Rattle.std.specs.Prelude.{◌<◌, is_ok, ⊤}
 use Rattle.std.proofs.lemmas.List.{length-map}
 use Rattle.std.specs.List.{list_any}
 use Rattle.std.proofs.lemmas.Option.{same_Some}
@@ -8,11 +8,10 @@ use Rattle.flash_core.specs.declared.flash.Arming.{Arming}
 use Rattle.flash_core.specs.declared.flash.Counts.{Counts}
 use Rattle.flash_core.specs.declared.flash.FlashStop.{FlashStop}
 use Rattle.flash_core.specs.declared.flash.FlashStop.TheVariants as flash_stop
-use Rattle.flash_core.specs.Counts.{Rose, Spends, StaysUnarmed, all_stops, stops_in}
+use Rattle.flash_core.specs.Counts.{Spends, StaysUnarmed, stops_in}
 use Rattle.flash_core.specs.Told.{Told}
-use Rattle.flash_core.specs.May.{Guards}
 use Rattle.host_io.specs.Contents.{Directory}
-use Rattle.fwu_model.specs.State.{State, Numbers, after}
+use Rattle.fwu_model.specs.State.{State, after}
 use Rattle.fwu_model.specs.Sound.{Setting}
 use Rattle.fwu_model.specs.Session.{Session, Off, On, Staged, Nothing, Committed, no_handles}
 use Rattle.fwu_model.specs.Call.{Call}

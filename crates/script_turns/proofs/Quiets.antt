@@ -1,5 +1,6 @@
 -- A turn that leaves the flash as it is.
-use Rattle.std.proofs.Common.{◌≡◌, ◌≢◌, Contains, ℕ, ◌≤◌, Bool, true, not, ◌||◌, List, [], ◌∷◌, Option, Some, None, refl, sym, ap, subst, ◌∙◌, arith, IsTrue, IsFalse}
+use Rattle.std.proofs.Common.{◌≡◌, ℕ, ◌≤◌, Bool, true, not, ◌||◌, List, [], ◌∷◌, Option, Some, None, refl, sym, ap, subst, ◌∙◌, arith, IsTrue, IsFalse}
+use Rattle.std.specs.Prelude.{IsSome}
 use Rattle.host_io.specs.Contents.{Directory}
 use Rattle.flash_core.proofs.Unarmed.{unarmed_none}
 use Rattle.flash_core.specs.Counts.{all_stops}
@@ -36,8 +37,8 @@ AnswersBy what r (Some f) t = (E : Setting) (s : State) (x : Session) → ShowsA
 -- The call is no boot, the reply no stop, and what is kept and told stays.
 pub record IsQuiet (tells : Bool) (files : Option Directory) (what : Call) (r : Reply) (old new : TurnMoment) : Type 0 where
   pub no_boot : IsFalse (is_boot what)
-  pub no_send : IsFalse (is_send what)
-  pub no_agents : IsFalse (is_agents what)
+  pub lacks : LacksSent files what → IsSome old.on → ⊥
+  pub decides : (f : Fields) → old.on ≡ Some f → IsTrue (is_agents what) → ⊥
   pub no_stop : IsFalse (is_stop r)
   pub on_is : new.on ≡ old.on
   pub same : IsTrue tells → new.told ≡ old.told
@@ -114,7 +115,7 @@ quiet-turns passes tells files what r old new faults quiet replied = record {
   failed = λ e. absurd (no-stop r reply.Fault quiet.no_stop refl e);
   once = omega (arith, quiet.once);
   unread = λ e. absurd (no-stop r reply.ReadFault quiet.no_stop refl e);
-  lacking = λ lacks some. absurd (lacks-none files what quiet.no_send lacks);
+  lacking = λ lacks some. absurd (quiet.lacks lacks some);
   later = omega arith;
   unread_once = omega arith;
   reads_none = λ none. refl;
@@ -128,7 +129,7 @@ quiet-turns passes tells files what r old new faults quiet replied = record {
       (subst (λ (t : Told). Leads E c what r old.on t) (sym (quiet.same test)) (step what r quiet.no_boot quiet.no_stop E c old.on old.told quiet.answers is));
   keeps = λ test f on no. spared-told _ old.told new.told (quiet.same test);
   spares = λ test f on no whole. spared-told _ old.told new.told (quiet.same test);
-  decides = λ test f on agents whole. absurd (let no = quiet.no_agents in cc);
+  decides = λ test f on agents whole. absurd (quiet.decides f on agents);
   safe = λ test safe. subst (λ (b : Bool). IsSafe b new.told) (sym quiet.power) (subst (IsSafe old.power) (sym (quiet.same test)) safe);
   boots = λ test off clean is. let e = ap is_boot is in let f = quiet.no_boot in absurd cc;
 }
@@ -158,12 +159,12 @@ same-device m = record { told = refl; writes = refl; counts = refl; armed = refl
 
 module _ (passes : List ℕ → Bool) (tells : Bool) (files : Option Directory) (m : TurnMoment) (faults : ℕ) where
   -- what goes by what is on, of a call that changes nothing
-  record Looks (what : Call) (r : Reply) (on : Option Fields) : Type 0 where
-    no_stop : IsFalse (is_stop r)
-    free : StaysFree r m m
-    power : power_after m.power r ≡ m.power
-    takes : TakesBy files what on m r m
-    touches : TouchesBy what on m.writes m.writes
+  pub record Looks (what : Call) (r : Reply) (on : Option Fields) : Type 0 where
+    pub no_stop : IsFalse (is_stop r)
+    pub free : StaysFree r m m
+    pub power : power_after m.power r ≡ m.power
+    pub takes : TakesBy files what on m r m
+    pub touches : TouchesBy what on m.writes m.writes
 
   show-looks : (on : Option Fields) → Looks call.Show (show_reply on) on
   show-looks None = record { no_stop = refl; free = unarmed_none tt _ _; power = refl; takes = same-device m; touches = refl }
@@ -173,14 +174,15 @@ module _ (passes : List ℕ → Bool) (tells : Bool) (files : Option Directory) 
   no_call-looks None = record { no_stop = refl; free = unarmed_none tt _ _; power = refl; takes = same-device m; touches = refl }
   no_call-looks (Some f) = record { no_stop = refl; free = unarmed_none tt _ _; power = refl; takes = same-device m; touches = refl }
 
-  looks-turns : (what : Call) (r : Reply) → IsFalse (is_boot what) → IsFalse (is_send what) → IsFalse (is_agents what)
+  pub looks-turns : (what : Call) (r : Reply) → IsFalse (is_boot what) → (LacksSent files what → IsSome m.on → ⊥)
+      → ((f : Fields) → m.on ≡ Some f → IsTrue (is_agents what) → ⊥)
       → Makes what m.counts.made m.counts.made → IsCut (Some (quiet_turn what r)) m.armed → Looks what r m.on
       → AnswersBy what r m.on m.told → Replies passes tells files what m (quiet_turn what r) m
       → Turns passes tells files what (quiet_turn what r) m m faults faults
-  looks-turns what r no_boot no_send no_agents made armed looks answers replied = quiet-turns passes tells files what r m m faults (record {
+  looks-turns what r no_boot lacks decides made armed looks answers replied = quiet-turns passes tells files what r m m faults (record {
     no_boot = no_boot;
-    no_send = no_send;
-    no_agents = no_agents;
+    lacks = lacks;
+    decides = decides;
     no_stop = looks.no_stop;
     on_is = refl;
     same = λ test. refl;
@@ -197,11 +199,13 @@ module _ (passes : List ℕ → Bool) (tells : Bool) (files : Option Directory) 
   }) replied
 
   pub show-turns : Turns passes tells files call.Show (quiet_turn call.Show (show_reply m.on)) m m faults faults
-  show-turns = looks-turns call.Show (show_reply m.on) refl refl refl refl tt (show-looks m.on) (show-answers m.on m.told) (refl, refl)
+  show-turns = looks-turns call.Show (show_reply m.on) refl (λ lacks some. lacks) (λ f on agents. absurd cc) refl tt
+      (show-looks m.on) (show-answers m.on m.told) (refl, refl)
 
   pub no_call-turns : Turns passes tells files call.NoCall (quiet_turn call.NoCall (no_call_reply m.on)) m m faults faults
   no_call-turns =
-      looks-turns call.NoCall (no_call_reply m.on) refl refl refl refl tt (no_call-looks m.on) (no_call-answers m.on m.told) (refl, refl)
+      looks-turns call.NoCall (no_call_reply m.on) refl (λ lacks some. lacks) (λ f on agents. absurd cc) refl tt
+      (no_call-looks m.on) (no_call-answers m.on m.told) (refl, refl)
 
 -- ---- `cut`
 
@@ -226,8 +230,8 @@ pub cut-turns : (passes : List ℕ → Bool) (tells : Bool) (files : Option Dire
     → Turns passes tells files (call.Cut n k) (quiet_turn (call.Cut n k) reply.CutOk) old new faults faults
 cut-turns passes tells files n k old new faults arms = quiet-turns passes tells files (call.Cut n k) reply.CutOk old new faults (record {
   no_boot = refl;
-  no_send = refl;
-  no_agents = refl;
+  lacks = λ lacks some. lacks;
+  decides = λ f on agents. absurd cc;
   no_stop = refl;
   on_is = arms.on_is;
   same = arms.same;

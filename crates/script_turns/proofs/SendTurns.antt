@@ -1,10 +1,9 @@
 -- The turn of a sending, by what the sending gave.
-use Rattle.std.proofs.Common.{◌≡◌, ◌⊎◌, inl, inr, ℕ, ◌+◌, ◌≤◌, Bool, true, false, ◌||◌, List, length, get_or, [], ◌∷◌, Option, Some, None, Result, Ok, Err, Contains, refl, sym, ap, subst, ◌∙◌, arith, IsTrue, IsFalse}
+use Rattle.std.proofs.Common.{◌≡◌, ◌⊎◌, inl, inr, ℕ, ◌+◌, ◌≤◌, Bool, true, false, ◌||◌, List, length, get_or, [], ◌∷◌, Option, Some, None, Result, Ok, Err, refl, sym, ap, subst, ◌∙◌, arith, IsTrue, IsFalse}
 use Rattle.std.proofs.Math.Logic.{∥∥₁_elim}
 use denote.Struct.Props.{props}
-use Rattle.std.specs.Prelude.{◌<◌, OnOk, is_ok, is_some, IsErrOf, not, ◌==◌}
+use Rattle.std.specs.Prelude.{◌<◌, OnOk, is_ok, is_some, not}
 use Rattle.std.proofs.lemmas.Bool.{false≢true}
-use Rattle.std.specs.List.{list_any}
 use Rattle.base_core.specs.Counts.{Rose}
 use Rattle.host_io.specs.Contents.{Directory}
 use Rattle.flash_core.specs.declared.flash.Arming.{Arming}
@@ -13,7 +12,6 @@ use Rattle.flash_core.specs.declared.flash.Flash.{Ghosts}
 use Rattle.flash_core.specs.declared.flash.FlashStop.{FlashStop}
 use Rattle.flash_core.specs.declared.flash.FlashStop.TheVariants as flash_stop
 use Rattle.flash_core.specs.Counts.{Spends, StaysUnarmed, stops_in}
-use Rattle.flash_core.specs.May.{Guards}
 use Rattle.flash_core.specs.Told.{Told}
 use Rattle.fwu_formats.specs.Layout.{ImageRow, Layout}
 use Rattle.fwu_formats.specs.Package.{Entry, Toc, entry_of}
@@ -26,11 +24,10 @@ use Rattle.fwu_model.specs.Call as call
 use Rattle.fwu_model.specs.Reply.{Reply, Turn}
 use Rattle.fwu_model.specs.Reply as reply
 use Rattle.fwu_model.specs.Answer.{Answer, answer, answered, answer_send, answer_send_partial, bits_over, first_image_fault, type_of_image, has_image, image_held, images_of, images_over, install_unless, partial_fault, payload_or, send_file, send_file_over, send_unless, sent_over, skipped, table_in}
-use Rattle.fwu_model.specs.Calm.{IsAtRest}
 use Rattle.fwu_model.specs.Causes.{FileNotRead, LacksFile}
 use Rattle.fwu_model.specs.Headline.{IsCut, LeavesOneOf}
 use Rattle.fwu_model.specs.Run.{Condition, HasNumbers, Step, Answered, Stopped, asks_state, is_boot, is_off, is_send, is_stop, moved_on, prefixes, stopped_moves}
-use Rattle.moves.specs.Moved.{GuardedBy, IsReady}
+use Rattle.moves.specs.Moved.{IsReady}
 use Rattle.moves.proofs.Composed.{does-idle}
 use Rattle.fip_tables.specs.Files.{Lacks, Tells}
 use Rattle.agent_machine.specs.Beside.{KeepsSparedByAll, SparesBlocksByAll}
@@ -45,7 +42,7 @@ use Rattle.agent_machine.specs.Knows.{Fitting, Knows}
 use Rattle.agent_machine.proofs.Showing.{known-shows}
 use Rattle.update_client.specs.declared.stops.Sent.{Sent}
 use Rattle.update_client.specs.declared.stops.SendStop.{SendStop}
-use Rattle.update_client.specs.declared.stops.SendStop.TheVariants.{MissingImage, ImageTooLarge, Begin, End, ReadFailed, Lost, Fault, Gone}
+use Rattle.update_client.specs.declared.stops.SendStop.TheVariants.{MissingImage, End, ReadFailed, Lost, Fault, Gone}
 use Rattle.update_client.specs.Halts.{flash_of}
 use Rattle.update_client.specs.Pieces.{ReadsPieceBy, unread_in}
 use Rattle.update_client.specs.Choosing.{no_row}
@@ -62,11 +59,11 @@ use Rattle.script_turns.specs.declared.turned.AgentTurn.{AgentTurn}
 use Rattle.script_turns.proofs.Fitting.{shows-here}
 use Rattle.script_turns.specs.Calls.{is_composed, moment_where}
 use Rattle.script_turns.specs.Stage.{on_where}
-use Rattle.script_turns.specs.Powered.{SameDevice, TurnMoment, at, kept_at, IsAt, IsSafe, ShowsAt}
+use Rattle.script_turns.specs.Powered.{TurnMoment, at, kept_at, IsAt, IsSafe, ShowsAt}
 use Rattle.script_turns.specs.Replies.{Replies, power_after}
 use Rattle.script_turns.specs.Sending.{AnswersSend, IsTableOf, LacksSent, SendSays, SendsAs, SpendsSent, TellsBegun, done_reply, is_answered, on_sent, send_call, sent_reply, writes_partly, writes_whole}
 use Rattle.script_turns.specs.Takes.{AreSent, SendTakes, StaysFree, TakesOn, stop_told, unread_told, writes_before}
-use Rattle.script_turns.specs.Turning.{Makes, NoneFalls, Turns, quiet_turn}
+use Rattle.script_turns.specs.Turning.{Makes, Turns, quiet_turn}
 use Rattle.script_turns.proofs.CallTakes.{with}
 use Rattle.script_turns.proofs.Shows.{as-told, counts_none, shows-as, told-shows}
 use Rattle.script_turns.proofs.Staying.{among, falls-same, no-stop, safe-by, same-guards}
@@ -352,36 +349,40 @@ module _ (partly : Bool) (passes : List ℕ → Bool) (tells : Bool) (files : Op
   abbrev here : TurnMoment
   here = at (Some f) t w cs armed power
 
-  -- it is answered by its first fault
-  pub bad-table : (r : Reply) → are ≤ was → IsFalse (is_stop r) → power_after power r ≡ power → IsTableOf files name (Err r)
-      → SendSays partly passes tells files name request (Some f) here r (Some f) here → (Lacks files name → ⊥) → SendTakes partly files name f r here here → StaysFree r here here
-      → Turns passes tells files (send_call partly name request) (quiet_turn (send_call partly name request) r) here here was are
-  bad-table r none no_stop keeps table says there early free = record {
+  -- the device is as it was, and this is on
+  abbrev left : Option Fields → TurnMoment
+  left on = at on t w cs armed power
+
+  unsent : (r : Reply) (on : Option Fields) → stop_told r ≡ Ok tt → power_after power r ≡ power
+      → (r ≡ reply.ReadFault → Rose was are ⊎ LacksFile files name) → (Lacks files name → r ≡ reply.ReadFault) → are ≤ was + unread_told r
+      → SendSays partly passes tells files name request (Some f) here r on (left on) → SendTakes partly files name f r here (left on)
+      → (IsTrue tells → (E : Setting) (from : Condition) → files ≡ Some E.files → IsAt E from (Some f) t
+      → Leads E from (quiet_turn (send_call partly name request) r) on t)
+      → Turns passes tells files (send_call partly name request) (quiet_turn (send_call partly name request) r) here (left on) was are
+  unsent r on calm keeps unread lacking once says takes step = record {
     call_is = refl;
     unnumbered = λ no. refl;
     counts = falls-same cs;
     made = makes-none partly name request _ _ refl;
     armed = never-cuts partly name request r armed;
-    free = λ no. free;
-    lost = λ e. absurd (no-stop r _ no_stop refl e);
-    failed = λ e. absurd (no-stop r _ no_stop refl e);
+    free = λ no. subst (λ (q : Result (Unit {0}) FlashStop). StaysUnarmed q armed armed cs cs) (sym calm) (unarmed_none tt armed cs);
+    lost = λ e. absurd (let lost = ap stop_told e in cc);
+    failed = λ e. absurd (let failed = ap stop_told e in cc);
     once = omega arith;
-    unread = λ e. absurd (no-stop r _ no_stop refl e);
-    lacking = λ lacks some. absurd (there (lacks-sent partly files name request lacks));
+    unread = λ e. not-read partly files name request was are (unread e);
+    lacking = λ lacks some. lacking (lacks-sent partly files name request lacks);
     later = later;
-    unread_once = omega (arith, none);
+    unread_once = once;
     reads_none = λ e. absurd (always-reads partly name request e);
-    replies = replies-as partly passes tells files name request here here r says;
-    takes = record { by_call = takes-as partly files name request f here r here early; unread = λ e. absurd (no-stop r _ no_stop refl e) };
+    replies = replies-as partly passes tells files name request here (left on) r says;
+    takes = record {
+      by_call = takes-as partly files name request f here r (left on) takes;
+      unread = λ e none. record { told = refl; writes = refl; counts = refl; armed = refl; power = refl };
+    };
     touches = touches-sent partly name request f w w (λ b out. refl);
     power = sym keeps;
     guard = λ e. refl;
-    step = λ e E from passes_are told is no_chance.
-        let x = is.shows.shows counts_none in
-        let same : answer E is.shows.state from.session (send_call partly name request) ≡ answered r [] from.session =
-        subst (λ (y : Session). answer E is.shows.state y (send_call partly name request) ≡ answered r [] y) (sym x.means)
-        (refuses-as partly E files name request is.shows.state f.boot _ _ told there r table) in
-        step-answered E from partly name request r f t t is refl (answered r [] from.session) f same no_stop refl refl is.shows.shows is.shows.ready;
+    step = λ e E from passes_are told is no_chance. step e E from told is;
     keeps = λ e h on no. spared-same _ t;
     spares = λ e h on no whole. absurd (always-composed partly name request whole);
     decides = λ e h on agents whole. absurd (always-composed partly name request whole);
@@ -389,44 +390,30 @@ module _ (partly : Bool) (passes : List ℕ → Bool) (tells : Bool) (files : Op
     boots = λ e off. absurd cc;
   }
 
+  -- it is answered by its first fault
+  pub bad-table : (r : Reply) → are ≤ was → IsFalse (is_stop r) → stop_told r ≡ Ok tt → power_after power r ≡ power → IsTableOf files name (Err r)
+      → SendSays partly passes tells files name request (Some f) here r (Some f) here → (Lacks files name → ⊥)
+      → SendTakes partly files name f r here here
+      → Turns passes tells files (send_call partly name request) (quiet_turn (send_call partly name request) r) here here was are
+  bad-table r none no_stop calm keeps table says there early =
+      unsent r (Some f) calm keeps (λ e. absurd (no-stop r reply.ReadFault no_stop refl e)) (λ lacks. absurd (there lacks))
+      (omega (arith, none)) says early
+      (λ e E from told is.
+      let x = is.shows.shows counts_none in
+      let same : answer E is.shows.state from.session (send_call partly name request) ≡ answered r [] from.session =
+      subst (λ (y : Session). answer E is.shows.state y (send_call partly name request) ≡ answered r [] y) (sym x.means)
+      (refuses-as partly E files name request is.shows.state f.boot _ _ told there r table) in
+      step-answered E from partly name request r f t t is refl (answered r [] from.session) f same no_stop refl refl is.shows.shows is.shows.ready)
+
   -- it cannot be read
   pub unread-table : are ≤ was + 1 → Rose was are ⊎ LacksFile files name
-      → Turns passes tells files (send_call partly name request) (quiet_turn (send_call partly name request) reply.ReadFault) here (at None t w cs armed power) was are
-  unread-table once cause = record {
-    call_is = refl;
-    unnumbered = λ no. refl;
-    counts = falls-same cs;
-    made = makes-none partly name request _ _ refl;
-    armed = never-cuts partly name request reply.ReadFault armed;
-    free = λ no. unarmed_none tt armed cs;
-    lost = λ e. absurd cc;
-    failed = λ e. absurd cc;
-    once = omega arith;
-    unread = λ e. not-read partly files name request was are cause;
-    lacking = λ lacks some. refl;
-    later = later;
-    unread_once = omega (arith, once);
-    reads_none = λ e. absurd (always-reads partly name request e);
-    replies = replies-as partly passes tells files name request here (at None t w cs armed power) reply.ReadFault tt;
-    takes = record {
-      by_call = takes-as partly files name request f here reply.ReadFault (at None t w cs armed power) (inl still);
-      unread = λ e none. still;
-    };
-    touches = touches-sent partly name request f w w (λ b out. refl);
-    power = refl;
-    guard = λ e. refl;
-    step = λ e E from passes_are told is no_chance.
-        step-stopped E from partly name request reply.ReadFault f t t is refl (answer E is.shows.state from.session (call.Begin 0)).moves refl refl
-        (does-idle {T = Unit {0}} (Err flash_stop.Lost) E is.shows.state _ t refl is.shows.ready.calm).each;
-    keeps = λ e h on no. spared-same _ t;
-    spares = λ e h on no whole. absurd (always-composed partly name request whole);
-    decides = λ e h on agents whole. absurd (always-composed partly name request whole);
-    safe = λ e safe. safe;
-    boots = λ e off. absurd cc;
-  }
-    where
-      still : SameDevice here (at None t w cs armed power)
-      still = record { told = refl; writes = refl; counts = refl; armed = refl; power = refl }
+      → Turns passes tells files (send_call partly name request) (quiet_turn (send_call partly name request) reply.ReadFault) here (left None) was are
+  unread-table once cause =
+      unsent reply.ReadFault None refl refl (λ e. cause) (λ lacks. refl) once tt
+      (inl (record { told = refl; writes = refl; counts = refl; armed = refl; power = refl }))
+      (λ e E from told is. step-stopped E from partly name request reply.ReadFault f t t is refl
+      (answer E is.shows.state from.session (call.Begin 0)).moves refl refl
+      (does-idle {T = Unit {0}} (Err flash_stop.Lost) E is.shows.state _ t refl is.shows.ready.calm).each)
 
 -- ---- a sending
 
@@ -479,15 +466,12 @@ module _ (partly : Bool) (passes : List ℕ → Bool) (tells : Bool) (files : Op
   says power toc (Err s) there sends stays spent =
       says-answered toc (Err s) sends stays (sent_reply partly (Err s)) (λ tells. tells) sends.goes spent
 
-  module _ (yes : IsTrue tells) (E : Setting) (from : Condition) (passes_are : E.passes ≡ passes) (told : files ≡ Some E.files) (is : IsAt E from (Some f) t) where
+  module _ (yes : IsTrue tells) (E : Setting) (from : Condition) (is : IsAt E from (Some f) t) where
     abbrev state : State
     state = is.shows.state
 
     abbrev what : Call
     what = send_call partly name request
-
-    shown : agent.Shows old state from.session
-    shown = told-shows tells f t state from.session w yes is.shows.shows
 
     leads-answered : (r : Reply) (a : Answer) → answer E state from.session what ≡ a → IsFalse (is_stop r) → AnswersBy r a E old new state → Stays old new
         → Leads E from (quiet_turn what r) (Some g) u
@@ -495,25 +479,20 @@ module _ (partly : Bool) (passes : List ℕ → Bool) (tells : Bool) (files : Op
         step-answered E from partly name request r f t u is (stays.guard yes) a g same no_stop goes.0 stays.layout
         (as-told tells g u (after state a.moves) a.next yes (shows-as tells g u (after state a.moves) a.next v goes.1.shows)) (goes.1.does yes is.shows.ready).all
 
-    leads : {toc : Toc} (result : Result Sent SendStop) → (result ≡ Err Gone → ⊥) → (sends : Sending partly files name toc request passes result old new) → Stays old new
-        → Leads E from (quiet_turn what (sent_reply partly result)) (on_sent result g) u
-    leads (Ok sent) there sends stays =
-        leads-answered (done_reply partly sent) _ (sends.own yes E state from.session is.shows.layout told shown) (done-calm partly sent) (sends.goes E state from.session is.shows.layout passes_are shown) stays
-    leads (Err ReadFailed) there sends stays =
-        step-stopped E from partly name request reply.ReadFault f t u is (stays.guard yes) (answer E state from.session (call.Begin 0)).moves refl refl
-        ((sends.goes E state from.session is.shows.layout passes_are shown).does yes is.shows.ready).each
-    leads (Err Lost) there sends stays =
-        step-stopped E from partly name request reply.Lost f t u is (stays.guard yes) (sends.answers E state from.session).moves
-        (ap (λ (a : Answer). a.moves) (sends.own yes E state from.session is.shows.layout told shown)) refl
-        ((sends.goes E state from.session is.shows.layout passes_are shown).does yes is.shows.ready).each
-    leads (Err Fault) there sends stays =
-        step-stopped E from partly name request reply.Fault f t u is (stays.guard yes) (sends.answers E state from.session).moves
-        (ap (λ (a : Answer). a.moves) (sends.own yes E state from.session is.shows.layout told shown)) refl
-        ((sends.goes E state from.session is.shows.layout passes_are shown).does yes is.shows.ready).each
-    leads (Err Gone) there sends stays = absurd (there refl)
-    leads (Err s) there sends stays =
-        leads-answered (sent_reply partly (Err s)) _ (sends.own yes E state from.session is.shows.layout told shown) refl
-        (sends.goes E state from.session is.shows.layout passes_are shown) stays
+    leads : (result : Result Sent SendStop) (a : Answer) → answer E state from.session what ≡ a → Stays old new
+        → GoesBy partly result a E old new state from.session → Leads E from (quiet_turn what (sent_reply partly result)) (on_sent result g) u
+    leads (Ok sent) a own stays goes = leads-answered (done_reply partly sent) a own (done-calm partly sent) goes stays
+    leads (Err ReadFailed) a own stays goes =
+        step-stopped E from partly name request reply.ReadFault f t u is (stays.guard yes)
+        (answer E state from.session (call.Begin 0)).moves refl refl (goes.does yes is.shows.ready).each
+    leads (Err Lost) a own stays goes =
+        step-stopped E from partly name request reply.Lost f t u is (stays.guard yes) a.moves (ap (λ (x : Answer). x.moves) own) refl
+        (goes.does yes is.shows.ready).each
+    leads (Err Fault) a own stays goes =
+        step-stopped E from partly name request reply.Fault f t u is (stays.guard yes) a.moves (ap (λ (x : Answer). x.moves) own) refl
+        (goes.does yes is.shows.ready).each
+    leads (Err Gone) a own stays goes = absurd goes
+    leads (Err s) a own stays goes = leads-answered (sent_reply partly (Err s)) a own refl goes stays
 
   -- what an armed loss counts of one that is done, or whose end is refused
   done-spent : (kind : Bool) (sent : Sent) (toc : Toc) → TakesSent (writes_to_send kind f toc) armed arming → SpendsSent (done_reply kind sent) (writes_to_send kind f toc) armed arming
@@ -586,7 +565,12 @@ module _ (partly : Bool) (passes : List ℕ → Bool) (tells : Bool) (files : Op
     touches = touches-sent partly name request f w v touches;
     power = powered ∙ ends.power_is;
     guard = stays.guard;
-    step = λ yes E from passes_are told is no_chance. leads yes E from passes_are told is result there sends stays;
+    step = λ yes E from passes_are told is no_chance.
+        let s = is.shows.state in
+        let x = from.session in
+        let layout = is.shows.layout in
+        let shown = told-shows tells f t s x w yes is.shows.shows in
+        leads yes E from is result (sends.answers E s x) (sends.own yes E s x layout told shown) stays (sends.goes E s x layout passes_are shown);
     keeps = λ yes h on no.
         subst (λ (fields : Fields). KeepsSparedByAll fields t u) (same_Some f h on) ((moves (showing yes)).3.keeps yes);
     spares = λ e h on no whole. absurd (always-composed partly name request whole);

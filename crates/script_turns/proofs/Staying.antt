@@ -1,5 +1,5 @@
 -- What stays the same, as several kinds of turns say it.
-use Rattle.std.proofs.Common.{◌≡◌, ◌≢◌, Contains, ℕ, ◌≤◌, ◌==◌, Bool, List, [], ◌∷◌, Option, None, Ok, Err, Result, refl, sym, ap, subst, arith, IsTrue, IsFalse}
+use Rattle.std.proofs.Common.{◌≡◌, ◌≢◌, Contains, ℕ, ◌==◌, Bool, List, [], ◌∷◌, None, Ok, Err, Result, refl, sym, ap, subst, arith, IsTrue, IsFalse}
 use Rattle.std.specs.Prelude.{MatchBool, IsSome, IsNone, is_ok}
 use Rattle.std.specs.List.{list_any}
 use Rattle.flash_core.specs.declared.flash.Counts.{Counts}
