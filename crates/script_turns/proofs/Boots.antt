@@ -1,7 +1,6 @@
 -- A boot of a flash, from how it ends: a step of a run, what no loss harms, and what the reply says of the bytes.
-use Rattle.std.proofs.Common.{◌≡◌, ◌≢◌, Contains, ℕ, ◌+◌, ◌≤◌, ◌==◌, Bool, true, false, List, [], ◌∷◌, ext_get_or, Option, Some, None, refl, sym, ap, subst, ◌∙◌, inl, inr, arith, IsTrue, IsFalse}
+use Rattle.std.proofs.Common.{◌≡◌, ◌≢◌, Contains, ℕ, ◌+◌, ◌≤◌, Bool, true, false, List, [], ◌∷◌, ext_get_or, Option, Some, None, refl, sym, ap, subst, ◌∙◌, inl, inr, arith, IsTrue, IsFalse}
 use Rattle.std.specs.Prelude.{◌⊎◌, Result, Ok, is_ok}
-use Rattle.std.specs.List.{list_any}
 use Rattle.flash_core.specs.declared.flash.Counts.{Counts}
 use Rattle.std.specs.Prelude.{IsErrOf}
 use Rattle.flash_core.specs.declared.flash.FlashStop.{FlashStop}
@@ -25,7 +24,6 @@ use Rattle.fwu_model.specs.Headline.{LeavesOneOf}
 use Rattle.fwu_model.specs.Calm.{IsCalm, IsAtRest}
 use Rattle.fwu_model.proofs.Frame.{calm-again, calm-stays}
 use Rattle.fwu_model.proofs.Runs.{only}
-use Rattle.moves.specs.Moved.{GuardedBy}
 use Rattle.agent_machine.specs.Fields.{Fields}
 use Rattle.early_boot.specs.Started.{Started, started_session}
 use Rattle.early_boot.specs.Ends.{Ended, booted, bad_layout, no_metadata, no_bank, lost, failed, stop_of}
@@ -36,13 +34,12 @@ use Rattle.script_turns.specs.Replies.{LeavesOn, power_after}
 use Rattle.script_turns.specs.Takes.{StaysFree, TakesBy, stop_told}
 use Rattle.script_turns.specs.Touches.{TouchesByBoot}
 use Rattle.script_turns.specs.Turning.{NoneFalls, Turns, GetsPower, IsOnAfter, ShowsStarted, boot_turn, reply_of_end}
+use Rattle.script_turns.proofs.RunTurns.{rose-after, rose-before}
 use Rattle.script_turns.proofs.Shows.{as-told}
+use Rattle.script_turns.proofs.Staying.{among, falls-same, safe-by, same-guards}
 use Rattle.script_turns.proofs.Touching.{touches-booted}
 
 -- ---- the guard
-
-same-guards : (old new : Told) → new.guard ≡ old.guard → Guards 1 7 old → Guards 1 7 new
-same-guards old new same guards b low high = subst (λ (g : List ℕ). IsTrue (list_any (λ k. k == b) g)) (sym same) (guards b low high)
 
 same-told : (old new : Told) → new ≡ old → new.guard ≡ old.guard
 same-told old new same = ap (λ (t : Told). t.guard) same
@@ -64,8 +61,8 @@ abbrev Leads : Setting → Condition → Turn → Option Fields → Told → Typ
 Leads E c t on new = (next : Condition) × Step E c t next × IsAt E next on new
 
 -- what shows one state shows it among others
-among : (E : Setting) (states : List State) (s : State) (t : Told) → Contains states s → LeavesOneOf E (s ∷ []) t → LeavesOneOf E states t
-among E states s t found leaves image may =
+among-all : (E : Setting) (states : List State) (s : State) (t : Told) → Contains states s → LeavesOneOf E (s ∷ []) t → LeavesOneOf E states t
+among-all E states s t found leaves image may =
     let shows = leaves image may in
     record { state = shows.state; one = only (Contains states) s shows.state found shows.one; shows = shows.shows; sound = shows.sound }
 
@@ -107,7 +104,7 @@ module _ (tells : Bool) (told : IsTrue tells) (E : Setting) (c : Condition) (s :
   step-stopped r None stop reads moves calm = (
     moved_on c call.Boot c.candidates Off,
     StoppedEarly stop (record { boot = refl; numbers = refl; reads = reads; next_is = refl }),
-    record { guard = guards; shows = (refl, among E c.candidates s new found (calm-stays E new s calm)) },
+    record { guard = guards; shows = (refl, among-all E c.candidates s new found (calm-stays E new s calm)) },
   )
   step-stopped r (Some n) stop reads moves stops = (
     moved_on c call.Boot (prefixes s (stopped_moves E s c.session call.Boot r)) Off,
@@ -130,11 +127,9 @@ module _ (tells : Bool) (told : IsTrue tells) (E : Setting) (c : Condition) (s :
       → Leads E c (boot_turn e) on new
   step-boot passes (booted b n) (Some f) ready by starts shows = step-booted passes b n f ready by starts shows
   step-boot passes (booted b n) None ready by starts shows = absurd starts
-  step-boot passes (bad_layout f) on h by off shows = absurd h
-  step-boot passes no_metadata on h by off shows = absurd h
-  step-boot passes (no_bank active previous) on h by off shows = absurd h
   step-boot passes (lost n) on h by off shows = step-off reply.Lost n on off refl (λ e. absurd cc) (ap (λ (a : Answer). a.moves) same) h
   step-boot passes (failed n) on h by off shows = step-off reply.Fault n on off refl (λ e. absurd cc) (ap (λ (a : Answer). a.moves) same) h
+  step-boot passes other on h by off shows = absurd h
 
 -- whatever the session is, it boots as one that is off
 boots-again : (E : Setting) (s : State) (session : Session) → answer E s session call.Boot ≡ answer E s Off call.Boot
@@ -144,22 +139,10 @@ boots-again E s (On boot staging handles) = refl
 
 -- ---- what the reply and the flash say, by the end
 
-safe-after : (e : Ended) (new : Told) → Guards 1 7 new → GuardedBy (stop_of e) new → IsSafe (is_ok (stop_of e)) new
-safe-after (booted b n) new guards h = h
-safe-after (bad_layout f) new guards h = h
-safe-after no_metadata new guards h = h
-safe-after (no_bank active previous) new guards h = h
-safe-after (lost n) new guards h = (guards, h)
-safe-after (failed n) new guards h = (guards, h)
-
 -- the device has power by the reply
 power-after-end : (e : Ended) (power : Bool) → is_ok (stop_of e) ≡ power_after power (reply_of_end e)
-power-after-end (booted b n) power = refl
-power-after-end (bad_layout f) power = refl
 power-after-end no_metadata power = refl
-power-after-end (no_bank active previous) power = refl
-power-after-end (lost n) power = refl
-power-after-end (failed n) power = refl
+power-after-end other power = refl
 
 boots-from : (passes : List ℕ → Bool) (e : Ended) (old new : Told) → EndsByBytes passes old e new → BootsFrom passes old.now (reply_of_end e)
 boots-from passes (booted b n) old new h = record { layout = b.layout; state = h.state; chose = h.chose; version_is = h.version_is }
@@ -171,30 +154,14 @@ boots-from passes (lost n) old new h = tt
 boots-from passes (failed n) old new h = tt
 
 reads-none : (e : Ended) → reply_of_end e ≢ reply.ReadFault
-reads-none (booted b n) h = cc
-reads-none (bad_layout f) h = cc
 reads-none no_metadata h = cc
-reads-none (no_bank active previous) h = cc
-reads-none (lost n) h = cc
-reads-none (failed n) h = cc
+reads-none other h = cc
 
 -- ---- the counts
 
-rose-later : (a b c : ℕ) → a ≤ b → Rose b c → Rose a c
-rose-later a b c le (inl lt) = inl (omega arith)
-rose-later a b c le (inr most) = inr most
-
-rose-on : (a b c : ℕ) → Rose a b → b ≤ c → Rose a c
-rose-on a b c (inl lt) le = inl (omega arith)
-rose-on a b c (inr most) le = inr (omega arith)
-
 stop-of-reply : (e : Ended) → stop_of e ≡ stop_told (reply_of_end e)
-stop-of-reply (booted b n) = refl
-stop-of-reply (bad_layout f) = refl
 stop-of-reply no_metadata = refl
-stop-of-reply (no_bank active previous) = refl
-stop-of-reply (lost n) = refl
-stop-of-reply (failed n) = refl
+stop-of-reply other = refl
 
 -- Until the boot begins no count falls, no stop is counted, and no arming is made.
 record Waits (old was : Counts) : Type 0 where
@@ -203,7 +170,7 @@ record Waits (old was : Counts) : Type 0 where
   made : was.made ≡ old.made
 
 waits-none : (was : Counts) → Waits was was
-waits-none was = record { falls = record { faults = omega arith; cuts = omega arith; reached = omega arith; chances = omega arith }; once = omega arith; made = refl }
+waits-none was = record { falls = falls-same was; once = omega arith; made = refl }
 
 waits : (tells : Bool) (on : Option Fields) (old mid : TurnMoment) → GetsPower tells on old mid → Waits old.counts mid.counts
 waits tells None old mid has = record {
@@ -223,24 +190,16 @@ module _ (old was are : Counts) (waiting : Waits old was) where
   }
 
   lost-then : (e : Ended) → Spends (stop_of e) was are → reply_of_end e ≡ reply.Lost → Rose old.cuts are.cuts ⊎ Rose old.reached are.reached
-  lost-then (booted b n) costs h = absurd cc
-  lost-then (bad_layout f) costs h = absurd cc
-  lost-then no_metadata costs h = absurd cc
-  lost-then (no_bank active previous) costs h = absurd cc
   lost-then (lost n) costs h = by-cause (costs.lost refl)
     where
       by-cause : Rose was.cuts are.cuts ⊎ Rose was.reached are.reached → Rose old.cuts are.cuts ⊎ Rose old.reached are.reached
-      by-cause (inl rose) = inl (rose-later old.cuts was.cuts are.cuts waiting.falls.cuts rose)
-      by-cause (inr rose) = inr (rose-later old.reached was.reached are.reached waiting.falls.reached rose)
-  lost-then (failed n) costs h = absurd cc
+      by-cause (inl rose) = inl (rose-before old.cuts was.cuts are.cuts waiting.falls.cuts rose)
+      by-cause (inr rose) = inr (rose-before old.reached was.reached are.reached waiting.falls.reached rose)
+  lost-then other costs h = absurd cc
 
   failed-then : (e : Ended) → Spends (stop_of e) was are → reply_of_end e ≡ reply.Fault → Rose old.faults are.faults
-  failed-then (booted b n) costs h = absurd cc
-  failed-then (bad_layout f) costs h = absurd cc
-  failed-then no_metadata costs h = absurd cc
-  failed-then (no_bank active previous) costs h = absurd cc
-  failed-then (lost n) costs h = absurd cc
-  failed-then (failed n) costs h = rose-later old.faults was.faults are.faults waiting.falls.faults (costs.failed refl)
+  failed-then (failed n) costs h = rose-before old.faults was.faults are.faults waiting.falls.faults (costs.failed refl)
+  failed-then other costs h = absurd cc
 
   once-then : (e : Ended) → Spends (stop_of e) was are → all_stops are ≤ all_stops old + stops_in (stop_told (reply_of_end e))
   once-then e costs = omega (arith, waiting.once, costs.once, ap stops_in (stop-of-reply e))
@@ -248,7 +207,7 @@ module _ (old was are : Counts) (waiting : Waits old was) where
 -- ---- what an armed loss counts
 
 reaches-then : {T : Type 0} (result : Result T FlashStop) (old was are : Counts) → old.cuts ≤ was.cuts → was.reached ≡ old.reached → ReachesNone result was are → ReachesNone result old are
-reaches-then result old was are cuts reached none = record { same = none.same ∙ reached; lost = λ h. rose-later old.cuts was.cuts are.cuts cuts (none.lost h) }
+reaches-then result old was are cuts reached none = record { same = none.same ∙ reached; lost = λ h. rose-before old.cuts was.cuts are.cuts cuts (none.lost h) }
 
 armed-had : (tells : Bool) (on : Option Fields) (old mid : TurnMoment) → GetsPower tells on old mid → mid.armed ≡ old.armed
 armed-had tells None old mid has = has.armed
@@ -330,13 +289,13 @@ begins tells None old mid last told has E c is le none =
     record { state = again.0; found = again.1; calm = again.2 }
   where
     no-chance : Rose old.counts.chances mid.counts.chances ⊎ NoChance old.told mid.told.now → NoChance old.told mid.told.now
-    no-chance (inl rose) = absurd (none (rose-on old.counts.chances mid.counts.chances last rose le))
+    no-chance (inl rose) = absurd (none (rose-after old.counts.chances mid.counts.chances last le rose))
     no-chance (inr h) = h
 begins tells (Some f) old mid last told has E c is le none =
     let s = is.shows.state in
     record {
       state = s;
-      found = subst (λ (states : List State). Contains states s) (sym is.shows.one) (0, omega arith, refl);
+      found = among c.candidates s is.shows.one;
       calm = subst (λ (t : Told). IsCalm E t s) (sym has.told) is.shows.ready.calm;
     }
 
@@ -407,7 +366,7 @@ module _ (passes : List ℕ → Bool) (tells : Bool) (files : Option Directory) 
         decides = λ told f on agents. absurd cc;
         safe = λ told safe.
             let rest = rests-had tells on old mid told has power safe in
-            subst (λ (b : Bool). IsSafe b new.told) (sym ended.power_is) (safe-after e new.told (same-guards mid.told new.told (guard told) rest.guard) ((ended.ends told).guarded rest));
+            subst (λ (b : Bool). IsSafe b new.told) (sym ended.power_is) (safe-by (stop_of e) mid.told new.told (guard told) rest ((ended.ends told).guarded rest));
         boots = λ told off clean is.
             subst (λ (image : List ℕ). BootsFrom passes image (reply_of_end e)) (bytes-had tells on old mid told has clean) (boots-from passes e mid.told new.told (ended.ends told).by_bytes);
       }

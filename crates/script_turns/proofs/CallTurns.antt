@@ -1,6 +1,6 @@
 -- The turn of a call of the agent, from what the agent's call says: the reply, what is kept, a step of a run, and what no loss harms.
-use Rattle.std.proofs.Common.{◌≡◌, ◌≢◌, Contains, ℕ, ◌+◌, ◌≤◌, ◌==◌, Bool, true, false, cond, not, ◌||◌, List, [], ◌∷◌, length, get_or, Option, Some, None, Result, Ok, Err, refl, sym, ap, subst, ◌∙◌, arith, IsTrue, IsFalse}
-use Rattle.std.specs.Prelude.{◌⊎◌, ◌<◌, MatchBool, IsSome, IsNone, is_ok, ⊤}
+use Rattle.std.proofs.Common.{◌≡◌, ◌≢◌, ℕ, Bool, true, false, cond, not, ◌||◌, List, [], ◌∷◌, length, get_or, Option, Some, None, Result, Ok, Err, refl, sym, ap, subst, ◌∙◌, arith, IsTrue, IsFalse}
+use Rattle.std.specs.Prelude.{◌<◌, is_ok, ⊤}
 use Rattle.std.proofs.lemmas.List.{length-map}
 use Rattle.std.specs.List.{list_any}
 use Rattle.std.proofs.lemmas.Option.{same_Some}
@@ -8,11 +8,10 @@ use Rattle.flash_core.specs.declared.flash.Arming.{Arming}
 use Rattle.flash_core.specs.declared.flash.Counts.{Counts}
 use Rattle.flash_core.specs.declared.flash.FlashStop.{FlashStop}
 use Rattle.flash_core.specs.declared.flash.FlashStop.TheVariants as flash_stop
-use Rattle.flash_core.specs.Counts.{Rose, Spends, StaysUnarmed, all_stops, stops_in}
+use Rattle.flash_core.specs.Counts.{Spends, StaysUnarmed, stops_in}
 use Rattle.flash_core.specs.Told.{Told}
-use Rattle.flash_core.specs.May.{Guards}
 use Rattle.host_io.specs.Contents.{Directory}
-use Rattle.fwu_model.specs.State.{State, Numbers, after}
+use Rattle.fwu_model.specs.State.{State, after}
 use Rattle.fwu_model.specs.Sound.{Setting}
 use Rattle.fwu_model.specs.Session.{Session, Off, On, Staged, Nothing, Committed, no_handles}
 use Rattle.fwu_model.specs.Call.{Call}
@@ -46,6 +45,7 @@ use Rattle.script_turns.specs.Calls.{is_agents, is_composed, on_by, reply_by}
 use Rattle.script_turns.specs.Deciding.{DecidesAfter, IsMetaAfter}
 use Rattle.script_turns.specs.Turning.{Makes, Turns, quiet_turn}
 use Rattle.script_turns.proofs.Quiets.{lacks-none}
+use Rattle.script_turns.proofs.Staying.{among, no-numbers, no-stop, safe-by, same-guards}
 use Rattle.script_turns.proofs.Shows.{as-told, shows-as, told-shows}
 use Rattle.script_turns.proofs.Touching.{touches-called}
 
@@ -103,21 +103,11 @@ own-reply tells other q r test h = h
 
 -- ---- what is the same for each result
 
--- no numbers
-quiet : (c : Call) → IsFalse (is_boot c) → MatchBool (is_boot c) (IsSome {T = Numbers} None) (IsNone {T = Numbers} None)
-quiet c never = subst (λ (b : Bool). MatchBool b (IsSome {T = Numbers} None) (IsNone {T = Numbers} None)) (sym never) refl
-
 -- an agent that is on has a session
 asks : (c : Call) (tells : Bool) (f : Fields) (t : Told) (w : ℕ → ℕ) (s : State) (x : Session) → IsFalse (is_boot c) → agent.Shows (kept_at tells f t w) s x → IsTrue (asks_state x c)
 asks c tells f t w s x never shows =
     subst (λ (b : Bool). IsTrue (b || not (is_off x))) (sym never)
     (subst (λ (y : Session). IsTrue (not (is_off y))) (sym shows.means) refl)
-
-same-guards : (old new : Told) → new.guard ≡ old.guard → Guards 1 7 old → Guards 1 7 new
-same-guards old new same guards b low high = subst (λ (g : List ℕ). IsTrue (list_any (λ k. k == b) g)) (sym same) (guards b low high)
-
-among : (states : List State) (s : State) → states ≡ s ∷ [] → Contains states s
-among states s one = subst (λ (xs : List State). Contains xs s) (sym one) (0, omega arith, refl)
 
 -- power stays on but at a stop
 stays-on : (power : Bool) (r : Reply) → power ≡ true → IsFalse (is_stop r) → power_after power r ≡ true
@@ -133,8 +123,15 @@ stops-none reply.Lost none = absurd cc
 stops-none reply.Fault none = absurd cc
 stops-none other none = refl
 
-no-stop : (r other : Reply) → IsFalse (is_stop r) → IsTrue (is_stop other) → r ≢ other
-no-stop r other none is same = let e = ap is_stop same in cc
+-- what a reply tells of the flash: whether it stopped the call, and whether it has power
+record TellsFlash (r : Reply) (result : Result (Unit {0}) FlashStop) : Type 0 where
+  stop_is : result ≡ stop_told r
+  no_read : r ≢ reply.ReadFault
+  power_is : (power : Bool) → power ≡ true → is_ok result ≡ power_after power r
+
+tells-answered : (r : Reply) → IsFalse (is_stop r) → TellsFlash r (Ok tt)
+tells-answered r none =
+    record { stop_is = sym (stops-none r none); no_read = no-stop r reply.ReadFault none refl; power_is = λ power on. sym (stays-on power r on none) }
 
 -- what a call left of its flash
 record Left (result : Result (Unit {0}) FlashStop) (passes : List ℕ → Bool) (c : Call) (old new : agent.Moment) : Type 0 where
@@ -161,6 +158,48 @@ left-by {old = old} {new = new} after leaves = record {
   stays = leaves.stays;
 }
 
+-- ---- its turn, by its step
+
+module _ (passes : List ℕ → Bool) (tells : Bool) (files : Option Directory) (faults : ℕ) (c : Call) (r : Reply) (result : Result (Unit {0}) FlashStop)
+    (f g : Fields) (on : Option Fields) (told now : Told) (w v : ℕ → ℕ) (was are : Counts) (armed after_armed : Option Arming) (power after_power : Bool)
+    (agents : IsTrue (is_agents c)) (power_was : power ≡ true) (power_is : after_power ≡ is_ok result) (ends : TellsFlash r result)
+    (leaves : Left result passes c (kept_at tells f told w) (kept_at tells g now v)) where
+  called-turns : Spends result was are → StaysUnarmed result armed after_armed was are
+      → TakesOn files c f (at (Some f) told w was armed power) r (at on now v are after_armed after_power)
+      → CallSays passes tells c (Some f) (at (Some f) told w was armed power) r on (at on now v are after_armed after_power)
+      → (IsTrue tells → (E : Setting) (from : Condition) → E.passes ≡ passes → IsAt E from (Some f) told
+      → (next : Condition) × Step E from (quiet_turn c r) next × IsAt E next on now)
+      → Turns passes tells files c (quiet_turn c r) (at (Some f) told w was armed power) (at on now v are after_armed after_power) faults faults
+  called-turns costs free takes says step = record {
+    call_is = refl;
+    unnumbered = λ no. refl;
+    counts = record { faults = costs.faults; cuts = costs.cuts; reached = costs.reached; chances = costs.chances };
+    made = makes-none c was.made are.made agents costs.made;
+    armed = never-cuts c r after_armed agents;
+    free = λ no. subst (λ (q : Result (Unit {0}) FlashStop). StaysUnarmed q armed after_armed was are) ends.stop_is free;
+    lost = λ e. costs.lost (ends.stop_is ∙ ap stop_told e);
+    failed = λ e. costs.failed (ends.stop_is ∙ ap stop_told e);
+    once = omega (arith, costs.once, ap stops_in ends.stop_is);
+    unread = λ e. absurd (ends.no_read e);
+    lacking = λ lacks some. absurd (lacks-none files c (never-sends c agents) lacks);
+    later = omega arith;
+    unread_once = omega arith;
+    reads_none = λ sends. refl;
+    replies = replies-of passes tells files c f _ _ r agents refl says;
+    takes = record { by_call = takes; unread = λ e. absurd (ends.no_read e) };
+    touches = touches-called c f w v agents leaves.touches leaves.touches_one;
+    power = power_is ∙ ends.power_is power power_was;
+    guard = λ test. leaves.stays.guard test;
+    step = λ test E from passes_are files_are is chance. step test E from passes_are is;
+    keeps = λ test h on no. subst (λ (x : Fields). KeepsSparedByAll x told now) (same_Some f h on) (leaves.keeps test);
+    spares = λ test h on no whole. subst (λ (x : Fields). KeepsSpared x told now) (same_Some f h on) (leaves.spares whole test);
+    decides = λ test h on is whole. subst (λ (x : Fields). DecidesAfter c x told now) (same_Some f h on) (leaves.decides whole test);
+    safe = λ test safe.
+        let rest = subst (λ (b : Bool). IsSafe b told) power_was safe in
+        subst (λ (b : Bool). IsSafe b now) (sym power_is) (safe-by result told now (leaves.stays.guard test) rest (leaves.guarded test rest));
+    boots = λ test off clean is. absurd cc;
+  }
+
 -- ---- a call that was answered or refused
 
 module _ (passes : List ℕ → Bool) (tells : Bool) (files : Option Directory) (faults : ℕ) (c : Call) (r : Reply) (f g : Fields) (told now : Told) (w v : ℕ → ℕ) (was are : Counts) (armed after_armed : Option Arming) (power after_power : Bool)
@@ -183,7 +222,7 @@ module _ (passes : List ℕ → Bool) (tells : Bool) (files : Option Directory) 
         Answered none (asks c tells f told w s x (never-boots c agents) shows) (record {
           state = s;
           found = record { candidate = among from.candidates s on.one; numbers = tt };
-          numbers = quiet c (never-boots c agents);
+          numbers = no-numbers c (never-boots c agents);
           reply_is = exact.0;
           next_is = refl;
         }),
@@ -201,34 +240,9 @@ module _ (passes : List ℕ → Bool) (tells : Bool) (files : Option Directory) 
 
   turns-answered : Spends {T = Unit {0}} (Ok tt) was are → StaysUnarmed {T = Unit {0}} (Ok tt) armed after_armed was are → TakesOn files c f (at (Some f) told w was armed power) r (at (Some g) now v are after_armed after_power)
       → Turns passes tells files c (quiet_turn c r) (at (Some f) told w was armed power) (at (Some g) now v are after_armed after_power) faults faults
-  turns-answered costs free takes = record {
-    call_is = refl;
-    unnumbered = λ no. refl;
-    counts = record { faults = costs.faults; cuts = costs.cuts; reached = costs.reached; chances = costs.chances };
-    made = makes-none c was.made are.made agents costs.made;
-    armed = never-cuts c r after_armed agents;
-    free = λ no. subst (λ (told : Result (Unit {0}) FlashStop). StaysUnarmed told armed after_armed was are) (sym (stops-none r none)) free;
-    lost = λ e. absurd (no-stop r reply.Lost none refl e);
-    failed = λ e. absurd (no-stop r reply.Fault none refl e);
-    once = omega (arith, costs.once);
-    unread = λ e. absurd (no-stop r reply.ReadFault none refl e);
-    lacking = λ lacks some. absurd (lacks-none files c (never-sends c agents) lacks);
-    later = omega arith;
-    unread_once = omega arith;
-    reads_none = λ sends. refl;
-    replies = replies-of passes tells files c f _ _ r agents refl says;
-    takes = record { by_call = takes; unread = λ e. absurd (no-stop r reply.ReadFault none refl e) };
-    touches = touches-called c f w v agents leaves.touches leaves.touches_one;
-    power = power_is ∙ sym (stays-on power r power_was none);
-    guard = λ test. leaves.stays.guard test;
-    step = λ test E from passes_are files_are is chance. answered-step test E from passes_are is;
-    keeps = λ test h on no. subst (λ (x : Fields). KeepsSparedByAll x told now) (same_Some f h on) (leaves.keeps test);
-    spares = λ test h on no whole. subst (λ (x : Fields). KeepsSpared x told now) (same_Some f h on) (leaves.spares whole test);
-    decides = λ test h on is whole. subst (λ (x : Fields). DecidesAfter c x told now) (same_Some f h on) (leaves.decides whole test);
-    safe = λ test safe.
-        subst (λ (b : Bool). IsSafe b now) (sym power_is) (leaves.guarded test (subst (λ (b : Bool). IsSafe b told) power_was safe));
-    boots = λ test off clean is. absurd cc;
-  }
+  turns-answered costs free takes =
+      called-turns passes tells files faults c r (Ok tt) f g (Some g) told now w v was are armed after_armed power after_power agents
+      power_was power_is (tells-answered r none) leaves costs free takes says answered-step
 
 -- ---- a call that the flash stopped
 
@@ -240,10 +254,6 @@ is-stop : (why : FlashStop) → IsTrue (is_stop (stopped_reply why))
 is-stop flash_stop.Lost = refl
 is-stop flash_stop.Failed = refl
 
-reads-none : (why : FlashStop) → stopped_reply why ≢ reply.ReadFault
-reads-none flash_stop.Lost e = cc
-reads-none flash_stop.Failed e = cc
-
 own-moves : (why : FlashStop) (E : Setting) (s : State) (x : Session) (c : Call) → stopped_moves E s x c (stopped_reply why) ≡ (answer E s x c).moves
 own-moves flash_stop.Lost E s x c = refl
 own-moves flash_stop.Failed E s x c = refl
@@ -252,26 +262,9 @@ flash-stops : (why : FlashStop) → IsFlashStop (stopped_reply why)
 flash-stops flash_stop.Lost = tt
 flash-stops flash_stop.Failed = tt
 
-takes-power : (why : FlashStop) (power : Bool) → power_after power (stopped_reply why) ≡ false
-takes-power flash_stop.Lost power = refl
-takes-power flash_stop.Failed power = refl
-
-lost-by : (why : FlashStop) (was are : Counts) → Spends {T = Unit {0}} (Err why) was are → stopped_reply why ≡ reply.Lost → Rose was.cuts are.cuts ⊎ Rose was.reached are.reached
-lost-by flash_stop.Lost was are costs e = costs.lost refl
-lost-by flash_stop.Failed was are costs e = absurd cc
-
-failed-by : (why : FlashStop) (was are : Counts) → Spends {T = Unit {0}} (Err why) was are → stopped_reply why ≡ reply.Fault → Rose was.faults are.faults
-failed-by flash_stop.Lost was are costs e = absurd cc
-failed-by flash_stop.Failed was are costs e = costs.failed refl
-
-free-by : (why : FlashStop) (armed after_armed : Option Arming) (was are : Counts) → StaysUnarmed {T = Unit {0}} (Err why) armed after_armed was are
-    → StaysUnarmed (stop_told (stopped_reply why)) armed after_armed was are
-free-by flash_stop.Lost armed after_armed was are free = free
-free-by flash_stop.Failed armed after_armed was are free = free
-
-once-by : (why : FlashStop) (was are : Counts) → Spends {T = Unit {0}} (Err why) was are → all_stops are ≤ all_stops was + stops_in (stop_told (stopped_reply why))
-once-by flash_stop.Lost was are costs = costs.once
-once-by flash_stop.Failed was are costs = costs.once
+tells-stopped : (why : FlashStop) → TellsFlash (stopped_reply why) (Err why)
+tells-stopped flash_stop.Lost = record { stop_is = refl; no_read = λ e. cc; power_is = λ power on. refl }
+tells-stopped flash_stop.Failed = record { stop_is = refl; no_read = λ e. cc; power_is = λ power on. refl }
 
 module _ (passes : List ℕ → Bool) (tells : Bool) (files : Option Directory) (faults : ℕ) (c : Call) (why : FlashStop) (f g : Fields) (told now : Told) (w v : ℕ → ℕ) (was are : Counts) (armed after_armed : Option Arming) (power after_power : Bool)
     (agents : IsTrue (is_agents c)) (power_was : power ≡ true) (power_is : after_power ≡ false)
@@ -289,8 +282,8 @@ module _ (passes : List ℕ → Bool) (tells : Bool) (files : Option Directory) 
         Stopped (is-stop why) (asks c tells f told w s x (never-boots c agents) shows) (record {
           state = s;
           found = record { candidate = among from.candidates s on.one; numbers = tt };
-          numbers = quiet c (never-boots c agents);
-          reads = λ e. absurd (reads-none why e);
+          numbers = no-numbers c (never-boots c agents);
+          reads = λ e. absurd ((tells-stopped why).no_read e);
           next_is = refl;
         }),
         record {
@@ -302,35 +295,9 @@ module _ (passes : List ℕ → Bool) (tells : Bool) (files : Option Directory) 
   turns-stopped : Spends {T = Unit {0}} (Err why) was are → StaysUnarmed {T = Unit {0}} (Err why) armed after_armed was are
       → TakesOn files c f (at (Some f) told w was armed power) (stopped_reply why) (at None now v are after_armed after_power)
       → Turns passes tells files c (quiet_turn c (stopped_reply why)) (at (Some f) told w was armed power) (at None now v are after_armed after_power) faults faults
-  turns-stopped costs free takes = record {
-    call_is = refl;
-    unnumbered = λ no. refl;
-    counts = record { faults = costs.faults; cuts = costs.cuts; reached = costs.reached; chances = costs.chances };
-    made = makes-none c was.made are.made agents costs.made;
-    armed = never-cuts c (stopped_reply why) after_armed agents;
-    free = λ no. free-by why armed after_armed was are free;
-    lost = lost-by why was are costs;
-    failed = failed-by why was are costs;
-    once = once-by why was are costs;
-    unread = λ e. absurd (reads-none why e);
-    lacking = λ lacks some. absurd (lacks-none files c (never-sends c agents) lacks);
-    later = omega arith;
-    unread_once = omega arith;
-    reads_none = λ sends. refl;
-    replies = replies-of passes tells files c f _ _ (stopped_reply why) agents refl (flash-stops why);
-    takes = record { by_call = takes; unread = λ e. absurd (reads-none why e) };
-    touches = touches-called c f w v agents leaves.touches leaves.touches_one;
-    power = power_is ∙ sym (takes-power why power);
-    guard = λ test. leaves.stays.guard test;
-    step = λ test E from passes_are files_are is chance. stopped-step test E from passes_are is;
-    keeps = λ test h on no. subst (λ (x : Fields). KeepsSparedByAll x told now) (same_Some f h on) (leaves.keeps test);
-    spares = λ test h on no whole. subst (λ (x : Fields). KeepsSpared x told now) (same_Some f h on) (leaves.spares whole test);
-    decides = λ test h on is whole. subst (λ (x : Fields). DecidesAfter c x told now) (same_Some f h on) (leaves.decides whole test);
-    safe = λ test safe.
-        let rest = subst (λ (b : Bool). IsSafe b told) power_was safe in
-        subst (λ (b : Bool). IsSafe b now) (sym power_is) (same-guards told now (leaves.stays.guard test) rest.guard, leaves.guarded test rest);
-    boots = λ test off clean is. absurd cc;
-  }
+  turns-stopped costs free takes =
+      called-turns passes tells files faults c (stopped_reply why) (Err why) f g None told now w v was are armed after_armed power after_power
+      agents power_was power_is (tells-stopped why) leaves costs free takes (flash-stops why) stopped-step
 
 -- ---- any call, by its result
 
@@ -338,9 +305,7 @@ module _ (passes : List ℕ → Bool) (tells : Bool) (files : Option Directory) 
 abbrev pub GoesBackAs : {T : Type 0} → (T → Reply) → Result T Stop → State → Session → agent.Moment → Type 0
 GoesBackAs says (Ok value) s x new = GoesBackBy (says value) s x new
 GoesBackAs says (Err (stop.Status st)) s x new = GoesBackBy (reply.Refused st) s x new
-GoesBackAs says (Err stop.Lost) s x new = ⊤
-GoesBackAs says (Err stop.Fault) s x new = ⊤
-GoesBackAs says (Err stop.Gone) s x new = ⊤
+GoesBackAs says (Err other) s x new = ⊤
 
 -- what a call of an agent that isn't gone says of its turn
 pub record Called {T : Type 0} (says : T → Reply) (result : Result T Stop) (passes : List ℕ → Bool) (c : Call) (old new : agent.Moment) : Type 0 where

@@ -53,9 +53,7 @@ answers-as : {T : Type 0} (Says Tells : T → Reply → Type 0) (result : Result
     → ((value : T) → result ≡ Ok value → (q : Reply) → Says value q → Tells value q) → Answers Says result E s x c new → Answers Tells result E s x c new
 answers-as Says Tells (Ok value) E s x c new says answers = (says value refl _ answers.0, answers.1)
 answers-as Says Tells (Err (stop.Status st)) E s x c new says answers = answers
-answers-as Says Tells (Err stop.Lost) E s x c new says answers = tt
-answers-as Says Tells (Err stop.Fault) E s x c new says answers = tt
-answers-as Says Tells (Err stop.Gone) E s x c new says answers = tt
+answers-as Says Tells (Err other) E s x c new says answers = tt
 
 pub called : {T : Type 0} (Says : T → Reply → Type 0) (says : T → Reply) (result : Result T Stop) (passes : List ℕ → Bool) (c : Call) (old new : agent.Moment)
     → IsTrue (is_single c) → (IsPreviousCall c → ⊥) → ((value : T) → IsFalse (is_stop (says value))) → (result ≡ Err stop.Gone → ⊥)
@@ -74,9 +72,7 @@ called Says says result passes c old new agents other never here same meets = re
 goes-back : (result : Result (Unit {0}) Stop) (s : State) (x : Session) (new : agent.Moment) → GoesBack result s x new → GoesBackAs (λ value. reply.Success) result s x new
 goes-back (Ok value) s x new goes = goes
 goes-back (Err (stop.Status st)) s x new goes = goes
-goes-back (Err stop.Lost) s x new goes = tt
-goes-back (Err stop.Fault) s x new goes = tt
-goes-back (Err stop.Gone) s x new goes = tt
+goes-back (Err other) s x new goes = tt
 
 pub called-previous : (result : Result (Unit {0}) Stop) (passes : List ℕ → Bool) (old new : agent.Moment) → (result ≡ Err stop.Gone → ⊥)
     → MeetsPrevious result passes old new → OnOk result (SomePassed passes old.fields.layout.rows old.fields.counter)
@@ -137,9 +133,8 @@ shown-open guid op.Write = refl
 meta-of : {T : Type 0} (result : Result T Stop) (old new : MetaRead) (Next : Type 0) → (result ≡ Err stop.Gone → ⊥) → (IsDone result → Next) → (IsRefused result → new ≡ old) → (new ≡ old) ⊎ Next
 meta-of (Ok value) old new Next here done refused = inr (done tt)
 meta-of (Err (stop.Status st)) old new Next here done refused = inl (refused tt)
-meta-of (Err stop.Lost) old new Next here done refused = inr (done tt)
-meta-of (Err stop.Fault) old new Next here done refused = inr (done tt)
 meta-of (Err stop.Gone) old new Next here done refused = absurd (here refl)
+meta-of (Err other) old new Next here done refused = inr (done tt)
 
 -- where a call that is refused leaves it as it was
 pub meta-by : {D T : Type 0} {F : Ghosts D} (a b : Agent D F) (result : Result T Stop) → IsFalse (gone a) → AgentGoes result a b
@@ -155,25 +150,19 @@ meta-either (inr either) = either
 
 on-where-there : {T : Type 0} (result : Result T Stop) → (result ≡ Err stop.Gone → ⊥) → is_ok (flash_result result) ≡ is_there result
 on-where-there (Ok value) here = refl
-on-where-there (Err (stop.Status st)) here = refl
-on-where-there (Err stop.Lost) here = refl
-on-where-there (Err stop.Fault) here = refl
 on-where-there (Err stop.Gone) here = absurd (here refl)
+on-where-there (Err other) here = refl
 
 kept-where-there : {T : Type 0} (result : Result T Stop) (f : Fields) → on_where (is_there result) f ≡ on_by result f
 kept-where-there (Ok value) f = refl
 kept-where-there (Err (stop.Status st)) f = refl
-kept-where-there (Err stop.Lost) f = refl
-kept-where-there (Err stop.Fault) f = refl
-kept-where-there (Err stop.Gone) f = refl
+kept-where-there (Err other) f = refl
 
 -- a stop ends the agent
 ends : {T : Type 0} (result : Result T Stop) → IsStopped result → IsTrue (is_there result) → ⊥
 ends (Ok value) stopped there = absurd stopped
 ends (Err (stop.Status st)) stopped there = absurd stopped
-ends (Err stop.Lost) stopped there = absurd cc
-ends (Err stop.Fault) stopped there = absurd cc
-ends (Err stop.Gone) stopped there = absurd cc
+ends (Err other) stopped there = absurd cc
 
 not-gone : {T : Type 0} (result : Result T Stop) (was now : Bool) → GoesBy result was now → IsFalse was → IsTrue (is_there result) → IsFalse now
 not-gone result was false goes live there = refl

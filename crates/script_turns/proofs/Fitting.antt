@@ -32,11 +32,9 @@ seen-here {F = F} a here tells s x shows =
 
 fits-where : (tells here : Bool) (f : Fields) (t : Told) (w : ℕ → ℕ) → (IsTrue here → ∥ Showing (kept_at tells f t w) ∥₁) → (IsTrue here → IsSeen tells f t) → (IsTrue here → IsHeld tells f t)
     → (g : Fields) → on_where here f ≡ Some g → ∥ Showing (kept_at tells g t w) ∥₁ × IsSeen tells g t × IsHeld tells g t
-fits-where tells true f t w shows seen held g e = (
-  subst (λ (x : Fields). ∥ Showing (kept_at tells x t w) ∥₁) (same_Some _ _ e) (shows refl),
-  subst (λ (x : Fields). IsSeen tells x t) (same_Some _ _ e) (seen refl),
-  subst (λ (x : Fields). IsHeld tells x t) (same_Some _ _ e) (held refl),
-)
+fits-where tells true f t w shows seen held g e =
+    subst (λ (x : Fields). ∥ Showing (kept_at tells x t w) ∥₁ × IsSeen tells x t × IsHeld tells x t) (same_Some _ _ e)
+    (shows refl, seen refl, held refl)
 fits-where tells false f t w shows seen held g e = absurd cc
 
 pub fits-stage : {D : Type 0} {F : Ghosts D} (s : Stage D F) → FitsMachine F.tells (moment_in s)

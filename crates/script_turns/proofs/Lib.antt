@@ -1,4 +1,5 @@
 mod Shows
+mod Staying
 pub mod Touching
 mod RunTouches
 mod Boots

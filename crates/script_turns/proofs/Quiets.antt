@@ -1,8 +1,7 @@
 -- A turn that leaves the flash as it is.
-use Rattle.std.proofs.Common.{◌≡◌, ◌≢◌, Contains, ℕ, ◌≤◌, Bool, true, not, ◌||◌, List, [], ◌∷◌, Option, Some, None, refl, sym, ap, subst, ◌∙◌, arith, IsTrue, IsFalse}
-use Rattle.std.specs.Prelude.{MatchBool, IsSome, IsNone}
+use Rattle.std.proofs.Common.{◌≡◌, ℕ, ◌≤◌, Bool, true, not, ◌||◌, List, [], ◌∷◌, Option, Some, None, refl, sym, ap, subst, ◌∙◌, arith, IsTrue, IsFalse}
+use Rattle.std.specs.Prelude.{IsSome}
 use Rattle.host_io.specs.Contents.{Directory}
-use Rattle.fwu_formats.specs.Metadata.{Meta}
 use Rattle.flash_core.proofs.Unarmed.{unarmed_none}
 use Rattle.flash_core.specs.Counts.{all_stops}
 use Rattle.flash_core.specs.Told.{Told}
@@ -15,7 +14,6 @@ use Rattle.fwu_model.specs.Reply.{Reply, Turn}
 use Rattle.fwu_model.specs.Reply as reply
 use Rattle.fwu_model.specs.Answer.{Answer, answer, answered}
 use Rattle.fwu_model.specs.Run.{Condition, Step, Answered, Idle, is_boot, is_off, is_send, is_stop, moved_on}
-use Rattle.fwu_model.specs.MoveMetas.{meta_in}
 use Rattle.fwu_model.specs.Headline.{IsCut}
 use Rattle.fwu_model.specs.Causes.{is_cut}
 use Rattle.agent_machine.specs.Fields.{Fields}
@@ -28,6 +26,7 @@ use Rattle.script_turns.specs.Calls.{is_agents}
 use Rattle.script_turns.specs.Takes.{StaysFree, TakesByCall, TakesBy}
 use Rattle.script_turns.specs.Touches.{Touches, TouchesBy}
 use Rattle.script_turns.proofs.Shows.{counts_none}
+use Rattle.script_turns.proofs.Staying.{among, falls-same, no-numbers, no-stop}
 use Rattle.script_turns.specs.Turning.{Arms, Makes, NoneFalls, Turns, quiet_turn}
 
 -- What the machine answers to the call, by what the agent keeps: with this reply it does nothing.
@@ -38,8 +37,8 @@ AnswersBy what r (Some f) t = (E : Setting) (s : State) (x : Session) → ShowsA
 -- The call is no boot, the reply no stop, and what is kept and told stays.
 pub record IsQuiet (tells : Bool) (files : Option Directory) (what : Call) (r : Reply) (old new : TurnMoment) : Type 0 where
   pub no_boot : IsFalse (is_boot what)
-  pub no_send : IsFalse (is_send what)
-  pub no_agents : IsFalse (is_agents what)
+  pub lacks : LacksSent files what → IsSome old.on → ⊥
+  pub decides : (f : Fields) → old.on ≡ Some f → IsTrue (is_agents what) → ⊥
   pub no_stop : IsFalse (is_stop r)
   pub on_is : new.on ≡ old.on
   pub same : IsTrue tells → new.told ≡ old.told
@@ -59,12 +58,6 @@ pub lacks-none : (files : Option Directory) (c : Call) → IsFalse (is_send c) �
 lacks-none files (call.Send name request) never lacks = absurd cc
 lacks-none files (call.SendPartial name request) never lacks = absurd cc
 lacks-none files other never lacks = lacks
-
-stays : (r other : Reply) → IsFalse (is_stop r) → IsTrue (is_stop other) → r ≢ other
-stays r other no_stop stop is = let e = ap is_stop is in cc
-
-no-numbers : (what : Call) → IsFalse (is_boot what) → MatchBool (is_boot what) (IsSome {T = Numbers} None) (IsNone {T = Numbers} None)
-no-numbers what no_boot = subst (λ (b : Bool). MatchBool b (IsSome {T = Numbers} None) (IsNone {T = Numbers} None)) (sym no_boot) refl
 
 abbrev Leads : Setting → Condition → Call → Reply → Option Fields → Told → Type 0
 Leads E c what r on t = (next : Condition) × Step E c (quiet_turn what r) next × IsAt E next on t
@@ -87,7 +80,7 @@ module _ (what : Call) (r : Reply) (no_boot : IsFalse (is_boot what)) (no_stop :
         moved_on c what (after s (answer E s c.session what).moves ∷ []) (answer E s c.session what).next,
         Answered no_stop asks (record {
           state = s;
-          found = record { candidate = subst (λ (states : List State). Contains states s) (sym is.shows.one) (0, omega arith, refl); numbers = tt };
+          found = record { candidate = among c.candidates s is.shows.one; numbers = tt };
           numbers = no-numbers what no_boot;
           reply_is = sym (ap (λ (x : Answer). x.reply) a);
           next_is = refl;
@@ -118,16 +111,16 @@ quiet-turns passes tells files what r old new faults quiet replied = record {
   made = quiet.made;
   armed = quiet.armed;
   free = quiet.free;
-  lost = λ e. absurd (stays r reply.Lost quiet.no_stop refl e);
-  failed = λ e. absurd (stays r reply.Fault quiet.no_stop refl e);
+  lost = λ e. absurd (no-stop r reply.Lost quiet.no_stop refl e);
+  failed = λ e. absurd (no-stop r reply.Fault quiet.no_stop refl e);
   once = omega (arith, quiet.once);
-  unread = λ e. absurd (stays r reply.ReadFault quiet.no_stop refl e);
-  lacking = λ lacks some. absurd (lacks-none files what quiet.no_send lacks);
+  unread = λ e. absurd (no-stop r reply.ReadFault quiet.no_stop refl e);
+  lacking = λ lacks some. absurd (quiet.lacks lacks some);
   later = omega arith;
   unread_once = omega arith;
   reads_none = λ none. refl;
   replies = replied;
-  takes = record { by_call = quiet.takes; unread = λ e. absurd (stays r reply.ReadFault quiet.no_stop refl e) };
+  takes = record { by_call = quiet.takes; unread = λ e. absurd (no-stop r reply.ReadFault quiet.no_stop refl e) };
   touches = quiet.touches;
   power = quiet.power ∙ sym quiet.keeps_power;
   guard = λ test. ap (λ (t : Told). t.guard) (quiet.same test);
@@ -136,145 +129,83 @@ quiet-turns passes tells files what r old new faults quiet replied = record {
       (subst (λ (t : Told). Leads E c what r old.on t) (sym (quiet.same test)) (step what r quiet.no_boot quiet.no_stop E c old.on old.told quiet.answers is));
   keeps = λ test f on no. spared-told _ old.told new.told (quiet.same test);
   spares = λ test f on no whole. spared-told _ old.told new.told (quiet.same test);
-  decides = λ test f on agents whole. absurd (let no = quiet.no_agents in cc);
+  decides = λ test f on agents whole. absurd (quiet.decides f on agents);
   safe = λ test safe. subst (λ (b : Bool). IsSafe b new.told) (sym quiet.power) (subst (IsSafe old.power) (sym (quiet.same test)) safe);
   boots = λ test off clean is. let e = ap is_boot is in let f = quiet.no_boot in absurd cc;
 }
 
--- ---- `show`
-
-numbers-made : ℕ → Meta → ℕ → ℕ → Numbers
-numbers-made form m trials counter = record {
-  form = form;
-  active = m.active;
-  previous = m.previous;
-  states = m.states;
-  bits = m.bits;
-  trials = trials;
-  counter = counter;
-}
+-- ---- `show`, and a request for no call
 
 -- the numbers that are kept are those of each state that the agent shows
 numbers-spoken : (f : Fields) (s : State) → agent.SpeaksOf f s → numbers_kept f ≡ numbers_of s
-unfolding numbers-made
-numbers-spoken f s speaks =
-    ap (λ (n : ℕ). numbers-made n f.meta.meta f.trials f.counter) (sym speaks.form)
-    ∙ ap (λ (m : Meta). numbers-made s.form m f.trials f.counter) speaks.meta
-    ∙ ap (λ (n : ℕ). numbers-made s.form (meta_in s) n f.counter) speaks.trials_are
-    ∙ ap (λ (n : ℕ). numbers-made s.form (meta_in s) s.trials n) speaks.counter_is
-
-show-on : (E : Setting) (s : State) (x : Session) (n : Numbers) → IsFalse (is_off x) → n ≡ numbers_of s → answer E s x call.Show ≡ answered (reply.Shown n) [] x
-unfolding answer
-show-on E s Off n on is = absurd cc
-show-on E s (On boot staging handles) n on is = ap (λ (m : Numbers). answered (reply.Shown m) [] (On boot staging handles)) (sym is)
-
-show-off : (E : Setting) (s : State) → reply.IsOff ≡ (answer E s Off call.Show).reply
-unfolding answer
-show-off E s = refl
+numbers-spoken f s speaks = rw (speaks.meta, ← speaks.form, speaks.trials_are, speaks.counter_is)
 
 show-answers : (on : Option Fields) (t : Told) → AnswersBy call.Show (show_reply on) on t
-show-answers None t = show-off
-show-answers (Some f) t = λ E s x shows. show-on E s x (numbers_kept f) (subst (λ (y : Session). IsFalse (is_off y)) (sym (shows counts_none).means) refl) (numbers-spoken f s (shows counts_none).speaks)
+unfolding answer
+show-answers None t = λ E s. refl
+show-answers (Some f) t = λ E s x shows.
+    let now = shows counts_none in
+    subst (λ (n : Numbers). answer E s x call.Show ≡ answered (reply.Shown n) [] x) (sym (numbers-spoken f s now.speaks))
+    (subst (λ (y : Session). answer E s y call.Show ≡ answered (reply.Shown (numbers_of s)) [] y) (sym now.means) refl)
 
-show-goes-on : (on : Option Fields) → IsFalse (is_stop (show_reply on))
-show-goes-on None = refl
-show-goes-on (Some f) = refl
-
-show-power : (on : Option Fields) (power : Bool) → power_after power (show_reply on) ≡ power
-show-power None power = refl
-show-power (Some f) power = refl
+no_call-answers : (on : Option Fields) (t : Told) → AnswersBy call.NoCall (no_call_reply on) on t
+unfolding answer
+no_call-answers None t = λ E s. refl
+no_call-answers (Some f) t = λ E s x shows.
+    subst (λ (y : Session). answer E s y call.NoCall ≡ answered reply.NotUnderstood [] y) (sym (shows counts_none).means) refl
 
 pub same-device : (m : TurnMoment) → SameDevice m m
 same-device m = record { told = refl; writes = refl; counts = refl; armed = refl; power = refl }
 
-show-free : (on : Option Fields) (m : TurnMoment) → StaysFree (show_reply on) m m
-show-free None m = unarmed_none tt m.armed m.counts
-show-free (Some f) m = unarmed_none tt m.armed m.counts
+module _ (passes : List ℕ → Bool) (tells : Bool) (files : Option Directory) (m : TurnMoment) (faults : ℕ) where
+  -- what goes by what is on, of a call that changes nothing
+  pub record Looks (what : Call) (r : Reply) (on : Option Fields) : Type 0 where
+    pub no_stop : IsFalse (is_stop r)
+    pub free : StaysFree r m m
+    pub power : power_after m.power r ≡ m.power
+    pub takes : TakesBy files what on m r m
+    pub touches : TouchesBy what on m.writes m.writes
 
-show-takes : (files : Option Directory) (on : Option Fields) (m : TurnMoment) → TakesBy files call.Show on m (show_reply on) m
-show-takes files None m = same-device m
-show-takes files (Some f) m = same-device m
+  show-looks : (on : Option Fields) → Looks call.Show (show_reply on) on
+  show-looks None = record { no_stop = refl; free = unarmed_none tt _ _; power = refl; takes = same-device m; touches = refl }
+  show-looks (Some f) = record { no_stop = refl; free = unarmed_none tt _ _; power = refl; takes = same-device m; touches = refl }
 
-show-touches : (on : Option Fields) (w : ℕ → ℕ) → TouchesBy call.Show on w w
-show-touches None w = refl
-show-touches (Some f) w = refl
+  no_call-looks : (on : Option Fields) → Looks call.NoCall (no_call_reply on) on
+  no_call-looks None = record { no_stop = refl; free = unarmed_none tt _ _; power = refl; takes = same-device m; touches = refl }
+  no_call-looks (Some f) = record { no_stop = refl; free = unarmed_none tt _ _; power = refl; takes = same-device m; touches = refl }
 
-pub show-turns : (passes : List ℕ → Bool) (tells : Bool) (files : Option Directory) (m : TurnMoment) (faults : ℕ)
-    → Turns passes tells files call.Show (quiet_turn call.Show (show_reply m.on)) m m faults faults
-show-turns passes tells files m faults = quiet-turns passes tells files call.Show (show_reply m.on) m m faults (record {
-  no_boot = refl;
-  no_send = refl;
-  no_agents = refl;
-  no_stop = show-goes-on m.on;
-  on_is = refl;
-  same = λ test. refl;
-  counts = record { faults = omega arith; cuts = omega arith; reached = omega arith; chances = omega arith };
-  once = omega arith;
-  made = refl;
-  armed = tt;
-  free = λ no. show-free m.on m;
-  power = refl;
-  keeps_power = show-power m.on m.power;
-  takes = show-takes files m.on m;
-  touches = show-touches m.on m.writes;
-  answers = show-answers m.on m.told;
-}) (refl, refl)
+  pub looks-turns : (what : Call) (r : Reply) → IsFalse (is_boot what) → (LacksSent files what → IsSome m.on → ⊥)
+      → ((f : Fields) → m.on ≡ Some f → IsTrue (is_agents what) → ⊥)
+      → Makes what m.counts.made m.counts.made → IsCut (Some (quiet_turn what r)) m.armed → Looks what r m.on
+      → AnswersBy what r m.on m.told → Replies passes tells files what m (quiet_turn what r) m
+      → Turns passes tells files what (quiet_turn what r) m m faults faults
+  looks-turns what r no_boot lacks decides made armed looks answers replied = quiet-turns passes tells files what r m m faults (record {
+    no_boot = no_boot;
+    lacks = lacks;
+    decides = decides;
+    no_stop = looks.no_stop;
+    on_is = refl;
+    same = λ test. refl;
+    counts = falls-same m.counts;
+    once = omega arith;
+    made = made;
+    armed = armed;
+    free = λ no. looks.free;
+    power = refl;
+    keeps_power = looks.power;
+    takes = looks.takes;
+    touches = looks.touches;
+    answers = answers;
+  }) replied
 
--- ---- a request for no call
+  pub show-turns : Turns passes tells files call.Show (quiet_turn call.Show (show_reply m.on)) m m faults faults
+  show-turns = looks-turns call.Show (show_reply m.on) refl (λ lacks some. lacks) (λ f on agents. absurd cc) refl tt
+      (show-looks m.on) (show-answers m.on m.told) (refl, refl)
 
-no_call-on : (E : Setting) (s : State) (x : Session) → IsFalse (is_off x) → answer E s x call.NoCall ≡ answered reply.NotUnderstood [] x
-unfolding answer
-no_call-on E s Off on = absurd cc
-no_call-on E s (On boot staging handles) on = refl
-
-no_call-off : (E : Setting) (s : State) → reply.IsOff ≡ (answer E s Off call.NoCall).reply
-unfolding answer
-no_call-off E s = refl
-
-no_call-answers : (on : Option Fields) (t : Told) → AnswersBy call.NoCall (no_call_reply on) on t
-no_call-answers None t = no_call-off
-no_call-answers (Some f) t = λ E s x shows. no_call-on E s x (subst (λ (y : Session). IsFalse (is_off y)) (sym (shows counts_none).means) refl)
-
-no_call-goes-on : (on : Option Fields) → IsFalse (is_stop (no_call_reply on))
-no_call-goes-on None = refl
-no_call-goes-on (Some f) = refl
-
-no_call-power : (on : Option Fields) (power : Bool) → power_after power (no_call_reply on) ≡ power
-no_call-power None power = refl
-no_call-power (Some f) power = refl
-
-no_call-free : (on : Option Fields) (m : TurnMoment) → StaysFree (no_call_reply on) m m
-no_call-free None m = unarmed_none tt m.armed m.counts
-no_call-free (Some f) m = unarmed_none tt m.armed m.counts
-
-no_call-takes : (files : Option Directory) (on : Option Fields) (m : TurnMoment) → TakesBy files call.NoCall on m (no_call_reply on) m
-no_call-takes files None m = same-device m
-no_call-takes files (Some f) m = same-device m
-
-no_call-touches : (on : Option Fields) (w : ℕ → ℕ) → TouchesBy call.NoCall on w w
-no_call-touches None w = refl
-no_call-touches (Some f) w = refl
-
-pub no_call-turns : (passes : List ℕ → Bool) (tells : Bool) (files : Option Directory) (m : TurnMoment) (faults : ℕ)
-    → Turns passes tells files call.NoCall (quiet_turn call.NoCall (no_call_reply m.on)) m m faults faults
-no_call-turns passes tells files m faults = quiet-turns passes tells files call.NoCall (no_call_reply m.on) m m faults (record {
-  no_boot = refl;
-  no_send = refl;
-  no_agents = refl;
-  no_stop = no_call-goes-on m.on;
-  on_is = refl;
-  same = λ test. refl;
-  counts = record { faults = omega arith; cuts = omega arith; reached = omega arith; chances = omega arith };
-  once = omega arith;
-  made = refl;
-  armed = tt;
-  free = λ no. no_call-free m.on m;
-  power = refl;
-  keeps_power = no_call-power m.on m.power;
-  takes = no_call-takes files m.on m;
-  touches = no_call-touches m.on m.writes;
-  answers = no_call-answers m.on m.told;
-}) (refl, refl)
+  pub no_call-turns : Turns passes tells files call.NoCall (quiet_turn call.NoCall (no_call_reply m.on)) m m faults faults
+  no_call-turns =
+      looks-turns call.NoCall (no_call_reply m.on) refl (λ lacks some. lacks) (λ f on agents. absurd cc) refl tt
+      (no_call-looks m.on) (no_call-answers m.on m.told) (refl, refl)
 
 -- ---- `cut`
 
@@ -299,8 +230,8 @@ pub cut-turns : (passes : List ℕ → Bool) (tells : Bool) (files : Option Dire
     → Turns passes tells files (call.Cut n k) (quiet_turn (call.Cut n k) reply.CutOk) old new faults faults
 cut-turns passes tells files n k old new faults arms = quiet-turns passes tells files (call.Cut n k) reply.CutOk old new faults (record {
   no_boot = refl;
-  no_send = refl;
-  no_agents = refl;
+  lacks = λ lacks some. lacks;
+  decides = λ f on agents. absurd cc;
   no_stop = refl;
   on_is = arms.on_is;
   same = arms.same;

@@ -56,48 +56,36 @@ on-spares c on f w v never is touches = called-spares c f w v never (subst (λ (
 abbrev IsSame : Fields → Fields → Type 0
 IsSame f g = (g.layout ≡ f.layout) × (g.boot ≡ f.boot)
 
-same-between : (x y f g : Fields) → x ≡ f → y ≡ g → IsSame x y → IsSame f g
-same-between x y f g old new same = (
-  ap (λ (h : Fields). h.layout) (sym new) ∙ same.0 ∙ ap (λ (h : Fields). h.layout) old,
-  ap (λ (h : Fields). h.boot) (sym new) ∙ same.1 ∙ ap (λ (h : Fields). h.boot) old,
-)
-
 same-stays : (old new : agent.Moment) → Stays old new → IsSame old.fields new.fields
 same-stays old new stays = (stays.layout, stays.boot)
 
 -- what is on stays
 same-on : (old new : Option Fields) (f g : Fields) → old ≡ Some f → new ≡ Some g → new ≡ old → IsSame f g
-same-on old new f g is are same = same-between f f f g refl (same_Some f g (sym is ∙ sym same ∙ are)) (refl, refl)
+same-on old new f g is are same =
+    let one = same_Some f g (sym is ∙ sym same ∙ are) in (ap (λ (h : Fields). h.layout) (sym one), ap (λ (h : Fields). h.boot) (sym one))
+
+-- what is said of two that are on
+between : (Says : Option Fields → Option Fields → Type 0) {old new : Option Fields} {f g : Fields} → old ≡ Some f → new ≡ Some g
+    → Says old new → Says (Some f) (Some g)
+between Says {old = old} {g = g} is are says = subst (λ (o : Option Fields). Says o (Some g)) is (subst (Says old) are says)
 
 module _ (passes : List ℕ → Bool) (tells : Bool) (files : Option Directory) where
-  call-off : (c : Call) (on now : Option Fields) (old : TurnMoment) (r : Reply) (new : TurnMoment) → on ≡ None → CallSays passes tells c on old r now new → now ≡ None
-  call-off c None now old r new off says = says.1
-  call-off c (Some f) now old r new off says = absurd cc
-
-  send-off : (partial : Bool) (name : List ℕ) (request : ℕ) (on now : Option Fields) (old : TurnMoment) (r : Reply) (new : TurnMoment) → on ≡ None
-      → SendSays partial passes tells files name request on old r now new → now ≡ None
-  send-off partial name request None now old r new off says = says.1
-  send-off partial name request (Some f) now old r new off says = absurd cc
-
   -- no call but a boot starts a bank
   off-after : (c : Call) (old : TurnMoment) (t : Turn) (new : TurnMoment) → IsFalse (is_boot c) → old.on ≡ None → Replies passes tells files c old t new → new.on ≡ None
   off-after call.Boot old t new never off replies = absurd cc
   off-after call.Show old t new never off replies = replies.1 ∙ off
   off-after call.NoCall old t new never off replies = replies.1 ∙ off
   off-after (call.Cut n k) old t new never off replies = replies.1.on_is ∙ off
-  off-after (call.Send name request) old t new never off replies = send-off false name request old.on new.on old t.reply new off replies
-  off-after (call.SendPartial name request) old t new never off replies = send-off true name request old.on new.on old t.reply new off replies
-  off-after other old t new never off replies = call-off other old.on new.on old t.reply new off replies
+  off-after (call.Send name request) old t new never off replies =
+      (subst (λ (o : Option Fields). SendSays false passes tells files name request o old t.reply new.on new) off replies).1
+  off-after (call.SendPartial name request) old t new never off replies =
+      (subst (λ (o : Option Fields). SendSays true passes tells files name request o old t.reply new.on new) off replies).1
+  off-after other old t new never off replies =
+      (subst (λ (o : Option Fields). CallSays passes tells other o old t.reply new.on new) off replies).1
 
   stays-to : (c : Call) (r : Reply) (old new : agent.Moment) → AnswersTo passes c r old new → IsSame old.fields new.fields
   stays-to (call.BeginPartial types) r old new answers = same-stays old new answers.stays
   stays-to other r old new answers = same-stays old new answers.stays
-
-  call-on : (c : Call) (on now : Option Fields) (f g : Fields) (old : TurnMoment) (r : Reply) (new : TurnMoment) → on ≡ Some f → now ≡ Some g → CallSays passes tells c on old r now new
-      → IsSame f g
-  call-on c (Some x) (Some y) f g old r new is are says = same-between x y f g (same_Some x f is) (same_Some y g are) (stays-to c r _ _ says)
-  call-on c (Some x) None f g old r new is are says = absurd cc
-  call-on c None now f g old r new is are says = absurd cc
 
   sends-to : (partial : Bool) (name : List ℕ) (request : ℕ) (r : Reply) (old new : agent.Moment) (armed arming : Option Arming)
       → SendsAs partial passes files name request r old new armed arming → IsSame old.fields new.fields
@@ -110,21 +98,18 @@ module _ (passes : List ℕ → Bool) (tells : Bool) (files : Option Directory) 
   sent-to partial name request (reply.BadCapsule fault) old new armed arming says = (ap (λ (m : agent.Moment). m.fields.layout) says.1, ap (λ (m : agent.Moment). m.fields.boot) says.1)
   sent-to partial name request other old new armed arming says = sends-to partial name request other old new armed arming says
 
-  send-on : (partial : Bool) (name : List ℕ) (request : ℕ) (on now : Option Fields) (f g : Fields) (old : TurnMoment) (r : Reply) (new : TurnMoment) → on ≡ Some f → now ≡ Some g
-      → SendSays partial passes tells files name request on old r now new → IsSame f g
-  send-on partial name request (Some x) (Some y) f g old r new is are says = same-between x y f g (same_Some x f is) (same_Some y g are) (sent-to partial name request r _ _ _ _ says)
-  send-on partial name request (Some x) None f g old r new is are says = absurd cc
-  send-on partial name request None now f g old r new is are says = absurd cc
-
   -- and none changes the layout or the bank that was started
   on-after : (c : Call) (f g : Fields) (old : TurnMoment) (t : Turn) (new : TurnMoment) → IsFalse (is_boot c) → old.on ≡ Some f → new.on ≡ Some g → Replies passes tells files c old t new → IsSame f g
   on-after call.Boot f g old t new never is are replies = absurd cc
   on-after call.Show f g old t new never is are replies = same-on old.on new.on f g is are replies.1
   on-after call.NoCall f g old t new never is are replies = same-on old.on new.on f g is are replies.1
   on-after (call.Cut n k) f g old t new never is are replies = same-on old.on new.on f g is are replies.1.on_is
-  on-after (call.Send name request) f g old t new never is are replies = send-on false name request old.on new.on f g old t.reply new is are replies
-  on-after (call.SendPartial name request) f g old t new never is are replies = send-on true name request old.on new.on f g old t.reply new is are replies
-  on-after other f g old t new never is are replies = call-on other old.on new.on f g old t.reply new is are replies
+  on-after (call.Send name request) f g old t new never is are replies = sent-to false name request t.reply _ _ _ _
+      (between (λ was now. SendSays false passes tells files name request was old t.reply now new) is are replies)
+  on-after (call.SendPartial name request) f g old t new never is are replies = sent-to true name request t.reply _ _ _ _
+      (between (λ was now. SendSays true passes tells files name request was old t.reply now new) is are replies)
+  on-after other f g old t new never is are replies =
+      stays-to other t.reply _ _ (between (λ was now. CallSays passes tells other was old t.reply now new) is are replies)
 
 -- ---- one turn more
 

@@ -33,6 +33,7 @@ use Rattle.script_turns.specs.Replies.{Replies, power_after}
 use Rattle.script_turns.specs.Takes.{StaysFree, stop_told}
 use Rattle.script_turns.specs.Turning.{Makes, NoneFalls, Turns}
 use Rattle.script_turns.proofs.RunTouches.{touches-more, touches-nothing}
+use Rattle.script_turns.proofs.Staying.{falls-same}
 use Rattle.script_turns.specs.Runs.{Follows, LossesAreDue, Ran, RunsFree, RunsTo, armings_left, power_left, stops_of}
 
 -- ---- the places of a list with one element more
@@ -59,9 +60,6 @@ none-at p (y ∷ ys) zero x none is = ap p (sym (same_Some y x is)) ∙ (or_part
 none-at p (y ∷ ys) (suc n) x none is = none-at p ys n x (or_parts (p y) (list_any p ys) none).1 is
 
 -- ---- counts
-
-falls-same : (c : Counts) → NoneFalls c c
-falls-same c = record { faults = omega arith; cuts = omega arith; reached = omega arith; chances = omega arith }
 
 falls-on : (old mid new : Counts) → NoneFalls old mid → NoneFalls mid new → NoneFalls old new
 falls-on old mid new first then = record {

@@ -1,10 +1,9 @@
 -- The turn of a sending, by what the sending gave.
-use Rattle.std.proofs.Common.{◌≡◌, ◌⊎◌, inl, inr, ℕ, ◌+◌, ◌≤◌, Bool, true, false, ◌||◌, List, length, get_or, [], ◌∷◌, Option, Some, None, Result, Ok, Err, Contains, refl, sym, ap, subst, ◌∙◌, arith, IsTrue, IsFalse}
+use Rattle.std.proofs.Common.{◌≡◌, ◌⊎◌, inl, inr, ℕ, ◌+◌, ◌≤◌, Bool, true, false, ◌||◌, List, length, get_or, [], ◌∷◌, Option, Some, None, Result, Ok, Err, refl, sym, ap, subst, ◌∙◌, arith, IsTrue, IsFalse}
 use Rattle.std.proofs.Math.Logic.{∥∥₁_elim}
 use denote.Struct.Props.{props}
-use Rattle.std.specs.Prelude.{◌<◌, OnOk, is_ok, is_some, IsErrOf, not, ◌==◌}
+use Rattle.std.specs.Prelude.{◌<◌, OnOk, is_ok, is_some, not}
 use Rattle.std.proofs.lemmas.Bool.{false≢true}
-use Rattle.std.specs.List.{list_any}
 use Rattle.base_core.specs.Counts.{Rose}
 use Rattle.host_io.specs.Contents.{Directory}
 use Rattle.flash_core.specs.declared.flash.Arming.{Arming}
@@ -13,7 +12,6 @@ use Rattle.flash_core.specs.declared.flash.Flash.{Ghosts}
 use Rattle.flash_core.specs.declared.flash.FlashStop.{FlashStop}
 use Rattle.flash_core.specs.declared.flash.FlashStop.TheVariants as flash_stop
 use Rattle.flash_core.specs.Counts.{Spends, StaysUnarmed, stops_in}
-use Rattle.flash_core.specs.May.{Guards}
 use Rattle.flash_core.specs.Told.{Told}
 use Rattle.fwu_formats.specs.Layout.{ImageRow, Layout}
 use Rattle.fwu_formats.specs.Package.{Entry, Toc, entry_of}
@@ -26,11 +24,10 @@ use Rattle.fwu_model.specs.Call as call
 use Rattle.fwu_model.specs.Reply.{Reply, Turn}
 use Rattle.fwu_model.specs.Reply as reply
 use Rattle.fwu_model.specs.Answer.{Answer, answer, answered, answer_send, answer_send_partial, bits_over, first_image_fault, type_of_image, has_image, image_held, images_of, images_over, install_unless, partial_fault, payload_or, send_file, send_file_over, send_unless, sent_over, skipped, table_in}
-use Rattle.fwu_model.specs.Calm.{IsAtRest}
 use Rattle.fwu_model.specs.Causes.{FileNotRead, LacksFile}
 use Rattle.fwu_model.specs.Headline.{IsCut, LeavesOneOf}
 use Rattle.fwu_model.specs.Run.{Condition, HasNumbers, Step, Answered, Stopped, asks_state, is_boot, is_off, is_send, is_stop, moved_on, prefixes, stopped_moves}
-use Rattle.moves.specs.Moved.{GuardedBy, IsReady}
+use Rattle.moves.specs.Moved.{IsReady}
 use Rattle.moves.proofs.Composed.{does-idle}
 use Rattle.fip_tables.specs.Files.{Lacks, Tells}
 use Rattle.agent_machine.specs.Beside.{KeepsSparedByAll, SparesBlocksByAll}
@@ -45,26 +42,31 @@ use Rattle.agent_machine.specs.Knows.{Fitting, Knows}
 use Rattle.agent_machine.proofs.Showing.{known-shows}
 use Rattle.update_client.specs.declared.stops.Sent.{Sent}
 use Rattle.update_client.specs.declared.stops.SendStop.{SendStop}
-use Rattle.update_client.specs.declared.stops.SendStop.TheVariants.{MissingImage, ImageTooLarge, Begin, End, ReadFailed, Lost, Fault, Gone}
+use Rattle.update_client.specs.declared.stops.SendStop.TheVariants.{MissingImage, End, ReadFailed, Lost, Fault, Gone}
 use Rattle.update_client.specs.Halts.{flash_of}
 use Rattle.update_client.specs.Pieces.{ReadsPieceBy, unread_in}
 use Rattle.update_client.specs.Choosing.{no_row}
-use Rattle.update_client.specs.Sends.{AnswersBy, IsEarlySend, Sends, SendEndsBy, ended_session, send_answer}
+use Rattle.update_client.specs.Sends.{AnswersBy, GoneBy, IsEarlySend, Sends, SendEndsBy, ended_session, send_answer}
 use Rattle.update_client.specs.Partial.{GoesAs, SendsOver, WasBegun, over_answer}
 use Rattle.base_core.specs.Block.{block_bytes}
 use Rattle.agent_calls.specs.Takes.{Takes as TakesWrites}
-use Rattle.update_client.specs.Takes.{OnRefusedEnd, OnUnread, DoneSendTakes as TakesSent, UnreadTakes}
+use Rattle.update_client.specs.Takes.{OnRefusedEnd, OnUnread, DoneSendTakes as TakesSent, SendTakesBy, UnreadTakes}
 use Rattle.agent_calls.specs.declared.agent.Agent.{Agent}
-use Rattle.agent_calls.specs.Shown.{fields}
+use Rattle.agent_calls.specs.Shown.{device, fields, gone, moment}
+use Rattle.flash_core.specs.Calls.{Goes}
+use Rattle.fwu_journal.specs.Shown.{turn}
+use Rattle.script_turns.specs.declared.turned.AgentTurn.{AgentTurn}
+use Rattle.script_turns.proofs.Fitting.{shows-here}
 use Rattle.script_turns.specs.Calls.{is_composed, moment_where}
 use Rattle.script_turns.specs.Stage.{on_where}
 use Rattle.script_turns.specs.Powered.{TurnMoment, at, kept_at, IsAt, IsSafe, ShowsAt}
 use Rattle.script_turns.specs.Replies.{Replies, power_after}
 use Rattle.script_turns.specs.Sending.{AnswersSend, IsTableOf, LacksSent, SendSays, SendsAs, SpendsSent, TellsBegun, done_reply, is_answered, on_sent, send_call, sent_reply, writes_partly, writes_whole}
 use Rattle.script_turns.specs.Takes.{AreSent, SendTakes, StaysFree, TakesOn, stop_told, unread_told, writes_before}
-use Rattle.script_turns.specs.Turning.{Makes, NoneFalls, Turns, quiet_turn}
+use Rattle.script_turns.specs.Turning.{Makes, Turns, quiet_turn}
 use Rattle.script_turns.proofs.CallTakes.{with}
 use Rattle.script_turns.proofs.Shows.{as-told, counts_none, shows-as, told-shows}
+use Rattle.script_turns.proofs.Staying.{among, falls-same, no-stop, safe-by, same-guards}
 use Rattle.script_turns.proofs.Touching.{touches-sent}
 use Rattle.flash_core.proofs.Unarmed.{unarmed_none}
 
@@ -191,15 +193,11 @@ module _ (E : Setting) (files : Option Directory) (name : List ℕ) (request : �
 
 -- by the machine's answer to it, whole or partial
 abbrev GoesBy : Bool → Result Sent SendStop → Answer → Setting → agent.Moment → agent.Moment → State → Session → Type 0
-GoesBy partly (Ok sent) a E old new s x = AnswersBy (done_reply partly sent) a E old new s
-GoesBy partly (Err (MissingImage guid)) a E old new s x = AnswersBy (reply.Missing guid) a E old new s
-GoesBy partly (Err (ImageTooLarge guid)) a E old new s x = AnswersBy (reply.TooLarge guid) a E old new s
-GoesBy partly (Err (Begin st)) a E old new s x = AnswersBy (reply.BeginRefused st) a E old new s
-GoesBy partly (Err (End st)) a E old new s x = AnswersBy (reply.EndRefused st) a E old new s
 GoesBy partly (Err ReadFailed) a E old new s x = GoesByMoves E (Ok tt) old new s (answer E s x (call.Begin 0)).moves (ended_session x)
 GoesBy partly (Err Lost) a E old new s x = GoesByMoves E (Err flash_stop.Lost) old new s a.moves (ended_session x)
 GoesBy partly (Err Fault) a E old new s x = GoesByMoves E (Err flash_stop.Failed) old new s a.moves (ended_session x)
 GoesBy partly (Err Gone) a E old new s x = ⊥
+GoesBy partly answered a E old new s x = AnswersBy (sent_reply partly answered) a E old new s
 
 goes-whole : (result : Result Sent SendStop) (E : Setting) (toc : Toc) (p : List (List ℕ)) (request : ℕ) (old new : agent.Moment) (s : State) (x : Session) → SendEndsBy result E toc p request old new s x
     → GoesBy false result (send_answer E toc p request s x) E old new s x
@@ -270,54 +268,31 @@ module _ (files : Option Directory) (name : List ℕ) (request : ℕ) (passes : 
     };
   }
 
--- no sending changes which blocks are guarded, nor the layout
-stays-by : (partly : Bool) (result : Result Sent SendStop) (a : Answer) (E : Setting) (old new : agent.Moment) (s : State) (x : Session) → GoesBy partly result a E old new s x → Stays old new
-stays-by partly (Ok sent) a E old new s x h = h.1.stays
-stays-by partly (Err ReadFailed) a E old new s x h = h.stays
-stays-by partly (Err Lost) a E old new s x h = h.stays
-stays-by partly (Err Fault) a E old new s x h = h.stays
-stays-by partly (Err Gone) a E old new s x h = absurd h
-stays-by partly (Err q) a E old new s x h = h.1.stays
-
-guarded-by : (partly : Bool) (result : Result Sent SendStop) (a : Answer) (E : Setting) (old new : agent.Moment) (s : State) (x : Session) → GoesBy partly result a E old new s x
-    → IsTrue old.tells → IsAtRest old.told → GuardedBy (flash_of result) new.told
-guarded-by partly (Ok sent) a E old new s x h = h.1.guarded
-guarded-by partly (Err ReadFailed) a E old new s x h = h.guarded
-guarded-by partly (Err Lost) a E old new s x h = h.guarded
-guarded-by partly (Err Fault) a E old new s x h = h.guarded
-guarded-by partly (Err Gone) a E old new s x h = absurd h
-guarded-by partly (Err q) a E old new s x h = h.1.guarded
-
-keeps-by : (partly : Bool) (result : Result Sent SendStop) (a : Answer) (E : Setting) (old new : agent.Moment) (s : State) (x : Session) → GoesBy partly result a E old new s x
-    → IsTrue old.tells → KeepsSparedByAll old.fields old.told new.told
-keeps-by partly (Ok sent) a E old new s x h = h.1.keeps
-keeps-by partly (Err ReadFailed) a E old new s x h = h.keeps
-keeps-by partly (Err Lost) a E old new s x h = h.keeps
-keeps-by partly (Err Fault) a E old new s x h = h.keeps
-keeps-by partly (Err Gone) a E old new s x h = absurd h
-keeps-by partly (Err q) a E old new s x h = h.1.keeps
+-- whatever the result, it goes by some moves
+moves-by : (partly : Bool) (result : Result Sent SendStop) (a : Answer) (E : Setting) (old new : agent.Moment) (s : State) (x : Session)
+    → GoesBy partly result a E old new s x → (ms : List Move) × (y : Session) × GoesByMoves E (flash_of result) old new s ms y
+moves-by partly (Ok sent) a E old new s x h = (a.moves, a.next, h.1)
+moves-by partly (Err ReadFailed) a E old new s x h = ((answer E s x (call.Begin 0)).moves, ended_session x, h)
+moves-by partly (Err Lost) a E old new s x h = (a.moves, ended_session x, h)
+moves-by partly (Err Fault) a E old new s x h = (a.moves, ended_session x, h)
+moves-by partly (Err Gone) a E old new s x h = absurd h
+moves-by partly (Err q) a E old new s x h = (a.moves, a.next, h.1)
 
 -- a sending is a composed call
 always-composed : (partly : Bool) (name : List ℕ) (request : ℕ) → IsFalse (is_composed (send_call partly name request)) → ⊥
 always-composed false name request whole = absurd cc
 always-composed true name request whole = absurd cc
 
-abbrev with_layout : Fields → (List ℕ → Bool) → Setting
-with_layout f passes = record { layout = f.layout; files = λ _. None; passes = passes }
-
-stays-of : (partly : Bool) (files : Option Directory) (name : List ℕ) (toc : Toc) (request : ℕ) (passes : List ℕ → Bool) (result : Result Sent SendStop) (old new : agent.Moment)
-    → Sending partly files name toc request passes result old new → agent.Showing old → Stays old new
-stays-of partly files name toc request passes result old new sends one =
-    let E = with_layout old.fields passes in
-    stays-by partly result (sends.answers E one.state one.session) E old new one.state one.session (sends.goes E one.state one.session refl refl one.shows)
-
-keeps-guards : (t u : Told) → u.guard ≡ t.guard → Guards 1 7 t → Guards 1 7 u
-keeps-guards t u same guards b low high = subst (λ (guard : List ℕ). IsTrue (list_any (λ k. k == b) guard)) (sym same) (guards b low high)
-
--- the safety of a flash by its power
-safe-by : (result : Result (Unit {0}) FlashStop) (t u : Told) → u.guard ≡ t.guard → IsAtRest t → GuardedBy result u → IsSafe (is_ok result) u
-safe-by (Ok x) t u same rest now = now
-safe-by (Err stop) t u same rest now = (keeps-guards t u same rest.guard, now)
+-- so that of an agent that shows some machine
+moves-of : (partly : Bool) (files : Option Directory) (name : List ℕ) (toc : Toc) (request : ℕ) (passes : List ℕ → Bool)
+    (result : Result Sent SendStop) (old new : agent.Moment) → Sending partly files name toc request passes result old new
+    → (one : agent.Showing old)
+    → (E : Setting) × (ms : List Move) × (y : Session) × GoesByMoves E (flash_of result) old new one.state ms y
+moves-of partly files name toc request passes result old new sends one =
+    let E : Setting = record { layout = old.fields.layout; files = λ _. None; passes = passes } in
+    let moves = moves-by partly result (sends.answers E one.state one.session) E old new one.state one.session
+    (sends.goes E one.state one.session refl refl one.shows) in
+    (E, moves.0, moves.1, moves.2)
 
 -- ---- a step
 
@@ -331,9 +306,6 @@ module _ (E : Setting) (from : Condition) (partly : Bool) (name : List ℕ) (req
   abbrev s : State
   s = is.shows.state
 
-  candidate : Contains from.candidates s
-  candidate = subst (λ (states : List State). Contains states s) (sym is.shows.one) (0, omega arith, refl)
-
   asks : IsTrue (asks_state from.session asked)
   asks = subst (λ (b : Bool). IsTrue (b || not (is_off from.session))) (sym (no-boot partly name request))
       (subst (λ (x : Session). IsTrue (not (is_off x))) (sym (is.shows.shows counts_none).means) refl)
@@ -345,13 +317,13 @@ module _ (E : Setting) (from : Condition) (partly : Bool) (name : List ℕ) (req
     moved_on from asked (after s a.moves ∷ []) a.next,
     Answered no_stop asks (record {
       state = s;
-      found = record { candidate = candidate; numbers = tt };
+      found = record { candidate = among from.candidates s is.shows.one; numbers = tt };
       numbers = no-numbers partly name request r;
       reply_is = replied ∙ sym (ap (λ (b : Answer). b.reply) same);
       next_is = sym (ap (λ (b : Answer). moved_on from asked (after s b.moves ∷ []) b.next) same);
     }),
     record {
-      guard = keeps-guards t u guard is.guard;
+      guard = same-guards t u guard is.guard;
       shows = record { state = after s a.moves; one = refl; layout = is.shows.layout ∙ sym layout; shows = shows; ready = ready };
     },
   )
@@ -363,12 +335,12 @@ module _ (E : Setting) (from : Condition) (partly : Bool) (name : List ℕ) (req
     moved_on from asked (prefixes s ms) Off,
     Stopped stop asks (record {
       state = s;
-      found = record { candidate = candidate; numbers = tt };
+      found = record { candidate = among from.candidates s is.shows.one; numbers = tt };
       numbers = no-numbers partly name request r;
       reads = λ e. does-send partly name request;
       next_is = sym (ap (λ (ns : List Move). moved_on from asked (prefixes s ns) Off) same);
     }),
-    record { guard = keeps-guards t u guard is.guard; shows = (refl, leaves) },
+    record { guard = same-guards t u guard is.guard; shows = (refl, leaves) },
   )
 
 -- ---- a file without a table
@@ -377,39 +349,40 @@ module _ (partly : Bool) (passes : List ℕ → Bool) (tells : Bool) (files : Op
   abbrev here : TurnMoment
   here = at (Some f) t w cs armed power
 
-  nothing-falls : NoneFalls cs cs
-  nothing-falls = record { faults = omega arith; cuts = omega arith; reached = omega arith; chances = omega arith }
+  -- the device is as it was, and this is on
+  abbrev left : Option Fields → TurnMoment
+  left on = at on t w cs armed power
 
-  -- it is answered by its first fault
-  pub bad-table : (r : Reply) → are ≤ was → IsFalse (is_stop r) → power_after power r ≡ power → IsTableOf files name (Err r)
-      → SendSays partly passes tells files name request (Some f) here r (Some f) here → (Lacks files name → ⊥) → SendTakes partly files name f r here here → StaysFree r here here
-      → Turns passes tells files (send_call partly name request) (quiet_turn (send_call partly name request) r) here here was are
-  bad-table r none no_stop keeps table says there early free = record {
+  unsent : (r : Reply) (on : Option Fields) → stop_told r ≡ Ok tt → power_after power r ≡ power
+      → (r ≡ reply.ReadFault → Rose was are ⊎ LacksFile files name) → (Lacks files name → r ≡ reply.ReadFault) → are ≤ was + unread_told r
+      → SendSays partly passes tells files name request (Some f) here r on (left on) → SendTakes partly files name f r here (left on)
+      → (IsTrue tells → (E : Setting) (from : Condition) → files ≡ Some E.files → IsAt E from (Some f) t
+      → Leads E from (quiet_turn (send_call partly name request) r) on t)
+      → Turns passes tells files (send_call partly name request) (quiet_turn (send_call partly name request) r) here (left on) was are
+  unsent r on calm keeps unread lacking once says takes step = record {
     call_is = refl;
     unnumbered = λ no. refl;
-    counts = nothing-falls;
+    counts = falls-same cs;
     made = makes-none partly name request _ _ refl;
     armed = never-cuts partly name request r armed;
-    free = λ no. free;
-    lost = λ e. absurd (let stop = ap is_stop e in cc);
-    failed = λ e. absurd (let stop = ap is_stop e in cc);
+    free = λ no. subst (λ (q : Result (Unit {0}) FlashStop). StaysUnarmed q armed armed cs cs) (sym calm) (unarmed_none tt armed cs);
+    lost = λ e. absurd (let lost = ap stop_told e in cc);
+    failed = λ e. absurd (let failed = ap stop_told e in cc);
     once = omega arith;
-    unread = λ e. absurd (let stop = ap is_stop e in cc);
-    lacking = λ lacks some. absurd (there (lacks-sent partly files name request lacks));
+    unread = λ e. not-read partly files name request was are (unread e);
+    lacking = λ lacks some. lacking (lacks-sent partly files name request lacks);
     later = later;
-    unread_once = omega (arith, none);
+    unread_once = once;
     reads_none = λ e. absurd (always-reads partly name request e);
-    replies = replies-as partly passes tells files name request here here r says;
-    takes = record { by_call = takes-as partly files name request f here r here early; unread = λ e. absurd (let stop = ap is_stop e in cc) };
+    replies = replies-as partly passes tells files name request here (left on) r says;
+    takes = record {
+      by_call = takes-as partly files name request f here r (left on) takes;
+      unread = λ e none. record { told = refl; writes = refl; counts = refl; armed = refl; power = refl };
+    };
     touches = touches-sent partly name request f w w (λ b out. refl);
     power = sym keeps;
     guard = λ e. refl;
-    step = λ e E from passes_are told is no_chance.
-        let x = is.shows.shows counts_none in
-        let same : answer E is.shows.state from.session (send_call partly name request) ≡ answered r [] from.session =
-        subst (λ (y : Session). answer E is.shows.state y (send_call partly name request) ≡ answered r [] y) (sym x.means)
-        (refuses-as partly E files name request is.shows.state f.boot _ _ told there r table) in
-        step-answered E from partly name request r f t t is refl (answered r [] from.session) f same no_stop refl refl is.shows.shows is.shows.ready;
+    step = λ e E from passes_are told is no_chance. step e E from told is;
     keeps = λ e h on no. spared-same _ t;
     spares = λ e h on no whole. absurd (always-composed partly name request whole);
     decides = λ e h on agents whole. absurd (always-composed partly name request whole);
@@ -417,38 +390,30 @@ module _ (partly : Bool) (passes : List ℕ → Bool) (tells : Bool) (files : Op
     boots = λ e off. absurd cc;
   }
 
+  -- it is answered by its first fault
+  pub bad-table : (r : Reply) → are ≤ was → IsFalse (is_stop r) → stop_told r ≡ Ok tt → power_after power r ≡ power → IsTableOf files name (Err r)
+      → SendSays partly passes tells files name request (Some f) here r (Some f) here → (Lacks files name → ⊥)
+      → SendTakes partly files name f r here here
+      → Turns passes tells files (send_call partly name request) (quiet_turn (send_call partly name request) r) here here was are
+  bad-table r none no_stop calm keeps table says there early =
+      unsent r (Some f) calm keeps (λ e. absurd (no-stop r reply.ReadFault no_stop refl e)) (λ lacks. absurd (there lacks))
+      (omega (arith, none)) says early
+      (λ e E from told is.
+      let x = is.shows.shows counts_none in
+      let same : answer E is.shows.state from.session (send_call partly name request) ≡ answered r [] from.session =
+      subst (λ (y : Session). answer E is.shows.state y (send_call partly name request) ≡ answered r [] y) (sym x.means)
+      (refuses-as partly E files name request is.shows.state f.boot _ _ told there r table) in
+      step-answered E from partly name request r f t t is refl (answered r [] from.session) f same no_stop refl refl is.shows.shows is.shows.ready)
+
   -- it cannot be read
   pub unread-table : are ≤ was + 1 → Rose was are ⊎ LacksFile files name
-      → Turns passes tells files (send_call partly name request) (quiet_turn (send_call partly name request) reply.ReadFault) here (at None t w cs armed power) was are
-  unread-table once cause = record {
-    call_is = refl;
-    unnumbered = λ no. refl;
-    counts = nothing-falls;
-    made = makes-none partly name request _ _ refl;
-    armed = never-cuts partly name request reply.ReadFault armed;
-    free = λ no. unarmed_none tt armed cs;
-    lost = λ e. absurd cc;
-    failed = λ e. absurd cc;
-    once = omega arith;
-    unread = λ e. not-read partly files name request was are cause;
-    lacking = λ lacks some. refl;
-    later = later;
-    unread_once = omega (arith, once);
-    reads_none = λ e. absurd (always-reads partly name request e);
-    replies = replies-as partly passes tells files name request here (at None t w cs armed power) reply.ReadFault tt;
-    takes = record { by_call = takes-as partly files name request f here reply.ReadFault (at None t w cs armed power) (inl (record { told = refl; writes = refl; counts = refl; armed = refl; power = refl })); unread = λ e none. record { told = refl; writes = refl; counts = refl; armed = refl; power = refl } };
-    touches = touches-sent partly name request f w w (λ b out. refl);
-    power = refl;
-    guard = λ e. refl;
-    step = λ e E from passes_are told is no_chance.
-        step-stopped E from partly name request reply.ReadFault f t t is refl (answer E is.shows.state from.session (call.Begin 0)).moves refl refl
-        (does-idle {T = Unit {0}} (Err flash_stop.Lost) E is.shows.state _ t refl is.shows.ready.calm).each;
-    keeps = λ e h on no. spared-same _ t;
-    spares = λ e h on no whole. absurd (always-composed partly name request whole);
-    decides = λ e h on agents whole. absurd (always-composed partly name request whole);
-    safe = λ e safe. safe;
-    boots = λ e off. absurd cc;
-  }
+      → Turns passes tells files (send_call partly name request) (quiet_turn (send_call partly name request) reply.ReadFault) here (left None) was are
+  unread-table once cause =
+      unsent reply.ReadFault None refl refl (λ e. cause) (λ lacks. refl) once tt
+      (inl (record { told = refl; writes = refl; counts = refl; armed = refl; power = refl }))
+      (λ e E from told is. step-stopped E from partly name request reply.ReadFault f t t is refl
+      (answer E is.shows.state from.session (call.Begin 0)).moves refl refl
+      (does-idle {T = Unit {0}} (Err flash_stop.Lost) E is.shows.state _ t refl is.shows.ready.calm).each)
 
 -- ---- a sending
 
@@ -457,17 +422,18 @@ done-calm : (partly : Bool) (sent : Sent) → IsFalse (is_stop (done_reply partl
 done-calm false sent = refl
 done-calm true sent = refl
 
-done-told : (partly : Bool) (sent : Sent) → stop_told (done_reply partly sent) ≡ Ok tt
-done-told false sent = refl
-done-told true sent = refl
+-- what a reply tells of its result: whether the flash stopped it, whether a file could not be read, and whether the device has power
+record TellsEnd (result : Result Sent SendStop) (r : Reply) : Type 0 where
+  stop_is : flash_of result ≡ stop_told r
+  unread_is : r ≡ reply.ReadFault → result ≡ Err ReadFailed
+  unread : unread_in result ≤ unread_told r
+  power_is : is_ok (flash_of result) ≡ power_after true r
 
-done-read : (partly : Bool) (sent : Sent) → unread_told (done_reply partly sent) ≡ 0
-done-read false sent = refl
-done-read true sent = refl
-
-done-power : (partly : Bool) (sent : Sent) → true ≡ power_after true (done_reply partly sent)
-done-power false sent = refl
-done-power true sent = refl
+tells-end : (partly : Bool) (result : Result Sent SendStop) → TellsEnd result (sent_reply partly result)
+tells-end false (Ok sent) = record { stop_is = refl; unread_is = λ e. absurd cc; unread = omega arith; power_is = refl }
+tells-end true (Ok sent) = record { stop_is = refl; unread_is = λ e. absurd cc; unread = omega arith; power_is = refl }
+tells-end partly (Err ReadFailed) = record { stop_is = refl; unread_is = λ e. refl; unread = omega arith; power_is = refl }
+tells-end partly (Err s) = record { stop_is = refl; unread_is = λ e. absurd cc; unread = omega arith; power_is = refl }
 
 module _ (partly : Bool) (passes : List ℕ → Bool) (tells : Bool) (files : Option Directory) (name : List ℕ) (request : ℕ) (f g : Fields) (t u : Told) (w v : ℕ → ℕ) (cs ds : Counts) (armed arming : Option Arming) (was are : ℕ) where
   abbrev old : agent.Moment
@@ -493,24 +459,19 @@ module _ (partly : Bool) (passes : List ℕ → Bool) (tells : Bool) (files : Op
       → SpendsSent (sent_reply partly result) (writes_to_send partly f toc) armed arming
       → SendSays partly passes tells files name request (Some f) (at (Some f) t w cs armed true) (sent_reply partly result) (on_sent result g) (at (on_sent result g) u v ds arming power)
   says power toc (Ok sent) there sends stays spent = done-says partly sent (says-answered toc (Ok sent) sends stays (done_reply partly sent) (λ tells. tt) sends.goes spent)
-  says power toc (Err (MissingImage guid)) there sends stays spent = says-answered toc (Err (MissingImage guid)) sends stays (reply.Missing guid) (λ tells. tells) sends.goes spent
-  says power toc (Err (ImageTooLarge guid)) there sends stays spent = says-answered toc (Err (ImageTooLarge guid)) sends stays (reply.TooLarge guid) (λ tells. tells) sends.goes spent
-  says power toc (Err (Begin st)) there sends stays spent = says-answered toc (Err (Begin st)) sends stays (reply.BeginRefused st) (λ tells. tells) sends.goes spent
-  says power toc (Err (End st)) there sends stays spent = says-answered toc (Err (End st)) sends stays (reply.EndRefused st) (λ tells. tt) sends.goes spent
   says power toc (Err ReadFailed) there sends stays spent = tt
   says power toc (Err Lost) there sends stays spent = tt
   says power toc (Err Fault) there sends stays spent = tt
   says power toc (Err Gone) there sends stays spent = absurd (there refl)
+  says power toc (Err s) there sends stays spent =
+      says-answered toc (Err s) sends stays (sent_reply partly (Err s)) (λ tells. tells) sends.goes spent
 
-  module _ (yes : IsTrue tells) (E : Setting) (from : Condition) (passes_are : E.passes ≡ passes) (told : files ≡ Some E.files) (is : IsAt E from (Some f) t) where
+  module _ (yes : IsTrue tells) (E : Setting) (from : Condition) (is : IsAt E from (Some f) t) where
     abbrev state : State
     state = is.shows.state
 
     abbrev what : Call
     what = send_call partly name request
-
-    shown : agent.Shows old state from.session
-    shown = told-shows tells f t state from.session w yes is.shows.shows
 
     leads-answered : (r : Reply) (a : Answer) → answer E state from.session what ≡ a → IsFalse (is_stop r) → AnswersBy r a E old new state → Stays old new
         → Leads E from (quiet_turn what r) (Some g) u
@@ -518,82 +479,31 @@ module _ (partly : Bool) (passes : List ℕ → Bool) (tells : Bool) (files : Op
         step-answered E from partly name request r f t u is (stays.guard yes) a g same no_stop goes.0 stays.layout
         (as-told tells g u (after state a.moves) a.next yes (shows-as tells g u (after state a.moves) a.next v goes.1.shows)) (goes.1.does yes is.shows.ready).all
 
-    leads : {toc : Toc} (result : Result Sent SendStop) → (result ≡ Err Gone → ⊥) → (sends : Sending partly files name toc request passes result old new) → Stays old new
-        → Leads E from (quiet_turn what (sent_reply partly result)) (on_sent result g) u
-    leads (Ok sent) there sends stays =
-        leads-answered (done_reply partly sent) _ (sends.own yes E state from.session is.shows.layout told shown) (done-calm partly sent) (sends.goes E state from.session is.shows.layout passes_are shown) stays
-    leads (Err (MissingImage guid)) there sends stays =
-        leads-answered (reply.Missing guid) _ (sends.own yes E state from.session is.shows.layout told shown) refl (sends.goes E state from.session is.shows.layout passes_are shown) stays
-    leads (Err (ImageTooLarge guid)) there sends stays =
-        leads-answered (reply.TooLarge guid) _ (sends.own yes E state from.session is.shows.layout told shown) refl (sends.goes E state from.session is.shows.layout passes_are shown) stays
-    leads (Err (Begin st)) there sends stays =
-        leads-answered (reply.BeginRefused st) _ (sends.own yes E state from.session is.shows.layout told shown) refl (sends.goes E state from.session is.shows.layout passes_are shown) stays
-    leads (Err (End st)) there sends stays =
-        leads-answered (reply.EndRefused st) _ (sends.own yes E state from.session is.shows.layout told shown) refl (sends.goes E state from.session is.shows.layout passes_are shown) stays
-    leads (Err ReadFailed) there sends stays =
-        step-stopped E from partly name request reply.ReadFault f t u is (stays.guard yes) (answer E state from.session (call.Begin 0)).moves refl refl
-        ((sends.goes E state from.session is.shows.layout passes_are shown).does yes is.shows.ready).each
-    leads (Err Lost) there sends stays =
-        step-stopped E from partly name request reply.Lost f t u is (stays.guard yes) (sends.answers E state from.session).moves
-        (ap (λ (a : Answer). a.moves) (sends.own yes E state from.session is.shows.layout told shown)) refl
-        ((sends.goes E state from.session is.shows.layout passes_are shown).does yes is.shows.ready).each
-    leads (Err Fault) there sends stays =
-        step-stopped E from partly name request reply.Fault f t u is (stays.guard yes) (sends.answers E state from.session).moves
-        (ap (λ (a : Answer). a.moves) (sends.own yes E state from.session is.shows.layout told shown)) refl
-        ((sends.goes E state from.session is.shows.layout passes_are shown).does yes is.shows.ready).each
-    leads (Err Gone) there sends stays = absurd (there refl)
-
-  -- ---- the causes of a stop
-
-  lost-sent : (result : Result Sent SendStop) → sent_reply partly result ≡ reply.Lost → IsErrOf (flash_of result) flash_stop.Lost
-  lost-sent (Ok sent) e = absurd (let calm = done-calm partly sent in let stop = ap is_stop e in false≢true (sym calm ∙ stop))
-  lost-sent (Err Lost) e = refl
-  lost-sent (Err s) e = absurd cc
-
-  failed-sent : (result : Result Sent SendStop) → sent_reply partly result ≡ reply.Fault → IsErrOf (flash_of result) flash_stop.Failed
-  failed-sent (Ok sent) e = absurd (let calm = done-calm partly sent in let stop = ap is_stop e in false≢true (sym calm ∙ stop))
-  failed-sent (Err Fault) e = refl
-  failed-sent (Err s) e = absurd cc
-
-  unread-sent : (result : Result Sent SendStop) → sent_reply partly result ≡ reply.ReadFault → result ≡ Err ReadFailed
-  unread-sent (Ok sent) e = absurd (let calm = done-calm partly sent in let stop = ap is_stop e in false≢true (sym calm ∙ stop))
-  unread-sent (Err ReadFailed) e = refl
-  unread-sent (Err s) e = absurd cc
-
-  -- a stop of the flash is told
-  told-stops : (result : Result Sent SendStop) → stops_in (flash_of result) ≤ stops_in (stop_told (sent_reply partly result))
-  told-stops (Ok sent) = let none = ap (λ (r : Result (Unit {0}) FlashStop). stops_in r) (done-told partly sent) in omega (arith, none)
-  told-stops (Err (MissingImage guid)) = omega arith
-  told-stops (Err s) = omega arith
-
-  -- and a failure of the files
-  told-unread : (result : Result Sent SendStop) → unread_in result ≤ unread_told (sent_reply partly result)
-  told-unread (Ok sent) = omega (arith, done-read partly sent)
-  told-unread (Err (MissingImage guid)) = omega arith
-  told-unread (Err s) = omega arith
-
-  -- whether the device has power
-  powers : (result : Result Sent SendStop) → is_ok (flash_of result) ≡ power_after true (sent_reply partly result)
-  powers (Ok sent) = done-power partly sent
-  powers (Err (MissingImage guid)) = refl
-  powers (Err s) = refl
+    leads : (result : Result Sent SendStop) (a : Answer) → answer E state from.session what ≡ a → Stays old new
+        → GoesBy partly result a E old new state from.session → Leads E from (quiet_turn what (sent_reply partly result)) (on_sent result g) u
+    leads (Ok sent) a own stays goes = leads-answered (done_reply partly sent) a own (done-calm partly sent) goes stays
+    leads (Err ReadFailed) a own stays goes =
+        step-stopped E from partly name request reply.ReadFault f t u is (stays.guard yes)
+        (answer E state from.session (call.Begin 0)).moves refl refl (goes.does yes is.shows.ready).each
+    leads (Err Lost) a own stays goes =
+        step-stopped E from partly name request reply.Lost f t u is (stays.guard yes) a.moves (ap (λ (x : Answer). x.moves) own) refl
+        (goes.does yes is.shows.ready).each
+    leads (Err Fault) a own stays goes =
+        step-stopped E from partly name request reply.Fault f t u is (stays.guard yes) a.moves (ap (λ (x : Answer). x.moves) own) refl
+        (goes.does yes is.shows.ready).each
+    leads (Err Gone) a own stays goes = absurd goes
+    leads (Err s) a own stays goes = leads-answered (sent_reply partly (Err s)) a own refl goes stays
 
   -- what an armed loss counts of one that is done, or whose end is refused
   done-spent : (kind : Bool) (sent : Sent) (toc : Toc) → TakesSent (writes_to_send kind f toc) armed arming → SpendsSent (done_reply kind sent) (writes_to_send kind f toc) armed arming
   done-spent false sent toc takes = takes
   done-spent true sent toc takes = takes
 
-  pub sent-spent : (result : Result Sent SendStop) (toc : Toc) → OnOk result (TakesSent (writes_to_send partly f toc) armed arming)
+  sent-spent : (result : Result Sent SendStop) (toc : Toc) → OnOk result (TakesSent (writes_to_send partly f toc) armed arming)
       → OnRefusedEnd result (TakesWrites (writes_to_send partly f toc) armed arming) → SpendsSent (sent_reply partly result) (writes_to_send partly f toc) armed arming
   sent-spent (Ok sent) toc takes refused = done-spent partly sent toc takes
-  sent-spent (Err (MissingImage guid)) toc takes refused = tt
-  sent-spent (Err (ImageTooLarge guid)) toc takes refused = tt
-  sent-spent (Err (Begin st)) toc takes refused = tt
   sent-spent (Err (End st)) toc takes refused = refused
-  sent-spent (Err ReadFailed) toc takes refused = tt
-  sent-spent (Err Lost) toc takes refused = tt
-  sent-spent (Err Fault) toc takes refused = tt
-  sent-spent (Err Gone) toc takes refused = tt
+  sent-spent (Err s) toc takes refused = tt
 
   -- what was done to the device
   done-takes : (kind : Bool) (sent : Sent) (from to : TurnMoment) → SendTakes kind files name f (done_reply kind sent) from to
@@ -604,72 +514,81 @@ module _ (partly : Bool) (passes : List ℕ → Bool) (tells : Bool) (files : Op
   abbrev unread_takes : Toc → Type 0
   unread_takes toc = (entries : List Entry) × AreSent partly f.layout.rows toc entries × UnreadTakes (writes_before partly f toc) block_bytes entries armed arming
 
-  pub sent-takes : (result : Result Sent SendStop) (power : Bool) (toc : Toc) → power ≡ is_ok (flash_of result)
+  sent-takes : (result : Result Sent SendStop) (power : Bool) (toc : Toc) → power ≡ is_ok (flash_of result)
       → (IsEarlySend result → (u ≡ t) × (v ≡ w) × (ds ≡ cs) × (arming ≡ armed)) → IsTableOf files name (Ok toc) → OnUnread result (unread_takes toc)
       → SendTakes partly files name f (sent_reply partly result) (at (Some f) t w cs armed true) (at (on_sent result g) u v ds arming power)
   sent-takes (Ok sent) power toc powered same table unread = done-takes partly sent _ _
-  sent-takes (Err (MissingImage guid)) power toc powered same table unread = let d = same tt in record { told = d.0; writes = d.1; counts = d.2; armed = d.3; power = powered }
-  sent-takes (Err (ImageTooLarge guid)) power toc powered same table unread = let d = same tt in record { told = d.0; writes = d.1; counts = d.2; armed = d.3; power = powered }
-  sent-takes (Err (Begin st)) power toc powered same table unread = let d = same tt in record { told = d.0; writes = d.1; counts = d.2; armed = d.3; power = powered }
   sent-takes (Err (End st)) power toc powered same table unread = tt
   sent-takes (Err ReadFailed) power toc powered same table unread =
       inr (record { toc = toc; table = table; entries = unread.0; sent = unread.1; spent = unread.2 })
   sent-takes (Err Lost) power toc powered same table unread = tt
   sent-takes (Err Fault) power toc powered same table unread = tt
   sent-takes (Err Gone) power toc powered same table unread = tt
+  sent-takes (Err s) power toc powered same table unread =
+      let d = same tt in record { told = d.0; writes = d.1; counts = d.2; armed = d.3; power = powered }
 
-  pub sent-free : (result : Result Sent SendStop) (power : Bool) → StaysUnarmed (flash_of result) armed arming cs ds
+  sent-free : (result : Result Sent SendStop) (power : Bool) → StaysUnarmed (flash_of result) armed arming cs ds
       → StaysFree (sent_reply partly result) (at (Some f) t w cs armed true) (at (on_sent result g) u v ds arming power)
-  sent-free (Ok sent) power free = subst (λ (told : Result (Unit {0}) FlashStop). StaysUnarmed told armed arming cs ds) (sym (done-told partly sent)) free
-  sent-free (Err (MissingImage guid)) power free = free
-  sent-free (Err s) power free = free
+  sent-free result power free =
+      subst (λ (told : Result (Unit {0}) FlashStop). StaysUnarmed told armed arming cs ds) (tells-end partly result).stop_is free
 
   -- the turn of a sending that ended, on a device that has power
-  pub sent-turn : (toc : Toc) (result : Result Sent SendStop) (power : Bool) → power ≡ is_ok (flash_of result) → (result ≡ Err Gone → ⊥) → (Lacks files name → ⊥)
+  sent-turn : (toc : Toc) (result : Result Sent SendStop) (power : Bool) → power ≡ is_ok (flash_of result) → (result ≡ Err Gone → ⊥) → (Lacks files name → ⊥)
       → Sending partly files name toc request passes result old new → ∥ agent.Showing old ∥₁ → (IsTrue tells → agent.Showing old)
       → Spends (flash_of result) cs ds → ReadsPieceBy was are result → SparesBlocksByAll f w v
-      → SpendsSent (sent_reply partly result) (writes_to_send partly f toc) armed arming
-      → SendTakes partly files name f (sent_reply partly result) (at (Some f) t w cs armed true) (at (on_sent result g) u v ds arming power)
-      → StaysFree (sent_reply partly result) (at (Some f) t w cs armed true) (at (on_sent result g) u v ds arming power)
+      → SendTakesBy result (writes_to_send partly f toc) (writes_before partly f toc) block_bytes (AreSent partly f.layout.rows toc) armed arming
+      → IsTableOf files name (Ok toc) → (IsEarlySend result → (u ≡ t) × (v ≡ w) × (ds ≡ cs) × (arming ≡ armed))
+      → StaysUnarmed (flash_of result) armed arming cs ds
       → Turns passes tells files (send_call partly name request) (quiet_turn (send_call partly name request) (sent_reply partly result)) (at (Some f) t w cs armed true) (at (on_sent result g) u v ds arming power) was are
-  sent-turn toc result power powered there lacks_none sends some showing spent reads touches taken takes free = record {
+  sent-turn toc result power powered there lacks_none sends some showing spent reads touches taken table early free = record {
     call_is = refl;
     unnumbered = λ no. refl;
     counts = record { faults = spent.faults; cuts = spent.cuts; reached = spent.reached; chances = spent.chances };
     made = makes-none partly name request cs.made ds.made spent.made;
     armed = never-cuts partly name request (sent_reply partly result) arming;
-    free = λ no. free;
-    lost = λ e. spent.lost (lost-sent result e);
-    failed = λ e. spent.failed (failed-sent result e);
-    once = omega (arith, spent.once, told-stops result);
-    unread = λ e. not-read partly files name request was are (inl (reads.failed (unread-sent result e)));
+    free = λ no. sent-free result power free;
+    lost = λ e. spent.lost (ends.stop_is ∙ ap stop_told e);
+    failed = λ e. spent.failed (ends.stop_is ∙ ap stop_told e);
+    once = omega (arith, spent.once, ap stops_in ends.stop_is);
+    unread = λ e. not-read partly files name request was are (inl (reads.failed (ends.unread_is e)));
     lacking = λ lacks some. absurd (lacks_none (lacks-sent partly files name request lacks));
     later = reads.later;
-    unread_once = omega (arith, reads.once, told-unread result);
+    unread_once = omega (arith, reads.once, ends.unread);
     reads_none = λ e. absurd (always-reads partly name request e);
-    replies = replies-as partly passes tells files name request _ _ (sent_reply partly result) (says power toc result there sends stays taken);
-    takes = record { by_call = takes-as partly files name request f _ (sent_reply partly result) _ takes; unread = λ e none. absurd (none (reads.failed (unread-sent result e))) };
+    replies = replies-as partly passes tells files name request _ _ (sent_reply partly result)
+        (says power toc result there sends stays (sent-spent result toc taken.done taken.unswitched));
+    takes = record {
+      by_call = takes-as partly files name request f _ (sent_reply partly result) _
+          (sent-takes result power toc powered early table taken.unread);
+      unread = λ e none. absurd (none (reads.failed (ends.unread_is e)));
+    };
     touches = touches-sent partly name request f w v touches;
-    power = powered ∙ powers result;
+    power = powered ∙ ends.power_is;
     guard = stays.guard;
-    step = λ yes E from passes_are told is no_chance. leads yes E from passes_are told is result there sends stays;
+    step = λ yes E from passes_are told is no_chance.
+        let s = is.shows.state in
+        let x = from.session in
+        let layout = is.shows.layout in
+        let shown = told-shows tells f t s x w yes is.shows.shows in
+        leads yes E from is result (sends.answers E s x) (sends.own yes E s x layout told shown) stays (sends.goes E s x layout passes_are shown);
     keeps = λ yes h on no.
-        let one = showing yes in
-        subst (λ (fields : Fields). KeepsSparedByAll fields t u) (same_Some f h on)
-        (keeps-by partly result (sends.answers (with_layout f passes) one.state one.session) (with_layout f passes) old new one.state one.session
-        (sends.goes (with_layout f passes) one.state one.session refl refl one.shows) yes);
+        subst (λ (fields : Fields). KeepsSparedByAll fields t u) (same_Some f h on) ((moves (showing yes)).3.keeps yes);
     spares = λ e h on no whole. absurd (always-composed partly name request whole);
     decides = λ e h on agents whole. absurd (always-composed partly name request whole);
-    safe = λ yes rest.
-        let one = showing yes in
-        subst (λ (b : Bool). IsSafe b u) (sym powered) (safe-by (flash_of result) t u (stays.guard yes) rest
-        (guarded-by partly result (sends.answers (with_layout f passes) one.state one.session) (with_layout f passes) old new one.state one.session
-        (sends.goes (with_layout f passes) one.state one.session refl refl one.shows) yes rest));
+    safe = λ yes rest. subst (λ (b : Bool). IsSafe b u) (sym powered)
+        (safe-by (flash_of result) t u (stays.guard yes) rest ((moves (showing yes)).3.guarded yes rest));
     boots = λ e off. absurd cc;
   }
     where
+      ends : TellsEnd result (sent_reply partly result)
+      ends = tells-end partly result
+
+      moves : (one : agent.Showing old)
+          → (E : Setting) × (ms : List Move) × (y : Session) × GoesByMoves E (flash_of result) old new one.state ms y
+      moves = moves-of partly files name toc request passes result old new sends
+
       stays : Stays old new
-      stays = ∥∥₁_elim some (hlevel props) (stays-of partly files name toc request passes result old new sends)
+      stays = ∥∥₁_elim some (hlevel props) (λ one. (moves one).3.stays)
 
 -- ---- what the code has
 
@@ -678,7 +597,7 @@ pub moment-as : {D : Type 0} {F : Ghosts D} (a : Agent D F) (was there : Bool) �
 moment-as a was there is = ap (λ (h : Bool). moment_where h a) is
 
 -- after a sending
-pub moment-sent : {D : Type 0} {F : Ghosts D} (a : Agent D F) (there : Bool) (result : Result Sent SendStop) → there ≡ is_answered result → moment_where there a ≡ with (on_sent result (fields a)) a
+moment-sent : {D : Type 0} {F : Ghosts D} (a : Agent D F) (there : Bool) (result : Result Sent SendStop) → there ≡ is_answered result → moment_where there a ≡ with (on_sent result (fields a)) a
 moment-sent a there result is = ap (λ (h : Bool). moment_where h a) is ∙ ap (λ (on : Option Fields). with on a) (kept result (fields a))
   where
     kept : (sent : Result Sent SendStop) (f : Fields) → on_where (is_answered sent) f ≡ on_sent sent f
@@ -686,7 +605,7 @@ moment-sent a there result is = ap (λ (h : Bool). moment_where h a) is ∙ ap (
     kept (Err (MissingImage guid)) f = refl
     kept (Err s) f = refl
 
-pub with-power : (m : TurnMoment) → IsTrue m.power → m ≡ at m.on m.told m.writes m.counts m.armed true
+with-power : (m : TurnMoment) → IsTrue m.power → m ≡ at m.on m.told m.writes m.counts m.armed true
 with-power m power = ap (λ (on : Bool). at m.on m.told m.writes m.counts m.armed on) power
 
 -- the same turn from and to the same
@@ -702,5 +621,31 @@ lacks-file None name lacks = lacks
 lacks-file (Some all) name lacks = lacks
 
 -- an agent that knows its flash shows the machine there
-pub shows-known : (f : Fields) → Fitting f → (t : Told) (w : ℕ → ℕ) (tells : Bool) → Knows f t → agent.Showing (kept_at tells f t w)
+shows-known : (f : Fields) → Fitting f → (t : Told) (w : ℕ → ℕ) (tells : Bool) → Knows f t → agent.Showing (kept_at tells f t w)
 shows-known f fitting t w tells knows = record { state = state_in f t.now; session = session_in f t.now; shows = known-shows f fitting tells t {writes = w} knows }
+
+-- ---- the turn on an agent that is there
+
+module _ {D : Type 0} {F : Ghosts D} (partly : Bool) (a b : Agent D F) (passes : List ℕ → Bool) (files : Option Directory) (name : List ℕ)
+    (request : ℕ) (toc : Toc) (result : Result Sent SendStop) (was are : ℕ) (live : IsFalse (gone a)) where
+  pub sent-by : (fault : Option Reply) → GoneBy fault result (gone a) (gone b) → (IsEarlySend result → b ≡ a)
+      → Goes F (flash_of result) (device a) (device b) → ReadsPieceBy was are result
+      → SparesBlocksByAll (fields a) (F.writes (device a)) (F.writes (device b))
+      → SendTakesBy result (writes_to_send partly (fields a) toc) (writes_before partly (fields a) toc) block_bytes
+      (AreSent partly (fields a).layout.rows toc) (F.arming (device a)) (F.arming (device b))
+      → IsTableOf files name (Ok toc) → (Lacks files name → ⊥) → Sending partly files name toc request passes result (moment a) (moment b)
+      → (done : AgentTurn) → turn done.turn ≡ quiet_turn (send_call partly name request) (sent_reply partly result)
+      → done.here ≡ is_answered result
+      → Turns passes F.tells files (send_call partly name request) (turn done.turn) (moment_where true a) (moment_where done.here b) was are
+  sent-by fault gone_by untouched goes reads touches taken table there sends done turn_is here_is =
+      turns-as _ _ _ _ _ _ turn_is (with-power (moment_where true a) (a.power live)) (moment-sent b done.here result here_is)
+      (sent-turn partly passes F.tells files name request (fields a) (fields b) _ _ _ _ _ _ _ _ was are toc result _ goes.power
+      (λ e. let was_gone = (gone_by.gone.0 e).0 in absurd (cc (was_gone, live))) there sends (shows-here a live)
+      (λ test. shows-known (fields a) (a.fitting live) (F.told (device a)) (F.writes (device a)) F.tells (a.knows live test))
+      goes.costs reads touches taken table
+      (λ early. let same = untouched early in (
+        ap (λ (x : Agent D F). F.told (device x)) same,
+        ap (λ (x : Agent D F). F.writes (device x)) same,
+        ap (λ (x : Agent D F). F.counts (device x)) same,
+        ap (λ (x : Agent D F). F.arming (device x)) same,
+      )) goes.unarmed)

@@ -3,8 +3,8 @@ use Rattle.fwu_formats.specs.Layout.{find_image}
 use Rattle.fwu_model.specs.Call as call
 use Rattle.agent_calls.specs.Shown.{fields}
 use Rattle.agent_calls.specs.Metas.{meta_accepted}
-use Rattle.script_turns.proofs.CallTakes.{takes-accept}
-use Rattle.script_turns.proofs.Called.{leaves-by, meta-by, turns-done}
+use Rattle.script_turns.proofs.CallTakes.{refusing, takes-by}
+use Rattle.script_turns.proofs.Called.{meta-by, turns-done}
 use Rattle.script_turns.proofs.calling.accept_turn.Goals as goal
 
 pub returns-clause-turns : goal.returns-clause-turns
@@ -16,4 +16,4 @@ returns-clause-turns g c passes =
     turns-done a b c.done.result c.accept-result.result live h.goes passes (call.Accepts c.args.guid) c.done.ensures.turn c.done.ensures.here
     (meta-by a b _ live h.goes ((image : ℕ) × (find_image (fields a).layout.rows c.args.guid ≡ Some image) × ((fields b).meta ≡ meta_accepted (fields a) image))
     (λ d. let found = h.found d in (found.0, found.1, (h.image found.0 found.1).keeps d))) refl (λ previous. previous) (λ q same. same) (h.meets live passes)
-    (λ files. takes-accept a b _ h.spent h.refused)
+    (λ files. takes-by a b files (call.Accepts c.args.guid) _ h.spent (refusing a b h.refused) (tt, tt, tt))

@@ -1,5 +1,6 @@
-use Rattle.script_turns.proofs.CallTakes.{takes-partial}
-use Rattle.script_turns.proofs.Called.{leaves-by, turns-begun}
+use Rattle.fwu_model.specs.Call as call
+use Rattle.script_turns.proofs.CallTakes.{refusing, takes-by}
+use Rattle.script_turns.proofs.Called.{turns-begun}
 use Rattle.script_turns.proofs.calling.begin_partial_turn.Goals as goal
 
 pub returns-clause-turns : goal.returns-clause-turns
@@ -11,4 +12,4 @@ returns-clause-turns g c passes =
     let types = c.args.types.items in
     turns-begun a b c.done.result c.begin_partial-result.result live h.goes passes types c.done.ensures.turn c.done.ensures.here
     (rw c.as_slice.ensures.value at (h.begins live passes))
-    (λ files. takes-partial a b _ types (rw c.as_slice.ensures.value at (h.spent live)) h.refused)
+    (λ files. takes-by a b files (call.BeginPartial types) _ (rw c.as_slice.ensures.value at (h.spent live)) (refusing a b h.refused) (tt, tt, tt))

@@ -12,7 +12,7 @@ returns-clause-turns g c passes =
     let h = c.commit-result.ensures in
     turns-done a b c.done.result c.commit-result.result live h.goes passes (call.Commit c.args.handle c.args.request) c.done.ensures.turn c.done.ensures.here
     h.records.metadata refl (λ previous. previous) (λ q same. same) (h.meets live passes)
-    (λ files. takes-commit a b _ c.args.handle (λ image writes. (h.image live image writes).spent) h.still)
+    (λ files. takes-commit a b files c.args.handle c.args.request _ (λ image writes. (h.image live image writes).spent) h.still)
 
 pub returns-clause-leaves : goal.returns-clause-leaves
 returns-clause-leaves g c = leaves-by _ _ c.done.result _ c.requires.alive c.commit-result.ensures.goes c.done.ensures.here c.done.ensures.short

@@ -11,7 +11,7 @@ use Rattle.script_turns.specs.Calls.{moment_where}
 use Rattle.script_turns.specs.Turning.{quiet_turn}
 use Rattle.script_turns.specs.Sending.{send_call}
 use Rattle.script_turns.proofs.SendTurns.{bad-table, lacks-file, moment-as, turns-as, unread-table}
-use Rattle.flash_core.proofs.Unarmed.{unarmed_none}
+use Rattle.script_turns.proofs.Quiets.{same-device}
 use Rattle.script_turns.proofs.sending.send_turn.Goals as goal
 
 unread-by : (files : Option Directory) (name : List ℕ) (was are : ℕ) → Rose was are ⊎ Lacks files name → Rose was are ⊎ LacksFile files name
@@ -36,8 +36,9 @@ returns-in-Err-Package-clause-turns g c =
     turns-as _ (quiet_turn (send_call c.args.partial (string_bytes c.args.name) c.args.request) answer) (moment_where true agent) (moment_where true agent) _ _
     (c.answered.ensures.turn ∙ ap (λ (x : Call). quiet_turn x answer) c.send_call.ensures) refl
     (moment-as agent c.answered.result.here true c.answered.ensures.here)
-    (bad-table c.args.partial _ _ _ _ _ _ _ _ _ _ _ _ _ read.cause.later answer (omega (arith, read.cause.once)) refl refl (read.told, read.some) ((read.told, read.some), refl)
-    (λ lacks. let failed = read.missing lacks in cc) (record { told = refl; writes = refl; counts = refl; armed = refl; power = refl }) (unarmed_none tt _ _))
+    (bad-table c.args.partial _ _ _ _ _ _ _ _ _ _ _ _ _ read.cause.later answer (omega (arith, read.cause.once)) refl refl refl (read.told, read.some)
+    ((read.told, read.some), refl)
+    (λ lacks. let failed = read.missing lacks in cc) (same-device _))
 
 pub returns-in-Err-Capsule-clause-turns : goal.returns-in-Err-Capsule-clause-turns
 returns-in-Err-Capsule-clause-turns g c =
@@ -48,8 +49,9 @@ returns-in-Err-Capsule-clause-turns g c =
     turns-as _ (quiet_turn (send_call c.args.partial (string_bytes c.args.name) c.args.request) answer) (moment_where true agent) (moment_where true agent) _ _
     (turned.ensures.turn ∙ ap (λ (x : Call). quiet_turn x answer) c.send_call-in-Err-Capsule.ensures) refl
     (moment-as agent turned.result.here true turned.ensures.here)
-    (bad-table c.args.partial _ _ _ _ _ _ _ _ _ _ _ _ _ read.cause.later answer (omega (arith, read.cause.once)) refl refl (read.told, read.some) ((read.told, read.some), refl)
-    (λ lacks. let failed = read.missing lacks in cc) (record { told = refl; writes = refl; counts = refl; armed = refl; power = refl }) (unarmed_none tt _ _))
+    (bad-table c.args.partial _ _ _ _ _ _ _ _ _ _ _ _ _ read.cause.later answer (omega (arith, read.cause.once)) refl refl refl (read.told, read.some)
+    ((read.told, read.some), refl)
+    (λ lacks. let failed = read.missing lacks in cc) (same-device _))
 
 pub returns-in-Err-ReadFailed-clause-turns : goal.returns-in-Err-ReadFailed-clause-turns
 returns-in-Err-ReadFailed-clause-turns g c =

@@ -1,9 +1,4 @@
-use Rattle.std.proofs.Common.{sym, ap, subst}
-use Rattle.host_io.specs.Reads.{ReadsFiles}
 use Rattle.host_io.proofs.Reading.{reads-none}
-use Rattle.fwu_model.specs.Call.{Call}
-use Rattle.script_text.specs.Shown.{shown}
-use Rattle.script_turns.specs.Sending.{IsUnnamed}
 use Rattle.script_turns.proofs.turning.agent_turn.Goals as goal
 
 pub returns-in_default-clause-turns : goal.returns-in_default-clause-turns

@@ -1,6 +1,5 @@
 use Rattle.std.proofs.Common.{◌≡◌, Some, sym, ap, subst}
 use Rattle.std.specs.Prelude.{IsSome}
-use Rattle.host_io.proofs.Reading.{reads-none}
 use Rattle.fwu_model.specs.Call.{Call}
 use Rattle.fwu_journal.specs.Shown.{turn}
 use Rattle.script_text.specs.Shown.{shown}
