@@ -122,11 +122,6 @@ module _ (told : Directory) (bytes : List ℕ) (new : List Payload) (e : Entry) 
       find-map (part_told told) (λ (x : Part). same_bytes x.guid e.guid) new ∙ ap (option_map (part_told told)) is in
       spelled p guid flags (payload bytes e) same ∙ ap by-new (sym found)
 
--- the range of a payload, by its file
-pub entry-there : (told : Option Directory) (p : Payload) (name : List ℕ) (e : Entry) → p.file.now ≡ name → p.size ≡ e.size → p.at ≡ e.offset → HasEntry told name e → IsThere told p
-entry-there told p name e file size at h =
-    subst (λ (f : List ℕ). HasRange told f p.at p.size) (sym file) (subst (λ (n : ℕ). HasRange told name n p.size) (sym at) (subst (HasRange told name e.offset) (sym size) h))
-
 -- an entry whose payload lies in a file of told bytes
 pub has-entry : (told : Option Directory) (name : List ℕ) (e : Entry) → (Lacks told name → ⊥) → ((bytes : List ℕ) → Tells told name bytes → e.offset + e.size ≤ length bytes) → HasEntry told name e
 has-entry None name e there stored = tt

@@ -169,11 +169,6 @@ module _ {H X : Type 0} {h : files.Ghosts H} {IsOther : Access → Type 0} {IsOw
     refusals = if-err-as result Last IsOwn turns asks.refusals;
   }
 
-  -- a stop of a part
-  pub alone-stopped : {Y : Type 0} {s : Stop} {Part : Stop → Type 0} → IsOwn s → ReadsFilesAlone {X = Y} h IsOther Part start now (Err s)
-      → ReadsFilesAlone {X = X} h IsOther IsOwn start now (Err s)
-  alone-stopped own reads = record { only = reads-stopped refl refl reads.only; files = reads.files; refusals = own }
-
   pub alone-wider : {IsAny : Access → Type 0} {result : Result X Stop} → ((access : Access) → IsAny access → IsOther access)
       → ReadsFilesAlone h IsOther IsOwn start now result → ReadsFilesAlone h IsAny IsOwn start now result
   alone-wider {IsAny = IsAny} fewer reads = record { only = reads.only; files = reads-wider h IsOther IsAny fewer start now reads.files; refusals = reads.refusals }

@@ -23,7 +23,6 @@ use Rattle.capsule_tables.proofs.ReadAgain.{made-is-read}
 use Rattle.capsule_tables.proofs.Within.{is-read, no-flags, types-sixteen}
 use Rattle.fip_words.specs.Order.{FipAsked, info, info_of_source, create, update, remove, unpack, manifest, capsule, repackage}
 use Rattle.fip_tool.specs.Converted.{Converts, IsEnclosed, IsPackaged}
-use Rattle.fip_making.specs.Stops.{status_number}
 use Rattle.fip_tool.specs.Steps.{Are, Did, Makes, Refuses, CommandStep, outcome_by, with_file, written}
 use Rattle.fip_making.specs.Values.{after, capsule_table, capsule_value, enclose_value, kept_part, pack_value, repackage_value, table_or_stop, there, unless_fault}
 use Rattle.fip_tool.specs.Tool.{encloses, outcome_of, packs}
@@ -185,8 +184,3 @@ converted (Some (update a from out parts)) files now was text rose spoiled sink-
 converted (Some (remove a from out names)) files now was text rose spoiled sink-rose h = tt
 converted (Some (unpack from prefix names)) files now was text rose spoiled sink-rose h = tt
 converted (Some (manifest out security rows)) files now was text rose spoiled sink-rose h = tt
-
--- no stop has the status 0
-pub no-zero : (s : Stop) → status_number s ≡ 0 → ⊥
-no-zero stop.Usage e = cc
-no-zero s e = cc

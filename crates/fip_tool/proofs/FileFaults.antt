@@ -1,11 +1,10 @@
 -- How often a call of the files failed.
 use Rattle.std.proofs.Common.{◌≡◌, ◌∙◌, inl, inr, ℕ, Option, List, Result, Ok, Err, ap, arith, refl, sym}
-use Rattle.std.specs.Prelude.{◌==◌, ◌||◌, IsFalse}
 use Rattle.host_io.specs.Contents.{Directory}
 use Rattle.fip_tool.proofs.SourceFaults.{late}
 use Rattle.fip_tool.specs.Ends.{Reported}
 use Rattle.fip_making.specs.Stops.{status_number}
-use Rattle.fip_tool.specs.Steps.{FailsAtMostOnce, FaultsOnce}
+use Rattle.fip_tool.specs.Steps.{FaultsOnce}
 use Rattle.fip_making.specs.Answers.{NoneFailed, ReadsOnly, source_failed}
 use Rattle.std.proofs.KnownBytes.{Appends-trans}
 use Rattle.fip_words.specs.Order.{FipAsked}
@@ -37,18 +36,6 @@ pub faults-as : {X Y : Type 0} {before after : ℕ} {s : Stop} → FaultsOnce {X
 faults-as {X = X} {Y = Y} {before = before} {after = after} {s = s} faults = record { once = faults.once; quiet = quiet-as X Y s before before after refl faults.quiet }
 
 -- ---- and by the exit status
-
-pub fails-done : (status before after : ℕ) → FaultsOnce {X = Unit {0}} before after (Ok tt) → FailsAtMostOnce status before after
-fails-done status before after faults = record { once = faults.once; none = λ other. faults.quiet }
-
-none-but : (was text : Option (List ℕ)) (rose : Type 0) (s now : Stop) (status before after : ℕ) → status ≡ status_number now → Reported was text rose s now → NoneFailed {X = Unit {0}} (Err s) before after
-    → IsFalse ((status == 2) || ((status == 3) || (status == 9))) → after ≡ before
-none-but was text rose stop.FileFault now status before after is r h o = late was text rose now status before after is r o
-none-but was text rose s now status before after is r h o = h
-
-pub fails-told : (was text : Option (List ℕ)) (rose : Type 0) (s now : Stop) (status before after : ℕ) → status ≡ status_number now → Reported was text rose s now → FaultsOnce {X = Unit {0}} before after (Err s)
-    → FailsAtMostOnce status before after
-fails-told was text rose s now status before after is r faults = record { once = faults.once; none = none-but was text rose s now status before after is r faults.quiet }
 
 pub sink-alone : (asked : Option FipAsked) (was mid text : Option (List ℕ)) (rose late : Type 0) (s now : Stop) (before after : ℕ) → status_number now ≡ 3 → Says (IsTextsOf asked) was mid rose (Err s) → Reported mid text late s now
     → FaultsOnce {X = Unit {0}} before after (Err s) → SinkAlone asked was text before after

@@ -1,8 +1,7 @@
 -- How often the sink failed.
-use Rattle.std.proofs.Common.{◌≡◌, ◌≢◌, ◌∙◌, ℕ, List, Option, ap, refl, subst, sym}
+use Rattle.std.proofs.Common.{◌≡◌, ◌≢◌, ◌∙◌, ℕ, ap, refl, sym}
 use Rattle.std.specs.Prelude.{◌==◌, if◌then◌else◌}
 use Rattle.host_io.specs.Calls.{raised}
-use Rattle.fip_tool.specs.Ends.{Reported}
 use Rattle.fip_making.specs.Stops.{status_number}
 use Rattle.fip_tool.specs.Steps.{line_failures, sink_failed}
 use Rattle.fip_making.specs.declared.stops.Stop.{Stop}
@@ -26,9 +25,3 @@ pub counted : (s now : Stop) (status before mid after : ℕ) → status ≡ stat
 counted stop.SinkFault now status before mid after is same m l =
     l ∙ m ∙ ap (λ (n : ℕ). by_status n before) (sym (is ∙ ap status_number (same refl)))
 counted s now status before mid after is same m l = l ∙ ap (sink_failed now) m ∙ of-status now before ∙ ap (λ (n : ℕ). by_status n before) (sym is)
-
--- where the sink took no more, no line is tried
-pub reported-sink : (was text : Option (List ℕ)) (rose : Type 0) (s now : Stop) → s ≡ stop.SinkFault → Reported was text rose s now → now ≡ stop.SinkFault
-reported-sink was text rose s now e r =
-    let r : Reported was text rose stop.SinkFault now = subst (λ (x : Stop). Reported was text rose x now) e r in
-    r.0

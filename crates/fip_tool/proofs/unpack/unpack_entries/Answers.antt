@@ -1,7 +1,6 @@
-use Rattle.std.proofs.Common.{◌∙◌, ◌+◌, ◌≤◌, ◌∷◌, [], ℕ, List, ap, drop, filter, length, map, refl, take, arith, sym, subst}
+use Rattle.std.proofs.Common.{◌∙◌, ◌+◌, ◌≤◌, ◌∷◌, [], ℕ, List, ap, drop, filter, length, map, take, arith, sym, subst}
 use Rattle.std.specs.Io.KnownBytes.{Appends}
-use Rattle.std.proofs.KnownBytes.{Appends-nil}
-use Rattle.std.proofs.lemmas.List.{length-append, length-map, map-append, take_all}
+use Rattle.std.proofs.lemmas.List.{length-append, length-map, map-append}
 use Rattle.std.specs.Prelude.{◌==◌, ◌||◌}
 use Rattle.std.proofs.lemmas.List.Elements.{All-get_or}
 use Rattle.fwu_formats.specs.Package.{Entry}
@@ -9,10 +8,10 @@ use Rattle.fip_tool.specs.Lines.{unpacked_line}
 use Rattle.fip_tool.specs.Said.{joined_texts}
 use Rattle.fip_making.specs.Values.{is_named}
 use Rattle.fip_tool.proofs.Texts.{said-more, says-behind}
-use Rattle.fip_tool.proofs.FileFaults.{faults-none, faults-then}
+use Rattle.fip_tool.proofs.FileFaults.{faults-then}
 use Rattle.fip_tool.proofs.Torn.{none-unwritten, tears-still}
 use Rattle.fip_making.proofs.Tables.{rose-from, rose-still}
-use Rattle.fip_tool.proofs.UnpackLemmas.{all-done, begins, next-chosen, next-passed, split-chosen, step-done, step-passed, step-stops, tells-still, there-still}
+use Rattle.fip_tool.proofs.UnpackLemmas.{all-done, next-chosen, next-passed, split-chosen, step-done, step-passed, step-stops, tells-still, there-still}
 use Rattle.fip_tool.specs.Steps.{sink_failed}
 use Rattle.fip_tool.specs.Wrote.{raised_by}
 use Rattle.fip_tool.proofs.WroteLemmas.{one-wrote, wrote-behind}
