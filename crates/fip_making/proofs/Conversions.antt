@@ -62,10 +62,6 @@ lacks-of : (o : Option Directory) (told : Directory) (name : List ℕ) → o ≡
 lacks-of None told name e h = cc
 lacks-of (Some d) told name e h = let same : d ≡ told = cc in ap (λ (f : Directory). f name) same ∙ h
 
-told-lacks : (o : Option Directory) (told : Directory) (name : List ℕ) → o ≡ Some told → Lacks o name → told name ≡ None
-told-lacks None told name e h = absurd h
-told-lacks (Some d) told name e h = let same : d ≡ told = cc in sym (ap (λ (f : Directory). f name) same) ∙ h
-
 module _ (o : Option Directory) (told : Directory) (name : List ℕ) (e : o ≡ Some told) where
   pub table-read : (toc : Toc) → ((bytes : List ℕ) → Tells o name bytes → IsCapsuleAnswer (Ok toc) (capsule_of bytes)) → (Lacks o name → ◌≡◌ {A = Result Toc CapsuleStop} (Ok toc) (Err read_stop.ReadFailed)) → table_in told name ≡ Ok toc
   table-read toc tells missing = go (told name) refl

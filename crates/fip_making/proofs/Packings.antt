@@ -14,10 +14,11 @@ use Rattle.fip_tables.proofs.Zeros.{zeros-decide}
 use Rattle.fip_words.specs.Order.{part_view}
 use Rattle.fip_words.specs.declared.values.FileWord.{FileWord}
 use Rattle.fip_making.specs.Payloads.{HasEntry, IsThere, bytes_in, outline_of, part_told}
-use Rattle.fip_making.specs.Values.{after, pack_value, part_in, parts_in, size_in, there, new_bytes, updated_part}
+use Rattle.fip_making.specs.Values.{pack_value, part_in, parts_in, size_in, there, new_bytes, updated_part}
 use Rattle.fip_making.specs.declared.payloads.Payload.{Payload}
 use Rattle.fip_making.specs.declared.stops.Stop.{Stop}
 use Rattle.fip_making.specs.declared.stops.Stop.TheVariants as stop
+use Rattle.fip_making.proofs.Folds.{made-by, stopped-by}
 use Rattle.fip_making.proofs.PartLemmas.{more-at, packs-fault, packs-ok}
 use Rattle.fip_making.proofs.Tables.{sized}
 
@@ -40,14 +41,7 @@ payload-made told x p n e guid flags size file at =
 -- a file that is not there
 pub payload-stopped : (told : Directory) (x : FileWord) (s : Stop) → size_in told x.file.now ≡ Err s → there (part_in told (part_view x)) ≡ Err s
 unfolding size_in
-payload-stopped told x s e = go (told x.file.now) refl e
-  where
-    part : List ℕ → Part
-    part b = record { guid = x.guid; flags = 0; bytes = b }
-
-    go : (o : Option (List ℕ)) → told x.file.now ≡ o → after (there o) (λ bytes. Ok (length bytes)) ≡ Err s → there (option_map (λ (b : List ℕ). let q : Part = record { guid = x.guid; flags = 0; bytes = b } in q) (told x.file.now)) ≡ Err s
-    go None is h = let same : ◌≡◌ {A = Stop} stop.FileFault s = cc in rw is (ap (λ (t : Stop). Err t) same)
-    go (Some b) is h = cc
+payload-stopped told x s e = stopped-by (made-by length) (λ o. there (option_map (λ (b : List ℕ). let q : Part = record { guid = x.guid; flags = 0; bytes = b } in q) o)) refl (told x.file.now) s e
 
 -- ---- several of them
 

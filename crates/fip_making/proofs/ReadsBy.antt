@@ -6,8 +6,6 @@ use Rattle.fwu_formats.specs.Package.{Toc}
 use Rattle.fip_tables.specs.Files.{Lacks, HasReadCause as PackageCause}
 use Rattle.fip_tables.specs.declared.toc.TocStop.{TocStop}
 use Rattle.fip_tables.specs.declared.toc.TocStop.TheVariants as toc
-use Rattle.capsule_tables.specs.Answers.{HasReadCause as CapsuleCause}
-use Rattle.capsule_tables.specs.declared.faults.CapsuleStop.{CapsuleStop}
 use Rattle.capsule_tables.specs.declared.faults.CapsuleStop.TheVariants as items
 use Rattle.fip_making.specs.Answers.{AsksNothing, NoneFailed, ReadsOnly}
 use Rattle.host_io.specs.Access.{Access, Asks}
@@ -15,7 +13,7 @@ use Rattle.host_io.specs.Reads.{ReadsFiles}
 use Rattle.host_io.specs.declared.files.Files as files
 use Rattle.host_io.proofs.Reading.{reads-then as reads-after, reads-wider}
 use Rattle.fip_making.specs.Seen.{ReadsFilesAlone}
-use Rattle.fip_making.specs.Stops.{capsule_stopped_by, stop_of_table}
+use Rattle.fip_making.specs.Stops.{stop_of_table}
 use Rattle.fip_making.specs.declared.stops.Stop.{Stop}
 use Rattle.fip_making.specs.declared.stops.Stop.TheVariants as stop
 use Rattle.fip_making.proofs.Tables.{rose-still}
@@ -116,27 +114,6 @@ module _ {X : Type 0} {told now : Option Directory} {before after : ℕ} where
       sink = λ e. absurd cc;
     }
     reads-no-table toc.ReadFailed same still quiet h = record {
-      same = still ∙ same;
-      later = omega (arith, quiet, h.later);
-      once = omega (arith, quiet, h.once);
-      quiet = tt;
-      cause = λ e untold. failed told mid name before between after same quiet (h.failed refl) untold;
-      usage = λ e. absurd cc;
-      sink = λ e. absurd cc;
-    }
-
-    pub reads-no-items : (s : CapsuleStop) → mid ≡ told → now ≡ mid → between ≡ before → CapsuleCause {T = Toc} mid name between after (Err s)
-        → ReadsOnly {X = X} told now before after (Err (capsule_stopped_by s))
-    reads-no-items (items.Fault f) same still quiet h = record {
-      same = still ∙ same;
-      later = omega (arith, quiet, h.later);
-      once = omega (arith, quiet, h.once);
-      quiet = h.fault f refl ∙ quiet;
-      cause = λ e. absurd cc;
-      usage = λ e. absurd cc;
-      sink = λ e. absurd cc;
-    }
-    reads-no-items items.ReadFailed same still quiet h = record {
       same = still ∙ same;
       later = omega (arith, quiet, h.later);
       once = omega (arith, quiet, h.once);

@@ -1,14 +1,12 @@
 -- Which stops a part of a command may end with.
-use Rattle.std.proofs.Common.{◌≡◌, ℕ, List, [], ◌∷◌, length, Some, Result, Ok, Err}
+use Rattle.std.proofs.Common.{◌≡◌, Result, Ok, Err}
 use Rattle.std.specs.Prelude.{IfErr}
 use Rattle.fip_tables.specs.declared.toc.TocStop.{TocStop}
 use Rattle.fip_tables.specs.declared.toc.TocStop.TheVariants as toc
 use Rattle.capsule_tables.specs.declared.faults.CapsuleStop.TheVariants as items
 use Rattle.fip_making.specs.Refusals.{IsOfEnclosing, IsOfEntries, IsManifestStop, IsPackageStop, IsOfPackaging, IsOfPacking, IsOfRepacking, IsOfSource}
-use Rattle.fwu_formats.specs.Package.{Toc}
 use Rattle.fip_making.specs.Stops.{stop_of_table}
 use Rattle.fip_making.specs.Answers.{IsLate}
-use Rattle.fip_making.specs.Values.{first_missing}
 use Rattle.fip_making.specs.declared.stops.Stop.{Stop}
 use Rattle.fip_making.specs.declared.stops.Stop.TheVariants as stop
 
@@ -65,8 +63,3 @@ late-of-packaging = late-is IsOfPackaging tt tt tt
 pub packing-of-repacking : (s : Stop) → IsOfPacking s → IsOfRepacking s
 packing-of-repacking (stop.NotPacked f) h = tt
 packing-of-repacking s h = late-of-repacking s h
-
--- where none is named none is missing
-pub none-missing : (t : Toc) (guids : List (List ℕ)) (guid : List ℕ) → length guids ≡ 0 → first_missing t guids ≡ Some guid → ⊥
-none-missing t [] guid none e = cc
-none-missing t (one ∷ guids) guid none e = cc

@@ -15,6 +15,7 @@ use Rattle.fip_making.specs.Values.{after, first_missing, is_named, kept_part, p
 use Rattle.fip_making.specs.declared.stops.Stop.{Stop}
 use Rattle.fwu_formats.proofs.Tables.{ends-within}
 use Rattle.fip_making.proofs.Packings.{entries-there}
+use Rattle.fip_making.proofs.Stopped.{err-of}
 
 -- ---- a table that has all named entries
 
@@ -64,9 +65,6 @@ pub stopped : {Y : Type 0} (told : Directory) (name : List ℕ) (guids : List (L
 unfolding sized_table
 stopped {Y} told name guids k s e = by-file (told name) e
   where
-    err-of : {A : Type 0} {a b : Stop} → ◌≡◌ {A = Result A Stop} (Err a) (Err b) → ◌≡◌ {A = Result Y Stop} (Err a) (Err b)
-    err-of {A} {a} {b} h = let same : a ≡ b = cc in ap (λ (x : Stop). Err x) same
-
     by-missing : (bytes : List ℕ) (found : Toc) (m : Option (List ℕ)) → unless_missing m (Ok found) ≡ Err s → unless_missing m (k (bytes, found)) ≡ Err s
     by-missing bytes found None h = cc
     by-missing bytes found (Some guid) h = err-of h

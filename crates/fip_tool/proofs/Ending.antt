@@ -1,5 +1,5 @@
 -- How the tool ends, from what was done and what was told of it.
-use Rattle.std.proofs.Common.{◌≡◌, ◌≢◌, ◌⊎◌, inl, inr, ℕ, List, [], Option, Ok, Err, take, refl, sym, subst}
+use Rattle.std.proofs.Common.{◌≡◌, ◌⊎◌, inl, inr, ℕ, List, [], Option, Ok, Err, take, refl, sym, subst}
 use Rattle.std.specs.Io.KnownBytes.{Appends}
 use Rattle.std.proofs.KnownBytes.{Appends-trans}
 use Rattle.host_io.specs.Contents.{Directory}
@@ -81,12 +81,6 @@ module _ (outcome : CommandPlan) (files : Directory) (now : Option Directory) (w
   ends (stop.NotCapsule f) t d r = refused-ends (stop.NotCapsule f) t d (told (stop.NotCapsule f) d) r
   ends stop.NoMemory t d r =
       at-stop r.0 (subst (λ (x : Option (List ℕ)). EndedBy outcome files now was x files-rose spoiled sink-rose (Err stop.NoMemory)) (sym r.1) (no-memory d))
-
--- what is told of a stop
-pub reported : (was text : Option (List ℕ)) (sink-rose : Type 0) (s t : Stop) → s ≢ stop.SinkFault → s ≢ stop.NoMemory → StopTold was text sink-rose s t → Reported was text sink-rose s t
-reported was text sink-rose stop.SinkFault t a b r = absurd (a refl)
-reported was text sink-rose stop.NoMemory t a b r = absurd (b refl)
-reported was text sink-rose s t a b r = r
 
 -- a sink that failed in a part failed in the whole
 pub reported-later : (was text : Option (List ℕ)) (rose late : Type 0) (s t : Stop) → (rose → late) → Reported was text rose s t → Reported was text late s t

@@ -5,7 +5,6 @@ use Rattle.std.proofs.Math.Seq.{drop-append_seam, take-append_seam}
 use Rattle.std.specs.Io.KnownBytes.{Appends}
 use Rattle.std.proofs.KnownBytes.{Appends-nil, Appends-trans}
 use Rattle.fip_tool.specs.Ends.{Reported, StopTold, stop_line}
-use Rattle.fip_making.specs.Stops.{status_number}
 use Rattle.fip_tool.specs.Lines.{made_line}
 use Rattle.fip_tool.specs.Said.{IsBefore, IsBegunText, IsCutText, IsMadeLine, Says, SaysAll, half_of, joined_texts}
 use Rattle.fip_making.specs.Answers.{IsLate}
@@ -147,11 +146,3 @@ module _ (T : List (List ℕ) → Type 0) (was mid text : Option (List ℕ)) (ea
       at-stop r.0 (rises h.0, inl (subst (λ (x : Option (List ℕ)). IsCutText T was x) (sym r.1) h.1))
   says-ends stop.NoMemory t h r = at-stop r.0 (h.0, h.1, subst (λ (x : Option (List ℕ)). Appends was x h.0) (sym r.1) h.2)
   says-ends s t h r = ended s t ([], refl, appends-same was mid h) (λ w. w) none-yet r
-
--- status 3 comes where the sink failed alone
-three : (s : Stop) → status_number s ≡ 3 → s ≡ stop.SinkFault
-three stop.SinkFault e = refl
-three s e = cc
-
-pub sink-rose : (T : List (List ℕ) → Type 0) (was text : Option (List ℕ)) (rose : Type 0) (t : Stop) → status_number t ≡ 3 → SaysAll T was text rose (Err t) → rose
-sink-rose T was text rose t e h = (subst (λ (s : Stop). SaysAll T was text rose (Err s)) (three t e) h).0

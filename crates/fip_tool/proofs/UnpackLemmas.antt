@@ -13,7 +13,7 @@ use Rattle.fip_words.specs.Values.{bin, is_lower_guid, is_unpacked}
 use Rattle.std.proofs.lemmas.List.Elements.{filter-append}
 use Rattle.std.specs.Str.{bytes_eq}
 use Rattle.std.specs.Io.KnownBytes.{Appends}
-use Rattle.std.proofs.KnownBytes.{Appends-nil, Appends-trans}
+use Rattle.std.proofs.KnownBytes.{Appends-trans}
 use Rattle.host_io.specs.Contents.{Directory}
 use Rattle.fip_tables.specs.Files.{Lacks, Tells}
 use Rattle.fwu_formats.specs.Package.{Entry, payload, Toc}
@@ -58,9 +58,6 @@ are-up-to-along (Writes name bytes ∷ rest) a b (Some now) h are = λ other dif
 pub record IsDone (steps : List CommandStep) (files now : Directory) (was text : Option (List ℕ)) : Type 0 where
   pub are : (name : List ℕ) → now name ≡ written steps files name
   pub said : Appends was text (printed steps)
-
-pub nothing-done : (files : Directory) (was : Option (List ℕ)) → IsDone [] files files was was
-nothing-done files was = record { are = λ name. refl; said = Appends-nil was }
 
 written-then : (first steps : List CommandStep) (files mid : Directory) → ((name : List ℕ) → mid name ≡ written first files name)
     → (name : List ℕ) → written steps mid name ≡ written (first ++ steps) files name
@@ -234,10 +231,6 @@ pub record IsUnpacking (prefix from bytes : List ℕ) (entries : List Entry) (to
   pub is : contents ≡ Some now
   pub stored : now from ≡ Some bytes
   pub done : IsDone (unpack_steps prefix bytes entries) told now was text
-
-pub begins : (prefix from bytes : List ℕ) (told : Directory) (contents : Option Directory) (was : Option (List ℕ)) → contents ≡ Some told → told from ≡ Some bytes
-    → IsUnpacking prefix from bytes [] told contents was was
-begins prefix from bytes told contents was is stored = record { now = told; is = is; stored = stored; done = nothing-done told was }
 
 pub one-more : (prefix from bytes : List ℕ) (entries : List Entry) (e : Entry) (told : Directory) (mid contents : Option Directory) (was at text : Option (List ℕ)) (rose spoiled sink-rose : Type 0) (u : Unit {0})
     → (s : IsUnpacking prefix from bytes entries told mid was at) → from ≢ unpacked_name prefix e.guid
