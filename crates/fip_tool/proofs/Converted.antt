@@ -21,7 +21,7 @@ use Rattle.capsule_tables.specs.Making.{IsCapsuleOf, capsule_bytes, make_fault}
 use Rattle.fwu_formats.specs.declared.kinds.CapsuleFault.{CapsuleFault}
 use Rattle.capsule_tables.proofs.ReadAgain.{made-is-read}
 use Rattle.capsule_tables.proofs.Within.{is-read, no-flags, types-sixteen}
-use Rattle.fip_words.specs.Order.{FipAsked, info, info_of_source, create, update, remove, unpack, manifest, capsule, repackage}
+use Rattle.fip_words.specs.Order.{FipAsked, info_of_source, capsule, repackage}
 use Rattle.fip_tool.specs.Converted.{Converts, IsEnclosed, IsPackaged}
 use Rattle.fip_tool.specs.Steps.{Are, Did, Makes, Refuses, CommandStep, outcome_by, with_file, written}
 use Rattle.fip_making.specs.Values.{after, capsule_table, capsule_value, enclose_value, kept_part, pack_value, repackage_value, table_or_stop, there, unless_fault}
@@ -170,17 +170,10 @@ package-kept files now a from out made value are = by-file (files from) refl val
 
 pub converted : (a : Option FipAsked) (files : Directory) (now : Option Directory) (was text : Option (List ℕ)) (rose spoiled sink-rose : Type 0)
     → (a ≢ Some info_of_source → Did (outcome_of a files) files now was text rose spoiled sink-rose (Ok tt)) → Converts a files now
-converted None files now was text rose spoiled sink-rose h = tt
 converted (Some (capsule from out)) files now was text rose spoiled sink-rose h =
     let d = done-has (encloses out) (capsule_value files from) files now was text rose spoiled sink-rose (h (λ e. cc)) in
     capsule-kept files now from out d.0 d.1 d.2
 converted (Some (repackage a from out)) files now was text rose spoiled sink-rose h =
     let d = done-has (packs out) (repackage_value files a from) files now was text rose spoiled sink-rose (h (λ e. cc)) in
     package-kept files now a from out d.0 d.1 d.2
-converted (Some (info file)) files now was text rose spoiled sink-rose h = tt
-converted (Some info_of_source) files now was text rose spoiled sink-rose h = tt
-converted (Some (create a out parts)) files now was text rose spoiled sink-rose h = tt
-converted (Some (update a from out parts)) files now was text rose spoiled sink-rose h = tt
-converted (Some (remove a from out names)) files now was text rose spoiled sink-rose h = tt
-converted (Some (unpack from prefix names)) files now was text rose spoiled sink-rose h = tt
-converted (Some (manifest out security rows)) files now was text rose spoiled sink-rose h = tt
+converted a files now was text rose spoiled sink-rose h = tt

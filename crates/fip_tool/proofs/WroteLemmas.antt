@@ -4,7 +4,7 @@ use Rattle.std.proofs.Math.Seq.{drop-append_seam, take-append_seam}
 use Rattle.std.specs.Io.KnownBytes.{Appends}
 use Rattle.std.proofs.KnownBytes.{Appends-nil, Appends-trans}
 use Rattle.host_io.specs.Calls.{raised}
-use Rattle.fip_words.specs.Order.{FipAsked, info, info_of_source, create, update, remove, unpack, manifest, capsule, repackage}
+use Rattle.fip_words.specs.Order.{FipAsked, info, info_of_source}
 use Rattle.fip_tool.specs.Said.{IsBegunText, Says, half_of, joined_texts}
 use Rattle.fip_making.specs.Answers.{IsLate}
 use Rattle.fip_tool.specs.Steps.{PrintedText}
@@ -149,10 +149,4 @@ pub wrote-none : (asked : Option FipAsked) (was : Option (List ℕ)) (n : ℕ) (
 wrote-none None was n s = refl
 wrote-none (Some (info file)) was n s = refl
 wrote-none (Some info_of_source) was n s = refl
-wrote-none (Some (create align out parts)) was n s = inl (refl, Appends-nil was)
-wrote-none (Some (update align from out parts)) was n s = inl (refl, Appends-nil was)
-wrote-none (Some (remove align from out names)) was n s = inl (refl, Appends-nil was)
-wrote-none (Some (unpack from prefix names)) was n s = inl (refl, Appends-nil was)
-wrote-none (Some (manifest out security rows)) was n s = inl (refl, Appends-nil was)
-wrote-none (Some (capsule from out)) was n s = inl (refl, Appends-nil was)
-wrote-none (Some (repackage align from out)) was n s = inl (refl, Appends-nil was)
+wrote-none (Some a) was n s = inl (refl, Appends-nil was)

@@ -11,7 +11,7 @@ use Rattle.fip_tool.proofs.Texts.{says-ends}
 use Rattle.fip_tool.specs.Torn.{MayTear}
 use Rattle.fip_tool.specs.Tool.{no_files}
 use Rattle.fip_tool.proofs.SourceFaults.{fails-once}
-use Rattle.fip_tool.proofs.FileFaults.{sink-alone, source-alone}
+use Rattle.fip_tool.proofs.FileFaults.{none-of-source, sink-alone}
 use Rattle.fip_tool.proofs.top.fip_top.Goals as goal
 
 pub returns-in-Ok-clause-told : goal.returns-in-Ok-clause-told
@@ -59,11 +59,11 @@ returns-in-Ok-clause-wrote g c = inl (refl, c.in-Ok.ensures.wrote)
 
 pub returns-in-Err-clause-sink_alone : goal.returns-in-Err-clause-sink_alone
 returns-in-Err-clause-sink_alone g c = λ three.
-    sink-alone (asked (map string_bytes c.args.words.now)) _ _ _ _ _ c.in-Err.stop c.report.result _ _ (sym c.status.ensures ∙ three) c.in-Err.ensures.says c.report.ensures.reported c.in-Err.ensures.file_count
+    sink-alone (asked (map string_bytes c.args.words.now)) _ _ _ _ _ c.in-Err.stop c.report.result _ _ (sym c.status.ensures ∙ three) c.in-Err.ensures.says c.report.ensures.reported c.in-Err.ensures.file_count.quiet
 
 pub returns-in-Err-clause-source_alone : goal.returns-in-Err-clause-source_alone
 returns-in-Err-clause-source_alone g c = λ e three.
-    source-alone (asked (map string_bytes c.args.words.now)) _ _ _ _ _ c.in-Err.stop c.report.result _ _ (sym c.status.ensures ∙ three) c.in-Err.ensures.says c.report.ensures.reported (c.in-Err.ensures.source_count e)
+    sink-alone (asked (map string_bytes c.args.words.now)) _ _ _ _ _ c.in-Err.stop c.report.result _ _ (sym c.status.ensures ∙ three) c.in-Err.ensures.says c.report.ensures.reported (none-of-source c.in-Err.stop _ _ (c.in-Err.ensures.source_count e))
 
 pub returns-in-Err-clause-refusals : goal.returns-in-Err-clause-refusals
 returns-in-Err-clause-refusals g c =
