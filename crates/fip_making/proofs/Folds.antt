@@ -68,6 +68,15 @@ pub stopped-by : {Y Z W : Type 0} {value : Option Y → Result Z Stop} {some : Y
     → (o : Option Y) (s : Stop) → value o ≡ Err s → other o ≡ Err s
 stopped-by v other none o s e = let m = missing v o s e in ap other m.0 ∙ none ∙ ap (λ (t : Stop). Err t) m.1
 
+-- what was made was made of a value
+pub after-ok : {X Y : Type 0} (r : Result X Stop) (k : X → Result Y Stop) (y : Y) → after r k ≡ Ok y → (x : X) × (r ≡ Ok x) × (k x ≡ Ok y)
+after-ok (Ok x) k y e = (x, refl, e)
+after-ok (Err s) k y e = absurd cc
+
+pub is-there : {X : Type 0} (o : Option X) (x : X) → there o ≡ Ok x → o ≡ Some x
+is-there None x e = cc
+is-there (Some y) x e = cc
+
 -- what ends with the number of them, where the value of all is known
 pub ends-as : {X Y W V : Type 0} (f : X → Option Y) (xs : List X) (whole : List Y → W) (w : W) (end : ℕ → W → Result V Stop) → after (there (each f xs)) (λ ys. Ok (whole ys)) ≡ Ok w
     → after (there (each f xs)) (λ ys. end (length ys) (whole ys)) ≡ end (length xs) w

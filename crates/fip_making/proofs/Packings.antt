@@ -129,6 +129,30 @@ has-entry (Some files) name e there stored = go (files name) refl
 pub entries-there : (told : Option Directory) (name : List ℕ) (es : List Entry) → (Lacks told name → ⊥) → ((bytes : List ℕ) → Tells told name bytes → All (λ e. e.offset + e.size ≤ length bytes) es) → All (HasEntry told name) es
 entries-there told name es there stored = λ k d lt. has-entry told name (get_or es k d) there (λ bytes tells. stored bytes tells k d lt)
 
+-- and of one whose bytes are known, in files that stayed as they were
+module _ (o p : Option Directory) (name : List ℕ) (es : List Entry) (same : p ≡ o)
+    (held : (told : Directory) → o ≡ Some told → (bytes : List ℕ) × (told name ≡ Some bytes) × All (λ e. e.offset + e.size ≤ length bytes) es) where
+  pub held-stored : (bytes : List ℕ) → Tells p name bytes → All (λ e. e.offset + e.size ≤ length bytes) es
+  held-stored bytes tells = go p same tells
+    where
+      go : (p : Option Directory) → p ≡ o → Tells p name bytes → All (λ e. e.offset + e.size ≤ length bytes) es
+      go None is tells = absurd tells
+      go (Some d) is tells =
+          let h = held d (sym is) in
+          let both : ◌≡◌ {A = Option (List ℕ)} (Some h.0) (Some bytes) = sym h.1 ∙ tells in
+          let same : h.0 ≡ bytes = cc in
+          subst (λ (l : List ℕ). All (λ e. e.offset + e.size ≤ length l) es) same h.2
+
+  pub held-there : Lacks p name → ⊥
+  held-there lacks = go p same lacks
+    where
+      go : (p : Option Directory) → p ≡ o → Lacks p name → ⊥
+      go None is lacks = lacks
+      go (Some d) is lacks = let h = held d (sym is) in let both : ◌≡◌ {A = Option (List ℕ)} (Some h.0) None = sym h.1 ∙ lacks in cc
+
+  pub held-entries : All (HasEntry p name) es
+  held-entries = entries-there p name es held-there held-stored
+
 -- ---- what is packed
 
 -- so many bytes of the file

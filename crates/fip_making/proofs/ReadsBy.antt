@@ -35,27 +35,30 @@ failed told mid name before between after same quiet (inl rose) untold = rose-st
 failed told mid name before between after same quiet (inr lacks) untold = absurd (subst (λ (o : Option Directory). Lacks o name) (same ∙ untold) lacks)
 
 module _ {X : Type 0} {told now : Option Directory} {before after : ℕ} where
-  pub reads-done : {x : X} → now ≡ told → after ≡ before → ReadsOnly told now before after (Ok x)
-  reads-done same quiet = record {
+  -- a last part that asks for nothing
+  pub reads-asked : {IsOwn : Stop → Type 0} (result : Result X Stop) → now ≡ told → after ≡ before → AsksNothing IsOwn result → ReadsOnly told now before after result
+  reads-asked {IsOwn = IsOwn} result same quiet asks = record {
     same = same;
     later = omega (arith, quiet);
     once = omega (arith, quiet);
-    quiet = quiet;
-    cause = λ e. absurd cc;
-    usage = λ e. absurd cc;
-    sink = λ e. absurd cc;
+    quiet = none result asks;
+    cause = λ e untold. absurd (asks.file e);
+    usage = asks.usage;
+    sink = asks.sink;
   }
+    where
+      none : (r : Result X Stop) → AsksNothing IsOwn r → NoneFailed r before after
+      none (Ok x) h = quiet
+      none (Err stop.FileFault) h = tt
+      none (Err s) h = quiet
+
+  pub reads-done : {x : X} → now ≡ told → after ≡ before → ReadsOnly told now before after (Ok x)
+  reads-done {x = x} same quiet = reads-asked {IsOwn = λ s. Unit {0}} (Ok x) same quiet
+      (record { file = λ e. absurd cc; usage = λ e. absurd cc; sink = λ e. absurd cc; refusals = tt })
 
   pub reads-starved : now ≡ told → after ≡ before → ReadsOnly {X = X} told now before after (Err stop.NoMemory)
-  reads-starved same quiet = record {
-    same = same;
-    later = omega (arith, quiet);
-    once = omega (arith, quiet);
-    quiet = quiet;
-    cause = λ e. absurd cc;
-    usage = λ e. absurd cc;
-    sink = λ e. absurd cc;
-  }
+  reads-starved same quiet = reads-asked {IsOwn = λ s. Unit {0}} (Err stop.NoMemory) same quiet
+      (record { file = λ e. absurd cc; usage = λ e. absurd cc; sink = λ e. absurd cc; refusals = tt })
 
   -- the last part, after others that read alone
   pub reads-then : {mid : Option Directory} {between : ℕ} {result : Result X Stop} → mid ≡ told → between ≡ before → ReadsOnly mid now between after result
@@ -83,36 +86,12 @@ module _ {X : Type 0} {told now : Option Directory} {before after : ℕ} where
     sink = λ e. let is : s ≡ stop.SinkFault = cc in reads.sink (err-same is);
   }
 
-  -- a last part that asks for nothing
-  pub reads-asked : {IsOwn : Stop → Type 0} (result : Result X Stop) → now ≡ told → after ≡ before → AsksNothing IsOwn result → ReadsOnly told now before after result
-  reads-asked {IsOwn = IsOwn} result same quiet asks = record {
-    same = same;
-    later = omega (arith, quiet);
-    once = omega (arith, quiet);
-    quiet = none result asks;
-    cause = λ e untold. absurd (asks.file e);
-    usage = asks.usage;
-    sink = asks.sink;
-  }
-    where
-      none : (r : Result X Stop) → AsksNothing IsOwn r → NoneFailed r before after
-      none (Ok x) h = quiet
-      none (Err stop.FileFault) h = tt
-      none (Err s) h = quiet
-
   -- a table that was not read, of a file that is there where its contents are told
   module _ {mid : Option Directory} {name : List ℕ} {between : ℕ} where
     pub reads-no-table : (s : TocStop) → mid ≡ told → now ≡ mid → between ≡ before → PackageCause {T = Toc} mid name between after (Err s)
         → ReadsOnly {X = X} told now before after (Err (stop_of_table s))
-    reads-no-table (toc.Fault f) same still quiet h = record {
-      same = still ∙ same;
-      later = omega (arith, quiet, h.later);
-      once = omega (arith, quiet, h.once);
-      quiet = h.fault f refl ∙ quiet;
-      cause = λ e. absurd cc;
-      usage = λ e. absurd cc;
-      sink = λ e. absurd cc;
-    }
+    reads-no-table (toc.Fault f) same still quiet h = reads-asked {IsOwn = λ s. Unit {0}} (Err (stop.NotFip f)) (still ∙ same) (h.fault f refl ∙ quiet)
+        (record { file = λ e. absurd cc; usage = λ e. absurd cc; sink = λ e. absurd cc; refusals = tt })
     reads-no-table toc.ReadFailed same still quiet h = record {
       same = still ∙ same;
       later = omega (arith, quiet, h.later);
