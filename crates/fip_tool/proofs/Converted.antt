@@ -79,13 +79,14 @@ done-has steps (Err s) files now was text rose spoiled sink-rose d = let no : Re
 abbrev enclosed_by : List ℕ × Toc → Result (ℕ × List ℕ) Stop
 enclosed_by p = enclose_value (map (kept_part p.0) p.1.entries)
 
+-- what was made had no fault
+fault-none : {X : Type 0} (o : Option PackFault) (x made : X) → unless_fault o x ≡ Ok made → (o ≡ None) × (made ≡ x)
+fault-none None x made e = (refl, cc)
+fault-none (Some f) x made e = absurd cc
+
 enclosed-is : (parts : List Part) (made : ℕ × List ℕ) → enclose_value parts ≡ Ok made → (make_fault parts ≡ None) × (made.1 ≡ capsule_bytes parts)
 unfolding enclose_value
-enclosed-is parts made e = go (make_fault parts) refl e
-  where
-    go : (o : Option PackFault) → make_fault parts ≡ o → unless_fault o (length parts, capsule_bytes parts) ≡ Ok made → (make_fault parts ≡ None) × (made.1 ≡ capsule_bytes parts)
-    go None is h = let same : (length parts, capsule_bytes parts) ≡ made = cc in (is, ap (λ (m : ℕ × List ℕ). m.1) (sym same))
-    go (Some f) is h = cc
+enclosed-is parts made e = let f = fault-none {X = ℕ × List ℕ} (make_fault parts) (length parts, capsule_bytes parts) made e in (f.0, ap (λ (m : ℕ × List ℕ). m.1) f.1)
 
 capsule-kept : (files : Directory) (now : Option Directory) (from out : List ℕ) (made : ℕ × List ℕ) → capsule_value files from ≡ Ok made → Are now (with_file out made.1 files) → IsEnclosed files now from out
 unfolding capsule_value
@@ -125,11 +126,8 @@ packed_by a p = pack_value p.1.serial p.1.flags (map (kept_part p.0) p.1.entries
 
 packed-is : (serial flags : ℕ) (parts : List Part) (a : ℕ) (made : ℕ × List ℕ) → pack_value serial flags parts a ≡ Ok made → (pack_fault parts a ≡ None) × (made.1 ≡ packed serial flags parts a)
 unfolding pack_value
-packed-is serial flags parts a made e = go (pack_fault parts a) refl e
-  where
-    go : (o : Option PackFault) → pack_fault parts a ≡ o → unless_fault o (length parts, packed serial flags parts a) ≡ Ok made → (pack_fault parts a ≡ None) × (made.1 ≡ packed serial flags parts a)
-    go None is h = let same : (length parts, packed serial flags parts a) ≡ made = cc in (is, ap (λ (m : ℕ × List ℕ). m.1) (sym same))
-    go (Some f) is h = cc
+packed-is serial flags parts a made e =
+    let f = fault-none {X = ℕ × List ℕ} (pack_fault parts a) (length parts, packed serial flags parts a) made e in (f.0, ap (λ (m : ℕ × List ℕ). m.1) f.1)
 
 package-kept : (files : Directory) (now : Option Directory) (a : ℕ) (from out : List ℕ) (made : ℕ × List ℕ) → repackage_value files a from ≡ Ok made → Are now (with_file out made.1 files) → IsPackaged files now from out
 unfolding repackage_value

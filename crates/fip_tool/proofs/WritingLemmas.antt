@@ -15,8 +15,9 @@ use Rattle.fip_tool.specs.declared.lines.Format.{Format}
 use Rattle.fip_tool.specs.declared.lines.Format.TheVariants as kind
 use Rattle.fip_making.specs.declared.stops.Stop.{Stop}
 use Rattle.fip_making.specs.declared.stops.Stop.TheVariants as stop
-use Rattle.fip_tool.proofs.Did.{appends-none, made-steps}
+use Rattle.fip_tool.proofs.Did.{made-steps}
 use Rattle.fip_making.proofs.Tables.{rose-from}
+use Rattle.fip_tool.proofs.Texts.{appends-same}
 use Rattle.fip_tool.proofs.Torn.{tears-since}
 
 -- what a frame's and pieces' slices make
@@ -42,7 +43,7 @@ pub then-printed : (files : Directory) (now : Option Directory) (was text : Opti
 then-printed files now was text files-rose spoiled sink-rose name bytes line (Ok u) w p = (refl, w, subst (Appends was text) (sym (append-nil line)) p)
 then-printed files now was text files-rose spoiled sink-rose name bytes line (Err stop.SinkFault) w p =
     (p.0, 1, w, p.1, p.2, tt)
-then-printed files now was text files-rose spoiled sink-rose name bytes line (Err stop.NoMemory) w p = (1, w, appends-none was text p)
+then-printed files now was text files-rose spoiled sink-rose name bytes line (Err stop.NoMemory) w p = (1, w, appends-same was text p)
 then-printed files now was text files-rose spoiled sink-rose name bytes line (Err s) w p = absurd p
 
 -- the file and the line of a manifest
