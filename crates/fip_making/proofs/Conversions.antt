@@ -72,7 +72,8 @@ module _ (o : Option Directory) (told : Directory) (name : List ℕ) (e : o ≡ 
 -- each item's payload is there
 pub has-items : (o p : Option Directory) (name : List ℕ) (toc : Toc) → p ≡ o → ((told : Directory) → o ≡ Some told → table_in told name ≡ Ok toc) → All (HasEntry p name) toc.entries
 has-items o p name toc same knows =
-    held-entries o p name toc.entries same (λ told e. let s = opened-capsule told name toc (knows told e) in (s.bytes, s.is, ends-within s.bytes toc s.table))
+    held-entries o p name toc.entries same
+    (λ told e. let s = opened-capsule told name toc (knows told e) in (s.bytes, s.is, ends-within s.bytes toc s.table))
 
 -- ---- what is made of it
 

@@ -23,6 +23,10 @@ use Rattle.fip_making.proofs.Folds.{before, before-none, each-more, ends-as, mad
 use Rattle.fip_making.proofs.Stopped.{err-of}
 use Rattle.fip_making.proofs.Tables.{sized}
 
+-- the image of a name, by its file
+abbrev image_by : NamedImage → Option (List ℕ) → Option Image
+image_by x o = option_map (λ (b : List ℕ). let i : Image = record { guid = x.guid; version = x.version; bytes = b } in i) o
+
 -- what a manifest says of a named image
 abbrev pub row_value : Directory → NamedImage → Result (Option Row) Stop
 row_value told x = after (there (image_in told x)) (λ i. Ok (image_row i))
@@ -43,7 +47,7 @@ row-made told x bytes image more e same is = go (told x.file) refl e
 pub row-stopped : (told : Directory) (x : NamedImage) (s : Stop) → file_value told x.file ≡ Err s → row_value told x ≡ Err s
 unfolding file_value
 row-stopped told x s e =
-    stopped-by plain (λ o. after (there (option_map (λ (b : List ℕ). let i : Image = record { guid = x.guid; version = x.version; bytes = b } in i) o)) (λ i. Ok (image_row i))) refl (told x.file) s e
+    stopped-by plain (λ o. after (there (image_by x o)) (λ i. Ok (image_row i))) refl (told x.file) s e
 
 -- the manifest of so many images, by their rows
 abbrev pub counted : ℕ → ℕ → Option (List Row) → Result (ℕ × List ℕ) Stop
@@ -52,7 +56,8 @@ counted count security rows = if (count == 0) || nat_lt 15 count then Err (stop.
 pub value-stopped : (told : Directory) (security : ℕ) (xs : List NamedImage) (s : Stop) → rows_value told xs ≡ Err s → manifest_value told security xs ≡ Err s
 unfolding manifest_value
 value-stopped told security xs s e =
-    stopped-by (made-by (each image_row)) (λ o. after (there o) (λ images. counted (length images) security (each image_row images))) refl (each (image_in told) xs) s e
+    stopped-by (made-by (each image_row))
+    (λ o. after (there o) (λ images. counted (length images) security (each image_row images))) refl (each (image_in told) xs) s e
 
 -- ---- whether one is too long
 
@@ -68,7 +73,7 @@ long-made told x n long e is = let s = sized told x.file n e in rw (s.1, s.2, is
 pub long-stopped : (told : Directory) (x : NamedImage) (s : Stop) → size_in told x.file ≡ Err s → long_value told x ≡ Err s
 unfolding size_in
 long-stopped told x s e =
-    stopped-by (made-by length) (λ o. after (there (option_map (λ (b : List ℕ). let i : Image = record { guid = x.guid; version = x.version; bytes = b } in i) o)) (λ i. Ok (is_long i))) refl (told x.file) s e
+    stopped-by (made-by length) (λ o. after (there (image_by x o)) (λ i. Ok (is_long i))) refl (told x.file) s e
 
 any-more : (images : List Image) (i : Image) → list_any is_long (images ++ (i ∷ [])) ≡ list_any is_long images || is_long i
 any-more images i = list_any-append is_long images (i ∷ []) ∙ ap (λ (b : Bool). list_any is_long images || b) (or-false (is_long i))
@@ -76,7 +81,9 @@ any-more images i = list_any-append is_long images (i ∷ []) ∙ ap (λ (b : Bo
 -- the sizes of all decide
 pub sizes-of : (told : Directory) (named : List ImageWord) (longs : Bool) → longs_value told (map image_view named) ≡ Ok longs → sizes_value told (map image_view named) ≡ unless_long (length named) longs
 unfolding sizes_value
-sizes-of told named longs e = ends-as (image_in told) (map image_view named) (list_any is_long) longs unless_long e ∙ ap (λ (n : ℕ). unless_long n longs) (length-map named image_view)
+sizes-of told named longs e =
+    ends-as (image_in told) (map image_view named) (list_any is_long) longs unless_long e
+    ∙ ap (λ (n : ℕ). unless_long n longs) (length-map named image_view)
 
 -- an image that is too long has no row
 no-row : (images : List Image) → list_any is_long images ≡ true → each image_row images ≡ None
@@ -108,22 +115,27 @@ sizes-refuse told security xs s e = go (each (image_in told) xs) e
 
 module _ (told : Directory) (all : List ImageWord) (i : ℕ) (x : ImageWord) (within : i < length all) (is : x ≡ get_or all i x) where
   pub stopped-at : (s : Stop) → row_value told (image_view x) ≡ Err s → rows_value told (map image_view all) ≡ Err s
-  stopped-at s e = stops-at image_view all i x within is (image_in told) (made-by image_row) (λ o. after (there o) (λ images. Ok (each image_row images))) refl s e
+  stopped-at s e =
+      stops-at image_view all i x within is (image_in told) (made-by image_row)
+      (λ o. after (there o) (λ images. Ok (each image_row images))) refl s e
 
   pub sizes-stopped-at : (s : Stop) → long_value told (image_view x) ≡ Err s → sizes_value told (map image_view all) ≡ Err s
   unfolding sizes_value
   sizes-stopped-at s e =
-      stops-at image_view all i x within is (image_in told) (made-by is_long) (λ o. after (there o) (λ images. unless_long (length images) (list_any is_long images))) refl s e
+      stops-at image_view all i x within is (image_in told) (made-by is_long)
+      (λ o. after (there o) (λ images. unless_long (length images) (list_any is_long images))) refl s e
 
   pub longs-more-at : (longs long : Bool) → longs_value told (map image_view (take i all)) ≡ Ok longs → long_value told (image_view x) ≡ Ok long
       → longs_value told (map image_view (take (i + 1) all)) ≡ Ok (longs || long)
   longs-more-at longs long e h =
-      more-at image_view all i x within is (image_in told) (made-by is_long) (made-by (list_any is_long)) (λ all one. all || one) any-more longs long e h
+      more-at image_view all i x within is (image_in told) (made-by is_long) (made-by (list_any is_long))
+      (λ all one. all || one) any-more longs long e h
 
   pub rows-more-at : (rows : Option (List Row)) (more : Option Row) → rows_value told (map image_view (take i all)) ≡ Ok rows → row_value told (image_view x) ≡ Ok more
       → rows_value told (map image_view (take (i + 1) all)) ≡ Ok (with_one rows more)
   rows-more-at rows more e h =
-      more-at image_view all i x within is (image_in told) (made-by image_row) (made-by (each image_row)) with_one (each-more image_row) rows more e h
+      more-at image_view all i x within is (image_in told) (made-by image_row) (made-by (each image_row)) with_one
+      (each-more image_row) rows more e h
 
 -- the rows of the code as those of the model
 mapped : (rows : Option (List CodeRow)) (more : Option CodeRow) → option_map (map row) (with_one rows more) ≡ with_one (option_map (map row) rows) (option_map row more)
@@ -176,7 +188,8 @@ pub too-long-of : (told : Directory) (security : ℕ) (named : List ImageWord) (
     → stop.NoManifest f ≡ refused (length named) → manifest_value told security (map image_view named) ≡ Err (stop.NoManifest f)
 unfolding manifest_value
 too-long-of told security named f e is =
-    ends-as (image_in told) (map image_view named) (each image_row) None (λ n all. counted n security all) e ∙ ap (λ (n : ℕ). counted n security None) (length-map named image_view) ∙ refused-counted (length named) security
+    ends-as (image_in told) (map image_view named) (each image_row) None (λ n all. counted n security all) e
+    ∙ ap (λ (n : ℕ). counted n security None) (length-map named image_view) ∙ refused-counted (length named) security
     ∙ ap (λ (s : Stop). Err s) (sym is)
 
 -- to refuse asks for nothing

@@ -41,7 +41,10 @@ payload-made told x p n e guid flags size file at =
 -- a file that is not there
 pub payload-stopped : (told : Directory) (x : FileWord) (s : Stop) → size_in told x.file.now ≡ Err s → there (part_in told (part_view x)) ≡ Err s
 unfolding size_in
-payload-stopped told x s e = stopped-by (made-by length) (λ o. there (option_map (λ (b : List ℕ). let q : Part = record { guid = x.guid; flags = 0; bytes = b } in q) o)) refl (told x.file.now) s e
+payload-stopped told x s e =
+    stopped-by (made-by length)
+    (λ o. there (option_map (λ (b : List ℕ). let q : Part = record { guid = x.guid; flags = 0; bytes = b } in q) o)) refl
+    (told x.file.now) s e
 
 -- ---- several of them
 
@@ -131,7 +134,8 @@ entries-there told name es there stored = λ k d lt. has-entry told name (get_or
 
 -- and of one whose bytes are known, in files that stayed as they were
 module _ (o p : Option Directory) (name : List ℕ) (es : List Entry) (same : p ≡ o)
-    (held : (told : Directory) → o ≡ Some told → (bytes : List ℕ) × (told name ≡ Some bytes) × All (λ e. e.offset + e.size ≤ length bytes) es) where
+    (held : (told : Directory) → o ≡ Some told
+    → (bytes : List ℕ) × (told name ≡ Some bytes) × All (λ e. e.offset + e.size ≤ length bytes) es) where
   pub held-stored : (bytes : List ℕ) → Tells p name bytes → All (λ e. e.offset + e.size ≤ length bytes) es
   held-stored bytes tells = go p same tells
     where

@@ -36,7 +36,8 @@ failed told mid name before between after same quiet (inr lacks) untold = absurd
 
 module _ {X : Type 0} {told now : Option Directory} {before after : ℕ} where
   -- a last part that asks for nothing
-  pub reads-asked : {IsOwn : Stop → Type 0} (result : Result X Stop) → now ≡ told → after ≡ before → AsksNothing IsOwn result → ReadsOnly told now before after result
+  pub reads-asked : {IsOwn : Stop → Type 0} (result : Result X Stop) → now ≡ told → after ≡ before → AsksNothing IsOwn result
+      → ReadsOnly told now before after result
   reads-asked {IsOwn = IsOwn} result same quiet asks = record {
     same = same;
     later = omega (arith, quiet);
@@ -90,7 +91,8 @@ module _ {X : Type 0} {told now : Option Directory} {before after : ℕ} where
   module _ {mid : Option Directory} {name : List ℕ} {between : ℕ} where
     pub reads-no-table : (s : TocStop) → mid ≡ told → now ≡ mid → between ≡ before → PackageCause {T = Toc} mid name between after (Err s)
         → ReadsOnly {X = X} told now before after (Err (stop_of_table s))
-    reads-no-table (toc.Fault f) same still quiet h = reads-asked {IsOwn = λ s. Unit {0}} (Err (stop.NotFip f)) (still ∙ same) (h.fault f refl ∙ quiet)
+    reads-no-table (toc.Fault f) same still quiet h =
+        reads-asked {IsOwn = λ s. Unit {0}} (Err (stop.NotFip f)) (still ∙ same) (h.fault f refl ∙ quiet)
         (record { file = λ e. absurd cc; usage = λ e. absurd cc; sink = λ e. absurd cc; refusals = tt })
     reads-no-table toc.ReadFailed same still quiet h = record {
       same = still ∙ same;

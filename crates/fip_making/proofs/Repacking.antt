@@ -88,8 +88,10 @@ going-on told name guids toc k o =
 
 -- ---- what its file holds
 
-module _ (o p : Option Directory) (name : List ℕ) (guids : List (List ℕ)) (toc : Toc) (same : p ≡ o) (knows : (told : Directory) → o ≡ Some told → table_with told name guids ≡ Ok toc) where
-  held : (told : Directory) → o ≡ Some told → (bytes : List ℕ) × (told name ≡ Some bytes) × All (λ e. e.offset + e.size ≤ length bytes) toc.entries
+module _ (o p : Option Directory) (name : List ℕ) (guids : List (List ℕ)) (toc : Toc) (same : p ≡ o)
+    (knows : (told : Directory) → o ≡ Some told → table_with told name guids ≡ Ok toc) where
+  held : (told : Directory) → o ≡ Some told
+      → (bytes : List ℕ) × (told name ≡ Some bytes) × All (λ e. e.offset + e.size ≤ length bytes) toc.entries
   held told e = let s = opened told name guids toc (knows told e) in (s.bytes, s.is, ends-within s.bytes toc s.table)
 
   pub stored-of : (bytes : List ℕ) → Tells p name bytes → All (λ e. e.offset + e.size ≤ length bytes) toc.entries

@@ -66,7 +66,8 @@ pub size-err : (files : Directory) (name : List ℕ) (s : Stop) → size_in file
 unfolding size_in sized_table
 size-err files name s e =
     stopped-by {W = Toc × ℕ} (made-by length)
-    (λ o. after {X = List ℕ × Toc} (after (there o) (λ bytes. after (table_or_stop (toc_of bytes)) (λ t. Ok (bytes, t)))) (λ p. Ok (p.1, length p.0))) refl (files name) s e
+    (λ o. after {X = List ℕ × Toc} (after (there o) (λ bytes. after (table_or_stop (toc_of bytes)) (λ t. Ok (bytes, t))))
+    (λ p. Ok (p.1, length p.0))) refl (files name) s e
 
 pub table-ok : (files : Directory) (name bytes : List ℕ) (n : ℕ) (toc : Toc) → files name ≡ Some bytes → length bytes ≡ n → toc_of bytes ≡ Ok toc → sized_table files name ≡ Ok (toc, n)
 unfolding sized_table
