@@ -1,5 +1,5 @@
 -- What a capsule in a file gives, and what is made of it.
-use Rattle.std.proofs.Common.{◌≡◌, ◌⊎◌, inl, inr, ◌≤◌, ◌+◌, ℕ, List, [], Option, Some, None, Result, Ok, Err, length, map, refl, sym, ap, subst, ◌∙◌}
+use Rattle.std.proofs.Common.{◌≡◌, ℕ, List, [], Option, Some, None, Result, Ok, Err, map, refl, sym, ap, ◌∙◌}
 use Rattle.std.specs.Prelude.{unwrap_or}
 use Rattle.std.specs.List.{All}
 use Rattle.host_io.specs.Contents.{Directory}
@@ -12,12 +12,11 @@ use Rattle.capsule_tables.specs.declared.faults.CapsuleStop.{CapsuleStop}
 use Rattle.capsule_tables.specs.declared.faults.CapsuleStop.TheVariants as read_stop
 use Rattle.capsule_tables.proofs.Within.{ends-within}
 use Rattle.fip_making.specs.Payloads.{HasEntry, bytes_in}
-use Rattle.fip_making.specs.Answers.{Gives}
 use Rattle.fip_making.specs.Values.{after, capsule_in, capsule_table, capsule_value, enclose_value, kept_part, pack_value, repackage_value, there}
-use Rattle.fip_making.specs.Stops.{capsule_stopped_by}
 use Rattle.fip_making.specs.declared.stops.Stop.{Stop}
 use Rattle.fip_making.specs.declared.stops.Stop.TheVariants as stop
-use Rattle.fip_making.proofs.Packings.{entries-there}
+use Rattle.fip_making.proofs.Tables.{tells as tells-of}
+use Rattle.fip_making.proofs.Packings.{held-entries}
 use Rattle.fip_making.proofs.Repacking.{IsOpened, going-on, stopped, table_with}
 
 -- ---- the table of a capsule in a file
@@ -54,26 +53,11 @@ pub capsule-ok : (told : Directory) (name bytes : List ℕ) (toc : Toc) → told
 capsule-ok told name bytes toc is table =
     ap (λ (o : Option (List ℕ)). table_by (capsule_by o)) is ∙ ap (λ (r : Result Toc CapsuleFault). table_by (after (capsule_table r) (λ t. Ok (bytes, t)))) table
 
-pub capsule-fault : (told : Directory) (name bytes : List ℕ) (f : CapsuleFault) → told name ≡ Some bytes → capsule_of bytes ≡ Err f → table_in told name ≡ Err (stop.NotCapsule f)
-capsule-fault told name bytes f is table =
-    ap (λ (o : Option (List ℕ)). table_by (capsule_by o)) is ∙ ap (λ (r : Result Toc CapsuleFault). table_by (after (capsule_table r) (λ t. Ok (bytes, t)))) table
-
-pub capsule-none : (told : Directory) (name : List ℕ) → told name ≡ None → table_in told name ≡ Err stop.FileFault
-capsule-none told name is = ap (λ (o : Option (List ℕ)). table_by (capsule_by o)) is
-
 -- ---- what a reading gives
-
-tells-of : (o : Option Directory) (told : Directory) (name bytes : List ℕ) → o ≡ Some told → told name ≡ Some bytes → Tells o name bytes
-tells-of None told name bytes e h = cc
-tells-of (Some d) told name bytes e h = let same : d ≡ told = cc in ap (λ (f : Directory). f name) same ∙ h
 
 lacks-of : (o : Option Directory) (told : Directory) (name : List ℕ) → o ≡ Some told → told name ≡ None → Lacks o name
 lacks-of None told name e h = cc
 lacks-of (Some d) told name e h = let same : d ≡ told = cc in ap (λ (f : Directory). f name) same ∙ h
-
-told-lacks : (o : Option Directory) (told : Directory) (name : List ℕ) → o ≡ Some told → Lacks o name → told name ≡ None
-told-lacks None told name e h = absurd h
-told-lacks (Some d) told name e h = let same : d ≡ told = cc in sym (ap (λ (f : Directory). f name) same) ∙ h
 
 module _ (o : Option Directory) (told : Directory) (name : List ℕ) (e : o ≡ Some told) where
   pub table-read : (toc : Toc) → ((bytes : List ℕ) → Tells o name bytes → IsCapsuleAnswer (Ok toc) (capsule_of bytes)) → (Lacks o name → ◌≡◌ {A = Result Toc CapsuleStop} (Ok toc) (Err read_stop.ReadFailed)) → table_in told name ≡ Ok toc
@@ -83,40 +67,13 @@ module _ (o : Option Directory) (told : Directory) (name : List ℕ) (e : o ≡ 
       go None is = let no = missing (lacks-of o told name e is) in absurd cc
       go (Some bytes) is = capsule-ok told name bytes toc is (tells bytes (tells-of o told name bytes e is))
 
-  pub table-stopped : (s : CapsuleStop) (rose : Type 0) → ((bytes : List ℕ) → Tells o name bytes → IsCapsuleAnswer (Err s) (capsule_of bytes)) → (Lacks o name → ◌≡◌ {A = Result Toc CapsuleStop} (Err s) (Err read_stop.ReadFailed))
-      → (◌≡◌ {A = Result Toc CapsuleStop} (Err s) (Err read_stop.ReadFailed) → rose ⊎ Lacks o name) → Gives (λ (t : Toc). t) rose (table_in told name) (Err (capsule_stopped_by s))
-  table-stopped (read_stop.Fault f) rose tells missing cause = go (told name) refl
-    where
-      go : (b : Option (List ℕ)) → told name ≡ b → table_in told name ≡ Err (stop.NotCapsule f)
-      go None is = let no = missing (lacks-of o told name e is) in absurd cc
-      go (Some bytes) is = capsule-fault told name bytes f is (tells bytes (tells-of o told name bytes e is))
-  table-stopped read_stop.ReadFailed rose tells missing cause = by (cause refl)
-    where
-      by : rose ⊎ Lacks o name → (table_in told name ≡ Err stop.FileFault) ⊎ rose
-      by (inl r) = inr r
-      by (inr none) = inl (capsule-none told name (told-lacks o told name e none))
-
 -- ---- what its file holds
-
-pub capsule-stored : (o p : Option Directory) (name : List ℕ) (toc : Toc) → p ≡ o → ((told : Directory) → o ≡ Some told → table_in told name ≡ Ok toc)
-    → (bytes : List ℕ) → Tells p name bytes → All (λ e. e.offset + e.size ≤ length bytes) toc.entries
-capsule-stored o None name toc same knows bytes tells = absurd tells
-capsule-stored o (Some d) name toc same knows bytes tells =
-    let s = opened-capsule d name toc (knows d (sym same)) in
-    let both : ◌≡◌ {A = Option (List ℕ)} (Some s.bytes) (Some bytes) = sym s.is ∙ tells in
-    let is : s.bytes ≡ bytes = cc in
-    ends-within bytes toc (subst (λ (l : List ℕ). capsule_of l ≡ Ok toc) is s.table)
-
-pub capsule-there : (o p : Option Directory) (name : List ℕ) (toc : Toc) → p ≡ o → ((told : Directory) → o ≡ Some told → table_in told name ≡ Ok toc) → Lacks p name → ⊥
-capsule-there o None name toc same knows lacks = lacks
-capsule-there o (Some d) name toc same knows lacks =
-    let s = opened-capsule d name toc (knows d (sym same)) in
-    let both : ◌≡◌ {A = Option (List ℕ)} (Some s.bytes) None = sym s.is ∙ lacks in
-    cc
 
 -- each item's payload is there
 pub has-items : (o p : Option Directory) (name : List ℕ) (toc : Toc) → p ≡ o → ((told : Directory) → o ≡ Some told → table_in told name ≡ Ok toc) → All (HasEntry p name) toc.entries
-has-items o p name toc same knows = entries-there p name toc.entries (capsule-there o p name toc same knows) (capsule-stored o p name toc same knows)
+has-items o p name toc same knows =
+    held-entries o p name toc.entries same
+    (λ told e. let s = opened-capsule told name toc (knows told e) in (s.bytes, s.is, ends-within s.bytes toc s.table))
 
 -- ---- what is made of it
 

@@ -1,5 +1,6 @@
 pub mod Conversions
 pub mod Enclosings
+pub mod Folds
 pub mod Makings
 pub mod ManifestLemmas
 pub mod Packings

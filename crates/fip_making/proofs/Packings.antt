@@ -14,10 +14,11 @@ use Rattle.fip_tables.proofs.Zeros.{zeros-decide}
 use Rattle.fip_words.specs.Order.{part_view}
 use Rattle.fip_words.specs.declared.values.FileWord.{FileWord}
 use Rattle.fip_making.specs.Payloads.{HasEntry, IsThere, bytes_in, outline_of, part_told}
-use Rattle.fip_making.specs.Values.{after, pack_value, part_in, parts_in, size_in, there, new_bytes, updated_part}
+use Rattle.fip_making.specs.Values.{pack_value, part_in, parts_in, size_in, there, new_bytes, updated_part}
 use Rattle.fip_making.specs.declared.payloads.Payload.{Payload}
 use Rattle.fip_making.specs.declared.stops.Stop.{Stop}
 use Rattle.fip_making.specs.declared.stops.Stop.TheVariants as stop
+use Rattle.fip_making.proofs.Folds.{made-by, stopped-by}
 use Rattle.fip_making.proofs.PartLemmas.{more-at, packs-fault, packs-ok}
 use Rattle.fip_making.proofs.Tables.{sized}
 
@@ -40,14 +41,10 @@ payload-made told x p n e guid flags size file at =
 -- a file that is not there
 pub payload-stopped : (told : Directory) (x : FileWord) (s : Stop) → size_in told x.file.now ≡ Err s → there (part_in told (part_view x)) ≡ Err s
 unfolding size_in
-payload-stopped told x s e = go (told x.file.now) refl e
-  where
-    part : List ℕ → Part
-    part b = record { guid = x.guid; flags = 0; bytes = b }
-
-    go : (o : Option (List ℕ)) → told x.file.now ≡ o → after (there o) (λ bytes. Ok (length bytes)) ≡ Err s → there (option_map (λ (b : List ℕ). let q : Part = record { guid = x.guid; flags = 0; bytes = b } in q) (told x.file.now)) ≡ Err s
-    go None is h = let same : ◌≡◌ {A = Stop} stop.FileFault s = cc in rw is (ap (λ (t : Stop). Err t) same)
-    go (Some b) is h = cc
+payload-stopped told x s e =
+    stopped-by (made-by length)
+    (λ o. there (option_map (λ (b : List ℕ). let q : Part = record { guid = x.guid; flags = 0; bytes = b } in q) o)) refl
+    (told x.file.now) s e
 
 -- ---- several of them
 
@@ -122,11 +119,6 @@ module _ (told : Directory) (bytes : List ℕ) (new : List Payload) (e : Entry) 
       find-map (part_told told) (λ (x : Part). same_bytes x.guid e.guid) new ∙ ap (option_map (part_told told)) is in
       spelled p guid flags (payload bytes e) same ∙ ap by-new (sym found)
 
--- the range of a payload, by its file
-pub entry-there : (told : Option Directory) (p : Payload) (name : List ℕ) (e : Entry) → p.file.now ≡ name → p.size ≡ e.size → p.at ≡ e.offset → HasEntry told name e → IsThere told p
-entry-there told p name e file size at h =
-    subst (λ (f : List ℕ). HasRange told f p.at p.size) (sym file) (subst (λ (n : ℕ). HasRange told name n p.size) (sym at) (subst (HasRange told name e.offset) (sym size) h))
-
 -- an entry whose payload lies in a file of told bytes
 pub has-entry : (told : Option Directory) (name : List ℕ) (e : Entry) → (Lacks told name → ⊥) → ((bytes : List ℕ) → Tells told name bytes → e.offset + e.size ≤ length bytes) → HasEntry told name e
 has-entry None name e there stored = tt
@@ -139,6 +131,31 @@ has-entry (Some files) name e there stored = go (files name) refl
 -- entries whose payloads lie in a file of told bytes
 pub entries-there : (told : Option Directory) (name : List ℕ) (es : List Entry) → (Lacks told name → ⊥) → ((bytes : List ℕ) → Tells told name bytes → All (λ e. e.offset + e.size ≤ length bytes) es) → All (HasEntry told name) es
 entries-there told name es there stored = λ k d lt. has-entry told name (get_or es k d) there (λ bytes tells. stored bytes tells k d lt)
+
+-- and of one whose bytes are known, in files that stayed as they were
+module _ (o p : Option Directory) (name : List ℕ) (es : List Entry) (same : p ≡ o)
+    (held : (told : Directory) → o ≡ Some told
+    → (bytes : List ℕ) × (told name ≡ Some bytes) × All (λ e. e.offset + e.size ≤ length bytes) es) where
+  pub held-stored : (bytes : List ℕ) → Tells p name bytes → All (λ e. e.offset + e.size ≤ length bytes) es
+  held-stored bytes tells = go p same tells
+    where
+      go : (p : Option Directory) → p ≡ o → Tells p name bytes → All (λ e. e.offset + e.size ≤ length bytes) es
+      go None is tells = absurd tells
+      go (Some d) is tells =
+          let h = held d (sym is) in
+          let both : ◌≡◌ {A = Option (List ℕ)} (Some h.0) (Some bytes) = sym h.1 ∙ tells in
+          let same : h.0 ≡ bytes = cc in
+          subst (λ (l : List ℕ). All (λ e. e.offset + e.size ≤ length l) es) same h.2
+
+  pub held-there : Lacks p name → ⊥
+  held-there lacks = go p same lacks
+    where
+      go : (p : Option Directory) → p ≡ o → Lacks p name → ⊥
+      go None is lacks = lacks
+      go (Some d) is lacks = let h = held d (sym is) in let both : ◌≡◌ {A = Option (List ℕ)} (Some h.0) None = sym h.1 ∙ lacks in cc
+
+  pub held-entries : All (HasEntry p name) es
+  held-entries = entries-there p name es held-there held-stored
 
 -- ---- what is packed
 

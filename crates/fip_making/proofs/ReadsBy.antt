@@ -6,8 +6,6 @@ use Rattle.fwu_formats.specs.Package.{Toc}
 use Rattle.fip_tables.specs.Files.{Lacks, HasReadCause as PackageCause}
 use Rattle.fip_tables.specs.declared.toc.TocStop.{TocStop}
 use Rattle.fip_tables.specs.declared.toc.TocStop.TheVariants as toc
-use Rattle.capsule_tables.specs.Answers.{HasReadCause as CapsuleCause}
-use Rattle.capsule_tables.specs.declared.faults.CapsuleStop.{CapsuleStop}
 use Rattle.capsule_tables.specs.declared.faults.CapsuleStop.TheVariants as items
 use Rattle.fip_making.specs.Answers.{AsksNothing, NoneFailed, ReadsOnly}
 use Rattle.host_io.specs.Access.{Access, Asks}
@@ -15,7 +13,7 @@ use Rattle.host_io.specs.Reads.{ReadsFiles}
 use Rattle.host_io.specs.declared.files.Files as files
 use Rattle.host_io.proofs.Reading.{reads-then as reads-after, reads-wider}
 use Rattle.fip_making.specs.Seen.{ReadsFilesAlone}
-use Rattle.fip_making.specs.Stops.{capsule_stopped_by, stop_of_table}
+use Rattle.fip_making.specs.Stops.{stop_of_table}
 use Rattle.fip_making.specs.declared.stops.Stop.{Stop}
 use Rattle.fip_making.specs.declared.stops.Stop.TheVariants as stop
 use Rattle.fip_making.proofs.Tables.{rose-still}
@@ -37,27 +35,31 @@ failed told mid name before between after same quiet (inl rose) untold = rose-st
 failed told mid name before between after same quiet (inr lacks) untold = absurd (subst (λ (o : Option Directory). Lacks o name) (same ∙ untold) lacks)
 
 module _ {X : Type 0} {told now : Option Directory} {before after : ℕ} where
-  pub reads-done : {x : X} → now ≡ told → after ≡ before → ReadsOnly told now before after (Ok x)
-  reads-done same quiet = record {
+  -- a last part that asks for nothing
+  pub reads-asked : {IsOwn : Stop → Type 0} (result : Result X Stop) → now ≡ told → after ≡ before → AsksNothing IsOwn result
+      → ReadsOnly told now before after result
+  reads-asked {IsOwn = IsOwn} result same quiet asks = record {
     same = same;
     later = omega (arith, quiet);
     once = omega (arith, quiet);
-    quiet = quiet;
-    cause = λ e. absurd cc;
-    usage = λ e. absurd cc;
-    sink = λ e. absurd cc;
+    quiet = none result asks;
+    cause = λ e untold. absurd (asks.file e);
+    usage = asks.usage;
+    sink = asks.sink;
   }
+    where
+      none : (r : Result X Stop) → AsksNothing IsOwn r → NoneFailed r before after
+      none (Ok x) h = quiet
+      none (Err stop.FileFault) h = tt
+      none (Err s) h = quiet
+
+  pub reads-done : {x : X} → now ≡ told → after ≡ before → ReadsOnly told now before after (Ok x)
+  reads-done {x = x} same quiet = reads-asked {IsOwn = λ s. Unit {0}} (Ok x) same quiet
+      (record { file = λ e. absurd cc; usage = λ e. absurd cc; sink = λ e. absurd cc; refusals = tt })
 
   pub reads-starved : now ≡ told → after ≡ before → ReadsOnly {X = X} told now before after (Err stop.NoMemory)
-  reads-starved same quiet = record {
-    same = same;
-    later = omega (arith, quiet);
-    once = omega (arith, quiet);
-    quiet = quiet;
-    cause = λ e. absurd cc;
-    usage = λ e. absurd cc;
-    sink = λ e. absurd cc;
-  }
+  reads-starved same quiet = reads-asked {IsOwn = λ s. Unit {0}} (Err stop.NoMemory) same quiet
+      (record { file = λ e. absurd cc; usage = λ e. absurd cc; sink = λ e. absurd cc; refusals = tt })
 
   -- the last part, after others that read alone
   pub reads-then : {mid : Option Directory} {between : ℕ} {result : Result X Stop} → mid ≡ told → between ≡ before → ReadsOnly mid now between after result
@@ -85,58 +87,14 @@ module _ {X : Type 0} {told now : Option Directory} {before after : ℕ} where
     sink = λ e. let is : s ≡ stop.SinkFault = cc in reads.sink (err-same is);
   }
 
-  -- a last part that asks for nothing
-  pub reads-asked : {IsOwn : Stop → Type 0} (result : Result X Stop) → now ≡ told → after ≡ before → AsksNothing IsOwn result → ReadsOnly told now before after result
-  reads-asked {IsOwn = IsOwn} result same quiet asks = record {
-    same = same;
-    later = omega (arith, quiet);
-    once = omega (arith, quiet);
-    quiet = none result asks;
-    cause = λ e untold. absurd (asks.file e);
-    usage = asks.usage;
-    sink = asks.sink;
-  }
-    where
-      none : (r : Result X Stop) → AsksNothing IsOwn r → NoneFailed r before after
-      none (Ok x) h = quiet
-      none (Err stop.FileFault) h = tt
-      none (Err s) h = quiet
-
   -- a table that was not read, of a file that is there where its contents are told
   module _ {mid : Option Directory} {name : List ℕ} {between : ℕ} where
     pub reads-no-table : (s : TocStop) → mid ≡ told → now ≡ mid → between ≡ before → PackageCause {T = Toc} mid name between after (Err s)
         → ReadsOnly {X = X} told now before after (Err (stop_of_table s))
-    reads-no-table (toc.Fault f) same still quiet h = record {
-      same = still ∙ same;
-      later = omega (arith, quiet, h.later);
-      once = omega (arith, quiet, h.once);
-      quiet = h.fault f refl ∙ quiet;
-      cause = λ e. absurd cc;
-      usage = λ e. absurd cc;
-      sink = λ e. absurd cc;
-    }
+    reads-no-table (toc.Fault f) same still quiet h =
+        reads-asked {IsOwn = λ s. Unit {0}} (Err (stop.NotFip f)) (still ∙ same) (h.fault f refl ∙ quiet)
+        (record { file = λ e. absurd cc; usage = λ e. absurd cc; sink = λ e. absurd cc; refusals = tt })
     reads-no-table toc.ReadFailed same still quiet h = record {
-      same = still ∙ same;
-      later = omega (arith, quiet, h.later);
-      once = omega (arith, quiet, h.once);
-      quiet = tt;
-      cause = λ e untold. failed told mid name before between after same quiet (h.failed refl) untold;
-      usage = λ e. absurd cc;
-      sink = λ e. absurd cc;
-    }
-
-    pub reads-no-items : (s : CapsuleStop) → mid ≡ told → now ≡ mid → between ≡ before → CapsuleCause {T = Toc} mid name between after (Err s)
-        → ReadsOnly {X = X} told now before after (Err (capsule_stopped_by s))
-    reads-no-items (items.Fault f) same still quiet h = record {
-      same = still ∙ same;
-      later = omega (arith, quiet, h.later);
-      once = omega (arith, quiet, h.once);
-      quiet = h.fault f refl ∙ quiet;
-      cause = λ e. absurd cc;
-      usage = λ e. absurd cc;
-      sink = λ e. absurd cc;
-    }
-    reads-no-items items.ReadFailed same still quiet h = record {
       same = still ∙ same;
       later = omega (arith, quiet, h.later);
       once = omega (arith, quiet, h.once);
@@ -168,11 +126,6 @@ module _ {H X : Type 0} {h : files.Ghosts H} {IsOther : Access → Type 0} {IsOw
     files = reads.files;
     refusals = if-err-as result Last IsOwn turns asks.refusals;
   }
-
-  -- a stop of a part
-  pub alone-stopped : {Y : Type 0} {s : Stop} {Part : Stop → Type 0} → IsOwn s → ReadsFilesAlone {X = Y} h IsOther Part start now (Err s)
-      → ReadsFilesAlone {X = X} h IsOther IsOwn start now (Err s)
-  alone-stopped own reads = record { only = reads-stopped refl refl reads.only; files = reads.files; refusals = own }
 
   pub alone-wider : {IsAny : Access → Type 0} {result : Result X Stop} → ((access : Access) → IsAny access → IsOther access)
       → ReadsFilesAlone h IsOther IsOwn start now result → ReadsFilesAlone h IsAny IsOwn start now result

@@ -1,15 +1,12 @@
 -- Which stops a part of a command may end with.
-use Rattle.std.proofs.Common.{◌≡◌, ℕ, List, [], ◌∷◌, length, Some, Result, Ok, Err}
+use Rattle.std.proofs.Common.{◌≡◌, Result, Ok, Err}
 use Rattle.std.specs.Prelude.{IfErr}
 use Rattle.fip_tables.specs.declared.toc.TocStop.{TocStop}
 use Rattle.fip_tables.specs.declared.toc.TocStop.TheVariants as toc
-use Rattle.capsule_tables.specs.declared.faults.CapsuleStop.{CapsuleStop}
 use Rattle.capsule_tables.specs.declared.faults.CapsuleStop.TheVariants as items
-use Rattle.fip_making.specs.Refusals.{IsOfCapsule, IsOfEnclosing, IsOfEntries, IsManifestStop, IsPackageStop, IsOfPackaging, IsOfPacking, IsOfRepacking, IsOfSource, Unstarved}
-use Rattle.fwu_formats.specs.Package.{Toc}
-use Rattle.fip_making.specs.Stops.{capsule_stopped_by, stop_of_table}
+use Rattle.fip_making.specs.Refusals.{IsOfEnclosing, IsOfEntries, IsManifestStop, IsPackageStop, IsOfPackaging, IsOfPacking, IsOfRepacking, IsOfSource}
+use Rattle.fip_making.specs.Stops.{stop_of_table}
 use Rattle.fip_making.specs.Answers.{IsLate}
-use Rattle.fip_making.specs.Values.{first_missing}
 use Rattle.fip_making.specs.declared.stops.Stop.{Stop}
 use Rattle.fip_making.specs.declared.stops.Stop.TheVariants as stop
 
@@ -23,11 +20,6 @@ pub if-err-all : {X : Type 0} (r : Result X Stop) (P : Stop → Type 0) → ((s 
 if-err-all (Ok x) P all = tt
 if-err-all (Err s) P all = all s
 
--- what takes no memory doesn't end for want of it
-pub never-starved : {X : Type 0} (P : Stop → Type 0) (r : Result X Stop) → IfErr r (Unstarved P) → r ≡ Err stop.NoMemory → ⊥
-never-starved P (Ok x) own e = cc
-never-starved P (Err s) own e = let same : s ≡ stop.NoMemory = cc in own.1 same
-
 pub toc-of-package : (s : TocStop) → IsPackageStop (stop_of_table s)
 toc-of-package (toc.Fault f) = tt
 toc-of-package toc.ReadFailed = tt
@@ -36,14 +28,6 @@ toc-of-package toc.ReadFailed = tt
 pub toc-needs-none : (s : TocStop) → stop_of_table s ≡ stop.NoMemory → ⊥
 toc-needs-none (toc.Fault f) e = cc
 toc-needs-none toc.ReadFailed e = cc
-
-pub items-need-none : (s : CapsuleStop) → capsule_stopped_by s ≡ stop.NoMemory → ⊥
-items-need-none (items.Fault f) e = cc
-items-need-none items.ReadFailed e = cc
-
-pub items-of-capsule : (s : CapsuleStop) → IsOfCapsule (capsule_stopped_by s)
-items-of-capsule (items.Fault f) = tt
-items-of-capsule items.ReadFailed = tt
 
 -- a late stop is of each kind that has the three of them
 late-is : (P : Stop → Type 0) → P stop.FileFault → P stop.SinkFault → P stop.NoMemory → (s : Stop) → IsLate s → P s
@@ -76,35 +60,6 @@ late-of-enclosing = late-is IsOfEnclosing tt tt tt
 pub late-of-packaging : (s : Stop) → IsLate s → IsOfPackaging s
 late-of-packaging = late-is IsOfPackaging tt tt tt
 
-pub package-of-entries : (s : Stop) → IsPackageStop s → IsOfEntries s
-package-of-entries (stop.NotFip f) h = tt
-package-of-entries s h = late-of-entries s h
-
-pub entries-of-repacking : (s : Stop) → IsOfEntries s → IsOfRepacking s
-entries-of-repacking (stop.NotPacked f) h = tt
-entries-of-repacking s h = h
-
 pub packing-of-repacking : (s : Stop) → IsOfPacking s → IsOfRepacking s
 packing-of-repacking (stop.NotPacked f) h = tt
 packing-of-repacking s h = late-of-repacking s h
-
-pub package-of-enclosing : (s : Stop) → IsPackageStop s → IsOfEnclosing s
-package-of-enclosing (stop.NotPacked f) h = tt
-package-of-enclosing s h = h
-
-pub packing-of-enclosing : (s : Stop) → IsOfPacking s → IsOfEnclosing s
-packing-of-enclosing (stop.NotPacked f) h = tt
-packing-of-enclosing s h = late-of-enclosing s h
-
-pub capsule-of-packaging : (s : Stop) → IsOfCapsule s → IsOfPackaging s
-capsule-of-packaging (stop.NotPacked f) h = tt
-capsule-of-packaging s h = h
-
-pub packing-of-packaging : (s : Stop) → IsOfPacking s → IsOfPackaging s
-packing-of-packaging (stop.NotPacked f) h = tt
-packing-of-packaging s h = late-of-packaging s h
-
--- where none is named none is missing
-pub none-missing : (t : Toc) (guids : List (List ℕ)) (guid : List ℕ) → length guids ≡ 0 → first_missing t guids ≡ Some guid → ⊥
-none-missing t [] guid none e = cc
-none-missing t (one ∷ guids) guid none e = cc

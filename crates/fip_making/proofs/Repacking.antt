@@ -14,7 +14,8 @@ use Rattle.fip_making.specs.Payloads.{HasEntry, bytes_in}
 use Rattle.fip_making.specs.Values.{after, first_missing, is_named, kept_part, pack_value, package_read_in, parts_in, remove_value, sized_table, table_or_stop, there, unless_missing, update_value, updated_part}
 use Rattle.fip_making.specs.declared.stops.Stop.{Stop}
 use Rattle.fwu_formats.proofs.Tables.{ends-within}
-use Rattle.fip_making.proofs.Packings.{entries-there}
+use Rattle.fip_making.proofs.Packings.{held-entries, held-stored, held-there}
+use Rattle.fip_making.proofs.Stopped.{err-of}
 
 -- ---- a table that has all named entries
 
@@ -64,9 +65,6 @@ pub stopped : {Y : Type 0} (told : Directory) (name : List ℕ) (guids : List (L
 unfolding sized_table
 stopped {Y} told name guids k s e = by-file (told name) e
   where
-    err-of : {A : Type 0} {a b : Stop} → ◌≡◌ {A = Result A Stop} (Err a) (Err b) → ◌≡◌ {A = Result Y Stop} (Err a) (Err b)
-    err-of {A} {a} {b} h = let same : a ≡ b = cc in ap (λ (x : Stop). Err x) same
-
     by-missing : (bytes : List ℕ) (found : Toc) (m : Option (List ℕ)) → unless_missing m (Ok found) ≡ Err s → unless_missing m (k (bytes, found)) ≡ Err s
     by-missing bytes found None h = cc
     by-missing bytes found (Some guid) h = err-of h
@@ -90,25 +88,21 @@ going-on told name guids toc k o =
 
 -- ---- what its file holds
 
-pub stored-of : (o p : Option Directory) (name : List ℕ) (guids : List (List ℕ)) (toc : Toc) → p ≡ o → ((told : Directory) → o ≡ Some told → table_with told name guids ≡ Ok toc)
-    → (bytes : List ℕ) → Tells p name bytes → All (λ e. e.offset + e.size ≤ length bytes) toc.entries
-stored-of o None name guids toc same knows bytes tells = absurd tells
-stored-of o (Some d) name guids toc same knows bytes tells =
-    let s = opened d name guids toc (knows d (sym same)) in
-    let both : ◌≡◌ {A = Option (List ℕ)} (Some s.bytes) (Some bytes) = sym s.is ∙ tells in
-    let is : s.bytes ≡ bytes = cc in
-    ends-within bytes toc (subst (λ (l : List ℕ). toc_of l ≡ Ok toc) is s.table)
+module _ (o p : Option Directory) (name : List ℕ) (guids : List (List ℕ)) (toc : Toc) (same : p ≡ o)
+    (knows : (told : Directory) → o ≡ Some told → table_with told name guids ≡ Ok toc) where
+  held : (told : Directory) → o ≡ Some told
+      → (bytes : List ℕ) × (told name ≡ Some bytes) × All (λ e. e.offset + e.size ≤ length bytes) toc.entries
+  held told e = let s = opened told name guids toc (knows told e) in (s.bytes, s.is, ends-within s.bytes toc s.table)
 
-pub there-of : (o p : Option Directory) (name : List ℕ) (guids : List (List ℕ)) (toc : Toc) → p ≡ o → ((told : Directory) → o ≡ Some told → table_with told name guids ≡ Ok toc) → Lacks p name → ⊥
-there-of o None name guids toc same knows lacks = lacks
-there-of o (Some d) name guids toc same knows lacks =
-    let s = opened d name guids toc (knows d (sym same)) in
-    let both : ◌≡◌ {A = Option (List ℕ)} (Some s.bytes) None = sym s.is ∙ lacks in
-    cc
+  pub stored-of : (bytes : List ℕ) → Tells p name bytes → All (λ e. e.offset + e.size ≤ length bytes) toc.entries
+  stored-of = held-stored o p name toc.entries same held
 
--- each entry's payload is there
-pub has-entries : (o p : Option Directory) (name : List ℕ) (guids : List (List ℕ)) (toc : Toc) → p ≡ o → ((told : Directory) → o ≡ Some told → table_with told name guids ≡ Ok toc) → All (HasEntry p name) toc.entries
-has-entries o p name guids toc same knows = entries-there p name toc.entries (there-of o p name guids toc same knows) (stored-of o p name guids toc same knows)
+  pub there-of : Lacks p name → ⊥
+  there-of = held-there o p name toc.entries same held
+
+  -- each entry's payload is there
+  pub has-entries : All (HasEntry p name) toc.entries
+  has-entries = held-entries o p name toc.entries same held
 
 -- ---- what is made of it
 

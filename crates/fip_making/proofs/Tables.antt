@@ -8,10 +8,11 @@ use Rattle.fip_tables.specs.Files.{IsTocAnswer, Lacks, Tells}
 use Rattle.fip_tables.specs.declared.toc.TocStop.{TocStop}
 use Rattle.fip_tables.specs.declared.toc.TocStop.TheVariants.{Fault, ReadFailed}
 use Rattle.fip_making.specs.Answers.{Gives}
-use Rattle.fip_making.specs.Values.{size_in, sized_table, there}
+use Rattle.fip_making.specs.Values.{after, size_in, sized_table, table_or_stop, there}
 use Rattle.fip_making.specs.Stops.{stop_of_table}
 use Rattle.fip_making.specs.declared.stops.Stop.{Stop}
 use Rattle.fip_making.specs.declared.stops.Stop.TheVariants as stop
+use Rattle.fip_making.proofs.Folds.{after-ok, is-there, made-by, stopped-by}
 
 pub rose-from : (a b c : ℕ) → a ≤ b → Rose b c → Rose a c
 rose-from a b c le (inl rose) = inl (omega arith)
@@ -56,36 +57,17 @@ if-ok-as (Err s) P Q turns h = h
 -- a file that has a size has bytes
 pub sized : (files : Directory) (name : List ℕ) (n : ℕ) → size_in files name ≡ Ok n → (bytes : List ℕ) × (files name ≡ Some bytes) × (length bytes ≡ n)
 unfolding size_in
-sized files name n e = go (files name) refl
-  where
-    go : (o : Option (List ℕ)) → files name ≡ o → (bytes : List ℕ) × (files name ≡ Some bytes) × (length bytes ≡ n)
-    go None is = let none : size_in files name ≡ Err stop.FileFault = rw is refl in absurd (ok-is-no-error (sym none ∙ e))
-      where
-        ok-is-no-error : {X : Type 0} {x : X} {s : Stop} → ◌≡◌ {A = Result X Stop} (Err s) (Ok x) → ⊥
-        ok-is-no-error h = cc
-    go (Some bytes) is = let some : size_in files name ≡ Ok (length bytes) = rw is refl in (bytes, is, same (sym some ∙ e))
-      where
-        same : {a b : ℕ} → ◌≡◌ {A = Result ℕ Stop} (Ok a) (Ok b) → a ≡ b
-        same h = cc
+sized files name n e =
+    let read = after-ok (there (files name)) (λ bytes. Ok (length bytes)) n e in
+    let long : length read.0 ≡ n = (let two = read.2 in cc) in
+    (read.0, is-there (files name) read.0 read.1, long)
 
 pub size-err : (files : Directory) (name : List ℕ) (s : Stop) → size_in files name ≡ Err s → sized_table files name ≡ Err s
 unfolding size_in sized_table
-size-err files name s e = go (files name) refl
-  where
-    go : (o : Option (List ℕ)) → files name ≡ o → sized_table files name ≡ Err s
-    go None is =
-        let none : size_in files name ≡ Err stop.FileFault = rw is refl in
-        let table : sized_table files name ≡ Err stop.FileFault = rw is refl in
-        let same : ◌≡◌ {A = Stop} stop.FileFault s = err-same (sym none ∙ e) in
-        table ∙ ap (λ (x : Stop). Err x) same
-      where
-        err-same : {a b : Stop} → ◌≡◌ {A = Result ℕ Stop} (Err a) (Err b) → a ≡ b
-        err-same h = cc
-    go (Some bytes) is =
-        let some : size_in files name ≡ Ok (length bytes) = rw is refl in absurd (no-error (sym some ∙ e))
-      where
-        no-error : {a : ℕ} {b : Stop} → ◌≡◌ {A = Result ℕ Stop} (Ok a) (Err b) → ⊥
-        no-error h = cc
+size-err files name s e =
+    stopped-by {W = Toc × ℕ} (made-by length)
+    (λ o. after {X = List ℕ × Toc} (after (there o) (λ bytes. after (table_or_stop (toc_of bytes)) (λ t. Ok (bytes, t))))
+    (λ p. Ok (p.1, length p.0))) refl (files name) s e
 
 pub table-ok : (files : Directory) (name bytes : List ℕ) (n : ℕ) (toc : Toc) → files name ≡ Some bytes → length bytes ≡ n → toc_of bytes ≡ Ok toc → sized_table files name ≡ Ok (toc, n)
 unfolding sized_table

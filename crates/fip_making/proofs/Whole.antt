@@ -6,10 +6,9 @@ use Rattle.host_io.specs.Whole.{HasFileCause, LacksFile}
 use Rattle.host_io.specs.declared.stops.ReadStop.{ReadStop}
 use Rattle.host_io.specs.declared.stops.ReadStop.TheVariants as read_stop
 use Rattle.std.specs.Global.{Global}
-use Rattle.fip_making.specs.Answers.{Gives, IsLate, ReadsOnly}
+use Rattle.fip_making.specs.Answers.{Gives}
 use Rattle.fip_making.specs.Values.{file_value, size_in, there}
 use Rattle.fip_making.specs.Stops.{unread_by}
-use Rattle.fip_making.proofs.ReadsBy.{reads-starved}
 use Rattle.fip_making.specs.declared.stops.Stop.TheVariants as stop
 use Rattle.fip_making.proofs.Tables.{sized}
 
@@ -44,23 +43,3 @@ module _ (o : Option Directory) (name : List ℕ) (before now : ℕ) where
         | inl rose ↦ inr rose
         | inr lacks ↦ inl (missing told name (subst (λ (d : Option Directory). LacksFile d name) e lacks))
       ]
-
-  pub reads-no-file : (now_told : Option Directory) (s : ReadStop) → now_told ≡ o → HasFileCause {T = Vec ℕ Global} o name before now (Err s)
-      → ReadsOnly {X = Vec ℕ Global} o now_told before now (Err (unread_by s))
-  reads-no-file now_told read_stop.NoMemory same h = reads-starved same (h.memory refl)
-  reads-no-file now_told read_stop.Failed same h = record {
-    same = same;
-    later = h.later;
-    once = h.once;
-    quiet = tt;
-    cause = λ e untold. elim (h.failed refl) [
-      | inl rose ↦ rose
-      | inr lacks ↦ absurd (subst (λ (d : Option Directory). LacksFile d name) untold lacks)
-    ];
-    usage = λ e. absurd cc;
-    sink = λ e. absurd cc;
-  }
-
-pub unread-late : (s : ReadStop) → IsLate (unread_by s)
-unread-late read_stop.Failed = tt
-unread-late read_stop.NoMemory = tt

@@ -21,9 +21,8 @@ use Rattle.capsule_tables.specs.Making.{IsCapsuleOf, capsule_bytes, make_fault}
 use Rattle.fwu_formats.specs.declared.kinds.CapsuleFault.{CapsuleFault}
 use Rattle.capsule_tables.proofs.ReadAgain.{made-is-read}
 use Rattle.capsule_tables.proofs.Within.{is-read, no-flags, types-sixteen}
-use Rattle.fip_words.specs.Order.{FipAsked, info, info_of_source, create, update, remove, unpack, manifest, capsule, repackage}
+use Rattle.fip_words.specs.Order.{FipAsked, info_of_source, capsule, repackage}
 use Rattle.fip_tool.specs.Converted.{Converts, IsEnclosed, IsPackaged}
-use Rattle.fip_making.specs.Stops.{status_number}
 use Rattle.fip_tool.specs.Steps.{Are, Did, Makes, Refuses, CommandStep, outcome_by, with_file, written}
 use Rattle.fip_making.specs.Values.{after, capsule_table, capsule_value, enclose_value, kept_part, pack_value, repackage_value, table_or_stop, there, unless_fault}
 use Rattle.fip_tool.specs.Tool.{encloses, outcome_of, packs}
@@ -80,13 +79,14 @@ done-has steps (Err s) files now was text rose spoiled sink-rose d = let no : Re
 abbrev enclosed_by : List ℕ × Toc → Result (ℕ × List ℕ) Stop
 enclosed_by p = enclose_value (map (kept_part p.0) p.1.entries)
 
+-- what was made had no fault
+fault-none : {X : Type 0} (o : Option PackFault) (x made : X) → unless_fault o x ≡ Ok made → (o ≡ None) × (made ≡ x)
+fault-none None x made e = (refl, cc)
+fault-none (Some f) x made e = absurd cc
+
 enclosed-is : (parts : List Part) (made : ℕ × List ℕ) → enclose_value parts ≡ Ok made → (make_fault parts ≡ None) × (made.1 ≡ capsule_bytes parts)
 unfolding enclose_value
-enclosed-is parts made e = go (make_fault parts) refl e
-  where
-    go : (o : Option PackFault) → make_fault parts ≡ o → unless_fault o (length parts, capsule_bytes parts) ≡ Ok made → (make_fault parts ≡ None) × (made.1 ≡ capsule_bytes parts)
-    go None is h = let same : (length parts, capsule_bytes parts) ≡ made = cc in (is, ap (λ (m : ℕ × List ℕ). m.1) (sym same))
-    go (Some f) is h = cc
+enclosed-is parts made e = let f = fault-none {X = ℕ × List ℕ} (make_fault parts) (length parts, capsule_bytes parts) made e in (f.0, ap (λ (m : ℕ × List ℕ). m.1) f.1)
 
 capsule-kept : (files : Directory) (now : Option Directory) (from out : List ℕ) (made : ℕ × List ℕ) → capsule_value files from ≡ Ok made → Are now (with_file out made.1 files) → IsEnclosed files now from out
 unfolding capsule_value
@@ -126,11 +126,8 @@ packed_by a p = pack_value p.1.serial p.1.flags (map (kept_part p.0) p.1.entries
 
 packed-is : (serial flags : ℕ) (parts : List Part) (a : ℕ) (made : ℕ × List ℕ) → pack_value serial flags parts a ≡ Ok made → (pack_fault parts a ≡ None) × (made.1 ≡ packed serial flags parts a)
 unfolding pack_value
-packed-is serial flags parts a made e = go (pack_fault parts a) refl e
-  where
-    go : (o : Option PackFault) → pack_fault parts a ≡ o → unless_fault o (length parts, packed serial flags parts a) ≡ Ok made → (pack_fault parts a ≡ None) × (made.1 ≡ packed serial flags parts a)
-    go None is h = let same : (length parts, packed serial flags parts a) ≡ made = cc in (is, ap (λ (m : ℕ × List ℕ). m.1) (sym same))
-    go (Some f) is h = cc
+packed-is serial flags parts a made e =
+    let f = fault-none {X = ℕ × List ℕ} (pack_fault parts a) (length parts, packed serial flags parts a) made e in (f.0, ap (λ (m : ℕ × List ℕ). m.1) f.1)
 
 package-kept : (files : Directory) (now : Option Directory) (a : ℕ) (from out : List ℕ) (made : ℕ × List ℕ) → repackage_value files a from ≡ Ok made → Are now (with_file out made.1 files) → IsPackaged files now from out
 unfolding repackage_value
@@ -171,22 +168,10 @@ package-kept files now a from out made value are = by-file (files from) refl val
 
 pub converted : (a : Option FipAsked) (files : Directory) (now : Option Directory) (was text : Option (List ℕ)) (rose spoiled sink-rose : Type 0)
     → (a ≢ Some info_of_source → Did (outcome_of a files) files now was text rose spoiled sink-rose (Ok tt)) → Converts a files now
-converted None files now was text rose spoiled sink-rose h = tt
 converted (Some (capsule from out)) files now was text rose spoiled sink-rose h =
     let d = done-has (encloses out) (capsule_value files from) files now was text rose spoiled sink-rose (h (λ e. cc)) in
     capsule-kept files now from out d.0 d.1 d.2
 converted (Some (repackage a from out)) files now was text rose spoiled sink-rose h =
     let d = done-has (packs out) (repackage_value files a from) files now was text rose spoiled sink-rose (h (λ e. cc)) in
     package-kept files now a from out d.0 d.1 d.2
-converted (Some (info file)) files now was text rose spoiled sink-rose h = tt
-converted (Some info_of_source) files now was text rose spoiled sink-rose h = tt
-converted (Some (create a out parts)) files now was text rose spoiled sink-rose h = tt
-converted (Some (update a from out parts)) files now was text rose spoiled sink-rose h = tt
-converted (Some (remove a from out names)) files now was text rose spoiled sink-rose h = tt
-converted (Some (unpack from prefix names)) files now was text rose spoiled sink-rose h = tt
-converted (Some (manifest out security rows)) files now was text rose spoiled sink-rose h = tt
-
--- no stop has the status 0
-pub no-zero : (s : Stop) → status_number s ≡ 0 → ⊥
-no-zero stop.Usage e = cc
-no-zero s e = cc
+converted a files now was text rose spoiled sink-rose h = tt

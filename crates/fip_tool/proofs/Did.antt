@@ -1,13 +1,13 @@
 -- What was done, from what the parts of a command answer.
 use Rattle.std.proofs.Common.{◌≡◌, ◌⊎◌, inl, inr, ℕ, List, [], ◌∷◌, Option, Some, None, Result, Ok, Err, refl, sym, ap, subst, append-nil}
 use Rattle.std.specs.Io.KnownBytes.{Appends}
-use Rattle.std.proofs.KnownBytes.{Appends-nil}
 use Rattle.host_io.specs.Contents.{Directory}
 use Rattle.fip_tool.specs.Steps.{CommandPlan, Makes, Refuses, CommandStep, Writes, Prints, Are, AreUpTo, StandAfter, Did, PrintedText, outcome_by}
 use Rattle.fip_making.specs.Answers.{Gives}
 use Rattle.fip_tool.specs.Tool.{prints}
 use Rattle.fip_making.specs.declared.stops.Stop.{Stop}
 use Rattle.fip_making.specs.declared.stops.Stop.TheVariants as stop
+use Rattle.fip_tool.proofs.Texts.{appends-same}
 
 pub are-told : (files : Directory) (now : Option Directory) → now ≡ Some files → Are now files
 are-told files None e = cc
@@ -19,21 +19,18 @@ are-up-to (Prints text ∷ steps) now files h = h
 are-up-to (Writes name bytes ∷ steps) None files h = absurd h
 are-up-to (Writes name bytes ∷ steps) (Some now) files h = λ other differs. h other
 
-pub appends-none : (was text : Option (List ℕ)) → text ≡ was → Appends was text []
-appends-none was text e = subst (λ (t : Option (List ℕ)). Appends was t []) (sym e) (Appends-nil was)
-
 -- a part that stopped before anything was done
 pub refused : {A X : Type 0} (steps : X → List CommandStep) (view : A → X) (value : Result X Stop) (files : Directory) (now : Option Directory) (was text : Option (List ℕ))
     (files-rose spoiled sink-rose : Type 0) (s : Stop) → Gives view files-rose value (Err s) → now ≡ Some files → text ≡ was
     → Did (outcome_by steps value) files now was text files-rose spoiled sink-rose (Err s)
-refused steps view value files now was text files-rose spoiled sink-rose stop.Usage g e t = (ap (outcome_by steps) g, are-told files now e, appends-none was text t)
+refused steps view value files now was text files-rose spoiled sink-rose stop.Usage g e t = (ap (outcome_by steps) g, are-told files now e, appends-same was text t)
 refused steps view value files now was text files-rose spoiled sink-rose stop.FileFault (inl g) e t =
-    (inl (ap (outcome_by steps) g), 0, inl (are-told files now e), appends-none was text t)
+    (inl (ap (outcome_by steps) g), 0, inl (are-told files now e), appends-same was text t)
 refused steps view value files now was text files-rose spoiled sink-rose stop.FileFault (inr g) e t =
-    (inr g, 0, inl (are-told files now e), appends-none was text t)
+    (inr g, 0, inl (are-told files now e), appends-same was text t)
 refused steps view value files now was text files-rose spoiled sink-rose stop.SinkFault g e t = absurd g
-refused steps view value files now was text files-rose spoiled sink-rose stop.NoMemory g e t = (0, are-told files now e, appends-none was text t)
-refused steps view value files now was text files-rose spoiled sink-rose s g e t = (ap (outcome_by steps) g, are-told files now e, appends-none was text t)
+refused steps view value files now was text files-rose spoiled sink-rose stop.NoMemory g e t = (0, are-told files now e, appends-same was text t)
+refused steps view value files now was text files-rose spoiled sink-rose s g e t = (ap (outcome_by steps) g, are-told files now e, appends-same was text t)
 
 -- a text that was made, and printed
 made : (piece : List ℕ) (files : Directory) (now : Option Directory) (was text : Option (List ℕ))
@@ -43,7 +40,7 @@ made piece files now was text files-rose spoiled sink-rose (Ok u) e p =
     (refl, are-told files now e, subst (Appends was text) (sym (append-nil piece)) p)
 made piece files now was text files-rose spoiled sink-rose (Err stop.SinkFault) e p =
     (p.0, 0, are-told files now e, p.1, p.2, tt)
-made piece files now was text files-rose spoiled sink-rose (Err stop.NoMemory) e p = (0, are-told files now e, appends-none was text p)
+made piece files now was text files-rose spoiled sink-rose (Err stop.NoMemory) e p = (0, are-told files now e, appends-same was text p)
 made piece files now was text files-rose spoiled sink-rose (Err s) e p = absurd p
 
 pub printed-text : (value : Result (List ℕ) Stop) (piece : List ℕ) (files : Directory) (now : Option Directory) (was text : Option (List ℕ))
@@ -70,7 +67,7 @@ did-later outcome files now was text rose late spoiled spoiled-late sink-rose (E
 -- want of memory before anything was done
 pub no-memory-yet : (outcome : CommandPlan) (files : Directory) (now : Option Directory) (was text : Option (List ℕ)) (files-rose spoiled sink-rose : Type 0) → now ≡ Some files → text ≡ was
     → Did outcome files now was text files-rose spoiled sink-rose (Err stop.NoMemory)
-no-memory-yet outcome files now was text files-rose spoiled sink-rose e t = (0, are-told files now e, appends-none was text t)
+no-memory-yet outcome files now was text files-rose spoiled sink-rose e t = (0, are-told files now e, appends-same was text t)
 
 -- the steps of a value that was made
 pub made-steps : {X : Type 0} (steps : X → List CommandStep) (value : Result X Stop) (x : X) (files : Directory) (now : Option Directory) (was text : Option (List ℕ)) (rose late spoiled spoiled-late sink-rose : Type 0)

@@ -3,7 +3,7 @@ use Rattle.std.proofs.Common.{◌≡◌, inl, inr, [], Option, Some, None, Resul
 use Rattle.std.specs.Prelude.{IsTrue}
 use Rattle.std.proofs.KnownBytes.{Appends-nil, Consumes-nil}
 use Rattle.std.proofs.lemmas.Bool.{false≢true}
-use Rattle.fip_words.specs.Order.{FipAsked, info_of_source}
+use Rattle.fip_words.specs.Order.{FipAsked}
 use Rattle.host_io.specs.Access.{Access}
 use Rattle.host_io.proofs.Once.{once-none}
 use Rattle.host_io.specs.declared.files.Files as files
@@ -13,10 +13,8 @@ use Rattle.fip_tool.proofs.Did.{are-told}
 use Rattle.fip_tool.proofs.FileFaults.{faults-none}
 use Rattle.fip_making.proofs.SourceLemmas.{nothing-read}
 use Rattle.fip_tool.proofs.WroteLemmas.{wrote-none}
-use Rattle.fip_making.proofs.Refusing.{if-err-all}
 use Rattle.fip_tool.proofs.Refusing.{memory-may}
-use Rattle.fip_tool.specs.Done.{CommandDone, DoneWithFiles, DoneWithSource, RefusesAlone}
-use Rattle.fip_making.specs.Stops.{status_number}
+use Rattle.fip_tool.specs.Done.{CommandDone, DoneWithFiles}
 use Rattle.fip_tool.specs.Tool.{asks_files}
 use Rattle.fip_making.specs.declared.stops.Stop.{Stop}
 use Rattle.fip_making.specs.declared.stops.Stop.TheVariants as stop
@@ -42,32 +40,6 @@ module _ {H I O : Type 0} {h : files.Ghosts H} {i : source.Ghosts I} {o : sink.G
         alone = done.alone;
         file_count = done.file_count;
         wrote = done.wrote;
-        later = done.later;
-        sink_count = done.sink_count;
-      })
-
-  -- a listing of the source does not touch the files
-  pub done-of-source : {asked : Option FipAsked} {result : Result (Unit {0}) Stop} {kept : H} {before after : I} {old new : O} → asked ≡ Some info_of_source
-      → DoneWithSource i o result before after old new
-      → ((access : Access) → h.spares kept kept access)
-      → CommandDone h i o asked result kept kept before after old new
-  done-of-source {result = result} {kept = kept} {before = before} {after = after} {old = old} {new = new} is done rest =
-      subst (λ (a : Option FipAsked). CommandDone h i o a result kept kept before after old new) (sym is) (record {
-        told = λ told e other. absurd (other refl);
-        source = λ same. done.listed (h.contents kept);
-        says = done.says;
-        words = λ none. absurd cc;
-        usage = λ e. absurd (done.usage e);
-        refusals = done.refusals;
-        source_stays = λ other. absurd (other refl);
-        once = done.once;
-        source_count = λ same. done.source_count;
-        files_stay = λ stays. refl;
-        cause = λ e untold. inr (done.cause e);
-        spares = λ access other. rest access;
-        alone = if-err-all result (λ s. RefusesAlone h (Some info_of_source) kept kept (status_number s)) (λ s refuses access other. rest access);
-        file_count = faults-none refl;
-        wrote = refl;
         later = done.later;
         sink_count = done.sink_count;
       })

@@ -1,5 +1,5 @@
 -- How the tool ends, from what was done and what was told of it.
-use Rattle.std.proofs.Common.{◌≡◌, ◌≢◌, ◌⊎◌, inl, inr, ℕ, List, [], Option, Ok, Err, take, refl, sym, subst}
+use Rattle.std.proofs.Common.{◌≡◌, ◌⊎◌, inl, inr, ℕ, List, [], Option, Ok, Err, take, refl, sym, subst}
 use Rattle.std.specs.Io.KnownBytes.{Appends}
 use Rattle.std.proofs.KnownBytes.{Appends-trans}
 use Rattle.host_io.specs.Contents.{Directory}
@@ -69,24 +69,12 @@ module _ (outcome : CommandPlan) (files : Directory) (now : Option Directory) (w
 
   pub ends : (s t : Stop) → Did outcome files now was mid files-rose spoiled sink-before (Err s) → Reported mid text sink-rose s t
       → EndedBy outcome files now was text files-rose spoiled sink-rose (Err t)
-  ends stop.Usage t d r = refused-ends stop.Usage t d (told stop.Usage d) r
   ends stop.FileFault t d r = failed-ends t d r
   ends stop.SinkFault t d r =
       at-stop r.0 (subst (λ (x : Option (List ℕ)). EndedBy outcome files now was x files-rose spoiled sink-rose (Err stop.SinkFault)) (sym r.1) (sink-failed d))
-  ends (stop.NotFip f) t d r = refused-ends (stop.NotFip f) t d (told (stop.NotFip f) d) r
-  ends (stop.NoSuchEntry guid) t d r = refused-ends (stop.NoSuchEntry guid) t d (told (stop.NoSuchEntry guid) d) r
-  ends (stop.NotPacked f) t d r = refused-ends (stop.NotPacked f) t d (told (stop.NotPacked f) d) r
-  ends (stop.NoManifest f) t d r = refused-ends (stop.NoManifest f) t d (told (stop.NoManifest f) d) r
-  ends stop.TooLong t d r = refused-ends stop.TooLong t d (told stop.TooLong d) r
-  ends (stop.NotCapsule f) t d r = refused-ends (stop.NotCapsule f) t d (told (stop.NotCapsule f) d) r
   ends stop.NoMemory t d r =
       at-stop r.0 (subst (λ (x : Option (List ℕ)). EndedBy outcome files now was x files-rose spoiled sink-rose (Err stop.NoMemory)) (sym r.1) (no-memory d))
-
--- what is told of a stop
-pub reported : (was text : Option (List ℕ)) (sink-rose : Type 0) (s t : Stop) → s ≢ stop.SinkFault → s ≢ stop.NoMemory → StopTold was text sink-rose s t → Reported was text sink-rose s t
-reported was text sink-rose stop.SinkFault t a b r = absurd (a refl)
-reported was text sink-rose stop.NoMemory t a b r = absurd (b refl)
-reported was text sink-rose s t a b r = r
+  ends s t d r = refused-ends s t d (told s d) r
 
 -- a sink that failed in a part failed in the whole
 pub reported-later : (was text : Option (List ℕ)) (rose late : Type 0) (s t : Stop) → (rose → late) → Reported was text rose s t → Reported was text late s t

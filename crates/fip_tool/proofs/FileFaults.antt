@@ -1,11 +1,10 @@
 -- How often a call of the files failed.
 use Rattle.std.proofs.Common.{◌≡◌, ◌∙◌, inl, inr, ℕ, Option, List, Result, Ok, Err, ap, arith, refl, sym}
-use Rattle.std.specs.Prelude.{◌==◌, ◌||◌, IsFalse}
 use Rattle.host_io.specs.Contents.{Directory}
 use Rattle.fip_tool.proofs.SourceFaults.{late}
 use Rattle.fip_tool.specs.Ends.{Reported}
 use Rattle.fip_making.specs.Stops.{status_number}
-use Rattle.fip_tool.specs.Steps.{FailsAtMostOnce, FaultsOnce}
+use Rattle.fip_tool.specs.Steps.{FaultsOnce}
 use Rattle.fip_making.specs.Answers.{NoneFailed, ReadsOnly, source_failed}
 use Rattle.std.proofs.KnownBytes.{Appends-trans}
 use Rattle.fip_words.specs.Order.{FipAsked}
@@ -38,28 +37,14 @@ faults-as {X = X} {Y = Y} {before = before} {after = after} {s = s} faults = rec
 
 -- ---- and by the exit status
 
-pub fails-done : (status before after : ℕ) → FaultsOnce {X = Unit {0}} before after (Ok tt) → FailsAtMostOnce status before after
-fails-done status before after faults = record { once = faults.once; none = λ other. faults.quiet }
-
-none-but : (was text : Option (List ℕ)) (rose : Type 0) (s now : Stop) (status before after : ℕ) → status ≡ status_number now → Reported was text rose s now → NoneFailed {X = Unit {0}} (Err s) before after
-    → IsFalse ((status == 2) || ((status == 3) || (status == 9))) → after ≡ before
-none-but was text rose stop.FileFault now status before after is r h o = late was text rose now status before after is r o
-none-but was text rose s now status before after is r h o = h
-
-pub fails-told : (was text : Option (List ℕ)) (rose : Type 0) (s now : Stop) (status before after : ℕ) → status ≡ status_number now → Reported was text rose s now → FaultsOnce {X = Unit {0}} before after (Err s)
-    → FailsAtMostOnce status before after
-fails-told was text rose s now status before after is r faults = record { once = faults.once; none = none-but was text rose s now status before after is r faults.quiet }
-
 pub sink-alone : (asked : Option FipAsked) (was mid text : Option (List ℕ)) (rose late : Type 0) (s now : Stop) (before after : ℕ) → status_number now ≡ 3 → Says (IsTextsOf asked) was mid rose (Err s) → Reported mid text late s now
-    → FaultsOnce {X = Unit {0}} before after (Err s) → SinkAlone asked was text before after
-sink-alone asked was mid text rose late stop.FileFault now before after three says (inl a) faults = let no : ◌≡◌ {A = ℕ} 2 3 = sym (ap status_number a.0) ∙ three in cc
-sink-alone asked was mid text rose late stop.FileFault now before after three says (inr (inl a)) faults = inr (says.0, says.1, a.2, Appends-trans was mid text says.0 _ says.2 a.3)
-sink-alone asked was mid text rose late stop.FileFault now before after three says (inr (inr a)) faults = let no : ◌≡◌ {A = ℕ} 9 3 = sym (ap status_number a.0) ∙ three in cc
-sink-alone asked was mid text rose late s now before after three says r faults = inl faults.quiet
+    → NoneFailed {X = Unit {0}} (Err s) before after → SinkAlone asked was text before after
+sink-alone asked was mid text rose late stop.FileFault now before after three says (inl a) quiet = let no : ◌≡◌ {A = ℕ} 2 3 = sym (ap status_number a.0) ∙ three in cc
+sink-alone asked was mid text rose late stop.FileFault now before after three says (inr (inl a)) quiet = inr (says.0, says.1, a.2, Appends-trans was mid text says.0 _ says.2 a.3)
+sink-alone asked was mid text rose late stop.FileFault now before after three says (inr (inr a)) quiet = let no : ◌≡◌ {A = ℕ} 9 3 = sym (ap status_number a.0) ∙ three in cc
+sink-alone asked was mid text rose late s now before after three says r quiet = inl quiet
 
-pub source-alone : (asked : Option FipAsked) (was mid text : Option (List ℕ)) (rose late : Type 0) (s now : Stop) (before after : ℕ) → status_number now ≡ 3 → Says (IsTextsOf asked) was mid rose (Err s) → Reported mid text late s now
-    → after ≡ source_failed s before → SinkAlone asked was text before after
-source-alone asked was mid text rose late stop.FileFault now before after three says (inl a) faults = let no : ◌≡◌ {A = ℕ} 2 3 = sym (ap status_number a.0) ∙ three in cc
-source-alone asked was mid text rose late stop.FileFault now before after three says (inr (inl a)) faults = inr (says.0, says.1, a.2, Appends-trans was mid text says.0 _ says.2 a.3)
-source-alone asked was mid text rose late stop.FileFault now before after three says (inr (inr a)) faults = let no : ◌≡◌ {A = ℕ} 9 3 = sym (ap status_number a.0) ∙ three in cc
-source-alone asked was mid text rose late s now before after three says r faults = inl faults
+-- where the source is known to have failed no more than that
+pub none-of-source : (s : Stop) (before after : ℕ) → after ≡ source_failed s before → NoneFailed {X = Unit {0}} (Err s) before after
+none-of-source stop.FileFault before after e = tt
+none-of-source s before after e = e

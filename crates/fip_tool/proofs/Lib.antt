@@ -1,4 +1,3 @@
-pub mod Completes
 pub mod Converted
 pub mod Did
 pub mod DoneBy
@@ -16,7 +15,6 @@ pub mod Torn
 pub mod UnpackLemmas
 pub mod UnpackWords
 pub mod UnpackedBy
-pub mod UsageEnds
 pub mod WritesBy
 pub mod WritingLemmas
 pub mod WroteLemmas

@@ -69,15 +69,3 @@ module _ (a : Option FipAsked) (was text : Option (List ℕ)) (rose : Type 0) wh
   reported-may stop.SinkFault t may h = subst (MayRefuse a) (sym h.0) may
   reported-may stop.NoMemory t may h = subst (MayRefuse a) (sym h.0) may
   reported-may s t may h = told-may s t may h
-
--- a refusal is the stop that was told
-module _ (was text : Option (List ℕ)) (rose : Type 0) (P : ℕ → Type 0) where
-  told-alone : (s t : Stop) → (IsRefusalStatus (status_number s) → P (status_number s)) → StopTold was text rose s t → IsRefusalStatus (status_number t) → P (status_number t)
-  told-alone s t alone (inl h) refuses = let same : t ≡ s = h.0 in subst (λ (x : Stop). P (status_number x)) (sym same) (alone (subst (λ (x : Stop). IsRefusalStatus (status_number x)) same refuses))
-  told-alone s t alone (inr (inl h)) refuses = absurd (late-unrefused stop.SinkFault tt (subst (λ (x : Stop). IsRefusalStatus (status_number x)) h.0 refuses))
-  told-alone s t alone (inr (inr h)) refuses = absurd (late-unrefused stop.NoMemory tt (subst (λ (x : Stop). IsRefusalStatus (status_number x)) h.0 refuses))
-
-  pub reported-alone : (s t : Stop) → (IsRefusalStatus (status_number s) → P (status_number s)) → Reported was text rose s t → IsRefusalStatus (status_number t) → P (status_number t)
-  reported-alone stop.SinkFault t alone h refuses = absurd (late-unrefused stop.SinkFault tt (subst (λ (x : Stop). IsRefusalStatus (status_number x)) h.0 refuses))
-  reported-alone stop.NoMemory t alone h refuses = absurd (late-unrefused stop.NoMemory tt (subst (λ (x : Stop). IsRefusalStatus (status_number x)) h.0 refuses))
-  reported-alone s t alone h refuses = told-alone s t alone h refuses

@@ -1,27 +1,13 @@
 -- How a listing of the source ends.
 use Rattle.std.proofs.Common.{◌≡◌, inl, inr, ℕ, List, Option, Some, Result, Ok, Err, refl, sym, ap, subst, ◌∙◌}
 use Rattle.std.specs.Io.KnownBytes.{Consumes, IsAtEnd}
-use Rattle.std.proofs.KnownBytes.{Appends-nil}
 use Rattle.fip_tool.specs.Ends.{Reported, StopTold}
 use Rattle.fip_making.specs.Stops.{status_number}
-use Rattle.fip_tool.specs.Steps.{Are, Did, PrintedText, outcome_by}
-use Rattle.fip_making.specs.Values.{GivenTo}
+use Rattle.fip_tool.specs.Steps.{Did, PrintedText, outcome_by}
 use Rattle.fip_tool.specs.Tool.{IsReadFor, given_value, no_files, prints}
 use Rattle.fip_making.specs.declared.stops.Stop.{Stop}
 use Rattle.fip_making.specs.declared.stops.Stop.TheVariants as stop
 use Rattle.fip_tool.proofs.Did.{printed-text}
-
-none-changed : Are (Some no_files) no_files
-none-changed = λ name. refl
-
--- a listing that stopped before it printed
-pub source-refused : {A : Type 0} (view : A → List ℕ) (was left text : Option (List ℕ)) (rose sink-rose : Type 0) (given : List ℕ) (s : Stop) → GivenTo view given_value was left rose (Err s) given
-    → IsReadFor (Err s) was left given × Did (outcome_by prints (given_value given)) no_files (Some no_files) text text rose ⊥ sink-rose (Err s)
-source-refused view was left text rose sink-rose given (stop.NotFip f) g = ((g.0, g.1), (ap (outcome_by prints) g.2, none-changed, Appends-nil text))
-source-refused view was left text rose sink-rose given stop.FileFault g = (g.0, (inr g.1, 0, inl none-changed, Appends-nil text))
-source-refused view was left text rose sink-rose given stop.NoMemory g = (g, (0, none-changed, Appends-nil text))
-source-refused view was left text rose sink-rose given stop.SinkFault g = absurd g
-source-refused view was left text rose sink-rose given s g = (g.0, (ap (outcome_by prints) g.1, none-changed, Appends-nil text))
 
 read-all : (was left taken text : Option (List ℕ)) (sink-rose : Type 0) (given piece : List ℕ) (r : Result (Unit {0}) Stop) → Consumes was left given → IsAtEnd left → PrintedText taken text sink-rose piece r → IsReadFor r was left given
 read-all was left taken text sink-rose given piece (Ok u) c e p = (c, e)

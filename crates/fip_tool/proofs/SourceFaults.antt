@@ -16,14 +16,6 @@ printed-quiet was text rose piece (Ok u) n p = refl
 printed-quiet was text rose piece (Err stop.FileFault) n p = absurd p
 printed-quiet was text rose piece (Err s) n p = refl
 
--- all was read
-pub none-failed : (status before after : ℕ) → status ≡ 0 → after ≡ before → FailsOnceAt status before after
-none-failed status before after zero same = record {
-  once = inl same;
-  failed = λ two. (let no : ◌≡◌ {A = ℕ} 0 2 = sym zero ∙ two in cc);
-  none = λ other. same;
-}
-
 none-by : (taken text : Option (List ℕ)) (rose : Type 0) (s now : Stop) (status before after : ℕ) → s ≢ stop.FileFault → status ≡ status_number now → Reported taken text rose s now → after ≡ before
     → FailsOnceAt status before after
 none-by taken text rose s now status before after other is r same = record {

@@ -5,7 +5,6 @@ use Rattle.std.proofs.Math.Seq.{drop-append_seam, take-append_seam}
 use Rattle.std.specs.Io.KnownBytes.{Appends}
 use Rattle.std.proofs.KnownBytes.{Appends-nil, Appends-trans}
 use Rattle.fip_tool.specs.Ends.{Reported, StopTold, stop_line}
-use Rattle.fip_making.specs.Stops.{status_number}
 use Rattle.fip_tool.specs.Lines.{made_line}
 use Rattle.fip_tool.specs.Said.{IsBefore, IsBegunText, IsCutText, IsMadeLine, Says, SaysAll, half_of, joined_texts}
 use Rattle.fip_making.specs.Answers.{IsLate}
@@ -62,6 +61,23 @@ pub joined-append : (a b : List (List ℕ)) → joined_texts (a ++ b) ≡ joined
 joined-append [] b = refl
 joined-append (t ∷ a) b = ap (λ (l : List ℕ). t ++ l) (joined-append a b) ∙ sym (append_assoc t (joined_texts a) (joined_texts b))
 
+pub front : (before : List (List ℕ)) (line : List ℕ) (after all : List (List ℕ)) → all ≡ before ++ (line ∷ after) → take (length before) all ≡ before
+front before line after all is = ap (take (length before)) is ∙ take-append_seam before (line ∷ after)
+
+pub back : (before : List (List ℕ)) (line : List ℕ) (after all : List (List ℕ)) → all ≡ before ++ (line ∷ after) → drop (length before) all ≡ line ∷ after
+back before line after all is = ap (drop (length before)) is ∙ drop-append_seam before (line ∷ after)
+
+pub none-of-one : (line said : List ℕ) → IsBegunText (λ texts. texts ≡ line ∷ []) said → said ≡ []
+none-of-one line said (inl e) = e
+none-of-one line said (inr b) =
+    let zero-is : b.2 ≡ 0 = omega (arith, b.3, ap length b.1) in
+    b.4 ∙ ap (λ (n : ℕ). joined_texts (take n b.0)) zero-is
+
+pub front-of-one : (line : List ℕ) (texts : List (List ℕ)) → texts ≡ line ∷ [] → (n k : ℕ) → n < length texts → joined_texts (take n texts) ++ half_of k (drop n texts) ≡ take k line
+front-of-one line texts is n k lt =
+    let zero-is : n ≡ 0 = omega (arith, lt, ap length is) in
+    ap (λ (m : ℕ). joined_texts (take m texts) ++ half_of k (drop m texts)) zero-is ∙ ap (half_of k) is
+
 -- a stop at one text, behind texts that were printed and before others
 module _ (before : List (List ℕ)) (line : List ℕ) (after all : List (List ℕ)) (is : all ≡ before ++ (line ∷ after)) (was at text : Option (List ℕ)) (rose late : Type 0) (rises : rose → late)
     (so-far : Appends was at (joined_texts before)) where
@@ -74,32 +90,18 @@ module _ (before : List (List ℕ)) (line : List ℕ) (after all : List (List �
   within : length before < length all
   within = omega (arith, ap length is, length-append before (line ∷ after))
 
-  front : take (length before) all ≡ before
-  front = ap (take (length before)) is ∙ take-append_seam before (line ∷ after)
-
-  back : drop (length before) all ≡ line ∷ after
-  back = ap (drop (length before)) is ∙ drop-append_seam before (line ∷ after)
-
-  none-of-one : (texts : List (List ℕ)) (n : ℕ) → One texts → n < length texts → n ≡ 0
-  none-of-one texts n one lt = omega (arith, lt, ap length one)
-
-  begun : (said : List ℕ) → IsBegunText One said → said ≡ []
-  begun said (inl e) = e
-  begun said (inr b) = b.4 ∙ ap (λ (n : ℕ). joined_texts (take n b.0)) (none-of-one b.0 b.2 b.1 b.3)
-
   whole : (said : List ℕ) → IsBegunText One said → Appends at text said → (x : List ℕ) × IsBegunText All x × Appends was text x
   whole said b a =
-      let none = begun said b in
+      let none = none-of-one line said b in
       let here : Appends at text [] = subst (Appends at text) none a in
-      (joined_texts before, inr (all, refl, length before, within, sym (ap joined_texts front)), subst (Appends was text) (append-nil (joined_texts before)) (Appends-trans was at text (joined_texts before) [] so-far here))
+      (joined_texts before, inr (all, refl, length before, within, sym (ap joined_texts (front before line after all is))), subst (Appends was text) (append-nil (joined_texts before)) (Appends-trans was at text (joined_texts before) [] so-far here))
 
   cut : IsCutText One at text → IsCutText All was text
   cut h =
-      let zero-is = none-of-one h.0 h.2 h.1 h.3 in
-      let here : joined_texts (take h.2 h.0) ++ half_of h.4 (drop h.2 h.0) ≡ take h.4 line =
-      ap (λ (n : ℕ). joined_texts (take n h.0) ++ half_of h.4 (drop n h.0)) zero-is ∙ ap (half_of h.4) h.1 in
+      let here = front-of-one line h.0 h.1 h.2 h.4 h.3 in
       let there : joined_texts (take (length before) all) ++ half_of h.4 (drop (length before) all) ≡ joined_texts before ++ take h.4 line =
-      ap (λ (ts : List (List ℕ)). joined_texts ts ++ half_of h.4 (drop (length before) all)) front ∙ ap (λ (ts : List (List ℕ)). joined_texts before ++ half_of h.4 ts) back in (
+      ap (λ (ts : List (List ℕ)). joined_texts ts ++ half_of h.4 (drop (length before) all)) (front before line after all is)
+      ∙ ap (λ (ts : List (List ℕ)). joined_texts before ++ half_of h.4 ts) (back before line after all is) in (
         all,
         refl,
         length before,
@@ -147,11 +149,3 @@ module _ (T : List (List ℕ) → Type 0) (was mid text : Option (List ℕ)) (ea
       at-stop r.0 (rises h.0, inl (subst (λ (x : Option (List ℕ)). IsCutText T was x) (sym r.1) h.1))
   says-ends stop.NoMemory t h r = at-stop r.0 (h.0, h.1, subst (λ (x : Option (List ℕ)). Appends was x h.0) (sym r.1) h.2)
   says-ends s t h r = ended s t ([], refl, appends-same was mid h) (λ w. w) none-yet r
-
--- status 3 comes where the sink failed alone
-three : (s : Stop) → status_number s ≡ 3 → s ≡ stop.SinkFault
-three stop.SinkFault e = refl
-three s e = cc
-
-pub sink-rose : (T : List (List ℕ) → Type 0) (was text : Option (List ℕ)) (rose : Type 0) (t : Stop) → status_number t ≡ 3 → SaysAll T was text rose (Err t) → rose
-sink-rose T was text rose t e h = (subst (λ (s : Stop). SaysAll T was text rose (Err s)) (three t e) h).0

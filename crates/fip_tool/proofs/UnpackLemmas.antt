@@ -13,7 +13,7 @@ use Rattle.fip_words.specs.Values.{bin, is_lower_guid, is_unpacked}
 use Rattle.std.proofs.lemmas.List.Elements.{filter-append}
 use Rattle.std.specs.Str.{bytes_eq}
 use Rattle.std.specs.Io.KnownBytes.{Appends}
-use Rattle.std.proofs.KnownBytes.{Appends-nil, Appends-trans}
+use Rattle.std.proofs.KnownBytes.{Appends-trans}
 use Rattle.host_io.specs.Contents.{Directory}
 use Rattle.fip_tables.specs.Files.{Lacks, Tells}
 use Rattle.fwu_formats.specs.Package.{Entry, payload, Toc}
@@ -58,9 +58,6 @@ are-up-to-along (Writes name bytes ∷ rest) a b (Some now) h are = λ other dif
 pub record IsDone (steps : List CommandStep) (files now : Directory) (was text : Option (List ℕ)) : Type 0 where
   pub are : (name : List ℕ) → now name ≡ written steps files name
   pub said : Appends was text (printed steps)
-
-pub nothing-done : (files : Directory) (was : Option (List ℕ)) → IsDone [] files files was was
-nothing-done files was = record { are = λ name. refl; said = Appends-nil was }
 
 written-then : (first steps : List CommandStep) (files mid : Directory) → ((name : List ℕ) → mid name ≡ written first files name)
     → (name : List ℕ) → written steps mid name ≡ written (first ++ steps) files name
@@ -235,73 +232,39 @@ pub record IsUnpacking (prefix from bytes : List ℕ) (entries : List Entry) (to
   pub stored : now from ≡ Some bytes
   pub done : IsDone (unpack_steps prefix bytes entries) told now was text
 
-pub begins : (prefix from bytes : List ℕ) (told : Directory) (contents : Option Directory) (was : Option (List ℕ)) → contents ≡ Some told → told from ≡ Some bytes
-    → IsUnpacking prefix from bytes [] told contents was was
-begins prefix from bytes told contents was is stored = record { now = told; is = is; stored = stored; done = nothing-done told was }
-
-pub one-more : (prefix from bytes : List ℕ) (entries : List Entry) (e : Entry) (told : Directory) (mid contents : Option Directory) (was at text : Option (List ℕ)) (rose spoiled sink-rose : Type 0) (u : Unit {0})
-    → (s : IsUnpacking prefix from bytes entries told mid was at) → from ≢ unpacked_name prefix e.guid
-    → Did (Makes (unpack_steps prefix bytes (e ∷ []))) s.now contents at text rose spoiled sink-rose (Ok u) → IsUnpacking prefix from bytes (entries ++ (e ∷ [])) told contents was text
-one-more prefix from bytes entries e told mid contents was at text rose spoiled sink-rose u s other did =
-    let n = are-now (unpack_steps prefix bytes (e ∷ [])) s.now contents at text rose spoiled sink-rose u did in record {
-      now = n.0;
-      is = n.1;
-      stored = kept prefix bytes from e s.now n.0 at text other n.2 ∙ s.stored;
-      done = subst (λ (l : List CommandStep). IsDone l told n.0 was text) (sym (unpack-append prefix bytes entries (e ∷ [])))
-          (done-then (unpack_steps prefix bytes entries) (unpack_steps prefix bytes (e ∷ [])) told s.now n.0 was at text s.done n.2);
-    }
-
-pub one-stops : (prefix from bytes : List ℕ) (entries : List Entry) (e : Entry) (left : List Entry) (told : Directory) (mid contents : Option Directory) (was at text : Option (List ℕ)) (rose late spoiled spoiled-late sink-rose sink-late : Type 0)
-    (x : Stop) → (rose → late) → (spoiled → spoiled-late) → (sink-rose → sink-late) → (s : IsUnpacking prefix from bytes entries told mid was at)
-    → Did (Makes (unpack_steps prefix bytes (e ∷ []))) s.now contents at text rose spoiled sink-rose (Err x)
-    → Did (Makes (unpack_steps prefix bytes (entries ++ (e ∷ left)))) told contents was text late spoiled-late sink-late (Err x)
-one-stops prefix from bytes entries e left told mid contents was at text rose late spoiled spoiled-late sink-rose sink-late x rises spoils sink-rises s did =
-    let split : unpack_steps prefix bytes (entries ++ (e ∷ left)) ≡ unpack_steps prefix bytes entries ++ (unpack_steps prefix bytes (e ∷ []) ++ unpack_steps prefix bytes left) =
-    unpack-append prefix bytes entries (e ∷ left) in
-    subst (λ (l : List CommandStep). Did (Makes l) told contents was text late spoiled-late sink-late (Err x)) (sym split)
-    (stops (unpack_steps prefix bytes entries) (unpack_steps prefix bytes (e ∷ [])) (unpack_steps prefix bytes left) told s.now contents was at text rose late spoiled spoiled-late sink-rose sink-late s.done rises spoils sink-rises x did)
-
-pub ends : (prefix from bytes : List ℕ) (entries : List Entry) (told : Directory) (contents : Option Directory) (was text : Option (List ℕ)) (rose spoiled sink-rose : Type 0) (u : Unit {0})
-    → IsUnpacking prefix from bytes entries told contents was text → Did (Makes (unpack_steps prefix bytes entries)) told contents was text rose spoiled sink-rose (Ok u)
-ends prefix from bytes entries told contents was text rose spoiled sink-rose u s =
-    subst (λ (o : Option Directory). Did (Makes (unpack_steps prefix bytes entries)) told o was text rose spoiled sink-rose (Ok u)) (sym s.is)
-    (did-all (unpack_steps prefix bytes entries) told s.now was text rose spoiled sink-rose u s.done)
-
 -- ---- the file that is read stays
 
 module _ (prefix from : List ℕ) (es : List Entry) (start now : Option Directory) (was text : Option (List ℕ)) (silent : start ≡ None → now ≡ None) (there : Lacks start from → ⊥)
     (so-far : (told : Directory) (bytes : List ℕ) → start ≡ Some told → told from ≡ Some bytes → IsUnpacking prefix from bytes es told now was text) where
-  -- what is told of it now was told
-  pub tells-still : (bytes : List ℕ) → Tells now from bytes → Tells start from bytes
-  tells-still bytes tells = go start silent there so-far
+  -- nothing is told before and now, or what is told of it now was told
+  still : ((now ≡ None) × (start ≡ None)) ⊎ ((d : Directory) × (n : Directory) × (start ≡ Some d) × (now ≡ Some n) × (n from ≡ d from))
+  still = go start refl
     where
-      go : (start : Option Directory) → (start ≡ None → now ≡ None) → (Lacks start from → ⊥)
-          → ((told : Directory) (bytes : List ℕ) → start ≡ Some told → told from ≡ Some bytes → IsUnpacking prefix from bytes es told now was text) → Tells start from bytes
-      go None silent there so-far = subst (λ (o : Option Directory). Tells o from bytes) (silent refl) tells
-      go (Some d) silent there so-far = by (d from) refl
+      go : (o : Option Directory) → start ≡ o
+          → ((now ≡ None) × (start ≡ None)) ⊎ ((d : Directory) × (n : Directory) × (start ≡ Some d) × (now ≡ Some n) × (n from ≡ d from))
+      go None none = inl (silent none, none)
+      go (Some d) is = by (d from) refl
         where
-          by : (o : Option (List ℕ)) → d from ≡ o → d from ≡ Some bytes
-          by None is = absurd (there is)
-          by (Some b) is =
-              let s = so-far d b refl is in
-              let still : s.now from ≡ Some bytes = subst (λ (o : Option Directory). Tells o from bytes) s.is tells in
-              is ∙ sym s.stored ∙ still
+          by : (b : Option (List ℕ)) → d from ≡ b
+              → ((now ≡ None) × (start ≡ None)) ⊎ ((d : Directory) × (n : Directory) × (start ≡ Some d) × (now ≡ Some n) × (n from ≡ d from))
+          by None lacks = absurd (there (subst (λ (o : Option Directory). Lacks o from) (sym is) lacks))
+          by (Some b) tells = let s = so-far d b is tells in inr (d, s.now, is, s.is, s.stored ∙ sym tells)
+
+  pub tells-still : (bytes : List ℕ) → Tells now from bytes → Tells start from bytes
+  tells-still bytes tells = elim still [
+    | inl none ↦ subst (λ (o : Option Directory). Tells o from bytes) (none.0 ∙ sym none.1) tells
+    | inr k ↦
+        let told : k.1 from ≡ Some bytes = subst (λ (o : Option Directory). Tells o from bytes) k.3 tells in
+        subst (λ (o : Option Directory). Tells o from bytes) (sym k.2) (sym k.4 ∙ told)
+  ]
 
   pub there-still : Lacks now from → ⊥
-  there-still lacks = go start silent there so-far
-    where
-      go : (start : Option Directory) → (start ≡ None → now ≡ None) → (Lacks start from → ⊥)
-          → ((told : Directory) (bytes : List ℕ) → start ≡ Some told → told from ≡ Some bytes → IsUnpacking prefix from bytes es told now was text) → ⊥
-      go None silent there so-far = subst (λ (o : Option Directory). Lacks o from) (silent refl) lacks
-      go (Some d) silent there so-far = by (d from) refl
-        where
-          by : (o : Option (List ℕ)) → d from ≡ o → ⊥
-          by None is = there is
-          by (Some b) is =
-              let s = so-far d b refl is in
-              let gone : s.now from ≡ None = subst (λ (o : Option Directory). Lacks o from) s.is lacks in
-              let no : ◌≡◌ {A = Option (List ℕ)} (Some b) None = sym s.stored ∙ gone in
-              cc
+  there-still lacks = elim still [
+    | inl none ↦ there (subst (λ (o : Option Directory). Lacks o from) (none.0 ∙ sym none.1) lacks)
+    | inr k ↦
+        let gone : k.1 from ≡ None = subst (λ (o : Option Directory). Lacks o from) k.3 lacks in
+        there (subst (λ (o : Option Directory). Lacks o from) (sym k.2) (sym k.4 ∙ gone))
+  ]
 
 -- ---- one payload
 
@@ -323,29 +286,21 @@ entry-did prefix bytes e name shown out line told now was text rose late spoiled
 -- ---- one entry after the other
 
 module _ (p : Entry → Bool) (es : List Entry) (i : ℕ) (e : Entry) (lt : i < length es) (here : get_or es i e ≡ e) where
+  next-is : filter p (take (i + 1) es) ≡ filter p (take i es) ++ cond (p e) (e ∷ []) []
+  next-is = ap (filter p) (take_more es i e lt ∙ ap (λ (x : Entry). take i es ++ (x ∷ [])) here) ∙ filter-append p (take i es) (e ∷ [])
+
   pub next-chosen : p e ≡ true → filter p (take (i + 1) es) ≡ filter p (take i es) ++ (e ∷ [])
-  next-chosen h =
-      ap (filter p) (take_more es i e lt ∙ ap (λ (x : Entry). take i es ++ (x ∷ [])) here) ∙ filter-append p (take i es) (e ∷ []) ∙ ap (λ (l : List Entry). filter p (take i es) ++ l) (one (p e) h)
-    where
-      one : (b : Bool) → b ≡ true → cond b (e ∷ []) [] ≡ e ∷ []
-      one true q = refl
-      one false q = cc
+  next-chosen h = next-is ∙ ap (λ (b : Bool). filter p (take i es) ++ cond b (e ∷ []) []) h
 
   pub next-passed : p e ≡ false → filter p (take (i + 1) es) ≡ filter p (take i es)
-  next-passed h =
-      ap (filter p) (take_more es i e lt ∙ ap (λ (x : Entry). take i es ++ (x ∷ [])) here) ∙ filter-append p (take i es) (e ∷ []) ∙ ap (λ (l : List Entry). filter p (take i es) ++ l) (one (p e) h) ∙ append-nil (filter p (take i es))
-    where
-      one : (b : Bool) → b ≡ false → cond b (e ∷ []) [] ≡ []
-      one true q = cc
-      one false q = refl
+  next-passed h = next-is ∙ ap (λ (b : Bool). filter p (take i es) ++ cond b (e ∷ []) []) h ∙ append-nil (filter p (take i es))
 
   pub split-chosen : p e ≡ true → filter p es ≡ filter p (take i es) ++ (e ∷ filter p (drop (i + 1) es))
   split-chosen h =
-      ap (filter p) (sym (take-append-drop i es)) ∙ filter-append p (take i es) (drop i es) ∙ ap (λ (l : List Entry). filter p (take i es) ++ l) (ap (filter p) (drop_more es i e lt ∙ ap (λ (x : Entry). x ∷ drop (i + 1) es) here) ∙ one (p e) h)
-    where
-      one : (b : Bool) → b ≡ true → cond b (e ∷ filter p (drop (i + 1) es)) (filter p (drop (i + 1) es)) ≡ e ∷ filter p (drop (i + 1) es)
-      one true q = refl
-      one false q = cc
+      let rest : List Entry = filter p (drop (i + 1) es) in
+      ap (filter p) (sym (take-append-drop i es)) ∙ filter-append p (take i es) (drop i es)
+      ∙ ap (λ (l : List Entry). filter p (take i es) ++ filter p l) (drop_more es i e lt ∙ ap (λ (x : Entry). x ∷ drop (i + 1) es) here)
+      ∙ ap (λ (b : Bool). filter p (take i es) ++ cond b (e ∷ rest) rest) h
 
 module _ (prefix from bytes : List ℕ) (p : Entry → Bool) (es : List Entry) (i : ℕ) (told : Directory) (was : Option (List ℕ)) where
   pub step-passed : (e : Entry) → i < length es → get_or es i e ≡ e → (contents : Option Directory) (text : Option (List ℕ)) → IsUnpacking prefix from bytes (filter p (take i es)) told contents was text
@@ -357,20 +312,32 @@ module _ (prefix from bytes : List ℕ) (p : Entry → Bool) (es : List Entry) (
     pub step-done : (u : Unit {0}) → p e ≡ true → from ≢ unpacked_name prefix e.guid
         → Did (Makes (unpack_steps prefix bytes (e ∷ []))) s.now contents at text rose spoiled sink-rose (Ok u) → IsUnpacking prefix from bytes (filter p (take (i + 1) es)) told contents was text
     step-done u h other did =
-        subst (λ (l : List Entry). IsUnpacking prefix from bytes l told contents was text) (sym (next-chosen p es i e lt here h))
-        (one-more prefix from bytes (filter p (take i es)) e told mid contents was at text rose spoiled sink-rose u s other did)
+        let n = are-now (unpack_steps prefix bytes (e ∷ [])) s.now contents at text rose spoiled sink-rose u did in
+        let split : unpack_steps prefix bytes (filter p (take (i + 1) es)) ≡ unpack_steps prefix bytes (filter p (take i es)) ++ unpack_steps prefix bytes (e ∷ []) =
+        ap (unpack_steps prefix bytes) (next-chosen p es i e lt here h) ∙ unpack-append prefix bytes (filter p (take i es)) (e ∷ []) in record {
+          now = n.0;
+          is = n.1;
+          stored = kept prefix bytes from e s.now n.0 at text other n.2 ∙ s.stored;
+          done = subst (λ (steps : List CommandStep). IsDone steps told n.0 was text) (sym split)
+              (done-then (unpack_steps prefix bytes (filter p (take i es))) (unpack_steps prefix bytes (e ∷ [])) told s.now n.0 was at text s.done n.2);
+        }
 
     pub step-stops : (late spoiled-late sink-late : Type 0) (x : Stop) → (rose → late) → (spoiled → spoiled-late) → (sink-rose → sink-late) → p e ≡ true
         → Did (Makes (unpack_steps prefix bytes (e ∷ []))) s.now contents at text rose spoiled sink-rose (Err x) → Did (Makes (unpack_steps prefix bytes (filter p es))) told contents was text late spoiled-late sink-late (Err x)
     step-stops late spoiled-late sink-late x rises spoils sink-rises h did =
-        subst (λ (l : List Entry). Did (Makes (unpack_steps prefix bytes l)) told contents was text late spoiled-late sink-late (Err x)) (sym (split-chosen p es i e lt here h))
-        (one-stops prefix from bytes (filter p (take i es)) e (filter p (drop (i + 1) es)) told mid contents was at text rose late spoiled spoiled-late sink-rose sink-late x rises spoils sink-rises s did)
+        let left = filter p (drop (i + 1) es) in
+        let split : unpack_steps prefix bytes (filter p es) ≡ unpack_steps prefix bytes (filter p (take i es)) ++ (unpack_steps prefix bytes (e ∷ []) ++ unpack_steps prefix bytes left) =
+        ap (unpack_steps prefix bytes) (split-chosen p es i e lt here h) ∙ unpack-append prefix bytes (filter p (take i es)) (e ∷ left) in
+        subst (λ (steps : List CommandStep). Did (Makes steps) told contents was text late spoiled-late sink-late (Err x)) (sym split)
+        (stops (unpack_steps prefix bytes (filter p (take i es))) (unpack_steps prefix bytes (e ∷ [])) (unpack_steps prefix bytes left) told s.now contents was at text
+        rose late spoiled spoiled-late sink-rose sink-late s.done rises spoils sink-rises x did)
 
   pub all-done : (contents : Option Directory) (text : Option (List ℕ)) (rose spoiled sink-rose : Type 0) (u : Unit {0}) → length es ≤ i → IsUnpacking prefix from bytes (filter p (take i es)) told contents was text
       → Did (Makes (unpack_steps prefix bytes (filter p es))) told contents was text rose spoiled sink-rose (Ok u)
   all-done contents text rose spoiled sink-rose u far s =
-      ends prefix from bytes (filter p es) told contents was text rose spoiled sink-rose u
-      (subst (λ (l : List Entry). IsUnpacking prefix from bytes (filter p l) told contents was text) (take_all i es far) s)
+      subst (λ (o : Option Directory). Did (Makes (unpack_steps prefix bytes (filter p es))) told o was text rose spoiled sink-rose (Ok u)) (sym s.is)
+      (did-all (unpack_steps prefix bytes (filter p es)) told s.now was text rose spoiled sink-rose u
+      (subst (λ (l : List Entry). IsDone (unpack_steps prefix bytes (filter p l)) told s.now was text) (take_all i es far) s.done))
 
 pub unpack-of : (told : Directory) (name : List ℕ) (guids : List (List ℕ)) (toc : Toc) (o : IsOpened told name guids toc) → unpack_value told name guids ≡ Ok (o.bytes, chosen guids toc.entries)
 unfolding unpack_value

@@ -20,46 +20,30 @@ module _ (from prefix : List ℕ) (names : List (List ℕ)) where
       go false h = cc
 
   create-is-none : (align : Option ℕ) (out : Option (List ℕ)) (parts : Option (List NamedFile)) → Is (create_by align out parts) → ⊥
-  create-is-none None out parts e = cc
-  create-is-none (Some a) None parts e = cc
-  create-is-none (Some a) (Some o) None e = cc
   create-is-none (Some a) (Some o) (Some ps) e = cc
+  create-is-none align out parts e = cc
 
   update-is-none : (align : Option ℕ) (in_file out : Option (List ℕ)) (parts : Option (List NamedFile)) → Is (update_by align in_file out parts) → ⊥
-  update-is-none None i out parts e = cc
-  update-is-none (Some a) None out parts e = cc
-  update-is-none (Some a) (Some i) None parts e = cc
-  update-is-none (Some a) (Some i) (Some o) None e = cc
   update-is-none (Some a) (Some i) (Some o) (Some ps) e = cc
+  update-is-none align in_file out parts e = cc
 
   remove-is-none : (align : Option ℕ) (in_file out : Option (List ℕ)) (ns : Option (List (List ℕ))) → Is (remove_by align in_file out ns) → ⊥
-  remove-is-none None i out parts e = cc
-  remove-is-none (Some a) None out parts e = cc
-  remove-is-none (Some a) (Some i) None parts e = cc
-  remove-is-none (Some a) (Some i) (Some o) None e = cc
   remove-is-none (Some a) (Some i) (Some o) (Some ps) e = cc
+  remove-is-none align in_file out ns e = cc
 
   manifest-is-none : (out : Option (List ℕ)) (security : Option ℕ) (rows : Option (List NamedImage)) → Is (manifest_by out security rows) → ⊥
-  manifest-is-none None s rows e = cc
-  manifest-is-none (Some o) None rows e = cc
-  manifest-is-none (Some o) (Some s) None e = cc
   manifest-is-none (Some o) (Some s) (Some rs) e = cc
+  manifest-is-none out security rows e = cc
 
   capsule-is-none : (in_file out : Option (List ℕ)) → Is (capsule_by in_file out) → ⊥
-  capsule-is-none None out e = cc
-  capsule-is-none (Some i) None e = cc
   capsule-is-none (Some i) (Some o) e = cc
+  capsule-is-none in_file out e = cc
 
   package-is-none : (align : Option ℕ) (in_file out : Option (List ℕ)) → Is (repackage_by align in_file out) → ⊥
-  package-is-none None i out e = cc
-  package-is-none (Some a) None out e = cc
-  package-is-none (Some a) (Some i) None e = cc
   package-is-none (Some a) (Some i) (Some o) e = cc
+  package-is-none align in_file out e = cc
 
   unpack-is-other : (f p : Option (List ℕ)) (ns : Option (List (List ℕ))) → Is (unpack_by f p ns) → is_unpacked prefix from ≡ false
-  unpack-is-other None p ns e = cc
-  unpack-is-other (Some f) None ns e = cc
-  unpack-is-other (Some f) (Some p) None e = cc
   unpack-is-other (Some f) (Some p) (Some ns) e = go (is_unpacked p f) refl e
     where
       go : (b : Bool) → is_unpacked p f ≡ b → Is (if b then None else Some (unpack f p ns)) → is_unpacked prefix from ≡ false
@@ -68,42 +52,37 @@ module _ (from prefix : List ℕ) (names : List (List ℕ)) where
           let one : f ≡ from = cc in
           let two : p ≡ prefix = cc in
           ap (λ (x : List ℕ). is_unpacked x from) (sym two) ∙ ap (is_unpacked p) (sym one) ∙ is
+  unpack-is-other f p ns e = cc
+
+  abbrev Apart : Type 0
+  Apart = is_unpacked prefix from ≡ false
 
   -- one of two
-  one-of : (b : Bool) (x y : Option FipAsked) (P : Type 0) → (Is x → P) → (Is y → P) → Is (if b then x else y) → P
-  one-of true x y P f g h = f h
-  one-of false x y P f g h = g h
+  one-of : (b : Bool) (x y : Option FipAsked) → (Is x → Apart) → (Is y → Apart) → Is (if b then x else y) → Apart
+  one-of true x y f g h = f h
+  one-of false x y f g h = g h
 
   -- a value, and what is made of it
-  made-of : {X : Type 0} (o : Option X) (f : X → Option FipAsked) (P : Type 0) → ((x : X) → Is (f x) → P) → Is (option_and_then f o) → P
-  made-of None f P g h = cc
-  made-of (Some x) f P g h = g x h
+  made-of : {X : Type 0} (o : Option X) (f : X → Option FipAsked) → ((x : X) → Is (f x) → Apart) → Is (option_and_then f o) → Apart
+  made-of None f g h = cc
+  made-of (Some x) f g h = g x h
 
   pub asked-is-other : (words : List (List ℕ)) → asked words ≡ Some (unpack from prefix names) → is_unpacked prefix from ≡ false
   asked-is-other words e =
-      made-of (reads fip_app words) (λ p. order_of p.0 p.1) (is_unpacked prefix from ≡ false)
-      (λ p h.
-      one-of (same_bytes p.0 (codes "info")) _ _ _ (λ is. absurd (info-is-none (file_in (codes "file") p.1) is))
-      (λ then-one.
-      one-of (same_bytes p.0 (codes "create")) _ _ _ (λ is. absurd (create-is-none (align_in p.1) (file_in (codes "out") p.1) (named_parts_of (values_of (codes "parts") p.1)) is))
-      (λ then-two.
-      one-of (same_bytes p.0 (codes "update")) _ _ _ (λ is. absurd (update-is-none (align_in p.1) (file_in (codes "in") p.1) (file_in (codes "out") p.1) (named_parts_of (values_of (codes "parts") p.1)) is))
-      (λ then-three.
-      one-of (same_bytes p.0 (codes "remove")) _ _ _ (λ is. absurd (remove-is-none (align_in p.1) (file_in (codes "in") p.1) (file_in (codes "out") p.1) (names_of (values_of (codes "parts") p.1)) is))
-      (λ then-four.
-      one-of (same_bytes p.0 (codes "unpack")) _ _ _ (λ is. unpack-is-other (file_in (codes "in") p.1) (file_in (codes "prefix") p.1) (names_of (values_of (codes "names") p.1)) is)
-      (λ then-five.
-      one-of (same_bytes p.0 (codes "manifest")) _ _ _ (λ is. absurd (manifest-is-none (file_in (codes "out") p.1) _ (named_rows_of (values_of (codes "rows") p.1)) is))
-      (λ then-six.
-      one-of (same_bytes p.0 (codes "capsule")) _ _ _ (λ is. absurd (capsule-is-none (file_in (codes "in") p.1) (file_in (codes "out") p.1) is))
-      (λ then-seven.
-      one-of (same_bytes p.0 (codes "package")) (repackage_of p.1) None _
-      (λ is. absurd (package-is-none (align_in p.1) (file_in (codes "in") p.1) (file_in (codes "out") p.1) is)) (λ is. cc) then-seven)
-      then-six)
-      then-five)
-      then-four)
-      then-three)
-      then-two)
-      then-one)
-      h)
+      made-of (reads fip_app words) (λ p. order_of p.0 p.1)
+      (λ p.
+      one-of (same_bytes p.0 (codes "info")) _ _ (λ is. absurd (info-is-none (file_in (codes "file") p.1) is))
+      (one-of (same_bytes p.0 (codes "create")) _ _
+      (λ is. absurd (create-is-none (align_in p.1) (file_in (codes "out") p.1) (named_parts_of (values_of (codes "parts") p.1)) is))
+      (one-of (same_bytes p.0 (codes "update")) _ _
+      (λ is. absurd (update-is-none (align_in p.1) (file_in (codes "in") p.1) (file_in (codes "out") p.1) (named_parts_of (values_of (codes "parts") p.1)) is))
+      (one-of (same_bytes p.0 (codes "remove")) _ _
+      (λ is. absurd (remove-is-none (align_in p.1) (file_in (codes "in") p.1) (file_in (codes "out") p.1) (names_of (values_of (codes "parts") p.1)) is))
+      (one-of (same_bytes p.0 (codes "unpack")) _ _
+      (unpack-is-other (file_in (codes "in") p.1) (file_in (codes "prefix") p.1) (names_of (values_of (codes "names") p.1)))
+      (one-of (same_bytes p.0 (codes "manifest")) _ _
+      (λ is. absurd (manifest-is-none (file_in (codes "out") p.1) _ (named_rows_of (values_of (codes "rows") p.1)) is))
+      (one-of (same_bytes p.0 (codes "capsule")) _ _ (λ is. absurd (capsule-is-none (file_in (codes "in") p.1) (file_in (codes "out") p.1) is))
+      (one-of (same_bytes p.0 (codes "package")) (repackage_of p.1) None
+      (λ is. absurd (package-is-none (align_in p.1) (file_in (codes "in") p.1) (file_in (codes "out") p.1) is)) (λ is. cc)))))))))
       e

@@ -1,5 +1,5 @@
 -- What is done for an entry that is unpacked, from what its parts did.
-use Rattle.std.proofs.Common.{◌≡◌, ◌≢◌, ◌∷◌, ◌++◌, [], ℕ, zero, suc, All, List, Option, Some, None, Result, Ok, Err, ap, arith, false, refl, subst, ◌∙◌, append-nil}
+use Rattle.std.proofs.Common.{◌≡◌, ◌≢◌, ◌∷◌, ◌++◌, [], ℕ, List, Option, Some, None, Result, Ok, Err, ap, arith, false, refl, subst, ◌∙◌, append-nil}
 use Rattle.std.specs.Prelude.{OnOk, codes, decimal, take, drop, unwrap_or}
 use Rattle.base_core.specs.Counts.{Rose}
 use Rattle.base_core.specs.Guid.{guid_text}
@@ -9,7 +9,6 @@ use Rattle.host_io.specs.Access.{Access, Makes}
 use Rattle.host_io.specs.Access as way
 use Rattle.host_io.specs.Contents.{Directory}
 use Rattle.host_io.specs.declared.files.Files as files
-use Rattle.host_io.specs.declared.joining.Piece.{Piece}
 use Rattle.host_io.specs.declared.sink.Sink as sink
 use Rattle.fip_tool.specs.Lines.{unpacked_line, unpacked_name}
 use Rattle.fip_tool.specs.Done.{WritesTexts}
@@ -33,10 +32,6 @@ piece-is told from bytes e at count is place size =
     append-nil (take count (drop at (unwrap_or (told from) [])))
     ∙ ap (λ (o : Option (List ℕ)). take count (drop at (unwrap_or o []))) is
     ∙ ap (λ (n : ℕ). take count (drop n bytes)) place ∙ ap (λ (n : ℕ). take n (drop e.offset bytes)) size
-
-pub one-piece : (P : Piece → Type 0) (p : Piece) → P p → All P (p ∷ [])
-one-piece P p h zero d lt = h
-one-piece P p h (suc k) d lt = absurd (omega (arith, lt))
 
 on-ok : {A E : Type 0} (r : Result A E) (P : Type 0) → P → OnOk r P
 on-ok (Ok x) P p = p

@@ -25,22 +25,6 @@ use Rattle.fip_making.proofs.Stopped.{err-same}
 use Rattle.fip_tool.proofs.Texts.{says-as, says-nothing, says-printed}
 use Rattle.fip_tool.proofs.WroteLemmas.{wrote-as, wrote-printed}
 
-module _ {H O : Type 0} {h : files.Ghosts H} {o : sink.Ghosts O} where
-  -- a stop in place of what was to be made
-  pub puts-stopped : {old : O} {kept : H} (format : Format) (s : Stop) → PutsMade h o format (Err s) (Err s) kept kept old old
-  puts-stopped format s = record {
-    says = λ apart. says-nothing (IsMadeLine format (Err s)) _ _ _ s (λ e. apart (err-same e)) refl;
-    file_count = λ count faults. faults-as faults;
-    wrote = inl (refl, Appends-nil _);
-    cause = λ e. let same : s ≡ stop.FileFault = cc in inl (err-same same);
-    usage = λ e. let same : s ≡ stop.Usage = cc in err-same same;
-    refusals = inl refl;
-    kept = refl;
-    later = omega arith;
-    later_sink = omega arith;
-    sink_count = λ apart. still _ s (λ e. apart (err-same e));
-  }
-
 module _ {H O : Type 0} {h : files.Ghosts H} {o : sink.Ghosts O} {before after : H} where
   -- a stop before anything was written
   pub no-texts : {X : Type 0} {T : List (List ℕ) → Type 0} {old : O} (s : Stop) → FaultsOnce {X = X} (h.faults before) (h.faults after) (Err s)

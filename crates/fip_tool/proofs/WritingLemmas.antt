@@ -1,5 +1,5 @@
 -- What a writing and a line leave.
-use Rattle.std.proofs.Common.{◌≡◌, inr, ℕ, List, [], ◌∷◌, Option, Result, Ok, Err, ◌≤◌, length, refl, sym, ap, subst, ◌∙◌, append-nil}
+use Rattle.std.proofs.Common.{◌≡◌, ℕ, List, [], ◌∷◌, Option, Result, Ok, Err, ◌≤◌, length, refl, sym, ap, subst, ◌∙◌, append-nil}
 use Rattle.std.specs.Io.KnownBytes.{Appends}
 use Rattle.base_core.specs.Counts.{Rose}
 use Rattle.host_io.specs.Contents.{Directory}
@@ -8,26 +8,21 @@ use Rattle.host_io.specs.declared.writes.Writes as count
 use Rattle.fip_tool.specs.Lines.{made_line, manifest_line}
 use Rattle.fip_making.specs.Payloads.{joined_pieces, made_bytes}
 use Rattle.fip_making.specs.declared.made.Made.{Made}
-use Rattle.fip_tool.specs.Steps.{Makes, CommandStep, Writes, Prints, Are, Did, PrintedText, Written, outcome_by, with_file}
+use Rattle.fip_tool.specs.Steps.{Makes, CommandStep, Writes, Prints, Are, Did, PrintedText, outcome_by, with_file}
 use Rattle.fip_tool.specs.Torn.{MayTear}
 use Rattle.fip_tool.specs.Tool.{puts, writes_manifest}
 use Rattle.fip_tool.specs.declared.lines.Format.{Format}
 use Rattle.fip_tool.specs.declared.lines.Format.TheVariants as kind
 use Rattle.fip_making.specs.declared.stops.Stop.{Stop}
 use Rattle.fip_making.specs.declared.stops.Stop.TheVariants as stop
-use Rattle.fip_tool.proofs.Did.{appends-none, made-steps}
+use Rattle.fip_tool.proofs.Did.{made-steps}
 use Rattle.fip_making.proofs.Tables.{rose-from}
+use Rattle.fip_tool.proofs.Texts.{appends-same}
 use Rattle.fip_tool.proofs.Torn.{tears-since}
 
 -- what a frame's and pieces' slices make
 pub joined-made : (files : Directory) (m : Made) (frame : List ℕ) (pieces : List Piece) → frame ≡ m.frame.bytes.items → pieces ≡ m.pieces.items → joined_pieces files frame pieces ≡ made_bytes files m
 joined-made files m frame pieces f p = ap (λ (l : List ℕ). joined_pieces files l pieces) f ∙ ap (joined_pieces files m.frame.bytes.items) p
-
-pub write-stopped : (files : Directory) (now : Option Directory) (was text : Option (List ℕ)) (files-rose spoiled sink-rose : Type 0) (name bytes line : List ℕ) (s : Stop)
-    → Written files now files-rose spoiled name bytes (Err s) → text ≡ was → Did (Makes (Writes name bytes ∷ Prints line ∷ [])) files now was text files-rose spoiled sink-rose (Err s)
-write-stopped files now was text files-rose spoiled sink-rose name bytes line stop.FileFault w t = (inr w.0, 0, w.1, appends-none was text t)
-write-stopped files now was text files-rose spoiled sink-rose name bytes line stop.NoMemory w t = (0, w, appends-none was text t)
-write-stopped files now was text files-rose spoiled sink-rose name bytes line s w t = absurd w
 
 -- the file and the line of what was made
 pub made-put : (format : Format) (files : Directory) (out : List ℕ) (value : Result (ℕ × List ℕ) Stop) (n : ℕ) (bytes laid line : List ℕ) (now : Option Directory) (was text : Option (List ℕ)) (a b c : ℕ) (k s t : count.Writes) (sink-rose : Type 0)
@@ -48,7 +43,7 @@ pub then-printed : (files : Directory) (now : Option Directory) (was text : Opti
 then-printed files now was text files-rose spoiled sink-rose name bytes line (Ok u) w p = (refl, w, subst (Appends was text) (sym (append-nil line)) p)
 then-printed files now was text files-rose spoiled sink-rose name bytes line (Err stop.SinkFault) w p =
     (p.0, 1, w, p.1, p.2, tt)
-then-printed files now was text files-rose spoiled sink-rose name bytes line (Err stop.NoMemory) w p = (1, w, appends-none was text p)
+then-printed files now was text files-rose spoiled sink-rose name bytes line (Err stop.NoMemory) w p = (1, w, appends-same was text p)
 then-printed files now was text files-rose spoiled sink-rose name bytes line (Err s) w p = absurd p
 
 -- the file and the line of a manifest

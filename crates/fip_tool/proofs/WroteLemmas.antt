@@ -1,17 +1,16 @@
 -- What was written, file by file.
-use Rattle.std.proofs.Common.{◌≡◌, ◌∙◌, ◌+◌, ◌<◌, ◌≤◌, ◌⊎◌, inl, inr, ℕ, zero, suc, List, [], ◌∷◌, ◌++◌, Option, Some, None, Result, Ok, Err, length, take, drop, ap, arith, refl, sym, subst, length-append}
-use Rattle.std.proofs.Math.Seq.{drop-append_seam, take-append_seam}
+use Rattle.std.proofs.Common.{◌≡◌, ◌∙◌, ◌+◌, ◌≤◌, ◌⊎◌, inl, inr, ℕ, zero, suc, List, [], ◌∷◌, ◌++◌, Option, Some, None, Result, Ok, Err, length, take, ap, arith, refl, sym, subst, length-append}
 use Rattle.std.specs.Io.KnownBytes.{Appends}
 use Rattle.std.proofs.KnownBytes.{Appends-nil, Appends-trans}
 use Rattle.host_io.specs.Calls.{raised}
-use Rattle.fip_words.specs.Order.{FipAsked, info, info_of_source, create, update, remove, unpack, manifest, capsule, repackage}
-use Rattle.fip_tool.specs.Said.{IsBegunText, Says, half_of, joined_texts}
+use Rattle.fip_words.specs.Order.{FipAsked, info, info_of_source}
+use Rattle.fip_tool.specs.Said.{Says, joined_texts}
 use Rattle.fip_making.specs.Answers.{IsLate}
 use Rattle.fip_tool.specs.Steps.{PrintedText}
 use Rattle.fip_tool.specs.Wrote.{IsRestOfTexts, CommandWrote, WroteAll, WroteFor, WroteNone, WroteSome, files_ahead, raised_by}
 use Rattle.fip_making.specs.declared.stops.Stop.{Stop}
 use Rattle.fip_making.specs.declared.stops.Stop.TheVariants as stop
-use Rattle.fip_tool.proofs.Texts.{appends-same, joined-one}
+use Rattle.fip_tool.proofs.Texts.{appends-same, back, front, front-of-one, joined-one, none-of-one}
 
 -- ---- one file and its text
 
@@ -88,17 +87,6 @@ one-wrote line was text start mid after n m so-far next w =
     let same : suc n ≡ m = omega (arith, next) in
     once ∙ ap raised so-far ∙ ap (λ (k : ℕ). raised_by k start) same
 
-none-of-one : (line said : List ℕ) → IsBegunText (λ texts. texts ≡ line ∷ []) said → said ≡ []
-none-of-one line said (inl e) = e
-none-of-one line said (inr b) =
-    let zero-is : b.2 ≡ 0 = omega (arith, b.3, ap length b.1) in
-    b.4 ∙ ap (λ (n : ℕ). joined_texts (take n b.0)) zero-is
-
-front-of-one : (line : List ℕ) (texts : List (List ℕ)) → texts ≡ line ∷ [] → (n k : ℕ) → n < length texts → joined_texts (take n texts) ++ half_of k (drop n texts) ≡ take k line
-front-of-one line texts is n k lt =
-    let zero-is : n ≡ 0 = omega (arith, lt, ap length is) in
-    ap (λ (m : ℕ). joined_texts (take m texts) ++ half_of k (drop m texts)) zero-is ∙ ap (half_of k) is
-
 -- what stands there when a part of one text stopped late: a front of it where the sink failed, and else nothing
 says-tail : (line : List ℕ) (after : List (List ℕ)) (at text : Option (List ℕ)) (rose : Type 0) (s : Stop) → IsLate s → Says (λ texts. texts ≡ line ∷ []) at text rose (Err s)
     → (rest : List ℕ) × IsRestOfTexts s rest (line ∷ after) × Appends at text rest
@@ -116,14 +104,8 @@ wrote-behind before line after all was at text rose start mid now s is so-far co
     tail : (rest : List ℕ) × IsRestOfTexts s rest (line ∷ after) × Appends at text rest
     tail = says-tail line after at text rose s late says
 
-    front : take (length before) all ≡ before
-    front = ap (take (length before)) is ∙ take-append_seam before (line ∷ after)
-
-    back : drop (length before) all ≡ line ∷ after
-    back = ap (drop (length before)) is ∙ drop-append_seam before (line ∷ after)
-
     said : Appends was text (joined_texts (take (length before) all) ++ tail.0)
-    said = subst (λ (l : List (List ℕ)). Appends was text (joined_texts l ++ tail.0)) (sym front) (Appends-trans was at text (joined_texts before) tail.0 so-far tail.2)
+    said = subst (λ (l : List (List ℕ)). Appends was text (joined_texts l ++ tail.0)) (sym (front before line after all is)) (Appends-trans was at text (joined_texts before) tail.0 so-far tail.2)
 
     behind : (n : ℕ) → n ≤ files_ahead s → now ≡ raised_by n mid → WroteSome (λ texts. texts ≡ all) s was text start now
     behind n few more = record {
@@ -132,7 +114,7 @@ wrote-behind before line after all was at text rose start mid now s is so-far co
       printed = length before;
       left = omega (arith, ap length is, length-append before (line ∷ after));
       rest = tail.0;
-      rest_is = subst (IsRestOfTexts s tail.0) (sym back) tail.1;
+      rest_is = subst (IsRestOfTexts s tail.0) (sym (back before line after all is)) tail.1;
       said = said;
       files = n + length before;
       least = omega arith;
@@ -149,10 +131,4 @@ pub wrote-none : (asked : Option FipAsked) (was : Option (List ℕ)) (n : ℕ) (
 wrote-none None was n s = refl
 wrote-none (Some (info file)) was n s = refl
 wrote-none (Some info_of_source) was n s = refl
-wrote-none (Some (create align out parts)) was n s = inl (refl, Appends-nil was)
-wrote-none (Some (update align from out parts)) was n s = inl (refl, Appends-nil was)
-wrote-none (Some (remove align from out names)) was n s = inl (refl, Appends-nil was)
-wrote-none (Some (unpack from prefix names)) was n s = inl (refl, Appends-nil was)
-wrote-none (Some (manifest out security rows)) was n s = inl (refl, Appends-nil was)
-wrote-none (Some (capsule from out)) was n s = inl (refl, Appends-nil was)
-wrote-none (Some (repackage align from out)) was n s = inl (refl, Appends-nil was)
+wrote-none (Some a) was n s = inl (refl, Appends-nil was)

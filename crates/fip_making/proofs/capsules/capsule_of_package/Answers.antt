@@ -1,4 +1,4 @@
-use Rattle.std.proofs.Common.{◌∙◌, [], List, Some, ap, length, map, subst, sym, refl}
+use Rattle.std.proofs.Common.{◌∙◌, [], List, Some, ap, map, subst, sym}
 use Rattle.std.specs.List.{All}
 use Rattle.fwu_formats.specs.Package.{Entry, Toc}
 use Rattle.fip_making.specs.Payloads.{HasEntry, bytes_in, made_by}
@@ -6,9 +6,7 @@ use Rattle.fip_making.specs.Values.{enclose_value, kept_part}
 use Rattle.fip_making.proofs.Conversions.{capsule-err, capsule-of}
 use Rattle.fip_making.proofs.PartLemmas.{gives-same}
 use Rattle.fip_making.proofs.Repacking.{has-entries, opened}
-use Rattle.fip_making.proofs.Tables.{gives-err, if-ok-as}
-use Rattle.fip_making.proofs.ReadsBy.{alone-asked, alone-stopped}
-use Rattle.fip_making.proofs.Refusing.{package-of-enclosing, packing-of-enclosing}
+use Rattle.fip_making.proofs.Tables.{gives-err}
 use Rattle.fip_making.proofs.Stopped.{handed-on}
 use Rattle.fip_making.proofs.capsules.capsule_of_package.Goals as goal
 

@@ -3,9 +3,7 @@ use Rattle.fwu_formats.specs.Package.{Toc}
 use Rattle.fip_making.specs.Payloads.{made_by}
 use Rattle.fip_making.proofs.Conversions.{has-items, opened-capsule, package-err, package-of}
 use Rattle.fip_making.proofs.PartLemmas.{gives-same}
-use Rattle.fip_making.proofs.Tables.{gives-err, if-ok-as}
-use Rattle.fip_making.proofs.ReadsBy.{alone-asked, alone-stopped}
-use Rattle.fip_making.proofs.Refusing.{capsule-of-packaging, packing-of-packaging}
+use Rattle.fip_making.proofs.Tables.{gives-err}
 use Rattle.fip_making.proofs.Stopped.{handed-on}
 use Rattle.fip_making.proofs.capsules.package_of_capsule.Goals as goal
 

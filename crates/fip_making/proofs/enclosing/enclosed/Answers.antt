@@ -4,7 +4,7 @@ use Rattle.fip_making.specs.Stops.{packed_by}
 use Rattle.fip_making.specs.Values.{enclose_value}
 use Rattle.fip_making.specs.declared.stops.Stop.TheVariants as stop
 use Rattle.fip_making.proofs.Enclosings.{encloses-not, encloses-zeroed}
-use Rattle.fip_making.proofs.Makings.{makes-framed, makes-starved, makes-unpacked}
+use Rattle.fip_making.proofs.Makings.{makes-framed, makes-unpacked}
 use Rattle.fip_making.proofs.Stopped.{handed-on}
 use Rattle.fip_making.proofs.enclosing.enclosed.Goals as goal
 

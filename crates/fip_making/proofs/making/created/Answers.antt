@@ -1,5 +1,4 @@
-use Rattle.std.proofs.Common.{◌≡◌, ◌∙◌, List, Vec, ℕ, Some, ap, length, map, subst, sym}
-use Rattle.std.specs.Prelude.{IfOk}
+use Rattle.std.proofs.Common.{◌∙◌, List, Vec, Some, ap, map, sym}
 use Rattle.std.specs.Global.{Global}
 use Rattle.fip_words.specs.Order.{part_view}
 use Rattle.fip_making.specs.Payloads.{made_by, part_told}
@@ -8,8 +7,6 @@ use Rattle.fip_making.specs.declared.payloads.Payload.{Payload}
 use Rattle.fip_making.proofs.PartLemmas.{create-err, create-of, gives-same}
 use Rattle.fip_making.proofs.Packings.{there-of-files}
 use Rattle.fip_making.proofs.Tables.{gives-err}
-use Rattle.fip_making.proofs.ReadsBy.{alone-asked, alone-stopped}
-use Rattle.fip_making.proofs.Refusing.{late-of-packing}
 use Rattle.fip_making.proofs.making.created.Goals as goal
 
 pub returns-in-Ok-clause-told : goal.returns-in-Ok-clause-told

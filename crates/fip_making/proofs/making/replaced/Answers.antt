@@ -1,5 +1,4 @@
-use Rattle.std.proofs.Common.{◌≡◌, ◌∙◌, All, List, Option, ℕ, Some, ap, length, map, subst, sym}
-use Rattle.std.specs.Prelude.{IfOk}
+use Rattle.std.proofs.Common.{◌≡◌, ◌∙◌, All, List, Option, ℕ, Some, ap, map, subst, sym}
 use Rattle.host_io.specs.Contents.{Directory}
 use Rattle.fwu_formats.specs.Package.{Entry, Toc}
 use Rattle.fip_words.specs.Order.{part_view}
@@ -8,8 +7,6 @@ use Rattle.fip_making.specs.Values.{parts_in}
 use Rattle.fip_making.proofs.Packings.{there-of-files}
 use Rattle.fip_making.proofs.PartLemmas.{gives-same}
 use Rattle.fip_making.proofs.Repacking.{replaced-value}
-use Rattle.fip_making.proofs.ReadsBy.{alone-asked, alone-stopped}
-use Rattle.fip_making.proofs.Refusing.{late-of-packing}
 use Rattle.fip_making.proofs.making.replaced.Goals as goal
 
 -- the entries' payloads, in files that stayed as they were

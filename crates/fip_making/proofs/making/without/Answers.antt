@@ -4,10 +4,9 @@ use Rattle.fwu_formats.specs.Package.{Entry, Part, Toc}
 use Rattle.fip_making.specs.Payloads.{HasEntry, IsThere, bytes_in, part_told}
 use Rattle.fip_making.specs.Values.{is_named, pack_value}
 use Rattle.fip_making.specs.declared.stops.Stop.TheVariants as stop
-use Rattle.fip_making.proofs.Makings.{makes-as, makes-starved}
+use Rattle.fip_making.proofs.Makings.{makes-as}
 use Rattle.fip_making.proofs.Packings.{none-there}
 use Rattle.fip_making.proofs.Repacking.{kept-all, kept-updated}
-use Rattle.fip_making.proofs.Stopped.{handed-on}
 use Rattle.fip_making.proofs.making.without.Goals as goal
 
 pub returns : goal.returns

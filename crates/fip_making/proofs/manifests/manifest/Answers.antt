@@ -8,7 +8,7 @@ use Rattle.fip_making.specs.Values.{nothing}
 use Rattle.fip_making.specs.declared.stops.Stop.TheVariants as stop
 use Rattle.fip_making.proofs.PartLemmas.{gives-same}
 use Rattle.fip_making.proofs.Tables.{gives-err, rose-from}
-use Rattle.fip_making.proofs.ReadsBy.{alone-asked, alone-stopped, alone-then, alone-then-stopped}
+use Rattle.fip_making.proofs.ReadsBy.{alone-asked, alone-then, alone-then-stopped}
 use Rattle.fip_making.proofs.Stopped.{handed-on}
 use Rattle.fip_making.proofs.Refusing.{late-of-manifest}
 use Rattle.fip_making.proofs.manifests.manifest.Goals as goal

@@ -7,7 +7,7 @@ use Rattle.fip_words.specs.declared.values.ImageWord.{ImageWord}
 use Rattle.manifest_core.specs.Shown.{row}
 use Rattle.manifest_core.specs.declared.rows.Row.{Row as CodeRow}
 use Rattle.fip_making.proofs.ManifestLemmas.{count-more, rows-more-at, rows_value, seen-more, stopped-at}
-use Rattle.fip_making.proofs.ReadsBy.{alone-done, alone-starved, alone-then, alone-then-stopped, alone-wider, one-spared}
+use Rattle.fip_making.proofs.ReadsBy.{alone-starved, alone-then, alone-then-stopped, alone-wider, one-spared}
 use Rattle.fip_making.specs.Answers.{IsLate}
 use Rattle.fip_making.proofs.Tables.{gives-err, rose-still}
 use Rattle.fip_making.proofs.Stopped.{handed-on}

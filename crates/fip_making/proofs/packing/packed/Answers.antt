@@ -3,7 +3,7 @@ use Rattle.fwu_formats.specs.Package.{Part, packed}
 use Rattle.fip_making.specs.Stops.{packed_by}
 use Rattle.fip_making.specs.Values.{pack_value}
 use Rattle.fip_making.specs.declared.stops.Stop.TheVariants as stop
-use Rattle.fip_making.proofs.Makings.{makes-framed, makes-starved, makes-unpacked}
+use Rattle.fip_making.proofs.Makings.{makes-framed, makes-unpacked}
 use Rattle.fip_making.proofs.Packings.{packs-not, packs-zeroed}
 use Rattle.fip_making.proofs.Stopped.{handed-on}
 use Rattle.fip_making.proofs.packing.packed.Goals as goal

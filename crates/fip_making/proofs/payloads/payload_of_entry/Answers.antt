@@ -3,7 +3,7 @@ use Rattle.std.specs.Prelude.{find}
 use Rattle.base_core.specs.Bytes.{same_bytes}
 use Rattle.fwu_formats.specs.Package.{Entry}
 use Rattle.fip_making.specs.declared.payloads.Payload.{Payload}
-use Rattle.fip_making.proofs.Packings.{entry-kept, entry-renewed, entry-there, found-has}
+use Rattle.fip_making.proofs.Packings.{entry-kept, entry-renewed, found-has}
 use Rattle.fip_making.specs.Payloads.{IsThere, bytes_in}
 use Rattle.fip_making.proofs.payloads.payload_of_entry.Goals as goal
 

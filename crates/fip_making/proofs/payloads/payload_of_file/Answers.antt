@@ -2,7 +2,6 @@ use Rattle.std.proofs.Common.{refl}
 use Rattle.fip_making.specs.Payloads.{part_told}
 use Rattle.fip_making.specs.declared.payloads.Payload.{Payload}
 use Rattle.fip_making.proofs.Packings.{payload-made, payload-stopped}
-use Rattle.fip_making.proofs.ReadsBy.{alone-done, alone-stopped}
 use Rattle.fip_making.proofs.Tables.{gives-err}
 use Rattle.fip_making.proofs.Whole.{has-range}
 use Rattle.fip_making.proofs.Stopped.{handed-on}

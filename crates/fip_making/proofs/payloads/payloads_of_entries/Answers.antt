@@ -1,5 +1,5 @@
-use Rattle.std.proofs.Common.{◌≡◌, ◌∙◌, ◌≤◌, ◌+◌, All, List, [], ◌∷◌, ◌++◌, ap, arith, sym, subst, length, map, take}
-use Rattle.std.proofs.lemmas.List.{length-append, map-append, take_all, take_more}
+use Rattle.std.proofs.Common.{◌≡◌, ◌∙◌, ◌+◌, All, List, [], ◌∷◌, ◌++◌, ap, arith, sym, subst, length, map, take}
+use Rattle.std.proofs.lemmas.List.{length-append, map-append, take_more}
 use Rattle.std.proofs.lemmas.List.Elements.{All-get_or}
 use Rattle.fwu_formats.specs.Package.{Entry, Part}
 use Rattle.fip_making.specs.Payloads.{HasEntry, IsThere, bytes_in, part_told}

@@ -1,6 +1,5 @@
 use Rattle.fip_making.specs.Stops.{unread_by}
-use Rattle.fip_making.proofs.ReadsBy.{alone-done}
-use Rattle.fip_making.proofs.Whole.{reads-no-file, unread-late, value-read, value-unread}
+use Rattle.fip_making.proofs.Whole.{value-read, value-unread}
 use Rattle.fip_making.proofs.Stopped.{handed-on}
 use Rattle.fip_making.proofs.reading.read_file.Goals as goal
 

@@ -1,7 +1,7 @@
 use Rattle.std.proofs.Common.{List, Some, ℕ, ap, map, refl, sym, ◌∙◌}
 use Rattle.fip_words.specs.Order.{image_view, part_view, view}
 use Rattle.fip_words.specs.Order as asks
-use Rattle.fip_tool.proofs.DoneBy.{done-of-source, done-with-files}
+use Rattle.fip_tool.proofs.DoneBy.{done-with-files}
 use Rattle.fip_tool.proofs.top.command.Goals as goal
 
 pub run_unpack-requires : goal.run_unpack-requires

@@ -1,23 +1,17 @@
-use Rattle.std.proofs.Common.{◌∙◌, ℕ, [], Ok, Err, Some, inl, inr, map, refl, string_bytes, subst, sym, ap, arith}
+use Rattle.std.proofs.Common.{◌∙◌, Ok, Err, Some, inl, inr, map, refl, string_bytes, sym}
 use Rattle.base_core.specs.Counts.{Rose}
-use Rattle.fip_tool.proofs.Converted.{converted, no-zero}
+use Rattle.fip_tool.proofs.Converted.{converted}
 use Rattle.fip_tool.proofs.Ending.{ends, reported-later}
-use Rattle.fip_tool.proofs.Refusing.{reported-alone, reported-may}
-use Rattle.fip_tool.proofs.SourceEnds.{reported-read, reported-two}
+use Rattle.fip_tool.proofs.Refusing.{reported-may}
+use Rattle.fip_tool.proofs.SourceEnds.{reported-read}
 use Rattle.fip_making.proofs.Tables.{rose-from, rose-until}
-use Rattle.fip_tool.proofs.UsageEnds.{no-usage, reported-one, usage-status}
 use Rattle.fip_words.specs.Order.{asked}
-use Rattle.host_io.specs.Access.{Access}
-use Rattle.fip_tool.specs.Done.{RefusesAlone}
-use Rattle.fip_tool.specs.Names.{IsUnneeded}
 use Rattle.fip_tool.specs.Said.{IsTextsOf}
-use Rattle.fip_tool.proofs.Texts.{says-ends, sink-rose}
+use Rattle.fip_tool.proofs.Texts.{says-ends}
 use Rattle.fip_tool.specs.Torn.{MayTear}
 use Rattle.fip_tool.specs.Tool.{no_files}
-use Rattle.fip_making.specs.declared.stops.Stop.{Stop}
-use Rattle.fip_tool.proofs.SinkFaults.{counted, reported-sink}
-use Rattle.fip_tool.proofs.SourceFaults.{fails-once, none-failed}
-use Rattle.fip_tool.proofs.FileFaults.{fails-done, fails-told, sink-alone, source-alone}
+use Rattle.fip_tool.proofs.SourceFaults.{fails-once}
+use Rattle.fip_tool.proofs.FileFaults.{none-of-source, sink-alone}
 use Rattle.fip_tool.proofs.top.fip_top.Goals as goal
 
 pub returns-in-Ok-clause-told : goal.returns-in-Ok-clause-told
@@ -65,11 +59,11 @@ returns-in-Ok-clause-wrote g c = inl (refl, c.in-Ok.ensures.wrote)
 
 pub returns-in-Err-clause-sink_alone : goal.returns-in-Err-clause-sink_alone
 returns-in-Err-clause-sink_alone g c = λ three.
-    sink-alone (asked (map string_bytes c.args.words.now)) _ _ _ _ _ c.in-Err.stop c.report.result _ _ (sym c.status.ensures ∙ three) c.in-Err.ensures.says c.report.ensures.reported c.in-Err.ensures.file_count
+    sink-alone (asked (map string_bytes c.args.words.now)) _ _ _ _ _ c.in-Err.stop c.report.result _ _ (sym c.status.ensures ∙ three) c.in-Err.ensures.says c.report.ensures.reported c.in-Err.ensures.file_count.quiet
 
 pub returns-in-Err-clause-source_alone : goal.returns-in-Err-clause-source_alone
 returns-in-Err-clause-source_alone g c = λ e three.
-    source-alone (asked (map string_bytes c.args.words.now)) _ _ _ _ _ c.in-Err.stop c.report.result _ _ (sym c.status.ensures ∙ three) c.in-Err.ensures.says c.report.ensures.reported (c.in-Err.ensures.source_count e)
+    sink-alone (asked (map string_bytes c.args.words.now)) _ _ _ _ _ c.in-Err.stop c.report.result _ _ (sym c.status.ensures ∙ three) c.in-Err.ensures.says c.report.ensures.reported (none-of-source c.in-Err.stop _ _ (c.in-Err.ensures.source_count e))
 
 pub returns-in-Err-clause-refusals : goal.returns-in-Err-clause-refusals
 returns-in-Err-clause-refusals g c =

@@ -1,5 +1,4 @@
-use Rattle.std.proofs.Common.{◌≢◌, ◌∙◌, List, Vec, ℕ, ap, refl, subst}
-use Rattle.std.specs.Global.{Global}
+use Rattle.std.proofs.Common.{◌≢◌, ◌∙◌, List, ℕ, ap, refl, subst}
 use Rattle.host_io.specs.Access.{Access, Asks}
 use Rattle.host_io.specs.declared.writes.Writes.{Writes}
 use Rattle.fip_words.specs.Order as asks
@@ -7,13 +6,11 @@ use Rattle.fip_making.specs.Refusals.{IsPackageStop}
 use Rattle.fip_tool.specs.Said.{IsTexts}
 use Rattle.fip_tool.specs.Seen.{PrintedIn}
 use Rattle.fip_making.specs.Answers.{IsLate}
-use Rattle.fip_tool.specs.Tool.{info_value, prints}
-use Rattle.fip_tool.proofs.Did.{printed-text, refused}
-use Rattle.fip_tool.proofs.DoneWith.{done-unread}
+use Rattle.fip_tool.specs.Tool.{info_value}
+use Rattle.fip_tool.proofs.Did.{printed-text}
 use Rattle.fip_tool.proofs.FileFaults.{faults-none}
 use Rattle.fip_making.proofs.Refusing.{if-err-as, late-of-package}
 use Rattle.fip_tool.proofs.Refusing.{late-alone}
-use Rattle.fip_making.proofs.Stopped.{handed-on}
 use Rattle.fip_tool.proofs.Texts.{says-printed}
 use Rattle.fip_tool.proofs.top.info.Goals as goal
 

@@ -1,13 +1,10 @@
-use Rattle.std.proofs.Common.{◌≡◌, ◌∙◌, List, Vec, ℕ, arith, refl, subst, sym}
-use Rattle.std.specs.Global.{Global}
+use Rattle.std.proofs.Common.{◌∙◌, List, ℕ, refl, subst, sym}
 use Rattle.base_core.specs.Counts.{Rose}
-use Rattle.fip_tool.proofs.SourceEnds.{source-printed, source-refused}
+use Rattle.fip_tool.proofs.SourceEnds.{source-printed}
 use Rattle.fip_words.specs.Order as asks
 use Rattle.fip_tool.specs.Said.{IsListing, IsTexts}
-use Rattle.fip_making.proofs.Stopped.{err-same, handed-on}
-use Rattle.fip_tool.proofs.Texts.{says-nothing, says-printed}
+use Rattle.fip_tool.proofs.Texts.{says-printed}
 use Rattle.fip_tool.specs.Steps.{PrintedText}
-use Rattle.fip_tool.proofs.SinkFaults.{still}
 use Rattle.fip_tool.proofs.SourceFaults.{printed-quiet}
 use Rattle.fip_making.specs.Answers.{IsLate}
 use Rattle.fip_making.specs.Refusals.{IsOfSource}

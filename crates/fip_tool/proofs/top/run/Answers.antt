@@ -1,8 +1,6 @@
-use Rattle.std.proofs.Common.{Option, Some, ap, map, sym, subst, ◌∙◌, string_bytes}
-use Rattle.fip_words.specs.Order.{FipAsked}
+use Rattle.std.proofs.Common.{Some, ap, map, ◌∙◌, string_bytes}
 use Rattle.fip_tool.proofs.DoneBy.{done-starved, done-usage}
 use Rattle.fip_tool.proofs.UnpackWords.{asked-is-other}
-use Rattle.fip_tool.specs.Done.{CommandDone}
 use Rattle.fip_tool.proofs.top.run.Goals as goal
 
 pub command-requires : goal.command-requires

@@ -1,7 +1,6 @@
-use Rattle.std.proofs.Common.{◌∙◌, ◌+◌, ◌≤◌, ◌∷◌, [], ℕ, List, ap, drop, filter, length, map, refl, take, arith, sym, subst}
+use Rattle.std.proofs.Common.{◌∙◌, ◌+◌, ◌≤◌, ◌∷◌, [], ℕ, List, ap, drop, filter, length, map, take, arith, sym, subst}
 use Rattle.std.specs.Io.KnownBytes.{Appends}
-use Rattle.std.proofs.KnownBytes.{Appends-nil}
-use Rattle.std.proofs.lemmas.List.{length-append, length-map, map-append, take_all}
+use Rattle.std.proofs.lemmas.List.{length-append, length-map, map-append}
 use Rattle.std.specs.Prelude.{◌==◌, ◌||◌}
 use Rattle.std.proofs.lemmas.List.Elements.{All-get_or}
 use Rattle.fwu_formats.specs.Package.{Entry}
@@ -9,10 +8,10 @@ use Rattle.fip_tool.specs.Lines.{unpacked_line}
 use Rattle.fip_tool.specs.Said.{joined_texts}
 use Rattle.fip_making.specs.Values.{is_named}
 use Rattle.fip_tool.proofs.Texts.{said-more, says-behind}
-use Rattle.fip_tool.proofs.FileFaults.{faults-none, faults-then}
+use Rattle.fip_tool.proofs.FileFaults.{faults-then}
 use Rattle.fip_tool.proofs.Torn.{none-unwritten, tears-still}
 use Rattle.fip_making.proofs.Tables.{rose-from, rose-still}
-use Rattle.fip_tool.proofs.UnpackLemmas.{all-done, begins, next-chosen, next-passed, split-chosen, step-done, step-passed, step-stops, tells-still, there-still}
+use Rattle.fip_tool.proofs.UnpackLemmas.{all-done, next-chosen, next-passed, split-chosen, step-done, step-passed, step-stops, tells-still, there-still}
 use Rattle.fip_tool.specs.Steps.{sink_failed}
 use Rattle.fip_tool.specs.Wrote.{raised_by}
 use Rattle.fip_tool.proofs.WroteLemmas.{one-wrote, wrote-behind}
@@ -39,55 +38,50 @@ returns-in_err-unpack_entry-clause-told g c =
 
 pub loop-entry-preserved : goal.loop-entry-preserved
 loop-entry-preserved g c =
+    let p = λ (e : Entry). (length c.args.unpacked.now.names.now == 0) || is_named c.args.unpacked.now.names.now e in
+    let e = c.entry-item.result in
+    let es = c.args.entries.now in
+    let i = c.loop-entry.entry-index in
+    let line = unpacked_line c.args.unpacked.now.prefix.now in
     elim c.if-is_chosen.branch [
       | then-is_chosen+in_ok-unpack_entry w ↦
+          let more = next-chosen p es i e c.loop-entry-test.true (sym c.entry-item.is) (sym c.is_chosen.ensures ∙ w.if-is_chosen.true) in
           rw (w.files-is, w.sink-is) (record {
             silent = λ e. w.in_ok-unpack_entry.ensures.silent (c.loop-entry.invariant.silent e);
             spares = λ access asked made. g.met.H.Files.joins _ _ _ access (c.loop-entry.invariant.spares access asked made) (w.in_ok-unpack_entry.ensures.spares access asked made);
             quiet = w.in_ok-unpack_entry.ensures.texts.file_count.quiet ∙ c.loop-entry.invariant.quiet;
             unspoiled = none-unwritten (g.H.Files.writes c.args.files.now) (g.H.Files.writes c.loop-entry.files) (g.H.Files.writes w.unpack_entry.new.files) c.loop-entry.invariant.unspoiled w.in_ok-unpack_entry.ensures.unspoiled;
             wrote =
-                let p = λ (e : Entry). (length c.args.unpacked.now.names.now == 0) || is_named c.args.unpacked.now.names.now e in
-                let e = c.entry-item.result in
-                let es = c.args.entries.now in
-                let more = next-chosen p es c.loop-entry.entry-index e c.loop-entry-test.true (sym c.entry-item.is) (sym c.is_chosen.ensures ∙ w.if-is_chosen.true) in
-                one-wrote (unpacked_line c.args.unpacked.now.prefix.now e) _ _ _ _ _ (length (filter p (take c.loop-entry.entry-index es))) _ c.loop-entry.invariant.wrote
-                (ap length more ∙ length-append (filter p (take c.loop-entry.entry-index es)) (e ∷ [])) w.in_ok-unpack_entry.ensures.texts.wrote;
+                one-wrote (line e) _ _ _ _ _ (length (filter p (take i es))) _ c.loop-entry.invariant.wrote
+                (ap length more ∙ length-append (filter p (take i es)) (e ∷ [])) w.in_ok-unpack_entry.ensures.texts.wrote;
             later_sink = omega (arith, c.loop-entry.invariant.later_sink, w.unpack_entry.ensures.texts.later_sink);
             sink_count = w.in_ok-unpack_entry.ensures.texts.sink_count ∙ c.loop-entry.invariant.sink_count;
             said =
-                let p = λ (e : Entry). (length c.args.unpacked.now.names.now == 0) || is_named c.args.unpacked.now.names.now e in
-                let e = c.entry-item.result in
-                let es = c.args.entries.now in
-                let more = next-chosen p es c.loop-entry.entry-index e c.loop-entry-test.true (sym c.entry-item.is) (sym c.is_chosen.ensures ∙ w.if-is_chosen.true) in
-                said-more (map (unpacked_line c.args.unpacked.now.prefix.now) (filter p (take c.loop-entry.entry-index es))) _ (unpacked_line c.args.unpacked.now.prefix.now e) _ _ _ (Unit {0}) tt
-                (ap (map (unpacked_line c.args.unpacked.now.prefix.now)) more ∙ map-append (unpacked_line c.args.unpacked.now.prefix.now) (filter p (take c.loop-entry.entry-index es)) (e ∷ []))
+                said-more (map line (filter p (take i es))) _ (line e) _ _ _ (Unit {0}) tt
+                (ap (map line) more ∙ map-append line (filter p (take i es)) (e ∷ []))
                 c.loop-entry.invariant.said w.in_ok-unpack_entry.ensures.texts.says;
             so-far = λ told bytes is stored.
                 let s = c.loop-entry.invariant.so-far told bytes is stored in
-                step-done c.args.unpacked.now.prefix.now c.args.unpacked.now.from.now bytes (λ e. (length c.args.unpacked.now.names.now == 0) || is_named c.args.unpacked.now.names.now e) c.args.entries.now c.loop-entry.entry-index told _
-                c.entry-item.result c.loop-entry-test.true (sym c.entry-item.is) _ _ _ _ (Unit {0}) (Unit {0}) (Unit {0}) s _
+                step-done c.args.unpacked.now.prefix.now c.args.unpacked.now.from.now bytes p es i told _
+                e c.loop-entry-test.true (sym c.entry-item.is) _ _ _ _ (Unit {0}) (Unit {0}) (Unit {0}) s _
                 (sym c.is_chosen.ensures ∙ w.if-is_chosen.true) (w.in_ok-unpack_entry.ensures.other c.requires.other) (w.in_ok-unpack_entry.ensures.told s.now bytes s.is s.stored);
           })
       | else-is_chosen w ↦
+          let same = next-passed p es i e c.loop-entry-test.true (sym c.entry-item.is) (sym c.is_chosen.ensures ∙ w.if-is_chosen.false) in
           rw (w.files-is, w.sink-is) (record {
             silent = c.loop-entry.invariant.silent;
             spares = c.loop-entry.invariant.spares;
             quiet = c.loop-entry.invariant.quiet;
             unspoiled = c.loop-entry.invariant.unspoiled;
             wrote =
-                let p = λ (e : Entry). (length c.args.unpacked.now.names.now == 0) || is_named c.args.unpacked.now.names.now e in
-                let same = next-passed p c.args.entries.now c.loop-entry.entry-index c.entry-item.result c.loop-entry-test.true (sym c.entry-item.is) (sym c.is_chosen.ensures ∙ w.if-is_chosen.false) in
                 c.loop-entry.invariant.wrote ∙ ap (λ (l : List Entry). raised_by (length l) (g.H.Files.writes c.args.files.now).done) (sym same);
             later_sink = c.loop-entry.invariant.later_sink;
             sink_count = c.loop-entry.invariant.sink_count;
             said =
-                let p = λ (e : Entry). (length c.args.unpacked.now.names.now == 0) || is_named c.args.unpacked.now.names.now e in
-                let same = next-passed p c.args.entries.now c.loop-entry.entry-index c.entry-item.result c.loop-entry-test.true (sym c.entry-item.is) (sym c.is_chosen.ensures ∙ w.if-is_chosen.false) in
-                subst (λ (l : List Entry). Appends (g.O.Sink.taken c.args.sink.now) (g.O.Sink.taken c.loop-entry.sink) (joined_texts (map (unpacked_line c.args.unpacked.now.prefix.now) l))) (sym same) c.loop-entry.invariant.said;
+                subst (λ (l : List Entry). Appends (g.O.Sink.taken c.args.sink.now) (g.O.Sink.taken c.loop-entry.sink) (joined_texts (map line l))) (sym same) c.loop-entry.invariant.said;
             so-far = λ told bytes is stored.
-                step-passed c.args.unpacked.now.prefix.now c.args.unpacked.now.from.now bytes (λ e. (length c.args.unpacked.now.names.now == 0) || is_named c.args.unpacked.now.names.now e) c.args.entries.now c.loop-entry.entry-index told _
-                c.entry-item.result c.loop-entry-test.true (sym c.entry-item.is) _ _
+                step-passed c.args.unpacked.now.prefix.now c.args.unpacked.now.from.now bytes p es i told _
+                e c.loop-entry-test.true (sym c.entry-item.is) _ _
                 (c.loop-entry.invariant.so-far told bytes is stored) (sym c.is_chosen.ensures ∙ w.if-is_chosen.false);
           })
     ]

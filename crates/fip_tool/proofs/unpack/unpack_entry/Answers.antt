@@ -1,12 +1,10 @@
-use Rattle.std.proofs.Common.{◌∷◌, ◌∙◌, [], ap, subst, sym}
+use Rattle.std.proofs.Common.{◌∷◌, ◌∙◌, [], ap}
 use Rattle.fwu_formats.specs.Package.{Entry}
 use Rattle.host_io.specs.Contents.{Directory}
-use Rattle.host_io.specs.Joined.{HasPiece}
 use Rattle.host_io.specs.declared.joining.Piece.{Piece}
 use Rattle.fip_tool.specs.Lines.{unpacked_name}
-use Rattle.fip_making.specs.Payloads.{HasEntry, joined_pieces}
-use Rattle.fip_making.proofs.Packings.{has-entry}
-use Rattle.fip_tool.proofs.UnpackedBy.{made, one-piece, piece-is, unnamed}
+use Rattle.fip_making.specs.Payloads.{joined_pieces}
+use Rattle.fip_tool.proofs.UnpackedBy.{made, piece-is, unnamed}
 use Rattle.fip_making.proofs.Stopped.{handed-on}
 use Rattle.fip_making.specs.declared.stops.Stop.TheVariants as stop
 use Rattle.fip_tool.proofs.unpack.unpack_entry.Goals as goal

@@ -1,10 +1,6 @@
-use Rattle.std.proofs.Common.{refl, subst, sym}
-use Rattle.base_core.specs.Counts.{Rose}
 use Rattle.fip_making.specs.Payloads.{joined_pieces}
-use Rattle.fip_tool.specs.Steps.{Did}
-use Rattle.fip_making.proofs.Stopped.{handed-on, err-same}
-use Rattle.fip_tool.proofs.WritesBy.{no-texts, one-text}
-use Rattle.fip_tool.proofs.WritingLemmas.{then-printed, write-stopped}
+use Rattle.fip_tool.proofs.WritesBy.{one-text}
+use Rattle.fip_tool.proofs.WritingLemmas.{then-printed}
 use Rattle.fip_tool.proofs.writing.join_and_print.Goals as goal
 
 pub returns-clause-told : goal.returns-clause-told

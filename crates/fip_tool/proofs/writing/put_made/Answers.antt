@@ -1,5 +1,4 @@
-use Rattle.std.proofs.Common.{◌≡◌, ◌∙◌, All, Result, Ok, Err, ap, arith, refl, subst, sym}
-use Rattle.host_io.specs.Joined.{HasPiece}
+use Rattle.std.proofs.Common.{◌≡◌, ◌∙◌, Result, Ok, Err, ap, arith, refl, subst, sym}
 use Rattle.fip_tool.specs.Lines.{made_line}
 use Rattle.fip_making.specs.Payloads.{IsWholeFile, made_by, made_bytes}
 use Rattle.fip_tool.specs.Done.{PutsMade}
@@ -9,7 +8,7 @@ use Rattle.fip_making.specs.declared.stops.Stop.{Stop}
 use Rattle.fip_making.specs.declared.stops.Stop.TheVariants as stop
 use Rattle.fip_making.proofs.Stopped.{handed-on}
 use Rattle.fip_tool.proofs.FileFaults.{faults-none}
-use Rattle.fip_tool.proofs.WritesBy.{no-texts, puts-stopped, puts-texts}
+use Rattle.fip_tool.proofs.WritesBy.{no-texts, puts-texts}
 use Rattle.fip_tool.proofs.WritingLemmas.{joined-made, made-put}
 use Rattle.fip_tool.proofs.writing.put_made.Goals as goal
 
