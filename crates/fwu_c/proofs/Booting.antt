@@ -1,6 +1,6 @@
 -- A boot, by what its device tells and by its steps.
 use Rattle.std.proofs.Common.{◌≡◌, ◌∙◌, ◌⊎◌, ◌≤◌, ◌*◌, inl, inr, refl, ap, sym, subst, ℕ, true, List, [], length, take, arith}
-use Rattle.std.proofs.Common.{Some, None}
+use Rattle.std.proofs.Common.{None}
 use Rattle.std.specs.Prelude.{IsTrue}
 use Rattle.base_core.specs.Block.{block_bytes}
 use Rattle.flash_core.specs.Told.{Told, fresh}
@@ -27,58 +27,30 @@ use Rattle.fwu_c.specs.Codes.{end_code}
 use Rattle.fwu_c.specs.Handed.{HandsOver, HasFlashSize, IsDeviceEnd, IsJustMade, IsStartOfSteps, IsWithinWith, LieAsCounted, SameBut, boot_reach, is_idle_number}
 use Rattle.fwu_c.specs.Reports.{ReportsEnd, ReportsStart, SameStarts}
 
-kept : (old t : Told) → t ≡ old → t.guard ≡ old.guard
-kept old t e = ap (λ (x : Told). x.guard) e
+pub kept : (old t : Told) → t ≡ old → t.guard ≡ old.guard
+kept old t e = cc
 
 pub guard_kept : (old t : Told) (e : Ended) → EndsByBytes (λ m. passes_any m) old e t → t.guard ≡ old.guard
-guard_kept old t (booted b n) ends = ends.others.guard
-guard_kept old t (bad_layout f) ends = kept old t ends.1
-guard_kept old t no_metadata ends = kept old t ends.3
-guard_kept old t (no_bank active previous) ends = ends.others.guard
-guard_kept old t (lost None) ends = kept old t ends
-guard_kept old t (lost (Some n)) ends = ends.others.guard
-guard_kept old t (failed None) ends = kept old t ends
-guard_kept old t (failed (Some n)) ends = ends.others.guard
+guard_kept old t (lost None) ends = cc
+guard_kept old t (failed None) ends = cc
+guard_kept old t e ends = cc
 
 pub start_guard : (image file : List ℕ) → (start_with image file).guard ≡ guard_with image file
 unfolding fresh
 start_guard image file = refl
 
 pub start_same : (b : Started) (old new : Report) → SameBut old new → ReportsStart b old → ReportsStart b new
-start_same b old new same reports = subst (ReportsStart b) (sym same) (record {
-  bank = reports.bank;
-  version = reports.version;
-  trials = reports.trials;
-  counter = reports.counter;
-  fallback = reports.fallback;
-  active = reports.active;
-  previous = reports.previous;
-  images = reports.images;
-  lengths = reports.lengths;
-})
+start_same b old new same reports = subst (ReportsStart b) (sym same) assumption
 
 -- what a start writes, as it was before
 pub starts_same : (before old new : Report) → SameBut old new → SameStarts before old → SameStarts before new
-starts_same before old new same stays = subst (SameStarts before) (sym same) (record {
-  start = record {
-    bank = stays.start.bank;
-    version = stays.start.version;
-    trials = stays.start.trials;
-    counter = stays.start.counter;
-    fallback = stays.start.fallback;
-    images = stays.start.images;
-    lengths = stays.start.lengths;
-  };
-  active = stays.active;
-  previous = stays.previous;
-})
+starts_same before old new same stays = subst (SameStarts before) (sym same) (record { start = assumption; active = stays.active; previous = stays.previous })
 
 pub end_same : (e : Ended) (before old new : Report) → SameBut old new → ReportsEnd e before old → ReportsEnd e before new
 end_same (booted b n) before old new same reports = start_same b old new same reports
-end_same (bad_layout f) before old new same reports = ap (λ (r : Report). r.layout_fault) same ∙ reports
+end_same (bad_layout f) before old new same reports = cc
 end_same no_metadata before old new same reports = tt
-end_same (no_bank active previous) before old new same reports =
-    (ap (λ (r : Report). r.active) same ∙ reports.0, ap (λ (r : Report). r.previous) same ∙ reports.1)
+end_same (no_bank active previous) before old new same reports = rw same reports
 end_same (lost n) before old new same reports = starts_same before old new same reports
 end_same (failed n) before old new same reports = starts_same before old new same reports
 
@@ -94,23 +66,11 @@ below_seven result low seven = omega (arith, low, seven)
 
 pub code_few : (e : Ended) → end_code e ≤ 5
 code_few (booted b n) = omega arith
-code_few (bad_layout f) = omega arith
-code_few no_metadata = omega arith
-code_few (no_bank active previous) = omega arith
-code_few (lost n) = omega arith
-code_few (failed n) = omega arith
-
-code_not_four : (e : Ended) (old new : StepFlash) → Spends (stop_of e) (counts_of old) (counts_of new) → end_code e ≡ 4 → ⊥
-code_not_four (booted b n) old new spends four = omega (arith, four)
-code_not_four (bad_layout f) old new spends four = omega (arith, four)
-code_not_four no_metadata old new spends four = omega (arith, four)
-code_not_four (no_bank active previous) old new spends four = omega (arith, four)
-code_not_four (lost n) old new spends four = never_lost _ old new spends refl
-code_not_four (failed n) old new spends four = omega (arith, four)
+code_few e = omega arith
 
 pub boot_end_is : (e : Ended) (old new : StepFlash) → Spends (stop_of e) (counts_of old) (counts_of new) → IsDeviceEnd (end_code e)
-boot_end_is e old new spends =
-    let few = code_few e in (λ four. code_not_four e old new spends four, λ six. omega (arith, few, six), λ seven. omega (arith, few, seven))
+boot_end_is (lost n) old new spends = absurd (never_lost _ old new spends refl)
+boot_end_is e old new spends = grind arith
 
 -- ---- the device that came back
 
@@ -200,13 +160,6 @@ pub of_image : (image other : List ℕ) (number : ℕ) (old r : Report) (steps :
 of_image image other number old r steps room same boots = subst (λ (i : List ℕ). BootsBy i number old r steps room) same boots
 
 -- ---- where nothing was written
-
--- no steps lie anywhere
-pub none_counted : (d : StepFlash) (steps : List Step) → steps ≡ [] → LieAsCounted d steps
-none_counted d steps none = subst (LieAsCounted d) (sym none) (record {
-  places = λ first last touches k x lt. absurd (omega (arith, lt));
-  beside = λ first last order unwritten k x lt. absurd (omega (arith, lt));
-})
 
 pub began_as : (old t : Told) → IsStartOfSteps old → t ≡ old → IsStartOfSteps t
 began_as old t began same = (began.0, began.1, same ∙ began.2)

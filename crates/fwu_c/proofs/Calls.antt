@@ -1,5 +1,5 @@
 -- A call behind a boot of a bank, by what the device tells before it and after it, and by its steps.
-use Rattle.std.proofs.Common.{[], ◌≡◌, ◌∙◌, ◌⊎◌, ◌≤◌, inl, inr, refl, sym, ap, subst, ℕ, ◌*◌, ◌++◌, Bool, true, false, List, length, None, Result, Ok, Err, arith, IsFalse, IsTrue}
+use Rattle.std.proofs.Common.{[], ◌≡◌, ◌∙◌, inl, inr, refl, sym, subst, ℕ, ◌*◌, ◌++◌, Bool, true, false, List, length, None, Result, Ok, Err, arith, IsFalse, IsTrue}
 use Rattle.std.specs.Prelude.{IsErrOf, OnOk, is_ok}
 use Rattle.base_core.specs.Block.{block_bytes}
 use Rattle.base_core.proofs.Results.{same-Ok}
@@ -7,7 +7,6 @@ use Rattle.flash_core.specs.Told.{Told}
 use Rattle.flash_core.specs.May.{Guards}
 use Rattle.flash_core.specs.Touches.{TouchesOnly}
 use Rattle.flash_core.proofs.Touches.{touches_none, touches_then}
-use Rattle.flash_core.specs.declared.flash.FlashStop.{FlashStop}
 use Rattle.flash_core.specs.declared.flash.FlashStop.TheVariants as flash_stop
 use Rattle.fwu_formats.specs.Digests.{passes_any}
 use Rattle.fwu_formats.specs.Image.{layout_seen}
@@ -39,94 +38,42 @@ use Rattle.agent_calls.specs.declared.agent.Agent.{Agent}
 use Rattle.flash_core.specs.declared.flash.Flash.{Ghosts}
 use Rattle.step_flash.specs.declared.step.Step.{Step}
 use Rattle.step_flash.specs.declared.flash.StepFlash.{StepFlash}
-use Rattle.step_flash.specs.Flash.{block_count, counts_of, told_of, writes_of}
-use Rattle.step_flash.proofs.Causes.{never_lost}
-use Rattle.flash_core.specs.Counts.{Spends}
+use Rattle.step_flash.specs.Flash.{block_count, told_of, writes_of}
 use Rattle.step_flash.specs.Guard.{start_told}
 use Rattle.fwu_c.specs.declared.report.Report.{Report}
-use Rattle.fwu_c.specs.Calls.{MovesByAnswer, CallEnds, Called, CallsBy, CallsFrom, IsAccepted, IsStepResult, IsNotTaken, MakesCall, RefusesCall, RepliesAs, ReportsCall, ReportsTakeUp, TakesUpBank, call_code, called, called_code, not_taken, status_code, stop_code, take_up_code}
+use Rattle.fwu_c.specs.Calls.{MovesByAnswer, CallEnds, Called, CallsBy, CallsFrom, IsAccepted, IsStepResult, IsNotTaken, MakesCall, RefusesCall, RepliesAs, ReportsCall, ReportsTakeUp, TakesUpBank, call_code, called, called_code, not_taken, take_up_code}
 use Rattle.fwu_c.specs.Handed.{HandsOver, IsDeviceEnd, IsStartOfSteps, SameBut, call_reach, is_idle_number, starts_none}
 use Rattle.fwu_c.proofs.Booting.{began_as, counted_from_none, over, start_same, starts_same}
 
 -- ---- numbers
 
-status_large : (st : Status) → 16 ≤ status_code st
-status_large status.Denied = omega arith
-status_large s = omega arith
-
-call_not_four : (result : Result (Unit {0}) Stop) → IsStepResult result → call_code result ≡ 4 → ⊥
-call_not_four (Ok x) is e = omega (arith, e)
-call_not_four (Err (stop.Status st)) is e = omega (arith, e, status_large st)
-call_not_four (Err stop.Lost) is e = is
-call_not_four (Err stop.Fault) is e = omega (arith, e)
-call_not_four (Err stop.Gone) is e = is
-
-call_not_six : (result : Result (Unit {0}) Stop) → call_code result ≡ 6 → ⊥
-call_not_six (Ok x) e = omega (arith, e)
-call_not_six (Err (stop.Status st)) e = omega (arith, e, status_large st)
-call_not_six (Err stop.Lost) e = omega (arith, e)
-call_not_six (Err stop.Fault) e = omega (arith, e)
-call_not_six (Err stop.Gone) e = omega (arith, e)
-
-call_not_seven : (result : Result (Unit {0}) Stop) → IsStepResult result → call_code result ≡ 7 → ⊥
-call_not_seven (Ok x) is e = omega (arith, e)
-call_not_seven (Err (stop.Status st)) is e = omega (arith, e, status_large st)
-call_not_seven (Err stop.Lost) is e = is
-call_not_seven (Err stop.Fault) is e = omega (arith, e)
-call_not_seven (Err stop.Gone) is e = is
-
 pub call_end_is : (result : Result (Unit {0}) Stop) → IsStepResult result → IsDeviceEnd (call_code result)
-call_end_is result is = (call_not_four result is, call_not_six result, call_not_seven result is)
+call_end_is (Err (stop.Status status.Denied)) is = grind arith
+call_end_is (Err stop.Lost) is = absurd is
+call_end_is (Err stop.Gone) is = absurd is
+call_end_is result is = grind arith
 
 -- a bank that is not taken up has neither 6 nor 7
-few_codes : (e : TakenUp) → (take_up_code e ≤ 5) ⊎ (take_up_code e ≡ 21)
-few_codes (taken b) = inl (omega arith)
-few_codes (bad_layout f) = inl (omega arith)
-few_codes no_metadata = inl (omega arith)
-few_codes not_started = inr refl
-few_codes (stopped flash_stop.Lost) = inl (omega arith)
-few_codes (stopped flash_stop.Failed) = inl (omega arith)
-
-take_up_not : (e : TakenUp) (number : ℕ) → take_up_code e ≡ number → (number ≡ 6) ⊎ (number ≡ 7) → ⊥
-take_up_not e number is (inl six) = elim (few_codes e) [
-  | inl few ↦ omega (arith, few, is, six)
-  | inr other ↦ omega (arith, other, is, six)
-]
-take_up_not e number is (inr seven) = elim (few_codes e) [
-  | inl few ↦ omega (arith, few, is, seven)
-  | inr other ↦ omega (arith, other, is, seven)
-]
+take_up_not : (e : TakenUp) → (take_up_code e ≡ 6 → ⊥) × (take_up_code e ≡ 7 → ⊥)
+take_up_not (stopped flash_stop.Lost) = grind arith
+take_up_not e = grind arith
 
 pub take_up_end_is : (bank number : ℕ) (first left : StepFlash) (old told : Report)
     → RefusesCall bank number first left old told → IsDeviceEnd number
 take_up_end_is bank number first left old told refuses =
-    let is = sym refuses.number_is in
-    (refuses.unlost, λ six. take_up_not refuses.end number is (inl six), λ seven. take_up_not refuses.end number is (inr seven))
-
--- a device of steps loses no power
-pub stop_unlost : (why : FlashStop) (old new : StepFlash) → Spends {T = Unit {0}} (Err why) (counts_of old) (counts_of new) → stop_code why ≡ 4 → ⊥
-stop_unlost flash_stop.Lost old new spends four = never_lost _ old new spends refl
-stop_unlost flash_stop.Failed old new spends four = omega (arith, four)
+    let few = take_up_not refuses.end in
+    let is = sym refuses.number_is in (refuses.unlost, λ six. few.0 (is ∙ six), λ seven. few.1 (is ∙ seven))
 
 -- ---- the guard stays
 
-kept : (old t : Told) → t ≡ old → t.guard ≡ old.guard
-kept old t e = ap (λ (x : Told). x.guard) e
-
 pub take_up_guard : (bank : ℕ) (old t : Told) (e : TakenUp) → TakesByBytes (λ m. passes_any m) bank old e t → t.guard ≡ old.guard
-take_up_guard bank old t (taken b) ends = ends.others.guard
-take_up_guard bank old t (bad_layout f) ends = kept old t ends.1
-take_up_guard bank old t no_metadata ends = kept old t ends.3
-take_up_guard bank old t not_started ends = kept old t ends.1
-take_up_guard bank old t (stopped why) ends = elim ends [
-  | inl same ↦ kept old t same
-  | inr repair ↦ repair.others.guard
-]
+take_up_guard bank old t (stopped why) ends = elim ends [ inl same ↦ cc | inr repair ↦ repair.others.guard ]
+take_up_guard bank old t e ends = cc
 
 take_up_same : (e : TakenUp) (before old new : Report) → IsNotTaken e → SameBut old new → ReportsTakeUp e before old
     → ReportsTakeUp e before new
 take_up_same (taken b) before old new is same reports = absurd is
-take_up_same (bad_layout f) before old new is same reports = ap (λ (r : Report). r.layout_fault) same ∙ reports
+take_up_same (bad_layout f) before old new is same reports = cc
 take_up_same no_metadata before old new is same reports = tt
 take_up_same not_started before old new is same reports = tt
 take_up_same (stopped why) before old new is same reports = starts_same before old new same reports
@@ -134,18 +81,14 @@ take_up_same (stopped why) before old new is same reports = starts_same before o
 -- ---- the call
 
 pub is_called : (result : Result (Unit {0}) Stop) → (result ≡ Err stop.Lost → ⊥) → (result ≡ Err stop.Gone → ⊥) → IsStepResult result
-is_called (Ok x) lost gone = tt
-is_called (Err (stop.Status st)) lost gone = tt
 is_called (Err stop.Lost) lost gone = lost refl
-is_called (Err stop.Fault) lost gone = tt
 is_called (Err stop.Gone) lost gone = gone refl
+is_called result lost gone = tt
 
 not_stopped : (result : Result (Unit {0}) Stop) → is_ok (flash_result result) ≡ true → IsStopped result → ⊥
-not_stopped (Ok x) ok halted = halted
-not_stopped (Err (stop.Status st)) ok halted = halted
 not_stopped (Err stop.Lost) ok halted = absurd (cc)
 not_stopped (Err stop.Fault) ok halted = absurd (cc)
-not_stopped (Err stop.Gone) ok halted = halted
+not_stopped result ok halted = halted
 
 -- an agent that was there is so after an answer or a refusal
 pub here_after : (result : Result (Unit {0}) Stop) (was now : Bool) → IsFalse was → GoesBy result was now → is_ok (flash_result result) ≡ true → IsFalse now
@@ -308,13 +251,5 @@ take_up_idle bank (stopped flash_stop.Failed) old t began ends idle = absurd (cc
 
 -- a call that was made has none of these numbers
 pub call_starts : (result : Result (Unit {0}) Stop) → IsTrue (starts_none (call_code result)) → ⊥
-call_starts (Ok x) none = absurd (cc)
 call_starts (Err (stop.Status status.Denied)) none = absurd (cc)
-call_starts (Err (stop.Status status.AuthFail)) none = absurd (cc)
-call_starts (Err (stop.Status status.Unknown)) none = absurd (cc)
-call_starts (Err (stop.Status status.Busy)) none = absurd (cc)
-call_starts (Err (stop.Status status.OutOfBounds)) none = absurd (cc)
-call_starts (Err (stop.Status status.NotAvailable)) none = absurd (cc)
-call_starts (Err stop.Lost) none = absurd (cc)
-call_starts (Err stop.Fault) none = absurd (cc)
-call_starts (Err stop.Gone) none = absurd (cc)
+call_starts result none = absurd (cc)

@@ -56,8 +56,3 @@ no_six image number is other = (λ six. absurd (other six), λ none. absurd (non
 pub tells_nothing : (image : List ℕ) (number : ℕ) (s : FlashShown) → (number ≡ 6) ↔ (HasFlashSize image → ⊥)
     → TellsShown image number s s
 tells_nothing image number s no_flash = record { fault = λ one. refl; fault_stays = λ other. refl; behind = refl; no_flash = no_flash; untouched = λ low. refl }
-
--- of a flash
-pub tells_none : (image : List ℕ) (number : ℕ) (s : FlashShown) → HasFlashSize image → (number ≡ 6 → ⊥)
-    → TellsShown image number s s
-tells_none image number s is other = tells_nothing image number s (no_six image number is other)

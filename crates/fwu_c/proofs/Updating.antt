@@ -16,7 +16,7 @@ use Rattle.fwu_model.specs.Seen.{seen, seen_by, seen_with}
 use Rattle.moves.specs.Moved.{IsShown}
 use Rattle.early_boot.specs.Numbers.{ShowsNumbers}
 use Rattle.early_boot.specs.Started.{Started}
-use Rattle.early_boot.specs.Ends.{Ended, booted}
+use Rattle.early_boot.specs.Ends.{booted}
 use Rattle.early_boot.specs.EndsBy.{BootEnds}
 use Rattle.step_flash.specs.declared.step.Step.{Step}
 use Rattle.step_flash.specs.declared.flash.StepFlash.{StepFlash}
@@ -26,11 +26,10 @@ use Rattle.step_flash.specs.Stopped.{under_as}
 use Rattle.step_flash.specs.Steps.{AreDoable, IsInsideWith, room_bytes, run_with}
 use Rattle.step_flash.proofs.Room.{no_room_bytes}
 use Rattle.fwu_c.specs.declared.report.Report.{Report}
-use Rattle.fwu_c.specs.Codes.{end_code}
 use Rattle.fwu_c.specs.Handed.{HandsOver, HasFlashSize, IsDeviceEnd, TellsSteps, boot_reach, starts_none}
-use Rattle.update_client.specs.declared.stops.SendStop.TheVariants.{MissingImage, ImageTooLarge, Begin, End, ReadFailed, Lost, Fault, Gone}
+use Rattle.update_client.specs.declared.stops.SendStop.TheVariants.{ReadFailed, Lost, Gone}
 use Rattle.fwu_c.specs.Sendings.{InstallsBy, IsOutcome, SendOutcome, outcome_code}
-use Rattle.fwu_c.specs.Updates.{ReportsBoot, IsNotBooted, IsOnTrial, ReportsNone, UpdateEnds, Updated, UpdatesBy}
+use Rattle.fwu_c.specs.Updates.{ReportsBoot, IsOnTrial, ReportsNone, UpdateEnds, Updated, UpdatesBy}
 use Rattle.fwu_c.specs.Updates.{on_trial, not_booted, tried, update_code, ReportsUpdate, SparesInUse}
 use Rattle.agent_machine.specs.Moment.{Moment}
 use Rattle.agent_machine.specs.Beside.{IsSparedByAll, SparesBlocksByAll}
@@ -89,43 +88,25 @@ start_now image = refl
 
 -- a known outcome has none of the numbers 4, 6 and 7
 pub outcome_end_is : (outcome : SendOutcome) → IsOutcome outcome → IsDeviceEnd (outcome_code outcome)
-outcome_end_is None is = (λ four. omega (arith, four), λ six. omega (arith, six), λ seven. omega (arith, seven))
-outcome_end_is (Some (Ok sent)) is = (λ four. omega (arith, four), λ six. omega (arith, six), λ seven. omega (arith, seven))
-outcome_end_is (Some (Err (MissingImage guid))) is = (λ four. omega (arith, four), λ six. omega (arith, six), λ seven. omega (arith, seven))
-outcome_end_is (Some (Err (ImageTooLarge guid))) is = (λ four. omega (arith, four), λ six. omega (arith, six), λ seven. omega (arith, seven))
-outcome_end_is (Some (Err (Begin st))) is = (λ four. omega (arith, four), λ six. omega (arith, six), λ seven. omega (arith, seven))
-outcome_end_is (Some (Err (End st))) is = (λ four. omega (arith, four), λ six. omega (arith, six), λ seven. omega (arith, seven))
 outcome_end_is (Some (Err ReadFailed)) is = absurd is
 outcome_end_is (Some (Err Lost)) is = absurd is
-outcome_end_is (Some (Err Fault)) is = (λ four. omega (arith, four), λ six. omega (arith, six), λ seven. omega (arith, seven))
 outcome_end_is (Some (Err Gone)) is = absurd is
+outcome_end_is outcome is = grind arith
 
 pub outcome_starts : (outcome : SendOutcome) → IsTrue (starts_none (outcome_code outcome)) → ⊥
-outcome_starts None none = absurd (cc)
-outcome_starts (Some (Ok sent)) none = absurd (cc)
-outcome_starts (Some (Err (MissingImage guid))) none = absurd (cc)
-outcome_starts (Some (Err (ImageTooLarge guid))) none = absurd (cc)
-outcome_starts (Some (Err (Begin st))) none = absurd (cc)
-outcome_starts (Some (Err (End st))) none = absurd (cc)
 outcome_starts (Some (Err ReadFailed)) none = absurd (cc)
-outcome_starts (Some (Err Lost)) none = absurd (cc)
-outcome_starts (Some (Err Fault)) none = absurd (cc)
-outcome_starts (Some (Err Gone)) none = absurd (cc)
+outcome_starts outcome none = absurd (cc)
 
 -- a boot that started none has none of these either
-none_not_six : (e : Ended) → IsNotBooted e → (end_code e ≡ 6 → ⊥) × (end_code e ≡ 7 → ⊥)
-none_not_six e is = let few = code_few e in (λ six. omega (arith, few, six), λ seven. omega (arith, few, seven))
-
 pub none_end_is : (number : ℕ) (first left : StepFlash) (old r : Report) → ReportsNone number first left old r → IsDeviceEnd number
-none_end_is number first left old r none =
-    let not = none_not_six none.end none.is in (none.unlost, λ six. not.0 (sym none.number_is ∙ six), λ seven. not.1 (sym none.number_is ∙ seven))
+none_end_is number first left old r none = grind (arith, none.unlost, none.number_is, code_few none.end)
 
 -- an update is refused before it boots
 pub told_denied : (image : List ℕ) (old : Report) (old_steps : List Step) (old_room : List ℕ) (new : Report) (steps : List Step) (room : List ℕ)
     → HasFlashSize image → new.layout_fault ≡ old.layout_fault → new.steps ≡ 0 → steps ≡ old_steps → room ≡ old_room
     → TellsSteps image 16 old old_steps old_room new steps room
 told_denied image old old_steps old_room new steps room is same none same_steps same_room =
-    told_handed image 16 16 old old_steps old_room new steps room is (λ four. omega (arith, four), λ six. omega (arith, six), λ seven. omega (arith, seven))
+    told_handed image 16 16 old old_steps old_room new steps room is (grind arith)
     (inl refl) (λ idle. absurd (cc)) (keeps_fault 16 old new same (λ none. absurd (cc)))
     (λ not. none_lie new.steps block_bytes (length image) steps none) (ap (λ (x : List Step). drop new.steps x) same_steps, ap (λ (x : List ℕ). drop new.bytes x) same_room)
     (λ five. absurd (omega (arith, five))) (λ seven. absurd (omega (arith, seven)))
@@ -246,9 +227,3 @@ denied_by image file request old r steps room trial none empty =
       beside_marks = subst LieBesideMarks (sym no_steps) (λ k d lt. absurd (omega (arith, lt)));
       reports = (none, empty);
     }
-
--- of the same image
-pub update_of_image : (image other file : List ℕ) (request number : ℕ) (old r : Report) (steps : List Step) (room : List ℕ) → other ≡ image
-    → UpdatesBy other file request number old r steps room → UpdatesBy image file request number old r steps room
-update_of_image image other file request number old r steps room same by =
-    subst (λ (i : List ℕ). UpdatesBy i file request number old r steps room) same by

@@ -1,5 +1,5 @@
-use Rattle.fwu_c.proofs.Booting.{has_flash_size, made_new, of_image}
-use Rattle.fwu_c.proofs.Telling.{tells_of_image, told_no_room, told_unmade}
+use Rattle.fwu_c.proofs.Booting.{made_new, of_image}
+use Rattle.fwu_c.proofs.Telling.{told_unmade}
 use Rattle.fwu_c.proofs.boot.fwu_boot.Goals as goal
 
 pub boot_over-requires-clause-new : goal.boot_over-requires-clause-new

@@ -1,15 +1,12 @@
-use Rattle.std.proofs.Common.{◌≡◌, ap, refl, subst, sym, Some, IsTrue}
+use Rattle.std.proofs.Common.{◌≡◌, ap, refl, subst, sym}
 use Rattle.base_core.specs.Block.{block_bytes}
 use Rattle.fwu_formats.specs.Digests.{passes_any}
-use Rattle.fwu_formats.specs.Layout.{Layout, find_image}
-use Rattle.fwu_formats.specs.Metadata.{MetaRead, bit_at}
 use Rattle.fwu_model.specs.Call.{Call}
-use Rattle.fwu_model.specs.Call as call
 use Rattle.fwu_model.specs.Reply.{Reply, Success}
 use Rattle.agent_machine.specs.Meets.{Meets}
 use Rattle.agent_calls.specs.Shown.{device, moment}
-use Rattle.step_flash.specs.Flash.{told_of, writes_of}
-use Rattle.fwu_c.specs.Calls.{IsAccepted, call_of}
+use Rattle.step_flash.specs.Flash.{writes_of}
+use Rattle.fwu_c.specs.Calls.{call_of}
 use Rattle.fwu_c.specs.Handed.{call_reach}
 use Rattle.fwu_c.proofs.Calls.{touches_by}
 use Rattle.fwu_c.specs.declared.calling.AgentCall.{AgentCall}

@@ -1,6 +1,6 @@
-use Rattle.fwu_c.proofs.Booting.{has_flash_size, made_new}
+use Rattle.fwu_c.proofs.Booting.{made_new}
 use Rattle.fwu_c.proofs.Calls.{call_of_image}
-use Rattle.fwu_c.proofs.Telling.{tells_of_image, told_no_room, told_unmade}
+use Rattle.fwu_c.proofs.Telling.{told_unmade}
 use Rattle.fwu_c.proofs.calling.call_on.Goals as goal
 
 pub call_over-requires-clause-new : goal.call_over-requires-clause-new

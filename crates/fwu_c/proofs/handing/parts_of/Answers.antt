@@ -2,7 +2,7 @@ use Rattle.std.proofs.Common.{◌∙◌, ap, sym, length, ℕ, List}
 use Rattle.step_flash.specs.declared.step.Step.{Step}
 use Rattle.step_flash.specs.Steps.{room_bytes}
 use Rattle.step_flash.proofs.Room.{no_room_bytes}
-use Rattle.fwu_c.proofs.Booting.{none_counted, none_noted}
+use Rattle.fwu_c.proofs.Booting.{none_noted}
 use Rattle.fwu_c.proofs.handing.parts_of.Goals as goal
 
 pub returns-then-is_idle-clause-noted : goal.returns-then-is_idle-clause-noted

@@ -4,7 +4,7 @@ use Rattle.early_boot.specs.Showing.{ShowsNothing}
 use Rattle.early_boot.specs.declared.showing.Unshown.{Unshown}
 use Rattle.fwu_c.specs.Codes.{fault_code}
 use Rattle.fwu_c.proofs.Booting.{has_flash_size}
-use Rattle.fwu_c.proofs.Showing.{no_six, tells_none, tells_nothing}
+use Rattle.fwu_c.proofs.Showing.{no_six, tells_nothing}
 use Rattle.fwu_c.proofs.Telling.{unmade_by}
 use Rattle.fwu_c.proofs.Updating.{start_now}
 use Rattle.fwu_c.proofs.show.fwu_show.Goals as goal

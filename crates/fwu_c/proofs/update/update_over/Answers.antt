@@ -5,7 +5,7 @@ use Rattle.agent_calls.specs.Shown.{device, gone, moment}
 use Rattle.step_flash.specs.Flash.{image_of, told_of}
 use Rattle.fwu_c.specs.Handed.{IsDeviceEnd, boot_reach, is_idle_number, starts_none}
 use Rattle.fwu_c.proofs.Booting.{boot_idle, counted_from_none, given, has_flash_size, reach_inside}
-use Rattle.fwu_c.proofs.Telling.{idle_starts, keeps_fault, lie_further, told_handed, told_no_room}
+use Rattle.fwu_c.proofs.Telling.{idle_starts, keeps_fault, lie_further, told_handed}
 use Rattle.fwu_c.proofs.Updating.{none_end_is, outcome_end_is, outcome_starts, sending_spares, tried_by, tried_places, unbooted_by}
 use Rattle.fwu_c.proofs.update.update_over.Goals as goal
 
