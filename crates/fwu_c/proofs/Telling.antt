@@ -1,5 +1,5 @@
 -- What a call promises that tells steps, whatever it is asked for.
-use Rattle.std.proofs.Common.{◌≡◌, ◌⊎◌, ◌==◌, inl, inr, refl, ap, sym, subst, ℕ, ◌≤◌, Bool, List, All, drop, length, take, arith}
+use Rattle.std.proofs.Common.{◌≡◌, ◌⊎◌, ◌==◌, inl, inr, refl, ap, sym, subst, ℕ, ◌≤◌, ◌*◌, Bool, List, All, drop, length, take, arith}
 use Rattle.fwu_c.specs.Reports.{SameStart}
 use Rattle.std.specs.Prelude.{◌↔◌, ◌||◌, IsTrue}
 use Rattle.step_flash.specs.declared.step.Step.{Step}
@@ -9,7 +9,11 @@ use Rattle.step_flash.specs.declared.flash.Unmade.TheVariants.{NoFlash, NoMemory
 use Rattle.step_flash.specs.Unmade.{IsUnmade}
 use Rattle.step_flash.specs.Writes.{LiesWithin}
 use Rattle.base_core.specs.Block.{block_bytes}
-use Rattle.fwu_c.specs.Handed.{HasFlashSize, IsDeviceEnd, IsUntouched, KeepsReport, TellsSteps}
+use Rattle.flash_core.specs.Touches.{TouchesOnly}
+use Rattle.step_flash.specs.declared.flash.StepFlash.{StepFlash}
+use Rattle.step_flash.specs.Flash.{flash_sizes, image_of, writes_of}
+use Rattle.fwu_c.proofs.Booting.{counted_from_none}
+use Rattle.fwu_c.specs.Handed.{IsJustMade, LieAsCounted, HasFlashSize, IsDeviceEnd, IsUntouched, KeepsReport, TellsSteps}
 use Rattle.fwu_c.specs.Handed.{is_idle_number, starts_none, unmade_code}
 
 stays : (r : Report) (steps : List Step) (room : List ℕ) → IsUntouched r steps room r steps room
@@ -51,6 +55,15 @@ lie_further low near far steps more all = λ k d lt. elim (all k d lt) [
   | inl barrier ↦ inl barrier
   | inr place ↦ inr (place.0, omega (arith, place.1, more))
 ]
+
+-- those of a device that wrote some of the first eight blocks alone
+pub lie_inside : (file : List ℕ) (first d : StepFlash) (last : ℕ) (steps : List Step) → IsJustMade file first → last ≤ 8
+    → TouchesOnly block_bytes (block_bytes * last) (writes_of first) (writes_of d) → LieAsCounted d steps
+    → All (LiesWithin block_bytes (length (image_of first))) steps
+lie_inside file first d last steps made few touches lie =
+    let blocks = (flash_sizes first).0 in
+    lie_further block_bytes (block_bytes * last) _ steps (omega (arith, few, made.size, blocks))
+    (lie.places 1 last (counted_from_none block_bytes (block_bytes * last) made.unwritten touches))
 
 -- 6 comes of all bytes that are no flash, and of no others
 pub unmade_by : (image : List ℕ) (why : Unmade) → IsUnmade (length image) why → (unmade_code why ≡ 6) ↔ (HasFlashSize image → ⊥)

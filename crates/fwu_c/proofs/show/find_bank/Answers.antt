@@ -19,7 +19,7 @@ check-requires-clause-bank c =
 
 pub returns-clause-found : goal.returns-clause-found
 returns-clause-found c =
-    let now = ap (λ t. t.now) c.in-Ok.ensures.content ∙ start_now c.args.image.now in
+    let now = start_now c.args.image.now _ _ c.in-Ok.ensures.content in
     let found : c.in-Ok-check.verdict ≡ verdict_on (λ m. passes_any m) c.args.read.now.counter c.args.layout.now c.args.image.now c.args.bank =
     c.in-Ok-check.ensures.verdict refl ∙ ap (λ i. verdict_on (λ m. passes_any m) c.args.read.now.counter c.args.layout.now i c.args.bank) now in
     same_bank _ _ _ _ _ _ _ _ _ _ (c.state_number.ensures ∙ ap (λ (s : BankState). state_code s) c.get.ensures)
