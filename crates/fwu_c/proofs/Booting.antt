@@ -1,5 +1,5 @@
 -- A boot, by what its device tells and by its steps.
-use Rattle.std.proofs.Common.{◌≡◌, ◌∙◌, ◌⊎◌, ◌≤◌, ◌*◌, inl, inr, refl, ap, sym, subst, ℕ, true, List, [], length, take, arith}
+use Rattle.std.proofs.Common.{◌≡◌, ◌∙◌, ◌⊎◌, ◌≤◌, ◌*◌, refl, ap, sym, subst, ℕ, true, List, [], length, take, arith}
 use Rattle.std.proofs.Common.{None}
 use Rattle.std.specs.Prelude.{All, IsTrue}
 use Rattle.base_core.specs.Block.{block_bytes}
@@ -41,22 +41,21 @@ start_same b old new same reports = subst (ReportsStart b) (sym same) assumption
 
 -- what a start writes, as it was before
 pub starts_same : (before old new : Report) → SameBut old new → SameStarts before old → SameStarts before new
-starts_same before old new same stays = subst (SameStarts before) (sym same) (record { start = assumption; active = stays.active; previous = stays.previous })
+starts_same before old new same stays =
+    subst (SameStarts before) (sym same) (record { start = assumption; active = stays.active; previous = stays.previous })
 
 pub end_same : (e : Ended) (before old new : Report) → SameBut old new → ReportsEnd e before old → ReportsEnd e before new
 end_same (booted b n) before old new same reports = start_same b old new same reports
 end_same (bad_layout f) before old new same reports = cc
 end_same no_metadata before old new same reports = tt
 end_same (no_bank active previous) before old new same reports = rw same reports
-end_same (lost n) before old new same reports = starts_same before old new same reports
-end_same (failed n) before old new same reports = starts_same before old new same reports
+end_same e before old new same reports = starts_same before old new same reports
 
 -- ---- numbers
 
 -- a number below 7 is the one that was given
 pub given : (result number : ℕ) → (result ≡ number) ⊎ (result ≡ 7) → (result ≡ 7 → ⊥) → result ≡ number
-given result number (inl is) other = is
-given result number (inr seven) other = absurd (other seven)
+given result number either other = grind arith
 
 pub below_seven : (result : ℕ) → result ≤ 5 → result ≡ 7 → ⊥
 below_seven result low seven = omega (arith, low, seven)

@@ -71,9 +71,8 @@ take_up_same : (e : TakenUp) (before old new : Report) → IsNotTaken e → Same
     → ReportsTakeUp e before new
 take_up_same (taken b) before old new is same reports = absurd is
 take_up_same (bad_layout f) before old new is same reports = cc
-take_up_same no_metadata before old new is same reports = tt
-take_up_same not_started before old new is same reports = tt
 take_up_same (stopped why) before old new is same reports = starts_same before old new same reports
+take_up_same e before old new is same reports = tt
 
 -- ---- the call
 
@@ -107,7 +106,7 @@ setting_of L = record { layout = L; files = λ name. None; passes = λ m. passes
 pub spared-of : (L : Layout) (bank : ℕ) (f : Fields) (s t : Told) → f.layout ≡ L → f.boot ≡ bank → KeepsSparedByAll f s t
     → KeepsWhere (IsSparedByAll L bank) s t
 spared-of L bank f s t layout boot kept =
-    subst (λ (l : Layout). KeepsWhere (IsSparedByAll l bank) s t) layout (subst (λ (b : ℕ). KeepsWhere (IsSparedByAll f.layout b) s t) boot kept)
+    rw (layout, boot) at kept
 
 module _ (E : Setting) (s : State) (x : Session) (c : Call) (new : Moment) where
   reply_by : (result : Result (Unit {0}) Stop) → IsStepResult result → Answers (λ (value : Unit {0}) (reply : Reply). reply ≡ Success) result E s x c new → RepliesAs result (answer E s x c).reply
@@ -134,7 +133,7 @@ module _ (c : Call) (b : Started) (result : Result (Unit {0}) Stop) (old new : M
   calls_from = record {
     answers = λ E s same passes shown.
         let setting : IsSettingOf old.fields (λ m. passes_any m) E = record { layout = same ∙ sym from.layout; verifier = passes } in
-        let shows = starts s (subst (λ (L : Layout). IsShown L old.told.now s) (sym from.layout) shown) in
+        let shows = starts s (rw from.layout shown) in
         let by = exact E s (started_session b) setting shows in
         let a = answer E s (started_session b) c in
         let layout : new.fields.layout ≡ E.layout = leaves.stays.layout ∙ from.layout ∙ sym same in

@@ -91,7 +91,7 @@ module _ (held : Directory) (file name : List ℕ) (request : ℕ) (b : Started)
   images-are = sends.read file there ∙ ap (λ (L : Layout). images_of L.rows file toc) from.layout
 
   before : (s : State) → IsShown b.layout old.told.now s → Shows old s (started_session b)
-  before s shown = starts s (subst (λ (L : Layout). IsShown L old.told.now s) (sym from.layout) shown)
+  before s shown = starts s (rw from.layout shown)
 
   by : (E : Setting) (s : State) → E.layout ≡ b.layout → E.passes ≡ (λ m. passes_any m) → IsShown b.layout old.told.now s
       → Went E (send_answer E toc sends.images request s (started_session b)) result old new s

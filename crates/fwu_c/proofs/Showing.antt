@@ -14,7 +14,6 @@ use Rattle.early_boot.specs.Numbers.{ShowsNumbers}
 use Rattle.early_boot.proofs.Lookups.{layout-inside}
 use Rattle.fwu_c.specs.Handed.{HasFlashSize}
 use Rattle.fwu_c.specs.Shows.{TellsShown}
-use Rattle.fwu_c.specs.declared.show.BankShown.{BankShown}
 use Rattle.fwu_c.specs.declared.show.FlashShown.{FlashShown}
 
 by_layout : (L : Layout) (image : List ℕ) (read : Option MetaRead) (s : State) → seen_by L image read ≡ Some s
@@ -40,12 +39,6 @@ pub inside : (image : List ℕ) (L : Layout) (blocks : ℕ) → layout_seen imag
     → blocks_needed L ≤ blocks
 inside image L blocks layout size =
     omega (arith, layout-inside (block layout_block image) (length image / block_bytes) L layout, size)
-
-pub same_bank : (state verdict version image state2 verdict2 version2 image2 : ℕ) (accepted accepted2 : List ℕ) → state ≡ state2
-    → verdict ≡ verdict2 → version ≡ version2 → image ≡ image2 → accepted ≡ accepted2
-    → ◌≡◌ {A = BankShown} (record { state = state; verdict = verdict; version = version; image = image; accepted = accepted })
-    (record { state = state2; verdict = verdict2; version = version2; image = image2; accepted = accepted2 })
-same_bank state verdict version image state2 verdict2 version2 image2 accepted accepted2 a b c d e = cc
 
 -- ---- what is told
 

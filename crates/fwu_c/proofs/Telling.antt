@@ -1,5 +1,5 @@
 -- What a call promises that tells steps, whatever it is asked for.
-use Rattle.std.proofs.Common.{◌≡◌, ◌⊎◌, ◌==◌, inl, inr, refl, ap, sym, subst, ℕ, ◌≤◌, ◌*◌, Bool, List, All, drop, length, take, arith}
+use Rattle.std.proofs.Common.{◌≡◌, ◌⊎◌, ◌==◌, inl, inr, refl, ap, ℕ, ◌≤◌, ◌*◌, Bool, List, All, drop, length, take, arith}
 use Rattle.fwu_c.specs.Reports.{SameStart}
 use Rattle.std.specs.Prelude.{◌↔◌, ◌||◌, IsTrue}
 use Rattle.step_flash.specs.declared.step.Step.{Step}
@@ -45,10 +45,6 @@ keeps_fault number old new same starts = record {
 pub keeps_started : (old new : Report) → new.layout_fault ≡ old.layout_fault → KeepsReport 0 old new
 keeps_started old new same = keeps_fault 0 old new same (λ none. absurd (cc))
 
--- no step lies anywhere
-pub none_lie : (n low high : ℕ) (steps : List Step) → n ≡ 0 → All (LiesWithin low high) (take n steps)
-none_lie n low high steps none = subst (λ (i : ℕ). All (LiesWithin low high) (take i steps)) (sym none) (λ k d lt. absurd (omega (arith, lt)))
-
 -- steps that reach less far
 pub lie_further : (low near far : ℕ) (steps : List Step) → near ≤ far → All (LiesWithin low near) steps → All (LiesWithin low far) steps
 lie_further low near far steps more all = λ k d lt. elim (all k d lt) [
@@ -69,7 +65,8 @@ lie_inside file first d last steps made few touches lie =
 pub unmade_by : (image : List ℕ) (why : Unmade) → IsUnmade (length image) why → (unmade_code why ≡ 6) ↔ (HasFlashSize image → ⊥)
 unmade_by image NoFlash unmade = (λ six flash. unmade flash.blocks flash.fewest flash.most flash.size, λ none. refl)
 unmade_by image NoMemory unmade =
-    (λ six. absurd (omega (arith, six)), λ none. absurd (none (record { blocks = unmade.0; fewest = unmade.1; most = unmade.2; size = unmade.3 })))
+    let size : HasFlashSize image = record { blocks = unmade.0; fewest = unmade.1; most = unmade.2; size = unmade.3 } in
+    (λ six. absurd (omega (arith, six)), λ none. absurd (none size))
 
 unmade_either : (why : Unmade) → (unmade_code why ≡ 6) ⊎ (unmade_code why ≡ 7)
 unmade_either NoFlash = inl refl
@@ -97,7 +94,8 @@ told_no_room image r steps room is =
 -- there is no device over the image
 pub told_unmade : (image : List ℕ) (why : Unmade) (number : ℕ) (r : Report) (steps : List Step) (room : List ℕ) → IsUnmade (length image) why
     → number ≡ unmade_code why → TellsSteps image number r steps room r steps room
-told_unmade image why number r steps room unmade is = rw is (told_none image _ r steps room (unmade_either why) (unmade_by image why unmade))
+told_unmade image why number r steps room unmade is =
+    rw is (told_none image _ r steps room (unmade_either why) (unmade_by image why unmade))
 
 -- what a device handed over
 pub told_handed : (image : List ℕ) (result number : ℕ) (old : Report) (old_steps : List Step) (old_room : List ℕ) (new : Report) (steps : List Step)

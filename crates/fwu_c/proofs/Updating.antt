@@ -1,5 +1,5 @@
 -- An update, by what its device tells and by its steps.
-use Rattle.std.proofs.Common.{drop, Bool, ◌≡◌, ◌∙◌, inl, refl, ℕ, ◌+◌, ◌*◌, List, [], length, Some, None, Ok, Err, ap, sym, subst, take, arith, get_or}
+use Rattle.std.proofs.Common.{Bool, ◌≡◌, ◌∙◌, inl, refl, ℕ, ◌+◌, ◌*◌, List, length, Some, None, Ok, Err, ap, sym, subst, take, arith, get_or}
 use Rattle.std.proofs.Math.ListN.{get_or-map}
 use Rattle.std.specs.Prelude.{All, IsTrue, IsFalse}
 use Rattle.base_core.specs.Block.{block_bytes}
@@ -20,8 +20,7 @@ use Rattle.step_flash.specs.declared.step.Step.{Step}
 use Rattle.step_flash.specs.declared.flash.StepFlash.{StepFlash}
 use Rattle.step_flash.specs.Flash.{block_count, image_of, told_of, writes_of}
 use Rattle.step_flash.specs.Guard.{start_with}
-use Rattle.step_flash.specs.Stopped.{under_as}
-use Rattle.step_flash.specs.Steps.{AreDoable, IsInsideWith, room_bytes, run_with}
+use Rattle.step_flash.specs.Steps.{run_with}
 use Rattle.step_flash.proofs.Room.{no_room_bytes}
 use Rattle.fwu_c.specs.declared.report.Report.{Report}
 use Rattle.fwu_c.specs.Handed.{HandsOver, IsJustMade, HasFlashSize, IsDeviceEnd, TellsSteps, boot_reach, starts_none}
@@ -32,12 +31,12 @@ use Rattle.fwu_c.specs.Updates.{on_trial, not_booted, tried, update_code, Report
 use Rattle.agent_machine.specs.Moment.{Moment}
 use Rattle.agent_machine.specs.Beside.{IsSparedByAll, SparesBlocksByAll}
 use Rattle.fwu_formats.proofs.Read.{layout-fits}
-use Rattle.step_flash.specs.Writes.{LiesBeside, LiesWithin}
-use Rattle.fwu_formats.specs.Places.{counter_block, first_record}
+use Rattle.step_flash.specs.Writes.{LiesWithin}
+use Rattle.fwu_formats.specs.Places.{counter_block}
 use Rattle.fwu_c.specs.Agents.{BeginsAgent}
 use Rattle.fwu_c.proofs.Calls.{setting_of}
 use Rattle.fwu_c.proofs.Places.{has-blocks, in-use-unwritten, marks-spared, update-touches}
-use Rattle.fwu_c.proofs.Telling.{keeps_fault, lie_further, none_lie, told_handed}
+use Rattle.fwu_c.proofs.Telling.{keeps_fault, lie_further, told_handed}
 use Rattle.fwu_c.proofs.Booting.{beside_marks_by, code_few, counted_from_none, end_same, guard_kept, over, start_same}
 
 -- ---- trials
@@ -83,13 +82,11 @@ pub none_end_is : (number : ℕ) (first left : StepFlash) (old r : Report) → R
 none_end_is number first left old r none = grind (arith, none.unlost, none.number_is, code_few none.end)
 
 -- an update is refused before it boots
-pub told_denied : (image : List ℕ) (old : Report) (old_steps : List Step) (old_room : List ℕ) (new : Report) (steps : List Step) (room : List ℕ)
-    → HasFlashSize image → new.layout_fault ≡ old.layout_fault → new.steps ≡ 0 → steps ≡ old_steps → room ≡ old_room
-    → TellsSteps image 16 old old_steps old_room new steps room
-told_denied image old old_steps old_room new steps room is same none same_steps same_room =
-    told_handed image 16 16 old old_steps old_room new steps room is (grind arith)
-    (inl refl) (λ idle. absurd (cc)) (keeps_fault 16 old new same (λ none. absurd (cc)))
-    (λ not. none_lie new.steps block_bytes (length image) steps none) (ap (λ (x : List Step). drop new.steps x) same_steps, ap (λ (x : List ℕ). drop new.bytes x) same_room)
+pub told_denied : (image : List ℕ) (r : Report) (steps : List Step) (room : List ℕ) → HasFlashSize image
+    → TellsSteps image 16 r steps room (record r { steps = 0; bytes = 0 }) steps room
+told_denied image r steps room is =
+    told_handed image 16 16 r steps room (record r { steps = 0; bytes = 0 }) steps room is (grind arith) (inl refl)
+    (λ idle. absurd (cc)) (keeps_fault 16 r _ refl (λ none. absurd (cc))) (λ not k d lt. absurd (omega (arith, lt))) (refl, refl)
     (λ five. absurd (omega (arith, five))) (λ seven. absurd (omega (arith, seven)))
 
 -- ---- the record
@@ -97,7 +94,7 @@ told_denied image old old_steps old_room new steps room is same none same_steps 
 -- a sending keeps the guard, since the boot before it left a flash that shows a state
 guard_by : (file : List ℕ) (request : ℕ) (b : Started) (outcome : SendOutcome) (old t : Told) (s : State) → IsShown b.layout old.now s
     → InstallsBy file request b outcome old t → t.guard ≡ old.guard
-guard_by file request b None old t s shown by = ap (λ (x : Told). x.guard) by.1
+guard_by file request b None old t s shown by = cc
 guard_by file request b (Some result) old t s shown by = (by.answers (setting_of b.layout) s refl refl shown).guard_is
 
 -- what a sending spares, by the bank that was started
@@ -107,8 +104,7 @@ SendingSpares b mid d = (k : ℕ) → IsSparedByAll b.layout b.bank (block_bytes
 pub sending_spares : (b : Started) (m : Moment) (gone : Bool) (mid d : StepFlash) → BeginsAgent b m gone
     → SparesBlocksByAll m.fields (writes_of mid) (writes_of d) → SendingSpares b mid d
 sending_spares b m gone mid d begins touches k spared =
-    touches k (subst (λ (L : Layout). IsSparedByAll L m.fields.boot (block_bytes * k)) (sym begins.from.layout)
-    (subst (λ (bank : ℕ). IsSparedByAll b.layout bank (block_bytes * k)) (sym begins.from.boot) spared))
+    touches k (rw (begins.from.layout, begins.from.boot) spared)
 
 module _ (file : List ℕ) (request : ℕ) (first d : StepFlash) (made : IsJustMade file first) (number : ℕ) (old told r : Report)
     (steps : List Step) (room : List ℕ) (hands : HandsOver d told r steps room) where
@@ -176,27 +172,23 @@ module _ (file : List ℕ) (request : ℕ) (first d : StepFlash) (made : IsJustM
         (start_same b told r hands.same boots.reports)
 
 -- nothing was tried
-pub denied_by : (image file : List ℕ) (request : ℕ) (old r : Report) (steps : List Step) (room : List ℕ) → IsOnTrial image
-    → r.steps ≡ 0 → r.bytes ≡ 0 → UpdatesBy image file request 16 old r steps room
+pub denied_by : (image file : List ℕ) (request : ℕ) (r : Report) (steps : List Step) (room : List ℕ) → IsOnTrial image
+    → UpdatesBy image file request 16 r (record r { steps = 0; bytes = 0 }) steps room
 unfolding run_with fresh
-denied_by image file request old r steps room trial none empty =
-    let no_steps : take r.steps steps ≡ [] = ap (λ (n : ℕ). take n steps) none in
-    let no_bytes : room_bytes [] ≡ 0 = no_room_bytes in
-    record {
-      end = on_trial;
-      number_is = refl;
-      t = start_with image file;
-      ends = (trial, refl);
-      left = ap (λ (ss : List Step). under_as (start_with image file).under (run_with file (take r.bytes room) (start_with image file) ss)) (sym no_steps);
-      within = record {
-        steps_fit = omega (arith, none);
-        bytes_fit = omega (arith, empty);
-        inside = subst (λ (ss : List Step). All (IsInsideWith (length file) r.bytes (length image)) ss) (sym no_steps) (λ k d lt. absurd (omega (arith, lt)));
-        theirs = empty ∙ sym no_bytes ∙ ap (λ (ss : List Step). room_bytes ss) (sym no_steps);
-      };
-      doable = subst (λ (ss : List Step). AreDoable file (take r.bytes room) (start_with image file) ss) (sym no_steps) tt;
-      spared = tt;
-      beside_marks = subst (λ (ss : List Step). All (LiesBeside (block_bytes * counter_block) (block_bytes * first_record)) ss) (sym no_steps)
-          (λ k d lt. absurd (omega (arith, lt)));
-      reports = (none, empty);
-    }
+denied_by image file request r steps room trial = record {
+  end = on_trial;
+  number_is = refl;
+  t = start_with image file;
+  ends = (trial, refl);
+  left = refl;
+  within = record {
+    steps_fit = omega arith;
+    bytes_fit = omega arith;
+    inside = λ k d lt. absurd (omega (arith, lt));
+    theirs = sym no_room_bytes;
+  };
+  doable = tt;
+  spared = tt;
+  beside_marks = λ k d lt. absurd (omega (arith, lt));
+  reports = (refl, refl);
+}

@@ -6,8 +6,19 @@ use Rattle.early_boot.specs.Started.{started}
 use Rattle.fwu_c.specs.Codes.{end_code}
 use Rattle.fwu_c.proofs.Booting.{boot_end_is}
 use Rattle.fwu_c.proofs.Telling.{keeps_started}
-use Rattle.fwu_c.proofs.Unbooted.{not_started}
+use Rattle.flash_core.specs.declared.flash.Flash.{Ghosts}
+use Rattle.early_boot.specs.declared.booted.Booted.{Booted}
+use Rattle.early_boot.specs.declared.numbers.Numbers.{Numbers}
+use Rattle.early_boot.specs.declared.ends.BootEnd.{BootEnd}
+use Rattle.early_boot.specs.declared.ends.BootEnd.TheVariants as boot_end
+use Rattle.fwu_c.specs.Updates.{IsNotBooted}
 use Rattle.fwu_c.proofs.update.booted_up.Goals as goal
+
+-- an end of a boot that started no bank
+not_started : {D : Type 0} {F : Ghosts D} (x : BootEnd D F) → ((b : Booted D F) (n : Numbers) → x ≡ boot_end.Booted b n → ⊥)
+    → IsNotBooted (ended x)
+not_started (boot_end.Booted b n) not = not b n refl
+not_started s not = tt
 
 pub returns-in-Ok : goal.returns-in-Ok
 returns-in-Ok c = rw c.in-Ok.ensures.ok (record {
