@@ -57,9 +57,6 @@ end_same e before old new same reports = starts_same before old new same reports
 pub given : (result number : ℕ) → (result ≡ number) ⊎ (result ≡ 7) → (result ≡ 7 → ⊥) → result ≡ number
 given result number either other = grind arith
 
-pub below_seven : (result : ℕ) → result ≤ 5 → result ≡ 7 → ⊥
-below_seven result low seven = omega (arith, low, seven)
-
 pub code_few : (e : Ended) → end_code e ≤ 5
 code_few (booted b n) = omega arith
 code_few e = omega arith
@@ -94,7 +91,6 @@ pub record IsOver (image file : List ℕ) (d : StepFlash) (r : Report) (steps : 
   pub left : told_of d ≡ under_as (told_of d).under (run_with file (take r.bytes room) (start_with image file) (take r.steps steps))
   pub within : IsWithinWith (length file) (length image) r steps room
   pub doable : AreDoable file (take r.bytes room) (start_with image file) (take r.steps steps)
-  pub lie : LieAsCounted d (take r.steps steps)
 
 pub over : (file : List ℕ) (first d : StepFlash) (told r : Report) (steps : List Step) (room : List ℕ) → IsJustMade file first
     → (told_of d).guard ≡ (told_of first).guard → HandsOver d told r steps room → IsOver (image_of first) file d r steps room
@@ -107,7 +103,6 @@ over file first d told r steps room made guard hands =
       left = hands.left;
       within = subst (λ n. IsWithinWith (length (package_of d)) n r steps room) (sym d.device.value.size) hands.within;
       doable = hands.doable;
-      lie = hands.lie;
     }))
 
 -- beside block 4, where the device counted nothing in it
@@ -132,8 +127,8 @@ boots_by first d e number old told r steps room made ends hands touches fewer is
       left = o.left;
       within = o.within;
       doable = o.doable;
-      places = o.lie.places 1 7 (counted_from_none block_bytes boot_reach made.unwritten touches);
-      beside_marks = beside_marks_by d _ o.lie
+      places = hands.lie.places 1 7 (counted_from_none block_bytes boot_reach made.unwritten touches);
+      beside_marks = beside_marks_by d _ hands.lie
           (boot-spares e (writes_of first) (writes_of d) fewer ∙ made.unwritten counter_block);
       reports = end_same e old told r hands.same reports;
     }

@@ -194,7 +194,7 @@ module _ (bank : ℕ) (c : Call) (first d : StepFlash) (made : IsJustMade [] fir
         left = o.left;
         within = o.within;
         doable = o.doable;
-        places = o.lie.places 1 3 (counted_from_none block_bytes call_reach made.unwritten touches);
+        places = hands.lie.places 1 3 (counted_from_none block_bytes call_reach made.unwritten touches);
         reports = reports;
       }
 

@@ -9,7 +9,7 @@ use Rattle.fwu_formats.specs.Layout.{Layout, blocks_needed}
 use Rattle.fwu_formats.specs.Metadata.{MetaRead}
 use Rattle.fwu_formats.specs.Places.{layout_block}
 use Rattle.fwu_model.specs.State.{Bank, Numbers, State}
-use Rattle.fwu_model.specs.Seen.{bank_in, seen, seen_by, seen_with, state_of}
+use Rattle.fwu_model.specs.Seen.{bank_in, seen, seen_by, state_of}
 use Rattle.early_boot.specs.Numbers.{ShowsNumbers}
 use Rattle.early_boot.proofs.Lookups.{layout-inside}
 use Rattle.fwu_c.specs.Handed.{HasFlashSize}
@@ -23,16 +23,13 @@ by_layout L image (Some r) s is =
     let same : state_of L image r ≡ s = cc in
     ap (λ (t : State). length t.banks) (sym same) ∙ length-listed (bank_in L image r.meta) _ L.banks refl
 
-seen_as : (image : List ℕ) (L : Layout) → layout_seen image ≡ Ok L → seen image ≡ seen_by L image (deciding L image)
-unfolding seen
-seen_as image L is = ap (λ r. seen_with image r) is
-
 -- an image shows as many banks as its layout has
 pub banks_are : (image : List ℕ) (L : Layout) (n : Numbers) → layout_seen image ≡ Ok L → ShowsNumbers image n
     → length n.states ≡ L.banks
+unfolding seen
 banks_are image L n layout shows =
     ap (λ (m : Numbers). length m.states) shows.2 ∙ length-map shows.0.banks (λ (k : Bank). k.state)
-    ∙ by_layout L image (deciding L image) shows.0 (sym (seen_as image L layout) ∙ shows.1)
+    ∙ by_layout L image (deciding L image) shows.0 (rw layout at shows.1)
 
 -- and the layout's banks lie in the flash
 pub inside : (image : List ℕ) (L : Layout) (blocks : ℕ) → layout_seen image ≡ Ok L → length image ≡ block_bytes * blocks

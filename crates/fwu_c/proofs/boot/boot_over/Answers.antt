@@ -1,7 +1,7 @@
-use Rattle.std.proofs.Common.{[], arith, ◌∙◌, refl}
+use Rattle.std.proofs.Common.{[], arith, ◌≡◌, ◌∙◌, refl}
 use Rattle.early_boot.specs.Ends.{device_of, ended}
 use Rattle.step_flash.specs.Flash.{image_of, told_of}
-use Rattle.fwu_c.proofs.Booting.{below_seven, boot_end_is, boot_idle, boots_by, given, has_flash_size}
+use Rattle.fwu_c.proofs.Booting.{boot_end_is, boot_idle, boots_by, given, has_flash_size}
 use Rattle.fwu_c.proofs.Telling.{lie_inside, told_handed}
 use Rattle.fwu_c.proofs.boot.boot_over.Goals as goal
 
@@ -26,7 +26,7 @@ returns-clause-tells c =
 pub returns-clause-boots : goal.returns-clause-boots
 returns-clause-boots c = λ low.
     let boots = c.boot_in-end.ensures.boots in
-    let known = below_seven c.hand_over.result low in
+    let known : c.hand_over.result ≡ 7 → ⊥ = λ seven. omega (arith, low, seven) in
     boots_by c.args.flash (device_of c.boot_in-end.result) (ended c.boot_in-end.result) c.hand_over.result _ _ _ _ _
     c.requires.new (boots.ends refl) (rw c.into_flash.ensures at (c.hand_over.ensures.hands known)) boots.touches
     boots.touches_fewer (given _ _ c.hand_over.ensures.number known ∙ c.report_end-number.ensures.number)

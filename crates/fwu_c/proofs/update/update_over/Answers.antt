@@ -51,7 +51,8 @@ returns-in-Some-clause-tells c =
     (has_flash_size (image_of c.args.flash) c.args.flash c.requires.new.size)
     (rw c.outcome_number-number.ensures (outcome_end_is i.outcome i.ensures.ends)) h.number h.idle h.kept
     (λ not. tried_places _ 0 c.args.flash i.flash c.requires.new 0 _ _ _ _ _ (h.hands not) (device a) up.began up.boots
-    (sending_spares up.began (moment a) (gone a) (device a) i.flash up.begins i.ensures.touches) i.ensures.size) h.behind h.full h.untouched
+    (sending_spares up.began (moment a) (gone a) (device a) i.flash up.begins i.ensures.touches) i.ensures.size)
+    h.behind h.full h.untouched
 
 pub returns-in-Some-Err-clause-updates : goal.returns-in-Some-Err-clause-updates
 returns-in-Some-Err-clause-updates c = λ told.
