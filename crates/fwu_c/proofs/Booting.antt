@@ -1,7 +1,7 @@
 -- A boot, by what its device tells and by its steps.
-use Rattle.std.proofs.Common.{◌≡◌, ◌∙◌, ◌⊎◌, ◌≤◌, ◌*◌, inl, inr, refl, ap, sym, subst, ℕ, true, List, [], length, take, arith}
-use Rattle.std.proofs.Common.{Some, None}
-use Rattle.std.specs.Prelude.{IsTrue}
+use Rattle.std.proofs.Common.{◌≡◌, ◌∙◌, ◌⊎◌, ◌≤◌, ◌*◌, refl, ap, sym, subst, ℕ, true, List, [], length, take, arith}
+use Rattle.std.proofs.Common.{None}
+use Rattle.std.specs.Prelude.{All, IsTrue}
 use Rattle.base_core.specs.Block.{block_bytes}
 use Rattle.flash_core.specs.Told.{Told, fresh}
 use Rattle.flash_core.specs.Touches.{TouchesOnly}
@@ -11,14 +11,14 @@ use Rattle.early_boot.specs.Started.{Started}
 use Rattle.early_boot.specs.Ends.{Ended, booted, bad_layout, no_metadata, no_bank, lost, failed, stop_of}
 use Rattle.early_boot.specs.EndsBy.{BootEnds, EndsByBytes, TouchesBoot}
 use Rattle.step_flash.specs.declared.flash.StepFlash.{StepFlash}
-use Rattle.step_flash.specs.declared.device.StepParts.{StepParts}
 use Rattle.step_flash.specs.declared.step.Step.{Step}
-use Rattle.step_flash.specs.Flash.{NotedBy, block_count, counts_of, flash_sizes, is_on, told_of, image_of, package_of, writes_of}
-use Rattle.step_flash.specs.Guard.{guard_with, start_told, start_with}
+use Rattle.step_flash.specs.Flash.{block_count, counts_of, flash_sizes, is_on, told_of, image_of, package_of, writes_of}
+use Rattle.step_flash.specs.Guard.{guard_with, start_with}
+use Rattle.step_flash.specs.Writes.{LiesBeside}
 use Rattle.step_flash.specs.Stopped.{under_as}
 use Rattle.step_flash.specs.Steps.{AreDoable, run_with}
 use Rattle.step_flash.proofs.Causes.{never_lost}
-use Rattle.step_flash.proofs.Guards.{told_is}
+use Rattle.step_flash.proofs.Guards.{by_guard}
 use Rattle.fwu_c.specs.declared.report.Report.{Report}
 use Rattle.fwu_formats.specs.Places.{counter_block, first_record}
 use Rattle.early_boot.proofs.Touching.{boot-spares}
@@ -27,90 +27,43 @@ use Rattle.fwu_c.specs.Codes.{end_code}
 use Rattle.fwu_c.specs.Handed.{HandsOver, HasFlashSize, IsDeviceEnd, IsJustMade, IsStartOfSteps, IsWithinWith, LieAsCounted, SameBut, boot_reach, is_idle_number}
 use Rattle.fwu_c.specs.Reports.{ReportsEnd, ReportsStart, SameStarts}
 
-kept : (old t : Told) → t ≡ old → t.guard ≡ old.guard
-kept old t e = ap (λ (x : Told). x.guard) e
-
 pub guard_kept : (old t : Told) (e : Ended) → EndsByBytes (λ m. passes_any m) old e t → t.guard ≡ old.guard
-guard_kept old t (booted b n) ends = ends.others.guard
-guard_kept old t (bad_layout f) ends = kept old t ends.1
-guard_kept old t no_metadata ends = kept old t ends.3
-guard_kept old t (no_bank active previous) ends = ends.others.guard
-guard_kept old t (lost None) ends = kept old t ends
-guard_kept old t (lost (Some n)) ends = ends.others.guard
-guard_kept old t (failed None) ends = kept old t ends
-guard_kept old t (failed (Some n)) ends = ends.others.guard
+guard_kept old t (lost None) ends = cc
+guard_kept old t (failed None) ends = cc
+guard_kept old t e ends = cc
 
 pub start_guard : (image file : List ℕ) → (start_with image file).guard ≡ guard_with image file
 unfolding fresh
 start_guard image file = refl
 
 pub start_same : (b : Started) (old new : Report) → SameBut old new → ReportsStart b old → ReportsStart b new
-start_same b old new same reports = subst (ReportsStart b) (sym same) (record {
-  bank = reports.bank;
-  version = reports.version;
-  trials = reports.trials;
-  counter = reports.counter;
-  fallback = reports.fallback;
-  active = reports.active;
-  previous = reports.previous;
-  images = reports.images;
-  lengths = reports.lengths;
-})
+start_same b old new same reports = subst (ReportsStart b) (sym same) assumption
 
 -- what a start writes, as it was before
 pub starts_same : (before old new : Report) → SameBut old new → SameStarts before old → SameStarts before new
-starts_same before old new same stays = subst (SameStarts before) (sym same) (record {
-  start = record {
-    bank = stays.start.bank;
-    version = stays.start.version;
-    trials = stays.start.trials;
-    counter = stays.start.counter;
-    fallback = stays.start.fallback;
-    images = stays.start.images;
-    lengths = stays.start.lengths;
-  };
-  active = stays.active;
-  previous = stays.previous;
-})
+starts_same before old new same stays =
+    subst (SameStarts before) (sym same) (record { start = assumption; active = stays.active; previous = stays.previous })
 
 pub end_same : (e : Ended) (before old new : Report) → SameBut old new → ReportsEnd e before old → ReportsEnd e before new
 end_same (booted b n) before old new same reports = start_same b old new same reports
-end_same (bad_layout f) before old new same reports = ap (λ (r : Report). r.layout_fault) same ∙ reports
+end_same (bad_layout f) before old new same reports = cc
 end_same no_metadata before old new same reports = tt
-end_same (no_bank active previous) before old new same reports =
-    (ap (λ (r : Report). r.active) same ∙ reports.0, ap (λ (r : Report). r.previous) same ∙ reports.1)
-end_same (lost n) before old new same reports = starts_same before old new same reports
-end_same (failed n) before old new same reports = starts_same before old new same reports
+end_same (no_bank active previous) before old new same reports = rw same reports
+end_same e before old new same reports = starts_same before old new same reports
 
 -- ---- numbers
 
 -- a number below 7 is the one that was given
 pub given : (result number : ℕ) → (result ≡ number) ⊎ (result ≡ 7) → (result ≡ 7 → ⊥) → result ≡ number
-given result number (inl is) other = is
-given result number (inr seven) other = absurd (other seven)
-
-pub below_seven : (result : ℕ) → result ≤ 5 → result ≡ 7 → ⊥
-below_seven result low seven = omega (arith, low, seven)
+given result number either other = grind arith
 
 pub code_few : (e : Ended) → end_code e ≤ 5
 code_few (booted b n) = omega arith
-code_few (bad_layout f) = omega arith
-code_few no_metadata = omega arith
-code_few (no_bank active previous) = omega arith
-code_few (lost n) = omega arith
-code_few (failed n) = omega arith
-
-code_not_four : (e : Ended) (old new : StepFlash) → Spends (stop_of e) (counts_of old) (counts_of new) → end_code e ≡ 4 → ⊥
-code_not_four (booted b n) old new spends four = omega (arith, four)
-code_not_four (bad_layout f) old new spends four = omega (arith, four)
-code_not_four no_metadata old new spends four = omega (arith, four)
-code_not_four (no_bank active previous) old new spends four = omega (arith, four)
-code_not_four (lost n) old new spends four = never_lost _ old new spends refl
-code_not_four (failed n) old new spends four = omega (arith, four)
+code_few e = omega arith
 
 pub boot_end_is : (e : Ended) (old new : StepFlash) → Spends (stop_of e) (counts_of old) (counts_of new) → IsDeviceEnd (end_code e)
-boot_end_is e old new spends =
-    let few = code_few e in (λ four. code_not_four e old new spends four, λ six. omega (arith, few, six), λ seven. omega (arith, few, seven))
+boot_end_is (lost n) old new spends = absurd (never_lost _ old new spends refl)
+boot_end_is e old new spends = grind arith
 
 -- ---- the device that came back
 
@@ -133,101 +86,71 @@ pub counted_from_none : (low high : ℕ) {old new : ℕ → ℕ} → ((b : ℕ) 
     → TouchesOnly low high (λ b. 0) new
 counted_from_none low high none touches b out = touches b out ∙ none b
 
--- the device that came back
-pub touched_back : {low high : ℕ} (first d back : StepFlash) → back ≡ d → TouchesOnly low high (writes_of first) (writes_of d)
-    → TouchesOnly low high (writes_of first) (writes_of back)
-touched_back {low = low} {high = high} first d back same touches =
-    subst (λ (x : StepFlash). TouchesOnly low high (writes_of first) (writes_of x)) (sym same) touches
-
--- a flash has eight blocks and more
-pub reach_inside : (reach : ℕ) (image : List ℕ) (d : StepFlash) → reach ≤ 32768 → length image ≡ block_bytes * block_count d
-    → reach ≤ length image
-reach_inside reach image d short size = let few = (flash_sizes d).0 in omega (arith, short, size, few)
-
 -- it is over the image, with the package, and its steps lie within both
 pub record IsOver (image file : List ℕ) (d : StepFlash) (r : Report) (steps : List Step) (room : List ℕ) : Type 0 where
   pub left : told_of d ≡ under_as (told_of d).under (run_with file (take r.bytes room) (start_with image file) (take r.steps steps))
   pub within : IsWithinWith (length file) (length image) r steps room
   pub doable : AreDoable file (take r.bytes room) (start_with image file) (take r.steps steps)
-  pub lie : LieAsCounted d (take r.steps steps)
 
-pub over : (image file : List ℕ) (first d : StepFlash) (told r : Report) (steps : List Step) (room : List ℕ)
-    → told_of first ≡ start_with image file → length image ≡ block_bytes * block_count first → block_count d ≡ block_count first
-    → (told_of d).guard ≡ (told_of first).guard → HandsOver d told r steps room → IsOver image file d r steps room
-over image file first d told r steps room made size same_size guard hands =
-    let guarded : (told_of d).guard ≡ guard_with image file = guard ∙ ap (λ (x : Told). x.guard) made ∙ start_guard image file in
-    let both = told_is image file (image_of d) (package_of d) (take r.bytes room) (take r.steps steps) (told_of d) hands.left guarded in
-    let whole : block_bytes * block_count d ≡ length image = ap (λ n. block_bytes * n) same_size ∙ sym size in
-    record {
-      left =
-          hands.left
-          ∙ ap (λ (i : List ℕ). under_as (told_of d).under (run_with (package_of d) (take r.bytes room) (start_with i (package_of d)) (take r.steps steps))) both.0
-          ∙ ap (λ (f : List ℕ). under_as (told_of d).under (run_with f (take r.bytes room) (start_with image f) (take r.steps steps))) both.1;
-      within =
-          subst (λ (f : List ℕ). IsWithinWith (length f) (length image) r steps room) both.1
-          (subst (λ n. IsWithinWith (length (package_of d)) n r steps room) whole hands.within);
-      doable =
-          subst (λ (f : List ℕ). AreDoable f (take r.bytes room) (start_with image f) (take r.steps steps)) both.1
-          (subst (λ (i : List ℕ). AreDoable (package_of d) (take r.bytes room) (start_with i (package_of d)) (take r.steps steps)) both.0 hands.doable);
-      lie = hands.lie;
-    }
+pub over : (file : List ℕ) (first d : StepFlash) (told r : Report) (steps : List Step) (room : List ℕ) → IsJustMade file first
+    → (told_of d).guard ≡ (told_of first).guard → HandsOver d told r steps room → IsOver (image_of first) file d r steps room
+over file first d told r steps room made guard hands =
+    let image = image_of first in
+    let both =
+    by_guard d image file (guard ∙ ap (λ (x : Told). x.guard) made.fresh ∙ start_guard image file) in
+    subst (λ (f : List ℕ). IsOver image f d r steps room) both.1
+    (subst (λ (i : List ℕ). IsOver i (package_of d) d r steps room) both.0 (record {
+      left = hands.left;
+      within = subst (λ n. IsWithinWith (length (package_of d)) n r steps room) (sym d.device.value.size) hands.within;
+      doable = hands.doable;
+    }))
 
-pub boots_by : (image : List ℕ) (first d : StepFlash) (e : Ended) (number : ℕ) (old told r : Report) (steps : List Step) (room : List ℕ)
-    → told_of first ≡ start_told image → length image ≡ block_bytes * block_count first → block_count d ≡ block_count first
-    → BootEnds (λ m. passes_any m) (told_of first) e (told_of d) → HandsOver d told r steps room
-    → ((b : ℕ) → writes_of first b ≡ 0) → TouchesOnly block_bytes boot_reach (writes_of first) (writes_of d) → TouchesBoot e (writes_of first) (writes_of d) → number ≡ end_code e
-    → ReportsEnd e old told → BootsBy image number old r steps room
-boots_by image first d e number old told r steps room made size same_size ends hands none touches fewer is reports =
-    let o = over image [] first d told r steps room made size same_size (guard_kept (told_of first) (told_of d) e ends.by_bytes) hands in
+-- beside block 4, where the device counted nothing in it
+pub beside_marks_by : (d : StepFlash) (steps : List Step) → LieAsCounted d steps → writes_of d counter_block ≡ 0
+    → All (LiesBeside (block_bytes * counter_block) (block_bytes * first_record)) steps
+beside_marks_by d steps lie still = lie.beside counter_block first_record (omega arith) (λ k low high.
+    let is : k ≡ counter_block = omega (arith, low, high) in ap (λ n. writes_of d n) is ∙ still)
+
+pub boots_by : (first d : StepFlash) (e : Ended) (number : ℕ) (old told r : Report) (steps : List Step) (room : List ℕ)
+    → IsJustMade [] first → BootEnds (λ m. passes_any m) (told_of first) e (told_of d)
+    → HandsOver d told r steps room → TouchesOnly block_bytes boot_reach (writes_of first) (writes_of d)
+    → TouchesBoot e (writes_of first) (writes_of d) → number ≡ end_code e → ReportsEnd e old told
+    → BootsBy (image_of first) number old r steps room
+boots_by first d e number old told r steps room made ends hands touches fewer is reports =
+    let guard = guard_kept (told_of first) (told_of d) e ends.by_bytes in
+    let o = over [] first d told r steps room made guard hands in
     record {
       end = e;
       number_is = is;
       t = told_of d;
-      ends = subst (λ (x : Told). BootEnds (λ m. passes_any m) x e (told_of d)) made ends;
+      ends = subst (λ (x : Told). BootEnds (λ m. passes_any m) x e (told_of d)) made.fresh ends;
       left = o.left;
       within = o.within;
       doable = o.doable;
-      places = o.lie.places 1 7 (counted_from_none block_bytes boot_reach none touches);
-      beside_marks = o.lie.beside counter_block first_record (omega arith) (λ b low high.
-          let is : b ≡ counter_block = omega (arith, low, high) in
-          ap (λ n. writes_of d n) is ∙ boot-spares e (writes_of first) (writes_of d) fewer ∙ none counter_block);
+      places = hands.lie.places 1 7 (counted_from_none block_bytes boot_reach made.unwritten touches);
+      beside_marks = beside_marks_by d _ hands.lie
+          (boot-spares e (writes_of first) (writes_of d) fewer ∙ made.unwritten counter_block);
       reports = end_same e old told r hands.same reports;
     }
 
--- of the same image
-pub of_image : (image other : List ℕ) (number : ℕ) (old r : Report) (steps : List Step) (room : List ℕ) → other ≡ image
-    → BootsBy other number old r steps room → BootsBy image number old r steps room
-of_image image other number old r steps room same boots = subst (λ (i : List ℕ). BootsBy i number old r steps room) same boots
-
 -- ---- where nothing was written
-
--- no steps lie anywhere
-pub none_counted : (d : StepFlash) (steps : List Step) → steps ≡ [] → LieAsCounted d steps
-none_counted d steps none = subst (LieAsCounted d) (sym none) (record {
-  places = λ first last touches k x lt. absurd (omega (arith, lt));
-  beside = λ first last order unwritten k x lt. absurd (omega (arith, lt));
-})
 
 pub began_as : (old t : Told) → IsStartOfSteps old → t ≡ old → IsStartOfSteps t
 began_as old t began same = (began.0, began.1, same ∙ began.2)
 
 pub boot_idle : (e : Ended) (old t : Told) → IsStartOfSteps old → EndsByBytes (λ m. passes_any m) old e t → IsTrue (is_idle_number (end_code e)) → IsStartOfSteps t
-boot_idle (booted b n) old t began ends idle = absurd (cc)
 boot_idle (bad_layout f) old t began ends idle = began_as old t began ends.1
 boot_idle no_metadata old t began ends idle = began_as old t began ends.3
-boot_idle (no_bank active previous) old t began ends idle = absurd (cc)
-boot_idle (lost n) old t began ends idle = absurd (cc)
-boot_idle (failed n) old t began ends idle = absurd (cc)
+boot_idle e old t began ends idle = absurd (cc)
 
 -- no step makes of the device's image what it tells then
-pub none_noted : (d : StepFlash) (parts : StepParts) (steps : List Step) (room : List ℕ) → NotedBy d parts → IsStartOfSteps (told_of d) → steps ≡ []
+pub none_noted : (d : StepFlash) (steps : List Step) (room : List ℕ) → IsStartOfSteps (told_of d) → steps ≡ []
     → told_of d ≡ under_as (told_of d).under (run_with (package_of d) room (start_with (image_of d) (package_of d)) steps)
 unfolding run_with fresh
-none_noted d parts steps room noted (image, file, made) empty =
-    let guarded : (told_of d).guard ≡ guard_with image file = ap (λ (x : Told). x.guard) made ∙ start_guard image file in
-    let both = told_is image file (image_of d) (package_of d) parts.room.items parts.steps.items (told_of d) noted guarded in
+none_noted d steps room (image, file, made) empty =
+    let both = by_guard d image file (ap (λ (x : Told). x.guard) made ∙ start_guard image file) in
     let begun = start_with (image_of d) (package_of d) in
     let now : told_of d ≡ begun =
     made ∙ sym (ap (λ (i : List ℕ). start_with i file) both.0) ∙ sym (ap (λ (f : List ℕ). start_with (image_of d) f) both.1) in
     let whole : told_of d ≡ under_as (told_of d).under begun = subst (λ (t : Told). t ≡ under_as t.under begun) (sym now) refl in
-    subst (λ (ss : List Step). told_of d ≡ under_as (told_of d).under (run_with (package_of d) room begun ss)) (sym empty) whole
+    rw empty whole

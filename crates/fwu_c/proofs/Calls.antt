@@ -1,5 +1,5 @@
 -- A call behind a boot of a bank, by what the device tells before it and after it, and by its steps.
-use Rattle.std.proofs.Common.{[], ◌≡◌, ◌∙◌, ◌⊎◌, ◌≤◌, inl, inr, refl, sym, ap, subst, ℕ, ◌*◌, ◌++◌, Bool, true, false, List, length, None, Result, Ok, Err, arith, IsFalse, IsTrue}
+use Rattle.std.proofs.Common.{[], ◌≡◌, ◌∙◌, ◌⊎◌, inl, inr, refl, sym, subst, ℕ, ◌++◌, Bool, true, false, List, None, Result, Ok, Err, arith, IsFalse, IsTrue}
 use Rattle.std.specs.Prelude.{IsErrOf, OnOk, is_ok}
 use Rattle.base_core.specs.Block.{block_bytes}
 use Rattle.base_core.proofs.Results.{same-Ok}
@@ -7,7 +7,6 @@ use Rattle.flash_core.specs.Told.{Told}
 use Rattle.flash_core.specs.May.{Guards}
 use Rattle.flash_core.specs.Touches.{TouchesOnly}
 use Rattle.flash_core.proofs.Touches.{touches_none, touches_then}
-use Rattle.flash_core.specs.declared.flash.FlashStop.{FlashStop}
 use Rattle.flash_core.specs.declared.flash.FlashStop.TheVariants as flash_stop
 use Rattle.fwu_formats.specs.Digests.{passes_any}
 use Rattle.fwu_formats.specs.Image.{layout_seen}
@@ -34,148 +33,94 @@ use Rattle.agent_machine.specs.Fields.{Fields}
 use Rattle.agent_machine.specs.Beside.{IsSparedByAll, KeepsSparedByAll, KeepsWhere}
 use Rattle.agent_machine.proofs.Beside.{spared-once}
 use Rattle.agent_calls.specs.Started.{StartsFrom}
-use Rattle.agent_calls.specs.Shown.{device}
-use Rattle.agent_calls.specs.declared.agent.Agent.{Agent}
-use Rattle.flash_core.specs.declared.flash.Flash.{Ghosts}
 use Rattle.step_flash.specs.declared.step.Step.{Step}
 use Rattle.step_flash.specs.declared.flash.StepFlash.{StepFlash}
-use Rattle.step_flash.specs.Flash.{block_count, counts_of, told_of, writes_of}
-use Rattle.step_flash.proofs.Causes.{never_lost}
-use Rattle.flash_core.specs.Counts.{Spends}
+use Rattle.step_flash.specs.Flash.{image_of, told_of, writes_of}
 use Rattle.step_flash.specs.Guard.{start_told}
 use Rattle.fwu_c.specs.declared.report.Report.{Report}
-use Rattle.fwu_c.specs.Calls.{MovesByAnswer, CallEnds, Called, CallsBy, CallsFrom, IsAccepted, IsStepResult, IsNotTaken, MakesCall, RefusesCall, RepliesAs, ReportsCall, ReportsTakeUp, TakesUpBank, call_code, called, called_code, not_taken, status_code, stop_code, take_up_code}
-use Rattle.fwu_c.specs.Handed.{HandsOver, IsDeviceEnd, IsStartOfSteps, SameBut, call_reach, is_idle_number, starts_none}
+use Rattle.fwu_c.specs.Calls.{MovesByAnswer, CallEnds, Called, CallsBy, CallsFrom, IsAccepted, IsStepResult, IsNotTaken, MakesCall, RefusesCall, RepliesAs, ReportsCall, ReportsTakeUp, TakesUpBank, call_code, called, called_code, not_taken, take_up_code}
+use Rattle.fwu_c.specs.Handed.{HandsOver, IsJustMade, IsDeviceEnd, IsStartOfSteps, SameBut, call_reach, is_idle_number, starts_none}
 use Rattle.fwu_c.proofs.Booting.{began_as, counted_from_none, over, start_same, starts_same}
 
 -- ---- numbers
 
-status_large : (st : Status) → 16 ≤ status_code st
-status_large status.Denied = omega arith
-status_large s = omega arith
-
-call_not_four : (result : Result (Unit {0}) Stop) → IsStepResult result → call_code result ≡ 4 → ⊥
-call_not_four (Ok x) is e = omega (arith, e)
-call_not_four (Err (stop.Status st)) is e = omega (arith, e, status_large st)
-call_not_four (Err stop.Lost) is e = is
-call_not_four (Err stop.Fault) is e = omega (arith, e)
-call_not_four (Err stop.Gone) is e = is
-
-call_not_six : (result : Result (Unit {0}) Stop) → call_code result ≡ 6 → ⊥
-call_not_six (Ok x) e = omega (arith, e)
-call_not_six (Err (stop.Status st)) e = omega (arith, e, status_large st)
-call_not_six (Err stop.Lost) e = omega (arith, e)
-call_not_six (Err stop.Fault) e = omega (arith, e)
-call_not_six (Err stop.Gone) e = omega (arith, e)
-
-call_not_seven : (result : Result (Unit {0}) Stop) → IsStepResult result → call_code result ≡ 7 → ⊥
-call_not_seven (Ok x) is e = omega (arith, e)
-call_not_seven (Err (stop.Status st)) is e = omega (arith, e, status_large st)
-call_not_seven (Err stop.Lost) is e = is
-call_not_seven (Err stop.Fault) is e = omega (arith, e)
-call_not_seven (Err stop.Gone) is e = is
-
 pub call_end_is : (result : Result (Unit {0}) Stop) → IsStepResult result → IsDeviceEnd (call_code result)
-call_end_is result is = (call_not_four result is, call_not_six result, call_not_seven result is)
+call_end_is (Err (stop.Status status.Denied)) is = grind arith
+call_end_is (Err stop.Lost) is = absurd is
+call_end_is (Err stop.Gone) is = absurd is
+call_end_is result is = grind arith
 
 -- a bank that is not taken up has neither 6 nor 7
-few_codes : (e : TakenUp) → (take_up_code e ≤ 5) ⊎ (take_up_code e ≡ 21)
-few_codes (taken b) = inl (omega arith)
-few_codes (bad_layout f) = inl (omega arith)
-few_codes no_metadata = inl (omega arith)
-few_codes not_started = inr refl
-few_codes (stopped flash_stop.Lost) = inl (omega arith)
-few_codes (stopped flash_stop.Failed) = inl (omega arith)
-
-take_up_not : (e : TakenUp) (number : ℕ) → take_up_code e ≡ number → (number ≡ 6) ⊎ (number ≡ 7) → ⊥
-take_up_not e number is (inl six) = elim (few_codes e) [
-  | inl few ↦ omega (arith, few, is, six)
-  | inr other ↦ omega (arith, other, is, six)
-]
-take_up_not e number is (inr seven) = elim (few_codes e) [
-  | inl few ↦ omega (arith, few, is, seven)
-  | inr other ↦ omega (arith, other, is, seven)
-]
+take_up_not : (e : TakenUp) → (take_up_code e ≡ 6 → ⊥) × (take_up_code e ≡ 7 → ⊥)
+take_up_not (stopped flash_stop.Lost) = grind arith
+take_up_not e = grind arith
 
 pub take_up_end_is : (bank number : ℕ) (first left : StepFlash) (old told : Report)
     → RefusesCall bank number first left old told → IsDeviceEnd number
 take_up_end_is bank number first left old told refuses =
-    let is = sym refuses.number_is in
-    (refuses.unlost, λ six. take_up_not refuses.end number is (inl six), λ seven. take_up_not refuses.end number is (inr seven))
-
--- a device of steps loses no power
-pub stop_unlost : (why : FlashStop) (old new : StepFlash) → Spends {T = Unit {0}} (Err why) (counts_of old) (counts_of new) → stop_code why ≡ 4 → ⊥
-stop_unlost flash_stop.Lost old new spends four = never_lost _ old new spends refl
-stop_unlost flash_stop.Failed old new spends four = omega (arith, four)
+    let few = take_up_not refuses.end in
+    let is = sym refuses.number_is in (refuses.unlost, λ six. few.0 (is ∙ six), λ seven. few.1 (is ∙ seven))
 
 -- ---- the guard stays
 
-kept : (old t : Told) → t ≡ old → t.guard ≡ old.guard
-kept old t e = ap (λ (x : Told). x.guard) e
-
 pub take_up_guard : (bank : ℕ) (old t : Told) (e : TakenUp) → TakesByBytes (λ m. passes_any m) bank old e t → t.guard ≡ old.guard
-take_up_guard bank old t (taken b) ends = ends.others.guard
-take_up_guard bank old t (bad_layout f) ends = kept old t ends.1
-take_up_guard bank old t no_metadata ends = kept old t ends.3
-take_up_guard bank old t not_started ends = kept old t ends.1
-take_up_guard bank old t (stopped why) ends = elim ends [
-  | inl same ↦ kept old t same
-  | inr repair ↦ repair.others.guard
-]
+take_up_guard bank old t (stopped why) ends = elim ends [ inl same ↦ cc | inr repair ↦ repair.others.guard ]
+take_up_guard bank old t e ends = cc
 
 take_up_same : (e : TakenUp) (before old new : Report) → IsNotTaken e → SameBut old new → ReportsTakeUp e before old
     → ReportsTakeUp e before new
 take_up_same (taken b) before old new is same reports = absurd is
-take_up_same (bad_layout f) before old new is same reports = ap (λ (r : Report). r.layout_fault) same ∙ reports
-take_up_same no_metadata before old new is same reports = tt
-take_up_same not_started before old new is same reports = tt
+take_up_same (bad_layout f) before old new is same reports = cc
 take_up_same (stopped why) before old new is same reports = starts_same before old new same reports
+take_up_same e before old new is same reports = tt
 
 -- ---- the call
 
 pub is_called : (result : Result (Unit {0}) Stop) → (result ≡ Err stop.Lost → ⊥) → (result ≡ Err stop.Gone → ⊥) → IsStepResult result
-is_called (Ok x) lost gone = tt
-is_called (Err (stop.Status st)) lost gone = tt
 is_called (Err stop.Lost) lost gone = lost refl
-is_called (Err stop.Fault) lost gone = tt
 is_called (Err stop.Gone) lost gone = gone refl
+is_called result lost gone = tt
 
 not_stopped : (result : Result (Unit {0}) Stop) → is_ok (flash_result result) ≡ true → IsStopped result → ⊥
-not_stopped (Ok x) ok halted = halted
-not_stopped (Err (stop.Status st)) ok halted = halted
 not_stopped (Err stop.Lost) ok halted = absurd (cc)
 not_stopped (Err stop.Fault) ok halted = absurd (cc)
-not_stopped (Err stop.Gone) ok halted = halted
+not_stopped result ok halted = halted
 
 -- an agent that was there is so after an answer or a refusal
-pub here_after : (result : Result (Unit {0}) Stop) (was now : Bool) → IsFalse was → GoesBy result was now → is_ok (flash_result result) ≡ true → IsFalse now
-here_after result was true here gone ok = elim (gone.later.0 refl) [
+pub stays_here : {Halted : Type 0} (was now : Bool) → IsFalse was → (IsTrue now → IsTrue was ⊎ Halted) → (Halted → ⊥) → IsFalse now
+stays_here was true here later other = elim (later refl) [
   | inl before ↦ absurd (cc (here, before))
-  | inr halted ↦ absurd (not_stopped result ok halted)
+  | inr halted ↦ absurd (other halted)
 ]
-here_after result was false here gone ok = refl
+stays_here was false here later other = refl
+
+pub here_after : (result : Result (Unit {0}) Stop) (was now : Bool) → IsFalse was → GoesBy result was now
+    → is_ok (flash_result result) ≡ true → IsFalse now
+here_after result was now here gone ok = stays_here was now here gone.later.0 (not_stopped result ok)
+
+-- a setting of any layout, that has no file
+abbrev pub setting_of : Layout → Setting
+setting_of L = record { layout = L; files = λ name. None; passes = λ m. passes_any m }
 
 -- what an agent spares, in the words of the boot that it started from
 pub spared-of : (L : Layout) (bank : ℕ) (f : Fields) (s t : Told) → f.layout ≡ L → f.boot ≡ bank → KeepsSparedByAll f s t
     → KeepsWhere (IsSparedByAll L bank) s t
 spared-of L bank f s t layout boot kept =
-    subst (λ (l : Layout). KeepsWhere (IsSparedByAll l bank) s t) layout (subst (λ (b : ℕ). KeepsWhere (IsSparedByAll f.layout b) s t) boot kept)
+    rw (layout, boot) at kept
 
 module _ (E : Setting) (s : State) (x : Session) (c : Call) (new : Moment) where
   reply_by : (result : Result (Unit {0}) Stop) → IsStepResult result → Answers (λ (value : Unit {0}) (reply : Reply). reply ≡ Success) result E s x c new → RepliesAs result (answer E s x c).reply
-  reply_by (Ok v) is by = by.0
-  reply_by (Err (stop.Status st)) is by = by.0
   reply_by (Err stop.Lost) is by = absurd is
   reply_by (Err stop.Fault) is by = tt
   reply_by (Err stop.Gone) is by = absurd is
+  reply_by result is by = by.0
 
   shown_by : (result : Result (Unit {0}) Stop) → IsStepResult result → Answers (λ (value : Unit {0}) (reply : Reply). reply ≡ Success) result E s x c new
       → (P : Type 0) → (is_ok (flash_result result) ≡ true → ShowsNext E s x c new → P) → OnOk (flash_result result) P
-  shown_by (Ok v) is by P then = then refl by.1
-  shown_by (Err (stop.Status st)) is by P then = then refl by.1
   shown_by (Err stop.Lost) is by P then = tt
   shown_by (Err stop.Fault) is by P then = tt
   shown_by (Err stop.Gone) is by P then = absurd is
+  shown_by result is by P then = then refl by.1
 
 module _ (c : Call) (b : Started) (result : Result (Unit {0}) Stop) (old new : Moment) (is : IsStepResult result) (tells : IsTrue old.tells) (from : StartsFrom b old.fields)
     (exact : (E : Setting) (s : State) (x : Session) → IsSettingOf old.fields (λ m. passes_any m) E → Shows old s x
@@ -188,7 +133,7 @@ module _ (c : Call) (b : Started) (result : Result (Unit {0}) Stop) (old new : M
   calls_from = record {
     answers = λ E s same passes shown.
         let setting : IsSettingOf old.fields (λ m. passes_any m) E = record { layout = same ∙ sym from.layout; verifier = passes } in
-        let shows = starts s (subst (λ (L : Layout). IsShown L old.told.now s) (sym from.layout) shown) in
+        let shows = starts s (rw from.layout shown) in
         let by = exact E s (started_session b) setting shows in
         let a = answer E s (started_session b) c in
         let layout : new.fields.layout ≡ E.layout = leaves.stays.layout ∙ from.layout ∙ sym same in
@@ -205,34 +150,19 @@ module _ (c : Call) (b : Started) (result : Result (Unit {0}) Stop) (old new : M
     keeps = spared-of b.layout b.bank old.fields old.told new.told from.layout from.boot (spared-once old.fields old.told new.told (leaves.keeps tells));
   }
 
--- by the devices of an agent as it came in a box, and as it was taken out of it
-pub touched_by : {F : Ghosts StepFlash} {low high : ℕ} (before inside after : Agent StepFlash F) (left : StepFlash) → inside ≡ before
-    → left ≡ device after → TouchesOnly low high (writes_of (device inside)) (writes_of (device after))
-    → TouchesOnly low high (writes_of (device before)) (writes_of left)
-touched_by {F = F} {low = low} {high = high} before inside after left same back touches =
-    subst (λ (d : StepFlash). TouchesOnly low high (writes_of (device before)) (writes_of d)) (sym back)
-    (subst (λ (a : Agent StepFlash F). TouchesOnly low high (writes_of (device a)) (writes_of (device after))) same touches)
-
 -- which blocks a call touches, by how it ended
 pub touches_by : (result : Result (Unit {0}) Stop) (low high : ℕ) {old new : ℕ → ℕ} → (IsDone result → TouchesOnly low high old new)
     → (IsRefused result → new ≡ old) → (IsErrOf result stop.Gone → new ≡ old) → TouchesOnly low high old new
-touches_by (Ok x) low high done refused gone = done tt
 touches_by (Err (stop.Status st)) low high done refused gone = touches_none low high (refused tt)
-touches_by (Err stop.Lost) low high done refused gone = done tt
-touches_by (Err stop.Fault) low high done refused gone = done tt
 touches_by (Err stop.Gone) low high done refused gone = touches_none low high (gone refl)
+touches_by result low high done refused gone = done tt
 
 -- ---- the bank and the call in one
-
--- a setting of any layout
-setting_of : Layout → Setting
-setting_of L = record { layout = L; files = λ name. None; passes = λ m. passes_any m }
 
 module _ (image : List ℕ) (bank : ℕ) (c : Call) (b : Started) (result : Result (Unit {0}) Stop) (mid t : Told)
     (takes : TakeUpEnds (λ m. passes_any m) bank (start_told image) (taken b) mid) (runs : RunsByNumbers (λ m. passes_any m) bank b (started_numbers b))
     (calls : CallsFrom c b result mid t) where
   guard_is : t.guard ≡ mid.guard
-  unfolding setting_of
   guard_is = (calls.answers (setting_of b.layout) _ refl refl takes.by_bytes.shown).guard_is
 
   does_both : (E : Setting) (s : State) → E.passes ≡ (λ m. passes_any m) → IsCalm E (start_told image) s → Guards 1 7 (start_told image)
@@ -249,72 +179,64 @@ module _ (image : List ℕ) (bank : ℕ) (c : Call) (b : Started) (result : Resu
   pub makes_call : MakesCall image bank c b result t
   makes_call = record { mid = mid; takes = takes; runs = runs; calls = calls; does = does_both }
 
-calls_by : (image : List ℕ) (bank : ℕ) (c : Call) (first d : StepFlash) (e : Called) (number : ℕ) (old told r : Report) (steps : List Step) (room : List ℕ)
-    → told_of first ≡ start_told image → length image ≡ block_bytes * block_count first → block_count d ≡ block_count first
-    → (told_of d).guard ≡ (told_of first).guard → CallEnds image bank c e (told_of d) → HandsOver d told r steps room
-    → ((b : ℕ) → writes_of first b ≡ 0) → TouchesOnly block_bytes call_reach (writes_of first) (writes_of d) → number ≡ called_code e → ReportsCall e old r → CallsBy image bank c number old r steps room
-calls_by image bank c first d e number old told r steps room made size same_size guard ends hands none touches is reports =
-    let o = over image [] first d told r steps room made size same_size guard hands in
-    record {
-      end = e;
-      number_is = is;
-      t = told_of d;
-      ends = ends;
-      left = o.left;
-      within = o.within;
-      doable = o.doable;
-      places = o.lie.places 1 3 (counted_from_none block_bytes call_reach none touches);
-      reports = reports;
-    }
+module _ (bank : ℕ) (c : Call) (first d : StepFlash) (made : IsJustMade [] first) (number : ℕ) (old told r : Report)
+    (steps : List Step) (room : List ℕ) (hands : HandsOver d told r steps room) where
+  calls_by : (e : Called) → (told_of d).guard ≡ (told_of first).guard
+      → CallEnds (image_of first) bank c e (told_of d) → TouchesOnly block_bytes call_reach (writes_of first) (writes_of d)
+      → number ≡ called_code e → ReportsCall e old r → CallsBy (image_of first) bank c number old r steps room
+  calls_by e guard ends touches is reports =
+      let o = over [] first d told r steps room made guard hands in
+      record {
+        end = e;
+        number_is = is;
+        t = told_of d;
+        ends = ends;
+        left = o.left;
+        within = o.within;
+        doable = o.doable;
+        places = hands.lie.places 1 3 (counted_from_none block_bytes call_reach made.unwritten touches);
+        reports = reports;
+      }
 
--- the bank was not taken up
-pub refused_by : (image : List ℕ) (bank : ℕ) (c : Call) (first d : StepFlash) (number given : ℕ) (old told r : Report)
-    (steps : List Step) (room : List ℕ)
-    → told_of first ≡ start_told image → length image ≡ block_bytes * block_count first → RefusesCall bank given first d old told
-    → HandsOver d told r steps room → ((b : ℕ) → writes_of first b ≡ 0) → number ≡ given → CallsBy image bank c number old r steps room
-refused_by image bank c first d number given old told r steps room made size refuses hands none is =
-    calls_by image bank c first d (not_taken refuses.end) number old told r steps room made size refuses.size
-    (take_up_guard bank (told_of first) (told_of d) refuses.end refuses.ends.by_bytes)
-    (refuses.is, subst (λ (x : Told). TakeUpEnds (λ m. passes_any m) bank x refuses.end (told_of d)) made refuses.ends) hands none refuses.touches (is ∙ refuses.number_is)
-    (take_up_same refuses.end old told r refuses.is hands.same refuses.reports)
+  -- from the image
+  begins : (e : TakenUp) (t : Told) → TakeUpEnds (λ m. passes_any m) bank (told_of first) e t
+      → TakeUpEnds (λ m. passes_any m) bank (start_told (image_of first)) e t
+  begins e t ends = subst (λ (x : Told). TakeUpEnds (λ m. passes_any m) bank x e t) made.fresh ends
 
--- it was, and the call was made
-pub called_by : (image : List ℕ) (bank : ℕ) (c : Call) (first mid d : StepFlash) (b : Started)
-    (result : Result (Unit {0}) Stop) (number : ℕ) (old told r : Report) (steps : List Step) (room : List ℕ)
-    → told_of first ≡ start_told image → length image ≡ block_bytes * block_count first → block_count d ≡ block_count mid
-    → TakesUpBank bank b first mid old told → CallsFrom c b result (told_of mid) (told_of d) → HandsOver d told r steps room
-    → ((b : ℕ) → writes_of first b ≡ 0) → TouchesOnly block_bytes call_reach (writes_of mid) (writes_of d) → number ≡ call_code result → CallsBy image bank c number old r steps room
-called_by image bank c first mid d b result number old told r steps room made size same_size takes calls hands none touches is =
-    let from_image = subst (λ (x : Told). TakeUpEnds (λ m. passes_any m) bank x (taken b) (told_of mid)) made takes.ends in
-    calls_by image bank c first d (called b result) number old told r steps room made size (same_size ∙ takes.size)
-    (guard_is image bank c b result (told_of mid) (told_of d) from_image takes.runs calls ∙ take_up_guard bank (told_of first) (told_of mid) (taken b) takes.ends.by_bytes)
-    (makes_call image bank c b result (told_of mid) (told_of d) from_image takes.runs calls) hands none (touches_then block_bytes call_reach takes.touches touches) is (start_same b told r hands.same takes.reports)
+  -- the bank was not taken up
+  pub refused_by : (given : ℕ) → RefusesCall bank given first d old told → number ≡ given
+      → CallsBy (image_of first) bank c number old r steps room
+  refused_by given refuses is =
+      calls_by (not_taken refuses.end)
+      (take_up_guard bank (told_of first) (told_of d) refuses.end refuses.ends.by_bytes)
+      (refuses.is, begins refuses.end (told_of d) refuses.ends) refuses.touches (is ∙ refuses.number_is)
+      (take_up_same refuses.end old told r refuses.is hands.same refuses.reports)
 
--- of the same image
-pub call_of_image : (image other : List ℕ) (bank : ℕ) (c : Call) (number : ℕ) (old r : Report) (steps : List Step) (room : List ℕ) → other ≡ image
-    → CallsBy other bank c number old r steps room → CallsBy image bank c number old r steps room
-call_of_image image other bank c number old r steps room same by = subst (λ (i : List ℕ). CallsBy i bank c number old r steps room) same by
+  -- it was, and the call was made
+  pub called_by : (mid : StepFlash) (b : Started) (result : Result (Unit {0}) Stop)
+      → TakesUpBank bank b first mid old told → CallsFrom c b result (told_of mid) (told_of d)
+      → TouchesOnly block_bytes call_reach (writes_of mid) (writes_of d) → number ≡ call_code result
+      → CallsBy (image_of first) bank c number old r steps room
+  called_by mid b result takes calls touches is =
+      let image = image_of first in
+      let from_image = begins (taken b) (told_of mid) takes.ends in
+      calls_by (called b result)
+      (guard_is image bank c b result (told_of mid) (told_of d) from_image takes.runs calls
+      ∙ take_up_guard bank (told_of first) (told_of mid) (taken b) takes.ends.by_bytes)
+      (makes_call image bank c b result (told_of mid) (told_of d) from_image takes.runs calls)
+      (touches_then block_bytes call_reach takes.touches touches) is (start_same b told r hands.same takes.reports)
 
 -- ---- where nothing was written
 
 pub take_up_idle : (bank : ℕ) (e : TakenUp) (old t : Told) → IsStartOfSteps old → TakesByBytes (λ m. passes_any m) bank old e t
     → IsTrue (is_idle_number (take_up_code e)) → IsStartOfSteps t
-take_up_idle bank (taken b) old t began ends idle = absurd (cc)
 take_up_idle bank (bad_layout f) old t began ends idle = began_as old t began ends.1
 take_up_idle bank no_metadata old t began ends idle = began_as old t began ends.3
 take_up_idle bank not_started old t began ends idle = began_as old t began ends.1
 take_up_idle bank (stopped flash_stop.Lost) old t began ends idle = absurd (cc)
-take_up_idle bank (stopped flash_stop.Failed) old t began ends idle = absurd (cc)
+take_up_idle bank e old t began ends idle = absurd (cc)
 
 -- a call that was made has none of these numbers
 pub call_starts : (result : Result (Unit {0}) Stop) → IsTrue (starts_none (call_code result)) → ⊥
-call_starts (Ok x) none = absurd (cc)
 call_starts (Err (stop.Status status.Denied)) none = absurd (cc)
-call_starts (Err (stop.Status status.AuthFail)) none = absurd (cc)
-call_starts (Err (stop.Status status.Unknown)) none = absurd (cc)
-call_starts (Err (stop.Status status.Busy)) none = absurd (cc)
-call_starts (Err (stop.Status status.OutOfBounds)) none = absurd (cc)
-call_starts (Err (stop.Status status.NotAvailable)) none = absurd (cc)
-call_starts (Err stop.Lost) none = absurd (cc)
-call_starts (Err stop.Fault) none = absurd (cc)
-call_starts (Err stop.Gone) none = absurd (cc)
+call_starts result none = absurd (cc)

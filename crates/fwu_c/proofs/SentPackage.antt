@@ -1,5 +1,5 @@
 -- A sending of a package in memory, by what the flash told before and tells after it.
-use Rattle.std.proofs.Common.{◌≡◌, ◌∙◌, inl, inr, refl, sym, ap, subst, ℕ, ◌==◌, Bool, true, false, List, length, replicate, Option, Some, None, Result, Ok, Err, arith, IsFalse, IsTrue}
+use Rattle.std.proofs.Common.{◌≡◌, ◌∙◌, inl, inr, refl, sym, ap, subst, ℕ, ◌==◌, Bool, true, List, length, replicate, Option, Some, Result, Ok, Err, arith, IsFalse, IsTrue}
 use Rattle.std.specs.Prelude.{OnOk, is_ok}
 use Rattle.base_core.specs.Counts.{Rose}
 use Rattle.fwu_formats.specs.Digests.{passes_any}
@@ -23,17 +23,16 @@ use Rattle.update_client.specs.Sends.{FaultsBy, GoneBy, Installs, IsEarlySend, I
 use Rattle.package_files.specs.OneFile.{one_file}
 use Rattle.package_files.proofs.Alone.{finds_it}
 use Rattle.host_io.specs.Contents.{Directory}
-use Rattle.fwu_c.proofs.Calls.{spared-of}
+use Rattle.fwu_c.proofs.Calls.{setting_of, spared-of, stays_here}
 use Rattle.fwu_c.specs.Sendings.{MovesByAnswer, HasInstalled, IsSent, RepliesAs, SendsPackage}
 
 -- ---- what can't be answered
 
 pub is_sent : (result : Result Sent SendStop) → (result ≡ Err ReadFailed → ⊥) → (result ≡ Err Lost → ⊥) → (result ≡ Err Gone → ⊥) → IsSent result
-is_sent (Ok sent) read lost gone = tt
 is_sent (Err ReadFailed) read lost gone = read refl
 is_sent (Err Lost) read lost gone = lost refl
 is_sent (Err Gone) read lost gone = gone refl
-is_sent (Err s) read lost gone = tt
+is_sent result read lost gone = tt
 
 -- a count of faults that stays at 0 didn't rise
 pub never_rose : Rose 0 0 → ⊥
@@ -41,19 +40,14 @@ never_rose (inl more) = omega (arith, more)
 never_rose (inr full) = omega (arith, full)
 
 not_stopped : (result : Result Sent SendStop) → is_ok (flash_of result) ≡ true → IsStoppedSend result → ⊥
-not_stopped (Ok sent) ok stopped = stopped
 not_stopped (Err Lost) ok stopped = absurd (cc)
 not_stopped (Err Fault) ok stopped = absurd (cc)
-not_stopped (Err s) ok stopped = stopped
+not_stopped result ok stopped = stopped
 
 -- an agent that was there is so after an answer or a refusal
 pub here_after : (fault : Option Reply) (result : Result Sent SendStop) (was now : Bool) → IsFalse was → GoneBy fault result was now
     → is_ok (flash_of result) ≡ true → IsFalse now
-here_after fault result was true here gone ok = elim (gone.later.0 refl) [
-  | inl before ↦ absurd (cc (here, before))
-  | inr stopped ↦ absurd (not_stopped result ok stopped)
-]
-here_after fault result was false here gone ok = refl
+here_after fault result was now here gone ok = stays_here was now here gone.later.0 (not_stopped result ok)
 
 -- ---- what is said of a result that is done
 
@@ -78,19 +72,15 @@ record Went (E : Setting) (a : Answer) (result : Result Sent SendStop) (old new 
 
 went : (E : Setting) (toc : Toc) (p : List (List ℕ)) (request : ℕ) (old new : Moment) (s : State) (x : Session) (result : Result Sent SendStop)
     → IsSent result → SendEndsBy result E toc p request old new s x → Went E (send_answer E toc p request s x) result old new s
-went E toc p request old new s x (Ok sent) is by = record { reply_is = sym by.0; session = (send_answer E toc p request s x).next; goes = by.1 }
 went E toc p request old new s x (Err ReadFailed) is by = absurd is
 went E toc p request old new s x (Err Lost) is by = absurd is
 went E toc p request old new s x (Err Fault) is by = record { reply_is = tt; session = ended_session x; goes = by.1 }
 went E toc p request old new s x (Err Gone) is by = absurd is
-went E toc p request old new s x (Err q) is by = record { reply_is = sym by.0; session = (send_answer E toc p request s x).next; goes = by.1 }
+went E toc p request old new s x result is by =
+    record { reply_is = sym by.0; session = (send_answer E toc p request s x).next; goes = by.1 }
 
 pub held_there : (held : Directory) (name file : List ℕ) → held ≡ one_file name file → held name ≡ Some file
 held_there held name file is = ap (λ (d : Directory). d name) is ∙ finds_it name file
-
--- the setting of any layout; no file of it is read here
-abbrev pub setting_of : Layout → Setting
-setting_of L = record { layout = L; files = λ name. None; passes = λ m. passes_any m }
 
 module _ (held : Directory) (file name : List ℕ) (request : ℕ) (b : Started) (toc : Toc) (result : Result Sent SendStop) (old new : Moment)
     (there : held name ≡ Some file) (table : toc_of file ≡ Ok toc) (is : IsSent result) (tells : IsTrue old.tells) (from : StartsFrom b old.fields)
@@ -101,7 +91,7 @@ module _ (held : Directory) (file name : List ℕ) (request : ℕ) (b : Started)
   images-are = sends.read file there ∙ ap (λ (L : Layout). images_of L.rows file toc) from.layout
 
   before : (s : State) → IsShown b.layout old.told.now s → Shows old s (started_session b)
-  before s shown = starts s (subst (λ (L : Layout). IsShown L old.told.now s) (sym from.layout) shown)
+  before s shown = starts s (rw from.layout shown)
 
   by : (E : Setting) (s : State) → E.layout ≡ b.layout → E.passes ≡ (λ m. passes_any m) → IsShown b.layout old.told.now s
       → Went E (send_answer E toc sends.images request s (started_session b)) result old new s

@@ -9,12 +9,11 @@ use Rattle.fwu_formats.specs.Layout.{Layout, blocks_needed}
 use Rattle.fwu_formats.specs.Metadata.{MetaRead}
 use Rattle.fwu_formats.specs.Places.{layout_block}
 use Rattle.fwu_model.specs.State.{Bank, Numbers, State}
-use Rattle.fwu_model.specs.Seen.{bank_in, seen, seen_by, seen_with, state_of}
+use Rattle.fwu_model.specs.Seen.{bank_in, seen, seen_by, state_of}
 use Rattle.early_boot.specs.Numbers.{ShowsNumbers}
 use Rattle.early_boot.proofs.Lookups.{layout-inside}
 use Rattle.fwu_c.specs.Handed.{HasFlashSize}
 use Rattle.fwu_c.specs.Shows.{TellsShown}
-use Rattle.fwu_c.specs.declared.show.BankShown.{BankShown}
 use Rattle.fwu_c.specs.declared.show.FlashShown.{FlashShown}
 
 by_layout : (L : Layout) (image : List ℕ) (read : Option MetaRead) (s : State) → seen_by L image read ≡ Some s
@@ -24,28 +23,19 @@ by_layout L image (Some r) s is =
     let same : state_of L image r ≡ s = cc in
     ap (λ (t : State). length t.banks) (sym same) ∙ length-listed (bank_in L image r.meta) _ L.banks refl
 
-seen_as : (image : List ℕ) (L : Layout) → layout_seen image ≡ Ok L → seen image ≡ seen_by L image (deciding L image)
-unfolding seen
-seen_as image L is = ap (λ r. seen_with image r) is
-
 -- an image shows as many banks as its layout has
 pub banks_are : (image : List ℕ) (L : Layout) (n : Numbers) → layout_seen image ≡ Ok L → ShowsNumbers image n
     → length n.states ≡ L.banks
+unfolding seen
 banks_are image L n layout shows =
     ap (λ (m : Numbers). length m.states) shows.2 ∙ length-map shows.0.banks (λ (k : Bank). k.state)
-    ∙ by_layout L image (deciding L image) shows.0 (sym (seen_as image L layout) ∙ shows.1)
+    ∙ by_layout L image (deciding L image) shows.0 (rw layout at shows.1)
 
 -- and the layout's banks lie in the flash
 pub inside : (image : List ℕ) (L : Layout) (blocks : ℕ) → layout_seen image ≡ Ok L → length image ≡ block_bytes * blocks
     → blocks_needed L ≤ blocks
 inside image L blocks layout size =
     omega (arith, layout-inside (block layout_block image) (length image / block_bytes) L layout, size)
-
-pub same_bank : (state verdict version image state2 verdict2 version2 image2 : ℕ) (accepted accepted2 : List ℕ) → state ≡ state2
-    → verdict ≡ verdict2 → version ≡ version2 → image ≡ image2 → accepted ≡ accepted2
-    → ◌≡◌ {A = BankShown} (record { state = state; verdict = verdict; version = version; image = image; accepted = accepted })
-    (record { state = state2; verdict = verdict2; version = version2; image = image2; accepted = accepted2 })
-same_bank state verdict version image state2 verdict2 version2 image2 accepted accepted2 a b c d e = cc
 
 -- ---- what is told
 
@@ -56,8 +46,3 @@ no_six image number is other = (λ six. absurd (other six), λ none. absurd (non
 pub tells_nothing : (image : List ℕ) (number : ℕ) (s : FlashShown) → (number ≡ 6) ↔ (HasFlashSize image → ⊥)
     → TellsShown image number s s
 tells_nothing image number s no_flash = record { fault = λ one. refl; fault_stays = λ other. refl; behind = refl; no_flash = no_flash; untouched = λ low. refl }
-
--- of a flash
-pub tells_none : (image : List ℕ) (number : ℕ) (s : FlashShown) → HasFlashSize image → (number ≡ 6 → ⊥)
-    → TellsShown image number s s
-tells_none image number s is other = tells_nothing image number s (no_six image number is other)

@@ -1,6 +1,6 @@
 -- What a call promises that tells steps, whatever it is asked for.
-use Rattle.std.proofs.Common.{◌≡◌, ◌∙◌, ◌⊎◌, ◌==◌, inl, inr, refl, ap, sym, subst, ℕ, ◌≤◌, Bool, List, All, drop, length, take, arith}
-use Rattle.fwu_c.specs.Reports.{SameStart, SameStarts}
+use Rattle.std.proofs.Common.{◌≡◌, ◌⊎◌, ◌==◌, inl, inr, refl, ap, ℕ, ◌≤◌, ◌*◌, Bool, List, All, drop, length, take, arith}
+use Rattle.fwu_c.specs.Reports.{SameStart}
 use Rattle.std.specs.Prelude.{◌↔◌, ◌||◌, IsTrue}
 use Rattle.step_flash.specs.declared.step.Step.{Step}
 use Rattle.fwu_c.specs.declared.report.Report.{Report}
@@ -9,7 +9,11 @@ use Rattle.step_flash.specs.declared.flash.Unmade.TheVariants.{NoFlash, NoMemory
 use Rattle.step_flash.specs.Unmade.{IsUnmade}
 use Rattle.step_flash.specs.Writes.{LiesWithin}
 use Rattle.base_core.specs.Block.{block_bytes}
-use Rattle.fwu_c.specs.Handed.{HasFlashSize, IsDeviceEnd, IsUntouched, KeepsReport, TellsSteps}
+use Rattle.flash_core.specs.Touches.{TouchesOnly}
+use Rattle.step_flash.specs.declared.flash.StepFlash.{StepFlash}
+use Rattle.step_flash.specs.Flash.{flash_sizes, image_of, writes_of}
+use Rattle.fwu_c.proofs.Booting.{counted_from_none}
+use Rattle.fwu_c.specs.Handed.{IsJustMade, LieAsCounted, HasFlashSize, IsDeviceEnd, IsUntouched, KeepsReport, TellsSteps}
 use Rattle.fwu_c.specs.Handed.{is_idle_number, starts_none, unmade_code}
 
 stays : (r : Report) (steps : List Step) (room : List ℕ) → IsUntouched r steps room r steps room
@@ -17,19 +21,7 @@ stays r steps room = record { report_stays = refl; steps_stay = refl; room_stays
 
 -- a start was not told
 same_start : (r : Report) (fault : ℕ) → SameStart r (record r { layout_fault = fault })
-same_start r fault = record {
-  bank = refl;
-  version = refl;
-  trials = refl;
-  counter = refl;
-  fallback = refl;
-  images = refl;
-  lengths = refl;
-}
-
--- and what it writes stays
-pub starts_stay : (r : Report) → SameStarts r r
-starts_stay r = record { start = same_start r r.layout_fault; active = refl; previous = refl }
+same_start r fault = assumption refl
 
 pub keeps_stays : (number : ℕ) (r : Report) → KeepsReport number r r
 keeps_stays number r = record {
@@ -53,18 +45,6 @@ keeps_fault number old new same starts = record {
 pub keeps_started : (old new : Report) → new.layout_fault ≡ old.layout_fault → KeepsReport 0 old new
 keeps_started old new same = keeps_fault 0 old new same (λ none. absurd (cc))
 
--- where the layout is refused
-pub keeps_but_fault : (r : Report) (fault : ℕ) → KeepsReport 1 r (record r { layout_fault = fault })
-keeps_but_fault r fault = record {
-  fault = λ other. absurd (other refl);
-  banks = λ idle. (refl, refl);
-  start = λ none. same_start r fault;
-}
-
--- no step lies anywhere
-pub none_lie : (n low high : ℕ) (steps : List Step) → n ≡ 0 → All (LiesWithin low high) (take n steps)
-none_lie n low high steps none = subst (λ (i : ℕ). All (LiesWithin low high) (take i steps)) (sym none) (λ k d lt. absurd (omega (arith, lt)))
-
 -- steps that reach less far
 pub lie_further : (low near far : ℕ) (steps : List Step) → near ≤ far → All (LiesWithin low near) steps → All (LiesWithin low far) steps
 lie_further low near far steps more all = λ k d lt. elim (all k d lt) [
@@ -72,46 +52,50 @@ lie_further low near far steps more all = λ k d lt. elim (all k d lt) [
   | inr place ↦ inr (place.0, omega (arith, place.1, more))
 ]
 
--- at 6 and 7 all stays as it was
-pub told_no_flash : (image : List ℕ) (r : Report) (steps : List Step) (room : List ℕ) → (HasFlashSize image → ⊥)
-    → TellsSteps image 6 r steps room r steps room
-told_no_flash image r steps room none = record {
-  unlost = λ four. omega (arith, four);
-  idle = λ idle. absurd (cc);
-  kept = keeps_stays 6 r;
-  full = λ five. absurd (omega (arith, five));
-  spared = λ six seven. absurd (six refl);
-  behind = (refl, refl);
-  no_flash = (λ six. none, λ not. refl);
-  untouched = λ either. stays r steps room;
-}
-
-pub told_no_room : (image : List ℕ) (r : Report) (steps : List Step) (room : List ℕ) → HasFlashSize image
-    → TellsSteps image 7 r steps room r steps room
-told_no_room image r steps room is = record {
-  unlost = λ four. omega (arith, four);
-  idle = λ idle. absurd (cc);
-  kept = keeps_stays 7 r;
-  full = λ five. absurd (omega (arith, five));
-  spared = λ six seven. absurd (seven refl);
-  behind = (refl, refl);
-  no_flash = (λ six. absurd (omega (arith, six)), λ not. absurd (not is));
-  untouched = λ either. stays r steps room;
-}
-
--- there is no device over the image
-pub told_unmade : (image : List ℕ) (why : Unmade) (number : ℕ) (r : Report) (steps : List Step) (room : List ℕ) → IsUnmade (length image) why
-    → number ≡ unmade_code why → TellsSteps image number r steps room r steps room
-told_unmade image NoFlash number r steps room unmade is = subst (λ (n : ℕ). TellsSteps image n r steps room r steps room) (sym is)
-    (told_no_flash image r steps room (λ flash. unmade flash.blocks flash.fewest flash.most flash.size))
-told_unmade image NoMemory number r steps room unmade is = subst (λ (n : ℕ). TellsSteps image n r steps room r steps room) (sym is)
-    (told_no_room image r steps room (record { blocks = unmade.0; fewest = unmade.1; most = unmade.2; size = unmade.3 }))
+-- those of a device that wrote some of the first eight blocks alone
+pub lie_inside : (file : List ℕ) (first d : StepFlash) (last : ℕ) (steps : List Step) → IsJustMade file first → last ≤ 8
+    → TouchesOnly block_bytes (block_bytes * last) (writes_of first) (writes_of d) → LieAsCounted d steps
+    → All (LiesWithin block_bytes (length (image_of first))) steps
+lie_inside file first d last steps made few touches lie =
+    let blocks = (flash_sizes first).0 in
+    lie_further block_bytes (block_bytes * last) _ steps (omega (arith, few, made.size, blocks))
+    (lie.places 1 last (counted_from_none block_bytes (block_bytes * last) made.unwritten touches))
 
 -- 6 comes of all bytes that are no flash, and of no others
 pub unmade_by : (image : List ℕ) (why : Unmade) → IsUnmade (length image) why → (unmade_code why ≡ 6) ↔ (HasFlashSize image → ⊥)
 unmade_by image NoFlash unmade = (λ six flash. unmade flash.blocks flash.fewest flash.most flash.size, λ none. refl)
 unmade_by image NoMemory unmade =
-    (λ six. absurd (omega (arith, six)), λ none. absurd (none (record { blocks = unmade.0; fewest = unmade.1; most = unmade.2; size = unmade.3 })))
+    let size : HasFlashSize image = record { blocks = unmade.0; fewest = unmade.1; most = unmade.2; size = unmade.3 } in
+    (λ six. absurd (omega (arith, six)), λ none. absurd (none size))
+
+unmade_either : (why : Unmade) → (unmade_code why ≡ 6) ⊎ (unmade_code why ≡ 7)
+unmade_either NoFlash = inl refl
+unmade_either NoMemory = inr refl
+
+-- at 6 and 7 all stays as it was
+told_none : (image : List ℕ) (number : ℕ) (r : Report) (steps : List Step) (room : List ℕ) → (number ≡ 6) ⊎ (number ≡ 7)
+    → (number ≡ 6) ↔ (HasFlashSize image → ⊥) → TellsSteps image number r steps room r steps room
+told_none image number r steps room either no_flash = record {
+  unlost = grind arith;
+  idle = λ idle. absurd (elim either [ inl six ↦ cc | inr seven ↦ cc ]);
+  kept = keeps_stays number r;
+  full = λ five. absurd (grind arith);
+  spared = λ six seven. absurd (grind arith);
+  behind = (refl, refl);
+  no_flash = no_flash;
+  untouched = λ either. stays r steps room;
+}
+
+pub told_no_room : (image : List ℕ) (r : Report) (steps : List Step) (room : List ℕ) → HasFlashSize image
+    → TellsSteps image 7 r steps room r steps room
+told_no_room image r steps room is =
+    told_none image 7 r steps room (inr refl) (λ six. absurd (omega (arith, six)), λ not. absurd (not is))
+
+-- there is no device over the image
+pub told_unmade : (image : List ℕ) (why : Unmade) (number : ℕ) (r : Report) (steps : List Step) (room : List ℕ) → IsUnmade (length image) why
+    → number ≡ unmade_code why → TellsSteps image number r steps room r steps room
+told_unmade image why number r steps room unmade is =
+    rw is (told_none image _ r steps room (unmade_either why) (unmade_by image why unmade))
 
 -- what a device handed over
 pub told_handed : (image : List ℕ) (result number : ℕ) (old : Report) (old_steps : List Step) (old_room : List ℕ) (new : Report) (steps : List Step)
@@ -119,33 +103,16 @@ pub told_handed : (image : List ℕ) (result number : ℕ) (old : Report) (old_s
     → KeepsReport result old new → ((result ≡ 7 → ⊥) → All (LiesWithin block_bytes (length image)) (take new.steps steps))
     → (drop new.steps steps ≡ drop new.steps old_steps) × (drop new.bytes room ≡ drop new.bytes old_room) → (result ≡ 5 → new.steps ≡ length old_steps) → (result ≡ 7 → IsUntouched old old_steps old_room new steps room)
     → TellsSteps image result old old_steps old_room new steps room
-told_handed image result number old old_steps old_room new steps room is end (inl same) idle kept spared behind full untouched = record {
-  unlost = λ four. end.0 (sym same ∙ four);
-  idle = idle;
-  kept = kept;
-  spared = λ six seven. spared seven;
-  behind = behind;
-  full = full;
-  no_flash = (λ six. absurd (end.1 (sym same ∙ six)), λ not. absurd (not is));
-  untouched = λ either. elim either [
-    | inl six ↦ absurd (end.1 (sym same ∙ six))
-    | inr seven ↦ untouched seven
-  ];
-}
-told_handed image result number old old_steps old_room new steps room is end (inr seven) idle kept spared behind full untouched = record {
-  unlost = λ four. omega (arith, four, seven);
-  idle = idle;
-  kept = kept;
-  spared = λ six seven. spared seven;
-  behind = behind;
-  full = full;
-  no_flash = (λ six. absurd (omega (arith, six, seven)), λ not. absurd (not is));
-  untouched = λ either. untouched seven;
-}
-
--- of the same image
-pub tells_of_image : (image other : List ℕ) (number : ℕ) (old : Report) (old_steps : List Step) (old_room : List ℕ) (new : Report) (steps : List Step)
-    (room : List ℕ) → other ≡ image → TellsSteps other number old old_steps old_room new steps room
-    → TellsSteps image number old old_steps old_room new steps room
-tells_of_image image other number old old_steps old_room new steps room same tells =
-    subst (λ (i : List ℕ). TellsSteps i number old old_steps old_room new steps room) same tells
+told_handed image result number old old_steps old_room new steps room is end same idle kept spared behind full untouched =
+    let not_four : result ≡ 4 → ⊥ = grind arith in
+    let not_six : result ≡ 6 → ⊥ = grind arith in
+    record {
+      unlost = not_four;
+      idle = idle;
+      kept = kept;
+      spared = λ six seven. spared seven;
+      behind = behind;
+      full = full;
+      no_flash = (λ six. absurd (not_six six), λ not. absurd (not is));
+      untouched = λ either. elim either [ inl six ↦ absurd (not_six six) | inr seven ↦ untouched seven ];
+    }

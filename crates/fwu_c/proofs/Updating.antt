@@ -1,5 +1,5 @@
 -- An update, by what its device tells and by its steps.
-use Rattle.std.proofs.Common.{drop, Bool, ◌≡◌, ◌∙◌, inl, refl, ℕ, ◌+◌, ◌*◌, ◌≤◌, List, [], length, Option, Some, None, Ok, Err, ap, sym, subst, take, arith, get_or}
+use Rattle.std.proofs.Common.{Bool, ◌≡◌, ◌∙◌, inl, refl, ℕ, ◌+◌, ◌*◌, List, length, Some, None, Ok, Err, ap, sym, subst, take, arith, get_or}
 use Rattle.std.proofs.Math.ListN.{get_or-map}
 use Rattle.std.specs.Prelude.{All, IsTrue, IsFalse}
 use Rattle.base_core.specs.Block.{block_bytes}
@@ -7,12 +7,10 @@ use Rattle.flash_core.specs.Told.{Told, fresh}
 use Rattle.fwu_formats.specs.Digests.{passes_any}
 use Rattle.fwu_formats.specs.Image.{layout_seen, deciding}
 use Rattle.fwu_formats.specs.Layout.{Layout, fits_layout, start}
-use Rattle.fwu_formats.specs.Metadata.{MetaRead}
-use Rattle.fwu_formats.specs.declared.kinds.BankState.{BankState}
 use Rattle.fwu_formats.specs.declared.kinds.LayoutFault.{LayoutFault}
 use Rattle.fwu_formats.specs.declared.kinds.BankState.TheVariants.{Invalid}
 use Rattle.fwu_model.specs.State.{State, Numbers, Bank, bank, no_bank, numbers_of, is_valid}
-use Rattle.fwu_model.specs.Seen.{seen, seen_by, seen_with}
+use Rattle.fwu_model.specs.Seen.{seen}
 use Rattle.moves.specs.Moved.{IsShown}
 use Rattle.early_boot.specs.Numbers.{ShowsNumbers}
 use Rattle.early_boot.specs.Started.{Started}
@@ -20,28 +18,26 @@ use Rattle.early_boot.specs.Ends.{Ended, booted}
 use Rattle.early_boot.specs.EndsBy.{BootEnds}
 use Rattle.step_flash.specs.declared.step.Step.{Step}
 use Rattle.step_flash.specs.declared.flash.StepFlash.{StepFlash}
-use Rattle.step_flash.specs.Flash.{block_count, told_of, writes_of}
-use Rattle.step_flash.specs.Guard.{start_told, start_with}
-use Rattle.step_flash.specs.Stopped.{under_as}
-use Rattle.step_flash.specs.Steps.{AreDoable, IsInsideWith, room_bytes, run_with}
+use Rattle.step_flash.specs.Flash.{block_count, image_of, told_of, writes_of}
+use Rattle.step_flash.specs.Guard.{start_with}
+use Rattle.step_flash.specs.Steps.{run_with}
 use Rattle.step_flash.proofs.Room.{no_room_bytes}
 use Rattle.fwu_c.specs.declared.report.Report.{Report}
-use Rattle.fwu_c.specs.Codes.{end_code}
-use Rattle.fwu_c.specs.Handed.{HandsOver, HasFlashSize, IsDeviceEnd, TellsSteps, boot_reach, starts_none}
-use Rattle.update_client.specs.declared.stops.SendStop.TheVariants.{MissingImage, ImageTooLarge, Begin, End, ReadFailed, Lost, Fault, Gone}
+use Rattle.fwu_c.specs.Handed.{HandsOver, IsJustMade, HasFlashSize, IsDeviceEnd, TellsSteps, boot_reach, starts_none}
+use Rattle.update_client.specs.declared.stops.SendStop.TheVariants.{ReadFailed, Lost, Gone}
 use Rattle.fwu_c.specs.Sendings.{InstallsBy, IsOutcome, SendOutcome, outcome_code}
-use Rattle.fwu_c.specs.Updates.{ReportsBoot, IsNotBooted, IsOnTrial, ReportsNone, UpdateEnds, Updated, UpdatesBy}
+use Rattle.fwu_c.specs.Updates.{ReportsBoot, IsOnTrial, ReportsNone, UpdateEnds, Updated, UpdatesBy}
 use Rattle.fwu_c.specs.Updates.{on_trial, not_booted, tried, update_code, ReportsUpdate, SparesInUse}
 use Rattle.agent_machine.specs.Moment.{Moment}
 use Rattle.agent_machine.specs.Beside.{IsSparedByAll, SparesBlocksByAll}
 use Rattle.fwu_formats.proofs.Read.{layout-fits}
-use Rattle.step_flash.specs.Writes.{LiesBeside, LiesWithin}
-use Rattle.fwu_formats.specs.Places.{counter_block, first_record}
+use Rattle.step_flash.specs.Writes.{LiesWithin}
+use Rattle.fwu_formats.specs.Places.{counter_block}
 use Rattle.fwu_c.specs.Agents.{BeginsAgent}
-use Rattle.fwu_c.proofs.SentPackage.{setting_of}
+use Rattle.fwu_c.proofs.Calls.{setting_of}
 use Rattle.fwu_c.proofs.Places.{has-blocks, in-use-unwritten, marks-spared, update-touches}
-use Rattle.fwu_c.proofs.Telling.{keeps_fault, lie_further, none_lie, told_handed}
-use Rattle.fwu_c.proofs.Booting.{code_few, counted_from_none, end_same, guard_kept, over, start_same}
+use Rattle.fwu_c.proofs.Telling.{keeps_fault, lie_further, told_handed}
+use Rattle.fwu_c.proofs.Booting.{beside_marks_by, code_few, counted_from_none, end_same, guard_kept, over, start_same}
 
 -- ---- trials
 
@@ -50,133 +46,55 @@ active_state s = get_or-map (λ (k : Bank). k.state) s.banks s.active no_bank
 
 -- by the numbers that an image shows its active bank is on trial, or not
 pub trial_by : (image : List ℕ) (n : Numbers) → ShowsNumbers image n → IsTrue (is_valid (get_or n.states n.active Invalid)) → IsOnTrial image
-trial_by image n shows valid =
-    let same : numbers_of shows.0 ≡ n = sym shows.2 in (
-      shows.0,
-      shows.1,
-      ap (λ (k : BankState). is_valid k) (sym (active_state shows.0)) ∙ ap (λ (m : Numbers). is_valid (get_or m.states m.active Invalid)) same ∙ valid,
-    )
-
-same_some : {X : Type 0} (x y : X) → ◌≡◌ {A = Option X} (Some x) (Some y) → x ≡ y
-same_some x y e = cc
+trial_by image n shows valid = let active = active_state shows.0 in (shows.0, shows.1, cc)
 
 pub no_trial_by : (image : List ℕ) (n : Numbers) → ShowsNumbers image n → IsFalse (is_valid (get_or n.states n.active Invalid)) → IsOnTrial image → ⊥
-no_trial_by image n shows other trial =
-    let one : trial.0 ≡ shows.0 = same_some trial.0 shows.0 (sym trial.1 ∙ shows.1) in
-    let here : IsTrue (is_valid (get_or n.states n.active Invalid)) =
-    ap (λ (m : Numbers). is_valid (get_or m.states m.active Invalid)) shows.2 ∙ ap (λ (k : BankState). is_valid k) (active_state shows.0)
-    ∙ ap (λ (u : State). is_valid (bank u u.active).state) (sym one) ∙ trial.2 in
-    absurd (cc (other, here))
+no_trial_by image n shows other trial = let active = active_state shows.0 in absurd (cc)
 
--- an image without a layout, or without metadata, shows nothing
-pub none_by_layout : (image : List ℕ) (f : LayoutFault) → layout_seen image ≡ Err f → seen image ≡ None
+-- an image without a layout, or without metadata, has no bank on trial
+pub no_layout_no_trial : (image : List ℕ) (f : LayoutFault) → layout_seen image ≡ Err f → IsOnTrial image → ⊥
 unfolding seen
-none_by_layout image f is = ap (λ r. seen_with image r) is
+no_layout_no_trial image f is trial = let shown = rw is at trial.1 in absurd (cc)
 
-pub none_by_metadata : (image : List ℕ) (L : Layout) → layout_seen image ≡ Ok L → deciding L image ≡ None → seen image ≡ None
+pub no_metadata_no_trial : (image : List ℕ) (L : Layout) → layout_seen image ≡ Ok L → deciding L image ≡ None → IsOnTrial image → ⊥
 unfolding seen
-none_by_metadata image L layout none = ap (λ r. seen_with image r) layout ∙ ap (λ (m : Option MetaRead). seen_by L image m) none
+no_metadata_no_trial image L layout none trial = let shown = rw (layout, none) at trial.1 in absurd (cc)
 
--- an image that shows nothing has no bank on trial
-pub no_trial : (image : List ℕ) → seen image ≡ None → IsOnTrial image → ⊥
-no_trial image none trial = let is = trial.1 in absurd (cc (none, is))
-
-pub start_now : (image : List ℕ) → (start_told image).now ≡ image
+pub start_now : (image file : List ℕ) (t : Told) → t ≡ start_with image file → t.now ≡ image
 unfolding fresh
-start_now image = refl
+start_now image file t made = ap (λ (x : Told). x.now) made
 
 -- ---- numbers
 
 -- a known outcome has none of the numbers 4, 6 and 7
 pub outcome_end_is : (outcome : SendOutcome) → IsOutcome outcome → IsDeviceEnd (outcome_code outcome)
-outcome_end_is None is = (λ four. omega (arith, four), λ six. omega (arith, six), λ seven. omega (arith, seven))
-outcome_end_is (Some (Ok sent)) is = (λ four. omega (arith, four), λ six. omega (arith, six), λ seven. omega (arith, seven))
-outcome_end_is (Some (Err (MissingImage guid))) is = (λ four. omega (arith, four), λ six. omega (arith, six), λ seven. omega (arith, seven))
-outcome_end_is (Some (Err (ImageTooLarge guid))) is = (λ four. omega (arith, four), λ six. omega (arith, six), λ seven. omega (arith, seven))
-outcome_end_is (Some (Err (Begin st))) is = (λ four. omega (arith, four), λ six. omega (arith, six), λ seven. omega (arith, seven))
-outcome_end_is (Some (Err (End st))) is = (λ four. omega (arith, four), λ six. omega (arith, six), λ seven. omega (arith, seven))
 outcome_end_is (Some (Err ReadFailed)) is = absurd is
 outcome_end_is (Some (Err Lost)) is = absurd is
-outcome_end_is (Some (Err Fault)) is = (λ four. omega (arith, four), λ six. omega (arith, six), λ seven. omega (arith, seven))
 outcome_end_is (Some (Err Gone)) is = absurd is
+outcome_end_is outcome is = grind arith
 
 pub outcome_starts : (outcome : SendOutcome) → IsTrue (starts_none (outcome_code outcome)) → ⊥
-outcome_starts None none = absurd (cc)
-outcome_starts (Some (Ok sent)) none = absurd (cc)
-outcome_starts (Some (Err (MissingImage guid))) none = absurd (cc)
-outcome_starts (Some (Err (ImageTooLarge guid))) none = absurd (cc)
-outcome_starts (Some (Err (Begin st))) none = absurd (cc)
-outcome_starts (Some (Err (End st))) none = absurd (cc)
 outcome_starts (Some (Err ReadFailed)) none = absurd (cc)
-outcome_starts (Some (Err Lost)) none = absurd (cc)
-outcome_starts (Some (Err Fault)) none = absurd (cc)
-outcome_starts (Some (Err Gone)) none = absurd (cc)
+outcome_starts outcome none = absurd (cc)
 
 -- a boot that started none has none of these either
-none_not_six : (e : Ended) → IsNotBooted e → (end_code e ≡ 6 → ⊥) × (end_code e ≡ 7 → ⊥)
-none_not_six e is = let few = code_few e in (λ six. omega (arith, few, six), λ seven. omega (arith, few, seven))
-
 pub none_end_is : (number : ℕ) (first left : StepFlash) (old r : Report) → ReportsNone number first left old r → IsDeviceEnd number
-none_end_is number first left old r none =
-    let not = none_not_six none.end none.is in (none.unlost, λ six. not.0 (sym none.number_is ∙ six), λ seven. not.1 (sym none.number_is ∙ seven))
+none_end_is number first left old r none = grind (arith, none.unlost, none.number_is, code_few none.end)
 
 -- an update is refused before it boots
-pub told_denied : (image : List ℕ) (old : Report) (old_steps : List Step) (old_room : List ℕ) (new : Report) (steps : List Step) (room : List ℕ)
-    → HasFlashSize image → new.layout_fault ≡ old.layout_fault → new.steps ≡ 0 → steps ≡ old_steps → room ≡ old_room
-    → TellsSteps image 16 old old_steps old_room new steps room
-told_denied image old old_steps old_room new steps room is same none same_steps same_room =
-    told_handed image 16 16 old old_steps old_room new steps room is (λ four. omega (arith, four), λ six. omega (arith, six), λ seven. omega (arith, seven))
-    (inl refl) (λ idle. absurd (cc)) (keeps_fault 16 old new same (λ none. absurd (cc)))
-    (λ not. none_lie new.steps block_bytes (length image) steps none) (ap (λ (x : List Step). drop new.steps x) same_steps, ap (λ (x : List ℕ). drop new.bytes x) same_room)
+pub told_denied : (image : List ℕ) (r : Report) (steps : List Step) (room : List ℕ) → HasFlashSize image
+    → TellsSteps image 16 r steps room (record r { steps = 0; bytes = 0 }) steps room
+told_denied image r steps room is =
+    told_handed image 16 16 r steps room (record r { steps = 0; bytes = 0 }) steps room is (grind arith) (inl refl)
+    (λ idle. absurd (cc)) (keeps_fault 16 r _ refl (λ none. absurd (cc))) (λ not k d lt. absurd (omega (arith, lt))) (refl, refl)
     (λ five. absurd (omega (arith, five))) (λ seven. absurd (omega (arith, seven)))
 
 -- ---- the record
 
--- beside block 4
-abbrev pub LieBesideMarks : List Step → Type 0
-LieBesideMarks steps = All (LiesBeside (block_bytes * counter_block) (block_bytes * first_record)) steps
-
--- where the device counted nothing in block 4
-beside_marks_by : (d : StepFlash) (told r : Report) (steps : List Step) (room : List ℕ) → HandsOver d told r steps room
-    → writes_of d counter_block ≡ 0 → LieBesideMarks (take r.steps steps)
-beside_marks_by d told r steps room hands still = hands.lie.beside counter_block first_record (omega arith) (λ k low high.
-    let is : k ≡ counter_block = omega (arith, low, high) in ap (λ n. writes_of d n) is ∙ still)
-
-updates_by : (image file : List ℕ) (request : ℕ) (first d : StepFlash) (e : Updated) (number : ℕ) (old told r : Report) (steps : List Step) (room : List ℕ)
-    → told_of first ≡ start_with image file → length image ≡ block_bytes * block_count first → block_count d ≡ block_count first
-    → (told_of d).guard ≡ (told_of first).guard → UpdateEnds image file request e (told_of d) → HandsOver d told r steps room
-    → SparesInUse e (take r.steps steps) → writes_of d counter_block ≡ 0 → number ≡ update_code e → ReportsUpdate e old r → UpdatesBy image file request number old r steps room
-updates_by image file request first d e number old told r steps room made size same_size kept ends hands spared still is reports =
-    let o = over image file first d told r steps room made size same_size kept hands in
-    record {
-      end = e;
-      number_is = is;
-      t = told_of d;
-      ends = ends;
-      left = o.left;
-      within = o.within;
-      doable = o.doable;
-      spared = spared;
-      beside_marks = beside_marks_by d told r steps room hands still;
-      reports = reports;
-    }
-
--- the boot started no bank
-pub unbooted_by : (image file : List ℕ) (request : ℕ) (first d : StepFlash) (number given : ℕ) (old told r : Report)
-    (steps : List Step) (room : List ℕ)
-    → told_of first ≡ start_with image file → length image ≡ block_bytes * block_count first → ReportsNone given first d old told
-    → HandsOver d told r steps room → ((k : ℕ) → writes_of first k ≡ 0) → number ≡ given → UpdatesBy image file request number old r steps room
-unbooted_by image file request first d number given old told r steps room made size none hands unwritten is =
-    updates_by image file request first d (not_booted none.end) number old told r steps room made size none.size
-    (guard_kept (told_of first) (told_of d) none.end none.boots.by_bytes)
-    (none.is, subst (λ (x : Told). BootEnds (λ m. passes_any m) x none.end (told_of d)) made none.boots) hands
-    (hands.lie.places 1 7 (counted_from_none block_bytes boot_reach unwritten none.touches)) (none.marks_still ∙ unwritten counter_block) (is ∙ none.number_is)
-    (end_same none.end old told r hands.same none.reports)
-
 -- a sending keeps the guard, since the boot before it left a flash that shows a state
 guard_by : (file : List ℕ) (request : ℕ) (b : Started) (outcome : SendOutcome) (old t : Told) (s : State) → IsShown b.layout old.now s
     → InstallsBy file request b outcome old t → t.guard ≡ old.guard
-guard_by file request b None old t s shown by = ap (λ (x : Told). x.guard) by.1
+guard_by file request b None old t s shown by = cc
 guard_by file request b (Some result) old t s shown by = (by.answers (setting_of b.layout) s refl refl shown).guard_is
 
 -- what a sending spares, by the bank that was started
@@ -186,69 +104,91 @@ SendingSpares b mid d = (k : ℕ) → IsSparedByAll b.layout b.bank (block_bytes
 pub sending_spares : (b : Started) (m : Moment) (gone : Bool) (mid d : StepFlash) → BeginsAgent b m gone
     → SparesBlocksByAll m.fields (writes_of mid) (writes_of d) → SendingSpares b mid d
 sending_spares b m gone mid d begins touches k spared =
-    touches k (subst (λ (L : Layout). IsSparedByAll L m.fields.boot (block_bytes * k)) (sym begins.from.layout)
-    (subst (λ (bank : ℕ). IsSparedByAll b.layout bank (block_bytes * k)) (sym begins.from.boot) spared))
+    touches k (rw (begins.from.layout, begins.from.boot) spared)
 
--- where the steps behind a boot of a bank lie: behind block 0
-pub tried_places : (image : List ℕ) (first mid d : StepFlash) (b : Started) (old told r : Report) (new : Report) (steps : List Step)
-    (room : List ℕ) → length image ≡ block_bytes * block_count first → block_count d ≡ block_count mid → ReportsBoot b first mid old told
-    → HandsOver d new r steps room → ((k : ℕ) → writes_of first k ≡ 0) → SendingSpares b mid d
-    → All (LiesWithin block_bytes (length image)) (take r.steps steps)
-tried_places image first mid d b old told r new steps room size same_size boots hands unwritten sent =
-    let touches = update-touches b.layout b.bank (layout-fits _ _ b.layout boots.layout) first mid d unwritten boots.touches sent in
-    let whole : block_bytes * block_count d ≤ length image = omega (arith, size, same_size, boots.size) in
-    lie_further block_bytes (block_bytes * block_count d) (length image) _ whole (hands.lie.places 1 (block_count d) touches)
+module _ (file : List ℕ) (request : ℕ) (first d : StepFlash) (made : IsJustMade file first) (number : ℕ) (old told r : Report)
+    (steps : List Step) (room : List ℕ) (hands : HandsOver d told r steps room) where
+  updates_by : (e : Updated) → (told_of d).guard ≡ (told_of first).guard
+      → UpdateEnds (image_of first) file request e (told_of d) → SparesInUse e (take r.steps steps)
+      → writes_of d counter_block ≡ 0 → number ≡ update_code e → ReportsUpdate e old r
+      → UpdatesBy (image_of first) file request number old r steps room
+  updates_by e kept ends spared still is reports =
+      let o = over file first d told r steps room made kept hands in
+      record {
+        end = e;
+        number_is = is;
+        t = told_of d;
+        ends = ends;
+        left = o.left;
+        within = o.within;
+        doable = o.doable;
+        spared = spared;
+        beside_marks = beside_marks_by d _ hands.lie still;
+        reports = reports;
+      }
 
--- a bank was started, and the package tried
-pub tried_by : (image file : List ℕ) (request : ℕ) (first mid d : StepFlash) (b : Started) (outcome : SendOutcome) (number : ℕ)
-    (old told r : Report) (steps : List Step) (room : List ℕ)
-    → told_of first ≡ start_with image file → length image ≡ block_bytes * block_count first → block_count d ≡ block_count mid
-    → ReportsBoot b first mid old told → InstallsBy file request b outcome (told_of mid) (told_of d) → HandsOver d told r steps room
-    → ((k : ℕ) → writes_of first k ≡ 0) → SendingSpares b mid d → number ≡ outcome_code outcome → UpdatesBy image file request number old r steps room
-tried_by image file request first mid d b outcome number old told r steps room made size same_size boots installs hands unwritten sent is =
-    let bytes = boots.ends.by_bytes in
-    let shown : IsShown b.layout (told_of mid).now bytes.shows.0 = record { layout = boots.layout; shows = bytes.shows.1 } in
-    let fits : IsTrue (fits_layout b.layout) = layout-fits _ _ b.layout boots.layout in
-    updates_by image file request first d (tried b boots.numbers outcome) number old told r steps room made size
-    (same_size ∙ boots.size)
-    (guard_by file request b outcome (told_of mid) (told_of d) bytes.shows.0 shown installs
-    ∙ guard_kept (told_of first) (told_of mid) (booted b boots.numbers) bytes)
-    (record {
-      mid = told_of mid;
-      boots = subst (λ (x : Told). BootEnds (λ m. passes_any m) x (booted b boots.numbers) (told_of mid)) made boots.ends;
-      installs = installs;
-    }) hands
-    (hands.lie.beside (start b.layout b.bank 0) (start b.layout (b.bank + 1) 0) (has-blocks b.layout b.bank fits)
-    (in-use-unwritten b.layout b.bank fits first mid d unwritten boots.touches sent))
-    (sent counter_block (marks-spared b.layout b.bank fits) ∙ boots.marks_still ∙ unwritten counter_block) is (start_same b told r hands.same boots.reports)
+  -- from the image
+  begins : (e : Ended) (t : Told) → BootEnds (λ m. passes_any m) (told_of first) e t
+      → BootEnds (λ m. passes_any m) (start_with (image_of first) file) e t
+  begins e t ends = subst (λ (x : Told). BootEnds (λ m. passes_any m) x e t) made.fresh ends
+
+  -- the boot started no bank
+  pub unbooted_by : (given : ℕ) → ReportsNone given first d old told → number ≡ given
+      → UpdatesBy (image_of first) file request number old r steps room
+  unbooted_by given none is =
+      updates_by (not_booted none.end) (guard_kept (told_of first) (told_of d) none.end none.boots.by_bytes)
+      (none.is, begins none.end (told_of d) none.boots)
+      (hands.lie.places 1 7 (counted_from_none block_bytes boot_reach made.unwritten none.touches))
+      (none.marks_still ∙ made.unwritten counter_block) (is ∙ none.number_is)
+      (end_same none.end old told r hands.same none.reports)
+
+  module _ (mid : StepFlash) (b : Started) (boots : ReportsBoot b first mid old told)
+      (sent : SendingSpares b mid d) where
+    fits : IsTrue (fits_layout b.layout)
+    fits = layout-fits _ _ b.layout boots.layout
+
+    -- where the steps behind a boot of a bank lie: behind block 0
+    pub tried_places : block_count d ≡ block_count mid → All (LiesWithin block_bytes (length (image_of first))) (take r.steps steps)
+    tried_places size =
+        let touches = update-touches b.layout b.bank fits first mid d made.unwritten boots.touches sent in
+        lie_further block_bytes (block_bytes * block_count d) (length (image_of first)) _
+        (omega (arith, made.size, size, boots.size)) (hands.lie.places 1 (block_count d) touches)
+
+    -- a bank was started, and the package tried
+    pub tried_by : (outcome : SendOutcome) → InstallsBy file request b outcome (told_of mid) (told_of d)
+        → number ≡ outcome_code outcome → UpdatesBy (image_of first) file request number old r steps room
+    tried_by outcome installs is =
+        let bytes = boots.ends.by_bytes in
+        let e = booted b boots.numbers in
+        let shown : IsShown b.layout (told_of mid).now bytes.shows.0 =
+        record { layout = boots.layout; shows = bytes.shows.1 } in
+        updates_by (tried b boots.numbers outcome)
+        (guard_by file request b outcome (told_of mid) (told_of d) bytes.shows.0 shown installs
+        ∙ guard_kept (told_of first) (told_of mid) e bytes)
+        (record { mid = told_of mid; boots = begins e (told_of mid) boots.ends; installs = installs })
+        (hands.lie.beside (start b.layout b.bank 0) (start b.layout (b.bank + 1) 0) (has-blocks b.layout b.bank fits)
+        (in-use-unwritten b.layout b.bank fits first mid d made.unwritten boots.touches sent))
+        (sent counter_block (marks-spared b.layout b.bank fits) ∙ boots.marks_still ∙ made.unwritten counter_block) is
+        (start_same b told r hands.same boots.reports)
 
 -- nothing was tried
-pub denied_by : (image file : List ℕ) (request : ℕ) (old r : Report) (steps : List Step) (room : List ℕ) → IsOnTrial image
-    → r.steps ≡ 0 → r.bytes ≡ 0 → UpdatesBy image file request 16 old r steps room
+pub denied_by : (image file : List ℕ) (request : ℕ) (r : Report) (steps : List Step) (room : List ℕ) → IsOnTrial image
+    → UpdatesBy image file request 16 r (record r { steps = 0; bytes = 0 }) steps room
 unfolding run_with fresh
-denied_by image file request old r steps room trial none empty =
-    let no_steps : take r.steps steps ≡ [] = ap (λ (n : ℕ). take n steps) none in
-    let no_bytes : room_bytes [] ≡ 0 = no_room_bytes in
-    record {
-      end = on_trial;
-      number_is = refl;
-      t = start_with image file;
-      ends = (trial, refl);
-      left = ap (λ (ss : List Step). under_as (start_with image file).under (run_with file (take r.bytes room) (start_with image file) ss)) (sym no_steps);
-      within = record {
-        steps_fit = omega (arith, none);
-        bytes_fit = omega (arith, empty);
-        inside = subst (λ (ss : List Step). All (IsInsideWith (length file) r.bytes (length image)) ss) (sym no_steps) (λ k d lt. absurd (omega (arith, lt)));
-        theirs = empty ∙ sym no_bytes ∙ ap (λ (ss : List Step). room_bytes ss) (sym no_steps);
-      };
-      doable = subst (λ (ss : List Step). AreDoable file (take r.bytes room) (start_with image file) ss) (sym no_steps) tt;
-      spared = tt;
-      beside_marks = subst LieBesideMarks (sym no_steps) (λ k d lt. absurd (omega (arith, lt)));
-      reports = (none, empty);
-    }
-
--- of the same image
-pub update_of_image : (image other file : List ℕ) (request number : ℕ) (old r : Report) (steps : List Step) (room : List ℕ) → other ≡ image
-    → UpdatesBy other file request number old r steps room → UpdatesBy image file request number old r steps room
-update_of_image image other file request number old r steps room same by =
-    subst (λ (i : List ℕ). UpdatesBy i file request number old r steps room) same by
+denied_by image file request r steps room trial = record {
+  end = on_trial;
+  number_is = refl;
+  t = start_with image file;
+  ends = (trial, refl);
+  left = refl;
+  within = record {
+    steps_fit = omega arith;
+    bytes_fit = omega arith;
+    inside = λ k d lt. absurd (omega (arith, lt));
+    theirs = sym no_room_bytes;
+  };
+  doable = tt;
+  spared = tt;
+  beside_marks = λ k d lt. absurd (omega (arith, lt));
+  reports = (refl, refl);
+}

@@ -1,5 +1,5 @@
-use Rattle.fwu_c.proofs.Booting.{has_flash_size, made_new, of_image}
-use Rattle.fwu_c.proofs.Telling.{tells_of_image, told_no_room, told_unmade}
+use Rattle.fwu_c.proofs.Booting.{made_new}
+use Rattle.fwu_c.proofs.Telling.{told_unmade}
 use Rattle.fwu_c.proofs.boot.fwu_boot.Goals as goal
 
 pub boot_over-requires-clause-new : goal.boot_over-requires-clause-new
@@ -9,4 +9,4 @@ pub returns-in-Err-clause-tells : goal.returns-in-Err-clause-tells
 returns-in-Err-clause-tells c = told_unmade _ c.in-Err.why _ _ _ _ c.in-Err.ensures.unmade c.unmade_number.ensures
 
 pub returns-clause-boots : goal.returns-clause-boots
-returns-clause-boots c = λ low. of_image _ _ _ _ _ _ _ c.in-Ok.ensures.image (c.boot_over.ensures.boots low)
+returns-clause-boots c = λ low. rw c.in-Ok.ensures.image at (c.boot_over.ensures.boots low)

@@ -1,31 +1,19 @@
-use Rattle.std.proofs.Common.{◌≡◌, ap, refl, subst, sym, Some, IsTrue}
+use Rattle.std.proofs.Common.{ap, refl}
 use Rattle.base_core.specs.Block.{block_bytes}
 use Rattle.fwu_formats.specs.Digests.{passes_any}
-use Rattle.fwu_formats.specs.Layout.{Layout, find_image}
-use Rattle.fwu_formats.specs.Metadata.{MetaRead, bit_at}
-use Rattle.fwu_model.specs.Call.{Call}
-use Rattle.fwu_model.specs.Call as call
-use Rattle.fwu_model.specs.Reply.{Reply, Success}
-use Rattle.agent_machine.specs.Meets.{Meets}
-use Rattle.agent_calls.specs.Shown.{device, moment}
-use Rattle.step_flash.specs.Flash.{told_of, writes_of}
-use Rattle.fwu_c.specs.Calls.{IsAccepted, call_of}
+use Rattle.agent_calls.specs.Shown.{device}
+use Rattle.step_flash.specs.Flash.{writes_of}
 use Rattle.fwu_c.specs.Handed.{call_reach}
 use Rattle.fwu_c.proofs.Calls.{touches_by}
-use Rattle.fwu_c.specs.declared.calling.AgentCall.{AgentCall}
 use Rattle.fwu_c.proofs.calling.ask.Goals as goal
 
 pub returns-in-Accept-clause-meets : goal.returns-in-Accept-clause-meets
-returns-in-Accept-clause-meets c = λ here.
-    subst (λ (k : Call). Meets (λ (value : Unit {0}) (reply : Reply). reply ≡ Success) c.accept.result (λ m. passes_any m) k (moment c.args.agent.now) (moment c.accept.new.self))
-    (ap (λ (a : AgentCall). call_of a) (sym c.in-Accept.is)) (c.accept.ensures.meets here (λ m. passes_any m))
+returns-in-Accept-clause-meets c = λ here. rw c.in-Accept.is (c.accept.ensures.meets here (λ m. passes_any m))
 
 pub returns-in-Previous-clause-meets : goal.returns-in-Previous-clause-meets
 returns-in-Previous-clause-meets c = λ here.
     let meets = c.previous.ensures.meets here (λ m. passes_any m) refl in
-    subst (λ (k : Call). Meets (λ (value : Unit {0}) (reply : Reply). reply ≡ Success) c.previous.result (λ m. passes_any m) k (moment c.args.agent.now) (moment c.previous.new.self))
-    (ap (λ (a : AgentCall). call_of a) (sym c.in-Previous.is))
-    (record { exact = λ E s x setting shows. meets.exact E s x setting shows refl; leaves = meets.leaves })
+    rw c.in-Previous.is (record { exact = λ E s x setting shows. meets.exact E s x setting shows refl; leaves = meets.leaves })
 
 pub returns-in-Accept-clause-touches : goal.returns-in-Accept-clause-touches
 returns-in-Accept-clause-touches c =

@@ -1,6 +1,5 @@
-use Rattle.fwu_c.proofs.Booting.{has_flash_size, made_new}
-use Rattle.fwu_c.proofs.Calls.{call_of_image}
-use Rattle.fwu_c.proofs.Telling.{tells_of_image, told_no_room, told_unmade}
+use Rattle.fwu_c.proofs.Booting.{made_new}
+use Rattle.fwu_c.proofs.Telling.{told_unmade}
 use Rattle.fwu_c.proofs.calling.call_on.Goals as goal
 
 pub call_over-requires-clause-new : goal.call_over-requires-clause-new
@@ -10,4 +9,4 @@ pub returns-in-Err-clause-tells : goal.returns-in-Err-clause-tells
 returns-in-Err-clause-tells c = told_unmade _ c.in-Err.why _ _ _ _ c.in-Err.ensures.unmade c.unmade_number.ensures
 
 pub returns-clause-calls : goal.returns-clause-calls
-returns-clause-calls c = λ tells. call_of_image _ _ _ _ _ _ _ _ _ c.in-Ok.ensures.image (c.call_over.ensures.calls tells)
+returns-clause-calls c = λ tells. rw c.in-Ok.ensures.image at (c.call_over.ensures.calls tells)

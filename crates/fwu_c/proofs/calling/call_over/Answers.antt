@@ -1,14 +1,14 @@
-use Rattle.std.proofs.Common.{[], ◌∙◌, arith, sym, subst}
+use Rattle.std.proofs.Common.{[], ◌∙◌, arith}
 use Rattle.std.specs.Prelude.{IsTrue}
 use Rattle.base_core.specs.Block.{block_bytes}
 use Rattle.flash_core.proofs.Touches.{touches_then}
 use Rattle.agent_calls.specs.Shown.{device}
 use Rattle.step_flash.specs.Flash.{image_of, told_of}
 use Rattle.fwu_c.specs.Calls.{call_of}
-use Rattle.fwu_c.specs.Handed.{IsDeviceEnd, call_reach, is_idle_number, starts_none}
-use Rattle.fwu_c.proofs.Booting.{counted_from_none, given, has_flash_size, reach_inside}
+use Rattle.fwu_c.specs.Handed.{call_reach, starts_none}
+use Rattle.fwu_c.proofs.Booting.{given, has_flash_size}
 use Rattle.fwu_c.proofs.Calls.{call_end_is, call_starts, called_by, refused_by, take_up_end_is, take_up_idle}
-use Rattle.fwu_c.proofs.Telling.{idle_starts, keeps_fault, lie_further, told_handed, told_no_room}
+use Rattle.fwu_c.proofs.Telling.{idle_starts, keeps_fault, lie_inside, told_handed, told_no_room}
 use Rattle.fwu_c.proofs.calling.call_over.Goals as goal
 
 pub called-flash-requires : goal.called-flash-requires
@@ -19,9 +19,9 @@ hand_over-requires c =
     let a = c.called-flash in
     let up = rw c.in-Some-Ok.field-0-is at c.in-Some-Ok.ensures in
     let starts = λ (none : IsTrue (starts_none c.call_number-number.result)).
-    call_starts a.result.1 (subst (λ n. IsTrue (starts_none n)) c.call_number-number.ensures none) in
+    call_starts a.result.1 (rw c.call_number-number.ensures at none) in
     record {
-      known = subst (λ n. IsDeviceEnd n) (sym c.call_number-number.ensures) (call_end_is a.result.1 a.ensures.ends);
+      known = rw c.call_number-number.ensures (call_end_is a.result.1 a.ensures.ends);
       idle = λ idle. absurd (starts (idle_starts c.call_number-number.result idle));
       kept = keeps_fault _ _ _ (up.takes.kept.fault (λ one. omega (arith, one))) starts;
     }
@@ -31,10 +31,10 @@ returns-in-Some-Ok-clause-calls c = λ tells.
     let h = c.hand_over in
     let a = c.called-flash in
     let up = rw c.in-Some-Ok.field-0-is at c.in-Some-Ok.ensures in
-    called_by (image_of c.args.flash) c.args.asked.bank (call_of c.args.asked.call) c.args.flash (device c.in-Some-Ok.agent.value) a.result.0
-    up.began a.result.1 h.result _ _ _ _ _
-    c.requires.new.fresh c.requires.new.size a.ensures.size up.takes (a.ensures.calls up.began up.begins)
-    (h.ensures.hands tells.1) c.requires.new.unwritten a.ensures.touches (given _ _ h.ensures.number tells.1 ∙ c.call_number-number.ensures)
+    called_by c.args.asked.bank (call_of c.args.asked.call) c.args.flash a.result.0 c.requires.new h.result _ _ _ _ _
+    (h.ensures.hands tells.1) (device c.in-Some-Ok.agent.value) up.began a.result.1 up.takes
+    (a.ensures.calls up.began up.begins) a.ensures.touches
+    (given _ _ h.ensures.number tells.1 ∙ c.call_number-number.ensures)
 
 pub returns-in-Some-Ok-clause-tells : goal.returns-in-Some-Ok-clause-tells
 returns-in-Some-Ok-clause-tells c =
@@ -42,10 +42,10 @@ returns-in-Some-Ok-clause-tells c =
     let a = c.called-flash in
     told_handed (image_of c.args.flash) c.hand_over.result c.call_number-number.result _ _ _ _ _ _
     (has_flash_size (image_of c.args.flash) c.args.flash c.requires.new.size)
-    (subst (λ n. IsDeviceEnd n) (sym c.call_number-number.ensures) (call_end_is a.result.1 a.ensures.ends)) h.number h.idle h.kept
-    (λ not. lie_further block_bytes call_reach _ _ (reach_inside call_reach _ c.args.flash (omega arith) c.requires.new.size)
-    ((h.hands not).lie.places 1 3 (counted_from_none block_bytes call_reach c.requires.new.unwritten
-    (touches_then block_bytes call_reach (rw c.in-Some-Ok.field-0-is at c.in-Some-Ok.ensures).takes.touches a.ensures.touches)))) h.behind h.full h.untouched
+    (rw c.call_number-number.ensures (call_end_is a.result.1 a.ensures.ends)) h.number h.idle h.kept
+    (λ not. lie_inside _ c.args.flash a.result.0 3 _ c.requires.new (omega arith)
+    (touches_then block_bytes call_reach (rw c.in-Some-Ok.field-0-is at c.in-Some-Ok.ensures).takes.touches a.ensures.touches)
+    (h.hands not).lie) h.behind h.full h.untouched
 
 pub hand_over-requires-in-Some-Err : goal.hand_over-requires-in-Some-Err
 hand_over-requires-in-Some-Err c =
@@ -54,27 +54,25 @@ hand_over-requires-in-Some-Err c =
       known = take_up_end_is _ _ _ _ _ _ refuses;
       idle = λ idle. take_up_idle c.args.asked.bank refuses.end (told_of c.args.flash) (told_of c.in-Some-Err.flash)
           (image_of c.args.flash, [], c.requires.new.fresh)
-          refuses.ends.by_bytes (subst (λ n. IsTrue (is_idle_number n)) refuses.number_is idle);
+          refuses.ends.by_bytes (rw refuses.number_is at idle);
       kept = refuses.kept;
     }
 
 pub returns-in-Some-Err-clause-calls : goal.returns-in-Some-Err-clause-calls
 returns-in-Some-Err-clause-calls c = λ tells.
     let h = c.hand_over-in-Some-Err in
-    refused_by (image_of c.args.flash) c.args.asked.bank (call_of c.args.asked.call) c.args.flash c.in-Some-Err.flash
-    h.result c.in-Some-Err.number _ _ _ _ _
-    c.requires.new.fresh c.requires.new.size (rw c.in-Some-Err.field-0-is at c.in-Some-Err.ensures)
-    (h.ensures.hands tells.1) c.requires.new.unwritten (given _ _ h.ensures.number tells.1)
+    refused_by c.args.asked.bank (call_of c.args.asked.call) c.args.flash c.in-Some-Err.flash c.requires.new h.result _ _ _ _ _
+    (h.ensures.hands tells.1) c.in-Some-Err.number (rw c.in-Some-Err.field-0-is at c.in-Some-Err.ensures)
+    (given _ _ h.ensures.number tells.1)
 
 pub returns-in-Some-Err-clause-tells : goal.returns-in-Some-Err-clause-tells
 returns-in-Some-Err-clause-tells c =
     let h = c.hand_over-in-Some-Err.ensures in
+    let refuses = rw c.in-Some-Err.field-0-is at c.in-Some-Err.ensures in
     told_handed (image_of c.args.flash) c.hand_over-in-Some-Err.result c.in-Some-Err.number _ _ _ _ _ _
-    (has_flash_size (image_of c.args.flash) c.args.flash c.requires.new.size)
-    (take_up_end_is _ _ _ _ _ _ (rw c.in-Some-Err.field-0-is at c.in-Some-Err.ensures)) h.number h.idle h.kept
-    (λ not. lie_further block_bytes call_reach _ _ (reach_inside call_reach _ c.args.flash (omega arith) c.requires.new.size)
-    ((h.hands not).lie.places 1 3 (counted_from_none block_bytes call_reach c.requires.new.unwritten
-    (rw c.in-Some-Err.field-0-is at c.in-Some-Err.ensures).touches))) h.behind h.full h.untouched
+    (has_flash_size (image_of c.args.flash) c.args.flash c.requires.new.size) (take_up_end_is _ _ _ _ _ _ refuses)
+    h.number h.idle h.kept (λ not. lie_inside _ c.args.flash c.in-Some-Err.flash 3 _ c.requires.new (omega arith) refuses.touches
+    (h.hands not).lie) h.behind h.full h.untouched
 
 pub returns-in-None-clause-tells : goal.returns-in-None-clause-tells
 returns-in-None-clause-tells c = told_no_room _ _ _ _ (has_flash_size (image_of c.args.flash) c.args.flash c.requires.new.size)

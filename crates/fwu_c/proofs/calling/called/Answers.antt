@@ -1,15 +1,12 @@
-use Rattle.std.proofs.Common.{◌∙◌, refl, sym, ap, subst, Result, IsFalse}
+use Rattle.std.proofs.Common.{refl, sym, subst, Result, IsFalse}
 use Rattle.std.specs.Prelude.{IsErrOf}
-use Rattle.flash_core.specs.Told.{Told}
 use Rattle.flash_core.specs.declared.flash.FlashStop.TheVariants as flash_stop
 use Rattle.agent_machine.specs.declared.stop.Stop.{Stop}
 use Rattle.agent_machine.specs.Meets.{flash_result}
 use Rattle.agent_calls.specs.Shown as agent
-use Rattle.step_flash.specs.Flash.{block_count, told_of}
 use Rattle.step_flash.proofs.Causes.{never_lost}
-use Rattle.fwu_c.specs.Agents.{BeginsAgent}
-use Rattle.fwu_c.specs.Calls.{CallsFrom, IsStepResult, call_of}
-use Rattle.fwu_c.proofs.Calls.{calls_from, here_after, is_called, touched_by}
+use Rattle.fwu_c.specs.Calls.{IsStepResult, call_of}
+use Rattle.fwu_c.proofs.Calls.{calls_from, here_after, is_called}
 use Rattle.fwu_c.proofs.calling.called.Goals as goal
 
 pub returns : goal.returns
@@ -25,20 +22,14 @@ returns c =
     (λ lost. never_lost (flash_result done.result) (agent.device first) (agent.device done.new.agent) goes.costs
     (subst (λ (r : Result (Unit {0}) Stop). IsErrOf (flash_result r) flash_stop.Lost) (sym lost) refl))
     (λ gone. let was = goes.gone.gone.0 gone in absurd (cc (was, here))) in
-    record {
+    rw (c.flash_from.ensures, ← c.deref_mut.ensures.value) (record {
       calls = λ b begins.
-          let begun : BeginsAgent b old (agent.gone first) = rw c.deref_mut.ensures.value begins in
           let meets = done.ensures.meets here in
-          let by = calls_from (call_of c.args.call) b done.result old new ends refl begun.from meets.exact meets.leaves begun.shows
+          calls_from (call_of c.args.call) b done.result old new ends refl begins.from meets.exact meets.leaves begins.shows
           (λ ok s x shows. (rw c.deref.ensures at c.showing.ensures.seen)
           (here_after done.result _ _ here goes.gone ok) refl s x shows)
-          done.ensures.refused (done.ensures.again b begun.from) in
-          subst (λ (t : Told). CallsFrom (call_of c.args.call) b done.result (told_of (agent.device c.args.agent.value)) t)
-          (sym (ap (λ d. told_of d) c.flash_from.ensures))
-          (subst (λ (t : Told). CallsFrom (call_of c.args.call) b done.result t (told_of (agent.device done.new.agent)))
-          (ap (λ a. told_of (agent.device a)) c.deref_mut.ensures.value) by);
+          done.ensures.refused (done.ensures.again b begins.from);
       ends = ends;
-      size = ap (λ d. block_count d) c.flash_from.ensures ∙ goes.size
-          ∙ ap (λ a. block_count (agent.device a)) c.deref_mut.ensures.value;
-      touches = touched_by c.args.agent.value first done.new.agent c.flash_from.result c.deref_mut.ensures.value c.flash_from.ensures done.ensures.touches;
-    }
+      size = goes.size;
+      touches = done.ensures.touches;
+    })

@@ -1,7 +1,6 @@
-use Rattle.std.proofs.Common.{◌∙◌, refl, arith, sym}
-use Rattle.early_boot.specs.TakenUp.{bad_layout, no_metadata, not_started, stopped}
-use Rattle.fwu_c.proofs.Calls.{stop_unlost}
-use Rattle.fwu_c.proofs.Telling.{keeps_but_fault, keeps_started, keeps_stays, starts_stay}
+use Rattle.std.proofs.Common.{refl, arith}
+use Rattle.early_boot.specs.TakenUp.{no_metadata, not_started}
+use Rattle.fwu_c.proofs.Telling.{keeps_started, keeps_stays}
 use Rattle.fwu_c.proofs.calling.taken_up.Goals as goal
 
 pub returns-in-NoMetadata : goal.returns-in-NoMetadata

@@ -1,34 +1,26 @@
-use Rattle.std.proofs.Common.{◌≡◌, ◌+◌, ◌*◌, ◌≤◌, refl, sym, ap, subst, ◌∙◌, List, ℕ, length, Option, Some, None, Result, arith}
+use Rattle.std.proofs.Common.{◌≡◌, ◌+◌, ◌≤◌, refl, sym, ap, subst, List, ℕ, length, Some, None, Result, arith}
 use Rattle.std.specs.Prelude.{All, IsErrOf, IsFalse}
-use Rattle.base_core.specs.Block.{block_bytes}
-use Rattle.agent_machine.specs.Beside.{IsSparedByAll}
-use Rattle.flash_core.specs.Told.{Told}
 use Rattle.flash_core.specs.declared.flash.FlashStop.TheVariants as flash_stop
 use Rattle.host_io.specs.Contents.{Directory}
 use Rattle.agent_calls.specs.Shown as agent
 use Rattle.update_client.specs.declared.stops.Sent.{Sent}
 use Rattle.update_client.specs.declared.stops.SendStop.{SendStop}
 use Rattle.update_client.specs.Halts.{flash_of}
-use Rattle.step_flash.specs.Flash.{block_count, told_of, writes_of}
+use Rattle.step_flash.specs.Flash.{told_of}
 use Rattle.step_flash.proofs.Causes.{never_lost}
-use Rattle.fwu_c.specs.Agents.{BeginsAgent}
-use Rattle.fwu_c.specs.Sendings.{IsSent, SendsPackage}
+use Rattle.fwu_c.specs.Sendings.{IsSent}
 use Rattle.fwu_c.proofs.SentPackage.{held_there, here_after, is_sent, never_rose, package_sent}
 use Rattle.fwu_formats.proofs.Tables.{table-of}
 use Rattle.fwu_formats.specs.Package.{Entry}
 use Rattle.package_files.specs.OneFile.{one_file}
-use Rattle.package_files.proofs.Alone.{finds_it}
 use Rattle.fwu_c.proofs.sending.send_package.Goals as goal
 
 -- the file of the name has the bytes that were handed in
 same_file : (held : Directory) (name file other : List ℕ) → held ≡ one_file name file → held name ≡ Some other → file ≡ other
-same_file held name file other is told =
-    let e : ◌≡◌ {A = Option (List ℕ)} (Some file) (Some other) = sym (finds_it name file) ∙ sym (ap (λ (d : Directory). d name) is) ∙ told in cc
+same_file held name file other is told = let there = held_there held name file is in cc
 
 is_there : (held : Directory) (name file : List ℕ) → held ≡ one_file name file → held name ≡ None → ⊥
-is_there held name file is none =
-    let e : ◌≡◌ {A = Option (List ℕ)} (Some file) None = sym (finds_it name file) ∙ sym (ap (λ (d : Directory). d name) is) ∙ none in
-    absurd (cc)
+is_there held name file is none = let there = held_there held name file is in absurd (cc)
 
 pub send-sent-requires-clause-payloads : goal.send-sent-requires-clause-payloads
 send-sent-requires-clause-payloads c =
@@ -55,25 +47,15 @@ returns c =
     (λ lost. never_lost (flash_of sent.result) (agent.device first) (agent.device sent.new.agent) goes.costs
     (subst (λ (r : Result Sent SendStop). IsErrOf (flash_of r) flash_stop.Lost) (sym lost) refl))
     (λ gone. let was = (sent.ensures.gone.gone.0 gone).0 in absurd (cc (was, here))) in
-    record {
+    rw (c.flash_from.ensures, ← c.deref_mut.ensures.value) (record {
       installs = λ b begins.
-          let begun : BeginsAgent b old (agent.gone first) = rw c.deref_mut.ensures.value begins in
-          let by = package_sent _ file _ request b c.args.toc.now sent.result old new
-          (held_there _ _ _ c.new-files.ensures) c.requires.table ends refl begun.from (sent.ensures.sends here) begun.shows
+          package_sent _ file _ request b c.args.toc.now sent.result old new
+          (held_there _ _ _ c.new-files.ensures) c.requires.table ends refl begins.from (sent.ensures.sends here) begins.shows
           (λ ok s x shows. (rw c.deref.ensures at c.showing.ensures.seen)
           (here_after _ sent.result _ _ here sent.ensures.gone ok) refl s x shows)
           (λ s x shows. sent.ensures.installs here s x shows) sent.ensures.faults
-          (λ early. ap (λ a. told_of (agent.device a)) (sent.ensures.untouched early)) in
-          subst (λ (t : Told). SendsPackage file request b sent.result (told_of (agent.device c.args.agent.value)) t)
-          (sym (ap (λ d. told_of d) c.flash_from.ensures))
-          (subst (λ (t : Told). SendsPackage file request b sent.result t (told_of (agent.device sent.new.agent)))
-          (ap (λ a. told_of (agent.device a)) c.deref_mut.ensures.value) by);
+          (λ early. ap (λ a. told_of (agent.device a)) (sent.ensures.untouched early));
       ends = ends;
-      size = ap (λ d. block_count d) c.flash_from.ensures ∙ goes.size
-          ∙ ap (λ a. block_count (agent.device a)) c.deref_mut.ensures.value;
-      touches = λ k spared.
-          ap (λ d. writes_of d k) c.flash_from.ensures
-          ∙ sent.ensures.touches k (subst (λ a. IsSparedByAll (agent.moment a).fields.layout (agent.moment a).fields.boot (block_bytes * k))
-          (sym c.deref_mut.ensures.value) spared)
-          ∙ ap (λ a. writes_of (agent.device a) k) c.deref_mut.ensures.value;
-    }
+      size = goes.size;
+      touches = sent.ensures.touches;
+    })

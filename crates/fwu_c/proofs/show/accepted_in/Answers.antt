@@ -1,8 +1,7 @@
-use Rattle.std.proofs.Common.{◌≡◌, ◌∙◌, ◌<◌, length, take, subst, sym, arith}
-use Rattle.std.proofs.lemmas.List.{length-set, take_all, take_more_set}
+use Rattle.std.proofs.Common.{◌≡◌, ◌∙◌, ◌<◌, length, take, arith}
+use Rattle.std.proofs.lemmas.List.{length-set, take_more_set}
 use Rattle.std.specs.Prelude.{false, slice_index_or}
 use Rattle.meta_layout.proofs.Places.{pushed}
-use Rattle.base_core.specs.Bytes.{listed}
 use Rattle.fwu_formats.specs.Metadata.{bit_number}
 use Rattle.fwu_c.proofs.show.accepted_in.Goals as goal
 

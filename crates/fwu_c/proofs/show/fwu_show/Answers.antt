@@ -1,10 +1,8 @@
-use Rattle.std.proofs.Common.{◌∙◌, ap, refl, subst, arith, List, ℕ}
-use Rattle.early_boot.specs.Numbers.{ShowsNumbers, numbers}
-use Rattle.early_boot.specs.Showing.{ShowsNothing}
-use Rattle.early_boot.specs.declared.showing.Unshown.{Unshown}
+use Rattle.std.proofs.Common.{◌∙◌, ap, refl, arith}
+use Rattle.early_boot.specs.Numbers.{numbers}
 use Rattle.fwu_c.specs.Codes.{fault_code}
 use Rattle.fwu_c.proofs.Booting.{has_flash_size}
-use Rattle.fwu_c.proofs.Showing.{no_six, tells_none, tells_nothing}
+use Rattle.fwu_c.proofs.Showing.{no_six, tells_nothing}
 use Rattle.fwu_c.proofs.Telling.{unmade_by}
 use Rattle.fwu_c.proofs.Updating.{start_now}
 use Rattle.fwu_c.proofs.show.fwu_show.Goals as goal
@@ -15,24 +13,20 @@ returns-in-Err-clause-tells c = tells_nothing _ _ _
 
 pub show_all-requires-clause-numbers : goal.show_all-requires-clause-numbers
 show_all-requires-clause-numbers c =
-    subst (λ (i : List ℕ). ShowsNumbers i (numbers c.in-Ok-read_numbers_in.read)) (ap (λ t. t.now) c.in-Ok.ensures.content ∙ start_now c.args.image.now) (c.in-Ok-read_numbers_in.ensures.numbers refl)
+    rw (start_now c.args.image.now _ _ c.in-Ok.ensures.content) at (c.in-Ok-read_numbers_in.ensures.numbers refl)
 
 pub returns-in-Err-Layout-clause-shows : goal.returns-in-Err-Layout-clause-shows
 returns-in-Err-Layout-clause-shows c = λ low.
-    let why = c.in-Err-Layout.field-0 in
-    let now = ap (λ t. t.now) c.in-Ok.ensures.content ∙ start_now c.args.image.now in
-    let nothing = subst (λ (i : List ℕ). ShowsNothing i why) now (c.in-Err-Layout.ensures.nothing refl) in (
+    let now = start_now c.args.image.now _ _ c.in-Ok.ensures.content in (
       c.in-Err-Layout.fault,
-      subst (λ (w : Unshown). ShowsNothing c.args.image.now w) c.in-Err-Layout.field-0-is nothing,
+      rw (c.in-Err-Layout.field-0-is, now) at (c.in-Err-Layout.ensures.nothing refl),
       c.fault_number-shown.ensures ∙ ap (λ f. fault_code f) c.in-Err-Layout.fault-is,
     )
 
 pub returns-in-Err-Metadata-clause-shows : goal.returns-in-Err-Metadata-clause-shows
 returns-in-Err-Metadata-clause-shows c = λ low.
-    let why = c.in-Err-Metadata.field-0 in
-    let now = ap (λ t. t.now) c.in-Ok.ensures.content ∙ start_now c.args.image.now in
-    let nothing = subst (λ (i : List ℕ). ShowsNothing i why) now (c.in-Err-Metadata.ensures.nothing refl) in
-    subst (λ (w : Unshown). ShowsNothing c.args.image.now w) c.in-Err-Metadata.field-0-is nothing
+    let now = start_now c.args.image.now _ _ c.in-Ok.ensures.content in
+    rw (c.in-Err-Metadata.field-0-is, now) at (c.in-Err-Metadata.ensures.nothing refl)
 
 pub returns-in-Err-Layout-clause-tells : goal.returns-in-Err-Layout-clause-tells
 returns-in-Err-Layout-clause-tells c = record {

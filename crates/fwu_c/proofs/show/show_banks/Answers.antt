@@ -16,15 +16,7 @@ loop-bank-preserved c =
       take_more_set told bank c.in-Some.found near
           ∙ pushed (bank_shown c.args.image.now c.args.layout.now (numbers c.args.read.now)) (take bank told) bank c.in-Some.found c.loop-bank.invariant.0 c.in-Some.ensures.found,
       length-set told bank c.in-Some.found ∙ all,
-      record {
-        form = numbers_stay.form;
-        active = numbers_stay.active;
-        previous = numbers_stay.previous;
-        trials = numbers_stay.trials;
-        counter = numbers_stay.counter;
-        banks = numbers_stay.banks;
-        images = numbers_stay.images;
-      },
+      assumption,
       c.find_bank.ensures.room ∙ c.loop-bank.invariant.3,
       drop-set-lt (bank + 1) told bank c.in-Some.found (omega arith)
           ∙ sym (drop-drop 1 bank told) ∙ ap (λ (ks : List BankShown). drop 1 ks) c.loop-bank.invariant.4 ∙ drop-drop 1 bank c.args.shown.now.bank,

@@ -1,6 +1,5 @@
-use Rattle.std.proofs.Common.{◌≡◌, ◌∙◌, ◌<◌, ◌≤◌, ◌+◌, List, ap, drop, length, take, subst, sym, arith}
+use Rattle.std.proofs.Common.{◌≡◌, ◌∙◌, ◌<◌, ◌≤◌, ◌+◌, List, ap, drop, length, take, sym, arith}
 use Rattle.std.proofs.lemmas.List.{drop-drop, drop-set-lt, length-set, take_more_set}
-use Rattle.base_core.specs.declared.rows.ImageRow.{ImageRow}
 use Rattle.meta_layout.proofs.Places.{pushed}
 use Rattle.fwu_c.specs.Slots.{slot_of}
 use Rattle.fwu_c.specs.declared.slots.Slot.{Slot}
@@ -11,8 +10,7 @@ loop-image-preserved c =
     let slots = c.loop-image.slots.slots in
     let image = c.loop-image.image in
     let all : length slots ≡ 16 = c.loop-image.invariant.1 in
-    let few : length c.rows-images.result.now ≤ 16 =
-    subst (λ (rows : List ImageRow). length rows ≤ 16) (sym c.rows-images.ensures.value) c.rows-images.ensures.high in
+    let few : length c.rows-images.result.now ≤ 16 = rw c.rows-images.ensures.value c.rows-images.ensures.high in
     let near : image < length slots = omega (arith, all, few, c.loop-image-test.true) in (
       take_more_set slots image c.slot_at.result near
           ∙ pushed (slot_of c.args.layout.now c.args.bank) (take image slots) image c.slot_at.result c.loop-image.invariant.0 c.slot_at.ensures,

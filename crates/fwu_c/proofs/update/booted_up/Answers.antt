@@ -1,18 +1,24 @@
-use Rattle.std.proofs.Common.{◌≡◌, ◌∙◌, ap, refl, subst, sym}
-use Rattle.fwu_formats.specs.Digests.{passes_any}
-use Rattle.fwu_formats.specs.Places.{counter_block}
+use Rattle.std.proofs.Common.{◌≡◌, ◌∙◌, refl, sym}
 use Rattle.early_boot.specs.Ends.{booted, device_of, ended}
-use Rattle.early_boot.specs.EndsBy.{BootEnds}
 use Rattle.early_boot.proofs.Touching.{boot-spares}
 use Rattle.early_boot.specs.Numbers.{numbers}
 use Rattle.early_boot.specs.Started.{started}
-use Rattle.step_flash.specs.declared.flash.StepFlash.{StepFlash}
-use Rattle.step_flash.specs.Flash.{block_count, told_of, writes_of}
 use Rattle.fwu_c.specs.Codes.{end_code}
-use Rattle.fwu_c.proofs.Booting.{boot_end_is, touched_back}
+use Rattle.fwu_c.proofs.Booting.{boot_end_is}
 use Rattle.fwu_c.proofs.Telling.{keeps_started}
-use Rattle.fwu_c.proofs.Unbooted.{not_started}
+use Rattle.flash_core.specs.declared.flash.Flash.{Ghosts}
+use Rattle.early_boot.specs.declared.booted.Booted.{Booted}
+use Rattle.early_boot.specs.declared.numbers.Numbers.{Numbers}
+use Rattle.early_boot.specs.declared.ends.BootEnd.{BootEnd}
+use Rattle.early_boot.specs.declared.ends.BootEnd.TheVariants as boot_end
+use Rattle.fwu_c.specs.Updates.{IsNotBooted}
 use Rattle.fwu_c.proofs.update.booted_up.Goals as goal
+
+-- an end of a boot that started no bank
+not_started : {D : Type 0} {F : Ghosts D} (x : BootEnd D F) → ((b : Booted D F) (n : Numbers) → x ≡ boot_end.Booted b n → ⊥)
+    → IsNotBooted (ended x)
+not_started (boot_end.Booted b n) not = not b n refl
+not_started s not = tt
 
 pub returns-in-Ok : goal.returns-in-Ok
 returns-in-Ok c = rw c.in-Ok.ensures.ok (record {
@@ -29,22 +35,21 @@ returns-in-Ok c = rw c.in-Ok.ensures.ok (record {
 pub returns : goal.returns
 returns c =
     let ended_as = c.report_end-number.ensures in
-    let numbered = ended_as.number in
     let same = c.in_default.end-is in
     let given_back = c.into_flash.ensures in
     let back : c.into_flash.result ≡ device_of c.boot_in.result = cc in
     let code : c.report_end-number.result ≡ end_code (ended c.boot_in.result) = cc in
     let boots = c.boot_in.ensures.boots in
     let end = boot_end_is (ended c.boot_in.result) c.args.flash (device_of c.boot_in.result) boots.costs in
-    record {
+    rw back (record {
       end = ended c.boot_in.result;
       is = not_started c.boot_in.result (λ b n is. c.in_default.not-Booted b n (cc));
       number_is = code;
-      boots = subst (λ (d : StepFlash). BootEnds (λ m. passes_any m) (told_of c.args.flash) (ended c.boot_in.result) (told_of d)) (sym back) (boots.ends refl);
+      boots = boots.ends refl;
       reports = ended_as.reports;
       kept = ended_as.kept;
       unlost = λ four. end.0 (sym code ∙ four);
-      size = ap (λ (d : StepFlash). block_count d) back ∙ boots.size;
-      touches = touched_back c.args.flash (device_of c.boot_in.result) c.into_flash.result back boots.touches;
-      marks_still = ap (λ (d : StepFlash). writes_of d counter_block) back ∙ boot-spares (ended c.boot_in.result) _ _ boots.touches_fewer;
-    }
+      size = boots.size;
+      touches = boots.touches;
+      marks_still = boot-spares (ended c.boot_in.result) _ _ boots.touches_fewer;
+    })

@@ -1,5 +1,3 @@
-use Rattle.std.proofs.Common.{subst, sym, refl, List, ℕ}
-use Rattle.fwu_c.specs.Updates.{IsOnTrial}
 use Rattle.fwu_c.proofs.Booting.{has_flash_size, made_new}
 use Rattle.fwu_c.proofs.Telling.{told_no_room, told_unmade}
 use Rattle.fwu_c.proofs.Updating.{denied_by, told_denied}
@@ -16,14 +14,14 @@ returns-in_default-clause-tells c = told_no_room _ _ _ _ (has_flash_size _ c.in-
 
 pub returns-in-Some-true-clause-updates : goal.returns-in-Some-true-clause-updates
 returns-in-Some-true-clause-updates c = λ told.
-    denied_by _ _ _ _ _ _ _ (subst (λ (i : List ℕ). IsOnTrial i) c.in-Ok.ensures.image (c.in-Some-true.ensures.trial c.in-Some-true.field-0-test)) refl refl
+    denied_by _ _ _ _ _ _ (rw c.in-Ok.ensures.image at (c.in-Some-true.ensures.trial c.in-Some-true.field-0-test))
 
 pub returns-in-Some-true-clause-tells : goal.returns-in-Some-true-clause-tells
-returns-in-Some-true-clause-tells c = told_denied _ _ _ _ _ _ _ (has_flash_size _ c.in-Ok.first c.in-Ok.ensures.size) refl refl refl refl
+returns-in-Some-true-clause-tells c = told_denied _ _ _ _ (has_flash_size _ c.in-Ok.first c.in-Ok.ensures.size)
 
 pub returns-clause-tells : goal.returns-clause-tells
 returns-clause-tells c = told_no_room _ _ _ _ (has_flash_size _ c.in-Ok.first c.in-Ok.ensures.size)
 
 pub returns-in-Some-false-clause-trial : goal.returns-in-Some-false-clause-trial
 returns-in-Some-false-clause-trial c = λ trial told.
-    absurd (c.in-Some-false.ensures.other c.in-Some-false.field-0-test (subst (λ (i : List ℕ). IsOnTrial i) (sym c.in-Ok.ensures.image) trial))
+    absurd (c.in-Some-false.ensures.other c.in-Some-false.field-0-test (rw c.in-Ok.ensures.image trial))

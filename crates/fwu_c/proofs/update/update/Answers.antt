@@ -1,6 +1,4 @@
-use Rattle.fwu_c.proofs.Booting.{made_new}
-use Rattle.fwu_c.proofs.Telling.{tells_of_image, told_unmade}
-use Rattle.fwu_c.proofs.Updating.{update_of_image}
+use Rattle.fwu_c.proofs.Telling.{told_unmade}
 use Rattle.fwu_c.proofs.update.update.Goals as goal
 
 pub returns-in-Err-clause-tells : goal.returns-in-Err-clause-tells
