@@ -54,51 +54,28 @@ false-of true is = absurd (false≢true is)
 module _ (asked : Option Asked) (g : Given) (faults_before faults_after : Faults) where
   pub why-planned : (planned : ℕ) (noted : Note) (line : List ℕ) → Refuses asked g faults_before faults_after planned noted line → IsTrue (may_end_before planned) × (planned ≢ 0) × (planned ≢ 3)
   why-planned planned noted line (usage good is) = (refl, (λ e. omega arith), (λ e. omega arith))
-  why-planned planned noted line (not_read good run rose) = (refl, (λ e. omega arith), (λ e. omega arith))
-  why-planned planned noted line (list_not_read some why) = (refl, (λ e. omega arith), (λ e. omega arith))
-  why-planned planned noted line (too_long good run long) = (refl, (λ e. omega arith), (λ e. omega arith))
-  why-planned planned noted line (bad_script n good asks short bad) = (refl, (λ e. omega arith), (λ e. omega arith))
-  why-planned planned noted line (bad_list n some there bad) = (refl, (λ e. omega arith), (λ e. omega arith))
+  why-planned planned noted line other = (refl, (λ e. omega arith), (λ e. omega arith))
 
   why-usage : (planned : ℕ) (noted : Note) (line : List ℕ) → Refuses asked g faults_before faults_after planned noted line → planned ≡ 1 → in_short asked ≡ model.NoScript
   why-usage planned noted line (usage good is) e = ap in_short is
-  why-usage planned noted line (not_read good run rose) e = absurd (omega arith)
-  why-usage planned noted line (list_not_read some why) e = absurd (omega arith)
-  why-usage planned noted line (too_long good run long) e = absurd (omega arith)
-  why-usage planned noted line (bad_script n good asks short bad) e = absurd (omega arith)
-  why-usage planned noted line (bad_list n some there bad) e = absurd (omega arith)
+  why-usage planned noted line other e = absurd (omega arith)
 
   why-not_read : (planned : ℕ) (noted : Note) (line : List ℕ) → Refuses asked g faults_before faults_after planned noted line → planned ≡ 2 → NotRead (in_short asked) g.list g.files faults_before faults_after
-  why-not_read planned noted line (usage good is) e = absurd (omega arith)
   why-not_read planned noted line (not_read good run rose) e = inl (ap in_short run, rose)
   why-not_read planned noted line (list_not_read some why) e = inr (some, why)
-  why-not_read planned noted line (too_long good run long) e = absurd (omega arith)
-  why-not_read planned noted line (bad_script n good asks short bad) e = absurd (omega arith)
-  why-not_read planned noted line (bad_list n some there bad) e = absurd (omega arith)
+  why-not_read planned noted line other e = absurd (omega arith)
 
   why-script : (planned : ℕ) (noted : Note) (line : List ℕ) → Refuses asked g faults_before faults_after planned noted line → planned ≡ 4 → (n : ℕ) × (noted ≡ note.BadLine n) × IsBadScript g.script n
-  why-script planned noted line (usage good is) e = absurd (omega arith)
-  why-script planned noted line (not_read good run rose) e = absurd (omega arith)
-  why-script planned noted line (list_not_read some why) e = absurd (omega arith)
-  why-script planned noted line (too_long good run long) e = absurd (omega arith)
   why-script planned noted line (bad_script n good asks short bad) e = (n, refl, bad)
-  why-script planned noted line (bad_list n some there bad) e = absurd (omega arith)
+  why-script planned noted line other e = absurd (omega arith)
 
   why-long : (planned : ℕ) (noted : Note) (line : List ℕ) → Refuses asked g faults_before faults_after planned noted line → planned ≡ 8 → (in_short asked ≡ model.Source) × IfSome g.script (λ bytes. IsTrue (is_too_long bytes))
-  why-long planned noted line (usage good is) e = absurd (omega arith)
-  why-long planned noted line (not_read good run rose) e = absurd (omega arith)
-  why-long planned noted line (list_not_read some why) e = absurd (omega arith)
   why-long planned noted line (too_long good run long) e = (ap in_short run, long)
-  why-long planned noted line (bad_script n good asks short bad) e = absurd (omega arith)
-  why-long planned noted line (bad_list n some there bad) e = absurd (omega arith)
+  why-long planned noted line other e = absurd (omega arith)
 
   why-list : (planned : ℕ) (noted : Note) (line : List ℕ) → Refuses asked g faults_before faults_after planned noted line → planned ≡ 13 → IsSome g.list × (n : ℕ) × (noted ≡ note.BadList n) × IsBadList (list_bytes g.list g.files) n
-  why-list planned noted line (usage good is) e = absurd (omega arith)
-  why-list planned noted line (not_read good run rose) e = absurd (omega arith)
-  why-list planned noted line (list_not_read some why) e = absurd (omega arith)
-  why-list planned noted line (too_long good run long) e = absurd (omega arith)
-  why-list planned noted line (bad_script n good asks short bad) e = absurd (omega arith)
   why-list planned noted line (bad_list n some there bad) e = (some, n, refl, bad)
+  why-list planned noted line other e = absurd (omega arith)
 
   -- ---- what can't run is refused for a cause that comes no later
 
@@ -132,49 +109,38 @@ module _ (asked : Option Asked) (g : Given) (faults_before faults_after : Faults
 
   pub lacks-list : (planned : ℕ) (noted : Note) (line : List ℕ) → Refuses asked g faults_before faults_after planned noted line → LacksList g.files g.list → IsTrue (may_fail_before planned)
   lacks-list planned noted line (usage good is) lacks = absurd (good.there lacks)
-  lacks-list planned noted line (not_read good run rose) lacks = refl
-  lacks-list planned noted line (list_not_read some why) lacks = refl
   lacks-list planned noted line (too_long good run long) lacks = absurd (good.there lacks)
   lacks-list planned noted line (bad_script n good asks short bad) lacks = absurd (good.there lacks)
   lacks-list planned noted line (bad_list n some there bad) lacks = absurd (there lacks)
+  lacks-list planned noted line other lacks = refl
 
   alone : (planned : ℕ) (noted : Note) (line : List ℕ) (status : ℕ) (taken_before taken_after : Option (List ℕ)) (low high : ℕ) → Refuses asked g faults_before faults_after planned noted line → Prints line planned status taken_before taken_after low high
       → NotedAlone g.script g.list g.files status noted
-  alone planned noted line status taken_before taken_after low high (usage good is) p = noted_alone.Nothing (false-of _ (by-plan line planned status taken_before taken_after low high p (λ k. not (has_note k)) refl refl refl))
-  alone planned noted line status taken_before taken_after low high (not_read good run rose) p = noted_alone.Nothing (false-of _ (by-plan line planned status taken_before taken_after low high p (λ k. not (has_note k)) refl refl refl))
-  alone planned noted line status taken_before taken_after low high (list_not_read some why) p = noted_alone.Nothing (false-of _ (by-plan line planned status taken_before taken_after low high p (λ k. not (has_note k)) refl refl refl))
-  alone planned noted line status taken_before taken_after low high (too_long good run long) p = noted_alone.Nothing (false-of _ (by-plan line planned status taken_before taken_after low high p (λ k. not (has_note k)) refl refl refl))
   alone planned noted line status taken_before taken_after low high (bad_script n good asks short bad) p =
       noted_alone.BadScript n (by-plan line planned status taken_before taken_after low high p (λ k. (k == 4) || ((k == 3) || (k == 9))) refl refl refl) bad
   alone planned noted line status taken_before taken_after low high (bad_list n some there bad) p =
       noted_alone.BadList n (by-plan line planned status taken_before taken_after low high p (λ k. (k == 13) || ((k == 3) || (k == 9))) refl refl refl) some bad
+  alone planned noted line status taken_before taken_after low high other p =
+      noted_alone.Nothing
+      (false-of _ (by-plan line planned status taken_before taken_after low high p (λ k. not (has_note k)) refl refl refl))
 
   bad-words : (planned : ℕ) (noted : Note) (line : List ℕ) → Refuses asked g faults_before faults_after planned noted line → in_short asked ≡ model.NoScript → IsTrue ((planned == 1) || (may_fail_before planned || (planned == 13)))
-  bad-words planned noted line (usage good is) e = refl
   bad-words planned noted line (not_read good run rose) e = absurd (asks-turns asked (inl run) e)
-  bad-words planned noted line (list_not_read some why) e = refl
   bad-words planned noted line (too_long good run long) e = absurd (asks-turns asked (inl run) e)
   bad-words planned noted line (bad_script n good asks short bad) e = absurd (asks-turns asked asks e)
-  bad-words planned noted line (bad_list n some there bad) e = refl
+  bad-words planned noted line other e = refl
 
   longer : (planned : ℕ) (noted : Note) (line : List ℕ) → Refuses asked g faults_before faults_after planned noted line → in_short asked ≢ model.NoScript → (bytes : List ℕ) → g.script ≡ Some bytes → IsTrue (is_too_long bytes)
       → IsTrue ((planned == 8) || (may_fail_before planned || (planned == 13)))
   longer planned noted line (usage good is) runs bytes told e = absurd (runs (ap in_short is))
-  longer planned noted line (not_read good run rose) runs bytes told e = refl
-  longer planned noted line (list_not_read some why) runs bytes told e = refl
-  longer planned noted line (too_long good run long) runs bytes told e = refl
   longer planned noted line (bad_script n good asks short bad) runs bytes told e =
       absurd (false≢true (sym (some-at g.script (λ b. is_too_long b ≡ false) bytes short told) ∙ e))
-  longer planned noted line (bad_list n some there bad) runs bytes told e = refl
+  longer planned noted line other runs bytes told e = refl
 
   no-script : (planned : ℕ) (noted : Note) (line : List ℕ) → Refuses asked g faults_before faults_after planned noted line → in_short asked ≢ model.NoScript
       → IsTrue ((planned == 4) || ((planned == 8) || (may_fail_before planned || (planned == 13))))
   no-script planned noted line (usage good is) runs = absurd (runs (ap in_short is))
-  no-script planned noted line (not_read good run rose) runs = refl
-  no-script planned noted line (list_not_read some why) runs = refl
-  no-script planned noted line (too_long good run long) runs = refl
-  no-script planned noted line (bad_script n good asks short bad) runs = refl
-  no-script planned noted line (bad_list n some there bad) runs = refl
+  no-script planned noted line other runs = refl
 
   -- ---- nothing ran
 
