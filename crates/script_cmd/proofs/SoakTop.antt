@@ -16,16 +16,6 @@ use Rattle.script_runs.specs.declared.done.Note.{Note}
 use Rattle.script_runs.proofs.Shapes.{device-of, end-of, world-of}
 use Rattle.script_runs.proofs.TopWays.{refuses}
 
--- what is asked is one command
-pub soak-as : (tells : Bool) (g : Given) (blocks : ℕ) (journal : List Turn) (status : ℕ) (said : Note) (old new : TurnMoment) (taken_before taken_after : Option (List ℕ)) (faults_before faults_after : Faults)
-    (asked : Option Asked) (a seed b rounds : ℕ) → asked ≡ Some (ask.soak a b) → asked ≡ Some (ask.soak seed rounds)
-    → SoakWay (device-of tells blocks) g a b (end-of journal status said) (world-of old taken_before faults_before) (world-of new taken_after faults_after) → SoakWay (device-of tells blocks) g seed rounds (end-of journal status said) (world-of old taken_before faults_before) (world-of new taken_after faults_after)
-soak-as tells g blocks journal status said old new taken_before taken_after faults_before faults_after asked a seed b rounds by is way =
-    let same-seed : a ≡ seed = cc in
-    let same-rounds : b ≡ rounds = cc in
-    subst (λ (n : ℕ). SoakWay (device-of tells blocks) g seed n (end-of journal status said) (world-of old taken_before faults_before) (world-of new taken_after faults_after)) same-rounds
-    (subst (λ (x : ℕ). SoakWay (device-of tells blocks) g x b (end-of journal status said) (world-of old taken_before faults_before) (world-of new taken_after faults_after)) same-seed way)
-
 module _ (tells : Bool) (g : Given) (seed n blocks : ℕ) (journal : List Turn) (status : ℕ) (said : Note) (old new : TurnMoment) (taken_before taken_after : Option (List ℕ)) (faults_before faults_after : Faults) where
   -- a list was refused, and nothing else was done
   pub refused-soaks : (planned : ℕ) (line : List ℕ) (told : model.Note) → journal ≡ [] → new ≡ old → IsFalse (is_beyond_model said) → noted said ≡ told

@@ -96,8 +96,8 @@ module _ (passes : List ℕ → Bool) (tells : Bool) (g : Given) (file : List �
   blanks (list_refused same quiet (planned, line, why, prints)) zero told =
       absurd (not-done line planned status taken_before taken_after faults_before.sink faults_after.sink (some-planned planned (list-planned (ask.format L.banks L.rows file) g faults_before faults_after planned (noted said) line (λ is. cc) (λ is. cc) why)) prints zero)
 
-  by-formats : old.armed ≡ None → journal ≡ [] → Formats passes (device-of tells blocks) g file L (world-of old taken_before faults_before) (world-of new taken_after faults_after) status said → FormattedBy passes (device-of tells blocks) g file L (end-of journal status said) (world-of old taken_before faults_before) (world-of new taken_after faults_after)
-  by-formats unarmed none formats = record {
+  pub formatted-by : old.armed ≡ None → journal ≡ [] → Formats passes (device-of tells blocks) g file L (world-of old taken_before faults_before) (world-of new taken_after faults_after) status said → FormattedBy passes (device-of tells blocks) g file L (end-of journal status said) (world-of old taken_before faults_before) (world-of new taken_after faults_after)
+  formatted-by unarmed none formats = record {
     formats = formats;
     refuses_list = lists formats;
     lacking = lacks-package formats;
@@ -114,31 +114,16 @@ module _ (passes : List ℕ → Bool) (tells : Bool) (g : Given) (file : List �
       → Refuses (Some (ask.format L.banks L.rows file)) g faults_before faults_after planned n line → Prints line planned status taken_before taken_after faults_before.sink faults_after.sink
       → FormattedBy passes (device-of tells blocks) g file L (end-of journal status said) (world-of old taken_before faults_before) (world-of new taken_after faults_after)
   refused-formats planned line n same unarmed none quiet is why prints =
-      by-formats unarmed none
+      formatted-by unarmed none
       (list_refused same quiet
       (planned, line, subst (λ (x : model.Note). Refuses (Some (ask.format L.banks L.rows file)) g faults_before faults_after planned x line) (sym is) why, prints))
 
   -- nothing was done for want of memory
   pub starved-formats : new ≡ old → old.armed ≡ None → journal ≡ [] → said ≡ note.Nothing → status ≡ 9 → (taken_after ≡ taken_before) × (faults_after.sink ≡ faults_before.sink) → FormattedBy passes (device-of tells blocks) g file L (end-of journal status said) (world-of old taken_before faults_before) (world-of new taken_after faults_after)
-  starved-formats same unarmed none is nine stuck = by-formats unarmed none (starved nine is same stuck)
+  starved-formats same unarmed none is nine stuck = formatted-by unarmed none (starved nine is same stuck)
 
 pub none-some : {A : Type 0} (x : A) (o : Option A) → o ≡ None → o ≡ Some x → ⊥
 none-some x o none some = cc
-
--- what is asked is one command
-pub formatted-as : (passes : List ℕ → Bool) (tells : Bool) (g : Given) (blocks : ℕ) (old new : TurnMoment) (status : ℕ) (said : Note) (journal : List Turn) (taken_before taken_after : Option (List ℕ)) (faults_before faults_after : Faults)
-    (asked : Option Asked) (b banks : ℕ) (items rows : List ImageRow) (f file : List ℕ) → asked ≡ Some (ask.format b items f) → asked ≡ Some (ask.format banks rows file) → old.armed ≡ None → journal ≡ []
-    → Formats passes (device-of tells blocks) g f (record { banks = b; rows = items }) (world-of old taken_before faults_before) (world-of new taken_after faults_after) status said
-    → FormattedBy passes (device-of tells blocks) g file (record { banks = banks; rows = rows }) (end-of journal status said) (world-of old taken_before faults_before) (world-of new taken_after faults_after)
-formatted-as passes tells g blocks old new status said journal taken_before taken_after faults_before faults_after asked b banks items rows f file by is unarmed none formats =
-    let same-banks : b ≡ banks = cc in
-    let same-rows : items ≡ rows = cc in
-    let same-file : f ≡ file = cc in
-    let here : Formats passes (device-of tells blocks) g file (record { banks = banks; rows = rows }) (world-of old taken_before faults_before) (world-of new taken_after faults_after) status said =
-    subst (λ (n : ℕ). Formats passes (device-of tells blocks) g file (record { banks = n; rows = rows }) (world-of old taken_before faults_before) (world-of new taken_after faults_after) status said) same-banks
-    (subst (λ (l : List ImageRow). Formats passes (device-of tells blocks) g file (record { banks = b; rows = l }) (world-of old taken_before faults_before) (world-of new taken_after faults_after) status said) same-rows
-    (subst (λ (l : List ℕ). Formats passes (device-of tells blocks) g l (record { banks = b; rows = items }) (world-of old taken_before faults_before) (world-of new taken_after faults_after) status said) same-file formats)) in
-    by-formats passes tells g file (record { banks = banks; rows = rows }) blocks old new status said journal taken_before taken_after faults_before faults_after unarmed none here
 
 module _ (passes : List ℕ → Bool) (tells : Bool) (told files : Option Directory) (name : List ℕ) (script : Option (List ℕ)) (file : List ℕ) (L : Layout) (blocks : ℕ) (old new : TurnMoment) (status : ℕ) (said : Note) (journal : List Turn) (taken_before taken_after : Option (List ℕ)) (first faults_before faults_after : Faults) where
   -- what is formatted without a list is formatted behind one that was read and is one
@@ -146,7 +131,7 @@ module _ (passes : List ℕ → Bool) (tells : Bool) (told files : Option Direct
       → FormattedBy passes (device-of tells blocks) (record { list = None; files = told; script = script }) file L (end-of journal status said) (world-of old taken_before faults_before) (world-of new taken_after faults_after)
       → FormattedBy passes (device-of tells blocks) (record { list = Some name; files = files; script = script }) file L (end-of journal status said) (world-of old taken_before first) (world-of new taken_after faults_after)
   formats-with-list same good counted source sink unarmed by =
-      by-formats passes tells (record { list = Some name; files = files; script = script }) file L blocks old new status said journal taken_before taken_after first faults_after unarmed by.no_turns (go by.formats)
+      formatted-by passes tells (record { list = Some name; files = files; script = script }) file L blocks old new status said journal taken_before taken_after first faults_after unarmed by.no_turns (go by.formats)
     where
       later : first.files ≤ faults_before.files
       later = omega (arith, counted)
