@@ -26,26 +26,12 @@ use Rattle.script_runs.specs.Ways.{Given, HasGoodList, Refuses, bad_list, bad_sc
 use Rattle.script_runs.specs.declared.done.Note.{Note}
 use Rattle.script_runs.specs.declared.done.Note.TheVariants as note
 use Rattle.script_runs.proofs.Shapes.{device-of, end-of, world-of}
-use Rattle.script_cmd.proofs.TopCompletes.{format-completes}
+use Rattle.script_cmd.proofs.TopCompletes.{format-completes, list-other, list-status}
 use Rattle.script_runs.proofs.TopPrints.{by-plan, not-done}
 use Rattle.script_cmd.proofs.TopShows.{good-list-kept, refused-list, starved-list}
 use Rattle.script_runs.proofs.TopWays.{refuses}
 
 -- ---- by what it did
-
--- a command that runs no script is refused for its list alone
-list-planned : (asked : Asked) (g : Given) (faults_before faults_after : Faults) (planned : ℕ) (told : model.Note) (line : List ℕ) → (Some asked ≡ Some ask.run → ⊥) → (Some asked ≡ Some ask.boot → ⊥)
-    → Refuses (Some asked) g faults_before faults_after planned told line → IsTrue (may_fail_before planned || (planned == 13))
-list-planned asked g faults_before faults_after planned told line runs boots (usage good is) = cc
-list-planned asked g faults_before faults_after planned told line runs boots (not_read good is rose) = absurd (runs is)
-list-planned asked g faults_before faults_after planned told line runs boots (list_not_read some why) = refl
-list-planned asked g faults_before faults_after planned told line runs boots (too_long good is long) = absurd (runs is)
-list-planned asked g faults_before faults_after planned told line runs boots (bad_script n good (inl is) short bad) = absurd (runs is)
-list-planned asked g faults_before faults_after planned told line runs boots (bad_script n good (inr is) short bad) = absurd (boots is)
-list-planned asked g faults_before faults_after planned told line runs boots (bad_list n some there bad) = refl
-
-some-planned : (planned : ℕ) → IsTrue (may_fail_before planned || (planned == 13)) → planned ≡ 0 → ⊥
-some-planned planned is zero = false≢true (subst (λ (k : ℕ). IsTrue (may_fail_before k || (k == 13))) zero is)
 
 module _ (passes : List ℕ → Bool) (tells : Bool) (g : Given) (file : List ℕ) (L : Layout) (blocks : ℕ) (old new : TurnMoment) (status : ℕ) (said : Note) (journal : List Turn) (taken_before taken_after : Option (List ℕ)) (faults_before faults_after : Faults) where
   lists : Formats passes (device-of tells blocks) g file L (world-of old taken_before faults_before) (world-of new taken_after faults_after) status said → RefusesBadList g old new status faults_before faults_after
@@ -78,9 +64,9 @@ module _ (passes : List ℕ → Bool) (tells : Bool) (g : Given) (file : List �
   lacks-package (tried good r t prints is) lacks M fits =
       by-plan (format_text r) (format_status r) status taken_before taken_after faults_before.sink faults_after.sink prints (λ k. may_fail_before k || (k == 13)) refl refl
       (subst (λ (k : ℕ). IsTrue (may_fail_before k || (k == 13))) (sym (unread r M fits t.layout (t.missing lacks).0)) refl)
-  lacks-package (list_refused same quiet (planned, line, why, prints)) lacks M fits =
-      by-plan line planned status taken_before taken_after faults_before.sink faults_after.sink prints (λ k. may_fail_before k || (k == 13)) refl refl
-      (list-planned (ask.format L.banks L.rows file) g faults_before faults_after planned (noted said) line (λ is. cc) (λ is. cc) why)
+  lacks-package (list_refused same quiet refused) lacks M fits =
+      list-status (ask.format L.banks L.rows file) (λ is. cc) (λ is. cc) g status (noted said) (world-of old taken_before faults_before)
+      (world-of new taken_after faults_after) refused (λ k. may_fail_before k || (k == 13)) refl refl refl refl
 
   -- status 0 is of a flash that was formatted
   blanks-at : (r : Result Formatted FormatStop) → Tries passes tells g.files file L blocks old new faults_before.files faults_after.files r → Prints (format_text r) (format_status r) status taken_before taken_after faults_before.sink faults_after.sink
@@ -93,8 +79,10 @@ module _ (passes : List ℕ → Bool) (tells : Bool) (g : Given) (file : List �
   blanks : Formats passes (device-of tells blocks) g file L (world-of old taken_before faults_before) (world-of new taken_after faults_after) status said → status ≡ 0 → IsTrue tells → IsBlank L new.told.now
   blanks (starved nine is same none) zero told = absurd (omega arith)
   blanks (tried good r t prints is) zero told = blanks-at r t prints zero told
-  blanks (list_refused same quiet (planned, line, why, prints)) zero told =
-      absurd (not-done line planned status taken_before taken_after faults_before.sink faults_after.sink (some-planned planned (list-planned (ask.format L.banks L.rows file) g faults_before faults_after planned (noted said) line (λ is. cc) (λ is. cc) why)) prints zero)
+  blanks (list_refused same quiet refused) zero told =
+      absurd
+      (list-other (ask.format L.banks L.rows file) (λ is. cc) (λ is. cc) g status (noted said) (world-of old taken_before faults_before)
+      (world-of new taken_after faults_after) refused 0 refl zero)
 
   pub formatted-by : old.armed ≡ None → journal ≡ [] → Formats passes (device-of tells blocks) g file L (world-of old taken_before faults_before) (world-of new taken_after faults_after) status said → FormattedBy passes (device-of tells blocks) g file L (end-of journal status said) (world-of old taken_before faults_before) (world-of new taken_after faults_after)
   formatted-by unarmed none formats = record {

@@ -25,7 +25,7 @@ use Rattle.script_cmd.proofs.PromiseTurns.{some-from, some-at}
 use Rattle.script_runs.proofs.TopWays.{refuses}
 use Rattle.script_cmd.proofs.TopCompletes.{show-completes}
 
-falls-none : (counts : Counts) → NoneFalls counts counts
+pub falls-none : (counts : Counts) → NoneFalls counts counts
 falls-none counts = record { faults = le_refl counts.faults; cuts = le_refl counts.cuts; reached = le_refl counts.reached; chances = le_refl counts.chances }
 
 -- ---- a bad list
