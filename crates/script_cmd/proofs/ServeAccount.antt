@@ -59,20 +59,11 @@ no-turn-reads other e is = absurd cc
 -- no turn ends a serving by this
 not-sink : (r : Reply) → end_by r ≡ Err end.SinkFailed → ⊥
 not-sink reply.Fault is = cc
-not-sink (reply.NotBooted why) is = cc
-not-sink reply.Lost is = cc
 not-sink other is = cc
 
 early-some : (e : ServeEnd) → IsEarlyEnd e → status_of e ≡ 0 → ⊥
 early-some end.End early is = early
-early-some end.ReadFailed early is = omega arith
-early-some end.SinkFailed early is = omega arith
-early-some end.FlashFault early is = omega arith
-early-some (end.NotBooted why) early is = omega arith
-early-some end.TooLong early is = omega arith
-early-some end.NoMemory early is = omega arith
-early-some end.BadFrame early is = omega arith
-early-some end.PowerLost early is = omega arith
+early-some other early is = omega arith
 
 pub end-at-three : (e : ServeEnd) → status_of e ≡ 3 → e ≡ end.SinkFailed
 end-at-three end.SinkFailed is = refl

@@ -29,7 +29,7 @@ use Rattle.script_runs.proofs.Shapes.{device-of, end-of, world-of}
 use Rattle.script_cmd.proofs.TopCompletes.{format-completes, list-other, list-status}
 use Rattle.script_runs.proofs.TopPrints.{by-plan, not-done}
 use Rattle.script_cmd.proofs.TopShows.{good-list-kept, refused-list, starved-list}
-use Rattle.script_runs.proofs.TopWays.{refuses}
+use Rattle.script_cmd.proofs.TopLists.{from-sink, refused-behind}
 
 -- ---- by what it did
 
@@ -124,9 +124,6 @@ module _ (passes : List ℕ → Bool) (tells : Bool) (told files : Option Direct
       later : first.files ≤ faults_before.files
       later = omega (arith, counted)
 
-      at-sink : (line : List ℕ) (planned : ℕ) → Prints line planned status taken_before taken_after faults_before.sink faults_after.sink → Prints line planned status taken_before taken_after first.sink faults_after.sink
-      at-sink line planned p = subst (λ (n : ℕ). Prints line planned status taken_before taken_after n faults_after.sink) (sym sink) p
-
       go : Formats passes (device-of tells blocks) (record { list = None; files = told; script = script }) file L (world-of old taken_before faults_before) (world-of new taken_after faults_after) status said
           → Formats passes (device-of tells blocks) (record { list = Some name; files = files; script = script }) file L (world-of old taken_before first) (world-of new taken_after faults_after) status said
       go (starved nine is kept none) = starved nine is kept (none.0, none.1 ∙ sym sink)
@@ -134,11 +131,8 @@ module _ (passes : List ℕ → Bool) (tells : Bool) (told files : Option Direct
           tried good r
           (subst (λ (n : ℕ). Tries passes tells files file L blocks old new n faults_after.files r) counted
           (subst (λ (d : Option Directory). Tries passes tells d file L blocks old new faults_before.files faults_after.files r) same t))
-          (at-sink (format_text r) (format_status r) prints) is
+          (from-sink sink prints) is
       go (list_refused kept quiet refused) =
-          list_refused kept quiet (
-            refused.0,
-            refused.1,
-            refuses (Some (ask.format L.banks L.rows file)) told files name script first faults_before faults_after refused.0 (noted said) refused.1 good later source refused.2,
-            at-sink refused.1 refused.0 refused.3,
-          )
+          list_refused kept quiet
+          (refused-behind told files name script old new status (noted said) taken_before taken_after first faults_before faults_after (ask.format L.banks L.rows file) good later
+          source sink refused)
