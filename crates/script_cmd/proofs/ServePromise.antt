@@ -38,39 +38,15 @@ use Rattle.script_cmd.proofs.PromiseRan.{idle-holds, ran-holds}
 use Rattle.script_runs.proofs.TopPrints.{by-plan}
 use Rattle.script_cmd.proofs.PromiseTurns.{some-from}
 use Rattle.script_cmd.proofs.PromiseWritten.{appended}
-use Rattle.script_cmd.proofs.ServeAccount.{Account, account, end-at-three}
+use Rattle.script_cmd.proofs.ServeAccount.{Account, account, end-at}
 use Rattle.script_cmd.proofs.TopCompletes.{granted, list-other, list-plan, list-status}
 use Rattle.script_cmd.proofs.TopShows.{good-list-kept, refused-list, starved-list}
 
 -- ---- the end of a status
 
-end-at-zero : (e : ServeEnd) → status_of e ≡ 0 → e ≡ end.End
-end-at-zero end.End is = refl
-end-at-zero other is = absurd (omega arith)
-
-end-at-two : (e : ServeEnd) → status_of e ≡ 2 → e ≡ end.ReadFailed
-end-at-two end.ReadFailed is = refl
-end-at-two other is = absurd (omega arith)
-
-end-at-five : (e : ServeEnd) → status_of e ≡ 5 → e ≡ end.FlashFault
-end-at-five end.FlashFault is = refl
-end-at-five other is = absurd (omega arith)
-
 end-at-six : (e : ServeEnd) → status_of e ≡ 6 → (why : NoBoot) × (e ≡ end.NotBooted why)
 end-at-six (end.NotBooted why) is = (why, refl)
 end-at-six other is = absurd (omega arith)
-
-end-at-eight : (e : ServeEnd) → status_of e ≡ 8 → e ≡ end.TooLong
-end-at-eight end.TooLong is = refl
-end-at-eight other is = absurd (omega arith)
-
-end-at-eleven : (e : ServeEnd) → status_of e ≡ 11 → e ≡ end.BadFrame
-end-at-eleven end.BadFrame is = refl
-end-at-eleven other is = absurd (omega arith)
-
-end-at-twelve : (e : ServeEnd) → status_of e ≡ 12 → e ≡ end.PowerLost
-end-at-twelve end.PowerLost is = refl
-end-at-twelve other is = absurd (omega arith)
 
 no-thirteen : (e : ServeEnd) → status_of e ≡ 13 → ⊥
 no-thirteen end.End is = omega arith
@@ -93,12 +69,12 @@ takes-none status stream rest same other = record {
 
 module _ (g : Given) (ending : Ending Note) (old new : World) (rest : Option (List ℕ)) (planned : ℕ) (line : List ℕ) (none : ending.journal ≡ []) (why : Refuses (Some ask.serve) g old.faults new.faults planned ending.noted line)
     (prints : Prints line planned ending.status old.taken new.taken old.faults.sink new.faults.sink) where
-  refused : RefusedList ask.serve g ending.status ending.noted old new
-  refused = (planned, line, why, prints)
+  was-refused : RefusedList ask.serve g ending.status ending.noted old new
+  was-refused = (planned, line, why, prints)
 
   -- no other status is of a list
   other : (k : ℕ) → IsFalse (may_lack_list k) → ending.status ≡ k → ⊥
-  other = list-other ask.serve (λ is. cc) (λ is. cc) g ending.status ending.noted old new refused
+  other = list-other ask.serve (λ is. cc) (λ is. cc) g ending.status ending.noted old new was-refused
 
   -- nor is a line put for another
   unplanned : (k : ℕ) → (2 ≡ k → ⊥) → (13 ≡ k → ⊥) → planned ≡ k → ⊥
@@ -112,7 +88,7 @@ module _ (g : Given) (ending : Ending Note) (old new : World) (rest : Option (Li
   list-ends unread =
       let ends = refused-ends (Some ask.serve) g old.faults new.faults ending.status ending.noted old.flash.counts planned line old.taken new.taken why prints in
       record {
-        no_other = list-status ask.serve (λ is. cc) (λ is. cc) g ending.status ending.noted old new refused may_end_serving refl refl refl refl;
+        no_other = list-status ask.serve (λ is. cc) (λ is. cc) g ending.status ending.noted old new was-refused may_end_serving refl refl refl refl;
         at_end = λ is. absurd (other 0 refl is);
         whole = λ is. absurd (other 0 refl is);
         not_read = λ is. elim (ends.not_read is refl) [ inl source ↦ absurd (let never = source.0 in cc) | inr list ↦ inr (none, list.0, list.1) ];
@@ -199,30 +175,37 @@ module _ (passes : List ℕ → Bool) (tells : Bool) (g : Given) (ending : Endin
   cause-at : (x : ServeEnd) → e ≡ x → Cause x old.flash (sink_of old) (left_by_serving by.on by.exchange ending.journal new) from to
   cause-at x same = subst (λ (y : ServeEnd). Cause y old.flash (sink_of old) (left_by_serving by.on by.exchange ending.journal new) from to) same by.holds.cause
 
+  at : (x : ServeEnd) → status_of x ≢ 6 → ending.status ≡ status_of x → e ≡ x
+  at x other same = end-at e x other (sym is ∙ same)
+
+  cause : (x : ServeEnd) → status_of x ≢ 6 → ending.status ≡ status_of x
+      → Cause x old.flash (sink_of old) (left_by_serving by.on by.exchange ending.journal new) from to
+  cause x other same = cause-at x (at x other same)
+
   served-ends : ServedEnds g ending old new rest
   served-ends = record {
     no_other = subst (λ (k : ℕ). IsTrue (may_end_serving k)) (sym is) (ends-known e);
-    at_end = λ zero. done.left (end-at-zero e (sym is ∙ zero));
-    whole = λ zero. some-from g.script _ (λ stream told. cause-at end.End (end-at-zero e (sym is ∙ zero)) stream told);
+    at_end = λ zero. done.left (at end.End (λ z. omega arith) zero);
+    whole = λ zero. some-from g.script _ (λ stream told. cause end.End (λ z. omega arith) zero stream told);
     not_read = λ two.
-        let failed = end-at-two e (sym is ∙ two) in
+        let failed = at end.ReadFailed (λ z. omega arith) two in
         inl (done.some (λ x. let both = sym failed ∙ x in cc), by.holds.source_count.failed failed);
     read_all = λ unless. by.holds.source_count.quiet (λ failed. done.some (λ x. let both = sym failed ∙ x in cc) (unless (is ∙ ap status_of failed)));
-    sink_fault = λ three. cause-at end.SinkFailed (end-at-three e (sym is ∙ three));
-    flash_fault = λ five. cause-at end.FlashFault (end-at-five e (sym is ∙ five));
+    sink_fault = λ three. cause end.SinkFailed (λ z. omega arith) three;
+    flash_fault = λ five. cause end.FlashFault (λ z. omega arith) five;
     not_booted = λ six. let w = end-at-six e (sym is ∙ six) in (w.0, cause-at (end.NotBooted w.0) w.1, said ∙ ap note_of w.1);
     taken = record {
       given = by.holds.given.given;
       consumed = by.holds.given.consumed;
       few = by.holds.given.few;
-      too_long = (λ eight. by.holds.given.too_long.0 (end-at-eight e (sym is ∙ eight)), λ more. is ∙ ap status_of (by.holds.given.too_long.1 more));
+      too_long = (λ eight. by.holds.given.too_long.0 (at end.TooLong (λ z. omega arith) eight), λ more. is ∙ ap status_of (by.holds.given.too_long.1 more));
     };
-    too_long = λ eight. some-from g.script _ (λ stream told. (cause-at end.TooLong (end-at-eight e (sym is ∙ eight)) stream told).1);
+    too_long = λ eight. some-from g.script _ (λ stream told. (cause end.TooLong (λ z. omega arith) eight stream told).1);
     bad_frame = λ eleven. some-from g.script _ (λ stream told.
-        let c = cause-at end.BadFrame (end-at-eleven e (sym is ∙ eleven)) stream told in
+        let c = cause end.BadFrame (λ z. omega arith) eleven stream told in
         let some = c.1.2 in
         (c.0, c.1.0, c.1.1, (λ none. omega (arith, some, ap length none))));
-    lost = λ twelve. let c = cause-at end.PowerLost (end-at-twelve e (sym is ∙ twelve)) in (c.0, c.1.unarmed unarmed);
+    lost = λ twelve. let c = cause end.PowerLost (λ z. omega arith) twelve in (c.0, c.1.unarmed unarmed);
     not_list = λ thirteen. absurd (no-thirteen e (sym is ∙ thirteen));
   }
 
@@ -235,13 +218,13 @@ module _ (passes : List ℕ → Bool) (tells : Bool) (g : Given) (ending : Endin
     turns = done.turns;
     part = done.part;
     come = done.come;
-    all = λ zero. done.all (end-at-zero e (sym is ∙ zero));
+    all = λ zero. done.all (at end.End (λ z. omega arith) zero);
     begin = done.begin;
     all_turns = λ no_more. done.all_turns (subst (λ (k : ℕ). IsTrue (reads_no_more k)) is no_more);
     calls = done.calls;
     written_is = whole;
     none = λ other. done.none (λ failed. other (is ∙ ap status_of failed));
-    front = λ three. done.front (end-at-three e (sym is ∙ three));
+    front = λ three. done.front (at end.SinkFailed (λ z. omega arith) three);
   }
 
   served-writes : ServedWrites g ending old new

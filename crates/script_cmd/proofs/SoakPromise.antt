@@ -150,8 +150,7 @@ at-zero piece status taken_before taken_after faults_before faults_after (nothin
 
 stop-other : (stop : FormatStop) → format_status (Err stop) ≡ 0 → ⊥
 stop-other (Input f) is = omega arith
-stop-other ReadFailed is = omega arith
-stop-other (Flash s) is = omega arith
+stop-other other is = omega arith
 
 turn-other : (r : Reply) (k : ℕ) → status_by r ≡ k → (k ≡ 0 → ⊥) → (k ≡ 2 → ⊥) → (k ≡ 5 → ⊥) → (k ≡ 6 → ⊥) → ⊥
 turn-other reply.Fault k is zero two five six = five (sym is)
@@ -167,8 +166,6 @@ turn-some r ends is = cc
 
 turn-five : (r : Reply) → status_by r ≡ 5 → r ≡ reply.Fault
 turn-five reply.Fault is = refl
-turn-five reply.ReadFault is = absurd (omega arith)
-turn-five (reply.NotBooted why) is = absurd (omega arith)
 turn-five r is = absurd (omega arith)
 
 -- ---- a flash with room
