@@ -1,6 +1,6 @@
 -- What is done for what the words ask for, from what the parts of the command did.
 use Rattle.std.proofs.Common.{◌≡◌, ◌≢◌, ◌≤◌, ℕ, Bool, true, false, List, [], Option, Some, None, refl, sym, ap, subst, ◌∙◌, arith, inl, inr}
-use Rattle.std.specs.Prelude.{IsTrue, IsFalse}
+use Rattle.std.specs.Prelude.{IsTrue, IsFalse, ⊤}
 use Rattle.std.proofs.lemmas.Bool.{false≢true}
 use Rattle.std.proofs.lemmas.Option.{same_Some}
 use Rattle.fwu_formats.specs.Digests.{passes_any}
@@ -20,7 +20,7 @@ use Rattle.fwu_words.specs.declared.orders.ScriptFrom.TheVariants as origin
 use Rattle.host_io.specs.Contents.{Directory}
 use Rattle.script_turns.specs.Powered.{TurnMoment}
 use Rattle.script_cmd.specs.Answered.{Answered}
-use Rattle.script_cmd.specs.Asking.{asks_beyond, asks_files, asks_source, leaves_on, RunsOrNone, over_table}
+use Rattle.script_cmd.specs.Asking.{asks_beyond, asks_files, asks_package, asks_source, leaves_on, RunsOrNone, over_table}
 use Rattle.script_runs.specs.Refusing.{in_short, plain_of, text_of}
 use Rattle.script_cmd.specs.FormattedBy.{FormattedBy}
 use Rattle.script_runs.specs.Noted.{is_beyond_model, noted}
@@ -30,11 +30,13 @@ use Rattle.script_turns.specs.Runs.{calls_of, sends_none}
 use Rattle.script_cmd.specs.ServeWays.{ServeWay}
 use Rattle.script_cmd.specs.ServeWays as serve
 use Rattle.script_cmd.specs.ShowedBy.{ShowedBy}
+use Rattle.script_cmd.specs.ReadsInputs.{ReadsInputs}
+use Rattle.script_runs.specs.Ending.{Device, Ending, World, in_model}
 use Rattle.flash_commands.specs.SoakWays.{SoakWay}
 use Rattle.flash_commands.specs.SoakWays as soak
 use Rattle.script_runs.specs.Sourced.{FailsOnce, TakesScript, reads_all}
 use Rattle.script_cmd.specs.ByList.{ByList}
-use Rattle.script_runs.specs.Ways.{HasGoodList, Refuses, Way}
+use Rattle.script_runs.specs.Ways.{Given, HasGoodList, Refuses, Way}
 use Rattle.script_runs.specs.Ways as way
 use Rattle.script_runs.specs.WaysByTable.{WayAt, WayByTable}
 use Rattle.script_runs.specs.declared.done.Note.{Note}
@@ -135,6 +137,44 @@ module _ (passes : List ℕ → Bool) (tells : Bool) (blocks : ℕ) (told : Opti
   turns-by-table origin.Boot place.Partitions plain over went =
       subst (λ (a : Asked). WayByTable passes (device-of tells blocks) (Some a) (given_to (inputs-of (Some a) None told left)) (end-of journal status said) (world-of old taken_before faults_before) (world-of new taken_after faults_after)) (same_Some ask.boot plain over) went
 
+-- ---- what is asked for where none are
+
+-- these words ask for no turns, also behind a table
+abbrev IsPlain : Asked → Type 0
+IsPlain a = (RunsOrNone (Some a) → ⊥) × (over_table (Some a) ≡ None) × (in_short (Some a) ≡ model.NoScript)
+
+-- what each of the commands without turns does
+abbrev DoneBy : (List ℕ → Bool) → Device → Given → Ending Note → World → World → Option (List ℕ) → Asked → Type 0
+DoneBy passes device g end old new rest ask.show = ShowedBy device.tells g (in_model end) old new
+DoneBy passes device g end old new rest (ask.format banks rows file) =
+    FormattedBy passes device g file (record { banks = banks; rows = rows }) end old new
+DoneBy passes device g end old new rest (ask.soak seed rounds) = SoakWay device g seed rounds end old new
+DoneBy passes device g end old new rest ask.serve = ServeWay passes device.tells g (in_model end) old new rest
+DoneBy passes device g end old new rest other = ⊤
+
+module _ {H I : Type 0} {told : Option Directory} {left rest : Option (List ℕ)} {journal : List Turn} {status : ℕ} {said : Note}
+    {faults_before faults_after : Faults} {files files_after : H} {source source_after : I} where
+  -- nothing of the source was read, and no file but a list
+  reads-none : (asked : Option Asked) (list : Option (List ℕ)) → (in_short asked ≡ model.Source → TakesScript journal status left rest)
+      → (list ≡ None → files_after ≡ files) → (IsFalse (may_fail_before status) → faults_after.files ≡ faults_before.files)
+      → source_after ≡ source → faults_after.source ≡ faults_before.source → Later faults_before faults_after
+      → ReadsInputs (inputs-of asked list told left) (end-of journal status said) faults_before faults_after rest
+      files files_after source source_after
+  reads-none asked list takes kept counted stays once later = record {
+    takes = takes;
+    source = λ other. stays;
+    list_first = λ lacks. stays;
+    source_count = λ runs. none-fails journal status faults_before.source faults_after.source once;
+    files = λ unlisted other. kept unlisted;
+    unsent = λ unlisted other unsent. kept unlisted;
+    list_alone = λ other unsent whole. counted whole;
+    later_files = later.files;
+    later_source = later.source;
+    later_sink = later.sink;
+  }
+
+-- ---- what was done
+
 module _ {H I : Type 0} {passes : List ℕ → Bool} {tells : Bool} {blocks : ℕ} {told : Option Directory} {left rest : Option (List ℕ)} {journal : List Turn} {status : ℕ} {said : Note} {old new : TurnMoment} {taken_before taken_after : Option (List ℕ)} {faults_before faults_after : Faults} {files files_after : H} {source source_after : I} where
   -- the turns of a script, wherever it is from and wherever they take place
   pub answered-turns : (from : ScriptFrom) (at : Place) (asked : Option Asked) → asked ≡ Some (turns_of from at)
@@ -165,113 +205,46 @@ module _ {H I : Type 0} {passes : List ℕ → Bool} {tells : Bool} {blocks : �
     };
   })
 
-  pub answered-show : (asked : Option Asked) → asked ≡ Some ask.show → ShowedBy tells (record { list = None; files = told; script = left }) (end-of journal status (noted said)) (world-of old taken_before faults_before) (world-of new taken_after faults_after)
-      → (status ≡ 0 → IsTrue new.power) → files_after ≡ files → faults_after.files ≡ faults_before.files → source_after ≡ source → IsFalse (is_beyond_model said) → Later faults_before faults_after
-      → Answered passes (device-of tells blocks) (inputs-of asked None told left) (end-of journal status said) (world-of old taken_before faults_before) (world-of new taken_after faults_after) rest files files_after source source_after
-  answered-show asked is showed on kept counted stays quiet later = subst (λ (a : Option Asked). Answered passes (device-of tells blocks) (inputs-of a None told left) (end-of journal status said) (world-of old taken_before faults_before) (world-of new taken_after faults_after) rest files files_after source source_after) (sym is) (record {
-    way = λ runs. absurd runs;
-    by_table = λ plain over. absurd (not-over (Some ask.show) (Some ask.show) plain refl refl over);
-    shows = λ same. showed;
-    formats = λ banks rows file other. absurd cc;
-    soaks = λ seed rounds other. absurd cc;
-    serves = λ other. absurd cc;
-    power = λ leaves zero. on zero;
-    note = λ other. quiet;
-    reads = record {
-      takes = λ runs. absurd (none-not-source runs);
-      source = λ other. stays;
-      list_first = λ none. stays;
-      source_count = λ runs. absurd (none-not-source runs);
-      files = λ unlisted other. kept;
-      unsent = λ unlisted other none. kept;
-      list_alone = λ other none whole. counted;
-      later_files = later.files;
-      later_source = later.source;
-      later_sink = later.sink;
-    };
-  })
-
-  pub answered-format : (asked : Option Asked) (b : ℕ) (items : List ImageRow) (f : List ℕ) → asked ≡ Some (ask.format b items f)
-      → ((banks : ℕ) (rows : List ImageRow) (file : List ℕ) → Some (ask.format b items f) ≡ Some (ask.format banks rows file)
-      → FormattedBy passes (device-of tells blocks) (record { list = None; files = told; script = left }) file (record { banks = banks; rows = rows }) (end-of journal status said) (world-of old taken_before faults_before) (world-of new taken_after faults_after))
-      → (status ≡ 0 → IsTrue new.power) → source_after ≡ source → Later faults_before faults_after
-      → Answered passes (device-of tells blocks) (inputs-of asked None told left) (end-of journal status said) (world-of old taken_before faults_before) (world-of new taken_after faults_after) rest files files_after source source_after
-  answered-format asked b items f is formatted on stays later = subst (λ (a : Option Asked). Answered passes (device-of tells blocks) (inputs-of a None told left) (end-of journal status said) (world-of old taken_before faults_before) (world-of new taken_after faults_after) rest files files_after source source_after) (sym is) (record {
-    way = λ runs. absurd runs;
-    by_table = λ plain over. absurd (not-over (Some (ask.format b items f)) (Some (ask.format b items f)) plain refl refl over);
-    shows = λ other. absurd cc;
-    formats = formatted;
-    soaks = λ seed rounds other. absurd cc;
-    serves = λ other. absurd cc;
-    power = λ leaves zero. on zero;
-    note = λ other. absurd (false≢true (sym other));
-    reads = record {
-      takes = λ runs. absurd (none-not-source runs);
-      source = λ other. stays;
-      list_first = λ none. stays;
-      source_count = λ runs. absurd (none-not-source runs);
-      files = λ unlisted other. absurd (false≢true (sym other));
-      unsent = λ unlisted other none. absurd (false≢true (sym other));
-      list_alone = λ other none whole. absurd (false≢true (sym other));
-      later_files = later.files;
-      later_source = later.source;
-      later_sink = later.sink;
-    };
-  })
-
-  pub answered-soak : (asked : Option Asked) (a b : ℕ) → asked ≡ Some (ask.soak a b)
-      → ((seed rounds : ℕ) → Some (ask.soak a b) ≡ Some (ask.soak seed rounds)
-      → SoakWay (device-of tells blocks) (record { list = None; files = told; script = left }) seed rounds (end-of journal status said) (world-of old taken_before faults_before) (world-of new taken_after faults_after))
-      → files_after ≡ files → faults_after.files ≡ faults_before.files → source_after ≡ source → Later faults_before faults_after
-      → Answered passes (device-of tells blocks) (inputs-of asked None told left) (end-of journal status said) (world-of old taken_before faults_before) (world-of new taken_after faults_after) rest files files_after source source_after
-  answered-soak asked a b is soaked kept counted stays later = subst (λ (x : Option Asked). Answered passes (device-of tells blocks) (inputs-of x None told left) (end-of journal status said) (world-of old taken_before faults_before) (world-of new taken_after faults_after) rest files files_after source source_after) (sym is) (record {
-    way = λ runs. absurd runs;
-    by_table = λ plain over. absurd (not-over (Some (ask.soak a b)) (Some (ask.soak a b)) plain refl refl over);
-    shows = λ other. absurd cc;
-    formats = λ banks rows file other. absurd cc;
-    soaks = soaked;
-    serves = λ other. absurd cc;
-    power = λ leaves zero. absurd (false≢true leaves);
-    note = λ other. absurd (false≢true (sym other));
-    reads = record {
-      takes = λ runs. absurd (none-not-source runs);
-      source = λ other. stays;
-      list_first = λ none. stays;
-      source_count = λ runs. absurd (none-not-source runs);
-      files = λ unlisted other. kept;
-      unsent = λ unlisted other none. kept;
-      list_alone = λ other none whole. counted;
-      later_files = later.files;
-      later_source = later.source;
-      later_sink = later.sink;
-    };
-  })
-
-  pub answered-serve : (asked : Option Asked) → asked ≡ Some ask.serve → ServeWay passes tells (record { list = None; files = told; script = left }) (end-of journal status (noted said)) (world-of old taken_before faults_before) (world-of new taken_after faults_after) rest
-      → files_after ≡ files → faults_after.files ≡ faults_before.files → IsFalse (is_beyond_model said) → Later faults_before faults_after
-      → Answered passes (device-of tells blocks) (inputs-of asked None told left) (end-of journal status said) (world-of old taken_before faults_before) (world-of new taken_after faults_after) rest files files_after source source_after
-  answered-serve asked is served kept counted quiet later = subst (λ (a : Option Asked). Answered passes (device-of tells blocks) (inputs-of a None told left) (end-of journal status said) (world-of old taken_before faults_before) (world-of new taken_after faults_after) rest files files_after source source_after) (sym is) (record {
-    way = λ runs. absurd runs;
-    by_table = λ plain over. absurd (not-over (Some ask.serve) (Some ask.serve) plain refl refl over);
-    shows = λ other. absurd cc;
-    formats = λ banks rows file other. absurd cc;
-    soaks = λ seed rounds other. absurd cc;
-    serves = λ same. served;
-    power = λ leaves zero. absurd (false≢true leaves);
-    note = λ other. quiet;
-    reads = record {
-      takes = λ runs. absurd (none-not-source runs);
-      source = λ other. absurd (false≢true (sym other));
-      list_first = λ none. absurd (none no-list-named);
-      source_count = λ runs. absurd (none-not-source runs);
-      files = λ unlisted other. kept;
-      unsent = λ unlisted other none. kept;
-      list_alone = λ other none whole. counted;
-      later_files = later.files;
-      later_source = later.source;
-      later_sink = later.sink;
-    };
-  })
+  -- a command without turns
+  pub answered-plain : (asked : Option Asked) (a : Asked) → asked ≡ Some a → IsPlain a
+      → DoneBy passes (device-of tells blocks) (record { list = None; files = told; script = left }) (end-of journal status said)
+      (world-of old taken_before faults_before) (world-of new taken_after faults_after) rest a
+      → (IsTrue (leaves_on (Some a)) → status ≡ 0 → IsTrue new.power)
+      → (IsFalse (asks_beyond (Some a)) → IsFalse (is_beyond_model said)) → (IsFalse (asks_source (Some a)) → source_after ≡ source)
+      → (IsFalse (asks_package (Some a)) → IsFalse (asks_files (Some a)))
+      → (IsFalse (asks_files (Some a)) → (files_after ≡ files) × (faults_after.files ≡ faults_before.files)) → Later faults_before faults_after
+      → Answered passes (device-of tells blocks) (inputs-of asked None told left) (end-of journal status said)
+      (world-of old taken_before faults_before) (world-of new taken_after faults_after) rest files files_after source source_after
+  answered-plain asked a is plain does on quiet stays packs kept later =
+      let g : Given = record { list = None; files = told; script = left } in
+      let end : Ending Note = end-of journal status said in
+      let before : World = world-of old taken_before faults_before in
+      let after : World = world-of new taken_after faults_after in
+      let by : (b : Asked) → Some a ≡ Some b → DoneBy passes (device-of tells blocks) g end before after rest b =
+      λ b same. subst (DoneBy passes (device-of tells blocks) g end before after rest) (same_Some a b same) does in
+      subst (λ (x : Option Asked). Answered passes (device-of tells blocks) (inputs-of x None told left) end before after rest
+      files files_after source source_after) (sym is) (record {
+        way = λ runs. absurd (plain.0 runs);
+        by_table = λ other over. absurd (not-over (Some a) (Some a) other refl plain.1 over);
+        shows = by ask.show;
+        formats = λ banks rows file. by (ask.format banks rows file);
+        soaks = λ seed rounds. by (ask.soak seed rounds);
+        serves = by ask.serve;
+        power = on;
+        note = quiet;
+        reads = record {
+          takes = λ runs. absurd (none-not-source (sym plain.2 ∙ runs));
+          source = stays;
+          list_first = λ none. absurd (none no-list-named);
+          source_count = λ runs. absurd (none-not-source (sym plain.2 ∙ runs));
+          files = λ unlisted none. (kept none).0;
+          unsent = λ unlisted none unsent. (kept (packs none)).0;
+          list_alone = λ none unsent whole. (kept (packs none)).1;
+          later_files = later.files;
+          later_source = later.source;
+          later_sink = later.sink;
+        };
+      })
 
   -- words that ask for nothing, behind a list or without one
   pub answered-usage : (asked : Option Asked) (list : Option (List ℕ)) → asked ≡ None → HasGoodList list told → journal ≡ [] → new ≡ old → said ≡ note.Nothing → Prints usage_line 1 status taken_before taken_after faults_before.sink faults_after.sink
@@ -286,18 +259,9 @@ module _ {H I : Type 0} {passes : List ℕ → Bool} {tells : Bool} {blocks : �
     serves = λ other. absurd (none-some ask.serve asked words other);
     power = λ leaves zero. absurd (not-done usage_line 1 status taken_before taken_after faults_before.sink faults_after.sink (λ one. absurd (omega arith)) prints zero);
     note = λ other. ap is_beyond_model is;
-    reads = record {
-      takes = λ runs. absurd (none-not-source (sym (ap in_short words) ∙ runs));
-      source = λ other. stays;
-      list_first = λ lacks. stays;
-      source_count = λ runs. none-fails journal status faults_before.source faults_after.source once;
-      files = λ unlisted other. kept;
-      unsent = λ unlisted other unsent. kept;
-      list_alone = λ other unsent whole. counted;
-      later_files = later.files;
-      later_source = later.source;
-      later_sink = later.sink;
-    };
+    reads =
+        reads-none asked list (λ runs. absurd (none-not-source (sym (ap in_short words) ∙ runs))) (λ unlisted. kept) (λ whole. counted)
+        stays once later;
   }
 
   -- nothing was done for want of memory, whatever is asked for
@@ -314,18 +278,10 @@ module _ {H I : Type 0} {passes : List ℕ → Bool} {tells : Bool} {blocks : �
     serves = λ words. serve.starved none same (unread, once) nine (ap noted is) stuck;
     power = λ leaves zero. absurd (omega (arith, zero, nine));
     note = λ other. ap is_beyond_model is;
-    reads = record {
-      takes = λ runs. takes-nothing journal status left rest unread none (λ eight. omega (arith, eight, nine)) (ap reads_all nine);
-      source = λ other. stays;
-      list_first = λ lacks. stays;
-      source_count = λ runs. none-fails journal status faults_before.source faults_after.source once;
-      files = λ unlisted other. kept unlisted;
-      unsent = λ unlisted other unsent. kept unlisted;
-      list_alone = λ other unsent whole. absurd (false≢true (sym whole ∙ ap may_fail_before nine));
-      later_files = later.files;
-      later_source = later.source;
-      later_sink = later.sink;
-    };
+    reads =
+        reads-none asked list
+        (λ runs. takes-nothing journal status left rest unread none (λ eight. omega (arith, eight, nine)) (ap reads_all nine)) kept
+        (λ whole. absurd (false≢true (sym whole ∙ ap may_fail_before nine))) stays once later;
   }
 
   -- a list was refused, whatever is asked for
@@ -352,18 +308,9 @@ module _ {H I : Type 0} {passes : List ℕ → Bool} {tells : Bool} {blocks : �
     serves = λ words. refused-serves passes tells (record { list = Some name; files = told; script = left }) old new status (noted said) journal taken_before taken_after faults_before faults_after planned line (noted met) rest none same (ap noted is) (why left (Some ask.serve)) prints unread once;
     power = λ leaves zero. absurd (not-done line planned status taken_before taken_after faults_before.sink faults_after.sink some prints zero);
     note = λ other. ap is_beyond_model is ∙ beyond;
-    reads = record {
-      takes = λ runs. takes-nothing journal status left rest unread none some_less lacks_some;
-      source = λ other. stays;
-      list_first = λ lacks. stays;
-      source_count = λ runs. none-fails journal status faults_before.source faults_after.source once;
-      files = λ unlisted other. absurd cc;
-      unsent = λ unlisted other unsent. absurd cc;
-      list_alone = λ other unsent whole. counted whole;
-      later_files = later.files;
-      later_source = later.source;
-      later_sink = later.sink;
-    };
+    reads =
+        reads-none asked (Some name) (λ runs. takes-nothing journal status left rest unread none some_less lacks_some)
+        (λ unlisted. absurd cc) counted stays once later;
   }
 
   -- what is done without a list is done behind one that was read and is one

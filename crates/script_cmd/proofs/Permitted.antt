@@ -30,11 +30,7 @@ module _ (passes : List ℕ → Bool) (t : Turn) (bank version trials counter : 
         told = told;
         enough = subst (λ (v : ℕ). n.counter ≤ v) same permitted.enough;
       }
-  by-end (bad_layout f) said told permitted = let both = sym said ∙ is in absurd cc
-  by-end no_metadata said told permitted = let both = sym said ∙ is in absurd cc
-  by-end (no_bank active previous) said told permitted = let both = sym said ∙ is in absurd cc
-  by-end (lost n) said told permitted = let both = sym said ∙ is in absurd cc
-  by-end (failed n) said told permitted = let both = sym said ∙ is in absurd cc
+  by-end other said told permitted = let both = sym said ∙ is in absurd cc
 
   by-turn : (tells : Bool) (files : Option Directory) (old new : TurnMoment) (was are : ℕ) → t.call ≡ call.Boot → Turns passes tells files t.call t old new was are
       → IsOfPackage passes t version

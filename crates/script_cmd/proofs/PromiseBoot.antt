@@ -172,10 +172,11 @@ no-cut : (t : Turn) → t.call ≡ call.Boot → cuts_in (t ∷ []) ≡ 0
 no-cut t is = ap (λ (c : Call). count_by is_cut (c ∷ [])) is
 
 module _ (passes : List ℕ → Bool) (tells : Bool) (files : Option Directory) (status : ℕ) (noted : Note) (old : TurnMoment) (from to : ℕ) where
-  by-turn : (t : Turn) (turns : List Turn) (new : TurnMoment) → Ran passes tells files (t ∷ turns) old new from to → ScriptEnded (call.Boot ∷ []) (t ∷ turns) status noted
+  by-journal : (journal : List Turn) (new : TurnMoment) → Ran passes tells files journal old new from to → ScriptEnded (call.Boot ∷ []) journal status noted
       → IsTrue tells → NothingDirty old.told → IsFalse (may_lack status) → (old.armed ≡ None) ⊎ (Rose old.counts.reached new.counts.reached → ⊥) → (Rose old.counts.faults new.counts.faults → ⊥) → (Rose old.counts.cuts new.counts.cuts → ⊥)
-      → BootWordBy passes old.told.now status noted (t ∷ turns)
-  by-turn t turns new did ended told clean lacks unarmed faults cuts =
+      → BootWordBy passes old.told.now status noted journal
+  by-journal [] new did ended told clean lacks unarmed faults cuts = let none = ended.all_calls (ended.status_is lacks) in absurd (cc)
+  by-journal (t ∷ turns) new did ended told clean lacks unarmed faults cuts =
       let one = one-boot t turns ended.calls.0 ended.calls.1 in
       let last : last_turn (t ∷ turns) ≡ Some t = ap (λ (ts : List Turn). last_turn (t ∷ ts)) one.1 in
       let uncut : cuts_in (t ∷ turns) ≡ 0 = ap (λ (ts : List Turn). cuts_in (t ∷ ts)) one.1 ∙ no-cut t one.0 in
@@ -186,24 +187,16 @@ module _ (passes : List ℕ → Bool) (tells : Bool) (files : Option Directory) 
       by-reply passes old.told.now status noted (t ∷ turns) t refl (ended.status_is lacks ∙ ap status_of_last last) (ended.noted_is ∙ ap note_of_last last)
       t.reply refl (did.first told clean t refl one.0) lost (λ is. faults (did.fault_turns t (0, omega arith, refl) is))
 
-  by-journal : (journal : List Turn) (new : TurnMoment) → Ran passes tells files journal old new from to → ScriptEnded (call.Boot ∷ []) journal status noted
-      → IsTrue tells → NothingDirty old.told → IsFalse (may_lack status) → (old.armed ≡ None) ⊎ (Rose old.counts.reached new.counts.reached → ⊥) → (Rose old.counts.faults new.counts.faults → ⊥) → (Rose old.counts.cuts new.counts.cuts → ⊥)
-      → BootWordBy passes old.told.now status noted journal
-  by-journal [] new did ended told clean lacks unarmed faults cuts = let none = ended.all_calls (ended.status_is lacks) in absurd (cc)
-  by-journal (t ∷ turns) new did ended told clean lacks unarmed faults cuts = by-turn t turns new did ended told clean lacks unarmed faults cuts
-
 -- ---- nothing ran
 
 no-refusal : (asked : Option Asked) (g : Given) (faults_before faults_after : Faults) (planned : ℕ) (noted : Note) (line : List ℕ) → asked ≡ Some ask.boot → g.script ≡ Some (codes "boot\n") → Refuses asked g faults_before faults_after planned noted line
     → IsTrue (may_fail_before planned || (planned == 13))
 no-refusal asked g faults_before faults_after planned noted line boot script (usage good none) = let both = sym boot ∙ none in absurd (cc)
-no-refusal asked g faults_before faults_after planned noted line boot script (not_read good run rose) = refl
-no-refusal asked g faults_before faults_after planned noted line boot script (list_not_read some why) = refl
 no-refusal asked g faults_before faults_after planned noted line boot script (too_long good run long) = let both = sym boot ∙ run in absurd (cc)
 no-refusal asked g faults_before faults_after planned noted line boot script (bad_script n good asks short bad) =
     let both = sym boot-is-script ∙ some-at g.script (λ b. script_of b ≡ Err n) (codes "boot\n") bad script in
     absurd (cc)
-no-refusal asked g faults_before faults_after planned noted line boot script (bad_list n some there bad) = refl
+no-refusal asked g faults_before faults_after planned noted line boot script other = refl
 
 pub ways-boot : WaysBoot
 ways-boot passes tells inputs end old new (starved empty same nine quiet stuck) told clean boot fails unarmed faults cuts =

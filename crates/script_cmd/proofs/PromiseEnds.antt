@@ -54,51 +54,28 @@ false-of true is = absurd (false≢true is)
 module _ (asked : Option Asked) (g : Given) (faults_before faults_after : Faults) where
   pub why-planned : (planned : ℕ) (noted : Note) (line : List ℕ) → Refuses asked g faults_before faults_after planned noted line → IsTrue (may_end_before planned) × (planned ≢ 0) × (planned ≢ 3)
   why-planned planned noted line (usage good is) = (refl, (λ e. omega arith), (λ e. omega arith))
-  why-planned planned noted line (not_read good run rose) = (refl, (λ e. omega arith), (λ e. omega arith))
-  why-planned planned noted line (list_not_read some why) = (refl, (λ e. omega arith), (λ e. omega arith))
-  why-planned planned noted line (too_long good run long) = (refl, (λ e. omega arith), (λ e. omega arith))
-  why-planned planned noted line (bad_script n good asks short bad) = (refl, (λ e. omega arith), (λ e. omega arith))
-  why-planned planned noted line (bad_list n some there bad) = (refl, (λ e. omega arith), (λ e. omega arith))
+  why-planned planned noted line other = (refl, (λ e. omega arith), (λ e. omega arith))
 
   why-usage : (planned : ℕ) (noted : Note) (line : List ℕ) → Refuses asked g faults_before faults_after planned noted line → planned ≡ 1 → in_short asked ≡ model.NoScript
   why-usage planned noted line (usage good is) e = ap in_short is
-  why-usage planned noted line (not_read good run rose) e = absurd (omega arith)
-  why-usage planned noted line (list_not_read some why) e = absurd (omega arith)
-  why-usage planned noted line (too_long good run long) e = absurd (omega arith)
-  why-usage planned noted line (bad_script n good asks short bad) e = absurd (omega arith)
-  why-usage planned noted line (bad_list n some there bad) e = absurd (omega arith)
+  why-usage planned noted line other e = absurd (omega arith)
 
   why-not_read : (planned : ℕ) (noted : Note) (line : List ℕ) → Refuses asked g faults_before faults_after planned noted line → planned ≡ 2 → NotRead (in_short asked) g.list g.files faults_before faults_after
-  why-not_read planned noted line (usage good is) e = absurd (omega arith)
   why-not_read planned noted line (not_read good run rose) e = inl (ap in_short run, rose)
   why-not_read planned noted line (list_not_read some why) e = inr (some, why)
-  why-not_read planned noted line (too_long good run long) e = absurd (omega arith)
-  why-not_read planned noted line (bad_script n good asks short bad) e = absurd (omega arith)
-  why-not_read planned noted line (bad_list n some there bad) e = absurd (omega arith)
+  why-not_read planned noted line other e = absurd (omega arith)
 
   why-script : (planned : ℕ) (noted : Note) (line : List ℕ) → Refuses asked g faults_before faults_after planned noted line → planned ≡ 4 → (n : ℕ) × (noted ≡ note.BadLine n) × IsBadScript g.script n
-  why-script planned noted line (usage good is) e = absurd (omega arith)
-  why-script planned noted line (not_read good run rose) e = absurd (omega arith)
-  why-script planned noted line (list_not_read some why) e = absurd (omega arith)
-  why-script planned noted line (too_long good run long) e = absurd (omega arith)
   why-script planned noted line (bad_script n good asks short bad) e = (n, refl, bad)
-  why-script planned noted line (bad_list n some there bad) e = absurd (omega arith)
+  why-script planned noted line other e = absurd (omega arith)
 
   why-long : (planned : ℕ) (noted : Note) (line : List ℕ) → Refuses asked g faults_before faults_after planned noted line → planned ≡ 8 → (in_short asked ≡ model.Source) × IfSome g.script (λ bytes. IsTrue (is_too_long bytes))
-  why-long planned noted line (usage good is) e = absurd (omega arith)
-  why-long planned noted line (not_read good run rose) e = absurd (omega arith)
-  why-long planned noted line (list_not_read some why) e = absurd (omega arith)
   why-long planned noted line (too_long good run long) e = (ap in_short run, long)
-  why-long planned noted line (bad_script n good asks short bad) e = absurd (omega arith)
-  why-long planned noted line (bad_list n some there bad) e = absurd (omega arith)
+  why-long planned noted line other e = absurd (omega arith)
 
   why-list : (planned : ℕ) (noted : Note) (line : List ℕ) → Refuses asked g faults_before faults_after planned noted line → planned ≡ 13 → IsSome g.list × (n : ℕ) × (noted ≡ note.BadList n) × IsBadList (list_bytes g.list g.files) n
-  why-list planned noted line (usage good is) e = absurd (omega arith)
-  why-list planned noted line (not_read good run rose) e = absurd (omega arith)
-  why-list planned noted line (list_not_read some why) e = absurd (omega arith)
-  why-list planned noted line (too_long good run long) e = absurd (omega arith)
-  why-list planned noted line (bad_script n good asks short bad) e = absurd (omega arith)
   why-list planned noted line (bad_list n some there bad) e = (some, n, refl, bad)
+  why-list planned noted line other e = absurd (omega arith)
 
   -- ---- what can't run is refused for a cause that comes no later
 
@@ -132,112 +109,107 @@ module _ (asked : Option Asked) (g : Given) (faults_before faults_after : Faults
 
   pub lacks-list : (planned : ℕ) (noted : Note) (line : List ℕ) → Refuses asked g faults_before faults_after planned noted line → LacksList g.files g.list → IsTrue (may_fail_before planned)
   lacks-list planned noted line (usage good is) lacks = absurd (good.there lacks)
-  lacks-list planned noted line (not_read good run rose) lacks = refl
-  lacks-list planned noted line (list_not_read some why) lacks = refl
   lacks-list planned noted line (too_long good run long) lacks = absurd (good.there lacks)
   lacks-list planned noted line (bad_script n good asks short bad) lacks = absurd (good.there lacks)
   lacks-list planned noted line (bad_list n some there bad) lacks = absurd (there lacks)
+  lacks-list planned noted line other lacks = refl
 
   alone : (planned : ℕ) (noted : Note) (line : List ℕ) (status : ℕ) (taken_before taken_after : Option (List ℕ)) (low high : ℕ) → Refuses asked g faults_before faults_after planned noted line → Prints line planned status taken_before taken_after low high
       → NotedAlone g.script g.list g.files status noted
-  alone planned noted line status taken_before taken_after low high (usage good is) p = noted_alone.Nothing (false-of _ (by-plan line planned status taken_before taken_after low high p (λ k. not (has_note k)) refl refl refl))
-  alone planned noted line status taken_before taken_after low high (not_read good run rose) p = noted_alone.Nothing (false-of _ (by-plan line planned status taken_before taken_after low high p (λ k. not (has_note k)) refl refl refl))
-  alone planned noted line status taken_before taken_after low high (list_not_read some why) p = noted_alone.Nothing (false-of _ (by-plan line planned status taken_before taken_after low high p (λ k. not (has_note k)) refl refl refl))
-  alone planned noted line status taken_before taken_after low high (too_long good run long) p = noted_alone.Nothing (false-of _ (by-plan line planned status taken_before taken_after low high p (λ k. not (has_note k)) refl refl refl))
   alone planned noted line status taken_before taken_after low high (bad_script n good asks short bad) p =
       noted_alone.BadScript n (by-plan line planned status taken_before taken_after low high p (λ k. (k == 4) || ((k == 3) || (k == 9))) refl refl refl) bad
   alone planned noted line status taken_before taken_after low high (bad_list n some there bad) p =
       noted_alone.BadList n (by-plan line planned status taken_before taken_after low high p (λ k. (k == 13) || ((k == 3) || (k == 9))) refl refl refl) some bad
+  alone planned noted line status taken_before taken_after low high other p =
+      noted_alone.Nothing
+      (false-of _ (by-plan line planned status taken_before taken_after low high p (λ k. not (has_note k)) refl refl refl))
 
   bad-words : (planned : ℕ) (noted : Note) (line : List ℕ) → Refuses asked g faults_before faults_after planned noted line → in_short asked ≡ model.NoScript → IsTrue ((planned == 1) || (may_fail_before planned || (planned == 13)))
-  bad-words planned noted line (usage good is) e = refl
   bad-words planned noted line (not_read good run rose) e = absurd (asks-turns asked (inl run) e)
-  bad-words planned noted line (list_not_read some why) e = refl
   bad-words planned noted line (too_long good run long) e = absurd (asks-turns asked (inl run) e)
   bad-words planned noted line (bad_script n good asks short bad) e = absurd (asks-turns asked asks e)
-  bad-words planned noted line (bad_list n some there bad) e = refl
+  bad-words planned noted line other e = refl
 
   longer : (planned : ℕ) (noted : Note) (line : List ℕ) → Refuses asked g faults_before faults_after planned noted line → in_short asked ≢ model.NoScript → (bytes : List ℕ) → g.script ≡ Some bytes → IsTrue (is_too_long bytes)
       → IsTrue ((planned == 8) || (may_fail_before planned || (planned == 13)))
   longer planned noted line (usage good is) runs bytes told e = absurd (runs (ap in_short is))
-  longer planned noted line (not_read good run rose) runs bytes told e = refl
-  longer planned noted line (list_not_read some why) runs bytes told e = refl
-  longer planned noted line (too_long good run long) runs bytes told e = refl
   longer planned noted line (bad_script n good asks short bad) runs bytes told e =
       absurd (false≢true (sym (some-at g.script (λ b. is_too_long b ≡ false) bytes short told) ∙ e))
-  longer planned noted line (bad_list n some there bad) runs bytes told e = refl
+  longer planned noted line other runs bytes told e = refl
 
   no-script : (planned : ℕ) (noted : Note) (line : List ℕ) → Refuses asked g faults_before faults_after planned noted line → in_short asked ≢ model.NoScript
       → IsTrue ((planned == 4) || ((planned == 8) || (may_fail_before planned || (planned == 13))))
   no-script planned noted line (usage good is) runs = absurd (runs (ap in_short is))
-  no-script planned noted line (not_read good run rose) runs = refl
-  no-script planned noted line (list_not_read some why) runs = refl
-  no-script planned noted line (too_long good run long) runs = refl
-  no-script planned noted line (bad_script n good asks short bad) runs = refl
-  no-script planned noted line (bad_list n some there bad) runs = refl
+  no-script planned noted line other runs = refl
 
   -- ---- nothing ran
 
   module _ (status : ℕ) (noted : Note) (counts : Counts) where
-    starved-ends : status ≡ 9 → noted ≡ note.Nothing → EndsAs (in_short asked) g.list g.files g.script status noted [] counts counts faults_before faults_after
-    starved-ends nine quiet =
-        let holds = λ (f : ℕ → Bool) (h : IsTrue (f 9)). subst (λ (k : ℕ). IsTrue (f k)) (sym nine) h in
-        record {
-          does = some-from g.script _ (λ bytes told calls reads. record { calls = (calls, refl); all_calls = λ e. absurd (omega arith) });
-          untouched = λ empty. refl;
-          made = refl;
-          lost_turns = none-lost counts;
-          fault_turns = λ t within is. absurd (no-turn t within);
-          read_faults = λ t within is. absurd (no-turn t within);
-          ends = λ n t is end. absurd (cc);
-          by_last = λ t is. absurd (cc);
-          by_none = λ empty. holds may_end_before refl;
-          noted_alone = λ empty. subst (λ (n : Note). NotedAlone g.script g.list g.files status n) (sym quiet) (noted_alone.Nothing (false-of _ (holds (λ k. not (has_note k)) refl)));
-          all_done = λ is. refl;
-          not_read = λ is empty. absurd (omega arith);
-          not_script = λ is. absurd (omega arith);
-          not_list = λ is. absurd (omega arith);
-          usage = λ is. absurd (omega arith);
-          too_long = λ is. absurd (omega arith);
-          lacks_list = λ lacks. (refl, holds may_fail_before refl);
-          refuses_list = some-from (list_bytes g.list g.files) _ (λ bytes told n bad. (refl, inl (holds (λ k. (k == 13) || ((k == 3) || (k == 9))) refl)));
-          refuses_words = λ words. (refl, holds (λ k. (k == 1) || (may_fail_before k || (k == 13))) refl);
-          refuses_longer = λ runs. some-from g.script _ (λ bytes told long. (refl, holds (λ k. (k == 8) || (may_fail_before k || (k == 13))) refl));
-          refuses_script = λ runs. some-from g.script _ (λ bytes told n bad. (refl, holds (λ k. (k == 4) || ((k == 8) || (may_fail_before k || (k == 13)))) refl));
-          sink_fault = λ is. absurd (omega arith);
-        }
+    -- at each status but that of the sink or memory there is the cause of that status
+    idle-ends : ((k : ℕ) → IsFalse (may_lack k) → status ≡ k → (line : List ℕ) × Refuses asked g faults_before faults_after k noted line)
+        → ((f : ℕ → Bool) → IsTrue (f 3) → IsTrue (f 9)
+        → ((planned : ℕ) (line : List ℕ) → Refuses asked g faults_before faults_after planned noted line → IsTrue (f planned)) → IsTrue (f status))
+        → NotedAlone g.script g.list g.files status noted
+        → ((bytes : List ℕ) (n : ℕ) → list_bytes g.list g.files ≡ Some bytes → digests_of bytes ≡ Err n → RefusesList status faults_before faults_after)
+        → (status ≡ 3 → Rose faults_before.sink faults_after.sink)
+        → EndsAs (in_short asked) g.list g.files g.script status noted [] counts counts faults_before faults_after
+    idle-ends at holds alone_noted refuses three = record {
+      does = some-from g.script _ (λ bytes told calls reads.
+          record { calls = (calls, refl); all_calls = λ e. let w = at 0 refl e in absurd ((why-planned 0 noted w.0 w.1).1 refl) });
+      untouched = λ empty. refl;
+      made = refl;
+      lost_turns = none-lost counts;
+      fault_turns = λ t within is. absurd (no-turn t within);
+      read_faults = λ t within is. absurd (no-turn t within);
+      ends = λ n t is end. absurd (cc);
+      by_last = λ t is. absurd (cc);
+      by_none = λ empty. holds may_end_before refl refl (λ planned line why. (why-planned planned noted line why).0);
+      noted_alone = λ empty. alone_noted;
+      all_done = λ is. refl;
+      not_read = λ is empty. let w = at 2 refl is in why-not_read 2 noted w.0 w.1 refl;
+      not_script = λ is. let w = at 4 refl is in why-script 4 noted w.0 w.1 refl;
+      not_list = λ is. let w = at 13 refl is in why-list 13 noted w.0 w.1 refl;
+      usage = λ is. let w = at 1 refl is in why-usage 1 noted w.0 w.1 refl;
+      too_long = λ is. let w = at 8 refl is in why-long 8 noted w.0 w.1 refl;
+      lacks_list = λ lacks. (refl, holds may_fail_before refl refl (λ planned line why. lacks-list planned noted line why lacks));
+      refuses_list = some-from (list_bytes g.list g.files) _ (λ bytes told n bad. (refl, refuses bytes n told bad));
+      refuses_words = λ words.
+          (refl, holds (λ k. (k == 1) || (may_fail_before k || (k == 13))) refl refl (λ planned line why. bad-words planned noted line why words));
+      refuses_longer = λ runs. some-from g.script _ (λ bytes told long.
+          (refl, holds (λ k. (k == 8) || (may_fail_before k || (k == 13))) refl refl
+          (λ planned line why. longer planned noted line why runs bytes told long)));
+      refuses_script = λ runs. some-from g.script _ (λ bytes told n bad.
+          (refl, holds (λ k. (k == 4) || ((k == 8) || (may_fail_before k || (k == 13)))) refl refl
+          (λ planned line why. no-script planned noted line why runs)));
+      sink_fault = three;
+    }
 
-    pub refused-ends : (planned : ℕ) (line : List ℕ) (taken_before taken_after : Option (List ℕ)) → Refuses asked g faults_before faults_after planned noted line → Prints line planned status taken_before taken_after faults_before.sink faults_after.sink
+    starved-ends : status ≡ 9 → noted ≡ note.Nothing
+        → EndsAs (in_short asked) g.list g.files g.script status noted [] counts counts faults_before faults_after
+    starved-ends nine quiet =
+        idle-ends (λ k whole is. absurd (false≢true (sym whole ∙ ap may_lack (sym is ∙ nine))))
+        (λ f three at_nine why. subst (λ (k : ℕ). IsTrue (f k)) (sym nine) at_nine)
+        (subst (λ (n : Note). NotedAlone g.script g.list g.files status n) (sym quiet) (noted_alone.Nothing (ap has_note nine)))
+        (λ bytes n told bad. inl (ap (λ (k : ℕ). (k == 13) || ((k == 3) || (k == 9))) nine)) (λ is. absurd (omega (arith, is, nine)))
+
+    pub refused-ends : (planned : ℕ) (line : List ℕ) (taken_before taken_after : Option (List ℕ))
+        → Refuses asked g faults_before faults_after planned noted line
+        → Prints line planned status taken_before taken_after faults_before.sink faults_after.sink
         → EndsAs (in_short asked) g.list g.files g.script status noted [] counts counts faults_before faults_after
     refused-ends planned line taken_before taken_after why prints =
-        let known = why-planned planned noted line why in
-        let holds = by-plan line planned status taken_before taken_after faults_before.sink faults_after.sink prints in
         let plan = printed-plan line planned status taken_before taken_after faults_before.sink faults_after.sink prints in
-        let same : (k : ℕ) → IsFalse (may_lack k) → status ≡ k → planned ≡ k = λ k lacks is. sym (plan (subst (λ (n : ℕ). IsFalse (may_lack n)) (sym is) lacks)) ∙ is in
-        record {
-          does = some-from g.script _ (λ bytes told calls reads. record { calls = (calls, refl); all_calls = λ e. absurd (known.1 (same 0 refl e)) });
-          untouched = λ empty. refl;
-          made = refl;
-          lost_turns = none-lost counts;
-          fault_turns = λ t within is. absurd (no-turn t within);
-          read_faults = λ t within is. absurd (no-turn t within);
-          ends = λ n t is end. absurd (cc);
-          by_last = λ t is. absurd (cc);
-          by_none = λ empty. holds may_end_before refl refl known.0;
-          noted_alone = λ empty. alone planned noted line status taken_before taken_after faults_before.sink faults_after.sink why prints;
-          all_done = λ is. refl;
-          not_read = λ is empty. why-not_read planned noted line why (same 2 refl is);
-          not_script = λ is. why-script planned noted line why (same 4 refl is);
-          not_list = λ is. why-list planned noted line why (same 13 refl is);
-          usage = λ is. why-usage planned noted line why (same 1 refl is);
-          too_long = λ is. why-long planned noted line why (same 8 refl is);
-          lacks_list = λ lacks. (refl, holds may_fail_before refl refl (lacks-list planned noted line why lacks));
-          refuses_list = some-from (list_bytes g.list g.files) _ (λ bytes told n bad. (refl, bad-status planned noted line status taken_before taken_after faults_before.sink faults_after.sink why prints bytes n told bad));
-          refuses_words = λ words. (refl, holds (λ k. (k == 1) || (may_fail_before k || (k == 13))) refl refl (bad-words planned noted line why words));
-          refuses_longer = λ runs. some-from g.script _ (λ bytes told long. (refl, holds (λ k. (k == 8) || (may_fail_before k || (k == 13))) refl refl (longer planned noted line why runs bytes told long)));
-          refuses_script = λ runs. some-from g.script _ (λ bytes told n bad. (refl, holds (λ k. (k == 4) || ((k == 8) || (may_fail_before k || (k == 13)))) refl refl (no-script planned noted line why runs)));
-          sink_fault = printed-rose line planned status taken_before taken_after faults_before.sink faults_after.sink prints known.2;
-        }
+        idle-ends
+        (λ k whole is. (
+          line,
+          subst (λ (n : ℕ). Refuses asked g faults_before faults_after n noted line) (sym (plan (ap may_lack is ∙ whole)) ∙ is) why,
+        ))
+        (λ f three nine by.
+        by-plan line planned status taken_before taken_after faults_before.sink faults_after.sink prints f three nine (by planned line why))
+        (alone planned noted line status taken_before taken_after faults_before.sink faults_after.sink why prints)
+        (λ bytes n told bad.
+        bad-status planned noted line status taken_before taken_after faults_before.sink faults_after.sink why prints bytes n told bad)
+        (printed-rose line planned status taken_before taken_after faults_before.sink faults_after.sink prints
+        (why-planned planned noted line why).2)
 
 -- ---- turns ran
 

@@ -35,7 +35,7 @@ use Rattle.script_cmd.specs.Promises.{given_to, HeadlineHolds, WaysKeepTheHeadli
 use Rattle.script_runs.proofs.Shapes.{end-of, world-of}
 use Rattle.script_cmd.proofs.Inputs.{inputs-of}
 use Rattle.script_runs.proofs.PromiseWords.{boot-is-script, same-calls}
-use Rattle.script_runs.proofs.TopPrints.{printed-plan}
+use Rattle.script_runs.proofs.TopPrints.{done-planned}
 use Rattle.script_cmd.proofs.PromiseEnds.{why-planned}
 
 -- ---- the calls
@@ -99,32 +99,16 @@ module _ (passes : List ℕ → Bool) (tells : Bool) (files : Option (List ℕ �
 
 -- ---- of the calls that are asked for
 
-abbrev no-faults : Faults
-no-faults = record { files = 0; source = 0; sink = 0 }
-
--- the headline, of what it speaks of alone
-abbrev HoldsFor : (List ℕ → Bool) → Bool → Option Asked → Option (List ℕ → Option (List ℕ)) → Option (List ℕ) → List Turn → ℕ → TurnMoment → TurnMoment → Type 0
-HoldsFor passes tells asked files source journal status old new =
-    HeadlineHolds passes tells (inputs-of asked None files source) (end-of journal status note.Nothing) (world-of old None no-faults) (world-of new None no-faults)
-
-module _ (passes : List ℕ → Bool) (tells : Bool) (asked : Option Asked) (files : Option (List ℕ → Option (List ℕ))) (source : Option (List ℕ)) (status : ℕ) (old : TurnMoment) where
-  none-keeps : (journal : List Turn) (new : TurnMoment) → journal ≡ [] → new ≡ old → status ≢ 0 → HoldsFor passes tells asked files source journal status old new
-  none-keeps journal new empty same not_done told E start calls given asks =
-      idle-head passes tells files status old told E start calls journal new empty same (λ e. absurd (not_done e)) given
-
-  ran-keeps : (journal : List Turn) (noted : Note) (new : TurnMoment) (mine : List Call) (on : Option Fields) (from to : ℕ) → HasCalls (script_asked (in_short asked) source) mine
-      → Ran passes tells files journal old (at on new.told new.writes new.counts new.armed new.power) from to → ScriptEnded mine journal status noted → HoldsFor passes tells asked files source journal status old new
-  ran-keeps journal noted new mine on from to has turns ended told E start calls given asks =
-      let same : mine ≡ calls = asked-calls (in_short asked) source calls mine asks has in
-      ran-head passes tells files status old told E start calls journal new on from to (ended.calls.0, ended.calls.1 ∙ same) (λ e. ended.all_calls e ∙ same) turns given
-
 pub ways-keep-the-headline : WaysKeepTheHeadline
-ways-keep-the-headline passes tells inputs end old new (starved empty same nine quiet stuck) =
-    none-keeps passes tells inputs.asked inputs.files inputs.source end.status old.flash end.journal new.flash empty same (λ e. omega arith)
-ways-keep-the-headline passes tells inputs end old new (refused planned line empty same why prints) =
-    none-keeps passes tells inputs.asked inputs.files inputs.source end.status old.flash end.journal new.flash empty same
-    (λ e.
-    let whole : IsFalse (may_lack end.status) = subst (λ (k : ℕ). IsFalse (may_lack k)) (sym e) refl in
-    (why-planned inputs.asked (given_to inputs) old.faults new.faults planned end.noted line why).1 (sym (printed-plan line planned end.status old.taken new.taken old.faults.sink new.faults.sink prints whole) ∙ e))
-ways-keep-the-headline passes tells inputs end old new (ran calls on good asks has turns ended printed) =
-    ran-keeps passes tells inputs.asked inputs.files inputs.source end.status old.flash end.journal end.noted new.flash calls on old.faults.files new.faults.files has turns ended
+ways-keep-the-headline passes tells inputs end old new (starved empty same nine quiet stuck) told E start calls given asks =
+    idle-head passes tells inputs.files end.status old.flash told E start calls end.journal new.flash empty same
+    (λ e. absurd (omega (arith, e, nine))) given
+ways-keep-the-headline passes tells inputs end old new (refused planned line empty same why prints) told E start calls given asks =
+    idle-head passes tells inputs.files end.status old.flash told E start calls end.journal new.flash empty same
+    (λ e. absurd
+    ((why-planned inputs.asked (given_to inputs) old.faults new.faults planned end.noted line why).1
+    (done-planned line planned end.status old.taken new.taken old.faults.sink new.faults.sink prints e))) given
+ways-keep-the-headline passes tells inputs end old new (ran mine on good asks has turns ended printed) told E start calls given asked =
+    let same : mine ≡ calls = asked-calls (in_short inputs.asked) inputs.source calls mine asked has in
+    ran-head passes tells inputs.files end.status old.flash told E start calls end.journal new.flash on old.faults.files new.faults.files
+    (ended.calls.0, ended.calls.1 ∙ same) (λ e. ended.all_calls e ∙ same) turns given

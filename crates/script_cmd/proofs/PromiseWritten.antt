@@ -81,12 +81,6 @@ module _ (asked : Option Asked) (g : Given) (faults_before faults_after : Faults
   wrote-line planned noted line (usage good none) is =
       wrote-alone (Refuses asked g faults_before faults_after) g.script (list_bytes g.list g.files) status noted line (λ e. refl) (λ e. absurd (omega arith)) (λ e. absurd (omega arith)) (λ e. absurd (omega arith)) (λ e. absurd (omega arith))
       (λ e. omega arith) (λ e. absurd (omega arith)) (λ e. absurd (omega arith))
-  wrote-line planned noted line (not_read good run rose) is =
-      wrote-alone (Refuses asked g faults_before faults_after) g.script (list_bytes g.list g.files) status noted line (λ e. absurd (omega arith)) (λ e. refl) (λ e. absurd (omega arith)) (λ e. absurd (omega arith)) (λ e. absurd (omega arith))
-      (λ e. omega arith) (λ e. absurd (omega arith)) (λ e. absurd (omega arith))
-  wrote-line planned noted line (list_not_read some why) is =
-      wrote-alone (Refuses asked g faults_before faults_after) g.script (list_bytes g.list g.files) status noted line (λ e. absurd (omega arith)) (λ e. refl) (λ e. absurd (omega arith)) (λ e. absurd (omega arith)) (λ e. absurd (omega arith))
-      (λ e. omega arith) (λ e. absurd (omega arith)) (λ e. absurd (omega arith))
   wrote-line planned noted line (too_long good run long) is =
       wrote-alone (Refuses asked g faults_before faults_after) g.script (list_bytes g.list g.files) status noted line (λ e. absurd (omega arith)) (λ e. absurd (omega arith)) (λ e. absurd (omega arith)) (λ e. refl) (λ e. absurd (omega arith))
       (λ e. omega arith) (λ e. absurd (omega arith)) (λ e. absurd (omega arith))
@@ -95,6 +89,10 @@ module _ (asked : Option Asked) (g : Given) (faults_before faults_after : Faults
       (λ e. omega arith) (λ e. absurd (omega arith)) (λ e. absurd (omega arith))
   wrote-line planned noted line (bad_list n some there bad) is =
       wrote-alone (Refuses asked g faults_before faults_after) g.script (list_bytes g.list g.files) status noted line (λ e. absurd (omega arith)) (λ e. absurd (omega arith)) (λ e. absurd (omega arith)) (λ e. absurd (omega arith)) (λ e. (n, refl, bad, refl))
+      (λ e. omega arith) (λ e. absurd (omega arith)) (λ e. absurd (omega arith))
+  wrote-line planned noted line other is =
+      wrote-alone (Refuses asked g faults_before faults_after) g.script (list_bytes g.list g.files) status noted line
+      (λ e. absurd (omega arith)) (λ e. refl) (λ e. absurd (omega arith)) (λ e. absurd (omega arith)) (λ e. absurd (omega arith))
       (λ e. omega arith) (λ e. absurd (omega arith)) (λ e. absurd (omega arith))
 
   stays : (taken_before taken_after : Option (List ℕ)) (before : List ℕ) → taken_before ≡ Some before → taken_after ≡ taken_before → taken_after ≡ Some (before ++ [])

@@ -1,5 +1,5 @@
 -- What a serving took, did and wrote, by how it ended.
-use Rattle.std.proofs.Common.{◌≡◌, ◌≢◌, ◌≤◌, ℕ, ◌+◌, List, [], ◌∷◌, ◌++◌, length, length-append, take, drop, Option, Some, None, Result, Ok, Err, refl, sym, ap, subst, ◌∙◌, arith, append-nil, append_assoc}
+use Rattle.std.proofs.Common.{◌≡◌, ◌≢◌, ◌==◌, if◌then◌else◌, ◌≤◌, ℕ, ◌+◌, List, [], ◌∷◌, ◌++◌, length, length-append, take, drop, Option, Some, None, Result, Ok, Err, refl, sym, ap, subst, ◌∙◌, arith, append-nil, append_assoc}
 use Rattle.std.specs.Prelude.{IfSome, IsTrue, false}
 use Rattle.std.proofs.lemmas.Bool.{false≢true}
 use Rattle.std.specs.Io.KnownBytes.{Appends, Consumes, IsAtEnd}
@@ -59,24 +59,25 @@ no-turn-reads other e is = absurd cc
 -- no turn ends a serving by this
 not-sink : (r : Reply) → end_by r ≡ Err end.SinkFailed → ⊥
 not-sink reply.Fault is = cc
-not-sink (reply.NotBooted why) is = cc
-not-sink reply.Lost is = cc
 not-sink other is = cc
 
 early-some : (e : ServeEnd) → IsEarlyEnd e → status_of e ≡ 0 → ⊥
 early-some end.End early is = early
-early-some end.ReadFailed early is = omega arith
-early-some end.SinkFailed early is = omega arith
-early-some end.FlashFault early is = omega arith
-early-some (end.NotBooted why) early is = omega arith
-early-some end.TooLong early is = omega arith
-early-some end.NoMemory early is = omega arith
-early-some end.BadFrame early is = omega arith
-early-some end.PowerLost early is = omega arith
+early-some other early is = omega arith
 
-pub end-at-three : (e : ServeEnd) → status_of e ≡ 3 → e ≡ end.SinkFailed
-end-at-three end.SinkFailed is = refl
-end-at-three other is = absurd (omega arith)
+-- a status but 6 is that of one end
+end_at : ℕ → ServeEnd
+end_at k =
+    if k == 0 then end.End else if k == 2 then end.ReadFailed else if k == 3 then end.SinkFailed else if k == 5 then end.FlashFault
+    else if k == 8 then end.TooLong else if k == 9 then end.NoMemory else if k == 11 then end.BadFrame else end.PowerLost
+
+end-is : (e : ServeEnd) → status_of e ≢ 6 → end_at (status_of e) ≡ e
+unfolding end_at
+end-is (end.NotBooted why) other = absurd (other refl)
+end-is e other = refl
+
+pub end-at : (e x : ServeEnd) → status_of x ≢ 6 → status_of e ≡ status_of x → e ≡ x
+end-at e x other is = sym (end-is e (λ six. other (sym is ∙ six))) ∙ ap end_at is ∙ end-is x other
 
 -- ---- the account
 
@@ -143,7 +144,7 @@ put-last e turns more old new piece early kept is_frame (front is n bytes later 
   part = take n piece;
   journal_is = kept;
   took = bytes;
-  none = λ differs. absurd (differs (end-at-three e is));
+  none = λ differs. absurd (differs (end-at e end.SinkFailed (λ six. omega arith) is));
   front = λ failed. (n, ap (take n) is_frame);
   goes = λ more_is. false≢true (sym (ap reads_no_more is) ∙ more_is);
 }

@@ -28,6 +28,7 @@ use Rattle.script_runs.specs.Ending.{Ending, World}
 use Rattle.script_cmd.specs.Promises.{RanHolds}
 use Rattle.script_cmd.specs.ServeWays.{ServeWay, ServesSource, Unread, left_by_serving, list_refused, note_of, served, sink_of, starved}
 use Rattle.script_cmd.specs.ServedBy.{ServedBy, ServedComplete, ServedEnds, ServedHeadline, ServedWrites, TakesAtMost, WroteFrames, WroteLine, may_end_serving, reads_no_more}
+use Rattle.flash_commands.specs.Showing.{RefusedList}
 use Rattle.script_cmd.specs.Granted.{RefusesBadList}
 use Rattle.script_runs.specs.Ways.{Given, Refuses, bad_list, bad_script, list_not_read, not_read, too_long, usage}
 use Rattle.script_cmd.specs.ByList.{may_lack_list}
@@ -37,39 +38,15 @@ use Rattle.script_cmd.proofs.PromiseRan.{idle-holds, ran-holds}
 use Rattle.script_runs.proofs.TopPrints.{by-plan}
 use Rattle.script_cmd.proofs.PromiseTurns.{some-from}
 use Rattle.script_cmd.proofs.PromiseWritten.{appended}
-use Rattle.script_cmd.proofs.ServeAccount.{Account, account, end-at-three}
-use Rattle.script_cmd.proofs.TopCompletes.{granted}
+use Rattle.script_cmd.proofs.ServeAccount.{Account, account, end-at}
+use Rattle.script_cmd.proofs.TopCompletes.{granted, list-other, list-plan, list-status}
 use Rattle.script_cmd.proofs.TopShows.{good-list-kept, refused-list, starved-list}
 
 -- ---- the end of a status
 
-end-at-zero : (e : ServeEnd) → status_of e ≡ 0 → e ≡ end.End
-end-at-zero end.End is = refl
-end-at-zero other is = absurd (omega arith)
-
-end-at-two : (e : ServeEnd) → status_of e ≡ 2 → e ≡ end.ReadFailed
-end-at-two end.ReadFailed is = refl
-end-at-two other is = absurd (omega arith)
-
-end-at-five : (e : ServeEnd) → status_of e ≡ 5 → e ≡ end.FlashFault
-end-at-five end.FlashFault is = refl
-end-at-five other is = absurd (omega arith)
-
 end-at-six : (e : ServeEnd) → status_of e ≡ 6 → (why : NoBoot) × (e ≡ end.NotBooted why)
 end-at-six (end.NotBooted why) is = (why, refl)
 end-at-six other is = absurd (omega arith)
-
-end-at-eight : (e : ServeEnd) → status_of e ≡ 8 → e ≡ end.TooLong
-end-at-eight end.TooLong is = refl
-end-at-eight other is = absurd (omega arith)
-
-end-at-eleven : (e : ServeEnd) → status_of e ≡ 11 → e ≡ end.BadFrame
-end-at-eleven end.BadFrame is = refl
-end-at-eleven other is = absurd (omega arith)
-
-end-at-twelve : (e : ServeEnd) → status_of e ≡ 12 → e ≡ end.PowerLost
-end-at-twelve end.PowerLost is = refl
-end-at-twelve other is = absurd (omega arith)
 
 no-thirteen : (e : ServeEnd) → status_of e ≡ 13 → ⊥
 no-thirteen end.End is = omega arith
@@ -90,52 +67,39 @@ takes-none status stream rest same other = record {
 
 -- ---- a list
 
--- the line of a list stands for these alone
-list-plan : (g : Given) (before after : Faults) (planned : ℕ) (noted : Note) (line : List ℕ) → Refuses (Some ask.serve) g before after planned noted line → (planned ≡ 2) ⊎ (planned ≡ 13)
-list-plan g before after planned noted line (usage good is) = cc
-list-plan g before after planned noted line (not_read good is rose) = cc
-list-plan g before after planned noted line (list_not_read some why) = inl refl
-list-plan g before after planned noted line (too_long good is long) = cc
-list-plan g before after planned noted line (bad_script n good (inl is) short bad) = cc
-list-plan g before after planned noted line (bad_script n good (inr is) short bad) = cc
-list-plan g before after planned noted line (bad_list n some there bad) = inr refl
-
-plan-holds : (planned : ℕ) (f : ℕ → Bool) → IsTrue (f 2) → IsTrue (f 13) → (planned ≡ 2) ⊎ (planned ≡ 13) → IsTrue (f planned)
-plan-holds planned f two thirteen (inl is) = subst (λ (k : ℕ). IsTrue (f k)) (sym is) two
-plan-holds planned f two thirteen (inr is) = subst (λ (k : ℕ). IsTrue (f k)) (sym is) thirteen
-
-plan-other : (planned k : ℕ) → (planned ≡ 2) ⊎ (planned ≡ 13) → (2 ≡ k → ⊥) → (13 ≡ k → ⊥) → planned ≡ k → ⊥
-plan-other planned k (inl is) two thirteen same = two (sym is ∙ same)
-plan-other planned k (inr is) two thirteen same = thirteen (sym is ∙ same)
-
 module _ (g : Given) (ending : Ending Note) (old new : World) (rest : Option (List ℕ)) (planned : ℕ) (line : List ℕ) (none : ending.journal ≡ []) (why : Refuses (Some ask.serve) g old.faults new.faults planned ending.noted line)
     (prints : Prints line planned ending.status old.taken new.taken old.faults.sink new.faults.sink) where
-  plan : (planned ≡ 2) ⊎ (planned ≡ 13)
-  plan = list-plan g old.faults new.faults planned ending.noted line why
-
-  list-status : (f : ℕ → Bool) → IsTrue (f 2) → IsTrue (f 3) → IsTrue (f 9) → IsTrue (f 13) → IsTrue (f ending.status)
-  list-status f two three nine thirteen = by-plan line planned ending.status old.taken new.taken old.faults.sink new.faults.sink prints f three nine (plan-holds planned f two thirteen plan)
+  was-refused : RefusedList ask.serve g ending.status ending.noted old new
+  was-refused = (planned, line, why, prints)
 
   -- no other status is of a list
-  list-other : (k : ℕ) → IsFalse (may_lack_list k) → ending.status ≡ k → ⊥
-  list-other k other is = false≢true (sym other ∙ subst (λ (n : ℕ). IsTrue (may_lack_list n)) is (list-status may_lack_list refl refl refl refl))
+  other : (k : ℕ) → IsFalse (may_lack_list k) → ending.status ≡ k → ⊥
+  other = list-other ask.serve (λ is. cc) (λ is. cc) g ending.status ending.noted old new was-refused
+
+  -- nor is a line put for another
+  unplanned : (k : ℕ) → (2 ≡ k → ⊥) → (13 ≡ k → ⊥) → planned ≡ k → ⊥
+  unplanned k two thirteen is =
+      elim (list-plan ask.serve (λ x. cc) (λ x. cc) g old.faults new.faults planned ending.noted line why) [
+        | inl e ↦ two (sym e ∙ is)
+        | inr e ↦ thirteen (sym e ∙ is)
+      ]
 
   list-ends : Unread g old new rest → ServedEnds g ending old new rest
   list-ends unread =
       let ends = refused-ends (Some ask.serve) g old.faults new.faults ending.status ending.noted old.flash.counts planned line old.taken new.taken why prints in
       record {
-        no_other = list-status may_end_serving refl refl refl refl;
-        at_end = λ is. absurd (list-other 0 refl is);
-        whole = λ is. absurd (list-other 0 refl is);
+        no_other = list-status ask.serve (λ is. cc) (λ is. cc) g ending.status ending.noted old new was-refused may_end_serving refl refl refl refl;
+        at_end = λ is. absurd (other 0 refl is);
+        whole = λ is. absurd (other 0 refl is);
         not_read = λ is. elim (ends.not_read is refl) [ inl source ↦ absurd (let never = source.0 in cc) | inr list ↦ inr (none, list.0, list.1) ];
         read_all = λ unless. unread.1;
         sink_fault = ends.sink_fault;
-        flash_fault = λ is. absurd (list-other 5 refl is);
-        not_booted = λ is. absurd (list-other 6 refl is);
-        taken = takes-none ending.status g.script rest unread.0 (list-other 8 refl);
-        too_long = λ is. absurd (list-other 8 refl is);
-        bad_frame = λ is. absurd (list-other 11 refl is);
-        lost = λ is. absurd (list-other 12 refl is);
+        flash_fault = λ is. absurd (other 5 refl is);
+        not_booted = λ is. absurd (other 6 refl is);
+        taken = takes-none ending.status g.script rest unread.0 (other 8 refl);
+        too_long = λ is. absurd (other 8 refl is);
+        bad_frame = λ is. absurd (other 11 refl is);
+        lost = λ is. absurd (other 12 refl is);
         not_list = ends.not_list;
       }
 
@@ -148,16 +112,16 @@ module _ (g : Given) (ending : Ending Note) (old new : World) (rest : Option (Li
       go : Prints line planned ending.status old.taken new.taken old.faults.sink new.faults.sink
           → (w : List ℕ) × (new.taken ≡ Some (before ++ w)) × (WroteFrames g.script ending.journal ending.status w ⊎ WroteLine g ending old new w)
       go (all is bytes same) =
-          (line, appended old.taken new.taken line before told bytes, inr (list-line line (λ again. refl) ([], append-nil line) (λ nine. absurd (plan-other planned 9 plan (λ e. omega arith) (λ e. omega arith) (sym is ∙ nine)))))
+          (line, appended old.taken new.taken line before told bytes, inr (list-line line (λ again. refl) ([], append-nil line) (λ nine. absurd (unplanned 9 (λ e. omega arith) (λ e. omega arith) (sym is ∙ nine)))))
       go (front is n bytes later once) = (
         take n line,
         appended old.taken new.taken (take n line) before told bytes,
-        inr (list-line (take n line) (λ again. absurd (plan-other planned 3 plan (λ e. omega arith) (λ e. omega arith) (sym again ∙ is))) (drop n line, take-append-drop n line) (λ nine. absurd (omega (arith, is, nine)))),
+        inr (list-line (take n line) (λ again. absurd (unplanned 3 (λ e. omega arith) (λ e. omega arith) (sym again ∙ is))) (drop n line, take-append-drop n line) (λ nine. absurd (omega (arith, is, nine)))),
       )
       go (nothing is same quiet) = (
         [],
         same ∙ told ∙ ap Some (sym (append-nil before)),
-        inr (list-line [] (λ again. absurd (plan-other planned 9 plan (λ e. omega arith) (λ e. omega arith) (sym again ∙ is))) (line, refl) (λ nine. refl)),
+        inr (list-line [] (λ again. absurd (unplanned 9 (λ e. omega arith) (λ e. omega arith) (sym again ∙ is))) (line, refl) (λ nine. refl)),
       )
 
 -- ---- nothing was done for want of memory
@@ -211,30 +175,37 @@ module _ (passes : List ℕ → Bool) (tells : Bool) (g : Given) (ending : Endin
   cause-at : (x : ServeEnd) → e ≡ x → Cause x old.flash (sink_of old) (left_by_serving by.on by.exchange ending.journal new) from to
   cause-at x same = subst (λ (y : ServeEnd). Cause y old.flash (sink_of old) (left_by_serving by.on by.exchange ending.journal new) from to) same by.holds.cause
 
+  at : (x : ServeEnd) → status_of x ≢ 6 → ending.status ≡ status_of x → e ≡ x
+  at x other same = end-at e x other (sym is ∙ same)
+
+  cause : (x : ServeEnd) → status_of x ≢ 6 → ending.status ≡ status_of x
+      → Cause x old.flash (sink_of old) (left_by_serving by.on by.exchange ending.journal new) from to
+  cause x other same = cause-at x (at x other same)
+
   served-ends : ServedEnds g ending old new rest
   served-ends = record {
     no_other = subst (λ (k : ℕ). IsTrue (may_end_serving k)) (sym is) (ends-known e);
-    at_end = λ zero. done.left (end-at-zero e (sym is ∙ zero));
-    whole = λ zero. some-from g.script _ (λ stream told. cause-at end.End (end-at-zero e (sym is ∙ zero)) stream told);
+    at_end = λ zero. done.left (at end.End (λ z. omega arith) zero);
+    whole = λ zero. some-from g.script _ (λ stream told. cause end.End (λ z. omega arith) zero stream told);
     not_read = λ two.
-        let failed = end-at-two e (sym is ∙ two) in
+        let failed = at end.ReadFailed (λ z. omega arith) two in
         inl (done.some (λ x. let both = sym failed ∙ x in cc), by.holds.source_count.failed failed);
     read_all = λ unless. by.holds.source_count.quiet (λ failed. done.some (λ x. let both = sym failed ∙ x in cc) (unless (is ∙ ap status_of failed)));
-    sink_fault = λ three. cause-at end.SinkFailed (end-at-three e (sym is ∙ three));
-    flash_fault = λ five. cause-at end.FlashFault (end-at-five e (sym is ∙ five));
+    sink_fault = λ three. cause end.SinkFailed (λ z. omega arith) three;
+    flash_fault = λ five. cause end.FlashFault (λ z. omega arith) five;
     not_booted = λ six. let w = end-at-six e (sym is ∙ six) in (w.0, cause-at (end.NotBooted w.0) w.1, said ∙ ap note_of w.1);
     taken = record {
       given = by.holds.given.given;
       consumed = by.holds.given.consumed;
       few = by.holds.given.few;
-      too_long = (λ eight. by.holds.given.too_long.0 (end-at-eight e (sym is ∙ eight)), λ more. is ∙ ap status_of (by.holds.given.too_long.1 more));
+      too_long = (λ eight. by.holds.given.too_long.0 (at end.TooLong (λ z. omega arith) eight), λ more. is ∙ ap status_of (by.holds.given.too_long.1 more));
     };
-    too_long = λ eight. some-from g.script _ (λ stream told. (cause-at end.TooLong (end-at-eight e (sym is ∙ eight)) stream told).1);
+    too_long = λ eight. some-from g.script _ (λ stream told. (cause end.TooLong (λ z. omega arith) eight stream told).1);
     bad_frame = λ eleven. some-from g.script _ (λ stream told.
-        let c = cause-at end.BadFrame (end-at-eleven e (sym is ∙ eleven)) stream told in
+        let c = cause end.BadFrame (λ z. omega arith) eleven stream told in
         let some = c.1.2 in
         (c.0, c.1.0, c.1.1, (λ none. omega (arith, some, ap length none))));
-    lost = λ twelve. let c = cause-at end.PowerLost (end-at-twelve e (sym is ∙ twelve)) in (c.0, c.1.unarmed unarmed);
+    lost = λ twelve. let c = cause end.PowerLost (λ z. omega arith) twelve in (c.0, c.1.unarmed unarmed);
     not_list = λ thirteen. absurd (no-thirteen e (sym is ∙ thirteen));
   }
 
@@ -247,13 +218,13 @@ module _ (passes : List ℕ → Bool) (tells : Bool) (g : Given) (ending : Endin
     turns = done.turns;
     part = done.part;
     come = done.come;
-    all = λ zero. done.all (end-at-zero e (sym is ∙ zero));
+    all = λ zero. done.all (at end.End (λ z. omega arith) zero);
     begin = done.begin;
     all_turns = λ no_more. done.all_turns (subst (λ (k : ℕ). IsTrue (reads_no_more k)) is no_more);
     calls = done.calls;
     written_is = whole;
     none = λ other. done.none (λ failed. other (is ∙ ap status_of failed));
-    front = λ three. done.front (end-at-three e (sym is ∙ three));
+    front = λ three. done.front (at end.SinkFailed (λ z. omega arith) three);
   }
 
   served-writes : ServedWrites g ending old new
@@ -314,7 +285,8 @@ module _ (passes : List ℕ → Bool) (tells : Bool) (g : Given) (ending : Endin
 
   all-served : ServeWay passes tells g ending old new rest → ServedComplete passes tells g ending old new
   all-served (list_refused none same unread (planned, line, why, prints)) told E start bodies given stream are few grants no_source =
-      absurd (granted ask.serve g old.flash.counts new.flash.counts old.faults new.faults planned ending.noted line (λ x. cc) (λ x. cc) grants why)
+      absurd
+      (granted ask.serve (λ x. cc) (λ x. cc) g old.flash.counts new.flash.counts old.faults new.faults planned ending.noted line grants why)
   all-served (starved none same unread nine quiet stuck) told E start bodies given stream are few grants no_source = inr nine
   all-served (served good unarmed unread e is said by) told E start bodies given stream are few grants no_source =
       completes passes tells g ending old new rest unarmed e is said by told E start bodies given stream are few grants no_source

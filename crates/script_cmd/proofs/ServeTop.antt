@@ -18,7 +18,7 @@ use Rattle.script_runs.specs.Ending.{World}
 use Rattle.script_cmd.specs.ServeWays.{ServeWay, ServesSource, list_refused, served, sink_of, starved}
 use Rattle.script_runs.specs.Ways.{HasGoodList, Given, Refuses}
 use Rattle.script_runs.proofs.Shapes.{end-of, world-of}
-use Rattle.script_runs.proofs.TopWays.{refuses}
+use Rattle.script_cmd.proofs.TopLists.{refused-behind}
 
 -- a list was refused, and nothing else was done
 pub refused-serves : (passes : List ℕ → Bool) (tells : Bool) (g : Given) (old new : TurnMoment) (status : ℕ) (noted : Note) (journal : List Turn) (taken_before taken_after : Option (List ℕ)) (faults_before faults_after : Faults) (planned : ℕ) (line : List ℕ) (n : Note)
@@ -45,18 +45,12 @@ module _ (passes : List ℕ → Bool) (tells : Bool) (told files : Option Direct
       later : first.files ≤ faults_before.files
       later = omega (arith, counted)
 
-      at-sink : (line : List ℕ) (planned : ℕ) → Prints line planned status taken_before taken_after faults_before.sink faults_after.sink → Prints line planned status taken_before taken_after first.sink faults_after.sink
-      at-sink line planned p = subst (λ (n : ℕ). Prints line planned status taken_before taken_after n faults_after.sink) (sym sink) p
-
       go : ServeWay passes tells (record { list = None; files = told; script = script }) (end-of journal status noted) (world-of old taken_before faults_before) (world-of new taken_after faults_after) rest
           → ServeWay passes tells (record { list = Some name; files = files; script = script }) (end-of journal status noted) (world-of old taken_before first) (world-of new taken_after faults_after) rest
       go (list_refused none kept unread refused) =
-          list_refused none kept (unread.0, unread.1 ∙ sym source) (
-            refused.0,
-            refused.1,
-            refuses (Some ask.serve) told files name script first faults_before faults_after refused.0 noted refused.1 good later source refused.2,
-            at-sink refused.1 refused.0 refused.3,
-          )
+          list_refused none kept (unread.0, unread.1 ∙ sym source)
+          (refused-behind told files name script old new status noted taken_before taken_after first faults_before faults_after ask.serve good later
+          source sink refused)
       go (starved none kept unread nine quiet stuck) = starved none kept (unread.0, unread.1 ∙ sym source) nine quiet (stuck.0, stuck.1 ∙ sym sink)
       go (served listed unarmed unread e is said by) =
           served good unarmed (unread ∙ counted) e is said

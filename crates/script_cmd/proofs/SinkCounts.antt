@@ -33,33 +33,25 @@ use Rattle.script_runs.specs.Ways as way
 use Rattle.script_runs.specs.WaysByTable.{WayByTable}
 use Rattle.script_runs.specs.WaysByTable as table
 use Rattle.script_runs.specs.declared.done.Note.{Note}
+use Rattle.script_cmd.proofs.PromiseEnds.{why-planned}
 use Rattle.script_runs.proofs.TopPrints.{counts-line, counts-none}
 
 -- ---- no plan is the status 3
 
-refused-other : (asked : Option Asked) (g : Given) (before after : Faults) (planned : ℕ) (noted : model.Note) (line : List ℕ) → Refuses asked g before after planned noted line → planned ≢ 3
-refused-other asked g before after planned noted line (way.usage good is) three = absurd (omega arith)
-refused-other asked g before after planned noted line (way.not_read good is rose) three = absurd (omega arith)
-refused-other asked g before after planned noted line (way.list_not_read some why) three = absurd (omega arith)
-refused-other asked g before after planned noted line (way.too_long good is long) three = absurd (omega arith)
-refused-other asked g before after planned noted line (way.bad_script n good asks short bad) three = absurd (omega arith)
-refused-other asked g before after planned noted line (way.bad_list n some there bad) three = absurd (omega arith)
+refused-other : (asked : Option Asked) (g : Given) (before after : Faults) (planned : ℕ) (noted : model.Note) (line : List ℕ)
+    → Refuses asked g before after planned noted line → planned ≢ 3
+refused-other asked g before after planned noted line why = (why-planned asked g before after planned noted line why).2
 
 found-other : (known : Type 0) (image : List ℕ) (before after : Counts) (planned : ℕ) (noted : model.Note) (line : List ℕ) → ShowFinds known image before after planned noted line → planned ≢ 3
 found-other known image before after planned noted line (show.numbers n are shows) three = absurd (omega arith)
-found-other known image before after planned noted line (show.none why shows) three = absurd (omega arith)
-found-other known image before after planned noted line (show.stopped cause) three = absurd (omega arith)
+found-other known image before after planned noted line other three = absurd (omega arith)
 
 format-other : (r : Result Formatted FormatStop) → format_status r ≢ 3
-format-other (Ok done) three = absurd (omega arith)
-format-other (Err (Input f)) three = absurd (omega arith)
 format-other (Err ReadFailed) three = absurd (omega arith)
-format-other (Err (Flash stop)) three = absurd (omega arith)
+format-other other three = absurd (omega arith)
 
 turn-other : (r : Reply) → status_by r ≢ 3
 turn-other reply.Fault three = absurd (omega arith)
-turn-other reply.ReadFault three = absurd (omega arith)
-turn-other (reply.NotBooted why) three = absurd (omega arith)
 turn-other other three = absurd (omega arith)
 
 -- ---- by the way

@@ -12,6 +12,7 @@ use Rattle.std.proofs.lemmas.Bool.{false≢true}
 use Rattle.std.proofs.lemmas.Option.{same_Some}
 use Rattle.std.proofs.lemmas.List.Elements.{Contains-append_right, Contains-get_or}
 use Rattle.flash_core.specs.Counts.{Rose}
+use Rattle.flash_core.specs.declared.flash.Counts.{Counts}
 use Rattle.flash_core.specs.May.{Guards}
 use Rattle.fwu_formats.specs.Digests.{passes_any}
 use Rattle.fwu_formats.specs.Layout.{ImageRow, Layout, fits_layout, blocks_needed}
@@ -64,8 +65,8 @@ use Rattle.script_cmd.proofs.PromiseHeadline.{fits, left-by}
 use Rattle.script_runs.proofs.TopPrints.{by-plan, printed-plan, not-done, raised-rose}
 use Rattle.script_turns.proofs.RunTurns.{rose-before}
 use Rattle.flash_commands.proofs.SoakRounds.{file-there}
-use Rattle.script_cmd.proofs.TopCompletes.{format-completes}
-use Rattle.script_cmd.proofs.TopShows.{good-list-kept, refused-list, starved-list}
+use Rattle.script_cmd.proofs.TopCompletes.{format-completes, list-granted, list-other, list-status, no-input, printed}
+use Rattle.script_cmd.proofs.TopShows.{falls-none, good-list-kept, refused-list, starved-list}
 
 -- ---- what was formatted
 
@@ -136,25 +137,20 @@ module _ (tells : Bool) (seed blocks : ℕ) (old start : TurnMoment) (done : For
 
 -- ---- statuses
 
--- a status that is not the planned one, and neither that of the sink nor of memory
-not-plan : (piece : List ℕ) (plan status k : ℕ) (taken_before taken_after : Option (List ℕ)) (faults_before faults_after : ℕ) → Prints piece plan status taken_before taken_after faults_before faults_after → status ≡ k → (plan ≡ k → ⊥) → IsFalse (may_lack k) → ⊥
-not-plan piece plan status k taken_before taken_after faults_before faults_after prints is other whole =
-    other (sym (printed-plan piece plan status taken_before taken_after faults_before faults_after prints (ap may_lack is ∙ whole)) ∙ is)
+-- a status that is neither that of the sink nor of memory is the planned one
+planned-at : (piece : List ℕ) (plan status k : ℕ) (taken_before taken_after : Option (List ℕ)) (faults_before faults_after : ℕ)
+    → Prints piece plan status taken_before taken_after faults_before faults_after → IsFalse (may_lack k) → status ≡ k → plan ≡ k
+planned-at piece plan status k taken_before taken_after faults_before faults_after prints whole is =
+    sym (printed-plan piece plan status taken_before taken_after faults_before faults_after prints (ap may_lack is ∙ whole)) ∙ is
 
 at-zero : (piece : List ℕ) (status : ℕ) (taken_before taken_after : Option (List ℕ)) (faults_before faults_after : ℕ) → Prints piece 0 status taken_before taken_after faults_before faults_after → status ≡ 0 → Appends taken_before taken_after piece
 at-zero piece status taken_before taken_after faults_before faults_after (all is bytes later) zero_is = bytes
 at-zero piece status taken_before taken_after faults_before faults_after (front is k bytes later rose) zero_is = absurd (omega arith)
 at-zero piece status taken_before taken_after faults_before faults_after (nothing is same later) zero_is = absurd (omega arith)
 
-printed : (piece : List ℕ) (status : ℕ) (taken_before taken_after : Option (List ℕ)) (faults_before faults_after : ℕ) → (Rose faults_before faults_after → ⊥) → Prints piece 0 status taken_before taken_after faults_before faults_after → (status ≡ 0) ⊎ (status ≡ 9)
-printed piece status taken_before taken_after faults_before faults_after fails (all is bytes later) = inl is
-printed piece status taken_before taken_after faults_before faults_after fails (front is k bytes later once) = absurd (fails (raised-rose faults_before faults_after once))
-printed piece status taken_before taken_after faults_before faults_after fails (nothing is same later) = inr is
-
 stop-other : (stop : FormatStop) → format_status (Err stop) ≡ 0 → ⊥
 stop-other (Input f) is = omega arith
-stop-other ReadFailed is = omega arith
-stop-other (Flash s) is = omega arith
+stop-other other is = omega arith
 
 turn-other : (r : Reply) (k : ℕ) → status_by r ≡ k → (k ≡ 0 → ⊥) → (k ≡ 2 → ⊥) → (k ≡ 5 → ⊥) → (k ≡ 6 → ⊥) → ⊥
 turn-other reply.Fault k is zero two five six = five (sym is)
@@ -170,35 +166,7 @@ turn-some r ends is = cc
 
 turn-five : (r : Reply) → status_by r ≡ 5 → r ≡ reply.Fault
 turn-five reply.Fault is = refl
-turn-five reply.ReadFault is = absurd (omega arith)
-turn-five (reply.NotBooted why) is = absurd (omega arith)
 turn-five r is = absurd (omega arith)
-
--- ---- a list
-
-module _ (seed n : ℕ) (g : Given) (faults_before faults_after : Faults) where
-  planned-two : (planned : ℕ) (told : model.Note) (line : List ℕ) → Refuses (Some (ask.soak seed n)) g faults_before faults_after planned told line → (planned ≡ 2) ⊎ (planned ≡ 13)
-  planned-two planned told line (usage good is) = cc
-  planned-two planned told line (not_read good is rose) = cc
-  planned-two planned told line (list_not_read some why) = inl refl
-  planned-two planned told line (too_long good is long) = cc
-  planned-two planned told line (bad_script k good (inl is) short bad) = cc
-  planned-two planned told line (bad_script k good (inr is) short bad) = cc
-  planned-two planned told line (bad_list k some there bad) = inr refl
-
-  other-plan : (planned k : ℕ) → (planned ≡ 2) ⊎ (planned ≡ 13) → (k ≡ 2 → ⊥) → (k ≡ 13 → ⊥) → planned ≡ k → ⊥
-  other-plan planned k (inl two) no2 no13 is = no2 (sym is ∙ two)
-  other-plan planned k (inr thirteen) no2 no13 is = no13 (sym is ∙ thirteen)
-
-  refuses-none : HasSoakList g faults_before faults_after → (planned : ℕ) (told : model.Note) (line : List ℕ) → Refuses (Some (ask.soak seed n)) g faults_before faults_after planned told line → ⊥
-  refuses-none has planned told line (usage good is) = cc
-  refuses-none has planned told line (not_read good is rose) = cc
-  refuses-none has planned told line (list_not_read some (inl rose)) = has.read rose
-  refuses-none has planned told line (list_not_read some (inr lacks)) = has.there lacks
-  refuses-none has planned told line (too_long good is long) = cc
-  refuses-none has planned told line (bad_script k good (inl is) short bad) = cc
-  refuses-none has planned told line (bad_script k good (inr is) short bad) = cc
-  refuses-none has planned told line (bad_list k some there bad) = has.good k some bad
 
 -- ---- a flash with room
 
@@ -250,20 +218,23 @@ formattable seed blocks large =
       permitted = refl;
     }
 
-early-none : (r : Result Formatted FormatStop) (asks : Option InputFault) → asks ≡ None → RefusesAs asks r → IsEarlyStop r → ⊥
-early-none r asks none answers = subst (λ (o : Option InputFault). RefusesAs o r) none answers
-
-no-input : (tells : Bool) (seed blocks : ℕ) (old new : TurnMoment) (f : InputFault) → IsTrue tells → IsFalse (is_too_small blocks) → Tries passes_any tells (Some (first_files seed)) (file_name 0) soak_layout blocks old new 0 0 (Err (Input f)) → ⊥
-no-input tells seed blocks old new (fault.Layout f) told large t = let can = formattable seed blocks large in early-none _ _ can.fits (t.answers can.file can.is_there) tt
-no-input tells seed blocks old new (fault.Package f) told large t = let can = formattable seed blocks large in early-none _ _ can.fits (t.answers can.file can.is_there) tt
-no-input tells seed blocks old new (fault.Missing guid) told large t = let can = formattable seed blocks large in early-none _ _ can.fits (t.answers can.file can.is_there) tt
-no-input tells seed blocks old new (fault.TooLarge guid) told large t = let can = formattable seed blocks large in early-none _ _ can.fits (t.answers can.file can.is_there) tt
-no-input tells seed blocks old new (fault.Incomplete verdict) told large t =
-    let can = formattable seed blocks large in t.deserved verdict refl told can.file can.toc can.is_there can.is_package can.complete can.permitted
-
 no-rise : Rose 0 0 → ⊥
 no-rise (inl more) = omega arith
 no-rise (inr top) = omega arith
+
+-- where nothing was armed
+none-made : (journal : List Turn) (old new : Counts) → journal ≡ [] → new.made ≡ old.made → new.made ≡ made_after old.made (cuts_in journal)
+none-made journal old new none same = subst (λ (ts : List Turn). new.made ≡ made_after old.made (cuts_in ts)) (sym none) same
+
+-- a turn that ends no run
+no-end : (u : Turn) → u.reply ≢ reply.Fault → u.reply ≢ reply.ReadFault → IsFalse (is_refused_boot u.reply) → IsTrue (ends_run u.reply) → ⊥
+no-end u fault read booted = go u.reply refl
+  where
+    go : (r : Reply) → u.reply ≡ r → IsTrue (ends_run r) → ⊥
+    go reply.Fault same ends = fault same
+    go reply.ReadFault same ends = read same
+    go (reply.NotBooted why) same ends = false≢true (sym booted ∙ ap is_refused_boot same)
+    go r same ends = false≢true ends
 
 last-in : (journal before : List Turn) (t : Turn) → journal ≡ before ++ t ∷ [] → Contains journal t
 last-in journal before t is = subst (λ (ts : List Turn). Contains ts t) (sym is) (Contains-append_right before (t ∷ []) t (Contains-get_or (t ∷ []) 0 t (omega arith)))
@@ -271,148 +242,160 @@ last-in journal before t is = subst (λ (ts : List Turn). Contains ts t) (sym is
 -- ---- all
 
 module _ (device : Device) (g : Given) (seed n : ℕ) (end : Ending Note) (old new : World) where
-  lists : SoakWay device g seed n end old new → RefusesBadList g old.flash new.flash end.status old.faults new.faults
-  lists (list_refused none same quiet refused) = refused-list g old.flash new.flash end.status old.faults new.faults (ask.soak seed n) (noted end.noted) old.taken new.taken same refused
-  lists (starved none same nine is stuck) = starved-list g old.flash new.flash end.status old.faults new.faults same nine
-  lists (too_small good small none same is prints) = good-list-kept g old.flash new.flash end.status old.faults new.faults good
-  lists (not_formatted good large none stop t is prints) = good-list-kept g old.flash new.flash end.status old.faults new.faults good
-  lists (ran good large done start on t off power turns ends quiet) = good-list-kept g old.flash new.flash end.status old.faults new.faults good
+  -- ---- nothing was done
 
-  ends-front : SoakEnds n (soak_calls seed n) (in_model end) old.taken new.taken old.faults.sink new.faults.sink → IsPrefixOf (calls_of end.journal) (soak_calls seed n)
+  abbrev may_be_small : ℕ → Bool
+  may_be_small k = (k == 7) || (may_fail_before k || (k == 13))
+
+  idle-soaked : SoakWay device g seed n end old new → end.journal ≡ [] → new.flash ≡ old.flash
+      → RefusesBadList g old.flash new.flash end.status old.faults new.faults → IsTrue (may_be_small end.status)
+      → (end.status ≡ 7 → IsTrue (is_too_small device.blocks)) → (end.status ≡ 5 → ⊥) → (end.status ≡ 0 → ⊥)
+      → (IsFalse (is_too_small device.blocks) → HasSoakList g old.faults new.faults → (end.status ≡ 0) ⊎ (end.status ≡ 9))
+      → SoakedBy device g seed n end old new
+  idle-soaked way none same refuses may seven five zero completes = record {
+    way = way;
+    refuses_list = refuses;
+    machine = λ told guards no_chance some. absurd (some none);
+    small = λ room. (none, same, may);
+    seven = λ is told. seven is;
+    five = λ is. absurd (five is);
+    done = λ is. absurd (zero is);
+    made = none-made end.journal old.flash.counts new.flash.counts none (ap (λ (m : TurnMoment). m.counts.made) same);
+    counts = subst (λ (m : TurnMoment). NoneFalls old.flash.counts m.counts) (sym same) (falls-none old.flash.counts);
+    guard = λ told. ap (λ (m : TurnMoment). m.told.guard) same;
+    complete = λ told guards large no_chance no_fault no_cut has no_sink. completes large has;
+  }
+
+  -- ---- the flash was not formatted
+
+  stop-seven : (stop : FormatStop)
+      → Tries passes_any device.tells (Some (first_files seed)) (file_name 0) soak_layout device.blocks old.flash new.flash 0 0 (Err stop)
+      → IsTrue device.tells → IsFalse (is_too_small device.blocks) → format_status (Err stop) ≡ 7 → ⊥
+  stop-seven (Input f) t told large is =
+      no-input passes_any device.tells (Some (first_files seed)) (file_name 0) soak_layout device.blocks old.flash new.flash 0 0 f told
+      (formattable seed device.blocks large) t
+  stop-seven other t told large is = omega arith
+
+  stop-five : (stop : FormatStop)
+      → Tries passes_any device.tells (Some (first_files seed)) (file_name 0) soak_layout device.blocks old.flash new.flash 0 0 (Err stop)
+      → format_status (Err stop) ≡ 5 → Rose old.flash.counts.faults new.flash.counts.faults ⊎ Rose old.flash.counts.cuts new.flash.counts.cuts
+  stop-five (Flash stop) t is = t.stopped stop refl
+  stop-five other t is = absurd (omega arith)
+
+  -- ---- turns ran
+
+  abbrev Ends : Type 0
+  Ends = SoakEnds n (soak_calls seed n) (in_model end) old.taken new.taken old.faults.sink new.faults.sink
+
+  ends-front : Ends → IsPrefixOf (calls_of end.journal) (soak_calls seed n)
   ends-front (all_done calls none quiet prints) = ([], append-nil (calls_of end.journal) ∙ calls)
   ends-front (lacking less none quiet nine stuck later) = less
   ends-front (stopped less before t is none ends read quiet prints) = less
 
-  ends-done : SoakEnds n (soak_calls seed n) (in_model end) old.taken new.taken old.faults.sink new.faults.sink → end.status ≡ 0 → (calls_of end.journal ≡ soak_calls seed n) × Appends old.taken new.taken (soak_line n end.journal)
-  ends-done (all_done calls none quiet prints) zero_is = (calls, at-zero (soak_line n end.journal) end.status old.taken new.taken old.faults.sink new.faults.sink prints zero_is)
+  ends-done : Ends → end.status ≡ 0 → (calls_of end.journal ≡ soak_calls seed n) × Appends old.taken new.taken (soak_line n end.journal)
+  ends-done (all_done calls none quiet prints) zero_is =
+      (calls, at-zero (soak_line n end.journal) end.status old.taken new.taken old.faults.sink new.faults.sink prints zero_is)
   ends-done (lacking less none quiet nine stuck later) zero_is = absurd (omega arith)
-  ends-done (stopped less before t is none ends read quiet prints) zero_is = absurd (not-done (stop_line t) (status_by t.reply) end.status old.taken new.taken old.faults.sink new.faults.sink (turn-some t.reply ends) prints zero_is)
+  ends-done (stopped less before t is none ends read quiet prints) zero_is =
+      absurd
+      (not-done (stop_line t) (status_by t.reply) end.status old.taken new.taken old.faults.sink new.faults.sink (turn-some t.reply ends)
+      prints zero_is)
 
-  machines : SoakWay device g seed n end old new → IsTrue device.tells → Guards 1 7 old.flash.told → (Rose old.flash.counts.chances new.flash.counts.chances → ⊥) → end.journal ≢ [] → RunsSoak seed n end.journal end.status new.flash
-  machines (list_refused none same quiet refused) told guards no_chance some = absurd (some none)
-  machines (starved none same nine is stuck) told guards no_chance some = absurd (some none)
-  machines (too_small good small none same is prints) told guards no_chance some = absurd (some none)
-  machines (not_formatted good large none stop t is prints) told guards no_chance some = absurd (some none)
-  machines (ran good large done start on t off power turns ends quiet) told guards no_chance some =
-      runs-soak device.tells seed device.blocks old.flash start done t told n end.journal on new.flash guards no_chance turns end.status (ends-front ends) (λ zero_is. (ends-done ends zero_is).0)
+  -- another status, but that of the sink or memory, is of the last turn
+  ends-turn : Ends → (k : ℕ) → IsFalse (may_lack k) → (k ≡ 0 → ⊥) → end.status ≡ k
+      → (u : Turn) × Contains end.journal u × (status_by u.reply ≡ k)
+  ends-turn (all_done calls none quiet prints) k whole some is =
+      absurd (some (sym (planned-at _ 0 end.status k old.taken new.taken old.faults.sink new.faults.sink prints whole is)))
+  ends-turn (lacking less none quiet nine stuck later) k whole some is =
+      absurd (false≢true (sym whole ∙ ap may_lack (sym is ∙ nine)))
+  ends-turn (stopped less before u is none ends read quiet prints) k whole some at = (
+    u,
+    last-in end.journal before u is,
+    planned-at (stop_line u) (status_by u.reply) end.status k old.taken new.taken old.faults.sink new.faults.sink prints whole at,
+  )
 
-  smalls : SoakWay device g seed n end old new → IsTrue (is_too_small device.blocks) → (end.journal ≡ []) × (new.flash ≡ old.flash) × IsTrue ((end.status == 7) || (may_fail_before end.status || (end.status == 13)))
-  smalls (list_refused none same quiet (planned, line, why, prints)) small = (none, same, by-plan line planned end.status old.taken new.taken old.faults.sink new.faults.sink prints (λ k. (k == 7) || (may_fail_before k || (k == 13))) refl refl (by (planned-two seed n g old.faults new.faults planned (noted end.noted) line why)))
-    where
-      by : (planned ≡ 2) ⊎ (planned ≡ 13) → IsTrue ((planned == 7) || (may_fail_before planned || (planned == 13)))
-      by (inl is) = rw is refl
-      by (inr is) = rw is refl
-  smalls (starved none same nine is stuck) small = (none, same, subst (λ (k : ℕ). IsTrue ((k == 7) || (may_fail_before k || (k == 13)))) (sym nine) refl)
-  smalls (too_small good small none same is prints) also = (none, same, by-plan too_small_line 7 end.status old.taken new.taken old.faults.sink new.faults.sink prints (λ k. (k == 7) || (may_fail_before k || (k == 13))) refl refl refl)
-  smalls (not_formatted good large none stop t is prints) small = absurd (false≢true (sym large ∙ small))
-  smalls (ran good large done start on t off power turns ends quiet) small = absurd (false≢true (sym large ∙ small))
-
-  sevens : SoakWay device g seed n end old new → end.status ≡ 7 → IsTrue device.tells → IsTrue (is_too_small device.blocks)
-  sevens (list_refused none same quiet (planned, line, why, prints)) seven told =
-      absurd (not-plan line planned end.status 7 old.taken new.taken old.faults.sink new.faults.sink prints seven (other-plan seed n g old.faults new.faults planned 7 (planned-two seed n g old.faults new.faults planned (noted end.noted) line why) (λ e. omega arith) (λ e. omega arith)) refl)
-  sevens (starved none same nine is stuck) seven told = absurd (omega arith)
-  sevens (too_small good small none same is prints) seven told = small
-  sevens (not_formatted good large none (Input f) t is prints) seven told = absurd (no-input device.tells seed device.blocks old.flash new.flash f told large t)
-  sevens (not_formatted good large none ReadFailed t is prints) seven told = absurd (not-plan (format_text (Err ReadFailed)) 2 end.status 7 old.taken new.taken old.faults.sink new.faults.sink prints seven (λ e. omega arith) refl)
-  sevens (not_formatted good large none (Flash stop) t is prints) seven told = absurd (not-plan (format_text (Err (Flash stop))) 5 end.status 7 old.taken new.taken old.faults.sink new.faults.sink prints seven (λ e. omega arith) refl)
-  sevens (ran good large done start on t off power turns (all_done calls none quiet prints) beyond) seven told = absurd (not-plan (soak_line n end.journal) 0 end.status 7 old.taken new.taken old.faults.sink new.faults.sink prints seven (λ e. omega arith) refl)
-  sevens (ran good large done start on t off power turns (lacking less none quiet nine stuck later) beyond) seven told = absurd (omega arith)
-  sevens (ran good large done start on t off power turns (stopped less before u is none ends read quiet prints) beyond) seven told =
-      absurd (not-plan (stop_line u) (status_by u.reply) end.status 7 old.taken new.taken old.faults.sink new.faults.sink prints seven (λ e. turn-other u.reply 7 e (λ z. omega arith) (λ z. omega arith) (λ z. omega arith) (λ z. omega arith)) refl)
-
-  fives : SoakWay device g seed n end old new → end.status ≡ 5 → Rose old.flash.counts.faults new.flash.counts.faults ⊎ ((end.journal ≡ []) × Rose old.flash.counts.cuts new.flash.counts.cuts)
-  fives (list_refused none same quiet (planned, line, why, prints)) five =
-      absurd (not-plan line planned end.status 5 old.taken new.taken old.faults.sink new.faults.sink prints five (other-plan seed n g old.faults new.faults planned 5 (planned-two seed n g old.faults new.faults planned (noted end.noted) line why) (λ e. omega arith) (λ e. omega arith)) refl)
-  fives (starved none same nine is stuck) five = absurd (omega arith)
-  fives (too_small good small none same is prints) five = absurd (not-plan too_small_line 7 end.status 5 old.taken new.taken old.faults.sink new.faults.sink prints five (λ e. omega arith) refl)
-  fives (not_formatted good large none (Input f) t is prints) five = absurd (not-plan (format_text (Err (Input f))) 7 end.status 5 old.taken new.taken old.faults.sink new.faults.sink prints five (λ e. omega arith) refl)
-  fives (not_formatted good large none ReadFailed t is prints) five = absurd (not-plan (format_text (Err ReadFailed)) 2 end.status 5 old.taken new.taken old.faults.sink new.faults.sink prints five (λ e. omega arith) refl)
-  fives (not_formatted good large none (Flash stop) t is prints) five = by (t.stopped stop refl)
-    where
-      by : StopHasCause old.flash.counts new.flash.counts → Rose old.flash.counts.faults new.flash.counts.faults ⊎ ((end.journal ≡ []) × Rose old.flash.counts.cuts new.flash.counts.cuts)
-      by (inl rose) = inl rose
-      by (inr cut) = inr (none, cut)
-  fives (ran good large done start on t off power turns (all_done calls none quiet prints) beyond) five = absurd (not-plan (soak_line n end.journal) 0 end.status 5 old.taken new.taken old.faults.sink new.faults.sink prints five (λ e. omega arith) refl)
-  fives (ran good large done start on t off power turns (lacking less none quiet nine stuck later) beyond) five = absurd (omega arith)
-  fives (ran good large done start on t off power turns (stopped less before u is none ends read quiet prints) beyond) five =
-      let by = printed-plan (stop_line u) (status_by u.reply) end.status old.taken new.taken old.faults.sink new.faults.sink prints (ap may_lack five) in
-      inl (rose-before old.flash.counts.faults start.counts.faults new.flash.counts.faults t.counts.faults (turns.fault_turns u (last-in end.journal before u is) (turn-five u.reply (sym by ∙ five))))
-
-  dones : SoakWay device g seed n end old new → end.status ≡ 0 → (calls_of end.journal ≡ soak_calls seed n) × Appends old.taken new.taken (soak_line n end.journal)
-  dones (list_refused none same quiet (planned, line, why, prints)) zero_is =
-      absurd (not-done line planned end.status old.taken new.taken old.faults.sink new.faults.sink (other-plan seed n g old.faults new.faults planned 0 (planned-two seed n g old.faults new.faults planned (noted end.noted) line why) (λ e. omega arith) (λ e. omega arith)) prints zero_is)
-  dones (starved none same nine is stuck) zero_is = absurd (omega arith)
-  dones (too_small good small none same is prints) zero_is = absurd (not-done too_small_line 7 end.status old.taken new.taken old.faults.sink new.faults.sink (λ e. omega arith) prints zero_is)
-  dones (not_formatted good large none stop t is prints) zero_is = absurd (not-done (format_text (Err stop)) (format_status (Err stop)) end.status old.taken new.taken old.faults.sink new.faults.sink (stop-other stop) prints zero_is)
-  dones (ran good large done start on t off power turns ends quiet) zero_is = ends-done ends zero_is
-
-  -- where nothing was armed
-  none-made : end.journal ≡ [] → new.flash.counts.made ≡ old.flash.counts.made → new.flash.counts.made ≡ made_after old.flash.counts.made (cuts_in end.journal)
-  none-made none same = subst (λ (ts : List Turn). new.flash.counts.made ≡ made_after old.flash.counts.made (cuts_in ts)) (sym none) same
-
-  mades : SoakWay device g seed n end old new → new.flash.counts.made ≡ made_after old.flash.counts.made (cuts_in end.journal)
-  mades (list_refused none same quiet refused) = none-made none (ap (λ (m : TurnMoment). m.counts.made) same)
-  mades (starved none same nine is stuck) = none-made none (ap (λ (m : TurnMoment). m.counts.made) same)
-  mades (too_small good small none same is prints) = none-made none (ap (λ (m : TurnMoment). m.counts.made) same)
-  mades (not_formatted good large none stop t is prints) = none-made none t.made
-  mades (ran good large done start on t off power turns ends quiet) = turns.made ∙ ap (λ (k : ℕ). made_after k (cuts_in end.journal)) t.made
-
-  none-fall : new.flash ≡ old.flash → NoneFalls old.flash.counts new.flash.counts
-  none-fall same = subst (λ (m : TurnMoment). NoneFalls old.flash.counts m.counts) (sym same) (record { faults = omega arith; cuts = omega arith; reached = omega arith; chances = omega arith })
-
-  falls : SoakWay device g seed n end old new → NoneFalls old.flash.counts new.flash.counts
-  falls (list_refused none same quiet refused) = none-fall same
-  falls (starved none same nine is stuck) = none-fall same
-  falls (too_small good small none same is prints) = none-fall same
-  falls (not_formatted good large none stop t is prints) = t.counts
-  falls (ran good large done start on t off power turns ends quiet) = record {
-    faults = let a = t.counts.faults in let b = turns.counts.faults in omega arith;
-    cuts = let a = t.counts.cuts in let b = turns.counts.cuts in omega arith;
-    reached = let a = t.counts.reached in let b = turns.counts.reached in omega arith;
-    chances = let a = t.counts.chances in let b = turns.counts.chances in omega arith;
-  }
-
-  guards-stay : SoakWay device g seed n end old new → IsTrue device.tells → new.flash.told.guard ≡ old.flash.told.guard
-  guards-stay (list_refused none same quiet refused) told = ap (λ (m : TurnMoment). m.told.guard) same
-  guards-stay (starved none same nine is stuck) told = ap (λ (m : TurnMoment). m.told.guard) same
-  guards-stay (too_small good small none same is prints) told = ap (λ (m : TurnMoment). m.told.guard) same
-  guards-stay (not_formatted good large none stop t is prints) told = t.guard told
-  guards-stay (ran good large done start on t off power turns ends quiet) told = turns.guard told ∙ t.guard told
-
-  completes : SoakWay device g seed n end old new → IsTrue device.tells → Guards 1 7 old.flash.told → IsFalse (is_too_small device.blocks) → (Rose old.flash.counts.chances new.flash.counts.chances → ⊥)
-      → (Rose old.flash.counts.faults new.flash.counts.faults → ⊥) → (end.journal ≡ [] → Rose old.flash.counts.cuts new.flash.counts.cuts → ⊥) → HasSoakList g old.faults new.faults → (Rose old.faults.sink new.faults.sink → ⊥) → (end.status ≡ 0) ⊎ (end.status ≡ 9)
-  completes (list_refused none same quiet (planned, line, why, prints)) told guards large no_chance no_fault no_cut has no_sink = absurd (refuses-none seed n g old.faults new.faults has planned (noted end.noted) line why)
-  completes (starved none same nine is stuck) told guards large no_chance no_fault no_cut has no_sink = inr nine
-  completes (too_small good small none same is prints) told guards large no_chance no_fault no_cut has no_sink = absurd (false≢true (sym large ∙ small))
-  completes (not_formatted good room none stop t is prints) told guards large no_chance no_fault no_cut has no_sink =
-      format-completes passes_any (record { list = None; files = Some (first_files seed); script = None }) (file_name 0) soak_layout device.blocks old.flash new.flash end.status end.noted old.taken new.taken
-      (record { files = 0; source = 0; sink = old.faults.sink }) (record { files = 0; source = 0; sink = new.faults.sink }) device.tells
-      (format.tried (record { there = λ lacks. lacks; good = tt }) (Err stop) t prints is) told (formattable seed device.blocks large)
-      (record { list_there = λ lacks. lacks; list_is = λ k some bad. absurd (cc); no_fault = no_fault; no_cut = no_cut none; no_file_fault = no-rise; no_sink_fault = no_sink })
-  completes (ran good room done start on t off power turns (all_done calls none quiet prints) beyond) told guards large no_chance no_fault no_cut has no_sink =
+  -- where no turn ends them, all was done
+  ends-complete : Ends → (Rose old.faults.sink new.faults.sink → ⊥)
+      → ((u : Turn) → Contains end.journal u → u.reply ≢ reply.ReadFault → IsTrue (ends_run u.reply) → ⊥)
+      → (end.status ≡ 0) ⊎ (end.status ≡ 9)
+  ends-complete (all_done calls none quiet prints) no_sink no_end =
       printed (soak_line n end.journal) end.status old.taken new.taken old.faults.sink new.faults.sink no_sink prints
-  completes (ran good room done start on t off power turns (lacking less none quiet nine stuck later) beyond) told guards large no_chance no_fault no_cut has no_sink = inr nine
-  completes (ran good room done start on t off power turns (stopped less before u is none ends read quiet prints) beyond) told guards large no_chance no_fault no_cut has no_sink =
-      absurd (no-end u.reply refl ends)
-    where
-      no-end : (r : Reply) → u.reply ≡ r → IsTrue (ends_run r) → ⊥
-      no-end reply.Fault same ends = no_fault (rose-before old.flash.counts.faults start.counts.faults new.flash.counts.faults t.counts.faults (turns.fault_turns u (last-in end.journal before u is) same))
-      no-end reply.ReadFault same ends = read same
-      no-end (reply.NotBooted why) same ends =
-          false≢true (sym (ap is_refused_boot (sym same) ∙ no-refused-boot device.tells seed device.blocks old.flash start done t told n end.journal on new.flash guards no_chance turns u (last-in end.journal before u is)))
-      no-end r same ends = false≢true ends
+  ends-complete (lacking less none quiet nine stuck later) no_sink no_end = inr nine
+  ends-complete (stopped less before u is none ends read quiet prints) no_sink no_end =
+      absurd (no_end u (last-in end.journal before u is) read ends)
+
+  -- ---- whichever way
 
   pub soaked-by : SoakWay device g seed n end old new → SoakedBy device g seed n end old new
-  soaked-by way = record {
-    way = way;
-    refuses_list = lists way;
-    machine = machines way;
-    small = smalls way;
-    seven = sevens way;
-    five = fives way;
-    done = dones way;
-    made = mades way;
-    counts = falls way;
-    guard = guards-stay way;
-    complete = completes way;
+  soaked-by (list_refused none same quiet refused) =
+      let other = list-other (ask.soak seed n) (λ is. cc) (λ is. cc) g end.status (noted end.noted) old new refused in
+      idle-soaked (list_refused none same quiet refused) none same
+      (refused-list g old.flash new.flash end.status old.faults new.faults (ask.soak seed n) (noted end.noted) old.taken new.taken same refused)
+      (list-status (ask.soak seed n) (λ is. cc) (λ is. cc) g end.status (noted end.noted) old new refused may_be_small refl refl refl refl)
+      (λ is. absurd (other 7 refl is)) (other 5 refl) (other 0 refl)
+      (λ large has.
+      absurd
+      (list-granted (ask.soak seed n) (λ is. cc) (λ is. cc) g old.faults new.faults refused.0 (noted end.noted) refused.1 has refused.2))
+  soaked-by (starved none same nine is stuck) =
+      idle-soaked (starved none same nine is stuck) none same
+      (starved-list g old.flash new.flash end.status old.faults new.faults same nine) (ap may_be_small nine)
+      (λ is. absurd (omega (arith, is, nine))) (λ is. omega (arith, is, nine)) (λ is. omega (arith, is, nine)) (λ large has. inr nine)
+  soaked-by (too_small good small none same is prints) =
+      idle-soaked (too_small good small none same is prints) none same
+      (good-list-kept g old.flash new.flash end.status old.faults new.faults good)
+      (by-plan too_small_line 7 end.status old.taken new.taken old.faults.sink new.faults.sink prints may_be_small refl refl refl)
+      (λ seven. small)
+      (λ five. let e = planned-at _ 7 end.status 5 old.taken new.taken old.faults.sink new.faults.sink prints refl five in omega arith)
+      (not-done too_small_line 7 end.status old.taken new.taken old.faults.sink new.faults.sink (λ e. omega arith) prints)
+      (λ large has. absurd (false≢true (sym large ∙ small)))
+  soaked-by (not_formatted good large none stop t is prints) = record {
+    way = not_formatted good large none stop t is prints;
+    refuses_list = good-list-kept g old.flash new.flash end.status old.faults new.faults good;
+    machine = λ told guards no_chance some. absurd (some none);
+    small = λ small. absurd (false≢true (sym large ∙ small));
+    seven = λ seven told. absurd (stop-seven stop t told large (planned 7 refl seven));
+    five = λ five. elim (stop-five stop t (planned 5 refl five)) [ inl rose ↦ inl rose | inr cut ↦ inr (none, cut) ];
+    done = λ zero_is. absurd (stop-other stop (planned 0 refl zero_is));
+    made = none-made end.journal old.flash.counts new.flash.counts none t.made;
+    counts = t.counts;
+    guard = t.guard;
+    complete = λ told guards room no_chance no_fault no_cut has no_sink.
+        format-completes passes_any (record { list = None; files = Some (first_files seed); script = None }) (file_name 0) soak_layout
+        device.blocks old.flash new.flash end.status end.noted old.taken new.taken
+        (record { files = 0; source = 0; sink = old.faults.sink }) (record { files = 0; source = 0; sink = new.faults.sink }) device.tells
+        (format.tried (record { there = λ lacks. lacks; good = tt }) (Err stop) t prints is) told (formattable seed device.blocks room)
+        (record { list_there = λ lacks. lacks; list_is = λ k some bad. absurd (cc); no_fault = no_fault; no_cut = no_cut none;
+          no_file_fault = no-rise; no_sink_fault = no_sink });
   }
+    where
+      planned : (k : ℕ) → IsFalse (may_lack k) → end.status ≡ k → format_status (Err stop) ≡ k
+      planned k = planned-at (format_text (Err stop)) (format_status (Err stop)) end.status k old.taken new.taken old.faults.sink new.faults.sink prints
+  soaked-by (ran good large done start on t off power turns ends quiet) = record {
+    way = ran good large done start on t off power turns ends quiet;
+    refuses_list = good-list-kept g old.flash new.flash end.status old.faults new.faults good;
+    machine = λ told guards no_chance some.
+        runs-soak device.tells seed device.blocks old.flash start done t told n end.journal on new.flash guards no_chance turns end.status
+        (ends-front ends) (λ zero_is. (ends-done ends zero_is).0);
+    small = λ small. absurd (false≢true (sym large ∙ small));
+    seven = λ seven told.
+        let u = ends-turn ends 7 refl (λ z. omega arith) seven in
+        absurd (turn-other u.0.reply 7 u.2 (λ z. omega arith) (λ z. omega arith) (λ z. omega arith) (λ z. omega arith));
+    five = λ five. let u = ends-turn ends 5 refl (λ z. omega arith) five in inl (fails u.0 u.1 (turn-five u.0.reply u.2));
+    done = ends-done ends;
+    made = turns.made ∙ ap (λ (k : ℕ). made_after k (cuts_in end.journal)) t.made;
+    counts = record {
+      faults = let a = t.counts.faults in let b = turns.counts.faults in omega arith;
+      cuts = let a = t.counts.cuts in let b = turns.counts.cuts in omega arith;
+      reached = let a = t.counts.reached in let b = turns.counts.reached in omega arith;
+      chances = let a = t.counts.chances in let b = turns.counts.chances in omega arith;
+    };
+    guard = λ told. turns.guard told ∙ t.guard told;
+    complete = λ told guards room no_chance no_fault no_cut has no_sink.
+        ends-complete ends no_sink (λ u has read.
+        no-end u (λ same. no_fault (fails u has same)) read
+        (no-refused-boot device.tells seed device.blocks old.flash start done t told n end.journal on new.flash guards no_chance turns u has));
+  }
+    where
+      fails : (u : Turn) → Contains end.journal u → u.reply ≡ reply.Fault → Rose old.flash.counts.faults new.flash.counts.faults
+      fails u has same =
+          rose-before old.flash.counts.faults start.counts.faults new.flash.counts.faults t.counts.faults (turns.fault_turns u has same)

@@ -14,17 +14,7 @@ use Rattle.flash_commands.specs.SoakWays.{SoakWay, SoakEnds, list_refused, starv
 use Rattle.script_runs.specs.Ways.{Given, HasGoodList, Refuses}
 use Rattle.script_runs.specs.declared.done.Note.{Note}
 use Rattle.script_runs.proofs.Shapes.{device-of, end-of, world-of}
-use Rattle.script_runs.proofs.TopWays.{refuses}
-
--- what is asked is one command
-pub soak-as : (tells : Bool) (g : Given) (blocks : ℕ) (journal : List Turn) (status : ℕ) (said : Note) (old new : TurnMoment) (taken_before taken_after : Option (List ℕ)) (faults_before faults_after : Faults)
-    (asked : Option Asked) (a seed b rounds : ℕ) → asked ≡ Some (ask.soak a b) → asked ≡ Some (ask.soak seed rounds)
-    → SoakWay (device-of tells blocks) g a b (end-of journal status said) (world-of old taken_before faults_before) (world-of new taken_after faults_after) → SoakWay (device-of tells blocks) g seed rounds (end-of journal status said) (world-of old taken_before faults_before) (world-of new taken_after faults_after)
-soak-as tells g blocks journal status said old new taken_before taken_after faults_before faults_after asked a seed b rounds by is way =
-    let same-seed : a ≡ seed = cc in
-    let same-rounds : b ≡ rounds = cc in
-    subst (λ (n : ℕ). SoakWay (device-of tells blocks) g seed n (end-of journal status said) (world-of old taken_before faults_before) (world-of new taken_after faults_after)) same-rounds
-    (subst (λ (x : ℕ). SoakWay (device-of tells blocks) g x b (end-of journal status said) (world-of old taken_before faults_before) (world-of new taken_after faults_after)) same-seed way)
+use Rattle.script_cmd.proofs.TopLists.{from-sink, refused-behind}
 
 module _ (tells : Bool) (g : Given) (seed n blocks : ℕ) (journal : List Turn) (status : ℕ) (said : Note) (old new : TurnMoment) (taken_before taken_after : Option (List ℕ)) (faults_before faults_after : Faults) where
   -- a list was refused, and nothing else was done
@@ -41,20 +31,14 @@ module _ (tells : Bool) (told files : Option Directory) (name : List ℕ) (scrip
       → SoakWay (device-of tells blocks) (record { list = Some name; files = files; script = script }) seed n (end-of journal status said) (world-of old taken_before first) (world-of new taken_after faults_after)
   soaks-with-list good later source sink way = go way
     where
-      at-sink : (line : List ℕ) (planned : ℕ) → Prints line planned status taken_before taken_after faults_before.sink faults_after.sink → Prints line planned status taken_before taken_after first.sink faults_after.sink
-      at-sink line planned p = subst (λ (k : ℕ). Prints line planned status taken_before taken_after k faults_after.sink) (sym sink) p
-
       go : SoakWay (device-of tells blocks) (record { list = None; files = told; script = script }) seed n (end-of journal status said) (world-of old taken_before faults_before) (world-of new taken_after faults_after)
           → SoakWay (device-of tells blocks) (record { list = Some name; files = files; script = script }) seed n (end-of journal status said) (world-of old taken_before first) (world-of new taken_after faults_after)
       go (list_refused none same quiet refused) =
-          list_refused none same quiet (
-            refused.0,
-            refused.1,
-            refuses (Some (ask.soak seed n)) told files name script first faults_before faults_after refused.0 (noted said) refused.1 good later source refused.2,
-            at-sink refused.1 refused.0 refused.3,
-          )
+          list_refused none same quiet
+          (refused-behind told files name script old new status (noted said) taken_before taken_after first faults_before faults_after (ask.soak seed n) good later
+          source sink refused)
       go (starved none same nine quiet stuck) = starved none same nine quiet (stuck.0, stuck.1 ∙ sym sink)
-      go (too_small listed small none same is prints) = too_small good small none same is (at-sink _ 7 prints)
-      go (not_formatted listed large none stop tries is prints) = not_formatted good large none stop tries is (at-sink _ _ prints)
+      go (too_small listed small none same is prints) = too_small good small none same is (from-sink sink prints)
+      go (not_formatted listed large none stop tries is prints) = not_formatted good large none stop tries is (from-sink sink prints)
       go (ran listed large done start on tries off power turns ends quiet) =
           ran good large done start on tries off power turns (subst (λ (k : ℕ). SoakEnds n (soak_calls seed n) (end-of journal status (noted said)) taken_before taken_after k faults_after.sink) (sym sink) ends) quiet

@@ -1,5 +1,6 @@
 -- `show` and `format` do all that they are asked for, where nothing is lacking and nothing failed, unless memory was wanting.
-use Rattle.std.proofs.Common.{◌≡◌, ◌⊎◌, inl, inr, ℕ, Bool, true, List, Option, Some, None, Result, Ok, Err, refl, sym, subst, IsTrue}
+use Rattle.std.proofs.Common.{◌≡◌, ◌⊎◌, inl, inr, ℕ, Bool, true, List, Option, Some, None, Result, Ok, Err, refl, sym, subst, ◌∙◌, IsTrue, IsFalse}
+use Rattle.std.proofs.lemmas.Bool.{false≢true}
 use Rattle.flash_core.specs.Counts.{Rose}
 use Rattle.flash_core.specs.Told.{Told, NothingDirty}
 use Rattle.flash_core.specs.declared.flash.Counts.{Counts}
@@ -26,7 +27,10 @@ use Rattle.script_runs.specs.Ways.{Given, Refuses, bad_list, bad_script, list_no
 use Rattle.flash_commands.specs.Showing.{ShowFinds, RefusedList, Showed, ShowsNone}
 use Rattle.script_runs.specs.ByTable.{StopHasCause}
 use Rattle.script_cmd.specs.ShowedBy.{HasMetadata}
+use Rattle.script_cmd.specs.ByList.{may_lack_list}
 use Rattle.script_cmd.specs.Granted.{IsGranted}
+use Rattle.script_cmd.specs.Soaked.{HasSoakList}
+use Rattle.script_runs.specs.Ending.{World}
 use Rattle.flash_commands.specs.Showing as show
 use Rattle.flash_commands.specs.Formatting.{Formats, Tries, format_status, format_text}
 use Rattle.script_cmd.specs.FormattedBy.{IsFormattable}
@@ -34,25 +38,63 @@ use Rattle.flash_commands.specs.Formatting as format
 use Rattle.script_runs.specs.declared.done.Note.{Note as Said}
 use Rattle.script_runs.proofs.Shapes.{device-of, world-of}
 use Rattle.flash_commands.proofs.ShowFlash.{wakes-clean}
-use Rattle.script_runs.proofs.TopPrints.{raised-rose}
+use Rattle.script_runs.proofs.TopPrints.{by-plan, raised-rose}
 
 -- a line whose status was to be 0, at a sink that did not fail
-printed : (line : List ℕ) (status : ℕ) (old new : Option (List ℕ)) (faults_before faults_after : ℕ) → (Rose faults_before faults_after → ⊥) → Prints line 0 status old new faults_before faults_after → (status ≡ 0) ⊎ (status ≡ 9)
+pub printed : (line : List ℕ) (status : ℕ) (old new : Option (List ℕ)) (faults_before faults_after : ℕ) → (Rose faults_before faults_after → ⊥) → Prints line 0 status old new faults_before faults_after → (status ≡ 0) ⊎ (status ≡ 9)
 printed line status old new faults_before faults_after fails (all is appends later) = inl is
 printed line status old new faults_before faults_after fails (front is n appends later once) = absurd (fails (raised-rose faults_before faults_after once))
 printed line status old new faults_before faults_after fails (nothing is same later) = inr is
 
--- no list is refused that is there and has no bad line
-pub granted : (asked : Asked) (g : Given) (before after : Counts) (faults_before faults_after : Faults) (planned : ℕ) (noted : Note) (line : List ℕ) → (Some asked ≡ Some ask.run → ⊥) → (Some asked ≡ Some ask.boot → ⊥)
-    → IsGranted g before after faults_before faults_after → Refuses (Some asked) g faults_before faults_after planned noted line → ⊥
-granted asked g before after faults_before faults_after planned noted line runs boots has (usage good is) = cc
-granted asked g before after faults_before faults_after planned noted line runs boots has (not_read good is rose) = runs is
-granted asked g before after faults_before faults_after planned noted line runs boots has (list_not_read some (inl rose)) = has.no_file_fault rose
-granted asked g before after faults_before faults_after planned noted line runs boots has (list_not_read some (inr lacks)) = has.list_there lacks
-granted asked g before after faults_before faults_after planned noted line runs boots has (too_long good is long) = runs is
-granted asked g before after faults_before faults_after planned noted line runs boots has (bad_script n good (inl is) short bad) = runs is
-granted asked g before after faults_before faults_after planned noted line runs boots has (bad_script n good (inr is) short bad) = boots is
-granted asked g before after faults_before faults_after planned noted line runs boots has (bad_list n some there bad) = has.list_is n some bad
+-- ---- a list that was refused
+
+module _ (asked : Asked) (runs : Some asked ≡ Some ask.run → ⊥) (boots : Some asked ≡ Some ask.boot → ⊥) where
+  -- a command that runs no script is refused for its list alone
+  pub list-plan : (g : Given) (before after : Faults) (planned : ℕ) (noted : Note) (line : List ℕ)
+      → Refuses (Some asked) g before after planned noted line → (planned ≡ 2) ⊎ (planned ≡ 13)
+  list-plan g before after planned noted line (usage good is) = cc
+  list-plan g before after planned noted line (not_read good is rose) = absurd (runs is)
+  list-plan g before after planned noted line (list_not_read some why) = inl refl
+  list-plan g before after planned noted line (too_long good is long) = absurd (runs is)
+  list-plan g before after planned noted line (bad_script n good (inl is) short bad) = absurd (runs is)
+  list-plan g before after planned noted line (bad_script n good (inr is) short bad) = absurd (boots is)
+  list-plan g before after planned noted line (bad_list n some there bad) = inr refl
+
+  -- where it is there and has no bad line it is not
+  pub list-granted : (g : Given) (before after : Faults) (planned : ℕ) (noted : Note) (line : List ℕ) → HasSoakList g before after
+      → Refuses (Some asked) g before after planned noted line → ⊥
+  list-granted g before after planned noted line has (usage good is) = cc
+  list-granted g before after planned noted line has (not_read good is rose) = runs is
+  list-granted g before after planned noted line has (list_not_read some (inl rose)) = has.read rose
+  list-granted g before after planned noted line has (list_not_read some (inr lacks)) = has.there lacks
+  list-granted g before after planned noted line has (too_long good is long) = runs is
+  list-granted g before after planned noted line has (bad_script n good (inl is) short bad) = runs is
+  list-granted g before after planned noted line has (bad_script n good (inr is) short bad) = boots is
+  list-granted g before after planned noted line has (bad_list n some there bad) = has.good n some bad
+
+  pub granted : (g : Given) (before after : Counts) (faults_before faults_after : Faults) (planned : ℕ) (noted : Note) (line : List ℕ)
+      → IsGranted g before after faults_before faults_after → Refuses (Some asked) g faults_before faults_after planned noted line → ⊥
+  granted g before after faults_before faults_after planned noted line has =
+      list-granted g faults_before faults_after planned noted line
+      (record { there = has.list_there; good = has.list_is; read = has.no_file_fault })
+
+  module _ (g : Given) (status : ℕ) (noted : Note) (old new : World) (refused : RefusedList asked g status noted old new) where
+    -- the statuses of that: the sink may fail at the line, or memory be wanting
+    pub list-status : (f : ℕ → Bool) → IsTrue (f 2) → IsTrue (f 3) → IsTrue (f 9) → IsTrue (f 13) → IsTrue (f status)
+    list-status f two three nine thirteen = go refused
+      where
+        go : RefusedList asked g status noted old new → IsTrue (f status)
+        go (planned, line, why, prints) =
+            by-plan line planned status old.taken new.taken old.faults.sink new.faults.sink prints f three nine
+            (elim (list-plan g old.faults new.faults planned noted line why) [
+              | inl is ↦ subst (λ (k : ℕ). IsTrue (f k)) (sym is) two
+              | inr is ↦ subst (λ (k : ℕ). IsTrue (f k)) (sym is) thirteen
+            ])
+
+    -- no other status is of a list
+    pub list-other : (k : ℕ) → IsFalse (may_lack_list k) → status ≡ k → ⊥
+    list-other k other is =
+        false≢true (sym other ∙ subst (λ (n : ℕ). IsTrue (may_lack_list n)) is (list-status may_lack_list refl refl refl refl))
 
 module _ (g : Given) (before after : Counts) (status : ℕ) (taken_before taken_after : Option (List ℕ)) (faults_before faults_after : Faults) where
   -- a flash with metadata shows its numbers
@@ -75,7 +117,8 @@ module _ (g : Given) (before after : Counts) (status : ℕ) (taken_before taken_
       found (IsTrue tells) new.told.now planned told line knows (subst (λ (t : Told). HasMetadata t.now) (sym (wakes-clean old.told new.told clean (wakes knows))) has) grants
       (subst (λ (x : Counts). ShowFinds (IsTrue tells) new.told.now x after planned told line) first
       (subst (λ (x : Counts). ShowFinds (IsTrue tells) new.told.now old.counts x planned told line) last finds)) prints
-  show-completes tells old new told first last (show.list_refused same refused) knows clean has grants = absurd (granted ask.show g before after faults_before faults_after refused.0 told refused.1 (λ is. cc) (λ is. cc) grants refused.2)
+  show-completes tells old new told first last (show.list_refused same refused) knows clean has grants = absurd 
+      (granted ask.show (λ is. cc) (λ is. cc) g before after faults_before faults_after refused.0 told refused.1 grants refused.2)
 
 -- a name that is told isn't lacking
 there : (told : Option Directory) (name file : List ℕ) → Tells told name file → Lacks told name → ⊥
@@ -85,15 +128,21 @@ there (Some files) name file tells lacks = cc
 not-refused : (r : Result Formatted FormatStop) (asks : Option InputFault) → asks ≡ None → RefusesAs asks r → IsEarlyStop r → ⊥
 not-refused r asks none answers = subst (λ (o : Option InputFault). RefusesAs o r) none answers
 
+-- what can be formatted is not refused
+pub no-input : (passes : List ℕ → Bool) (tells : Bool) (files : Option Directory) (name : List ℕ) (L : Layout) (blocks : ℕ) (old new : TurnMoment)
+    (was are : ℕ) (f : InputFault) → IsTrue tells → IsFormattable passes files name L blocks
+    → Tries passes tells files name L blocks old new was are (Err (Input f)) → ⊥
+no-input passes tells files name L blocks old new was are (fault.Incomplete verdict) told can tries =
+    tries.deserved verdict refl told can.file can.toc can.is_there can.is_package can.complete can.permitted
+no-input passes tells files name L blocks old new was are other told can tries =
+    not-refused _ _ can.fits (tries.answers can.file can.is_there) tt
+
 module _ (passes : List ℕ → Bool) (g : Given) (name : List ℕ) (L : Layout) (blocks : ℕ) (old new : TurnMoment) (status : ℕ) (said : Said) (taken_before taken_after : Option (List ℕ)) (faults_before faults_after : Faults) where
   tried : (r : Result Formatted FormatStop) → IsFormattable passes g.files name L blocks → IsGranted g old.counts new.counts faults_before faults_after
       → Tries passes true g.files name L blocks old new faults_before.files faults_after.files r → Prints (format_text r) (format_status r) status taken_before taken_after faults_before.sink faults_after.sink → (status ≡ 0) ⊎ (status ≡ 9)
   tried (Ok done) can grants tries prints = printed (format_text (Ok done)) status taken_before taken_after faults_before.sink faults_after.sink grants.no_sink_fault prints
-  tried (Err (Input (fault.Layout f))) can grants tries prints = absurd (not-refused _ _ can.fits (tries.answers can.file can.is_there) tt)
-  tried (Err (Input (fault.Package f))) can grants tries prints = absurd (not-refused _ _ can.fits (tries.answers can.file can.is_there) tt)
-  tried (Err (Input (fault.Missing guid))) can grants tries prints = absurd (not-refused _ _ can.fits (tries.answers can.file can.is_there) tt)
-  tried (Err (Input (fault.TooLarge guid))) can grants tries prints = absurd (not-refused _ _ can.fits (tries.answers can.file can.is_there) tt)
-  tried (Err (Input (fault.Incomplete verdict))) can grants tries prints = absurd (tries.deserved verdict refl refl can.file can.toc can.is_there can.is_package can.complete can.permitted)
+  tried (Err (Input f)) can grants tries prints =
+      absurd (no-input passes true g.files name L blocks old new faults_before.files faults_after.files f refl can tries)
   tried (Err ReadFailed) can grants tries prints = absurd (unread (tries.reads.failed refl))
     where
       unread : Rose faults_before.files faults_after.files ⊎ Lacks g.files name → ⊥
@@ -109,7 +158,9 @@ module _ (passes : List ℕ → Bool) (g : Given) (name : List ℕ) (L : Layout)
   by-formats (format.starved nine is same taken_after) can grants = inr nine
   by-formats (format.tried good r tries prints is) can grants = tried r can grants tries prints
   by-formats (format.list_refused same quiet refused) can grants =
-      absurd (granted (ask.format L.banks L.rows name) g old.counts new.counts faults_before faults_after refused.0 (noted said) refused.1 (λ is. cc) (λ is. cc) grants refused.2)
+      absurd
+      (granted (ask.format L.banks L.rows name) (λ is. cc) (λ is. cc) g old.counts new.counts faults_before faults_after
+      refused.0 (noted said) refused.1 grants refused.2)
 
   pub format-completes : (tells : Bool) → Formats passes (device-of tells blocks) g name L (world-of old taken_before faults_before) (world-of new taken_after faults_after) status said → IsTrue tells → IsFormattable passes g.files name L blocks → IsGranted g old.counts new.counts faults_before faults_after
       → (status ≡ 0) ⊎ (status ≡ 9)

@@ -26,26 +26,12 @@ use Rattle.script_runs.specs.Ways.{Given, HasGoodList, Refuses, bad_list, bad_sc
 use Rattle.script_runs.specs.declared.done.Note.{Note}
 use Rattle.script_runs.specs.declared.done.Note.TheVariants as note
 use Rattle.script_runs.proofs.Shapes.{device-of, end-of, world-of}
-use Rattle.script_cmd.proofs.TopCompletes.{format-completes}
+use Rattle.script_cmd.proofs.TopCompletes.{format-completes, list-other, list-status}
 use Rattle.script_runs.proofs.TopPrints.{by-plan, not-done}
 use Rattle.script_cmd.proofs.TopShows.{good-list-kept, refused-list, starved-list}
-use Rattle.script_runs.proofs.TopWays.{refuses}
+use Rattle.script_cmd.proofs.TopLists.{from-sink, refused-behind}
 
 -- ---- by what it did
-
--- a command that runs no script is refused for its list alone
-list-planned : (asked : Asked) (g : Given) (faults_before faults_after : Faults) (planned : ℕ) (told : model.Note) (line : List ℕ) → (Some asked ≡ Some ask.run → ⊥) → (Some asked ≡ Some ask.boot → ⊥)
-    → Refuses (Some asked) g faults_before faults_after planned told line → IsTrue (may_fail_before planned || (planned == 13))
-list-planned asked g faults_before faults_after planned told line runs boots (usage good is) = cc
-list-planned asked g faults_before faults_after planned told line runs boots (not_read good is rose) = absurd (runs is)
-list-planned asked g faults_before faults_after planned told line runs boots (list_not_read some why) = refl
-list-planned asked g faults_before faults_after planned told line runs boots (too_long good is long) = absurd (runs is)
-list-planned asked g faults_before faults_after planned told line runs boots (bad_script n good (inl is) short bad) = absurd (runs is)
-list-planned asked g faults_before faults_after planned told line runs boots (bad_script n good (inr is) short bad) = absurd (boots is)
-list-planned asked g faults_before faults_after planned told line runs boots (bad_list n some there bad) = refl
-
-some-planned : (planned : ℕ) → IsTrue (may_fail_before planned || (planned == 13)) → planned ≡ 0 → ⊥
-some-planned planned is zero = false≢true (subst (λ (k : ℕ). IsTrue (may_fail_before k || (k == 13))) zero is)
 
 module _ (passes : List ℕ → Bool) (tells : Bool) (g : Given) (file : List ℕ) (L : Layout) (blocks : ℕ) (old new : TurnMoment) (status : ℕ) (said : Note) (journal : List Turn) (taken_before taken_after : Option (List ℕ)) (faults_before faults_after : Faults) where
   lists : Formats passes (device-of tells blocks) g file L (world-of old taken_before faults_before) (world-of new taken_after faults_after) status said → RefusesBadList g old new status faults_before faults_after
@@ -78,9 +64,9 @@ module _ (passes : List ℕ → Bool) (tells : Bool) (g : Given) (file : List �
   lacks-package (tried good r t prints is) lacks M fits =
       by-plan (format_text r) (format_status r) status taken_before taken_after faults_before.sink faults_after.sink prints (λ k. may_fail_before k || (k == 13)) refl refl
       (subst (λ (k : ℕ). IsTrue (may_fail_before k || (k == 13))) (sym (unread r M fits t.layout (t.missing lacks).0)) refl)
-  lacks-package (list_refused same quiet (planned, line, why, prints)) lacks M fits =
-      by-plan line planned status taken_before taken_after faults_before.sink faults_after.sink prints (λ k. may_fail_before k || (k == 13)) refl refl
-      (list-planned (ask.format L.banks L.rows file) g faults_before faults_after planned (noted said) line (λ is. cc) (λ is. cc) why)
+  lacks-package (list_refused same quiet refused) lacks M fits =
+      list-status (ask.format L.banks L.rows file) (λ is. cc) (λ is. cc) g status (noted said) (world-of old taken_before faults_before)
+      (world-of new taken_after faults_after) refused (λ k. may_fail_before k || (k == 13)) refl refl refl refl
 
   -- status 0 is of a flash that was formatted
   blanks-at : (r : Result Formatted FormatStop) → Tries passes tells g.files file L blocks old new faults_before.files faults_after.files r → Prints (format_text r) (format_status r) status taken_before taken_after faults_before.sink faults_after.sink
@@ -93,11 +79,13 @@ module _ (passes : List ℕ → Bool) (tells : Bool) (g : Given) (file : List �
   blanks : Formats passes (device-of tells blocks) g file L (world-of old taken_before faults_before) (world-of new taken_after faults_after) status said → status ≡ 0 → IsTrue tells → IsBlank L new.told.now
   blanks (starved nine is same none) zero told = absurd (omega arith)
   blanks (tried good r t prints is) zero told = blanks-at r t prints zero told
-  blanks (list_refused same quiet (planned, line, why, prints)) zero told =
-      absurd (not-done line planned status taken_before taken_after faults_before.sink faults_after.sink (some-planned planned (list-planned (ask.format L.banks L.rows file) g faults_before faults_after planned (noted said) line (λ is. cc) (λ is. cc) why)) prints zero)
+  blanks (list_refused same quiet refused) zero told =
+      absurd
+      (list-other (ask.format L.banks L.rows file) (λ is. cc) (λ is. cc) g status (noted said) (world-of old taken_before faults_before)
+      (world-of new taken_after faults_after) refused 0 refl zero)
 
-  by-formats : old.armed ≡ None → journal ≡ [] → Formats passes (device-of tells blocks) g file L (world-of old taken_before faults_before) (world-of new taken_after faults_after) status said → FormattedBy passes (device-of tells blocks) g file L (end-of journal status said) (world-of old taken_before faults_before) (world-of new taken_after faults_after)
-  by-formats unarmed none formats = record {
+  pub formatted-by : old.armed ≡ None → journal ≡ [] → Formats passes (device-of tells blocks) g file L (world-of old taken_before faults_before) (world-of new taken_after faults_after) status said → FormattedBy passes (device-of tells blocks) g file L (end-of journal status said) (world-of old taken_before faults_before) (world-of new taken_after faults_after)
+  formatted-by unarmed none formats = record {
     formats = formats;
     refuses_list = lists formats;
     lacking = lacks-package formats;
@@ -114,31 +102,16 @@ module _ (passes : List ℕ → Bool) (tells : Bool) (g : Given) (file : List �
       → Refuses (Some (ask.format L.banks L.rows file)) g faults_before faults_after planned n line → Prints line planned status taken_before taken_after faults_before.sink faults_after.sink
       → FormattedBy passes (device-of tells blocks) g file L (end-of journal status said) (world-of old taken_before faults_before) (world-of new taken_after faults_after)
   refused-formats planned line n same unarmed none quiet is why prints =
-      by-formats unarmed none
+      formatted-by unarmed none
       (list_refused same quiet
       (planned, line, subst (λ (x : model.Note). Refuses (Some (ask.format L.banks L.rows file)) g faults_before faults_after planned x line) (sym is) why, prints))
 
   -- nothing was done for want of memory
   pub starved-formats : new ≡ old → old.armed ≡ None → journal ≡ [] → said ≡ note.Nothing → status ≡ 9 → (taken_after ≡ taken_before) × (faults_after.sink ≡ faults_before.sink) → FormattedBy passes (device-of tells blocks) g file L (end-of journal status said) (world-of old taken_before faults_before) (world-of new taken_after faults_after)
-  starved-formats same unarmed none is nine stuck = by-formats unarmed none (starved nine is same stuck)
+  starved-formats same unarmed none is nine stuck = formatted-by unarmed none (starved nine is same stuck)
 
 pub none-some : {A : Type 0} (x : A) (o : Option A) → o ≡ None → o ≡ Some x → ⊥
 none-some x o none some = cc
-
--- what is asked is one command
-pub formatted-as : (passes : List ℕ → Bool) (tells : Bool) (g : Given) (blocks : ℕ) (old new : TurnMoment) (status : ℕ) (said : Note) (journal : List Turn) (taken_before taken_after : Option (List ℕ)) (faults_before faults_after : Faults)
-    (asked : Option Asked) (b banks : ℕ) (items rows : List ImageRow) (f file : List ℕ) → asked ≡ Some (ask.format b items f) → asked ≡ Some (ask.format banks rows file) → old.armed ≡ None → journal ≡ []
-    → Formats passes (device-of tells blocks) g f (record { banks = b; rows = items }) (world-of old taken_before faults_before) (world-of new taken_after faults_after) status said
-    → FormattedBy passes (device-of tells blocks) g file (record { banks = banks; rows = rows }) (end-of journal status said) (world-of old taken_before faults_before) (world-of new taken_after faults_after)
-formatted-as passes tells g blocks old new status said journal taken_before taken_after faults_before faults_after asked b banks items rows f file by is unarmed none formats =
-    let same-banks : b ≡ banks = cc in
-    let same-rows : items ≡ rows = cc in
-    let same-file : f ≡ file = cc in
-    let here : Formats passes (device-of tells blocks) g file (record { banks = banks; rows = rows }) (world-of old taken_before faults_before) (world-of new taken_after faults_after) status said =
-    subst (λ (n : ℕ). Formats passes (device-of tells blocks) g file (record { banks = n; rows = rows }) (world-of old taken_before faults_before) (world-of new taken_after faults_after) status said) same-banks
-    (subst (λ (l : List ImageRow). Formats passes (device-of tells blocks) g file (record { banks = b; rows = l }) (world-of old taken_before faults_before) (world-of new taken_after faults_after) status said) same-rows
-    (subst (λ (l : List ℕ). Formats passes (device-of tells blocks) g l (record { banks = b; rows = items }) (world-of old taken_before faults_before) (world-of new taken_after faults_after) status said) same-file formats)) in
-    by-formats passes tells g file (record { banks = banks; rows = rows }) blocks old new status said journal taken_before taken_after faults_before faults_after unarmed none here
 
 module _ (passes : List ℕ → Bool) (tells : Bool) (told files : Option Directory) (name : List ℕ) (script : Option (List ℕ)) (file : List ℕ) (L : Layout) (blocks : ℕ) (old new : TurnMoment) (status : ℕ) (said : Note) (journal : List Turn) (taken_before taken_after : Option (List ℕ)) (first faults_before faults_after : Faults) where
   -- what is formatted without a list is formatted behind one that was read and is one
@@ -146,13 +119,10 @@ module _ (passes : List ℕ → Bool) (tells : Bool) (told files : Option Direct
       → FormattedBy passes (device-of tells blocks) (record { list = None; files = told; script = script }) file L (end-of journal status said) (world-of old taken_before faults_before) (world-of new taken_after faults_after)
       → FormattedBy passes (device-of tells blocks) (record { list = Some name; files = files; script = script }) file L (end-of journal status said) (world-of old taken_before first) (world-of new taken_after faults_after)
   formats-with-list same good counted source sink unarmed by =
-      by-formats passes tells (record { list = Some name; files = files; script = script }) file L blocks old new status said journal taken_before taken_after first faults_after unarmed by.no_turns (go by.formats)
+      formatted-by passes tells (record { list = Some name; files = files; script = script }) file L blocks old new status said journal taken_before taken_after first faults_after unarmed by.no_turns (go by.formats)
     where
       later : first.files ≤ faults_before.files
       later = omega (arith, counted)
-
-      at-sink : (line : List ℕ) (planned : ℕ) → Prints line planned status taken_before taken_after faults_before.sink faults_after.sink → Prints line planned status taken_before taken_after first.sink faults_after.sink
-      at-sink line planned p = subst (λ (n : ℕ). Prints line planned status taken_before taken_after n faults_after.sink) (sym sink) p
 
       go : Formats passes (device-of tells blocks) (record { list = None; files = told; script = script }) file L (world-of old taken_before faults_before) (world-of new taken_after faults_after) status said
           → Formats passes (device-of tells blocks) (record { list = Some name; files = files; script = script }) file L (world-of old taken_before first) (world-of new taken_after faults_after) status said
@@ -161,11 +131,8 @@ module _ (passes : List ℕ → Bool) (tells : Bool) (told files : Option Direct
           tried good r
           (subst (λ (n : ℕ). Tries passes tells files file L blocks old new n faults_after.files r) counted
           (subst (λ (d : Option Directory). Tries passes tells d file L blocks old new faults_before.files faults_after.files r) same t))
-          (at-sink (format_text r) (format_status r) prints) is
+          (from-sink sink prints) is
       go (list_refused kept quiet refused) =
-          list_refused kept quiet (
-            refused.0,
-            refused.1,
-            refuses (Some (ask.format L.banks L.rows file)) told files name script first faults_before faults_after refused.0 (noted said) refused.1 good later source refused.2,
-            at-sink refused.1 refused.0 refused.3,
-          )
+          list_refused kept quiet
+          (refused-behind told files name script old new status (noted said) taken_before taken_after first faults_before faults_after (ask.format L.banks L.rows file) good later
+          source sink refused)

@@ -1,16 +1,20 @@
 -- The list of digests that the words may name: whose manifests pass, and what is known of its bytes.
-use Rattle.std.proofs.Common.{◌≡◌, ◌⊎◌, ℕ, Bool, true, false, List, [], ◌∷◌, Option, Some, None, Ok, Err, refl, sym, ap, subst, ◌∙◌, inl, inr}
+use Rattle.std.proofs.Common.{◌≡◌, ◌≤◌, ◌⊎◌, ℕ, Bool, true, false, List, [], ◌∷◌, Option, Some, None, Ok, Err, refl, sym, ap, subst, ◌∙◌, inl, inr}
 use Rattle.std.specs.Prelude.{IfSome, IsTrue, codes}
 use Rattle.std.proofs.lemmas.Bool.{false≢true}
 use Rattle.flash_core.specs.Counts.{Rose}
 use Rattle.fwu_model.specs.Reply.{Turn}
 use Rattle.fwu_formats.specs.Words.{is_file}
-use Rattle.fwu_model.specs.Causes.{LacksList}
+use Rattle.fwu_model.specs.Causes.{Faults, LacksList}
+use Rattle.fwu_model.specs.declared.kinds.Note.{Note}
+use Rattle.flash_commands.specs.Showing.{RefusedList}
+use Rattle.script_runs.proofs.Shapes.{world-of}
+use Rattle.script_runs.proofs.TopWays.{refuses}
 use Rattle.fwu_formats.specs.Digests.{digests_of, passes_any, passes_listed}
 use Rattle.fwu_model.specs.Allow.{after_list, asks_list, list_bytes, list_name}
 use Rattle.host_io.specs.Contents.{Directory, Holds}
 use Rattle.host_io.specs.Whole as whole
-use Rattle.fwu_words.specs.Order.{asked}
+use Rattle.fwu_words.specs.Order.{Asked, asked}
 use Rattle.fwu_words.specs.Allow.{NamesList, NamesNone}
 use Rattle.script_cmd.specs.Asking.{asked_after, asked_with_list}
 use Rattle.script_runs.proofs.TopPrints.{by-plan}
@@ -140,3 +144,27 @@ none-bad list files is = subst (λ (l : Option (List ℕ)). HasGoodList l files)
 
 pub no-list-named : {files : Option Directory} → HasGoodList None files
 no-list-named = record { there = λ lacks. lacks; good = tt }
+
+-- ---- behind a list that was read and is one
+
+-- a line is put as from the sink's count before the list
+pub from-sink : {line : List ℕ} {planned status : ℕ} {taken_before taken_after : Option (List ℕ)} {first before after : ℕ}
+    → first ≡ before → Prints line planned status taken_before taken_after before after
+    → Prints line planned status taken_before taken_after first after
+from-sink {line} {planned} {status} {taken_before} {taken_after} {first} {before} {after} sink prints =
+    subst (λ (n : ℕ). Prints line planned status taken_before taken_after n after) (sym sink) prints
+
+module _ (told files : Option Directory) (name : List ℕ) (script : Option (List ℕ)) (old new : TurnMoment) (status : ℕ) (noted : Note)
+    (taken_before taken_after : Option (List ℕ)) (first faults_before faults_after : Faults) where
+  pub refused-behind : (wanted : Asked) → HasGoodList (Some name) files → first.files ≤ faults_before.files
+      → first.source ≡ faults_before.source → first.sink ≡ faults_before.sink
+      → RefusedList wanted (record { list = None; files = told; script = script }) status noted (world-of old taken_before faults_before)
+      (world-of new taken_after faults_after)
+      → RefusedList wanted (record { list = Some name; files = files; script = script }) status noted (world-of old taken_before first)
+      (world-of new taken_after faults_after)
+  refused-behind wanted good later source sink (planned, line, why, prints) = (
+    planned,
+    line,
+    refuses (Some wanted) told files name script first faults_before faults_after planned noted line good later source why,
+    from-sink sink prints,
+  )

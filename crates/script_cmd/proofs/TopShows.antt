@@ -22,10 +22,10 @@ use Rattle.script_runs.proofs.Shapes.{end-of, world-of}
 use Rattle.script_cmd.proofs.PromiseEnds.{bad-status, lacks-list}
 use Rattle.script_runs.proofs.TopPrints.{by-plan}
 use Rattle.script_cmd.proofs.PromiseTurns.{some-from, some-at}
-use Rattle.script_runs.proofs.TopWays.{refuses}
+use Rattle.script_cmd.proofs.TopLists.{from-sink, refused-behind}
 use Rattle.script_cmd.proofs.TopCompletes.{show-completes}
 
-falls-none : (counts : Counts) → NoneFalls counts counts
+pub falls-none : (counts : Counts) → NoneFalls counts counts
 falls-none counts = record { faults = le_refl counts.faults; cuts = le_refl counts.cuts; reached = le_refl counts.reached; chances = le_refl counts.chances }
 
 -- ---- a bad list
@@ -101,16 +101,10 @@ module _ (tells : Bool) (told files : Option Directory) (name : List ℕ) (scrip
   shows-with-list good later source sink by =
       showed-by tells (record { list = Some name; files = files; script = script }) old new status noted journal taken_before taken_after first faults_after (go by.showed) by.content by.guard by.no_turns by.counts by.made by.unarmed
     where
-      at-sink : (line : List ℕ) (planned : ℕ) → Prints line planned status taken_before taken_after faults_before.sink faults_after.sink → Prints line planned status taken_before taken_after first.sink faults_after.sink
-      at-sink line planned p = subst (λ (n : ℕ). Prints line planned status taken_before taken_after n faults_after.sink) (sym sink) p
-
       go : Showed tells (record { list = None; files = told; script = script }) (world-of old taken_before faults_before) (world-of new taken_after faults_after) status noted
           → Showed tells (record { list = Some name; files = files; script = script }) (world-of old taken_before first) (world-of new taken_after faults_after) status noted
       go (starved nine quiet same none) = starved nine quiet same (none.0, none.1 ∙ sym sink)
-      go (list_refused same refused) = list_refused same (
-        refused.0,
-        refused.1,
-        refuses (Some ask.show) told files name script first faults_before faults_after refused.0 noted refused.1 good later source refused.2,
-        at-sink refused.1 refused.0 refused.3,
-      )
-      go (found listed planned line wakes finds once power still prints) = found good planned line wakes finds once power still (at-sink line planned prints)
+      go (list_refused same refused) = list_refused same
+          (refused-behind told files name script old new status noted taken_before taken_after first faults_before faults_after ask.show good later
+          source sink refused)
+      go (found listed planned line wakes finds once power still prints) = found good planned line wakes finds once power still (from-sink sink prints)

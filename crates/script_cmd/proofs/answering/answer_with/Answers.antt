@@ -1,7 +1,7 @@
 use Rattle.host_io.proofs.Once.{once-none}
-use Rattle.script_cmd.proofs.AnsweredBy.{answered-format, answered-serve, answered-show, answered-soak, answered-starved, answered-turns, answered-usage, no-other}
-use Rattle.script_cmd.proofs.TopFormats.{formatted-as}
-use Rattle.script_cmd.proofs.SoakTop.{soak-as}
+use Rattle.script_cmd.proofs.AnsweredBy.{answered-plain, answered-starved, answered-turns, answered-usage, no-other}
+use Rattle.script_cmd.proofs.TopFormats.{formatted-by}
+use Rattle.std.proofs.lemmas.Bool.{false≢true}
 use Rattle.std.proofs.Common.{Some, None, ap, refl, sym, ◌∙◌, arith}
 use Rattle.fwu_words.specs.Order as ask
 use Rattle.script_runs.specs.Ways.{Given}
@@ -25,39 +25,43 @@ returns-in-Ok-Show-clause-answers g c =
     let files = g.H.Files.faults c.args.files.now in
     let source = g.I.Source.faults c.args.source.now in
     let given : Given = record { list = None; files = g.H.Files.contents c.args.files.now; script = g.I.Source.left c.args.source.now } in
-    answered-show _ (rw c.in-Ok-Show.field-0-is at c.in-Ok-Show.ensures)
+    answered-plain _ ask.show (rw c.in-Ok-Show.field-0-is at c.in-Ok-Show.ensures) ((λ runs. runs), refl, refl)
     (showed-by g.D.Flash.tells given _ _ _ _ _ _ _ _ _
     (e.showed given (record { files = files; source = source; sink = 0 }) (record { files = files; source = source; sink = 0 }) no-list-named)
     e.content e.guard e.no_turns e.counts e.made e.unarmed)
-    e.power refl refl refl e.note (record { files = omega arith; source = omega arith; sink = e.later })
+    (λ leaves. e.power) (λ other. e.note) (λ other. refl) (λ other. refl) (λ other. (refl, refl))
+    (record { files = omega arith; source = omega arith; sink = e.later })
 
 pub returns-in-Ok-Format-clause-answers : goal.returns-in-Ok-Format-clause-answers
 returns-in-Ok-Format-clause-answers g c =
     let e = c.format_flash.ensures in
-    answered-format _ c.in-Ok-Format.wanted.banks c.in-Ok-Format.wanted.rows.items c.in-Ok-Format.wanted.package.now (rw c.in-Ok-Format.field-0-is at c.in-Ok-Format.ensures)
-    (λ banks rows file is.
-    formatted-as _ _ _ _ _ _ _ _ _ _ _ _ _ (Some (ask.format c.in-Ok-Format.wanted.banks c.in-Ok-Format.wanted.rows.items c.in-Ok-Format.wanted.package.now)) c.in-Ok-Format.wanted.banks banks c.in-Ok-Format.wanted.rows.items rows
-    c.in-Ok-Format.wanted.package.now file refl is c.requires.unarmed e.no_turns
+    let wanted = c.in-Ok-Format.wanted in
+    answered-plain _ (ask.format wanted.banks wanted.rows.items wanted.package.now) (rw c.in-Ok-Format.field-0-is at c.in-Ok-Format.ensures)
+    ((λ runs. runs), refl, refl)
+    (formatted-by _ _ _ _ _ _ _ _ _ _ _ _ _ _ _ c.requires.unarmed e.no_turns
     (e.formats (g.I.Source.left c.args.source.now) (g.I.Source.faults c.args.source.now) (g.I.Source.faults c.args.source.now)))
-    e.power refl (record { files = e.reads.later; source = omega arith; sink = e.later_sink })
+    (λ leaves. e.power) (λ other. absurd (false≢true (sym other))) (λ other. refl) (λ other. other) (λ other. absurd (false≢true (sym other)))
+    (record { files = e.reads.later; source = omega arith; sink = e.later_sink })
 
 pub returns-in-Ok-Soak-clause-answers : goal.returns-in-Ok-Soak-clause-answers
 returns-in-Ok-Soak-clause-answers g c =
     let files = g.H.Files.faults c.args.files.now in
     let source = g.I.Source.faults c.args.source.now in
     let e = c.soak.ensures in
-    answered-soak _ c.in-Ok-Soak.seed c.in-Ok-Soak.rounds (rw c.in-Ok-Soak.field-0-is at c.in-Ok-Soak.ensures)
-    (λ seed rounds is.
-    soak-as _ _ _ _ _ _ _ _ _ _ _ _ (Some (ask.soak c.in-Ok-Soak.seed c.in-Ok-Soak.rounds)) c.in-Ok-Soak.seed seed c.in-Ok-Soak.rounds rounds refl is
-    (e.way (record { list = None; files = g.H.Files.contents c.args.files.now; script = g.I.Source.left c.args.source.now }) (record { files = files; source = source; sink = 0 })
-    (record { files = files; source = source; sink = 0 }) no-list-named))
-    refl refl refl (record { files = omega arith; source = omega arith; sink = e.later })
+    answered-plain _ (ask.soak c.in-Ok-Soak.seed c.in-Ok-Soak.rounds) (rw c.in-Ok-Soak.field-0-is at c.in-Ok-Soak.ensures)
+    ((λ runs. runs), refl, refl)
+    (e.way (record { list = None; files = g.H.Files.contents c.args.files.now; script = g.I.Source.left c.args.source.now })
+    (record { files = files; source = source; sink = 0 }) (record { files = files; source = source; sink = 0 }) no-list-named)
+    (λ leaves. absurd (false≢true leaves)) (λ other. absurd (false≢true (sym other))) (λ other. refl) (λ other. refl) (λ other. (refl, refl))
+    (record { files = omega arith; source = omega arith; sink = e.later })
 
 pub returns-in-Ok-Serve-clause-answers : goal.returns-in-Ok-Serve-clause-answers
 returns-in-Ok-Serve-clause-answers g c =
     let e = c.serve_source.ensures in
     let kept = ap g.H.Files.faults e.files in
-    answered-serve _ (rw c.in-Ok-Serve.field-0-is at c.in-Ok-Serve.ensures) e.way e.files kept e.note (record { files = omega (arith, kept); source = e.later_source; sink = e.later_sink })
+    answered-plain _ ask.serve (rw c.in-Ok-Serve.field-0-is at c.in-Ok-Serve.ensures) ((λ runs. runs), refl, refl) e.way
+    (λ leaves. absurd (false≢true leaves)) (λ other. e.note) (λ other. absurd (false≢true (sym other))) (λ other. refl) (λ other. (e.files, kept))
+    (record { files = omega (arith, kept); source = e.later_source; sink = e.later_sink })
 
 pub returns-in-Err-Usage-clause-answers : goal.returns-in-Err-Usage-clause-answers
 returns-in-Err-Usage-clause-answers g c =
