@@ -1,5 +1,5 @@
 -- No run is promised one of the wrong outcomes.
-use Rattle.std.proofs.Common.{◌≡◌, ℕ, List, [], ◌∷◌, ◌++◌, length, length-append, arith, Option, Some, None, Ok, refl, sym, ap, subst, ◌∙◌, inl, inr}
+use Rattle.std.proofs.Common.{◌≡◌, ℕ, Bool, List, [], ◌∷◌, ◌++◌, length, length-append, arith, Option, Some, None, refl, sym, ap, subst, ◌∙◌, inl, inr}
 use Rattle.std.proofs.lemmas.List.{append_cancel_left}
 use Rattle.fwu_formats.specs.Digests.{digests_of}
 use Rattle.fwu_model.specs.Causes.{Faults}
@@ -8,6 +8,7 @@ use Rattle.fwu_model.specs.declared.kinds.Note.{Note}
 use Rattle.fwu_words.specs.Order.{Asked}
 use Rattle.script_turns.specs.Booted.{BootsFrom}
 use Rattle.script_runs.specs.Ways.{Given, Refuses, bad_list, bad_script, list_not_read, not_read, too_long, usage}
+use Rattle.script_cmd.specs.ByList.{ReadsList}
 use Rattle.script_cmd.specs.Outcomes.{BadListIsNone, ListIsSome, MissingListIsNone, NoMetadataIsNone, NothingFollowsTheSink, NothingIsArmed, NothingIsPassedOver, NothingIsTouched, UsageLineIsOfUsage, UsageReadsNoSource}
 
 same-name : (x y : List ℕ) → ◌≡◌ {A = Option (List ℕ)} (Some x) (Some y) → x ≡ y
@@ -67,22 +68,20 @@ pub usage-reads-no-source : UsageReadsNoSource
 usage-reads-no-source passes tells inputs end old new p =
     elim (p.ends.not_read refl refl) [ inl source ↦ absurd (let never = source.0 in cc) | inr list ↦ list ]
 
+-- the bytes of the list that was read
+read-there : (name : List ℕ) (files : List ℕ → Option (List ℕ)) (passes : List ℕ → Bool) (reads : ReadsList (Some name) (Some files) passes)
+    → files name ≡ Some reads.bytes
+read-there name files passes reads = subst (λ (n : List ℕ). files n ≡ Some reads.bytes) (sym (same-name name reads.name reads.named))
+    reads.stands
+
 pub missing-list-is-none : MissingListIsNone
-missing-list-is-none name files passes lacks has =
-    let reads = has.listed refl in
-    let is = same-name name reads.name reads.named in
-    let stands : files name ≡ Some reads.bytes = subst (λ (n : List ℕ). files n ≡ Some reads.bytes) (sym is) reads.stands in
-    let both = sym lacks ∙ stands in
-    cc
+missing-list-is-none name files passes lacks has = let both = sym lacks ∙ read-there name files passes (has.listed refl) in cc
 
 pub bad-list-is-none : BadListIsNone
 bad-list-is-none name bytes n files passes there bad has =
     let reads = has.listed refl in
-    let is = same-name name reads.name reads.named in
-    let stands : files name ≡ Some reads.bytes = subst (λ (k : List ℕ). files k ≡ Some reads.bytes) (sym is) reads.stands in
-    let same : bytes ≡ reads.bytes = same-name bytes reads.bytes (sym there ∙ stands) in
-    let read : digests_of bytes ≡ Ok reads.digests = subst (λ (b : List ℕ). digests_of b ≡ Ok reads.digests) (sym same) reads.is_list in
-    let both = sym bad ∙ read in
+    let same : bytes ≡ reads.bytes = same-name bytes reads.bytes (sym there ∙ read-there name files passes reads) in
+    let both = sym bad ∙ (ap digests_of same ∙ reads.is_list) in
     cc
 
 pub list-is-some : ListIsSome

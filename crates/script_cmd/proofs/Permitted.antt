@@ -4,10 +4,10 @@ use Rattle.std.specs.List.{slice_get}
 use Rattle.host_io.specs.Contents.{Directory}
 use Rattle.fwu_model.specs.Call.{Call}
 use Rattle.fwu_model.specs.Call as call
-use Rattle.fwu_model.specs.Reply.{Reply, Turn}
+use Rattle.fwu_model.specs.Reply.{Turn}
 use Rattle.fwu_model.specs.Reply as reply
 use Rattle.early_boot.specs.EndsBy.{StartsPermitted}
-use Rattle.early_boot.specs.Ends.{Ended, booted, bad_layout, no_metadata, no_bank, lost, failed}
+use Rattle.early_boot.specs.Ends.{Ended, booted}
 use Rattle.image_check.specs.Passed.{HasPackage}
 use Rattle.script_turns.specs.Powered.{TurnMoment}
 use Rattle.script_turns.specs.Boots.{numbers_of_end, reply_of_end}

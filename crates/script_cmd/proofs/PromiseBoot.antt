@@ -36,7 +36,7 @@ use Rattle.script_cmd.specs.BootWord.{BootWordBy}
 use Rattle.script_turns.specs.Powered.{TurnMoment, at}
 use Rattle.script_runs.specs.Running.{ScriptEnded, status_of_last, note_of_last, last_turn}
 use Rattle.script_turns.specs.Runs.{Ran, calls_of}
-use Rattle.script_runs.specs.Ways.{Given, Refuses, usage, not_read, list_not_read, too_long, bad_script, bad_list, starved, refused, ran}
+use Rattle.script_runs.specs.Ways.{Given, Refuses, usage, too_long, bad_script, starved, refused, ran}
 use Rattle.script_cmd.specs.Promises.{given_to, WaysBoot}
 use Rattle.script_runs.proofs.TopPrints.{by-plan}
 use Rattle.script_cmd.proofs.PromiseTurns.{some-at}

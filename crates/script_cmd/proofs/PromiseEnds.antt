@@ -175,12 +175,16 @@ module _ (asked : Option Asked) (g : Given) (faults_before faults_after : Faults
       refuses_list = some-from (list_bytes g.list g.files) _ (λ bytes told n bad. (refl, refuses bytes n told bad));
       refuses_words = λ words.
           (refl, holds (λ k. (k == 1) || (may_fail_before k || (k == 13))) refl refl (λ planned line why. bad-words planned noted line why words));
-      refuses_longer = λ runs. some-from g.script _ (λ bytes told long.
-          (refl, holds (λ k. (k == 8) || (may_fail_before k || (k == 13))) refl refl
-          (λ planned line why. longer planned noted line why runs bytes told long)));
-      refuses_script = λ runs. some-from g.script _ (λ bytes told n bad.
-          (refl, holds (λ k. (k == 4) || ((k == 8) || (may_fail_before k || (k == 13)))) refl refl
-          (λ planned line why. no-script planned noted line why runs)));
+      refuses_longer = λ runs. some-from g.script _ (λ bytes told long. (
+        refl,
+        holds (λ k. (k == 8) || (may_fail_before k || (k == 13))) refl refl
+            (λ planned line why. longer planned noted line why runs bytes told long),
+      ));
+      refuses_script = λ runs. some-from g.script _ (λ bytes told n bad. (
+        refl,
+        holds (λ k. (k == 4) || ((k == 8) || (may_fail_before k || (k == 13)))) refl refl
+            (λ planned line why. no-script planned noted line why runs),
+      ));
       sink_fault = three;
     }
 

@@ -1,5 +1,5 @@
 -- The headline, whichever way a run ended.
-use Rattle.std.proofs.Common.{◌≡◌, ◌≢◌, ℕ, Bool, List, [], ◌∷◌, length, Option, Some, None, refl, sym, subst, ◌∙◌, arith, IsTrue, IsFalse}
+use Rattle.std.proofs.Common.{◌≡◌, ℕ, Bool, List, [], ◌∷◌, length, Option, Some, None, refl, sym, subst, ◌∙◌, arith, IsTrue}
 use Rattle.std.specs.Prelude.{◌/◌}
 use Rattle.std.proofs.lemmas.Option.{same_Some}
 use Rattle.base_core.specs.Block.{block}
@@ -15,25 +15,17 @@ use Rattle.fwu_model.specs.Call as call
 use Rattle.fwu_model.specs.Reply.{Turn}
 use Rattle.fwu_model.specs.Asked as model
 use Rattle.fwu_model.specs.Asked.{script_asked}
-use Rattle.fwu_model.specs.Wrote.{may_lack}
 use Rattle.fwu_model.specs.Run.{Condition, start_of}
 use Rattle.fwu_model.specs.Contract.{Premises, Asks, ByScript, ByBoot}
 use Rattle.fwu_model.specs.Headline.{Headline, IsPrefixOf, LeavesOneOf}
-use Rattle.fwu_model.specs.Causes.{Faults}
-use Rattle.fwu_model.specs.declared.kinds.Note.{Note}
-use Rattle.fwu_model.specs.declared.kinds.Note.TheVariants as note
 use Rattle.fwu_model.proofs.Frame.{calm-stays, start-is-calm}
 use Rattle.fwu_model.proofs.Selects.{runs-select}
 use Rattle.fwu_formats.proofs.Read.{layout-fits}
-use Rattle.fwu_words.specs.Order.{Asked}
 use Rattle.script_runs.specs.Refusing.{in_short}
 use Rattle.script_turns.specs.Powered.{TurnMoment, ShowsCondition, at}
-use Rattle.script_runs.specs.Running.{ScriptEnded}
 use Rattle.script_turns.specs.Runs.{Ran, StartsSound, calls_of}
 use Rattle.script_runs.specs.Ways.{HasCalls, starved, refused, ran}
-use Rattle.script_cmd.specs.Promises.{given_to, HeadlineHolds, WaysKeepTheHeadline, outcome}
-use Rattle.script_runs.proofs.Shapes.{end-of, world-of}
-use Rattle.script_cmd.proofs.Inputs.{inputs-of}
+use Rattle.script_cmd.specs.Promises.{given_to, WaysKeepTheHeadline, outcome}
 use Rattle.script_runs.proofs.PromiseWords.{boot-is-script, same-calls}
 use Rattle.script_runs.proofs.TopPrints.{done-planned}
 use Rattle.script_cmd.proofs.PromiseEnds.{why-planned}

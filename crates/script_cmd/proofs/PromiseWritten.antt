@@ -15,7 +15,7 @@ use Rattle.fwu_words.specs.Order.{Asked}
 use Rattle.script_runs.specs.Ending.{World}
 use Rattle.host_io.specs.Printed.{Prints, all, front, nothing}
 use Rattle.script_runs.specs.Running.{WritesLines}
-use Rattle.script_runs.specs.Ways.{Given, Refuses, usage, not_read, list_not_read, too_long, bad_script, bad_list, starved, refused, ran}
+use Rattle.script_runs.specs.Ways.{Given, Refuses, usage, not_read, too_long, bad_script, bad_list, starved, refused, ran}
 use Rattle.script_cmd.specs.Promises.{WroteHolds, WaysWrite}
 use Rattle.script_runs.proofs.Shapes.{end-of}
 use Rattle.script_cmd.proofs.PromiseTurns.{is_ran, none-ended, ran-at, ran-status, early-not-ran}

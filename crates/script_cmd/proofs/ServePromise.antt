@@ -12,7 +12,6 @@ use Rattle.serving.specs.Scene.{Port, port, scene}
 use Rattle.serving.specs.Written.{answered_numbers, messages_of, written}
 use Rattle.serving.specs.declared.ends.ServeEnd.{ServeEnd}
 use Rattle.serving.specs.declared.ends.ServeEnd.TheVariants as end
-use Rattle.fwu_model.specs.Causes.{Faults}
 use Rattle.fwu_model.specs.Contract.{Premises}
 use Rattle.fwu_model.specs.Headline.{IsPrefixOf}
 use Rattle.fwu_model.specs.Reply.{Turn}
@@ -30,12 +29,11 @@ use Rattle.script_cmd.specs.ServeWays.{ServeWay, ServesSource, Unread, left_by_s
 use Rattle.script_cmd.specs.ServedBy.{ServedBy, ServedComplete, ServedEnds, ServedHeadline, ServedWrites, TakesAtMost, WroteFrames, WroteLine, may_end_serving, reads_no_more}
 use Rattle.flash_commands.specs.Showing.{RefusedList}
 use Rattle.script_cmd.specs.Granted.{RefusesBadList}
-use Rattle.script_runs.specs.Ways.{Given, Refuses, bad_list, bad_script, list_not_read, not_read, too_long, usage}
+use Rattle.script_runs.specs.Ways.{Given, Refuses, not_read, too_long}
 use Rattle.script_cmd.specs.ByList.{may_lack_list}
 use Rattle.script_cmd.proofs.PromiseEnds.{refused-ends}
 use Rattle.script_cmd.proofs.PromiseHeadline.{idle-head, ran-head, sound-start}
 use Rattle.script_cmd.proofs.PromiseRan.{idle-holds, ran-holds}
-use Rattle.script_runs.proofs.TopPrints.{by-plan}
 use Rattle.script_cmd.proofs.PromiseTurns.{some-from}
 use Rattle.script_cmd.proofs.PromiseWritten.{appended}
 use Rattle.script_cmd.proofs.ServeAccount.{Account, account, end-at}

@@ -1,9 +1,9 @@
 -- How often the sink failed, whichever way the program ended.
-use Rattle.std.proofs.Common.{◌≡◌, ◌≢◌, ℕ, Bool, List, Option, Some, None, Result, Ok, Err, arith, refl, sym, ap, subst}
+use Rattle.std.proofs.Common.{◌≡◌, ◌≢◌, ℕ, Bool, List, Option, Some, None, Result, Err, arith, refl, sym, ap, subst}
 use Rattle.flash_core.specs.declared.flash.Counts.{Counts}
 use Rattle.flash_format.specs.declared.formatting.Formatted.{Formatted}
 use Rattle.flash_format.specs.declared.stops.FormatStop.{FormatStop}
-use Rattle.flash_format.specs.declared.stops.FormatStop.TheVariants.{Input, ReadFailed, Flash}
+use Rattle.flash_format.specs.declared.stops.FormatStop.TheVariants.{ReadFailed}
 use Rattle.fwu_formats.specs.Layout.{Layout}
 use Rattle.fwu_model.specs.Causes.{Faults, status_by}
 use Rattle.fwu_model.specs.Reply.{Reply}

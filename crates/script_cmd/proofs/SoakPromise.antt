@@ -1,5 +1,5 @@
 -- What `soak` promises, whichever way it ended.
-use Rattle.std.proofs.Common.{◌≡◌, ◌≢◌, ◌⊎◌, ◌||◌, ◌==◌, ℕ, Bool, true, false, not, if◌then◌else◌, List, [], ◌∷◌, ◌++◌, Option, Some, None, Result, Ok, Err, refl, sym, ap, subst, ◌∙◌, inl, inr, arith, append-nil, IsTrue, IsFalse, Contains}
+use Rattle.std.proofs.Common.{◌≡◌, ◌≢◌, ◌⊎◌, ◌||◌, ◌==◌, ℕ, Bool, true, false, not, if◌then◌else◌, List, [], ◌∷◌, ◌++◌, Option, Some, None, Ok, Err, refl, sym, ap, subst, ◌∙◌, inl, inr, arith, append-nil, IsTrue, IsFalse, Contains}
 use Rattle.std.specs.Prelude.{nat_lt, ◌*◌, option_map}
 use Rattle.base_core.specs.Block.{block_bytes}
 use Rattle.fip_tables.specs.Images.{images_fault, image_fault as reader_fault, or_else as reader_or}
@@ -18,7 +18,7 @@ use Rattle.fwu_formats.specs.Digests.{passes_any}
 use Rattle.fwu_formats.specs.Layout.{ImageRow, Layout, fits_layout, blocks_needed}
 use Rattle.fwu_formats.specs.Manifest.{is_complete, version}
 use Rattle.fwu_formats.specs.declared.kinds.LayoutFault.{LayoutFault}
-use Rattle.fwu_model.specs.Causes.{Faults, cuts_in, may_fail_before, status_by}
+use Rattle.fwu_model.specs.Causes.{cuts_in, may_fail_before, status_by}
 use Rattle.fwu_model.specs.Headline.{IsPrefixOf, made_after}
 use Rattle.fwu_model.specs.Reply.{Reply, Turn}
 use Rattle.fwu_model.specs.Reply as reply
@@ -26,7 +26,6 @@ use Rattle.fwu_model.specs.Run.{ends_run, is_refused_boot}
 use Rattle.fwu_model.specs.Seen.{seen}
 use Rattle.fwu_model.specs.Sound.{Sound}
 use Rattle.fwu_model.specs.Wrote.{may_lack}
-use Rattle.fwu_model.specs.declared.kinds.Note as model
 use Rattle.fwu_model.proofs.Complete.{runs-boot}
 use Rattle.fwu_model.proofs.Selects.{runs-select}
 use Rattle.fwu_words.specs.Order as ask
@@ -34,12 +33,9 @@ use Rattle.agent_machine.specs.Fields.{Fields}
 use Rattle.meta_layout.specs.Rows.{fitted}
 use Rattle.flash_format.specs.Choosing.{refusal, refused as refused_input}
 use Rattle.flash_format.specs.Formatted.{HoldsImages, IsFormatted, first_state}
-use Rattle.flash_format.specs.Stops.{RefusesAs, IsEarlyStop}
 use Rattle.flash_format.specs.declared.formatting.Formatted.{Formatted}
 use Rattle.flash_format.specs.declared.stops.FormatStop.{FormatStop}
-use Rattle.flash_format.specs.declared.stops.FormatStop.TheVariants.{Input, ReadFailed, Flash}
-use Rattle.flash_format.specs.declared.stops.InputFault.{InputFault}
-use Rattle.flash_format.specs.declared.stops.InputFault.TheVariants as fault
+use Rattle.flash_format.specs.declared.stops.FormatStop.TheVariants.{Input, Flash}
 use Rattle.gen_core.specs.Calls.{file_name, first_package, soak_calls}
 use Rattle.gen_core.specs.Law.{InstallsPackage}
 use Rattle.gen_core.specs.Line.{soak_line, too_small_line}
@@ -48,21 +44,20 @@ use Rattle.gen_core.proofs.Naming.{rounds-have-packages}
 use Rattle.script_turns.specs.Powered.{TurnMoment, at}
 use Rattle.script_turns.specs.Turning.{NoneFalls}
 use Rattle.script_runs.specs.Ending.{Device, Ending, World, in_model}
-use Rattle.flash_commands.specs.Formatting.{Formats, Tries, format_status, format_text}
+use Rattle.flash_commands.specs.Formatting.{Tries, format_status, format_text}
 use Rattle.script_cmd.specs.FormattedBy.{IsFormattable}
 use Rattle.flash_commands.specs.Formatting as format
 use Rattle.script_runs.specs.Noted.{noted}
 use Rattle.host_io.specs.Printed.{Prints, all, front, nothing}
 use Rattle.script_turns.specs.Runs.{Ran, RunsTo, calls_of}
-use Rattle.script_runs.specs.ByTable.{StopHasCause}
 use Rattle.script_cmd.specs.Granted.{RefusesBadList}
 use Rattle.script_cmd.specs.Soaked.{HasSoakList, RunsSoak, SoakedBy, first_images, soak_setting}
 use Rattle.flash_commands.specs.Soaking.{first_files, soak_files, stop_line}
 use Rattle.flash_commands.specs.SoakWays.{SoakEnds, SoakWay, all_done, lacking, list_refused, not_formatted, ran, starved, stopped, too_small}
-use Rattle.script_runs.specs.Ways.{Given, Refuses, bad_list, bad_script, list_not_read, not_read, too_long, usage}
+use Rattle.script_runs.specs.Ways.{Given}
 use Rattle.script_runs.specs.declared.done.Note.{Note}
 use Rattle.script_cmd.proofs.PromiseHeadline.{fits, left-by}
-use Rattle.script_runs.proofs.TopPrints.{by-plan, printed-plan, not-done, raised-rose}
+use Rattle.script_runs.proofs.TopPrints.{by-plan, printed-plan, not-done}
 use Rattle.script_turns.proofs.RunTurns.{rose-before}
 use Rattle.flash_commands.proofs.SoakRounds.{file-there}
 use Rattle.script_cmd.proofs.TopCompletes.{format-completes, list-granted, list-other, list-status, no-input, printed}
@@ -364,8 +359,14 @@ module _ (device : Device) (g : Given) (seed n : ℕ) (end : Ending Note) (old n
         device.blocks old.flash new.flash end.status end.noted old.taken new.taken
         (record { files = 0; source = 0; sink = old.faults.sink }) (record { files = 0; source = 0; sink = new.faults.sink }) device.tells
         (format.tried (record { there = λ lacks. lacks; good = tt }) (Err stop) t prints is) told (formattable seed device.blocks room)
-        (record { list_there = λ lacks. lacks; list_is = λ k some bad. absurd (cc); no_fault = no_fault; no_cut = no_cut none;
-          no_file_fault = no-rise; no_sink_fault = no_sink });
+        (record {
+          list_there = λ lacks. lacks;
+          list_is = λ k some bad. absurd (cc);
+          no_fault = no_fault;
+          no_cut = no_cut none;
+          no_file_fault = no-rise;
+          no_sink_fault = no_sink;
+        });
   }
     where
       planned : (k : ℕ) → IsFalse (may_lack k) → end.status ≡ k → format_status (Err stop) ≡ k

@@ -4,7 +4,6 @@ use Rattle.fwu_model.specs.Reply.{Turn}
 use Rattle.fwu_model.specs.Causes.{Faults}
 use Rattle.fwu_model.specs.declared.kinds.Note as model
 use Rattle.host_io.specs.Contents.{Directory}
-use Rattle.fwu_words.specs.Order.{Asked}
 use Rattle.fwu_words.specs.Order as ask
 use Rattle.gen_core.specs.Calls.{soak_calls}
 use Rattle.script_turns.specs.Powered.{TurnMoment}

@@ -117,7 +117,7 @@ module _ (g : Given) (before after : Counts) (status : ℕ) (taken_before taken_
       found (IsTrue tells) new.told.now planned told line knows (subst (λ (t : Told). HasMetadata t.now) (sym (wakes-clean old.told new.told clean (wakes knows))) has) grants
       (subst (λ (x : Counts). ShowFinds (IsTrue tells) new.told.now x after planned told line) first
       (subst (λ (x : Counts). ShowFinds (IsTrue tells) new.told.now old.counts x planned told line) last finds)) prints
-  show-completes tells old new told first last (show.list_refused same refused) knows clean has grants = absurd 
+  show-completes tells old new told first last (show.list_refused same refused) knows clean has grants = absurd
       (granted ask.show (λ is. cc) (λ is. cc) g before after faults_before faults_after refused.0 told refused.1 grants refused.2)
 
 -- a name that is told isn't lacking

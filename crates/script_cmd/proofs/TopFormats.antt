@@ -1,6 +1,5 @@
 -- The command `format`, by the words and behind a list.
 use Rattle.std.proofs.Common.{◌≡◌, ◌≤◌, ◌||◌, ◌==◌, ℕ, Bool, List, [], Option, Some, None, Result, Ok, Err, refl, sym, ap, subst, ◌∙◌, ◌⊎◌, inl, inr, arith, IsTrue, IsFalse}
-use Rattle.std.proofs.lemmas.Bool.{false≢true}
 use Rattle.fip_tables.specs.Files.{Lacks}
 use Rattle.flash_format.specs.Formatted.{IsBlank}
 use Rattle.flash_format.specs.Stops.{IsOfLayout, LayoutBy}
@@ -8,13 +7,12 @@ use Rattle.flash_format.specs.declared.stops.FormatStop.TheVariants.{Input, Read
 use Rattle.meta_layout.specs.Rows.{fitted}
 use Rattle.flash_format.specs.declared.formatting.Formatted.{Formatted}
 use Rattle.flash_format.specs.declared.stops.FormatStop.{FormatStop}
-use Rattle.fwu_formats.specs.Layout.{ImageRow, Layout}
+use Rattle.fwu_formats.specs.Layout.{Layout}
 use Rattle.fwu_model.specs.Reply.{Turn}
 use Rattle.fwu_model.specs.Causes.{Faults, may_fail_before}
 use Rattle.fwu_formats.specs.declared.kinds.LayoutFault.{LayoutFault}
 use Rattle.fwu_model.specs.declared.kinds.Note as model
 use Rattle.host_io.specs.Contents.{Directory}
-use Rattle.fwu_words.specs.Order.{Asked}
 use Rattle.fwu_words.specs.Order as ask
 use Rattle.flash_commands.specs.Formatting.{Formats, Tries, format_status, format_text, list_refused, starved, tried}
 use Rattle.script_cmd.specs.FormattedBy.{FormattedBy}
@@ -22,7 +20,7 @@ use Rattle.script_turns.specs.Powered.{TurnMoment}
 use Rattle.script_runs.specs.Noted.{is_beyond_model, noted}
 use Rattle.script_cmd.specs.Granted.{RefusesBadList}
 use Rattle.host_io.specs.Printed.{Prints}
-use Rattle.script_runs.specs.Ways.{Given, HasGoodList, Refuses, bad_list, bad_script, list_not_read, not_read, too_long, usage}
+use Rattle.script_runs.specs.Ways.{Given, HasGoodList, Refuses}
 use Rattle.script_runs.specs.declared.done.Note.{Note}
 use Rattle.script_runs.specs.declared.done.Note.TheVariants as note
 use Rattle.script_runs.proofs.Shapes.{device-of, end-of, world-of}

@@ -2,7 +2,7 @@ use Rattle.host_io.proofs.Once.{once-none}
 use Rattle.script_cmd.proofs.AnsweredBy.{answered-plain, answered-starved, answered-turns, answered-usage, no-other}
 use Rattle.script_cmd.proofs.TopFormats.{formatted-by}
 use Rattle.std.proofs.lemmas.Bool.{false≢true}
-use Rattle.std.proofs.Common.{Some, None, ap, refl, sym, ◌∙◌, arith}
+use Rattle.std.proofs.Common.{None, ap, refl, sym, ◌∙◌, arith}
 use Rattle.fwu_words.specs.Order as ask
 use Rattle.script_runs.specs.Ways.{Given}
 use Rattle.script_cmd.proofs.TopShows.{showed-by}
