@@ -251,6 +251,8 @@ def verdict(status, said):
 def edits(crate, named):
     folder = f"{folder_of(crate)}/must-fail"
     given = named or [f"{folder}/{name}" for name in sorted(os.listdir(folder)) if name.endswith(".edit")]
+    if not os.path.isdir(kept_of(crate)[1]) and rattle(folder_of(crate), ["check", *words_of(crate), *kept_of(crate)]):
+        return 1
     return 0 if all([is_refused(crate, os.path.abspath(edit)) for edit in given]) else 1
 
 
@@ -300,6 +302,7 @@ def main(words):
     if command not in ("check", "test", "program", "edits", "spare") or not crates or crates[0] not in NAMED:
         sys.exit(__doc__)
     crate, rest = crates[0], crates[1:]
+    os.makedirs(STORE, exist_ok=True)
     if not build(below(crate)):
         return 1
     if command == "check":
