@@ -275,8 +275,14 @@ def answers_in(folder):
     return {file: re.findall(r"^pub (\S+) : goal\.", open(f"{folder}/{file}", encoding="utf-8").read(), re.M) for file in sorted(files)}
 
 
+def is_for(asked, answer):
+    """Whether an answer is to what is asked, whole or in part."""
+    return asked == answer or asked.startswith(f"{answer}-") or answer.startswith(f"{asked}-")
+
+
 def spare(crate):
-    """Proves a copy of a crate without its answers, and names those that the prover does not ask for, whole or in parts."""
+    """Proves a copy of a crate without its answers, and names those that the prover does not ask for. Of a file in which it asks by other
+    names than the answers have, it names that alone."""
     with tempfile.TemporaryDirectory(dir=STORE) as room:
         for part in TEXTS:
             if os.path.isdir(f"{folder_of(crate)}/{part}"):
@@ -284,10 +290,18 @@ def spare(crate):
         with open(f"{room}/log", "w+b") as out:
             rattle(room, ["check", *words_of(crate), "--allow-holes", "--margin"], out)
             out.seek(0)
-            asked = asked_for(out.read().decode(errors="replace").split("\n"))
+            said = out.read().decode(errors="replace").strip().split("\n")
+    if not said[-1].startswith("holes="):
+        print(f"{crate}: the prover came to no end, so nothing is known: {said[-1][:160]}")
+        return 1
+    asked = asked_for(said)
     for file, answers in answers_in(folder_of(crate)).items():
+        other = [it for it in asked.get(file, ()) if not any(is_for(it, answer) for answer in answers)]
+        if other:
+            print(f"{file}: asks by another name, {other[0]}")
+            continue
         for answer in answers:
-            if not any(it == answer or it.startswith(f"{answer}-") or answer.startswith(f"{it}-") for it in asked.get(file, ())):
+            if not any(is_for(it, answer) for it in asked.get(file, ())):
                 print(f"{file}: {answer}")
     return 0
 
