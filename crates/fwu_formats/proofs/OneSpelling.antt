@@ -12,10 +12,8 @@ use Rattle.base_core.specs.Bytes.{num, le, num_at, part, same_bytes, listed, are
 use Rattle.base_core.specs.Crc.{crc}
 use Rattle.base_core.proofs.Spelled.{same_is}
 use Rattle.fwu_formats.specs.Layout.{Layout, ImageRow, nil_guid, fits_layout, layout_magic, layout_of, layout_at, layout_size, layout_body, layout_bytes, row_bytes, has_zeros}
-use Rattle.fwu_formats.specs.Metadata.{Field, Meta, MetaRead, meta_of, meta_bytes, meta_body, meta_size, entry_size, entry_place, entry_bytes, entries_bytes, bit_at, bit_number, bits_from, has_bank_entry, has_entry, has_entries, has_states, has_indices, has_fields, header_fields, is_state_byte, state_byte, state_of_byte, meta_at, fits_v2}
+use Rattle.fwu_formats.specs.Metadata.{Field, Meta, MetaRead, meta_of, meta_bytes, meta_body, meta_size, entry_size, entry_place, entry_bytes, entries_bytes, bit_at, bit_number, bits_from, has_bank_entry, has_entry, has_entries, has_states, has_indices, has_fields, header_fields, is_state_byte, state_byte, state_of_byte, meta_at, fits_v2, BankState}
 use Rattle.fwu_formats.specs.Counter.{is_record, record_magic, record_size, record_body, record_bytes, recorded}
-use Rattle.fwu_formats.specs.declared.kinds.BankState.{BankState}
-use Rattle.fwu_formats.specs.declared.kinds.MetaFault.TheVariants as fault
 use Rattle.fwu_formats.proofs.SealLaws.{layout-holds, meta-holds, limits}
 pub use Rattle.fwu_formats.proofs.Spell.{all-at}
 use Rattle.fwu_formats.proofs.Spell.{each-range}
@@ -69,7 +67,7 @@ record IsState (v : ℕ) : Type 0 where
   small : v < 256
 
 a-state : (v : ℕ) → IsTrue (is_state_byte v) → IsState v
-a-state v h = record { back = grind (arith, nat_tests); small = grind (arith, nat_tests) }
+a-state v h = search (arith, nat_tests)
 
 module _ (block : List ℕ) (bytes : IsTrue (are_bytes block)) where
   pub field : (at n : ℕ) → at + n ≤ length block → take n (drop at block) ≡ le n (num_at n block at)

@@ -34,25 +34,14 @@ unfolding is_complete manifest_of images manifest manifest_bytes sha256 hash_aft
 package_complete = refl
 
 -- form 2 of the manifest has the versions from 224 on
-wide_manifest : take 16 (manifest 70000) ≡ 0x46 ∷ 0x57 ∷ 0x4d ∷ 0x46 ∷ 2 ∷ 0 ∷ 0 ∷ 0 ∷ 0x70 ∷ 0x11 ∷ 1 ∷ 0 ∷ 2 ∷ 0 ∷ 0 ∷ 0 ∷ []
+manifest_forms :
+    (take 16 (manifest 70000) ≡ 0x46 ∷ 0x57 ∷ 0x4d ∷ 0x46 ∷ 2 ∷ 0 ∷ 0 ∷ 0 ∷ 0x70 ∷ 0x11 ∷ 1 ∷ 0 ∷ 2 ∷ 0 ∷ 0 ∷ 0 ∷ [])
+    × (part (manifest 223) 4 12 ≡ 1 ∷ 0 ∷ 0 ∷ 0 ∷ 223 ∷ 0 ∷ 0 ∷ 0 ∷ [])
+    × (manifest_of L.rows (changed 8 223 (manifest 224)) ≡ Err manifest_fault.BadForm)
+    × (manifest_of L.rows (changed 8 224 (manifest 223)) ≡ Err manifest_fault.VersionTooHigh)
+    × (manifest_of L.rows (changed 4 3 (manifest 223)) ≡ Err manifest_fault.BadForm)
 unfolding manifest manifest_bytes manifest_of sha256 hash_after compress schedule first_words rounds digest_bytes
-wide_manifest = refl
-
-narrow_manifest : part (manifest 223) 4 12 ≡ 1 ∷ 0 ∷ 0 ∷ 0 ∷ 223 ∷ 0 ∷ 0 ∷ 0 ∷ []
-unfolding manifest manifest_bytes manifest_of sha256 hash_after compress schedule first_words rounds digest_bytes
-narrow_manifest = refl
-
-form_too_wide : manifest_of L.rows (changed 8 223 (manifest 224)) ≡ Err manifest_fault.BadForm
-unfolding manifest manifest_bytes manifest_of sha256 hash_after compress schedule first_words rounds digest_bytes
-form_too_wide = refl
-
-form_too_narrow : manifest_of L.rows (changed 8 224 (manifest 223)) ≡ Err manifest_fault.VersionTooHigh
-unfolding manifest manifest_bytes manifest_of sha256 hash_after compress schedule first_words rounds digest_bytes
-form_too_narrow = refl
-
-no_such_form : manifest_of L.rows (changed 4 3 (manifest 223)) ≡ Err manifest_fault.BadForm
-unfolding manifest manifest_bytes manifest_of sha256 hash_after compress schedule first_words rounds digest_bytes
-no_such_form = refl
+manifest_forms = (refl, refl, refl, refl, refl)
 
 -- ---- lists of digests
 
@@ -60,22 +49,14 @@ listed_digest : digests_of (codes "ba7816bf8f01cfea414140de5dae2223b00361a396177
 unfolding digests_of decode_pairs sha256 hash_after compress schedule first_words rounds digest_bytes
 listed_digest = refl
 
-no_digests : digests_of [] ≡ Ok []
+-- the second line has no end
+digest_faults : (digests_of [] ≡ Ok []) × (digests_of (codes "00\n") ≡ Err 1) × (digests_of (codes
+    "ba7816bf8f01cfea414140de5dae2223b00361a396177a9cb410ff61f20015ad\nba7816bf8f01cfea414140de5dae2223b00361a396177a9cb410ff61f20015ad")
+    ≡ Err 2)
 unfolding digests_of decode_pairs
-no_digests = refl
+digest_faults = (refl, refl, refl)
 
-bad_digest : digests_of (codes "00\n") ≡ Err 1
-unfolding digests_of decode_pairs
-bad_digest = refl
-
-digest_without_end : digests_of (codes "ba7816bf8f01cfea414140de5dae2223b00361a396177a9cb410ff61f20015ad\nba7816bf8f01cfea414140de5dae2223b00361a396177a9cb410ff61f20015ad") ≡ Err 2
-unfolding digests_of decode_pairs
-digest_without_end = refl
-
-listed_passes : passes_listed (sha256 (codes "abc") ∷ []) (codes "abc") ≡ true
+listed_passes : (passes_listed (sha256 (codes "abc") ∷ []) (codes "abc") ≡ true)
+    × (passes_listed (sha256 (codes "abc") ∷ []) (codes "abd") ≡ false)
 unfolding passes_listed sha256 hash_after compress schedule first_words rounds digest_bytes
-listed_passes = refl
-
-unlisted_passes : passes_listed (sha256 (codes "abc") ∷ []) (codes "abd") ≡ false
-unfolding passes_listed sha256 hash_after compress schedule first_words rounds digest_bytes
-unlisted_passes = refl
+listed_passes = (refl, refl)

@@ -9,14 +9,9 @@ use Rattle.base_core.specs.Block.{block}
 use Rattle.base_core.specs.Bytes.{num_at, same_bytes}
 use Rattle.sha2.specs.Sha256.{sha256}
 use Rattle.fwu_formats.specs.Layout.{Layout, ImageRow, layout_of, fits_layout}
-use Rattle.fwu_formats.specs.Metadata.{MetaRead, meta_of, meta_read, if_read, bits_from, state_at_v1, bits_v1}
-use Rattle.fwu_formats.specs.Manifest.{Manifest, all_paired, has_form, is_complete, is_version_too_high, manifest_at, manifest_magic, manifest_of, manifest_size}
+use Rattle.fwu_formats.specs.Metadata.{MetaRead, meta_of, meta_read, if_read, bits_from, state_at_v1, bits_v1, BankState, Invalid, Valid, Accepted, MetaFault}
+use Rattle.fwu_formats.specs.Manifest.{Manifest, all_paired, has_form, is_complete, is_version_too_high, manifest_at, manifest_magic, manifest_of, manifest_size, ManifestFault}
 use Rattle.fwu_formats.specs.Image.{deciding, first_some, slot, images_in, if_complete, package_by, package_in}
-use Rattle.fwu_formats.specs.declared.kinds.BankState.{BankState}
-use Rattle.fwu_formats.specs.declared.kinds.BankState.TheVariants.{Invalid, Valid, Accepted}
-use Rattle.fwu_formats.specs.declared.kinds.MetaFault.{MetaFault}
-use Rattle.fwu_formats.specs.declared.kinds.MetaFault.TheVariants as fault
-use Rattle.fwu_formats.specs.declared.kinds.ManifestFault.{ManifestFault}
 use Rattle.fwu_formats.proofs.SealLaws.{layout-holds, meta-holds}
 
 -- ---- metadata that was read
@@ -90,17 +85,7 @@ pub record ManifestHolds (images : List ImageRow) (bytes : List ℕ) (m : Manife
 
 pub manifest-holds : (images : List ImageRow) (bytes : List ℕ) (m : Manifest) → manifest_of images bytes ≡ Ok m → ManifestHolds images bytes m
 unfolding manifest_of
-manifest-holds images bytes m e =
-    record {
-      long = grind (arith, nat_tests);
-      magic = grind (arith, nat_tests);
-      form = grind (arith, nat_tests);
-      version = grind (arith, nat_tests);
-      count = grind (arith, nat_tests);
-      sizes = grind (arith, nat_tests);
-      digest = grind (arith, nat_tests);
-      is = grind (arith, nat_tests);
-    }
+manifest-holds images bytes m e = search (arith, nat_tests)
 
 -- ---- packages that are read
 

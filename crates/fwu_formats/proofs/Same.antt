@@ -5,11 +5,10 @@ use Rattle.std.proofs.lemmas.List.FromFn.{length-map-range_with_len, get_or-map-
 use Rattle.std.specs.List.{range_with_len, list_all}
 use Rattle.base_core.specs.Bytes.{listed}
 use Rattle.fwu_formats.specs.Layout.{ImageRow, Layout, slot_total}
-use Rattle.fwu_formats.specs.Manifest.{Manifest, manifest_of, manifest_size}
+use Rattle.fwu_formats.specs.Manifest.{Manifest, manifest_of, manifest_size, ManifestFault}
 use Rattle.fwu_formats.specs.Image.{is_blank, first_some, marks, is_tidy, slot, images_in, if_complete, package_by, package_in}
 use Rattle.base_core.specs.Block.{block, granule}
 use Rattle.fwu_formats.specs.Counter.{counter_in}
-use Rattle.fwu_formats.specs.declared.kinds.ManifestFault.{ManifestFault}
 use Rattle.base_core.proofs.Lists.{prefix-same}
 use Rattle.fwu_formats.proofs.Spell.{listed-is}
 

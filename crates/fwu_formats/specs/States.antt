@@ -5,15 +5,12 @@ use Rattle.fwu_formats.specs.declared.kinds.BankState.TheVariants.{Invalid, Vali
 
 abbrev pub is_invalid : BankState → Bool
 is_invalid Invalid = true
-is_invalid Valid = false
-is_invalid Accepted = false
+is_invalid other = false
 
 abbrev pub is_valid : BankState → Bool
-is_valid Invalid = false
 is_valid Valid = true
-is_valid Accepted = false
+is_valid other = false
 
 abbrev pub is_accepted : BankState → Bool
-is_accepted Invalid = false
-is_accepted Valid = false
 is_accepted Accepted = true
+is_accepted other = false
