@@ -27,15 +27,8 @@ outcome short magic form passes count order room digest x =
 
 version_outcome : (short magic form passes count order room digest : Bool) (m : Manifest)
     → version_of (outcome short magic form passes count order room digest m) ≡ outcome short magic form passes count order room digest m.security
-version_outcome true magic form passes count order room digest m = refl
-version_outcome false false form passes count order room digest m = refl
-version_outcome false true false passes count order room digest m = refl
-version_outcome false true true true count order room digest m = refl
-version_outcome false true true false false order room digest m = refl
-version_outcome false true true false true false room digest m = refl
-version_outcome false true true false true true false digest m = refl
-version_outcome false true true false true true true false m = refl
 version_outcome false true true false true true true true m = refl
+version_outcome short magic form passes count order room digest m = refl
 
 -- what the definition says, test by test
 pub by_tests : (images : List ImageRow) (bytes : List ℕ) → version_of (manifest_of images bytes)
@@ -75,11 +68,8 @@ counted a b c d v n order room e x = elim (cases_eq v n) [
 ]
   where
     unequal : (a b c d : Bool) → outcome a b c d false (order v) (room v) e x ≡ outcome a b c d false (order n) (room n) e x
-    unequal true b c d = refl
-    unequal false false c d = refl
-    unequal false true false d = refl
-    unequal false true true true = refl
     unequal false true true false = refl
+    unequal a b c d = refl
 
 -- what the tests of the code say of a manifest's bytes, where the others are all images but the first
 pub whole_is : (rows others : List ImageRow) (whole : List ℕ) → others ≡ drop 1 rows → length whole ≡ manifest_size (length rows - 1)

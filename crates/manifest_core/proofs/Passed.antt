@@ -1,38 +1,19 @@
 -- What a manifest has that passed each test.
-use Rattle.std.proofs.Common.{◌≡◌, ℕ, zero, suc, ◌+◌, ◌-◌, ◌*◌, ◌≤◌, ◌<◌, Bool, true, false, List, [], ◌∷◌, length, get_or, map, take, drop, Result, Ok, Err, refl, sym, ap, ◌∙◌, subst, arith, leb-true, eqb-true}
-use Rattle.std.proofs.lemmas.Bool.{and_parts, ltb-false}
+use Rattle.std.proofs.Common.{◌≡◌, ℕ, zero, suc, ◌+◌, ◌-◌, ◌*◌, ◌≤◌, ◌<◌, Bool, List, [], ◌∷◌, length, get_or, map, take, drop, Result, Ok, Err, refl, sym, ap, ◌∙◌, subst, arith, leb-true}
+use Rattle.std.proofs.lemmas.Bool.{and_parts}
 use Rattle.std.proofs.lemmas.List.{get_or-drop, length-map, length-drop}
 use Rattle.std.specs.Prelude.{IsTrue}
 use Rattle.std.specs.List.{range_with_len}
 use Rattle.base_core.specs.Bytes.{num_at, listed}
 use Rattle.fwu_formats.specs.Layout.{ImageRow}
-use Rattle.fwu_formats.specs.Manifest.{Row, Manifest, manifest_of, manifest_at, manifest_size, row_at, all_paired}
+use Rattle.fwu_formats.specs.Manifest.{Row, Manifest, manifest_of, manifest_size, row_at, all_paired}
 use Rattle.fwu_formats.specs.declared.kinds.ManifestFault.{ManifestFault}
 use Rattle.manifest_core.specs.Shown.{version_of, fits_slot, row}
 use Rattle.manifest_core.specs.declared.rows.Row.{Row as SpecRow}
 use Rattle.std.proofs.lemmas.List.FromFn.{length-map-range_with_len}
 use Rattle.fwu_formats.proofs.Spell.{num_front}
-use Rattle.manifest_core.proofs.InTurn.{outcome, by_tests}
+use Rattle.fwu_formats.proofs.Read.{ManifestHolds, manifest-holds}
 use Rattle.base_core.proofs.Results.{same-Ok}
-
--- what is left of the tests where all passed
-record Outcome {X : Type 0} (short count room : Bool) (x y : X) : Type 0 where
-  long : short ≡ false
-  counted : count ≡ true
-  fits : room ≡ true
-  is : x ≡ y
-
-outcome-parts : {X : Type 0} (short magic form passes count order room digest : Bool) (x y : X)
-    → outcome short magic form passes count order room digest x ≡ Ok y → Outcome short count room x y
-outcome-parts true magic form passes count order room digest x y e = absurd cc
-outcome-parts false false form passes count order room digest x y e = absurd cc
-outcome-parts false true false passes count order room digest x y e = absurd cc
-outcome-parts false true true true count order room digest x y e = absurd cc
-outcome-parts false true true false false order room digest x y e = absurd cc
-outcome-parts false true true false true false room digest x y e = absurd cc
-outcome-parts false true true false true true false digest x y e = absurd cc
-outcome-parts false true true false true true true false x y e = absurd cc
-outcome-parts false true true false true true true true x y e = record { long = refl; counted = refl; fits = refl; is = same-Ok {F = ManifestFault} x y e }
 
 -- a test of two lists side by side holds at each place
 paired_at : {X Y : Type 0} (test : X → Y → Bool) (f : ℕ → Y) (xs : List X) (from n k : ℕ) (d : X) → IsTrue (all_paired test xs (map f (range_with_len from n)))
@@ -48,33 +29,32 @@ paired_at test f (x ∷ xs) from (suc n) (suc k) d h short less =
     let at : from + 1 + k ≡ from + suc k = omega arith in
     subst P at (paired_at test f xs (from + 1) n k d (and_parts (test x (f from)) _ h).1 (omega (arith, short)) (omega (arith, less)))
 
--- a manifest is what its fields say
-pub record HasPassed (images : List ImageRow) (bytes : List ℕ) (m : Manifest) : Type 0 where
-  pub long : manifest_size (length images - 1) ≤ length bytes
-  pub count : num_at 4 bytes 12 ≡ length images - 1
-  pub is : manifest_at (take (manifest_size (length images - 1)) bytes) ≡ m
-
-pub manifest_passed : (images : List ImageRow) (bytes : List ℕ) (m : Manifest) → manifest_of images bytes ≡ Ok m → HasPassed images bytes m
-unfolding manifest_of
-manifest_passed images bytes m e =
-    let parts = outcome-parts _ _ _ _ _ _ _ _ (manifest_at (take (manifest_size (length images - 1)) bytes)) m e in
-    record { long = ltb-false _ _ parts.long; count = eqb-true _ _ parts.counted; is = parts.is }
+pub manifest_passed : (images : List ImageRow) (bytes : List ℕ) (m : Manifest) → manifest_of images bytes ≡ Ok m
+    → ManifestHolds images bytes m
+manifest_passed images bytes m e = manifest-holds images bytes m e
 
 -- what the rows say fits the slots
-pub sizes_fit : (rows : List ImageRow) (whole : List ℕ) (v : ℕ) → length whole ≡ manifest_size (length rows - 1) → version_of (manifest_of rows whole) ≡ Ok v
+pub sizes_fit : (rows : List ImageRow) (whole : List ℕ) (v : ℕ) → length whole ≡ manifest_size (length rows - 1)
+    → version_of (manifest_of rows whole) ≡ Ok v
     → (k : ℕ) (d : ImageRow) → k + 1 < length rows → num_at 4 whole (32 + 56 * k) ≤ 4096 * (get_or rows (k + 1) d).slots
-sizes_fit rows whole v size e k d within =
-    let parts = outcome-parts _ _ _ _ _ _ _ _ _ v (sym (by_tests rows whole) ∙ e) in
-    let front = take (manifest_size (length rows - 1)) whole in
-    let count : num_at 4 whole 12 ≡ length rows - 1 = eqb-true _ _ parts.counted in
-    let same : num_at 4 front 12 ≡ num_at 4 whole 12 = num_front 4 12 _ whole (omega arith) in
-    let rest = drop 1 rows in
-    let rest-long = length-drop 1 rows in
-    let here = leb-true _ _ (paired_at fits_slot (row_at front) rest 0 (num_at 4 front 12) k d parts.fits (omega arith) (omega arith)) in
-    let row : get_or rest k d ≡ get_or rows (k + 1) d = get_or-drop 1 rows k d ∙ ap (λ (i : ℕ). get_or rows i d) (omega arith) in
-    let slots : (get_or rest k d).slots ≡ (get_or rows (k + 1) d).slots = ap (λ (r : ImageRow). r.slots) row in
-    let field : num_at 4 front (32 + 56 * (0 + k)) ≡ num_at 4 whole (32 + 56 * k) = ap (λ (i : ℕ). num_at 4 front (32 + 56 * i)) (omega arith) ∙ num_front 4 (32 + 56 * k) _ whole (omega arith) in
-    omega (arith, here, slots, field)
+sizes_fit rows whole v size e k d within = by-cases (manifest_of rows whole) refl e
+  where
+    by-cases : (r : Result Manifest ManifestFault) → manifest_of rows whole ≡ r → version_of r ≡ Ok v
+        → num_at 4 whole (32 + 56 * k) ≤ 4096 * (get_or rows (k + 1) d).slots
+    by-cases (Err f) h e = absurd cc
+    by-cases (Ok m) h e =
+        let holds = manifest-holds rows whole m h in
+        let front = take (manifest_size (length rows - 1)) whole in
+        let count : num_at 4 whole 12 ≡ length rows - 1 = holds.count in
+        let same : num_at 4 front 12 ≡ num_at 4 whole 12 = num_front 4 12 _ whole (omega arith) in
+        let rest = drop 1 rows in
+        let rest-long = length-drop 1 rows in
+        let here = leb-true _ _ (paired_at fits_slot (row_at front) rest 0 (num_at 4 front 12) k d holds.sizes (omega arith) (omega arith)) in
+        let row : get_or rest k d ≡ get_or rows (k + 1) d = get_or-drop 1 rows k d ∙ ap (λ (i : ℕ). get_or rows i d) (omega arith) in
+        let slots : (get_or rest k d).slots ≡ (get_or rows (k + 1) d).slots = ap (λ (r : ImageRow). r.slots) row in
+        let field : num_at 4 front (32 + 56 * (0 + k)) ≡ num_at 4 whole (32 + 56 * k) =
+        ap (λ (i : ℕ). num_at 4 front (32 + 56 * i)) (omega arith) ∙ num_front 4 (32 + 56 * k) _ whole (omega arith) in
+        omega (arith, here, slots, field)
 
 -- ---- what is read of a manifest is the manifest
 
