@@ -10,7 +10,7 @@ use Rattle.base_core.specs.Seal.{Sealed}
 use Rattle.base_core.proofs.Blocks.{get_or-block}
 use Rattle.flash_core.specs.Told.{Told, NothingDirty, is_unsure, is_guarded, put, halt, written, fresh, finished, overwritten}
 use Rattle.flash_core.specs.May.{as_stable, as_now, as_finished, unsealed, May}
-use Rattle.flash_core.proofs.Calls.{sure_put, sure_halt, now-put, now-halt, stable-put, stable-halt, finished-put, finished-halt, guard-put, guard-halt}
+use Rattle.flash_core.proofs.Calls.{outside_within, sure_put, sure_halt, now-put, now-halt, stable-put, stable-halt, finished-put, finished-halt, guard-put, guard-halt}
 use Rattle.flash_core.proofs.Images.{length-overwritten, overwritten_below, overwritten_above}
 
 -- two images are one where they have one block alike, and all bytes outside it
@@ -55,8 +55,7 @@ module _ (b at : ℕ) (bytes : List ℕ) (s : Told) (above : 4096 * b ≤ at) (b
   done_size = length-overwritten at bytes s.now fits
 
   wide : (i : ℕ) → (i < 4096 * b) ⊎ (4096 * b + 4096 ≤ i) → (i < at) ⊎ (at + length bytes ≤ i)
-  wide i (inl low) = inl (omega (arith, low, above))
-  wide i (inr high) = inr (omega (arith, high, below))
+  wide = outside_within (4096 * b) (4096 * b + 4096) at (at + length bytes) above below
 
   done_outside : (i : ℕ) → (i < 4096 * b) ⊎ (4096 * b + 4096 ≤ i) → get_or done i 0 ≡ get_or s.now i 0
   done_outside i out = elim (wide i out) [
