@@ -6,10 +6,9 @@ use Rattle.base_core.specs.Bytes.{listed}
 use Rattle.fwu_formats.specs.Layout.{ImageRow}
 use Rattle.fwu_model.specs.State.{State}
 use Rattle.fwu_model.specs.Sound.{Setting}
-use Rattle.fwu_model.specs.Call.{Call}
 use Rattle.fwu_model.specs.Call as call
-use Rattle.fwu_model.specs.Reply.{Reply, Turn}
-use Rattle.fwu_model.specs.Answer.{type_of_image}
+use Rattle.fwu_model.specs.Reply.{Reply, Turn, Call}
+use Rattle.fwu_model.specs.Answer.{images_of, type_of_image}
 use Rattle.fwu_model.specs.Given.{maybe_done, bytes_given, Since, package_given, file_given, given_by}
 
 abbrev pub is_partial : Call → Bool
@@ -24,7 +23,7 @@ package_in_words rows turns = map (λ (r : ImageRow). bytes_given r.guid turns) 
 
 abbrev pub words_by : Setting → List Turn → Call → Reply → List (List (List ℕ))
 words_by E since call.End r = cond (maybe_done r) (package_in_words E.layout.rows since ∷ []) []
-words_by E since (call.Send name request) r = cond (maybe_done r) (file_given E.layout.rows (E.files name)) []
+words_by E since (call.Send name request) r = cond (maybe_done r) (file_given (images_of E.layout.rows) (E.files name)) []
 words_by E since other r = []
 
 -- ---- the same

@@ -13,9 +13,8 @@ use Rattle.fwu_formats.specs.Layout.{ImageRow, slot_bytes, find_image, are_disti
 use Rattle.fwu_model.specs.State.{State, Move, bank, after}
 use Rattle.fwu_model.specs.Sound.{Setting, holds_complete}
 use Rattle.fwu_model.specs.Session.{Session, Off, On, Staged, Nothing, Open, Committed, Handle, Writes, no_handles, nothing_staged, is_open, is_committed}
-use Rattle.fwu_model.specs.Call.{Call}
 use Rattle.fwu_model.specs.Call as call
-use Rattle.fwu_model.specs.Reply.{Reply}
+use Rattle.fwu_model.specs.Reply.{Reply, Call}
 use Rattle.fwu_model.specs.Reply as reply
 use Rattle.fwu_model.specs.declared.kinds.Status.TheVariants as status
 use Rattle.fwu_model.specs.Answer.{Answer, answered, refused, answer, answer_begin, answer_begin_partial, answer_open_write, answer_write, answer_commit, are_named, names_unknown, cannot_begin, begin_moves, copied_part, copied_parts, type_of_image, image_held, held_package, opened, is_full, with_appended, appended, staged_bytes}

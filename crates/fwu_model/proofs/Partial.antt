@@ -5,8 +5,7 @@ use Rattle.fwu_formats.specs.Layout.{dir_guid}
 use Rattle.fwu_formats.specs.Manifest.{manifest_bytes, manifest_of, is_complete, version}
 use Rattle.fwu_formats.specs.Package.{packed, toc_of, entries_from}
 use Rattle.fwu_formats.proofs.Worked.{manifest_guid, tb_fw, nt_fw}
-use Rattle.fwu_formats.specs.declared.kinds.BankState.TheVariants.{Invalid, Valid, Accepted}
-use Rattle.fwu_model.specs.State.{State, Switch}
+use Rattle.fwu_model.specs.State.{State, Switch, Invalid, Valid, Accepted}
 use Rattle.fwu_model.specs.Sound.{Setting}
 use Rattle.fwu_model.specs.Session.{Session, On, Nothing, Committed, no_handles}
 use Rattle.fwu_model.specs.Call as call
@@ -65,77 +64,48 @@ on_trial = record {
 
 -- ---- a partial send
 
-sent_now : answer E regular here (call.SendPartial (codes "m.fip") 0)
-    ≡ answered (reply.SentPartial 1 0 1) (Switch 1 (manifest 2 ∷ bytes ∷ []) (true ∷ true ∷ []) ∷ []) here
+-- where it is on trial, the image that is sent isn't accepted yet, and the one that is copied is
+sent :
+    (answer E regular here (call.SendPartial (codes "m.fip") 0)
+      ≡ answered (reply.SentPartial 1 0 1) (Switch 1 (manifest 2 ∷ bytes ∷ []) (true ∷ true ∷ []) ∷ []) here)
+    × (answer E regular here (call.SendPartial (codes "m.fip") 1)
+      ≡ answered (reply.SentPartial 1 0 1) (Switch 1 (manifest 2 ∷ bytes ∷ []) (false ∷ true ∷ []) ∷ []) here)
 unfolding answer answer_send_partial toc_of entries_from packed images_over first_size_fault is_complete manifest_of manifest_bytes version sha256 digest_bytes hash_after compress rounds schedule first_words
-sent_now = refl
-
--- the image that is sent isn't accepted yet, and the one that is copied is
-sent_on_trial : answer E regular here (call.SendPartial (codes "m.fip") 1)
-    ≡ answered (reply.SentPartial 1 0 1) (Switch 1 (manifest 2 ∷ bytes ∷ []) (false ∷ true ∷ []) ∷ []) here
-unfolding answer answer_send_partial toc_of entries_from packed images_over first_size_fault is_complete manifest_of manifest_bytes version sha256 digest_bytes hash_after compress rounds schedule first_words
-sent_on_trial = refl
+sent = (refl, refl)
 
 -- ---- a partial begin
 
--- image 0 is left to be staged
-begun : answer E regular here (call.BeginPartial (manifest_guid ∷ []))
-    ≡ answered reply.Success [] (On 0 (Some (Nothing ∷ Committed bytes true ∷ [])) no_handles)
+-- Image 0 is left to be staged, and a type twice is as once. Refused are a type that is no image's, and the directory's. On trial no
+-- staging begins, whatever is named.
+begun :
+    (answer E regular here (call.BeginPartial (manifest_guid ∷ []))
+      ≡ answered reply.Success [] (On 0 (Some (Nothing ∷ Committed bytes true ∷ [])) no_handles))
+    × (answer E regular here (call.BeginPartial (manifest_guid ∷ manifest_guid ∷ []))
+      ≡ answer E regular here (call.BeginPartial (manifest_guid ∷ [])))
+    × (answer E regular here (call.BeginPartial (manifest_guid ∷ nt_fw ∷ [])) ≡ refused status.Unknown here)
+    × (answer E regular here (call.BeginPartial (dir_guid ∷ [])) ≡ refused status.Unknown here)
+    × (answer E on_trial (On 1 None no_handles) (call.BeginPartial (nt_fw ∷ [])) ≡ refused status.Denied (On 1 None no_handles))
 unfolding answer answer_begin_partial copied_parts
-begun = refl
-
--- a type twice is as once
-begun_twice : answer E regular here (call.BeginPartial (manifest_guid ∷ manifest_guid ∷ []))
-    ≡ answer E regular here (call.BeginPartial (manifest_guid ∷ []))
-unfolding answer answer_begin_partial copied_parts
-begun_twice = refl
-
--- the second type is no image's
-unknown : answer E regular here (call.BeginPartial (manifest_guid ∷ nt_fw ∷ [])) ≡ refused status.Unknown here
-unfolding answer answer_begin_partial
-unknown = refl
-
--- nor is the directory's
-unknown_directory : answer E regular here (call.BeginPartial (dir_guid ∷ [])) ≡ refused status.Unknown here
-unfolding answer answer_begin_partial
-unknown_directory = refl
-
--- on trial no staging begins, whatever is named
-denied : answer E on_trial (On 1 None no_handles) (call.BeginPartial (nt_fw ∷ [])) ≡ refused status.Denied (On 1 None no_handles)
-unfolding answer answer_begin_partial
-denied = refl
+begun = (refl, refl, refl, refl, refl)
 
 -- the same, call by call: an image that is named isn't copied
-calls_for_one : begin_calls E regular (manifest_guid ∷ []) ≡ call.Begin 0 ∷ call.OpenWrite tb_fw ∷ call.Write 1 bytes ∷ call.Commit 1 0 ∷ []
-calls_for_one = refl
-
-calls_for_all : begin_calls E regular (tb_fw ∷ manifest_guid ∷ []) ≡ call.Begin 0 ∷ []
-calls_for_all = refl
+calls_of_begin :
+    (begin_calls E regular (manifest_guid ∷ []) ≡ call.Begin 0 ∷ call.OpenWrite tb_fw ∷ call.Write 1 bytes ∷ call.Commit 1 0 ∷ [])
+    × (begin_calls E regular (tb_fw ∷ manifest_guid ∷ []) ≡ call.Begin 0 ∷ [])
+calls_of_begin = (refl, refl)
 
 -- ---- lines
 
-lines_read : script_of (codes "begin\nbegin tb-fw\nsend m.fip trial partial\n")
-    ≡ Ok (call.Begin 0 ∷ call.BeginPartial (tb_fw ∷ []) ∷ call.SendPartial (codes "m.fip") 1 ∷ [])
-unfolding script_of line_of by_index
-lines_read = refl
-
--- a word that is no type
-no_type : script_of (codes "begin tb-fw 1\n") ≡ Err 1
-unfolding script_of line_of by_index
-no_type = refl
-
 -- sixteen types may be named, and no more
-many_types : script_of (codes "begin dir dir dir dir dir dir dir dir dir dir dir dir dir dir dir dir\n") ≡ Ok (call.BeginPartial (replicate 16 dir_guid) ∷ [])
+lines_read :
+    (script_of (codes "begin\nbegin tb-fw\nsend m.fip trial partial\n")
+      ≡ Ok (call.Begin 0 ∷ call.BeginPartial (tb_fw ∷ []) ∷ call.SendPartial (codes "m.fip") 1 ∷ []))
+    × (script_of (codes "begin dir dir dir dir dir dir dir dir dir dir dir dir dir dir dir dir\n")
+      ≡ Ok (call.BeginPartial (replicate 16 dir_guid) ∷ []))
+    × (script_of (codes "begin dir dir dir dir dir dir dir dir dir dir dir dir dir dir dir dir dir\n") ≡ Err 1)
+    × (script_of (codes "begin tb-fw 1\n") ≡ Err 1) × (script_of (codes "send m.fip now whole\n") ≡ Err 1)
 unfolding script_of line_of by_index
-many_types = refl
-
-too_many_types : script_of (codes "begin dir dir dir dir dir dir dir dir dir dir dir dir dir dir dir dir dir\n") ≡ Err 1
-unfolding script_of line_of
-too_many_types = refl
-
-another_word : script_of (codes "send m.fip now whole\n") ≡ Err 1
-unfolding script_of line_of
-another_word = refl
+lines_read = (refl, refl, refl, refl, refl)
 
 line_of_sent : line (call.SendPartial (codes "m.fip") 0) (reply.SentPartial 1 0 2) ≡ codes "send SUCCESS images=1 skipped=0 copied=2\n"
 unfolding line digits

@@ -5,9 +5,8 @@ use Rattle.base_core.specs.Block.{block_bytes}
 use Rattle.fwu_model.specs.State.{State, Move, after}
 use Rattle.fwu_model.specs.Sound.{Setting}
 use Rattle.fwu_model.specs.Session.{Session}
-use Rattle.fwu_model.specs.Call.{Call}
 use Rattle.fwu_model.specs.Call as call
-use Rattle.fwu_model.specs.Reply.{Reply}
+use Rattle.fwu_model.specs.Reply.{Reply, Call}
 use Rattle.fwu_model.specs.Reply as reply
 use Rattle.fwu_model.specs.Answer.{Answer, answer, are_named, type_of_image, image_held}
 

@@ -1,9 +1,7 @@
 -- The metadata that a move writes over both replicas.
 use Rattle.std.specs.Prelude.{ℕ, Bool, true, false, if◌then◌else◌, List, [], map, slice_index_or, slice_set}
-use Rattle.fwu_formats.specs.declared.kinds.BankState.{BankState}
-use Rattle.fwu_formats.specs.declared.kinds.BankState.TheVariants.{Invalid, Accepted}
 use Rattle.fwu_formats.specs.Metadata.{Meta, state_at}
-use Rattle.fwu_model.specs.State.{State, Move, Free, Switch, Accept, Back, Trial, RaiseTo, Migrate, state_by, all_set}
+use Rattle.fwu_model.specs.State.{State, Move, Free, Switch, Accept, Back, state_by, all_set, BankState, Invalid, Accepted}
 
 -- the bits of a bank
 abbrev pub bits_in : Meta → ℕ → List Bool
@@ -25,9 +23,7 @@ meta_after m (Switch b p bits) =
 meta_after m (Accept image) =
     with_bank m m.active (if all_set (accepted_bits m image) then Accepted else state_at m m.active) (accepted_bits m image)
 meta_after m Back = record m { active = m.previous; previous = m.active }
-meta_after m Trial = m
-meta_after m (RaiseTo v) = m
-meta_after m Migrate = m
+meta_after m other = m
 
 -- the metadata that a state shows
 abbrev pub meta_in : State → Meta
