@@ -1,11 +1,12 @@
 -- What the agent knows is what its flash shows.
 use Rattle.std.proofs.Common.{◌≡◌, ℕ, ◌+◌, ◌%◌, Bool, List, Option, Some, refl, sym, ap, ◌∙◌, subst}
+use Rattle.std.specs.Option.{option_or}
 use Rattle.base_core.specs.Block.{block}
 use Rattle.flash_core.specs.Told.{Told}
 use Rattle.flash_core.specs.May.{Guards}
 use Rattle.fwu_formats.specs.Layout.{Layout}
 use Rattle.fwu_formats.specs.Metadata.{MetaRead, meta_read}
-use Rattle.fwu_formats.specs.Image.{deciding, first_some}
+use Rattle.fwu_formats.specs.Image.{deciding}
 use Rattle.fwu_model.specs.Replica.{BothHold}
 use Rattle.fwu_model.specs.State.{State, update_bank}
 use Rattle.fwu_model.specs.Sound.{Setting}
@@ -19,7 +20,7 @@ use Rattle.agent_machine.specs.Knows.{Knows}
 
 pub both-decides : (L : Layout) (image : List ℕ) (r : MetaRead) → BothHold L r image → deciding L image ≡ Some r
 unfolding deciding
-both-decides L image r both = ap (λ (x : Option MetaRead). first_some x (meta_read L (block 2 image))) both.zero
+both-decides L image r both = ap (λ (x : Option MetaRead). option_or x (meta_read L (block 2 image))) both.zero
 
 pub known-shown : (f : Fields) (t : Told) → Knows f t → IsShown f.layout t.now (state_in f t.now)
 known-shown f t knows = shown-as f.layout t.now f.meta (state_in f t.now) knows.layout_is (both-decides f.layout t.now f.meta knows.both) refl

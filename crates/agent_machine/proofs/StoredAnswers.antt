@@ -9,7 +9,7 @@ use Rattle.fwu_model.specs.Sound.{Setting}
 use Rattle.fwu_model.specs.Session.{Session, Staged, On, Handle, nothing_staged, no_handles}
 use Rattle.fwu_model.specs.Call as call
 use Rattle.fwu_model.specs.Reply.{Success}
-use Rattle.fwu_model.specs.Answer.{Answer, answer, answered, refused, answer_begin, answer_accept, begin_moves, accept_moves, accept_image, cannot_begin, is_elsewhere, may_leave, has_other, may_go_back}
+use Rattle.fwu_model.specs.Answer.{Answer, answer, answered, refused, answer_begin, answer_accept, begin_moves, accept_image, cannot_begin, is_elsewhere, may_leave, has_other, may_go_back}
 use Rattle.agent_kept.specs.declared.kinds.Plan.{Plan}
 use Rattle.agent_kept.specs.declared.kinds.Plan.TheVariants as plan
 use Rattle.agent_kept.specs.Plans.{planned, by_verdict}
@@ -80,7 +80,7 @@ module _ (E : Setting) (s : State) (boot : ℕ) (stg : Option (List Staged)) (hs
     pub idle : stg ≡ None
     pub booted : boot ≡ s.active
     pub image : ℕ
-    pub is : answer E s here (call.Accepts guid) ≡ answered Success (accept_moves s image) here
+    pub is : answer E s here (call.Accepts guid) ≡ answered Success (cond (get_or (bank s s.active).bits image false) [] (Accept image ∷ [])) here
 
 module _ (E : Setting) (s : State) (boot : ℕ) (hs : List Handle) where
   abbrev idle : Session

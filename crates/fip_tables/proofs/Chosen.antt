@@ -6,11 +6,12 @@ use Rattle.std.proofs.lemmas.Option.{same_Some}
 use Rattle.std.proofs.lemmas.List.Elements.{All-head, All-tail}
 use Rattle.std.specs.Prelude.{◌==◌, ◌||◌, is_some, not}
 use Rattle.std.specs.List.{All, cons_option, find, list_any}
+use Rattle.std.specs.Option.{option_or}
 use Rattle.fwu_formats.specs.Layout.{ImageRow}
 use Rattle.fwu_formats.specs.Package.{Entry, Toc, entry_of, has_guid}
 use Rattle.fip_tables.specs.declared.images.ImageFault.{ImageFault}
 use Rattle.fip_tables.specs.declared.images.ImageFault.TheVariants.{Missing, TooLarge}
-use Rattle.fip_tables.specs.Images.{AreImages, ArePresent, has_image, lowest_fault, no_entry, no_row, or_else, present, present_fault, size_fault}
+use Rattle.fip_tables.specs.Images.{AreImages, ArePresent, has_image, lowest_fault, no_entry, no_row, present, present_fault, size_fault}
 
 -- ---- the lowest fault
 
@@ -21,7 +22,7 @@ module _ (fault : ImageRow → Option Entry → Option ImageFault) (rows : List 
   abbrev behind : Option ImageFault
   behind = lowest_fault fault (drop (k + 1) rows) toc
 
-  split : lowest_fault fault (drop k rows) toc ≡ or_else (fault row (entry_of toc row.guid)) behind
+  split : lowest_fault fault (drop k rows) toc ≡ option_or (fault row (entry_of toc row.guid)) behind
   split = ap (λ (l : List ImageRow). lowest_fault fault l toc)
       (drop-cons rows k no_row below ∙ ap (λ (n : ℕ). row ∷ drop n rows) (sym (add-one k)))
 

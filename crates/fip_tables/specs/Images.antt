@@ -1,6 +1,7 @@
 -- Which entries of a package are the images of a layout, and what is wrong with them.
 use Rattle.std.specs.Prelude.{◌≡◌, ◌*◌, ◌<◌, ◌≤◌, ℕ, Bool, true, nat_lt, if◌then◌else◌, List, [], ◌∷◌, Option, Some, None, Result, Ok, Err, filter_map, is_some, length, slice_index_or}
 use Rattle.std.specs.List.{list_any}
+use Rattle.std.specs.Option.{option_or}
 use Rattle.base_core.specs.Block.{block_bytes}
 use Rattle.fwu_formats.specs.Layout.{ImageRow}
 use Rattle.fwu_formats.specs.Package.{Entry, Toc, entry_of}
@@ -26,14 +27,10 @@ abbrev pub image_fault : ImageRow → Option Entry → Option ImageFault
 image_fault row None = Some (Missing row.guid)
 image_fault row (Some e) = size_fault row (Some e)
 
-abbrev pub or_else : Option ImageFault → Option ImageFault → Option ImageFault
-or_else (Some f) other = Some f
-or_else None other = other
-
 -- the fault of the lowest image that has one of these
 abbrev pub lowest_fault : (ImageRow → Option Entry → Option ImageFault) → List ImageRow → Toc → Option ImageFault
 lowest_fault fault [] toc = None
-lowest_fault fault (row ∷ rows) toc = or_else (fault row (entry_of toc row.guid)) (lowest_fault fault rows toc)
+lowest_fault fault (row ∷ rows) toc = option_or (fault row (entry_of toc row.guid)) (lowest_fault fault rows toc)
 
 -- where all images are wanted
 abbrev pub images_fault : List ImageRow → Toc → Option ImageFault

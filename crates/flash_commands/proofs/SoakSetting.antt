@@ -1,13 +1,13 @@
 -- What a turn of a soak does with one file at hand, it does with all packages at hand.
 use Rattle.std.proofs.Common.{◌≡◌, ◌⊎◌, ℕ, Bool, false, ◌||◌, ◌&&◌, not, ◌==◌, List, [], ◌∷◌, Option, Some, None, Result, Ok, Err, refl, sym, ap, subst, ◌∙◌, inl, inr}
-use Rattle.std.specs.Prelude.{if◌then◌else◌, nat_lt}
+use Rattle.std.specs.Prelude.{if◌then◌else◌, nat_lt, length, replicate}
 use Rattle.std.proofs.lemmas.Option.{same_Some}
 use Rattle.flash_core.specs.declared.flash.Arming.{Arming}
 use Rattle.flash_core.specs.Told.{Told}
 use Rattle.host_io.specs.Contents.{Directory}
 use Rattle.fwu_formats.specs.Package.{Toc}
 use Rattle.fwu_formats.specs.Places.{trial_limit}
-use Rattle.fwu_model.specs.Answer.{Answer, answer, answer_boot, answer_previous, answer_send, answer_begin, boots_chosen, may_go_back, send_file, send_unless, table_in, first_image_fault, images_of, skipped}
+use Rattle.fwu_model.specs.Answer.{Answer, answer, answer_boot, answer_previous, answer_send, answer_begin, boots_chosen, may_go_back, send_file, install_unless, table_in, first_image_fault, images_of, skipped}
 use Rattle.fwu_model.specs.Call.{Call}
 use Rattle.fwu_model.specs.Call as call
 use Rattle.fwu_model.specs.Calm.{IsCalm}
@@ -109,16 +109,18 @@ module _ (E : Setting) (other : Directory) where
   previous-with s boot (Some parts) handles = refl
   previous-with s boot None handles = rw (back-with s (bank s s.previous).held) refl
 
-  unless-with : (fault : Option Reply) (s : State) (boot : ℕ) (staging : Option (List Staged)) (handles : List Handle) (p : List (List ℕ)) (request others : ℕ)
-      → send_unless fault F s boot staging handles p request others ≡ send_unless fault E s boot staging handles p request others
-  unless-with (Some r) s boot staging handles p request others = refl
-  unless-with None s boot staging handles p request others = refl
+  unless-with : (fault : Option Reply) (s : State) (boot : ℕ) (staging : Option (List Staged)) (handles : List Handle)
+      (p : List (List ℕ)) (bits : List Bool) (done : Reply)
+      → install_unless fault F s boot staging handles p bits done ≡ install_unless fault E s boot staging handles p bits done
+  unless-with (Some r) s boot staging handles p bits done = refl
+  unless-with None s boot staging handles p bits done = refl
 
   file-with : (s : State) (boot : ℕ) (staging : Option (List Staged)) (handles : List Handle) (request : ℕ) (file : List ℕ) (table : Result Toc Reply)
       → send_file F s boot staging handles request file table ≡ send_file E s boot staging handles request file table
   file-with s boot staging handles request file (Err r) = refl
   file-with s boot staging handles request file (Ok toc) =
-      unless-with (first_image_fault E.layout.rows toc) s boot staging handles (images_of E.layout.rows file toc) request (skipped E.layout.rows toc)
+      unless-with (first_image_fault E.layout.rows toc) s boot staging handles (images_of E.layout.rows file toc)
+      (replicate (length E.layout.rows) (request == 0)) (reply.Sent (length E.layout.rows) (skipped E.layout.rows toc))
 
   send-with : (s : State) (boot : ℕ) (staging : Option (List Staged)) (handles : List Handle) (request : ℕ) (file : Option (List ℕ))
       → answer_send F s boot staging handles request file ≡ answer_send E s boot staging handles request file

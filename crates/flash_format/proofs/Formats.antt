@@ -11,7 +11,7 @@ use Rattle.fwu_formats.specs.Metadata.{first_meta}
 use Rattle.fwu_formats.specs.Manifest.{is_complete, manifest_part, version}
 use Rattle.fwu_formats.specs.Image.{layout_seen, package_in, slot}
 use Rattle.fwu_formats.specs.Package.{Entry, Toc, entry_of, payload}
-use Rattle.fwu_model.specs.Answer.{images_of, payload_of}
+use Rattle.fwu_model.specs.Answer.{images_of, payload_or}
 use Rattle.fwu_model.specs.Replica.{BothHold, in_version}
 use Rattle.fwu_model.specs.Seen.{seen}
 use Rattle.fwu_model.specs.Sound.{Setting}
@@ -91,11 +91,11 @@ module _ (L : Layout) (file : List ℕ) (toc : Toc) (entries : List Entry) (chos
 
   image-is : (i : ℕ) → i < length L.rows → get_or images i [] ≡ payload file (get_or entries i no_entry)
   unfolding images_of
-  image-is i below = get_or-map (λ (r : ImageRow). payload_of file (entry_of toc r.guid)) L.rows i no_row [] below ∙ ap (payload_of file) (chosen.each i below)
+  image-is i below = get_or-map (λ (r : ImageRow). payload_or file [] (entry_of toc r.guid)) L.rows i no_row [] below ∙ ap (payload_or file []) (chosen.each i below)
 
   images-length : length images ≡ length L.rows
   unfolding images_of
-  images-length = length-map L.rows (λ (r : ImageRow). payload_of file (entry_of toc r.guid))
+  images-length = length-map L.rows (λ (r : ImageRow). payload_or file [] (entry_of toc r.guid))
 
   module _ (image : List ℕ) (room : 4096 * (8 + slot_total L.rows) ≤ length image) (fits : IsTrue (fits_layout L)) (stand : AllStand (length L.rows) L file entries image) where
     slot-is : (i : ℕ) → i < length L.rows → slot L image 0 i ≡ get_or images i [] ++ blank (slot_bytes L i - length (get_or images i []))

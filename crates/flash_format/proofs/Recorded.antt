@@ -3,6 +3,7 @@ use Rattle.std.proofs.Common.{◌≡◌, ◌⊎◌, inl, inr, ℕ, ◌+◌, ◌-
 use Rattle.std.specs.Prelude.{IsErr, OnOk, ◌%◌}
 use Rattle.std.proofs.lemmas.List.{get_or_default, get_or_past, append-nil, length-append, length-replicate}
 use Rattle.std.proofs.lemmas.Bool.{cases_lt}
+use Rattle.std.specs.Result.{result_ok}
 use Rattle.base_core.specs.Block.{blank, block}
 use Rattle.base_core.specs.Bytes.{overwritten}
 use Rattle.base_core.proofs.Images.{length-overwritten, overwritten_inside, overwritten_above}
@@ -11,7 +12,7 @@ use Rattle.flash_core.specs.May.{Keeps}
 use Rattle.flash_core.specs.Replaces.{padded}
 use Rattle.flash_core.proofs.Calls.{now-halt, now-put, now-settle, keeps_settle, settle-fresh, now_kept}
 use Rattle.fwu_formats.specs.Layout.{Layout, fits_layout, layout_of, blocks_needed}
-use Rattle.fwu_formats.specs.Metadata.{Meta, MetaRead, meta_of, meta_read, if_read, meta_bytes, meta_size, replica_bytes, fits_meta}
+use Rattle.fwu_formats.specs.Metadata.{Meta, MetaRead, meta_of, meta_read, meta_bytes, meta_size, replica_bytes, fits_meta}
 use Rattle.fwu_formats.specs.Image.{layout_seen}
 use Rattle.fwu_model.specs.Replica.{BothHold, in_version}
 use Rattle.fwu_formats.proofs.MetaWritten.{meta-read}
@@ -82,7 +83,7 @@ padded_front bytes front n whole is =
 
 read-is : (L : Layout) (bytes : List ℕ) (r : MetaRead) → meta_of L bytes ≡ Ok r → meta_read L bytes ≡ Some r
 unfolding meta_read
-read-is L bytes r is = ap if_read is
+read-is L bytes r is = ap result_ok is
 
 pub replica_read : (L : Layout) (m : Meta) → IsTrue (fits_layout L) → IsTrue (fits_meta L m) → meta_read L (padded (replica_bytes L m)) ≡ Some (in_version 2 m)
 replica_read L m layout fits =

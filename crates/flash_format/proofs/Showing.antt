@@ -4,13 +4,14 @@ use Rattle.std.specs.Prelude.{IsTrue, IsFalse, IsErr, IsSome, max}
 use Rattle.std.proofs.lemmas.List.{length-replicate, get_or-replicate, get_or_past}
 use Rattle.std.proofs.lemmas.List.FromFn.{length-map-range_with_len, get_or-map-range_with_len}
 use Rattle.std.proofs.lemmas.Bool.{cases_lt, and_from, le-leb}
+use Rattle.std.specs.Option.{option_or}
 use Rattle.base_core.specs.Block.{blank, block, granule}
 use Rattle.base_core.specs.Bytes.{listed, num_at}
 use Rattle.base_core.proofs.Seals.{blank_unsealed, is_false}
 use Rattle.fwu_formats.specs.Layout.{Layout, layout_of, fits_layout}
 use Rattle.fwu_formats.specs.Metadata.{Meta, MetaRead, first_meta, state_at, meta_read}
 use Rattle.fwu_formats.specs.Manifest.{manifest_part, version}
-use Rattle.fwu_formats.specs.Image.{layout_seen, deciding, first_some, is_blank, marks, package_in}
+use Rattle.fwu_formats.specs.Image.{layout_seen, deciding, is_blank, marks, package_in}
 use Rattle.fwu_formats.specs.Counter.{counter_in, recorded, is_record}
 use Rattle.fwu_model.specs.Replica.{BothHold, in_version}
 use Rattle.fwu_model.specs.Seen.{bank_in, state_of, seen, SoundFlash}
@@ -113,7 +114,7 @@ module _ (L : Layout) (image : List ℕ) (p : List (List ℕ)) (held : package_i
 
 decided : (L : Layout) (r : MetaRead) (image : List ℕ) → meta_read L (block 1 image) ≡ Some r → deciding L image ≡ Some r
 unfolding deciding
-decided L r image is = ap (λ (o : Option MetaRead). first_some o (meta_read L (block 2 image))) is
+decided L r image is = ap (λ (o : Option MetaRead). option_or o (meta_read L (block 2 image))) is
 
 pub shows_first : (L : Layout) (image : List ℕ) (p : List (List ℕ)) → package_in L image 0 ≡ Some p → IsTrue (fits_layout L) → counter_in image ≡ 0 → layout_seen image ≡ Ok L → BothHold L (in_version 2 (first_meta L)) image
     → seen image ≡ Some (first_state L p)

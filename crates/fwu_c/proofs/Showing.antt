@@ -1,6 +1,6 @@
 -- The banks of what an image shows.
 use Rattle.std.proofs.Common.{◌≡◌, ◌∙◌, refl, None, sym, ap, ℕ, ◌*◌, ◌/◌, ◌≤◌, List, length, Ok, Option, Some, arith}
-use Rattle.std.specs.Prelude.{◌↔◌}
+use Rattle.std.specs.Prelude.{◌↔◌, option_map}
 use Rattle.std.proofs.lemmas.List.{length-map}
 use Rattle.base_core.specs.Block.{block, block_bytes}
 use Rattle.meta_layout.proofs.Places.{length-listed}
@@ -9,14 +9,14 @@ use Rattle.fwu_formats.specs.Layout.{Layout, blocks_needed}
 use Rattle.fwu_formats.specs.Metadata.{MetaRead}
 use Rattle.fwu_formats.specs.Places.{layout_block}
 use Rattle.fwu_model.specs.State.{Bank, Numbers, State}
-use Rattle.fwu_model.specs.Seen.{bank_in, seen, seen_by, state_of}
+use Rattle.fwu_model.specs.Seen.{bank_in, seen, state_of}
 use Rattle.early_boot.specs.Numbers.{ShowsNumbers}
 use Rattle.early_boot.proofs.Lookups.{layout-inside}
 use Rattle.fwu_c.specs.Handed.{HasFlashSize}
 use Rattle.fwu_c.specs.Shows.{TellsShown}
 use Rattle.fwu_c.specs.declared.show.FlashShown.{FlashShown}
 
-by_layout : (L : Layout) (image : List ℕ) (read : Option MetaRead) (s : State) → seen_by L image read ≡ Some s
+by_layout : (L : Layout) (image : List ℕ) (read : Option MetaRead) (s : State) → option_map (state_of L image) read ≡ Some s
     → length s.banks ≡ L.banks
 by_layout L image None s is = absurd (cc)
 by_layout L image (Some r) s is =

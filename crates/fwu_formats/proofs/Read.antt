@@ -5,13 +5,15 @@ use Rattle.std.proofs.lemmas.Bool.Decides.{nat_tests}
 use Rattle.std.proofs.lemmas.List.{length-map}
 use Rattle.std.proofs.lemmas.List.FromFn.{length-map-range_with_len, get_or-map-range_with_len}
 use Rattle.std.proofs.lemmas.Option.{same_Some}
+use Rattle.std.specs.Option.{option_or}
+use Rattle.std.specs.Result.{result_ok}
 use Rattle.base_core.specs.Block.{block}
 use Rattle.base_core.specs.Bytes.{num_at, same_bytes}
 use Rattle.sha2.specs.Sha256.{sha256}
 use Rattle.fwu_formats.specs.Layout.{Layout, ImageRow, layout_of, fits_layout}
-use Rattle.fwu_formats.specs.Metadata.{MetaRead, meta_of, meta_read, if_read, bits_from, state_at_v1, bits_v1, BankState, Invalid, Valid, Accepted, MetaFault}
+use Rattle.fwu_formats.specs.Metadata.{MetaRead, meta_of, meta_read, bits_from, state_at_v1, bits_v1, BankState, Invalid, Valid, Accepted, MetaFault}
 use Rattle.fwu_formats.specs.Manifest.{Manifest, all_paired, has_form, is_complete, is_version_too_high, manifest_at, manifest_magic, manifest_of, manifest_size, ManifestFault}
-use Rattle.fwu_formats.specs.Image.{deciding, first_some, slot, images_in, if_complete, package_by, package_in}
+use Rattle.fwu_formats.specs.Image.{deciding, slot, images_in, if_complete, package_by, package_in}
 use Rattle.fwu_formats.proofs.SealLaws.{layout-holds, meta-holds}
 
 -- ---- metadata that was read
@@ -52,11 +54,11 @@ pub read-is : (L : Layout) (block : List ℕ) (r : MetaRead) → meta_read L blo
 unfolding meta_read
 read-is L block r e = by-result (meta_of L block) e
   where
-    by-result : (x : Result MetaRead MetaFault) → if_read x ≡ Some r → x ≡ Ok r
+    by-result : (x : Result MetaRead MetaFault) → result_ok x ≡ Some r → x ≡ Ok r
     by-result (Ok k) e = ap Ok (same_Some k r e)
     by-result (Err f) e = absurd cc
 
-pub first-whole : (a b : Option MetaRead) (r : MetaRead) → first_some a b ≡ Some r → (a ≡ Some r) ⊎ (b ≡ Some r)
+pub first-whole : (a b : Option MetaRead) (r : MetaRead) → option_or a b ≡ Some r → (a ≡ Some r) ⊎ (b ≡ Some r)
 first-whole (Some x) b r e = inl e
 first-whole None b r e = inr e
 

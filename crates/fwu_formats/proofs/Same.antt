@@ -3,10 +3,11 @@ use Rattle.std.proofs.Common.{◌≡◌, ℕ, zero, suc, ◌+◌, ◌*◌, ◌<�
 use Rattle.std.proofs.lemmas.List.Sums.{sum_by-cons}
 use Rattle.std.proofs.lemmas.List.FromFn.{length-map-range_with_len, get_or-map-range_with_len}
 use Rattle.std.specs.List.{range_with_len, list_all}
+use Rattle.std.specs.Option.{option_or}
 use Rattle.base_core.specs.Bytes.{listed}
 use Rattle.fwu_formats.specs.Layout.{ImageRow, Layout, slot_total}
 use Rattle.fwu_formats.specs.Manifest.{Manifest, manifest_of, manifest_size, ManifestFault}
-use Rattle.fwu_formats.specs.Image.{is_blank, first_some, marks, is_tidy, slot, images_in, if_complete, package_by, package_in}
+use Rattle.fwu_formats.specs.Image.{is_blank, marks, is_tidy, slot, images_in, if_complete, package_by, package_in}
 use Rattle.base_core.specs.Block.{block, granule}
 use Rattle.fwu_formats.specs.Counter.{counter_in}
 use Rattle.base_core.proofs.Lists.{prefix-same}
@@ -104,5 +105,5 @@ counter-same xs ys len front =
     let six = front-block xs ys len front 6 (omega arith) in
     rw (four, five, six) refl
 
-pub first-same : {X : Type 0} (a b c d : Option X) → a ≡ b → c ≡ d → first_some a c ≡ first_some b d
-first-same {X} a b c d p q = ap (λ (o : Option X). first_some o c) p ∙ ap (λ (o : Option X). first_some b o) q
+pub first-same : {X : Type 0} (a b c d : Option X) → a ≡ b → c ≡ d → option_or a c ≡ option_or b d
+first-same {X} a b c d p q = ap (λ (o : Option X). option_or o c) p ∙ ap (λ (o : Option X). option_or b o) q

@@ -3,12 +3,13 @@ use Rattle.std.proofs.Common.{ℕ, ◌*◌, List, [], ◌∷◌, Option, Some, N
 use Rattle.std.proofs.lemmas.Bool.{cond_both}
 use Rattle.std.specs.List.{list_any}
 use Rattle.std.specs.Prelude.{IfErr}
+use Rattle.std.specs.Option.{option_or}
 use Rattle.fwu_formats.specs.Layout.{ImageRow}
 use Rattle.fwu_formats.specs.Package.{Toc, Entry, toc_of, entry_of}
 use Rattle.fwu_formats.specs.Capsule.{is_capsule, capsule_of}
 use Rattle.fwu_model.specs.Reply.{Reply}
 use Rattle.fwu_model.specs.Reply as reply
-use Rattle.fwu_model.specs.Answer.{first_image_fault, image_fault, or_else, table_in, table_or, first_size_fault, partial_fault, size_fault, too_large, has_image, type_of_image}
+use Rattle.fwu_model.specs.Answer.{first_image_fault, image_fault, table_in, table_or, first_size_fault, partial_fault, size_fault, too_large, has_image, type_of_image}
 use Rattle.fwu_model.specs.Run.{is_refused_boot}
 
 abbrev pub NoBoot : Option Reply → Type 0
@@ -20,7 +21,7 @@ NoBootErr t = IfErr t (λ r. IsFalse (is_refused_boot r))
 large-kind : (r : ImageRow) (e : Entry) → NoBoot (too_large r e)
 large-kind r e = cond_both (ltb (4096 * r.slots) e.size) (Some (reply.TooLarge r.guid)) None NoBoot (λ h. refl) (λ h. tt)
 
-or-kind : (a b : Option Reply) → NoBoot a → NoBoot b → NoBoot (or_else a b)
+or-kind : (a b : Option Reply) → NoBoot a → NoBoot b → NoBoot (option_or a b)
 or-kind None b first second = second
 or-kind (Some r) b first second = first
 

@@ -8,7 +8,7 @@ use Rattle.std.specs.List.{list_any, position_or_len}
 use Rattle.base_core.specs.Bytes.{same_bytes}
 use Rattle.fwu_formats.specs.Layout.{ImageRow, are_distinct, find_image}
 use Rattle.fwu_formats.specs.Package.{Entry, Part, Toc, entry_of, has_guid, payload}
-use Rattle.fwu_model.specs.Answer.{first_image_fault, images_of, payload_of, skipped}
+use Rattle.fwu_model.specs.Answer.{first_image_fault, images_of, skipped, payload_or}
 use Rattle.gen_core.proofs.Making.{guids_of}
 use Rattle.gen_core.proofs.Packing.{FitRows}
 use Rattle.base_core.proofs.Spelled.{same_refl}
@@ -43,14 +43,14 @@ own-entries (e ∷ es) (r ∷ rs) same h =
     cc
 
 payloads-found : (file : List ℕ) (f : ImageRow → Option Entry) (rs : List ImageRow) (es : List Entry) → map f rs ≡ map Some es
-    → map (λ r. payload_of file (f r)) rs ≡ map (payload file) es
+    → map (λ r. payload_or file [] (f r)) rs ≡ map (payload file) es
 payloads-found file f [] [] same = refl
 payloads-found file f [] (e ∷ es) same = absurd cc
 payloads-found file f (r ∷ rs) [] same = absurd cc
 payloads-found file f (r ∷ rs) (e ∷ es) same =
     let own : f r ≡ Some e = cc in
     let rest : map f rs ≡ map Some es = cc in
-    let first = ap (payload_of file) own in
+    let first = ap (payload_or file []) own in
     let others = payloads-found file f rs es rest in
     cc
 

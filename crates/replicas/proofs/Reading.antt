@@ -1,7 +1,8 @@
 -- What reads as metadata, and what decides.
 use Rattle.std.proofs.Common.{◌≡◌, inl, inr, cond, ℕ, Bool, true, false, List, ◌++◌, length, replicate, Option, Some, None, Result, Ok, Err, refl, sym, ap, subst, ◌∙◌, IsTrue, append_assoc}
 use Rattle.std.specs.Prelude.{not, ◌==◌, ◌-◌, ◌%◌}
-use Rattle.std.specs.Option.{ForSome}
+use Rattle.std.specs.Option.{ForSome, option_or}
+use Rattle.std.specs.Result.{result_ok}
 use Rattle.base_core.specs.Bytes.{num_at, part}
 use Rattle.base_core.specs.Crc.{crc}
 use Rattle.base_core.specs.Block.{block, blank}
@@ -10,8 +11,8 @@ use Rattle.flash_core.specs.Replaces.{padded}
 use Rattle.fwu_formats.specs.declared.kinds.MetaFault.{MetaFault}
 use Rattle.fwu_formats.specs.declared.kinds.MetaFault.TheVariants as fault
 use Rattle.fwu_formats.specs.Layout.{Layout, fits_layout}
-use Rattle.fwu_formats.specs.Metadata.{Meta, MetaRead, meta_of, meta_read, if_read, meta_bytes, meta_size, meta_size_v1, replica_bytes, fits_meta, fits_v1, fits_v2, meta_at, meta_at_v1, read_v1, read_v2}
-use Rattle.fwu_formats.specs.Image.{deciding, first_some}
+use Rattle.fwu_formats.specs.Metadata.{Meta, MetaRead, meta_of, meta_read, meta_bytes, meta_size, meta_size_v1, replica_bytes, fits_meta, fits_v1, fits_v2, meta_at, meta_at_v1, read_v1, read_v2}
+use Rattle.fwu_formats.specs.Image.{deciding}
 use Rattle.fwu_model.specs.Replica.{in_version}
 use Rattle.fwu_formats.proofs.SealLaws.{read-sealed, was_not_refused}
 use Rattle.fwu_formats.proofs.MetaWritten.{meta-read}
@@ -23,11 +24,11 @@ use Rattle.replicas.specs.declared.which.Which.TheVariants.{Same, RepairZero, Re
 
 pub read_is : (L : Layout) (bytes : List ℕ) (r : MetaRead) → meta_of L bytes ≡ Ok r → meta_read L bytes ≡ Some r
 unfolding meta_read
-read_is L bytes r is = ap if_read is
+read_is L bytes r is = ap result_ok is
 
 pub none_is : (L : Layout) (bytes : List ℕ) (f : MetaFault) → meta_of L bytes ≡ Err f → meta_read L bytes ≡ None
 unfolding meta_read
-none_is L bytes f is = ap if_read is
+none_is L bytes f is = ap result_ok is
 
 abbrev the_ok : MetaRead → Result MetaRead MetaFault
 the_ok x = Ok x
@@ -82,20 +83,20 @@ unread L fits bytes none = none_of (meta_read L bytes) (λ r is. none (read-seal
 
 pub by_zero : (L : Layout) (r : MetaRead) (image : List ℕ) → meta_read L (block 1 image) ≡ Some r → deciding L image ≡ Some r
 unfolding deciding
-by_zero L r image is = ap (λ o. first_some o (meta_read L (block 2 image))) is
+by_zero L r image is = ap (λ o. option_or o (meta_read L (block 2 image))) is
 
 pub by_one : (L : Layout) (r : MetaRead) (image : List ℕ) → meta_read L (block 1 image) ≡ None → meta_read L (block 2 image) ≡ Some r → deciding L image ≡ Some r
 unfolding deciding
-by_one L r image none is = ap (λ o. first_some o (meta_read L (block 2 image))) none ∙ is
+by_one L r image none is = ap (λ o. option_or o (meta_read L (block 2 image))) none ∙ is
 
 pub by_none : (L : Layout) (image : List ℕ) → meta_read L (block 1 image) ≡ None → meta_read L (block 2 image) ≡ None → deciding L image ≡ None
 unfolding deciding
-by_none L image zero one = ap (λ o. first_some o (meta_read L (block 2 image))) zero ∙ one
+by_none L image zero one = ap (λ o. option_or o (meta_read L (block 2 image))) zero ∙ one
 
 -- what decides depends on the replicas alone
 pub deciding_of : (L : Layout) (image other : List ℕ) → block 1 image ≡ block 1 other → block 2 image ≡ block 2 other → deciding L image ≡ deciding L other
 unfolding deciding
-deciding_of L image other zero one = ap (λ bytes. first_some (meta_read L bytes) (meta_read L (block 2 image))) zero ∙ ap (λ bytes. first_some (meta_read L (block 1 other)) (meta_read L bytes)) one
+deciding_of L image other zero one = ap (λ bytes. option_or (meta_read L bytes) (meta_read L (block 2 image))) zero ∙ ap (λ bytes. option_or (meta_read L (block 1 other)) (meta_read L bytes)) one
 
 -- what is found of what the replicas read as decides
 found_decides : (L : Layout) (which : Which) (r : MetaRead) (image : List ℕ) → Finds which r (meta_read L (block 1 image)) (meta_read L (block 2 image)) → deciding L image ≡ Some r

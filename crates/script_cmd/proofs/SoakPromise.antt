@@ -2,15 +2,16 @@
 use Rattle.std.proofs.Common.{◌≡◌, ◌≢◌, ◌⊎◌, ◌||◌, ◌==◌, ℕ, Bool, true, false, not, if◌then◌else◌, List, [], ◌∷◌, ◌++◌, Option, Some, None, Ok, Err, refl, sym, ap, subst, ◌∙◌, inl, inr, arith, append-nil, IsTrue, IsFalse, Contains}
 use Rattle.std.specs.Prelude.{nat_lt, ◌*◌, option_map}
 use Rattle.base_core.specs.Block.{block_bytes}
-use Rattle.fip_tables.specs.Images.{images_fault, image_fault as reader_fault, or_else as reader_or}
+use Rattle.fip_tables.specs.Images.{images_fault, image_fault as reader_fault}
 use Rattle.fip_tables.specs.declared.images.ImageFault.{ImageFault}
 use Rattle.fip_tables.specs.declared.images.ImageFault.TheVariants as image
 use Rattle.fwu_formats.specs.Package.{Entry, Toc, entry_of}
-use Rattle.fwu_model.specs.Answer.{first_image_fault, image_fault, or_else as machine_or}
+use Rattle.fwu_model.specs.Answer.{first_image_fault, image_fault}
 use Rattle.std.specs.Io.KnownBytes.{Appends}
 use Rattle.std.proofs.lemmas.Bool.{false≢true}
 use Rattle.std.proofs.lemmas.Option.{same_Some}
 use Rattle.std.proofs.lemmas.List.Elements.{Contains-append_right, Contains-get_or}
+use Rattle.std.specs.Option.{option_or}
 use Rattle.flash_core.specs.Counts.{Rose}
 use Rattle.flash_core.specs.declared.flash.Counts.{Counts}
 use Rattle.flash_core.specs.May.{Guards}
@@ -180,12 +181,12 @@ fitted-soak blocks large = either-ok (not (fits_layout soak_layout)) (nat_lt blo
 
 -- where no image is at fault to the machine, none is to the reader of packages
 unfaulted-by : (r : ImageRow) (o : Option Entry) (rest : Option Reply) (others : Option ImageFault) → (rest ≡ None → others ≡ None)
-    → machine_or (image_fault r o) rest ≡ None → reader_or (reader_fault r o) others ≡ None
+    → option_or (image_fault r o) rest ≡ None → option_or (reader_fault r o) others ≡ None
 unfaulted-by r None rest others same is = absurd cc
 unfaulted-by r (Some e) rest others same is = by-size (nat_lt (block_bytes * r.slots) e.size) is
   where
-    by-size : (large : Bool) → machine_or (if large then Some (reply.TooLarge r.guid) else None) rest ≡ None
-        → reader_or (if large then Some (image.TooLarge r.guid) else None) others ≡ None
+    by-size : (large : Bool) → option_or (if large then Some (reply.TooLarge r.guid) else None) rest ≡ None
+        → option_or (if large then Some (image.TooLarge r.guid) else None) others ≡ None
     by-size true is = absurd cc
     by-size false is = same is
 

@@ -23,7 +23,7 @@ use Rattle.fwu_model.specs.Call.{Call}
 use Rattle.fwu_model.specs.Call as call
 use Rattle.fwu_model.specs.Reply.{Reply, Turn}
 use Rattle.fwu_model.specs.Reply as reply
-use Rattle.fwu_model.specs.Answer.{Answer, answer, answered, answer_send, answer_send_partial, bits_over, first_image_fault, type_of_image, has_image, image_held, images_of, images_over, install_unless, partial_fault, payload_or, send_file, send_file_over, send_unless, sent_over, skipped, table_in}
+use Rattle.fwu_model.specs.Answer.{Answer, answer, answered, answer_send, answer_send_partial, bits_over, first_image_fault, type_of_image, has_image, image_held, images_of, images_over, install_unless, partial_fault, payload_or, send_file, send_file_over, send_package, sent_over, skipped, table_in}
 use Rattle.fwu_model.specs.Causes.{FileNotRead, LacksFile}
 use Rattle.fwu_model.specs.Headline.{IsCut, LeavesOneOf}
 use Rattle.fwu_model.specs.Run.{Condition, HasNumbers, Step, Answered, Stopped, asks_state, is_boot, is_off, is_send, is_stop, moved_on, prefixes, stopped_moves}
@@ -179,7 +179,7 @@ module _ (E : Setting) (files : Option Directory) (name : List ℕ) (request : �
       → answer E s (On boot staging handles) (send_call false name request) ≡ send_answer E toc images request s (On boot staging handles)
   sends-as toc images table read = by-file false E files name request s boot staging handles told there (λ (a : Answer). a ≡ send_answer E toc images request s (On boot staging handles))
       (λ file tells. of-file false E files name request s boot staging handles told there false file (Ok toc) (table.0 file tells)
-      ∙ ap (λ (p : List (List ℕ)). send_unless (first_image_fault E.layout.rows toc) E s boot staging handles p request (skipped E.layout.rows toc)) (sym (read file tells)))
+      ∙ ap (λ (p : List (List ℕ)). send_package E s boot staging handles p request toc) (sym (read file tells)))
 
   sends-over : (toc : Toc) (bytes : ℕ → List ℕ) (images : List (List ℕ)) → IsTableOf files name (Ok toc) → ((file : List ℕ) → Tells files name file → images ≡ images_over E.layout.rows file toc bytes)
       → ((i : ℕ) → i < length E.layout.rows → has_image toc (get_or E.layout.rows i no_row) ≡ false → bytes i ≡ image_held s s.active i)

@@ -3,15 +3,16 @@ use Rattle.std.proofs.Common.{◌≡◌, cond, ◌*◌, ◌<◌, Bool, true, fal
 use Rattle.std.proofs.lemmas.List.{get_or_default}
 use Rattle.std.specs.Prelude.{nat_lt, option_map}
 use Rattle.std.specs.List.{All, list_any}
+use Rattle.std.specs.Option.{option_or}
 use Rattle.fwu_formats.specs.Layout.{ImageRow}
 use Rattle.fwu_formats.specs.Package.{Entry, Toc, entry_of}
 use Rattle.fwu_model.specs.Reply.{Reply}
 use Rattle.fwu_model.specs.Reply as reply
 use Rattle.fwu_model.specs.Answer.{first_image_fault, first_size_fault, has_image, partial_fault, size_fault}
-use Rattle.fwu_model.specs.Answer.{image_fault as machine_fault, or_else as machine_else}
+use Rattle.fwu_model.specs.Answer.{image_fault as machine_fault}
 use Rattle.fip_tables.specs.declared.images.ImageFault.{ImageFault}
 use Rattle.fip_tables.specs.declared.images.ImageFault.TheVariants.{Missing, TooLarge}
-use Rattle.fip_tables.specs.Images.{AreImages, image_fault, images_fault, lowest_fault, no_entry, no_row, or_else, present_fault}
+use Rattle.fip_tables.specs.Images.{AreImages, image_fault, images_fault, lowest_fault, no_entry, no_row, present_fault}
 use Rattle.fip_tables.specs.Images.{size_fault as table_fault}
 use Rattle.fip_tables.specs.Images.{ArePresent as AreThere}
 use Rattle.fip_tables.proofs.Chosen.{found_has}
@@ -24,14 +25,14 @@ reply_of (Missing guid) = reply.Missing guid
 reply_of (TooLarge guid) = reply.TooLarge guid
 
 too-large : (r : ImageRow) (b : Bool) (rest : Option Reply) (faults : Option ImageFault) → rest ≡ option_map reply_of faults
-    → machine_else (cond b (Some (reply.TooLarge r.guid)) None) rest ≡ option_map reply_of (or_else (cond b (Some (TooLarge r.guid)) None) faults)
+    → option_or (cond b (Some (reply.TooLarge r.guid)) None) rest ≡ option_map reply_of (option_or (cond b (Some (TooLarge r.guid)) None) faults)
 too-large r true rest faults is = refl
 too-large r false rest faults is = is
 
 -- ---- of all images
 
 next-fault : (r : ImageRow) (o : Option Entry) (rest : Option Reply) (faults : Option ImageFault) → rest ≡ option_map reply_of faults
-    → machine_else (machine_fault r o) rest ≡ option_map reply_of (or_else (image_fault r o) faults)
+    → option_or (machine_fault r o) rest ≡ option_map reply_of (option_or (image_fault r o) faults)
 next-fault r None rest faults is = refl
 next-fault r (Some e) rest faults is = too-large r (nat_lt (4096 * r.slots) e.size) rest faults is
 
@@ -43,7 +44,7 @@ same-fault (r ∷ rows) toc = next-fault r (entry_of toc r.guid) (first_image_fa
 -- ---- of those that the table has
 
 next-size : (r : ImageRow) (o : Option Entry) (rest : Option Reply) (faults : Option ImageFault) → rest ≡ option_map reply_of faults
-    → machine_else (size_fault r o) rest ≡ option_map reply_of (or_else (table_fault r o) faults)
+    → option_or (size_fault r o) rest ≡ option_map reply_of (option_or (table_fault r o) faults)
 next-size r None rest faults is = is
 next-size r (Some e) rest faults is = too-large r (nat_lt (4096 * r.slots) e.size) rest faults is
 

@@ -6,6 +6,7 @@ use Rattle.agent_machine.proofs.Answered.{layout-limits}
 use Rattle.fip_tables.proofs.Chosen.{found_has}
 use Rattle.std.proofs.lemmas.List.{get_or_default}
 use Rattle.std.proofs.lemmas.List.Sums.{sum_by-cons}
+use Rattle.std.specs.Option.{option_or}
 use Rattle.fwu_formats.specs.Layout.{ImageRow, Layout, fits_layout, are_distinct, find_image, slot_bytes}
 use Rattle.fwu_model.specs.Sound.{Setting}
 use Rattle.fwu_model.specs.Session.{Nothing}
@@ -13,7 +14,7 @@ use Rattle.fwu_formats.specs.Package.{Entry, Toc, entry_of}
 use Rattle.fwu_model.specs.Reply.{Reply}
 use Rattle.fwu_model.specs.Reply as reply
 use Rattle.update_client.specs.Choosing.{no_row}
-use Rattle.fwu_model.specs.Answer.{copied_part, first_size_fault, has_image, or_else, sent_over, size_fault, skipped}
+use Rattle.fwu_model.specs.Answer.{copied_part, first_size_fault, has_image, sent_over, size_fault, skipped}
 use Rattle.update_client.specs.Images.{AreUnstaged, no_entry}
 use Rattle.agent_calls.proofs.OwnRows.{guid_in, own-image}
 use Rattle.update_client.proofs.OwnImages.{distinct, found-has}
@@ -142,7 +143,7 @@ kept-long toc bytes a (r ∷ rows) = let rest = kept-long toc bytes (a + 1) rows
 
 -- none of them is too large
 next-fault : (r : ImageRow) (rows : List ImageRow) (toc : Toc)
-    → first_size_fault (r ∷ rows) toc ≡ or_else (size_fault r (entry_of toc r.guid)) (first_size_fault rows toc)
+    → first_size_fault (r ∷ rows) toc ≡ option_or (size_fault r (entry_of toc r.guid)) (first_size_fault rows toc)
 unfolding first_size_fault
 next-fault r rows toc = refl
 
@@ -151,7 +152,7 @@ pub sizes-fit : (rows : List ImageRow) (toc : Toc) (i : ℕ) (e : Entry) → fir
 sizes-fit [] toc i e none lt is = absurd (omega (arith, lt))
 sizes-fit (r ∷ rows) toc i e none lt is = by-place (λ j less it. sizes-fit rows toc j e (parts.1) less it) i lt is
   where
-    both : (o p : Option Reply) → or_else o p ≡ None → (o ≡ None) × (p ≡ None)
+    both : (o p : Option Reply) → option_or o p ≡ None → (o ≡ None) × (p ≡ None)
     both None p h = (refl, h)
     both (Some r) p h = absurd cc
 

@@ -12,7 +12,7 @@ use Rattle.fwu_model.specs.Session.{Session, On, Staged, Handle, Nothing}
 use Rattle.fwu_model.specs.Call as call
 use Rattle.fwu_model.specs.Reply.{Reply}
 use Rattle.fwu_model.specs.Reply as reply
-use Rattle.fwu_model.specs.Answer.{Answer, answer, cannot_begin, begin_moves, first_image_fault, images_of, payload_of, skipped}
+use Rattle.fwu_model.specs.Answer.{Answer, answer, cannot_begin, begin_moves, first_image_fault, images_of, skipped, payload_or}
 use Rattle.agent_machine.specs.declared.stop.Stop.{Stop}
 use Rattle.agent_machine.specs.declared.stop.Stop.TheVariants as stop
 use Rattle.fwu_formats.specs.Metadata.{Meta}
@@ -54,8 +54,8 @@ images-are file toc [] [] count each = refl
 images-are file toc [] (e ∷ entries) count each = absurd (omega (arith, count))
 images-are file toc (r ∷ rows) [] count each = absurd (omega (arith, count))
 images-are file toc (r ∷ rows) (e ∷ entries) count each =
-    ap (λ (o : Option Entry). payload_of file o ∷ map (payload file) entries) (sym (each 0 (omega arith)))
-    ∙ ap (λ (l : List (List ℕ)). payload_of file (entry_of toc r.guid) ∷ l)
+    ap (λ (o : Option Entry). payload_or file [] o ∷ map (payload file) entries) (sym (each 0 (omega arith)))
+    ∙ ap (λ (l : List (List ℕ)). payload_or file [] (entry_of toc r.guid) ∷ l)
     (images-are file toc rows entries (omega (arith, count)) (λ k lt. each (suc k) (omega (arith, lt))))
 
 -- ---- the begin

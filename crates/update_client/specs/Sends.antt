@@ -10,7 +10,7 @@ use Rattle.fwu_formats.specs.Package.{Toc}
 use Rattle.fwu_model.specs.Call as call
 use Rattle.fwu_model.specs.Reply.{Reply}
 use Rattle.fwu_model.specs.Reply as reply
-use Rattle.fwu_model.specs.Answer.{Answer, answer, answered, first_image_fault, images_of, send_unless, skipped}
+use Rattle.fwu_model.specs.Answer.{Answer, answer, answered, images_of, send_package}
 use Rattle.fip_tables.specs.Files.{Tells}
 use Rattle.agent_machine.specs.Fields.{Fields, target}
 use Rattle.agent_machine.specs.Moment.{Moment, Shows}
@@ -23,7 +23,7 @@ use Rattle.update_client.specs.declared.stops.SendStop.TheVariants.{MissingImage
 abbrev pub send_answer : Setting → Toc → List (List ℕ) → ℕ → State → Session → Answer
 send_answer E toc p request s Off = answered reply.IsOff [] Off
 send_answer E toc p request s (On boot staging handles) =
-    send_unless (first_image_fault E.layout.rows toc) E s boot staging handles p request (skipped E.layout.rows toc)
+    send_package E s boot staging handles p request toc
 
 -- the session without a staging and a handle
 abbrev pub ended_session : Session → Session
