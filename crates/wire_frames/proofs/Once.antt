@@ -2,7 +2,7 @@
 use Rattle.std.proofs.Common.{◌≡◌, ◌⊎◌, ℕ, zero, suc, ◌+◌, ◌-◌, ◌<◌, ◌≤◌, Bool, true, false, not, ◌&&◌, ◌==◌, cond, List, [], ◌∷◌, ◌++◌, length, take, drop, Option, Some, None, refl, sym, ap, subst, ◌∙◌, inl, inr, arith, take-append-drop}
 use Rattle.std.specs.Prelude.{⊤, nat_lt, nat_le, option_map}
 use Rattle.std.specs.List.{slice_get}
-use Rattle.std.proofs.lemmas.Bool.{and_parts, cases_Bool, eqb-false, eqb-true, not-true, ltb-true, false≢true}
+use Rattle.std.proofs.lemmas.Bool.{and_parts, eqb-false, eqb-true, not-true, ltb-true, false≢true}
 use Rattle.std.proofs.lemmas.Option.{same_Some, slice_get-map, slice_get_within}
 use Rattle.std.proofs.lemmas.List.{append-nil, length_push, map-append, take-append-le}
 use Rattle.wire_frames.specs.declared.exchange.Admission.{Admission}

@@ -14,13 +14,9 @@ pub record Asking : Type 0 where
 abbrev pub asked_none : Asking
 asked_none = record { last = 0; is_open = false; request = [] }
 
--- the greatest number of a request
-abbrev pub last_number : ℕ
-last_number = 4294967295
-
--- none is open, and there is a number for the next
+-- none is open, and there is a number for the next: they end at 4294967295
 abbrev pub may_ask : Asking → Bool
-may_ask a = not a.is_open && nat_lt a.last last_number
+may_ask a = not a.is_open && nat_lt a.last 4294967295
 
 -- the frame of the next request
 abbrev pub next_frame : Asking → List ℕ → List ℕ
