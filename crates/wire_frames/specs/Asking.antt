@@ -2,8 +2,7 @@
 use Rattle.std.specs.Prelude.{◌≡◌, ℕ, ◌+◌, Bool, true, false, not, ◌==◌, nat_lt, nat_le, ◌&&◌, if◌then◌else◌, List, [], length, IsTrue, IsFalse}
 use Rattle.wire_frames.specs.declared.client.Asked.{Asked}
 use Rattle.wire_frames.specs.declared.client.Asked.TheVariants.{Frame, Waiting}
-use Rattle.wire_frames.specs.Frames.{frame, request_number_of, numbered}
-use Rattle.wire_frames.specs.Fronts.{PutsFront}
+use Rattle.wire_frames.specs.Frames.{frame, request_number_of, numbered, PutsFront}
 
 -- the number of the last request, whether it is open, and its frame. At first that is 0, none, and no frame
 pub record Asking : Type 0 where
