@@ -43,7 +43,7 @@ barrier_doable t = record {
   barrier = λ _. (refl, refl, refl);
 }
 
-program_doable : (t : Told) (kind at n from : ℕ) → (kind ≡ 1 → ⊥) → (kind ≡ 3 → ⊥) → TakesProgram t at n
+pub program_doable : (t : Told) (kind at n from : ℕ) → (kind ≡ 1 → ⊥) → (kind ≡ 3 → ⊥) → TakesProgram t at n
     → IsDoable t (record { kind = kind; at = at; length = n; from = from })
 program_doable t kind at n from not_one not_three takes = record {
   block = λ e. absurd (not_one e);
@@ -51,12 +51,6 @@ program_doable t kind at n from not_one not_three takes = record {
   erased = λ _. takes.erased;
   barrier = λ e. absurd (not_three e);
 }
-
--- a copy is noted
-pub copy_more : (file room : List ℕ) (at n from : ℕ) (t : Told) (ss : List Step) → AreDoable file room t ss → TakesProgram (run_with file room t ss) at n
-    → AreDoable file room t (ss ++ (record { kind = 4; at = at; length = n; from = from }) ∷ [])
-copy_more file room at n from t ss all takes =
-    doable_more file room t ss _ all (program_doable (run_with file room t ss) 4 at n from (λ e. omega (arith, e)) (λ e. omega (arith, e)) takes)
 
 -- a program is noted
 pub program_more : (file room bytes : List ℕ) (size at : ℕ) (t : Told) (ss : List Step) → All (IsInsideWith (length file) (length room) size) ss

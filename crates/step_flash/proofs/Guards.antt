@@ -9,7 +9,6 @@ use Rattle.step_flash.specs.declared.flash.StepFlash.{StepFlash}
 use Rattle.step_flash.specs.Device.{after_steps, back_on}
 use Rattle.step_flash.specs.Flash.{image_of, package_of, told_of}
 use Rattle.step_flash.specs.Guard.{beyond, guard_with, start_with}
-use Rattle.step_flash.specs.Stopped.{under_as}
 use Rattle.step_flash.specs.Steps.{run_with, run_step, bytes_of}
 
 step_guard : (file room : List ℕ) (t : Told) (s : Step) → (run_step file room t s).guard ≡ t.guard
@@ -67,19 +66,12 @@ same_guard : (p q a b : List ℕ) → guard_with a p ≡ guard_with b q → IsSa
 unfolding guard_with
 same_guard p q a b e = parted p q a b (append_cancel_left usual_guard (beyond p ++ (most_blocks ∷ beyond a)) (beyond q ++ (most_blocks ∷ beyond b)) e)
 
--- the image and the package of a device, by what it tells
-pub told_is : (image file was had room : List ℕ) (ss : List Step) (t : Told)
-    → t ≡ under_as t.under (run_with had room (start_with was had) ss) → t.guard ≡ guard_with image file → (was ≡ image) × (had ≡ file)
-told_is image file was had room ss t left guarded =
-    let same = same_guard had file was image
-    (sym (ap (λ (x : Told). x.guard) left ∙ run_guard had room (start_with was had) ss ∙ fresh_guard (guard_with was had) was) ∙ guarded) in
-    (same.image, same.file)
-
 back_guard : (live : Bool) (t : Told) → (back_on live t).guard ≡ t.guard
 unfolding settle fresh
 back_guard true t = refl
 back_guard false t = refl
 
+-- the image and the package of a device, by what it tells
 pub by_guard : (d : StepFlash) (image file : List ℕ) → (told_of d).guard ≡ guard_with image file
     → (image_of d ≡ image) × (package_of d ≡ file)
 by_guard d image file is =

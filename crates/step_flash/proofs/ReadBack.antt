@@ -1,19 +1,15 @@
 -- What a read finds behind each step.
 use Rattle.std.proofs.Common.{◌≡◌, ℕ, suc, ◌+◌, ◌<◌, ◌≤◌, ◌==◌, Bool, true, false, List, [], ◌∷◌, length, get_or, take, slice_range, eqb-true, eq-eqb, if◌then◌else◌, sym, subst, ◌∙◌, ap, arith, refl}
 use Rattle.std.proofs.lemmas.Bool.{false≢true}
-use Rattle.std.proofs.lemmas.List.{length-replicate}
 use Rattle.std.proofs.lemmas.List.Sums.{fold_more}
 use Rattle.base_core.specs.Block.{blank, block_bytes}
+use Rattle.base_core.proofs.Blocks.{length-blank}
 use Rattle.flash_core.specs.Told.{Told, fresh, put, settle, overwritten}
 use Rattle.flash_core.proofs.Calls.{now-put, now-settle}
 use Rattle.flash_core.proofs.Images.{length-overwritten}
 use Rattle.step_flash.specs.declared.step.Step.{Step}
 use Rattle.step_flash.specs.Steps.{IsInsideWith, bytes_of, run_step, run_with, source_of}
 use Rattle.step_flash.proofs.Slices.{length-part}
-
-pub length-blank : (n : ℕ) → length (blank n) ≡ n
-unfolding blank
-length-blank n = length-replicate n 255
 
 -- the bytes of a program or a copy stand where they are to stand
 pub stands : (file room : List ℕ) (size : ℕ) (s : Step) → IsInsideWith (length file) (length room) size s → (s.kind ≡ 1 → ⊥)

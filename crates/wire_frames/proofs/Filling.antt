@@ -1,13 +1,15 @@
 -- Pieces that come one after the other, and the frame that they make.
-use Rattle.std.proofs.Common.{◌≡◌, ℕ, suc, ◌+◌, ◌*◌, ◌/◌, ◌%◌, ◌<◌, ◌≤◌, Bool, true, false, List, [], ◌∷◌, ◌++◌, length, get_or, take, drop, Option, refl, sym, ap, subst, ◌∙◌, inr, arith, append_assoc, append-nil, length-append, take-append-drop}
+use Rattle.std.proofs.Common.{◌≡◌, ℕ, suc, ◌+◌, ◌*◌, ◌/◌, ◌%◌, ◌<◌, ◌≤◌, Bool, true, false, List, [], ◌∷◌, ◌++◌, length, get_or, take, drop, Option, Err, refl, sym, ap, subst, ◌∙◌, inr, arith, append_assoc, append-nil, length-append, take-append-drop}
 use Rattle.std.specs.Io.KnownBytes.{Consumes}
 use Rattle.std.proofs.KnownBytes.{Consumes-trans}
 use Rattle.std.proofs.lemmas.List.{length-take-le, take_all, take_at}
 use Rattle.base_core.specs.Bytes.{le, num, num_at}
+use Rattle.host_io.specs.Once.{ReadsOnce}
+use Rattle.host_io.specs.declared.source.Source.{Ghosts}
 use Rattle.wire_frames.specs.declared.stream.Cut.{Cut}
 use Rattle.wire_frames.specs.declared.stream.Cut.TheVariants as cut
 use Rattle.wire_frames.specs.Frames.{IsPartialFrame, frame}
-use Rattle.wire_frames.specs.Stream.{CutsShort, ReadsFrame, StopsReading, stop_by}
+use Rattle.wire_frames.specs.Stream.{CutsShort, ReadsFrame, ReadsSource, StopsReading, stop_by}
 
 -- the front of a buffer, with bytes that came behind it
 pub taken-more : (at n : ℕ) (out new tail : List ℕ) → at ≤ length out → n ≤ length new → take (at + n) (take at out ++ (new ++ tail)) ≡ take at out ++ take n new
@@ -45,6 +47,11 @@ reads-frame head out rest body n taken mid now a b c four spelled some few size 
     })
 
 -- ---- what is cut short
+
+-- a read that gave no value
+pub read-none : {I T E : Type 0} (g : Ghosts I) (old new : I) (why : E) (told : ℕ → ℕ) → g.faults new ≡ told (g.faults old) → g.faults old ≤ g.faults new
+    → ReadsOnce g old new → ReadsSource {T = T} g old new (Err why) told
+read-none g old new why told faults later once = record { faults = faults; later = later; goes = tt; once = once }
 
 -- what was taken of a piece that was cut short
 pub stops-by : (why : Cut) (bytes got : List ℕ) (taken mid now : ℕ) (between : Bool) (a b c : Option (List ℕ)) → Consumes a b bytes → CutsShort why got mid now b c → mid ≡ taken + length bytes → IsPartialFrame (bytes ++ got)

@@ -2,8 +2,7 @@
 use Rattle.std.specs.Prelude.{◌≡◌, ℕ, ◌+◌, Bool, true, false, not, ◌==◌, nat_lt, nat_le, ◌&&◌, if◌then◌else◌, List, [], length, IsTrue, IsFalse}
 use Rattle.wire_frames.specs.declared.client.Asked.{Asked}
 use Rattle.wire_frames.specs.declared.client.Asked.TheVariants.{Frame, Waiting}
-use Rattle.wire_frames.specs.Frames.{frame, request_number_of, numbered}
-use Rattle.wire_frames.specs.Fronts.{PutsFront}
+use Rattle.wire_frames.specs.Frames.{frame, request_number_of, numbered, PutsFront}
 
 -- the number of the last request, whether it is open, and its frame. At first that is 0, none, and no frame
 pub record Asking : Type 0 where
@@ -14,13 +13,9 @@ pub record Asking : Type 0 where
 abbrev pub asked_none : Asking
 asked_none = record { last = 0; is_open = false; request = [] }
 
--- the greatest number of a request
-abbrev pub last_number : ℕ
-last_number = 4294967295
-
--- none is open, and there is a number for the next
+-- none is open, and there is a number for the next: they end at 4294967295
 abbrev pub may_ask : Asking → Bool
-may_ask a = not a.is_open && nat_lt a.last last_number
+may_ask a = not a.is_open && nat_lt a.last 4294967295
 
 -- the frame of the next request
 abbrev pub next_frame : Asking → List ℕ → List ℕ

@@ -1,7 +1,7 @@
 -- The two sides and what is on the way between them, over whatever may happen within one power cycle.
 use Rattle.std.specs.Prelude.{◌≡◌, ℕ, ◌+◌, ◌≤◌, Bool, true, false, if◌then◌else◌, List, [], ◌∷◌, ◌++◌, length, map, Option, Some, None, slice_get}
 use Rattle.wire_frames.specs.declared.exchange.Admission.{Admission}
-use Rattle.wire_frames.specs.declared.exchange.Admission.TheVariants.{Acts, Repeats, Ignored}
+use Rattle.wire_frames.specs.declared.exchange.Admission.TheVariants.{Acts, Repeats}
 use Rattle.wire_frames.specs.Frames.{body_of, frame, request_number_of, numbered}
 use Rattle.wire_frames.specs.Exchange.{LastAnswer, admission, answered, none_yet, written}
 use Rattle.wire_frames.specs.Asking.{Asking, asked, asked_none, closed, fits, may_ask, next_frame}
@@ -29,17 +29,8 @@ pub record WireWorld : Type 0 where
   pub taken : List Pair
 
 abbrev pub start_world : WireWorld
-start_world = record {
-  client = asked_none;
-  server = none_yet;
-  gone = false;
-  requests = [];
-  replies = [];
-  asked = [];
-  acted = [];
-  stopped = [];
-  taken = [];
-}
+start_world =
+    record { client = asked_none; server = none_yet; gone = false; requests = []; replies = []; asked = []; acted = []; stopped = []; taken = [] }
 
 -- What may happen next. A loss is a frame that never comes.
 pub data Event : Type 0 where
@@ -71,8 +62,7 @@ sent replies (Some reply) = reply ∷ replies
 -- the request acts, where its number is the next, and is answered with this message
 abbrev pub acts : Admission → List Pair → List ℕ → List ℕ → List Pair
 acts Acts pairs request reply = pairs ++ record { request = request; reply = reply } ∷ []
-acts Repeats pairs request reply = pairs
-acts Ignored pairs request reply = pairs
+acts other pairs request reply = pairs
 
 abbrev pub answers : WireWorld → List ℕ → List ℕ → WireWorld
 answers w request message =
@@ -83,17 +73,15 @@ answers w request message =
       acted = acts (admission w.server.last (request_number_of request)) w.acted request reply;
     }
 
+-- Once the flash stopped a request, no other acts. The last reply may still be given again.
+abbrev pub gives_again : Admission → WireWorld → WireWorld
+gives_again Repeats w = record w { replies = w.server.reply ∷ w.replies }
+gives_again other w = w
+
 -- the flash stops the request, where its number is the next
 abbrev pub stops : Admission → WireWorld → List ℕ → WireWorld
 stops Acts w request = record w { gone = true; stopped = request ∷ [] }
-stops Repeats w request = record w { replies = w.server.reply ∷ w.replies }
-stops Ignored w request = w
-
--- Once the flash stopped a request, no other acts. The last reply may still be given again.
-abbrev pub gives_again : Admission → WireWorld → WireWorld
-gives_again Acts w = w
-gives_again Repeats w = record w { replies = w.server.reply ∷ w.replies }
-gives_again Ignored w = w
+stops other w request = gives_again other w
 
 abbrev pub serves : Bool → WireWorld → List ℕ → Option (List ℕ) → WireWorld
 serves true w request message = gives_again (admission w.server.last (request_number_of request)) w

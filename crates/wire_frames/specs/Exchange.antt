@@ -21,8 +21,7 @@ admission last number =
 -- after a request that acts, and gets this frame
 abbrev pub answered_by : Admission → LastAnswer → ℕ → List ℕ → LastAnswer
 answered_by Acts a number reply = record { last = number; reply = reply }
-answered_by Repeats a number reply = a
-answered_by Ignored a number reply = a
+answered_by other a number reply = a
 
 abbrev pub answered : LastAnswer → ℕ → List ℕ → LastAnswer
 answered a number reply = answered_by (admission a.last number) a number reply

@@ -36,9 +36,8 @@ EndsAt cut.Failed old new = Consumes old new []
 
 -- how many reads have failed then
 abbrev pub faults_by : Cut → ℕ → ℕ
-faults_by cut.Ended before = before
-faults_by cut.TooLong before = before
 faults_by cut.Failed before = raised before
+faults_by other before = before
 
 abbrev pub faults_told : {T : Type 0} → Result T Cut → ℕ → ℕ
 faults_told (Ok value) before = before
@@ -84,11 +83,8 @@ StopsReading stop.Failed taken now old new =
     (bytes : List ℕ) × IsPartialFrame bytes × Consumes old new bytes × (now ≡ taken + length bytes)
 
 abbrev pub stop_faults : {T : Type 0} → Result T FrameStop → ℕ → ℕ
-stop_faults (Ok value) before = before
-stop_faults (Err stop.End) before = before
-stop_faults (Err stop.BadFrame) before = before
-stop_faults (Err stop.TooLong) before = before
 stop_faults (Err stop.Failed) before = raised before
+stop_faults other before = before
 
 -- ---- a whole stream
 

@@ -2,7 +2,7 @@
 ghost use Rattle.std.specs.Prelude.{◌≡◌, ◌≤◌, IsTrue, length};
 ghost use Rattle.wire_frames.specs.Asking.{asked, asked_none, closed, fits, may_ask};
 ghost use Rattle.wire_frames.specs.Asking.{AsksFrame};
-ghost use Rattle.wire_frames.specs.Fronts.{PutsFront};
+ghost use Rattle.wire_frames.specs.Frames.{PutsFront};
 
 use crate::frames::{number_of, put_message};
 use crate::kept::KeptFrame;

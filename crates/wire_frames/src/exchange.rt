@@ -1,7 +1,7 @@
 //! The side that answers: which request acts, and the reply that is kept.
 ghost use Rattle.std.specs.Prelude.{◌≡◌, ◌≤◌, length};
 ghost use Rattle.wire_frames.specs.Exchange.{admission, none_yet};
-ghost use Rattle.wire_frames.specs.Fronts.{PutsFront};
+ghost use Rattle.wire_frames.specs.Frames.{PutsFront};
 
 use crate::kept::KeptFrame;
 use std::marker::Model;

@@ -1,8 +1,7 @@
 //! Frames: the length of a body, and the body. Numbers are little-endian, of four bytes.
 ghost use Rattle.std.specs.Prelude.{◌≡◌, ◌+◌, ◌<◌, ◌≤◌, ◌++◌, ℕ, List, length};
 ghost use Rattle.base_core.specs.Bytes.{le};
-ghost use Rattle.wire_frames.specs.Frames.{frame, request_number_of, numbered};
-ghost use Rattle.wire_frames.specs.Fronts.{PutsFront};
+ghost use Rattle.wire_frames.specs.Frames.{frame, request_number_of, numbered, PutsFront};
 
 use base_core::{le32_at, put_at, put_le32};
 

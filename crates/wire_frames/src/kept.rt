@@ -1,6 +1,6 @@
 //! A frame that is kept.
 ghost use Rattle.std.specs.Prelude.{◌≡◌, ◌≤◌, [], length};
-ghost use Rattle.wire_frames.specs.Fronts.{PutsFront};
+ghost use Rattle.wire_frames.specs.Frames.{PutsFront};
 
 use crate::frames::FRAME_BYTES;
 use std::marker::Model;

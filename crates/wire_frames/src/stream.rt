@@ -2,7 +2,7 @@
 ghost use Rattle.std.specs.Prelude.{◌≡◌, ◌<◌, ◌≤◌, ◌+◌, ℕ, IfOk, IfErr, OnOk, Err, [], length, take};
 ghost use Rattle.std.specs.Io.KnownBytes.{Consumes};
 ghost use Rattle.base_core.specs.Bytes.{le, num_at};
-ghost use Rattle.wire_frames.specs.Fronts.{PutsFront};
+ghost use Rattle.wire_frames.specs.Frames.{PutsFront};
 ghost use Rattle.wire_frames.specs.Stream.{CutsShort, EndsAt, ReadsFrame, ReadsSource, StopsReading, faults_by, faults_of, faults_told, most_bytes, stop_by, stop_faults};
 
 use crate::frames::{FEWEST_BODY_BYTES, LENGTH_BYTES, MOST_BODY_BYTES};

@@ -1,10 +1,11 @@
 use Rattle.std.proofs.Common.{arith, rules, ap, sym, ◌∙◌, ◌≡◌, ◌==◌, ◌+◌, ◌*◌, List, ℕ, length, false, slice_range, eq-eqb}
 use Rattle.std.proofs.lemmas.Bool.{false≢true}
 use Rattle.base_core.specs.Block.{block_bytes}
+use Rattle.base_core.proofs.Blocks.{length-blank}
 use Rattle.flash_core.specs.Told.{overwritten}
 use Rattle.step_flash.specs.Steps.{source_of}
 use Rattle.step_flash.proofs.Slices.{length-part}
-use Rattle.step_flash.proofs.ReadBack.{length-blank, now_erased, now_settled, now_programmed, stands}
+use Rattle.step_flash.proofs.ReadBack.{now_erased, now_settled, now_programmed, stands}
 use Rattle.step_flash.proofs.device.lay.Goals as goal
 
 pub returns-then-step-eq-ERASE-clause-laid : goal.returns-then-step-eq-ERASE-clause-laid

@@ -2,11 +2,11 @@ use Rattle.std.proofs.Common.{inl, inr, sym, subst, ap, refl, rules, ◌∙◌, 
 use Rattle.std.proofs.lemmas.Bool.{cases_Bool}
 use Rattle.step_flash.specs.Device.{after_steps, none_under}
 use Rattle.step_flash.specs.Guard.{start_with}
-use Rattle.step_flash.specs.Steps.{run_with}
+use Rattle.step_flash.specs.Steps.{barrier_step, run_with}
 use Rattle.step_flash.specs.Stopped.{under_of}
 use Rattle.step_flash.specs.declared.step.Step.{Step}
 use Rattle.step_flash.proofs.Places.{barrier_meets_none, step_touches}
-use Rattle.step_flash.proofs.Noted.{Fits, barrier_fits, barrier_run}
+use Rattle.step_flash.proofs.Noted.{Fits, barrier_fits, run_push}
 use Rattle.step_flash.proofs.Calls.{settle_noted}
 use Rattle.step_flash.proofs.device.StepDevice.barrier.Goals as goal
 
@@ -28,7 +28,7 @@ returns-clause-settles c =
     let t = start_with s.image.now s.file.bytes.now in
     record {
       content = λ _. settle_noted (under_of s.stopped) s.live (after_steps s) _ (none_under s.stopped (s.idle c.requires.on)) c.if-not-self.false
-          (ap (λ (x : List Step). run_with s.file.bytes.now s.room.items t x) (c.note_barrier.ensures.noted c.if-not-note_barrier.false) ∙ barrier_run s.file.bytes.now s.room.items t s.steps.items);
+          (ap (λ (x : List Step). run_with s.file.bytes.now s.room.items t x) (c.note_barrier.ensures.noted c.if-not-note_barrier.false) ∙ run_push s.file.bytes.now s.room.items t s.steps.items barrier_step);
       power = search rules;
       size = refl;
       arming = refl;

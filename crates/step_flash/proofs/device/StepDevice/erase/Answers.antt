@@ -4,11 +4,11 @@ use Rattle.base_core.specs.Block.{blank, block_bytes}
 use Rattle.step_flash.specs.Device.{after_steps, none_under}
 use Rattle.step_flash.specs.Guard.{start_with}
 use Rattle.step_flash.specs.Stopped.{under_of}
-use Rattle.step_flash.specs.Steps.{run_with}
+use Rattle.step_flash.specs.Steps.{erase_step, run_with}
 use Rattle.step_flash.specs.declared.step.Step.{Step}
 use Rattle.step_flash.proofs.Calls.{lowered_ahead, put_noted}
 use Rattle.step_flash.proofs.Places.{step_touches}
-use Rattle.step_flash.proofs.Noted.{Fits, erase_fits, erase_run}
+use Rattle.step_flash.proofs.Noted.{Fits, erase_fits, run_push}
 use Rattle.step_flash.proofs.device.StepDevice.erase.Goals as goal
 
 pub invariant_of-self-2 : goal.invariant_of-self-2
@@ -40,7 +40,7 @@ returns-clause-writes c =
     let t = start_with s.image.now s.file.bytes.now in
     record {
       content = λ _. put_noted (under_of s.stopped) s.live at (blank block_bytes) (after_steps s) _ (none_under s.stopped (s.idle c.requires.on)) (c.is_ready.ensures.live c.if-not-is_ready.false)
-          (ap (λ (x : List Step). run_with s.file.bytes.now s.room.items t x) (c.note_erase.ensures.noted c.if-not-note_erase.false) ∙ erase_run s.file.bytes.now s.room.items t s.steps.items at);
+          (ap (λ (x : List Step). run_with s.file.bytes.now s.room.items t x) (c.note_erase.ensures.noted c.if-not-note_erase.false) ∙ run_push s.file.bytes.now s.room.items t s.steps.items (erase_step at));
       power = search rules;
       size = refl;
       arming = c.lowered-self.ensures;

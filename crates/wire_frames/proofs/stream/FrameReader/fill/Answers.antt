@@ -3,7 +3,7 @@ use Rattle.std.specs.Io.KnownBytes.{Consumes}
 use Rattle.std.proofs.KnownBytes.{Consumes-trans}
 use Rattle.std.proofs.lemmas.List.{length-take-le, length-drop, take_rest}
 use Rattle.host_io.proofs.Once.{bytes-then, once-then}
-use Rattle.wire_frames.proofs.Filling.{taken-more}
+use Rattle.wire_frames.proofs.Filling.{taken-more, read-none}
 use Rattle.wire_frames.proofs.stream.FrameReader.fill.Goals as goal
 
 pub loop-at-preserved : goal.loop-at-preserved
@@ -31,9 +31,6 @@ loop-at-preserved g c =
     }
 
 pub returns-in-Err-clause-reads : goal.returns-in-Err-clause-reads
-returns-in-Err-clause-reads g c = record {
-  faults = search rules;
-  later = search rules;
-  goes = tt;
-  once = once-then g.I.Source g.met.I.Source.joins c.args.source.now c.loop-at.source c.read_some.new.source c.loop-at.invariant.reads c.read_some.ensures.reads.once;
-}
+returns-in-Err-clause-reads g c =
+    read-none g.I.Source _ _ _ _ (search rules) (search rules)
+    (once-then g.I.Source g.met.I.Source.joins c.args.source.now c.loop-at.source c.read_some.new.source c.loop-at.invariant.reads c.read_some.ensures.reads.once)

@@ -3,7 +3,7 @@ use Rattle.std.proofs.lemmas.List.{length-take, length-take-le}
 use Rattle.std.proofs.lemmas.Bool.{false≢true}
 use Rattle.host_io.proofs.Once.{bytes-then, once-then}
 use Rattle.wire_frames.specs.Stream.{StopsReading}
-use Rattle.wire_frames.proofs.Filling.{partial-body, reads-frame, stops-by}
+use Rattle.wire_frames.proofs.Filling.{partial-body, reads-frame, stops-by, read-none}
 use Rattle.wire_frames.proofs.stream.FrameReader.next.Goals as goal
 
 pub returns-in-Ok-clause-frame : goal.returns-in-Ok-clause-frame
@@ -39,9 +39,6 @@ returns-in-Ok-clause-reads g c = record {
 }
 
 pub returns-in-Err-fill-clause-reads : goal.returns-in-Err-fill-clause-reads
-returns-in-Err-fill-clause-reads g c = record {
-  faults = search rules;
-  later = search rules;
-  goes = tt;
-  once = once-then g.I.Source g.met.I.Source.joins c.args.source.now c.fill.new.source c.fill-2.new.source c.in_default.ensures.reads.goes c.fill-2.ensures.reads.once;
-}
+returns-in-Err-fill-clause-reads g c =
+    read-none g.I.Source _ _ _ _ (search rules) (search rules)
+    (once-then g.I.Source g.met.I.Source.joins c.args.source.now c.fill.new.source c.fill-2.new.source c.in_default.ensures.reads.goes c.fill-2.ensures.reads.once)
