@@ -33,7 +33,7 @@ use Rattle.replicas.specs.Which.{Finds}
 use Rattle.early_boot.specs.declared.counting_starts.Counting.{Counting}
 use Rattle.early_boot.specs.declared.counting_starts.Counting.TheVariants as counting
 use Rattle.early_boot.specs.Showing.{ShowsImage, state_shown, trials_in}
-use Rattle.early_boot.specs.Starting.{count_moves, IsStartOf, Leads, WritesMove, WritesMoves, counting_in, counting_moves, counting_of, with_counts}
+use Rattle.early_boot.specs.Starting.{count_moves, IsStartOf, Leads, WritesMove, WritesMoves, counting_in, counting_of, with_counts}
 use Rattle.early_boot.proofs.Lookups.{bank-is}
 
 -- a stop from which the flash is guarded
@@ -130,6 +130,12 @@ leads-stopped {T} stop result L state ms s t err =
     leads-at {T = T} (Err stop) result (λ A a. IfOk-from_err result (λ x. A) err) L state ms s t
 
 -- ---- what a start is counted as
+
+-- as moves of the machine, for a package of version v
+abbrev counting_moves : Counting → ℕ → List Move
+counting_moves counting.Nothing v = []
+counting_moves counting.Trial v = Trial ∷ []
+counting_moves counting.Raise v = RaiseTo v ∷ []
 
 -- what is known of a start that is counted as this
 abbrev Counted : Shown → Chosen → Counting → Type 0

@@ -7,14 +7,16 @@ use Rattle.fwu_formats.specs.Places.{trial_limit}
 use Rattle.fwu_formats.proofs.SealLaws.{limits}
 use Rattle.meta_layout.proofs.Fits.{meta-fits}
 use Rattle.replicas.specs.declared.which.Which.{Which}
+use Rattle.replicas.specs.declared.which.Which.TheVariants.{MigrateZero, MigrateOne}
 use Rattle.replicas.specs.Which.{form_read_of}
 use Rattle.early_boot.specs.Numbers.{AreNumbers, numbers_shown}
 use Rattle.early_boot.specs.Showing.{CountsNone}
 use Rattle.early_boot.specs.declared.showing.Shown.{Shown}
 
 one-or-two : (which : Which) → (form_read_of which ≡ 1) ⊎ (form_read_of which ≡ 2)
+one-or-two MigrateZero = inl refl
+one-or-two MigrateOne = inl refl
 one-or-two repairs = inr refl
-one-or-two other = inl refl
 
 pub numbers-are : (shown : Shown) → IsTrue (fits_layout shown.layout) → IsTrue (fits_meta shown.layout shown.meta.meta) → shown.trials ≤ trial_limit → shown.meta.form ≡ form_read_of shown.which → CountsNone shown → AreNumbers (numbers_shown shown)
 numbers-are shown layout meta few form none =

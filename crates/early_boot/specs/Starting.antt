@@ -100,12 +100,6 @@ counting_in shown chosen =
     then counting_of (state_at shown.meta.meta shown.meta.meta.active) shown.counter chosen.version
     else counting.Nothing
 
--- as moves, for a package of version v
-abbrev pub counting_moves : Counting → ℕ → List Move
-counting_moves counting.Nothing v = []
-counting_moves counting.Trial v = Trial ∷ []
-counting_moves counting.Raise v = RaiseTo v ∷ []
-
 -- on every device, how much nearer an armed loss it brings: a mark is one program, a record an erase and a program
 abbrev pub TakesCounting : Counting → Option Arming → Option Arming → Type 0
 TakesCounting counting.Nothing armed arming = arming ≡ armed
