@@ -14,9 +14,8 @@ use Rattle.fwu_model.specs.Answer.{answer, staged_package, staged_bits, may_end}
 use Rattle.fwu_model.specs.MoveMetas.{meta_after, meta_in}
 use Rattle.marks_core.specs.Marks.{Clears}
 use Rattle.replicas.specs.Stores.{Stores}
-use Rattle.moves.specs.Law.{CallResult}
+use Rattle.moves.specs.Law.{CallResult, EndsBy}
 use Rattle.moves.specs.Moved.{Does, GuardedBy, IsReady}
-use Rattle.moves.specs.StoreLaw.{EndsBy}
 use Rattle.moves.proofs.Cleared.{clear-guarded}
 use Rattle.agent_kept.specs.declared.kinds.Plan.TheVariants as plan
 use Rattle.agent_kept.specs.declared.kinds.Decision.TheVariants.{Do}

@@ -19,9 +19,9 @@ use Rattle.meta_layout.proofs.Fits.{MetaFits, meta-fits}
 use Rattle.marks_core.specs.Marks.{Clears}
 use Rattle.replicas.specs.Stores.{Stores}
 use Rattle.moves.specs.Moved.{IsShown}
-use Rattle.moves.specs.StoreLaw.{EndsBy}
+use Rattle.moves.specs.Law.{EndsBy}
 use Rattle.moves.proofs.Fitting.{fits-switch}
-use Rattle.moves.proofs.SamePackages.{package-same}
+use Rattle.moves.proofs.Agree.{package-same}
 use Rattle.agent_kept.specs.declared.parts.Part.{Part}
 use Rattle.agent_kept.specs.declared.parts.Part.TheVariants.{Nothing, Open, Committed}
 use Rattle.agent_kept.specs.Kept.{Kept, Restarts, part_at, part_meant, parts_meant}

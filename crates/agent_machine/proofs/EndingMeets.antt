@@ -22,7 +22,7 @@ use Rattle.fwu_model.specs.Answer as answer
 use Rattle.fwu_model.specs.Answer.{Answer, answer, answer_end, is_writer, staged_package, staged_bits, may_end}
 use Rattle.fwu_model.specs.MoveMetas.{meta_in}
 use Rattle.fwu_model.specs.Replica.{BothHold, in_version}
-use Rattle.moves.specs.StoreLaw.{EndsBy}
+use Rattle.moves.specs.Law.{EndsBy}
 use Rattle.moves.proofs.Agree.{state-is}
 use Rattle.moves.proofs.MetaIn.{meta-is}
 use Rattle.moves.proofs.Switching.{ends-by}

@@ -13,13 +13,11 @@ use Rattle.fwu_model.specs.Calm.{IsCalm, IsAtRest}
 use Rattle.replicas.specs.Stores.{Stores}
 use Rattle.moves.specs.Moved.{Does, IsShown, ShowsAfter, GuardedBy}
 use Rattle.fwu_model.specs.MoveMetas.{meta_after}
-use Rattle.moves.specs.StoreLaw.{QuietBy}
-use Rattle.moves.specs.Law.{CallResult}
+use Rattle.moves.specs.Law.{QuietBy, CallResult}
 use Rattle.moves.proofs.Agree.{state-is}
-use Rattle.moves.proofs.Stored.{free-does, accept-does, back-does}
-use Rattle.moves.proofs.StoredPlain.{free-shows, accept-shows, back-shows, store-guarded, quiet-free, quiet-accept, quiet-back}
+use Rattle.moves.proofs.Stored.{free-does, accept-does, back-does, free-shows, accept-shows, back-shows, store-guarded, quiet-free, quiet-accept, quiet-back}
 use Rattle.moves.proofs.Guarded.{rest-used}
-use Rattle.moves.proofs.Read.{deciding-fits}
+use Rattle.moves.proofs.MetaIn.{deciding-fits}
 use Rattle.agent_machine.specs.Fields.{Fields, target}
 use Rattle.agent_machine.specs.Machine.{state_in}
 use Rattle.agent_machine.specs.Knows.{Fitting, Knows}

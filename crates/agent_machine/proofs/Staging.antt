@@ -13,11 +13,10 @@ use Rattle.fwu_model.specs.State.{State, bank, is_invalid}
 use Rattle.fwu_model.specs.Sound.{Setting}
 use Rattle.fwu_model.specs.Calm.{IsCalm}
 use Rattle.moves.specs.Moved.{IsReady, IsShown}
-use Rattle.moves.proofs.Agree.{state-is}
+use Rattle.moves.proofs.Agree.{state-is, package-same, slots-fit}
 use Rattle.std.proofs.Math.Nat.{mod-lt}
-use Rattle.moves.proofs.Read.{deciding-fits}
+use Rattle.moves.proofs.MetaIn.{deciding-fits}
 use Rattle.moves.proofs.Beside.{both-beside}
-use Rattle.moves.proofs.SamePackages.{package-same, slots-fit}
 use Rattle.moves.proofs.Staged.{staged-shows, staged-ready, staged-rest, banks-order}
 use Rattle.std.proofs.lemmas.List.Sums.{sum_by-cons}
 use Rattle.slot_writer.specs.Slots.{done_of}

@@ -14,7 +14,7 @@ use Rattle.fwu_model.specs.MoveMetas.{meta_after, bits_in, accepted_bits}
 use Rattle.fwu_model.proofs.Banks.{not_valid-accepted}
 use Rattle.replicas.specs.Stores.{Stores}
 use Rattle.moves.specs.Moved.{ShowsAfter}
-use Rattle.moves.proofs.SamePackages.{package-same}
+use Rattle.moves.proofs.Agree.{package-same}
 use Rattle.moves.proofs.MetaMoves.{bank-at}
 use Rattle.agent_kept.specs.declared.kinds.Plan.TheVariants as plan
 use Rattle.agent_kept.specs.Kept.{Kept, HasNothing, Restarts}

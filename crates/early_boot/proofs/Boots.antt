@@ -16,15 +16,13 @@ use Rattle.fwu_model.specs.Sound.{Setting, choice}
 use Rattle.fwu_model.specs.Answer.{migrate_moves}
 use Rattle.fwu_model.specs.Replica.{BothHold, in_version}
 use Rattle.fwu_formats.proofs.Same.{block-same}
-use Rattle.replicas.specs.Repairs.{Repairs}
+use Rattle.replicas.specs.Stores.{Repairs}
 use Rattle.moves.specs.Moved.{IsShown}
 use Rattle.moves.proofs.Composed.{after-append, does-stopped, does-then}
 use Rattle.early_boot.specs.declared.showing.Shown.{Shown}
 use Rattle.early_boot.specs.Showing.{state_shown}
 use Rattle.early_boot.specs.Choosing.{boot_setting, chosen_in, with_package}
-use Rattle.early_boot.specs.Mending.{MendsReplicas, mended}
-use Rattle.early_boot.specs.CountingStarts.{Leads, WritesMoves}
-use Rattle.early_boot.specs.Starting.{BootWrites, Boots, RepairsAndCounts, all_moves, count_moves}
+use Rattle.early_boot.specs.Starting.{MendsReplicas, mended, BootWrites, Boots, RepairsAndCounts, all_moves, count_moves, Leads, WritesMoves}
 use Rattle.early_boot.proofs.Led.{guarded-stop, on-ok, writes-at}
 
 -- ---- a migration changes no choice

@@ -11,8 +11,7 @@ use Rattle.fwu_model.specs.Sound.{Setting, choice}
 use Rattle.fwu_model.specs.Answer.{held_package}
 use Rattle.fwu_model.proofs.Shown.{chosen-are-whole, shown-are-formed}
 use Rattle.moves.specs.Moved.{IsShown}
-use Rattle.moves.proofs.Agree.{layout-kept, used-at, shown-by}
-use Rattle.moves.proofs.SamePackages.{package-same}
+use Rattle.moves.proofs.Agree.{layout-kept, used-at, shown-by, package-same}
 use Rattle.early_boot.specs.Choosing.{boot_setting}
 use Rattle.early_boot.specs.Started.{Started}
 use Rattle.early_boot.specs.EndsBy.{StartsChosen}

@@ -20,13 +20,11 @@ use Rattle.fwu_formats.specs.declared.kinds.BankState.{BankState}
 use Rattle.fwu_formats.specs.declared.kinds.BankState.TheVariants.{Invalid, Valid, Accepted}
 use Rattle.marks_core.proofs.Counting.{blank_at_count}
 use Rattle.marks_core.proofs.Recording.{unwritten}
-use Rattle.marks_core.specs.Marks.{Adds}
-use Rattle.marks_core.specs.Raises.{Raises}
+use Rattle.marks_core.specs.Marks.{Adds, Raises}
 use Rattle.moves.specs.Moved.{IsShown, GuardedBy}
 use Rattle.moves.proofs.Agree.{shown-as, shown-counter, counter-agrees, layout-kept, marks-agree, block-agrees, decides-agrees, front-kept, no_meta}
 use Rattle.moves.proofs.Composed.{does-nothing, does-idle}
-use Rattle.moves.proofs.Trials.{trial-does, trial-shows}
-use Rattle.moves.proofs.Raised.{raise-does, raise-shows}
+use Rattle.moves.proofs.Trials.{trial-does, trial-shows, raise-does, raise-shows}
 use Rattle.moves.proofs.Guarded.{trial-guarded, raise-guarded}
 use Rattle.meta_layout.proofs.Fits.{meta-fits}
 use Rattle.early_boot.specs.declared.choosing.Chosen.{Chosen}
@@ -35,8 +33,7 @@ use Rattle.replicas.specs.Which.{Finds}
 use Rattle.early_boot.specs.declared.counting_starts.Counting.{Counting}
 use Rattle.early_boot.specs.declared.counting_starts.Counting.TheVariants as counting
 use Rattle.early_boot.specs.Showing.{ShowsImage, state_shown, trials_in}
-use Rattle.early_boot.specs.Starting.{count_moves}
-use Rattle.early_boot.specs.CountingStarts.{IsStartOf, Leads, WritesMove, WritesMoves, counting_in, counting_moves, counting_of, with_counts}
+use Rattle.early_boot.specs.Starting.{count_moves, IsStartOf, Leads, WritesMove, WritesMoves, counting_in, counting_of, with_counts}
 use Rattle.early_boot.proofs.Lookups.{bank-is}
 
 -- a stop from which the flash is guarded
@@ -70,8 +67,7 @@ module _ {T : Type 0} (result : Result T FlashStop) (s : Told) (room : 32768 ≤
       record { keeps = keeps_same (4096 * 3 + 16 * at) (4096 * 3 + 16 * at + 16) s; one_more = never _; stable = never _ }
   idle-start Accepted counter v at =
       cond_both (ltb counter v) (RaiseTo v ∷ []) [] (λ (ms : List Move). WritesMoves result ms at s s)
-      (λ e. record { keeps = keeps_same 20480 28672 s; record_is = unwritten result _ s room err; counter = never _ })
-      (λ e. refl)
+      (λ e. record { keeps = keeps_same 20480 28672 s; record_is = unwritten result _ s room err; counter = never _ }) (λ e. refl)
 
   idle-count : (state : State) (o : Option ℕ) (at : ℕ) → WritesMoves result (count_moves state o) at s s
   idle-count state None at = refl
@@ -93,8 +89,7 @@ module _ {T : Type 0} (result : Result T FlashStop) (s : Told) (room : 32768 ≤
 
 -- where one that is done passes what it holds on
 guarded-at : {T U : Type 0} (given : Result T FlashStop) (result : Result U FlashStop) (t : Told)
-    → ((A : Type 0) → OnOk given A → OnOk result A)
-    → GuardedBy given t → GuardedBy result t
+    → ((A : Type 0) → OnOk given A → OnOk result A) → GuardedBy given t → GuardedBy result t
 guarded-at (Ok x) (Ok y) t pass guarded = guarded
 guarded-at (Ok x) (Err why) t pass rest = rest.guarded
 guarded-at (Err stop) (Ok y) t pass guarded = absurd (pass ⊥ tt)
@@ -135,6 +130,12 @@ leads-stopped {T} stop result L state ms s t err =
     leads-at {T = T} (Err stop) result (λ A a. IfOk-from_err result (λ x. A) err) L state ms s t
 
 -- ---- what a start is counted as
+
+-- as moves of the machine, for a package of version v
+abbrev counting_moves : Counting → ℕ → List Move
+counting_moves counting.Nothing v = []
+counting_moves counting.Trial v = Trial ∷ []
+counting_moves counting.Raise v = RaiseTo v ∷ []
 
 -- what is known of a start that is counted as this
 abbrev Counted : Shown → Chosen → Counting → Type 0
@@ -222,9 +223,8 @@ module _ (shown : Shown) (s : Told) (shows : ShowsImage s.now shown) (fits : IsT
       by-test false = refl
 
       by-state : (k : BankState) → counting_moves (counting_of k shown.counter c.version) c.version ≡ start_moves k shown.counter c.version
-      by-state Invalid = refl
-      by-state Valid = refl
       by-state Accepted = by-test (ltb shown.counter c.version)
+      by-state other = refl
 
       by-place : (here : Bool) → eqb c.bank active ≡ here → counting_moves (cond here (counting_of (state_at shown.meta.meta active) shown.counter c.version) counting.Nothing) c.version ≡ chosen_moves state c.bank
       by-place true e =

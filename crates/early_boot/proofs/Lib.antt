@@ -2,16 +2,13 @@ pub mod Lookups
 pub mod Choices
 pub mod Shapes
 pub mod Verdicts
-pub mod Endings
 pub mod Written
 pub mod Exact
 pub mod Mended
 pub mod Led
 pub mod Boots
 pub mod Ended
-pub mod Taken
 pub mod Known
-pub mod Whole
 pub mod Numbered
 pub mod Left
 pub mod TakingUp

@@ -19,7 +19,7 @@ use Rattle.fwu_model.specs.State.{State, Move, RaiseTo, bank, is_accepted, is_va
 use Rattle.fwu_model.specs.Sound.{Setting, can_fall_back, can_start, choice, holds_permitted}
 use Rattle.fwu_model.specs.Answer.{booted_package, chosen_moves, held_package, migrate_moves, start_moves}
 use Rattle.moves.proofs.Composed.{after-append}
-use Rattle.replicas.specs.Repairs.{TakesRepair, TouchesRepair}
+use Rattle.replicas.specs.Stores.{TakesRepair, TouchesRepair}
 use Rattle.early_boot.specs.declared.choosing.Chosen.{Chosen}
 use Rattle.early_boot.specs.declared.showing.Shown.{Shown}
 use Rattle.early_boot.specs.declared.showing.Unshown.{Unshown}
@@ -27,9 +27,9 @@ use Rattle.early_boot.specs.declared.showing.Unshown.TheVariants as unshown
 use Rattle.early_boot.specs.Showing.{HasShown, ShowsNothing, stop_in}
 use Rattle.early_boot.specs.Choosing.{IsFound}
 use Rattle.early_boot.specs.Knows.{KnowsStarted}
-use Rattle.early_boot.specs.Mending.{TakesMending, mended}
+use Rattle.early_boot.specs.Starting.{TakesMending, mended}
 use Rattle.early_boot.specs.Tells.{started_as}
-use Rattle.early_boot.specs.TakenUp.{BootedRuns, IsTakeUp, TakeUpEnds, TakenUp, bad_layout, no_metadata, MendsFound, OnceFound, RefusalIsIdle, SpendsFound, TakenByNumbers, TakesOnce, TakesTakeUp, not_started, running_bank, running_in, runs_from, stop_in_end, stopped, taken, unshown_as, was_started}
+use Rattle.early_boot.specs.TakenUp.{BootedRuns, IsTakeUp, TakeUpEnds, TakenUp, MendsFound, OnceFound, RefusalIsIdle, SpendsFound, TakenByNumbers, TakesOnce, TakesTakeUp, not_started, running_bank, running_in, runs_from, stop_in_end, stopped, taken, unshown_as, was_started}
 use Rattle.early_boot.proofs.Boots.{past-migration}
 use Rattle.early_boot.proofs.Lookups.{some-of}
 use Rattle.early_boot.proofs.Left.{goes-done, goes-stopped, read-all, read-goes}
@@ -58,14 +58,11 @@ module _ {D : Type 0} (g : Ghosts D) (passes : List ℕ → Bool) (b : ℕ) (fla
   }
 
   pub none-take-up : (why : Unshown) → Reads g (stop_in {T = Shown} (Err why)) flash left → (IsTrue g.tells → ShowsNothing (g.told flash).now why) → IsTakeUp g passes b flash (unshown_as why) left
-  none-take-up (unshown.Layout f) reads nothing =
-      none-as (bad_layout f) reads (record { arming_is = reads.arming; reached = reads.reached }) tt reads.writes tt
-      (λ tells. none-ends passes b (g.told flash) (unshown.Layout f) (nothing tells))
-  none-take-up unshown.Metadata reads nothing =
-      none-as no_metadata reads (record { arming_is = reads.arming; reached = reads.reached }) tt reads.writes tt
-      (λ tells. none-ends passes b (g.told flash) unshown.Metadata (nothing tells))
   none-take-up (unshown.Flash stop) reads nothing =
       none-as (stopped stop) reads tt tt tt tt (λ tells. none-ends passes b (g.told flash) (unshown.Flash stop) (nothing tells))
+  none-take-up why reads nothing =
+      none-as (unshown_as why) reads (record { arming_is = reads.arming; reached = reads.reached }) tt reads.writes tt
+      (λ tells. none-ends passes b (g.told flash) why (nothing tells))
 
 -- ---- the flash was read, and then the bank was checked
 
@@ -80,8 +77,7 @@ module _ {D : Type 0} (g : Ghosts D) (passes : List ℕ → Bool) (b : ℕ) (fla
   found-from o found tells = sym (subst (λ (t : Told). o ≡ running_in passes t.now shown b) (reads.content tells) (found tells))
 
   mends-from : (result : Result (Option Chosen) FlashStop) → (IsTrue g.tells → MendsFound result shown (g.told mid) (g.told left))
-      → IsTrue g.tells
-      → MendsFound result shown (g.told flash) (g.told left)
+      → IsTrue g.tells → MendsFound result shown (g.told flash) (g.told left)
   mends-from result mends tells = subst (λ (t : Told). MendsFound result shown t (g.told left)) (reads.content tells) (mends tells)
 
   pub refused-take-up : Goes {X = Option Chosen} g (Ok None) mid left

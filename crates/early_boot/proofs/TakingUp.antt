@@ -10,7 +10,7 @@ use Rattle.fwu_formats.specs.Metadata.{Meta, MetaRead, fits_meta, state_at}
 use Rattle.fwu_formats.specs.Manifest.{version}
 use Rattle.fwu_formats.specs.Image.{package_in}
 use Rattle.fwu_formats.specs.declared.kinds.BankState.{BankState}
-use Rattle.fwu_formats.specs.declared.kinds.BankState.TheVariants.{Invalid, Valid, Accepted}
+use Rattle.fwu_formats.specs.declared.kinds.BankState.TheVariants.{Invalid}
 use Rattle.fwu_model.specs.State.{State, Bank, bank, is_invalid, is_accepted, numbers_of, after}
 use Rattle.fwu_model.specs.Sound.{Setting, holds_permitted}
 use Rattle.fwu_model.specs.Seen.{state_of}
@@ -18,9 +18,8 @@ use Rattle.fwu_model.specs.Answer.{booted_package, held_package, migrate_moves}
 use Rattle.fwu_model.specs.Calm.{IsCalm, IsAtRest}
 use Rattle.fwu_model.specs.Run.{prefixes}
 use Rattle.fwu_model.specs.Headline.{LeavesOneOf}
-use Rattle.moves.proofs.Agree.{shown-as}
+use Rattle.moves.proofs.Agree.{shown-as, package-same}
 use Rattle.moves.proofs.Composed.{does-idle}
-use Rattle.moves.proofs.SamePackages.{package-same}
 use Rattle.meta_layout.proofs.Fits.{meta-fits}
 use Rattle.early_boot.specs.declared.choosing.Chosen.{Chosen}
 use Rattle.early_boot.specs.declared.showing.Shown.{Shown}
@@ -28,11 +27,11 @@ use Rattle.early_boot.specs.declared.showing.Unshown.{Unshown}
 use Rattle.early_boot.specs.declared.showing.Unshown.TheVariants as unshown
 use Rattle.early_boot.specs.Showing.{ShowsImage, ShowsNothing, state_shown}
 use Rattle.early_boot.specs.Choosing.{boot_setting, candidate_in, chosen_as}
-use Rattle.early_boot.specs.Mending.{MendsReplicas, mended}
+use Rattle.early_boot.specs.Starting.{MendsReplicas, mended}
 use Rattle.early_boot.specs.Knows.{KnowsStarted}
 use Rattle.early_boot.specs.Tells.{started_as}
 use Rattle.early_boot.specs.TakenUp.{MendsFound, TakeUpEnds, TakesBank, TakesReady, may_run, not_started, running_in, runs_from, stopped, taken, unshown_as, was_started}
-use Rattle.early_boot.proofs.Endings.{sees, shown-numbers, state-seen}
+use Rattle.early_boot.proofs.Choices.{sees, shown-numbers, state-seen}
 use Rattle.early_boot.proofs.Ended.{seen-metadata}
 use Rattle.early_boot.proofs.Lookups.{bank-is, found-by-test, some-of}
 
@@ -42,8 +41,7 @@ use Rattle.early_boot.proofs.Lookups.{bank-is, found-by-test, some-of}
 run-used : (k : BankState) (b active previous trials : ℕ) → IsTrue (may_run b active previous k trials) → IsFalse (is_invalid k)
 run-used Invalid b active previous trials h =
     absurd (cond_both (b == active) (was_started Invalid trials) (b == previous && false) (λ (x : Bool). IsTrue x → ⊥) (λ here is. cc) (λ other is. let no = (and_parts (b == previous) false is).1 in cc) h)
-run-used Valid b active previous trials h = refl
-run-used Accepted b active previous trials h = refl
+run-used other b active previous trials h = refl
 
 -- and one of the layout
 pub run-below : (L : Layout) (m : Meta) → IsTrue (fits_meta L m) → (b : ℕ) (k : BankState) (trials : ℕ) → IsTrue (may_run b m.active m.previous k trials) → b < L.banks

@@ -1,10 +1,10 @@
--- Which blocks a boot may erase or program.
-use Rattle.std.proofs.Common.{◌≡◌, inl, inr, ℕ, Bool, true, false, cond, ◌==◌, Option, Some, None, Ok, Err, sym, ap, subst, ◌∙◌, arith}
+-- Which blocks a boot may erase or program, and how much nearer an armed loss it comes, by the bytes that its device told at entry.
+use Rattle.std.proofs.Common.{◌≡◌, inl, inr, ℕ, Bool, true, false, cond, ◌==◌, Option, Some, None, Ok, Err, sym, ap, subst, ◌∙◌, arith, not, List, refl}
 use Rattle.std.specs.Prelude.{Result, slice_index_or}
 use Rattle.flash_core.specs.declared.flash.FlashStop.{FlashStop}
 use Rattle.flash_core.specs.Touches.{TouchesOnly}
 use Rattle.flash_core.proofs.Touches.{touches_none, touches_then, touches_wider}
-use Rattle.fwu_formats.specs.Metadata.{state_at}
+use Rattle.fwu_formats.specs.Metadata.{state_at, MetaRead}
 use Rattle.fwu_formats.specs.Places.{counter_block}
 use Rattle.fwu_formats.specs.declared.kinds.BankState.TheVariants.{Invalid}
 use Rattle.fwu_model.specs.State.{Numbers}
@@ -12,16 +12,17 @@ use Rattle.early_boot.specs.declared.choosing.Chosen.{Chosen}
 use Rattle.early_boot.specs.declared.counting_starts.Counting.{Counting}
 use Rattle.early_boot.specs.declared.counting_starts.Counting.TheVariants as counting
 use Rattle.early_boot.specs.declared.showing.Shown.{Shown}
-use Rattle.early_boot.specs.CountingStarts.{TouchesCounting, counting_in, counting_of}
-use Rattle.early_boot.specs.Mending.{mended}
+use Rattle.early_boot.specs.Starting.{TouchesCounting, counting_in, counting_of, mended, TouchesFound, TouchesRepairAndStart, TakesMending, TakesMendingAndStart, TakesRepairAndStart, CountsLater, TakesCounting}
 use Rattle.early_boot.specs.Numbers.{numbers_shown}
 use Rattle.early_boot.specs.Ends.{Ended, booted, no_bank, lost, failed}
 use Rattle.replicas.specs.declared.which.Which.{Which}
 use Rattle.replicas.specs.declared.which.Which.TheVariants.{Same, RepairZero, RepairOne}
 use Rattle.replicas.specs.Which.{form_read_of}
-use Rattle.replicas.specs.Repairs.{TouchesRepair}
-use Rattle.early_boot.specs.Starting.{TouchesFound, TouchesRepairAndStart}
-use Rattle.early_boot.specs.EndsBy.{TouchesBoot, TouchesStart, TouchesStopped, counting_told}
+use Rattle.replicas.specs.Stores.{TouchesRepair, TakesRepair}
+use Rattle.early_boot.specs.EndsBy.{TouchesBoot, TouchesStart, TouchesStopped, counting_told, TakesBoot, TakesLoaded, TakesLoadedAndStart, TakesStart}
+use Rattle.flash_core.specs.declared.flash.Arming.{Arming}
+use Rattle.early_boot.specs.Showing.{ShowsImage}
+use Rattle.early_boot.specs.Tells.{started_as}
 
 -- after reads
 pub touches-behind : (low high : ℕ) {a b c : ℕ → ℕ} → b ≡ a → TouchesOnly low high b c → TouchesOnly low high a c
@@ -108,3 +109,70 @@ boot-spares (no_bank active previous) w v (which, repair) = repair-spares which 
 boot-spares (lost (Some n)) w v start = start-spares n w v start
 boot-spares (failed (Some n)) w v start = start-spares n w v start
 boot-spares e w v same = same-at counter_block w v same
+
+-- ---- how much nearer an armed loss
+
+pub none-spent : (shown : Shown) (active previous : ℕ) (armed arming : Option Arming) → TakesRepairAndStart shown None armed arming → TakesBoot (no_bank active previous) armed arming
+none-spent shown active previous armed arming takes = (shown.which, subst (λ (left : Option Arming). TakesRepair shown.which armed left) (sym takes.start) takes.repair)
+
+-- ---- what the start is counted as is told by the numbers
+
+swapped : (b : Bool) (x y : Counting) → cond b x y ≡ cond (not b) y x
+swapped true x y = refl
+swapped false x y = refl
+
+module _ (shown after : Shown) (chosen : Chosen) (n : Numbers) (read : n ≡ numbers_shown shown) (later : CountsLater (mended shown) after) where
+  abbrev counted : Counting
+  counted = counting_of (state_at shown.meta.meta shown.meta.meta.active) shown.counter chosen.version
+
+  pub counting-is : counting_in (mended shown) chosen ≡ counting_told (started_as after chosen) n
+  counting-is =
+      swapped (chosen.bank == shown.meta.meta.active) counted counting.Nothing
+      ∙ ap (λ (r : MetaRead). cond (not (chosen.bank == r.meta.active)) counting.Nothing counted) (sym later.meta)
+      ∙ ap (λ (m : Numbers). counting_told (started_as after chosen) m) (sym read)
+
+  pub start-spent : (armed arming : Option Arming) → shown.meta.form ≡ form_read_of shown.which → TakesRepairAndStart shown (Some (after, chosen)) armed arming → TakesStart (started_as after chosen) n armed arming
+  start-spent armed arming form takes = record {
+    which = shown.which;
+    version_is = ap (λ (m : Numbers). m.form) read ∙ form;
+    repaired = takes.repaired;
+    repair = takes.repair;
+    counting = subst (λ (k : Counting). TakesCounting k takes.repaired arming) counting-is takes.start;
+  }
+
+  pub start-touches : (old new : ℕ → ℕ) → shown.meta.form ≡ form_read_of shown.which → TouchesRepairAndStart (Ok (Some (after, chosen))) shown old new
+      → TouchesStart n (TouchesCounting (counting_told (started_as after chosen) n)) old new
+  start-touches old new form all = record {
+    which = shown.which;
+    version_is = ap (λ (m : Numbers). m.form) read ∙ form;
+    repaired = all.repaired;
+    repair = all.repair;
+    start = subst (λ (k : Counting). TouchesCounting k all.repaired new) counting-is all.start;
+  }
+
+  pub start-takes : (image : List ℕ) (armed arming : Option Arming) → ShowsImage image shown → TakesMendingAndStart shown image (Some (after, chosen)) armed arming
+      → TakesLoadedAndStart image (started_as after chosen) n armed arming
+  start-takes image armed arming shows takes = record {
+    repaired = takes.repaired;
+    repair = record {
+      layout = shown.layout;
+      layout_is = shows.layout_is;
+      which = shown.which;
+      meta = shown.meta;
+      loads = shows.loads;
+      takes = takes.repair;
+    };
+    counting = subst (λ (k : Counting). TakesCounting k takes.repaired arming) counting-is takes.start;
+  }
+
+-- where none was started, the repair alone
+pub none-takes : (shown : Shown) (image : List ℕ) (armed arming : Option Arming) → ShowsImage image shown → TakesMendingAndStart shown image None armed arming
+    → TakesLoaded image armed arming
+none-takes shown image armed arming shows takes = record {
+  layout = shown.layout;
+  layout_is = shows.layout_is;
+  which = shown.which;
+  meta = shown.meta;
+  loads = shows.loads;
+  takes = subst (λ (a : Option Arming). TakesMending shown.layout shown.which shown.meta image armed a) (sym takes.start) takes.repair;
+}

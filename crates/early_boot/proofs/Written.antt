@@ -13,12 +13,11 @@ use Rattle.fwu_model.specs.State as move
 use Rattle.fwu_model.specs.State.{State, Move, Numbers}
 use Rattle.fwu_model.specs.Seen.{state_of}
 use Rattle.fwu_model.proofs.Shown.{seen-by-metadata}
-use Rattle.marks_core.proofs.Granules.{same_granule}
+use Rattle.marks_core.proofs.Counting.{same_granule}
 use Rattle.replicas.proofs.Reading.{by_zero}
 use Rattle.moves.proofs.Agree.{layout-kept}
 use Rattle.early_boot.specs.Showing.{trials_in}
-use Rattle.early_boot.specs.Starting.{RepairsAndCounts}
-use Rattle.early_boot.specs.CountingStarts.{WritesMoves}
+use Rattle.early_boot.specs.Starting.{RepairsAndCounts, WritesMoves}
 use Rattle.early_boot.specs.Started.{Started}
 use Rattle.early_boot.specs.EndsBy.{StartsChosen}
 use Rattle.base_core.proofs.Lists.{prefix-same}
@@ -31,9 +30,8 @@ marks-by-granules x y b limit same = prefix-same (λ j. not (is_blank (granule b
 
 -- a granule of the trials once these moves were written
 abbrev pub granule_then : List Move → ℕ → List ℕ → ℕ → List ℕ
-granule_then [] at old j = granule 3 j old
 granule_then (move.Trial ∷ ms) at old j = cond (eqb j at) (replicate 16 0) (granule 3 j old)
-granule_then (m ∷ ms) at old j = granule 3 j old
+granule_then other at old j = granule 3 j old
 
 kept-granule : (low high j : ℕ) (s t : Told) → Keeps low high s t → (4096 * 3 + 16 * j + 16 ≤ low) ⊎ (high ≤ 4096 * 3 + 16 * j) → granule 3 j t.now ≡ granule 3 j s.now
 kept-granule low high j s t keeps (inl before) = same_granule 3 j t.now s.now keeps.size (λ i above below. keeps.now i (inl (omega (arith, before, below))))
@@ -56,9 +54,8 @@ moves-then (m ∷ ms) at s t writes j lt = absurd writes
 
 -- the repair leaves them
 then-same : (ms : List Move) (at : ℕ) (x y : List ℕ) (j : ℕ) → granule 3 j x ≡ granule 3 j y → granule_then ms at x j ≡ granule_then ms at y j
-then-same [] at x y j e = e
 then-same (move.Trial ∷ ms) at x y j e = ap (cond (eqb j at) (replicate 16 0)) e
-then-same (m ∷ ms) at x y j e = e
+then-same other at x y j e = e
 
 pub granules-then : (L : Layout) (r : MetaRead) (ms : List Move) (at : ℕ) (old t : Told) → RepairsAndCounts {T = Unit {0}} (Ok tt) L r ms at old t → (j : ℕ) → j < 3 → granule 3 j t.now ≡ granule_then ms at old.now j
 granules-then L r ms at old t writes j lt =

@@ -5,9 +5,6 @@ pub mod Tells
 pub mod Knows
 pub mod Started
 pub mod Ends
-pub mod Mending
-pub mod CountingStarts
 pub mod Starting
 pub mod EndsBy
 pub mod TakenUp
-pub mod Law

@@ -24,7 +24,7 @@ use Rattle.fwu_model.specs.Answer.{booted_package, boot_moves, migrate_moves}
 use Rattle.fwu_model.specs.Calm.{IsCalm, IsAtRest}
 use Rattle.fwu_model.specs.Run.{prefixes}
 use Rattle.fwu_model.specs.Headline.{LeavesOneOf}
-use Rattle.replicas.specs.Repairs.{Repairs, TakesRepair}
+use Rattle.replicas.specs.Stores.{Repairs, TakesRepair}
 use Rattle.replicas.specs.declared.which.Which.{Which}
 use Rattle.moves.specs.Moved.{Does, IsShown, GuardedBy}
 use Rattle.early_boot.specs.declared.choosing.Chosen.{Chosen}
@@ -34,7 +34,7 @@ use Rattle.early_boot.specs.declared.showing.Unshown.TheVariants as unshown
 use Rattle.early_boot.specs.declared.taking_up.TakeUpEnd.{TakeUpEnd}
 use Rattle.early_boot.specs.declared.taking_up.TakeUpEnd.TheVariants as take_up_end
 use Rattle.early_boot.specs.Choosing.{MayStart, found_in}
-use Rattle.early_boot.specs.Mending.{MendsReplicas, TakesMending}
+use Rattle.early_boot.specs.Starting.{MendsReplicas, TakesMending}
 use Rattle.early_boot.specs.Numbers.{AreNumbers}
 use Rattle.early_boot.specs.Started.{Started, started, device, started_session, started_numbers}
 use Rattle.early_boot.specs.EndsBy.{Renewed, TakesLoaded, WroteNothing}
@@ -47,8 +47,7 @@ was_started state trials = is_accepted state || (is_valid state && nat_lt 0 tria
 
 -- by the numbers that are shown since: the active bank, or the previous one, to which boot falls back
 abbrev pub may_run : ℕ → ℕ → ℕ → BankState → ℕ → Bool
-may_run b active previous state trials =
-    if b == active then was_started state trials else b == previous && is_accepted state
+may_run b active previous state trials = if b == active then was_started state trials else b == previous && is_accepted state
 
 -- and by the package that the bank holds, which is permitted
 abbrev pub runs_from : Setting → State → ℕ → Bool
@@ -111,11 +110,8 @@ device_left (take_up_end.Stopped flash stop) = flash
 
 -- as the flash's own calls tell it
 abbrev pub stop_in_end : TakenUp → Result (Unit {0}) FlashStop
-stop_in_end (taken b) = Ok tt
-stop_in_end (bad_layout f) = Ok tt
-stop_in_end no_metadata = Ok tt
-stop_in_end not_started = Ok tt
 stop_in_end (stopped stop) = Err stop
+stop_in_end other = Ok tt
 
 -- nothing was shown
 abbrev pub unshown_as : Unshown → TakenUp
@@ -179,36 +175,28 @@ pub record TakesReady (E : Setting) (s : State) (b : ℕ) (told : Started) (t : 
 -- at a stop each image of a power-on shows the state as it was or migrated
 abbrev pub TakesByMachine : Setting → State → ℕ → TakenUp → Told → Type 0
 TakesByMachine E s b (taken told) t = TakesReady E s b told t
-TakesByMachine E s b (bad_layout f) t = ⊥
-TakesByMachine E s b no_metadata t = ⊥
 TakesByMachine E s b not_started t = (runs_from E s b ≡ false) × IsCalm E t s
 TakesByMachine E s b (stopped stop) t = LeavesOneOf E (prefixes s (migrate_moves s)) t
+TakesByMachine E s b other t = ⊥
 
 -- ---- on any device
 
 -- how much nearer an armed loss it comes: by the repair where the bank is taken up, and by nothing where it is refused
 abbrev pub TakesTakeUp : TakenUp → Option Arming → Option Arming → Counts → Counts → Type 0
 TakesTakeUp (taken told) armed arming old new = (which : Which) × TakesRepair which armed arming
-TakesTakeUp (bad_layout f) armed arming old new = WroteNothing (Ok tt) armed arming old new
-TakesTakeUp no_metadata armed arming old new = WroteNothing (Ok tt) armed arming old new
-TakesTakeUp not_started armed arming old new = WroteNothing (Ok tt) armed arming old new
 TakesTakeUp (stopped stop) armed arming old new = ⊤
+TakesTakeUp refused armed arming old new = WroteNothing (Ok tt) armed arming old new
 
 -- what is refused erases and programs nothing
 abbrev pub RefusalIsIdle : TakenUp → (ℕ → ℕ) → (ℕ → ℕ) → Type 0
 RefusalIsIdle (taken told) old new = ⊤
-RefusalIsIdle (bad_layout f) old new = new ≡ old
-RefusalIsIdle no_metadata old new = new ≡ old
-RefusalIsIdle not_started old new = new ≡ old
 RefusalIsIdle (stopped stop) old new = ⊤
+RefusalIsIdle refused old new = new ≡ old
 
 -- where the device tells its content: by what is loaded from the replicas
 abbrev pub TakesOnce : List ℕ → TakenUp → Option Arming → Option Arming → Type 0
 TakesOnce image (taken told) armed arming = TakesLoaded image armed arming
-TakesOnce image (bad_layout f) armed arming = ⊤
-TakesOnce image no_metadata armed arming = ⊤
-TakesOnce image not_started armed arming = ⊤
-TakesOnce image (stopped stop) armed arming = ⊤
+TakesOnce image other armed arming = ⊤
 
 -- The bank that is told is the one that was asked for, and may have been started by the numbers that are told. Some complete
 -- package of its version has a manifest that passes, with images of the lengths that are told.
@@ -222,10 +210,7 @@ pub record RunsByNumbers (passes : List ℕ → Bool) (b : ℕ) (told : Started)
 
 abbrev pub TakenByNumbers : (List ℕ → Bool) → ℕ → TakenUp → Type 0
 TakenByNumbers passes b (taken told) = RunsByNumbers passes b told (started_numbers told)
-TakenByNumbers passes b (bad_layout f) = ⊤
-TakenByNumbers passes b no_metadata = ⊤
-TakenByNumbers passes b not_started = ⊤
-TakenByNumbers passes b (stopped stop) = ⊤
+TakenByNumbers passes b other = ⊤
 
 -- ---- all of it
 

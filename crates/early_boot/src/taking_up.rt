@@ -3,7 +3,7 @@ ghost use Rattle.flash_core.specs.Calls.{Goes};
 ghost use Rattle.std.specs.Prelude.{◌≡◌, ◌≤◌, ℕ, None, length, IsTrue, IfOk, IfSome};
 ghost use Rattle.base_core.specs.Block.{block_bytes};
 ghost use Rattle.fwu_formats.specs.Metadata.{fits_meta, state_at};
-ghost use Rattle.replicas.specs.Repairs.{TouchesRepair};
+ghost use Rattle.replicas.specs.Stores.{TouchesRepair};
 ghost use Rattle.early_boot.specs.Showing.{HasShown};
 ghost use Rattle.early_boot.specs.Choosing.{IsFound};
 ghost use Rattle.early_boot.specs.TakenUp.{BootedRuns, IsTakeUp, MendsFound, OnceFound, SpendsFound, device_left, may_run, running_bank, running_in, taken_as, unshown_as, was_started};

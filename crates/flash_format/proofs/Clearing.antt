@@ -11,7 +11,7 @@ use Rattle.base_core.proofs.Seals.{blank_unsealed}
 use Rattle.flash_core.specs.Told.{Told, written, settled}
 use Rattle.flash_core.specs.May.{Keeps, KeepsBlock, as_stable, as_now, as_finished, unsealed}
 use Rattle.flash_core.proofs.Calls.{now-put, now-halt, now-settle, stable-put, stable-halt, stable-settle, finished-put, finished-halt, finished-settle, now_kept}
-use Rattle.flash_format.specs.Cleared.{LeavesNoMore, OnlyErased}
+use Rattle.flash_format.specs.Places.{LeavesNoMore, OnlyErased}
 use Rattle.flash_format.proofs.Showing.{block_blank}
 
 -- ---- one call after another

@@ -1,11 +1,11 @@
--- What is shown of a flash that was formatted, and what its bank 0 holds.
-use Rattle.std.proofs.Common.{◌≡◌, ℕ, ◌+◌, ◌-◌, ◌*◌, ◌<◌, ◌≤◌, ◌&&◌, Bool, true, false, List, [], ◌++◌, length, get_or, take, Some, None, Ok, refl, sym, ap, subst, ◌∙◌, arith, inr, leb, IsTrue}
+-- What is shown of a flash that was formatted, what its bank 0 holds, and what a loss leaves while the records are written.
+use Rattle.std.proofs.Common.{◌≡◌, ℕ, ◌+◌, ◌-◌, ◌*◌, ◌<◌, ◌≤◌, ◌&&◌, Bool, true, false, List, [], ◌++◌, length, get_or, take, Some, None, Ok, refl, sym, ap, subst, ◌∙◌, arith, inr, leb, IsTrue, ◌⊎◌, inl, Result, Err}
 use Rattle.std.specs.List.{All}
-use Rattle.std.proofs.lemmas.Bool.{and_parts, and_from, le-leb}
-use Rattle.std.proofs.lemmas.List.{get_or-map, length-map, take_at}
+use Rattle.std.proofs.lemmas.Bool.{and_parts, and_from, le-leb, cases_lt}
+use Rattle.std.proofs.lemmas.List.{get_or-map, length-map, take_at, get_or-take, take-take, length-take-le}
 use Rattle.base_core.specs.Block.{blank}
-use Rattle.flash_core.specs.Told.{Told, NothingDirty}
-use Rattle.flash_core.specs.May.{Keeps}
+use Rattle.flash_core.specs.Told.{Told, NothingDirty, fresh}
+use Rattle.flash_core.specs.May.{Keeps, Leaves, May}
 use Rattle.fwu_formats.specs.Layout.{ImageRow, Layout, fits_layout, slot_total, slot_bytes, start}
 use Rattle.fwu_formats.specs.Metadata.{first_meta}
 use Rattle.fwu_formats.specs.Manifest.{is_complete, manifest_part, version}
@@ -22,15 +22,44 @@ use Rattle.image_check.specs.declared.bank.Verdict.TheVariants.{Good}
 use Rattle.image_check.specs.Law.{verdict_may_start}
 use Rattle.image_check.specs.Verdict.{verdict_on}
 use Rattle.image_check.proofs.Permitted.{good, permitted}
-use Rattle.moves.proofs.SamePackages.{package-same}
+use Rattle.moves.proofs.Agree.{package-same}
 use Rattle.moves.proofs.Packages.{package-held}
 use Rattle.fip_tables.specs.Images.{AreImages, no_entry, no_row}
-use Rattle.flash_format.specs.Formatted.{first_state, HoldsImages, IsFormatted, IsRefusedFormat}
-use Rattle.flash_format.specs.Places.{AllStand, Erased}
+use Rattle.flash_format.specs.Formatted.{first_state, HoldsImages, IsFormatted, IsRefusedFormat, IsOrdered, IsWholeFormat}
+use Rattle.flash_format.specs.Places.{AllStand, Erased, HoldsThenErased}
 use Rattle.flash_format.proofs.Pieces.{length-payload}
-use Rattle.flash_format.proofs.Ranges.{erased_stays, stands_whole}
-use Rattle.flash_format.proofs.Slots.{slots_more_le}
+use Rattle.flash_format.proofs.Ranges.{erased_stays, stands_whole, stands_stays}
 use Rattle.flash_format.proofs.Showing.{counter_zero, shows_first, sound_first, unlaid}
+use Rattle.std.specs.Prelude.{IsErr, IsTrue}
+use Rattle.flash_core.proofs.Calls.{fresh_dirty, guard-fresh, now-fresh, quiet_fresh}
+use Rattle.std.proofs.lemmas.List.Sums.{sum_by_more, sum_by_more_le}
+
+module _ (rows : List ImageRow) (k : ℕ) (below : k < length rows) where
+  pub slots_more : slot_total (take (k + 1) rows) ≡ slot_total (take k rows) + (get_or rows k no_row).slots
+  slots_more = sum_by_more (λ r. r.slots) rows k no_row below
+
+  pub slots_more_le : slot_total (take k rows) + (get_or rows k no_row).slots ≤ slot_total rows
+  slots_more_le = sum_by_more_le (λ r. r.slots) rows k no_row below
+
+  -- the slot of a lower image ends before
+  pub slots_before : (j : ℕ) → j < k → slot_total (take j rows) + (get_or rows j no_row).slots ≤ slot_total (take k rows)
+  slots_before j lt =
+      let size : length (take k rows) ≡ k = length-take-le k rows (omega arith) in
+      let h = sum_by_more_le (λ r. r.slots) (take k rows) j no_row (omega (arith, size, lt)) in
+      let front = ap slot_total (take-take j k rows (omega arith)) in
+      let same = ap (λ (r : ImageRow). r.slots) (get_or-take k rows j no_row lt) in
+      omega (arith, h, front, same)
+
+-- one image more
+pub all_stand_more : (L : Layout) (k : ℕ) (file : List ℕ) (entries : List Entry) (s t : Told) → k < length L.rows → Keeps (4096 * start L 0 k) (4096 * (start L 0 k + (get_or L.rows k no_row).slots)) s t
+    → AllStand k L file entries s.now → HoldsThenErased (4096 * start L 0 k) (slot_bytes L k) (payload file (get_or entries k no_entry)) t.now → AllStand (k + 1) L file entries t.now
+all_stand_more L k file entries s t below keeps before here j lt = at (cases_lt j k)
+  where
+    at : (j < k) ⊎ (k ≤ j) → HoldsThenErased (4096 * start L 0 j) (slot_bytes L j) (payload file (get_or entries j no_entry)) t.now
+    at (inl l) =
+        let ends = slots_before L.rows k below j l in
+        stands_stays (4096 * start L 0 j) (slot_bytes L j) (4096 * start L 0 k) (4096 * (start L 0 k + (get_or L.rows k no_row).slots)) (payload file (get_or entries j no_entry)) s t (inl (omega (arith, ends))) keeps (before j l)
+    at (inr r) = let same : k ≡ j = omega arith in subst (λ (n : ℕ). HoldsThenErased (4096 * start L 0 n) (slot_bytes L n) (payload file (get_or entries n no_entry)) t.now) same here
 
 -- a setting with this layout and these passes
 abbrev setting : Layout → (List ℕ → Bool) → Setting
@@ -123,3 +152,37 @@ not_refused passes L found images image fits refused holds complete passed =
     let starts : verdict_may_start found ≡ true = ap verdict_may_start (sym refused.found_is ∙ is) in
     let bad = refused.bad in
     absurd cc
+
+-- ---- what a loss leaves is formatted where it has the layout
+
+err_not_ok : {X F : Type 0} (r : Result X F) (x : X) → IsErr r → r ≡ Ok x → ⊥
+err_not_ok (Ok y) x err is = cc
+err_not_ok (Err e) x err is = cc
+
+fresh-clean : (guard image : List ℕ) → NothingDirty (fresh guard image)
+fresh-clean guard image = fresh_dirty (fresh guard image) guard (ap (fresh guard) (sym (now-fresh guard image)))
+
+-- the flash after the power came, beside the one that had nothing dirty
+keeps_left : (low high : ℕ) (s t : Told) (image : List ℕ) → NothingDirty s → Keeps low high s t → Leaves t image → Keeps low high s (fresh t.guard image)
+keeps_left low high s t image clean keeps leaves = record {
+  guard = guard-fresh t.guard image ∙ keeps.guard;
+  size = ap length (now-fresh t.guard image) ∙ leaves.size ∙ keeps.size;
+  now = λ i out. ap (λ (l : List ℕ). get_or l i 0) (now-fresh t.guard image) ∙ leaves.sure i (keeps.sure i out (quiet_fresh 0 (i + 1) s clean i (omega arith) (omega arith))) ∙ keeps.now i out;
+  sure = λ i out sure. quiet_fresh 0 (i + 1) (fresh t.guard image) (fresh-clean t.guard image) i (omega arith) (omega arith);
+}
+
+-- no loss leaves a layout
+pub whole_before : (passes : List ℕ → Bool) (L : Layout) (t : Told) → ((image : List ℕ) → May t image → IsErr (layout_seen image)) → IsWholeFormat passes L t
+whole_before passes L t none image may is = absurd (err_not_ok (layout_seen image) L (none image may) is)
+
+-- bank 0 is good, and since then the records alone were touched
+pub whole_after : (passes : List ℕ → Bool) (L : Layout) (v : ℕ) (s t : Told) → IsTrue (fits_layout L) → 32768 ≤ length s.now → Erased 0 32768 s.now → NothingDirty s → verdict_on passes 0 L s.now 0 ≡ Good v → Keeps 0 12288 s t → IsOrdered L t → IsWholeFormat passes L t
+whole_after passes L v s t fits room erased clean is_good keeps ordered image may is = from (ordered image may)
+  where
+    from : IsErr (layout_seen image) ⊎ BothHold L (in_version 2 (first_meta L)) image → (n : ℕ) × IsFormatted passes L n (fresh t.guard image)
+    from (inl none) = absurd (err_not_ok (layout_seen image) L none is)
+    from (inr both) = (
+      v,
+      formatted passes L v s (fresh t.guard image) fits room erased is_good (keeps_left 0 12288 s t image clean keeps may.leaves) (subst (BothHold L (in_version 2 (first_meta L))) (sym (now-fresh t.guard image)) both)
+          (ap layout_seen (now-fresh t.guard image) ∙ is) (fresh-clean t.guard image),
+    )

@@ -1,5 +1,5 @@
--- What was given: a layout that fits a flash, and the images of a file.
-use Rattle.std.proofs.Common.{◌≡◌, ℕ, ◌+◌, ◌*◌, ◌≤◌, List, length, Result, Ok, Err, sym, subst, ◌∙◌, arith, ltb, refl}
+-- What was given: a layout that fits a flash, and the images of a file. On any files, each answer is that of some bytes.
+use Rattle.std.proofs.Common.{◌≡◌, ℕ, ◌+◌, ◌*◌, ◌≤◌, List, length, Result, Ok, Err, sym, subst, ◌∙◌, arith, ltb, refl, [], inl}
 use Rattle.std.specs.Prelude.{IsTrue, not}
 use Rattle.std.specs.List.{All}
 use Rattle.std.proofs.lemmas.Bool.{not-false, ltb-false}
@@ -13,10 +13,10 @@ use Rattle.meta_layout.specs.Rows.{fitted}
 use Rattle.flash_format.specs.Formatted.{HoldsImages}
 use Rattle.flash_format.specs.Places.{AllStand}
 use Rattle.flash_format.specs.Planned.{HasToc}
-use Rattle.flash_format.specs.Stops.{FormatFinishes}
-use Rattle.flash_format.specs.declared.stops.InputFault.TheVariants.{Layout as BadLayout, Package, Missing, TooLarge, Incomplete}
+use Rattle.flash_format.specs.Stops.{FormatFinishes, IsOfBytes}
+use Rattle.flash_format.specs.declared.stops.InputFault.TheVariants.{Incomplete, Layout as BadLayout}
 use Rattle.flash_format.specs.declared.stops.FormatStop.{FormatStop}
-use Rattle.flash_format.specs.declared.stops.FormatStop.TheVariants.{Input, ReadFailed, Flash}
+use Rattle.flash_format.specs.declared.stops.FormatStop.TheVariants.{Input}
 use Rattle.flash_format.proofs.Plans.{bank_within}
 use Rattle.flash_format.proofs.Formats.{holds_images}
 
@@ -49,20 +49,17 @@ hold_given L K blocks file toc entries image fitted size has is stored stand =
 -- a fact that follows
 pub finishes_more : (T : Type 0) (result : Result T FormatStop) (A B : Type 0) → (A → B) → FormatFinishes result A → FormatFinishes result B
 finishes_more T (Ok x) A B f a = f a
-finishes_more T (Err (Input (BadLayout fault))) A B f a = tt
-finishes_more T (Err (Input (Package fault))) A B f a = tt
-finishes_more T (Err (Input (Missing guid))) A B f a = tt
-finishes_more T (Err (Input (TooLarge guid))) A B f a = tt
 finishes_more T (Err (Input (Incomplete verdict))) A B f a = f a
-finishes_more T (Err ReadFailed) A B f a = tt
-finishes_more T (Err (Flash stop)) A B f a = tt
+finishes_more T other A B f a = tt
 
 -- the same stop of another result
 pub finishes_err : (T U : Type 0) (stop : FormatStop) (A B : Type 0) → (A → B) → FormatFinishes {T = T} (Err stop) A → FormatFinishes {T = U} (Err stop) B
-finishes_err T U (Input (BadLayout fault)) A B f a = tt
-finishes_err T U (Input (Package fault)) A B f a = tt
-finishes_err T U (Input (Missing guid)) A B f a = tt
-finishes_err T U (Input (TooLarge guid)) A B f a = tt
 finishes_err T U (Input (Incomplete verdict)) A B f a = f a
-finishes_err T U ReadFailed A B f a = tt
-finishes_err T U (Flash stop) A B f a = tt
+finishes_err T U other A B f a = tt
+
+-- ---- each answer is that of some bytes
+
+pub of_fault : (T : Type 0) (fault : LayoutFault) → IsOfBytes {T = T} (Err fault) (Err (Input (BadLayout fault)))
+of_fault T fault = record { bytes = []; short = omega arith; answer = inl refl }
+
+-- ---- what is done then

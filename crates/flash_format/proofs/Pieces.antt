@@ -19,11 +19,8 @@ length-payload file e stored = length-take-le e.size (drop e.offset file) (omega
 module _ (size : ℕ) (out old : List ℕ) (erased : old ≡ blank 4096) (filled : length out ≡ size) where
   behind : (i : ℕ) → size ≤ i → i < 4096 → get_or (out ++ drop size old) i 0 ≡ 255
   behind i above below =
-      get_or-append_right out (drop size old) size i 0 filled above
-      ∙ get_or-drop size old (i - size) 0
-      ∙ ap (λ (k : ℕ). get_or old k 0) (omega arith)
-      ∙ ap (λ (l : List ℕ). get_or l i 0) erased
-      ∙ get_or-blank 4096 i 0 below
+      get_or-append_right out (drop size old) size i 0 filled above ∙ get_or-drop size old (i - size) 0
+      ∙ ap (λ (k : ℕ). get_or old k 0) (omega arith) ∙ ap (λ (l : List ℕ). get_or l i 0) erased ∙ get_or-blank 4096 i 0 below
 
   pub piece_erased : (n : ℕ) → size ≤ n → Erased n 4096 (out ++ drop size old)
   piece_erased n le i above below = behind i (omega arith) below
@@ -34,8 +31,7 @@ module _ (size : ℕ) (out old : List ℕ) (erased : old ≡ blank 4096) (filled
       at : (i < size) ⊎ (size ≤ i) → get_or (out ++ drop size old) i 0 ≡ get_or (drop done bytes) i 255
       at (inl l) =
           get_or_append_left out (drop size old) 0 i (omega (arith, filled, l))
-          ∙ get_or_default out i 0 255 (omega (arith, filled, l))
-          ∙ ap (λ (x : List ℕ). get_or x i 255) is
+          ∙ get_or_default out i 0 255 (omega (arith, filled, l)) ∙ ap (λ (x : List ℕ). get_or x i 255) is
           ∙ get_or-take size (drop done bytes) i 255 l
       at (inr r) = behind i r below ∙ sym (get_or_past (drop done bytes) i 255 (let end = last (omega arith) in omega (arith, length-drop done bytes, end, r)))
 
@@ -57,13 +53,10 @@ piece_written b n x bytes t inside whole few erased rest stands i below = ap (λ
     at : (i < n) ⊎ (n ≤ i) → get_or (overwritten (4096 * b) (take n bytes) t.now) (4096 * b + i) 0 ≡ get_or x i 255
     at (inl l) =
         overwritten_inside (4096 * b) (take n bytes) t.now fits (4096 * b + i) 0 (omega arith) (omega (arith, size, l))
-        ∙ ap (λ (k : ℕ). get_or (take n bytes) k 0) (omega arith)
-        ∙ get_or-take n bytes i 0 l
-        ∙ in_buffer
+        ∙ ap (λ (k : ℕ). get_or (take n bytes) k 0) (omega arith) ∙ get_or-take n bytes i 0 l ∙ in_buffer
     at (inr r) =
         overwritten_above (4096 * b) (take n bytes) t.now fits (4096 * b + i) 0 (omega (arith, size, r))
-        ∙ erased (4096 * b + i) (omega arith) (omega arith)
-        ∙ sym (sym in_buffer ∙ rest i r below)
+        ∙ erased (4096 * b + i) (omega arith) (omega arith) ∙ sym (sym in_buffer ∙ rest i r below)
 
 -- ---- a slot
 
@@ -74,7 +67,5 @@ stands_more first k bytes image front piece i below = at (cases_lt i (4096 * k))
     at : (i < 4096 * k) ⊎ (4096 * k ≤ i) → get_or image (4096 * first + i) 0 ≡ get_or bytes i 255
     at (inl l) = front i l
     at (inr r) =
-        ap (λ (n : ℕ). get_or image n 0) (omega arith)
-        ∙ piece (i - 4096 * k) (omega arith)
-        ∙ get_or-drop (4096 * k) bytes (i - 4096 * k) 255
-        ∙ ap (λ (n : ℕ). get_or bytes n 255) (omega arith)
+        ap (λ (n : ℕ). get_or image n 0) (omega arith) ∙ piece (i - 4096 * k) (omega arith)
+        ∙ get_or-drop (4096 * k) bytes (i - 4096 * k) 255 ∙ ap (λ (n : ℕ). get_or bytes n 255) (omega arith)

@@ -49,11 +49,8 @@ erased_range at n image fits erased =
 
     at_place : (k d : ℕ) → k < n → get_or (take n (drop at image)) k d ≡ get_or (blank n) k d
     at_place k d lt =
-        get_or-take n (drop at image) k d lt
-        ∙ get_or-drop at image k d
-        ∙ get_or_default image (at + k) d 0 (omega arith)
-        ∙ erased (at + k) (omega arith) (omega arith)
-        ∙ sym (get_or-blank n k d lt)
+        get_or-take n (drop at image) k d lt ∙ get_or-drop at image k d ∙ get_or_default image (at + k) d 0 (omega arith)
+        ∙ erased (at + k) (omega arith) (omega arith) ∙ sym (get_or-blank n k d lt)
 
 -- ---- bytes that stand at a place, with erased ones behind them
 
@@ -75,11 +72,8 @@ stands_whole at count bytes image fits short stands =
 
     at_place : (k d : ℕ) → k < count → (k < length bytes) ⊎ (length bytes ≤ k) → get_or (take count (drop at image)) k d ≡ get_or (bytes ++ blank (count - length bytes)) k d
     at_place k d lt split =
-        get_or-take count (drop at image) k d lt
-        ∙ get_or-drop at image k d
-        ∙ get_or_default image (at + k) d 0 (omega arith)
-        ∙ stands k lt
-        ∙ here split
+        get_or-take count (drop at image) k d lt ∙ get_or-drop at image k d ∙ get_or_default image (at + k) d 0 (omega arith)
+        ∙ stands k lt ∙ here split
       where
         here : (k < length bytes) ⊎ (length bytes ≤ k) → get_or bytes k 255 ≡ get_or (bytes ++ blank (count - length bytes)) k d
         here (inl l) = get_or_default bytes k 255 d l ∙ sym (get_or_append_left bytes (blank (count - length bytes)) d k l)

@@ -6,8 +6,7 @@ use Rattle.fwu_formats.specs.Layout.{ImageRow, Layout, slot_total}
 use Rattle.fwu_formats.specs.Package.{Entry, Toc, entry_of, toc_of}
 use Rattle.fwu_formats.specs.declared.kinds.FipFault.{FipFault}
 use Rattle.fip_tables.specs.Images.{no_entry, no_row}
-use Rattle.flash_format.specs.Planned.{HasToc}
-use Rattle.flash_format.specs.Takes.{pieces_by, pieces_for, pieces_in, block_pieces_of}
+use Rattle.flash_format.specs.Planned.{HasToc, pieces_by, pieces_for, pieces_in, block_pieces_of}
 use Rattle.flash_format.proofs.Given.{same_ok}
 
 -- one image more

@@ -14,8 +14,7 @@ use Rattle.fwu_model.specs.Seen.{seen, SoundFlash}
 use Rattle.fwu_model.specs.State.{State, Bank}
 use Rattle.fwu_model.specs.Sound.{Setting}
 use Rattle.fwu_formats.specs.declared.kinds.BankState.TheVariants.{Accepted, Invalid}
-use Rattle.flash_format.specs.Cleared.{OnlyErased}
-use Rattle.flash_format.specs.Places.{Erased}
+use Rattle.flash_format.specs.Places.{OnlyErased, Erased}
 use Rattle.image_check.specs.Law.{verdict_may_start}
 use Rattle.image_check.specs.Passed.{HasPassed}
 use Rattle.image_check.specs.Verdict.{verdict_on}

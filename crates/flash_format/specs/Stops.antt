@@ -12,12 +12,13 @@ use Rattle.meta_layout.specs.Rows.{fitted}
 use Rattle.flash_core.specs.declared.flash.FlashStop.{FlashStop}
 use Rattle.fwu_formats.specs.declared.kinds.LayoutFault.{LayoutFault}
 use Rattle.fwu_formats.specs.Layout.{ImageRow, Layout}
-use Rattle.fwu_formats.specs.Package.{toc_of}
+use Rattle.fwu_formats.specs.Package.{toc_of, Toc}
 use Rattle.flash_format.specs.Choosing.{refusal, refusal_by}
 use Rattle.flash_format.specs.declared.stops.InputFault.{InputFault}
 use Rattle.flash_format.specs.declared.stops.InputFault.TheVariants.{Layout as BadLayout, Package, Missing, TooLarge, Incomplete}
 use Rattle.flash_format.specs.declared.stops.FormatStop.{FormatStop}
 use Rattle.flash_format.specs.declared.stops.FormatStop.TheVariants.{Input, ReadFailed, Flash}
+use Rattle.fwu_formats.specs.declared.kinds.FipFault.{FipFault}
 
 -- a result, as the flash's: a refusal and a file that could not be read are no stop
 abbrev pub flash_result : {T : Type 0} → Result T FormatStop → Result (Unit {0}) FlashStop
@@ -48,31 +49,22 @@ pub record ReadsPackage {H T : Type 0} (g : Ghosts H) (name : List ℕ) (result 
 
 -- nothing that was given is refused
 abbrev pub RefusesNothing : {T : Type 0} → Result T FormatStop → Type 0
-RefusesNothing (Ok x) = ⊤
 RefusesNothing (Err (Input fault)) = ⊥
-RefusesNothing (Err ReadFailed) = ⊤
-RefusesNothing (Err (Flash stop)) = ⊤
+RefusesNothing other = ⊤
 
 -- no flash stop, and no refusal of what is in the bank
 abbrev pub StopsEarly : FormatStop → Type 0
-StopsEarly (Input (BadLayout fault)) = ⊤
-StopsEarly (Input (Package fault)) = ⊤
-StopsEarly (Input (Missing guid)) = ⊤
-StopsEarly (Input (TooLarge guid)) = ⊤
 StopsEarly (Input (Incomplete verdict)) = ⊥
-StopsEarly ReadFailed = ⊤
 StopsEarly (Flash stop) = ⊥
+StopsEarly other = ⊤
 
 -- a refusal by the layout, the package or an image: before the flash is touched
 abbrev pub IsEarlyStop : {T : Type 0} → Result T FormatStop → Type 0
-IsEarlyStop (Ok x) = ⊥
 IsEarlyStop (Err (Input (BadLayout fault))) = ⊤
 IsEarlyStop (Err (Input (Package fault))) = ⊤
 IsEarlyStop (Err (Input (Missing guid))) = ⊤
 IsEarlyStop (Err (Input (TooLarge guid))) = ⊤
-IsEarlyStop (Err (Input (Incomplete verdict))) = ⊥
-IsEarlyStop (Err ReadFailed) = ⊥
-IsEarlyStop (Err (Flash stop)) = ⊥
+IsEarlyStop other = ⊥
 
 -- Where this is to be refused the result is that refusal, unless the file could not be read; else it is no such refusal.
 abbrev pub RefusesAs : {T : Type 0} → Option InputFault → Result T FormatStop → Type 0
@@ -88,14 +80,8 @@ pub record IsOfBytes {T : Type 0} (fits : Result Layout LayoutFault) (result : R
   pub answer : RefusesAs (refusal_by fits (toc_of bytes)) result
 
 abbrev pub IsOfLayout : {T : Type 0} → Result T FormatStop → Type 0
-IsOfLayout (Ok x) = ⊥
 IsOfLayout (Err (Input (BadLayout fault))) = ⊤
-IsOfLayout (Err (Input (Package fault))) = ⊥
-IsOfLayout (Err (Input (Missing guid))) = ⊥
-IsOfLayout (Err (Input (TooLarge guid))) = ⊥
-IsOfLayout (Err (Input (Incomplete verdict))) = ⊥
-IsOfLayout (Err ReadFailed) = ⊥
-IsOfLayout (Err (Flash stop)) = ⊥
+IsOfLayout other = ⊥
 
 -- the refusal is the fault of the layout, exactly where that has one
 abbrev pub LayoutBy : {T : Type 0} → Result Layout LayoutFault → Result T FormatStop → Type 0
@@ -115,13 +101,9 @@ pub record RefusesInput {T : Type 0} (told : Option Directory) (name : List ℕ)
 -- what is in the bank may be refused, and nothing else
 abbrev pub RefusesBank : {T : Type 0} → Result T FormatStop → Type 0
 RefusesBank (Ok x) = ⊤
-RefusesBank (Err (Input (BadLayout fault))) = ⊥
-RefusesBank (Err (Input (Package fault))) = ⊥
-RefusesBank (Err (Input (Missing guid))) = ⊥
-RefusesBank (Err (Input (TooLarge guid))) = ⊥
 RefusesBank (Err (Input (Incomplete verdict))) = ⊤
-RefusesBank (Err ReadFailed) = ⊥
 RefusesBank (Err (Flash stop)) = ⊤
+RefusesBank other = ⊥
 
 -- The fact of the verdict, where what is in the bank was refused.
 abbrev pub IfRefused : {T : Type 0} → Result T FormatStop → (Verdict → Type 0) → Type 0
@@ -137,10 +119,27 @@ pub record IsByVerdict {T : Type 0} (passes : List ℕ → Bool) (rows : List Im
 -- the fact, where the images were written: the flash was formatted, or what is in the bank was refused
 abbrev pub FormatFinishes : {T : Type 0} → Result T FormatStop → Type 0 → Type 0
 FormatFinishes (Ok x) fact = fact
-FormatFinishes (Err (Input (BadLayout fault))) fact = ⊤
-FormatFinishes (Err (Input (Package fault))) fact = ⊤
-FormatFinishes (Err (Input (Missing guid))) fact = ⊤
-FormatFinishes (Err (Input (TooLarge guid))) fact = ⊤
 FormatFinishes (Err (Input (Incomplete verdict))) fact = fact
-FormatFinishes (Err ReadFailed) fact = ⊤
-FormatFinishes (Err (Flash stop)) fact = ⊤
+FormatFinishes other fact = ⊤
+
+-- ---- the table that was read of a file
+
+-- the result is the answer of the bytes, unless the file could not be read
+abbrev pub IsTableRead : Result Toc FipFault → Result Toc FormatStop → Type 0
+IsTableRead answer (Ok toc) = answer ≡ Ok toc
+IsTableRead answer (Err (Input (Package fault))) = answer ≡ Err fault
+IsTableRead answer (Err ReadFailed) = ⊤
+IsTableRead answer other = ⊥
+
+-- on any files: it is the answer of some bytes, unless the file could not be read
+pub record IsTableOfBytes (result : Result Toc FormatStop) : Type 0 where
+  pub bytes : List ℕ
+  pub short : length bytes < 2 ^ 64
+  pub table : IsTableRead (toc_of bytes) result
+
+-- a file that is no package, or could not be read, and nothing else, stops the reading
+abbrev pub StopsTable : Result Toc FormatStop → Type 0
+StopsTable (Ok toc) = ⊤
+StopsTable (Err (Input (Package fault))) = ⊤
+StopsTable (Err ReadFailed) = ⊤
+StopsTable other = ⊥

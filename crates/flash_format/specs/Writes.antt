@@ -6,8 +6,7 @@ use Rattle.flash_core.specs.Counts.{lowered_by}
 use Rattle.flash_core.specs.May.{Keeps}
 use Rattle.flash_core.specs.Touches.{TouchesOnly}
 use Rattle.flash_core.specs.declared.flash.Flash.{Ghosts}
-use Rattle.flash_core.specs.declared.flash.FlashStop.{FlashStop}
-use Rattle.flash_format.specs.Cleared.{IsBare, LeavesNoMore, OnlyErased}
+use Rattle.flash_format.specs.Places.{IsBare, LeavesNoMore, OnlyErased}
 use Rattle.flash_format.specs.Stops.{RefusesNothing, flash_result}
 use Rattle.flash_format.specs.declared.stops.FormatStop.{FormatStop}
 

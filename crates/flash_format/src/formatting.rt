@@ -14,10 +14,9 @@ ghost use Rattle.meta_layout.specs.Rows.{fitted};
 ghost use Rattle.fip_tables.specs.Files.{Lacks, Tells};
 ghost use Rattle.flash_format.specs.Formatted.{asked, HasAtMost, HoldsImages, IsBlank, IsInOrder, IsMade, IsOrdered, IsRefusedFormat, IsUnlaid, IsWholeFormat};
 ghost use Rattle.flash_format.specs.Places.{Erased};
-ghost use Rattle.flash_format.specs.Planned.{IsFilled, IsPlanned};
+ghost use Rattle.flash_format.specs.Planned.{IsFilled, IsPlanned, FormatTakes, pieces_in, writes_to_format};
 ghost use Rattle.flash_format.specs.Stops.{flash_result, FormatFinishes, IfRefused, IsByVerdict, IsEarlyStop, IsOfLayout, ReadsPackage, RefusesBank, RefusesInput};
 ghost use Rattle.flash_format.specs.declared.stops.FormatStop.TheVariants.{ReadFailed as FileFailed};
-ghost use Rattle.flash_format.specs.Takes.{FormatTakes, pieces_in, writes_to_format};
 ghost use Rattle.flash_format.specs.Writes.{IsReadyDevice};
 
 use crate::plan::Plan;

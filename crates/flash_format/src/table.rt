@@ -2,8 +2,7 @@
 ghost use Rattle.std.specs.Prelude.{◌≡◌, ◌+◌, ◌^◌, ◌<◌, ℕ, List, Ok, Err, All, IfOk};
 ghost use Rattle.fwu_formats.specs.Package.{toc_of};
 ghost use Rattle.fip_tables.specs.Files.{Lacks, Tells};
-ghost use Rattle.flash_format.specs.Stops.{ReadsPackage};
-ghost use Rattle.flash_format.specs.Table.{IsTableRead, IsTableOfBytes, StopsTable};
+ghost use Rattle.flash_format.specs.Stops.{ReadsPackage, IsTableRead, IsTableOfBytes, StopsTable};
 ghost use Rattle.flash_format.specs.declared.stops.FormatStop.TheVariants.{ReadFailed as FileFailed};
 
 use crate::stops::{FormatStop, InputFault};

@@ -9,11 +9,9 @@ ghost use Rattle.fwu_formats.specs.Layout.{blocks_needed};
 ghost use Rattle.image_check.specs.Passed.{HasPassed};
 ghost use Rattle.image_check.specs.Verdict.{verdict_on};
 ghost use Rattle.image_check.specs.declared.bank.Verdict.TheVariants.{Good};
-ghost use Rattle.flash_format.specs.Cleared.{IsBare};
-ghost use Rattle.flash_format.specs.Places.{Erased};
-ghost use Rattle.flash_format.specs.Planned.{IsFilled, IsPlanned};
+ghost use Rattle.flash_format.specs.Places.{IsBare, Erased};
+ghost use Rattle.flash_format.specs.Planned.{IsFilled, IsPlanned, pieces_in};
 ghost use Rattle.flash_format.specs.Stops.{flash_result, IfRefused, IsByVerdict, ReadsPackage, RefusesBank, RefusesNothing};
-ghost use Rattle.flash_format.specs.Takes.{pieces_in};
 ghost use Rattle.flash_format.specs.Writes.{ClearsFirst, IsReadyDevice};
 
 use crate::bank::write_bank;

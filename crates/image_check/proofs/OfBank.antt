@@ -18,8 +18,7 @@ use Rattle.manifest_core.specs.Shown.{version_of}
 use Rattle.fwu_formats.proofs.Spell.{num_front}
 use Rattle.manifest_core.proofs.InTurn.{of_front}
 use Rattle.manifest_core.proofs.Passed.{manifest_passed, sizes_fit}
-use Rattle.image_check.specs.Found.{is_good, place, by_version, found, front_of}
-use Rattle.image_check.specs.Verdict.{lowest_bad, by_manifest, package_has_image, verdict_on}
+use Rattle.image_check.specs.Verdict.{is_good, place, by_version, found, front_of, lowest_bad, by_manifest, package_has_image, verdict_on}
 use Rattle.image_check.proofs.Sums.{total_more_le}
 use Rattle.image_check.proofs.Lowest.{same_bad}
 

@@ -154,10 +154,7 @@ permitted E counter image bank v fits h = from-permitted E counter image bank v 
 
 started : (w : Verdict) → verdict_may_start w ≡ true → (v : ℕ) × (w ≡ verdict.Good v)
 started (verdict.Good v) h = (v, refl)
-started verdict.BadManifest h = absurd cc
-started verdict.NotAccepted h = absurd cc
-started (verdict.BadImage image) h = absurd cc
-started (verdict.BelowCounter v counter) h = absurd cc
+started other h = absurd cc
 
 held-parts : (E : Setting) (counter : ℕ) (o : Option (List (List ℕ))) → holds_permitted E counter o ≡ true → (p : List (List ℕ)) × (o ≡ Some p) × IsTrue (is_permitted E counter p)
 held-parts E counter None h = absurd cc

@@ -10,8 +10,8 @@ use Rattle.fwu_formats.specs.Manifest.{Manifest, manifest_of, manifest_at, manif
 use Rattle.fwu_formats.specs.declared.kinds.ManifestFault.{ManifestFault}
 use Rattle.manifest_core.specs.Shown.{version_of}
 use Rattle.manifest_core.proofs.Passed.{manifest_passed}
-use Rattle.image_check.specs.Found.{ManifestFitsSlots}
-use Rattle.image_check.specs.Passed.{HasImage, HasImages, HasPackage, HasPackageBy, IsManifest}
+use Rattle.image_check.specs.Verdict.{ManifestFitsSlots}
+use Rattle.image_check.specs.Passed.{HasImage, HasImages, HasPackage, HasPackageBy}
 
 -- the images that the rows from k on have
 record Collected (manifest : List ℕ) (k n : ℕ) : Type 0 where
@@ -33,14 +33,6 @@ collect manifest k (suc n) each =
 module _ (rows : List ImageRow) (manifest : List ℕ) (some : 1 ≤ length rows) (size : length manifest ≡ manifest_size (length rows - 1)) where
   whole : take (manifest_size (length rows - 1)) manifest ≡ manifest
   whole = ap (λ (n : ℕ). take n manifest) (sym size) ∙ take-length manifest
-
-  -- what was read as a manifest is one
-  pub manifest-read : (v : ℕ) → version_of (manifest_of rows manifest) ≡ Ok v → IsManifest rows manifest
-  manifest-read v e = record { size = size; reads = by-cases (manifest_of rows manifest) e }
-    where
-      by-cases : (r : Result Manifest ManifestFault) → version_of r ≡ Ok v → IsTrue (is_ok r)
-      by-cases (Ok m) e = refl
-      by-cases (Err f) e = absurd cc
 
   module _ (passes : List ℕ → Bool) (v : ℕ) (passed : IsTrue (passes manifest)) (sizes : ManifestFitsSlots rows manifest) (each : HasImages manifest (length rows - 1) None) where
     of-manifest : (r : Result Manifest ManifestFault) → manifest_of rows manifest ≡ r → version_of r ≡ Ok v → HasPackageBy passes rows manifest v

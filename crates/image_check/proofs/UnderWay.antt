@@ -11,7 +11,7 @@ use Rattle.flash_core.specs.declared.flash.Flash.{Ghosts}
 use Rattle.fwu_formats.specs.Layout.{ImageRow, no_row, slot_total}
 use Rattle.sha256_lanes.specs.Holding.{HoldsInLane}
 use Rattle.sha256_lanes.specs.declared.lanes.Lanes.{Lanes}
-use Rattle.image_check.specs.Found.{place}
+use Rattle.image_check.specs.Verdict.{place}
 use Rattle.image_check.specs.Taken.{AreReadable, HasNoLane, HasRow, HasTaken, HaveGoneOn, HaveStepped, IsBegun, IsFoundAt, IsLowestBad, IsPieceOfJobs, IsUnderWay, gone_on, is_good_in, job_at, left, new_job}
 use Rattle.image_check.specs.declared.image.Images.{Images}
 use Rattle.image_check.specs.declared.image.Job.{Job}

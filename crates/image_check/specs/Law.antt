@@ -5,7 +5,7 @@ use Rattle.fwu_formats.specs.Manifest.{version}
 use Rattle.fwu_formats.specs.Image.{package_in}
 use Rattle.fwu_model.specs.Sound.{Setting, is_permitted, holds_permitted}
 use Rattle.image_check.specs.declared.bank.Verdict.{Verdict}
-use Rattle.image_check.specs.declared.bank.Verdict.TheVariants.{Good, BadManifest, NotAccepted, BadImage, BelowCounter}
+use Rattle.image_check.specs.declared.bank.Verdict.TheVariants.{Good}
 use Rattle.image_check.specs.Verdict.{verdict_on}
 
 -- the bank holds a permitted package of this version
@@ -24,10 +24,7 @@ PermittedIsGood = (E : Setting) (counter : ℕ) (image : List ℕ) (bank v : ℕ
 -- the bank may be started
 abbrev pub verdict_may_start : Verdict → Bool
 verdict_may_start (Good v) = true
-verdict_may_start BadManifest = false
-verdict_may_start NotAccepted = false
-verdict_may_start (BadImage image) = false
-verdict_may_start (BelowCounter v counter) = false
+verdict_may_start other = false
 
 abbrev pub GoodIsHeld : Type 0
 GoodIsHeld = (E : Setting) (counter : ℕ) (image : List ℕ) (bank : ℕ) → IsTrue (fits_layout E.layout)

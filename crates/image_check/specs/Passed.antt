@@ -1,9 +1,8 @@
 -- What a verdict has on every device: what was read that gives it.
 use Rattle.std.specs.Prelude.{◌≡◌, ◌+◌, ◌-◌, ◌≤◌, ◌<◌, ⊤, ℕ, Bool, List, ◌∷◌, length, is_ok, IsTrue, IsFalse, Option, Some, None}
-use Rattle.sha2.specs.Sha256.{sha256}
 use Rattle.fwu_formats.specs.Layout.{ImageRow}
 use Rattle.fwu_formats.specs.Manifest.{Row, manifest_of, manifest_part, manifest_size, row_at, is_complete, is_image_of, version}
-use Rattle.image_check.specs.Found.{ManifestFitsSlots}
+use Rattle.image_check.specs.Verdict.{ManifestFitsSlots}
 use Rattle.image_check.specs.declared.bank.Verdict.{Verdict}
 use Rattle.image_check.specs.declared.bank.Verdict.TheVariants as verdict
 

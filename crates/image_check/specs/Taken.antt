@@ -7,9 +7,8 @@ use Rattle.flash_core.specs.declared.flash.Flash.{Ghosts}
 use Rattle.fwu_formats.specs.Layout.{slot_total}
 use Rattle.fwu_formats.specs.Manifest.{manifest_size, row_at}
 use Rattle.sha256_lanes.specs.Holding.{HoldsInLane}
-use Rattle.image_check.specs.Found.{ManifestFitsSlots, is_good, place}
+use Rattle.image_check.specs.Verdict.{ManifestFitsSlots, is_good, place, lowest_bad}
 use Rattle.image_check.specs.Passed.{HasImage, HasImages}
-use Rattle.image_check.specs.Verdict.{lowest_bad}
 use Rattle.image_check.specs.declared.image.Images.{Images}
 use Rattle.image_check.specs.declared.image.Job.{Job}
 use Rattle.image_check.specs.declared.side.Work.{Work}

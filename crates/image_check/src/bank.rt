@@ -2,14 +2,12 @@
 ghost use Rattle.std.specs.Prelude.{◌≡◌, ◌-◌, ◌<◌, ◌≤◌, ℕ, Bool, List, length, take, IsTrue, IfOk};
 ghost use Rattle.base_core.specs.Block.{block_bytes};
 ghost use Rattle.flash_core.specs.Calls.{Reads};
-ghost use Rattle.fwu_formats.specs.Layout.{blocks_needed, start};
+ghost use Rattle.fwu_formats.specs.Layout.{blocks_needed, start, ImageRow as Row};
 ghost use Rattle.fwu_formats.specs.Manifest as model;
-ghost use Rattle.fwu_formats.specs.Layout.{ImageRow as Row};
 ghost use Rattle.manifest_core.specs.Sizes.{most_manifest_bytes};
 ghost use Rattle.image_check.specs.Passed.{HasPackage, HasPackageBy, HasPassed, IsVerdictBy};
-ghost use Rattle.image_check.specs.Found.{found, front_of};
+ghost use Rattle.image_check.specs.Verdict.{found, front_of, by_counter, verdict_on};
 ghost use Rattle.image_check.specs.Taken.{AreThere};
-ghost use Rattle.image_check.specs.Verdict.{by_counter, verdict_on};
 
 use crate::image::Images;
 use crate::images::first_bad;

@@ -1,17 +1,66 @@
--- What one more mark does to the count of a block, and what each exit of `add` leaves.
-use Rattle.std.proofs.Common.{◌≡◌, ◌⊎◌, inl, inr, ℕ, ◌+◌, ◌*◌, ◌<◌, ◌≤◌, Bool, List, replicate, ◌∙◌, ap, arith, refl, sym, subst, IsTrue, IsFalse}
-use Rattle.std.proofs.lemmas.Bool.{cases_lt, cases_Bool}
+-- Granules of an image, what one more mark does to the count of a block, and what each exit of `add` and of `clear` leaves.
+use Rattle.std.proofs.Common.{◌≡◌, ◌⊎◌, inl, inr, ℕ, ◌+◌, ◌*◌, ◌<◌, ◌≤◌, Bool, List, replicate, ◌∙◌, ap, arith, refl, sym, subst, IsTrue, IsFalse, ◌-◌, true, [], ◌∷◌, length, get_or, take, drop, zero, suc, ◌++◌, Option}
+use Rattle.std.proofs.lemmas.Bool.{cases_lt, cases_Bool, and_parts, eqb-true, false≢true}
 use Rattle.std.proofs.lemmas.Result.{IfOk-from_err, on_ok_weaker}
-use Rattle.std.specs.Prelude.{Result, Ok, Err, OnOk, IsErr}
-use Rattle.base_core.specs.Block.{granule}
+use Rattle.std.specs.Prelude.{Result, Ok, Err, OnOk, IsErr, slice_range, ◌==◌, IsFalse}
+use Rattle.base_core.specs.Block.{granule, blank, block}
 use Rattle.flash_core.specs.declared.flash.FlashStop.{FlashStop}
-use Rattle.flash_core.specs.Told.{Told, IsSound, put, halt, settled, NothingDirty}
-use Rattle.flash_core.specs.May.{Keeps}
-use Rattle.flash_core.proofs.Calls.{keeps_same, keeps_put, keeps_halt, keeps_settle, now-put, now-settle, settle-fresh}
+use Rattle.flash_core.specs.Told.{Told, IsSound, put, halt, settled, NothingDirty, overwritten}
+use Rattle.flash_core.specs.May.{Keeps, Leaves, Quiet}
+use Rattle.flash_core.proofs.Calls.{keeps_same, keeps_put, keeps_halt, keeps_settle, now-put, now-settle, settle-fresh, quiet_settle}
 use Rattle.fwu_formats.specs.Image.{is_blank, marks, is_tidy}
 use Rattle.fwu_formats.proofs.Marks.{marks-are-counted}
-use Rattle.marks_core.specs.Marks.{IsNextMark, CountsOnce, Adds}
-use Rattle.marks_core.proofs.Granules.{granule-overwritten, granule_kept, granule_left}
+use Rattle.marks_core.specs.Marks.{IsNextMark, CountsOnce, Adds, Clears, TakesClear}
+use Rattle.std.proofs.lemmas.List.{length-take-le, length-drop, drop_all, append-nil}
+use Rattle.flash_core.proofs.Images.{slice_range-overwritten, block-overwritten_front}
+use Rattle.fwu_formats.proofs.Same.{range-same}
+use Rattle.base_core.proofs.Blocks.{length-blank, length-block}
+use Rattle.flash_core.specs.Counts.{arming_kept, lowered}
+use Rattle.flash_core.specs.declared.flash.Arming.{Arming}
+
+pub granule_range : (b j : ℕ) (image : List ℕ) → granule b j image ≡ slice_range image (4096 * b + 16 * j) (4096 * b + 16 * j + 16)
+unfolding granule
+granule_range b j image =
+    let size : 16 ≡ 4096 * b + 16 * j + 16 - (4096 * b + 16 * j) = omega arith in
+    ap (λ n. take n (drop (4096 * b + 16 * j) image)) size
+
+-- what a read of the granule gives
+pub granule_read : (b j n : ℕ) (image out : List ℕ) → n ≡ 16 → out ≡ slice_range image (4096 * b + 16 * j) (4096 * b + 16 * j + n) → out ≡ granule b j image
+granule_read b j n image out size is = is ∙ ap (λ k. slice_range image (4096 * b + 16 * j) (4096 * b + 16 * j + k)) size ∙ sym (granule_range b j image)
+
+length-granule : (b j : ℕ) (image : List ℕ) → 4096 * b + 16 * j + 16 ≤ length image → length (granule b j image) ≡ 16
+unfolding granule
+length-granule b j image fits = length-take-le 16 (drop (4096 * b + 16 * j) image) (omega (arith, length-drop (4096 * b + 16 * j) image))
+
+-- the granule of two images of one length that agree there
+pub same_granule : (b j : ℕ) (image other : List ℕ) → length image ≡ length other → ((i : ℕ) → 4096 * b + 16 * j ≤ i → i < 4096 * b + 16 * j + 16 → get_or image i 0 ≡ get_or other i 0)
+    → granule b j image ≡ granule b j other
+unfolding granule
+same_granule b j image other size same = range-same image other (4096 * b + 16 * j) 16 size same
+
+pub blank_list : (bytes : List ℕ) → is_blank bytes ≡ true → bytes ≡ replicate (length bytes) 255
+blank_list [] all = refl
+blank_list (x ∷ xs) all = let parts = and_parts (x == 255) (is_blank xs) all in
+    ap (λ y. y ∷ xs) (eqb-true x 255 parts.0) ∙ ap (λ (l : List ℕ). 255 ∷ l) (blank_list xs parts.1)
+
+pub blank_granule : (b j : ℕ) (image : List ℕ) → 4096 * b + 16 * j + 16 ≤ length image → is_blank (granule b j image) ≡ true → granule b j image ≡ blank 16
+unfolding blank
+blank_granule b j image fits all = blank_list (granule b j image) all ∙ ap (λ n. replicate n 255) (length-granule b j image fits)
+
+pub granule-overwritten : (b j : ℕ) (bytes image : List ℕ) → length bytes ≡ 16 → 4096 * b + 16 * j + 16 ≤ length image → granule b j (overwritten (4096 * b + 16 * j) bytes image) ≡ bytes
+granule-overwritten b j bytes image size fits =
+    granule_range b j (overwritten (4096 * b + 16 * j) bytes image) ∙ ap (λ n. slice_range (overwritten (4096 * b + 16 * j) bytes image) (4096 * b + 16 * j) (4096 * b + 16 * j + n)) (sym size)
+    ∙ slice_range-overwritten (4096 * b + 16 * j) bytes image (omega arith)
+
+-- a granule that no call has touched, now and in each image
+module _ (b j low high : ℕ) (s t : Told) (keeps : Keeps low high s t) (apart : (i : ℕ) → 4096 * b + 16 * j ≤ i → i < 4096 * b + 16 * j + 16 → (i < low) ⊎ (high ≤ i)) where
+  pub granule_kept : granule b j t.now ≡ granule b j s.now
+  granule_kept = same_granule b j t.now s.now keeps.size (λ i above below. keeps.now i (apart i above below))
+
+  pub granule_left : (image : List ℕ) → Leaves t image → Quiet (4096 * b + 16 * j) (4096 * b + 16 * j + 16) s → granule b j image ≡ granule b j s.now
+  granule_left image leaves quiet =
+      same_granule b j image s.now (leaves.size ∙ keeps.size)
+      (λ i above below. leaves.sure i (keeps.sure i (apart i above below) (quiet i above below)) ∙ keeps.now i (apart i above below))
 
 -- the count of a block by its granules
 pub marks_is : (image : List ℕ) (b limit n : ℕ) → n < limit → ((k : ℕ) → k < n → IsFalse (is_blank (granule b k image))) → IsTrue (is_blank (granule b n image)) → marks image b limit ≡ n
@@ -105,3 +154,63 @@ module _ (b at blocks : ℕ) (on : Bool) (s : Told) (sound : IsSound blocks on s
   added (Ok x) = adds (Ok x) _ (keeps_settle _ _ s _ keeps_program)
       (ap (granule b at) (now-settle programmed ∙ now-put (4096 * b + 16 * at) (replicate 16 0) s) ∙ granule-overwritten b at (replicate 16 0) s.now refl (omega (arith, sound.size, within, place)))
       (settle-fresh programmed)
+
+-- ---- what each exit of `clear` leaves
+
+all_blank : (bytes : List ℕ) → length bytes ≡ 4096 → is_blank bytes ≡ true → bytes ≡ blank 4096
+unfolding blank
+all_blank bytes size all = blank_list bytes all ∙ ap (λ n. replicate n 255) size
+
+blank_is : (n : ℕ) → is_blank (replicate n 255) ≡ true
+blank_is zero = refl
+blank_is (suc n) = blank_is n
+
+is_blank-blank : (n : ℕ) → is_blank (blank n) ≡ true
+unfolding blank
+is_blank-blank n = blank_is n
+
+-- a block that wasn't blank was erased, with a barrier behind that
+pub takes_erase : {T : Type 0} (result : Result T FlashStop) (clear : Bool) (armed amid arming : Option Arming) → IsFalse clear → amid ≡ lowered armed → arming ≡ arming_kept result amid
+    → OnOk result (TakesClear clear armed arming)
+takes_erase (Ok x) clear armed amid arming unclear erased kept = subst (λ (b : Bool). TakesClear b armed arming) (sym unclear) (kept ∙ erased)
+takes_erase (Err stop) clear armed amid arming unclear erased kept = tt
+
+module _ (b blocks : ℕ) (on : Bool) (s : Told) (sound : IsSound blocks on s) (within : b < blocks) where
+  pub was_clear : {T : Type 0} (x : T) (out : List ℕ) → out ≡ block b s.now → is_blank out ≡ true → Clears {T = T} (Ok x) b s s
+  was_clear x out is all = record {
+    keeps = keeps_same _ _ s;
+    idle = λ none. refl;
+    erased = sym is ∙ all_blank out (ap length is ∙ length-block b s.now (omega (arith, sound.size, within))) all;
+    quiet = λ quiet. quiet;
+  }
+
+  -- what was erased was not blank
+  never : (out : List ℕ) → out ≡ block b s.now → IsFalse (is_blank out) → block b s.now ≡ blank 4096 → ⊥
+  never out is some none = absurd (apart (is_blank out) (ap is_blank (is ∙ none) ∙ is_blank-blank 4096) some)
+    where
+      apart : (x : Bool) → x ≡ true → IsFalse x → ⊥
+      apart x yes_ no_ = false≢true (sym no_ ∙ yes_)
+
+  pub clear_stopped : {T : Type 0} (result : Result T FlashStop) → IsErr result → (out : List ℕ) → out ≡ block b s.now → IsFalse (is_blank out) → Clears result b s (halt (4096 * b) (blank 4096) s)
+  clear_stopped result err out is some = record {
+    keeps = keeps_halt (4096 * b) (4096 * b + 4096) s s (4096 * b) (blank 4096) (omega arith) (omega (arith, length-blank 4096)) (keeps_same _ _ s);
+    idle = λ none. absurd (never out is some none);
+    erased = IfOk-from_err result _ err;
+    quiet = λ quiet. IfOk-from_err result _ err;
+  }
+
+  keeps_erased : Keeps (4096 * b) (4096 * b + 4096) s (put (4096 * b) (blank 4096) s)
+  keeps_erased = keeps_put _ _ s s (4096 * b) (blank 4096) (omega arith) (omega (arith, length-blank 4096)) (omega (arith, length-blank 4096, sound.size, within)) (keeps_same _ _ s)
+
+  pub cleared : {T : Type 0} (result : Result T FlashStop) (out : List ℕ) → out ≡ block b s.now → IsFalse (is_blank out) → Clears result b s (settled result (put (4096 * b) (blank 4096) s))
+  cleared (Err stop) out is some = record { keeps = keeps_erased; idle = λ none. absurd (never out is some none); erased = tt; quiet = λ quiet. tt }
+  cleared (Ok x) out is some = record {
+    keeps = keeps_settle _ _ s _ keeps_erased;
+    idle = λ none. absurd (never out is some none);
+    erased =
+        ap (block b) (now-settle (put (4096 * b) (blank 4096) s) ∙ now-put (4096 * b) (blank 4096) s)
+        ∙ block-overwritten_front b (blank 4096) s.now (omega (arith, length-blank 4096)) (omega (arith, sound.size, within))
+        ∙ ap (λ (l : List ℕ). blank 4096 ++ l) (drop_all (length (blank 4096)) (block b s.now) (omega (arith, length-blank 4096, length-block b s.now (omega (arith, sound.size, within)))))
+        ∙ append-nil (blank 4096);
+    quiet = λ quiet. quiet_settle (4096 * b) (4096 * b + 4096) (put (4096 * b) (blank 4096) s);
+  }

@@ -5,7 +5,7 @@ use Rattle.std.specs.Prelude.{slice_range}
 use Rattle.base_core.specs.Block.{block}
 use Rattle.fwu_formats.specs.Counter.{is_record}
 use Rattle.fwu_formats.proofs.Spell.{num_front, part_front}
-use Rattle.marks_core.specs.Raises.{value_in}
+use Rattle.marks_core.specs.Marks.{value_in}
 
 -- whether bytes are a record, and its value, depends on their first 32 alone
 record_front : (bytes : List ℕ) → 32 ≤ length bytes → is_record (take 32 bytes) ≡ is_record bytes

@@ -18,7 +18,7 @@ use Rattle.fwu_formats.specs.Counter.{record_bytes, is_record, recorded, counter
 use Rattle.fwu_formats.proofs.Same.{marks-same}
 use Rattle.fwu_formats.proofs.SealLaws.{record-sealed}
 use Rattle.fwu_formats.proofs.Written.{record-read}
-use Rattle.marks_core.specs.Raises.{value_in, place_for, record_place, Raises, TouchesOneRecord}
+use Rattle.marks_core.specs.Marks.{value_in, place_for, record_place, Raises, TouchesOneRecord}
 
 -- a block without a seal counts as 0
 unsealed_value : (bytes : List ℕ) → (Sealed bytes → ⊥) → recorded bytes ≡ 0

@@ -2,7 +2,7 @@
 ghost use Rattle.std.specs.Prelude.{◌≡◌, ◌≤◌, length};
 ghost use Rattle.fwu_formats.specs.Layout.{are_zero};
 ghost use Rattle.fwu_formats.specs.Counter.{is_record, record_bytes};
-ghost use Rattle.marks_core.specs.Raises.{value_in};
+ghost use Rattle.marks_core.specs.Marks.{value_in};
 
 use base_core::{crc32, le32_at, put_le32};
 

@@ -4,7 +4,7 @@ ghost use Rattle.base_core.specs.Block.{block_bytes, block};
 ghost use Rattle.flash_core.specs.Counts.{lowered};
 ghost use Rattle.flash_core.specs.Calls.{Goes, Reads};
 ghost use Rattle.fwu_formats.specs.Counter.{counter_in, record_size};
-ghost use Rattle.marks_core.specs.Raises.{value_in, place_for, record_place, Raises, TouchesOneRecord};
+ghost use Rattle.marks_core.specs.Marks.{value_in, place_for, record_place, Raises, TouchesOneRecord};
 
 use crate::marks::count;
 use crate::record::{RECORD_BYTES, record_bytes, value_in};

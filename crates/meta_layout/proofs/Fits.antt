@@ -1,21 +1,22 @@
--- Metadata that is of a layout: its parts, what is read, and what stays when a part is set.
-use Rattle.std.proofs.Common.{◌≡◌, ℕ, zero, suc, ◌+◌, ◌<◌, Bool, not, ◌==◌, IsTrue, eq-eqb, eqb-true, List, [], ◌∷◌, length, get_or, set, map, Result, Ok, Err, refl, sym, subst, ◌∙◌, arith, ltb}
+-- Metadata that is of a layout: its parts, what is read, what stays when a part is set, and the metadata after a format.
+use Rattle.std.proofs.Common.{◌≡◌, ℕ, zero, suc, ◌+◌, ◌<◌, Bool, not, ◌==◌, IsTrue, eq-eqb, eqb-true, List, [], ◌∷◌, length, get_or, set, map, Result, Ok, Err, refl, sym, subst, ◌∙◌, arith, ltb, ◌-◌, ◌≤◌, true, false, replicate, ap}
 use Rattle.std.specs.Prelude.{IfOk}
 use Rattle.std.specs.List.{list_all, range_with_len}
 use Rattle.std.proofs.lemmas.Bool.{and_parts, and_from, lt-ltb, ltb-true, not-false, cond_both}
-use Rattle.std.proofs.lemmas.List.{length-set}
+use Rattle.std.proofs.lemmas.List.{length-set, length-replicate}
 use Rattle.std.proofs.lemmas.List.FromFn.{length-map-range_with_len}
 use Rattle.base_core.specs.Bytes.{num_at, part}
 use Rattle.base_core.specs.Crc.{crc}
-use Rattle.fwu_formats.specs.Layout.{Layout}
-use Rattle.fwu_formats.specs.Metadata.{Meta, MetaRead, fits_meta, meta_of, read_v2, read_v1, meta_at, meta_at_v1, meta_size, meta_size_v1, fits_v2, fits_v1, has_fields, header_fields, has_indices, has_states, has_entries, bits_from, bits_v1, state_at_v1, state_of_byte}
+use Rattle.fwu_formats.specs.Layout.{Layout, fits_layout}
+use Rattle.fwu_formats.specs.Metadata.{Meta, MetaRead, fits_meta, meta_of, read_v2, read_v1, meta_at, meta_at_v1, meta_size, meta_size_v1, fits_v2, fits_v1, has_fields, header_fields, has_indices, has_states, has_entries, bits_from, bits_v1, state_at_v1, state_of_byte, first_meta}
 use Rattle.fwu_formats.specs.declared.kinds.BankState.{BankState}
 use Rattle.fwu_formats.specs.declared.kinds.MetaFault.{MetaFault}
 use Rattle.fwu_formats.specs.declared.kinds.MetaFault.TheVariants as fault
-use Rattle.fwu_formats.proofs.SealLaws.{was_not_refused}
+use Rattle.fwu_formats.proofs.SealLaws.{was_not_refused, limits}
 use Rattle.fwu_formats.proofs.OneSpelling.{all-at}
 use Rattle.base_core.proofs.Results.{same-Ok}
 use Rattle.fwu_formats.proofs.Read.{bits-length, v1-length}
+use Rattle.fwu_formats.specs.declared.kinds.BankState.TheVariants.{Invalid, Accepted}
 
 -- the parts of the condition
 pub record MetaFits (L : Layout) (m : Meta) : Type 0 where
@@ -148,3 +149,27 @@ read-fits L block r e =
 pub answer-fits : (L : Layout) (block : List ℕ) (o : Result MetaRead MetaFault) → o ≡ meta_of L block → IfOk o (λ r. IsTrue (fits_meta L r.meta))
 answer-fits L block (Ok r) e = read-fits L block r (sym e)
 answer-fits L block (Err f) e = tt
+
+-- ---- the metadata after a format
+
+all-same : {X : Type 0} (test : X → Bool) (n : ℕ) (x : X) → IsTrue (test x) → IsTrue (list_all test (replicate n x))
+all-same test zero x h = refl
+all-same test (suc n) x h = and_from _ _ h (all-same test n x h)
+
+pub first-fits : (L : Layout) → IsTrue (fits_layout L) → IsTrue (fits_meta L (first_meta L))
+unfolding fits_meta
+first-fits L fits =
+    let low : 2 ≤ L.banks = (limits L fits).fewest_banks in
+    let index : IsTrue (_) = lt-ltb 0 L.banks (omega arith) in
+    let states : length (first_meta L).states ≡ L.banks = ap suc (length-replicate {A = BankState} (L.banks - 1) Invalid) ∙ omega arith in
+    let bits : length (first_meta L).bits ≡ L.banks = ap suc (length-replicate {A = List Bool} (L.banks - 1) (replicate (length L.rows) false)) ∙ omega arith in
+    and_from _ _ (and_from _ _ (and_from _ _ (and_from _ _ index index) (eq-eqb _ _ states)) (eq-eqb _ _ bits))
+    (and_from _ _ (eq-eqb _ _ (length-replicate {A = Bool} (length L.rows) true)) (all-same (λ row. length row == length L.rows) (L.banks - 1) (replicate (length L.rows) false) (eq-eqb _ _ (length-replicate {A = Bool} (length L.rows) false))))
+
+pub first-value : (L : Layout) (states : List BankState) (bits : List (List Bool)) (r : MetaRead) → states ≡ Accepted ∷ replicate (L.banks - 1) Invalid
+    → bits ≡ replicate (length L.rows) true ∷ replicate (L.banks - 1) (replicate (length L.rows) false)
+    → r ≡ record { form = 2; meta = record { active = 0; previous = 0; states = states; bits = bits } } → r ≡ record { form = 2; meta = first_meta L }
+first-value L states bits r es ebits er = rw (er, es, ebits) refl
+
+pub value-fits : (L : Layout) (r : MetaRead) → IsTrue (fits_layout L) → r ≡ record { form = 2; meta = first_meta L } → IsTrue (fits_meta L r.meta)
+value-fits L r fits is = rw is (first-fits L fits)

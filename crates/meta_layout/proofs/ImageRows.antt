@@ -1,6 +1,5 @@
 -- Image rows: tests of all of them, their types, and the sum of their slots.
-use Rattle.std.proofs.Common.{zero, suc, ◌-◌, length-drop, take_all, false, not, get_or, drop, drop-cons, add-one, arith, ◌⊎◌, inl, inr, ◌≡◌, ℕ, ◌+◌, ◌<◌, ◌≤◌, Bool, true, false, ◌&&◌, IsTrue, List, [], ◌∷◌, ◌++◌, length, take, map, refl, ap, sym, ◌∙◌}
-use Rattle.std.proofs.lemmas.List.{take_more}
+use Rattle.std.proofs.Common.{zero, suc, ◌-◌, length-drop, take_all, false, not, get_or, drop, drop-cons, add-one, arith, ◌⊎◌, inl, inr, ◌≡◌, ℕ, ◌+◌, ◌<◌, ◌≤◌, Bool, true, false, ◌&&◌, IsTrue, List, [], ◌∷◌, length, take, map, refl, ap, sym, ◌∙◌}
 use Rattle.base_core.specs.Bytes.{same_bytes}
 use Rattle.fwu_formats.specs.Layout.{ImageRow, is_row, are_distinct}
 use Rattle.std.specs.List.{list_all, list_any, range_with_len}
@@ -61,11 +60,6 @@ module _ (rows : List ImageRow) (i : ℕ) (row : ImageRow) (again : Bool) (lt : 
 
   pub apart-not : again ≡ true → false ≡ whole
   apart-not on = sym (split ∙ ap (λ b. not b && are_distinct (types (drop (i + 1) rows))) on)
-
--- a list that takes the elements of another
-pub taken : (given rows next : List ImageRow) (i : ℕ) (row : ImageRow) → i < length given → row ≡ get_or given i row → rows ≡ take i given → next ≡ rows ++ row ∷ [] → next ≡ take (i + 1) given
-taken given rows next i row lt is so more =
-    more ∙ ap (λ l. l ++ row ∷ []) so ∙ ap (λ z. take i given ++ z ∷ []) is ∙ sym (take_more given i row lt)
 
 pub front-fit : (rows : List ImageRow) (n : ℕ) → IsTrue (list_all is_row rows) → IsTrue (list_all is_row (take n rows))
 front-fit rows zero h = refl

@@ -5,5 +5,4 @@ pub mod Places
 pub mod Fits
 pub mod Metas
 pub mod Writes
-pub mod Firsts
 pub mod Same

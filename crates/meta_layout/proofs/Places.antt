@@ -1,15 +1,11 @@
 -- The entries of a metadata block, and their places.
 use Rattle.std.proofs.lemmas.List.FromFn.{map-range_with_len_more, length-map-range_with_len}
 use Rattle.base_core.specs.Bytes.{listed}
-use Rattle.std.proofs.Common.{Bool, true, false, ◌&&◌, [], ◌∷◌, ◌++◌, zero-add, ◌≡◌, ℕ, ◌+◌, ◌*◌, ◌≤◌, ◌<◌, List, length, get_or, refl, sym, ap, ◌∙◌, arith}
-use Rattle.std.proofs.Math.Nat.{mul-le-mul_right, mul-le-mul_left}
+use Rattle.std.proofs.Common.{Bool, true, false, ◌&&◌, [], ◌∷◌, ◌++◌, zero-add, ◌≡◌, ℕ, ◌+◌, ◌<◌, List, length, get_or, refl, sym, ap, ◌∙◌}
 use Rattle.std.proofs.lemmas.List.{get_or_default}
 use Rattle.fwu_formats.specs.Layout.{Layout, ImageRow, nil_guid}
 use Rattle.fwu_formats.specs.Metadata.{entry_place, has_entry}
 use Rattle.meta_layout.specs.Entries.{has_entry_at}
-
-pub near : (image size : ℕ) → image ≤ 16 → size ≤ 128 → image * size ≤ 2048
-near image size i s = omega (arith, mul-le-mul_right size i, mul-le-mul_left 16 s)
 
 pub entry-is : (L : Layout) (from : ℕ) (block : List ℕ) (image : ℕ) (row : ImageRow) (rows : List ImageRow) (at banks : ℕ)
     → row ≡ get_or rows image row → rows ≡ L.rows → image < length rows → at ≡ entry_place L from image → banks ≡ L.banks

@@ -4,8 +4,6 @@ use Rattle.std.specs.Prelude.{◌↔◌}
 use Rattle.std.proofs.Math.Bool.{beq}
 use Rattle.std.proofs.Math.Seq.{take-append_seam}
 use Rattle.std.proofs.lemmas.Bool.{and_parts, and_from, false≢true}
-use Rattle.fwu_formats.specs.Metadata.{MetaRead}
-use Rattle.fwu_formats.specs.declared.kinds.BankState.{BankState}
 use lib.Pointwise.{pointwise}
 
 -- the test tells whether two are one
@@ -60,30 +58,3 @@ bits-tell = record { one = one; itself = itself }
     itself : (x : Bool) → IsTrue (beq x x)
     itself true = refl
     itself false = refl
-
-made : (f g a b p q : ℕ) (s t : List BankState) (u v : List (List Bool)) → f ≡ g → a ≡ b → p ≡ q → s ≡ t → u ≡ v
-    → ◌≡◌ {A = MetaRead} (record { form = f; meta = record { active = a; previous = p; states = s; bits = u } }) (record { form = g; meta = record { active = b; previous = q; states = t; bits = v } })
-made f g a b p q s t u v ef ea ep es eu = cc
-
--- metadata is compared by its five parts
-pub same-meta : (one other : MetaRead) (form active previous states bits r : Bool) → form ≡ (one.form == other.form) → active ≡ (one.meta.active == other.meta.active) → previous ≡ (one.meta.previous == other.meta.previous)
-    → (IsTrue states ↔ (one.meta.states ≡ other.meta.states)) → (IsTrue bits ↔ (one.meta.bits ≡ other.meta.bits)) → r ≡ ((form && active) && previous && states && bits) → IsTrue r ↔ (one ≡ other)
-same-meta one other form active previous states bits r ef ea ep es eb er = (to, from)
-  where
-    to : IsTrue r → one ≡ other
-    to h =
-        let all = and_parts ((form && active) && previous && states) bits (sym er ∙ h) in
-        let four = and_parts ((form && active) && previous) states all.0 in
-        let three = and_parts (form && active) previous four.0 in
-        let two = and_parts form active three.0 in
-        let f : one.form ≡ other.form = eqb-true _ _ (sym ef ∙ two.0) in
-        let a : one.meta.active ≡ other.meta.active = eqb-true _ _ (sym ea ∙ two.1) in
-        let p : one.meta.previous ≡ other.meta.previous = eqb-true _ _ (sym ep ∙ three.1) in
-        let s : one.meta.states ≡ other.meta.states = es.0 four.1 in
-        let b : one.meta.bits ≡ other.meta.bits = eb.0 all.1 in
-        made one.form other.form one.meta.active other.meta.active one.meta.previous other.meta.previous one.meta.states other.meta.states one.meta.bits other.meta.bits f a p s b
-
-    from : one ≡ other → IsTrue r
-    from e =
-        er ∙ and_from _ _ (and_from _ _ (and_from _ _ (and_from _ _ (ef ∙ eq-eqb _ _ (ap (λ (m : MetaRead). m.form) e)) (ea ∙ eq-eqb _ _ (ap (λ (m : MetaRead). m.meta.active) e))) (ep ∙ eq-eqb _ _ (ap (λ (m : MetaRead). m.meta.previous) e)))
-        (es.1 (ap (λ (m : MetaRead). m.meta.states) e))) (eb.1 (ap (λ (m : MetaRead). m.meta.bits) e))

@@ -1,33 +1,13 @@
 -- Bytes that are written one after another.
 use Rattle.std.proofs.Common.{IsTrue, map, ◌≡◌, ℕ, ◌+◌, ◌-◌, ◌≤◌, ◌<◌, List, [], ◌∷◌, ◌++◌, length, get_or, take, drop, replicate, refl, sym, ap, ◌∙◌, arith, append_assoc, append-nil, length-append}
 use Rattle.std.proofs.Math.Seq.{take-append-add}
-use Rattle.std.proofs.lemmas.List.{take-replicate, length-replicate, take_all, drop-replicate, get_or_default, length-drop, drop_all, drop-take, drop-append-le, length-take-le, drop_at, take_more}
-use Rattle.std.specs.Prelude.{flat_map}
+use Rattle.std.proofs.lemmas.List.{take-replicate, length-replicate, take_all, drop-replicate, get_or_default, length-drop, drop_all, drop-take, drop-append-le, length-take-le, drop_at}
 use Rattle.fwu_formats.specs.Metadata.{Meta, meta_size, entry_size, state_byte, fits_meta, entry_bytes, entries_bytes, meta_body}
 use Rattle.meta_layout.proofs.Fits.{meta-fits, row-length}
-use Rattle.meta_layout.specs.Entries.{HasBits, meta_entry_of, state_bytes, front_bytes, rest_bytes}
+use Rattle.meta_layout.specs.Entries.{HasBits, meta_entry_of, front_bytes, rest_bytes}
 use Rattle.base_core.specs.Bytes.{overwritten, le, part}
 use Rattle.base_core.specs.Crc.{crc}
-use Rattle.fwu_formats.specs.Layout.{ImageRow, Layout, nil_guid, row_bytes, layout_magic, layout_size, layout_body}
-
-pub three : (first a b c : List ℕ) → ((first ++ a) ++ b) ++ c ≡ first ++ ((a ++ b) ++ c)
-three first a b c = simp append_assoc
-
-flat-end : (rows : List ImageRow) (r : ImageRow) → flat_map row_bytes (rows ++ r ∷ []) ≡ flat_map row_bytes rows ++ row_bytes r
-flat-end [] r = append-nil (row_bytes r)
-flat-end (x ∷ rows) r = ap (λ l. row_bytes x ++ l) (flat-end rows r) ∙ sym (append_assoc (row_bytes x) (flat_map row_bytes rows) (row_bytes r))
-
-pub rows-more : (rows : List ImageRow) (i : ℕ) (d r : ImageRow) (first before after : List ℕ) → i < length rows → r ≡ get_or rows i d → before ≡ first ++ flat_map row_bytes (take i rows)
-    → after ≡ before ++ row_bytes r → after ≡ first ++ flat_map row_bytes (take (i + 1) rows)
-rows-more rows i d r first before after lt is so next =
-    next ∙ ap (λ l. l ++ row_bytes r) so ∙ append_assoc first (flat_map row_bytes (take i rows)) (row_bytes r)
-    ∙ ap (λ l. first ++ l) (ap (λ z. flat_map row_bytes (take i rows) ++ row_bytes z) is ∙ sym (flat-end (take i rows) (get_or rows i d)) ∙ ap (flat_map row_bytes) (sym (take_more rows i d lt)))
-
--- the layout's bytes from place 4 on
-pub body-is : (L : Layout) (banks images size : ℕ) (rows : List ImageRow) (a b c d e f : List ℕ)
-    → a ≡ le 4 layout_magic → b ≡ a ++ le 4 banks → c ≡ b ++ le 4 images → d ≡ c ++ le 4 size → e ≡ d ++ replicate 12 0 → f ≡ e ++ flat_map row_bytes rows
-    → banks ≡ L.banks → images ≡ length L.rows → size ≡ layout_size L → rows ≡ L.rows → f ≡ layout_body L
-body-is L banks images size rows a b c d e f ea eb ec ed ee ef banked counted sized rowed = rw (ef, ee, ed, ec, eb, ea, sized, counted, banked, rowed) refl
+use Rattle.fwu_formats.specs.Layout.{ImageRow, Layout, nil_guid}
 
 pub seal-is : (out blanked new : List ℕ) (size sum : ℕ) → 4 ≤ size → size ≤ length out → new ≡ overwritten 0 (le 4 sum) blanked → sum ≡ crc (part out 4 size)
     → blanked ≡ take size out ++ replicate (length out - size) 0xFF → new ≡ le 4 (crc (part out 4 size)) ++ part out 4 size ++ replicate (length out - size) 0xFF
@@ -83,11 +63,6 @@ entry-bytes L m image row rows banks is same lt count =
 
 pub unused : (banks : ℕ) → banks ≤ 4 → (let four : List ℕ = 255 ∷ 255 ∷ 255 ∷ 255 ∷ [] in take (4 - banks) (drop banks four) ≡ replicate (4 - banks) 255)
 unused banks h = ap (λ (l : List ℕ). take (4 - banks) l) (drop-replicate banks 4 255) ∙ take_all (4 - banks) (replicate (4 - banks) 255) (omega (arith, length-replicate {A = ℕ} (4 - banks) 255))
-
-pub front-is : (L : Layout) (m : Meta) (size : ℕ) (a b c d e f g : List ℕ)
-    → a ≡ le 4 2 → b ≡ a ++ le 4 m.active → c ≡ b ++ le 4 m.previous → d ≡ c ++ le 4 size → e ≡ d ++ le 2 0x20 → f ≡ e ++ le 2 0
-    → g ≡ f ++ state_bytes m.states → size ≡ meta_size L → g ≡ front_bytes L m
-front-is L m size a b c d e f g ea eb ec ed ee ef eg sized = rw (eg, ef, ee, ed, ec, eb, ea, sized) refl
 
 pub rest-is : (L : Layout) (banks images entry : ℕ) (z a b c d e f : List ℕ)
     → a ≡ z ++ le 4 0 → b ≡ a ++ le 1 banks → c ≡ b ++ le 1 0 → d ≡ c ++ le 2 images → e ≡ d ++ le 2 entry → f ≡ e ++ le 2 24

@@ -9,19 +9,27 @@ use Rattle.flash_core.specs.Told.{Told}
 use Rattle.flash_core.specs.May.{Leaves, Keeps, Quiet}
 use Rattle.fwu_formats.specs.Layout.{Layout, layout_of, start}
 use Rattle.fwu_formats.specs.Metadata.{Meta, MetaRead, state_at}
-use Rattle.fwu_formats.specs.Image.{layout_seen, deciding, marks, is_tidy, is_blank}
+use Rattle.fwu_formats.specs.Image.{layout_seen, deciding, marks, is_tidy, is_blank, package_in}
 use Rattle.fwu_formats.specs.Counter.{counter_in}
 use Rattle.fwu_model.specs.State.{State, Bank, bank, no_bank, is_invalid, is_valid}
 use Rattle.fwu_formats.specs.Places.{trial_limit}
 use Rattle.fwu_model.specs.Seen.{state_of, bank_in, IsTidy}
 use Rattle.fwu_model.proofs.Banks.{in_range}
-use Rattle.fwu_formats.proofs.Same.{block-same, listed-same, marks-same}
+use Rattle.fwu_formats.proofs.Same.{block-same, listed-same, marks-same, range-same, package-same as package-by_slots}
 use Rattle.fwu_formats.proofs.Marks.{marks-are-counted}
 use Rattle.fwu_model.proofs.Shown.{seen-by-metadata}
-use Rattle.marks_core.proofs.Granules.{same_granule}
+use Rattle.marks_core.proofs.Counting.{same_granule}
 use Rattle.replicas.proofs.Reading.{deciding_of}
 use Rattle.moves.specs.Moved.{IsShown}
-use Rattle.moves.proofs.SamePackages.{package-same}
+pub use Rattle.fwu_formats.proofs.Same.{slots-fit}
+
+-- the images have the same bytes in the bank
+pub package-same : (L : Layout) (xs ys : List ℕ) (b : ℕ) → length xs ≡ length ys → ((place : ℕ) → 4096 * start L b 0 ≤ place → place < 4096 * start L (b + 1) 0 → get_or xs place 0 ≡ get_or ys place 0)
+    → package_in L xs b ≡ package_in L ys b
+package-same L xs ys b size same =
+    package-by_slots L xs ys b (λ i.
+    range-same xs ys (4096 * start L b i) (4096 * (get_or L.rows i (record { guid = []; slots = 0 })).slots) size (λ place low high.
+    same place (omega (arith, low)) (omega (arith, high, slots-fit L.rows i))))
 
 -- ---- what an image shows, by its metadata
 

@@ -4,7 +4,7 @@ use Rattle.flash_core.specs.Told.{Told, NothingDirty}
 use Rattle.flash_core.specs.May.{Keeps, Leaves, Quiet}
 use Rattle.flash_core.proofs.Calls.{quiet_fresh, guards_kept}
 use Rattle.fwu_formats.specs.declared.kinds.BankState.{BankState}
-use Rattle.fwu_formats.specs.declared.kinds.BankState.TheVariants.{Invalid, Valid, Accepted}
+use Rattle.fwu_formats.specs.declared.kinds.BankState.TheVariants.{Valid}
 use Rattle.fwu_formats.specs.Layout.{Layout, start}
 use Rattle.fwu_formats.specs.Metadata.{MetaRead, meta_read, state_at}
 use Rattle.fwu_formats.specs.Image.{marks}
@@ -18,9 +18,8 @@ use Rattle.moves.proofs.Agree.{no_meta, front-kept, Agrees, agrees-now, agrees-l
 use Rattle.moves.proofs.Calm.{calm-shown, calm-used, sound-flash}
 
 valid-used : (k : BankState) → IsTrue (is_valid k) → IsFalse (is_invalid k)
-valid-used Invalid h = absurd cc
 valid-used Valid h = refl
-valid-used Accepted h = absurd cc
+valid-used other h = absurd cc
 
 -- ---- the trials of a state that is shown
 

@@ -9,7 +9,7 @@ use Rattle.flash_core.specs.Told.{Told}
 use Rattle.flash_core.specs.May.{May, Quiet}
 use Rattle.flash_core.proofs.Calls.{may_now, guards_kept}
 use Rattle.fwu_formats.specs.declared.kinds.BankState.{BankState}
-use Rattle.fwu_formats.specs.declared.kinds.BankState.TheVariants.{Invalid, Valid, Accepted}
+use Rattle.fwu_formats.specs.declared.kinds.BankState.TheVariants.{Valid}
 use Rattle.fwu_formats.specs.Layout.{Layout}
 use Rattle.fwu_formats.specs.Metadata.{MetaRead, state_at}
 use Rattle.fwu_formats.specs.Image.{layout_seen, deciding, marks, is_tidy, is_blank}
@@ -25,7 +25,7 @@ use Rattle.moves.specs.Moved.{IsReady, IsShown, Does, GuardedBy}
 use Rattle.moves.proofs.Guarded.{by-result, guarded-beside}
 use Rattle.moves.proofs.Agree.{Agrees, agrees-now, beside-shows, counter-agrees, shown-meta, shown-counter, state-is, used-below}
 use Rattle.moves.proofs.Beside.{trials-are, beside-agrees, stays-ready}
-use Rattle.moves.proofs.MetaWrites.{quiet-after}
+use Rattle.moves.proofs.Repaired.{quiet-after}
 use Rattle.moves.proofs.Calm.{calm-shown, calm-sound, one-of}
 
 -- ---- an erased block has no marks
@@ -55,9 +55,8 @@ blank-tidy image b is = marks-are-counted.where_blank image b trial_limit (λ j 
 -- ---- the call
 
 not-valid : (k : BankState) → IsTrue (is_accepted k) → IsFalse (is_valid k)
-not-valid Invalid h = refl
 not-valid Valid h = absurd cc
-not-valid Accepted h = refl
+not-valid other h = refl
 
 active-accepted : (L : Layout) (now : List ℕ) (r : MetaRead) (s : State) → state_of L now r ≡ s → IsTrue (is_accepted (bank s s.active).state) → IsFalse (is_valid (state_at r.meta r.meta.active))
 active-accepted L now r s is accepted =

@@ -14,14 +14,13 @@ use Rattle.fwu_formats.specs.Places.{trial_limit}
 use Rattle.fwu_model.specs.Seen.{state_of}
 use Rattle.fwu_model.specs.Calm.{IsGuarded, IsAtRest}
 use Rattle.fwu_model.specs.Replica.{Decides, in_version}
-use Rattle.marks_core.specs.Marks.{Adds}
-use Rattle.marks_core.specs.Raises.{Raises}
+use Rattle.marks_core.specs.Marks.{Adds, Raises}
 use Rattle.replicas.specs.declared.which.Which.{Which}
 use Rattle.replicas.specs.Which.{Loads}
-use Rattle.replicas.specs.Repairs.{Repairs}
+use Rattle.replicas.specs.Stores.{Repairs}
 use Rattle.moves.specs.Moved.{GuardedBy}
 use Rattle.moves.proofs.Agree.{no_meta, Agrees, QuietUsed, agrees-left, layout-agrees, decides-agrees, shown-as, shown-meta, used-at, used-below, at-used}
-use Rattle.moves.proofs.MetaWrites.{repair-writes, quiet-after}
+use Rattle.moves.proofs.Repaired.{repair-writes, quiet-after}
 use Rattle.base_core.proofs.Results.{same-Ok}
 
 -- by the result: guarded at a stop, and at rest with nothing at risk at the front when done

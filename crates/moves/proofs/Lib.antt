@@ -1,14 +1,10 @@
-pub mod SamePackages
 pub mod Agree
 pub mod Composed
 pub mod Calm
-pub mod MetaWrites
 pub mod Repaired
 pub mod Beside
 pub mod Trials
-pub mod Raised
 pub mod Guarded
-pub mod Read
 pub mod MetaMoves
 pub mod MetaIn
 pub mod Fitting
@@ -17,4 +13,3 @@ pub mod Packages
 pub mod Cleared
 pub mod Staged
 pub mod Switching
-pub mod StoredPlain

@@ -1,5 +1,5 @@
--- The metadata is a function of the state that is shown: so a contract needs to speak of the state alone.
-use Rattle.std.proofs.Common.{◌≡◌, ℕ, ◌<◌, Bool, List, [], length, get_or, map, Some, refl, sym, ap, ◌∙◌, arith, ext_get_or}
+-- Metadata that decides is of the layout, and a function of the state that is shown: so a contract needs to speak of the state alone.
+use Rattle.std.proofs.Common.{◌≡◌, ℕ, ◌<◌, Bool, List, [], length, get_or, map, Some, refl, sym, ap, ◌∙◌, arith, ext_get_or, inl, inr, IsTrue}
 use Rattle.std.proofs.lemmas.Option.{same_Some}
 use Rattle.std.proofs.lemmas.List.{length-map, get_or-map}
 use Rattle.std.proofs.lemmas.List.FromFn.{length-map-range_with_len, get_or-map-range_with_len}
@@ -7,16 +7,28 @@ use Rattle.base_core.specs.Bytes.{listed}
 use Rattle.fwu_formats.specs.declared.kinds.BankState.{BankState}
 use Rattle.fwu_formats.specs.declared.kinds.BankState.TheVariants.{Invalid}
 use Rattle.fwu_formats.specs.Layout.{Layout}
-use Rattle.fwu_formats.specs.Metadata.{Meta, MetaRead}
+use Rattle.fwu_formats.specs.Metadata.{Meta, MetaRead, meta_read, fits_meta}
 use Rattle.fwu_formats.specs.Image.{deciding}
 use Rattle.fwu_model.specs.State.{State, Bank, no_bank}
 use Rattle.fwu_model.specs.Seen.{state_of, bank_in}
 use Rattle.fwu_model.specs.Replica.{in_version}
-use Rattle.meta_layout.proofs.Fits.{MetaFits}
+use Rattle.meta_layout.proofs.Fits.{MetaFits, meta-fits, read-fits}
 use Rattle.moves.specs.Moved.{IsShown}
 use Rattle.fwu_model.specs.MoveMetas.{meta_in}
 use Rattle.moves.proofs.Agree.{shown-meta}
-use Rattle.moves.proofs.Read.{deciding-fits}
+use Rattle.base_core.specs.Block.{block}
+use Rattle.fwu_formats.proofs.Read.{read-is, first-whole}
+
+pub deciding-of_layout : (L : Layout) (image : List ℕ) (r : MetaRead) → deciding L image ≡ Some r → IsTrue (fits_meta L r.meta)
+unfolding deciding
+deciding-of_layout L image r e =
+    elim (first-whole (meta_read L (block 1 image)) (meta_read L (block 2 image)) r e) [
+      | inl zero ↦ read-fits L (block 1 image) r (read-is L (block 1 image) r zero)
+      | inr one ↦ read-fits L (block 2 image) r (read-is L (block 2 image) r one)
+    ]
+
+pub deciding-fits : (L : Layout) (image : List ℕ) (r : MetaRead) → deciding L image ≡ Some r → MetaFits L r.meta
+deciding-fits L image r e = meta-fits L r.meta (deciding-of_layout L image r e)
 
 -- a part of each bank, as the metadata lists it
 parts-are : {X : Type 0} (L : Layout) (image : List ℕ) (m : Meta) (part : Bank → X) (d : X) (xs : List X) → length xs ≡ L.banks → ((b : ℕ) → part (bank_in L image m b) ≡ get_or xs b d) → map part (listed L.banks (bank_in L image m)) ≡ xs

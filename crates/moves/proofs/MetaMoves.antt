@@ -123,6 +123,5 @@ module _ (L : Layout) (image : List ℕ) (m : Meta) (whole : MetaFits L m) where
       ap (λ (n : ℕ). record { form = 2; active = m.previous; previous = m.active; banks = (state_of L image (in_version 2 m)).banks; trials = n; counter = counter_in image }) (none (state_at m m.previous) accepted)
     where
       none : (k : BankState) → IsTrue (is_accepted k) → cond (is_valid k) (marks image 3 trial_limit) 0 ≡ 0
-      none Invalid h = refl
       none Valid h = absurd cc
-      none Accepted h = refl
+      none other h = refl

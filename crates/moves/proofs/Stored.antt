@@ -1,30 +1,39 @@
--- A store of the metadata of a move does this move.
-use Rattle.std.proofs.Common.{◌≡◌, ◌≢◌, cond, ℕ, ◌+◌, ◌*◌, ◌<◌, Bool, true, false, List, [], ◌∷◌, length, get_or, set, Some, Result, refl, sym, ap, subst, ◌∙◌, arith, inl, inr, ◌⊎◌, IsTrue, IsFalse, get_or-set_same, get_or-set_other}
+-- A store of the metadata of a move does this move, from a ready flash and on any flash that shows a state.
+-- No exit of it puts a bank in use at risk.
+use Rattle.std.proofs.Common.{◌≡◌, ◌≢◌, cond, ℕ, ◌+◌, ◌*◌, ◌<◌, Bool, true, false, List, [], ◌∷◌, length, get_or, set, Some, Result, refl, sym, ap, subst, ◌∙◌, arith, inl, inr, ◌⊎◌, IsTrue, IsFalse, get_or-set_same, get_or-set_other, ◌≤◌, Ok}
 use Rattle.std.proofs.lemmas.Bool.{cases_eq}
 use Rattle.flash_core.specs.declared.flash.FlashStop.{FlashStop}
 use Rattle.flash_core.specs.Told.{Told}
 use Rattle.flash_core.specs.May.{Quiet}
 use Rattle.fwu_formats.specs.declared.kinds.BankState.{BankState}
-use Rattle.fwu_formats.specs.declared.kinds.BankState.TheVariants.{Accepted}
-use Rattle.fwu_formats.specs.Layout.{start}
-use Rattle.fwu_formats.specs.Metadata.{Meta, MetaRead, state_at}
+use Rattle.fwu_formats.specs.declared.kinds.BankState.TheVariants.{Accepted, Invalid}
+use Rattle.fwu_formats.specs.Layout.{start, Layout}
+use Rattle.fwu_formats.specs.Metadata.{Meta, MetaRead, state_at, meta_read}
 use Rattle.fwu_formats.specs.Manifest.{is_complete}
-use Rattle.fwu_formats.specs.Image.{deciding, package_in, marks, is_tidy}
+use Rattle.fwu_formats.specs.Image.{deciding, package_in, marks, is_tidy, layout_seen}
 use Rattle.fwu_model.specs.State.{State, Bank, Move, Free, Switch, Accept, Back, bank, no_bank, is_invalid, is_valid, is_accepted, all_set, state_by, freed, with_bit, update_bank, after_move}
 use Rattle.fwu_formats.specs.Places.{trial_limit}
 use Rattle.fwu_model.specs.Sound.{Setting, Sound, is_permitted, holds_permitted}
 use Rattle.fwu_model.specs.Seen.{IsTidy, state_of}
-use Rattle.fwu_model.specs.Replica.{in_version}
-use Rattle.fwu_model.proofs.Banks.{accepted-used, accepted-not_valid, in_range, update-other, update-below, active-below, sound-free, sound-switch, sound-accept, sound-back}
+use Rattle.fwu_model.specs.Replica.{in_version, Decides}
+use Rattle.fwu_model.proofs.Banks.{accepted-used, accepted-not_valid, in_range, update-other, update-below, active-below, sound-free, sound-switch, sound-accept, sound-back, next-other, next-below}
 use Rattle.meta_layout.proofs.Fits.{MetaFits}
 use Rattle.replicas.specs.Stores.{Stores}
-use Rattle.moves.specs.Moved.{IsReady, Does}
+use Rattle.moves.specs.Moved.{IsReady, Does, IsShown, ShowsAfter, GuardedBy}
 use Rattle.fwu_model.specs.MoveMetas.{meta_after}
 use Rattle.moves.proofs.Agree.{QuietUsed, shown-by, state-is, bank-count, at-used}
 use Rattle.moves.proofs.Calm.{calm-shown, calm-sound, calm-tidy}
 use Rattle.moves.proofs.MetaMoves.{free-state, switch-state, accept-state, back-state}
-use Rattle.moves.proofs.MetaWrites.{store-writes, write-each, write-all}
-use Rattle.moves.proofs.Read.{deciding-fits}
+use Rattle.moves.proofs.Repaired.{store-writes, write-each, write-all, write-shows, quiet-after}
+use Rattle.moves.proofs.MetaIn.{deciding-fits}
+use Rattle.std.proofs.lemmas.Option.{same_Some}
+use Rattle.std.proofs.lemmas.Result.{on_ok_weaker}
+use Rattle.flash_core.proofs.Calls.{guards_kept}
+use Rattle.fwu_model.specs.Calm.{IsAtRest}
+use Rattle.fwu_formats.proofs.SealLaws.{limits}
+use Rattle.fwu_formats.proofs.Read.{layout-fits}
+use Rattle.base_core.specs.Block.{block}
+use Rattle.moves.proofs.Guarded.{guarded-by, rest-used, by-result}
 
 -- the banks that a state has in use are quiet
 abbrev pub QuietBanks : Setting → Told → State → Type 0
@@ -137,3 +146,115 @@ module _ {T : Type 0} (result : Result T FlashStop) (E : Setting) (s t : Told) (
         | inl e ↦ subst (λ (n : ℕ). Quiet (4096 * start E.layout n 0) (4096 * start E.layout (n + 1) 0) s) (sym e) quiet
         | inr used ↦ ready.calm.banks b used
       ])
+
+-- ---- on any flash that shows a state, and at rest
+
+module _ {T : Type 0} (result : Result T FlashStop) (L : Layout) (s t : Told) (state : State) (m : Meta) (shown : IsShown L s.now state) (decided : deciding L s.now ≡ Some (in_version 2 m)) where
+  is : state_of L s.now (in_version 2 m) ≡ state
+  is = shown-by L s.now state shown (in_version 2 m) decided
+
+  seen-whole : MetaFits L m
+  seen-whole = deciding-fits L s.now (in_version 2 m) decided
+
+  plain : (move : Move) → Stores result L (meta_after m move) s t → state_of L s.now (in_version 2 (meta_after m move)) ≡ after_move (state_of L s.now (in_version 2 m)) move → ShowsAfter result L state (move ∷ []) t
+  plain move stores becomes = write-shows result L (in_version 2 (meta_after m move)) s t (after_move state move) shown.layout stores.writes.keeps (becomes ∙ ap (λ (x : State). after_move x move) is) stores.both
+
+  seen-count : length state.banks ≡ L.banks
+  seen-count = bank-count L s.now (in_version 2 m) state is
+
+  two-banks : 2 ≤ L.banks
+  two-banks = (limits L (layout-fits _ _ L shown.layout)).fewest_banks
+
+  seen-active : m.active ≡ state.active
+  seen-active = ap (λ (x : State). x.active) is
+
+  seen-below : update_bank state < L.banks
+  seen-below = let below = next-below (length state.banks) state.active (omega (arith, two-banks, seen-count)) (omega (arith, seen-whole.active, seen-active, seen-count)) in omega (arith, below, seen-count)
+
+  pub free-shows : Stores result L (meta_after m (Free (update_bank state))) s t → ShowsAfter result L state (Free (update_bank state) ∷ []) t
+  free-shows stores =
+      let other = next-other (length state.banks) state.active (omega (arith, two-banks, seen-count)) (omega (arith, seen-whole.active, seen-active, seen-count)) in
+      plain (Free (update_bank state)) stores (free-state L s.now m seen-whole (update_bank state) seen-below (λ e. other (sym e ∙ seen-active)))
+
+  pub accept-shows : (image : ℕ) → IsFalse (is_invalid (state_at m m.active)) → Stores result L (meta_after m (Accept image)) s t → ShowsAfter result L state (Accept image ∷ []) t
+  accept-shows image used stores = plain (Accept image) stores (accept-state L s.now m seen-whole image seen-whole.active used)
+
+  pub back-shows : IsTrue (is_accepted (state_at m m.previous)) → Stores result L (meta_after m Back) s t → ShowsAfter result L state (Back ∷ []) t
+  back-shows accepted stores = plain Back stores (back-state L s.now m seen-whole accepted)
+
+  pub switch-shows : (p : List (List ℕ)) (bits : List Bool) → package_in L s.now (update_bank state) ≡ Some p → (IsTrue (is_valid (state_by bits)) → marks s.now 3 trial_limit ≡ 0)
+      → Stores result L (meta_after m (Switch (update_bank state) p bits)) s t → ShowsAfter result L state (Switch (update_bank state) p bits ∷ []) t
+  switch-shows p bits held cleared stores = plain (Switch (update_bank state) p bits) stores (switch-state L s.now m seen-whole (update_bank state) p bits seen-below held cleared)
+
+-- the states of the active and of the previous bank, by the metadata
+module _ (L : Layout) (now : List ℕ) (m : Meta) (state : State) (shown : IsShown L now state) (decided : deciding L now ≡ Some (in_version 2 m)) where
+  as-state : state_of L now (in_version 2 m) ≡ state
+  as-state = shown-by L now state shown (in_version 2 m) decided
+
+  fits : MetaFits L m
+  fits = deciding-fits L now (in_version 2 m) decided
+
+  pub active-at : IsFalse (is_invalid (bank state state.active).state) → IsFalse (is_invalid (state_at m m.active))
+  active-at used =
+      let active : m.active ≡ state.active = ap (λ (x : State). x.active) as-state in
+      ap (λ (b : ℕ). is_invalid (state_at m b)) active ∙ ap is_invalid (sym (state-is L now (in_version 2 m) state as-state state.active (omega (arith, fits.active, active)))) ∙ used
+
+  pub previous-at : IsTrue (is_accepted (bank state state.previous).state) → IsTrue (is_accepted (state_at m m.previous))
+  previous-at accepted =
+      let previous : m.previous ≡ state.previous = ap (λ (x : State). x.previous) as-state in
+      ap (λ (b : ℕ). is_accepted (state_at m b)) previous ∙ ap is_accepted (sym (state-is L now (in_version 2 m) state as-state state.previous (omega (arith, fits.previous, previous)))) ∙ accepted
+
+-- ---- guarded
+
+module _ {T : Type 0} (result : Result T FlashStop) (L : Layout) (s t : Told) (layout : layout_seen s.now ≡ Ok L) (rest : IsAtRest s) (old : MetaRead) (new : Meta) (decided : deciding L s.now ≡ Some old) (one : meta_read L (block 2 s.now) ≡ Some old) (stores : Stores result L new s t) where
+  -- On any flash at rest whose replica 1 holds what decides, where the banks in use by the new metadata are quiet.
+  pub store-guarded : QuietUsed L new s → GuardedBy result t
+  store-guarded used =
+      let writes = store-writes result L s t rest.guard rest.front old new decided one stores in
+      by-result result t (guarded-by L s layout rest 4096 12288 t (omega arith) (omega arith) writes.keeps (λ image may found has. pick found image has (writes.each image may)))
+      (on_ok_weaker result (λ stable. quiet-after 4096 12288 0 32768 s t writes.keeps rest.front stable) writes.quiet)
+      (guards_kept 1 7 4096 12288 s t writes.keeps rest.guard)
+    where
+      pick : (found : MetaRead) (image : List ℕ) → deciding L image ≡ Some found → Decides L old (in_version 2 new) image → QuietUsed L found.meta s
+      pick found image has (inl e) = subst (λ (x : MetaRead). QuietUsed L x.meta s) (same_Some old found (sym e ∙ has)) (rest-used L s layout rest old decided)
+      pick found image has (inr e) = subst (λ (x : MetaRead). QuietUsed L x.meta s) (same_Some (in_version 2 new) found (sym e ∙ has)) used
+
+-- ---- the moves that put no bank in use that wasn't
+
+pub quiet-free : (L : Layout) (m : Meta) (b : ℕ) (t : Told) → MetaFits L m → b < L.banks → QuietUsed L m t → QuietUsed L (meta_after m (Free b)) t
+quiet-free L m b t whole lt quiet = λ c below used.
+    elim (cases_eq c b) [
+      | inl same ↦ absurd (let e : IsFalse (is_invalid Invalid) = ap is_invalid (sym (here c same)) ∙ used in cc)
+      | inr ne ↦ quiet c below (ap is_invalid (sym (there c ne)) ∙ used)
+    ]
+  where
+    here : (c : ℕ) → c ≡ b → state_at (meta_after m (Free b)) c ≡ Invalid
+    here c same = ap (state_at (meta_after m (Free b))) same ∙ get_or-set_same m.states b Invalid Invalid (omega (arith, lt, whole.states))
+
+    there : (c : ℕ) → c ≢ b → state_at (meta_after m (Free b)) c ≡ state_at m c
+    there c ne = get_or-set_other m.states b c Invalid Invalid ne
+
+-- an accept sets the active bank, which is in use
+pub quiet-accept : (L : Layout) (m : Meta) (image : ℕ) (t : Told) → m.active < L.banks → IsFalse (is_invalid (state_at m m.active)) → QuietUsed L m t → QuietUsed L (meta_after m (Accept image)) t
+quiet-accept L m image t lt in_use quiet = λ c below used.
+    elim (cases_eq c m.active) [
+      | inl same ↦ subst (λ (b : ℕ). Quiet (4096 * start L b 0) (4096 * start L (b + 1) 0) t) (sym same) (quiet m.active lt in_use)
+      | inr ne ↦ quiet c below (ap is_invalid (sym (there c ne)) ∙ used)
+    ]
+  where
+    there : (c : ℕ) → c ≢ m.active → state_at (meta_after m (Accept image)) c ≡ state_at m c
+    there c ne = get_or-set_other m.states m.active c _ Invalid ne
+
+pub quiet-back : (L : Layout) (m : Meta) (t : Told) → QuietUsed L m t → QuietUsed L (meta_after m Back) t
+quiet-back L m t quiet = quiet
+
+-- a switch sets one bank, which is quiet
+pub quiet-switch : (L : Layout) (m : Meta) (b : ℕ) (p : List (List ℕ)) (bits : List Bool) (t : Told) → Quiet (4096 * start L b 0) (4096 * start L (b + 1) 0) t → QuietUsed L m t → QuietUsed L (meta_after m (Switch b p bits)) t
+quiet-switch L m b p bits t here quiet = λ c below used.
+    elim (cases_eq c b) [
+      | inl same ↦ subst (λ (k : ℕ). Quiet (4096 * start L k 0) (4096 * start L (k + 1) 0) t) (sym same) here
+      | inr ne ↦ quiet c below (ap is_invalid (sym (there c ne)) ∙ used)
+    ]
+  where
+    there : (c : ℕ) → c ≢ b → state_at (meta_after m (Switch b p bits)) c ≡ state_at m c
+    there c ne = get_or-set_other m.states b c (state_by bits) Invalid ne

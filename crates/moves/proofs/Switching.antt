@@ -20,18 +20,15 @@ use Rattle.marks_core.specs.Marks.{Clears}
 use Rattle.replicas.specs.Stores.{Stores}
 use Rattle.moves.specs.Moved.{IsReady, Does, IsShown, ShowsAfter, GuardedBy}
 use Rattle.fwu_model.specs.MoveMetas.{meta_after, meta_in}
-use Rattle.moves.specs.Law.{CallResult}
-use Rattle.moves.specs.StoreLaw.{EndsBy}
-use Rattle.moves.proofs.Agree.{no_meta, Agrees, front-kept, decides-agrees}
+use Rattle.moves.specs.Law.{CallResult, EndsBy}
+use Rattle.moves.proofs.Agree.{no_meta, Agrees, front-kept, decides-agrees, package-same}
 use Rattle.moves.proofs.Beside.{both-beside}
 use Rattle.moves.proofs.Cleared.{clear-does, clear-shows, clear-guarded, blank-marks, blank-tidy}
 use Rattle.moves.proofs.Composed.{does-stopped}
 use Rattle.moves.proofs.Guarded.{rest-used}
 use Rattle.moves.proofs.MetaIn.{two-decides}
 use Rattle.moves.proofs.Packages.{package-held}
-use Rattle.moves.proofs.SamePackages.{package-same}
-use Rattle.moves.proofs.Stored.{switch-does}
-use Rattle.moves.proofs.StoredPlain.{switch-shows, store-guarded, quiet-switch}
+use Rattle.moves.proofs.Stored.{switch-does, switch-shows, store-guarded, quiet-switch}
 
 -- a barrier leaves a ready flash ready
 pub settled-ready : (E : Setting) (s : Told) (state : State) → IsReady E s state → IsReady E (settle s) state

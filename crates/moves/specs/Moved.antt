@@ -14,7 +14,7 @@ use Rattle.fwu_model.specs.Calm.{IsCalm, IsGuarded, IsAtRest}
 use Rattle.fwu_model.specs.Run.{prefixes}
 use Rattle.fwu_model.specs.Headline.{LeavesOneOf}
 use Rattle.replicas.specs.declared.which.Which.{Which}
-use Rattle.replicas.specs.declared.which.Which.TheVariants.{Same, RepairZero, RepairOne, MigrateZero, MigrateOne}
+use Rattle.replicas.specs.declared.which.Which.TheVariants.{MigrateZero, MigrateOne}
 
 -- ---- on a calm flash
 
@@ -51,8 +51,6 @@ GuardedBy (Err stop) t = IsGuarded t
 
 -- what a repair is to the machine
 abbrev pub repair_moves : Which → List Move
-repair_moves Same = []
-repair_moves RepairZero = []
-repair_moves RepairOne = []
 repair_moves MigrateZero = Migrate ∷ []
 repair_moves MigrateOne = Migrate ∷ []
+repair_moves other = []

@@ -1,6 +1,6 @@
 //! Laws of stores of metadata, of cleared marks and of writes in a free bank: functions that do nothing, whose contract is the law.
 
-ghost use Rattle.moves.specs.StoreLaw.{StatesHaveMetadata, MovesKeepFit, StoresDoMoves, EndsSwitch, BarriersKeepReady, ClearsDo, StagingKeepsReady, StoresShowMoves, OthersShowNothing, SlotsHold, OthersStayGuarded, MovesKeepQuiet};
+ghost use Rattle.moves.specs.Law.{StatesHaveMetadata, MovesKeepFit, StoresDoMoves, EndsSwitch, BarriersKeepReady, ClearsDo, StagingKeepsReady, StoresShowMoves, OthersShowNothing, SlotsHold, OthersStayGuarded, MovesKeepQuiet};
 
 /// The metadata that decides follows from the state that is shown.
 pub fn states_have_metadata()

@@ -1,4 +1,3 @@
 pub mod Reading
 pub mod Both
-pub mod Mending
 pub mod Touching

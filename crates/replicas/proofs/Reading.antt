@@ -18,7 +18,7 @@ use Rattle.fwu_formats.proofs.SealLaws.{read-sealed, was_not_refused}
 use Rattle.fwu_formats.proofs.MetaWritten.{meta-read}
 use Rattle.replicas.specs.Which.{HasForm, Finds, Loads}
 use Rattle.replicas.specs.declared.which.Which.{Which}
-use Rattle.replicas.specs.declared.which.Which.TheVariants.{Same, RepairZero, RepairOne, MigrateZero, MigrateOne}
+use Rattle.replicas.specs.declared.which.Which.TheVariants.{RepairZero, MigrateOne}
 
 -- ---- one block
 
@@ -100,11 +100,9 @@ deciding_of L image other zero one = ap (λ bytes. option_or (meta_read L bytes)
 
 -- what is found of what the replicas read as decides
 found_decides : (L : Layout) (which : Which) (r : MetaRead) (image : List ℕ) → Finds which r (meta_read L (block 1 image)) (meta_read L (block 2 image)) → deciding L image ≡ Some r
-found_decides L Same r image finds = by_zero L r image finds.0
 found_decides L RepairZero r image finds = by_one L r image finds.0 finds.1
-found_decides L RepairOne r image finds = by_zero L r image finds.0
-found_decides L MigrateZero r image finds = by_zero L r image finds.0
 found_decides L MigrateOne r image finds = by_one L r image finds.0 finds.1
+found_decides L other r image finds = by_zero L r image finds.0
 
 pub found_loads : (L : Layout) (which : Which) (r : MetaRead) (image : List ℕ) (zero one : Option MetaRead) → zero ≡ meta_read L (block 1 image) → one ≡ meta_read L (block 2 image) → Finds which r zero one → Loads L which r image
 found_loads L which r image zero one is_zero is_one finds =
@@ -113,8 +111,6 @@ found_loads L which r image zero one is_zero is_one finds =
 
 -- and is what one of them reads as
 pub found_is : (P : MetaRead → Type 0) (which : Which) (r : MetaRead) (zero one : Option MetaRead) → ForSome zero P → ForSome one P → Finds which r zero one → P r
-found_is P Same r zero one of_zero of_one finds = of_zero r finds.0
 found_is P RepairZero r zero one of_zero of_one finds = of_one r finds.1
-found_is P RepairOne r zero one of_zero of_one finds = of_zero r finds.0
-found_is P MigrateZero r zero one of_zero of_one finds = of_zero r finds.0
 found_is P MigrateOne r zero one of_zero of_one finds = of_one r finds.1
+found_is P other r zero one of_zero of_one finds = of_zero r finds.0

@@ -1,17 +1,16 @@
 -- Which blocks a repair may erase or program.
 use Rattle.std.proofs.Common.{◌≡◌, ℕ, sym, subst}
 use Rattle.flash_core.proofs.Touches.{touches_none}
-use Rattle.replicas.specs.Repairs.{TouchesRepair}
+use Rattle.replicas.specs.Stores.{TouchesRepair}
 use Rattle.replicas.specs.declared.which.Which.{Which}
-use Rattle.replicas.specs.declared.which.Which.TheVariants.{Same, RepairZero, RepairOne, MigrateZero, MigrateOne}
+use Rattle.replicas.specs.declared.which.Which.TheVariants.{Same, RepairZero, RepairOne}
 
 -- where nothing was erased or programmed
 pub touches-still : (which : Which) (old new : ℕ → ℕ) → new ≡ old → TouchesRepair which old new
 touches-still Same old new same = same
 touches-still RepairZero old new same = touches_none 4096 8192 same
 touches-still RepairOne old new same = touches_none 8192 12288 same
-touches-still MigrateZero old new same = touches_none 4096 12288 same
-touches-still MigrateOne old new same = touches_none 4096 12288 same
+touches-still other old new same = touches_none 4096 12288 same
 
 -- what is to be done is this, and reads came before it
 pub touches-as : (which this : Which) (old read new : ℕ → ℕ) → which ≡ this → read ≡ old → TouchesRepair this read new → TouchesRepair which old new

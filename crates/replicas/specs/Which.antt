@@ -26,11 +26,9 @@ Finds MigrateOne r zero one = (zero ≡ None) × (one ≡ Some r) × (r.form ≡
 
 -- in which version metadata is read for which this is to be done
 abbrev pub form_read_of : Which → ℕ
-form_read_of Same = 2
-form_read_of RepairZero = 2
-form_read_of RepairOne = 2
 form_read_of MigrateZero = 1
 form_read_of MigrateOne = 1
+form_read_of other = 2
 
 -- this metadata of the layout decides in the image, and this is to be done
 pub record Loads (L : Layout) (which : Which) (r : MetaRead) (image : List ℕ) : Type 0 where
@@ -39,9 +37,8 @@ pub record Loads (L : Layout) (which : Which) (r : MetaRead) (image : List ℕ) 
 
 -- a load's result, as the flash's: that there is no metadata is no stop
 abbrev pub flash_result : {T : Type 0} → Result T ReplicaStop → Result (Unit {0}) FlashStop
-flash_result (Ok x) = Ok tt
-flash_result (Err NoMetadata) = Ok tt
 flash_result (Err (Flash stop)) = Err stop
+flash_result other = Ok tt
 
 -- What loading the metadata that decides gives, whichever buffer the replicas are read into.
 pub record Found {D : Type 0} (g : Ghosts D) (L : Layout) (result : Result (MetaRead × Which) ReplicaStop)

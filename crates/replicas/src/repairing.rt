@@ -7,7 +7,7 @@ ghost use Rattle.fwu_formats.specs.Layout.{fits_layout};
 ghost use Rattle.fwu_formats.specs.Metadata.{fits_meta, meta_read, replica_bytes};
 ghost use Rattle.fwu_model.specs.Replica.{in_version};
 ghost use Rattle.replicas.specs.Which.{Loads};
-ghost use Rattle.replicas.specs.Repairs.{Repairs, TakesBoth, TakesOne, TakesRepair, TouchesRepair};
+ghost use Rattle.replicas.specs.Stores.{Repairs, TakesBoth, TakesOne, TakesRepair, TouchesRepair};
 ghost use Rattle.replicas.specs.declared.which.Which.TheVariants.{Same, MigrateZero};
 
 use crate::loading::read_replica;

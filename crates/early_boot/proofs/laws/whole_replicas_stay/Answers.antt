@@ -1,4 +1,4 @@
-use Rattle.early_boot.proofs.Whole.{whole-replicas-stay}
+use Rattle.early_boot.proofs.Exact.{whole-replicas-stay}
 use Rattle.early_boot.proofs.laws.whole_replicas_stay.Goals as goal
 
 pub returns : goal.returns

@@ -8,7 +8,7 @@ use Rattle.flash_core.specs.Calls.{Goes, Reads}
 use Rattle.flash_core.specs.Told.{Told}
 use Rattle.flash_core.specs.Touches.{TouchesOnly}
 use Rattle.flash_core.proofs.Touches.{touches_none}
-use Rattle.early_boot.proofs.Touching.{boot-within, none-touches, stopped-start}
+use Rattle.early_boot.proofs.Touching.{boot-within, none-touches, stopped-start, none-spent, none-takes, start-spent, start-takes, start-touches}
 use Rattle.early_boot.specs.declared.choosing.Chosen.{Chosen}
 use Rattle.early_boot.specs.declared.showing.Shown.{Shown}
 use Rattle.early_boot.specs.declared.showing.Unshown.{Unshown}
@@ -17,19 +17,15 @@ use Rattle.early_boot.specs.Showing.{HasShown, ShowsNothing, state_shown, stop_i
 use Rattle.early_boot.specs.Choosing.{MayStart, chosen_by}
 use Rattle.fwu_formats.specs.Layout.{Layout}
 use Rattle.fwu_model.specs.State.{Numbers, numbers_of}
-use Rattle.early_boot.specs.EndsBy.{StartedBy, StartsPermitted}
-use Rattle.early_boot.proofs.Choices.{starts_by_numbers}
-use Rattle.early_boot.specs.Mending.{mended}
+use Rattle.early_boot.specs.EndsBy.{StartedBy, StartsPermitted, BootEnds, IdleEnd, IsBoot, TakesBoot, TakesByBytes, TouchesBoot, stopped_with, unshown_end}
+use Rattle.early_boot.proofs.Choices.{starts_by_numbers, shown-numbers}
+use Rattle.early_boot.specs.Starting.{mended, Boots, IsCountedStart, TakesMendingAndStart, TakesRepairAndStart, TouchesRepairAndStart}
 use Rattle.early_boot.specs.Numbers.{AreNumbers, numbers, numbers_shown}
 use Rattle.early_boot.proofs.Numbered.{numbers-are}
-use Rattle.early_boot.specs.Starting.{Boots, IsCountedStart, TakesMendingAndStart, TakesRepairAndStart, TouchesRepairAndStart}
 use Rattle.early_boot.specs.Started.{started_as}
-use Rattle.early_boot.specs.Ends.{Ended, bad_layout, booted, device_of, failed, lost, no_bank, no_metadata, stop_of}
-use Rattle.early_boot.specs.EndsBy.{BootEnds, IdleEnd, IsBoot, TakesBoot, TakesByBytes, TouchesBoot, stopped_with, unshown_end}
+use Rattle.early_boot.specs.Ends.{Ended, booted, device_of, failed, lost, no_bank, stop_of}
 use Rattle.early_boot.specs.Knows.{KnowsStarted}
-use Rattle.early_boot.proofs.Endings.{shown-numbers}
 use Rattle.early_boot.proofs.Ended.{unshown-ends, started-ends, none-ends, stopped-ends}
-use Rattle.early_boot.proofs.Taken.{none-spent, none-takes, start-spent, start-takes, start-touches}
 use Rattle.early_boot.proofs.Known.{started-knows}
 use Rattle.early_boot.proofs.Left.{goes-done, goes-stopped, read-all, read-goes}
 use Rattle.early_boot.proofs.start.boot_in.Goals as goal
@@ -67,16 +63,7 @@ module _ {D : Type 0} (g : Ghosts D) (passes : List ℕ → Bool) (flash left : 
       (unshown-ends passes (g.told flash) why (nothing tells))
 
   unshown-boot : (why : Unshown) → Reads g (stop_in {T = Shown} (Err why)) flash left
-      → (IsTrue g.tells → ShowsNothing (g.told flash).now why)
-      → IsBoot g passes flash (unshown_end why) left
-  unshown-boot (unshown.Layout f) reads nothing =
-      boot-as (bad_layout f) (read-all g _ flash left reads) (record { arming_is = reads.arming; reached = reads.reached })
-      (touches_none 4096 28672 reads.writes) reads.writes
-      tt tt reads.arming reads.arming (unshown-told (unshown.Layout f) reads.content nothing)
-  unshown-boot unshown.Metadata reads nothing =
-      boot-as no_metadata (read-all g _ flash left reads) (record { arming_is = reads.arming; reached = reads.reached })
-      (touches_none 4096 28672 reads.writes) reads.writes
-      tt tt reads.arming reads.arming (unshown-told unshown.Metadata reads.content nothing)
+      → (IsTrue g.tells → ShowsNothing (g.told flash).now why) → IsBoot g passes flash (unshown_end why) left
   unshown-boot (unshown.Flash flash_stop.Lost) reads nothing =
       boot-as (lost None) (read-all g _ flash left reads) (record { arming_is = reads.arming; reached = reads.reached })
       (touches_none 4096 28672 reads.writes) reads.writes
@@ -85,11 +72,14 @@ module _ {D : Type 0} (g : Ghosts D) (passes : List ℕ → Bool) (flash left : 
       boot-as (failed None) (read-all g _ flash left reads) (record { arming_is = reads.arming; reached = reads.reached })
       (touches_none 4096 28672 reads.writes) reads.writes
       tt tt tt tt (unshown-told (unshown.Flash flash_stop.Failed) reads.content nothing)
+  unshown-boot why reads nothing =
+      boot-as (unshown_end why) (read-all g _ flash left reads) (record { arming_is = reads.arming; reached = reads.reached })
+      (touches_none 4096 28672 reads.writes) reads.writes
+      tt tt reads.arming reads.arming (unshown-told why reads.content nothing)
 
 -- the flash was read, and then the replicas were repaired and a start counted
 module _ {D : Type 0} (g : Ghosts D) (passes : List ℕ → Bool) (flash mid left : D) (shown : Shown) (n : Numbers)
-    (read : n ≡ numbers_shown shown)
-    (has : HasShown g flash shown) (reads : Reads {X = Unit {0}} g (Ok tt) flash mid) where
+    (read : n ≡ numbers_shown shown) (has : HasShown g flash shown) (reads : Reads {X = Unit {0}} g (Ok tt) flash mid) where
   are : AreNumbers (numbers_shown shown)
   are = numbers-are shown has.layout has.fits has.few has.form has.none
 

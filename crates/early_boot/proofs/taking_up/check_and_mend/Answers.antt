@@ -3,7 +3,7 @@ use Rattle.std.proofs.lemmas.Option.{same_Some}
 use Rattle.std.specs.Bool.{then_some}
 use Rattle.fwu_formats.specs.Metadata.{state_at}
 use Rattle.flash_core.specs.Told.{Told}
-use Rattle.early_boot.specs.Mending.{MendsReplicas}
+use Rattle.early_boot.specs.Starting.{MendsReplicas}
 use Rattle.early_boot.proofs.TakingUp.{run-below}
 use Rattle.early_boot.proofs.taking_up.check_and_mend.Goals as goal
 

@@ -6,9 +6,8 @@ use Rattle.fwu_formats.specs.Layout.{slot_total}
 use Rattle.host_io.specs.Reads.{ReadsFile}
 use Rattle.fip_tables.specs.Files.{Tells}
 use Rattle.flash_core.specs.Touches.{TouchesOnly}
-use Rattle.flash_format.specs.Cleared.{LeavesNoMore}
-use Rattle.flash_format.specs.Places.{Erased, AllStand}
-use Rattle.flash_format.specs.Takes.{pieces_in}
+use Rattle.flash_format.specs.Places.{LeavesNoMore, Erased, AllStand}
+use Rattle.flash_format.specs.Planned.{pieces_in}
 use Rattle.flash_format.proofs.bank.write_bank.Given as goal
 
 abbrev pub invariant-loop-k : goal.invariant-loop-k

@@ -8,12 +8,11 @@ use Rattle.flash_core.proofs.Calls.{keeps_wider}
 use Rattle.flash_core.proofs.Costs.{spends_then}
 use Rattle.flash_core.proofs.Spent.{spent_both, spent_one}
 use Rattle.flash_core.proofs.Touches.{touches_then, touches_wider}
-use Rattle.flash_format.specs.Cleared.{OnlyErased}
-use Rattle.flash_format.specs.Places.{Erased}
+use Rattle.flash_format.specs.Places.{OnlyErased, Erased}
 use Rattle.flash_format.proofs.Clearing.{only_erase}
 use Rattle.flash_format.proofs.Ranges.{keeps_written, erased_more}
 use Rattle.flash_core.proofs.Unarmed.{unarmed_spent}
-use Rattle.flash_format.proofs.Unarmed.{unarmed_then}
+use Rattle.flash_format.proofs.Stopped.{unarmed_then}
 use Rattle.flash_format.proofs.erasing.erase_behind.Goals as goal
 
 pub returns-in_err-erase-clause-writes : goal.returns-in_err-erase-clause-writes

@@ -3,8 +3,7 @@ use Rattle.std.specs.Prelude.{IsTrue, Ok}
 use Rattle.flash_core.specs.Counts.{Spends, StaysUnarmed, lowered_by}
 use Rattle.flash_core.specs.May.{Keeps}
 use Rattle.flash_core.specs.Touches.{TouchesOnly}
-use Rattle.flash_format.specs.Cleared.{OnlyErased}
-use Rattle.flash_format.specs.Places.{Erased}
+use Rattle.flash_format.specs.Places.{OnlyErased, Erased}
 use Rattle.flash_format.proofs.erasing.erase_behind.Given as goal
 
 abbrev pub invariant-loop-block : goal.invariant-loop-block

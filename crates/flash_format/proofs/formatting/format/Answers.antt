@@ -10,9 +10,8 @@ use Rattle.fwu_formats.specs.Package.{Toc, toc_of}
 use Rattle.fip_tables.specs.Files.{Tells}
 use Rattle.image_check.specs.Passed.{HasPassed}
 use Rattle.flash_format.specs.Formatted.{HoldsImages, IsBlank, IsInOrder, IsRefusedFormat}
-use Rattle.flash_format.specs.Planned.{IsFilled}
+use Rattle.flash_format.specs.Planned.{IsFilled, FormatTakes, pieces_in}
 use Rattle.flash_format.specs.Stops.{FormatFinishes}
-use Rattle.flash_format.specs.Takes.{FormatTakes, pieces_in}
 use Rattle.flash_format.specs.declared.formatting.Formatted.{Formatted}
 use Rattle.flash_format.specs.declared.stops.FormatStop.{FormatStop}
 use Rattle.flash_format.specs.declared.stops.FormatStop.TheVariants.{Input}

@@ -12,7 +12,7 @@ use Rattle.flash_format.specs.Places.{HoldsThenErased}
 use Rattle.flash_format.proofs.Ranges.{erased_stays, stands_stays}
 use Rattle.flash_format.proofs.Clearing.{left_then, left_fewer}
 use Rattle.flash_format.proofs.Pieces.{stands_more}
-use Rattle.flash_format.proofs.Unarmed.{unarmed_then}
+use Rattle.flash_format.proofs.Stopped.{unarmed_then}
 use Rattle.flash_format.proofs.images.write_image.Goals as goal
 
 pub returns-in_err-write_piece-clause-writes : goal.returns-in_err-write_piece-clause-writes

@@ -6,8 +6,7 @@ use Rattle.fwu_formats.specs.Package.{payload}
 use Rattle.host_io.specs.Reads.{ReadsFile}
 use Rattle.fip_tables.specs.Files.{Tells}
 use Rattle.flash_core.specs.Touches.{TouchesOnly}
-use Rattle.flash_format.specs.Cleared.{LeavesNoMore}
-use Rattle.flash_format.specs.Places.{Erased, HoldsThenErased}
+use Rattle.flash_format.specs.Places.{LeavesNoMore, Erased, HoldsThenErased}
 use Rattle.flash_format.proofs.images.write_image.Given as goal
 
 abbrev pub invariant-loop-k : goal.invariant-loop-k

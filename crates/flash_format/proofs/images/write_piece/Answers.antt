@@ -8,8 +8,7 @@ use Rattle.flash_core.proofs.Calls.{keeps_same}
 use Rattle.fwu_formats.specs.Package.{payload}
 use Rattle.flash_core.proofs.Spent.{spent_one}
 use Rattle.flash_core.proofs.Touches.{touches_wider}
-use Rattle.flash_format.specs.Cleared.{LeavesNoMore}
-use Rattle.flash_format.specs.Places.{HoldsThenErased}
+use Rattle.flash_format.specs.Places.{LeavesNoMore, HoldsThenErased}
 use Rattle.flash_format.proofs.Ranges.{keeps_written, erased_range}
 use Rattle.flash_format.proofs.Clearing.{left_below}
 use Rattle.flash_format.proofs.Pieces.{piece_written}
@@ -29,60 +28,48 @@ program-requires-clause-blank g c = λ tells.
     (erased_range at c.in-Ok.size s.now (omega (arith, inside, c.requires.ready.room, c.in-Ok.ensures.some)) (λ i above below. c.requires.erased tells i above (omega (arith, below, c.in-Ok.ensures.some))))
 
 pub returns-in_err-program-clause-writes : goal.returns-in_err-program-clause-writes
-returns-in_err-program-clause-writes g c = record {
-  keeps =
-      λ tells.
-      let s = g.D.Flash.told c.args.flash.now in
-      let at = 4096 * c.args.block in
-      let inside = (g.met.D.Flash.sound c.args.flash.now tells).size in
-      let bytes = take c.in-Ok.size c.read_piece.new.out in
-      let size : length bytes ≤ 4096 = omega (arith, length-take-le c.in-Ok.size c.read_piece.new.out (omega (arith, c.in-Ok.ensures.some, c.in-Ok.ensures.buffer)), c.in-Ok.ensures.some) in
-      subst (Keeps at (at + 4096) s) (sym (c.program.ensures.content tells))
-      (keeps_written c.program.result at (at + 4096) at bytes s s (omega arith) (omega (arith, size)) (omega (arith, inside, c.requires.ready.room, size)) (keeps_same at (at + 4096) s));
-  left =
-      λ tells.
-      let s = g.D.Flash.told c.args.flash.now in
-      let inside = (g.met.D.Flash.sound c.args.flash.now tells).size in
-      let bytes = take c.in-Ok.size c.read_piece.new.out in
-      let size : length bytes ≤ 4096 = omega (arith, length-take-le c.in-Ok.size c.read_piece.new.out (omega (arith, c.in-Ok.ensures.some, c.in-Ok.ensures.buffer)), c.in-Ok.ensures.some) in
-      subst (LeavesNoMore c.args.block s) (sym (c.program.ensures.content tells)) (left_below c.program.result c.args.block (4096 * c.args.block) bytes s (omega arith) (omega (arith, inside, c.requires.ready.room, size)));
-  goes = search rules;
-  spent = search rules;
-  touches =
-      let at = 4096 * c.args.block in
-      let bytes = take c.in-Ok.size c.read_piece.new.out in
-      let size : length bytes ≤ 4096 = omega (arith, length-take-le c.in-Ok.size c.read_piece.new.out (omega (arith, c.in-Ok.ensures.some, c.in-Ok.ensures.buffer)), c.in-Ok.ensures.some) in
-      touches_wider at (at + length bytes) at (at + 4096) (omega arith) (omega (arith, size)) c.program.ensures.touches;
-  stops = search rules;
-}
+returns-in_err-program-clause-writes g c =
+    let at = 4096 * c.args.block in
+    let bytes = take c.in-Ok.size c.read_piece.new.out in
+    let size : length bytes ≤ 4096 =
+        omega (arith, length-take-le c.in-Ok.size c.read_piece.new.out (omega (arith, c.in-Ok.ensures.some, c.in-Ok.ensures.buffer)), c.in-Ok.ensures.some) in
+    record {
+      keeps = λ tells.
+          let s = g.D.Flash.told c.args.flash.now in
+          let inside = (g.met.D.Flash.sound c.args.flash.now tells).size in
+          subst (Keeps at (at + 4096) s) (sym (c.program.ensures.content tells))
+          (keeps_written c.program.result at (at + 4096) at bytes s s (omega arith) (omega (arith, size)) (omega (arith, inside, c.requires.ready.room, size)) (keeps_same at (at + 4096) s));
+      left = λ tells.
+          let s = g.D.Flash.told c.args.flash.now in
+          let inside = (g.met.D.Flash.sound c.args.flash.now tells).size in
+          subst (LeavesNoMore c.args.block s) (sym (c.program.ensures.content tells)) (left_below c.program.result c.args.block (4096 * c.args.block) bytes s (omega arith) (omega (arith, inside, c.requires.ready.room, size)));
+      goes = search rules;
+      spent = search rules;
+      touches = touches_wider at (at + length bytes) at (at + 4096) (omega arith) (omega (arith, size)) c.program.ensures.touches;
+      stops = search rules;
+    }
 
 pub returns-clause-writes : goal.returns-clause-writes
-returns-clause-writes g c = record {
-  keeps =
-      λ tells.
-      let s = g.D.Flash.told c.args.flash.now in
-      let at = 4096 * c.args.block in
-      let inside = (g.met.D.Flash.sound c.args.flash.now tells).size in
-      let bytes = take c.in-Ok.size c.read_piece.new.out in
-      let size : length bytes ≤ 4096 = omega (arith, length-take-le c.in-Ok.size c.read_piece.new.out (omega (arith, c.in-Ok.ensures.some, c.in-Ok.ensures.buffer)), c.in-Ok.ensures.some) in
-      subst (Keeps at (at + 4096) s) (sym (c.program.ensures.content tells))
-      (keeps_written c.program.result at (at + 4096) at bytes s s (omega arith) (omega (arith, size)) (omega (arith, inside, c.requires.ready.room, size)) (keeps_same at (at + 4096) s));
-  left =
-      λ tells.
-      let s = g.D.Flash.told c.args.flash.now in
-      let inside = (g.met.D.Flash.sound c.args.flash.now tells).size in
-      let bytes = take c.in-Ok.size c.read_piece.new.out in
-      let size : length bytes ≤ 4096 = omega (arith, length-take-le c.in-Ok.size c.read_piece.new.out (omega (arith, c.in-Ok.ensures.some, c.in-Ok.ensures.buffer)), c.in-Ok.ensures.some) in
-      subst (LeavesNoMore c.args.block s) (sym (c.program.ensures.content tells)) (left_below c.program.result c.args.block (4096 * c.args.block) bytes s (omega arith) (omega (arith, inside, c.requires.ready.room, size)));
-  goes = search rules;
-  spent = spent_one _ _ c.in_ok-program.ensures.arming;
-  touches =
-      let at = 4096 * c.args.block in
-      let bytes = take c.in-Ok.size c.read_piece.new.out in
-      let size : length bytes ≤ 4096 = omega (arith, length-take-le c.in-Ok.size c.read_piece.new.out (omega (arith, c.in-Ok.ensures.some, c.in-Ok.ensures.buffer)), c.in-Ok.ensures.some) in
-      touches_wider at (at + length bytes) at (at + 4096) (omega arith) (omega (arith, size)) c.program.ensures.touches;
-  stops = search rules;
-}
+returns-clause-writes g c =
+    let at = 4096 * c.args.block in
+    let bytes = take c.in-Ok.size c.read_piece.new.out in
+    let size : length bytes ≤ 4096 =
+        omega (arith, length-take-le c.in-Ok.size c.read_piece.new.out (omega (arith, c.in-Ok.ensures.some, c.in-Ok.ensures.buffer)), c.in-Ok.ensures.some) in
+    record {
+      keeps = λ tells.
+          let s = g.D.Flash.told c.args.flash.now in
+          let inside = (g.met.D.Flash.sound c.args.flash.now tells).size in
+          subst (Keeps at (at + 4096) s) (sym (c.program.ensures.content tells))
+          (keeps_written c.program.result at (at + 4096) at bytes s s (omega arith) (omega (arith, size)) (omega (arith, inside, c.requires.ready.room, size)) (keeps_same at (at + 4096) s));
+      left = λ tells.
+          let s = g.D.Flash.told c.args.flash.now in
+          let inside = (g.met.D.Flash.sound c.args.flash.now tells).size in
+          subst (LeavesNoMore c.args.block s) (sym (c.program.ensures.content tells)) (left_below c.program.result c.args.block (4096 * c.args.block) bytes s (omega arith) (omega (arith, inside, c.requires.ready.room, size)));
+      goes = search rules;
+      spent = spent_one _ _ c.in_ok-program.ensures.arming;
+      touches = touches_wider at (at + length bytes) at (at + 4096) (omega arith) (omega (arith, size)) c.program.ensures.touches;
+      stops = search rules;
+    }
 
 pub returns-clause-bytes : goal.returns-clause-bytes
 returns-clause-bytes g c = λ tells file told.

@@ -7,7 +7,7 @@ use Rattle.flash_format.specs.Stops.{RefusesAs, IsOfBytes}
 use Rattle.flash_format.specs.declared.plan.Plan.{Plan}
 use Rattle.flash_format.specs.declared.stops.FormatStop.TheVariants.{Input}
 use Rattle.flash_format.specs.declared.stops.InputFault.TheVariants.{Layout as BadLayout}
-use Rattle.flash_format.proofs.Answered.{of_fault}
+use Rattle.flash_format.proofs.Given.{of_fault}
 use Rattle.flash_format.proofs.planning.plan.Goals as goal
 
 pub returns-in-Ok-clause-input : goal.returns-in-Ok-clause-input

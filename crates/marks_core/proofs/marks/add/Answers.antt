@@ -2,8 +2,7 @@ use Rattle.std.proofs.Common.{◌+◌, ◌*◌, ◌∙◌, ap, sym, subst, arith
 use Rattle.flash_core.specs.Told.{settled}
 use Rattle.flash_core.proofs.Touches.{touches_still, touches_wider}
 use Rattle.marks_core.specs.Marks.{Adds}
-use Rattle.marks_core.proofs.Granules.{granule_range, blank_granule}
-use Rattle.marks_core.proofs.Counting.{program_stopped, added}
+use Rattle.marks_core.proofs.Counting.{granule_range, blank_granule, program_stopped, added}
 use Rattle.marks_core.proofs.marks.add.Goals as goal
 
 pub program-requires-clause-blank : goal.program-requires-clause-blank

@@ -6,7 +6,7 @@ use Rattle.flash_core.specs.Told.{put, halt, settled}
 use Rattle.flash_core.proofs.Touches.{touches_none, touches_still, touches_then}
 use Rattle.fwu_formats.specs.Image.{is_blank}
 use Rattle.marks_core.specs.Marks.{Clears, TakesClear}
-use Rattle.marks_core.proofs.Clearing.{was_clear, clear_stopped, cleared, takes_erase}
+use Rattle.marks_core.proofs.Counting.{was_clear, clear_stopped, cleared, takes_erase}
 use Rattle.marks_core.proofs.marks.clear_by.Goals as goal
 
 pub returns-then-all_erased-clause-clears : goal.returns-then-all_erased-clause-clears

@@ -4,8 +4,7 @@ use Rattle.std.specs.Prelude.{IsTrue, IsFalse}
 use Rattle.flash_core.specs.Told.{Told}
 use Rattle.base_core.specs.Block.{granule}
 use Rattle.fwu_formats.specs.Image.{is_blank}
-use Rattle.marks_core.proofs.Granules.{granule_read}
-use Rattle.marks_core.proofs.Counting.{marks_is, marks_all}
+use Rattle.marks_core.proofs.Counting.{granule_read, marks_is, marks_all}
 use Rattle.marks_core.proofs.marks.count.Goals as goal
 
 pub returns-then-all_erased-clause-marks : goal.returns-then-all_erased-clause-marks

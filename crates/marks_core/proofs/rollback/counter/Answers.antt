@@ -1,6 +1,6 @@
 use Rattle.std.proofs.Common.{◌∙◌, ap}
 use Rattle.base_core.specs.Block.{block}
-use Rattle.marks_core.specs.Raises.{value_in}
+use Rattle.marks_core.specs.Marks.{value_in}
 use Rattle.marks_core.proofs.Recording.{counter_of}
 use Rattle.marks_core.proofs.rollback.counter.Goals as goal
 

@@ -5,7 +5,7 @@ use Rattle.flash_core.specs.Told.{Told}
 use Rattle.flash_core.specs.Replaces.{padded, Replaces}
 use Rattle.flash_core.proofs.Touches.{touches_none}
 use Rattle.fwu_formats.specs.Counter.{record_bytes}
-use Rattle.marks_core.specs.Raises.{Raises, record_place}
+use Rattle.marks_core.specs.Marks.{Raises, record_place}
 use Rattle.marks_core.proofs.Recording.{one_record, raised, unwritten}
 use Rattle.marks_core.proofs.rollback.raise.Goals as goal
 

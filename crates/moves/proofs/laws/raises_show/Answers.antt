@@ -1,4 +1,4 @@
-use Rattle.moves.proofs.Raised.{raise-shows}
+use Rattle.moves.proofs.Trials.{raise-shows}
 use Rattle.moves.proofs.laws.raises_show.Goals as goal
 
 pub returns : goal.returns

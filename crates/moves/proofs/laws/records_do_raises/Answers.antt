@@ -1,4 +1,4 @@
-use Rattle.moves.proofs.Raised.{raise-does}
+use Rattle.moves.proofs.Trials.{raise-does}
 use Rattle.moves.proofs.laws.records_do_raises.Goals as goal
 
 pub returns : goal.returns

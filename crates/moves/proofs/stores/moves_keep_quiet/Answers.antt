@@ -1,6 +1,6 @@
 use Rattle.moves.proofs.Guarded.{rest-used}
-use Rattle.moves.proofs.Read.{deciding-fits}
-use Rattle.moves.proofs.StoredPlain.{quiet-free, quiet-accept, quiet-back, quiet-switch}
+use Rattle.moves.proofs.MetaIn.{deciding-fits}
+use Rattle.moves.proofs.Stored.{quiet-free, quiet-accept, quiet-back, quiet-switch}
 use Rattle.moves.proofs.stores.moves_keep_quiet.Goals as goal
 
 pub returns : goal.returns
