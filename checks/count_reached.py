@@ -22,7 +22,8 @@ def read_uses(text):
             for item in rest.split(","):
                 item = item.strip()
                 inner = re.match(r"(\S+) as (\S+)", item)
-                names[inner.group(2) if inner else item] = (target, inner.group(1) if inner else item)
+                path, dot, name = (inner.group(1) if inner else item).rpartition(".")
+                names[inner.group(2) if inner else name] = (target + dot + path, name)
     for target, alias in re.findall(r"^use Rattle\.(\S+) as (\S+)", text, re.M):
         modules[alias] = target
     return names, modules

@@ -1,37 +1,61 @@
--- How a soak ends.
-use Rattle.std.proofs.Common.{◌≡◌, ◌≢◌, ◌<◌, ◌+◌, ℕ, List, ◌∷◌, ◌++◌, Bool, get_or, Option, Some, None, Result, sym, ap, subst, ◌∙◌, arith, IsTrue}
+-- The totals of a soak, and how it ended.
+use Rattle.std.proofs.Common.{◌≡◌, ◌+◌, Bool, cond, List, ◌∷◌, ◌++◌, length, refl, ◌∙◌, arith, length-append, [], ◌≢◌, ◌<◌, ℕ, get_or, Option, Some, None, Result, sym, ap, subst, IsTrue}
+use Rattle.std.proofs.lemmas.List.Sums.{count_by-le-length, fold-append, sum_by-append}
+use Rattle.fwu_model.specs.{Reply.Reply, Reply.Turn, Call.Call, Run.ends_run, Causes.status_by, Text.line, declared.kinds.Note.Note}
+use Rattle.gen_core.specs.Line.{LastStart, count_of, is_booted, is_fallback, is_lost, is_sent, last_started, started, totals_of, soak_line}
+use Rattle.gen_core.specs.{declared.line.Totals.Totals, Calls.file_name, Calls.round_calls, Calls.round_package, Calls.soak_calls}
+use Rattle.gen_core.specs.{Draws.register_after, Rounds.rounds_from, Setup.soak_layout, declared.rounds.Round.Round}
 use Rattle.std.specs.Prelude.{flat_map}
-use Rattle.host_io.specs.Contents.{Directory}
-use Rattle.fwu_formats.specs.Digests.{passes_any}
-use Rattle.fwu_formats.specs.Layout.{ImageRow}
-use Rattle.flash_format.specs.declared.formatting.Formatted.{Formatted}
-use Rattle.flash_format.specs.declared.stops.FormatStop.{FormatStop}
-use Rattle.flash_commands.specs.Formatting.{Tries}
-use Rattle.fwu_model.specs.Call.{Call}
+use Rattle.host_io.specs.{Contents.Directory, Printed.Prints}
+use Rattle.fwu_formats.specs.{Digests.passes_any, Layout.ImageRow}
+use Rattle.flash_format.specs.{declared.formatting.Formatted.Formatted, declared.stops.FormatStop.FormatStop}
 use Rattle.fwu_model.specs.Call as call
-use Rattle.fwu_model.specs.Reply.{Reply, Turn}
 use Rattle.fwu_model.specs.Reply as reply
-use Rattle.fwu_model.specs.Run.{ends_run}
-use Rattle.fwu_model.specs.Causes.{status_by}
-use Rattle.fwu_model.specs.Text.{line}
-use Rattle.fwu_model.specs.declared.kinds.Note.{Note}
-use Rattle.gen_core.specs.Calls.{file_name, round_calls, round_package, soak_calls}
-use Rattle.gen_core.specs.Draws.{register_after}
-use Rattle.gen_core.specs.Line.{soak_line}
-use Rattle.gen_core.specs.Rounds.{rounds_from}
-use Rattle.gen_core.specs.Setup.{soak_layout}
-use Rattle.gen_core.specs.declared.rounds.Round.{Round}
 use Rattle.gen_core.proofs.Naming.{rounds-have-packages}
 use Rattle.flash_core.specs.declared.flash.Flash.{Ghosts}
 use Rattle.agent_machine.specs.Fields.{Fields}
-use Rattle.script_turns.specs.declared.powered.Powered.{Powered}
+use Rattle.script_turns.specs.{declared.powered.Powered.Powered, Runs.Ran}
 use Rattle.script_turns.specs.Powered.{TurnMoment, device, moment, moment_of, moment_on, shown_on}
-use Rattle.host_io.specs.Printed.{Prints}
-use Rattle.script_turns.specs.Runs.{Ran}
 use Rattle.script_runs.specs.ByTable.{flash_fault_line}
-use Rattle.flash_commands.specs.Soaking.{SoakReached, goes, starved, ended, first_files, soak_files, stop_text}
-use Rattle.flash_commands.specs.SoakWays.{SoakEnds, all_done, lacking, stopped}
-use Rattle.script_runs.proofs.Shapes.{end-of}
+use Rattle.script_runs.proofs.TopWays.{end-of}
+use Rattle.flash_commands.specs.Soaking.{AreWithin, counted_turn, SoakReached, goes, starved, ended, first_files, soak_files, stop_text}
+use Rattle.flash_commands.specs.{Formatting.Tries, SoakWays.SoakEnds, SoakWays.all_done, SoakWays.lacking, SoakWays.stopped}
+
+-- ---- the totals of a journal, one turn after the other
+
+abbrev no_totals : Totals
+no_totals = record { turns = 0; boots = 0; losses = 0; fallbacks = 0; sends = 0; bank = 0; version = 0; counter = 0 }
+
+pub totals-none : totals_of [] ≡ no_totals
+unfolding totals_of
+totals-none = refl
+
+count-more : (test : Reply → Bool) (journal : List Turn) (t : Turn) → count_of test (journal ++ t ∷ []) ≡ count_of test journal + cond (test t.reply) 1 0
+count-more test journal t = sum_by-append (λ (x : Turn). cond (test x.reply) 1 0) journal (t ∷ []) ∙ omega arith
+
+started-more : (journal : List Turn) (t : Turn) → last_started (journal ++ t ∷ []) ≡ started (last_started journal) t.reply
+started-more journal t = fold-append (λ (last : LastStart) (x : Turn). started last x.reply) (record { bank = 0; version = 0; counter = 0 }) journal (t ∷ [])
+
+pub totals-more : (journal : List Turn) (t : Turn) → totals_of (journal ++ t ∷ []) ≡ counted_turn (totals_of journal) t.reply
+unfolding totals_of
+totals-more journal t =
+    rw (length-append journal (t ∷ [])) (rw (count-more is_booted journal t) (rw (count-more is_lost journal t) (rw (count-more is_fallback journal t) (rw (count-more is_sent journal t)
+    (rw (started-more journal t) refl)))))
+
+pub totals-within : (journal : List Turn) → AreWithin (totals_of journal)
+unfolding totals_of
+totals-within journal = record {
+  boots = count_by-le-length (λ (t : Turn). is_booted t.reply) journal;
+  losses = count_by-le-length (λ (t : Turn). is_lost t.reply) journal;
+  fallbacks = count_by-le-length (λ (t : Turn). is_fallback t.reply) journal;
+  sends = count_by-le-length (λ (t : Turn). is_sent t.reply) journal;
+}
+
+pub totals-count : (journal : List Turn) → (totals_of journal).turns ≡ length journal
+unfolding totals_of
+totals-count journal = refl
+
+-- ---- how a soak ends
 
 -- a flash on which no bank was started
 pub moment-fresh : {D : Type 0} {F : Ghosts D} (p : Powered D F) (d : D) → shown_on p ≡ None → device p ≡ d

@@ -1,32 +1,21 @@
 -- The rounds of a soak, one after the other.
-use Rattle.std.proofs.Common.{◌≡◌, ℕ, zero, suc, ◌+◌, ◌-◌, ◌<◌, Bool, List, [], ◌∷◌, ◌++◌, length, get_or, take, drop, map, Option, Some, None, refl, sym, ap, subst, ◌∙◌, Contains, All, arith, append-nil, append_assoc}
-use Rattle.std.specs.Prelude.{IfSome, flat_map, ◌==◌}
+use Rattle.std.proofs.Common.{◌≡◌, ℕ, zero, suc, ◌+◌, ◌-◌, ◌<◌, Bool, List, ◌∷◌, ◌++◌, length, get_or, take, drop, map, Option, Some, None, refl, sym, ap, subst, ◌∙◌, Contains, All, arith, append-nil, append_assoc}
+use Rattle.std.specs.Prelude.{IfSome, flat_map, ◌==◌, []}
 use Rattle.std.specs.List.{slice_get}
-use Rattle.std.proofs.lemmas.Bool.{cond_both, eqb-false}
-use Rattle.std.proofs.lemmas.List.{drop_more, take-append-drop}
-use Rattle.std.proofs.lemmas.List.Concat.{flat_map-cons}
+use Rattle.std.proofs.{lemmas.Bool.cond_both, lemmas.Bool.eqb-false, lemmas.List.drop_more, lemmas.List.take-append-drop}
+use Rattle.std.proofs.{lemmas.List.Concat.flat_map-cons, lemmas.Grind.flat_map-append, lemmas.Option.get_or_from_slice_get}
+use Rattle.std.proofs.{lemmas.Option.slice_get-get_or, lemmas.Slice.Eq.bytes_eq-Decides, Math.Seq.take-length}
 use Rattle.std.proofs.lemmas.List.Elements.{All-append, All-cons, All-contains, All-head, All-nil, All-tail}
-use Rattle.std.proofs.lemmas.Grind.{flat_map-append}
-use Rattle.std.proofs.lemmas.Option.{get_or_from_slice_get, slice_get-get_or}
-use Rattle.std.proofs.lemmas.Slice.Eq.{bytes_eq-Decides}
-use Rattle.std.proofs.Math.Seq.{take-length}
 use Rattle.host_io.specs.Contents.{Directory}
 use Rattle.fwu_formats.specs.Layout.{ImageRow}
-use Rattle.fwu_model.specs.Call.{Call}
+use Rattle.fwu_model.specs.{Call.Call, Reply.Turn, Headline.IsPrefixOf, declared.kinds.Note.Note}
 use Rattle.fwu_model.specs.Call as call
-use Rattle.fwu_model.specs.Reply.{Turn}
-use Rattle.fwu_model.specs.Headline.{IsPrefixOf}
-use Rattle.fwu_model.specs.declared.kinds.Note.{Note}
 use Rattle.fwu_model.specs.declared.kinds.Note.TheVariants as note
 use Rattle.gen_core.specs.Calls.{accept_calls, cut_calls, ending_calls, file_name, round_calls, round_package, shown as soak_shown}
-use Rattle.gen_core.specs.Draws.{draw, drawn, register_after}
+use Rattle.gen_core.specs.{Draws.draw, Draws.drawn, Draws.register_after, Setup.soak_layout, declared.calls.SoakCall.SoakCall}
+use Rattle.gen_core.specs.{declared.rounds.Cut.Cut, declared.rounds.Ending.Ending, declared.rounds.Round.Round}
 use Rattle.gen_core.specs.Rounds.{cut_of, draws_of, round_of, rounds_from}
-use Rattle.gen_core.specs.Setup.{soak_layout}
-use Rattle.gen_core.specs.declared.calls.SoakCall.{SoakCall}
-use Rattle.gen_core.specs.declared.rounds.Cut.{Cut}
-use Rattle.gen_core.specs.declared.rounds.Ending.{Ending}
 use Rattle.gen_core.specs.declared.rounds.Ending.TheVariants as ending
-use Rattle.gen_core.specs.declared.rounds.Round.{Round}
 use Rattle.script_text.specs.Armable.{IsArmable}
 use Rattle.script_turns.specs.Powered.{TurnMoment}
 use Rattle.flash_commands.specs.Soaking.{AgreeFor, GoesSoaking, IsArmableCut, SoakReached, only_file_of, starved, goes}

@@ -1,33 +1,24 @@
 -- What a turn of a soak does with one file at hand, it does with all packages at hand.
-use Rattle.std.proofs.Common.{◌≡◌, ◌⊎◌, ℕ, Bool, false, ◌||◌, ◌&&◌, not, ◌==◌, List, [], ◌∷◌, Option, Some, None, Result, Ok, Err, refl, sym, ap, subst, ◌∙◌, inl, inr}
-use Rattle.std.specs.Prelude.{if◌then◌else◌, nat_lt, length, replicate}
+use Rattle.std.proofs.Common.{◌≡◌, ◌⊎◌, ℕ, Bool, false, ◌||◌, ◌&&◌, not, ◌==◌, List, ◌∷◌, Option, Some, None, Result, Ok, Err, refl, sym, ap, subst, ◌∙◌, inl, inr}
+use Rattle.std.specs.Prelude.{if◌then◌else◌, nat_lt, [], length, replicate}
 use Rattle.std.proofs.lemmas.Option.{same_Some}
-use Rattle.flash_core.specs.declared.flash.Arming.{Arming}
-use Rattle.flash_core.specs.Told.{Told}
+use Rattle.flash_core.specs.{declared.flash.Arming.Arming, Told.Told}
 use Rattle.host_io.specs.Contents.{Directory}
-use Rattle.fwu_formats.specs.Package.{Toc}
-use Rattle.fwu_formats.specs.Places.{trial_limit}
+use Rattle.fwu_formats.specs.{Package.Toc, Places.trial_limit}
 use Rattle.fwu_model.specs.Answer.{Answer, answer, answer_boot, answer_previous, answer_send, answer_begin, boots_chosen, may_go_back, send_file, install_unless, table_in, first_image_fault, images_of, skipped}
-use Rattle.fwu_model.specs.Call.{Call}
+use Rattle.fwu_model.specs.{Call.Call, Calm.IsCalm, Causes.FileNotRead, Headline.LeavesOneOf, Reply.Reply, Reply.Turn}
+use Rattle.fwu_model.specs.{Seen.SoundFlash, Session.Session, Session.Off, Session.On, Session.Staged, Session.Handle}
 use Rattle.fwu_model.specs.Call as call
-use Rattle.fwu_model.specs.Calm.{IsCalm}
-use Rattle.fwu_model.specs.Causes.{FileNotRead}
-use Rattle.fwu_model.specs.Headline.{LeavesOneOf}
-use Rattle.fwu_model.specs.Reply.{Reply, Turn}
 use Rattle.fwu_model.specs.Reply as reply
 use Rattle.fwu_model.specs.Run.{Condition, Step, Answered, Idle, Stopped, StoppedEarly, moved_on, prefixes, stopped_moves}
-use Rattle.fwu_model.specs.Seen.{SoundFlash}
-use Rattle.fwu_model.specs.Session.{Session, Off, On, Staged, Handle}
 use Rattle.fwu_model.specs.Sound.{Setting, IsSoundBank, HasFallback, Sound, can_fall_back, can_start, choice, holds_complete, holds_permitted}
 use Rattle.fwu_model.specs.State.{State, Bank, Move, bank, is_accepted, is_valid, after}
 use Rattle.moves.specs.Moved.{IsReady}
 use Rattle.agent_machine.specs.Fields.{Fields}
 use Rattle.agent_machine.specs.Moment as agent
 use Rattle.script_turns.specs.Powered.{IsAt, TurnMoment, SameDevice, ShowsCondition, kept_at}
-use Rattle.script_turns.specs.Replies.{Replies}
+use Rattle.script_turns.specs.{Replies.Replies, Takes.SendTakes, Takes.StopTakes, Takes.TakesBy, Turning.Turns}
 use Rattle.script_turns.specs.Sending.{AnswersSend, IsTableOf, LacksSent, SendSays, SendsBy}
-use Rattle.script_turns.specs.Takes.{SendTakes, StopTakes, TakesBy}
-use Rattle.script_turns.specs.Turning.{Turns}
 use Rattle.flash_commands.specs.Soaking.{AgreeFor}
 
 -- ---- sound flashes don't depend on the files

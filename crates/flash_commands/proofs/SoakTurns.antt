@@ -1,33 +1,24 @@
 -- The turns of a soak, one after the other.
-use Rattle.std.proofs.Common.{◌≡◌, ◌≢◌, ℕ, ◌+◌, ◌<◌, Bool, ◌||◌, List, [], ◌∷◌, ◌++◌, length, take, drop, map, Some, None, refl, sym, ap, subst, ◌∙◌, inl, inr, IsTrue, Contains, arith, append_assoc, get_or}
-use Rattle.std.specs.Prelude.{option_map}
+use Rattle.std.proofs.Common.{◌≡◌, ◌≢◌, ℕ, ◌+◌, ◌<◌, Bool, ◌||◌, List, ◌∷◌, ◌++◌, length, take, drop, map, Some, None, refl, sym, ap, subst, ◌∙◌, inl, inr, IsTrue, Contains, arith, append_assoc, get_or}
+use Rattle.std.specs.Prelude.{option_map, []}
 use Rattle.std.specs.List.{slice_get, list_any}
-use Rattle.std.proofs.lemmas.Bool.{false≢true}
-use Rattle.std.proofs.lemmas.List.{take-append-drop, map-append, take_more}
-use Rattle.std.proofs.lemmas.List.Folds.{list_any-append}
+use Rattle.std.proofs.{lemmas.Bool.false≢true, lemmas.List.take-append-drop, lemmas.List.map-append, lemmas.List.take_more}
+use Rattle.std.proofs.{lemmas.List.Folds.list_any-append, lemmas.List.Elements.Contains-get_or, Math.Seq.take-length}
 use Rattle.std.proofs.lemmas.Option.{slice_get_within, get_or_from_slice_get, slice_get-map, slice_get-get_or}
-use Rattle.std.proofs.lemmas.List.Elements.{Contains-get_or}
-use Rattle.std.proofs.Math.Seq.{take-length}
-use Rattle.gen_core.specs.Calls.{shown as soak_shown}
-use Rattle.gen_core.specs.declared.calls.SoakCall.{SoakCall}
+use Rattle.gen_core.specs.{Calls.shown as soak_shown, declared.calls.SoakCall.SoakCall}
 use Rattle.host_io.specs.Contents.{Directory}
 use Rattle.flash_core.specs.Counts.{Rose}
-use Rattle.fwu_model.specs.Call.{Call}
+use Rattle.fwu_model.specs.{Call.Call, Reply.Reply, Reply.Turn, Run.ends_run, Headline.IsPrefixOf, Causes.FileNotRead}
+use Rattle.fwu_model.specs.{Causes.status_by, declared.kinds.Note.Note}
 use Rattle.fwu_model.specs.Call as call
-use Rattle.fwu_model.specs.Reply.{Reply, Turn}
 use Rattle.fwu_model.specs.Reply as reply
-use Rattle.fwu_model.specs.Run.{ends_run}
-use Rattle.fwu_model.specs.Headline.{IsPrefixOf}
-use Rattle.fwu_model.specs.Causes.{FileNotRead, status_by}
-use Rattle.fwu_model.specs.declared.kinds.Note.{Note}
 use Rattle.fwu_model.specs.declared.kinds.Note.TheVariants as note
 use Rattle.fwu_formats.specs.Digests.{passes_any}
-use Rattle.script_turns.specs.Powered.{TurnMoment}
-use Rattle.script_turns.specs.Runs.{Ran, calls_of}
+use Rattle.script_turns.specs.{Powered.TurnMoment, Runs.Ran, Runs.calls_of}
 use Rattle.script_runs.specs.Running.{DoesTurn}
-use Rattle.flash_commands.specs.Soaking.{AgreeFor, GoesSoaking, SoakReached, goes, starved, ended}
 use Rattle.script_runs.proofs.RunEnds.{on-at-zero}
 use Rattle.script_turns.proofs.RunTurns.{ran-none, ran-on}
+use Rattle.flash_commands.specs.Soaking.{AgreeFor, GoesSoaking, SoakReached, goes, starved, ended}
 use Rattle.flash_commands.proofs.SoakSetting.{turns-with}
 
 -- another status is of a turn that ends the run

@@ -1,46 +1,32 @@
 -- What the command `format` does, tells and prints.
-use Rattle.std.specs.Prelude.{◌≡◌, ◌⊎◌, ◌+◌, ◌*◌, ◌≤◌, ℕ, ◌++◌, ◌∷◌, [], false, Bool, List, Option, None, Result, Ok, Err, IfOk}
+use Rattle.std.specs.Prelude.{◌≡◌, ◌⊎◌, ◌+◌, ◌*◌, ◌≤◌, ℕ, ◌++◌, ◌∷◌, false, Bool, List, Option, None, Result, Ok, Err, IfOk, []}
 use Rattle.std.specs.Prelude.{IsTrue, IsFalse, is_ok, codes, decimal, length}
-use Rattle.flash_core.specs.Counts.{all_stops, stops_in}
-use Rattle.flash_core.specs.May.{Keeps}
-use Rattle.flash_core.specs.Told.{Told, NothingDirty}
-use Rattle.flash_core.specs.Touches.{TouchesOnly}
+use Rattle.flash_core.specs.{Counts.all_stops, Counts.stops_in, May.Keeps, Told.Told, Told.NothingDirty, Touches.TouchesOnly}
 use Rattle.flash_core.specs.declared.flash.FlashStop.{FlashStop}
 use Rattle.base_core.specs.Guid.{guid_text}
-use Rattle.host_io.specs.Contents.{Directory}
-use Rattle.fwu_formats.specs.Layout.{Layout, blocks_needed}
-use Rattle.fwu_formats.specs.Package.{Toc, toc_of}
-use Rattle.fwu_model.specs.Answer.{images_of}
-use Rattle.fwu_formats.specs.Manifest.{is_complete, manifest_part}
-use Rattle.fwu_formats.specs.FaultText.{fip_fault_text}
-use Rattle.fwu_model.specs.Text.{format_line, no_boot_text}
+use Rattle.host_io.specs.{Contents.Directory, Printed.Prints}
+use Rattle.fwu_formats.specs.{Layout.Layout, Layout.blocks_needed, Package.Toc, Package.toc_of, Manifest.is_complete}
+use Rattle.fwu_formats.specs.{Manifest.manifest_part, FaultText.fip_fault_text}
+use Rattle.fwu_model.specs.{Answer.images_of, Text.format_line, Text.no_boot_text}
 use Rattle.fwu_model.specs.declared.kinds.NoBoot.TheVariants as no_boot
 use Rattle.meta_layout.specs.Rows.{fitted}
 use Rattle.fip_tables.specs.Files.{Lacks, Tells}
-use Rattle.image_check.specs.Law.{verdict_may_start}
-use Rattle.image_check.specs.Passed.{HasPassed}
-use Rattle.image_check.specs.declared.bank.Verdict.{Verdict}
+use Rattle.image_check.specs.{Law.verdict_may_start, Passed.HasPassed, declared.bank.Verdict.Verdict}
 use Rattle.image_check.specs.declared.bank.Verdict.TheVariants as verdict
-use Rattle.flash_format.specs.Choosing.{refusal}
+use Rattle.flash_format.specs.{Choosing.refusal, declared.formatting.Formatted.Formatted, declared.stops.FormatStop.FormatStop}
+use Rattle.flash_format.specs.{declared.stops.InputFault.InputFault, Stops.flash_result, Stops.unread_in}
 use Rattle.flash_format.specs.Formatted.{HoldsImages, IsBlank, IsFormatted, IsInOrder, IsRefusedFormat, IsSpelled, IsUnlaid}
-use Rattle.flash_format.specs.Stops.{RefusesAs, FormatFinishes, IsEarlyStop, IsOfBytes, IsOfLayout, LayoutBy, ReadsFileBy, flash_result, unread_in}
-use Rattle.flash_format.specs.declared.formatting.Formatted.{Formatted}
-use Rattle.flash_format.specs.declared.stops.FormatStop.{FormatStop}
+use Rattle.flash_format.specs.Stops.{RefusesAs, FormatFinishes, IsEarlyStop, IsOfBytes, IsOfLayout, LayoutBy, ReadsFileBy}
 use Rattle.flash_format.specs.declared.stops.FormatStop.TheVariants.{Input, ReadFailed, Flash}
-use Rattle.flash_format.specs.declared.stops.InputFault.{InputFault}
 use Rattle.flash_format.specs.declared.stops.InputFault.TheVariants as fault
 use Rattle.fwu_words.specs.Order as ask
 use Rattle.fwu_words.specs.declared.orders.NewFlash.{NewFlash}
-use Rattle.script_turns.specs.Powered.{TurnMoment}
+use Rattle.script_turns.specs.{Powered.TurnMoment, Turning.NoneFalls}
 use Rattle.script_runs.specs.ByTable.{StopHasCause, Wakes, flash_fault_line}
-use Rattle.script_runs.specs.Ending.{Device, PutsNone, World}
-use Rattle.script_runs.specs.Noted.{is_beyond_model, noted}
-use Rattle.host_io.specs.Printed.{Prints}
-use Rattle.flash_commands.specs.Showing.{RefusedList}
-use Rattle.script_turns.specs.Turning.{NoneFalls}
-use Rattle.script_runs.specs.Ways.{Given, HasGoodList}
-use Rattle.script_runs.specs.declared.done.Note.{Note}
+use Rattle.script_runs.specs.Ending.{Device, PutsNone, World, is_beyond_model, noted}
+use Rattle.script_runs.specs.{Ways.Given, Ways.HasGoodList, declared.done.Note.Note}
 use Rattle.script_runs.specs.declared.done.Note.TheVariants as note
+use Rattle.flash_commands.specs.Showing.{RefusedList}
 
 -- ---- the line, the status and the note of what became of a format
 
@@ -88,10 +74,8 @@ format_status (Err ReadFailed) = 2
 format_status (Err (Flash stop)) = 5
 
 abbrev pub format_note : Result Formatted FormatStop → Note
-format_note (Ok done) = note.Nothing
 format_note (Err (Input f)) = note.Input f
-format_note (Err ReadFailed) = note.Nothing
-format_note (Err (Flash stop)) = note.Nothing
+format_note other = note.Nothing
 
 -- ---- what became of the flash
 

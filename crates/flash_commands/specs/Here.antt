@@ -4,11 +4,8 @@ use Rattle.flash_core.specs.declared.flash.Flash as flash
 use Rattle.host_io.specs.declared.files.Files as files
 use Rattle.host_io.specs.declared.sink.Sink as sink
 use Rattle.fwu_model.specs.Causes.{Faults}
-use Rattle.script_runs.specs.Done.{ending}
-use Rattle.script_runs.specs.Ending.{World}
+use Rattle.script_runs.specs.{Ending.ending, Ending.World, Ways.Given, Ways.device_of, Ways.moment_world, declared.done.Done.Done}
 use Rattle.flash_commands.specs.SoakWays.{SoakWay}
-use Rattle.script_runs.specs.Ways.{Given, device_of, moment_world}
-use Rattle.script_runs.specs.declared.done.Done.{Done}
 
 -- one of the ways of a soak
 abbrev pub SoaksWay : {D O : Type 0} → flash.Ghosts D → sink.Ghosts O → Given → ℕ → ℕ → Faults → Faults → D → O → Done D → O

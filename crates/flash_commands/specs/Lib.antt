@@ -1,6 +1,5 @@
 pub mod Showing
 pub mod Formatting
 pub mod Soaking
-pub mod SoakStands
 pub mod SoakWays
 pub mod Here

@@ -1,35 +1,24 @@
 -- The ways that a soak may end.
-use Rattle.std.specs.Prelude.{◌≡◌, ◌≢◌, ℕ, true, List, [], ◌∷◌, ◌++◌, Option, Some, None, Ok, Err, IsTrue, IsFalse}
+use Rattle.std.specs.Prelude.{◌≡◌, ◌≢◌, ℕ, true, List, ◌∷◌, ◌++◌, Option, Some, None, Ok, Err, IsTrue, IsFalse, []}
 use Rattle.std.specs.List.{list_any}
-use Rattle.fwu_formats.specs.Digests.{passes_any}
-use Rattle.fwu_formats.specs.declared.kinds.LayoutFault.TheVariants.{BeyondFlash}
-use Rattle.fwu_model.specs.Call.{Call}
-use Rattle.fwu_model.specs.Reply.{Turn}
+use Rattle.fwu_formats.specs.{Digests.passes_any, declared.kinds.LayoutFault.TheVariants.BeyondFlash}
+use Rattle.fwu_model.specs.{Call.Call, Reply.Turn, Run.ends_run, Headline.IsPrefixOf, Causes.status_by, Causes.note_by}
 use Rattle.fwu_model.specs.Reply as reply
-use Rattle.fwu_model.specs.Run.{ends_run}
-use Rattle.fwu_model.specs.Headline.{IsPrefixOf}
-use Rattle.fwu_model.specs.Causes.{status_by, note_by}
 use Rattle.fwu_model.specs.declared.kinds.Note as model
 use Rattle.fwu_model.specs.declared.kinds.Note.TheVariants as model_note
 use Rattle.fwu_words.specs.Order as ask
 use Rattle.agent_machine.specs.Fields.{Fields}
-use Rattle.flash_format.specs.declared.formatting.Formatted.{Formatted}
-use Rattle.flash_format.specs.declared.stops.FormatStop.{FormatStop}
+use Rattle.flash_format.specs.{declared.formatting.Formatted.Formatted, declared.stops.FormatStop.FormatStop}
 use Rattle.flash_format.specs.declared.stops.InputFault.TheVariants as fault
-use Rattle.gen_core.specs.Calls.{file_name, soak_calls}
-use Rattle.gen_core.specs.Line.{soak_line, too_small_line}
-use Rattle.gen_core.specs.Setup.{is_too_small, soak_layout}
-use Rattle.script_turns.specs.Powered.{TurnMoment, at}
-use Rattle.flash_commands.specs.Formatting.{Tries, format_note, format_status, format_text}
-use Rattle.script_runs.specs.Ending.{Device, Ending, PutsNone, World, in_model}
-use Rattle.script_runs.specs.Noted.{is_beyond_model, noted}
+use Rattle.gen_core.specs.{Calls.file_name, Calls.soak_calls, Line.soak_line, Line.too_small_line, Setup.is_too_small}
+use Rattle.gen_core.specs.Setup.{soak_layout}
+use Rattle.script_turns.specs.{Powered.TurnMoment, Powered.at, Runs.Ran, Runs.calls_of}
+use Rattle.script_runs.specs.Ending.{Device, Ending, PutsNone, World, in_model, is_beyond_model, noted}
 use Rattle.host_io.specs.Printed.{Prints}
-use Rattle.script_turns.specs.Runs.{Ran, calls_of}
-use Rattle.flash_commands.specs.Showing.{RefusedList}
-use Rattle.flash_commands.specs.Soaking.{first_files, soak_files, stop_line}
-use Rattle.script_runs.specs.Ways.{Given, HasGoodList}
-use Rattle.script_runs.specs.declared.done.Note.{Note}
+use Rattle.script_runs.specs.{Ways.Given, Ways.HasGoodList, declared.done.Note.Note}
 use Rattle.script_runs.specs.declared.done.Note.TheVariants as note
+use Rattle.flash_commands.specs.Formatting.{Tries, format_note, format_status, format_text}
+use Rattle.flash_commands.specs.{Showing.RefusedList, Soaking.first_files, Soaking.soak_files, Soaking.stop_line}
 
 -- none of the turns ends a run
 abbrev pub EndsNone : List Turn → Type 0
@@ -60,16 +49,13 @@ pub data SoakWay (device : Device) (g : Given) (seed rounds : ℕ) (ending : End
   list_refused : ending.journal ≡ [] → new.flash ≡ old.flash → IsFalse (is_beyond_model ending.noted)
       → RefusedList (ask.soak seed rounds) g ending.status (noted ending.noted) old new
       → SoakWay device g seed rounds ending old new
-  starved : ending.journal ≡ [] → new.flash ≡ old.flash → ending.status ≡ 9 → ending.noted ≡ note.Nothing
-      → PutsNone old new
+  starved : ending.journal ≡ [] → new.flash ≡ old.flash → ending.status ≡ 9 → ending.noted ≡ note.Nothing → PutsNone old new
       → SoakWay device g seed rounds ending old new
-  too_small : HasGoodList g.list g.files → IsTrue (is_too_small device.blocks) → ending.journal ≡ []
-      → new.flash ≡ old.flash
+  too_small : HasGoodList g.list g.files → IsTrue (is_too_small device.blocks) → ending.journal ≡ [] → new.flash ≡ old.flash
       → ending.noted ≡ note.Input (fault.Layout BeyondFlash)
       → Prints too_small_line 7 ending.status old.taken new.taken old.faults.sink new.faults.sink
       → SoakWay device g seed rounds ending old new
-  not_formatted : HasGoodList g.list g.files → IsFalse (is_too_small device.blocks) → ending.journal ≡ []
-      → (stop : FormatStop)
+  not_formatted : HasGoodList g.list g.files → IsFalse (is_too_small device.blocks) → ending.journal ≡ [] → (stop : FormatStop)
       → Tries passes_any device.tells (Some (first_files seed)) (file_name 0) soak_layout device.blocks
       old.flash new.flash 0 0 (Err stop)
       → ending.noted ≡ format_note (Err stop)

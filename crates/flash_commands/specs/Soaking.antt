@@ -1,26 +1,20 @@
 -- What the turns of a soak do, and what its line tells.
-use Rattle.std.specs.Prelude.{◌≡◌, ◌≢◌, ◌≤◌, ℕ, ◌+◌, Bool, cond, List, [], ◌∷◌, ◌++◌, Some, ⊤, IsTrue, IsFalse}
+use Rattle.std.specs.Prelude.{◌≡◌, ◌≢◌, ◌≤◌, ℕ, ◌+◌, Bool, cond, List, ◌∷◌, ◌++◌, Some, ⊤, IsTrue, IsFalse, ◌<◌, slice_index_or, []}
 use Rattle.std.specs.List.{list_any}
 use Rattle.host_io.specs.Contents.{Directory, bytes_in}
-use Rattle.fwu_model.specs.Call.{Call}
+use Rattle.fwu_model.specs.{Call.Call, Reply.Reply, Reply.Turn, Run.ends_run, Text.line, Headline.IsPrefixOf, Causes.status_by}
+use Rattle.fwu_model.specs.{Causes.note_by, declared.kinds.Note.Note}
 use Rattle.fwu_model.specs.Call as call
-use Rattle.fwu_model.specs.Reply.{Reply, Turn}
 use Rattle.fwu_model.specs.Reply as reply
-use Rattle.fwu_model.specs.Run.{ends_run}
-use Rattle.fwu_model.specs.Text.{line}
-use Rattle.fwu_model.specs.Headline.{IsPrefixOf}
-use Rattle.fwu_model.specs.Causes.{status_by, note_by}
-use Rattle.fwu_model.specs.declared.kinds.Note.{Note}
 use Rattle.fwu_model.specs.declared.kinds.Note.TheVariants as note
 use Rattle.fwu_formats.specs.Digests.{passes_any}
-use Rattle.gen_core.specs.Calls.{file_name, first_package, packages_of}
+use Rattle.gen_core.specs.{Calls.file_name, Calls.first_package, Calls.packages_of, Calls.round_package, Rounds.soak_rounds}
+use Rattle.gen_core.specs.{Rounds.rounds_from, declared.line.Totals.Totals, declared.rounds.Cut.Cut, declared.rounds.Round.Round}
 use Rattle.gen_core.specs.Line.{LastStart, is_booted, is_fallback, is_lost, is_sent, started}
-use Rattle.gen_core.specs.Rounds.{soak_rounds}
-use Rattle.gen_core.specs.declared.line.Totals.{Totals}
-use Rattle.gen_core.specs.declared.rounds.Cut.{Cut}
-use Rattle.script_turns.specs.Powered.{TurnMoment}
-use Rattle.script_turns.specs.Runs.{Ran, calls_of}
-use Rattle.script_runs.specs.ByTable.{flash_fault_line}
+use Rattle.script_turns.specs.{Powered.TurnMoment, Powered.moment_of, Runs.Ran, Runs.calls_of}
+use Rattle.script_runs.specs.{ByTable.flash_fault_line, Ending.noted, declared.running.End.End, declared.running.Run.Run}
+use Rattle.flash_core.specs.declared.flash.Flash.{Ghosts}
+use Rattle.fwu_journal.specs.Shown.{turns}
 
 -- ---- the totals, one turn after the other
 
@@ -108,3 +102,20 @@ pub data SoakReached (tells : Bool) (all : Directory) (calls : List Call) (journ
       → IsFalse (list_any (λ (u : Turn). ends_run u.reply) front) → IsTrue (ends_run t.reply) → t.reply ≢ reply.ReadFault
       → status ≡ status_by t.reply → noted ≡ note_by t.reply → text ≡ line t.call t.reply
       → SoakReached tells all calls journal old new status noted text
+
+-- ---- how a soak stands between two turns, of what the code keeps of it
+
+-- these calls were done from here on, and none of them ended it
+abbrev pub GoesHere : {D : Type 0} {F : Ghosts D} → Directory → List Call → TurnMoment → Run D F → Type 0
+GoesHere {F = F} all calls old run = GoesSoaking F.tells all calls (turns run.journal) old (moment_of run.powered)
+
+-- it does these calls from here on, and stands so
+abbrev pub StandsHere : {D : Type 0} {F : Ghosts D} → Directory → List Call → TurnMoment → Run D F → End → Type 0
+StandsHere {F = F} all calls old run end =
+    SoakReached F.tells all calls (turns run.journal) old (moment_of run.powered) end.status (noted end.note)
+    run.text.items
+
+-- the packages of so many rounds, drawn from this register, are among the files
+abbrev pub HasPackages : Directory → ℕ → ℕ → Type 0
+HasPackages all register n = (k : ℕ) (d : Round) → k < n
+    → all (file_name (k + 1)) ≡ Some (round_package (slice_index_or (rounds_from register 1 n) k d))

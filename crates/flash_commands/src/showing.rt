@@ -10,7 +10,7 @@ ghost use Rattle.fwu_model.specs.Causes.{Faults};
 ghost use Rattle.script_turns.specs.Powered.{moment};
 ghost use Rattle.script_runs.specs.Ways.{Given, HasGoodList, moment_world};
 ghost use Rattle.script_runs.specs.ByTable.{Wakes};
-ghost use Rattle.script_runs.specs.Noted.{is_beyond_model, noted};
+ghost use Rattle.script_runs.specs.Ending.{is_beyond_model, noted};
 ghost use Rattle.script_turns.specs.Turning.{NoneFalls};
 ghost use Rattle.flash_commands.specs.Showing.{ShowFinds, Showed, shown_line, not_shown_line, stops_shown};
 

@@ -11,15 +11,12 @@ ghost use Rattle.gen_core.specs.Rounds.{sizes_in_round};
 ghost use Rattle.gen_core.specs.Setup.{is_too_small, soak_layout};
 ghost use Rattle.host_io.specs.Contents.{Directory};
 ghost use Rattle.script_turns.specs.Powered.{TurnMoment, device, moment, moment_of};
-ghost use Rattle.script_runs.specs.Done.{ending};
+ghost use Rattle.script_runs.specs.Ending.{ending, in_model, noted};
 ghost use Rattle.flash_commands.specs.Here.{SoaksWay};
-ghost use Rattle.script_runs.specs.Ending.{in_model};
-ghost use Rattle.script_runs.specs.Noted.{noted};
 ghost use Rattle.script_runs.specs.Here.{PrintsTo};
 ghost use Rattle.flash_commands.specs.SoakWays.{SoakEnds};
 ghost use Rattle.script_runs.specs.ByTable.{flash_fault_line};
-ghost use Rattle.flash_commands.specs.SoakStands.{StandsHere};
-ghost use Rattle.flash_commands.specs.Soaking.{only_file_of, first_files};
+ghost use Rattle.flash_commands.specs.Soaking.{StandsHere, only_file_of, first_files};
 ghost use Rattle.script_runs.specs.Ways.{Given, HasGoodList};
 
 use crate::format_line::add_format_line;

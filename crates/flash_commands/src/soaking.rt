@@ -12,9 +12,8 @@ ghost use Rattle.host_io.specs.Contents.{Directory};
 ghost use Rattle.script_text.specs.Armable.{IsArmable};
 ghost use Rattle.script_text.specs.Shown.{HasBuffer, shown};
 ghost use Rattle.script_turns.specs.Powered.{TurnMoment, device, has_power, moment_of, shown_on};
-ghost use Rattle.script_runs.specs.Noted.{is_beyond_model};
-ghost use Rattle.flash_commands.specs.SoakStands.{GoesHere, HasPackages, StandsHere};
-ghost use Rattle.flash_commands.specs.Soaking.{AgreeFor, IsArmableCut, only_file_of};
+ghost use Rattle.script_runs.specs.Ending.{is_beyond_model};
+ghost use Rattle.flash_commands.specs.Soaking.{GoesHere, HasPackages, StandsHere, AgreeFor, IsArmableCut, only_file_of};
 
 use crate::one_file::OneFile;
 use base_core::NoMemory;

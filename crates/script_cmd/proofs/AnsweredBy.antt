@@ -1,56 +1,36 @@
 -- What is done for what the words ask for, from what the parts of the command did.
-use Rattle.std.proofs.Common.{◌≡◌, ◌≢◌, ◌≤◌, ℕ, Bool, true, false, List, [], Option, Some, None, refl, sym, ap, subst, ◌∙◌, arith, inl, inr}
-use Rattle.std.specs.Prelude.{IsTrue, IsFalse, ⊤}
-use Rattle.std.proofs.lemmas.Bool.{false≢true}
-use Rattle.std.proofs.lemmas.Option.{same_Some}
+use Rattle.std.proofs.Common.{◌≡◌, ◌≢◌, ◌≤◌, ℕ, Bool, true, false, List, Option, Some, None, refl, sym, ap, subst, ◌∙◌, arith, inl, inr}
+use Rattle.std.specs.Prelude.{IsTrue, IsFalse, ⊤, []}
+use Rattle.std.proofs.{lemmas.Bool.false≢true, lemmas.Option.same_Some}
 use Rattle.fwu_formats.specs.Digests.{passes_any}
-use Rattle.fwu_model.specs.Causes.{Faults, may_fail_before}
-use Rattle.fwu_model.specs.Reply.{Turn}
+use Rattle.fwu_model.specs.{Causes.Faults, Causes.may_fail_before, Reply.Turn, Asked.script_asked, Wrote.usage_line}
 use Rattle.fwu_model.specs.Asked as model
-use Rattle.fwu_model.specs.Asked.{script_asked}
-use Rattle.fwu_model.specs.Wrote.{usage_line}
 use Rattle.fwu_model.specs.declared.kinds.Note.TheVariants as model_note
-use Rattle.fwu_words.specs.Order.{Asked, turns_of}
+use Rattle.fwu_words.specs.{Order.Asked, Order.turns_of, declared.orders.Place.Place, declared.orders.ScriptFrom.ScriptFrom}
 use Rattle.fwu_words.specs.Order as ask
-use Rattle.fwu_words.specs.declared.orders.Place.{Place}
 use Rattle.fwu_words.specs.declared.orders.Place.TheVariants as place
-use Rattle.fwu_words.specs.declared.orders.ScriptFrom.{ScriptFrom}
 use Rattle.fwu_words.specs.declared.orders.ScriptFrom.TheVariants as origin
-use Rattle.host_io.specs.Contents.{Directory}
-use Rattle.script_turns.specs.Powered.{TurnMoment}
-use Rattle.script_cmd.specs.Answered.{Answered}
-use Rattle.script_cmd.specs.Asking.{asks_beyond, asks_files, asks_package, asks_source, leaves_on, RunsOrNone, over_table}
-use Rattle.script_runs.specs.Refusing.{in_short, plain_of, text_of}
-use Rattle.script_cmd.specs.FormattedBy.{FormattedBy}
-use Rattle.script_runs.specs.Noted.{is_beyond_model, noted}
-use Rattle.script_cmd.specs.Promises.{given_to}
-use Rattle.host_io.specs.Printed.{Prints}
-use Rattle.script_turns.specs.Runs.{calls_of, sends_none}
-use Rattle.script_cmd.specs.ServeWays.{ServeWay}
-use Rattle.script_cmd.specs.ServeWays as serve
-use Rattle.script_cmd.specs.ShowedBy.{ShowedBy}
-use Rattle.script_cmd.specs.ReadsInputs.{ReadsInputs}
-use Rattle.script_runs.specs.Ending.{Device, Ending, World, in_model}
+use Rattle.host_io.specs.{Contents.Directory, Printed.Prints}
+use Rattle.script_turns.specs.{Powered.TurnMoment, Runs.calls_of, Runs.sends_none}
+use Rattle.script_runs.specs.{Refusing.in_short, Refusing.plain_of, Refusing.text_of, Sourced.FailsOnce, Sourced.TakesScript}
+use Rattle.script_runs.specs.{Sourced.reads_all, WaysByTable.WayAt, WaysByTable.WayByTable, declared.done.Note.Note}
+use Rattle.script_runs.specs.Ending.{is_beyond_model, noted, Device, Ending, World, in_model}
 use Rattle.flash_commands.specs.SoakWays.{SoakWay}
 use Rattle.flash_commands.specs.SoakWays as soak
-use Rattle.script_runs.specs.Sourced.{FailsOnce, TakesScript, reads_all}
-use Rattle.script_cmd.specs.ByList.{ByList}
 use Rattle.script_runs.specs.Ways.{Given, HasGoodList, Refuses, Way}
 use Rattle.script_runs.specs.Ways as way
-use Rattle.script_runs.specs.WaysByTable.{WayAt, WayByTable}
-use Rattle.script_runs.specs.declared.done.Note.{Note}
 use Rattle.script_runs.specs.declared.done.Note.TheVariants as note
-use Rattle.script_cmd.proofs.ServeTop.{refused-serves, serves-with-list}
-use Rattle.script_cmd.proofs.Inputs.{Later, inputs-of}
-use Rattle.script_runs.proofs.Shapes.{device-of, end-of, world-of}
-use Rattle.script_cmd.proofs.SoakTop.{refused-soaks, soaks-with-list}
+use Rattle.script_runs.proofs.TopWays.{device-of, end-of, world-of, refused-by, with-list}
 use Rattle.script_runs.proofs.TableWays.{table-refused, table-starved, table-with-list}
+use Rattle.script_runs.proofs.TopSources.{not-done, none-fails, takes-nothing}
+use Rattle.script_cmd.specs.{Here.Answered, Promises.given_to, ServedBy.ServeWay, ReadsInputs.ReadsInputs, ByList.ByList}
+use Rattle.script_cmd.specs.Handed.{asks_beyond, asks_files, asks_package, asks_source, leaves_on, RunsOrNone, over_table}
+use Rattle.script_cmd.specs.NoTurns.{FormattedBy, ShowedBy}
+use Rattle.script_cmd.specs.ServedBy as serve
+use Rattle.script_cmd.proofs.{ServeTop.refused-serves, ServeTop.serves-with-list, SoakTop.refused-soaks, SoakTop.soaks-with-list}
+use Rattle.script_cmd.proofs.{TopLists.no-list-named, Unasked.Later, Unasked.inputs-of}
 use Rattle.script_cmd.proofs.TopFormats.{formats-with-list, none-some, refused-formats, starved-formats}
-use Rattle.script_runs.proofs.TopPrints.{not-done}
 use Rattle.script_cmd.proofs.TopShows.{refused-shows, shows-with-list, starved-shows}
-use Rattle.script_runs.proofs.TopSources.{none-fails, takes-nothing}
-use Rattle.script_cmd.proofs.TopLists.{no-list-named}
-use Rattle.script_runs.proofs.TopWays.{refused-by, with-list}
 
 -- what holds whichever manifests pass
 pub whichever : (Has : (List ℕ → Bool) → Type 0) (Idle : Type 0) (P : (List ℕ → Bool) → Type 0) (Q : Type 0) → ByList Has Idle P → ((passes : List ℕ → Bool) → P passes → Q) → Q

@@ -1,46 +1,32 @@
 -- The one command `boot` goes by the bytes, whichever way the run ended.
-use Rattle.std.proofs.Common.{◌≡◌, ◌≢◌, ◌⊎◌, ℕ, ◌<◌, Bool, false, ◌||◌, ◌==◌, List, [], ◌∷◌, ◌++◌, Option, Some, None, Ok, Err, slice_get, refl, sym, ap, subst, ◌∙◌, arith, inl, inr, IsTrue, IsFalse}
-use Rattle.std.specs.Prelude.{Result, codes, count_by}
-use Rattle.std.proofs.lemmas.Bool.{or_parts, or_from, false≢true}
-use Rattle.std.proofs.lemmas.Option.{same_Some}
+use Rattle.std.proofs.Common.{◌≡◌, ◌≢◌, ◌⊎◌, ℕ, ◌<◌, Bool, false, ◌||◌, ◌==◌, List, ◌∷◌, ◌++◌, Option, Some, None, Ok, Err, slice_get, refl, sym, ap, subst, ◌∙◌, arith, inl, inr, IsTrue, IsFalse}
+use Rattle.std.specs.Prelude.{Result, codes, count_by, []}
+use Rattle.std.proofs.{lemmas.Bool.or_parts, lemmas.Bool.or_from, lemmas.Bool.false≢true, lemmas.Option.same_Some}
 use Rattle.base_core.specs.Counts.{Rose}
-use Rattle.flash_core.specs.Told.{NothingDirty}
-use Rattle.flash_core.specs.declared.flash.Counts.{Counts}
-use Rattle.fwu_formats.specs.Layout.{Layout}
+use Rattle.flash_core.specs.{Told.NothingDirty, declared.flash.Counts.Counts}
+use Rattle.fwu_formats.specs.{Layout.Layout, Manifest.version, declared.kinds.LayoutFault.LayoutFault}
 use Rattle.fwu_formats.specs.Image.{layout_seen, deciding}
-use Rattle.fwu_formats.specs.Manifest.{version}
-use Rattle.fwu_model.specs.State.{State}
-use Rattle.fwu_model.specs.Sound.{Setting, choice}
-use Rattle.fwu_model.specs.Seen.{seen}
-use Rattle.fwu_model.specs.Answer.{booted_package}
-use Rattle.fwu_model.specs.Call.{Call}
-use Rattle.fwu_model.specs.Call as call
-use Rattle.fwu_model.specs.Reply.{Reply, Turn}
-use Rattle.fwu_model.specs.Reply as reply
-use Rattle.fwu_model.specs.Script.{script_of, is_too_long}
-use Rattle.fwu_model.specs.Asked.{script_asked}
-use Rattle.fwu_model.specs.Wrote.{may_lack}
-use Rattle.fwu_model.specs.Causes.{LossesAreCounted, Faults, cuts_in, is_cut, is_lost, may_fail_before, status_by, note_by}
-use Rattle.fwu_formats.specs.declared.kinds.LayoutFault.{LayoutFault}
-use Rattle.fwu_model.specs.declared.kinds.NoBoot.TheVariants as no_boot
+use Rattle.fwu_model.specs.{State.State, Sound.Setting, Sound.choice, Seen.seen, Answer.booted_package, Call.Call, Reply.Reply}
+use Rattle.fwu_model.specs.{Reply.Turn, Script.script_of, Script.is_too_long, Asked.script_asked, Wrote.may_lack}
 use Rattle.fwu_model.specs.declared.kinds.Note.{Note}
+use Rattle.fwu_model.specs.Call as call
+use Rattle.fwu_model.specs.Reply as reply
+use Rattle.fwu_model.specs.Causes.{LossesAreCounted, Faults, cuts_in, is_cut, is_lost, may_fail_before, status_by, note_by}
+use Rattle.fwu_model.specs.declared.kinds.NoBoot.TheVariants as no_boot
 use Rattle.fwu_model.specs.declared.kinds.Note.TheVariants as note
 use Rattle.fwu_model.proofs.Shown.{shown-by}
 use Rattle.early_boot.specs.EndsBy.{Chose}
 use Rattle.host_io.specs.Contents.{Directory}
 use Rattle.fwu_words.specs.Order.{Asked}
 use Rattle.fwu_words.specs.Order as ask
-use Rattle.script_runs.specs.Refusing.{in_short}
-use Rattle.script_turns.specs.Booted.{BootsFrom, ChoseBank, ChoseNone}
-use Rattle.script_cmd.specs.BootWord.{BootWordBy}
-use Rattle.script_turns.specs.Powered.{TurnMoment, at}
+use Rattle.script_runs.specs.{Refusing.in_short, Ending.Ending, Ending.World}
+use Rattle.script_turns.specs.Boots.{BootsFrom, ChoseBank, ChoseNone}
+use Rattle.script_turns.specs.{Powered.TurnMoment, Powered.at, Runs.Ran, Runs.calls_of}
 use Rattle.script_runs.specs.Running.{ScriptEnded, status_of_last, note_of_last, last_turn}
-use Rattle.script_turns.specs.Runs.{Ran, calls_of}
-use Rattle.script_runs.specs.Ways.{Given, Refuses, usage, too_long, bad_script, starved, refused, ran}
-use Rattle.script_cmd.specs.Promises.{given_to, WaysBoot}
-use Rattle.script_runs.proofs.TopPrints.{by-plan}
+use Rattle.script_runs.specs.Ways.{Given, Way, Refuses, usage, too_long, bad_script, starved, refused, ran}
+use Rattle.script_runs.proofs.{TopSources.by-plan, Making.boot-is-script, Making.boot-script, Making.same-calls}
+use Rattle.script_cmd.specs.{Handed.Inputs, Promises.BootWordBy, Promises.BootWordHolds, Promises.given_to}
 use Rattle.script_cmd.proofs.PromiseTurns.{some-at}
-use Rattle.script_runs.proofs.PromiseWords.{boot-is-script, boot-script, same-calls}
 
 same-Ok : (x y : Layout) → ◌≡◌ {A = Result Layout LayoutFault} (Ok x) (Ok y) → x ≡ y
 same-Ok x y e = cc
@@ -198,7 +184,8 @@ no-refusal asked g faults_before faults_after planned noted line boot script (ba
     absurd (cc)
 no-refusal asked g faults_before faults_after planned noted line boot script other = refl
 
-pub ways-boot : WaysBoot
+pub ways-boot : (passes : List ℕ → Bool) (tells : Bool) (inputs : Inputs) (end : Ending Note) (old new : World) → Way passes tells inputs.asked (given_to inputs) end old new
+    → BootWordHolds passes tells inputs.asked end old.flash new.flash
 ways-boot passes tells inputs end old new (starved empty same nine quiet stuck) told clean boot fails unarmed faults cuts =
     absurd (false≢true (sym fails ∙ subst (λ (k : ℕ). IsTrue (may_fail_before k || (k == 13))) (sym nine) refl))
 ways-boot passes tells inputs end old new (refused planned line empty same why prints) told clean boot fails unarmed faults cuts =

@@ -1,34 +1,26 @@
 -- Why a run ended as it did, whichever way that was.
-use Rattle.std.proofs.Common.{◌≡◌, ◌≢◌, ℕ, suc, ◌-◌, Bool, true, false, not, ◌||◌, ◌==◌, List, [], ◌∷◌, length, Option, Some, None, Ok, Err, slice_get, Contains, refl, sym, ap, subst, ◌∙◌, arith, inl, inr, ◌⊎◌, IsTrue, IsFalse, IfSome, IsSome, eqb-true}
+use Rattle.std.proofs.Common.{◌≡◌, ◌≢◌, ℕ, suc, ◌-◌, Bool, true, false, not, ◌||◌, ◌==◌, List, ◌∷◌, length, Option, Some, None, Ok, Err, slice_get, Contains, refl, sym, ap, subst, ◌∙◌, arith, inl, inr, ◌⊎◌, IsTrue, IsFalse, IfSome, IsSome, eqb-true, []}
 use Rattle.std.specs.List.{list_all}
 use Rattle.std.proofs.lemmas.Bool.{cases_Bool, or_cases, false≢true, and_from, not_from_false}
 use Rattle.base_core.specs.Counts.{Rose}
 use Rattle.flash_core.specs.declared.flash.Counts.{Counts}
-use Rattle.fwu_model.specs.declared.kinds.Note.{Note}
+use Rattle.fwu_model.specs.{declared.kinds.Note.Note, Call.Call, Reply.Reply, Reply.Turn, Run.ends_run, Script.script_of}
+use Rattle.fwu_model.specs.{Script.is_too_long, Allow.list_bytes, Wrote.may_lack, Wrote.IsBadScript, Wrote.IsBadList}
 use Rattle.fwu_model.specs.declared.kinds.Note.TheVariants as note
-use Rattle.fwu_model.specs.Call.{Call}
-use Rattle.fwu_model.specs.Reply.{Reply, Turn}
 use Rattle.fwu_model.specs.Reply as reply
-use Rattle.fwu_model.specs.Run.{ends_run}
 use Rattle.fwu_model.specs.Asked as model
-use Rattle.fwu_model.specs.Script.{script_of, is_too_long}
 use Rattle.fwu_formats.specs.Digests.{digests_of}
-use Rattle.fwu_model.specs.Allow.{list_bytes}
-use Rattle.fwu_model.specs.Wrote.{may_lack, IsBadScript, IsBadList}
 use Rattle.fwu_model.specs.Causes.{EndsAs, Faults, LossesAreCounted, LacksList, NotRead, NotedAlone, RefusesList, may_end_before, may_fail_before, has_note, status_by, note_by}
 use Rattle.fwu_model.specs.Causes as noted_alone
-use Rattle.host_io.specs.Contents.{Directory}
+use Rattle.host_io.specs.{Contents.Directory, Printed.Prints, Printed.all, Printed.front, Printed.nothing}
 use Rattle.fwu_words.specs.Order.{Asked}
-use Rattle.script_runs.specs.Refusing.{in_short}
-use Rattle.script_turns.specs.Powered.{TurnMoment, at}
-use Rattle.script_runs.specs.Ending.{Ending, World}
-use Rattle.host_io.specs.Printed.{Prints, all, front, nothing}
+use Rattle.script_runs.specs.{Refusing.in_short, Ending.Ending, Ending.World}
+use Rattle.script_turns.specs.{Powered.TurnMoment, Powered.at, Runs.Ran}
 use Rattle.script_runs.specs.Running.{ScriptEnded, Printed, status_of_last, note_of_last, last_turn}
-use Rattle.script_turns.specs.Runs.{Ran}
-use Rattle.script_runs.specs.Ways.{Given, HasGoodList, AsksTurns, HasCalls, Refuses, usage, not_read, list_not_read, too_long, bad_script, bad_list, starved, refused, ran}
-use Rattle.script_cmd.specs.Promises.{EndsHold, WaysEnd}
-use Rattle.script_runs.proofs.PromiseWords.{asks-turns, same-calls}
-use Rattle.script_runs.proofs.TopPrints.{raised-rose, printed-plan, by-plan, printed-rose}
+use Rattle.script_runs.specs.Ways.{Given, Way, HasGoodList, AsksTurns, HasCalls, Refuses, usage, not_read, list_not_read, too_long, bad_script, bad_list, starved, refused, ran}
+use Rattle.script_runs.proofs.Making.{asks-turns, same-calls}
+use Rattle.script_runs.proofs.TopSources.{raised-rose, printed-plan, by-plan, printed-rose}
+use Rattle.script_cmd.specs.Promises.{EndsHold}
 use Rattle.script_cmd.proofs.PromiseTurns.{last-get, is_ran, none-ended, ran-at, ran-status, lack-cases, some-from, some-at}
 
 -- ---- no turn
@@ -308,7 +300,8 @@ module _ (asked : Option Asked) (g : Given) (end : Ending Note) (old new : World
       subst (λ (j : List Turn). EndsHold asked g (record end { journal = j }) old new) (sym empty)
       (subst (λ (m : TurnMoment). EndsHold asked g (record end { journal = [] }) old (record new { flash = m })) (sym same) h)
 
-pub ways-end : WaysEnd
+pub ways-end : (passes : List ℕ → Bool) (tells : Bool) (asked : Option Asked) (g : Given) (end : Ending Note) (old new : World) → Way passes tells asked g end old new
+    → EndsHold asked g end old new
 ways-end passes tells asked g end old new (starved empty same nine quiet stuck) =
     none-ends asked g end old new empty same (starved-ends asked g old.faults new.faults end.status end.noted old.flash.counts nine quiet)
 ways-end passes tells asked g end old new (refused planned line empty same why prints) =

@@ -1,33 +1,23 @@
 -- The headline, whichever way a run ended.
-use Rattle.std.proofs.Common.{◌≡◌, ℕ, Bool, List, [], ◌∷◌, length, Option, Some, None, refl, sym, subst, ◌∙◌, arith, IsTrue}
+use Rattle.std.proofs.Common.{◌≡◌, ℕ, Bool, List, ◌∷◌, length, Option, Some, None, refl, sym, subst, ◌∙◌, arith, IsTrue, []}
 use Rattle.std.specs.Prelude.{◌/◌}
 use Rattle.std.proofs.lemmas.Option.{same_Some}
 use Rattle.base_core.specs.Block.{block}
-use Rattle.flash_core.specs.Told.{Told}
-use Rattle.flash_core.specs.declared.flash.Counts.{Counts}
+use Rattle.flash_core.specs.{Told.Told, declared.flash.Counts.Counts}
 use Rattle.fwu_formats.specs.Layout.{fits_layout}
-use Rattle.fwu_model.specs.State.{State}
+use Rattle.fwu_model.specs.{State.State, Sound.Setting, Sound.Sound, Seen.SoundFlash, Call.Call, Reply.Turn, Asked.script_asked}
+use Rattle.fwu_model.specs.{Run.Condition, Run.start_of, Headline.Headline, Headline.IsPrefixOf, Headline.LeavesOneOf}
+use Rattle.fwu_model.specs.{declared.kinds.Note.Note, Contract.Premises, Contract.Asks, Contract.ByScript, Contract.ByBoot}
 use Rattle.agent_machine.specs.Fields.{Fields}
-use Rattle.fwu_model.specs.Sound.{Setting, Sound}
-use Rattle.fwu_model.specs.Seen.{SoundFlash}
-use Rattle.fwu_model.specs.Call.{Call}
 use Rattle.fwu_model.specs.Call as call
-use Rattle.fwu_model.specs.Reply.{Turn}
 use Rattle.fwu_model.specs.Asked as model
-use Rattle.fwu_model.specs.Asked.{script_asked}
-use Rattle.fwu_model.specs.Run.{Condition, start_of}
-use Rattle.fwu_model.specs.Contract.{Premises, Asks, ByScript, ByBoot}
-use Rattle.fwu_model.specs.Headline.{Headline, IsPrefixOf, LeavesOneOf}
-use Rattle.fwu_model.proofs.Frame.{calm-stays, start-is-calm}
-use Rattle.fwu_model.proofs.Selects.{runs-select}
+use Rattle.fwu_model.proofs.{Frame.calm-stays, Frame.start-is-calm, Selects.runs-select}
 use Rattle.fwu_formats.proofs.Read.{layout-fits}
-use Rattle.script_runs.specs.Refusing.{in_short}
-use Rattle.script_turns.specs.Powered.{TurnMoment, ShowsCondition, at}
-use Rattle.script_turns.specs.Runs.{Ran, StartsSound, calls_of}
-use Rattle.script_runs.specs.Ways.{HasCalls, starved, refused, ran}
-use Rattle.script_cmd.specs.Promises.{given_to, WaysKeepTheHeadline, outcome}
-use Rattle.script_runs.proofs.PromiseWords.{boot-is-script, same-calls}
-use Rattle.script_runs.proofs.TopPrints.{done-planned}
+use Rattle.script_runs.specs.{Refusing.in_short, Ending.Ending, Ending.World}
+use Rattle.script_runs.specs.Ways.{HasCalls, Way, starved, refused, ran}
+use Rattle.script_turns.specs.{Powered.TurnMoment, Powered.ShowsCondition, Powered.at, Runs.Ran, Runs.StartsSound, Runs.calls_of}
+use Rattle.script_runs.proofs.{Making.boot-is-script, Making.same-calls, TopSources.done-planned}
+use Rattle.script_cmd.specs.{Handed.Inputs, Promises.HeadlineHolds, Promises.given_to, Promises.outcome}
 use Rattle.script_cmd.proofs.PromiseEnds.{why-planned}
 
 -- ---- the calls
@@ -91,7 +81,8 @@ module _ (passes : List ℕ → Bool) (tells : Bool) (files : Option (List ℕ �
 
 -- ---- of the calls that are asked for
 
-pub ways-keep-the-headline : WaysKeepTheHeadline
+pub ways-keep-the-headline : (passes : List ℕ → Bool) (tells : Bool) (inputs : Inputs) (end : Ending Note) (old new : World) → Way passes tells inputs.asked (given_to inputs) end old new
+    → HeadlineHolds passes tells inputs end old new
 ways-keep-the-headline passes tells inputs end old new (starved empty same nine quiet stuck) told E start calls given asks =
     idle-head passes tells inputs.files end.status old.flash told E start calls end.journal new.flash empty same
     (λ e. absurd (omega (arith, e, nine))) given

@@ -1,41 +1,23 @@
 -- What a run behind a partition table promises, whichever way it ends.
-use Rattle.std.proofs.Common.{◌≡◌, ◌≢◌, ◌⊎◌, inl, inr, ℕ, ◌≤◌, Bool, List, [], Option, Some, None, Ok, sym, ap, subst, ◌∙◌, arith}
+use Rattle.std.proofs.Common.{◌≡◌, ◌≢◌, ◌⊎◌, inl, inr, ℕ, ◌≤◌, Bool, List, Option, Some, None, Ok, sym, ap, subst, ◌∙◌, arith, []}
 use Rattle.std.specs.Prelude.{IsTrue}
-use Rattle.flash_core.specs.Counts.{Rose}
-use Rattle.flash_core.specs.Told.{Told, NothingDirty}
-use Rattle.gpt_core.specs.declared.layout.Places.{Places}
-use Rattle.gpt_core.specs.declared.table.WhichTable.{WhichTable}
-use Rattle.gpt_core.specs.PlacesOf.{places_of}
-use Rattle.gpt_core.specs.Places.{through}
-use Rattle.gpt_core.specs.Repair.{HeadersGuarded}
-use Rattle.gpt_core.specs.Table.{DecidesTable, Table, table_in_image}
-use Rattle.gpt_core.specs.View.{view_of}
-use Rattle.gpt_core.proofs.Leaving.{repair-keeps, repair-leaves, repair-spares}
-use Rattle.gpt_core.proofs.Stepping.{image_is_now}
-use Rattle.fwu_model.specs.Call.{Call}
-use Rattle.fwu_model.specs.State.{State}
-use Rattle.fwu_model.specs.Sound.{Setting}
-use Rattle.fwu_model.specs.Causes.{IsServed}
-use Rattle.fwu_model.specs.Contract.{Premises}
+use Rattle.flash_core.specs.{Counts.Rose, Told.Told, Told.NothingDirty}
+use Rattle.gpt_core.specs.{declared.layout.Places.Places, declared.table.WhichTable.WhichTable, PlacesOf.places_of, Places.through}
+use Rattle.gpt_core.specs.{Repair.HeadersGuarded, Table.DecidesTable, Table.Table, Table.table_in_image, View.view_of}
+use Rattle.gpt_core.proofs.{Leaving.repair-keeps, Leaving.repair-leaves, Leaving.repair-spares, Stepping.image_is_now}
+use Rattle.fwu_model.specs.{Call.Call, State.State, Sound.Setting, Causes.IsServed, Contract.Premises}
 use Rattle.fwu_model.specs.Headline.{Headline, made_after}
-use Rattle.script_runs.specs.declared.done.Note.{Note}
-use Rattle.script_runs.specs.Refusing.{in_short}
+use Rattle.script_runs.specs.{declared.done.Note.Note, Refusing.in_short, Ways.Way}
 use Rattle.script_runs.specs.ByTable.{Starts, StopsMending, Wakes, lacked_by, lacked_in, lacked_of, seen_at}
-use Rattle.script_runs.specs.Noted.{noted}
+use Rattle.script_runs.specs.Ending.{noted, Device, Ending, World, in_model}
 use Rattle.script_turns.specs.Powered.{TurnMoment}
-use Rattle.script_cmd.specs.Promises.{given_to, outcome}
-use Rattle.script_cmd.specs.PromisesByTable.{CompleteByTable, HeadlineByTable, KeepsFlash, KeptByTable, PromisedByTable, RunsByTable, TableGives}
-use Rattle.script_runs.specs.Ending.{Device, Ending, World, in_model}
-use Rattle.script_cmd.specs.Handed.{Inputs}
-use Rattle.script_runs.specs.Ways.{Way}
 use Rattle.script_runs.specs.Ways as way
 use Rattle.script_runs.specs.WaysByTable.{WayByTable, untouched, starved, lacked, stopped, ran}
-use Rattle.script_cmd.proofs.PromiseAll.{promised}
-use Rattle.script_cmd.proofs.PromiseTurns.{none-ended}
-use Rattle.script_cmd.proofs.PromiseComplete.{ways-are-complete}
-use Rattle.script_runs.proofs.TableOpens.{woken-clean, woken-now, woken-same}
+use Rattle.script_runs.proofs.{TableOpens.woken-clean, TableOpens.woken-now, TableOpens.woken-same, TableWays.not-nothing}
 use Rattle.script_turns.proofs.RunTurns.{rose-before}
-use Rattle.script_runs.proofs.TableWays.{not-nothing}
+use Rattle.script_cmd.specs.Promises.{given_to, outcome, CompleteByTable, HeadlineByTable, KeepsFlash, KeptByTable, PromisedByTable, RunsByTable, TableGives}
+use Rattle.script_cmd.specs.Handed.{Inputs}
+use Rattle.script_cmd.proofs.{PromiseAll.promised, PromiseAll.ways-are-complete, PromiseTurns.none-ended}
 
 same-pair : (t u : Table) (w x : WhichTable) → ◌≡◌ {A = Option (Table × WhichTable)} (Some (t, w)) (Some (u, x)) → t ≡ u
 same-pair t u w x is = ap (λ (o : Option (Table × WhichTable)). of o) is

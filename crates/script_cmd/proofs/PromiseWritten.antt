@@ -1,23 +1,16 @@
 -- What a run wrote, whichever way it ended.
-use Rattle.std.proofs.Common.{◌≡◌, ℕ, List, [], ◌++◌, take, drop, Option, Some, None, refl, sym, ap, subst, ◌∙◌, inl, inr, IsTrue, IsFalse, arith, append-nil}
+use Rattle.std.proofs.Common.{◌≡◌, ℕ, List, ◌++◌, take, drop, Option, Some, None, refl, sym, ap, subst, ◌∙◌, inl, inr, IsTrue, IsFalse, arith, append-nil, []}
 use Rattle.std.specs.Io.KnownBytes.{Appends}
-use Rattle.std.proofs.lemmas.Bool.{false≢true}
-use Rattle.std.proofs.lemmas.List.{take-append-drop}
-use Rattle.std.proofs.lemmas.Option.{same_Some}
-use Rattle.fwu_model.specs.declared.kinds.Note.{Note}
+use Rattle.std.proofs.{lemmas.Bool.false≢true, lemmas.List.take-append-drop, lemmas.Option.same_Some}
+use Rattle.fwu_model.specs.{declared.kinds.Note.Note, Reply.Turn, Text.text, Allow.list_bytes, Causes.Faults}
 use Rattle.fwu_model.specs.declared.kinds.Note.TheVariants as note
-use Rattle.fwu_model.specs.Reply.{Turn}
-use Rattle.fwu_model.specs.Text.{text}
-use Rattle.fwu_model.specs.Allow.{list_bytes}
-use Rattle.fwu_model.specs.Causes.{Faults}
 use Rattle.fwu_model.specs.Wrote.{Wrote, StopsAlone, may_lack, not_read_line, usage_line, too_long_line, bad_script_line, bad_list_line, IsBadScript, IsBadList}
 use Rattle.fwu_words.specs.Order.{Asked}
-use Rattle.script_runs.specs.Ending.{World}
+use Rattle.script_runs.specs.{Ending.Ending, Ending.World, Running.WritesLines}
 use Rattle.host_io.specs.Printed.{Prints, all, front, nothing}
-use Rattle.script_runs.specs.Running.{WritesLines}
-use Rattle.script_runs.specs.Ways.{Given, Refuses, usage, not_read, too_long, bad_script, bad_list, starved, refused, ran}
-use Rattle.script_cmd.specs.Promises.{WroteHolds, WaysWrite}
-use Rattle.script_runs.proofs.Shapes.{end-of}
+use Rattle.script_runs.specs.Ways.{Given, Way, Refuses, usage, not_read, too_long, bad_script, bad_list, starved, refused, ran}
+use Rattle.script_runs.proofs.TopWays.{end-of}
+use Rattle.script_cmd.specs.Promises.{WroteHolds}
 use Rattle.script_cmd.proofs.PromiseTurns.{is_ran, none-ended, ran-at, ran-status, early-not-ran}
 
 pub appended : (old new : Option (List ℕ)) (piece before : List ℕ) → old ≡ Some before → Appends old new piece → new ≡ Some (before ++ piece)
@@ -107,7 +100,8 @@ refused-writes asked g status planned noted line old new why (front is n bytes l
 refused-writes asked g status planned noted line old new why (nothing is same later) before told =
     ([], stays asked g old.faults new.faults status old.taken new.taken before told same, wrote-nothing (Refuses asked g old.faults new.faults) g.script (list_bytes g.list g.files) status noted is)
 
-pub ways-write : WaysWrite
+pub ways-write : (passes : List ℕ → Bool) (tells : Bool) (asked : Option Asked) (g : Given) (end : Ending Note) (old new : World) → Way passes tells asked g end old new
+    → WroteHolds asked g end old new
 ways-write passes tells asked g end old new (starved empty same nine quiet stuck) before told = (
   [],
   stays asked g old.faults new.faults end.status old.taken new.taken before told stuck.0,

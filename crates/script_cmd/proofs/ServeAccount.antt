@@ -1,42 +1,33 @@
 -- What a serving took, did and wrote, by how it ended.
-use Rattle.std.proofs.Common.{◌≡◌, ◌≢◌, ◌==◌, if◌then◌else◌, ◌≤◌, ℕ, ◌+◌, List, [], ◌∷◌, ◌++◌, length, length-append, take, drop, Option, Some, None, Result, Ok, Err, refl, sym, ap, subst, ◌∙◌, arith, append-nil, append_assoc}
-use Rattle.std.specs.Prelude.{IfSome, IsTrue, false}
-use Rattle.std.proofs.lemmas.Bool.{false≢true}
+use Rattle.std.proofs.Common.{◌≡◌, ◌≢◌, ◌==◌, if◌then◌else◌, ◌≤◌, ℕ, ◌+◌, List, ◌∷◌, ◌++◌, length, length-append, take, drop, Option, Some, None, Result, Ok, Err, refl, sym, ap, subst, ◌∙◌, arith, append-nil, append_assoc}
+use Rattle.std.specs.Prelude.{IfSome, IsTrue, false, []}
+use Rattle.std.proofs.{lemmas.Bool.false≢true, lemmas.Grind.flat_map-append}
 use Rattle.std.specs.Io.KnownBytes.{Appends, Consumes, IsAtEnd}
 use Rattle.std.proofs.KnownBytes.{Appends-nil, Appends-trans, Consumes-trans, Consumes-whole}
-use Rattle.std.proofs.lemmas.Grind.{flat_map-append}
 use Rattle.host_io.specs.Printed.{all, front, nothing}
-use Rattle.fwu_model.specs.Call.{Call}
+use Rattle.fwu_model.specs.{Call.Call, Headline.IsPrefixOf, Reply.Reply, Reply.Turn}
 use Rattle.fwu_model.specs.Call as call
-use Rattle.fwu_model.specs.Headline.{IsPrefixOf}
-use Rattle.fwu_model.specs.Reply.{Reply, Turn}
 use Rattle.fwu_model.specs.Reply as reply
 use Rattle.fwu_wire.specs.Replies.{message}
-use Rattle.script_turns.specs.Powered.{TurnMoment}
-use Rattle.script_turns.specs.Runs.{calls_of}
-use Rattle.wire_frames.specs.Exchange.{admission}
-use Rattle.wire_frames.specs.Frames.{frame, frames, request_number_of, numbered}
-use Rattle.wire_frames.specs.Stream.{StopsReading}
-use Rattle.wire_frames.specs.declared.exchange.Admission.{Admission}
-use Rattle.wire_frames.specs.declared.exchange.Admission.TheVariants.{Acts, Repeats, Ignored}
+use Rattle.script_turns.specs.{Powered.TurnMoment, Runs.calls_of}
+use Rattle.wire_frames.specs.{Exchange.admission, Stream.StopsReading, declared.exchange.Admission.Admission}
 use Rattle.wire_frames.specs.declared.stream.FrameStop.{FrameStop}
+use Rattle.wire_frames.specs.Frames.{frame, frames, request_number_of, numbered}
+use Rattle.wire_frames.specs.declared.exchange.Admission.TheVariants.{Acts, Repeats, Ignored}
 use Rattle.wire_frames.specs.declared.stream.FrameStop.TheVariants as stop
 use Rattle.wire_frames.proofs.Once.{Admits, admits}
 use Rattle.wire_frames.proofs.Once as once
-use Rattle.serving.specs.Acting.{OneStop}
-use Rattle.serving.specs.Acting as acts
-use Rattle.serving.specs.Ends.{IsEarlyEnd, end_by, end_of_stop, status_of}
-use Rattle.serving.specs.Going.{ServesRequests, ServeEnds, TakesFrames, at_the_end, at_a_request}
+use Rattle.serving.specs.Serving.{OneStop, Puts, ServesAgain, ServesBy, ServesNew, ServesOne, answered, stopped}
+use Rattle.serving.specs.Serving as acts
+use Rattle.serving.specs.{Ends.IsEarlyEnd, Ends.end_by, Ends.end_of_stop, Ends.status_of, declared.ends.ServeEnd.ServeEnd}
+use Rattle.serving.specs.Going.{ServesRequests, ServeEnds, TakesFrames, at_the_end, at_a_request, ServesFrom, not_started, started}
 use Rattle.serving.specs.Scene.{At, Port, RunAt, Scene, begin_at, unasked}
-use Rattle.serving.specs.Serving.{Puts, ServesAgain, ServesBy, ServesNew, ServesOne, answered, stopped}
-use Rattle.serving.specs.Starting.{ServesFrom, not_started, started}
 use Rattle.serving.specs.Written.{AnswersRequests, answered_numbers, calls_for, frame_of, messages_of, written}
-use Rattle.serving.specs.declared.ends.ServeEnd.{ServeEnd}
 use Rattle.serving.specs.declared.ends.ServeEnd.TheVariants as end
-use Rattle.serving.proofs.Snoc.{frame-last, length-messages, messages-more}
+use Rattle.serving.proofs.Steps.{frame-last, length-messages, messages-more}
+use Rattle.script_runs.proofs.TopSources.{later}
 use Rattle.script_cmd.specs.ServedBy.{last_frame, reads_no_more}
 use Rattle.script_cmd.proofs.PromiseTurns.{some-from}
-use Rattle.script_runs.proofs.TopPrints.{later}
 
 -- ---- the ends
 
@@ -250,9 +241,7 @@ module _ (E : Scene) (t : Turn) (start : TurnMoment) (old new : At) (e : ServeEn
       at-end mid goes takes
       (λ x. (Consumes-whole from.bytes to.bytes (frames bodies ++ []) (λ s. s ≡ frames bodies) (Consumes-trans from.bytes mid to.bytes (frames bodies) [] takes.consumed stops.0) stops.1 (append-nil (frames bodies)), nothing-left to.bytes stops.1))
       (λ x. cc)
-  by-stream mid taken stop.Failed goes takes stops is = at-end mid goes takes (λ x. absurd (cc)) (λ x. cc)
-  by-stream mid taken stop.TooLong goes takes stops is = at-end mid goes takes (λ x. absurd (cc)) (λ x. cc)
-  by-stream mid taken stop.BadFrame goes takes stops is = at-end mid goes takes (λ x. absurd (cc)) (λ x. cc)
+  by-stream mid taken other goes takes stops is = at-end mid goes takes (λ x. absurd (cc)) (λ x. cc)
 
   -- or the next request ended it
   by-request : (body : List ℕ) (mid : At) (goes : ServesRequests E (t ∷ []) start bodies old mid) → TakesFrames (bodies ++ body ∷ []) from.bytes to.bytes → IsEarlyEnd e → Last e goes.turns mid new

@@ -1,44 +1,26 @@
 -- All that a serving promises, whichever way it ended.
-use Rattle.std.proofs.Common.{◌≡◌, ◌≢◌, ◌⊎◌, inl, inr, ℕ, Bool, List, [], ◌∷◌, ◌++◌, Contains, length, take, drop, Option, Some, None, refl, sym, ap, subst, ◌∙◌, arith, append-nil, take-append-drop, IsTrue, IsFalse}
+use Rattle.std.proofs.Common.{◌≡◌, ◌≢◌, ◌⊎◌, inl, inr, ℕ, Bool, List, ◌∷◌, ◌++◌, Contains, length, take, drop, Option, Some, None, refl, sym, ap, subst, ◌∙◌, arith, append-nil, take-append-drop, IsTrue, IsFalse, []}
 use Rattle.std.specs.Io.KnownBytes.{Consumes}
-use Rattle.std.proofs.KnownBytes.{Consumes-nil}
-use Rattle.std.proofs.lemmas.Bool.{false≢true}
-use Rattle.std.proofs.lemmas.List.Elements.{Contains-get_or}
+use Rattle.std.proofs.{KnownBytes.Consumes-nil, lemmas.Bool.false≢true, lemmas.List.Elements.Contains-get_or}
 use Rattle.host_io.specs.Printed.{Prints, all, front, nothing}
 use Rattle.wire_frames.specs.Frames.{Splits, frames}
-use Rattle.serving.specs.Ends.{status_of}
-use Rattle.serving.specs.Holds.{Cause, IsQuietServing}
-use Rattle.serving.specs.Scene.{Port, port, scene}
-use Rattle.serving.specs.Written.{answered_numbers, messages_of, written}
-use Rattle.serving.specs.declared.ends.ServeEnd.{ServeEnd}
+use Rattle.serving.specs.{Ends.status_of, Holds.Cause, Holds.IsQuietServing, Scene.Port, Scene.port, Scene.scene}
+use Rattle.serving.specs.{Written.answered_numbers, Written.messages_of, Written.written, declared.ends.ServeEnd.ServeEnd}
 use Rattle.serving.specs.declared.ends.ServeEnd.TheVariants as end
-use Rattle.fwu_model.specs.Contract.{Premises}
-use Rattle.fwu_model.specs.Headline.{IsPrefixOf}
-use Rattle.fwu_model.specs.Reply.{Turn}
-use Rattle.fwu_model.specs.Run.{is_refused_boot}
-use Rattle.fwu_model.specs.Sound.{Setting}
-use Rattle.fwu_model.specs.State.{State}
-use Rattle.fwu_model.specs.declared.kinds.NoBoot.{NoBoot}
-use Rattle.fwu_model.specs.declared.kinds.Note.{Note}
+use Rattle.fwu_model.specs.{Contract.Premises, Headline.IsPrefixOf, Reply.Turn, Run.is_refused_boot, Sound.Setting, State.State}
+use Rattle.fwu_model.specs.{declared.kinds.NoBoot.NoBoot, declared.kinds.Note.Note}
 use Rattle.fwu_model.proofs.Complete.{runs-boot}
 use Rattle.fwu_words.specs.Order as ask
 use Rattle.script_turns.specs.Runs.{calls_of}
-use Rattle.script_runs.specs.Ending.{Ending, World}
-use Rattle.script_cmd.specs.Promises.{RanHolds}
-use Rattle.script_cmd.specs.ServeWays.{ServeWay, ServesSource, Unread, left_by_serving, list_refused, note_of, served, sink_of, starved}
-use Rattle.script_cmd.specs.ServedBy.{ServedBy, ServedComplete, ServedEnds, ServedHeadline, ServedWrites, TakesAtMost, WroteFrames, WroteLine, may_end_serving, reads_no_more}
+use Rattle.script_runs.specs.{Ending.Ending, Ending.World, Ways.Given, Ways.Refuses, Ways.not_read, Ways.too_long}
 use Rattle.flash_commands.specs.Showing.{RefusedList}
-use Rattle.script_cmd.specs.Granted.{RefusesBadList}
-use Rattle.script_runs.specs.Ways.{Given, Refuses, not_read, too_long}
-use Rattle.script_cmd.specs.ByList.{may_lack_list}
-use Rattle.script_cmd.proofs.PromiseEnds.{refused-ends}
-use Rattle.script_cmd.proofs.PromiseHeadline.{idle-head, ran-head, sound-start}
-use Rattle.script_cmd.proofs.PromiseRan.{idle-holds, ran-holds}
-use Rattle.script_cmd.proofs.PromiseTurns.{some-from}
-use Rattle.script_cmd.proofs.PromiseWritten.{appended}
-use Rattle.script_cmd.proofs.ServeAccount.{Account, account, end-at}
-use Rattle.script_cmd.proofs.TopCompletes.{granted, list-other, list-plan, list-status}
+use Rattle.script_cmd.specs.{Promises.RanHolds, Granted.RefusesBadList, ByList.may_lack_list}
+use Rattle.script_cmd.specs.ServedBy.{ServeWay, ServesSource, Unread, left_by_serving, list_refused, note_of, served, sink_of, starved, ServedBy, ServedComplete, ServedEnds, ServedHeadline, ServedWrites, TakesAtMost, WroteFrames, WroteLine, may_end_serving, reads_no_more}
+use Rattle.script_cmd.proofs.{PromiseEnds.refused-ends, PromiseHeadline.idle-head, PromiseHeadline.ran-head}
+use Rattle.script_cmd.proofs.{PromiseHeadline.sound-start, PromiseTurns.idle-holds, PromiseTurns.ran-holds, PromiseTurns.some-from}
+use Rattle.script_cmd.proofs.{PromiseWritten.appended, ServeAccount.Account, ServeAccount.account, ServeAccount.end-at}
 use Rattle.script_cmd.proofs.TopShows.{good-list-kept, refused-list, starved-list}
+use Rattle.script_cmd.proofs.TopCompletes.{granted, list-other, list-plan, list-status}
 
 -- ---- the end of a status
 

@@ -1,23 +1,16 @@
 -- The command `serve`, by the words and behind a list.
-use Rattle.std.proofs.Common.{◌≡◌, ◌≤◌, ℕ, Bool, List, [], Option, Some, None, sym, ap, ap₂, subst, ◌∙◌, arith}
+use Rattle.std.proofs.Common.{◌≡◌, ◌≤◌, ℕ, Bool, List, Option, Some, None, sym, ap, ap₂, subst, ◌∙◌, arith, []}
 use Rattle.flash_core.specs.declared.flash.Flash.{Ghosts}
-use Rattle.fwu_model.specs.Causes.{Faults}
-use Rattle.fwu_model.specs.Reply.{Turn}
-use Rattle.fwu_model.specs.declared.kinds.Note.{Note}
+use Rattle.fwu_model.specs.{Causes.Faults, Reply.Turn, declared.kinds.Note.Note}
 use Rattle.fwu_words.specs.Order as ask
-use Rattle.host_io.specs.Contents.{Directory}
-use Rattle.host_io.specs.Printed.{Prints}
+use Rattle.host_io.specs.{Contents.Directory, Printed.Prints}
 use Rattle.agent_machine.specs.Fields.{Fields}
 use Rattle.wire_frames.specs.Exchange.{LastAnswer}
-use Rattle.serving.specs.Holds.{ServingHolds}
-use Rattle.serving.specs.Scene.{port, scene}
-use Rattle.serving.specs.Starting.{ServesFrom}
-use Rattle.serving.specs.declared.ends.ServeEnd.{ServeEnd}
+use Rattle.serving.specs.{Holds.ServingHolds, Scene.port, Scene.scene, Going.ServesFrom, declared.ends.ServeEnd.ServeEnd}
 use Rattle.script_turns.specs.Powered.{TurnMoment, at, moment_on}
-use Rattle.script_runs.specs.Ending.{World}
-use Rattle.script_cmd.specs.ServeWays.{ServeWay, ServesSource, list_refused, served, sink_of, starved}
-use Rattle.script_runs.specs.Ways.{HasGoodList, Given, Refuses}
-use Rattle.script_runs.proofs.Shapes.{end-of, world-of}
+use Rattle.script_runs.specs.{Ending.World, Ways.HasGoodList, Ways.Given, Ways.Refuses}
+use Rattle.script_runs.proofs.TopWays.{end-of, world-of}
+use Rattle.script_cmd.specs.ServedBy.{ServeWay, ServesSource, list_refused, served, sink_of, starved}
 use Rattle.script_cmd.proofs.TopLists.{refused-behind}
 
 -- a list was refused, and nothing else was done

@@ -1,15 +1,9 @@
 -- What was answered is served.
 use Rattle.std.proofs.Common.{ℕ, Bool, List, Option}
-use Rattle.script_cmd.specs.Answered.{Answered}
-use Rattle.script_runs.specs.Ending.{Device, Ending, World}
-use Rattle.script_cmd.specs.Serves.{Serves}
-use Rattle.script_cmd.specs.Handed.{Inputs}
-use Rattle.script_runs.specs.declared.done.Note.{Note}
-use Rattle.script_cmd.proofs.PromiseAll.{promised}
-use Rattle.script_cmd.proofs.PromiseTable.{promised-by-table}
-use Rattle.script_cmd.proofs.SinkCounts.{answered-counts}
-use Rattle.script_cmd.proofs.ServePromise.{served-by}
-use Rattle.script_cmd.proofs.SoakPromise.{soaked-by}
+use Rattle.script_runs.specs.{Ending.Device, Ending.Ending, Ending.World, declared.done.Note.Note}
+use Rattle.script_cmd.specs.{Here.Answered, Serves.Serves, Handed.Inputs}
+use Rattle.script_cmd.proofs.{PromiseAll.promised, PromiseTable.promised-by-table, SinkCounts.answered-counts}
+use Rattle.script_cmd.proofs.{ServePromise.served-by, SoakPromise.soaked-by}
 
 pub serving : {H I : Type 0} (passes : List ℕ → Bool) (device : Device) (inputs : Inputs) (ending : Ending Note) (old new : World)
     (rest : Option (List ℕ)) (fb fa : H) (sb sa : I) → Answered passes device inputs ending old new rest fb fa sb sa

@@ -1,40 +1,30 @@
 -- How often the sink failed, whichever way the program ended.
 use Rattle.std.proofs.Common.{◌≡◌, ◌≢◌, ℕ, Bool, List, Option, Some, None, Result, Err, arith, refl, sym, ap, subst}
 use Rattle.flash_core.specs.declared.flash.Counts.{Counts}
-use Rattle.flash_format.specs.declared.formatting.Formatted.{Formatted}
-use Rattle.flash_format.specs.declared.stops.FormatStop.{FormatStop}
+use Rattle.flash_format.specs.{declared.formatting.Formatted.Formatted, declared.stops.FormatStop.FormatStop}
 use Rattle.flash_format.specs.declared.stops.FormatStop.TheVariants.{ReadFailed}
 use Rattle.fwu_formats.specs.Layout.{Layout}
-use Rattle.fwu_model.specs.Causes.{Faults, status_by}
-use Rattle.fwu_model.specs.Reply.{Reply}
+use Rattle.fwu_model.specs.{Causes.Faults, Causes.status_by, Reply.Reply}
 use Rattle.fwu_model.specs.Reply as reply
 use Rattle.fwu_model.specs.declared.kinds.Note as model
 use Rattle.fwu_words.specs.Order.{Asked}
 use Rattle.fwu_words.specs.Order as ask
 use Rattle.gen_core.specs.Line.{soak_line, too_small_line}
-use Rattle.script_cmd.specs.Answered.{Answered}
-use Rattle.script_runs.specs.ByTable.{flash_fault_line, no_table_line}
-use Rattle.script_runs.specs.Ending.{Device, Ending, World, in_model}
-use Rattle.flash_commands.specs.Formatting.{Formats, format_status, format_text}
+use Rattle.script_runs.specs.{ByTable.flash_fault_line, ByTable.no_table_line, Ending.Device, Ending.Ending, Ending.World}
+use Rattle.script_runs.specs.{Ending.in_model, Ways.Given, Ways.Refuses, Ways.Way, WaysByTable.WayByTable, declared.done.Note.Note}
+use Rattle.flash_commands.specs.{Formatting.Formats, Formatting.format_status, Formatting.format_text, Showing.ShowFinds}
+use Rattle.flash_commands.specs.{Showing.RefusedList, Showing.Showed, SoakWays.SoakEnds, SoakWays.SoakWay, Soaking.stop_line}
 use Rattle.flash_commands.specs.Formatting as format
 use Rattle.host_io.specs.Printed.{FailsAtThree}
-use Rattle.script_cmd.specs.Promises.{given_to}
-use Rattle.script_cmd.specs.ServeWays.{ServeWay}
-use Rattle.script_cmd.specs.ServeWays as serve
-use Rattle.flash_commands.specs.Showing.{ShowFinds, RefusedList, Showed}
 use Rattle.flash_commands.specs.Showing as show
-use Rattle.flash_commands.specs.SoakWays.{SoakEnds, SoakWay}
 use Rattle.flash_commands.specs.SoakWays as soak
-use Rattle.flash_commands.specs.Soaking.{stop_line}
-use Rattle.script_runs.specs.Ways.{Given, Refuses, Way}
-use Rattle.script_cmd.specs.Handed.{Inputs, given_all}
-use Rattle.script_cmd.specs.Asking.{RunsOrNone, over_table}
 use Rattle.script_runs.specs.Ways as way
-use Rattle.script_runs.specs.WaysByTable.{WayByTable}
 use Rattle.script_runs.specs.WaysByTable as table
-use Rattle.script_runs.specs.declared.done.Note.{Note}
+use Rattle.script_runs.proofs.TopSources.{counts-line, counts-none}
+use Rattle.script_cmd.specs.{Here.Answered, Promises.given_to, ServedBy.ServeWay}
+use Rattle.script_cmd.specs.ServedBy as serve
+use Rattle.script_cmd.specs.Handed.{Inputs, given_all, RunsOrNone, over_table}
 use Rattle.script_cmd.proofs.PromiseEnds.{why-planned}
-use Rattle.script_runs.proofs.TopPrints.{counts-line, counts-none}
 
 -- ---- no plan is the status 3
 

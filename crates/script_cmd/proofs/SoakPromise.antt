@@ -1,66 +1,46 @@
 -- What `soak` promises, whichever way it ended.
-use Rattle.std.proofs.Common.{◌≡◌, ◌≢◌, ◌⊎◌, ◌||◌, ◌==◌, ℕ, Bool, true, false, not, if◌then◌else◌, List, [], ◌∷◌, ◌++◌, Option, Some, None, Ok, Err, refl, sym, ap, subst, ◌∙◌, inl, inr, arith, append-nil, IsTrue, IsFalse, Contains}
-use Rattle.std.specs.Prelude.{nat_lt, ◌*◌, option_map}
+use Rattle.std.proofs.Common.{◌≡◌, ◌≢◌, ◌⊎◌, ◌||◌, ◌==◌, ℕ, Bool, true, false, not, if◌then◌else◌, List, ◌∷◌, ◌++◌, Option, Some, None, Ok, Err, refl, sym, ap, subst, ◌∙◌, inl, inr, arith, append-nil, IsTrue, IsFalse, Contains}
+use Rattle.std.specs.Prelude.{nat_lt, ◌*◌, option_map, []}
 use Rattle.base_core.specs.Block.{block_bytes}
 use Rattle.fip_tables.specs.Images.{images_fault, image_fault as reader_fault}
 use Rattle.fip_tables.specs.declared.images.ImageFault.{ImageFault}
 use Rattle.fip_tables.specs.declared.images.ImageFault.TheVariants as image
 use Rattle.fwu_formats.specs.Package.{Entry, Toc, entry_of}
-use Rattle.fwu_model.specs.Answer.{first_image_fault, image_fault}
+use Rattle.fwu_model.specs.{Answer.first_image_fault, Answer.image_fault, Causes.cuts_in}
+use Rattle.fwu_model.specs.{Causes.may_fail_before, Causes.status_by, Headline.IsPrefixOf, Headline.made_after, Reply.Reply}
+use Rattle.fwu_model.specs.{Reply.Turn, Run.ends_run, Run.is_refused_boot, Seen.seen, Sound.Sound, Wrote.may_lack}
 use Rattle.std.specs.Io.KnownBytes.{Appends}
-use Rattle.std.proofs.lemmas.Bool.{false≢true}
-use Rattle.std.proofs.lemmas.Option.{same_Some}
-use Rattle.std.proofs.lemmas.List.Elements.{Contains-append_right, Contains-get_or}
 use Rattle.std.specs.Option.{option_or}
-use Rattle.flash_core.specs.Counts.{Rose}
-use Rattle.flash_core.specs.declared.flash.Counts.{Counts}
-use Rattle.flash_core.specs.May.{Guards}
-use Rattle.fwu_formats.specs.Digests.{passes_any}
+use Rattle.std.proofs.{lemmas.Bool.false≢true, lemmas.Option.same_Some}
+use Rattle.std.proofs.lemmas.List.Elements.{Contains-append_right, Contains-get_or}
+use Rattle.flash_core.specs.{Counts.Rose, declared.flash.Counts.Counts, May.Guards}
+use Rattle.fwu_formats.specs.{Digests.passes_any, Manifest.is_complete, Manifest.version, declared.kinds.LayoutFault.LayoutFault}
 use Rattle.fwu_formats.specs.Layout.{ImageRow, Layout, fits_layout, blocks_needed}
-use Rattle.fwu_formats.specs.Manifest.{is_complete, version}
-use Rattle.fwu_formats.specs.declared.kinds.LayoutFault.{LayoutFault}
-use Rattle.fwu_model.specs.Causes.{cuts_in, may_fail_before, status_by}
-use Rattle.fwu_model.specs.Headline.{IsPrefixOf, made_after}
-use Rattle.fwu_model.specs.Reply.{Reply, Turn}
 use Rattle.fwu_model.specs.Reply as reply
-use Rattle.fwu_model.specs.Run.{ends_run, is_refused_boot}
-use Rattle.fwu_model.specs.Seen.{seen}
-use Rattle.fwu_model.specs.Sound.{Sound}
-use Rattle.fwu_model.specs.Wrote.{may_lack}
-use Rattle.fwu_model.proofs.Complete.{runs-boot}
-use Rattle.fwu_model.proofs.Selects.{runs-select}
+use Rattle.fwu_model.proofs.{Complete.runs-boot, Selects.runs-select}
 use Rattle.fwu_words.specs.Order as ask
 use Rattle.agent_machine.specs.Fields.{Fields}
 use Rattle.meta_layout.specs.Rows.{fitted}
-use Rattle.flash_format.specs.Choosing.{refusal, refused as refused_input}
-use Rattle.flash_format.specs.Formatted.{HoldsImages, IsFormatted, first_state}
-use Rattle.flash_format.specs.declared.formatting.Formatted.{Formatted}
-use Rattle.flash_format.specs.declared.stops.FormatStop.{FormatStop}
+use Rattle.flash_format.specs.{Choosing.refusal, Choosing.refused as refused_input, Formatted.HoldsImages, Formatted.IsFormatted}
+use Rattle.flash_format.specs.{Formatted.first_state, declared.formatting.Formatted.Formatted, declared.stops.FormatStop.FormatStop}
 use Rattle.flash_format.specs.declared.stops.FormatStop.TheVariants.{Input, Flash}
 use Rattle.gen_core.specs.Calls.{file_name, first_package, soak_calls}
-use Rattle.gen_core.specs.Law.{InstallsPackage}
-use Rattle.gen_core.specs.Line.{soak_line, too_small_line}
-use Rattle.gen_core.specs.Setup.{is_too_small, soak_layout}
+use Rattle.gen_core.specs.{Law.InstallsPackage, Line.soak_line, Line.too_small_line, Setup.is_too_small, Setup.soak_layout}
 use Rattle.gen_core.proofs.Naming.{rounds-have-packages}
-use Rattle.script_turns.specs.Powered.{TurnMoment, at}
-use Rattle.script_turns.specs.Turning.{NoneFalls}
-use Rattle.script_runs.specs.Ending.{Device, Ending, World, in_model}
+use Rattle.script_turns.specs.{Powered.TurnMoment, Powered.at, Turning.NoneFalls, Runs.Ran, Runs.RunsTo, Runs.calls_of}
+use Rattle.script_runs.specs.Ending.{Device, Ending, World, in_model, noted}
 use Rattle.flash_commands.specs.Formatting.{Tries, format_status, format_text}
-use Rattle.script_cmd.specs.FormattedBy.{IsFormattable}
 use Rattle.flash_commands.specs.Formatting as format
-use Rattle.script_runs.specs.Noted.{noted}
 use Rattle.host_io.specs.Printed.{Prints, all, front, nothing}
-use Rattle.script_turns.specs.Runs.{Ran, RunsTo, calls_of}
-use Rattle.script_cmd.specs.Granted.{RefusesBadList}
-use Rattle.script_cmd.specs.Soaked.{HasSoakList, RunsSoak, SoakedBy, first_images, soak_setting}
 use Rattle.flash_commands.specs.Soaking.{first_files, soak_files, stop_line}
 use Rattle.flash_commands.specs.SoakWays.{SoakEnds, SoakWay, all_done, lacking, list_refused, not_formatted, ran, starved, stopped, too_small}
-use Rattle.script_runs.specs.Ways.{Given}
-use Rattle.script_runs.specs.declared.done.Note.{Note}
-use Rattle.script_cmd.proofs.PromiseHeadline.{fits, left-by}
-use Rattle.script_runs.proofs.TopPrints.{by-plan, printed-plan, not-done}
+use Rattle.script_runs.specs.{Ways.Given, declared.done.Note.Note}
+use Rattle.script_runs.proofs.TopSources.{by-plan, printed-plan, not-done}
 use Rattle.script_turns.proofs.RunTurns.{rose-before}
 use Rattle.flash_commands.proofs.SoakRounds.{file-there}
+use Rattle.script_cmd.specs.{NoTurns.IsFormattable, Granted.RefusesBadList}
+use Rattle.script_cmd.specs.Soaked.{HasSoakList, RunsSoak, SoakedBy, first_images, soak_setting}
+use Rattle.script_cmd.proofs.PromiseHeadline.{fits, left-by}
 use Rattle.script_cmd.proofs.TopCompletes.{format-completes, list-granted, list-other, list-status, no-input, printed}
 use Rattle.script_cmd.proofs.TopShows.{falls-none, good-list-kept, refused-list, starved-list}
 

@@ -1,18 +1,15 @@
 -- The command `soak`, by the words and behind a list.
-use Rattle.std.proofs.Common.{◌≡◌, ◌≤◌, ℕ, Bool, List, [], Option, Some, None, sym, subst, IsFalse, ◌∙◌}
-use Rattle.fwu_model.specs.Reply.{Turn}
-use Rattle.fwu_model.specs.Causes.{Faults}
+use Rattle.std.proofs.Common.{◌≡◌, ◌≤◌, ℕ, Bool, List, Option, Some, None, sym, subst, IsFalse, ◌∙◌, []}
+use Rattle.fwu_model.specs.{Reply.Turn, Causes.Faults}
 use Rattle.fwu_model.specs.declared.kinds.Note as model
-use Rattle.host_io.specs.Contents.{Directory}
+use Rattle.host_io.specs.{Contents.Directory, Printed.Prints}
 use Rattle.fwu_words.specs.Order as ask
 use Rattle.gen_core.specs.Calls.{soak_calls}
 use Rattle.script_turns.specs.Powered.{TurnMoment}
-use Rattle.script_runs.specs.Noted.{is_beyond_model, noted}
-use Rattle.host_io.specs.Printed.{Prints}
+use Rattle.script_runs.specs.{Ending.is_beyond_model, Ending.noted, declared.done.Note.Note}
 use Rattle.flash_commands.specs.SoakWays.{SoakWay, SoakEnds, list_refused, starved, too_small, not_formatted, ran}
 use Rattle.script_runs.specs.Ways.{Given, HasGoodList, Refuses}
-use Rattle.script_runs.specs.declared.done.Note.{Note}
-use Rattle.script_runs.proofs.Shapes.{device-of, end-of, world-of}
+use Rattle.script_runs.proofs.TopWays.{device-of, end-of, world-of}
 use Rattle.script_cmd.proofs.TopLists.{from-sink, refused-behind}
 
 module _ (tells : Bool) (g : Given) (seed n blocks : ℕ) (journal : List Turn) (status : ℕ) (said : Note) (old new : TurnMoment) (taken_before taken_after : Option (List ℕ)) (faults_before faults_after : Faults) where

@@ -1,44 +1,29 @@
 -- `show` and `format` do all that they are asked for, where nothing is lacking and nothing failed, unless memory was wanting.
 use Rattle.std.proofs.Common.{◌≡◌, ◌⊎◌, inl, inr, ℕ, Bool, true, List, Option, Some, None, Result, Ok, Err, refl, sym, subst, ◌∙◌, IsTrue, IsFalse}
 use Rattle.std.proofs.lemmas.Bool.{false≢true}
-use Rattle.flash_core.specs.Counts.{Rose}
-use Rattle.flash_core.specs.Told.{Told, NothingDirty}
-use Rattle.flash_core.specs.declared.flash.Counts.{Counts}
-use Rattle.fwu_formats.specs.Layout.{Layout}
-use Rattle.fwu_formats.specs.Image.{deciding}
-use Rattle.fwu_model.specs.Causes.{Faults}
-use Rattle.fwu_model.specs.declared.kinds.Note.{Note}
-use Rattle.fwu_model.specs.declared.kinds.NoBoot.{NoBoot}
+use Rattle.flash_core.specs.{Counts.Rose, Told.Told, Told.NothingDirty, declared.flash.Counts.Counts}
+use Rattle.fwu_formats.specs.{Layout.Layout, Image.deciding}
+use Rattle.fwu_model.specs.{Causes.Faults, declared.kinds.Note.Note, declared.kinds.NoBoot.NoBoot}
 use Rattle.fwu_model.specs.declared.kinds.NoBoot.TheVariants as no_boot
 use Rattle.fip_tables.specs.Files.{Tells, Lacks}
-use Rattle.flash_format.specs.Stops.{RefusesAs, IsEarlyStop}
-use Rattle.flash_format.specs.declared.formatting.Formatted.{Formatted}
-use Rattle.flash_format.specs.declared.stops.FormatStop.{FormatStop}
+use Rattle.flash_format.specs.{Stops.RefusesAs, Stops.IsEarlyStop, declared.formatting.Formatted.Formatted}
+use Rattle.flash_format.specs.{declared.stops.FormatStop.FormatStop, declared.stops.InputFault.InputFault}
 use Rattle.flash_format.specs.declared.stops.FormatStop.TheVariants.{Input, ReadFailed, Flash}
-use Rattle.flash_format.specs.declared.stops.InputFault.{InputFault}
 use Rattle.flash_format.specs.declared.stops.InputFault.TheVariants as fault
-use Rattle.host_io.specs.Contents.{Directory}
+use Rattle.host_io.specs.{Contents.Directory, Printed.Prints, Printed.all, Printed.front, Printed.nothing}
 use Rattle.fwu_words.specs.Order.{Asked}
 use Rattle.fwu_words.specs.Order as ask
 use Rattle.script_turns.specs.Powered.{TurnMoment}
-use Rattle.script_runs.specs.Noted.{noted}
-use Rattle.host_io.specs.Printed.{Prints, all, front, nothing}
+use Rattle.script_runs.specs.{Ending.noted, Ending.World, ByTable.StopHasCause, declared.done.Note.Note as Said}
 use Rattle.script_runs.specs.Ways.{Given, Refuses, bad_list, bad_script, list_not_read, not_read, too_long, usage}
 use Rattle.flash_commands.specs.Showing.{ShowFinds, RefusedList, Showed, ShowsNone}
-use Rattle.script_runs.specs.ByTable.{StopHasCause}
-use Rattle.script_cmd.specs.ShowedBy.{HasMetadata}
-use Rattle.script_cmd.specs.ByList.{may_lack_list}
-use Rattle.script_cmd.specs.Granted.{IsGranted}
-use Rattle.script_cmd.specs.Soaked.{HasSoakList}
-use Rattle.script_runs.specs.Ending.{World}
 use Rattle.flash_commands.specs.Showing as show
 use Rattle.flash_commands.specs.Formatting.{Formats, Tries, format_status, format_text}
-use Rattle.script_cmd.specs.FormattedBy.{IsFormattable}
 use Rattle.flash_commands.specs.Formatting as format
-use Rattle.script_runs.specs.declared.done.Note.{Note as Said}
-use Rattle.script_runs.proofs.Shapes.{device-of, world-of}
-use Rattle.flash_commands.proofs.ShowFlash.{wakes-clean}
-use Rattle.script_runs.proofs.TopPrints.{by-plan, raised-rose}
+use Rattle.script_runs.proofs.{TopWays.device-of, TopWays.world-of, TopSources.by-plan, TopSources.raised-rose}
+use Rattle.flash_commands.proofs.FormatFlash.{wakes-clean}
+use Rattle.script_cmd.specs.NoTurns.{HasMetadata, IsFormattable}
+use Rattle.script_cmd.specs.{ByList.may_lack_list, Granted.IsGranted, Soaked.HasSoakList}
 
 -- a line whose status was to be 0, at a sink that did not fail
 pub printed : (line : List ℕ) (status : ℕ) (old new : Option (List ℕ)) (faults_before faults_after : ℕ) → (Rose faults_before faults_after → ⊥) → Prints line 0 status old new faults_before faults_after → (status ≡ 0) ⊎ (status ≡ 9)

@@ -1,31 +1,23 @@
 -- The command `format`, by the words and behind a list.
-use Rattle.std.proofs.Common.{◌≡◌, ◌≤◌, ◌||◌, ◌==◌, ℕ, Bool, List, [], Option, Some, None, Result, Ok, Err, refl, sym, ap, subst, ◌∙◌, ◌⊎◌, inl, inr, arith, IsTrue, IsFalse}
+use Rattle.std.proofs.Common.{◌≡◌, ◌≤◌, ◌||◌, ◌==◌, ℕ, Bool, List, Option, Some, None, Result, Ok, Err, refl, sym, ap, subst, ◌∙◌, ◌⊎◌, inl, inr, arith, IsTrue, IsFalse, []}
 use Rattle.fip_tables.specs.Files.{Lacks}
-use Rattle.flash_format.specs.Formatted.{IsBlank}
+use Rattle.flash_format.specs.{Formatted.IsBlank, declared.formatting.Formatted.Formatted, declared.stops.FormatStop.FormatStop}
 use Rattle.flash_format.specs.Stops.{IsOfLayout, LayoutBy}
 use Rattle.flash_format.specs.declared.stops.FormatStop.TheVariants.{Input, ReadFailed, Flash}
 use Rattle.meta_layout.specs.Rows.{fitted}
-use Rattle.flash_format.specs.declared.formatting.Formatted.{Formatted}
-use Rattle.flash_format.specs.declared.stops.FormatStop.{FormatStop}
-use Rattle.fwu_formats.specs.Layout.{Layout}
-use Rattle.fwu_model.specs.Reply.{Turn}
-use Rattle.fwu_model.specs.Causes.{Faults, may_fail_before}
-use Rattle.fwu_formats.specs.declared.kinds.LayoutFault.{LayoutFault}
+use Rattle.fwu_formats.specs.{Layout.Layout, declared.kinds.LayoutFault.LayoutFault}
+use Rattle.fwu_model.specs.{Reply.Turn, Causes.Faults, Causes.may_fail_before}
 use Rattle.fwu_model.specs.declared.kinds.Note as model
-use Rattle.host_io.specs.Contents.{Directory}
+use Rattle.host_io.specs.{Contents.Directory, Printed.Prints}
 use Rattle.fwu_words.specs.Order as ask
 use Rattle.flash_commands.specs.Formatting.{Formats, Tries, format_status, format_text, list_refused, starved, tried}
-use Rattle.script_cmd.specs.FormattedBy.{FormattedBy}
 use Rattle.script_turns.specs.Powered.{TurnMoment}
-use Rattle.script_runs.specs.Noted.{is_beyond_model, noted}
-use Rattle.script_cmd.specs.Granted.{RefusesBadList}
-use Rattle.host_io.specs.Printed.{Prints}
+use Rattle.script_runs.specs.{Ending.is_beyond_model, Ending.noted, declared.done.Note.Note}
 use Rattle.script_runs.specs.Ways.{Given, HasGoodList, Refuses}
-use Rattle.script_runs.specs.declared.done.Note.{Note}
 use Rattle.script_runs.specs.declared.done.Note.TheVariants as note
-use Rattle.script_runs.proofs.Shapes.{device-of, end-of, world-of}
+use Rattle.script_runs.proofs.{TopWays.device-of, TopWays.end-of, TopWays.world-of, TopSources.by-plan, TopSources.not-done}
+use Rattle.script_cmd.specs.{NoTurns.FormattedBy, Granted.RefusesBadList}
 use Rattle.script_cmd.proofs.TopCompletes.{format-completes, list-other, list-status}
-use Rattle.script_runs.proofs.TopPrints.{by-plan, not-done}
 use Rattle.script_cmd.proofs.TopShows.{good-list-kept, refused-list, starved-list}
 use Rattle.script_cmd.proofs.TopLists.{from-sink, refused-behind}
 

@@ -1,27 +1,20 @@
 -- The list of digests that the words may name: whose manifests pass, and what is known of its bytes.
-use Rattle.std.proofs.Common.{◌≡◌, ◌≤◌, ◌⊎◌, ℕ, Bool, true, false, List, [], ◌∷◌, Option, Some, None, Ok, Err, refl, sym, ap, subst, ◌∙◌, inl, inr}
-use Rattle.std.specs.Prelude.{IfSome, IsTrue, codes}
+use Rattle.std.proofs.Common.{◌≡◌, ◌≤◌, ◌⊎◌, ℕ, Bool, true, false, List, ◌∷◌, Option, Some, None, Ok, Err, refl, sym, ap, subst, ◌∙◌, inl, inr}
+use Rattle.std.specs.Prelude.{IfSome, IsTrue, codes, []}
 use Rattle.std.proofs.lemmas.Bool.{false≢true}
 use Rattle.flash_core.specs.Counts.{Rose}
-use Rattle.fwu_model.specs.Reply.{Turn}
-use Rattle.fwu_formats.specs.Words.{is_file}
-use Rattle.fwu_model.specs.Causes.{Faults, LacksList}
-use Rattle.fwu_model.specs.declared.kinds.Note.{Note}
+use Rattle.fwu_model.specs.{Reply.Turn, Causes.Faults, Causes.LacksList, declared.kinds.Note.Note}
+use Rattle.fwu_formats.specs.{Words.is_file, Digests.digests_of, Digests.passes_any, Digests.passes_listed}
 use Rattle.flash_commands.specs.Showing.{RefusedList}
-use Rattle.script_runs.proofs.Shapes.{world-of}
-use Rattle.script_runs.proofs.TopWays.{refuses}
-use Rattle.fwu_formats.specs.Digests.{digests_of, passes_any, passes_listed}
+use Rattle.script_runs.proofs.{TopWays.world-of, TopWays.refuses, TopSources.by-plan}
 use Rattle.fwu_model.specs.Allow.{after_list, asks_list, list_bytes, list_name}
-use Rattle.host_io.specs.Contents.{Directory, Holds}
+use Rattle.host_io.specs.{Contents.Directory, Contents.Holds, Printed.Prints}
 use Rattle.host_io.specs.Whole as whole
-use Rattle.fwu_words.specs.Order.{Asked, asked}
-use Rattle.fwu_words.specs.Allow.{NamesList, NamesNone}
-use Rattle.script_cmd.specs.Asking.{asked_after, asked_with_list}
-use Rattle.script_runs.proofs.TopPrints.{by-plan}
+use Rattle.fwu_words.specs.{Order.Asked, Order.asked, Allow.NamesList, Allow.NamesNone}
 use Rattle.script_turns.specs.Powered.{TurnMoment}
-use Rattle.host_io.specs.Printed.{Prints}
-use Rattle.script_cmd.specs.ByList.{ByList, HasPasses, IsIdle, ReadsList, StandsIn, may_lack_list}
 use Rattle.script_runs.specs.Ways.{HasGoodList}
+use Rattle.script_cmd.specs.Handed.{asked_after, asked_with_list}
+use Rattle.script_cmd.specs.ByList.{ByList, HasPasses, IsIdle, ReadsList, StandsIn, may_lack_list}
 
 none_some : (bytes : List ℕ) → None ≡ Some bytes → ⊥
 none_some bytes e = cc

@@ -1,29 +1,19 @@
 -- The command `show`, by the words and behind a list.
-use Rattle.std.proofs.Common.{◌≡◌, ◌≤◌, ◌||◌, ◌==◌, ℕ, Bool, List, [], Option, Some, None, Err, refl, sym, ap, subst, ◌∙◌, inl, IsTrue, le_refl}
-use Rattle.flash_core.specs.Told.{NothingDirty}
-use Rattle.flash_core.specs.declared.flash.Counts.{Counts}
+use Rattle.std.proofs.Common.{◌≡◌, ◌≤◌, ◌||◌, ◌==◌, ℕ, Bool, List, Option, Some, None, Err, refl, sym, ap, subst, ◌∙◌, inl, IsTrue, le_refl, []}
+use Rattle.flash_core.specs.{Told.NothingDirty, declared.flash.Counts.Counts}
 use Rattle.fwu_formats.specs.Digests.{digests_of}
-use Rattle.fwu_model.specs.Allow.{list_bytes}
-use Rattle.fwu_model.specs.Reply.{Turn}
-use Rattle.fwu_model.specs.Causes.{Faults, may_fail_before}
-use Rattle.fwu_model.specs.declared.kinds.Note.{Note}
+use Rattle.fwu_model.specs.{Allow.list_bytes, Reply.Turn, Causes.Faults, Causes.may_fail_before, declared.kinds.Note.Note}
 use Rattle.fwu_model.specs.declared.kinds.Note.TheVariants as note
-use Rattle.host_io.specs.Contents.{Directory}
+use Rattle.host_io.specs.{Contents.Directory, Printed.Prints}
 use Rattle.fwu_words.specs.Order.{Asked}
 use Rattle.fwu_words.specs.Order as ask
-use Rattle.script_turns.specs.Powered.{TurnMoment}
-use Rattle.host_io.specs.Printed.{Prints}
-use Rattle.script_turns.specs.Turning.{NoneFalls}
+use Rattle.script_turns.specs.{Powered.TurnMoment, Turning.NoneFalls}
 use Rattle.script_runs.specs.Ways.{Given, HasGoodList, Refuses}
-use Rattle.script_cmd.specs.ShowedBy.{ShowedBy}
 use Rattle.flash_commands.specs.Showing.{Showed, RefusedList, starved, list_refused, found}
-use Rattle.script_cmd.specs.Granted.{RefusesBadList}
-use Rattle.script_runs.proofs.Shapes.{end-of, world-of}
-use Rattle.script_cmd.proofs.PromiseEnds.{bad-status, lacks-list}
-use Rattle.script_runs.proofs.TopPrints.{by-plan}
-use Rattle.script_cmd.proofs.PromiseTurns.{some-from, some-at}
-use Rattle.script_cmd.proofs.TopLists.{from-sink, refused-behind}
-use Rattle.script_cmd.proofs.TopCompletes.{show-completes}
+use Rattle.script_runs.proofs.{TopWays.end-of, TopWays.world-of, TopSources.by-plan}
+use Rattle.script_cmd.specs.{NoTurns.ShowedBy, Granted.RefusesBadList}
+use Rattle.script_cmd.proofs.{PromiseEnds.bad-status, PromiseEnds.lacks-list, PromiseTurns.some-from, PromiseTurns.some-at}
+use Rattle.script_cmd.proofs.{TopLists.from-sink, TopLists.refused-behind, TopCompletes.show-completes}
 
 pub falls-none : (counts : Counts) → NoneFalls counts counts
 falls-none counts = record { faults = le_refl counts.faults; cuts = le_refl counts.cuts; reached = le_refl counts.reached; chances = le_refl counts.chances }

@@ -1,13 +1,22 @@
--- Which files a command doesn't ask for, from what its parts ask for.
-use Rattle.std.proofs.Common.{◌≡◌, ◌∙◌, ℕ, List, Option, Some, None, refl, sym, subst, arith}
-use Rattle.fwu_model.specs.Reply.{Turn}
+-- What the program was handed, and which files a command does not ask for.
+use Rattle.std.proofs.Common.{◌≤◌, ℕ, List, Option, ◌≡◌, ◌∙◌, Some, None, refl, sym, subst, arith}
+use Rattle.fwu_model.specs.{Causes.Faults, Reply.Turn}
 use Rattle.fwu_words.specs.Order.{Asked}
-use Rattle.host_io.specs.Access.{Access}
-use Rattle.host_io.specs.Contents.{Directory}
-use Rattle.host_io.specs.Reads.{ReadsFile, ReadsFiles}
-use Rattle.host_io.specs.declared.files.Files.{Ghosts}
-use Rattle.script_cmd.specs.Unasked.{IsUnasked}
-use Rattle.script_cmd.proofs.Inputs.{inputs-of}
+use Rattle.host_io.specs.{Access.Access, Contents.Directory, Reads.ReadsFile, Reads.ReadsFiles, declared.files.Files.Ghosts}
+use Rattle.script_cmd.specs.{Handed.Inputs, ReadsInputs.IsUnasked}
+
+-- ---- what a run was given, from its parts, and that no count of failures fell
+
+abbrev pub inputs-of : Option Asked → Option (List ℕ) → Option (List ℕ → Option (List ℕ)) → Option (List ℕ) → Inputs
+inputs-of asked list files source = record { asked = asked; list = list; files = files; source = source }
+
+-- no fault count falls
+pub record Later (faults_before faults_after : Faults) : Type 0 where
+  pub files : faults_before.files ≤ faults_after.files
+  pub source : faults_before.source ≤ faults_after.source
+  pub sink : faults_before.sink ≤ faults_after.sink
+
+-- ---- which files a command doesn't ask for, from what its parts ask for
 
 module _ {H : Type 0} (g : Ghosts H) {asked : Option Asked} {list : Option (List ℕ)} {told : Option Directory} {left : Option (List ℕ)} {journal : List Turn} where
   -- where no call is made

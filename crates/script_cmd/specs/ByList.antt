@@ -1,5 +1,5 @@
 -- Whose manifests pass, by the list of digests that the words may name.
-use Rattle.std.specs.Prelude.{◌≡◌, ◌⊎◌, ℕ, ⊤, Bool, true, false, ◌||◌, ◌==◌, List, [], Option, Some, None, Ok, IsTrue}
+use Rattle.std.specs.Prelude.{◌≡◌, ◌⊎◌, ℕ, ⊤, Bool, true, false, ◌||◌, ◌==◌, List, Option, Some, None, Ok, IsTrue, []}
 use Rattle.fwu_model.specs.Reply.{Turn}
 use Rattle.fwu_formats.specs.Digests.{digests_of, passes_any, passes_listed}
 use Rattle.script_turns.specs.Powered.{TurnMoment}
@@ -38,7 +38,6 @@ pub record IsIdle (journal : List Turn) (status : ℕ) (old new : TurnMoment) : 
 
 -- The promise holds for the manifests that pass, by the list that was read.
 -- Where none was read nothing was done, and it holds whichever pass.
-abbrev pub ByList : (HasPasses : (List ℕ → Bool) → Type 0) → (Idle : Type 0)
-    → (Promise : (List ℕ → Bool) → Type 0) → Type 0
+abbrev pub ByList : (HasPasses : (List ℕ → Bool) → Type 0) → (Idle : Type 0) → (Promise : (List ℕ → Bool) → Type 0) → Type 0
 ByList Has Idle Promise = ((passes : List ℕ → Bool) × Has passes × Promise passes)
     ⊎ (Idle × ((passes : List ℕ → Bool) → Promise passes))

@@ -1,13 +1,11 @@
 -- What a command that runs no script is granted, and how it answers a list of digests that is none.
 use Rattle.std.specs.Prelude.{◌≡◌, ℕ, Err, IfSome, IsSome, IsTrue}
-use Rattle.flash_core.specs.Counts.{Rose}
-use Rattle.flash_core.specs.declared.flash.Counts.{Counts}
+use Rattle.flash_core.specs.{Counts.Rose, declared.flash.Counts.Counts}
 use Rattle.script_turns.specs.Powered.{TurnMoment}
 use Rattle.script_runs.specs.Ways.{Given}
 use Rattle.fwu_formats.specs.Digests.{digests_of}
-use Rattle.fwu_model.specs.Allow.{list_bytes}
+use Rattle.fwu_model.specs.{Allow.list_bytes, Wrote.IsBadList}
 use Rattle.fwu_model.specs.Causes.{Faults, LacksList, RefusesList, may_fail_before}
-use Rattle.fwu_model.specs.Wrote.{IsBadList}
 
 -- A list that told files lack is answered by 2, and one with a bad line by 13, or 2 where it could not be read. The sink may fail
 -- at that line, or memory be wanting. And nothing was done.

@@ -1,18 +1,47 @@
--- What the functions of the program say of the device, the files, the source and the sink that they were handed, and of what
--- they left.
-use Rattle.std.specs.Prelude.{ℕ, Bool, List}
+-- What is done for what the words ask for, by each command.
+use Rattle.std.specs.Prelude.{◌≡◌, ℕ, Bool, List, Option, Some, IsTrue, IsFalse}
+use Rattle.fwu_formats.specs.Layout.{ImageRow}
+use Rattle.fwu_words.specs.Order.{Asked}
+use Rattle.fwu_words.specs.Order as ask
+use Rattle.script_runs.specs.Ending.{Device, Ending, World, in_model, is_beyond_model, ending}
+use Rattle.flash_commands.specs.SoakWays.{SoakWay}
+use Rattle.script_runs.specs.{Ways.Way, Ways.device_of, WaysByTable.WayByTable, declared.done.Note.Note, declared.done.Done.Done}
 use Rattle.flash_core.specs.declared.flash.Flash as flash
 use Rattle.host_io.specs.declared.files.Files as files
 use Rattle.host_io.specs.declared.source.Source as source
 use Rattle.host_io.specs.declared.sink.Sink as sink
-use Rattle.script_cmd.specs.Answered.{AnsweredByList}
-use Rattle.script_runs.specs.Done.{ending}
-use Rattle.script_cmd.specs.Handed.{Inputs}
-use Rattle.script_runs.specs.Ways.{device_of}
-use Rattle.script_runs.specs.declared.done.Done.{Done}
 use Rattle.fwu_model.specs.Causes.{Faults}
 use Rattle.script_turns.specs.Powered.{moment}
-use Rattle.script_runs.specs.Ending.{World}
+use Rattle.script_cmd.specs.Handed.{asks_beyond, leaves_on, RunsOrNone, over_table, Inputs, given_all}
+use Rattle.script_cmd.specs.{NoTurns.FormattedBy, NoTurns.ShowedBy, Promises.given_to, ServedBy.ServeWay, ByList.ByList}
+use Rattle.script_cmd.specs.{ByList.IsIdle, ReadsInputs.ReadsInputs}
+
+-- What was done for the words behind a list, or without one. `rest` is what the source tells afterwards.
+pub record Answered {H I : Type 0} (passes : List ℕ → Bool) (device : Device) (inputs : Inputs)
+    (ending : Ending Note) (old new : World) (rest : Option (List ℕ)) (files_before files_after : H)
+    (source_before source_after : I) : Type 0 where
+  pub way : RunsOrNone inputs.asked → Way passes device.tells inputs.asked (given_to inputs) (in_model ending) old new
+  pub by_table : (plain : Asked) → over_table inputs.asked ≡ Some plain
+      → WayByTable passes device (Some plain) (given_to (record inputs { asked = Some plain })) ending old new
+  pub shows : inputs.asked ≡ Some ask.show → ShowedBy device.tells (given_all inputs) (in_model ending) old new
+  pub formats : (banks : ℕ) (rows : List ImageRow) (file : List ℕ) → inputs.asked ≡ Some (ask.format banks rows file)
+      → FormattedBy passes device (given_all inputs) file (record { banks = banks; rows = rows }) ending old new
+  pub soaks : (seed rounds : ℕ) → inputs.asked ≡ Some (ask.soak seed rounds)
+      → SoakWay device (given_all inputs) seed rounds ending old new
+  pub serves : inputs.asked ≡ Some ask.serve → ServeWay passes device.tells (given_all inputs) (in_model ending) old new rest
+  pub power : IsTrue (leaves_on inputs.asked) → ending.status ≡ 0 → IsTrue new.flash.power
+  pub note : IsFalse (asks_beyond inputs.asked) → IsFalse (is_beyond_model ending.noted)
+  -- what it takes of its files and its source, where these tell it, and which failures they count, always
+  pub reads : ReadsInputs inputs ending old.faults new.faults rest files_before files_after source_before source_after
+
+-- The same by the manifests of a list that was read (`Has` says of which), or nothing was done, and it holds whichever pass.
+abbrev pub AnsweredByList : {H I : Type 0} → (Has : (List ℕ → Bool) → Type 0) → Device → Inputs → Ending Note → World → World
+    → Option (List ℕ) → H → H → I → I → Type 0
+AnsweredByList Has device inputs ending old new rest files_before files_after source_before source_after =
+    ByList Has (IsIdle ending.journal ending.status old.flash new.flash)
+    (λ passes. Answered passes device inputs ending old new rest files_before files_after source_before source_after)
+
+-- ---- what the functions of the program say of what they were handed, and of what they left
 
 -- what the files, the source and the sink count
 abbrev pub faults_of : {H I O : Type 0} → (H → ℕ) → (I → ℕ) → (O → ℕ) → H → I → O → Faults

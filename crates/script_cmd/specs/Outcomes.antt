@@ -1,28 +1,20 @@
 -- Wrong outcomes that no run is promised, on any device, told or not.
-use Rattle.std.specs.Prelude.{◌≡◌, ◌≢◌, ◌⊎◌, ℕ, Bool, true, List, [], ◌∷◌, ◌++◌, Option, Some, None, Ok, Err, IsSome}
-use Rattle.flash_core.specs.Counts.{Rose}
-use Rattle.flash_core.specs.Told.{NothingDirty}
-use Rattle.fwu_model.specs.declared.kinds.Note.{Note}
+use Rattle.std.specs.Prelude.{◌≡◌, ◌≢◌, ◌⊎◌, ℕ, Bool, true, List, ◌∷◌, ◌++◌, Option, Some, None, Ok, Err, IsSome, ◌≤◌, []}
+use Rattle.flash_core.specs.{Counts.Rose, Told.NothingDirty}
+use Rattle.fwu_model.specs.{declared.kinds.Note.Note, Call.Call, Reply.Turn, Script.script_of, Headline.made_after}
+use Rattle.fwu_model.specs.{Causes.LacksList, Causes.cuts_in, Wrote.StopsInLast, Wrote.usage_line, State.Numbers}
 use Rattle.fwu_model.specs.declared.kinds.NoBoot.TheVariants as no_boot
-use Rattle.fwu_formats.specs.Digests.{digests_of, passes_listed}
-use Rattle.fwu_model.specs.Call.{Call}
+use Rattle.fwu_formats.specs.{Digests.digests_of, Digests.passes_listed, Layout.Layout, Layout.ImageRow, Image.layout_seen}
+use Rattle.fwu_formats.specs.Image.{deciding}
 use Rattle.fwu_model.specs.Call as call
-use Rattle.fwu_model.specs.Reply.{Turn}
 use Rattle.fwu_model.specs.Reply as reply
-use Rattle.fwu_formats.specs.Layout.{Layout}
-use Rattle.fwu_formats.specs.Image.{layout_seen, deciding}
-use Rattle.fwu_model.specs.Script.{script_of}
-use Rattle.fwu_model.specs.Headline.{made_after}
-use Rattle.fwu_model.specs.Causes.{LacksList, cuts_in}
-use Rattle.fwu_model.specs.Wrote.{StopsInLast, usage_line}
-use Rattle.fwu_words.specs.Order.{Asked}
 use Rattle.fwu_words.specs.Order as ask
 use Rattle.host_io.specs.Contents.{Directory}
 use Rattle.script_turns.specs.Powered.{SameDevice}
 use Rattle.script_runs.specs.Ending.{Ending, World}
-use Rattle.script_cmd.specs.ByList.{HasPasses}
-use Rattle.script_cmd.specs.Handed.{Inputs}
-use Rattle.script_cmd.specs.Promises.{Promised}
+use Rattle.std.specs.List.{slice_get}
+use Rattle.image_check.specs.Passed.{HasPackage}
+use Rattle.script_cmd.specs.{ByList.HasPasses, Handed.Inputs, Promises.Promised}
 
 -- A script with a call isn't passed over: nothing done and status 0 is the end of a script without calls.
 abbrev pub NothingIsPassedOver : Type 0
@@ -99,3 +91,22 @@ abbrev pub ListIsSome : Type 0
 ListIsSome = (list : Option (List ℕ)) (files : Option Directory) (passes : List ℕ → Bool)
     → HasPasses true list files passes → (digests : List (List ℕ))
     × (passes ≡ passes_listed digests)
+
+-- ---- what each boot of a run that is answered has, on any device, told or not
+
+-- Some complete package of some images has this version and a manifest that passes, and it is not below the counter that the boot
+-- read, which its turn tells.
+pub record IsOfPackage (passes : List ℕ → Bool) (t : Turn) (version : ℕ) : Type 0 where
+  pub rows : List ImageRow
+  pub some : HasPackage passes rows version
+  pub numbers : Numbers
+  pub told : t.numbers ≡ Some numbers
+  pub enough : numbers.counter ≤ version
+
+abbrev pub BootsArePermitted : Type 0
+BootsArePermitted =
+    (passes : List ℕ → Bool) (tells : Bool) (inputs : Inputs) (ending : Ending Note) (old new : World)
+    → Promised passes tells inputs ending old new
+    → (n : ℕ) (t : Turn) (bank version trials counter : ℕ) (fallback : Bool) → slice_get ending.journal n ≡ Some t
+    → t.call ≡ call.Boot → t.reply ≡ reply.Booted bank version trials counter fallback
+    → IsOfPackage passes t version

@@ -1,39 +1,60 @@
--- What `run` or `boot` promises, whichever way it ends.
-use Rattle.std.specs.Prelude.{◌≡◌, ◌≢◌, ◌+◌, ◌≤◌, ◌⊎◌, ℕ, Bool, List, ◌++◌, Option, Some, None, IsTrue, IsFalse, ◌||◌, ◌==◌, []}
-use Rattle.std.specs.Prelude.{slice_get}
-use Rattle.flash_core.specs.Counts.{Rose, all_stops}
-use Rattle.flash_core.specs.Told.{NothingDirty}
-use Rattle.flash_core.specs.May.{Guards}
-use Rattle.fwu_model.specs.State.{State}
+-- What `run` or `boot` promises, whichever way it ends, on a plain flash and behind a partition table.
+use Rattle.std.specs.Prelude.{◌≡◌, ℕ, Bool, List, Some, None, Ok, Err, slice_get, ◌≢◌, ◌+◌, ◌≤◌, ◌⊎◌, ◌++◌, Option, IsTrue, IsFalse}
+use Rattle.std.specs.Prelude.{◌||◌, ◌==◌, []}
+use Rattle.fwu_model.specs.{declared.kinds.Note.Note, State.State, Sound.Setting, Sound.choice, Reply.Turn, Answer.booted_package}
+use Rattle.fwu_model.specs.{Seen.seen, Call.Call, Allow.list_bytes, Calm.IsAtRest, Calm.IsGuarded, Contract.Premises, Contract.Asks}
+use Rattle.fwu_model.specs.{Headline.Headline, Headline.Outcome, Asked.script_asked, Wrote.Wrote}
+use Rattle.fwu_model.specs.declared.kinds.Note.TheVariants as note
+use Rattle.fwu_model.specs.declared.kinds.NoBoot.TheVariants as no_boot
+use Rattle.fwu_formats.specs.{declared.kinds.LayoutFault.LayoutFault, Layout.Layout, Manifest.version}
+use Rattle.fwu_formats.specs.Image.{layout_seen, deciding}
+use Rattle.fwu_model.specs.Reply as reply
+use Rattle.flash_core.specs.{Counts.Rose, Counts.all_stops, Told.NothingDirty, Told.Told, May.Guards, May.May}
 use Rattle.agent_machine.specs.Fields.{Fields}
-use Rattle.fwu_model.specs.Sound.{Setting}
 use Rattle.host_io.specs.Contents.{Directory}
-use Rattle.fwu_model.specs.Call.{Call}
 use Rattle.fwu_model.specs.Call as call
-use Rattle.fwu_model.specs.Reply.{Turn}
-use Rattle.fwu_model.specs.Allow.{list_bytes}
-use Rattle.fwu_model.specs.Calm.{IsAtRest, IsGuarded}
-use Rattle.fwu_model.specs.Contract.{Premises, Asks}
-use Rattle.fwu_model.specs.Headline.{Headline, Outcome}
-use Rattle.fwu_model.specs.Asked.{script_asked}
-use Rattle.fwu_model.specs.Wrote.{Wrote}
 use Rattle.fwu_model.specs.Causes.{EndsAs, IsServed, cuts_in, may_fail_before}
-use Rattle.fwu_model.specs.declared.kinds.Note.{Note}
 use Rattle.fwu_words.specs.Order.{Asked}
 use Rattle.fwu_words.specs.Order as ask
-use Rattle.script_runs.specs.Refusing.{in_short}
-use Rattle.script_cmd.specs.BootWord.{BootWordBy}
-use Rattle.script_runs.specs.Ending.{Ending, World}
-use Rattle.script_turns.specs.Booted.{BootsFrom}
-use Rattle.script_turns.specs.Powered.{TurnMoment, SameDevice, at}
+use Rattle.script_runs.specs.{Refusing.in_short, Ending.Ending, Ending.World, Ending.Device, Ending.in_model, Ways.Given}
+use Rattle.script_runs.specs.{Ways.Refuses, Ways.Way, ByTable.Starts, ByTable.seen_at, WaysByTable.WayByTable}
+use Rattle.script_turns.specs.{Boots.BootsFrom, Powered.TurnMoment, Powered.SameDevice, Powered.at}
 use Rattle.script_turns.specs.Runs.{Follows, LossesAreDue, RunTouches, RunsFree, power_left, stops_of}
-use Rattle.script_runs.specs.Ways.{Given, Refuses, Way}
+use Rattle.gpt_core.specs.{declared.layout.Places.Places, declared.table.WhichTable.WhichTable, Beside.Beside, Beside.TouchesPlaces}
+use Rattle.gpt_core.specs.{PlacesOf.places_of, Places.through, Repair.HeadersGuarded, View.view_of, View.writes_seen}
+use Rattle.gpt_core.specs.Table.{DecidesTable, Table, table_in_image}
+use Rattle.script_runs.specs.declared.done.Note as own
 use Rattle.script_cmd.specs.Handed.{Inputs}
+
+-- ---- the program for the one command `boot`, on any flash with nothing dirty, sound or not
+
+-- the first turn tells that this bank was booted, with the version of the package that it holds
+pub record BootsBank (s : State) (b : ℕ) (journal : List Turn) : Type 0 where
+  pub turn : Turn
+  pub first : slice_get journal 0 ≡ Some turn
+  pub trials : ℕ
+  pub counter : ℕ
+  pub fallback : Bool
+  pub reply_is : turn.reply ≡ reply.Booted b (version (booted_package s b)) trials counter fallback
+
+-- By the layout, the metadata and the choice: the bank that is chosen is booted, or the note says what was lacking.
+pub record BootWordBy (passes : List ℕ → Bool) (image : List ℕ) (status : ℕ) (noted : Note)
+    (journal : List Turn) : Type 0 where
+  pub no_layout : (f : LayoutFault) → layout_seen image ≡ Err f → (status ≡ 6) × (noted ≡ note.Boot (no_boot.Layout f))
+  pub no_metadata : (L : Layout) → layout_seen image ≡ Ok L → deciding L image ≡ None → (status ≡ 6)
+      × (noted ≡ note.Boot no_boot.Metadata)
+  pub no_bank : (E : Setting) (s : State) → layout_seen image ≡ Ok E.layout → passes ≡ E.passes
+      → seen image ≡ Some s → choice E s ≡ None
+      → (status ≡ 6) × (noted ≡ note.Boot (no_boot.Bank s.active s.previous))
+  pub bank : (E : Setting) (s : State) (b : ℕ) → layout_seen image ≡ Ok E.layout → passes ≡ E.passes
+      → seen image ≡ Some s → choice E s ≡ Some b
+      → (status ≡ 0) × BootsBank s b journal
+
+-- ---- what `run` or `boot` promises, whichever way it ends
 
 -- what the program was given to read, with the script that its words and its source give
 abbrev pub given_to : Inputs → Given
-given_to inputs =
-    record { list = inputs.list; files = inputs.files; script = script_asked (in_short inputs.asked) inputs.source }
+given_to inputs = record { list = inputs.list; files = inputs.files; script = script_asked (in_short inputs.asked) inputs.source }
 
 -- what it was asked for, and what it left
 abbrev pub outcome : List Call → List Turn → ℕ → TurnMoment → TurnMoment → Outcome
@@ -144,62 +165,6 @@ CompleteHolds passes tells inputs ending old new =
     inputs.list inputs.files script old.faults new.faults
     → (ending.status ≡ 0) ⊎ (ending.status ≡ 9)
 
--- ---- as laws: each way that it may end promises all of these
-
-abbrev pub WaysWrite : Type 0
-WaysWrite =
-    (passes : List ℕ → Bool) (tells : Bool) (asked : Option Asked) (g : Given) (ending : Ending Note) (old new : World)
-    → Way passes tells asked g ending old new
-    → WroteHolds asked g ending old new
-
-abbrev pub WaysEnd : Type 0
-WaysEnd =
-    (passes : List ℕ → Bool) (tells : Bool) (asked : Option Asked) (g : Given) (ending : Ending Note) (old new : World)
-    → Way passes tells asked g ending old new
-    → EndsHold asked g ending old new
-
-abbrev pub WaysReply : Type 0
-WaysReply =
-    (passes : List ℕ → Bool) (tells : Bool) (asked : Option Asked) (g : Given) (ending : Ending Note) (old new : World)
-    → Way passes tells asked g ending old new
-    → RepliesHold passes tells g.files ending.journal old new
-
-abbrev pub WaysLeaveTheDevice : Type 0
-WaysLeaveTheDevice =
-    (passes : List ℕ → Bool) (tells : Bool) (asked : Option Asked) (g : Given) (ending : Ending Note) (old new : World)
-    → Way passes tells asked g ending old new
-    → RunLeaves tells ending.journal old.flash new.flash
-
-abbrev pub WaysBootFirst : Type 0
-WaysBootFirst =
-    (passes : List ℕ → Bool) (tells : Bool) (asked : Option Asked) (g : Given) (ending : Ending Note) (old new : World)
-    → Way passes tells asked g ending old new
-    → FirstHolds passes tells ending.journal old.flash
-
-abbrev pub WaysKeepTheHeadline : Type 0
-WaysKeepTheHeadline =
-    (passes : List ℕ → Bool) (tells : Bool) (inputs : Inputs) (ending : Ending Note) (old new : World)
-    → Way passes tells inputs.asked (given_to inputs) ending old new
-    → HeadlineHolds passes tells inputs ending old new
-
-abbrev pub WaysBoot : Type 0
-WaysBoot =
-    (passes : List ℕ → Bool) (tells : Bool) (inputs : Inputs) (ending : Ending Note) (old new : World)
-    → Way passes tells inputs.asked (given_to inputs) ending old new
-    → BootWordHolds passes tells inputs.asked ending old.flash new.flash
-
-abbrev pub WaysGuard : Type 0
-WaysGuard =
-    (passes : List ℕ → Bool) (tells : Bool) (asked : Option Asked) (g : Given) (ending : Ending Note) (old new : World)
-    → Way passes tells asked g ending old new
-    → GuardedHolds tells old.flash new.flash
-
-abbrev pub WaysAreComplete : Type 0
-WaysAreComplete =
-    (passes : List ℕ → Bool) (tells : Bool) (inputs : Inputs) (ending : Ending Note) (old new : World)
-    → Way passes tells inputs.asked (given_to inputs) ending old new
-    → CompleteHolds passes tells inputs ending old new
-
 -- ---- in one
 
 -- All that `run` or `boot` promises.
@@ -221,3 +186,94 @@ pub record Promised (passes : List ℕ → Bool) (tells : Bool) (inputs : Inputs
   pub boot_word : BootWordHolds passes tells inputs.asked ending old.flash new.flash
   -- From such a flash all is done, where nothing was lacking and nothing failed, unless memory was wanting.
   pub complete : CompleteHolds passes tells inputs ending old new
+
+-- ---- as laws
+
+-- Each way that a run may end promises these, also for a text that its words don't ask for.
+abbrev pub WaysHold : Type 0
+WaysHold =
+    (passes : List ℕ → Bool) (tells : Bool) (asked : Option Asked) (g : Given) (ending : Ending Note) (old new : World)
+    → Way passes tells asked g ending old new
+    → WroteHolds asked g ending old new × EndsHold asked g ending old new
+    × RanHolds passes tells g.files ending.journal old new
+
+-- And with what its words ask for, all of them.
+abbrev pub WaysArePromised : Type 0
+WaysArePromised =
+    (passes : List ℕ → Bool) (tells : Bool) (inputs : Inputs) (ending : Ending Note) (old new : World)
+    → Way passes tells inputs.asked (given_to inputs) ending old new
+    → Promised passes tells inputs ending old new
+
+-- ---- what `run --gpt` or `boot --gpt` promises, whichever way it ends
+
+-- A run began on the flash that a device has at the places that its table gives.
+pub record RunsByTable (passes : List ℕ → Bool) (device : Device) (inputs : Inputs) (ending : Ending own.Note)
+    (old new : World) : Type 0 where
+  pub places : Places
+  pub start : TurnMoment
+  pub starts : Starts device.tells device.blocks old.flash places start
+  -- no turn changed anything besides the three partitions, and nothing there is unsure
+  pub beside : IsTrue device.tells → Beside places start.told new.flash.told
+  -- on any device no turn erased or programmed a block besides them, and what came before the turns none of theirs
+  pub touches : TouchesPlaces places start.writes new.flash.writes
+  pub unwritten : writes_seen places start.writes ≡ writes_seen places old.flash.writes
+  -- where nothing was dirty the flash is at the start what it was when it was handed in
+  pub seen : IsTrue device.tells → NothingDirty old.flash.told → view_of places start.told ≡ view_of places old.flash.told
+  -- all that a run promises, of the flash at these places
+  pub promises : Promised passes device.tells inputs (in_model ending)
+      (record old { flash = seen_at places start }) (record new { flash = seen_at places new.flash })
+
+-- a valid table gives these places
+pub record TableGives (blocks : ℕ) (image : List ℕ) (p : Places) : Type 0 where
+  pub table : Table
+  pub which : WhichTable
+  pub decides : table_in_image blocks image ≡ Some (table, which)
+  pub gives : places_of blocks table ≡ Ok p
+
+-- from a sound flash behind a valid table the headline, for the calls that are asked for
+abbrev pub HeadlineByTable : (List ℕ → Bool) → Device → Inputs → Ending own.Note → TurnMoment → TurnMoment → Type 0
+HeadlineByTable passes device inputs ending old new =
+    IsTrue device.tells → (p : Places) (E : Setting) (start : State) (calls : List Call)
+    → NothingDirty old.told → TableGives device.blocks old.told.now p
+    → Premises E start (view_of p old.told) inputs.files passes old.counts new.counts
+    → Asks (in_short inputs.asked) inputs.source calls → (ending.journal ≢ []) ⊎ (ending.status ≡ 0)
+    → Headline E start (outcome calls ending.journal ending.status (seen_at p old) (seen_at p new))
+
+-- Where no turn ran and not all was done, the flash behind a valid table is the same in each image that a loss may
+-- leave. Where both headers are guarded so is the table that decides.
+pub record KeepsFlash (blocks : ℕ) (p : Places) (table : Table) (old new : Told) : Type 0 where
+  pub same : (image : List ℕ) → May new image → through p image ≡ through p old.now
+  pub decides : HeadersGuarded blocks old → (image : List ℕ) → May new image → DecidesTable blocks table image
+
+abbrev pub KeptByTable : Device → Ending own.Note → TurnMoment → TurnMoment → Type 0
+KeptByTable device ending old new =
+    IsTrue device.tells → (p : Places) → NothingDirty old.told → (gives : TableGives device.blocks old.told.now p)
+    → ending.journal ≡ [] → ending.status ≢ 0 → KeepsFlash device.blocks p gives.table old.told new.told
+
+-- From such a flash all is done, where nothing was lacking, nothing failed and no loss came before the first turn,
+-- unless memory was wanting.
+abbrev pub CompleteByTable : (List ℕ → Bool) → Device → Inputs → Ending own.Note → World → World → Type 0
+CompleteByTable passes device inputs ending old new =
+    IsTrue device.tells → (p : Places) (E : Setting) (start : State) (calls : List Call) (script : List ℕ)
+    → NothingDirty old.flash.told → TableGives device.blocks old.flash.told.now p
+    → Premises E start (view_of p old.flash.told) inputs.files passes old.flash.counts new.flash.counts
+    → Asks (in_short inputs.asked) inputs.source calls → script_asked (in_short inputs.asked) inputs.source ≡ Some script
+    → IsServed (outcome calls ending.journal ending.status (seen_at p old.flash) (seen_at p new.flash))
+    (in_short inputs.asked) inputs.list inputs.files script old.faults new.faults
+    → (ending.journal ≡ [] → Rose old.flash.counts.cuts new.flash.counts.cuts → ⊥)
+    → (ending.status ≡ 0) ⊎ (ending.status ≡ 9)
+
+-- All that `run --gpt` or `boot --gpt` promises.
+pub record PromisedByTable (passes : List ℕ → Bool) (device : Device) (inputs : Inputs) (ending : Ending own.Note)
+    (old new : World) : Type 0 where
+  -- For every device, files, source and sink, told or not: which way it ended.
+  pub way : WayByTable passes device inputs.asked (given_to inputs) ending old new
+  -- For every device: where a turn ran or all was done, a run began behind the table, and it promises all that one
+  -- on a plain flash does.
+  pub run : (ending.journal ≢ []) ⊎ (ending.status ≡ 0) → RunsByTable passes device inputs ending old new
+  -- Where none began, no loss harms the flash behind a valid table.
+  pub kept : KeptByTable device ending old.flash new.flash
+  -- From a sound flash behind a valid table: the turns are those of the machine.
+  pub headline : HeadlineByTable passes device inputs ending old.flash new.flash
+  -- And all is done.
+  pub complete : CompleteByTable passes device inputs ending old new

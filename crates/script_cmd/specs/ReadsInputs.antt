@@ -1,15 +1,14 @@
 -- What a command reads of its files and its source, and which failures it counts, whatever it is asked for.
-use Rattle.std.specs.Prelude.{◌≡◌, ◌≤◌, ℕ, List, Option, None, IsTrue, IsFalse}
+use Rattle.std.specs.Prelude.{◌≡◌, ◌≤◌, ℕ, List, Option, None, IsTrue, IsFalse, ◌≢◌, Some}
 use Rattle.fwu_model.specs.Asked as model
-use Rattle.fwu_model.specs.Causes.{Faults, may_fail_before}
-use Rattle.script_cmd.specs.Asking.{asks_files, asks_package, asks_source}
-use Rattle.script_runs.specs.Ending.{Ending}
-use Rattle.script_runs.specs.Refusing.{in_short}
+use Rattle.fwu_model.specs.{Causes.Faults, Causes.may_fail_before, Reply.Turn}
+use Rattle.script_runs.specs.{Ending.Ending, Refusing.in_short, Ways.HasGoodList, declared.done.Note.Note, Running.IsUnnamedIn}
 use Rattle.script_turns.specs.Runs.{calls_of, sends_none}
 use Rattle.script_runs.specs.Sourced.{FailsOnce, TakesScript}
-use Rattle.script_runs.specs.Ways.{HasGoodList}
-use Rattle.script_cmd.specs.Handed.{Inputs}
-use Rattle.script_runs.specs.declared.done.Note.{Note}
+use Rattle.fwu_formats.specs.Layout.{ImageRow}
+use Rattle.fwu_words.specs.Order as ask
+use Rattle.host_io.specs.Access.{Access, Asks}
+use Rattle.script_cmd.specs.Handed.{asks_files, asks_package, asks_source, Inputs}
 
 -- `rest` is what the source tells afterwards; the files and the source are those before and after.
 pub record ReadsInputs {H I : Type 0} (inputs : Inputs) (ending : Ending Note) (old new : Faults) (rest : Option (List ℕ))
@@ -33,3 +32,16 @@ pub record ReadsInputs {H I : Type 0} (inputs : Inputs) (ending : Ending Note) (
   pub later_files : old.files ≤ new.files
   pub later_source : old.source ≤ new.source
   pub later_sink : old.sink ≤ new.sink
+
+-- ---- which files a command doesn't ask for
+
+-- The words name no list and no package that this access is for, and no turn sends the file that it is for. What a soak sends it
+-- makes itself.
+pub record IsUnasked (inputs : Inputs) (journal : List Turn) (access : Access) : Type 0 where
+  -- the list of digests
+  pub list : (name : List ℕ) → inputs.list ≡ Some name → access ≢ Asks name
+  -- the package that a flash is formatted with
+  pub wanted : (banks : ℕ) (rows : List ImageRow) (file : List ℕ) → inputs.asked ≡ Some (ask.format banks rows file)
+      → access ≢ Asks file
+  -- what is sent
+  pub sent : ((seed rounds : ℕ) → inputs.asked ≡ Some (ask.soak seed rounds) → ⊥) → IsUnnamedIn journal access

@@ -1,34 +1,78 @@
--- What the command `serve` promises, whichever way it ends.
-use Rattle.std.specs.Prelude.{◌≡◌, ◌≢◌, ◌≤◌, ◌<◌, ◌⊎◌, ◌||◌, ◌==◌, ℕ, Bool, List, [], ◌++◌, Option, Some, IfSome, IsSome, ◌↔◌, ◌+◌}
-use Rattle.std.specs.Prelude.{IsTrue, drop, length, take}
-use Rattle.std.specs.Io.KnownBytes.{Consumes}
-use Rattle.flash_core.specs.Counts.{Rose}
-use Rattle.host_io.specs.Calls.{raised}
-use Rattle.host_io.specs.Contents.{Directory}
-use Rattle.wire_frames.specs.Frames.{AreBodies, Splits, frames}
-use Rattle.wire_frames.specs.Stream.{most_bytes}
-use Rattle.serving.specs.Holds.{EndsWith, RefusesBoot}
-use Rattle.serving.specs.Written.{answered_numbers, calls_for, frame_of, messages_of, written}
-use Rattle.fwu_model.specs.Allow.{list_bytes}
-use Rattle.fwu_model.specs.Causes.{LacksList}
-use Rattle.fwu_model.specs.Contract.{Premises}
-use Rattle.fwu_model.specs.Headline.{Headline, IsPrefixOf}
-use Rattle.fwu_model.specs.Reply.{Turn}
-use Rattle.fwu_model.specs.Reply as reply
-use Rattle.fwu_model.specs.Sound.{Setting}
-use Rattle.fwu_model.specs.State.{State}
-use Rattle.fwu_model.specs.Wrote.{IsBadList}
-use Rattle.fwu_model.specs.declared.kinds.NoBoot.{NoBoot}
-use Rattle.fwu_model.specs.declared.kinds.Note.{Note}
+-- The ways that the command `serve` may end, and what it promises, whichever way.
+use Rattle.std.specs.Prelude.{◌≡◌, ℕ, Bool, List, Option, None, ◌≢◌, ◌≤◌, ◌<◌, ◌⊎◌, ◌||◌, ◌==◌, ◌++◌, Some, IfSome, IsSome, ◌↔◌, []}
+use Rattle.std.specs.Prelude.{◌+◌, IsTrue, drop, length, take}
+use Rattle.fwu_model.specs.{Reply.Turn, declared.kinds.Note.Note, Allow.list_bytes, Causes.LacksList, Contract.Premises}
+use Rattle.fwu_model.specs.{Sound.Setting, State.State, Wrote.IsBadList, declared.kinds.NoBoot.NoBoot}
 use Rattle.fwu_model.specs.declared.kinds.Note.TheVariants as note
 use Rattle.fwu_words.specs.Order as ask
-use Rattle.script_turns.specs.Powered.{TurnMoment}
-use Rattle.script_turns.specs.Runs.{calls_of}
-use Rattle.script_runs.specs.Ending.{Ending, World}
-use Rattle.script_cmd.specs.Promises.{RanHolds, outcome}
-use Rattle.script_cmd.specs.ServeWays.{ServeWay}
-use Rattle.script_cmd.specs.Granted.{IsGranted, RefusesBadList}
-use Rattle.script_runs.specs.Ways.{Given, Refuses}
+use Rattle.agent_machine.specs.Fields.{Fields}
+use Rattle.host_io.specs.{Contents.Directory, Calls.raised}
+use Rattle.script_turns.specs.{Powered.at, Powered.TurnMoment, Runs.calls_of}
+use Rattle.wire_frames.specs.{Exchange.LastAnswer, Frames.AreBodies, Frames.Splits, Frames.frames, Stream.most_bytes}
+use Rattle.serving.specs.{Ends.status_of, Holds.ServingHolds, Holds.EndsWith, Holds.RefusesBoot, Scene.At, Scene.Port, Scene.port}
+use Rattle.serving.specs.{Scene.scene, Going.ServesFrom, declared.ends.ServeEnd.ServeEnd}
+use Rattle.serving.specs.declared.ends.ServeEnd.TheVariants as end
+use Rattle.script_runs.specs.{Ending.Ending, Ending.PutsNone, Ending.World, Ways.Given, Ways.HasGoodList, Ways.Refuses}
+use Rattle.flash_commands.specs.Showing.{RefusedList}
+use Rattle.std.specs.Io.KnownBytes.{Consumes}
+use Rattle.flash_core.specs.Counts.{Rose}
+use Rattle.serving.specs.Written.{answered_numbers, calls_for, frame_of, messages_of, written}
+use Rattle.fwu_model.specs.Headline.{Headline, IsPrefixOf}
+use Rattle.fwu_model.specs.Reply as reply
+use Rattle.script_cmd.specs.{Promises.RanHolds, Promises.outcome, Granted.IsGranted, Granted.RefusesBadList}
+
+-- only a boot that started no bank is noted
+abbrev pub note_of : ServeEnd → Note
+note_of (end.NotBooted why) = note.Boot why
+note_of other = note.Nothing
+
+abbrev pub sink_of : World → Port
+sink_of w = port w.taken w.faults.sink
+
+-- what a serving leaves: what the agent keeps at last, and the last reply, come to the turns and the world
+abbrev pub left_by_serving : Option Fields → LastAnswer → List Turn → World → At
+left_by_serving on exchange journal new =
+    record {
+      run = record {
+        moment = at on new.flash.told new.flash.writes new.flash.counts new.flash.armed new.flash.power;
+        journal = journal;
+      };
+      exchange = exchange;
+      sink = sink_of new;
+    }
+
+-- The flash was booted and the requests of the source were served, up to this end. `rest` is what the source has left then.
+pub record ServesSource (passes : List ℕ → Bool) (tells : Bool) (files : Option Directory) (stream : Option (List ℕ))
+    (e : ServeEnd) (journal : List Turn) (old new : World) (rest : Option (List ℕ)) : Type 0 where
+  pub on : Option Fields
+  pub exchange : LastAnswer
+  -- what was taken, done and written
+  pub serves : ServesFrom (scene passes tells files old.faults.files) old.flash (sink_of old)
+      (left_by_serving on exchange journal new) e
+      (port stream old.faults.source) (port rest new.faults.source)
+  -- that its turns are a run, and why it ended so
+  pub holds : ServingHolds (scene passes tells files old.faults.files) old.flash (sink_of old)
+      (left_by_serving on exchange journal new) e
+      (port stream old.faults.source) (port rest new.faults.source)
+
+-- nothing was read of the source
+abbrev pub Unread : Given → World → World → Option (List ℕ) → Type 0
+Unread g old new rest = (rest ≡ g.script) × (new.faults.source ≡ old.faults.source)
+
+-- Nothing was done, since a list of digests was not read or is none, or for want of memory; or requests were served. No loss of
+-- power was armed at first.
+pub data ServeWay (passes : List ℕ → Bool) (tells : Bool) (g : Given) (ending : Ending Note) (old new : World)
+    (rest : Option (List ℕ)) : Type 0 where
+  list_refused : ending.journal ≡ [] → new.flash ≡ old.flash → Unread g old new rest
+      → RefusedList ask.serve g ending.status ending.noted old new
+      → ServeWay passes tells g ending old new rest
+  starved : ending.journal ≡ [] → new.flash ≡ old.flash → Unread g old new rest → ending.status ≡ 9
+      → ending.noted ≡ note.Nothing → PutsNone old new
+      → ServeWay passes tells g ending old new rest
+  served : HasGoodList g.list g.files → old.flash.armed ≡ None → new.faults.files ≡ old.faults.files → (e : ServeEnd)
+      → ending.status ≡ status_of e → ending.noted ≡ note_of e
+      → ServesSource passes tells g.files g.script e ending.journal old new rest
+      → ServeWay passes tells g ending old new rest
 
 -- ---- the turns
 
@@ -69,11 +113,9 @@ pub record ServedEnds (g : Given) (ending : Ending Note) (old new : World) (rest
   -- the sink failed: at a frame, or at the line of a list
   pub sink_fault : ending.status ≡ 3 → Rose old.faults.sink new.faults.sink
   -- the last turn is a fault of the flash
-  pub flash_fault : ending.status ≡ 5
-      → EndsWith ending.journal reply.Fault × Rose old.flash.counts.faults new.flash.counts.faults
+  pub flash_fault : ending.status ≡ 5 → EndsWith ending.journal reply.Fault × Rose old.flash.counts.faults new.flash.counts.faults
   -- the one turn is a boot that started no bank, and why is noted
-  pub not_booted : ending.status ≡ 6
-      → (why : NoBoot) × RefusesBoot ending.journal why × (ending.noted ≡ note.Boot why)
+  pub not_booted : ending.status ≡ 6 → (why : NoBoot) × RefusesBoot ending.journal why × (ending.noted ≡ note.Boot why)
   -- the source gave byte 1,073,741,825, and at no other status did it
   pub taken : TakesAtMost ending.status g.script rest
   -- and so it has more than 1 GiB

@@ -4,20 +4,12 @@ use Rattle.fwu_formats.specs.Layout.{ImageRow}
 use Rattle.fwu_model.specs.Allow.{asks_list}
 use Rattle.fwu_words.specs.Order.{Asked}
 use Rattle.fwu_words.specs.Order as ask
-use Rattle.script_cmd.specs.Asking.{asks_beyond, leaves_on, RunsOrNone, over_table}
-use Rattle.script_runs.specs.Ending.{Device, Ending, World, in_model}
-use Rattle.script_cmd.specs.FormattedBy.{FormattedBy}
-use Rattle.script_runs.specs.Noted.{is_beyond_model}
+use Rattle.script_runs.specs.Ending.{Device, Ending, World, in_model, is_beyond_model}
 use Rattle.host_io.specs.Printed.{FailsAtThree}
-use Rattle.script_cmd.specs.Promises.{Promised}
-use Rattle.script_cmd.specs.PromisesByTable.{PromisedByTable}
-use Rattle.script_cmd.specs.ServedBy.{ServedBy}
-use Rattle.script_cmd.specs.ShowedBy.{ShowedBy}
-use Rattle.script_cmd.specs.Soaked.{SoakedBy}
-use Rattle.script_cmd.specs.ByList.{ByList, HasPasses, IsIdle}
-use Rattle.script_cmd.specs.Handed.{Inputs, given_all}
-use Rattle.script_cmd.specs.ReadsInputs.{ReadsInputs}
 use Rattle.script_runs.specs.declared.done.Note.{Note}
+use Rattle.script_cmd.specs.Handed.{asks_beyond, leaves_on, RunsOrNone, over_table, Inputs, given_all}
+use Rattle.script_cmd.specs.{NoTurns.FormattedBy, NoTurns.ShowedBy, Promises.Promised, Promises.PromisedByTable, ServedBy.ServedBy}
+use Rattle.script_cmd.specs.{Soaked.SoakedBy, ByList.ByList, ByList.HasPasses, ByList.IsIdle, ReadsInputs.ReadsInputs}
 
 -- What it promises of a run for what was asked. `rest` is what the source tells afterwards.
 pub record Serves {H I : Type 0} (passes : List ℕ → Bool) (device : Device) (inputs : Inputs)

@@ -1,32 +1,17 @@
 -- What the command `soak` promises, whichever way it ends.
-use Rattle.std.specs.Prelude.{◌≡◌, ◌≢◌, ◌⊎◌, ℕ, ◌||◌, ◌==◌, List, [], Some, IsSome, IsTrue, IsFalse}
+use Rattle.std.specs.Prelude.{◌≡◌, ◌≢◌, ◌⊎◌, ℕ, ◌||◌, ◌==◌, List, Some, IsSome, IsTrue, IsFalse, []}
 use Rattle.std.specs.Io.KnownBytes.{Appends}
-use Rattle.flash_core.specs.Counts.{Rose}
-use Rattle.flash_core.specs.May.{Guards}
+use Rattle.flash_core.specs.{Counts.Rose, May.Guards}
 use Rattle.fwu_formats.specs.Digests.{passes_any}
 use Rattle.flash_format.specs.Formatted.{IsFormatted, first_state}
-use Rattle.fwu_model.specs.Reply.{Turn}
-use Rattle.fwu_model.specs.Seen.{seen}
-use Rattle.fwu_model.specs.Sound.{Setting}
-use Rattle.fwu_model.specs.Headline.{Headline, made_after}
-use Rattle.fwu_model.specs.Causes.{Faults, LacksList, cuts_in, may_fail_before}
-use Rattle.fwu_model.specs.Allow.{list_bytes}
-use Rattle.fwu_model.specs.Wrote.{IsBadList}
-use Rattle.gen_core.specs.Calls.{soak_calls}
-use Rattle.gen_core.specs.Generated.{generated_images}
-use Rattle.gen_core.specs.Line.{soak_line}
-use Rattle.gen_core.specs.Rounds.{sizes_in_round}
+use Rattle.fwu_model.specs.{Reply.Turn, Seen.seen, Sound.Setting, Headline.Headline, Headline.made_after, Causes.Faults}
+use Rattle.fwu_model.specs.{Causes.LacksList, Causes.cuts_in, Causes.may_fail_before, Allow.list_bytes, Wrote.IsBadList}
+use Rattle.gen_core.specs.{Calls.soak_calls, Generated.generated_images, Line.soak_line, Rounds.sizes_in_round}
 use Rattle.gen_core.specs.Setup.{is_too_small, soak_layout}
-use Rattle.script_turns.specs.Powered.{TurnMoment}
-use Rattle.script_turns.specs.Turning.{NoneFalls}
-use Rattle.script_runs.specs.Ending.{Device, Ending, World}
-use Rattle.script_cmd.specs.Promises.{outcome}
-use Rattle.script_turns.specs.Runs.{calls_of}
-use Rattle.script_cmd.specs.Granted.{RefusesBadList}
-use Rattle.flash_commands.specs.SoakWays.{SoakWay}
-use Rattle.flash_commands.specs.Soaking.{soak_files}
-use Rattle.script_runs.specs.Ways.{Given}
-use Rattle.script_runs.specs.declared.done.Note.{Note}
+use Rattle.script_turns.specs.{Powered.TurnMoment, Turning.NoneFalls, Runs.calls_of}
+use Rattle.script_runs.specs.{Ending.Device, Ending.Ending, Ending.World, Ways.Given, declared.done.Note.Note}
+use Rattle.flash_commands.specs.{SoakWays.SoakWay, Soaking.soak_files}
+use Rattle.script_cmd.specs.{Promises.outcome, Granted.RefusesBadList}
 
 -- the packages of all rounds are the files, and any manifest passes
 abbrev pub soak_setting : ℕ → ℕ → Setting
@@ -63,8 +48,7 @@ pub record SoakedBy (device : Device) (g : Given) (seed rounds : ℕ) (ending : 
       → (Rose old.flash.counts.chances new.flash.counts.chances → ⊥) → ending.journal ≢ []
       → RunsSoak seed rounds ending.journal ending.status new.flash
   -- a flash that is too small is as it was, and this is its status, unless the list, the sink or memory failed
-  pub small : IsTrue (is_too_small device.blocks)
-      → (ending.journal ≡ []) × (new.flash ≡ old.flash)
+  pub small : IsTrue (is_too_small device.blocks) → (ending.journal ≡ []) × (new.flash ≡ old.flash)
       × IsTrue ((ending.status == 7) || (may_fail_before ending.status || (ending.status == 13)))
   pub seven : ending.status ≡ 7 → IsTrue device.tells → IsTrue (is_too_small device.blocks)
   -- a failure of the flash, or a loss of power while it was formatted

@@ -4,11 +4,10 @@ ghost use Rattle.host_io.specs.Once.{ReadsOnce};
 ghost use Rattle.host_io.specs.Reads.{ReadsFiles};
 ghost use Rattle.fwu_model.specs.Allow.{asks_list, list_name};
 ghost use Rattle.fwu_words.specs.Order.{asked};
-ghost use Rattle.script_cmd.specs.Answered.{Answered};
+ghost use Rattle.script_cmd.specs.Here.{Answered, AnswersHere, world};
 ghost use Rattle.script_cmd.specs.Handed.{listed, unlisted, inputs_of};
-ghost use Rattle.script_cmd.specs.Here.{AnswersHere, world};
-ghost use Rattle.script_cmd.specs.Unasked.{IsUnasked};
-ghost use Rattle.script_runs.specs.Done.{ending};
+ghost use Rattle.script_cmd.specs.ReadsInputs.{IsUnasked};
+ghost use Rattle.script_runs.specs.Ending.{ending};
 ghost use Rattle.script_runs.specs.Ways.{device_of};
 ghost use Rattle.script_cmd.specs.ByList.{HasPasses, ReadsList};
 

@@ -2,55 +2,18 @@
 //! functions that do nothing, whose contract is the law.
 ghost use Rattle.script_cmd.specs.Outcomes.{BadListIsNone, ListIsSome, MissingListIsNone, NoMetadataIsNone};
 ghost use Rattle.script_cmd.specs.Outcomes.{NothingFollowsTheSink, NothingIsArmed, NothingIsPassedOver};
-ghost use Rattle.script_cmd.specs.Outcomes.{NothingIsTouched, UsageLineIsOfUsage, UsageReadsNoSource};
-ghost use Rattle.script_cmd.specs.Permitted.{BootsArePermitted};
-ghost use Rattle.script_cmd.specs.Promises.{WaysAreComplete, WaysBoot, WaysBootFirst, WaysEnd, WaysGuard};
-ghost use Rattle.script_cmd.specs.Promises.{WaysKeepTheHeadline, WaysLeaveTheDevice, WaysReply, WaysWrite};
+ghost use Rattle.script_cmd.specs.Outcomes.{NothingIsTouched, UsageLineIsOfUsage, UsageReadsNoSource, BootsArePermitted};
+ghost use Rattle.script_cmd.specs.Promises.{WaysArePromised, WaysHold};
 
-/// Whichever way a run ends, what the sink took is the lines of its turns, or one line where nothing ran.
-pub fn ways_write()
-    ensures { WaysWrite }
+/// Whichever way a run ends: what the sink took is the lines of its turns, or one line where nothing ran; its status has its cause,
+/// and what can't run is refused; and its turns follow one another, each with the reply of its call, up to what is left of the device.
+pub fn ways_hold()
+    ensures { WaysHold }
 {}
 
-/// Whichever way a run ends, its status has its cause, and what can't run is refused.
-pub fn ways_end()
-    ensures { WaysEnd }
-{}
-
-/// Whichever way a run ends, on any device, its turns follow one another from the device as it was to what is left of it. Each has
-/// the reply of its call, and what the agent keeps between two of them is what the last one left.
-pub fn ways_reply()
-    ensures { WaysReply }
-{}
-
-/// Whichever way a run ends from a sound flash, the headline holds for the calls that its words ask for.
-pub fn ways_keep_the_headline()
-    ensures { WaysKeepTheHeadline }
-{}
-
-/// The one command `boot` goes by the bytes of any flash with nothing dirty, where nothing failed and no power was lost.
-pub fn ways_boot()
-    ensures { WaysBoot }
-{}
-
-/// Whichever way a run ends, no loss then harms what is in use.
-pub fn ways_guard()
-    ensures { WaysGuard }
-{}
-
-/// From a sound flash, a run that is given what it asks for, and meets no failure, does it all, unless memory is wanting.
-pub fn ways_are_complete()
-    ensures { WaysAreComplete }
-{}
-
-/// Whichever way a run ends, where no turn ran the device is as it was, its power is by the replies, and it guards the same blocks.
-pub fn ways_leave_the_device()
-    ensures { WaysLeaveTheDevice }
-{}
-
-/// Whichever way a run ends, a first turn that is a boot goes by the bytes of a flash with nothing dirty.
-pub fn ways_boot_first()
-    ensures { WaysBootFirst }
+/// Whichever way a run of what the words ask for ends, it promises all that a run promises.
+pub fn ways_are_promised()
+    ensures { WaysArePromised }
 {}
 
 /// A run of a script with calls that does none of them doesn't end with 0.

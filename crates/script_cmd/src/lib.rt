@@ -9,7 +9,6 @@ mod top;
 pub use laws::{
     bad_list_is_none, boots_are_permitted, list_is_some, missing_list_is_none, no_metadata_is_none,
     nothing_follows_the_sink, nothing_is_armed, nothing_is_passed_over, nothing_is_touched,
-    usage_line_is_of_usage, usage_reads_no_source, ways_are_complete, ways_boot, ways_boot_first,
-    ways_end, ways_guard, ways_keep_the_headline, ways_leave_the_device, ways_reply, ways_write,
+    usage_line_is_of_usage, usage_reads_no_source, ways_are_promised, ways_hold,
 };
 pub use top::{fwu_top, fwu_top_with};

@@ -1,11 +1,9 @@
 //! The command `serve`.
 ghost use Rattle.std.specs.Prelude.{◌≡◌, ◌≤◌, None, IsFalse};
 ghost use Rattle.host_io.specs.Once.{ReadsOnce};
-ghost use Rattle.script_runs.specs.Done.{ending};
-ghost use Rattle.script_runs.specs.Ending.{in_model};
+ghost use Rattle.script_runs.specs.Ending.{ending, in_model, is_beyond_model, noted};
 ghost use Rattle.flash_commands.specs.Here.{without_list};
-ghost use Rattle.script_runs.specs.Noted.{is_beyond_model, noted};
-ghost use Rattle.script_cmd.specs.ServeWays.{ServeWay, note_of};
+ghost use Rattle.script_cmd.specs.ServedBy.{ServeWay, note_of};
 ghost use Rattle.script_cmd.specs.Here.{world};
 
 use flash_core::Flash;

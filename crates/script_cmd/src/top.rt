@@ -2,10 +2,10 @@
 ghost use Rattle.std.specs.Prelude.{◌≡◌, None, map, string_bytes, IsFalse};
 ghost use Rattle.host_io.specs.Once.{ReadsOnce};
 ghost use Rattle.host_io.specs.Reads.{ReadsFiles};
-ghost use Rattle.script_runs.specs.Done.{ending};
+ghost use Rattle.script_runs.specs.Ending.{ending};
 ghost use Rattle.script_cmd.specs.Handed.{listed, unlisted};
 ghost use Rattle.script_cmd.specs.Serves.{Serves, ServesByList};
-ghost use Rattle.script_cmd.specs.Unasked.{IsUnasked};
+ghost use Rattle.script_cmd.specs.ReadsInputs.{IsUnasked};
 ghost use Rattle.script_runs.specs.Ways.{device_of};
 ghost use Rattle.script_cmd.specs.Here.{world};
 

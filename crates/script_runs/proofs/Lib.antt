@@ -1,12 +1,7 @@
-pub mod Shapes
-pub mod PromiseWords
-mod RunCalls
 pub mod RunEnds
-pub mod TopReads
 pub mod TopSources
-mod Making
-pub mod TopPrints
+pub mod Making
 pub mod TopWays
 pub mod TableOpens
-pub mod TableWays
 mod Refused
+pub mod TableWays

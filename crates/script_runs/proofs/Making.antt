@@ -1,22 +1,51 @@
--- Making the script of a run.
-use Rattle.std.proofs.Common.{◌≡◌, Result, ◌≤◌, ◌==◌, ℕ, false, List, [], ◌∷◌, Ok, Err, ap, arith, refl, subst, sym, ◌∙◌}
-use Rattle.std.specs.Prelude.{IsTrue}
+-- A script that is made of a source or of the word `boot`.
+use Rattle.std.proofs.Common.{◌≡◌, ◌≢◌, ℕ, false, List, ◌∷◌, Option, Some, Ok, refl, sym, ap, ◌∙◌, inl, inr, [], Result, ◌≤◌, ◌==◌, Err, arith, subst}
+use Rattle.std.specs.Prelude.{codes, IsTrue}
+use Rattle.fwu_model.specs.{Call.Call, Script.script_of, Script.line_of, Script.is_too_long, Asked.script_asked}
+use Rattle.fwu_model.specs.Call as call
+use Rattle.fwu_model.specs.Asked as model
+use Rattle.fwu_words.specs.{Order.Asked, declared.orders.ScriptFrom.ScriptFrom}
+use Rattle.fwu_words.specs.Order as ask
 use Rattle.std.specs.Io.KnownBytes.{IsAtEnd}
 use Rattle.host_io.specs.Once.{ReadsOnce}
 use Rattle.host_io.specs.declared.source.Source as source
-use Rattle.fwu_model.specs.Call.{Call}
-use Rattle.fwu_model.specs.Call as call
-use Rattle.fwu_words.specs.declared.orders.ScriptFrom.{ScriptFrom}
 use Rattle.fwu_words.specs.declared.orders.ScriptFrom.TheVariants as origin
 use Rattle.script_turns.specs.Runs.{sends_none}
-use Rattle.script_runs.specs.Making.{MakesScript}
-use Rattle.script_runs.specs.Refusing.{LacksScript, refusal_status, starved}
-use Rattle.script_runs.specs.Sourced.{TakesText}
-use Rattle.script_runs.specs.Ways.{HasCalls}
-use Rattle.script_runs.specs.declared.refusing.Refusal.{Refusal}
+use Rattle.script_runs.specs.{Refusing.in_short, Refusing.LacksScript, Refusing.refusal_status, Refusing.starved, Ways.AsksTurns}
+use Rattle.script_runs.specs.{Ways.HasCalls, Sourced.MakesScript, Sourced.TakesText, declared.refusing.Refusal.Refusal}
 use Rattle.script_runs.specs.declared.refusing.Refusal.TheVariants as why
-use Rattle.script_runs.proofs.PromiseWords.{boot-is-script, boot-is-short}
 use Rattle.script_runs.proofs.TopSources.{takes-still}
+
+-- ---- what is asked
+
+pub asks-turns : (asked : Option Asked) → AsksTurns asked → in_short asked ≢ model.NoScript
+asks-turns asked is none = elim is [ inl run ↦ source-some (sym (ap in_short run) ∙ none) | inr boot ↦ boot-some (sym (ap in_short boot) ∙ none) ]
+  where
+    source-some : model.Source ≡ model.NoScript → ⊥
+    source-some e = cc
+
+    boot-some : model.Boot ≡ model.NoScript → ⊥
+    boot-some e = cc
+
+-- ---- the script of `boot`
+
+pub boot-is-script : script_of (codes "boot\n") ≡ Ok (call.Boot ∷ [])
+unfolding script_of line_of
+boot-is-script = refl
+
+pub same-calls : (x y : List Call) → ◌≡◌ {A = Result (List Call) ℕ} (Ok x) (Ok y) → x ≡ y
+same-calls x y e = cc
+
+pub boot-is-short : is_too_long (codes "boot\n") ≡ false
+unfolding is_too_long
+boot-is-short = refl
+
+-- ---- the script that is asked for
+
+pub boot-script : (asked : Option Asked) (source : Option (List ℕ)) → asked ≡ Some ask.boot → script_asked (in_short asked) source ≡ Some (codes "boot\n")
+boot-script asked source is = ap (λ (a : Option Asked). script_asked (in_short a) source) is
+
+-- ---- making the script of a run
 
 source-not-boot : {A : Type 0} → origin.Source ≡ origin.Boot → A
 source-not-boot e = absurd cc

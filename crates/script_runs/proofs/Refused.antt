@@ -1,34 +1,25 @@
 -- Runs that have no first turn.
-use Rattle.std.proofs.Common.{◌≡◌, ◌≢◌, ◌==◌, false, not, ◌∙◌, ℕ, Bool, List, [], Option, Some, inl, inr, refl, sym, ap, subst, arith}
-use Rattle.std.specs.Prelude.{IfSome, IsTrue, IsFalse}
+use Rattle.std.proofs.Common.{◌≡◌, ◌≢◌, ◌==◌, false, not, ◌∙◌, ℕ, Bool, List, Option, Some, inl, inr, refl, sym, ap, subst, arith}
+use Rattle.std.specs.Prelude.{IfSome, IsTrue, IsFalse, []}
 use Rattle.std.specs.Io.KnownBytes.{IsAtEnd}
 use Rattle.std.proofs.lemmas.Bool.{false≢true}
-use Rattle.fwu_model.specs.Causes.{Faults}
-use Rattle.fwu_model.specs.Reply.{Turn}
-use Rattle.fwu_model.specs.Script.{is_too_long}
+use Rattle.fwu_model.specs.{Causes.Faults, Reply.Turn, Script.is_too_long}
 use Rattle.fwu_model.specs.Wrote.{bad_script_line, not_read_line, too_long_line}
 use Rattle.fwu_model.specs.declared.kinds.Note.TheVariants as model_note
 use Rattle.fwu_words.specs.Order as ask
-use Rattle.fwu_words.specs.declared.orders.Place.{Place}
+use Rattle.fwu_words.specs.{declared.orders.Place.Place, declared.orders.ScriptFrom.ScriptFrom}
 use Rattle.fwu_words.specs.declared.orders.Place.TheVariants as place
-use Rattle.fwu_words.specs.declared.orders.ScriptFrom.{ScriptFrom}
 use Rattle.fwu_words.specs.declared.orders.ScriptFrom.TheVariants as origin
 use Rattle.host_io.specs.Printed.{Prints}
 use Rattle.script_turns.specs.Powered.{TurnMoment}
-use Rattle.script_runs.specs.Noted.{is_beyond_model, noted}
+use Rattle.script_runs.specs.{Ending.is_beyond_model, Ending.noted, Sourced.FailsOnce, Sourced.TakesScript, Sourced.TakesText}
+use Rattle.script_runs.specs.{Sourced.reads_all, Ways.AsksTurns, Ways.Given, Ways.HasGoodList, Ways.Way, WaysByTable.WayAt}
+use Rattle.script_runs.specs.{WaysByTable.untouched, declared.done.Note.Note, declared.refusing.Refusal.Refusal}
 use Rattle.script_runs.specs.Refusing.{LacksScript, plain_of, refusal_line, refusal_note, refusal_status, text_of, bad, starved, too_long, unread}
-use Rattle.script_runs.specs.Sourced.{FailsOnce, TakesScript, TakesText, reads_all}
-use Rattle.script_runs.specs.Ways.{AsksTurns, Given, HasGoodList, Way}
 use Rattle.script_runs.specs.Ways as way
-use Rattle.script_runs.specs.WaysByTable.{WayAt, untouched}
-use Rattle.script_runs.specs.declared.done.Note.{Note}
-use Rattle.script_runs.specs.declared.refusing.Refusal.{Refusal}
 use Rattle.script_runs.specs.declared.refusing.Refusal.TheVariants as why
-use Rattle.script_runs.proofs.Shapes.{device-of, end-of, world-of}
-use Rattle.script_runs.proofs.TableWays.{not-nothing}
-use Rattle.script_runs.proofs.TopPrints.{by-plan, not-done, printed-plan, raised-rose}
-use Rattle.script_runs.proofs.TopSources.{none-fails, one-fails}
-use Rattle.script_runs.proofs.TopWays.{refused-by}
+use Rattle.script_runs.proofs.{TopWays.device-of, TopWays.end-of, TopWays.world-of, TopWays.refused-by, TableWays.not-nothing}
+use Rattle.script_runs.proofs.TopSources.{by-plan, not-done, printed-plan, raised-rose, none-fails, one-fails}
 
 -- a line of a refusal is that of an equal one
 pub at-refusal : (met made : Refusal) (status : ℕ) (old new : Option (List ℕ)) (was are : ℕ) → met ≡ made → Prints (refusal_line made) (refusal_status made) status old new was are
@@ -46,20 +37,12 @@ runs-of from is = ap (λ (f : ScriptFrom). Some (plain_of f)) is
 -- no refusal is planned for the status 0
 planned-some : (met : Refusal) → refusal_status met ≢ 0
 planned-some why.Usage zero = absurd (omega arith)
-planned-some why.Unread zero = absurd (omega arith)
-planned-some why.TooLong zero = absurd (omega arith)
-planned-some (why.BadScript n) zero = absurd (omega arith)
-planned-some (why.BadList n) zero = absurd (omega arith)
-planned-some (why.NoTable lack) zero = absurd (omega arith)
-planned-some why.Stopped zero = absurd (omega arith)
-planned-some why.NoMemory zero = absurd (omega arith)
+planned-some other zero = absurd (omega arith)
 
 -- what is noted then the definitions note too
 pub lacks-quiet : (from : ScriptFrom) (left : Option (List ℕ)) (before after : ℕ) (met : Refusal) (said : Note) → LacksScript from left before after met → said ≡ refusal_note met → IsFalse (is_beyond_model said)
 lacks-quiet from left before after met said (unread is once) told = ap is_beyond_model told
-lacks-quiet from left before after met said (too_long is long once) told = ap is_beyond_model told
-lacks-quiet from left before after met said (bad n short wrong once) told = ap is_beyond_model told
-lacks-quiet from left before after met said (starved once) told = ap is_beyond_model told
+lacks-quiet from left before after met said other told = ap is_beyond_model told
 
 module _ (passes : List ℕ → Bool) (tells : Bool) (blocks : ℕ) (journal : List Turn) (status : ℕ) (said : Note) (old new : TurnMoment) (taken_before taken_after : Option (List ℕ)) (from : ScriptFrom) (g : Given) (left : Option (List ℕ)) (was are : Faults) where
   -- where there is no script, nothing was done, and the line of that was put

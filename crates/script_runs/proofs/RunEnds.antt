@@ -1,30 +1,58 @@
--- How a run goes on, and how it ends.
-use Rattle.std.proofs.Common.{◌≡◌, ◌≢◌, ℕ, ◌+◌, ◌≤◌, Bool, false, ◌||◌, List, [], ◌∷◌, ◌++◌, length, take, drop, Option, Some, None, refl, sym, ap, subst, ◌∙◌, IsTrue, IsFalse, arith, append-nil, append_assoc, length-append}
-use Rattle.std.specs.Prelude.{codes}
-use Rattle.std.specs.List.{slice_get, list_any}
-use Rattle.std.specs.Io.KnownBytes.{Appends}
-use Rattle.std.proofs.lemmas.Bool.{false≢true, or_parts}
-use Rattle.std.proofs.lemmas.List.{take-append-drop, map-append, take_more, append_cancel_left}
-use Rattle.std.proofs.Math.Seq.{take-length}
-use Rattle.std.proofs.lemmas.List.Folds.{list_any-append}
-use Rattle.std.proofs.lemmas.Grind.{flat_map-append}
+-- The calls of a script that are left, as they are taken out one by one.
+use Rattle.std.proofs.Common.{◌≡◌, ℕ, zero, suc, ◌+◌, ◌≤◌, Bool, true, false, not, ◌&&◌, List, ◌∷◌, ◌++◌, slice_set, Some, refl, sym, ap, subst, ◌∙◌, IsTrue, IsFalse, Contains, arith, [], ◌≢◌, ◌||◌, length, take, drop, Option, None, append-nil, append_assoc, length-append}
+use Rattle.std.specs.{List.slice_get, List.list_all, List.list_any, Io.KnownBytes.Appends}
+use Rattle.std.proofs.lemmas.Bool.{and_parts, false≢true, or_parts}
+use Rattle.std.proofs.lemmas.List.Elements.{Contains-append_left, Contains-push}
 use Rattle.std.proofs.lemmas.Option.{same_Some, slice_get_within, get_or_from_slice_get}
-use Rattle.host_io.specs.Contents.{Directory}
-use Rattle.fwu_model.specs.declared.kinds.Note.{Note}
-use Rattle.fwu_model.specs.declared.kinds.Note.TheVariants as note
-use Rattle.fwu_model.specs.Call.{Call}
-use Rattle.fwu_model.specs.Reply.{Reply, Turn}
-use Rattle.fwu_model.specs.Reply as reply
-use Rattle.fwu_model.specs.Run.{ends_run}
-use Rattle.fwu_model.specs.Text.{line, text, call_word, reply_text}
-use Rattle.fwu_model.specs.Wrote.{may_lack}
-use Rattle.fwu_model.specs.Causes.{status_by, note_by}
-use Rattle.script_turns.specs.Powered.{FitsMachine, TurnMoment}
-use Rattle.script_turns.specs.Turning.{Turns}
+use Rattle.std.proofs.{Math.Seq.take-length, lemmas.List.Folds.list_any-append, lemmas.Grind.flat_map-append}
+use Rattle.host_io.specs.{Access.Access, Contents.Directory}
+use Rattle.fwu_model.specs.{Call.Call, Reply.Turn, Reply.Reply, Run.is_send, Run.ends_run, declared.kinds.Note.Note, Text.line}
+use Rattle.fwu_model.specs.{Text.text, Text.call_word, Text.reply_text, Wrote.may_lack, Causes.status_by, Causes.note_by}
+use Rattle.script_turns.specs.Runs.{calls_of, sends_none, Ran}
+use Rattle.script_turns.specs.{Sending.IsUnnamed, Powered.FitsMachine, Powered.TurnMoment, Turning.Turns}
+use Rattle.std.specs.Prelude.{codes}
+use Rattle.std.proofs.lemmas.List.{take-append-drop, map-append, take_more, append_cancel_left}
 use Rattle.host_io.specs.Printed.{FailsAtThree, Prints, all, front, nothing}
-use Rattle.script_runs.specs.Running.{DoesTurn, ScriptEnded, WritesLines, Printed, last_turn, status_of_last, note_of_last}
-use Rattle.script_turns.specs.Runs.{Ran, calls_of}
+use Rattle.fwu_model.specs.declared.kinds.Note.TheVariants as note
+use Rattle.fwu_model.specs.Reply as reply
 use Rattle.script_turns.proofs.RunTurns.{ran-none, ran-on}
+use Rattle.script_runs.specs.Running.{IsUnnamedIn, DoesTurn, ScriptEnded, WritesLines, Printed, last_turn, status_of_last, note_of_last}
+
+-- those behind one that was taken stay
+pub left-behind : (calls : List Call) (i : ℕ) (c : Call) (k : ℕ) → i + 1 ≤ k → slice_get (slice_set calls i c) k ≡ slice_get calls k
+left-behind [] i c k behind = refl
+left-behind (x ∷ calls) zero c zero behind = absurd (omega (arith, behind))
+left-behind (x ∷ calls) zero c (suc k) behind = refl
+left-behind (x ∷ calls) (suc i) c zero behind = absurd (omega (arith, behind))
+left-behind (x ∷ calls) (suc i) c (suc k) behind = left-behind calls i c k (omega (arith, behind))
+
+false-of : (b : Bool) → IsTrue (not b) → IsFalse b
+false-of false is = refl
+false-of true is = absurd (false≢true is)
+
+-- where nothing is sent, no call reads a file
+pub reads-none : (calls : List Call) (i : ℕ) (c : Call) → IsTrue (sends_none calls) → slice_get calls i ≡ Some c → IsFalse (is_send c)
+reads-none [] i c none at = absurd (cc)
+reads-none (x ∷ calls) zero c none at = ap is_send (sym (same_Some x c at)) ∙ false-of (is_send x) (and_parts (not (is_send x)) (list_all (λ (y : Call). not (is_send y)) calls) none).0
+reads-none (x ∷ calls) (suc i) c none at = reads-none calls i c (and_parts (not (is_send x)) (list_all (λ (y : Call). not (is_send y)) calls) none).1 at
+
+-- where no turn is a sending, the last isn't, nor those before it
+sends-pushed : (journal : List Turn) (t : Turn) → IsTrue (sends_none (calls_of (journal ++ t ∷ []))) → IsTrue (sends_none (calls_of journal)) × IsFalse (is_send t.call)
+sends-pushed [] t none = (refl, false-of (is_send t.call) (and_parts (not (is_send t.call)) true none).0)
+sends-pushed (u ∷ turns) t none =
+    let parts = and_parts (not (is_send u.call)) (sends_none (calls_of (turns ++ t ∷ []))) none in
+    let more = sends-pushed turns t parts.1 in
+    (ap (λ (b : Bool). b && sends_none (calls_of turns)) parts.0 ∙ more.0, more.1)
+
+pub sends-more : (before after : List Turn) (t : Turn) → after ≡ before ++ t ∷ [] → IsTrue (sends_none (calls_of after)) → IsTrue (sends_none (calls_of before)) × IsFalse (is_send t.call)
+sends-more before after t kept none = sends-pushed before t (subst (λ (j : List Turn). IsTrue (sends_none (calls_of j))) kept none)
+
+-- an access that no turn makes, the last doesn't make, nor those before it
+pub unnamed-more : (before after : List Turn) (t : Turn) (access : Access) → after ≡ before ++ t ∷ [] → IsUnnamedIn after access → IsUnnamedIn before access × IsUnnamed t.call access
+unnamed-more before after t access kept none = (
+  λ u in_it. none u (subst (λ (j : List Turn). Contains j u) (sym kept) (Contains-append_left before (t ∷ []) u in_it)),
+  none t (subst (λ (j : List Turn). Contains j t) (sym kept) (Contains-push before t)),
+)
 
 -- ---- one turn
 
@@ -61,15 +89,11 @@ on-at-zero other zero_is = refl
 
 status-whole : (r : Reply) → IsFalse (may_lack (status_by r))
 status-whole reply.Fault = refl
-status-whole reply.ReadFault = refl
-status-whole (reply.NotBooted why) = refl
 status-whole other = refl
 
 -- no turn ends a run as a script that is too long
 not-long : (r : Reply) → status_by r ≢ 8
 not-long reply.Fault is = absurd (omega arith)
-not-long reply.ReadFault is = absurd (omega arith)
-not-long (reply.NotBooted why) is = absurd (omega arith)
 not-long other is = absurd (omega arith)
 
 last-not-long : (last : Option Turn) → status_of_last last ≢ 8

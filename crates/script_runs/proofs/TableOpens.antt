@@ -1,18 +1,14 @@
 -- How the flash behind a partition table is found, from what its parts did.
 use Rattle.std.proofs.Common.{◌≡◌, ◌⊎◌, inl, inr, ℕ, ◌≤◌, Bool, true, false, List, ext_get_or, Some, None, sym, ap, subst, ◌∙◌, arith}
 use Rattle.std.specs.Prelude.{IsTrue, IsFalse, Result, Ok, Err}
-use Rattle.flash_core.specs.Counts.{Rose, Idles}
-use Rattle.flash_core.specs.declared.flash.FlashStop.{FlashStop}
+use Rattle.flash_core.specs.{Counts.Rose, Counts.Idles, declared.flash.FlashStop.FlashStop, May.NoChance}
 use Rattle.flash_core.specs.Told.{Told, NothingDirty, fresh, is_unsure}
-use Rattle.flash_core.specs.May.{NoChance}
-use Rattle.gpt_core.specs.declared.layout.Places.{Places}
-use Rattle.gpt_core.specs.declared.table.WhichTable.{WhichTable}
-use Rattle.gpt_core.specs.PlacesOf.{places_of}
+use Rattle.gpt_core.specs.{declared.layout.Places.Places, declared.table.WhichTable.WhichTable, PlacesOf.places_of}
 use Rattle.gpt_core.specs.Repair.{HeadersGuarded, MendsTable, StaysBeside, TouchesToMend}
 use Rattle.gpt_core.specs.Table.{Table, FitsTable, table_in_image}
-use Rattle.script_runs.specs.ByTable.{HasPlaces, Starts, StopsBefore, Waits, Wakes}
 use Rattle.script_turns.specs.Powered.{TurnMoment}
 use Rattle.script_turns.proofs.RunTurns.{rose-after, rose-before}
+use Rattle.script_runs.specs.ByTable.{HasPlaces, Starts, StopsBefore, Waits, Wakes}
 
 -- ---- power that came
 

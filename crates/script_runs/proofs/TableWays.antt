@@ -1,24 +1,17 @@
 -- The ways that a run behind a partition table may end, from what its parts did.
-use Rattle.std.proofs.Common.{◌≡◌, ◌≢◌, ℕ, Bool, List, [], Option, Some, None, sym, ap, subst, ◌∙◌, arith}
+use Rattle.std.proofs.Common.{◌≡◌, ◌≢◌, ℕ, Bool, List, Option, Some, None, sym, ap, subst, ◌∙◌, arith, []}
 use Rattle.std.specs.Prelude.{IsTrue, IsFalse}
-use Rattle.fwu_model.specs.Call.{Call}
-use Rattle.fwu_model.specs.Reply.{Turn}
-use Rattle.fwu_model.specs.Causes.{Faults}
-use Rattle.host_io.specs.Contents.{Directory}
+use Rattle.fwu_model.specs.{Call.Call, Reply.Turn, Causes.Faults}
+use Rattle.host_io.specs.{Contents.Directory, Printed.Prints, Printed.all, Printed.front, Printed.nothing}
 use Rattle.fwu_words.specs.Order.{Asked}
-use Rattle.script_runs.specs.declared.done.Note.{Note}
-use Rattle.script_runs.specs.declared.done.Note.TheVariants as note
-use Rattle.script_runs.specs.declared.done.NoTable.{NoTable}
-use Rattle.script_runs.specs.ByTable.{Looks, StopsBefore, flash_fault_line, lacked_in, no_table_line, seen_at}
-use Rattle.script_runs.specs.Noted.{is_beyond_model, noted}
 use Rattle.script_turns.specs.Powered.{TurnMoment, at}
-use Rattle.host_io.specs.Printed.{Prints, all, front, nothing}
-use Rattle.script_runs.specs.Running.{Printed}
-use Rattle.script_runs.specs.Ways.{Given, HasGoodList, Refuses}
+use Rattle.script_runs.specs.{declared.done.Note.Note, declared.done.NoTable.NoTable, Ending.is_beyond_model, Ending.noted}
+use Rattle.script_runs.specs.{Running.Printed, Ways.Given, Ways.HasGoodList, Ways.Refuses}
+use Rattle.script_runs.specs.declared.done.Note.TheVariants as note
+use Rattle.script_runs.specs.ByTable.{Looks, StopsBefore, flash_fault_line, lacked_in, no_table_line, seen_at}
 use Rattle.script_runs.specs.Ways as way
 use Rattle.script_runs.specs.WaysByTable.{ReadsScript, WayByTable, untouched, starved, lacked, stopped, ran}
-use Rattle.script_runs.proofs.Shapes.{device-of, end-of, world-of}
-use Rattle.script_runs.proofs.TopWays.{ran-from, refused-by, with-list}
+use Rattle.script_runs.proofs.TopWays.{device-of, end-of, world-of, ran-from, refused-by, with-list}
 
 pub not-nothing : (line : List ℕ) (planned status : ℕ) (taken_before taken_after : Option (List ℕ)) (faults_before faults_after : ℕ) → planned ≢ 0 → Prints line planned status taken_before taken_after faults_before faults_after → status ≢ 0
 not-nothing line planned status taken_before taken_after faults_before faults_after some (all is appends later) zero_is = some (sym is ∙ zero_is)

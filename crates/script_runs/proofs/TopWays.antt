@@ -1,18 +1,26 @@
--- The ways that a run may end, from what its parts did.
-use Rattle.std.proofs.Common.{◌≡◌, ◌≤◌, ℕ, Bool, true, false, List, [], Option, Some, None, refl, sym, subst, ◌∙◌, arith}
+-- The ways of a run on a plain flash, from what the calls give.
+use Rattle.std.proofs.Common.{ℕ, Bool, List, Option, ◌≡◌, ◌≤◌, true, false, Some, None, refl, sym, subst, ◌∙◌, arith, []}
+use Rattle.fwu_model.specs.{Causes.Faults, Reply.Turn, declared.kinds.Note.Note}
+use Rattle.script_turns.specs.{Powered.TurnMoment, Powered.at, Runs.Ran}
 use Rattle.std.specs.Prelude.{IfSome}
 use Rattle.flash_core.specs.Counts.{Rose}
-use Rattle.fwu_model.specs.Reply.{Turn}
-use Rattle.fwu_model.specs.Causes.{Faults}
-use Rattle.host_io.specs.Contents.{Directory}
-use Rattle.fwu_model.specs.declared.kinds.Note.{Note}
+use Rattle.host_io.specs.{Contents.Directory, Printed.Prints}
 use Rattle.fwu_words.specs.Order.{Asked, asked}
-use Rattle.script_runs.proofs.Shapes.{end-of, world-of}
-use Rattle.script_turns.specs.Powered.{TurnMoment, at}
-use Rattle.host_io.specs.Printed.{Prints}
-use Rattle.script_runs.specs.Running.{Printed}
-use Rattle.script_turns.specs.Runs.{Ran}
+use Rattle.script_runs.specs.{Ending.Device, Ending.Ending, Ending.World, Running.Printed}
 use Rattle.script_runs.specs.Ways.{Given, HasGoodList, Refuses, Way, bad_list, bad_script, list_not_read, not_read, ran, refused, starved, too_long, usage}
+
+-- ---- a run's end, and what it may change, from their parts
+
+abbrev pub end-of : {Noted : Type 0} → List Turn → ℕ → Noted → Ending Noted
+end-of journal status noted = record { journal = journal; status = status; noted = noted }
+
+abbrev pub world-of : TurnMoment → Option (List ℕ) → Faults → World
+world-of flash taken faults = record { flash = flash; taken = taken; faults = faults }
+
+abbrev pub device-of : Bool → ℕ → Device
+device-of tells blocks = record { tells = tells; blocks = blocks }
+
+-- ---- the ways that a run may end, from what its parts did
 
 false_true : false ≡ true → ⊥
 false_true e = cc

@@ -1,24 +1,17 @@
 -- The flash that a device has behind a GUID partition table, and how it is found before a run.
-use Rattle.std.specs.Prelude.{◌≡◌, ◌⊎◌, ℕ, ◌+◌, ◌≤◌, Bool, true, false, List, [], ◌∷◌, ◌++◌, Option, Some, None, Result, Ok, Err}
+use Rattle.std.specs.Prelude.{◌≡◌, ◌⊎◌, ℕ, ◌+◌, ◌≤◌, Bool, true, false, List, ◌∷◌, ◌++◌, Option, Some, None, Result, Ok, Err, []}
 use Rattle.std.specs.Prelude.{IsTrue, codes, decimal}
-use Rattle.flash_core.specs.Counts.{Rose, all_stops}
-use Rattle.flash_core.specs.declared.flash.Counts.{Counts}
-use Rattle.flash_core.specs.Told.{Told, NothingDirty, fresh}
+use Rattle.flash_core.specs.{Counts.Rose, Counts.all_stops, declared.flash.Counts.Counts, Told.Told, Told.NothingDirty, Told.fresh}
 use Rattle.flash_core.specs.May.{Leaves, May, NoChance}
-use Rattle.gpt_core.specs.declared.layout.Places.{Places}
-use Rattle.gpt_core.specs.declared.layout.PlaceFault.{PlaceFault}
+use Rattle.gpt_core.specs.{declared.layout.Places.Places, declared.layout.PlaceFault.PlaceFault}
+use Rattle.gpt_core.specs.{declared.table.WhichTable.WhichTable, PlacesOf.places_of, View.view_of, View.writes_seen}
 use Rattle.gpt_core.specs.declared.layout.PlaceFault.TheVariants as fault
-use Rattle.gpt_core.specs.declared.table.WhichTable.{WhichTable}
 use Rattle.gpt_core.specs.Table.{Table, FitsTable, DecidesTable, table_in_image}
-use Rattle.gpt_core.specs.PlacesOf.{places_of}
 use Rattle.gpt_core.specs.Repair.{HeadersGuarded, MendsTable, StaysBeside, TouchesToMend}
-use Rattle.gpt_core.specs.View.{view_of, writes_seen}
-use Rattle.script_runs.specs.declared.done.NoTable.{NoTable}
+use Rattle.script_turns.specs.{Powered.TurnMoment, Powered.at, Turning.NoneFalls}
+use Rattle.script_runs.specs.{declared.done.NoTable.NoTable, declared.opening.Unopened.Unopened}
 use Rattle.script_runs.specs.declared.done.NoTable.TheVariants as no
-use Rattle.script_runs.specs.declared.opening.Unopened.{Unopened}
 use Rattle.script_runs.specs.declared.opening.Unopened.TheVariants as unopened
-use Rattle.script_turns.specs.Powered.{TurnMoment, at}
-use Rattle.script_turns.specs.Turning.{NoneFalls}
 
 -- what is known of the flash that a device has at these places
 abbrev pub seen_at : Places → TurnMoment → TurnMoment
@@ -92,13 +85,11 @@ pub record Starts (tells : Bool) (blocks : ℕ) (old : TurnMoment) (p : Places)
     (start : TurnMoment) : Type 0 where
   pub woken : Told
   pub wakes : IsTrue tells → Wakes old.told woken
-  pub chance : IsTrue tells
-      → Rose old.counts.chances start.counts.chances ⊎ NoChance old.told woken.now
+  pub chance : IsTrue tells → Rose old.counts.chances start.counts.chances ⊎ NoChance old.told woken.now
   pub has : HasPlaces tells blocks woken p
   -- where both headers are guarded, both copies now say the table, and it decides in each image that a loss
   -- may leave
-  pub mends : IsTrue tells → HeadersGuarded blocks woken
-      → MendsTable {T = Unit {0}} (Ok tt) blocks has.table start.told
+  pub mends : IsTrue tells → HeadersGuarded blocks woken → MendsTable {T = Unit {0}} (Ok tt) blocks has.table start.told
   -- but for the copy that was repaired nothing changed
   pub beside : IsTrue tells → StaysBeside blocks has.table has.which woken start.told
   -- and on any device no other block was erased or programmed
@@ -114,8 +105,7 @@ pub record StopsMending (blocks : ℕ) (woken new : Told) : Type 0 where
   pub which : WhichTable
   pub decides : table_in_image blocks woken.now ≡ Some (table, which)
   -- where both headers are guarded the same table decides in each image that a loss may leave
-  pub stays : HeadersGuarded blocks woken → (image : List ℕ) → May new image
-      → DecidesTable blocks table image
+  pub stays : HeadersGuarded blocks woken → (image : List ℕ) → May new image → DecidesTable blocks table image
   pub beside : StaysBeside blocks table which woken new
 
 -- Of a table that gives places no block was erased or programmed but those of the copy that is repaired.
@@ -137,17 +127,13 @@ pub record StopsBefore (tells : Bool) (blocks : ℕ) (old new : TurnMoment) : Ty
 
 -- whether the device is on after this result
 abbrev pub goes_on : {T : Type 0} → Result T Unopened → Bool
-goes_on (Ok x) = true
-goes_on (Err (unopened.Lacks why)) = true
 goes_on (Err unopened.Stopped) = false
-goes_on (Err unopened.NoMemory) = true
+goes_on other = true
 
 -- how many stops this result tells
 abbrev pub stops_opened : {T : Type 0} → Result T Unopened → ℕ
-stops_opened (Ok x) = 0
-stops_opened (Err (unopened.Lacks why)) = 0
 stops_opened (Err unopened.Stopped) = 1
-stops_opened (Err unopened.NoMemory) = 0
+stops_opened other = 0
 
 -- What looking for the flash behind a table leaves, by its result.
 abbrev pub Opens : Bool → ℕ → TurnMoment → TurnMoment → Result Places Unopened → Type 0

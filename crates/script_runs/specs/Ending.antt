@@ -1,11 +1,29 @@
--- How a command ended, and what is compared before and after it.
-use Rattle.std.specs.Prelude.{◌≡◌, ℕ, Bool, List, Option}
-use Rattle.fwu_model.specs.Causes.{Faults}
-use Rattle.fwu_model.specs.Reply.{Turn}
+-- How a command ended, what it noted, and what is compared before and after it.
+use Rattle.std.specs.Prelude.{Bool, true, false, ◌≡◌, ℕ, List, Option}
 use Rattle.fwu_model.specs.declared.kinds.Note as model
+use Rattle.fwu_model.specs.declared.kinds.Note.TheVariants as model_note
+use Rattle.fwu_model.specs.{Causes.Faults, Reply.Turn}
 use Rattle.script_turns.specs.Powered.{TurnMoment}
-use Rattle.script_runs.specs.Noted.{noted}
-use Rattle.script_runs.specs.declared.done.Note.{Note}
+use Rattle.fwu_journal.specs.Shown.{turns}
+use Rattle.script_runs.specs.{declared.done.Note.Note, declared.done.Done.Done}
+use Rattle.script_runs.specs.declared.done.Note.TheVariants as note
+
+-- ---- what a run met, as the definitions have it
+
+abbrev pub noted : Note → model.Note
+noted (note.BadLine n) = model_note.BadLine n
+noted (note.BadList n) = model_note.BadList n
+noted (note.Boot why) = model_note.Boot why
+-- what the definitions note is of runs alone
+noted other = model_note.Nothing
+
+-- what the definitions don't note: only `format` and `soak` note what was given, and only `--gpt` what a partition table lacks
+abbrev pub is_beyond_model : Note → Bool
+is_beyond_model (note.Input fault) = true
+is_beyond_model (note.NoTable why) = true
+is_beyond_model other = false
+
+-- ---- how a command ended, and what is compared before and after it
 
 -- How a command ended: its turns, its status, and what it noted, in the words of the program or in those of the definitions.
 pub record Ending (Noted : Type 0) : Type 0 where
@@ -32,3 +50,8 @@ PutsNone old new = (new.taken ≡ old.taken) × (new.faults.sink ≡ old.faults.
 pub record Device : Type 0 where
   pub tells : Bool
   pub blocks : ℕ
+
+-- ---- how a command ended, of what is left of it
+
+abbrev pub ending : {D : Type 0} → Done D → Ending Note
+ending done = record { journal = turns done.journal; status = done.status; noted = done.note }

@@ -6,14 +6,9 @@ use Rattle.host_io.specs.declared.files.Files as files
 use Rattle.host_io.specs.declared.source.Source as source
 use Rattle.host_io.specs.declared.sink.Sink as sink
 use Rattle.host_io.specs.Printed.{Prints}
-use Rattle.fwu_words.specs.Order.{Asked}
-use Rattle.fwu_words.specs.declared.orders.Place.{Place}
-use Rattle.fwu_words.specs.declared.orders.Turns.{Turns}
-use Rattle.script_runs.specs.Done.{ending}
-use Rattle.script_runs.specs.Refusing.{plain_of, text_of}
+use Rattle.fwu_words.specs.{Order.Asked, declared.orders.Place.Place, declared.orders.Turns.Turns}
+use Rattle.script_runs.specs.{Ending.ending, Refusing.plain_of, Refusing.text_of, WaysByTable.WayAt, declared.done.Done.Done}
 use Rattle.script_runs.specs.Ways.{Given, device_of, moment_world}
-use Rattle.script_runs.specs.WaysByTable.{WayAt}
-use Rattle.script_runs.specs.declared.done.Done.{Done}
 
 -- what a line that was put into this sink makes of a status
 abbrev pub PrintsTo : {O : Type 0} → sink.Ghosts O → List ℕ → ℕ → ℕ → O → O → Type 0

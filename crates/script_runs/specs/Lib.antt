@@ -1,11 +1,8 @@
 pub mod Running
-pub mod Noted
 pub mod Sourced
 pub mod Ending
 pub mod Ways
 pub mod ByTable
 pub mod WaysByTable
 pub mod Refusing
-pub mod Making
 pub mod Here
-pub mod Done

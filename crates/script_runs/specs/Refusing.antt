@@ -1,19 +1,15 @@
 -- Why a run has no first turn, with the status, the line and the note of that; and why there is no script to run.
-use Rattle.std.specs.Prelude.{◌≡◌, ℕ, List, [], Option, Some, IfSome, IsTrue, None}
+use Rattle.std.specs.Prelude.{◌≡◌, ℕ, List, Option, Some, IfSome, IsTrue, []}
 use Rattle.fwu_model.specs.Asked as model
-use Rattle.fwu_model.specs.Asked.{script_asked}
-use Rattle.fwu_model.specs.Script.{is_too_long}
+use Rattle.fwu_model.specs.{Asked.script_asked, Script.is_too_long}
 use Rattle.fwu_model.specs.Wrote.{IsBadScript, bad_list_line, bad_script_line, not_read_line, too_long_line, usage_line}
-use Rattle.fwu_words.specs.Order.{Asked}
+use Rattle.fwu_words.specs.{Order.Asked, declared.orders.ScriptFrom.ScriptFrom}
 use Rattle.fwu_words.specs.Order as ask
-use Rattle.fwu_words.specs.declared.orders.ScriptFrom.{ScriptFrom}
 use Rattle.fwu_words.specs.declared.orders.ScriptFrom.TheVariants as origin
 use Rattle.host_io.specs.Calls.{raised}
 use Rattle.script_runs.specs.ByTable.{flash_fault_line, no_table_line}
-use Rattle.script_runs.specs.Ways.{IsShortScript}
-use Rattle.script_runs.specs.declared.done.Note.{Note}
+use Rattle.script_runs.specs.{Ways.IsShortScript, declared.done.Note.Note, declared.refusing.Refusal.Refusal}
 use Rattle.script_runs.specs.declared.done.Note.TheVariants as note
-use Rattle.script_runs.specs.declared.refusing.Refusal.{Refusal}
 use Rattle.script_runs.specs.declared.refusing.Refusal.TheVariants as why
 
 -- the status that is planned for it
@@ -39,26 +35,18 @@ refusal_line why.Stopped = flash_fault_line
 refusal_line why.NoMemory = []
 
 abbrev pub refusal_note : Refusal → Note
-refusal_note why.Usage = note.Nothing
-refusal_note why.Unread = note.Nothing
-refusal_note why.TooLong = note.Nothing
 refusal_note (why.BadScript n) = note.BadLine n
 refusal_note (why.BadList n) = note.BadList n
 refusal_note (why.NoTable lack) = note.NoTable lack
-refusal_note why.Stopped = note.Nothing
-refusal_note why.NoMemory = note.Nothing
+refusal_note other = note.Nothing
 
 -- what is asked, as the definitions of a run have it
 abbrev pub in_short : Option Asked → model.ScriptAsked
-in_short None = model.NoScript
 in_short (Some ask.run) = model.Source
 in_short (Some ask.run_partitioned) = model.Source
 in_short (Some ask.boot) = model.Boot
 in_short (Some ask.boot_partitioned) = model.Boot
-in_short (Some ask.show) = model.NoScript
-in_short (Some (ask.format banks rows file)) = model.NoScript
-in_short (Some (ask.soak seed rounds)) = model.NoScript
-in_short (Some ask.serve) = model.NoScript
+in_short other = model.NoScript
 
 -- ---- the script
 

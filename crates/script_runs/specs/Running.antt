@@ -1,24 +1,14 @@
 -- What a run of a script did so far, and how it ended.
-use Rattle.std.specs.Prelude.{◌≡◌, ◌≢◌, ℕ, ◌≤◌, Bool, List, [], ◌∷◌, ◌++◌, Option, Some, None, Contains, IsTrue, IsFalse}
-use Rattle.host_io.specs.Access.{Access}
-use Rattle.host_io.specs.Contents.{Directory}
-use Rattle.fwu_model.specs.Call.{Call}
-use Rattle.fwu_model.specs.Reply.{Turn}
-use Rattle.fwu_model.specs.Text.{line, text}
-use Rattle.fwu_model.specs.Headline.{IsPrefixOf}
-use Rattle.fwu_model.specs.Causes.{status_by, note_by}
-use Rattle.fwu_model.specs.Wrote.{LacksLast, StopsInLast, may_lack}
-use Rattle.fwu_model.specs.declared.kinds.Note.{Note}
+use Rattle.std.specs.Prelude.{◌≡◌, ◌≢◌, ℕ, ◌≤◌, Bool, List, ◌∷◌, ◌++◌, Option, Some, None, Contains, IsTrue, IsFalse, []}
+use Rattle.host_io.specs.{Access.Access, Contents.Directory, Printed.FailsAtThree}
+use Rattle.fwu_model.specs.{Call.Call, Reply.Turn, Text.line, Text.text, Headline.IsPrefixOf, Causes.status_by, Causes.note_by}
+use Rattle.fwu_model.specs.{Wrote.LacksLast, Wrote.StopsInLast, Wrote.may_lack, declared.kinds.Note.Note}
 use Rattle.fwu_model.specs.declared.kinds.Note.TheVariants as note
-use Rattle.script_turns.specs.Powered.{FitsMachine, TurnMoment}
-use Rattle.script_turns.specs.Sending.{IsUnnamed}
-use Rattle.script_turns.specs.Turning.{Turns}
-use Rattle.script_turns.specs.Runs.{calls_of, sends_none}
-use Rattle.host_io.specs.Printed.{FailsAtThree}
+use Rattle.script_turns.specs.{Powered.FitsMachine, Powered.TurnMoment, Sending.IsUnnamed, Turning.Turns, Runs.calls_of}
+use Rattle.script_turns.specs.Runs.{sends_none}
 use Rattle.host_io.specs.declared.files.Files as files
 use Rattle.host_io.specs.declared.sink.Sink as sink
-use Rattle.script_runs.specs.Ending.{Ending}
-use Rattle.script_runs.specs.Noted.{is_beyond_model, noted}
+use Rattle.script_runs.specs.Ending.{Ending, is_beyond_model, noted}
 use Rattle.script_runs.specs.declared.done.Note as own
 
 -- ---- one turn
@@ -70,8 +60,7 @@ pub record WritesLines (journal : List Turn) (status : ℕ) (w : List ℕ) : Typ
 -- what the sink took, and its faults, before and after
 pub record Printed (journal : List Turn) (status : ℕ) (old new : Option (List ℕ))
     (faults_before faults_after : ℕ) : Type 0 where
-  pub bytes : (before : List ℕ) → old ≡ Some before → (w : List ℕ) × (new ≡ Some (before ++ w))
-      × WritesLines journal status w
+  pub bytes : (before : List ℕ) → old ≡ Some before → (w : List ℕ) × (new ≡ Some (before ++ w)) × WritesLines journal status w
   pub later : faults_before ≤ faults_after
   pub count : FailsAtThree status faults_before faults_after
 

@@ -1,24 +1,19 @@
 -- The ways that `run` or `boot` may end: before the first turn, or by the turns of a script.
-use Rattle.std.specs.Prelude.{◌≡◌, ◌⊎◌, ℕ, Bool, false, List, [], Option, Some, None, Ok, Err, IfSome, IsTrue, IsSome}
+use Rattle.std.specs.Prelude.{◌≡◌, ◌⊎◌, ℕ, Bool, false, List, Option, Some, None, Ok, Err, IfSome, IsTrue, IsSome, []}
 use Rattle.flash_core.specs.Counts.{Rose}
-use Rattle.fwu_model.specs.Call.{Call}
-use Rattle.agent_machine.specs.Fields.{Fields}
-use Rattle.fwu_model.specs.Script.{script_of, is_too_long}
-use Rattle.fwu_model.specs.Wrote.{usage_line, not_read_line, too_long_line, bad_script_line, bad_list_line, IsBadScript, IsBadList}
-use Rattle.fwu_model.specs.Causes.{Faults, LacksList}
-use Rattle.fwu_formats.specs.Digests.{digests_of}
-use Rattle.fwu_model.specs.Allow.{list_bytes}
+use Rattle.fwu_model.specs.{Call.Call, Script.script_of, Script.is_too_long, Causes.Faults, Causes.LacksList, Allow.list_bytes}
 use Rattle.fwu_model.specs.declared.kinds.Note.{Note}
+use Rattle.agent_machine.specs.Fields.{Fields}
+use Rattle.fwu_model.specs.Wrote.{usage_line, not_read_line, too_long_line, bad_script_line, bad_list_line, IsBadScript, IsBadList}
+use Rattle.fwu_formats.specs.Digests.{digests_of}
 use Rattle.fwu_model.specs.declared.kinds.Note.TheVariants as note
 use Rattle.fwu_words.specs.Order.{Asked}
 use Rattle.fwu_words.specs.Order as ask
-use Rattle.script_turns.specs.Powered.{at, moment}
+use Rattle.script_turns.specs.{Powered.at, Powered.moment, Runs.Ran}
 use Rattle.flash_core.specs.declared.flash.Flash as flash
 use Rattle.host_io.specs.declared.sink.Sink as sink
-use Rattle.script_runs.specs.Ending.{Device, Ending, PutsNone, World}
 use Rattle.host_io.specs.Printed.{Prints}
-use Rattle.script_runs.specs.Running.{ScriptEnded, Printed}
-use Rattle.script_turns.specs.Runs.{Ran}
+use Rattle.script_runs.specs.{Ending.Device, Ending.Ending, Ending.PutsNone, Ending.World, Running.ScriptEnded, Running.Printed}
 
 -- what the program was given to read: the list's name, the told files, and the script that is told
 pub record Given : Type 0 where
@@ -41,24 +36,17 @@ abbrev pub IsShortScript : Option (List ℕ) → Type 0
 IsShortScript script = IfSome script (λ bytes. is_too_long bytes ≡ false)
 
 -- Why nothing ran, with the status, the note and the line of that. A fault of the list comes before the others.
-pub data Refuses (asked : Option Asked) (g : Given) (faults_before faults_after : Faults) : ℕ → Note
-    → List ℕ → Type 0 where
-  usage : HasGoodList g.list g.files → asked ≡ None
-      → Refuses asked g faults_before faults_after 1 note.Nothing usage_line
-  not_read : HasGoodList g.list g.files → asked ≡ Some ask.run
-      → Rose faults_before.source faults_after.source
+pub data Refuses (asked : Option Asked) (g : Given) (faults_before faults_after : Faults) : ℕ → Note → List ℕ → Type 0 where
+  usage : HasGoodList g.list g.files → asked ≡ None → Refuses asked g faults_before faults_after 1 note.Nothing usage_line
+  not_read : HasGoodList g.list g.files → asked ≡ Some ask.run → Rose faults_before.source faults_after.source
       → Refuses asked g faults_before faults_after 2 note.Nothing not_read_line
-  list_not_read : IsSome g.list → Rose faults_before.files faults_after.files
-      ⊎ LacksList g.files g.list
+  list_not_read : IsSome g.list → Rose faults_before.files faults_after.files ⊎ LacksList g.files g.list
       → Refuses asked g faults_before faults_after 2 note.Nothing not_read_line
-  too_long : HasGoodList g.list g.files → asked ≡ Some ask.run
-      → IfSome g.script (λ bytes. IsTrue (is_too_long bytes))
+  too_long : HasGoodList g.list g.files → asked ≡ Some ask.run → IfSome g.script (λ bytes. IsTrue (is_too_long bytes))
       → Refuses asked g faults_before faults_after 8 note.Nothing too_long_line
-  bad_script : (n : ℕ) → HasGoodList g.list g.files → AsksTurns asked → IsShortScript g.script
-      → IsBadScript g.script n
+  bad_script : (n : ℕ) → HasGoodList g.list g.files → AsksTurns asked → IsShortScript g.script → IsBadScript g.script n
       → Refuses asked g faults_before faults_after 4 (note.BadLine n) (bad_script_line n)
-  bad_list : (n : ℕ) → IsSome g.list → (LacksList g.files g.list → ⊥)
-      → IsBadList (list_bytes g.list g.files) n
+  bad_list : (n : ℕ) → IsSome g.list → (LacksList g.files g.list → ⊥) → IsBadList (list_bytes g.list g.files) n
       → Refuses asked g faults_before faults_after 13 (note.BadList n) (bad_list_line n)
 
 -- the asked script, where it is told, was read whole, within the limits, and has these calls
@@ -82,15 +70,13 @@ device_of d flash = record { tells = d.tells; blocks = d.blocks flash }
 -- the files was counted but by them.
 pub data Way (passes : List ℕ → Bool) (tells : Bool) (asked : Option Asked) (g : Given)
     (ending : Ending Note) (old new : World) : Type 0 where
-  starved : ending.journal ≡ [] → new.flash ≡ old.flash → ending.status ≡ 9 → ending.noted ≡ note.Nothing
-      → PutsNone old new
+  starved : ending.journal ≡ [] → new.flash ≡ old.flash → ending.status ≡ 9 → ending.noted ≡ note.Nothing → PutsNone old new
       → Way passes tells asked g ending old new
   refused : (planned : ℕ) (line : List ℕ) → ending.journal ≡ [] → new.flash ≡ old.flash
       → Refuses asked g old.faults new.faults planned ending.noted line
       → Prints line planned ending.status old.taken new.taken old.faults.sink new.faults.sink
       → Way passes tells asked g ending old new
-  ran : (calls : List Call) (on : Option Fields) → HasGoodList g.list g.files → AsksTurns asked
-      → HasCalls g.script calls
+  ran : (calls : List Call) (on : Option Fields) → HasGoodList g.list g.files → AsksTurns asked → HasCalls g.script calls
       → Ran passes tells g.files ending.journal old.flash
       (at on new.flash.told new.flash.writes new.flash.counts new.flash.armed new.flash.power) old.faults.files new.faults.files
       → ScriptEnded calls ending.journal ending.status ending.noted

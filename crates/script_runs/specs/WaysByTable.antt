@@ -1,22 +1,16 @@
 -- The ways that `run --gpt` or `boot --gpt` may end, and what they promise.
-use Rattle.std.specs.Prelude.{◌≡◌, ◌≢◌, ℕ, Bool, List, [], Option, Some, IsTrue, IsFalse}
-use Rattle.gpt_core.specs.declared.layout.Places.{Places}
-use Rattle.gpt_core.specs.Beside.{Beside, TouchesPlaces}
+use Rattle.std.specs.Prelude.{◌≡◌, ◌≢◌, ℕ, Bool, List, Option, Some, IsTrue, IsFalse, []}
+use Rattle.gpt_core.specs.{declared.layout.Places.Places, Beside.Beside, Beside.TouchesPlaces}
 use Rattle.fwu_model.specs.Call.{Call}
 use Rattle.agent_machine.specs.Fields.{Fields}
-use Rattle.fwu_words.specs.Order.{Asked}
-use Rattle.fwu_words.specs.declared.orders.Place.{Place}
+use Rattle.fwu_words.specs.{Order.Asked, declared.orders.Place.Place}
 use Rattle.fwu_words.specs.declared.orders.Place.TheVariants as place
-use Rattle.script_runs.specs.declared.done.Note.{Note}
-use Rattle.script_runs.specs.declared.done.Note.TheVariants as note
-use Rattle.script_runs.specs.declared.done.NoTable.{NoTable}
-use Rattle.script_runs.specs.ByTable.{Looks, Starts, StopsBefore, flash_fault_line, lacked_in, no_table_line, seen_at}
-use Rattle.script_runs.specs.Ending.{Device, Ending, PutsNone, World, in_model}
-use Rattle.script_runs.specs.Noted.{is_beyond_model, noted}
-use Rattle.script_turns.specs.Powered.{TurnMoment, at}
+use Rattle.script_turns.specs.{Powered.TurnMoment, Powered.at, Runs.Ran}
 use Rattle.host_io.specs.Printed.{Prints}
-use Rattle.script_runs.specs.Running.{ScriptEnded, Printed}
-use Rattle.script_turns.specs.Runs.{Ran}
+use Rattle.script_runs.specs.{declared.done.Note.Note, declared.done.NoTable.NoTable, Running.ScriptEnded, Running.Printed}
+use Rattle.script_runs.specs.declared.done.Note.TheVariants as note
+use Rattle.script_runs.specs.ByTable.{Looks, Starts, StopsBefore, flash_fault_line, lacked_in, no_table_line, seen_at}
+use Rattle.script_runs.specs.Ending.{Device, Ending, PutsNone, World, in_model, is_beyond_model, noted}
 use Rattle.script_runs.specs.Ways.{AsksTurns, Given, HasCalls, HasGoodList, Way}
 
 -- the script was read whole, and has these calls
@@ -33,8 +27,7 @@ pub data WayByTable (passes : List ℕ → Bool) (device : Device) (asked : Opti
   untouched : ending.journal ≡ [] → new.flash ≡ old.flash → ending.status ≢ 0 → IsFalse (is_beyond_model ending.noted)
       → Way passes device.tells asked g (in_model ending) old new
       → WayByTable passes device asked g ending old new
-  starved : (calls : List Call) → ReadsScript asked g calls → ending.journal ≡ []
-      → Looks device.tells old.flash new.flash
+  starved : (calls : List Call) → ReadsScript asked g calls → ending.journal ≡ [] → Looks device.tells old.flash new.flash
       → ending.status ≡ 9 → ending.noted ≡ note.Nothing → PutsNone old new
       → WayByTable passes device asked g ending old new
   lacked : (calls : List Call) (why : NoTable) → ReadsScript asked g calls → ending.journal ≡ []

@@ -6,7 +6,7 @@ ghost use Rattle.fwu_journal.specs.Shown.{turns};
 ghost use Rattle.fwu_words.specs.declared.orders.Place.TheVariants as place;
 ghost use Rattle.fwu_words.specs.declared.orders.ScriptFrom.TheVariants as origin;
 ghost use Rattle.script_runs.specs.Here.{GoesFor};
-ghost use Rattle.script_runs.specs.Noted.{is_beyond_model};
+ghost use Rattle.script_runs.specs.Ending.{is_beyond_model};
 ghost use Rattle.script_runs.specs.Running.{IsUnnamedIn};
 ghost use Rattle.script_runs.specs.Sourced.{FailsOnce, ReadsInTime, TakesScript};
 ghost use Rattle.script_runs.specs.Ways.{Given, HasGoodList};

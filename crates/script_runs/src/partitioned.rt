@@ -11,7 +11,7 @@ ghost use Rattle.gpt_core.specs.Mapped.{device, places_of};
 ghost use Rattle.gpt_core.specs.Places.{Fit};
 ghost use Rattle.script_runs.specs.ByTable.{seen_at};
 ghost use Rattle.script_runs.specs.Here.{GoesAt};
-ghost use Rattle.script_runs.specs.Done.{ending};
+ghost use Rattle.script_runs.specs.Ending.{ending};
 ghost use Rattle.script_turns.specs.Powered.{moment, moment_on};
 ghost use Rattle.script_runs.specs.Running.{EndsRun, IsUnnamedIn, KeepsFiles};
 ghost use Rattle.script_turns.specs.Runs.{Ran, calls_of, sends_none};

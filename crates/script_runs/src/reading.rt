@@ -4,8 +4,7 @@ ghost use Rattle.std.specs.Io.KnownBytes.{IsAtEnd};
 ghost use Rattle.fwu_model.specs.Script.{is_too_long};
 ghost use Rattle.host_io.specs.Once.{ReadsOnce};
 ghost use Rattle.fwu_words.specs.declared.orders.ScriptFrom.TheVariants as origin;
-ghost use Rattle.script_runs.specs.Making.{MakesScript};
-ghost use Rattle.script_runs.specs.Sourced.{TakesText, read_failures, stops_long};
+ghost use Rattle.script_runs.specs.Sourced.{MakesScript, TakesText, read_failures, stops_long};
 
 use crate::refusing::Refusal;
 use crate::room::{Ready, Room};

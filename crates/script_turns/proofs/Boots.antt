@@ -1,43 +1,28 @@
 -- A boot of a flash, from how it ends: a step of a run, what no loss harms, and what the reply says of the bytes.
-use Rattle.std.proofs.Common.{◌≡◌, ◌≢◌, Contains, ℕ, ◌+◌, ◌≤◌, Bool, true, false, List, [], ◌∷◌, ext_get_or, Option, Some, None, refl, sym, ap, subst, ◌∙◌, inl, inr, arith, IsTrue, IsFalse}
-use Rattle.std.specs.Prelude.{◌⊎◌, Result, Ok, is_ok}
-use Rattle.flash_core.specs.declared.flash.Counts.{Counts}
-use Rattle.std.specs.Prelude.{IsErrOf}
-use Rattle.flash_core.specs.declared.flash.FlashStop.{FlashStop}
+use Rattle.std.proofs.Common.{◌≡◌, ◌≢◌, Contains, ℕ, ◌+◌, ◌≤◌, Bool, true, false, List, ◌∷◌, ext_get_or, Option, Some, None, refl, sym, ap, subst, ◌∙◌, inl, inr, arith, IsTrue, IsFalse}
+use Rattle.std.specs.Prelude.{◌⊎◌, Result, Ok, is_ok, [], IsErrOf}
+use Rattle.flash_core.specs.{declared.flash.Counts.Counts, declared.flash.FlashStop.FlashStop, declared.flash.Arming.Arming}
 use Rattle.flash_core.specs.declared.flash.FlashStop.TheVariants as flash_stop
-use Rattle.flash_core.specs.declared.flash.Arming.{Arming}
 use Rattle.flash_core.specs.Counts.{ReachesNone, Rose, Spends, StaysUnarmed, all_stops, stops_in}
 use Rattle.flash_core.specs.Told.{Told, NothingDirty, fresh, is_unsure}
 use Rattle.flash_core.specs.May.{Guards, Leaves, May, NoChance}
 use Rattle.host_io.specs.Contents.{Directory}
-use Rattle.fwu_formats.specs.declared.kinds.LayoutFault.{LayoutFault}
-use Rattle.fwu_formats.specs.Layout.{Layout}
-use Rattle.fwu_model.specs.State.{State, Numbers, after}
-use Rattle.fwu_model.specs.Sound.{Setting}
-use Rattle.fwu_model.specs.Session.{Session, Off, On}
+use Rattle.fwu_formats.specs.{declared.kinds.LayoutFault.LayoutFault, Layout.Layout}
+use Rattle.fwu_model.specs.{State.State, State.Numbers, State.after, Sound.Setting, Session.Session, Session.Off, Session.On}
+use Rattle.fwu_model.specs.{Reply.Reply, Reply.Turn, Answer.Answer, Answer.answer, Headline.LeavesOneOf, Calm.IsCalm, Calm.IsAtRest}
 use Rattle.fwu_model.specs.Call as call
-use Rattle.fwu_model.specs.Reply.{Reply, Turn}
 use Rattle.fwu_model.specs.Reply as reply
-use Rattle.fwu_model.specs.Answer.{Answer, answer}
 use Rattle.fwu_model.specs.Run.{Condition, Step, Answered, Stopped, StoppedEarly, is_stop, moved_on, prefixes, stopped_moves}
-use Rattle.fwu_model.specs.Headline.{LeavesOneOf}
-use Rattle.fwu_model.specs.Calm.{IsCalm, IsAtRest}
-use Rattle.fwu_model.proofs.Frame.{calm-again, calm-stays}
-use Rattle.fwu_model.proofs.Runs.{only}
+use Rattle.fwu_model.proofs.{Frame.calm-again, Frame.calm-stays, Runs.only}
 use Rattle.agent_machine.specs.Fields.{Fields}
 use Rattle.early_boot.specs.Started.{Started, started_session}
 use Rattle.early_boot.specs.Ends.{Ended, booted, bad_layout, no_metadata, no_bank, lost, failed, stop_of}
 use Rattle.early_boot.specs.EndsBy.{BootEnds, EndsByBytes, EndsByMachine, IdleEnd, StartsReady, StopsWith, StartedBy, StartsPermitted, TakesBoot, TakesByBytes, TouchesBoot}
-use Rattle.script_turns.specs.Powered.{TurnMoment, IsAt, IsSafe, ShowsAt}
-use Rattle.script_turns.specs.Booted.{BootsFrom}
-use Rattle.script_turns.specs.Replies.{LeavesOn, power_after}
-use Rattle.script_turns.specs.Takes.{StaysFree, TakesBy, stop_told}
-use Rattle.script_turns.specs.Touches.{TouchesByBoot}
+use Rattle.script_turns.specs.{Powered.TurnMoment, Powered.IsAt, Powered.IsSafe, Powered.ShowsAt, Boots.BootsFrom, Replies.LeavesOn}
+use Rattle.script_turns.specs.{Replies.power_after, Takes.StaysFree, Takes.TakesBy, Takes.stop_told, Touches.TouchesByBoot}
 use Rattle.script_turns.specs.Turning.{NoneFalls, Turns, GetsPower, IsOnAfter, ShowsStarted, boot_turn, reply_of_end}
-use Rattle.script_turns.proofs.RunTurns.{rose-after, rose-before}
-use Rattle.script_turns.proofs.Shows.{as-told}
-use Rattle.script_turns.proofs.Staying.{among, falls-same, safe-by, same-guards}
-use Rattle.script_turns.proofs.Touching.{touches-booted}
+use Rattle.script_turns.proofs.{RunTurns.rose-after, RunTurns.rose-before, Touching.touches-booted}
+use Rattle.script_turns.proofs.Staying.{as-told, among, falls-same, safe-by, same-guards}
 
 -- ---- the guard
 
@@ -150,8 +135,7 @@ boots-from passes (bad_layout f) old new h = h.0
 boots-from passes no_metadata old new h = (h.0, h.1, h.2)
 boots-from passes (no_bank active previous) old new h =
     record { layout = h.layout; state = h.state; chose = h.chose; active_is = h.active_is; previous_is = h.previous_is }
-boots-from passes (lost n) old new h = tt
-boots-from passes (failed n) old new h = tt
+boots-from passes other old new h = tt
 
 reads-none : (e : Ended) → reply_of_end e ≢ reply.ReadFault
 reads-none no_metadata h = cc

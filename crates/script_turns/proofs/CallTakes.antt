@@ -1,32 +1,22 @@
 -- What an armed loss counts of a call of the agent, from what the call says.
 use Rattle.std.proofs.Common.{◌≡◌, ℕ, ◌-◌, List, length, Option, Some, None, Result, Ok, Err, refl, ap, IsTrue}
 use Rattle.std.specs.Prelude.{OnOk, take}
-use Rattle.flash_core.specs.declared.flash.Flash.{Ghosts}
-use Rattle.flash_core.specs.Counts.{ReachesNone, arming_kept}
-use Rattle.fwu_model.specs.Reply.{Reply}
+use Rattle.flash_core.specs.{declared.flash.Flash.Ghosts, Counts.ReachesNone, Counts.arming_kept}
+use Rattle.fwu_model.specs.{Reply.Reply, declared.kinds.Status.Status, Call.Call, State.is_invalid}
 use Rattle.fwu_model.specs.Reply as reply
 use Rattle.slot_writer.specs.Writes.{SpendsArming, writes_to_append, writes_to_finish}
 use Rattle.agent_kept.specs.Kept.{handle_kept, part_at, size_of}
 use Rattle.agent_kept.specs.declared.parts.Handle.TheVariants as handle
 use Rattle.host_io.specs.Contents.{Directory}
-use Rattle.fwu_model.specs.declared.kinds.Status.{Status}
-use Rattle.fwu_model.specs.Call.{Call}
 use Rattle.fwu_model.specs.Call as call
-use Rattle.agent_machine.specs.declared.stop.Stop.{Stop}
+use Rattle.agent_machine.specs.{declared.stop.Stop.Stop, Fields.Fields, Fields.target, Ends.IsWriter, Stored.TakesStore}
 use Rattle.agent_machine.specs.declared.stop.Stop.TheVariants as stop
 use Rattle.fwu_formats.specs.Metadata.{state_at}
-use Rattle.fwu_model.specs.State.{is_invalid}
-use Rattle.agent_machine.specs.Fields.{Fields, target}
-use Rattle.agent_calls.specs.Metas.{meta_begun}
+use Rattle.agent_calls.specs.{Metas.meta_begun, declared.agent.Agent.Agent, Shown.device, Shown.fields}
 use Rattle.agent_calls.proofs.Taking.{takes-begin as takes-a-begin}
-use Rattle.agent_machine.specs.Ends.{IsWriter}
 use Rattle.agent_machine.specs.Meets.{IsDone, IsRefused, flash_result}
-use Rattle.agent_machine.specs.Stored.{TakesStore}
-use Rattle.agent_calls.specs.declared.agent.Agent.{Agent}
-use Rattle.agent_calls.specs.Shown.{device, fields}
 use Rattle.script_turns.specs.Powered.{TurnMoment, SameDevice, moment_on}
-use Rattle.script_turns.specs.Takes.{ReadTakes, TakesOn}
-use Rattle.script_turns.specs.Calls.{on_by, reply_by}
+use Rattle.script_turns.specs.{Takes.ReadTakes, Takes.TakesOn, Calls.on_by, Calls.reply_by}
 
 -- the device of an agent, with what is kept
 abbrev pub with : {D : Type 0} {F : Ghosts D} → Option Fields → Agent D F → TurnMoment

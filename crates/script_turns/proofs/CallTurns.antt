@@ -1,53 +1,38 @@
 -- The turn of a call of the agent, from what the agent's call says: the reply, what is kept, a step of a run, and what no loss harms.
-use Rattle.std.proofs.Common.{◌≡◌, ◌≢◌, ℕ, Bool, true, false, cond, not, ◌||◌, List, [], ◌∷◌, length, get_or, Option, Some, None, Result, Ok, Err, refl, sym, ap, subst, ◌∙◌, arith, IsTrue, IsFalse}
-use Rattle.std.specs.Prelude.{◌<◌, is_ok, ⊤}
-use Rattle.std.proofs.lemmas.List.{length-map}
+use Rattle.std.proofs.Common.{◌≡◌, ◌≢◌, ℕ, Bool, true, false, cond, not, ◌||◌, List, ◌∷◌, length, get_or, Option, Some, None, Result, Ok, Err, refl, sym, ap, subst, ◌∙◌, arith, IsTrue, IsFalse}
+use Rattle.std.specs.Prelude.{◌<◌, is_ok, ⊤, []}
+use Rattle.std.proofs.{lemmas.List.length-map, lemmas.Option.same_Some}
 use Rattle.std.specs.List.{list_any}
-use Rattle.std.proofs.lemmas.Option.{same_Some}
-use Rattle.flash_core.specs.declared.flash.Arming.{Arming}
-use Rattle.flash_core.specs.declared.flash.Counts.{Counts}
-use Rattle.flash_core.specs.declared.flash.FlashStop.{FlashStop}
+use Rattle.flash_core.specs.{declared.flash.Arming.Arming, declared.flash.Counts.Counts, declared.flash.FlashStop.FlashStop}
+use Rattle.flash_core.specs.{Counts.Spends, Counts.StaysUnarmed, Counts.stops_in, Told.Told}
 use Rattle.flash_core.specs.declared.flash.FlashStop.TheVariants as flash_stop
-use Rattle.flash_core.specs.Counts.{Spends, StaysUnarmed, stops_in}
-use Rattle.flash_core.specs.Told.{Told}
 use Rattle.host_io.specs.Contents.{Directory}
-use Rattle.fwu_model.specs.State.{State, after}
-use Rattle.fwu_model.specs.Sound.{Setting}
+use Rattle.fwu_model.specs.{State.State, State.after, Sound.Setting, Call.Call, Reply.Reply, declared.kinds.Status.Status}
+use Rattle.fwu_model.specs.{Calm.IsAtRest, Headline.IsCut, Headline.LeavesOneOf}
 use Rattle.fwu_model.specs.Session.{Session, Off, On, Staged, Nothing, Committed, no_handles}
-use Rattle.fwu_model.specs.Call.{Call}
 use Rattle.fwu_model.specs.Call as call
-use Rattle.fwu_model.specs.Reply.{Reply, Turn}
 use Rattle.fwu_model.specs.Reply as reply
 use Rattle.fwu_formats.specs.Layout.{Layout, ImageRow}
 use Rattle.fwu_formats.proofs.Same.{listed-same}
 use Rattle.base_core.specs.Bytes.{same_bytes}
 use Rattle.fwu_model.specs.Answer.{Answer, answer, answer_begin_partial, answered, are_named, begin_moves, cannot_begin, copied_part, copied_parts, image_held, names_unknown, refused}
-use Rattle.fwu_model.specs.declared.kinds.Status.{Status}
 use Rattle.fwu_model.specs.declared.kinds.Status.TheVariants as status
-use Rattle.fwu_model.specs.Calm.{IsAtRest}
 use Rattle.moves.specs.Moved.{Does, GuardedBy, IsReady}
-use Rattle.agent_calls.specs.Copies.{BeginsPartly}
-use Rattle.agent_calls.specs.Partly.{begins_over}
+use Rattle.agent_calls.specs.{Copies.BeginsPartly, Partly.begins_over}
 use Rattle.fwu_model.specs.Run.{Condition, Step, Answered, Stopped, asks_state, is_boot, is_off, is_send, is_stop, moved_on, prefixes, stopped_moves}
-use Rattle.fwu_model.specs.Headline.{IsCut, LeavesOneOf}
-use Rattle.agent_machine.specs.declared.stop.Stop.{Stop}
+use Rattle.agent_machine.specs.{declared.stop.Stop.Stop, Fields.Fields, Fields.total_of}
 use Rattle.agent_machine.specs.declared.stop.Stop.TheVariants as stop
-use Rattle.agent_machine.specs.Fields.{Fields, total_of}
 use Rattle.agent_machine.specs.Beside.{KeepsSpared, KeepsSparedByAll, SparesBlocks, SparesBlocksByAll}
 use Rattle.agent_machine.proofs.Beside.{blocks-once, spared-once}
 use Rattle.agent_machine.specs.Moment as agent
 use Rattle.agent_machine.specs.Meets.{Answers, IsDone, IsSettingOf, LeavesFlash, ShowsNext, Stays, flash_result}
-use Rattle.script_turns.specs.Powered.{TurnMoment, IsAt, IsSafe, at, kept_at}
 use Rattle.agent_calls.specs.AnswersCall.{AnswersCall, GoesBackBy, IsDecided, IsPreviousCall, IsReplyOf, PermitsBack}
+use Rattle.script_turns.specs.Powered.{TurnMoment, IsAt, IsSafe, at, kept_at}
 use Rattle.script_turns.specs.Replies.{AnswersBegin, AnswersTo, CallSays, IsFlashStop, Replies, power_after}
-use Rattle.script_turns.specs.Takes.{TakesOn, stop_told}
-use Rattle.script_turns.specs.Calls.{is_agents, is_composed, on_by, reply_by}
-use Rattle.script_turns.specs.Deciding.{DecidesAfter, IsMetaAfter}
-use Rattle.script_turns.specs.Turning.{Makes, Turns, quiet_turn}
-use Rattle.script_turns.proofs.Quiets.{lacks-none}
-use Rattle.script_turns.proofs.Staying.{among, no-numbers, no-stop, safe-by, same-guards}
-use Rattle.script_turns.proofs.Shows.{as-told, shows-as, told-shows}
-use Rattle.script_turns.proofs.Touching.{touches-called}
+use Rattle.script_turns.specs.{Takes.TakesOn, Takes.stop_told, Calls.is_agents, Calls.is_composed, Calls.on_by, Calls.reply_by}
+use Rattle.script_turns.specs.{Touches.DecidesAfter, Touches.IsMetaAfter, Turning.Makes, Turning.Turns, Turning.quiet_turn}
+use Rattle.script_turns.proofs.{Quiets.lacks-none, Touching.touches-called}
+use Rattle.script_turns.proofs.Staying.{among, no-numbers, no-stop, safe-by, same-guards, as-told, shows-as, told-shows}
 
 -- ---- the calls of the agent
 

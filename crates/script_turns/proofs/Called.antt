@@ -1,44 +1,29 @@
 -- The turn of a call of the agent, on its device: what each call says, and what its turn left.
-use Rattle.std.proofs.Common.{◌≡◌, ◌⊎◌, inl, inr, ℕ, ◌≤◌, Bool, true, false, List, [], length, Option, Some, Result, Ok, Err, refl, sym, ap, subst, ◌∙◌, IsTrue, IsFalse}
-use Rattle.std.specs.Prelude.{is_ok, IfOk, OnOk}
+use Rattle.std.proofs.Common.{◌≡◌, ◌⊎◌, inl, inr, ℕ, ◌≤◌, Bool, true, false, List, length, Option, Some, Result, Ok, Err, refl, sym, ap, subst, ◌∙◌, IsTrue, IsFalse}
+use Rattle.std.specs.Prelude.{is_ok, IfOk, OnOk, []}
 use Rattle.std.proofs.lemmas.List.{length-take-le}
 use Rattle.flash_core.specs.declared.flash.Flash.{Ghosts}
 use Rattle.host_io.specs.Contents.{Directory}
-use Rattle.fwu_model.specs.declared.kinds.Op.{Op}
+use Rattle.fwu_model.specs.{declared.kinds.Op.Op, State.State, Sound.Setting, Session.Session, Call.Call, Reply.Reply, Reply.Turn}
+use Rattle.fwu_model.specs.{Run.is_stop, Answer.are_named}
 use Rattle.fwu_model.specs.declared.kinds.Op.TheVariants as op
-use Rattle.fwu_model.specs.State.{State}
-use Rattle.fwu_model.specs.Sound.{Setting}
-use Rattle.fwu_model.specs.Session.{Session}
-use Rattle.fwu_model.specs.Call.{Call}
 use Rattle.fwu_model.specs.Call as call
-use Rattle.fwu_model.specs.Reply.{Reply, Turn}
 use Rattle.fwu_model.specs.Reply as reply
-use Rattle.fwu_model.specs.Run.{is_stop}
 use Rattle.agent_kept.specs.declared.kinds.Request.TheVariants as request
 use Rattle.agent_kept.specs.Plans.{call_of}
-use Rattle.agent_machine.specs.declared.stop.Stop.{Stop}
+use Rattle.agent_machine.specs.{declared.stop.Stop.Stop, Fields.Fields}
 use Rattle.agent_machine.specs.declared.stop.Stop.TheVariants as stop
-use Rattle.agent_machine.specs.Fields.{Fields}
 use Rattle.agent_machine.specs.Moment as agent
 use Rattle.agent_machine.specs.Meets.{Answers, GoesBack, GoesBy, IsDone, IsGot, IsRefused, IsStopped, Meets, MeetsPrevious, flash_result}
 use Rattle.fwu_formats.specs.Metadata.{MetaRead}
-use Rattle.script_turns.specs.Deciding.{IsMetaAfter}
-use Rattle.agent_calls.specs.declared.agent.Agent.{Agent}
-use Rattle.agent_calls.specs.AnswersCall.{IsPreviousCall, IsReplyOf}
-use Rattle.agent_calls.specs.Copies.{BeginsPartly}
-use Rattle.agent_calls.specs.GoneBack.{SomePassed}
-use Rattle.fwu_model.specs.Answer.{are_named}
-use Rattle.agent_calls.specs.Shown.{AgentGoes, device, fields, gone, moment}
+use Rattle.agent_calls.specs.{declared.agent.Agent.Agent, AnswersCall.IsPreviousCall, AnswersCall.IsReplyOf, Copies.BeginsPartly}
+use Rattle.agent_calls.specs.{GoneBack.SomePassed, Shown.AgentGoes, Shown.device, Shown.fields, Shown.gone, Shown.moment}
 use Rattle.fwu_journal.specs.Shown.{IsShortReply, turn}
 use Rattle.script_text.specs.Shown.{shown}
 use Rattle.script_text.specs.declared.call.Call.TheVariants as variant
-use Rattle.script_turns.specs.Powered.{TurnMoment, SameDevice}
-use Rattle.script_turns.specs.Stage.{on_where}
-use Rattle.script_turns.specs.Takes.{TakesOn}
-use Rattle.script_turns.specs.Calls.{is_there, moment_where, on_by, open_call, reply_by}
-use Rattle.script_turns.specs.Turned.{IsCallTurn, LeavesAgent}
-use Rattle.script_turns.specs.Turning.{Turns, quiet_turn}
-use Rattle.script_turns.specs.declared.turned.AgentTurn.{AgentTurn}
+use Rattle.script_turns.specs.{Touches.IsMetaAfter, Powered.TurnMoment, Powered.SameDevice, Stage.on_where, Takes.TakesOn}
+use Rattle.script_turns.specs.{Calls.is_there, Calls.moment_where, Calls.on_by, Calls.open_call, Calls.reply_by, Turned.IsCallTurn}
+use Rattle.script_turns.specs.{Turned.LeavesAgent, Turning.Turns, Turning.quiet_turn, declared.turned.AgentTurn.AgentTurn}
 use Rattle.script_turns.proofs.CallTakes.{done_reply, got, with}
 use Rattle.script_turns.proofs.CallTurns.{Called, GoesBackAs, begin-turns, call-turns, is_single}
 

@@ -1,33 +1,44 @@
--- A turn that leaves the flash as it is.
-use Rattle.std.proofs.Common.{◌≡◌, ℕ, ◌≤◌, Bool, true, not, ◌||◌, List, [], ◌∷◌, Option, Some, None, refl, sym, ap, subst, ◌∙◌, arith, IsTrue, IsFalse}
-use Rattle.std.specs.Prelude.{IsSome}
-use Rattle.host_io.specs.Contents.{Directory}
-use Rattle.flash_core.proofs.Unarmed.{unarmed_none}
-use Rattle.flash_core.specs.Counts.{all_stops}
-use Rattle.flash_core.specs.Told.{Told}
+-- Turns that ask for no file, that leave the flash as it is, and those of a flash on which no bank was started.
+use Rattle.std.proofs.Common.{◌≡◌, List, Bool, ℕ, refl, sym, subst, ◌≤◌, true, not, ◌||◌, ◌∷◌, Option, Some, None, ap, ◌∙◌, arith, IsTrue, IsFalse}
+use Rattle.flash_core.specs.{declared.flash.Flash.Ghosts, Counts.all_stops, Told.Told, declared.flash.Arming.Arming}
+use Rattle.flash_core.specs.declared.flash.Counts.{Counts}
+use Rattle.host_io.specs.{Access.Access, Contents.Directory}
+use Rattle.host_io.specs.declared.files.Files as files
+use Rattle.host_io.proofs.Reading.{reads-none}
+use Rattle.fwu_model.specs.{Call.Call, Reply.Turn, Reply.Reply, Sound.Setting, Session.Session, Session.Off, Session.On}
+use Rattle.fwu_model.specs.{Answer.Answer, Answer.answer, Answer.answered, Headline.IsCut, Causes.is_cut}
 use Rattle.fwu_model.specs.State.{State, Numbers, numbers_of, after}
-use Rattle.fwu_model.specs.Sound.{Setting}
-use Rattle.fwu_model.specs.Session.{Session, Off, On}
-use Rattle.fwu_model.specs.Call.{Call}
+use Rattle.fwu_model.specs.Run.{is_boot, Condition, Step, Answered, Idle, is_off, is_send, is_stop, moved_on}
+use Rattle.std.specs.Prelude.{IsSome, []}
+use Rattle.flash_core.proofs.Unarmed.{unarmed_none}
 use Rattle.fwu_model.specs.Call as call
-use Rattle.fwu_model.specs.Reply.{Reply, Turn}
 use Rattle.fwu_model.specs.Reply as reply
-use Rattle.fwu_model.specs.Answer.{Answer, answer, answered}
-use Rattle.fwu_model.specs.Run.{Condition, Step, Answered, Idle, is_boot, is_off, is_send, is_stop, moved_on}
-use Rattle.fwu_model.specs.Headline.{IsCut}
-use Rattle.fwu_model.specs.Causes.{is_cut}
 use Rattle.agent_machine.specs.Fields.{Fields}
 use Rattle.agent_machine.specs.Moment as agent
 use Rattle.agent_machine.proofs.Beside.{spared-told}
-use Rattle.script_turns.specs.Powered.{TurnMoment, SameDevice, IsAt, IsSafe, ShowsAt, numbers_kept}
+use Rattle.script_turns.specs.Powered.{moment_in, TurnMoment, at, SameDevice, IsAt, IsSafe, ShowsAt, numbers_kept}
+use Rattle.script_turns.specs.{Stage.device, Stage.has_power, declared.stage.Stage.Stage, Sending.LacksSent, Calls.is_agents}
+use Rattle.script_turns.specs.{Calls.needs_bank, Takes.StaysFree, Takes.TakesByCall, Takes.TakesBy, Touches.Touches}
+use Rattle.script_turns.specs.{Touches.TouchesBy, Turned.IsStageTurn, Turned.TurnLeaves, Turned.TurnsAlone}
+use Rattle.script_turns.specs.Turning.{Turns, Arms, Makes, NoneFalls, quiet_turn}
 use Rattle.script_turns.specs.Replies.{Replies, no_call_reply, power_after, show_reply}
-use Rattle.script_turns.specs.Sending.{LacksSent}
-use Rattle.script_turns.specs.Calls.{is_agents}
-use Rattle.script_turns.specs.Takes.{StaysFree, TakesByCall, TakesBy}
-use Rattle.script_turns.specs.Touches.{Touches, TouchesBy}
-use Rattle.script_turns.proofs.Shows.{counts_none}
-use Rattle.script_turns.proofs.Staying.{among, falls-same, no-numbers, no-stop}
-use Rattle.script_turns.specs.Turning.{Arms, Makes, NoneFalls, Turns, quiet_turn}
+use Rattle.script_turns.proofs.Staying.{counts_none, among, falls-same, no-numbers, no-stop}
+
+-- ---- the turn of a call that asks for no file
+
+-- it leaves the files as they are
+pub turns-alone : {D H : Type 0} {F : Ghosts D} (g : files.Ghosts H) → ((f : H) (access : Access) → g.spares f f access) → (passes : List ℕ → Bool)
+    (c what : Call) (t : Turn) (old new : Stage D F) (here : H) → c ≡ what → TurnsAlone passes F.tells what t (moment_in old) (moment_in new)
+    → TurnLeaves F t (has_power new) (device old) (device new) → IsStageTurn g passes c t old new here here
+turns-alone {F = F} g at_rest passes c what t old new here is turns leaves = record {
+  turns = subst (λ (x : Call). Turns passes F.tells (g.contents here) x t (moment_in old) (moment_in new) (g.faults here) (g.faults here)) (sym is) (turns (g.contents here) (g.faults here));
+  leaves = leaves;
+  reads = reads-none g _ at_rest here;
+  files = λ other. refl;
+  idle = λ none. refl;
+}
+
+-- ---- a turn that leaves the flash as it is
 
 -- What the machine answers to the call, by what the agent keeps: with this reply it does nothing.
 abbrev pub AnswersBy : Call → Reply → Option Fields → Told → Type 0
@@ -246,3 +257,39 @@ cut-turns passes tells files n k old new faults arms = quiet-turns passes tells 
   touches = cut-touches n k old.on old.writes new.writes arms.writes;
   answers = cut-answers n k old.on old.told;
 }) (refl, arms)
+
+-- ---- the turns of a flash on which no bank was started, which is left as it is
+
+module _ (passes : List ℕ → Bool) (tells : Bool) (files : Option Directory) (t : Told) (w : ℕ → ℕ) (cs : Counts) (armed : Option Arming) (power : Bool) (was : ℕ) where
+  abbrev here : TurnMoment
+  here = at None t w cs armed power
+
+  -- what goes by the call
+  record LeavesOff (c : Call) : Type 0 where
+    made : Makes c cs.made cs.made
+    cut : IsCut (Some (quiet_turn c reply.IsOff)) armed
+    replies : Replies passes tells files c here (quiet_turn c reply.IsOff) here
+    looks : Looks passes tells files here was c reply.IsOff None
+    no_boot : IsFalse (is_boot c)
+    answers : (E : Setting) (s : State) → reply.IsOff ≡ (answer E s Off c).reply
+
+  leaves-off : (c : Call) → IsTrue (needs_bank c) → LeavesOff c
+  unfolding answer
+  leaves-off call.Boot asks = absurd cc
+  leaves-off (call.Cut n k) asks = absurd cc
+  leaves-off call.Show asks = absurd cc
+  leaves-off call.NoCall asks = absurd cc
+  leaves-off q asks = record {
+    made = refl;
+    cut = tt;
+    replies = (refl, refl);
+    looks = record { no_stop = refl; free = unarmed_none tt armed cs; power = refl; takes = same-device here; touches = refl };
+    no_boot = refl;
+    answers = λ E s. refl;
+  }
+
+  pub off-turn : (c : Call) → IsTrue (needs_bank c) → Turns passes tells files c (quiet_turn c reply.IsOff) here here was was
+  off-turn c asks =
+      let leaves = leaves-off c asks in
+      looks-turns passes tells files here was c reply.IsOff leaves.no_boot (λ lacks some. absurd cc) (λ f on agents. absurd cc)
+      leaves.made leaves.cut leaves.looks leaves.answers leaves.replies

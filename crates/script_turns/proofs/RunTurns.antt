@@ -1,40 +1,27 @@
 -- A run of turns, and one turn more.
-use Rattle.std.proofs.Common.{◌≡◌, ◌⊎◌, ℕ, zero, suc, ◌+◌, ◌-◌, ◌*◌, ◌<◌, ◌≤◌, min, Bool, true, false, cond, List, [], ◌∷◌, ◌++◌, length, Option, Some, None, refl, sym, ap, subst, ◌∙◌, inl, inr, IsTrue, IsFalse, Contains, add-one, arith, length-append}
+use Rattle.std.proofs.Common.{◌≡◌, ◌⊎◌, ℕ, zero, suc, ◌+◌, ◌-◌, ◌*◌, ◌<◌, ◌≤◌, min, Bool, true, false, cond, List, ◌∷◌, ◌++◌, length, Option, Some, None, refl, sym, ap, subst, ◌∙◌, inl, inr, IsTrue, IsFalse, Contains, add-one, arith, length-append}
 use Rattle.std.specs.List.{slice_get, list_any}
-use Rattle.std.proofs.Math.Seq.{get_or-append_seam}
+use Rattle.std.proofs.{Math.Seq.get_or-append_seam, lemmas.List.Elements.Contains-push_cases, lemmas.List.Sums.sum_by-append}
 use Rattle.std.proofs.lemmas.Bool.{cases_Bool, cases_lt, false≢true, or_parts}
 use Rattle.std.proofs.lemmas.Option.{same_Some, slice_get-get_or, slice_get_within}
-use Rattle.std.proofs.lemmas.List.Elements.{Contains-push_cases}
-use Rattle.std.proofs.lemmas.List.Sums.{sum_by-append}
-use Rattle.std.specs.Prelude.{IsErrOf}
-use Rattle.flash_core.specs.Counts.{Rose, stops_in}
+use Rattle.std.specs.Prelude.{IsErrOf, []}
+use Rattle.flash_core.specs.{Counts.Rose, Counts.stops_in, declared.flash.Arming.Arming, declared.flash.Counts.Counts, Told.Told}
+use Rattle.flash_core.specs.{Told.NothingDirty, Told.fresh, Told.is_unsure, May.Guards, May.Quiet}
 use Rattle.flash_core.specs.declared.flash.FlashStop.TheVariants as flash_stop
-use Rattle.flash_core.specs.declared.flash.Arming.{Arming}
-use Rattle.flash_core.specs.declared.flash.Counts.{Counts}
-use Rattle.flash_core.specs.Told.{Told, NothingDirty, fresh, is_unsure}
-use Rattle.flash_core.specs.May.{Guards, Quiet}
 use Rattle.host_io.specs.Contents.{Directory}
-use Rattle.fwu_model.specs.State.{State}
-use Rattle.fwu_model.specs.Sound.{Setting}
-use Rattle.fwu_model.specs.Call.{Call}
+use Rattle.fwu_model.specs.{State.State, Sound.Setting, Call.Call, Reply.Reply, Reply.Turn, Calm.IsGuarded}
 use Rattle.fwu_model.specs.Call as call
-use Rattle.fwu_model.specs.Reply.{Reply, Turn}
 use Rattle.fwu_model.specs.Reply as reply
-use Rattle.fwu_model.specs.Calm.{IsGuarded}
 use Rattle.fwu_model.specs.Run.{Condition, start_of, arming_after, ends_run, Step, Answered, Idle, Stopped, StoppedEarly}
 use Rattle.fwu_model.specs.Headline.{ArmedBy, IsCut, made_after}
 use Rattle.fwu_model.specs.Causes.{FileNotRead, LossesAreCounted, cuts_in, greatest, is_cut, is_lost, losses_in}
-use Rattle.fwu_model.proofs.Runs.{runs-grow}
-use Rattle.fwu_model.proofs.Frame.{calm-stays, start-is-calm}
-use Rattle.script_turns.specs.Booted.{BootsFrom}
+use Rattle.fwu_model.proofs.{Runs.runs-grow, Frame.calm-stays, Frame.start-is-calm}
 use Rattle.agent_machine.specs.Fields.{Fields}
+use Rattle.script_turns.specs.{Boots.BootsFrom, Replies.Replies, Replies.power_after, Takes.StaysFree, Takes.stop_told}
 use Rattle.script_turns.specs.Powered.{FitsMachine, TurnMoment, IsSafe, ShowsCondition}
-use Rattle.script_turns.specs.Replies.{Replies, power_after}
-use Rattle.script_turns.specs.Takes.{StaysFree, stop_told}
 use Rattle.script_turns.specs.Turning.{Makes, NoneFalls, Turns}
-use Rattle.script_turns.proofs.RunTouches.{touches-more, touches-nothing}
-use Rattle.script_turns.proofs.Staying.{falls-same}
 use Rattle.script_turns.specs.Runs.{Follows, LossesAreDue, Ran, RunsFree, RunsTo, armings_left, power_left, stops_of}
+use Rattle.script_turns.proofs.{Touching.touches-more, Touching.touches-nothing, Staying.falls-same}
 
 -- ---- the places of a list with one element more
 

@@ -1,74 +1,47 @@
 -- The turn of a sending, by what the sending gave.
-use Rattle.std.proofs.Common.{◌≡◌, ◌⊎◌, inl, inr, ℕ, ◌+◌, ◌≤◌, Bool, true, false, ◌||◌, List, length, get_or, [], ◌∷◌, Option, Some, None, Result, Ok, Err, refl, sym, ap, subst, ◌∙◌, arith, IsTrue, IsFalse}
-use Rattle.std.proofs.Math.Logic.{∥∥₁_elim}
-use denote.Struct.Props.{props}
-use Rattle.std.specs.Prelude.{◌<◌, OnOk, is_ok, is_some, not}
-use Rattle.std.proofs.lemmas.Bool.{false≢true}
-use Rattle.base_core.specs.Counts.{Rose}
+use Rattle.std.proofs.Common.{◌≡◌, ◌⊎◌, inl, inr, ℕ, ◌+◌, ◌≤◌, Bool, true, false, ◌||◌, List, length, get_or, ◌∷◌, Option, Some, None, Result, Ok, Err, refl, sym, ap, subst, ◌∙◌, arith, IsTrue, IsFalse}
+use Rattle.std.proofs.{Math.Logic.∥∥₁_elim, lemmas.Bool.false≢true, lemmas.Option.same_Some}
+use Rattle.std.specs.Prelude.{◌<◌, OnOk, is_ok, is_some, not, []}
+use Rattle.base_core.specs.{Counts.Rose, Block.block_bytes}
 use Rattle.host_io.specs.Contents.{Directory}
-use Rattle.flash_core.specs.declared.flash.Arming.{Arming}
-use Rattle.flash_core.specs.declared.flash.Counts.{Counts}
-use Rattle.flash_core.specs.declared.flash.Flash.{Ghosts}
-use Rattle.flash_core.specs.declared.flash.FlashStop.{FlashStop}
+use Rattle.flash_core.specs.{declared.flash.Arming.Arming, declared.flash.Counts.Counts, declared.flash.Flash.Ghosts}
+use Rattle.flash_core.specs.{declared.flash.FlashStop.FlashStop, Told.Told, Calls.Goes}
 use Rattle.flash_core.specs.declared.flash.FlashStop.TheVariants as flash_stop
 use Rattle.flash_core.specs.Counts.{Spends, StaysUnarmed, stops_in}
-use Rattle.flash_core.specs.Told.{Told}
-use Rattle.fwu_formats.specs.Layout.{ImageRow, Layout}
-use Rattle.fwu_formats.specs.Package.{Entry, Toc, entry_of}
+use Rattle.fwu_formats.specs.{Layout.ImageRow, Layout.Layout, Package.Entry, Package.Toc, Package.entry_of}
 use Rattle.fwu_formats.proofs.Same.{listed-same}
-use Rattle.fwu_model.specs.State.{State, Move, after}
-use Rattle.fwu_model.specs.Sound.{Setting}
+use Rattle.fwu_model.specs.{State.State, State.Move, State.after, Sound.Setting, Call.Call, Reply.Reply, Reply.Turn}
+use Rattle.fwu_model.specs.{Causes.FileNotRead, Causes.LacksFile, Headline.IsCut, Headline.LeavesOneOf}
 use Rattle.fwu_model.specs.Session.{Session, Off, On, Staged, Handle}
-use Rattle.fwu_model.specs.Call.{Call}
 use Rattle.fwu_model.specs.Call as call
-use Rattle.fwu_model.specs.Reply.{Reply, Turn}
 use Rattle.fwu_model.specs.Reply as reply
 use Rattle.fwu_model.specs.Answer.{Answer, answer, answered, answer_send, answer_send_partial, bits_over, first_image_fault, type_of_image, has_image, image_held, images_of, images_over, install_unless, partial_fault, payload_or, send_file, send_file_over, send_package, sent_over, skipped, table_in}
-use Rattle.fwu_model.specs.Causes.{FileNotRead, LacksFile}
-use Rattle.fwu_model.specs.Headline.{IsCut, LeavesOneOf}
 use Rattle.fwu_model.specs.Run.{Condition, HasNumbers, Step, Answered, Stopped, asks_state, is_boot, is_off, is_send, is_stop, moved_on, prefixes, stopped_moves}
 use Rattle.moves.specs.Moved.{IsReady}
 use Rattle.moves.proofs.Composed.{does-idle}
 use Rattle.fip_tables.specs.Files.{Lacks, Tells}
-use Rattle.agent_machine.specs.Beside.{KeepsSparedByAll, SparesBlocksByAll}
-use Rattle.agent_machine.specs.Fields.{Fields}
-use Rattle.agent_machine.proofs.Beside.{spared-same}
-use Rattle.std.proofs.lemmas.Option.{same_Some}
-use Rattle.agent_machine.specs.Goes.{GoesByMoves}
-use Rattle.agent_machine.specs.Meets.{Stays}
+use Rattle.agent_machine.specs.{Beside.KeepsSparedByAll, Beside.SparesBlocksByAll, Fields.Fields, Goes.GoesByMoves, Meets.Stays}
+use Rattle.agent_machine.specs.{Machine.state_in, Machine.session_in, Knows.Fitting, Knows.Knows}
+use Rattle.agent_machine.proofs.{Beside.spared-same, Showing.known-shows}
 use Rattle.agent_machine.specs.Moment as agent
-use Rattle.agent_machine.specs.Machine.{state_in, session_in}
-use Rattle.agent_machine.specs.Knows.{Fitting, Knows}
-use Rattle.agent_machine.proofs.Showing.{known-shows}
-use Rattle.update_client.specs.declared.stops.Sent.{Sent}
-use Rattle.update_client.specs.declared.stops.SendStop.{SendStop}
+use Rattle.update_client.specs.{declared.stops.Sent.Sent, declared.stops.SendStop.SendStop, Halts.flash_of, Choosing.no_row}
 use Rattle.update_client.specs.declared.stops.SendStop.TheVariants.{MissingImage, End, ReadFailed, Lost, Fault, Gone}
-use Rattle.update_client.specs.Halts.{flash_of}
 use Rattle.update_client.specs.Pieces.{ReadsPieceBy, unread_in}
-use Rattle.update_client.specs.Choosing.{no_row}
 use Rattle.update_client.specs.Sends.{AnswersBy, GoneBy, IsEarlySend, Sends, SendEndsBy, ended_session, send_answer}
 use Rattle.update_client.specs.Partial.{GoesAs, SendsOver, WasBegun, over_answer}
-use Rattle.base_core.specs.Block.{block_bytes}
-use Rattle.agent_calls.specs.Takes.{Takes as TakesWrites}
+use Rattle.agent_calls.specs.{Takes.Takes as TakesWrites, declared.agent.Agent.Agent}
 use Rattle.update_client.specs.Takes.{OnRefusedEnd, OnUnread, DoneSendTakes as TakesSent, SendTakesBy, UnreadTakes}
-use Rattle.agent_calls.specs.declared.agent.Agent.{Agent}
 use Rattle.agent_calls.specs.Shown.{device, fields, gone, moment}
-use Rattle.flash_core.specs.Calls.{Goes}
 use Rattle.fwu_journal.specs.Shown.{turn}
-use Rattle.script_turns.specs.declared.turned.AgentTurn.{AgentTurn}
-use Rattle.script_turns.proofs.Fitting.{shows-here}
-use Rattle.script_turns.specs.Calls.{is_composed, moment_where}
-use Rattle.script_turns.specs.Stage.{on_where}
+use Rattle.flash_core.proofs.Unarmed.{unarmed_none}
+use Rattle.script_turns.specs.{declared.turned.AgentTurn.AgentTurn, Calls.is_composed, Calls.moment_where, Stage.on_where}
+use Rattle.script_turns.specs.{Replies.Replies, Replies.power_after, Turning.Makes, Turning.Turns, Turning.quiet_turn}
 use Rattle.script_turns.specs.Powered.{TurnMoment, at, kept_at, IsAt, IsSafe, ShowsAt}
-use Rattle.script_turns.specs.Replies.{Replies, power_after}
 use Rattle.script_turns.specs.Sending.{AnswersSend, IsTableOf, LacksSent, SendSays, SendsAs, SpendsSent, TellsBegun, done_reply, is_answered, on_sent, send_call, sent_reply, writes_partly, writes_whole}
 use Rattle.script_turns.specs.Takes.{AreSent, SendTakes, StaysFree, TakesOn, stop_told, unread_told, writes_before}
-use Rattle.script_turns.specs.Turning.{Makes, Turns, quiet_turn}
-use Rattle.script_turns.proofs.CallTakes.{with}
-use Rattle.script_turns.proofs.Shows.{as-told, counts_none, shows-as, told-shows}
-use Rattle.script_turns.proofs.Staying.{among, falls-same, no-stop, safe-by, same-guards}
-use Rattle.script_turns.proofs.Touching.{touches-sent}
-use Rattle.flash_core.proofs.Unarmed.{unarmed_none}
+use Rattle.script_turns.proofs.Staying.{shows-here, as-told, counts_none, shows-as, told-shows, among, falls-same, no-stop, safe-by, same-guards}
+use Rattle.script_turns.proofs.{CallTakes.with, Touching.touches-sent}
+use denote.Struct.Props.{props}
 
 -- ---- the call
 

@@ -1,19 +1,39 @@
--- What stays the same, as several kinds of turns say it.
-use Rattle.std.proofs.Common.{◌≡◌, ◌≢◌, Contains, ℕ, ◌==◌, Bool, List, [], ◌∷◌, None, Ok, Err, Result, refl, sym, ap, subst, arith, IsTrue, IsFalse}
-use Rattle.std.specs.Prelude.{MatchBool, IsSome, IsNone, is_ok}
-use Rattle.std.specs.List.{list_any}
-use Rattle.flash_core.specs.declared.flash.Counts.{Counts}
-use Rattle.flash_core.specs.declared.flash.FlashStop.{FlashStop}
-use Rattle.flash_core.specs.Told.{Told}
-use Rattle.flash_core.specs.May.{Guards}
-use Rattle.fwu_model.specs.State.{State, Numbers}
-use Rattle.fwu_model.specs.Call.{Call}
-use Rattle.fwu_model.specs.Reply.{Reply}
-use Rattle.fwu_model.specs.Run.{is_boot, is_stop}
+-- What stays the same, as several kinds of turns say it, and which machine an agent shows and fits.
+use Rattle.std.proofs.Common.{Bool, true, ℕ, sym, subst, IsTrue, ◌≡◌, ◌≢◌, Contains, ◌==◌, List, ◌∷◌, None, Ok, Err, Result, refl, ap, arith, IsFalse, false}
+use Rattle.flash_core.specs.{Told.Told, declared.flash.Counts.Counts, declared.flash.FlashStop.FlashStop, May.Guards}
+use Rattle.flash_core.specs.declared.flash.Flash.{Ghosts}
+use Rattle.fwu_model.specs.{State.State, State.Numbers, Session.Session, Call.Call, Reply.Reply, Run.is_boot, Run.is_stop}
 use Rattle.fwu_model.specs.Calm.{IsAtRest}
-use Rattle.moves.specs.Moved.{GuardedBy}
-use Rattle.script_turns.specs.Powered.{IsSafe}
-use Rattle.script_turns.specs.Turning.{NoneFalls}
+use Rattle.agent_machine.specs.{Fields.Fields, Moment.Showing, Moment.Shows}
+use Rattle.agent_machine.specs.Moment as agent
+use Rattle.std.specs.Prelude.{MatchBool, IsSome, IsNone, is_ok, [], Option, Some, is_some}
+use Rattle.std.specs.List.{list_any}
+use Rattle.moves.specs.Moved.{GuardedBy, IsShown}
+use Rattle.std.proofs.lemmas.Option.{same_Some}
+use Rattle.agent_calls.specs.Shown as of_agent
+use Rattle.agent_calls.specs.declared.agent.Agent.{Agent}
+use Rattle.agent_machine.proofs.{Known.known-shown, Showing.shows-some}
+use Rattle.script_turns.specs.Powered.{ShowsAt, kept_at, FitsMachine, IsHeld, IsSeen, moment_in, moment_of, the, IsSafe}
+use Rattle.script_turns.specs.{Turning.NoneFalls, Stage.on_where, declared.powered.Powered.Powered, declared.stage.Stage.Stage}
+use Rattle.script_turns.specs.declared.stage.Stage.TheVariants as stage
+
+-- ---- which machine an agent shows, whatever its device counts
+
+-- a device that counts nothing
+pub counts_none : ℕ → ℕ
+counts_none b = 0
+
+module _ (tells : Bool) (f : Fields) (t : Told) (s : State) (x : Session) where
+  pub shows-as : (w : ℕ → ℕ) → agent.Shows (kept_at tells f t w) s x → ShowsAt tells f t s x
+  shows-as w shows v = record { told = shows.told; speaks = shows.speaks; staged = shows.staged; kept = shows.kept; means = shows.means }
+
+  pub told-shows : (w : ℕ → ℕ) → IsTrue tells → ShowsAt true f t s x → agent.Shows (kept_at tells f t w) s x
+  told-shows w test shows = subst (λ (b : Bool). agent.Shows (kept_at b f t w) s x) (sym test) (shows w)
+
+  pub as-told : IsTrue tells → ShowsAt tells f t s x → ShowsAt true f t s x
+  as-told test shows w = subst (λ (b : Bool). agent.Shows (kept_at b f t w) s x) test (shows w)
+
+-- ---- what stays the same, as several kinds of turns say it
 
 pub falls-same : (c : Counts) → NoneFalls c c
 falls-same c = record { faults = omega arith; cuts = omega arith; reached = omega arith; chances = omega arith }
@@ -37,3 +57,38 @@ no-numbers c never = subst (λ (b : Bool). MatchBool b (IsSome {T = Numbers} Non
 
 pub no-stop : (r other : Reply) → IsFalse (is_stop r) → IsTrue (is_stop other) → r ≢ other
 no-stop r other none is same = let e = ap is_stop same in cc
+
+-- ---- an agent that is there fits a machine
+
+-- an agent that isn't gone shows some machine
+pub shows-here : {D : Type 0} {F : Ghosts D} (a : Agent D F) → IsFalse (of_agent.gone a) → ∥ Showing (of_agent.moment a) ∥₁
+shows-here {F = F} a here = shows-some (of_agent.fields a) (a.fitting here) F.tells (F.told a.flash) {writes = F.writes a.flash} (a.knows here) (a.some here)
+
+-- on a device that tells its content, the flash shows what an agent shows that isn't gone
+pub seen-here : {D : Type 0} {F : Ghosts D} (a : Agent D F) → IsFalse (of_agent.gone a) → IsTrue F.tells → (s : State) (x : Session) → Shows (of_agent.moment a) s x
+    → IsShown (of_agent.fields a).layout (F.told (of_agent.device a)).now s
+seen-here {F = F} a here tells s x shows =
+    let t = F.told a.flash in
+    subst (λ (y : State). IsShown a.layout t.now y) (sym (shows.told tells).0) (known-shown (of_agent.fields a) t (a.knows here tells))
+
+fits-where : (tells here : Bool) (f : Fields) (t : Told) (w : ℕ → ℕ) → (IsTrue here → ∥ Showing (kept_at tells f t w) ∥₁) → (IsTrue here → IsSeen tells f t) → (IsTrue here → IsHeld tells f t)
+    → (g : Fields) → on_where here f ≡ Some g → ∥ Showing (kept_at tells g t w) ∥₁ × IsSeen tells g t × IsHeld tells g t
+fits-where tells true f t w shows seen held g e =
+    subst (λ (x : Fields). ∥ Showing (kept_at tells x t w) ∥₁ × IsSeen tells x t × IsHeld tells x t) (same_Some _ _ e)
+    (shows refl, seen refl, held refl)
+fits-where tells false f t w shows seen held g e = absurd cc
+
+pub fits-stage : {D : Type 0} {F : Ghosts D} (s : Stage D F) → FitsMachine F.tells (moment_in s)
+fits-stage (stage.Off flash) = λ f e. absurd cc
+fits-stage (stage.Fresh fresh) = λ f e. absurd cc
+fits-stage {F = F} (stage.On live) = λ f e.
+    let w = F.writes (of_agent.device live.agent) in
+    fits-where F.tells live.here (of_agent.fields live.agent) (F.told (of_agent.device live.agent)) w live.shows (λ here told s x shows. live.seen here told s x (shows w)) (λ here told. (live.agent.knows (live.not_gone here) told).both) f e
+
+pub fitting : {D : Type 0} {F : Ghosts D} (p : Powered D F) → FitsMachine F.tells (moment_of p)
+fitting p = fits-stage (the p.inside p.there)
+
+-- a flash by the stage that it has inside
+pub the-is : {T : Type 0} (o : Option T) (there : IsTrue (is_some o)) (x : T) → o ≡ Some x → the o there ≡ x
+the-is (Some y) there x is = same_Some _ _ is
+the-is None there x is = absurd cc

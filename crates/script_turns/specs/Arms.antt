@@ -1,7 +1,6 @@
 -- A loss of power that is armed.
 use Rattle.std.specs.Prelude.{◌≡◌, ℕ, ◌+◌, ◌≤◌, min, Bool, Some, IsTrue}
-use Rattle.flash_core.specs.declared.flash.Counts.{Counts}
-use Rattle.flash_core.specs.Counts.{all_stops}
+use Rattle.flash_core.specs.{declared.flash.Counts.Counts, Counts.all_stops}
 use Rattle.fwu_model.specs.Causes.{greatest}
 use Rattle.script_turns.specs.Powered.{TurnMoment}
 

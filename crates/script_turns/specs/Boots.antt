@@ -1,18 +1,47 @@
--- What a boot does, by how it ended.
-use Rattle.std.specs.Prelude.{◌≡◌, ◌⊎◌, Bool, List, ℕ, Option, Some, None, IsTrue}
-use Rattle.flash_core.specs.Counts.{Rose, Idles}
-use Rattle.flash_core.specs.Told.{fresh}
-use Rattle.flash_core.specs.May.{Leaves, NoChance}
-use Rattle.fwu_model.specs.Reply.{Reply, Turn}
-use Rattle.fwu_model.specs.State.{Numbers}
-use Rattle.fwu_model.specs.Reply as reply
+-- What a boot's reply says of the bytes of a flash, sound or not, and what a boot does.
+use Rattle.std.specs.Prelude.{◌≡◌, ℕ, Bool, List, Some, None, ⊤, Ok, Err, ◌⊎◌, Option, IsTrue}
+use Rattle.fwu_model.specs.{declared.kinds.NoBoot.NoBoot, State.State, State.Numbers, Answer.booted_package, Reply.Reply}
+use Rattle.fwu_model.specs.Reply.{Turn}
 use Rattle.fwu_model.specs.declared.kinds.NoBoot.TheVariants as no_boot
+use Rattle.fwu_formats.specs.{Layout.Layout, Manifest.version, Image.layout_seen, Image.deciding}
+use Rattle.fwu_model.specs.Reply as reply
+use Rattle.early_boot.specs.EndsBy.{Chose, BootEnds, IdleEnd, StartedBy, StartsPermitted, TakesBoot, TakesByBytes, TouchesBoot}
+use Rattle.flash_core.specs.{Counts.Rose, Counts.Idles, Told.fresh, May.Leaves, May.NoChance}
 use Rattle.agent_machine.specs.Fields.{Fields}
 use Rattle.agent_calls.specs.Started.{StartsFrom}
 use Rattle.early_boot.specs.Started.{started_reply}
 use Rattle.early_boot.specs.Ends.{Ended, booted, bad_layout, no_metadata, no_bank, lost, failed}
-use Rattle.early_boot.specs.EndsBy.{BootEnds, IdleEnd, StartedBy, StartsPermitted, TakesBoot, TakesByBytes, TouchesBoot}
 use Rattle.script_turns.specs.Powered.{TurnMoment, SameDevice}
+
+-- this bank is chosen, and the version is that of the package that it holds
+pub record ChoseBank (passes : List ℕ → Bool) (image : List ℕ) (bank v : ℕ) : Type 0 where
+  pub layout : Layout
+  pub state : State
+  pub chose : Chose passes image layout state (Some bank)
+  pub version_is : v ≡ version (booted_package state bank)
+
+-- none is chosen
+pub record ChoseNone (passes : List ℕ → Bool) (image : List ℕ) (active previous : ℕ) : Type 0 where
+  pub layout : Layout
+  pub state : State
+  pub chose : Chose passes image layout state None
+  pub active_is : active ≡ state.active
+  pub previous_is : previous ≡ state.previous
+
+abbrev pub IsRefusedBy : (List ℕ → Bool) → List ℕ → NoBoot → Type 0
+IsRefusedBy passes image (no_boot.Layout f) = layout_seen image ≡ Err f
+IsRefusedBy passes image no_boot.Metadata = (L : Layout) × (layout_seen image ≡ Ok L) × (deciding L image ≡ None)
+IsRefusedBy passes image (no_boot.Bank active previous) = ChoseNone passes image active previous
+
+-- by the layout, the metadata that decides, and the choice; a stop says nothing of them, and a boot has no other reply
+abbrev pub BootsFrom : (List ℕ → Bool) → List ℕ → Reply → Type 0
+BootsFrom passes image (reply.Booted bank v trials counter fallback) = ChoseBank passes image bank v
+BootsFrom passes image (reply.NotBooted why) = IsRefusedBy passes image why
+BootsFrom passes image reply.Lost = ⊤
+BootsFrom passes image reply.Fault = ⊤
+BootsFrom passes image other = ⊥
+
+-- ---- what a boot does, by how it ended
 
 abbrev pub reply_of_end : Ended → Reply
 reply_of_end (booted b n) = started_reply b
@@ -25,21 +54,15 @@ reply_of_end (failed n) = reply.Fault
 -- the numbers that the flash held as the boot began, where the boot tells them
 abbrev pub numbers_of_end : Ended → Option Numbers
 numbers_of_end (booted b n) = Some n
-numbers_of_end (bad_layout f) = None
-numbers_of_end no_metadata = None
-numbers_of_end (no_bank active previous) = None
 numbers_of_end (lost n) = n
 numbers_of_end (failed n) = n
+numbers_of_end other = None
 
 -- what the agent keeps afterwards: what it started from, where a bank was booted
 abbrev pub IsOnAfter : Ended → Option Fields → Type 0
 IsOnAfter (booted b n) (Some f) = StartsFrom b f
 IsOnAfter (booted b n) None = ⊥
-IsOnAfter (bad_layout f) on = on ≡ None
-IsOnAfter no_metadata on = on ≡ None
-IsOnAfter (no_bank active previous) on = on ≡ None
-IsOnAfter (lost n) on = on ≡ None
-IsOnAfter (failed n) on = on ≡ None
+IsOnAfter other on = on ≡ None
 
 -- ---- a flash that is to boot has power
 

@@ -1,45 +1,29 @@
 -- The turn of a call of the agent, by what the call gave.
-use Rattle.std.specs.Prelude.{ℕ, Bool, true, false, List, Option, Some, None, Result, Ok, Err}
+use Rattle.std.specs.Prelude.{ℕ, Bool, true, false, List, Option, Result, Ok, Err, ◌||◌}
 use Rattle.flash_core.specs.declared.flash.Flash.{Ghosts}
-use Rattle.fwu_model.specs.declared.kinds.Op.{Op}
+use Rattle.fwu_model.specs.{declared.kinds.Op.Op, Call.Call, Reply.Reply, Run.is_send}
 use Rattle.fwu_model.specs.declared.kinds.Op.TheVariants as op
-use Rattle.fwu_model.specs.Call.{Call}
 use Rattle.fwu_model.specs.Call as call
-use Rattle.fwu_model.specs.Reply.{Reply}
 use Rattle.fwu_model.specs.Reply as reply
-use Rattle.agent_machine.specs.declared.stop.Stop.{Stop}
+use Rattle.agent_machine.specs.{declared.stop.Stop.Stop, Fields.Fields}
 use Rattle.agent_machine.specs.declared.stop.Stop.TheVariants as stop
-use Rattle.agent_machine.specs.Fields.{Fields}
-use Rattle.agent_calls.specs.declared.agent.Agent.{Agent}
-use Rattle.agent_calls.specs.Shown.{device, fields}
-use Rattle.script_turns.specs.Stage.{on_where}
-use Rattle.script_turns.specs.Powered.{TurnMoment, moment_on}
+use Rattle.agent_calls.specs.{declared.agent.Agent.Agent, Shown.device, Shown.fields}
+use Rattle.script_turns.specs.{Stage.on_where, Powered.TurnMoment, Powered.moment_on}
 
 -- the call of an open
 abbrev pub open_call : List ℕ → Op → Call
 open_call guid op.Read = call.OpenRead guid
 open_call guid op.Write = call.OpenWrite guid
 
--- the calls of the agent
+-- the calls of the agent: all but these
 abbrev pub is_agents : Call → Bool
-is_agents call.Discover = true
-is_agents (call.Begin n) = true
-is_agents (call.BeginPartial types) = true
-is_agents (call.OpenRead guid) = true
-is_agents (call.OpenWrite guid) = true
-is_agents (call.Write handle bytes) = true
-is_agents (call.Read handle room) = true
-is_agents (call.Commit handle request) = true
-is_agents call.End = true
-is_agents call.Cancel = true
-is_agents (call.Accepts guid) = true
-is_agents call.Previous = true
 is_agents (call.Send name request) = false
 is_agents (call.SendPartial name request) = false
 is_agents call.Boot = false
 is_agents (call.Cut n k) = false
 is_agents call.Show = false
 is_agents call.NoCall = false
+is_agents other = true
 
 -- the calls that do several of the agent's moves in a row: a partial begin, which copies images, and the sendings
 abbrev pub is_composed : Call → Bool
@@ -63,18 +47,18 @@ reply_by says (Err why) = stop_reply why
 abbrev pub is_there : {T : Type 0} → Result T Stop → Bool
 is_there (Ok value) = true
 is_there (Err (stop.Status st)) = true
-is_there (Err stop.Lost) = false
-is_there (Err stop.Fault) = false
-is_there (Err stop.Gone) = false
+is_there (Err other) = false
 
 -- what the agent keeps, where it is there afterwards
 abbrev pub on_by : {T : Type 0} → Result T Stop → Fields → Option Fields
-on_by (Ok value) f = Some f
-on_by (Err (stop.Status st)) f = Some f
-on_by (Err stop.Lost) f = None
-on_by (Err stop.Fault) f = None
-on_by (Err stop.Gone) f = None
+on_by result f = on_where (is_there result) f
 
 -- the flash of an agent that is there, or is not
 abbrev pub moment_where : {D : Type 0} {F : Ghosts D} → Bool → Agent D F → TurnMoment
 moment_where {F = F} here a = moment_on F (on_where here (fields a)) (device a)
+
+-- ---- the calls for which a bank must have been started
+
+-- those of the agent, and a sending
+abbrev pub needs_bank : Call → Bool
+needs_bank c = is_agents c || is_send c

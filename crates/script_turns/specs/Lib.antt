@@ -1,6 +1,5 @@
 pub mod Stage
 pub mod Powered
-pub mod Booted
 pub mod Arms
 pub mod Boots
 pub mod Replies
@@ -8,9 +7,7 @@ pub mod Tables
 pub mod Sending
 pub mod Takes
 pub mod Touches
-pub mod Deciding
 pub mod Turning
 pub mod Turned
 pub mod Calls
-pub mod Needs
 pub mod Runs

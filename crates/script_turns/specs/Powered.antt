@@ -1,23 +1,14 @@
 -- The flash of a run between two turns, as the definitions have it.
-use Rattle.std.specs.Prelude.{◌≡◌, ℕ, Bool, true, false, [], ◌∷◌, Option, Some, None, IsTrue, is_some}
+use Rattle.std.specs.Prelude.{◌≡◌, ℕ, Bool, true, false, ◌∷◌, Option, Some, None, IsTrue, is_some, []}
 use Rattle.std.proofs.lemmas.Bool.{false≢true}
-use Rattle.flash_core.specs.declared.flash.Arming.{Arming}
-use Rattle.flash_core.specs.declared.flash.Flash.{Ghosts}
-use Rattle.flash_core.specs.declared.flash.Counts.{Counts}
-use Rattle.flash_core.specs.Told.{Told}
+use Rattle.flash_core.specs.{declared.flash.Arming.Arming, declared.flash.Flash.Ghosts, declared.flash.Counts.Counts, Told.Told}
 use Rattle.flash_core.specs.May.{Guards}
-use Rattle.fwu_model.specs.State.{State, Numbers}
-use Rattle.fwu_model.specs.Sound.{Setting}
-use Rattle.fwu_model.specs.Session.{Session, Off}
-use Rattle.fwu_model.specs.Run.{Condition}
-use Rattle.fwu_model.specs.Headline.{LeavesOneOf}
-use Rattle.fwu_model.specs.Calm.{IsGuarded, IsAtRest}
-use Rattle.fwu_model.specs.Replica.{BothHold}
+use Rattle.fwu_model.specs.{State.State, State.Numbers, Sound.Setting, Session.Session, Session.Off, Run.Condition}
+use Rattle.fwu_model.specs.{Headline.LeavesOneOf, Calm.IsGuarded, Calm.IsAtRest, Replica.BothHold}
 use Rattle.moves.specs.Moved.{IsReady, IsShown}
 use Rattle.agent_machine.specs.Fields.{Fields}
 use Rattle.agent_machine.specs.Moment as agent
-use Rattle.script_turns.specs.declared.powered.Powered.{Powered}
-use Rattle.script_turns.specs.declared.stage.Stage.{Stage}
+use Rattle.script_turns.specs.{declared.powered.Powered.Powered, declared.stage.Stage.Stage}
 use Rattle.script_turns.specs.Stage as stage
 
 -- what an option has that has something

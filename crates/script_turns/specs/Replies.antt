@@ -1,24 +1,17 @@
 -- Which reply a turn has, on any device, and what the agent keeps afterwards.
-use Rattle.std.specs.Prelude.{◌≡◌, ◌<◌, ℕ, Bool, true, false, not, ◌==◌, List, length, Option, Some, None, IsTrue, ⊤, slice_index_or}
-use Rattle.fwu_model.specs.State.{State, after}
-use Rattle.fwu_model.specs.Sound.{Setting}
-use Rattle.fwu_model.specs.Session.{Session, no_handles}
-use Rattle.fwu_model.specs.Answer.{are_named, image_held}
-use Rattle.fwu_model.specs.Call.{Call}
+use Rattle.std.specs.Prelude.{◌≡◌, ◌<◌, ℕ, Bool, true, false, not, ◌==◌, List, length, Option, Some, None, IsTrue, ⊤}
+use Rattle.std.specs.Prelude.{slice_index_or}
+use Rattle.fwu_model.specs.{State.State, State.after, Sound.Setting, Session.Session, Session.no_handles, Answer.are_named}
+use Rattle.fwu_model.specs.{Answer.image_held, Call.Call, Reply.Reply, Reply.Turn}
 use Rattle.fwu_model.specs.Call as call
-use Rattle.fwu_model.specs.Reply.{Reply, Turn}
 use Rattle.fwu_model.specs.Reply as reply
 use Rattle.host_io.specs.Contents.{Directory}
 use Rattle.agent_kept.specs.Kept.{HasNothing, handles_meant}
-use Rattle.agent_machine.specs.Fields.{Fields, total_of}
-use Rattle.agent_machine.specs.Meets.{IsSettingOf, Stays}
+use Rattle.agent_machine.specs.{Fields.Fields, Fields.total_of, Meets.IsSettingOf, Meets.Stays}
 use Rattle.agent_machine.specs.Moment as agent
-use Rattle.agent_calls.specs.Partly.{begins_over}
-use Rattle.agent_calls.specs.AnswersCall.{AnswersCall}
+use Rattle.agent_calls.specs.{Partly.begins_over, AnswersCall.AnswersCall}
 use Rattle.script_turns.specs.Powered.{TurnMoment, kept_at, numbers_kept}
-use Rattle.script_turns.specs.Arms.{Arms}
-use Rattle.script_turns.specs.Boots.{BootsAs}
-use Rattle.script_turns.specs.Sending.{SendSays}
+use Rattle.script_turns.specs.{Arms.Arms, Boots.BootsAs, Sending.SendSays}
 
 -- what `show` answers, by what the agent keeps where the flash is on
 abbrev pub show_reply : Option Fields → Reply

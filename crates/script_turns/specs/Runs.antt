@@ -1,31 +1,20 @@
 -- What a run of turns did so far.
 use Rattle.std.specs.List.{list_all}
-use Rattle.std.specs.Prelude.{not, ◌≡◌, ◌⊎◌, ℕ, ◌+◌, ◌*◌, ◌%◌, ◌≤◌, Bool, List, [], ◌∷◌, length, map, sum_by, count_by, Option, Some, None, IsTrue}
-use Rattle.std.specs.Prelude.{Contains, slice_get}
+use Rattle.std.specs.Prelude.{not, ◌≡◌, ◌⊎◌, ℕ, ◌+◌, ◌*◌, ◌%◌, ◌≤◌, Bool, List, ◌∷◌, length, map, sum_by, count_by, Option, Some}
+use Rattle.std.specs.Prelude.{None, IsTrue, Contains, slice_get, []}
 use Rattle.base_core.specs.Block.{block_bytes}
-use Rattle.flash_core.specs.declared.flash.Arming.{Arming}
+use Rattle.flash_core.specs.{declared.flash.Arming.Arming, Told.NothingDirty, May.Guards}
 use Rattle.flash_core.specs.Counts.{Rose, all_stops, stops_in}
-use Rattle.flash_core.specs.Told.{NothingDirty}
-use Rattle.flash_core.specs.May.{Guards}
 use Rattle.host_io.specs.Contents.{Directory}
 use Rattle.fwu_formats.specs.Places.{counter_block, layout_block}
-use Rattle.fwu_model.specs.State.{State}
-use Rattle.fwu_model.specs.Sound.{Setting}
-use Rattle.fwu_model.specs.Seen.{seen, SoundFlash}
-use Rattle.fwu_model.specs.Call.{Call}
+use Rattle.fwu_model.specs.{State.State, Sound.Setting, Seen.seen, Seen.SoundFlash, Call.Call, Reply.Turn, Run.Condition, Run.Runs}
+use Rattle.fwu_model.specs.{Run.ends_run, Run.is_boot, Run.is_send, Headline.ArmedBy, Headline.made_after, Causes.FileNotRead}
+use Rattle.fwu_model.specs.Causes.{LossesAreCounted, cuts_in, greatest, losses_in}
 use Rattle.fwu_model.specs.Call as call
-use Rattle.fwu_model.specs.Reply.{Turn}
 use Rattle.fwu_model.specs.Reply as reply
-use Rattle.fwu_model.specs.Run.{Condition, Runs, ends_run, is_boot, is_send}
-use Rattle.fwu_model.specs.Headline.{ArmedBy, made_after}
-use Rattle.fwu_model.specs.Causes.{FileNotRead, LossesAreCounted, cuts_in, greatest, losses_in}
-use Rattle.agent_machine.specs.Beside.{IsBesideBank}
-use Rattle.agent_machine.specs.Fields.{Fields}
+use Rattle.agent_machine.specs.{Beside.IsBesideBank, Fields.Fields}
 use Rattle.script_turns.specs.Powered.{FitsMachine, TurnMoment, IsAt, IsSafe}
-use Rattle.script_turns.specs.Booted.{BootsFrom}
-use Rattle.script_turns.specs.Replies.{power_after}
-use Rattle.script_turns.specs.Takes.{stop_told}
-use Rattle.script_turns.specs.Turning.{NoneFalls, Turns}
+use Rattle.script_turns.specs.{Boots.BootsFrom, Replies.power_after, Takes.stop_told, Turning.NoneFalls, Turning.Turns}
 
 abbrev pub calls_of : List Turn → List Call
 calls_of journal = map (λ (t : Turn). t.call) journal
@@ -116,10 +105,8 @@ pub record Ran (passes : List ℕ → Bool) (tells : Bool) (files : Option Direc
   pub free : old.armed ≡ None → cuts_in journal ≡ 0 → RunsFree journal old new
   pub lost_turns : LossesAreCounted journal old.counts new.counts
   pub due : LossesAreDue journal old new
-  pub fault_turns : (t : Turn) → Contains journal t → t.reply ≡ reply.Fault
-      → Rose old.counts.faults new.counts.faults
-  pub unread_turns : (t : Turn) → Contains journal t → t.reply ≡ reply.ReadFault
-      → FileNotRead files from to t.call
+  pub fault_turns : (t : Turn) → Contains journal t → t.reply ≡ reply.Fault → Rose old.counts.faults new.counts.faults
+  pub unread_turns : (t : Turn) → Contains journal t → t.reply ≡ reply.ReadFault → FileNotRead files from to t.call
   pub later : from ≤ to
   -- on any device: which blocks were erased or programmed
   pub touches : RunTouches journal old new
@@ -128,10 +115,8 @@ pub record Ran (passes : List ℕ → Bool) (tells : Bool) (files : Option Direc
   pub power : new.power ≡ power_left old.power journal
   pub guard : IsTrue tells → new.told.guard ≡ old.told.guard
   -- a turn that ends the run is the last
-  pub ends : (n : ℕ) (t : Turn) → slice_get journal n ≡ Some t → IsTrue (ends_run t.reply)
-      → n + 1 ≡ length journal
-  pub run : IsTrue tells → (E : Setting) (start : State) → StartsSound E start passes old
-      → files ≡ Some E.files
+  pub ends : (n : ℕ) (t : Turn) → slice_get journal n ≡ Some t → IsTrue (ends_run t.reply) → n + 1 ≡ length journal
+  pub run : IsTrue tells → (E : Setting) (start : State) → StartsSound E start passes old → files ≡ Some E.files
       → (Rose old.counts.chances new.counts.chances → ⊥) → RunsTo E start journal old new
   pub safe : IsTrue tells → NothingDirty old.told → Guards 1 7 old.told → IsSafe new.power new.told
   -- until the first turn nothing is done, and where it is a boot it goes by the bytes

@@ -1,33 +1,25 @@
 -- What a turn of `send` says, whole or partial, on any device and of any file.
-use Rattle.std.specs.Prelude.{◌≡◌, ◌≢◌, ◌<◌, ℕ, ◌+◌, Bool, true, false, List, length, Option, Some, None, Result, Ok, Err, IsTrue, ⊤, slice_index_or}
+use Rattle.std.specs.Prelude.{◌≡◌, ◌≢◌, ◌<◌, ℕ, ◌+◌, Bool, true, false, List, length, Option, Some, None, Result, Ok, Err, IsTrue}
+use Rattle.std.specs.Prelude.{⊤, slice_index_or}
 use Rattle.base_core.specs.Block.{block_bytes}
 use Rattle.flash_core.specs.declared.flash.Arming.{Arming}
-use Rattle.host_io.specs.Access.{Access, Asks}
-use Rattle.host_io.specs.Contents.{Directory}
+use Rattle.host_io.specs.{Access.Access, Access.Asks, Contents.Directory}
 use Rattle.fwu_formats.specs.Package.{Toc}
-use Rattle.fwu_model.specs.State.{State, after}
-use Rattle.fwu_model.specs.Sound.{Setting}
-use Rattle.fwu_model.specs.Session.{Session}
-use Rattle.fwu_model.specs.Call.{Call}
+use Rattle.fwu_model.specs.{State.State, State.after, Sound.Setting, Session.Session, Call.Call, Reply.Reply}
 use Rattle.fwu_model.specs.Call as call
-use Rattle.fwu_model.specs.Reply.{Reply}
 use Rattle.fwu_model.specs.Reply as reply
 use Rattle.fwu_model.specs.Answer.{has_image, image_held, images_of, images_over, table_in}
 use Rattle.fip_tables.specs.Files.{Lacks, Tells}
-use Rattle.agent_machine.specs.Fields.{Fields}
+use Rattle.agent_machine.specs.{Fields.Fields, Meets.Stays}
 use Rattle.agent_machine.specs.Moment as agent
-use Rattle.agent_machine.specs.Meets.{Stays}
 use Rattle.agent_calls.specs.Takes.{Takes as TakesWrites, writes_to_begin}
-use Rattle.update_client.specs.declared.stops.Sent.{Sent}
-use Rattle.update_client.specs.declared.stops.SendStop.{SendStop}
-use Rattle.update_client.specs.declared.stops.SendStop.TheVariants.{MissingImage, ImageTooLarge, Begin, End, ReadFailed, Lost, Fault, Gone}
-use Rattle.update_client.specs.Choosing.{no_row}
-use Rattle.update_client.specs.Sends.{send_answer}
+use Rattle.update_client.specs.{declared.stops.Sent.Sent, declared.stops.SendStop.SendStop, Choosing.no_row, Sends.send_answer}
+use Rattle.update_client.specs.declared.stops.SendStop.TheVariants.{MissingImage, ImageTooLarge, Begin, End, ReadFailed, Lost}
+use Rattle.update_client.specs.declared.stops.SendStop.TheVariants.{Fault, Gone}
 use Rattle.update_client.specs.Takes.{DoneSendTakes as TakesSent, writes_sent}
 use Rattle.update_client.specs.Partial.{AreWhole, over_answer, writes_over}
 use Rattle.script_turns.specs.declared.tables.TableStop.TheVariants as table_stop
-use Rattle.script_turns.specs.Tables.{IsOfTable}
-use Rattle.script_turns.specs.Powered.{TurnMoment, kept_at}
+use Rattle.script_turns.specs.{Tables.IsOfTable, Powered.TurnMoment, Powered.kept_at, Stage.on_where}
 
 -- a sending of all images, or one over those of the active bank
 abbrev pub send_call : Bool → List ℕ → ℕ → Call
@@ -165,26 +157,14 @@ sent_reply partial (Err Lost) = reply.Lost
 sent_reply partial (Err Fault) = reply.Fault
 sent_reply partial (Err Gone) = reply.IsOff
 
--- what the agent keeps, where it is there afterwards
-abbrev pub on_sent : Result Sent SendStop → Fields → Option Fields
-on_sent (Ok sent) f = Some f
-on_sent (Err (MissingImage guid)) f = Some f
-on_sent (Err (ImageTooLarge guid)) f = Some f
-on_sent (Err (Begin st)) f = Some f
-on_sent (Err (End st)) f = Some f
-on_sent (Err ReadFailed) f = None
-on_sent (Err Lost) f = None
-on_sent (Err Fault) f = None
-on_sent (Err Gone) f = None
-
 -- it was answered
 abbrev pub is_answered : Result Sent SendStop → Bool
-is_answered (Ok sent) = true
-is_answered (Err (MissingImage guid)) = true
-is_answered (Err (ImageTooLarge guid)) = true
-is_answered (Err (Begin st)) = true
-is_answered (Err (End st)) = true
 is_answered (Err ReadFailed) = false
 is_answered (Err Lost) = false
 is_answered (Err Fault) = false
 is_answered (Err Gone) = false
+is_answered other = true
+
+-- what the agent keeps, where it is there afterwards
+abbrev pub on_sent : Result Sent SendStop → Fields → Option Fields
+on_sent result f = on_where (is_answered result) f

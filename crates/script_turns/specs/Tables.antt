@@ -1,9 +1,7 @@
 -- The table that a file is sent by.
 use Rattle.std.specs.Prelude.{◌≡◌, ◌⊎◌, ◌+◌, ◌≤◌, ℕ, List, Option, Result, Ok, Err, IfOk}
 use Rattle.base_core.specs.Counts.{Rose}
-use Rattle.host_io.specs.Contents.{Directory}
-use Rattle.host_io.specs.Reads.{ReadsFile}
-use Rattle.host_io.specs.declared.files.Files.{Ghosts}
+use Rattle.host_io.specs.{Contents.Directory, Reads.ReadsFile, declared.files.Files.Ghosts}
 use Rattle.fwu_formats.specs.Package.{Toc}
 use Rattle.fwu_model.specs.Reply.{Reply}
 use Rattle.fwu_model.specs.Reply as reply

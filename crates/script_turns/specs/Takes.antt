@@ -7,25 +7,17 @@ use Rattle.flash_core.specs.declared.flash.FlashStop.TheVariants as flash_stop
 use Rattle.flash_core.specs.Counts.{ReachesNone, Rose, StaysUnarmed, arming_kept}
 use Rattle.base_core.specs.Block.{block_bytes}
 use Rattle.host_io.specs.Contents.{Directory}
-use Rattle.fwu_formats.specs.Layout.{ImageRow}
-use Rattle.fwu_formats.specs.Package.{Entry, Toc}
+use Rattle.fwu_formats.specs.{Layout.ImageRow, Package.Entry, Package.Toc}
 use Rattle.slot_writer.specs.Writes.{SpendsArming, writes_to_append, writes_to_finish}
 use Rattle.agent_kept.specs.Kept.{handle_kept, part_at, size_of}
 use Rattle.agent_kept.specs.declared.parts.Handle.TheVariants as handle
-use Rattle.agent_machine.specs.Fields.{Fields}
-use Rattle.agent_machine.specs.Ends.{IsWriter, TakesSwitch}
-use Rattle.agent_machine.specs.Stored.{TakesStore}
+use Rattle.agent_machine.specs.{Fields.Fields, Ends.IsWriter, Ends.TakesSwitch, Stored.TakesStore}
 use Rattle.agent_calls.specs.Takes.{Takes as TakesWrites, writes_to_begin, writes_to_copy}
-use Rattle.update_client.specs.Choosing.{AreChosen}
-use Rattle.update_client.specs.Takes.{UnreadTakes}
-use Rattle.update_client.specs.Partial.{present, writes_copied}
-use Rattle.fwu_model.specs.Answer.{are_named}
-use Rattle.fwu_model.specs.Call.{Call}
+use Rattle.update_client.specs.{Choosing.AreChosen, Takes.UnreadTakes, Partial.present, Partial.writes_copied}
+use Rattle.fwu_model.specs.{Answer.are_named, Call.Call, Reply.Reply}
 use Rattle.fwu_model.specs.Call as call
-use Rattle.fwu_model.specs.Reply.{Reply}
 use Rattle.fwu_model.specs.Reply as reply
-use Rattle.script_turns.specs.Powered.{TurnMoment, SameDevice}
-use Rattle.script_turns.specs.Sending.{IsTableOf}
+use Rattle.script_turns.specs.{Powered.TurnMoment, Powered.SameDevice, Sending.IsTableOf}
 
 -- how the flash's own calls tell of a turn with this reply
 abbrev pub stop_told : Reply → Result (Unit {0}) FlashStop
@@ -123,26 +115,21 @@ SendTakes partial files name f (reply.BeginRefused st) old new = SameDevice old 
 SendTakes partial files name f reply.ReadFault old new = SameDevice old new ⊎ StopTakes partial files name f old new
 SendTakes partial files name f other old new = ⊤
 
--- By what the agent kept. What a boot takes stands beside its end, in `BootsAs`.
+-- By what the agent kept: the calls that are not named did nothing. What a boot takes stands beside its end, in `BootsAs`.
 abbrev pub TakesOn : Option Directory → Call → Fields → TurnMoment → Reply → TurnMoment → Type 0
-TakesOn files call.Discover f old r new = SameDevice old new
 TakesOn files (call.Begin n) f old r new = BeginsBy r f old new
 TakesOn files (call.BeginPartial types) f old r new = BeginsOver r types f old new
-TakesOn files (call.OpenRead guid) f old r new = SameDevice old new
-TakesOn files (call.OpenWrite guid) f old r new = SameDevice old new
 TakesOn files (call.Write number bytes) f old r new = WritesBy r f number bytes old new
 TakesOn files (call.Read number room) f old r new = ReadTakes r old new
 TakesOn files (call.Commit number request) f old r new = CommitsBy r f number old new
 TakesOn files call.End f old r new = IsSwitchedBy r old new
-TakesOn files call.Cancel f old r new = SameDevice old new
 TakesOn files (call.Accepts guid) f old r new = AcceptsBy r f new.on old new
 TakesOn files call.Previous f old r new = IsStoredBy r f new.on old new
 TakesOn files (call.Send name request) f old r new = SendTakes false files name f r old new
 TakesOn files (call.SendPartial name request) f old r new = SendTakes true files name f r old new
 TakesOn files call.Boot f old r new = ⊤
 TakesOn files (call.Cut n k) f old r new = ⊤
-TakesOn files call.Show f old r new = SameDevice old new
-TakesOn files call.NoCall f old r new = SameDevice old new
+TakesOn files other f old r new = SameDevice old new
 
 -- no flash that is off is touched but by a boot and a `cut`
 abbrev pub TakesOff : Call → TurnMoment → Reply → TurnMoment → Type 0

@@ -1,13 +1,15 @@
--- Which blocks a turn erases or programs, on every device, whatever its reads give.
-use Rattle.std.specs.Prelude.{◌≡◌, ℕ, ◌*◌, Option, Some, None}
+-- Which blocks a turn erases or programs, on every device, whatever its reads give, and which metadata decides after it.
+use Rattle.std.specs.Prelude.{◌≡◌, ℕ, ◌*◌, Option, Some, None, ◌⊎◌}
 use Rattle.base_core.specs.Block.{block_bytes}
-use Rattle.flash_core.specs.Touches.{TouchesOnly}
-use Rattle.fwu_formats.specs.Places.{counter_block}
+use Rattle.flash_core.specs.{Touches.TouchesOnly, Told.Told}
+use Rattle.fwu_formats.specs.{Places.counter_block, Layout.find_image, Metadata.MetaRead}
 use Rattle.fwu_model.specs.Call.{Call}
 use Rattle.fwu_model.specs.Call as call
-use Rattle.agent_machine.specs.Beside.{SparesBlocks, SparesBlocksByAll}
-use Rattle.agent_machine.specs.Fields.{Fields}
+use Rattle.agent_machine.specs.{Beside.SparesBlocks, Beside.SparesBlocksByAll, Fields.Fields, Deciding.KeepsOldOrNew}
+use Rattle.agent_calls.specs.Metas.{meta_accepted, meta_back, meta_begun, meta_ended}
 use Rattle.script_turns.specs.Powered.{TurnMoment}
+
+-- ---- which blocks a turn erases or programs, on every device, whatever its reads give
 
 -- A boot: the replicas, in blocks 1 and 2, the marks of starts on trial, in block 3, and the records, in blocks 5 and 6. The
 -- counter's marks, in block 4, stay.
@@ -40,3 +42,22 @@ TouchesBy c (Some f) old new = TouchesOn c f old new
 
 abbrev pub Touches : Call → TurnMoment → TurnMoment → Type 0
 Touches c old new = TouchesBy c old.on old.writes new.writes
+
+-- ---- which metadata decides in what a loss leaves of a call of the agent
+
+-- the metadata that a call of the agent leaves is what the agent kept, or what the call makes of that
+abbrev pub IsMetaAfter : Call → Fields → MetaRead → Type 0
+IsMetaAfter (call.Begin n) f m = (m ≡ f.meta) ⊎ (m ≡ meta_begun f)
+IsMetaAfter (call.BeginPartial types) f m = (m ≡ f.meta) ⊎ (m ≡ meta_begun f)
+IsMetaAfter (call.Accepts guid) f m =
+    (m ≡ f.meta) ⊎ ((image : ℕ) × (find_image f.layout.rows guid ≡ Some image) × (m ≡ meta_accepted f image))
+IsMetaAfter call.End f m = (m ≡ f.meta) ⊎ (m ≡ meta_ended f)
+IsMetaAfter call.Previous f m = (m ≡ f.meta) ⊎ (m ≡ meta_back f)
+IsMetaAfter other f m = m ≡ f.meta
+
+-- Take a flash at rest whose replicas both hold what the agent kept. In each image that a loss leaves that metadata decides, or the
+-- one that the call makes of it.
+pub record DecidesAfter (c : Call) (f : Fields) (s t : Told) : Type 0 where
+  pub meta : MetaRead
+  pub is_after : IsMetaAfter c f meta
+  pub decides : KeepsOldOrNew f.layout f.meta meta s t

@@ -1,22 +1,15 @@
 -- What a turn does, and how it leaves the agent, the stage or the device that it is done on.
 use Rattle.std.specs.Prelude.{◌≡◌, ℕ, Bool, true, List, Option, None, IsTrue, IsFalse, is_some}
 use Rattle.flash_core.specs.declared.flash.Flash.{Ghosts}
-use Rattle.host_io.specs.Contents.{Directory}
-use Rattle.host_io.specs.Reads.{ReadsFiles}
+use Rattle.host_io.specs.{Contents.Directory, Reads.ReadsFiles}
 use Rattle.host_io.specs.declared.files.Files as files
-use Rattle.fwu_model.specs.Call.{Call}
-use Rattle.fwu_model.specs.Reply.{Turn}
-use Rattle.fwu_model.specs.Run.{ends_run, is_send}
+use Rattle.fwu_model.specs.{Call.Call, Reply.Turn, Run.ends_run, Run.is_send}
 use Rattle.fwu_journal.specs.Shown.{IsShortReply, turn}
 use Rattle.agent_calls.specs.declared.agent.Agent.{Agent}
 use Rattle.agent_calls.specs.Shown as of_agent
 use Rattle.early_boot.specs.Ends.{Ended}
-use Rattle.script_turns.specs.declared.stage.Stage.{Stage}
-use Rattle.script_turns.specs.declared.turned.AgentTurn.{AgentTurn}
-use Rattle.script_turns.specs.Calls.{moment_where}
-use Rattle.script_turns.specs.Powered.{TurnMoment, moment_in}
-use Rattle.script_turns.specs.Replies.{LeavesOn}
-use Rattle.script_turns.specs.Sending.{IsUnnamed}
+use Rattle.script_turns.specs.{declared.stage.Stage.Stage, declared.turned.AgentTurn.AgentTurn, Calls.moment_where}
+use Rattle.script_turns.specs.{Powered.TurnMoment, Powered.moment_in, Replies.LeavesOn, Sending.IsUnnamed}
 use Rattle.script_turns.specs.Stage.{device, has_power, shown_on}
 use Rattle.script_turns.specs.Turning.{IsOnAfter, ShowsStarted, Turns, reply_of_end}
 

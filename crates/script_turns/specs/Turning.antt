@@ -1,32 +1,19 @@
 -- What one turn of a run does.
 use Rattle.std.specs.Prelude.{◌≡◌, ◌⊎◌, ℕ, ◌+◌, ◌≤◌, min, Bool, List, Option, Some, None, IsSome, IsTrue, IsFalse, ⊤}
-use Rattle.flash_core.specs.Counts.{Rose, all_stops, stops_in}
-use Rattle.flash_core.specs.Told.{Told, NothingDirty}
+use Rattle.flash_core.specs.{Counts.Rose, Counts.all_stops, Counts.stops_in, Told.Told, Told.NothingDirty}
 use Rattle.host_io.specs.Contents.{Directory}
-use Rattle.fwu_model.specs.State.{State}
-use Rattle.fwu_model.specs.Sound.{Setting}
-use Rattle.fwu_model.specs.Call.{Call}
+use Rattle.fwu_model.specs.{State.State, Sound.Setting, Call.Call, Reply.Reply, Reply.Turn, Run.Condition, Run.Step, Run.is_boot}
+use Rattle.fwu_model.specs.{Run.is_send, Headline.IsCut, Causes.FileNotRead, Causes.greatest, Causes.is_cut}
 use Rattle.fwu_model.specs.Call as call
-use Rattle.fwu_model.specs.Reply.{Reply, Turn}
 use Rattle.fwu_model.specs.Reply as reply
-use Rattle.fwu_model.specs.Run.{Condition, Step, is_boot, is_send}
-use Rattle.fwu_model.specs.Headline.{IsCut}
-use Rattle.fwu_model.specs.Causes.{FileNotRead, greatest, is_cut}
 use Rattle.moves.specs.Moved.{IsShown}
-use Rattle.agent_machine.specs.Beside.{KeepsSpared, KeepsSparedByAll}
-use Rattle.agent_machine.specs.Fields.{Fields}
-use Rattle.early_boot.specs.Started.{started_session}
-use Rattle.early_boot.specs.Ends.{Ended, booted, bad_layout, no_metadata, no_bank, lost, failed}
-use Rattle.script_turns.specs.Powered.{TurnMoment, IsAt, IsSafe, ShowsAt}
-use Rattle.script_turns.specs.Booted.{BootsFrom}
-use Rattle.script_turns.specs.Calls.{is_agents, is_composed}
-use Rattle.script_turns.specs.Deciding.{DecidesAfter}
+use Rattle.agent_machine.specs.{Beside.KeepsSpared, Beside.KeepsSparedByAll, Fields.Fields}
+use Rattle.early_boot.specs.{Started.started_session, Ends.Ended, Ends.booted}
+use Rattle.script_turns.specs.{Powered.TurnMoment, Powered.IsAt, Powered.IsSafe, Powered.ShowsAt, Boots.BootsFrom, Calls.is_agents}
+use Rattle.script_turns.specs.{Calls.is_composed, Touches.DecidesAfter, Touches.Touches, Replies.Replies, Replies.power_after}
+use Rattle.script_turns.specs.{Sending.LacksSent, Takes.StaysFree, Takes.TakesTurn, Takes.stop_told, Takes.unread_told}
 pub use Rattle.script_turns.specs.Arms.{Arms, NoneFalls}
 pub use Rattle.script_turns.specs.Boots.{IsOnAfter, PowersOn, GetsPower, numbers_of_end, reply_of_end}
-use Rattle.script_turns.specs.Replies.{Replies, power_after}
-use Rattle.script_turns.specs.Sending.{LacksSent}
-use Rattle.script_turns.specs.Takes.{StaysFree, TakesTurn, stop_told, unread_told}
-use Rattle.script_turns.specs.Touches.{Touches}
 
 -- a `cut` makes one arming, and no other call makes any; the count stands still at the greatest number
 abbrev pub Makes : Call → ℕ → ℕ → Type 0
@@ -46,8 +33,7 @@ pub record Turns (passes : List ℕ → Bool) (tells : Bool) (files : Option Dir
   -- a loss leaves none armed; where none was armed, none is and none is reached, but by a `cut`
   pub free : IsFalse (is_cut c) → StaysFree t.reply old new
   -- each stop has its cause
-  pub lost : t.reply ≡ reply.Lost → Rose old.counts.cuts new.counts.cuts
-      ⊎ Rose old.counts.reached new.counts.reached
+  pub lost : t.reply ≡ reply.Lost → Rose old.counts.cuts new.counts.cuts ⊎ Rose old.counts.reached new.counts.reached
   pub failed : t.reply ≡ reply.Fault → Rose old.counts.faults new.counts.faults
   -- and none is counted but the one that is told: no call of the flash that failed or lost power was passed over
   pub once : all_stops new.counts ≤ all_stops old.counts + stops_in (stop_told t.reply)
@@ -82,22 +68,16 @@ pub record Turns (passes : List ℕ → Bool) (tells : Bool) (files : Option Dir
   -- on any flash no loss harms what is in use
   pub safe : IsTrue tells → IsSafe old.power old.told → IsSafe new.power new.told
   -- a boot of a flash that is off and has nothing dirty goes by its bytes, and the other calls leave these
-  pub boots : IsTrue tells → old.on ≡ None → NothingDirty old.told → c ≡ call.Boot
-      → BootsFrom passes old.told.now t.reply
+  pub boots : IsTrue tells → old.on ≡ None → NothingDirty old.told → c ≡ call.Boot → BootsFrom passes old.told.now t.reply
 
 -- ---- a boot of a flash that is on
 
 -- on a device that tells its content the agent of the bank that was booted shows what the flash shows,
 -- with nothing staged and no handle open
 abbrev pub ShowsStarted : Bool → Ended → Option Fields → Told → Type 0
-ShowsStarted tells (booted b n) (Some f) t =
-    (s : State) → IsShown f.layout t.now s → ShowsAt tells f t s (started_session b)
+ShowsStarted tells (booted b n) (Some f) t = (s : State) → IsShown f.layout t.now s → ShowsAt tells f t s (started_session b)
 ShowsStarted tells (booted b n) None t = ⊥
-ShowsStarted tells (bad_layout f) on t = ⊤
-ShowsStarted tells no_metadata on t = ⊤
-ShowsStarted tells (no_bank active previous) on t = ⊤
-ShowsStarted tells (lost n) on t = ⊤
-ShowsStarted tells (failed n) on t = ⊤
+ShowsStarted tells other on t = ⊤
 
 abbrev pub boot_turn : Ended → Turn
 boot_turn e = record { call = call.Boot; reply = reply_of_end e; numbers = numbers_of_end e }

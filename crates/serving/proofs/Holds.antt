@@ -1,46 +1,31 @@
 -- What holds of a serving, by how it ended.
-use Rattle.std.proofs.Common.{◌≡◌, ◌⊎◌, ⊎_elim, inl, inr, ℕ, ◌≤◌, ltb, ltb-true, ltb-false, List, [], ◌∷◌, ◌++◌, length, length-append, Option, Some, None, Err, refl, sym, ap, subst, ◌∙◌, arith, IsTrue, IsFalse}
-use Rattle.std.specs.Prelude.{Contains, IfErr}
-use Rattle.std.specs.List.{list_any, slice_get}
-use Rattle.std.specs.Io.KnownBytes.{Consumes}
-use Rattle.std.proofs.KnownBytes.{Consumes-nil, Consumes-trans}
-use Rattle.std.proofs.lemmas.Bool.{cases_Bool, false≢true}
-use Rattle.std.proofs.lemmas.List.Elements.{Contains-push}
-use Rattle.std.proofs.lemmas.Option.{same_Some}
-use Rattle.std.proofs.lemmas.Result.{IfErr-at_err}
+use Rattle.std.proofs.Common.{◌≡◌, ◌⊎◌, ⊎_elim, inl, inr, ℕ, ◌≤◌, ltb, ltb-true, ltb-false, List, ◌∷◌, ◌++◌, length, length-append, Option, Some, None, Err, refl, sym, ap, subst, ◌∙◌, arith, IsTrue, IsFalse}
+use Rattle.std.specs.Prelude.{Contains, IfErr, []}
+use Rattle.std.specs.{List.list_any, List.slice_get, Io.KnownBytes.Consumes}
+use Rattle.std.proofs.{KnownBytes.Consumes-nil, KnownBytes.Consumes-trans, lemmas.Bool.cases_Bool, lemmas.Bool.false≢true}
+use Rattle.std.proofs.{lemmas.List.Elements.Contains-push, lemmas.Option.same_Some, lemmas.Result.IfErr-at_err}
 use Rattle.flash_core.specs.Counts.{Rose}
-use Rattle.host_io.specs.Calls.{raised}
-use Rattle.host_io.specs.Printed.{FailsAtThree}
-use Rattle.fwu_model.specs.Call.{Call}
+use Rattle.host_io.specs.{Calls.raised, Printed.FailsAtThree}
+use Rattle.fwu_model.specs.{Call.Call, Reply.Reply, Reply.Turn, Run.ends_run, Run.is_refused_boot, declared.kinds.NoBoot.NoBoot}
 use Rattle.fwu_model.specs.Call as call
-use Rattle.fwu_model.specs.Reply.{Reply, Turn}
 use Rattle.fwu_model.specs.Reply as reply
-use Rattle.fwu_model.specs.Run.{ends_run, is_refused_boot}
-use Rattle.fwu_model.specs.declared.kinds.NoBoot.{NoBoot}
-use Rattle.script_turns.specs.Powered.{FitsMachine, TurnMoment}
-use Rattle.script_turns.specs.Turning.{NoneFalls}
+use Rattle.script_turns.specs.{Powered.FitsMachine, Powered.TurnMoment, Turning.NoneFalls}
 use Rattle.script_turns.proofs.RunTurns.{rose-before}
-use Rattle.wire_frames.specs.declared.exchange.Admission.{Admission}
+use Rattle.wire_frames.specs.{declared.exchange.Admission.Admission, declared.stream.FrameStop.FrameStop}
 use Rattle.wire_frames.specs.declared.exchange.Admission.TheVariants.{Acts, Repeats, Ignored}
-use Rattle.wire_frames.specs.declared.stream.FrameStop.{FrameStop}
 use Rattle.wire_frames.specs.declared.stream.FrameStop.TheVariants as stop
 use Rattle.wire_frames.specs.Frames.{frames, message_of, request_number_of}
 use Rattle.wire_frames.specs.Stream.{StopsReading, most_bytes, stop_faults}
-use Rattle.wire_frames.proofs.Readings.{one-reading}
-use Rattle.wire_frames.proofs.Stopping.{stops-stream}
-use Rattle.serving.specs.Acting.{OneStop, OneTurn, ended, starved}
+use Rattle.wire_frames.proofs.{Readings.one-reading, Stopping.stops-stream}
+use Rattle.serving.specs.Serving.{OneStop, OneTurn, ended, starved, ServesBy, ServesNew, answered, stopped}
 use Rattle.serving.specs.Ends.{IsEarlyEnd, end_by, end_of_stop, status_of}
-use Rattle.serving.specs.Going.{ServesRequests, ServeEnds, StopsThere, TakesFrames, at_a_request, at_the_end}
+use Rattle.serving.specs.Going.{ServesRequests, ServeEnds, StopsThere, TakesFrames, at_a_request, at_the_end, ServesFrom, not_started, started}
 use Rattle.serving.specs.Holds.{Cause, EndsWith, FailsAtRead, ServingHolds, IsCompleteServing, RefusesBoot, StopsBy, TakesWithin, end_behind}
-use Rattle.serving.specs.Requests.{called}
+use Rattle.serving.specs.{Written.called, declared.ends.ServeEnd.ServeEnd}
 use Rattle.serving.specs.Scene.{At, Port, RanIn, RunAt, Scene, begin_at, port, unasked}
-use Rattle.serving.specs.Serving.{ServesBy, ServesNew, answered, stopped}
-use Rattle.serving.specs.Starting.{ServesFrom, not_started, started}
-use Rattle.serving.specs.declared.ends.ServeEnd.{ServeEnd}
 use Rattle.serving.specs.declared.ends.ServeEnd.TheVariants as end
-use Rattle.serving.proofs.OneMore.{Stands, StopsPut, at_memory, at_sink, put-stops, stands-on, stands-still}
+use Rattle.serving.proofs.Starts.{Stands, StopsPut, at_memory, at_sink, put-stops, stands-on, stands-still, stands-none}
 use Rattle.serving.proofs.Requested.{called-asked, fits-last, is_asked, requested-other}
-use Rattle.serving.proofs.Starts.{stands-none}
 use Rattle.serving.proofs.Steps.{stands-of}
 
 top : ℕ
@@ -209,8 +194,7 @@ module _ (E : Scene) (start : TurnMoment) (off : start.on ≡ None) (sink : Port
   read-cause : (new : At) (why : FrameStop) → to.faults ≡ stop_faults {T = ℕ} (Err why) from.faults → StopsBy why from → Cause (end_of_stop why) start sink new from to
   read-cause new stop.End fails by = by
   read-cause new stop.Failed fails by = subst (λ (n : ℕ). Rose from.faults n) (sym fails) (raised-rose from.faults)
-  read-cause new stop.TooLong fails by = by
-  read-cause new stop.BadFrame fails by = by
+  read-cause new other fails by = by
 
   -- ---- in one
 

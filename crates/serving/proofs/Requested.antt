@@ -1,54 +1,39 @@
 -- No answer to a request is a refused boot, on any device.
-use Rattle.std.proofs.Common.{◌≡◌, ◌==◌, refl, sym, subst, ℕ, Bool, List, [], ◌∷◌, length, take, drop, get_or, Option, Some, None, IsTrue, IsFalse, IfSome, true, false, not, ◌||◌}
-use Rattle.std.specs.Prelude.{nat_le, option_map}
+use Rattle.std.proofs.Common.{◌≡◌, ◌==◌, refl, sym, subst, ℕ, Bool, List, ◌∷◌, length, take, drop, get_or, Option, Some, None, IsTrue, IsFalse, IfSome, true, false, not, ◌||◌}
+use Rattle.std.specs.Prelude.{nat_le, option_map, []}
 use Rattle.std.specs.List.{list_any}
-use Rattle.std.proofs.Math.Bool.{Bool-set}
-use Rattle.std.proofs.Math.Logic.{∥∥₁_elim}
-use Rattle.std.proofs.lemmas.Bool.{cond_both}
+use Rattle.std.proofs.{Math.Bool.Bool-set, Math.Logic.∥∥₁_elim, lemmas.Bool.cond_both}
 use Rattle.base_core.specs.Bytes.{num_at, same_bytes}
 use Rattle.fwu_formats.specs.Layout.{dir_guid}
 use Rattle.fwu_model.specs.Answer.{Answer, accept_image, answer, answer_accept, answer_begin, answer_cancel, answer_commit, answer_end, answer_off, answer_on, answer_open_read, answer_open_write, answer_previous, answer_read, answer_write, cannot_begin, exceeds_slot, handle_at, has_other, is_elsewhere, is_full, is_writer, may_end, may_go_back, may_leave, open_read}
-use Rattle.fwu_model.specs.Call.{Call}
+use Rattle.fwu_model.specs.{Call.Call, Reply.Reply, Reply.Turn, Run.is_refused_boot, Sound.Setting, State.State, State.bank}
+use Rattle.fwu_model.specs.declared.kinds.Op.{Op}
 use Rattle.fwu_model.specs.Call as call
-use Rattle.fwu_model.specs.Reply.{Reply, Turn}
 use Rattle.fwu_model.specs.Reply as reply
-use Rattle.fwu_model.specs.Run.{is_refused_boot}
 use Rattle.fwu_model.specs.Session.{Handle, Nothing, Off, On, Reads, Session, Staged, Writes, is_committed, is_open}
 use Rattle.fwu_model.specs.Session as handle
-use Rattle.fwu_model.specs.Sound.{Setting}
-use Rattle.fwu_model.specs.State.{State, bank}
-use Rattle.fwu_model.specs.declared.kinds.Op.{Op}
 use Rattle.fwu_model.specs.declared.kinds.Op.TheVariants as op
 use Rattle.host_io.specs.Contents.{Directory}
 use Rattle.agent_calls.specs.AnswersCall.{AnswersCall, GoesBackBy, IsGotLike}
 use Rattle.agent_machine.specs.Fields.{Fields}
 use Rattle.agent_machine.specs.Moment as agent
-use Rattle.script_turns.specs.Powered.{FitsMachine, TurnMoment, kept_at}
+use Rattle.script_turns.specs.{Powered.FitsMachine, Powered.TurnMoment, Powered.kept_at, Runs.Follows, Turning.Turns}
 use Rattle.script_turns.specs.Replies.{AnswersTo, CallSays, IsFlashStop, Replies, no_call_reply}
-use Rattle.script_turns.specs.Runs.{Follows}
-use Rattle.script_turns.specs.Turning.{Turns}
 use Rattle.fwu_wire.specs.Calls.{asks, asks_by, most_room, of_length, op_of, open_call}
-use Rattle.fwu_wire.specs.Functions.{function_of}
-use Rattle.fwu_wire.specs.declared.functions.Function.{Function}
+use Rattle.fwu_wire.specs.{Functions.function_of, declared.functions.Function.Function}
 use Rattle.fwu_wire.specs.declared.functions.Function.TheVariants as function
-use Rattle.serving.specs.Requests.{call_or_none, called}
+use Rattle.serving.specs.Written.{call_or_none, called}
 
 -- ---- the calls of requests
 
 abbrev pub is_asked : Call → Bool
-is_asked call.Discover = true
-is_asked (call.Begin n) = true
-is_asked (call.OpenRead guid) = true
-is_asked (call.OpenWrite guid) = true
-is_asked (call.Write h bytes) = true
-is_asked (call.Read h room) = true
-is_asked (call.Commit h request) = true
-is_asked call.End = true
-is_asked call.Cancel = true
-is_asked (call.Accepts guid) = true
-is_asked call.Previous = true
-is_asked call.NoCall = true
-is_asked other = false
+is_asked (call.BeginPartial types) = false
+is_asked (call.Send name request) = false
+is_asked (call.SendPartial name request) = false
+is_asked call.Boot = false
+is_asked (call.Cut n k) = false
+is_asked call.Show = false
+is_asked other = true
 
 abbrev MayAsk : Option Call → Type 0
 MayAsk o = IfSome o (λ c. IsTrue (is_asked c))
@@ -119,14 +104,12 @@ module _ (E : Setting) (s : State) (boot : ℕ) where
   other-read : (staging : Option (List Staged)) (handles : List Handle) (h room : ℕ) (which : Handle) → Other (answer_read E s boot staging handles h room which)
   unfolding answer_read
   other-read staging handles h room handle.Free = refl
-  other-read staging handles h room (Reads target place) = refl
-  other-read staging handles h room (Writes image) = refl
+  other-read staging handles h room other = refl
 
   other-commit : (staging : Option (List Staged)) (handles : List Handle) (h request : ℕ) (which : Handle) → Other (answer_commit boot staging handles h request which)
   unfolding answer_commit
   other-commit staging handles h request handle.Free = refl
-  other-commit staging handles h request (Reads target place) = refl
-  other-commit staging handles h request (Writes image) = refl
+  other-commit staging handles h request other = refl
 
   other-end : (staging : Option (List Staged)) (handles : List Handle) → Other (answer_end E s boot staging handles)
   unfolding answer_end
@@ -168,16 +151,10 @@ module _ (E : Setting) (s : State) (boot : ℕ) where
   other-on staging handles (call.Accepts guid) asked = other-accept staging handles _
   other-on staging handles call.Previous asked = other-previous staging handles
   other-on staging handles call.NoCall asked = refl
-  other-on staging handles (call.BeginPartial types) asked = absurd cc
-  other-on staging handles (call.Send name request) asked = absurd cc
-  other-on staging handles (call.SendPartial name request) asked = absurd cc
-  other-on staging handles call.Boot asked = absurd cc
-  other-on staging handles (call.Cut n k) asked = absurd cc
-  other-on staging handles call.Show asked = absurd cc
+  other-on staging handles other asked = absurd cc
 
 other-off : (E : Setting) (s : State) (c : Call) → IsTrue (is_asked c) → Other (answer_off E s c)
 other-off E s call.Boot asked = absurd cc
-other-off E s (call.Cut n k) asked = refl
 other-off E s other asked = refl
 
 other-answer : (E : Setting) (s : State) (x : Session) (c : Call) → IsTrue (is_asked c) → Other (answer E s x c)

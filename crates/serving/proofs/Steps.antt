@@ -1,28 +1,111 @@
--- A serving, one request on.
-use Rattle.std.proofs.Common.{◌≡◌, ℕ, ◌+◌, ◌≤◌, List, [], ◌∷◌, ◌++◌, map, Ok, Result, None, sym, ap, subst, ◌∙◌, arith, append_assoc, append-nil}
-use Rattle.std.specs.List.{list_any}
-use Rattle.std.specs.Io.KnownBytes.{Appends}
-use Rattle.std.proofs.KnownBytes.{Appends-trans}
-use Rattle.std.proofs.lemmas.List.{length_push}
-use Rattle.fwu_model.specs.Call.{Call}
-use Rattle.fwu_model.specs.Reply.{Turn}
-use Rattle.fwu_model.specs.Run.{ends_run}
-use Rattle.script_turns.specs.Powered.{TurnMoment}
-use Rattle.wire_frames.specs.declared.exchange.Admission.{Admission}
-use Rattle.wire_frames.specs.declared.exchange.Admission.TheVariants.{Acts, Repeats, Ignored}
-use Rattle.wire_frames.specs.Exchange.{LastAnswer, admission}
-use Rattle.wire_frames.specs.Frames.{frame, message_of, request_number_of, numbered}
+-- The requests of a source, one more of them, and all so far.
+use Rattle.std.proofs.Common.{◌≡◌, ℕ, ◌+◌, ◌-◌, ◌≤◌, List, ◌∷◌, ◌++◌, length, map, suc, get_or, refl, sym, ap, subst, ◌∙◌, arith, append_assoc, append-nil, [], Ok, Result, None, Err, length-append}
+use Rattle.std.proofs.lemmas.List.{get_or_append_left, get_or_push, length_push}
+use Rattle.std.proofs.lemmas.List.Concat.{flat_map-append}
+use Rattle.std.proofs.KnownBytes.{Appends-trans, Consumes-nil, Consumes-trans}
+use Rattle.wire_frames.specs.{declared.exchange.Admission.Admission, declared.stream.FrameStop.FrameStop}
+use Rattle.wire_frames.specs.Exchange.{admission, LastAnswer}
+use Rattle.wire_frames.specs.Frames.{AreBodies, IsBody, frame, frames, request_number_of, numbered, message_of}
+use Rattle.wire_frames.specs.Stream.{ReadsFrame, StopsReading, most_bytes, stop_faults}
 use Rattle.wire_frames.proofs.Once.{Admits, admits, next, again, other}
+use Rattle.fwu_model.specs.{Reply.Turn, Call.Call, Run.ends_run}
 use Rattle.fwu_wire.specs.Replies.{message}
-use Rattle.serving.specs.Requests.{called}
-use Rattle.serving.specs.Acting.{OneReply}
-use Rattle.serving.specs.Going.{ServesRequests}
-use Rattle.serving.specs.Scene.{At, RunAt, Scene}
-use Rattle.serving.specs.Serving.{ServesAgain, ServesBy, ServesNew, ServesOne, answered, stopped}
-use Rattle.serving.specs.Written.{AnswersRequests, act_by, acting, answered_numbers, frame_of, last_after, last_by, messages_of, number_by, written}
-use Rattle.serving.specs.declared.ends.ServeEnd.{ServeEnd}
-use Rattle.serving.proofs.OneMore.{Stands, any-more, goes-none, put-all, stands-on, stands-still}
-use Rattle.serving.proofs.Snoc.{Within, acting-more, answered-more, answered-within, frame-last, last-more, length-messages, map-more, messages-more, written-at, written-more}
+use Rattle.std.specs.{List.list_any, Io.KnownBytes.Appends, Io.KnownBytes.Consumes}
+use Rattle.script_turns.specs.Powered.{TurnMoment}
+use Rattle.wire_frames.specs.declared.exchange.Admission.TheVariants.{Acts, Repeats, Ignored}
+use Rattle.serving.specs.Written.{act_by, acting, answered_numbers, frame_of, last_after, last_by, last_next, messages_of, number_by, written, called, AnswersRequests}
+use Rattle.serving.specs.Serving.{OneReply, ServesAgain, ServesBy, ServesNew, ServesOne, answered, stopped}
+use Rattle.serving.specs.{Going.ServesRequests, Going.GoesOn, Going.ServeEnds, Scene.At, Scene.RunAt, Scene.Scene, Scene.Port}
+use Rattle.serving.specs.{declared.ends.ServeEnd.ServeEnd, Ends.IsEarlyEnd, Ends.end_of_stop}
+use Rattle.serving.proofs.Starts.{Stands, any-more, goes-none, put-all, stands-on, stands-still}
+
+-- ---- what is done for requests, with one request more
+
+pub acting-more : (last : ℕ) (bodies : List (List ℕ)) (body : List ℕ) → acting last (bodies ++ body ∷ []) ≡ acting last bodies ++ act_by (admission (last_after last bodies) (request_number_of body)) body
+acting-more last [] body = append-nil (act_by (admission last (request_number_of body)) body)
+acting-more last (b ∷ bodies) body =
+    ap (λ (l : List (List ℕ)). act_by (admission last (request_number_of b)) b ++ l) (acting-more (last_next last b) bodies body)
+    ∙ sym (append_assoc (act_by (admission last (request_number_of b)) b) (acting (last_next last b) bodies) (act_by (admission (last_after (last_next last b) bodies) (request_number_of body)) body))
+
+pub answered-more : (last : ℕ) (bodies : List (List ℕ)) (body : List ℕ)
+    → answered_numbers last (bodies ++ body ∷ []) ≡ answered_numbers last bodies ++ number_by (admission (last_after last bodies) (request_number_of body)) (last_after last bodies) (request_number_of body)
+answered-more last [] body = append-nil (number_by (admission last (request_number_of body)) last (request_number_of body))
+answered-more last (b ∷ bodies) body =
+    let at = last_next last b in
+    ap (λ (l : List ℕ). number_by (admission last (request_number_of b)) last (request_number_of b) ++ l) (answered-more at bodies body)
+    ∙ sym (append_assoc (number_by (admission last (request_number_of b)) last (request_number_of b)) (answered_numbers at bodies) (number_by (admission (last_after at bodies) (request_number_of body)) (last_after at bodies) (request_number_of body)))
+
+pub last-more : (last : ℕ) (bodies : List (List ℕ)) (body : List ℕ) → last_after last (bodies ++ body ∷ []) ≡ last_next (last_after last bodies) body
+last-more last [] body = refl
+last-more last (b ∷ bodies) body = last-more (last_next last b) bodies body
+
+-- ---- the numbers that are answered
+
+next-grows : (last : ℕ) (body : List ℕ) → last ≤ last_next last body
+next-grows last body = by (admits last (request_number_of body))
+  where
+    by : Admits last (request_number_of body) → last ≤ last_next last body
+    by (next is number) = subst (λ (a : Admission). last ≤ last_by a last (request_number_of body)) (sym is) (omega (arith, number))
+    by (again is number some) = subst (λ (a : Admission). last ≤ last_by a last (request_number_of body)) (sym is) (omega arith)
+    by (other is) = subst (λ (a : Admission). last ≤ last_by a last (request_number_of body)) (sym is) (omega arith)
+
+last-grows : (last : ℕ) (bodies : List (List ℕ)) → last ≤ last_after last bodies
+last-grows last [] = omega arith
+last-grows last (body ∷ bodies) = let first = next-grows last body in let rest = last-grows (last_next last body) bodies in omega (arith, first, rest)
+
+-- each is one of the first numbers
+unfoldable pub Within : ℕ → List ℕ → Type 0
+Within k [] = Unit {0}
+Within k (n ∷ ns) = (1 ≤ n) × (n ≤ k) × Within k ns
+
+pub answered-within : (last : ℕ) (bodies : List (List ℕ)) → Within (last_after last bodies) (answered_numbers last bodies)
+unfolding Within
+answered-within last [] = tt
+answered-within last (body ∷ bodies) = by (admits last (request_number_of body)) (λ at. answered-within at bodies)
+  where
+    all : Admission → Type 0
+    all a = Within (last_after (last_by a last (request_number_of body)) bodies) (number_by a last (request_number_of body) ++ answered_numbers (last_by a last (request_number_of body)) bodies)
+
+    by : Admits last (request_number_of body) → ((at : ℕ) → Within (last_after at bodies) (answered_numbers at bodies)) → all (admission last (request_number_of body))
+    by (next is number) rest =
+        subst all (sym is) (let few = last-grows (request_number_of body) bodies in (omega (arith, number), omega (arith, few), rest (request_number_of body)))
+    by (again is number some) rest = subst all (sym is) (let few = last-grows last bodies in (some, omega (arith, few), rest last))
+    by (other is) rest = subst all (sym is) (rest last)
+
+-- ---- the frames
+
+-- a reply more doesn't change those before
+pub written-more : (messages : List (List ℕ)) (m : List ℕ) (numbers : List ℕ) → Within (length messages) numbers → written (messages ++ m ∷ []) numbers ≡ written messages numbers
+unfolding Within
+written-more messages m [] within = refl
+written-more messages m (n ∷ numbers) within =
+    let some = within.0 in
+    let few = within.1 in
+    let same : get_or (messages ++ m ∷ []) (n - 1) [] ≡ get_or messages (n - 1) [] = get_or_append_left messages (m ∷ []) [] (n - 1) (omega (arith, some, few)) in
+    ap (λ (l : List ℕ). frame (numbered n l) ++ written (messages ++ m ∷ []) numbers) same
+    ∙ ap (λ (l : List ℕ). frame_of messages n ++ l) (written-more messages m numbers within.2)
+
+-- the frame of the last one
+pub frame-last : (messages : List (List ℕ)) (m : List ℕ) (n : ℕ) → n ≡ length messages + 1 → frame (numbered n m) ≡ frame_of (messages ++ m ∷ []) n
+frame-last messages m n is = ap (λ (l : List ℕ). frame (numbered n l)) (sym (get_or_push messages m [] (n - 1) (omega (arith, is))))
+
+pub written-at : (messages : List (List ℕ)) (numbers : List ℕ) (n : ℕ) → written messages (numbers ++ n ∷ []) ≡ written messages numbers ++ frame_of messages n
+written-at messages numbers n = flat_map-append (frame_of messages) numbers (n ∷ []) ∙ ap (λ (l : List ℕ). written messages numbers ++ l) (append-nil (frame_of messages n))
+
+-- ---- the turns
+
+pub map-more : {X Y : Type 0} (f : X → Y) (xs : List X) (x : X) → map f (xs ++ x ∷ []) ≡ map f xs ++ f x ∷ []
+map-more f [] x = refl
+map-more {Y = Y} f (y ∷ xs) x = ap (λ (ys : List Y). f y ∷ ys) (map-more f xs x)
+
+pub length-messages : (turns : List Turn) → length (messages_of turns) ≡ length turns
+length-messages [] = refl
+length-messages (t ∷ turns) = ap suc (length-messages turns)
+
+pub messages-more : (turns : List Turn) (t : Turn) → messages_of (turns ++ t ∷ []) ≡ messages_of turns ++ message t.reply ∷ []
+messages-more turns t = map-more (λ (u : Turn). message u.reply) turns t
+
+-- ---- a serving, one request on
 
 -- the calls of requests that act
 abbrev calls_of_acting : List (List ℕ) → List Call
@@ -171,3 +254,66 @@ module _ (E : Scene) (first : List Turn) (start : TurnMoment) (off : start.on �
       by (next is number) = new-on result is number (as-so Acts is) goes
       by (again is number some) = repeats-on is some result (as-so Repeats is) goes
       by (other is) = ignored-on is (as-so Ignored is).0
+
+-- ---- what a serving's loop keeps
+
+bodies-more : (bodies : List (List ℕ)) (body : List ℕ) → AreBodies bodies → IsBody body → AreBodies (bodies ++ body ∷ [])
+bodies-more [] body each is = (is, tt)
+bodies-more (b ∷ bodies) body each is = (each.0, bodies-more bodies body each.1 is)
+
+frames-more : (bodies : List (List ℕ)) (body : List ℕ) → frames (bodies ++ body ∷ []) ≡ frames bodies ++ frame body
+frames-more bodies body = flat_map-append frame bodies (body ∷ []) ∙ ap (λ (l : List ℕ). frames bodies ++ l) (append-nil (frame body))
+
+-- the requests so far, of each run that was begun before them
+pub record SoFar (E : Scene) (old now : At) (from to : Port) (read : ℕ) : Type 0 where
+  pub bodies : List (List ℕ)
+  pub each : AreBodies bodies
+  pub consumed : Consumes from.bytes to.bytes (frames bodies)
+  pub count : read ≡ length (frames bodies)
+  pub few : read ≤ most_bytes
+  pub quiet : to.faults ≡ from.faults
+  pub goes : (first : List Turn) (start : TurnMoment) → start.on ≡ None → ServesRequests E first start [] old old → ServesRequests E first start bodies old now
+
+module _ (E : Scene) (old : At) (from : Port) where
+  pub so-far-none : (read : ℕ) → read ≡ 0 → read ≤ most_bytes → SoFar E old old from from read
+  so-far-none read is few = record { bodies = []; each = tt; consumed = Consumes-nil from.bytes; count = is; few = few; quiet = refl; goes = λ first start off none. none }
+
+  module _ (now : At) (mid : Port) (read : ℕ) (was : SoFar E old now from mid read) where
+    -- the frame of one body more
+    module _ (rest : Port) (reads : ℕ) (body : List ℕ) (frame_is : ReadsFrame body read reads mid.bytes rest.bytes) where
+      consumed-more : Consumes from.bytes rest.bytes (frames (was.bodies ++ body ∷ []))
+      consumed-more = subst (λ (l : List ℕ). Consumes from.bytes rest.bytes l) (sym (frames-more was.bodies body))
+          (Consumes-trans from.bytes mid.bytes rest.bytes (frames was.bodies) (frame body) was.consumed frame_is.consumed)
+
+      count-more : reads ≡ length (frames (was.bodies ++ body ∷ []))
+      count-more = frame_is.count ∙ ap (λ (n : ℕ). n + length (frame body)) was.count ∙ sym (length-append (frames was.bodies) (frame body)) ∙ ap length (sym (frames-more was.bodies body))
+
+      pub so-far-more : (new : At) (result : Result (Unit {0}) ServeEnd) → rest.faults ≡ mid.faults → reads ≤ most_bytes → ServesOne E body now new result → result ≡ Ok tt → SoFar E old new from rest reads
+      so-far-more new result quiet few serves goes = record {
+        bodies = was.bodies ++ body ∷ [];
+        each = bodies-more was.bodies body was.each frame_is.is;
+        consumed = consumed-more;
+        count = count-more;
+        few = few;
+        quiet = quiet ∙ was.quiet;
+        goes = λ first start off none. one-on E first start off was.bodies body old now new (was.goes first start off none) result serves goes;
+      }
+
+      pub ends-at : (new : At) (e : ServeEnd) → rest.faults ≡ mid.faults → reads ≤ most_bytes → ServesOne E body now new (Err e) → IsEarlyEnd e → GoesOn E old new e from rest
+      ends-at new e quiet few serves early first start off none =
+          ServeEnds.at_a_request was.bodies body now (was.goes first start off none)
+          (record { each = bodies-more was.bodies body was.each frame_is.is; consumed = consumed-more; few = subst (λ (n : ℕ). n ≤ most_bytes) count-more few })
+          (quiet ∙ was.quiet) serves early
+
+    pub ends-there : (rest : Port) (taken : ℕ) (e : ServeEnd) (why : FrameStop) → StopsReading why read taken mid.bytes rest.bytes → taken ≤ most_bytes → rest.faults ≡ stop_faults {T = ℕ} (Err why) mid.faults → mid.faults ≤ rest.faults
+        → e ≡ end_of_stop why → GoesOn E old now e from rest
+    ends-there rest taken e why stops few fails later is first start off none =
+        ServeEnds.at_the_end was.bodies mid.bytes why (was.goes first start off none)
+        (record { each = was.each; consumed = was.consumed; few = subst (λ (n : ℕ). n ≤ most_bytes) was.count was.few })
+        (record {
+          taken = taken;
+          stops = subst (λ (n : ℕ). StopsReading why n taken mid.bytes rest.bytes) was.count stops;
+          few = few;
+          count = fails ∙ ap (stop_faults {T = ℕ} (Err why)) was.quiet;
+          later = subst (λ (n : ℕ). n ≤ rest.faults) was.quiet later;
+        }) is

@@ -1,19 +1,15 @@
 -- The requests of a source so far, and how a serving ends.
-use Rattle.std.specs.Prelude.{◌≡◌, ◌≤◌, ℕ, List, [], ◌∷◌, ◌++◌, Option, None, Err, IsFalse, length}
-use Rattle.std.specs.List.{list_any}
-use Rattle.std.specs.Io.KnownBytes.{Appends, Consumes}
-use Rattle.fwu_model.specs.Causes.{cuts_in}
-use Rattle.fwu_model.specs.Reply.{Turn}
-use Rattle.fwu_model.specs.Run.{ends_run}
+use Rattle.std.specs.Prelude.{◌≡◌, ◌≤◌, ℕ, List, ◌∷◌, ◌++◌, Option, None, Err, IsFalse, length, Result, Ok, []}
+use Rattle.std.specs.{List.list_any, Io.KnownBytes.Appends, Io.KnownBytes.Consumes}
+use Rattle.fwu_model.specs.{Causes.cuts_in, Reply.Turn, Run.ends_run}
 use Rattle.script_turns.specs.Powered.{TurnMoment}
-use Rattle.wire_frames.specs.Frames.{AreBodies, frames}
+use Rattle.wire_frames.specs.{Frames.AreBodies, Frames.frames, declared.stream.FrameStop.FrameStop, Exchange.none_yet}
 use Rattle.wire_frames.specs.Stream.{StopsReading, most_bytes, stop_faults}
-use Rattle.wire_frames.specs.declared.stream.FrameStop.{FrameStop}
-use Rattle.serving.specs.Ends.{IsEarlyEnd, end_of_stop}
-use Rattle.serving.specs.Scene.{At, Port, RanIn, Scene, port}
-use Rattle.serving.specs.Serving.{ServesOne}
-use Rattle.serving.specs.Written.{AnswersRequests, answered_numbers, messages_of, written}
+use Rattle.fwu_model.specs.Call as call
+use Rattle.serving.specs.{Ends.IsEarlyEnd, Ends.end_of_stop, Ends.end_by, Serving.ServesOne, Serving.OneStop, Serving.OneTurn}
 use Rattle.serving.specs.declared.ends.ServeEnd.{ServeEnd}
+use Rattle.serving.specs.Scene.{At, Port, RanIn, Scene, port, RunAt, begin_at, unasked}
+use Rattle.serving.specs.Written.{AnswersRequests, answered_numbers, messages_of, written}
 
 -- These requests were served, behind the first turns of the journal, and none of them ended the serving. The turns are a run from
 -- the start. The requests that act have one turn each, and its reply was written for each of them, and again for each repeat.
@@ -60,3 +56,19 @@ pub data ServeEnds (E : Scene) (first : List Turn) (start : TurnMoment) (old new
 abbrev pub GoesOn : Scene → At → At → ServeEnd → Port → Port → Type 0
 GoesOn E old new e from to = (first : List Turn) (start : TurnMoment) → start.on ≡ None → ServesRequests E first start [] old old
     → ServeEnds E first start old new e from to
+
+-- ---- a serving from its boot
+
+-- A bank was started; or none was, and why.
+abbrev pub ServeBoots : Scene → RunAt → RunAt → Result (Unit {0}) ServeEnd → Type 0
+ServeBoots E old new (Ok value) = (t : Turn) × OneTurn E call.Boot t old new × (end_by t.reply ≡ Ok tt)
+ServeBoots E old new (Err e) = OneStop E call.Boot e old new
+
+-- The first turn is a boot. Where it ends the serving, or there is no memory for it, nothing is read and nothing written; else the
+-- requests of the source are served, behind it.
+pub data ServesFrom (E : Scene) (start : TurnMoment) (sink : Port) (new : At) (e : ServeEnd) (from to : Port) : Type 0 where
+  not_started : OneStop E call.Boot e (begin_at start) new.run → new.exchange ≡ none_yet → new.sink ≡ sink → to ≡ from
+      → ServesFrom E start sink new e from to
+  started : (t : Turn) (mid : RunAt) → OneTurn E call.Boot t (begin_at start) mid → end_by t.reply ≡ Ok tt
+      → ServeEnds E (t ∷ []) start (unasked mid sink) new e from to
+      → ServesFrom E start sink new e from to

@@ -1,22 +1,15 @@
 -- What holds of a serving however it ended.
-use Rattle.std.specs.Prelude.{◌≡◌, ◌≢◌, ◌⊎◌, ◌↔◌, ◌≤◌, ◌<◌, ◌+◌, ◌++◌, ℕ, List, [], ◌∷◌, Option, None, Some, length, slice_get, ⊤}
+use Rattle.std.specs.Prelude.{◌≡◌, ◌≢◌, ◌⊎◌, ◌↔◌, ◌≤◌, ◌<◌, ◌+◌, ◌++◌, ℕ, List, ◌∷◌, Option, None, Some, length, slice_get, ⊤, []}
 use Rattle.std.specs.Io.KnownBytes.{Consumes}
 use Rattle.flash_core.specs.Counts.{Rose}
-use Rattle.host_io.specs.Calls.{raised}
-use Rattle.host_io.specs.Printed.{FailsAtThree}
+use Rattle.host_io.specs.{Calls.raised, Printed.FailsAtThree}
 use Rattle.fwu_model.specs.Call as call
-use Rattle.fwu_model.specs.Causes.{cuts_in}
-use Rattle.fwu_model.specs.Reply.{Reply, Turn}
+use Rattle.fwu_model.specs.{Causes.cuts_in, Reply.Reply, Reply.Turn, declared.kinds.NoBoot.NoBoot}
 use Rattle.fwu_model.specs.Reply as reply
-use Rattle.fwu_model.specs.declared.kinds.NoBoot.{NoBoot}
 use Rattle.script_turns.specs.Powered.{TurnMoment}
-use Rattle.wire_frames.specs.Frames.{Splits}
-use Rattle.wire_frames.specs.Stream.{StopsStream, most_bytes}
-use Rattle.wire_frames.specs.declared.stream.FrameStop.{FrameStop}
+use Rattle.wire_frames.specs.{Frames.Splits, Stream.StopsStream, Stream.most_bytes, declared.stream.FrameStop.FrameStop}
 use Rattle.wire_frames.specs.declared.stream.FrameStop.TheVariants as stop
-use Rattle.serving.specs.Ends.{status_of}
-use Rattle.serving.specs.Scene.{At, Port, RanIn, Scene}
-use Rattle.serving.specs.declared.ends.ServeEnd.{ServeEnd}
+use Rattle.serving.specs.{Ends.status_of, Scene.At, Scene.Port, Scene.RanIn, Scene.Scene, declared.ends.ServeEnd.ServeEnd}
 use Rattle.serving.specs.declared.ends.ServeEnd.TheVariants as end
 
 -- ---- why it ended so

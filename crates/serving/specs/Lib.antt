@@ -1,10 +1,6 @@
 pub mod Ends
-pub mod Requests
 pub mod Written
 pub mod Scene
-pub mod Leaves
-pub mod Acting
 pub mod Serving
 pub mod Going
-pub mod Starting
 pub mod Holds

@@ -1,19 +1,16 @@
 -- What does not change in a serving, and what is known of it between two requests.
-use Rattle.std.specs.Prelude.{ℕ, Bool, List, [], Option}
+use Rattle.std.specs.Prelude.{ℕ, Bool, List, Option, ◌≡◌, Result, OnOk, []}
 use Rattle.flash_core.specs.declared.flash.Flash.{Ghosts}
 use Rattle.host_io.specs.Contents.{Directory}
 use Rattle.host_io.specs.declared.files.Files as files
 use Rattle.host_io.specs.declared.sink.Sink as sink
 use Rattle.host_io.specs.declared.source.Source as source
 use Rattle.verify_core.specs.declared.verifier.Verifier as verifier
-use Rattle.fwu_model.specs.Call.{Call}
-use Rattle.fwu_model.specs.Reply.{Turn}
+use Rattle.fwu_model.specs.{Call.Call, Reply.Turn}
 use Rattle.fwu_journal.specs.Shown.{turns}
-use Rattle.script_turns.specs.Powered.{TurnMoment, moment_of}
-use Rattle.script_turns.specs.Runs.{Ran}
-use Rattle.script_turns.specs.Turning.{Turns}
+use Rattle.script_turns.specs.{Powered.TurnMoment, Powered.moment_of, Powered.device, Powered.has_power, Runs.Ran, Turning.Turns}
 use Rattle.wire_frames.specs.Exchange.{LastAnswer, none_yet}
-use Rattle.serving.specs.declared.serving.Serving.{Serving}
+use Rattle.serving.specs.{declared.serving.Serving.Serving, declared.ends.ServeEnd.ServeEnd}
 
 -- The verifier's test of a manifest, whether the device tells its content, the files where they are told, and how many of their
 -- calls have failed.
@@ -74,3 +71,14 @@ at s sink = record { run = run_of s; exchange = s.exchange; sink = sink }
 -- one whose run is so, and to which no request came
 abbrev pub unasked : RunAt → Port → At
 unasked run sink = record { run = run; exchange = none_yet; sink = sink }
+
+-- ---- how a part of a serving leaves its flash and its files
+
+pub record LeavesServing {D H T : Type 0} {F : Ghosts D} (result : Result T ServeEnd) (old new : Serving D F)
+    (from to : H) : Type 0 where
+  -- where the serving goes on, the device has power exactly where an agent or a flash that is on is there
+  pub powered : OnOk result (F.on (device new.powered) ≡ has_power new.powered)
+  -- the device has as many blocks as before
+  pub size : F.blocks (device new.powered) ≡ F.blocks (device old.powered)
+  -- the files are as they were
+  pub files : to ≡ from

@@ -1,22 +1,35 @@
--- Which requests act, and what is written for all of them.
-use Rattle.std.specs.Prelude.{◌≡◌, ◌≤◌, ℕ, ◌-◌, List, [], ◌∷◌, ◌++◌, length, map, slice_index_or}
+-- The calls of a run that a request may ask for.
+use Rattle.std.specs.Prelude.{List, ℕ, Option, Some, None, IsFalse, ◌≡◌, ◌≤◌, ◌-◌, ◌∷◌, ◌++◌, length, map, slice_index_or, []}
+use Rattle.fwu_model.specs.Call as model
+use Rattle.fwu_model.specs.{Causes.is_cut, Run.is_send, Reply.Turn}
+use Rattle.script_text.specs.{Armable.IsArmable, Shown.HasBuffer, Shown.shown, declared.call.Call.Call}
+use Rattle.fwu_wire.specs.{Calls.asks, Replies.message}
 use Rattle.std.specs.List.{flat_map}
-use Rattle.fwu_model.specs.Call.{Call}
-use Rattle.fwu_model.specs.Reply.{Turn}
-use Rattle.wire_frames.specs.declared.exchange.Admission.{Admission}
+use Rattle.wire_frames.specs.{declared.exchange.Admission.Admission, Exchange.LastAnswer, Exchange.admission}
 use Rattle.wire_frames.specs.declared.exchange.Admission.TheVariants.{Acts, Repeats, Ignored}
-use Rattle.wire_frames.specs.Exchange.{LastAnswer, admission}
 use Rattle.wire_frames.specs.Frames.{frame, message_of, request_number_of, numbered}
-use Rattle.fwu_wire.specs.Replies.{message}
-use Rattle.serving.specs.Requests.{called}
+
+abbrev pub call_or_none : Option model.Call → model.Call
+call_or_none (Some c) = c
+call_or_none None = model.NoCall
+
+-- the call of the turn that a request with this message makes
+abbrev pub called : List ℕ → model.Call
+called message = call_or_none (asks message)
+
+-- A read has its buffer, no file is read, and no loss of power is armed.
+pub record IsServedCall (c : Call) : Type 0 where
+  pub buffer : HasBuffer c
+  pub unsent : IsFalse (is_send (shown c))
+  pub uncut : IsFalse (is_cut (shown c))
+  pub armable : IsArmable (shown c)
 
 -- ---- by the numbers
 
 -- the last number that acted, after a request
 abbrev pub last_by : Admission → ℕ → ℕ → ℕ
 last_by Acts last number = number
-last_by Repeats last number = last
-last_by Ignored last number = last
+last_by other last number = last
 
 abbrev pub last_next : ℕ → List ℕ → ℕ
 last_next last body = last_by (admission last (request_number_of body)) last (request_number_of body)
@@ -29,8 +42,7 @@ last_after last (body ∷ bodies) = last_after (last_next last body) bodies
 -- the request, where it acts
 abbrev pub act_by : Admission → List ℕ → List (List ℕ)
 act_by Acts body = body ∷ []
-act_by Repeats body = []
-act_by Ignored body = []
+act_by other body = []
 
 -- the requests that act: repeats and ignored ones are taken out
 abbrev pub acting : ℕ → List (List ℕ) → List (List ℕ)
@@ -67,7 +79,7 @@ written messages numbers = flat_map (frame_of messages) numbers
 -- ---- in one
 
 -- the calls of the requests that act, in their order
-abbrev pub calls_for : List (List ℕ) → List Call
+abbrev pub calls_for : List (List ℕ) → List model.Call
 calls_for bodies = map (λ (b : List ℕ). called (message_of b)) (acting 0 bodies)
 
 -- These requests were answered: each that acts by its turn, and what is kept is the last one's frame.

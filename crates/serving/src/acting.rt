@@ -4,11 +4,10 @@ ghost use Rattle.script_text.specs.Shown.{shown};
 ghost use Rattle.fwu_journal.specs.Shown.{HasRoomFor, IsShortReply, reply};
 ghost use Rattle.fwu_wire.specs.Replies.{message};
 ghost use Rattle.script_turns.specs.Powered.{device, has_power};
-ghost use Rattle.serving.specs.Acting.{ActsOn};
+ghost use Rattle.serving.specs.Serving.{ActsOn};
 ghost use Rattle.serving.specs.Ends.{end_by};
-ghost use Rattle.serving.specs.Leaves.{LeavesServing};
-ghost use Rattle.serving.specs.Requests.{IsServedCall, called};
-ghost use Rattle.serving.specs.Scene.{run_of, scene_of};
+ghost use Rattle.serving.specs.Scene.{LeavesServing, run_of, scene_of};
+ghost use Rattle.serving.specs.Written.{IsServedCall, called};
 
 use crate::answers::put_answer;
 use crate::ends::{ServeEnd, end_by};

@@ -3,7 +3,7 @@ ghost use Rattle.std.specs.Prelude.{◌≡◌, ◌≤◌, IfOk, length};
 ghost use Rattle.script_text.specs.Shown.{shown as script_shown};
 ghost use Rattle.fwu_wire.specs.Calls.{shown};
 ghost use Rattle.fwu_wire.specs.Fitting.{AsksWithin};
-ghost use Rattle.serving.specs.Requests.{IsServedCall, called};
+ghost use Rattle.serving.specs.Written.{IsServedCall, called};
 
 use base_core::NoMemory;
 use fwu_wire::{AgentCall, call_of};

@@ -5,9 +5,8 @@ ghost use Rattle.script_turns.specs.Powered.{device, has_power};
 ghost use Rattle.wire_frames.specs.Frames.{IsBody, message_of, request_number_of};
 ghost use Rattle.serving.specs.Ends.{IsEarlyEnd};
 ghost use Rattle.serving.specs.Going.{GoesOn};
-ghost use Rattle.serving.specs.Leaves.{LeavesServing};
-ghost use Rattle.serving.specs.Requests.{called};
-ghost use Rattle.serving.specs.Scene.{at, scene_of, sink_port, source_port};
+ghost use Rattle.serving.specs.Scene.{LeavesServing, at, scene_of, sink_port, source_port};
+ghost use Rattle.serving.specs.Written.{called};
 ghost use Rattle.serving.specs.Serving.{Puts, ServesNew, ServesOne};
 
 use crate::acting::act_on;

@@ -3,9 +3,8 @@ ghost use Rattle.std.specs.Prelude.{◌≡◌, None};
 ghost use Rattle.host_io.specs.Once.{ReadsOnce};
 ghost use Rattle.script_turns.specs.Powered.{device, has_power, moment_of, shown_on};
 ghost use Rattle.serving.specs.Holds.{ServingHolds};
-ghost use Rattle.serving.specs.Leaves.{LeavesServing};
-ghost use Rattle.serving.specs.Scene.{at, run_of, scene_of, sink_port, source_port};
-ghost use Rattle.serving.specs.Starting.{ServeBoots, ServesFrom};
+ghost use Rattle.serving.specs.Scene.{LeavesServing, at, run_of, scene_of, sink_port, source_port};
+ghost use Rattle.serving.specs.Going.{ServeBoots, ServesFrom};
 
 use crate::ends::{ServeEnd, end_by};
 use crate::serving::{Serving, serve_all};

@@ -1,4 +1,4 @@
-use Rattle.flash_commands.proofs.FormatLine.{format-whole}
+use Rattle.flash_commands.proofs.FormatFlash.{format-whole}
 use Rattle.flash_commands.proofs.format_line.add_formatted.Goals as goal
 
 pub returns : goal.returns

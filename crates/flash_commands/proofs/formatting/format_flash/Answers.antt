@@ -1,8 +1,8 @@
 use Rattle.std.proofs.Common.{ℕ, List, ap, refl, sym, ◌∙◌, ◌++◌, arith}
 use Rattle.script_turns.specs.Powered.{moment}
+use Rattle.script_runs.proofs.TopSources.{done-planned, later}
 use Rattle.flash_commands.specs.Formatting.{format_status, format_text, starved, tried}
 use Rattle.flash_commands.proofs.FormatFlash.{as-planned, format-done}
-use Rattle.script_runs.proofs.TopPrints.{done-planned, later}
 use Rattle.flash_commands.proofs.formatting.format_flash.Goals as goal
 
 pub returns-clause-formats : goal.returns-clause-formats

@@ -2,10 +2,9 @@ use Rattle.std.proofs.Common.{◌*◌, ℕ, ap, subst, ◌∙◌}
 use Rattle.std.proofs.lemmas.Result.{IfOk-weaker}
 use Rattle.flash_core.proofs.Touches.{touches_none, touches_then}
 use Rattle.fwu_formats.specs.Layout.{Layout, blocks_needed}
-use Rattle.flash_commands.specs.Formatting.{Tries}
 use Rattle.script_turns.specs.Powered.{moment}
-use Rattle.flash_commands.proofs.ShowFlash.{power-on-guards, power-on-keeps, none-falls, stops-then}
-use Rattle.flash_commands.proofs.FormatFlash.{stop-cause, unwritten-by}
+use Rattle.flash_commands.specs.Formatting.{Tries}
+use Rattle.flash_commands.proofs.FormatFlash.{power-on-guards, power-on-keeps, none-falls, stops-then, stop-cause, unwritten-by}
 use Rattle.flash_commands.proofs.formatting.try_format.Goals as goal
 
 pub returns-clause-tries : goal.returns-clause-tries

@@ -3,11 +3,10 @@ use Rattle.flash_core.specs.Told.{Told}
 use Rattle.fwu_model.specs.declared.kinds.Note.TheVariants as note
 use Rattle.fwu_model.specs.declared.kinds.NoBoot.TheVariants as no_boot
 use Rattle.early_boot.specs.Numbers.{numbers as read, ShowsNumbers}
-use Rattle.script_runs.specs.Noted.{noted}
+use Rattle.script_runs.specs.{Ending.noted, ByTable.flash_fault_line}
 use Rattle.flash_commands.specs.Showing as show
 use Rattle.flash_commands.specs.Showing.{ShowFinds, ShowsNone, shown_line, not_shown_line}
-use Rattle.script_runs.specs.ByTable.{flash_fault_line}
-use Rattle.flash_commands.proofs.ShowFlash.{wakes-on, kept-none, has-cause, not-found}
+use Rattle.flash_commands.proofs.FormatFlash.{wakes-on, kept-none, has-cause, not-found}
 use Rattle.flash_commands.proofs.showing.find.Goals as goal
 
 pub returns-in-Ok-clause-finds : goal.returns-in-Ok-clause-finds

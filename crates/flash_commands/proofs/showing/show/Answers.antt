@@ -1,7 +1,7 @@
 use Rattle.std.proofs.Common.{ℕ, ◌==◌, not, ap, ◌∙◌}
+use Rattle.script_runs.proofs.TopSources.{done-planned}
 use Rattle.flash_commands.specs.Showing as show
-use Rattle.script_runs.proofs.TopPrints.{done-planned}
-use Rattle.flash_commands.proofs.ShowFlash.{wakes-clean, wakes-guard}
+use Rattle.flash_commands.proofs.FormatFlash.{wakes-clean, wakes-guard}
 use Rattle.flash_commands.proofs.showing.show.Goals as goal
 
 pub returns-clause-showed : goal.returns-clause-showed

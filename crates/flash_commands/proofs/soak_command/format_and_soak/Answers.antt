@@ -1,18 +1,16 @@
 use Rattle.std.proofs.Common.{◌++◌, ℕ, List, Some, refl, sym, ap, subst, ◌∙◌}
 use Rattle.std.specs.Prelude.{string_bytes}
 use Rattle.fwu_formats.specs.Digests.{passes_any}
-use Rattle.fwu_journal.specs.Shown.{turns}
-use Rattle.fwu_journal.specs.declared.journal.Journal.{Journal}
+use Rattle.fwu_journal.specs.{Shown.turns, declared.journal.Journal.Journal}
 use Rattle.fwu_model.specs.Call.{Call}
 use Rattle.gen_core.specs.Calls.{soak_calls}
 use Rattle.script_turns.specs.Powered.{TurnMoment, device, moment, moment_of, moment_on, shown_on}
-use Rattle.flash_commands.specs.Formatting.{format_note, format_status, format_text}
-use Rattle.script_runs.specs.Noted.{is_beyond_model, noted}
+use Rattle.script_runs.specs.Ending.{is_beyond_model, noted}
 use Rattle.script_turns.specs.Runs.{Ran}
-use Rattle.flash_commands.specs.Soaking.{SoakReached, only_file_of, soak_files}
-use Rattle.flash_commands.specs.SoakWays.{not_formatted, ran, starved}
+use Rattle.script_runs.proofs.TopSources.{later}
+use Rattle.flash_commands.specs.{Formatting.format_note, Formatting.format_status, Formatting.format_text, Soaking.SoakReached}
+use Rattle.flash_commands.specs.{Soaking.only_file_of, Soaking.soak_files, SoakWays.not_formatted, SoakWays.ran, SoakWays.starved}
 use Rattle.flash_commands.proofs.FormatFlash.{as-planned}
-use Rattle.script_runs.proofs.TopPrints.{later}
 use Rattle.flash_commands.proofs.SoakEnding.{moment-fresh, soak-calls-are, soak-named, stands-ran, tries-as}
 use Rattle.flash_commands.proofs.soak_command.format_and_soak.Goals as goal
 

@@ -1,10 +1,8 @@
 use Rattle.std.proofs.Common.{refl, sym, ap, ◌∙◌}
-use Rattle.gen_core.specs.Draws.{register_after}
-use Rattle.gen_core.specs.Setup.{is_too_small}
+use Rattle.gen_core.specs.{Draws.register_after, Setup.is_too_small}
 use Rattle.script_turns.specs.Powered.{moment}
-use Rattle.flash_commands.specs.Soaking.{first_files}
-use Rattle.flash_commands.specs.SoakWays.{starved, too_small}
-use Rattle.script_runs.proofs.TopPrints.{later}
+use Rattle.script_runs.proofs.TopSources.{later}
+use Rattle.flash_commands.specs.{Soaking.first_files, SoakWays.starved, SoakWays.too_small}
 use Rattle.flash_commands.proofs.soak_command.soak.Goals as goal
 
 pub returns-then-is_too_small-clause-way : goal.returns-then-is_too_small-clause-way

@@ -1,12 +1,10 @@
 use Rattle.std.proofs.Common.{◌≡◌, ◌++◌, List, sym, ap, subst, ◌∙◌, map}
 use Rattle.std.specs.Prelude.{string_bytes}
 use Rattle.fwu_journal.specs.Shown.{turns}
-use Rattle.fwu_model.specs.Call.{Call}
-use Rattle.fwu_model.specs.Reply.{Turn}
-use Rattle.gen_core.specs.Calls.{round_calls, shown as soak_shown}
-use Rattle.gen_core.specs.Setup.{soak_layout}
+use Rattle.fwu_model.specs.{Call.Call, Reply.Turn}
+use Rattle.gen_core.specs.{Calls.round_calls, Calls.shown as soak_shown, Setup.soak_layout}
 use Rattle.script_turns.specs.Powered.{moment_of}
-use Rattle.script_runs.specs.Noted.{noted}
+use Rattle.script_runs.specs.Ending.{noted}
 use Rattle.flash_commands.specs.Soaking.{GoesSoaking, SoakReached}
 use Rattle.flash_commands.proofs.SoakRounds.{calls-armable, round-agrees, starved-before}
 use Rattle.flash_commands.proofs.soaking.do_round.Goals as goal

@@ -1,8 +1,6 @@
 use Rattle.std.proofs.Common.{◌≡◌, ◌+◌, ◌++◌, arith, ◌∙◌, take}
 use Rattle.std.specs.Prelude.{flat_map}
-use Rattle.gen_core.specs.Calls.{round_calls}
-use Rattle.gen_core.specs.Rounds.{rounds_from}
-use Rattle.gen_core.specs.Setup.{soak_layout}
+use Rattle.gen_core.specs.{Calls.round_calls, Rounds.rounds_from, Setup.soak_layout}
 use Rattle.flash_commands.proofs.SoakRounds.{drawn-armable, rest-left, round-there, rounds-done, rounds-end, rounds-on}
 use Rattle.flash_commands.proofs.soaking.do_rounds.Goals as goal
 

@@ -3,9 +3,7 @@ use Rattle.std.specs.Prelude.{flat_map, slice_index_or}
 use Rattle.fwu_journal.specs.Shown.{turns}
 use Rattle.fwu_model.specs.Call.{Call}
 use Rattle.gen_core.specs.Calls.{file_name, round_calls, round_package}
-use Rattle.gen_core.specs.Rounds.{rounds_from}
-use Rattle.gen_core.specs.Setup.{soak_layout}
-use Rattle.gen_core.specs.declared.rounds.Round.{Round}
+use Rattle.gen_core.specs.{Rounds.rounds_from, Setup.soak_layout, declared.rounds.Round.Round}
 use Rattle.host_io.specs.Contents.{Directory}
 use Rattle.script_turns.specs.Powered.{TurnMoment, device, has_power, moment_of}
 use Rattle.flash_commands.specs.Soaking.{GoesSoaking}

@@ -1,11 +1,9 @@
-use Rattle.std.proofs.Common.{◌∷◌, List, [], refl, sym, subst}
+use Rattle.std.proofs.Common.{◌∷◌, List, refl, sym, subst, []}
 use Rattle.std.specs.Prelude.{flat_map, string_bytes}
 use Rattle.fwu_model.specs.Call as call
 use Rattle.fwu_model.specs.Reply.{Turn}
 use Rattle.fwu_journal.specs.Shown.{turns}
-use Rattle.gen_core.specs.Calls.{round_calls}
-use Rattle.gen_core.specs.Rounds.{rounds_from}
-use Rattle.gen_core.specs.Setup.{soak_layout}
+use Rattle.gen_core.specs.{Calls.round_calls, Rounds.rounds_from, Setup.soak_layout}
 use Rattle.script_turns.specs.Powered.{moment_of}
 use Rattle.flash_commands.specs.Soaking.{GoesSoaking, only_file_of}
 use Rattle.flash_commands.proofs.SoakTurns.{goes-none, steps-end, steps-on}

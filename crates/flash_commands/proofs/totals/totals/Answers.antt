@@ -1,16 +1,13 @@
 use Rattle.std.proofs.Common.{◌≡◌, ◌+◌, ◌<◌, ℕ, List, Some, sym, ap, ◌∙◌, arith, length, map, take, subst, get_or}
-use Rattle.std.proofs.lemmas.List.{length-take}
-use Rattle.std.proofs.lemmas.Option.{slice_get-get_or, slice_get-map}
+use Rattle.std.proofs.{lemmas.List.length-take, lemmas.Option.slice_get-get_or, lemmas.Option.slice_get-map}
 use Rattle.std.specs.Prelude.{option_map}
 use Rattle.std.specs.List.{slice_get}
-use Rattle.fwu_journal.specs.Shown.{turn, turns}
-use Rattle.fwu_journal.specs.declared.journal.Turn.{Turn}
-use Rattle.gen_core.specs.Line.{totals_of}
-use Rattle.gen_core.specs.declared.line.Totals.{Totals}
-use Rattle.flash_commands.specs.Soaking.{AreWithin, counted_turn}
-use Rattle.flash_commands.proofs.SoakTotals.{totals-count, totals-more, totals-none, totals-within}
-use Rattle.flash_commands.proofs.SoakTurns.{take-next}
+use Rattle.fwu_journal.specs.{Shown.turn, Shown.turns, declared.journal.Turn.Turn}
+use Rattle.gen_core.specs.{Line.totals_of, declared.line.Totals.Totals}
 use Rattle.fwu_model.specs.Reply.{Turn as Shown}
+use Rattle.flash_commands.specs.Soaking.{AreWithin, counted_turn}
+use Rattle.flash_commands.proofs.SoakEnding.{totals-count, totals-more, totals-none, totals-within}
+use Rattle.flash_commands.proofs.SoakTurns.{take-next}
 use Rattle.flash_commands.proofs.totals.totals.Goals as goal
 
 pub loop-index-init : goal.loop-index-init

@@ -1,14 +1,12 @@
 use Rattle.std.proofs.Common.{List, ℕ, ap, arith, map, refl, inl, inr}
 use Rattle.std.specs.Prelude.{string_bytes}
 use Rattle.fwu_formats.specs.Digests.{passes_any}
-use Rattle.fwu_model.specs.Allow.{list_name}
-use Rattle.fwu_model.specs.Wrote.{usage_line}
+use Rattle.fwu_model.specs.{Allow.list_name, Wrote.usage_line}
 use Rattle.host_io.proofs.Once.{once-none}
-use Rattle.script_cmd.proofs.AnsweredBy.{answered-at, answered-usage}
-use Rattle.script_runs.proofs.TopPrints.{later}
-use Rattle.script_cmd.proofs.TopLists.{by-words, has-any, idles-at, no-list, no-words, none-bad, some-list}
+use Rattle.script_runs.proofs.TopSources.{later}
 use Rattle.script_turns.specs.Powered.{moment}
-use Rattle.script_cmd.proofs.Unasked.{asks-at, asks-none}
+use Rattle.script_cmd.proofs.{AnsweredBy.answered-at, AnsweredBy.answered-usage, Unasked.asks-at, Unasked.asks-none}
+use Rattle.script_cmd.proofs.TopLists.{by-words, has-any, idles-at, no-list, no-words, none-bad, some-list}
 use Rattle.script_cmd.proofs.answering.answer.Goals as goal
 
 pub returns-in-No-clause-answers : goal.returns-in-No-clause-answers

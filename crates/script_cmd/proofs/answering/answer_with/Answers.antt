@@ -1,14 +1,12 @@
 use Rattle.host_io.proofs.Once.{once-none}
-use Rattle.script_cmd.proofs.AnsweredBy.{answered-plain, answered-starved, answered-turns, answered-usage, no-other}
-use Rattle.script_cmd.proofs.TopFormats.{formatted-by}
 use Rattle.std.proofs.lemmas.Bool.{false≢true}
 use Rattle.std.proofs.Common.{None, ap, refl, sym, ◌∙◌, arith}
 use Rattle.fwu_words.specs.Order as ask
 use Rattle.script_runs.specs.Ways.{Given}
-use Rattle.script_cmd.proofs.TopShows.{showed-by}
-use Rattle.script_runs.proofs.TopPrints.{later}
-use Rattle.script_cmd.proofs.TopLists.{no-list-named}
+use Rattle.script_runs.proofs.TopSources.{later}
 use Rattle.script_turns.specs.Powered.{moment}
+use Rattle.script_cmd.proofs.AnsweredBy.{answered-plain, answered-starved, answered-turns, answered-usage, no-other}
+use Rattle.script_cmd.proofs.{TopFormats.formatted-by, TopShows.showed-by, TopLists.no-list-named}
 use Rattle.script_cmd.proofs.Unasked.{asks-none, asks-still}
 use Rattle.script_cmd.proofs.answering.answer_with.Goals as goal
 

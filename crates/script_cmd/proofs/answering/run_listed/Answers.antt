@@ -2,18 +2,15 @@ use Rattle.std.proofs.Common.{◌≡◌, ◌≢◌, ◌∙◌, ℕ, List, Err, a
 use Rattle.std.specs.Prelude.{◌==◌, not, Bool, true, false, IsTrue, IsFalse}
 use Rattle.std.proofs.lemmas.Bool.{false≢true}
 use Rattle.fwu_formats.specs.Digests.{digests_of, passes_listed}
-use Rattle.fwu_model.specs.Causes.{may_fail_before}
-use Rattle.fwu_model.specs.Wrote.{bad_list_line, not_read_line}
+use Rattle.fwu_model.specs.{Causes.may_fail_before, Wrote.bad_list_line, Wrote.not_read_line}
 use Rattle.host_io.proofs.Once.{once-none}
 use Rattle.script_runs.specs.declared.done.Note.TheVariants as note
-use Rattle.script_runs.specs.Ways.{bad_list, list_not_read}
-use Rattle.script_cmd.proofs.AnsweredBy.{answered-refused, answered-starved, answered-with-list}
-use Rattle.script_runs.proofs.TopPrints.{by-plan}
-use Rattle.script_runs.proofs.TopPrints.{later}
-use Rattle.script_cmd.proofs.TopLists.{bytes-there, good-list, idles, idles-at, list-lacks, list-there, of-list, reads-list}
+use Rattle.script_runs.specs.{Ways.bad_list, Ways.list_not_read, Sourced.reads_all}
+use Rattle.script_runs.proofs.TopSources.{by-plan, later}
 use Rattle.script_turns.specs.Powered.{moment}
+use Rattle.script_cmd.proofs.AnsweredBy.{answered-refused, answered-starved, answered-with-list}
+use Rattle.script_cmd.proofs.TopLists.{bytes-there, good-list, idles, idles-at, list-lacks, list-there, of-list, reads-list}
 use Rattle.script_cmd.proofs.Unasked.{asks-behind, asks-list}
-use Rattle.script_runs.specs.Sourced.{reads_all}
 use Rattle.script_cmd.proofs.answering.run_listed.Goals as goal
 
 is-false : (b : Bool) → IsTrue (not b) → IsFalse b

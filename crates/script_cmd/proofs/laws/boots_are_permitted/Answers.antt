@@ -1,4 +1,4 @@
-use Rattle.script_cmd.proofs.Permitted.{boots-are-permitted}
+use Rattle.script_cmd.proofs.OutcomeLemmas.{boots-are-permitted}
 use Rattle.script_cmd.proofs.laws.boots_are_permitted.Goals as goal
 
 pub returns : goal.returns

@@ -1,5 +1,4 @@
-use Rattle.script_cmd.proofs.Serving.{serving}
-use Rattle.script_cmd.proofs.TopLists.{by-list}
+use Rattle.script_cmd.proofs.{Serving.serving, TopLists.by-list}
 use Rattle.script_cmd.proofs.top.fwu_top.Goals as goal
 
 pub returns-clause-serves : goal.returns-clause-serves

@@ -1,14 +1,9 @@
 use Rattle.std.proofs.Common.{Some, Err, ap, subst, sym}
 use Rattle.fwu_words.specs.declared.orders.Place.{Place}
 use Rattle.script_turns.specs.Powered.{moment}
-use Rattle.script_runs.specs.Here.{GoesAt}
-use Rattle.script_runs.specs.Refusing.{plain_of, text_of}
-use Rattle.script_runs.specs.Ways.{ran}
+use Rattle.script_runs.specs.{Here.GoesAt, Refusing.plain_of, Refusing.text_of, Ways.ran}
 use Rattle.script_runs.proofs.Refused.{asks-of, lacks-at, lacks-once, lacks-quiet, lacks-some, lacks-takes, read-takes}
-use Rattle.script_runs.proofs.RunEnds.{ended-not-long}
-use Rattle.script_runs.proofs.TopPrints.{later}
-use Rattle.script_runs.proofs.TopSources.{none-fails}
-use Rattle.script_runs.proofs.TopWays.{ran-told}
+use Rattle.script_runs.proofs.{RunEnds.ended-not-long, TopSources.later, TopSources.none-fails, TopWays.ran-told}
 use Rattle.script_runs.proofs.at_place.run_turns.Goals as goal
 
 -- ---- no script

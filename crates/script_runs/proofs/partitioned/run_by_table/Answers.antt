@@ -2,8 +2,7 @@ use Rattle.std.proofs.Common.{ap, refl}
 use Rattle.script_turns.specs.Powered.{moment}
 use Rattle.script_runs.specs.WaysByTable.{ran}
 use Rattle.script_runs.proofs.TableWays.{lacked-way, starved-way, stopped-way}
-use Rattle.script_runs.proofs.TopWays.{ran-told}
-use Rattle.script_runs.proofs.TopPrints.{later}
+use Rattle.script_runs.proofs.{TopWays.ran-told, TopSources.later}
 use Rattle.script_runs.proofs.partitioned.run_by_table.Goals as goal
 
 pub returns-in-Ok-clause-way : goal.returns-in-Ok-clause-way

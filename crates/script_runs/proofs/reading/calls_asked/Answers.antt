@@ -1,7 +1,7 @@
 use Rattle.std.proofs.Common.{subst, sym}
 use Rattle.fwu_words.specs.declared.orders.ScriptFrom.{ScriptFrom}
 use Rattle.host_io.proofs.Once.{once-none}
-use Rattle.script_runs.specs.Making.{MakesScript}
+use Rattle.script_runs.specs.Sourced.{MakesScript}
 use Rattle.script_runs.proofs.Making.{makes-boot, starves-boot}
 use Rattle.script_runs.proofs.reading.calls_asked.Goals as goal
 

@@ -2,8 +2,7 @@ use Rattle.std.proofs.Common.{arith, ap, ◌∙◌, length-take, List, subst, sy
 use Rattle.std.specs.Prelude.{not}
 use Rattle.host_io.specs.Calls.{raised}
 use Rattle.host_io.proofs.Once.{bytes-none, bytes-one, bytes-then, once-one, once-then}
-use Rattle.script_runs.proofs.TopReads.{IsReading, goes-on, is-long, nothing-yet}
-use Rattle.script_runs.proofs.TopSources.{takes-failed, takes-long, takes-none, takes-piece}
+use Rattle.script_runs.proofs.TopSources.{IsReading, goes-on, is-long, nothing-yet, takes-failed, takes-long, takes-none, takes-piece}
 use Rattle.script_runs.proofs.reading.read_source.Goals as goal
 
 pub returns-then-feed-count-clause-long : goal.returns-then-feed-count-clause-long

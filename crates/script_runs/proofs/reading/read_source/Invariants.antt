@@ -1,6 +1,6 @@
 use Rattle.std.proofs.Common.{◌-◌, vec_len}
 use Rattle.host_io.specs.Once.{ReadsBytes}
-use Rattle.script_runs.proofs.TopReads.{IsReading}
+use Rattle.script_runs.proofs.TopSources.{IsReading}
 use Rattle.script_runs.proofs.reading.read_source.Given as goal
 
 abbrev pub invariant-loop-count : goal.invariant-loop-count

@@ -1,8 +1,7 @@
 use Rattle.std.proofs.Common.{◌≡◌, ◌∙◌, ℕ, List, Ok, Err, ap, false, refl, subst}
 use Rattle.fwu_model.specs.Script.{is_too_long, script_of}
 use Rattle.script_runs.specs.Refusing.{bad, starved, too_long, unread}
-use Rattle.script_runs.proofs.Making.{lacks-read, makes-read}
-use Rattle.script_runs.proofs.TopWays.{of-told}
+use Rattle.script_runs.proofs.{Making.lacks-read, Making.makes-read, TopWays.of-told}
 use Rattle.script_runs.proofs.reading.read_whole.Goals as goal
 
 pub returns-in-Ok-read_script : goal.returns-in-Ok-read_script

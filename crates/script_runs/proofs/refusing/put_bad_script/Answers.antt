@@ -1,5 +1,5 @@
 use Rattle.std.proofs.Common.{◌∙◌}
-use Rattle.script_runs.proofs.TopPrints.{at-piece}
+use Rattle.script_runs.proofs.TopSources.{at-piece}
 use Rattle.script_runs.proofs.refusing.put_bad_script.Goals as goal
 
 pub returns-in-Ok : goal.returns-in-Ok

@@ -1,6 +1,6 @@
 use Rattle.std.proofs.Common.{ap, sym, ◌∙◌}
 use Rattle.script_runs.specs.ByTable.{no_table_line}
-use Rattle.script_runs.proofs.TopPrints.{at-piece}
+use Rattle.script_runs.proofs.TopSources.{at-piece}
 use Rattle.script_runs.proofs.refusing.put_no_table.Goals as goal
 
 pub returns-in-Table : goal.returns-in-Table

@@ -1,22 +1,16 @@
-use Rattle.std.proofs.Common.{◌≡◌, ◌+◌, ◌-◌, List, [], length, IsTrue, IsFalse, Option, Some, refl, sym, ap, subst, ◌∙◌, arith}
+use Rattle.std.proofs.Common.{◌≡◌, ◌+◌, ◌-◌, List, length, IsTrue, IsFalse, Option, Some, refl, sym, ap, subst, ◌∙◌, arith, []}
 use Rattle.std.specs.List.{slice_get}
 use Rattle.std.proofs.lemmas.List.{length-set}
-use Rattle.fwu_model.specs.Call.{Call}
+use Rattle.fwu_model.specs.{Call.Call, Reply.Turn, Run.is_send}
 use Rattle.fwu_model.specs.Call as call
-use Rattle.fwu_model.specs.Reply.{Turn}
-use Rattle.fwu_model.specs.Run.{is_send}
 use Rattle.agent_machine.specs.Fields.{Fields}
-use Rattle.fwu_journal.specs.declared.journal.Journal.{Journal}
-use Rattle.fwu_journal.specs.Shown.{HasRoomFor, turns}
+use Rattle.fwu_journal.specs.{declared.journal.Journal.Journal, Shown.HasRoomFor, Shown.turns}
 use Rattle.script_text.specs.Shown.{shown}
 use Rattle.script_turns.specs.Powered.{at, device, has_power, moment, moment_of, moment_on, shown_on}
-use Rattle.script_turns.specs.Runs.{Ran, calls_of, sends_none}
-use Rattle.script_turns.specs.Sending.{IsUnnamed}
-use Rattle.script_runs.proofs.RunCalls.{left-behind, reads-none, sends-more, unnamed-more}
-use Rattle.script_runs.proofs.RunEnds.{GoesOn, goes-none, goes-on, ends-ran, ends-by, ends-printed, all-ended, all-printed, steps-printed, steps-told}
-use Rattle.script_runs.proofs.TopPrints.{done-planned}
-use Rattle.script_runs.specs.Noted.{is_beyond_model}
-use Rattle.script_runs.specs.Running.{IsUnnamedIn}
+use Rattle.script_turns.specs.{Runs.Ran, Runs.calls_of, Runs.sends_none, Sending.IsUnnamed}
+use Rattle.script_runs.specs.{Ending.is_beyond_model, Running.IsUnnamedIn}
+use Rattle.script_runs.proofs.RunEnds.{left-behind, reads-none, sends-more, unnamed-more, GoesOn, goes-none, goes-on, ends-ran, ends-by, ends-printed, all-ended, all-printed, steps-printed, steps-told}
+use Rattle.script_runs.proofs.TopSources.{done-planned}
 use Rattle.script_runs.proofs.running.run_script.Goals as goal
 
 pub loop-index-init : goal.loop-index-init

@@ -1,10 +1,9 @@
 use Rattle.std.proofs.Common.{◌≡◌, ◌≤◌, ◌-◌, ℕ, IsTrue, length}
 use Rattle.std.specs.List.{slice_get}
 use Rattle.fwu_journal.specs.Shown.{HasRoomFor, turns}
-use Rattle.script_turns.specs.Powered.{device, has_power, moment, moment_of}
+use Rattle.script_turns.specs.{Powered.device, Powered.has_power, Powered.moment, Powered.moment_of, Runs.calls_of, Runs.sends_none}
 use Rattle.host_io.specs.Access.{Access}
 use Rattle.script_runs.specs.Running.{IsUnnamedIn}
-use Rattle.script_turns.specs.Runs.{calls_of, sends_none}
 use Rattle.script_runs.proofs.RunEnds.{GoesOn}
 use Rattle.script_runs.proofs.running.run_script.Given as goal
 

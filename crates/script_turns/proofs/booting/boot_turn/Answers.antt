@@ -2,10 +2,8 @@ use Rattle.std.proofs.Common.{sym, subst}
 use Rattle.early_boot.specs.Ends.{ended}
 use Rattle.fwu_model.specs.Call as call
 use Rattle.fwu_model.specs.Reply.{Turn}
-use Rattle.script_turns.specs.Powered.{moment, moment_in}
-use Rattle.script_turns.proofs.Touching.{boot-touches}
-use Rattle.script_turns.specs.Turning.{Turns}
-use Rattle.script_turns.proofs.Boots.{boots-turn}
+use Rattle.script_turns.specs.{Powered.moment, Powered.moment_in, Turning.Turns}
+use Rattle.script_turns.proofs.{Touching.boot-touches, Boots.boots-turn}
 use Rattle.script_turns.proofs.booting.boot_turn.Goals as goal
 
 pub returns-clause-turns : goal.returns-clause-turns

@@ -1,5 +1,5 @@
 use Rattle.std.proofs.Common.{rules}
-use Rattle.script_turns.proofs.Shows.{shows-as}
+use Rattle.script_turns.proofs.Staying.{shows-as}
 use Rattle.script_turns.proofs.booting.was_booted.Goals as goal
 
 pub invariant_of-result : goal.invariant_of-result

@@ -1,6 +1,5 @@
 use Rattle.fwu_model.specs.Call as call
-use Rattle.script_turns.proofs.CallTakes.{refusing, takes-by}
-use Rattle.script_turns.proofs.Called.{turns-begun}
+use Rattle.script_turns.proofs.{CallTakes.refusing, CallTakes.takes-by, Called.turns-begun}
 use Rattle.script_turns.proofs.calling.begin_partial_turn.Goals as goal
 
 pub returns-clause-turns : goal.returns-clause-turns

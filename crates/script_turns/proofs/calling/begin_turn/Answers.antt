@@ -1,9 +1,7 @@
 use Rattle.std.proofs.Common.{◌≡◌, refl}
 use Rattle.fwu_model.specs.Call as call
-use Rattle.agent_calls.specs.Shown.{fields}
-use Rattle.agent_calls.specs.Metas.{meta_begun}
-use Rattle.script_turns.proofs.CallTakes.{takes-begin}
-use Rattle.script_turns.proofs.Called.{meta-by, turns-done}
+use Rattle.agent_calls.specs.{Shown.fields, Metas.meta_begun}
+use Rattle.script_turns.proofs.{CallTakes.takes-begin, Called.meta-by, Called.turns-done}
 use Rattle.script_turns.proofs.calling.begin_turn.Goals as goal
 
 pub returns-clause-turns : goal.returns-clause-turns

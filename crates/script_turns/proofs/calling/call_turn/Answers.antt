@@ -1,10 +1,8 @@
 use Rattle.std.proofs.Common.{◌≡◌, ℕ, Bool, List, Option, sym, ap, subst, ◌∙◌}
 use Rattle.host_io.specs.Contents.{Directory}
-use Rattle.fwu_model.specs.Call.{Call}
-use Rattle.fwu_model.specs.Reply.{Turn}
+use Rattle.fwu_model.specs.{Call.Call, Reply.Turn}
 use Rattle.script_text.specs.Shown.{shown}
-use Rattle.script_turns.specs.Powered.{TurnMoment}
-use Rattle.script_turns.specs.Turning.{Turns}
+use Rattle.script_turns.specs.{Powered.TurnMoment, Turning.Turns}
 use Rattle.script_turns.proofs.Called.{shown-open}
 use Rattle.script_turns.proofs.calling.call_turn.Goals as goal
 

@@ -1,7 +1,6 @@
 use Rattle.std.proofs.Common.{refl}
 use Rattle.fwu_model.specs.Call as call
-use Rattle.script_turns.proofs.CallTakes.{same-device}
-use Rattle.script_turns.proofs.Called.{turns-done}
+use Rattle.script_turns.proofs.{CallTakes.same-device, Called.turns-done}
 use Rattle.script_turns.proofs.calling.cancel_turn.Goals as goal
 
 pub returns-clause-turns : goal.returns-clause-turns

@@ -1,7 +1,6 @@
 use Rattle.std.proofs.Common.{refl}
 use Rattle.fwu_model.specs.Call as call
-use Rattle.script_turns.proofs.CallTakes.{takes-commit}
-use Rattle.script_turns.proofs.Called.{leaves-by, turns-done}
+use Rattle.script_turns.proofs.{CallTakes.takes-commit, Called.leaves-by, Called.turns-done}
 use Rattle.script_turns.proofs.calling.commit_turn.Goals as goal
 
 pub returns-clause-turns : goal.returns-clause-turns

@@ -2,8 +2,7 @@ use Rattle.std.proofs.Common.{◌≡◌, Ok, refl}
 use Rattle.fwu_model.specs.Call as call
 use Rattle.fwu_model.specs.Reply as reply
 use Rattle.agent_calls.specs.declared.telling.Discovery.{Discovery}
-use Rattle.script_turns.proofs.CallTakes.{same-device}
-use Rattle.script_turns.proofs.Called.{called, never-gone, turns-by}
+use Rattle.script_turns.proofs.{CallTakes.same-device, Called.called, Called.never-gone, Called.turns-by}
 use Rattle.script_turns.proofs.calling.discover_turn.Goals as goal
 
 pub returns-in-Ok-clause-turns : goal.returns-in-Ok-clause-turns

@@ -1,9 +1,7 @@
 use Rattle.std.proofs.Common.{◌≡◌, refl}
 use Rattle.fwu_model.specs.Call as call
-use Rattle.agent_calls.specs.Shown.{fields}
-use Rattle.agent_calls.specs.Metas.{meta_ended}
-use Rattle.script_turns.proofs.CallTakes.{refusing, takes-by}
-use Rattle.script_turns.proofs.Called.{meta-by, turns-done}
+use Rattle.agent_calls.specs.{Shown.fields, Metas.meta_ended}
+use Rattle.script_turns.proofs.{CallTakes.refusing, CallTakes.takes-by, Called.meta-by, Called.turns-done}
 use Rattle.script_turns.proofs.calling.end_turn.Goals as goal
 
 pub returns-clause-turns : goal.returns-clause-turns

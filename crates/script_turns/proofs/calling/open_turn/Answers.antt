@@ -3,8 +3,7 @@ use Rattle.fwu_model.specs.Call.{Call}
 use Rattle.fwu_model.specs.Reply as reply
 use Rattle.agent_machine.specs.declared.stop.Stop.{Stop}
 use Rattle.agent_calls.specs.Shown.{fields}
-use Rattle.script_turns.specs.Calls.{open_call, reply_by}
-use Rattle.script_turns.specs.Turning.{quiet_turn}
+use Rattle.script_turns.specs.{Calls.open_call, Calls.reply_by, Turning.quiet_turn}
 use Rattle.script_turns.proofs.CallTakes.{same-device}
 use Rattle.script_turns.proofs.Called.{called-open, meta-open, never-gone, shown-open, takes-open, turns-by}
 use Rattle.script_turns.proofs.calling.open_turn.Goals as goal

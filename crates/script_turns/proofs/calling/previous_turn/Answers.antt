@@ -1,8 +1,7 @@
 use Rattle.std.proofs.Common.{◌≡◌, ◌⊎◌, refl}
 use Rattle.fwu_model.specs.Call as call
 use Rattle.fwu_model.specs.Reply as reply
-use Rattle.agent_calls.specs.Shown.{fields}
-use Rattle.agent_calls.specs.Metas.{meta_back}
+use Rattle.agent_calls.specs.{Shown.fields, Metas.meta_back}
 use Rattle.script_turns.proofs.CallTakes.{takes-by}
 use Rattle.script_turns.proofs.Called.{called-previous, meta-by, meta-either, never-gone, turns-by}
 use Rattle.script_turns.proofs.calling.previous_turn.Goals as goal

@@ -4,8 +4,7 @@ use Rattle.fwu_model.specs.Call as call
 use Rattle.fwu_model.specs.Reply as reply
 use Rattle.agent_machine.specs.declared.stop.Stop.{Stop}
 use Rattle.script_turns.specs.Turning.{quiet_turn}
-use Rattle.script_turns.proofs.CallTakes.{got, reads-by}
-use Rattle.script_turns.proofs.Called.{called-read, never-gone, turns-by}
+use Rattle.script_turns.proofs.{CallTakes.got, CallTakes.reads-by, Called.called-read, Called.never-gone, Called.turns-by}
 use Rattle.script_turns.proofs.calling.read_turn.Goals as goal
 
 -- what is left of the buffer

@@ -1,7 +1,6 @@
 use Rattle.std.proofs.Common.{refl}
 use Rattle.fwu_model.specs.Call as call
-use Rattle.script_turns.proofs.CallTakes.{takes-write}
-use Rattle.script_turns.proofs.Called.{never-gone, turns-done}
+use Rattle.script_turns.proofs.{CallTakes.takes-write, Called.never-gone, Called.turns-done}
 use Rattle.script_turns.proofs.calling.write_turn.Goals as goal
 
 pub returns-clause-turns : goal.returns-clause-turns

@@ -1,5 +1,5 @@
 use Rattle.std.proofs.Common.{◌∙◌, IsTrue}
-use Rattle.script_turns.proofs.Fitting.{seen-here, shows-here}
+use Rattle.script_turns.proofs.Staying.{seen-here, shows-here}
 use Rattle.script_turns.proofs.quiet.arm.Goals as goal
 
 pub invariant_of-live : goal.invariant_of-live

@@ -1,8 +1,7 @@
 use Rattle.std.proofs.Common.{sym, subst}
 use Rattle.fwu_model.specs.Call as call
 use Rattle.fwu_model.specs.Reply.{Turn}
-use Rattle.script_turns.specs.Powered.{moment_in}
-use Rattle.script_turns.specs.Turning.{Turns}
+use Rattle.script_turns.specs.{Powered.moment_in, Turning.Turns}
 use Rattle.script_turns.proofs.Quiets.{cut-turns}
 use Rattle.script_turns.proofs.quiet.cut_turn.Goals as goal
 

@@ -1,8 +1,7 @@
 use Rattle.std.proofs.Common.{sym, ap, subst, ◌∙◌}
 use Rattle.fwu_model.specs.Call as call
 use Rattle.fwu_model.specs.Reply.{Reply, Turn}
-use Rattle.script_turns.specs.Powered.{moment_in}
-use Rattle.script_turns.specs.Turning.{Turns, quiet_turn}
+use Rattle.script_turns.specs.{Powered.moment_in, Turning.Turns, Turning.quiet_turn}
 use Rattle.script_turns.proofs.Quiets.{no_call-turns}
 use Rattle.script_turns.proofs.quiet.no_call_turn.Goals as goal
 

@@ -3,13 +3,9 @@ use Rattle.flash_core.specs.declared.flash.Flash.{Ghosts}
 use Rattle.agent_machine.specs.Fields.{Fields}
 use Rattle.script_text.specs.Shown.{shown}
 use Rattle.script_turns.specs.Powered.{moment, moment_in, moment_on}
-use Rattle.script_turns.specs.Stage.{device, shown_on}
-use Rattle.script_turns.specs.declared.stage.Fresh.{Fresh}
-use Rattle.script_turns.specs.declared.stage.Stage.{Stage}
+use Rattle.script_turns.specs.{Stage.device, Stage.shown_on, declared.stage.Fresh.Fresh, declared.stage.Stage.Stage}
 use Rattle.script_turns.specs.declared.stage.Stage.TheVariants as stage
-use Rattle.script_turns.proofs.Alone.{turns-alone}
-use Rattle.script_turns.proofs.OffTurns.{off-turn}
-use Rattle.script_turns.proofs.SendTurns.{turns-as}
+use Rattle.script_turns.proofs.{Quiets.turns-alone, Quiets.off-turn, SendTurns.turns-as}
 use Rattle.script_turns.proofs.turning.bank_turn.Goals as goal
 
 module _ {D : Type 0} {F : Ghosts D} (s : Stage D F) where

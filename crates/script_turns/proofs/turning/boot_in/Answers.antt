@@ -1,8 +1,6 @@
 use Rattle.std.proofs.Common.{refl, sym, ap}
-use Rattle.script_turns.specs.Powered.{moment_in}
-use Rattle.script_turns.specs.declared.stage.Stage.{Stage}
-use Rattle.script_turns.proofs.Fitting.{the-is}
-use Rattle.script_turns.proofs.SendTurns.{turns-as}
+use Rattle.script_turns.specs.{Powered.moment_in, declared.stage.Stage.Stage}
+use Rattle.script_turns.proofs.{Staying.the-is, SendTurns.turns-as}
 use Rattle.script_turns.proofs.turning.boot_in.Goals as goal
 
 pub returns-clause-turns : goal.returns-clause-turns

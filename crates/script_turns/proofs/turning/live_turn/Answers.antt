@@ -1,9 +1,7 @@
 use Rattle.std.proofs.Common.{false, refl, rules}
 use Rattle.script_text.specs.Shown.{shown}
-use Rattle.script_turns.proofs.Alone.{turns-alone}
-use Rattle.script_turns.proofs.Fitting.{seen-here, shows-here}
-use Rattle.script_turns.proofs.OffTurns.{off-turn}
-use Rattle.script_turns.proofs.SendTurns.{moment-as, turns-as}
+use Rattle.script_turns.proofs.{Quiets.turns-alone, Quiets.off-turn, Staying.seen-here, Staying.shows-here, SendTurns.moment-as}
+use Rattle.script_turns.proofs.SendTurns.{turns-as}
 use Rattle.script_turns.proofs.turning.live_turn.Goals as goal
 
 pub returns-then-not-live : goal.returns-then-not-live

@@ -1,6 +1,6 @@
 use Rattle.std.proofs.Common.{refl, sym, ap, ◌∙◌}
 use Rattle.script_text.specs.Shown.{shown}
-use Rattle.script_turns.proofs.Alone.{turns-alone}
+use Rattle.script_turns.proofs.Quiets.{turns-alone}
 use Rattle.script_turns.proofs.turning.stage_turn.Goals as goal
 
 pub returns-in-Show : goal.returns-in-Show

@@ -3,11 +3,8 @@ use Rattle.std.specs.Prelude.{IsSome}
 use Rattle.fwu_model.specs.Call.{Call}
 use Rattle.fwu_journal.specs.Shown.{turn}
 use Rattle.script_text.specs.Shown.{shown}
-use Rattle.script_turns.specs.Powered.{moment_of}
-use Rattle.script_turns.specs.Stage.{shown_on}
-use Rattle.script_turns.specs.Turning.{Turns}
-use Rattle.script_turns.specs.declared.stage.Stage.{Stage}
-use Rattle.script_turns.proofs.Fitting.{fits-stage, fitting, the-is}
+use Rattle.script_turns.specs.{Powered.moment_of, Stage.shown_on, Turning.Turns, declared.stage.Stage.Stage}
+use Rattle.script_turns.proofs.Staying.{fits-stage, fitting, the-is}
 use Rattle.script_turns.proofs.turning.turn.Goals as goal
 
 pub returns-in-Boot-clause-turns : goal.returns-in-Boot-clause-turns

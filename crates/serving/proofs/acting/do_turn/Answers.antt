@@ -1,10 +1,9 @@
 use Rattle.std.proofs.Common.{ℕ, ap, subst}
 use Rattle.fwu_journal.specs.Shown.{turn, turns}
 use Rattle.script_text.specs.Shown.{shown}
-use Rattle.script_turns.specs.Powered.{moment_of}
-use Rattle.script_turns.specs.Turning.{Turns}
+use Rattle.script_turns.specs.{Powered.moment_of, Turning.Turns}
 use Rattle.serving.specs.Scene.{run_of, scene}
-use Rattle.serving.proofs.Acts.{acts-by}
+use Rattle.serving.proofs.Starts.{acts-by}
 use Rattle.serving.proofs.acting.do_turn.Goals as goal
 
 pub returns-clause-acts : goal.returns-clause-acts

@@ -1,9 +1,8 @@
 use Rattle.std.proofs.Common.{refl, Err, Ok, arith, subst, ◌∙◌, take}
 use Rattle.host_io.proofs.Once.{bytes-none, bytes-then, once-bytes, once-then}
 use Rattle.wire_frames.proofs.Readings.{length-frame}
-use Rattle.serving.specs.Scene.{at, port, scene}
-use Rattle.serving.specs.Serving.{ServesOne}
-use Rattle.serving.proofs.SoFar.{ends-at, ends-there, so-far-more, so-far-none}
+use Rattle.serving.specs.{Scene.at, Scene.port, Scene.scene, Serving.ServesOne}
+use Rattle.serving.proofs.Steps.{ends-at, ends-there, so-far-more, so-far-none}
 use Rattle.serving.proofs.serving.serve_all.Goals as goal
 
 pub loop-size-init : goal.loop-size-init

@@ -2,7 +2,7 @@ use Rattle.std.proofs.Common.{◌≡◌, ◌-◌}
 use Rattle.host_io.specs.Once.{ReadsBytes}
 use Rattle.script_turns.specs.Powered.{device, has_power}
 use Rattle.serving.specs.Scene.{at, port, scene}
-use Rattle.serving.proofs.SoFar.{SoFar}
+use Rattle.serving.proofs.Steps.{SoFar}
 use Rattle.serving.proofs.serving.serve_all.Given as goal
 
 -- the requests so far were served, on the flash that was handed in, and no file was read

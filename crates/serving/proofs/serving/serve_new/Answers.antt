@@ -1,11 +1,9 @@
 use Rattle.std.proofs.Common.{◌≡◌, ◌∙◌, ℕ, List, length, replicate, take, drop, ap, refl, subst, arith}
 use Rattle.std.proofs.lemmas.List.{length-replicate, length-take-le, take_rest}
 use Rattle.fwu_wire.proofs.Written.{behind-eight, frame-written}
-use Rattle.serving.specs.Acting.{OneReply, OneStop}
-use Rattle.serving.specs.Requests.{called}
-use Rattle.serving.specs.Scene.{at, port, run_of, scene}
-use Rattle.serving.specs.Serving.{ServesNew, stopped}
-use Rattle.serving.proofs.Acts.{new-answered}
+use Rattle.serving.specs.{Serving.OneReply, Serving.OneStop, Serving.ServesNew, Serving.stopped, Written.called, Scene.at}
+use Rattle.serving.specs.Scene.{port, run_of, scene}
+use Rattle.serving.proofs.Starts.{new-answered}
 use Rattle.serving.proofs.serving.serve_new.Goals as goal
 
 pub returns-in-Err-clause-serves : goal.returns-in-Err-clause-serves

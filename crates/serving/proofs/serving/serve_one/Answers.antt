@@ -1,9 +1,7 @@
 use Rattle.std.proofs.Common.{◌∙◌, refl, sym, ap, subst}
 use Rattle.std.specs.Prelude.{List, ℕ}
-use Rattle.wire_frames.specs.declared.exchange.Admission.{Admission}
-use Rattle.wire_frames.specs.Exchange.{admission}
-use Rattle.serving.specs.Scene.{at, port, scene}
-use Rattle.serving.specs.Serving.{Puts, ServesBy}
+use Rattle.wire_frames.specs.{declared.exchange.Admission.Admission, Exchange.admission}
+use Rattle.serving.specs.{Scene.at, Scene.port, Scene.scene, Serving.Puts, Serving.ServesBy}
 use Rattle.serving.proofs.serving.serve_one.Goals as goal
 
 pub returns-in-Acts-clause-serves : goal.returns-in-Acts-clause-serves

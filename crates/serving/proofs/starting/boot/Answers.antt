@@ -1,11 +1,10 @@
-use Rattle.std.proofs.Common.{◌∙◌, ◌∷◌, [], ◌++◌, ℕ, List, ap, refl, subst}
+use Rattle.std.proofs.Common.{◌∙◌, ◌∷◌, ◌++◌, ℕ, List, ap, refl, subst, []}
 use Rattle.fwu_model.specs.Call as call
 use Rattle.fwu_model.specs.Reply.{Turn}
 use Rattle.fwu_journal.specs.Shown.{turn, turns}
-use Rattle.script_turns.specs.Powered.{moment_of}
-use Rattle.script_turns.specs.Turning.{Turns}
+use Rattle.script_turns.specs.{Powered.moment_of, Turning.Turns}
 use Rattle.serving.specs.Scene.{run_of, scene}
-use Rattle.serving.proofs.Acts.{boots-by}
+use Rattle.serving.proofs.Starts.{boots-by}
 use Rattle.serving.proofs.starting.boot.Goals as goal
 
 pub returns-clause-boots : goal.returns-clause-boots

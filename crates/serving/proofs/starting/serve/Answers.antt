@@ -4,12 +4,9 @@ use Rattle.fwu_model.specs.Call as call
 use Rattle.fwu_model.specs.Reply.{Turn}
 use Rattle.script_turns.specs.Powered.{moment_of}
 use Rattle.wire_frames.specs.Exchange.{LastAnswer}
-use Rattle.serving.specs.Acting.{OneStop, OneTurn}
-use Rattle.serving.specs.Going.{GoesOn}
+use Rattle.serving.specs.{Serving.OneStop, Serving.OneTurn, Going.GoesOn, Going.not_started}
 use Rattle.serving.specs.Scene.{at, port, run_of, scene}
-use Rattle.serving.specs.Starting.{not_started}
-use Rattle.serving.proofs.Holds.{serves-holds}
-use Rattle.serving.proofs.Starts.{serves-on}
+use Rattle.serving.proofs.{Holds.serves-holds, Starts.serves-on}
 use Rattle.serving.proofs.starting.serve.Goals as goal
 
 pub returns-in-Err-clause-serves : goal.returns-in-Err-clause-serves
