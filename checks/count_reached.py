@@ -52,6 +52,17 @@ def read_definitions(text):
     return found, made
 
 
+def cited(body, makers):
+    """The names that a definition cites: no field, parameter or variable that it binds itself, and no field of a value."""
+    bound = set(re.findall(r"^  (?:pub )?(" + NAME + r") :", body, re.M)) if re.match(r"(pub )?record ", body) else set()
+    for group in re.findall(r"[({]([^(){}:=]+) :", body) + re.findall(r"λ ([^.()]+)\.", body) + re.findall(r"\blet (" + NAME + ")", body):
+        bound |= set(group.split())
+    for head in re.findall(r"^[^\s{:=]+ ([^=:\n]+) =(?=\s|$)", body, re.M):
+        bound |= set(re.findall(NAME, re.sub(r"\w+\." + NAME, "", head))) - makers
+    values = re.sub(r"(?<=[\w)])\." + NAME, " ", body)
+    return set(re.findall(NAME, re.sub(r"(?<=[{;]) *" + NAME + " = ", " ", values))) - bound
+
+
 class Specs:
     def __init__(self, root):
         self.files = {}
@@ -60,6 +71,8 @@ class Specs:
             module = ".".join(path.relative_to(Path(root, "crates", crate, "specs")).with_suffix("").parts)
             text = path.read_text()
             self.files[(crate, module)] = (*read_definitions(text), *read_uses(text))
+
+        self.makers = {maker for file in self.files.values() for maker in file[1]}
 
     def place(self, target):
         parts = target.split(".")
@@ -101,7 +114,7 @@ class Specs:
             for alias, word in re.findall(r"(?<![\w.])(\w+)\.(" + NAME + ")", body):
                 if alias in modules:
                     add(modules[alias], word)
-            for word in set(re.findall(NAME, body)):
+            for word in cited(body, self.makers):
                 if word in names:
                     add(*names[word])
                 elif word != name and (word in found or word in made):
