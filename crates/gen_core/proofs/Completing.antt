@@ -1,5 +1,5 @@
 -- The images of a package that is made from a number are complete, and it installs them.
-use Rattle.std.proofs.Common.{◌≡◌, ℕ, suc, ◌-◌, ◌*◌, ◌<◌, ◌≤◌, ◌&&◌, ◌==◌, List, [], ◌∷◌, length, get_or, take, drop, map, None, Ok, is_ok, refl, sym, ap, subst, ◌∙◌, arith, IsTrue, leb, ltb, eq-eqb, append-nil}
+use Rattle.std.proofs.Common.{◌≡◌, ℕ, suc, ◌-◌, ◌*◌, ◌<◌, ◌≤◌, List, [], ◌∷◌, length, get_or, take, drop, map, None, Ok, is_ok, refl, sym, ap, subst, ◌∙◌, arith, IsTrue, leb, eq-eqb, append-nil}
 use Rattle.std.proofs.lemmas.Bool.{and_from, and_parts, le-leb, lt-ltb}
 use Rattle.std.proofs.lemmas.List.{length-map}
 use Rattle.std.proofs.Math.Seq.{take-length}
@@ -17,57 +17,39 @@ use Rattle.fip_tables.specs.Packing.{pack_fault}
 use Rattle.fip_tables.proofs.Again.{passed-is-read}
 use Rattle.gen_core.specs.Generated.{generated, generated_images, generated_parts, image_parts, manifest_for, parts_from, manifest_row_of}
 use Rattle.gen_core.specs.Law.{GeneratedAreComplete, InstallsPackage}
-use Rattle.gen_core.proofs.Making.{AreImages, FitSizes, guids_of, images-are, row-limits, sizes-fit}
-use Rattle.gen_core.proofs.Packing.{FitRows, fit-guids, fit-length, generated-fit, have-fields, manifest-length, parts-pass}
+use Rattle.gen_core.proofs.Making.{AreImages, FitSizes, guids_of, images-are, sizes-fit}
+use Rattle.gen_core.proofs.Packing.{FitRows, NoRow, OneMore, fit-guids, fit-length, generated-fit, have-fields, image_parts-fit, manifest-length, parts-pass, sixteen}
 use Rattle.gen_core.proofs.Installing.{entries-fit, images-found, none-missing, none-skipped}
-use Rattle.base_core.proofs.Spelled.{same_refl}
+use Rattle.base_core.proofs.Spelled.{same_by, same_refl}
 
 -- ---- the manifest says what the images are
 
 -- each number has room in its field
-rows-have-room : (number : ℕ) (rs : List ImageRow) (ps : List Part) → number < 4294967296 → IsTrue (list_all is_row rs) → FitRows rs ps
+rows-have-room : (number : ℕ) {rs : List ImageRow} {ps : List Part} → number < 4294967296 → FitRows rs ps
     → IsTrue (list_all is_manifest_row (map (manifest_row_of number) ps))
-rows-have-room number [] [] low each fit = refl
-rows-have-room number [] (p ∷ ps) low each fit = absurd fit
-rows-have-room number (r ∷ rs) [] low each fit = absurd fit
-rows-have-room number (r ∷ rs) (p ∷ ps) low each fit =
-    let own = and_parts (is_row r) (list_all is_row rs) each in
-    let row = row-limits r own.0 in
-    let most = row.most in
-    let size = fit.0.size in
-    and_from (is_manifest_row (manifest_row_of number p)) (list_all is_manifest_row (map (manifest_row_of number) ps))
-    (and_from ((length p.guid == 16) && ltb (length p.bytes) 4294967296 && ltb number 4294967296) (length (sha256 p.bytes) == 32)
-    (and_from ((length p.guid == 16) && ltb (length p.bytes) 4294967296) (ltb number 4294967296)
-    (and_from (length p.guid == 16) (ltb (length p.bytes) 4294967296) (eq-eqb (length p.guid) 16 (ap length fit.0.guid
-    ∙ row.sixteen)) (lt-ltb (length p.bytes) 4294967296 (omega (arith, most, size))))
-    (lt-ltb number 4294967296 low)) (eq-eqb (length (sha256 p.bytes)) 32 (length-sha256 p.bytes)))
-    (rows-have-room number rs ps low own.1 fit.1)
+rows-have-room number low NoRow = refl
+rows-have-room number low (OneMore {p = p} own others) =
+    let short = lt-ltb (length p.bytes) 4294967296 (omega (arith, own.row.most, own.size)) in
+    and_from _ _
+    (and_from _ _ (and_from _ _ (and_from _ _ (eq-eqb _ 16 (sixteen own)) short) (lt-ltb number 4294967296 low))
+    (eq-eqb _ 32 (length-sha256 p.bytes)))
+    (rows-have-room number low others)
 
-rows-in-order : (number : ℕ) (rs : List ImageRow) (ps : List Part) → FitRows rs ps
+rows-in-order : (number : ℕ) {rs : List ImageRow} {ps : List Part} → FitRows rs ps
     → IsTrue (all_paired (λ i r. same_bytes i.guid r.guid) rs (map (manifest_row_of number) ps))
-rows-in-order number [] [] fit = refl
-rows-in-order number [] (p ∷ ps) fit = absurd fit
-rows-in-order number (r ∷ rs) [] fit = absurd fit
-rows-in-order number (r ∷ rs) (p ∷ ps) fit =
-    and_from (same_bytes r.guid p.guid) (all_paired (λ i q. same_bytes i.guid q.guid) rs (map (manifest_row_of number) ps))
-    (subst (λ (g : List ℕ). IsTrue (same_bytes r.guid g)) (sym fit.0.guid) (same_refl r.guid)) (rows-in-order number rs ps fit.1)
+rows-in-order number NoRow = refl
+rows-in-order number (OneMore own others) = and_from _ _ (same_by _ _ (sym own.guid)) (rows-in-order number others)
 
-rows-within : (number : ℕ) (rs : List ImageRow) (ps : List Part) → FitRows rs ps
+rows-within : (number : ℕ) {rs : List ImageRow} {ps : List Part} → FitRows rs ps
     → IsTrue (all_paired (λ i r. leb r.size (4096 * i.slots)) rs (map (manifest_row_of number) ps))
-rows-within number [] [] fit = refl
-rows-within number [] (p ∷ ps) fit = absurd fit
-rows-within number (r ∷ rs) [] fit = absurd fit
-rows-within number (r ∷ rs) (p ∷ ps) fit =
-    and_from (leb (length p.bytes) (4096 * r.slots)) (all_paired (λ i q. leb q.size (4096 * i.slots)) rs (map (manifest_row_of number) ps))
-    (le-leb (length p.bytes) (4096 * r.slots) fit.0.size) (rows-within number rs ps fit.1)
+rows-within number NoRow = refl
+rows-within number (OneMore own others) = and_from _ _ (le-leb _ _ own.size) (rows-within number others)
 
-images-are-said : (number : ℕ) (ps : List Part) → IsTrue (all_paired is_image_of (map (manifest_row_of number) ps) (map (λ p. p.bytes) ps))
+images-are-said : (number : ℕ) (ps : List Part)
+    → IsTrue (all_paired is_image_of (map (manifest_row_of number) ps) (map (λ p. p.bytes) ps))
 images-are-said number [] = refl
 images-are-said number (p ∷ ps) =
-    and_from (is_image_of (manifest_row_of number p) p.bytes) (all_paired is_image_of (map (manifest_row_of number) ps) (map (λ q. q.bytes) ps))
-    (and_from (length p.bytes == length p.bytes) (same_bytes (sha256 p.bytes) (sha256 p.bytes)) (eq-eqb (length p.bytes) (length p.bytes) refl)
-    (same_refl (sha256 p.bytes)))
-    (images-are-said number ps)
+    and_from _ _ (and_from _ _ (eq-eqb (length p.bytes) (length p.bytes) refl) (same_refl (sha256 p.bytes))) (images-are-said number ps)
 
 -- ---- the manifest is read again
 
@@ -82,30 +64,28 @@ module _ (r : ImageRow) (rows : List ImageRow) (sizes : List ℕ) (number securi
   abbrev bytes : List ℕ
   bytes = manifest_bytes m
 
-  each : IsTrue (list_all is_row rows)
-  each = (and_parts (is_row r) (list_all is_row rows) images.each).1
-
   fits : FitRows rows ps
-  fits = (generated-fit (r ∷ rows) sizes number security images fit).1
+  fits = image_parts-fit number 1 rows sizes (omega (arith, fit.count)) (and_parts (is_row r) (list_all is_row rows) images.each).1
+      fit.within
 
   counted : length ps ≡ length rows
-  counted = fit-length rows ps fits
+  counted = fit-length fits
 
   suits : FitsImages (r ∷ rows) m
   suits = record {
     count = omega (arith, length-map ps (manifest_row_of number), counted);
     few = images.few;
     security = omega (arith, least);
-    rows = rows-have-room number rows ps low each fits;
-    order = rows-in-order number rows ps fits;
-    sizes = rows-within number rows ps fits;
+    rows = rows-have-room number low fits;
+    order = rows-in-order number fits;
+    sizes = rows-within number fits;
   }
 
   read : manifest_of (r ∷ rows) bytes ≡ Ok m
   read = ap (manifest_of (r ∷ rows)) (sym (append-nil bytes)) ∙ written-is-read.manifest (r ∷ rows) m [] suits
 
   bytes-length : length bytes ≡ manifest_size (length (r ∷ rows) - 1)
-  bytes-length = omega (arith, manifest-length number security rows ps each fits, counted)
+  bytes-length = omega (arith, manifest-length number security fits, counted)
 
   at : manifest_at bytes ≡ m
   at = ap manifest_at (sym (ap (λ (n : ℕ). take n bytes) (sym bytes-length) ∙ take-length bytes)) ∙ (manifest-holds (r ∷ rows) bytes m read).is
@@ -115,10 +95,8 @@ module _ (r : ImageRow) (rows : List ImageRow) (sizes : List ℕ) (number securi
   are-complete =
       let p = generated_images (r ∷ rows) sizes number security in
       let len : length p ≡ length (r ∷ rows) = omega (arith, length-map ps (λ q. q.bytes), counted) in
-      and_from ((length p == length (r ∷ rows)) && is_ok (manifest_of (r ∷ rows) bytes) && (length bytes == manifest_size (length (r ∷ rows) - 1)))
-      (all_paired is_image_of (manifest_at bytes).rows (map (λ q. q.bytes) ps))
-      (and_from ((length p == length (r ∷ rows)) && is_ok (manifest_of (r ∷ rows) bytes)) (length bytes == manifest_size (length (r ∷ rows) - 1))
-      (and_from (length p == length (r ∷ rows)) (is_ok (manifest_of (r ∷ rows) bytes)) (eq-eqb (length p) (length (r ∷ rows)) len) (ap is_ok read))
+      and_from _ _
+      (and_from _ _ (and_from _ _ (eq-eqb (length p) (length (r ∷ rows)) len) (ap is_ok read))
       (eq-eqb (length bytes) (manifest_size (length (r ∷ rows) - 1)) bytes-length))
       (subst (λ (x : Manifest). IsTrue (all_paired is_image_of x.rows (map (λ q. q.bytes) ps))) (sym at) (images-are-said number ps))
 
@@ -136,15 +114,15 @@ installs-parts rows sizes number security images fit complete is =
     let parts = generated_parts rows sizes number security in
     let file = packed 0x12345678 0 parts 1 in
     let fits = generated-fit rows sizes number security images fit in
-    let again = passed-is-read 0x12345678 0 parts 1 (parts-pass rows parts images fits) (have-fields rows parts images.each fits) (omega arith) (omega arith)
+    let again = passed-is-read 0x12345678 0 parts 1 (parts-pass rows parts images fits) (have-fields fits) (omega arith) (omega arith)
     (omega arith) in
     let toc = again.0 in
-    let guids : map (λ e. e.guid) toc.entries ≡ guids_of rows = again.4 ∙ fit-guids rows parts fits in
+    let guids : map (λ e. e.guid) toc.entries ≡ guids_of rows = again.4 ∙ fit-guids fits in
     let table = tables-are-read.table file toc again.1 in
     record {
       toc = toc;
       table = again.1;
-      whole = none-missing rows toc guids images.distinct (entries-fit file rows toc.entries parts table.within again.6 fits);
+      whole = none-missing rows toc guids images.distinct (entries-fit file toc.entries table.within again.6 fits);
       no_others = none-skipped rows toc guids;
       images_are = images-found rows file toc guids images.distinct ∙ again.6;
       complete = complete;

@@ -10,7 +10,7 @@ use Rattle.fwu_formats.specs.Layout.{ImageRow, are_distinct, find_image}
 use Rattle.fwu_formats.specs.Package.{Entry, Part, Toc, entry_of, has_guid, payload}
 use Rattle.fwu_model.specs.Answer.{first_image_fault, images_of, skipped, payload_or}
 use Rattle.gen_core.proofs.Making.{guids_of}
-use Rattle.gen_core.proofs.Packing.{FitRows}
+use Rattle.gen_core.proofs.Packing.{FitRows, NoRow, OneMore}
 use Rattle.base_core.proofs.Spelled.{same_refl}
 
 -- ---- each image finds its own entry
@@ -62,43 +62,38 @@ images-found rows file toc same distinct = payloads-found file (λ r. entry_of t
 -- ---- none is missing or too large
 
 -- each entry is within its image's slot
-abbrev pub FitEntries : List ImageRow → List Entry → Type 0
-FitEntries [] [] = Unit {0}
-FitEntries [] (e ∷ es) = ⊥
-FitEntries (r ∷ rs) [] = ⊥
-FitEntries (r ∷ rs) (e ∷ es) = (e.size ≤ 4096 * r.slots) × FitEntries rs es
+pub data FitEntries : List ImageRow → List Entry → Type 0 where
+  NoEntry : FitEntries [] []
+  OneEntry : {r : ImageRow} {e : Entry} {rs : List ImageRow} {es : List Entry} → e.size ≤ 4096 * r.slots → FitEntries rs es
+      → FitEntries (r ∷ rs) (e ∷ es)
 
-no-fault-from : (toc : Toc) (rs : List ImageRow) (es : List Entry) → map (λ r. entry_of toc r.guid) rs ≡ map Some es → FitEntries rs es
-    → first_image_fault rs toc ≡ None
+no-fault-from : (toc : Toc) {rs : List ImageRow} {es : List Entry} → map (λ r. entry_of toc r.guid) rs ≡ map Some es
+    → FitEntries rs es → first_image_fault rs toc ≡ None
 unfolding first_image_fault
-no-fault-from toc [] [] same fit = refl
-no-fault-from toc [] (e ∷ es) same fit = absurd fit
-no-fault-from toc (r ∷ rs) [] same fit = absurd fit
-no-fault-from toc (r ∷ rs) (e ∷ es) same fit =
+no-fault-from toc same NoEntry = refl
+no-fault-from toc same (OneEntry {r = r} {e = e} {rs = rs} {es = es} small others) =
     let own : entry_of toc r.guid ≡ Some e = cc in
     let rest : map (λ x. entry_of toc x.guid) rs ≡ map Some es = cc in
-    let low = le-ltb (4096 * r.slots) e.size fit.0 in
-    rw (own, low) (no-fault-from toc rs es rest fit.1)
+    let low = le-ltb (4096 * r.slots) e.size small in
+    rw (own, low) (no-fault-from toc rest others)
 
 pub none-missing : (rows : List ImageRow) (toc : Toc) → map (λ e. e.guid) toc.entries ≡ guids_of rows → IsTrue (are_distinct (guids_of rows))
     → FitEntries rows toc.entries → first_image_fault rows toc ≡ None
-none-missing rows toc same distinct fit = no-fault-from toc rows toc.entries (own-entries toc.entries rows same distinct) fit
+none-missing rows toc same distinct fit = no-fault-from toc (own-entries toc.entries rows same distinct) fit
 
 -- a payload that lies in the file has its entry's size
-pub entries-fit : (file : List ℕ) (rs : List ImageRow) (es : List Entry) (ps : List Part) → All (λ e. e.offset + e.size ≤ length file) es
+pub entries-fit : (file : List ℕ) (es : List Entry) {rs : List ImageRow} {ps : List Part} → All (λ e. e.offset + e.size ≤ length file) es
     → map (payload file) es ≡ map (λ p. p.bytes) ps → FitRows rs ps → FitEntries rs es
-entries-fit file [] [] ps within same fit = tt
-entries-fit file [] (e ∷ es) [] within same fit = absurd cc
-entries-fit file [] (e ∷ es) (p ∷ ps) within same fit = absurd fit
-entries-fit file (r ∷ rs) es [] within same fit = absurd fit
-entries-fit file (r ∷ rs) [] (p ∷ ps) within same fit = absurd cc
-entries-fit file (r ∷ rs) (e ∷ es) (p ∷ ps) within same fit =
+entries-fit file [] within same NoRow = NoEntry
+entries-fit file [] within same (OneMore own others) = absurd cc
+entries-fit file (e ∷ es) within same NoRow = absurd cc
+entries-fit file (e ∷ es) within same (OneMore {p = p} {ps = ps} fits others) =
     let own : payload file e ≡ p.bytes = cc in
     let rest : map (payload file) es ≡ map (λ q. q.bytes) ps = cc in
     let inside : e.offset + e.size ≤ length file = within 0 e (omega arith) in
     let size : length (payload file e) ≡ e.size = length-take-le e.size (drop e.offset file) (omega (arith, length-drop e.offset file, inside)) in
-    let low = fit.0.size in
-    (omega (arith, ap length own, size, low), entries-fit file rs es ps (λ k d lt. within (suc k) d (omega (arith, lt))) rest fit.1)
+    OneEntry (omega (arith, ap length own, size, fits.size))
+    (entries-fit file es (λ k d lt. within (suc k) d (omega (arith, lt))) rest others)
 
 -- ---- no entry is skipped
 

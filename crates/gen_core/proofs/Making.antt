@@ -1,9 +1,10 @@
 -- The parts of a package that is made from a number.
-use Rattle.std.proofs.Common.{◌≡◌, ℕ, zero, suc, ◌+◌, ◌*◌, ◌<◌, ◌≤◌, Bool, true, not, ◌&&◌, ◌==◌, List, [], ◌∷◌, ◌++◌, length, get_or, take, drop, map, refl, sym, ap, ◌∙◌, arith, IsTrue, IsFalse, leb, eqb, leb-true, eqb-true, add-zero}
-use Rattle.std.proofs.lemmas.Bool.{and_from, and_parts, le-leb, not-true}
+use Rattle.std.proofs.Common.{◌≡◌, ℕ, zero, suc, ◌+◌, ◌*◌, ◌<◌, ◌≤◌, Bool, List, [], ◌∷◌, ◌++◌, length, get_or, take, drop, map, refl, sym, ap, ◌∙◌, arith, IsTrue, IsFalse, leb, leb-true, add-zero, eqb, eqb-true}
+use Rattle.std.proofs.lemmas.Bool.{and_from, and_parts, le-leb}
+use Rattle.std.proofs.lemmas.Bool.Decides.{nat_tests}
 use Rattle.std.specs.List.{All, list_all}
-use Rattle.base_core.specs.Bytes.{same_bytes, are_bytes}
-use Rattle.fwu_formats.specs.Layout.{ImageRow, is_row, are_distinct, fits_layout, nil_guid, dir_guid}
+use Rattle.base_core.specs.Bytes.{same_bytes}
+use Rattle.fwu_formats.specs.Layout.{ImageRow, is_row, are_distinct, fits_layout, nil_guid}
 use Rattle.fwu_formats.specs.Manifest.{all_paired}
 use Rattle.fwu_formats.specs.Package.{Part}
 use Rattle.gen_core.specs.Generated.{are_images, fit_sizes, image_bytes, image_parts}
@@ -29,23 +30,16 @@ pub record AreImages (rows : List ImageRow) : Type 0 where
 
 pub images-are : (rows : List ImageRow) → IsTrue (are_images rows) → AreImages rows
 unfolding are_images
-images-are rows h =
-    let a = and_parts (leb 2 (length rows) && leb (length rows) 16 && list_all is_row rows) (are_distinct (guids_of rows)) h in
-    let b = and_parts (leb 2 (length rows) && leb (length rows) 16) (list_all is_row rows) a.0 in
-    let c = and_parts (leb 2 (length rows)) (leb (length rows) 16) b.0 in
-    record { some = leb-true 2 (length rows) c.0; few = leb-true (length rows) 16 c.1; each = b.1; distinct = a.1 }
+images-are rows h = search (arith, nat_tests)
 
 pub layouts-have-images : LayoutsHaveImages
 unfolding are_images fits_layout
 layouts-have-images L h =
-    let rows = L.rows in
-    let banks = leb 2 L.banks && leb L.banks 4 in
-    let a = and_parts (banks && leb 2 (length rows) && leb (length rows) 16 && list_all is_row rows) (are_distinct (guids_of rows)) h in
-    let b = and_parts (banks && leb 2 (length rows) && leb (length rows) 16) (list_all is_row rows) a.0 in
-    let c = and_parts (banks && leb 2 (length rows)) (leb (length rows) 16) b.0 in
-    let d = and_parts banks (leb 2 (length rows)) c.0 in
-    and_from (leb 2 (length rows) && leb (length rows) 16 && list_all is_row rows) (are_distinct (guids_of rows))
-    (and_from (leb 2 (length rows) && leb (length rows) 16) (list_all is_row rows) (and_from (leb 2 (length rows)) (leb (length rows) 16) d.1 c.1) b.1) a.1
+    let a = and_parts _ (are_distinct (guids_of L.rows)) h in
+    let b = and_parts _ (list_all is_row L.rows) a.0 in
+    let c = and_parts _ (leb (length L.rows) 16) b.0 in
+    let d = and_parts _ (leb 2 (length L.rows)) c.0 in
+    and_from _ _ (and_from _ _ (and_from _ _ d.1 c.1) b.1) a.1
 
 pub record FitSizes (rows : List ImageRow) (sizes : List ℕ) : Type 0 where
   pub count : length sizes + 1 ≡ length rows
@@ -63,7 +57,7 @@ soak-images = refl
 
 pub soak-sizes_fit : (a b : ℕ) → a ≤ 8192 → b ≤ 16384 → IsTrue (fit_sizes soak_layout.rows (a ∷ b ∷ []))
 unfolding fit_sizes
-soak-sizes_fit a b first second = and_from (leb a 8192) (leb b 16384 && true) (le-leb a 8192 first) (and_from (leb b 16384) true (le-leb b 16384 second) refl)
+soak-sizes_fit a b first second = and_from _ _ (le-leb a 8192 first) (and_from _ _ (le-leb b 16384 second) refl)
 
 -- ---- a row
 
@@ -74,21 +68,7 @@ pub record IsRow (r : ImageRow) : Type 0 where
   pub most : r.slots ≤ 256
 
 pub row-limits : (r : ImageRow) → IsTrue (is_row r) → IsRow r
-row-limits r h =
-    let a = and_parts ((length r.guid == 16) && are_bytes r.guid && not (same_bytes r.guid nil_guid) && not (same_bytes r.guid dir_guid) && leb 1 r.slots)
-    (leb r.slots 256) h in
-    let b = and_parts ((length r.guid == 16) && are_bytes r.guid && not (same_bytes r.guid nil_guid) && not (same_bytes r.guid dir_guid))
-    (leb 1 r.slots) a.0 in
-    let c = and_parts ((length r.guid == 16) && are_bytes r.guid && not (same_bytes r.guid nil_guid)) (not (same_bytes r.guid dir_guid)) b.0 in
-    let d = and_parts ((length r.guid == 16) && are_bytes r.guid) (not (same_bytes r.guid nil_guid)) c.0 in
-    let e = and_parts (length r.guid == 16) (are_bytes r.guid) d.0 in
-    record {
-      sixteen = eqb-true (length r.guid) 16 e.0;
-      some = not-true
-          (same_bytes r.guid nil_guid) d.1;
-      least = leb-true 1 r.slots b.1;
-      most = leb-true r.slots 256 a.1;
-    }
+row-limits r h = search (arith, nat_tests)
 
 -- ---- the images
 
@@ -99,12 +79,8 @@ image-length number i size = length-map-range_with_len _ 0 size
 -- one part more
 pub image_parts-more : (number i : ℕ) (rows : List ImageRow) (sizes : List ℕ) (k : ℕ) (d : ImageRow) → k < length rows → k < length sizes
     → image_parts number i (take (suc k) rows) (take (suc k) sizes)
-    ≡ image_parts number i (take k rows) (take k sizes) ++ record {
-      guid = (get_or rows k d).guid;
-      flags = 0;
-      bytes = image_bytes number (i + k)
-          (get_or sizes k 0);
-    } ∷ []
+    ≡ image_parts number i (take k rows) (take k sizes)
+    ++ record { guid = (get_or rows k d).guid; flags = 0; bytes = image_bytes number (i + k) (get_or sizes k 0) } ∷ []
 image_parts-more number i [] sizes k d lt mt = absurd (omega (arith, lt))
 image_parts-more number i (r ∷ rows) [] k d lt mt = absurd (omega (arith, mt))
 image_parts-more number i (r ∷ rows) (size ∷ sizes) zero d lt mt =
@@ -113,12 +89,8 @@ image_parts-more number i (r ∷ rows) (size ∷ sizes) (suc k) d lt mt =
     let own : Part = record { guid = r.guid; flags = 0; bytes = image_bytes number i size } in
     let at : i + 1 + k ≡ i + suc k = omega arith in
     ap (λ (ps : List Part). own ∷ ps) (image_parts-more number (i + 1) rows sizes k d (omega (arith, lt)) (omega (arith, mt)))
-    ∙ ap (λ (n : ℕ). own ∷ (image_parts number (i + 1) (take k rows) (take k sizes) ++ record {
-      guid =
-          (get_or rows k d).guid;
-      flags = 0;
-      bytes = image_bytes number n (get_or sizes k 0);
-    } ∷ [])) at
+    ∙ ap (λ (n : ℕ). own ∷ (image_parts number (i + 1) (take k rows) (take k sizes)
+    ++ record { guid = (get_or rows k d).guid; flags = 0; bytes = image_bytes number n (get_or sizes k 0) } ∷ [])) at
 
 -- no size is above that of the largest slot
 sizes-small : (rows : List ImageRow) (sizes : List ℕ) → length sizes ≡ length rows → IsTrue (list_all is_row rows) → IsTrue (all_paired is_within rows sizes)

@@ -15,21 +15,10 @@ use Rattle.gen_core.specs.declared.rounds.Ending.TheVariants.{Nothing}
 
 -- ---- what a soak runs on
 
-layout-is : soak_layout ≡ L
-layout-is = refl
-
-layout-fits : fits_layout soak_layout ≡ true
+layout : (soak_layout ≡ L) × (fits_layout soak_layout ≡ true) × (blocks_needed soak_layout ≡ 22) × (is_too_small 21 ≡ true)
+    × (is_too_small 22 ≡ false)
 unfolding fits_layout
-layout-fits = refl
-
-blocks : blocks_needed soak_layout ≡ 22
-blocks = refl
-
-small-enough : is_too_small 21 ≡ true
-small-enough = refl
-
-large-enough : is_too_small 22 ≡ false
-large-enough = refl
+layout = (refl, refl, refl, refl, refl)
 
 -- ---- draws
 
@@ -42,29 +31,24 @@ first-round : round_of (register_after 2 1) 1 ≡ record {
   sizes = 1920 ∷ 1130 ∷ [];
   security = 0;
   acceptance = 1;
-  cut = Some
-      (record { n = 2; k = 3322 });
+  cut = Some (record { n = 2; k = 3322 });
   ending = Nothing;
 }
 unfolding round_of step drawn
 first-round = refl
 
 -- it rises every eighth round, up to a limit
-securities : map (λ number. security_in_round number 0) (0 ∷ 7 ∷ 8 ∷ 1775 ∷ 1776 ∷ 4294967295 ∷ []) ≡ 1 ∷ 1 ∷ 2 ∷ 222 ∷ 223 ∷ 223 ∷ []
-securities = refl
-
-lower-securities : map (λ number. security_in_round number 1) (0 ∷ 8 ∷ 4294967295 ∷ []) ≡ 0 ∷ 1 ∷ 222 ∷ []
-lower-securities = refl
+securities :
+    (map (λ number. security_in_round number 0) (0 ∷ 7 ∷ 8 ∷ 1775 ∷ 1776 ∷ 4294967295 ∷ []) ≡ 1 ∷ 1 ∷ 2 ∷ 222 ∷ 223 ∷ 223 ∷ [])
+    × (map (λ number. security_in_round number 1) (0 ∷ 8 ∷ 4294967295 ∷ []) ≡ 0 ∷ 1 ∷ 222 ∷ [])
+securities = (refl, refl)
 
 -- ---- calls
 
-calls-of_none : soak_calls 1 0 ≡ call.Boot ∷ []
-unfolding soak_calls
-calls-of_none = refl
-
-calls-of_one : soak_calls 1 1 ≡ call.Boot ∷ call.Cut 2 3322 ∷ call.Send (codes "g1") 1 ∷ call.Boot ∷ []
+calls : (soak_calls 1 0 ≡ call.Boot ∷ [])
+    × (soak_calls 1 1 ≡ call.Boot ∷ call.Cut 2 3322 ∷ call.Send (codes "g1") 1 ∷ call.Boot ∷ [])
 unfolding soak_calls round_calls round_of step drawn digits
-calls-of_one = refl
+calls = (refl, refl)
 
 -- ---- bytes
 
@@ -74,27 +58,19 @@ image = refl
 
 -- ---- the line
 
-line-of_none : soak_line 0 (record { call = call.Boot; reply = reply.Booted 0 1 0 1 false; numbers = None } ∷ [])
-    ≡ codes "soak rounds=0 turns=1 boots=1 losses=0 fallbacks=0 sends=0 bank=0 version=1 counter=1\n"
+-- no turn; one round that lost power; and a package that was installed, then a boot of it, and a fallback from it
+lines :
+    (soak_line 1 [] ≡ codes "soak rounds=1 turns=0 boots=0 losses=0 fallbacks=0 sends=0 bank=0 version=0 counter=0\n")
+    × (soak_line 0 (record { call = call.Boot; reply = reply.Booted 0 1 0 1 false; numbers = None } ∷ [])
+      ≡ codes "soak rounds=0 turns=1 boots=1 losses=0 fallbacks=0 sends=0 bank=0 version=1 counter=1\n")
+    × (soak_line 1 (record { call = call.Boot; reply = reply.Booted 0 1 0 1 false; numbers = None }
+      ∷ record { call = call.Cut 2 3322; reply = reply.CutOk; numbers = None }
+      ∷ record { call = call.Send (codes "g1") 1; reply = reply.Lost; numbers = None }
+      ∷ record { call = call.Boot; reply = reply.Booted 0 1 0 1 false; numbers = None } ∷ [])
+      ≡ codes "soak rounds=1 turns=4 boots=2 losses=1 fallbacks=0 sends=0 bank=0 version=1 counter=1\n")
+    × (soak_line 2 (record { call = call.Send (codes "g1") 1; reply = reply.Sent 3 0; numbers = None }
+      ∷ record { call = call.Boot; reply = reply.Booted 1 2 1 1 false; numbers = None }
+      ∷ record { call = call.Boot; reply = reply.Booted 0 1 3 1 true; numbers = None } ∷ [])
+      ≡ codes "soak rounds=2 turns=3 boots=2 losses=0 fallbacks=1 sends=1 bank=0 version=1 counter=1\n")
 unfolding totals_of digits
-line-of_none = refl
-
-line-of_one : soak_line 1 (record { call = call.Boot; reply = reply.Booted 0 1 0 1 false; numbers = None }
-    ∷ record { call = call.Cut 2 3322; reply = reply.CutOk; numbers = None }
-    ∷ record { call = call.Send (codes "g1") 1; reply = reply.Lost; numbers = None }
-    ∷ record { call = call.Boot; reply = reply.Booted 0 1 0 1 false; numbers = None } ∷ [])
-    ≡ codes "soak rounds=1 turns=4 boots=2 losses=1 fallbacks=0 sends=0 bank=0 version=1 counter=1\n"
-unfolding totals_of digits
-line-of_one = refl
-
--- a package that was installed, then a boot of it, and a fallback from it
-line-of_fallback : soak_line 2 (record { call = call.Send (codes "g1") 1; reply = reply.Sent 3 0; numbers = None }
-    ∷ record { call = call.Boot; reply = reply.Booted 1 2 1 1 false; numbers = None }
-    ∷ record { call = call.Boot; reply = reply.Booted 0 1 3 1 true; numbers = None } ∷ [])
-    ≡ codes "soak rounds=2 turns=3 boots=2 losses=0 fallbacks=1 sends=1 bank=0 version=1 counter=1\n"
-unfolding totals_of digits
-line-of_fallback = refl
-
-line-without_boot : soak_line 1 [] ≡ codes "soak rounds=1 turns=0 boots=0 losses=0 fallbacks=0 sends=0 bank=0 version=0 counter=0\n"
-unfolding totals_of digits
-line-without_boot = refl
+lines = (refl, refl, refl, refl)

@@ -17,12 +17,8 @@ loop-k-preserved c =
     rw add-one
     (c.in_ok-push.ensures.items
     ∙ ap (λ (b : List ℕ). c.loop-k.parts.items ++ record { guid = (get_or rows k row).guid; flags = 0; bytes = b } ∷ []) bytes
-    ∙ ap (λ (ps : List Part). ps ++ record {
-      guid = (get_or rows k row).guid;
-      flags = 0;
-      bytes = image_bytes number (1 + k)
-          (get_or sizes k 0);
-    } ∷ []) c.loop-k.invariant
+    ∙ ap (λ (ps : List Part). ps ++ record { guid = (get_or rows k row).guid; flags = 0; bytes = image_bytes number (1 + k) (get_or sizes k 0) }
+    ∷ []) c.loop-k.invariant
     ∙ sym (image_parts-more number 1 rows sizes k row (omega arith) (omega arith)))
 
 pub returns-clause-count : goal.returns-clause-count
