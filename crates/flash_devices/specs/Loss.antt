@@ -1,7 +1,11 @@
--- What a stop leaves to the next power-on of a memory device.
-use Rattle.std.specs.Prelude.{ℕ, Bool, false, ◌&&◌, if◌then◌else◌, Option, None, Some, length, slice_index, ◌≡◌, ◌<◌}
+-- What becomes of a call of a memory device, and what a stop leaves to the next power-on.
+use Rattle.std.specs.Prelude.{ℕ, Bool, false, ◌&&◌, if◌then◌else◌, Option, None, Some, length, slice_index, ◌≡◌, ◌<◌, ◌≤◌, min, Result, Ok, Err}
 use Rattle.flash_core.specs.Told.{Told, Operation, is_within, finished, fresh}
 use Rattle.flash_core.specs.May.{Leaves, TookEffect}
+use Rattle.flash_core.specs.declared.flash.FlashStop.{FlashStop}
+use Rattle.flash_core.specs.declared.flash.FlashStop.TheVariants.{Lost, Failed}
+use Rattle.flash_devices.specs.declared.meters.Fate.{Fate}
+use Rattle.flash_devices.specs.declared.meters.Fate.TheVariants.{Done, Fails, Dies}
 
 -- So many of the first bytes of the operation under way take effect,
 -- and the other dirty ranges go back to what was stable, or keep what is now.
@@ -31,3 +35,22 @@ pub record ComesBack (known : ℕ) (loss : Loss) (old new : Told) : Type 0 where
   pub leaves : Leaves old new.now
   pub effect : TookEffect old.under known new.now
   pub bytes : (i : ℕ) → i < length old.now → slice_index new.now i ≡ left_at old loss i
+
+-- ---- what becomes of a call
+
+abbrev pub outcome : Fate → Result (Unit {0}) FlashStop
+outcome Done = Ok tt
+outcome Fails = Err Failed
+outcome (Dies landed known back) = Err Lost
+
+-- as many bytes as are known take effect
+abbrev pub Lands : Fate → ℕ → Type 0
+Lands Done n = Unit {0}
+Lands Fails n = n ≡ 0
+Lands (Dies landed known back) n = (n ≡ known) × (known ≤ landed)
+
+-- what an operation of n bytes leaves to the next power-on: no more than its own bytes take effect
+abbrev pub loss_in : Fate → ℕ → Loss
+loss_in Done n = no_loss
+loss_in Fails n = no_loss
+loss_in (Dies landed known back) n = record { landed = min n landed; back = back }

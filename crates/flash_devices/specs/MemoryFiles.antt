@@ -1,7 +1,6 @@
 -- What a file in memory holds and counts, and which of its calls fail.
 use Rattle.std.specs.Prelude.{◌≡◌, ℕ, Bool, List}
-use Rattle.flash_devices.specs.Meters.{is_listed, following}
-use Rattle.flash_devices.specs.Writes.{counts_in}
+use Rattle.flash_devices.specs.Meters.{is_listed, following, counts_in}
 use Rattle.flash_devices.specs.declared.memory_file.MemoryFile.{MemoryFile}
 
 abbrev pub bytes_of : MemoryFile → List ℕ

@@ -83,7 +83,7 @@ impl MemoryFile {
 
 impl ByteFile for MemoryFile {
     ghost use Rattle.flash_core.specs.Touches.{TouchesOnly};
-    ghost use Rattle.flash_devices.specs.Writes.{CountsMet};
+    ghost use Rattle.flash_devices.specs.Meters.{CountsMet};
     ghost use Rattle.flash_devices.specs.MemoryFiles.{bytes_of, fails_next, writes_of, IsCalledOnce};
 
     ghost content = { λ f. Some (bytes_of f) };

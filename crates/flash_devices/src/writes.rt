@@ -1,7 +1,7 @@
 ghost use Rattle.std.specs.Prelude.{◌≡◌, ◌+◌, ◌*◌, ◌<◌, ◌≤◌, length};
 ghost use Rattle.base_core.specs.Block.{block_bytes};
 ghost use Rattle.flash_core.specs.Touches.{TouchesOnly};
-ghost use Rattle.flash_devices.specs.Writes.{CountsMet, counts_in};
+ghost use Rattle.flash_devices.specs.Meters.{CountsMet, counts_in};
 
 use crate::meters::raised;
 use base_core::BLOCK_BYTES;

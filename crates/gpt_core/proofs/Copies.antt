@@ -1,14 +1,16 @@
 -- Copies of a table in an image: what a valid one is, what keeps it, and that a block without a seal is none.
-use Rattle.std.proofs.Common.{◌≡◌, ◌⊎◌, inl, inr, ℕ, ◌+◌, ◌-◌, ◌*◌, ◌<◌, ◌≤◌, Bool, true, false, ◌&&◌, ◌||◌, ◌==◌, if◌then◌else◌, List, length, get_or, take, drop, Option, Some, None, sym, ◌∙◌, ap, arith, refl, subst, leb-true, eqb-true, eq-eqb}
+use Rattle.std.proofs.Common.{◌≡◌, ◌⊎◌, inl, inr, ℕ, ◌+◌, ◌-◌, ◌*◌, ◌<◌, ◌≤◌, Bool, true, false, ◌&&◌, ◌||◌, ◌==◌, if◌then◌else◌, List, ◌++◌, length, get_or, take, drop, Option, Some, None, sym, ◌∙◌, ap, arith, refl, subst, leb-true, eqb-true, eq-eqb}
 use Rattle.std.proofs.lemmas.Bool.{cases_Bool, and_parts, or_right}
-use Rattle.std.proofs.lemmas.List.{ext_get_or, length-take-le, length-drop, get_or-take, get_or-drop}
+use Rattle.std.proofs.lemmas.List.{append-nil, drop_all, length-take-le, length-drop}
 use Rattle.std.specs.Prelude.{IsTrue, slice_range, nat_le}
 use Rattle.base_core.specs.Block.{block}
-use Rattle.base_core.specs.Bytes.{num_at}
+use Rattle.base_core.specs.Bytes.{num_at, overwritten}
 use Rattle.base_core.specs.Crc.{crc}
 use Rattle.base_core.specs.Seal.{Sealed, has_table_seal, has_own_seal, has_v1_seal, is_sealed}
-use Rattle.base_core.proofs.Blocks.{same_block}
+use Rattle.base_core.proofs.Blocks.{length-block, same_block}
+use Rattle.base_core.proofs.Images.{block-overwritten_front, overwritten_below, overwritten_above}
 use Rattle.base_core.proofs.Spelled.{same_refl}
+use Rattle.flash_core.proofs.Calls.{same_range}
 use Rattle.gpt_core.specs.declared.table.TableCopy.{TableCopy}
 use Rattle.gpt_core.specs.declared.table.TableCopy.TheVariants.{Primary, Backup}
 use Rattle.gpt_core.specs.declared.table.WhichTable.TheVariants.{Same, RepairPrimary, RepairBackup}
@@ -16,6 +18,10 @@ pub use Rattle.gpt_core.specs.Table.{copy_from, copy_to}
 use Rattle.gpt_core.specs.Table.{Table, blocks_of, header_at, other, entries_at, number_in, header_has_fields, is_roomy, is_header, table_entries_in, partition_table_of, checked_table, copy_in, same_table, DecidesTable, entry_number_of}
 
 -- ---- a valid copy
+
+pub table_by : (d d' : List ℕ) (f f' l l' : ℕ) (e e' : List ℕ) → d ≡ d' → f ≡ f' → l ≡ l' → e ≡ e'
+    → ◌≡◌ {A = Table} (record { disk = d; first = f; last = l; entries = e }) (record { disk = d'; first = f'; last = l'; entries = e' })
+table_by d d' f f' l l' e e' a b c h = rw (a, b, c, h) refl
 
 pub if_some : {X : Type 0} (b : Bool) (o : Option X) (v : X) → (if b then o else None) ≡ Some v → (b ≡ true) × (o ≡ Some v)
 if_some true o v e = (refl, e)
@@ -89,15 +95,24 @@ copies_apart Backup blocks e apart = inr (omega (arith, apart))
 
 -- ---- a valid copy stays where its bytes do
 
-pub range-same : (a n : ℕ) (image other : List ℕ) → a + n ≤ length image → length other ≡ length image → ((i : ℕ) → a ≤ i → i < a + n → get_or image i 0 ≡ get_or other i 0)
-    → slice_range image a (a + n) ≡ slice_range other a (a + n)
-range-same a n image other fits size same =
-    let width : a + n - a ≡ n = omega arith in
-    rw width
-    (ext_get_or 0 (take n (drop a image)) (take n (drop a other))
-    (length-take-le n (drop a image) (omega (arith, length-drop a image, fits)) ∙ sym (length-take-le n (drop a other) (omega (arith, length-drop a other, fits, size))))
-    (λ k below. let small : k < n = omega (arith, below, length-take-le n (drop a image) (omega (arith, length-drop a image, fits))) in
-    get_or-take n (drop a image) k 0 small ∙ get_or-drop a image k 0 ∙ same (a + k) (omega arith) (omega (arith, small)) ∙ sym (get_or-drop a other k 0) ∙ sym (get_or-take n (drop a other) k 0 small)))
+-- bytes that are written leave those beside them
+pub overwritten_beside : (at : ℕ) (bytes image : List ℕ) (i : ℕ) → at + length bytes ≤ length image → (i < at) ⊎ (at + length bytes ≤ i)
+    → get_or (overwritten at bytes image) i 0 ≡ get_or image i 0
+overwritten_beside at bytes image i fits (inl low) = overwritten_below at bytes image fits i 0 low
+overwritten_beside at bytes image i fits (inr high) = overwritten_above at bytes image fits i 0 high
+
+-- those in a block leave those beside the block
+pub block_beside : (b : ℕ) (bytes image : List ℕ) (i : ℕ) → length bytes ≤ 4096 → 4096 * b + 4096 ≤ length image → (i < 4096 * b) ⊎ (4096 * b + 4096 ≤ i)
+    → get_or (overwritten (4096 * b) bytes image) i 0 ≡ get_or image i 0
+block_beside b bytes image i short long (inl low) = overwritten_below (4096 * b) bytes image (omega arith) i 0 low
+block_beside b bytes image i short long (inr high) = overwritten_above (4096 * b) bytes image (omega arith) i 0 (omega arith)
+
+-- a whole block that is written is there
+pub block_over : (b : ℕ) (bytes image : List ℕ) → length bytes ≡ 4096 → 4096 * b + 4096 ≤ length image → block b (overwritten (4096 * b) bytes image) ≡ bytes
+block_over b bytes image whole long =
+    block-overwritten_front b bytes image (omega (arith, whole)) long
+    ∙ ap (λ (l : List ℕ). bytes ++ l) (drop_all (length bytes) (block b image) (omega (arith, whole, length-block b image long)))
+    ∙ append-nil bytes
 
 module _ (copy : TableCopy) (blocks : ℕ) (image : List ℕ) (t : Table) (size : length image ≡ 4096 * blocks) (valid : copy_in copy blocks image ≡ Some t) where
   abbrev head : List ℕ
@@ -153,7 +168,7 @@ module _ (copy : TableCopy) (blocks : ℕ) (image : List ℕ) (t : Table) (size 
       let at_is : at ≡ 4096 * entries_at copy blocks e = ap (λ k. 4096 * entries_at copy blocks k) e_is in
       let short : number_in head * 128 ≤ 4096 * e = (let n = number_is in rw (← n) (omega arith)) in
       let entries : slice_range image at (at + number_in head * 128) ≡ slice_range image' at (at + number_in head * 128) =
-      range-same at (number_in head * 128) image image' (omega (arith, at_is, short, ew.1, inside, size)) size'
+      same_range at (at + number_in head * 128) image image' (sym size') (omega (arith, at_is, short, ew.1, inside, size, size'))
       (λ i low high. same i (omega (arith, low, at_is, ew.0)) (omega (arith, high, at_is, short, ew.1))) in
       ap (λ (h : List ℕ). if is_header copy blocks h then checked_table h (table_entries_in copy blocks h image') else None) header
       ∙ ap (λ (es : List ℕ). if is_header copy blocks head then checked_table head es else None) (sym entries)

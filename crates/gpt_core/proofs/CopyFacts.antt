@@ -8,11 +8,7 @@ use Rattle.base_core.specs.Crc.{crc}
 use Rattle.base_core.specs.Seal.{has_table_seal}
 use Rattle.gpt_core.specs.declared.table.TableCopy.{TableCopy}
 use Rattle.gpt_core.specs.Table.{Table, IsCopy, blocks_of, number_in, header_at, other, entries_at, has_start, has_places, header_has_fields, is_roomy, is_header, table_entries_in, copy_in}
-use Rattle.gpt_core.proofs.Copies.{valid_parts, valid_from, valid_roomy}
-
-table_same : (d d' : List ℕ) (f f' l l' : ℕ) (e e' : List ℕ) → d ≡ d' → f ≡ f' → l ≡ l' → e ≡ e'
-    → ◌≡◌ {A = Table} (record { disk = d; first = f; last = l; entries = e }) (record { disk = d'; first = f'; last = l'; entries = e' })
-table_same d d' f f' l l' e e' a b c h = rw (a, b, c, h) refl
+use Rattle.gpt_core.proofs.Copies.{table_by, valid_parts, valid_from, valid_roomy}
 
 pub says : (copy : TableCopy) (blocks : ℕ) (image : List ℕ) (t : Table) → copy_in copy blocks image ≡ Some t → IsCopy copy blocks image t
 unfolding header_has_fields
@@ -60,6 +56,6 @@ said copy blocks image t c =
     valid_from copy blocks image t (record {
       header = subst (λ (h : List ℕ). IsTrue (is_header copy blocks h)) (sym c.stands) header;
       checks = ap (λ (h : List ℕ). num_at 4 h 88) c.stands ∙ c.checks ∙ ap crc (sym same);
-      is = table_same _ t.disk _ t.first _ t.last _ t.entries
+      is = table_by _ t.disk _ t.first _ t.last _ t.entries
           (ap (λ (h : List ℕ). part h 56 72) c.stands ∙ c.disk) (ap (λ (h : List ℕ). num_at 8 h 40) c.stands ∙ c.usable.0) (ap (λ (h : List ℕ). num_at 8 h 48) c.stands ∙ c.usable.1) same;
     })

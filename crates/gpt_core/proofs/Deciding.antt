@@ -1,8 +1,8 @@
 -- What the copies say where a table decides, and what a repair of the other copy leaves.
-use Rattle.std.proofs.Common.{◌≡◌, ℕ, ◌*◌, Bool, true, false, ◌&&◌, ◌==◌, List, length, Option, Some, None, refl, sym, ap, ◌∙◌, subst, eqb-true}
+use Rattle.std.proofs.Common.{◌≡◌, ℕ, ◌*◌, Bool, true, false, ◌&&◌, ◌==◌, length, Option, Some, None, refl, sym, ap, ◌∙◌, subst, eqb-true}
 use Rattle.std.proofs.lemmas.Bool.{and_parts, false≢true}
 use Rattle.std.proofs.lemmas.Result.{IfOk-weaker}
-use Rattle.std.specs.Prelude.{IsTrue, Result, Ok, if◌then◌else◌}
+use Rattle.std.specs.Prelude.{◌≢◌, IsTrue, Result, Ok, if◌then◌else◌}
 use Rattle.base_core.specs.Bytes.{same_bytes}
 use Rattle.base_core.proofs.Spelled.{same_is}
 use Rattle.flash_core.specs.declared.flash.FlashStop.{FlashStop}
@@ -11,16 +11,18 @@ use Rattle.gpt_core.specs.declared.table.TableCopy.{TableCopy}
 use Rattle.gpt_core.specs.declared.table.TableCopy.TheVariants.{Primary, Backup}
 use Rattle.gpt_core.specs.declared.table.WhichTable.{WhichTable}
 use Rattle.gpt_core.specs.declared.table.WhichTable.TheVariants.{Same, RepairPrimary, RepairBackup}
-use Rattle.gpt_core.specs.Table.{Table, FitsTable, TableFinds, blocks_of, entry_number_of, header_at, entries_at, copy_in, copy_from, copy_to, same_table, deciding_table, table_in_image, DecidesTable}
+use Rattle.gpt_core.specs.Table.{Table, FitsTable, blocks_of, entry_number_of, header_at, entries_at, copy_in, copy_from, copy_to, same_table, deciding_table, table_in_image, DecidesTable}
 use Rattle.gpt_core.specs.Repair.{MendsTable, HeadersGuarded, Ready, RepairSteps, IsMended}
 use Rattle.gpt_core.specs.Writes.{Spans}
-use Rattle.gpt_core.proofs.Copies.{some_is, same_table_refl, header_within, entries_within}
+use Rattle.gpt_core.proofs.Copies.{some_is, table_by, same_table_refl, header_within, entries_within}
 use Rattle.gpt_core.proofs.Mending.{both_say}
 use Rattle.gpt_core.proofs.Stepping.{image_is_now}
 
-table_by : (d d' : List ℕ) (f f' l l' : ℕ) (e e' : List ℕ) → d ≡ d' → f ≡ f' → l ≡ l' → e ≡ e'
-    → ◌≡◌ {A = Table} (record { disk = d; first = f; last = l; entries = e }) (record { disk = d'; first = f'; last = l'; entries = e' })
-table_by d d' f f' l l' e e' a b c h = rw (a, b, c, h) refl
+-- What the copies say where this table decides, and this is to be repaired.
+abbrev TableFinds : WhichTable → Table → Option Table → Option Table → Type 0
+TableFinds Same t primary backup = (primary ≡ Some t) × (backup ≡ Some t)
+TableFinds RepairPrimary t primary backup = (primary ≡ None) × (backup ≡ Some t)
+TableFinds RepairBackup t primary backup = (primary ≡ Some t) × (backup ≢ Some t)
 
 -- tables that are tested to be the same are one
 same_is_table : (t u : Table) → IsTrue (same_table t u) → t ≡ u

@@ -1,18 +1,19 @@
 -- The heart of a repair: each of its steps, at any loss, leaves images in which the same table decides.
-use Rattle.std.proofs.Common.{◌≡◌, ◌⊎◌, inl, inr, ℕ, ◌+◌, ◌*◌, ◌<◌, ◌≤◌, List, length, get_or, Some, None, sym, ◌∙◌, ap, arith, refl, subst}
-use Rattle.std.specs.Prelude.{IsTrue, Result, Ok, Err}
+use Rattle.std.proofs.Common.{◌≡◌, ◌⊎◌, inl, inr, ℕ, ◌+◌, ◌*◌, ◌<◌, ◌≤◌, List, length, get_or, Some, None, sym, ◌∙◌, arith, subst}
+use Rattle.std.specs.Prelude.{Result, Ok, Err}
 use Rattle.base_core.specs.Block.{block, blank}
 use Rattle.base_core.specs.Seal.{Sealed}
 use Rattle.base_core.proofs.Blocks.{same_block}
 use Rattle.base_core.proofs.Seals.{blank_unsealed}
-use Rattle.flash_core.specs.Told.{Told, NothingDirty, is_guarded, put, halt, overwritten}
+use Rattle.flash_core.specs.Told.{Told, NothingDirty, put, halt, written, overwritten}
 use Rattle.flash_core.specs.May.{May, Keeps}
 use Rattle.flash_core.proofs.Images.{length-overwritten}
 use Rattle.gpt_core.specs.declared.table.TableCopy.{TableCopy}
 use Rattle.gpt_core.specs.declared.table.TableCopy.TheVariants.{Primary, Backup}
 use Rattle.gpt_core.specs.Table.{Table, blocks_of, header_at, other, entries_at, copy_in, DecidesTable, BothSay, entry_number_of}
-use Rattle.flash_core.proofs.OneCall.{IsLeft, one_call_left, one_call_outside, sure_settled}
-use Rattle.gpt_core.proofs.Copies.{none_unsealed, copy_from, copy_to, header_within, entries_within, within_image, copies_apart, copy_stays, table_roomy, primary_decides, backup_decides}
+use Rattle.gpt_core.specs.Repair.{Ready}
+use Rattle.flash_core.proofs.OneCall.{one_call_left, one_call_outside, sure_settled}
+use Rattle.gpt_core.proofs.Copies.{block_beside, none_unsealed, copy_from, copy_to, header_within, entries_within, within_image, copies_apart, copy_stays, table_roomy, primary_decides, backup_decides}
 
 -- ---- with one copy, or with both
 
@@ -74,80 +75,81 @@ module _ (w : TableCopy) (blocks : ℕ) (t : Table) where
   pub none_blank : (image : List ℕ) → block head_at image ≡ blank 4096 → copy_in w blocks image ≡ None
   none_blank image is = none_unsealed w blocks image (λ sealed. blank_unsealed 4096 (omega arith) (subst Sealed is sealed))
 
-  -- a step that writes the header's block of a device with nothing dirty, in which the table decides
-  module _ (s : Told) (bytes : List ℕ) (nothing : NothingDirty s) (size : length s.now ≡ 4096 * blocks) (short : length bytes ≤ 4096) (guarded : IsTrue (is_guarded s head_at))
-      (says : copy_in (other w) blocks s.now ≡ Some t) (before : DecidesTable blocks t s.now)
-      (after : (block head_at (overwritten (4096 * head_at) bytes s.now) ≡ blank 4096) ⊎ (copy_in w blocks (overwritten (4096 * head_at) bytes s.now) ≡ Some t)) where
-    inside : 4096 * head_at + 4096 ≤ length s.now
-    inside = head_inside s.now size says
+  -- a step that writes the header's block of a device that is ready
+  module _ (s : Told) (ready : Ready w blocks t s) (bytes : List ℕ) (short : length bytes ≤ 4096) where
+    pub inside : 4096 * head_at + 4096 ≤ length s.now
+    inside = head_inside s.now ready.size ready.says
 
-    below : 4096 * head_at + length bytes ≤ 4096 * head_at + 4096
-    below = omega (arith, short)
-
-    above : 4096 * head_at ≤ 4096 * head_at
-    above = omega arith
-
-    -- outside the block it is as it was
-    outside : (u : Told) (image : List ℕ) → (u ≡ halt (4096 * head_at) bytes s) ⊎ (u ≡ put (4096 * head_at) bytes s) → May u image
-        → (i : ℕ) → (i < 4096 * head_at) ⊎ (4096 * head_at + 4096 ≤ i) → get_or image i 0 ≡ get_or s.now i 0
-    outside u image (inl is) may = one_call_outside head_at (4096 * head_at) bytes s above below inside nothing call_stopped image (subst (λ (v : Told). May v image) is may)
-    outside u image (inr is) may = one_call_outside head_at (4096 * head_at) bytes s above below inside nothing call_done image (subst (λ (v : Told). May v image) is may)
-
-    -- the other copy stays
-    stays : (u : Told) (image : List ℕ) → (u ≡ halt (4096 * head_at) bytes s) ⊎ (u ≡ put (4096 * head_at) bytes s) → May u image → length image ≡ length s.now → copy_in (other w) blocks image ≡ Some t
-    stays u image step may same_size =
-        other_stays s.now size says image same_size
-        (λ i out. outside u image step may i (head_out s.now size says i out))
-
-    done_size : length (overwritten (4096 * head_at) bytes s.now) ≡ length s.now
+    pub done_size : length (overwritten (4096 * head_at) bytes s.now) ≡ length s.now
     done_size = length-overwritten (4096 * head_at) bytes s.now (omega (arith, inside, short))
 
-    decides_done : (image : List ℕ) → image ≡ overwritten (4096 * head_at) bytes s.now → copy_in (other w) blocks image ≡ Some t
-        → (block head_at (overwritten (4096 * head_at) bytes s.now) ≡ blank 4096) ⊎ (copy_in w blocks (overwritten (4096 * head_at) bytes s.now) ≡ Some t) → DecidesTable blocks t image
-    decides_done image is kept (inl erased) = decides_without w blocks image t (none_blank image (ap (block head_at) is ∙ erased)) kept
-    decides_done image is kept (inr written) = decides_with w blocks image t (ap (copy_in w blocks) is ∙ written) kept
+    -- the other copy stays
+    pub says_done : copy_in (other w) blocks (overwritten (4096 * head_at) bytes s.now) ≡ Some t
+    says_done =
+        other_stays s.now ready.size ready.says _ done_size
+        (λ i out. block_beside head_at bytes s.now i short inside (head_out s.now ready.size ready.says i out))
 
-    decides : (u : Told) (image : List ℕ) → (u ≡ halt (4096 * head_at) bytes s) ⊎ (u ≡ put (4096 * head_at) bytes s) → May u image → length image ≡ length s.now
-        → IsLeft head_at s.now (overwritten (4096 * head_at) bytes s.now) image → DecidesTable blocks t image
-    decides u image step may same_size (inl is) = subst (DecidesTable blocks t) (sym is) before
-    decides u image step may same_size (inr (inl is)) = decides_done image is (stays u image step may same_size) after
-    decides u image step may same_size (inr (inr none)) = decides_without w blocks image t (none_unsealed w blocks image none) (stays u image step may same_size)
+    -- the block is erased then, or the copy says the table
+    module _ (after : (block head_at (overwritten (4096 * head_at) bytes s.now) ≡ blank 4096) ⊎ (copy_in w blocks (overwritten (4096 * head_at) bytes s.now) ≡ Some t)) where
+      pub decides_done : DecidesTable blocks t (overwritten (4096 * head_at) bytes s.now)
+      decides_done = elim after [
+        | inl erased ↦ decides_without w blocks _ t (none_blank _ erased) says_done
+        | inr written ↦ decides_with w blocks _ t written says_done
+      ]
 
-    -- THE LAW of a header's step: stopped or done, the same table decides in each image that a loss may leave.
-    pub header_stopped : (image : List ℕ) → May (halt (4096 * head_at) bytes s) image → DecidesTable blocks t image
-    unfolding halt
-    header_stopped image may =
-        decides (halt (4096 * head_at) bytes s) image (inl refl) may may.leaves.size (one_call_left head_at (4096 * head_at) bytes s above below inside nothing call_stopped image guarded may)
+      decides : (result : Result (Unit {0}) (Unit {0})) (image : List ℕ) → May (written result (4096 * head_at) bytes s) image → length image ≡ length s.now → DecidesTable blocks t image
+      decides result image may same_size =
+          let above : 4096 * head_at ≤ 4096 * head_at = omega arith in
+          let below : 4096 * head_at + length bytes ≤ 4096 * head_at + 4096 = omega (arith, short) in
+          let outside = one_call_outside head_at (4096 * head_at) bytes s above below inside ready.nothing result image may in
+          elim (one_call_left head_at (4096 * head_at) bytes s above below inside ready.nothing result image ready.guarded may) [
+            | inl is ↦ subst (DecidesTable blocks t) (sym is) ready.decides
+            | inr (inl is) ↦ subst (DecidesTable blocks t) (sym is) decides_done
+            | inr (inr none) ↦ decides_without w blocks image t (none_unsealed w blocks image none)
+                (other_stays s.now ready.size ready.says image same_size (λ i out. outside i (head_out s.now ready.size ready.says i out)))
+          ]
 
-    pub header_done : (image : List ℕ) → May (put (4096 * head_at) bytes s) image → DecidesTable blocks t image
-    unfolding put
-    header_done image may =
-        decides (put (4096 * head_at) bytes s) image (inr refl) may (may.leaves.size ∙ done_size) (one_call_left head_at (4096 * head_at) bytes s above below inside nothing call_done image guarded may)
+      -- THE LAW of a header's step: stopped or done, the same table decides in each image that a loss may leave.
+      pub header_stopped : (image : List ℕ) → May (halt (4096 * head_at) bytes s) image → DecidesTable blocks t image
+      unfolding halt
+      header_stopped image may = decides call_stopped image may may.leaves.size
+
+      pub header_done : (image : List ℕ) → May (put (4096 * head_at) bytes s) image → DecidesTable blocks t image
+      unfolding put
+      header_done image may = decides call_done image may (may.leaves.size ∙ done_size)
+
+  -- the blocks of the entries lie in the copy, and beside its header
+  module _ (apart : 3 + 2 * blocks_of (entry_number_of t) ≤ blocks) where
+    abbrev from : ℕ
+    from = 4096 * entries_at w blocks (blocks_of (entry_number_of t))
+
+    abbrev to : ℕ
+    to = from + 4096 * blocks_of (entry_number_of t)
+
+    pub entries_wide : (i : ℕ) → (i < low) ⊎ (high ≤ i) → (i < from) ⊎ (to ≤ i)
+    entries_wide i (inl l) = inl (omega (arith, l, (entries_within w blocks (blocks_of (entry_number_of t)) apart).0))
+    entries_wide i (inr r) = inr (omega (arith, r, (entries_within w blocks (blocks_of (entry_number_of t)) apart).1))
+
+    pub entries_beside : (c : TableCopy) (i : ℕ) → 4096 * header_at c blocks ≤ i → i < 4096 * header_at c blocks + 4096
+        → (i < 4096 * entries_at c blocks (blocks_of (entry_number_of t)))
+        ⊎ (4096 * entries_at c blocks (blocks_of (entry_number_of t)) + 4096 * blocks_of (entry_number_of t) ≤ i)
+    entries_beside Primary i a b = inl (omega (arith, b))
+    entries_beside Backup i a b = inr (omega (arith, a, apart))
+
+  -- an image that differs in the entries alone has the other copy, and the blank block
+  pub entries_kept : (s image : List ℕ) → length s ≡ 4096 * blocks → copy_in (other w) blocks s ≡ Some t → block head_at s ≡ blank 4096 → length image ≡ length s
+      → ((i : ℕ) → (i < 4096 * entries_at w blocks (blocks_of (entry_number_of t))) ⊎ (4096 * entries_at w blocks (blocks_of (entry_number_of t)) + 4096 * blocks_of (entry_number_of t) ≤ i)
+      → get_or image i 0 ≡ get_or s i 0)
+      → (block head_at image ≡ blank 4096) × (copy_in (other w) blocks image ≡ Some t)
+  entries_kept s image size says empty same_size there = (
+    same_block head_at image s (omega (arith, head_inside s size says, same_size)) (sym same_size) (λ i a b. there i (entries_beside (room s size says) w i a b)) ∙ empty,
+    other_stays s size says image same_size (λ i out. there i (entries_wide (room s size says) i out)),
+  )
 
   -- THE LAW of the entries: while the header's block is blank, whatever is done to the entries, the table of the other copy decides.
   pub entries_step : (s u : Told) (image : List ℕ) → NothingDirty s → length s.now ≡ 4096 * blocks → copy_in (other w) blocks s.now ≡ Some t → block head_at s.now ≡ blank 4096
       → Keeps (4096 * entries_at w blocks (blocks_of (entry_number_of t))) (4096 * entries_at w blocks (blocks_of (entry_number_of t)) + 4096 * blocks_of (entry_number_of t)) s u → May u image → DecidesTable blocks t image
   entries_step s u image nothing size says empty keeps may =
-      decides_without w blocks image t
-      (none_blank image (same_block head_at image s.now (omega (arith, head_inside s.now size says, same_size)) (sym same_size) (λ i a b. there i (head_apart w i a b)) ∙ empty))
-      (other_stays s.now size says image same_size (λ i out. there i (wide i out)))
-    where
-      e : ℕ
-      e = blocks_of (entry_number_of t)
-
-      apart : 3 + 2 * e ≤ blocks
-      apart = room s.now size says
-
-      same_size : length image ≡ length s.now
-      same_size = may.leaves.size ∙ keeps.size
-
-      there : (i : ℕ) → (i < 4096 * entries_at w blocks e) ⊎ (4096 * entries_at w blocks e + 4096 * e ≤ i) → get_or image i 0 ≡ get_or s.now i 0
-      there i out = may.leaves.sure i (keeps.sure i out (sure_settled s nothing i)) ∙ keeps.now i out
-
-      wide : (i : ℕ) → (i < low) ⊎ (high ≤ i) → (i < 4096 * entries_at w blocks e) ⊎ (4096 * entries_at w blocks e + 4096 * e ≤ i)
-      wide i (inl l) = inl (omega (arith, l, (entries_within w blocks e apart).0))
-      wide i (inr r) = inr (omega (arith, r, (entries_within w blocks e apart).1))
-
-      head_apart : (c : TableCopy) (i : ℕ) → 4096 * header_at c blocks ≤ i → i < 4096 * header_at c blocks + 4096 → (i < 4096 * entries_at c blocks e) ⊎ (4096 * entries_at c blocks e + 4096 * e ≤ i)
-      head_apart Primary i a b = inl (omega (arith, b))
-      head_apart Backup i a b = inr (omega (arith, a, apart))
+      let kept = entries_kept s.now image size says empty (may.leaves.size ∙ keeps.size)
+      (λ i out. may.leaves.sure i (keeps.sure i out (sure_settled s nothing i)) ∙ keeps.now i out) in
+      decides_without w blocks image t (none_blank image kept.0) kept.1

@@ -1,24 +1,22 @@
 -- The header that is written reads back as this copy of the table.
-use Rattle.std.proofs.Common.{◌≡◌, ◌⊎◌, inl, inr, ℕ, ◌+◌, ◌*◌, ◌<◌, ◌≤◌, List, ◌++◌, length, get_or, take, drop, replicate, refl, sym, ap, ◌∙◌, arith, subst, append_assoc, length-append, le-leb, eq-eqb}
-use Rattle.std.proofs.lemmas.Bool.{and_from}
-use Rattle.std.proofs.lemmas.List.{drop-drop, drop_all, append-nil, length-replicate, drop-replicate}
+use Rattle.std.proofs.Common.{◌≡◌, ◌⊎◌, inl, inr, ℕ, ◌+◌, ◌*◌, ◌<◌, ◌≤◌, List, ◌++◌, length, take, drop, replicate, refl, sym, ap, ◌∙◌, arith, subst, append_assoc, length-append}
+use Rattle.std.proofs.lemmas.List.{drop-drop, length-replicate, drop-replicate}
 use Rattle.std.specs.Prelude.{IsTrue, codes}
 use Rattle.base_core.specs.Block.{block}
 use Rattle.base_core.specs.Bytes.{num, le, num_at, part, overwritten, same_bytes}
 use Rattle.base_core.specs.Crc.{crc}
 use Rattle.base_core.specs.Seal.{has_table_seal}
-use Rattle.base_core.proofs.Blocks.{length-block}
+use Rattle.flash_core.proofs.Calls.{same_range}
 use Rattle.base_core.proofs.Seals.{table_from}
-use Rattle.flash_core.proofs.Images.{block-overwritten_front, length-overwritten, overwritten_below, overwritten_above}
+use Rattle.flash_core.proofs.Images.{length-overwritten}
 use Rattle.gpt_core.specs.declared.table.TableCopy.{TableCopy}
 use Rattle.gpt_core.specs.declared.table.TableCopy.TheVariants.{Primary, Backup}
-use Rattle.gpt_core.specs.Table.{Table, FitsTable, blocks_of, entry_number_of, number_in, header_at, other, entries_at, has_start, has_places, header_has_fields, is_roomy, is_header, table_entries_in, partition_table_of, header_lead, header_places, header_back, header_with, header_bytes}
+use Rattle.gpt_core.specs.Table.{Table, FitsTable, blocks_of, entry_number_of, number_in, header_at, other, entries_at, table_entries_in, header_lead, header_places, header_back, header_with, header_bytes}
 use Rattle.gpt_core.specs.Repair.{Spells}
-use Rattle.gpt_core.proofs.Copies.{valid_from, range-same, header_within, entries_within, within_image}
+use Rattle.gpt_core.proofs.CopyFacts.{said}
+use Rattle.gpt_core.proofs.Copies.{block_beside, block_over, header_within, entries_within, within_image}
 use Rattle.base_core.proofs.Spelled.{num-le4, num-le8, crc-below}
 use Rattle.base_core.proofs.Lists.{take-front, drop-front}
-
--- ---- numbers
 
 -- ---- pieces one after another
 
@@ -181,29 +179,7 @@ module _ (w : TableCopy) (blocks : ℕ) (t : Table) (is : FitsTable blocks t) (f
   place : num_at 8 bytes 72 ≡ entries_at w blocks (blocks_of (number_in bytes))
   place = place-is w blocks t sum zeros disk (low-entries w (blocks_of (entry_number_of t))) ∙ ap (λ (n : ℕ). entries_at w blocks (blocks_of n)) (sym number)
 
-  start : IsTrue (has_start bytes)
-  start =
-      and_from _ _ (and_from _ _ (eq-eqb _ _ (revision-is w blocks t sum zeros disk)) (eq-eqb _ _ (size-is w blocks t sum zeros disk)))
-      (eq-eqb _ _ (zero-is w blocks t sum zeros disk))
-
-  places : IsTrue (has_places w blocks bytes)
-  places =
-      and_from _ _ (and_from _ _ (eq-eqb _ _ (own-is w blocks t sum zeros disk (low-header w))) (eq-eqb _ _ (other-is w blocks t sum zeros disk (low-header (other w)))))
-      (eq-eqb _ _ place)
-
-  fields : IsTrue (header_has_fields w blocks bytes)
-  unfolding header_has_fields
-  fields =
-      and_from _ _ (and_from _ _ start places) (eq-eqb _ _ (entry-is w blocks t sum zeros disk))
-
-  roomy : IsTrue (is_roomy blocks (number_in bytes))
-  roomy = subst (λ (n : ℕ). IsTrue (is_roomy blocks n)) (sym number)
-      (and_from _ _ (and_from _ _ (le-leb 1 (entry_number_of t) is.number.0) (le-leb (entry_number_of t) 128 is.number.1)) (le-leb (3 + 2 * blocks_of (entry_number_of t)) blocks is.apart))
-
-  header : IsTrue (is_header w blocks bytes)
-  header = and_from _ _ (and_from _ _ seal fields) roomy
-
-  -- THE LAW of the header: over an erased block, in take-front of the entries, it makes the copy say the table.
+  -- THE LAW of the header: over an erased block, in front of the entries, it makes the copy say the table.
   pub spells : t.first < 18446744073709551616 → t.last < 18446744073709551616 → Spells w blocks t bytes
   unfolding table_entries_in
   spells low_first low_last image size empty stands =
@@ -214,37 +190,35 @@ module _ (w : TableCopy) (blocks : ℕ) (t : Table) (is : FitsTable blocks t) (f
       let at = 4096 * header_at w blocks in
       let image' = overwritten at bytes image in
       let long : at + 4096 ≤ length image = omega (arith, hw.1, inside, size) in
-      let block_is : block (header_at w blocks) image' ≡ bytes =
-      block-overwritten_front (header_at w blocks) bytes image (omega (arith, length-bytes)) long
-      ∙ ap (λ (l : List ℕ). bytes ++ l) (drop_all (length bytes) (block (header_at w blocks) image) (omega (arith, length-bytes, length-block (header_at w blocks) image long)))
-      ∙ append-nil bytes in
+      let block_is : block (header_at w blocks) image' ≡ bytes = block_over (header_at w blocks) bytes image length-bytes long in
       let size' : length image' ≡ length image = length-overwritten at bytes image (omega (arith, length-bytes, long)) in
       let from = 4096 * entries_at w blocks e in
       let count : length t.entries ≡ entry_number_of t * 128 = is.whole in
       let entries : part image' from (from + length t.entries) ≡ t.entries =
-      sym (range-same from (length t.entries) image image' (omega (arith, count, ew.1, inside, size)) size'
-      (λ i low high. sym (outside image long i (clear w i low (omega (arith, high, count)))))) ∙ stands in
+      sym (same_range from (from + length t.entries) image image' (sym size') (omega (arith, count, ew.1, inside, size, size'))
+      (λ i low high. sym (block_beside (header_at w blocks) bytes image i (omega (arith, length-bytes)) long (clear w i low (omega (arith, high, count)))))) ∙ stands in
       let same : table_entries_in w blocks bytes image' ≡ t.entries =
       ap (λ (n : ℕ). part image' (4096 * entries_at w blocks (blocks_of n)) (4096 * entries_at w blocks (blocks_of n) + n * 128)) number
       ∙ ap (λ (n : ℕ). part image' from (from + n)) (sym count) ∙ entries in
-      let same_in : table_entries_in w blocks (block (header_at w blocks) image') image' ≡ t.entries = ap (λ (h : List ℕ). table_entries_in w blocks h image') block_is ∙ same in
-      valid_from w blocks image' t (record {
-        header = subst (λ (h : List ℕ). IsTrue (is_header w blocks h)) (sym block_is) header;
-        checks = ap (λ (h : List ℕ). num_at 4 h 88) block_is ∙ check-is w blocks t sum zeros disk ∙ ap crc (sym same_in);
-        is = ap (partition_table_of (block (header_at w blocks) image')) same_in ∙ ap (λ (h : List ℕ). partition_table_of h t.entries) block_is ∙ table_is;
+      said w blocks image' t (record {
+        header = bytes;
+        stands = block_is;
+        sealed = seal;
+        revision = revision-is w blocks t sum zeros disk;
+        size = size-is w blocks t sum zeros disk;
+        zero_field = zero-is w blocks t sum zeros disk;
+        own_place = own-is w blocks t sum zeros disk (low-header w);
+        other_place = other-is w blocks t sum zeros disk (low-header (other w));
+        usable = (first-is w blocks t sum zeros disk low_first, last-is w blocks t sum zeros disk low_last);
+        disk = disk-is w blocks t sum zeros disk;
+        number = (omega (arith, number, is.number.0), omega (arith, number, is.number.1));
+        entry_size = entry-is w blocks t sum zeros disk;
+        entry_place = place;
+        entries = same;
+        checks = check-is w blocks t sum zeros disk;
+        apart = subst (λ (n : ℕ). 3 + 2 * blocks_of n ≤ blocks) (sym number) is.apart;
       })
     where
-      table_is : partition_table_of bytes t.entries ≡ t
-      table_is =
-          let d = disk-is w blocks t sum zeros disk in
-          let f = first-is w blocks t sum zeros disk low_first in
-          let l = last-is w blocks t sum zeros disk low_last in
-          rw (d, f, l) refl
-
-      outside : (image : List ℕ) → 4096 * header_at w blocks + 4096 ≤ length image → (i : ℕ) → (i < 4096 * header_at w blocks) ⊎ (4096 * header_at w blocks + 4096 ≤ i) → get_or (overwritten (4096 * header_at w blocks) bytes image) i 0 ≡ get_or image i 0
-      outside image long i (inl l) = overwritten_below (4096 * header_at w blocks) bytes image (omega (arith, length-bytes, long)) i 0 l
-      outside image long i (inr r) = overwritten_above (4096 * header_at w blocks) bytes image (omega (arith, length-bytes, long)) i 0 (omega (arith, length-bytes, r))
-
       clear : (c : TableCopy) (i : ℕ) → 4096 * entries_at c blocks (blocks_of (entry_number_of t)) ≤ i → i < 4096 * entries_at c blocks (blocks_of (entry_number_of t)) + entry_number_of t * 128
           → (i < 4096 * header_at c blocks) ⊎ (4096 * header_at c blocks + 4096 ≤ i)
       clear Primary i low high = inr (omega (arith, low))

@@ -1,23 +1,21 @@
 -- The steps of a repair, one after the other. What is left to show is that the header is spelled: `spelled` in the last one.
-use Rattle.std.proofs.Common.{◌≡◌, ◌⊎◌, inl, inr, ℕ, ◌+◌, ◌*◌, ◌/◌, ◌<◌, ◌≤◌, List, ◌++◌, length, get_or, Some, sym, ◌∙◌, ap, arith, refl, subst}
-use Rattle.std.proofs.lemmas.List.{drop_all, append-nil, ext_get_or}
+use Rattle.std.proofs.Common.{◌≡◌, ◌⊎◌, inl, inr, ℕ, ◌+◌, ◌*◌, ◌/◌, ◌<◌, ◌≤◌, List, length, Some, sym, ◌∙◌, ap, arith, refl, subst}
+use Rattle.std.proofs.lemmas.List.{ext_get_or}
 use Rattle.std.proofs.lemmas.Result.{IfOk-from_err}
 use Rattle.std.specs.Prelude.{IsTrue, Result, Ok, Err, IsErr, OnOk}
 use Rattle.base_core.specs.Block.{block, blank}
 use Rattle.base_core.specs.Bytes.{part, overwritten}
-use Rattle.base_core.proofs.Blocks.{length-blank, length-block, same_block}
+use Rattle.base_core.proofs.Blocks.{length-blank}
 use Rattle.flash_core.specs.declared.flash.FlashStop.{FlashStop}
 use Rattle.flash_core.specs.Told.{Told, NothingDirty, is_guarded, put, halt, settle, settled}
 use Rattle.flash_core.specs.May.{May, Keeps}
 use Rattle.flash_core.proofs.Calls.{now-put, now-settle, guard-put, guard-settle, settle-fresh, keeps_halt, keeps_put, keeps_settle, keeps_same}
-use Rattle.flash_core.proofs.Images.{block-overwritten_front, length-overwritten, overwritten_below, overwritten_above}
 use Rattle.gpt_core.specs.declared.table.TableCopy.{TableCopy}
-use Rattle.gpt_core.specs.declared.table.TableCopy.TheVariants.{Primary, Backup}
-use Rattle.gpt_core.proofs.Copies.{table_roomy, entries_whole, entries_within}
+use Rattle.gpt_core.proofs.Copies.{block_over, entries_whole}
 use Rattle.gpt_core.specs.Table.{Table, blocks_of, entry_number_of, header_at, entries_at, other, copy_in, DecidesTable}
 use Rattle.gpt_core.specs.Repair.{Ready, Cleared, Filled, RepairSteps, IsMended}
 use Rattle.flash_core.proofs.OneCall.{sure_settled}
-use Rattle.gpt_core.proofs.Mending.{decides_with, decides_without, both_say, low, high, head_at, other_stays, head_inside, none_blank, header_stopped, header_done, entries_step}
+use Rattle.gpt_core.proofs.Mending.{decides_without, both_say, head_inside, none_blank, done_size, says_done, decides_done, header_stopped, header_done, entries_kept, entries_step}
 
 -- an image of a device with nothing dirty is what it holds
 pub image_is_now : (u : Told) (image : List ℕ) → NothingDirty u → May u image → image ≡ u.now
@@ -27,83 +25,48 @@ same_guard : (s u : Told) (b : ℕ) → u.guard ≡ s.guard → IsTrue (is_guard
 same_guard s u b e h = subst (λ (l : List ℕ). IsTrue (Rattle.std.specs.List.list_any (λ k. Rattle.std.specs.Prelude.nat_eq k b) l)) (sym e) h
 
 module _ (w : TableCopy) (blocks : ℕ) (t : Table) where
-  here : ℕ
-  here = 4096 * header_at w blocks
-
-  -- a step in the header's block: what the other copy says stays
-  module _ (s : Told) (ready : Ready w blocks t s) (bytes : List ℕ) (short : length bytes ≤ 4096) where
-    inside : 4096 * header_at w blocks + 4096 ≤ length s.now
-    inside = head_inside w blocks t s.now ready.size ready.says
-
-    size_done : length (overwritten (4096 * header_at w blocks) bytes s.now) ≡ length s.now
-    size_done = length-overwritten (4096 * header_at w blocks) bytes s.now (omega (arith, inside, short))
-
-    says_done : copy_in (other w) blocks (overwritten (4096 * header_at w blocks) bytes s.now) ≡ Some t
-    says_done =
-        other_stays w blocks t s.now ready.size ready.says (overwritten (4096 * header_at w blocks) bytes s.now) size_done
-        (λ i out. at i (Rattle.gpt_core.proofs.Mending.head_out w blocks t s.now ready.size ready.says i out))
-      where
-        at : (i : ℕ) → (i < 4096 * header_at w blocks) ⊎ (4096 * header_at w blocks + 4096 ≤ i) → get_or (overwritten (4096 * header_at w blocks) bytes s.now) i 0 ≡ get_or s.now i 0
-        at i (inl l) = overwritten_below (4096 * header_at w blocks) bytes s.now (omega (arith, inside, short)) i 0 l
-        at i (inr r) = overwritten_above (4096 * header_at w blocks) bytes s.now (omega (arith, inside, short)) i 0 (omega (arith, r, short))
-
+  -- a step in the header's block, behind which it is erased, or the copy says the table
+  module _ (s : Told) (ready : Ready w blocks t s) (bytes : List ℕ) (short : length bytes ≤ 4096)
+      (after : (block (header_at w blocks) (overwritten (4096 * header_at w blocks) bytes s.now) ≡ blank 4096)
+      ⊎ (copy_in w blocks (overwritten (4096 * header_at w blocks) bytes s.now) ≡ Some t)) where
     now_is : (settle (put (4096 * header_at w blocks) bytes s)).now ≡ overwritten (4096 * header_at w blocks) bytes s.now
     now_is = now-settle (put (4096 * header_at w blocks) bytes s) ∙ now-put (4096 * header_at w blocks) bytes s
 
     -- settled after the step
-    ready_after : DecidesTable blocks t (overwritten (4096 * header_at w blocks) bytes s.now) → Ready w blocks t (settle (put (4096 * header_at w blocks) bytes s))
-    ready_after decides = record {
+    ready_after : Ready w blocks t (settle (put (4096 * header_at w blocks) bytes s))
+    ready_after = record {
       nothing = settle-fresh (put (4096 * header_at w blocks) bytes s);
-      size = ap length now_is ∙ size_done ∙ ready.size;
+      size = ap length now_is ∙ done_size w blocks t s ready bytes short ∙ ready.size;
       guarded = same_guard s (settle (put (4096 * header_at w blocks) bytes s)) (header_at w blocks) (guard-settle (put (4096 * header_at w blocks) bytes s) ∙ guard-put (4096 * header_at w blocks) bytes s) ready.guarded;
-      says = ap (copy_in (other w) blocks) now_is ∙ says_done;
-      decides = subst (DecidesTable blocks t) (sym now_is) decides;
+      says = ap (copy_in (other w) blocks) now_is ∙ says_done w blocks t s ready bytes short;
+      decides = subst (DecidesTable blocks t) (sym now_is) (decides_done w blocks t s ready bytes short after);
+    }
+
+    pub step_halted : (P : Told → Type 0) {T : Type 0} (result : Result T FlashStop) → IsErr result → RepairSteps P result blocks t (halt (4096 * header_at w blocks) bytes s)
+    step_halted P result err = record { stays = header_stopped w blocks t s ready bytes short after; ok = IfOk-from_err result _ err }
+
+    -- all exits behind the call: the barrier too was done, or stopped
+    pub step_over : (P : Told → Type 0) {T : Type 0} (result : Result T FlashStop) → P (settle (put (4096 * header_at w blocks) bytes s))
+        → RepairSteps P result blocks t (settled result (put (4096 * header_at w blocks) bytes s))
+    step_over P (Err e) done = record { stays = header_done w blocks t s ready bytes short after; ok = tt }
+    step_over P (Ok x) done = record {
+      stays = λ image may. subst (DecidesTable blocks t) (sym (image_is_now _ image ready_after.nothing may)) ready_after.decides;
+      ok = done;
     }
 
   -- ---- the header is erased
 
-  module _ (s : Told) (ready : Ready w blocks t s) where
-    erased : block (header_at w blocks) (overwritten (4096 * header_at w blocks) (blank 4096) s.now) ≡ blank 4096
-    erased =
-        let long = head_inside w blocks t s.now ready.size ready.says in
-        block-overwritten_front (header_at w blocks) (blank 4096) s.now (omega (arith, length-blank 4096)) long
-        ∙ ap (λ (l : List ℕ). blank 4096 ++ l) (drop_all (length (blank 4096)) (block (header_at w blocks) s.now) (omega (arith, length-blank 4096, length-block (header_at w blocks) s.now long)))
-        ∙ append-nil (blank 4096)
+  pub blank_short : length (blank 4096) ≤ 4096
+  blank_short = omega (arith, length-blank 4096)
 
-    blank_short : length (blank 4096) ≤ 4096
-    blank_short = omega (arith, length-blank 4096)
+  pub erased : (s : Told) → Ready w blocks t s → block (header_at w blocks) (overwritten (4096 * header_at w blocks) (blank 4096) s.now) ≡ blank 4096
+  erased s ready = block_over (header_at w blocks) (blank 4096) s.now (length-blank 4096) (head_inside w blocks t s.now ready.size ready.says)
 
-    decides_erased : DecidesTable blocks t (overwritten (4096 * header_at w blocks) (blank 4096) s.now)
-    decides_erased = decides_without w blocks _ t (none_blank w blocks t _ erased) (says_done s ready (blank 4096) blank_short)
-
-    pub clear_stopped : {T : Type 0} (result : Result T FlashStop) → IsErr result → RepairSteps (Cleared w blocks t) result blocks t (halt (4096 * header_at w blocks) (blank 4096) s)
-    clear_stopped result err = record {
-      stays = header_stopped w blocks t s (blank 4096) ready.nothing ready.size blank_short ready.guarded ready.says ready.decides (inl erased);
-      ok = IfOk-from_err result _ err;
-    }
-
-    pub clear_unsettled : {T : Type 0} (result : Result T FlashStop) → IsErr result → RepairSteps (Cleared w blocks t) result blocks t (put (4096 * header_at w blocks) (blank 4096) s)
-    clear_unsettled result err = record {
-      stays = header_done w blocks t s (blank 4096) ready.nothing ready.size blank_short ready.guarded ready.says ready.decides (inl erased);
-      ok = IfOk-from_err result _ err;
-    }
-
-    is_cleared : Cleared w blocks t (settle (put (4096 * header_at w blocks) (blank 4096) s))
-    is_cleared = record {
-      ready = ready_after s ready (blank 4096) blank_short decides_erased;
-      empty = ap (block (header_at w blocks)) (now_is s ready (blank 4096) blank_short) ∙ erased;
-    }
-
-    pub cleared : {T : Type 0} (x : T) → RepairSteps {T = T} (Cleared w blocks t) (Ok x) blocks t (settle (put (4096 * header_at w blocks) (blank 4096) s))
-    cleared x = record {
-      stays = λ image may. subst (DecidesTable blocks t) (sym (image_is_now _ image (settle-fresh (put (4096 * header_at w blocks) (blank 4096) s)) may)) is_cleared.ready.decides;
-      ok = is_cleared;
-    }
-
-    -- all exits of the erase and its barrier
-    pub clears : {T : Type 0} (result : Result T FlashStop) → RepairSteps (Cleared w blocks t) result blocks t (settled result (put (4096 * header_at w blocks) (blank 4096) s))
-    clears (Ok x) = cleared x
-    clears (Err e) = clear_unsettled (Err e) refl
+  pub is_cleared : (s : Told) (ready : Ready w blocks t s) → Cleared w blocks t (settle (put (4096 * header_at w blocks) (blank 4096) s))
+  is_cleared s ready = record {
+    ready = ready_after s ready (blank 4096) blank_short (inl (erased s ready));
+    empty = ap (block (header_at w blocks)) (now_is s ready (blank 4096) blank_short (inl (erased s ready))) ∙ erased s ready;
+  }
 
   -- ---- the entries are written, whatever calls that takes
 
@@ -115,30 +78,8 @@ module _ (w : TableCopy) (blocks : ℕ) (t : Table) where
       ok = IfOk-from_err result _ err;
     }
 
-    same_head : block (header_at w blocks) v.now ≡ blank 4096
-    same_head =
-        let long = head_inside w blocks t s.now cleared.ready.size cleared.ready.says in
-        same_block (header_at w blocks) v.now s.now (omega (arith, long, keeps.size)) (sym keeps.size) (λ i a b. keeps.now i (head_out_of w i a b)) ∙ cleared.empty
-      where
-        apart : 3 + 2 * blocks_of (entry_number_of t) ≤ blocks
-        apart = (table_roomy (other w) blocks s.now t cleared.ready.size cleared.ready.says).apart
-
-        head_out_of : (c : TableCopy) (i : ℕ) → 4096 * header_at c blocks ≤ i → i < 4096 * header_at c blocks + 4096
-            → (i < 4096 * entries_at c blocks (blocks_of (entry_number_of t))) ⊎ (4096 * entries_at c blocks (blocks_of (entry_number_of t)) + 4096 * blocks_of (entry_number_of t) ≤ i)
-        head_out_of Primary i a b = inl (omega (arith, b))
-        head_out_of Backup i a b = inr (omega (arith, a, apart))
-
-    says_v : copy_in (other w) blocks v.now ≡ Some t
-    says_v =
-        other_stays w blocks t s.now cleared.ready.size cleared.ready.says v.now keeps.size
-        (λ i out. keeps.now i (wide i out))
-      where
-        apart : 3 + 2 * blocks_of (entry_number_of t) ≤ blocks
-        apart = (table_roomy (other w) blocks s.now t cleared.ready.size cleared.ready.says).apart
-
-        wide : (i : ℕ) → (i < low w blocks t) ⊎ (high w blocks t ≤ i) → (i < 4096 * entries_at w blocks (blocks_of (entry_number_of t))) ⊎ (4096 * entries_at w blocks (blocks_of (entry_number_of t)) + 4096 * blocks_of (entry_number_of t) ≤ i)
-        wide i (inl l) = inl (omega (arith, l, (entries_within w blocks (blocks_of (entry_number_of t)) apart).0))
-        wide i (inr r) = inr (omega (arith, r, (entries_within w blocks (blocks_of (entry_number_of t)) apart).1))
+    kept : (block (header_at w blocks) v.now ≡ blank 4096) × (copy_in (other w) blocks v.now ≡ Some t)
+    kept = entries_kept w blocks t s.now v.now cleared.ready.size cleared.ready.says cleared.empty keeps.size keeps.now
 
     is_filled : part v.now (4096 * entries_at w blocks (blocks_of (entry_number_of t))) (4096 * entries_at w blocks (blocks_of (entry_number_of t)) + length t.entries) ≡ t.entries → Filled w blocks t (settle v)
     is_filled held = record {
@@ -147,10 +88,10 @@ module _ (w : TableCopy) (blocks : ℕ) (t : Table) where
           nothing = settle-fresh v;
           size = ap length (now-settle v) ∙ keeps.size ∙ cleared.ready.size;
           guarded = same_guard s (settle v) (header_at w blocks) (guard-settle v ∙ keeps.guard) cleared.ready.guarded;
-          says = ap (copy_in (other w) blocks) (now-settle v) ∙ says_v;
-          decides = subst (DecidesTable blocks t) (sym (now-settle v)) (decides_without w blocks v.now t (none_blank w blocks t v.now same_head) says_v);
+          says = ap (copy_in (other w) blocks) (now-settle v) ∙ kept.1;
+          decides = subst (DecidesTable blocks t) (sym (now-settle v)) (decides_without w blocks v.now t (none_blank w blocks t v.now kept.0) kept.1);
         };
-        empty = ap (block (header_at w blocks)) (now-settle v) ∙ same_head;
+        empty = ap (block (header_at w blocks)) (now-settle v) ∙ kept.0;
       };
       entries = ap (λ (l : List ℕ). part l (4096 * entries_at w blocks (blocks_of (entry_number_of t))) (4096 * entries_at w blocks (blocks_of (entry_number_of t)) + length t.entries)) (now-settle v) ∙ held;
     }
@@ -164,57 +105,38 @@ module _ (w : TableCopy) (blocks : ℕ) (t : Table) where
 
   -- ---- the header is written
 
-  module _ (s : Told) (filled : Filled w blocks t s) (bytes : List ℕ) (short : length bytes ≤ 4096)
-      (spelled : copy_in w blocks (overwritten (4096 * header_at w blocks) bytes s.now) ≡ Some t) where
-    ready : Ready w blocks t s
-    ready = filled.cleared.ready
-
-    decides_spelled : DecidesTable blocks t (overwritten (4096 * header_at w blocks) bytes s.now)
-    decides_spelled = decides_with w blocks _ t spelled (says_done s ready bytes short)
-
-    pub write_stopped : {T : Type 0} (result : Result T FlashStop) → IsErr result → RepairSteps (IsMended blocks t) result blocks t (halt (4096 * header_at w blocks) bytes s)
-    write_stopped result err = record {
-      stays = header_stopped w blocks t s bytes ready.nothing ready.size short ready.guarded ready.says ready.decides (inr spelled);
-      ok = IfOk-from_err result _ err;
-    }
-
-    pub write_unsettled : {T : Type 0} (result : Result T FlashStop) → IsErr result → RepairSteps (IsMended blocks t) result blocks t (put (4096 * header_at w blocks) bytes s)
-    write_unsettled result err = record {
-      stays = header_done w blocks t s bytes ready.nothing ready.size short ready.guarded ready.says ready.decides (inr spelled);
-      ok = IfOk-from_err result _ err;
-    }
-
-    pub writes : {T : Type 0} (result : Result T FlashStop) → RepairSteps (IsMended blocks t) result blocks t (settled result (put (4096 * header_at w blocks) bytes s))
-    writes (Err e) = write_unsettled (Err e) refl
-    writes (Ok x) =
-        let after = ready_after s ready bytes short decides_spelled in
-        record {
-          stays = λ image may. subst (DecidesTable blocks t) (sym (image_is_now _ image after.nothing may)) after.decides;
-          ok = (both_say w blocks _ t (ap (copy_in w blocks) (now_is s ready bytes short) ∙ spelled) after.says, after.nothing);
-        }
+  pub is_mended : (s : Told) (ready : Ready w blocks t s) (bytes : List ℕ) (short : length bytes ≤ 4096)
+      → copy_in w blocks (overwritten (4096 * header_at w blocks) bytes s.now) ≡ Some t → IsMended blocks t (settle (put (4096 * header_at w blocks) bytes s))
+  is_mended s ready bytes short spelled =
+      let next = ready_after s ready bytes short (inr spelled) in
+      (both_say w blocks _ t (ap (copy_in w blocks) (now_is s ready bytes short (inr spelled)) ∙ spelled) next.says, next.nothing)
 
 -- ---- the same by what a device tells after the calls
 
-module _ (w : TableCopy) (blocks : ℕ) (t : Table) (s u : Told) (b : ℕ) (at : b ≡ header_at w blocks) {T : Type 0} (result : Result T FlashStop) where
+module _ (w : TableCopy) (blocks : ℕ) (t : Table) (s u : Told) (b : ℕ) (place : b ≡ header_at w blocks) {T : Type 0} (result : Result T FlashStop) where
   pub clear_halted : Ready w blocks t s → IsErr result → u ≡ halt (4096 * b) (blank 4096) s → RepairSteps (Cleared w blocks t) result blocks t u
   clear_halted ready err is =
-      subst (RepairSteps (Cleared w blocks t) result blocks t) (sym (is ∙ ap (λ k. halt (4096 * k) (blank 4096) s) at)) (clear_stopped w blocks t s ready result err)
+      subst (RepairSteps (Cleared w blocks t) result blocks t) (sym (is ∙ ap (λ k. halt (4096 * k) (blank 4096) s) place))
+      (step_halted w blocks t s ready (blank 4096) (blank_short w blocks t) (inl (erased w blocks t s ready)) (Cleared w blocks t) result err)
 
   pub clear_over : Ready w blocks t s → u ≡ settled result (put (4096 * b) (blank 4096) s) → RepairSteps (Cleared w blocks t) result blocks t u
   clear_over ready is =
-      subst (RepairSteps (Cleared w blocks t) result blocks t) (sym (is ∙ ap (λ k. settled result (put (4096 * k) (blank 4096) s)) at)) (clears w blocks t s ready result)
+      subst (RepairSteps (Cleared w blocks t) result blocks t) (sym (is ∙ ap (λ k. settled result (put (4096 * k) (blank 4096) s)) place))
+      (step_over w blocks t s ready (blank 4096) (blank_short w blocks t) (inl (erased w blocks t s ready)) (Cleared w blocks t) result (is_cleared w blocks t s ready))
 
   module _ (filled : Filled w blocks t s) (bytes : List ℕ) (short : length bytes ≤ 4096) (spelled : copy_in w blocks (overwritten (4096 * b) bytes s.now) ≡ Some t) where
     spelled_at : copy_in w blocks (overwritten (4096 * header_at w blocks) bytes s.now) ≡ Some t
-    spelled_at = ap (λ k. copy_in w blocks (overwritten (4096 * k) bytes s.now)) (sym at) ∙ spelled
+    spelled_at = ap (λ k. copy_in w blocks (overwritten (4096 * k) bytes s.now)) (sym place) ∙ spelled
 
     pub write_halted : IsErr result → u ≡ halt (4096 * b) bytes s → RepairSteps (IsMended blocks t) result blocks t u
     write_halted err is =
-        subst (RepairSteps (IsMended blocks t) result blocks t) (sym (is ∙ ap (λ k. halt (4096 * k) bytes s) at)) (write_stopped w blocks t s filled bytes short spelled_at result err)
+        subst (RepairSteps (IsMended blocks t) result blocks t) (sym (is ∙ ap (λ k. halt (4096 * k) bytes s) place))
+        (step_halted w blocks t s filled.cleared.ready bytes short (inr spelled_at) (IsMended blocks t) result err)
 
     pub write_over : u ≡ settled result (put (4096 * b) bytes s) → RepairSteps (IsMended blocks t) result blocks t u
     write_over is =
-        subst (RepairSteps (IsMended blocks t) result blocks t) (sym (is ∙ ap (λ k. settled result (put (4096 * k) bytes s)) at)) (writes w blocks t s filled bytes short spelled_at result)
+        subst (RepairSteps (IsMended blocks t) result blocks t) (sym (is ∙ ap (λ k. settled result (put (4096 * k) bytes s)) place))
+        (step_over w blocks t s filled.cleared.ready bytes short (inr spelled_at) (IsMended blocks t) result (is_mended w blocks t s filled.cleared.ready bytes short spelled_at))
 
 -- ---- but for the block nothing changes
 

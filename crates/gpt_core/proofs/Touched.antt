@@ -6,7 +6,7 @@ use Rattle.gpt_core.specs.declared.layout.Places.{Places}
 use Rattle.gpt_core.specs.Places.{behind, byte_behind, Fit}
 use Rattle.gpt_core.specs.View.{place_seen, writes_seen}
 use Rattle.gpt_core.specs.Beside.{IsHiddenBlock, TouchesPlaces}
-use Rattle.gpt_core.proofs.Seen.{Shown, shown_seen, byte_in}
+use Rattle.gpt_core.proofs.Seen.{Shown, beside_or_within, shown_seen, byte_in}
 
 -- a place isn't beside the bytes that begin with it
 never_beside : (k there n : ℕ) → 0 < n → k ≡ there → (k < there) ⊎ (there + n ≤ k) → ⊥
@@ -41,15 +41,12 @@ module _ (p : Places) (blocks : ℕ) (fit : Fit blocks p) (there here n : ℕ) (
 
   hidden_beside : (c k : ℕ) → IsHiddenBlock p c → k < 4096 → (4096 * c + k < there) ⊎ (there + n ≤ 4096 * c + k)
   unfolding byte_behind
-  hidden_beside c k hidden small = elim (cases_lt (4096 * c + k) there) [
-    | inl low ↦ inl low
-    | inr above ↦ elim (cases_lt (4096 * c + k) (there + n)) [
-      | inl below ↦
-          let i = here + (4096 * c + k - there) in
-          let at = shown.at i (omega arith) (omega (arith, above, below)) in
-          absurd (hidden (i / 4096) (omega (arith, above, below, shown.inside)) (omega (arith, at, above, small)))
-      | inr past ↦ inr past
-    ]
+  hidden_beside c k hidden small = elim (beside_or_within there n (4096 * c + k)) [
+    | inl out ↦ out
+    | inr within ↦
+        let i = here + (4096 * c + k - there) in
+        let at = shown.at i (omega arith) (omega (arith, within)) in
+        absurd (hidden (i / 4096) (omega (arith, within, shown.inside)) (omega (arith, at, within, small)))
   ]
 
   pub touches-places : (started : ℕ → ℕ) → TouchesPlaces p started old → TouchesPlaces p started new

@@ -1,7 +1,7 @@
 -- GUID partition tables (UEFI) in the profile of this project: a sector is one block of 4096 bytes, each entry has 128 bytes. A
 -- device has two copies of its table. The primary has its header in block 1 and its entries from block 2 on. The backup has its
 -- header in the last block and its entries in the blocks before that.
-use Rattle.std.specs.Prelude.{if◌then◌else◌, ◌≡◌, ◌≢◌, ℕ, ◌+◌, ◌-◌, ◌*◌, ◌/◌, ◌≤◌, ◌&&◌, ◌==◌, Bool, nat_le, List, ◌++◌, length, Option, Some, None, IsTrue, codes, replicate}
+use Rattle.std.specs.Prelude.{if◌then◌else◌, ◌≡◌, ℕ, ◌+◌, ◌-◌, ◌*◌, ◌/◌, ◌≤◌, ◌&&◌, ◌==◌, Bool, nat_le, List, ◌++◌, length, Option, Some, None, IsTrue, codes, replicate}
 use Rattle.base_core.specs.Bytes.{num_at, part, le, same_bytes}
 use Rattle.base_core.specs.Block.{block_bytes, block}
 use Rattle.base_core.specs.Crc.{crc}
@@ -111,12 +111,6 @@ deciding_table None None = None
 
 abbrev pub table_in_image : ℕ → List ℕ → Option (Table × WhichTable)
 table_in_image blocks image = deciding_table (copy_in Primary blocks image) (copy_in Backup blocks image)
-
--- What the copies say where this table decides, and this is to be repaired.
-abbrev pub TableFinds : WhichTable → Table → Option Table → Option Table → Type 0
-TableFinds Same t primary backup = (primary ≡ Some t) × (backup ≡ Some t)
-TableFinds RepairPrimary t primary backup = (primary ≡ None) × (backup ≡ Some t)
-TableFinds RepairBackup t primary backup = (primary ≡ Some t) × (backup ≢ Some t)
 
 -- this table decides, whatever is to be repaired
 abbrev pub DecidesTable : ℕ → Table → List ℕ → Type 0

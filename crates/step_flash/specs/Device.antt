@@ -101,32 +101,28 @@ pub record NotesProgram (at : ℕ) (bytes : List ℕ) (result : Result (Unit {0}
 
 -- ---- what each call promises as the trait has it
 
-pub record ReadsImage (at : ℕ) (was out : List ℕ) (result : Result (Unit {0}) FlashStop) (old new : StepDevice) : Type 0 where
-  pub bytes : OnOk result (IsTrue true → out ≡ slice_range (told_of old).now at (at + length was))
-  pub content : IsTrue true → told_of new ≡ told_of old
+-- what is told after a call that may fail, what it leaves of an armed loss, and its power, size and counts
+pub record CallsDevice (told : Told) (armed : Option Arming) (result : Result (Unit {0}) FlashStop) (old new : StepDevice) : Type 0 where
+  pub content : IsTrue true → told_of new ≡ told
   pub power : is_on new ≡ is_ok result
   pub size : block_count new ≡ block_count old
-  pub arming : arming_of new ≡ arming_kept result (arming_of old)
+  pub arming : arming_of new ≡ armed
   pub counts : Spends result (counts_of old) (counts_of new)
+
+pub record ReadsImage (at : ℕ) (was out : List ℕ) (result : Result (Unit {0}) FlashStop) (old new : StepDevice) : Type 0 where
+  pub bytes : OnOk result (IsTrue true → out ≡ slice_range (told_of old).now at (at + length was))
+  pub call : CallsDevice (told_of old) (arming_kept result (arming_of old)) result old new
   pub reached : ReachesNone result (counts_of old) (counts_of new)
 
 -- an erase or a program of these bytes
 pub record Writes (at : ℕ) (bytes : List ℕ) (result : Result (Unit {0}) FlashStop) (old new : StepDevice) : Type 0 where
-  pub content : IsTrue true → told_of new ≡ written result at bytes (told_of old)
-  pub power : is_on new ≡ is_ok result
-  pub size : block_count new ≡ block_count old
-  pub arming : arming_of new ≡ arming_spent result (arming_of old)
-  pub counts : Spends result (counts_of old) (counts_of new)
+  pub call : CallsDevice (written result at bytes (told_of old)) (arming_spent result (arming_of old)) result old new
   pub reached : Fires result (arming_of old) (counts_of old) (counts_of new)
   pub landed : 0 ≡ landed_of result (arming_of old)
 
 -- a barrier
 pub record SettlesImage (result : Result (Unit {0}) FlashStop) (old new : StepDevice) : Type 0 where
-  pub content : IsTrue true → told_of new ≡ settled result (told_of old)
-  pub power : is_on new ≡ is_ok result
-  pub size : block_count new ≡ block_count old
-  pub arming : arming_of new ≡ arming_kept result (arming_of old)
-  pub counts : Spends result (counts_of old) (counts_of new)
+  pub call : CallsDevice (settled result (told_of old)) (arming_kept result (arming_of old)) result old new
   pub reached : ReachesNone result (counts_of old) (counts_of new)
   pub writes : writes_of new ≡ writes_of old
 
@@ -159,11 +155,7 @@ pub record StaysLive (result : Result (Unit {0}) FlashStop) (old new : StepDevic
 -- A call failed, and power went. This is told then, and no step was noted.
 pub record Fails (told : Told) (result : Result (Unit {0}) FlashStop) (old new : StepDevice) : Type 0 where
   pub stop : IsErrOf result Failed
-  pub content : told_of new ≡ told
-  pub power : is_on new ≡ is_ok result
-  pub size : block_count new ≡ block_count old
-  pub arming : arming_of new ≡ arming_of old
-  pub counts : Spends result (counts_of old) (counts_of new)
+  pub call : CallsDevice told (arming_of old) result old new
   pub kept : KeepsSteps old new
   pub still : (b : ℕ) → writes_of new b ≡ writes_of old b
   pub live : is_live new ≡ is_live old

@@ -66,10 +66,6 @@ pub record IsInsideWith (file room size : ℕ) (s : Step) : Type 0 where
   pub bytes : (s.kind ≡ 1 → ⊥) → (s.kind ≡ 4 → ⊥) → s.from + s.length ≤ room
   pub place : s.at + s.length ≤ size
 
--- where there is no package, and so no copy
-abbrev pub IsInside : ℕ → ℕ → Step → Type 0
-IsInside room size s = IsInsideWith 0 room size s
-
 -- These bytes stand in the package from a place on.
 pub record StandsAt (file : List ℕ) (from : ℕ) (bytes : List ℕ) : Type 0 where
   pub fits : from + length bytes ≤ length file

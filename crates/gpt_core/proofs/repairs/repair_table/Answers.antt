@@ -1,11 +1,7 @@
-use Rattle.std.proofs.Common.{◌≡◌, Some, ap, subst, sym}
-use Rattle.std.proofs.lemmas.Result.{on_ok_weaker}
-use Rattle.gpt_core.specs.Table.{blocks_of, entry_number_of, table_in_image}
+use Rattle.std.proofs.Common.{◌≡◌, Some, subst}
+use Rattle.gpt_core.specs.Table.{table_in_image}
 use Rattle.gpt_core.specs.declared.table.WhichTable.{WhichTable}
 use Rattle.gpt_core.proofs.Deciding.{mends_from, mends_same, ready_primary, ready_backup}
-use Rattle.flash_core.specs.Counts.{lowered_by}
-use Rattle.gpt_core.specs.Repair.{writes_to_mend}
-use Rattle.flash_core.proofs.Spent.{spent_as, spent_none}
 use Rattle.gpt_core.proofs.repairs.repair_table.Goals as goal
 
 pub returns-in-Same-clause-mends : goal.returns-in-Same-clause-mends

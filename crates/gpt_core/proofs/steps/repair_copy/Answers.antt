@@ -1,14 +1,11 @@
-use Rattle.std.proofs.Common.{arith, refl, length, ◌+◌, ◌/◌, ◌*◌, ap, ◌∙◌, subst, rules}
+use Rattle.std.proofs.Common.{arith, ◌*◌, ap, ◌∙◌, subst}
 use Rattle.std.proofs.lemmas.Result.{err_from_is_err_and}
 use Rattle.std.specs.Prelude.{is_err, Ok}
 use Rattle.base_core.specs.Bytes.{overwritten}
 use Rattle.gpt_core.specs.Table.{copy_in}
 use Rattle.gpt_core.specs.Repair.{Filled, FillsEntries, WritesHeader}
 use Rattle.gpt_core.proofs.Stepping.{steps_stopped}
-use Rattle.flash_core.proofs.Calls.{keeps_wider, keeps_then}
 use Rattle.gpt_core.proofs.Filling.{empty_stays}
-use Rattle.flash_core.proofs.Spent.{spent_both, spent_then}
-use Rattle.flash_core.proofs.Touches.{touches_then, touches_wider}
 use Rattle.gpt_core.proofs.steps.repair_copy.Goals as goal
 
 pub write_header-requires-clause-empty : goal.write_header-requires-clause-empty

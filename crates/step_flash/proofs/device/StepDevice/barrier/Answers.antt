@@ -27,12 +27,14 @@ returns-clause-settles c =
     let s = c.args.self.now in
     let t = start_with s.image.now s.file.bytes.now in
     record {
-      content = λ _. settle_noted (under_of s.stopped) s.live (after_steps s) _ (none_under s.stopped (s.idle c.requires.on)) c.if-not-self.false
-          (ap (λ (x : List Step). run_with s.file.bytes.now s.room.items t x) (c.note_barrier.ensures.noted c.if-not-note_barrier.false) ∙ run_push s.file.bytes.now s.room.items t s.steps.items barrier_step);
-      power = search rules;
-      size = refl;
-      arming = refl;
-      counts = search rules;
+      call = record {
+        content = λ _. settle_noted (under_of s.stopped) s.live (after_steps s) _ (none_under s.stopped (s.idle c.requires.on)) c.if-not-self.false
+            (ap (λ (x : List Step). run_with s.file.bytes.now s.room.items t x) (c.note_barrier.ensures.noted c.if-not-note_barrier.false) ∙ run_push s.file.bytes.now s.room.items t s.steps.items barrier_step);
+        power = search rules;
+        size = refl;
+        arming = refl;
+        counts = search rules;
+      };
       reached = search rules;
       writes = barrier_meets_none s.steps.items _ (c.note_barrier.ensures.noted c.if-not-note_barrier.false);
     }

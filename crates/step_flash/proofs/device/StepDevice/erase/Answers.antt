@@ -39,12 +39,14 @@ returns-clause-writes c =
     let at = block_bytes * c.args.block in
     let t = start_with s.image.now s.file.bytes.now in
     record {
-      content = λ _. put_noted (under_of s.stopped) s.live at (blank block_bytes) (after_steps s) _ (none_under s.stopped (s.idle c.requires.on)) (c.is_ready.ensures.live c.if-not-is_ready.false)
-          (ap (λ (x : List Step). run_with s.file.bytes.now s.room.items t x) (c.note_erase.ensures.noted c.if-not-note_erase.false) ∙ run_push s.file.bytes.now s.room.items t s.steps.items (erase_step at));
-      power = search rules;
-      size = refl;
-      arming = c.lowered-self.ensures;
-      counts = search rules;
+      call = record {
+        content = λ _. put_noted (under_of s.stopped) s.live at (blank block_bytes) (after_steps s) _ (none_under s.stopped (s.idle c.requires.on)) (c.is_ready.ensures.live c.if-not-is_ready.false)
+            (ap (λ (x : List Step). run_with s.file.bytes.now s.room.items t x) (c.note_erase.ensures.noted c.if-not-note_erase.false) ∙ run_push s.file.bytes.now s.room.items t s.steps.items (erase_step at));
+        power = search rules;
+        size = refl;
+        arming = c.lowered-self.ensures;
+        counts = search rules;
+      };
       reached = search rules;
       landed = refl;
     }

@@ -43,14 +43,16 @@ returns-clause-writes c =
     let new = c.note_program.new in
     let same : new.file.bytes.now ≡ s.file.bytes.now = c.note_program.ensures.file in
     record {
-      content = λ _. put_noted (under_of s.stopped) s.live c.args.at c.args.bytes.now (after_steps s) _ (none_under s.stopped (s.idle c.requires.on)) (c.is_ready.ensures.live c.if-not-is_ready.false)
-          (ap (λ (f : List ℕ). run_with f new.room.items (start_with s.image.now f) new.steps.items) same
-          ∙ program_run s.blocks c.args.at s.file.bytes.now c.args.bytes.now (start_with s.image.now s.file.bytes.now) s.steps.items new.steps.items s.room.items new.room.items
-          (record { inside = s.inside; doable = s.doable; theirs = s.theirs; sound = s.sound }) (c.note_program.ensures.noted c.if-not-note_program.false));
-      power = search rules;
-      size = refl;
-      arming = c.lowered-self.ensures;
-      counts = search rules;
+      call = record {
+        content = λ _. put_noted (under_of s.stopped) s.live c.args.at c.args.bytes.now (after_steps s) _ (none_under s.stopped (s.idle c.requires.on)) (c.is_ready.ensures.live c.if-not-is_ready.false)
+            (ap (λ (f : List ℕ). run_with f new.room.items (start_with s.image.now f) new.steps.items) same
+            ∙ program_run s.blocks c.args.at s.file.bytes.now c.args.bytes.now (start_with s.image.now s.file.bytes.now) s.steps.items new.steps.items s.room.items new.room.items
+            (record { inside = s.inside; doable = s.doable; theirs = s.theirs; sound = s.sound }) (c.note_program.ensures.noted c.if-not-note_program.false));
+        power = search rules;
+        size = refl;
+        arming = c.lowered-self.ensures;
+        counts = search rules;
+      };
       reached = search rules;
       landed = refl;
     }

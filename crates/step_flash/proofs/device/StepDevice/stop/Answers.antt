@@ -10,11 +10,13 @@ returns c =
     let f = c.failed.ensures in
     record {
       stop = f.stop;
-      content = f.content ∙ halted (under_of s.stopped) s.live (after_steps s) _ c.args.at c.args.bytes.now c.new.ensures;
-      power = f.power;
-      size = f.size;
-      arming = f.arming;
-      counts = f.counts;
+      call = record {
+        content = λ told. f.call.content told ∙ halted (under_of s.stopped) s.live (after_steps s) _ c.args.at c.args.bytes.now c.new.ensures;
+        power = f.call.power;
+        size = f.call.size;
+        arming = f.call.arming;
+        counts = f.call.counts;
+      };
       kept = record { steps = f.kept.steps; room = f.kept.room; writes = f.kept.writes };
       still = f.still;
       live = f.live;
