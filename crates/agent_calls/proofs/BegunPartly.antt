@@ -1,5 +1,5 @@
 -- A partial begin: a begin, and then the copies.
-use Rattle.std.proofs.Common.{◌≡◌, ◌≢◌, cond, ℕ, ◌+◌, ◌*◌, ◌%◌, ◌<◌, Bool, true, false, List, [], ◌∷◌, append-nil, length, get_or, replicate, Option, Some, None, Result, Ok, Err, refl, sym, ap, subst, ◌∙◌, get_or-set_other, IsTrue, eqb-true, OnOk, arith}
+use Rattle.std.proofs.Common.{◌≡◌, ◌≢◌, cond, ℕ, ◌+◌, ◌*◌, ◌%◌, ◌<◌, Bool, true, false, List, [], ◌∷◌, append-nil, length, get_or, replicate, Option, Some, Result, Ok, Err, refl, sym, ap, subst, ◌∙◌, get_or-set_other, IsTrue, eqb-true, OnOk, arith}
 use Rattle.std.specs.Prelude.{◌==◌}
 use Rattle.std.specs.List.{list_any}
 use Rattle.std.proofs.lemmas.Bool.{or_parts, not-false}
@@ -16,14 +16,14 @@ use Rattle.fwu_model.specs.Call as call
 use Rattle.fwu_model.specs.Reply.{Success, Refused}
 use Rattle.fwu_model.specs.declared.kinds.Status.{Status}
 use Rattle.fwu_model.specs.declared.kinds.Status.TheVariants as status
-use Rattle.fwu_model.specs.Answer.{Answer, answer, answer_begin, answered, refused, cannot_begin, begin_moves, is_elsewhere, is_trial, agent_state, held_package}
+use Rattle.fwu_model.specs.Answer.{Answer, answer, answer_begin, answered, refused, cannot_begin, begin_moves, is_elsewhere, is_trial, agent_state, held_package, are_named, booted_package, names_unknown, copied_parts, image_held}
 use Rattle.moves.specs.Moved.{Does}
 use Rattle.moves.proofs.Composed.{does-nothing}
 use Rattle.agent_kept.specs.Kept.{staging_meant, handles_meant}
 use Rattle.agent_state.proofs.Machine.{active-is}
 use Rattle.agent_machine.specs.declared.stop.Stop.{Stop}
 use Rattle.agent_machine.specs.declared.stop.Stop.TheVariants as stop
-use Rattle.agent_machine.specs.Fields.{Fields, total_of}
+use Rattle.agent_machine.specs.Fields.{total_of}
 use Rattle.agent_machine.specs.Knows.{Fitting}
 use Rattle.agent_machine.specs.Machine.{state_in}
 use Rattle.agent_machine.specs.Moment.{Moment, Shows, Showing}
@@ -31,7 +31,7 @@ use Rattle.agent_machine.specs.Meets.{IsDone, IsRefused, IsSettingOf, IsStopped,
 use Rattle.agent_machine.specs.Goes.{GoesByMoves}
 use Rattle.agent_machine.specs.Beside.{IsBesideBank, IsSparedByAll, SparesBlocks, SparesBlocksByAll}
 use Rattle.agent_machine.proofs.Beside.{blocks-further, blocks-once, spared-once, spared-same}
-use Rattle.agent_machine.proofs.Going.{goes-then}
+use Rattle.agent_machine.proofs.Going.{goes-then, stays-then}
 use Rattle.agent_machine.proofs.Totals.{held-long}
 use Rattle.agent_machine.proofs.Stored.{target-other}
 use Rattle.agent_machine.proofs.StoredShows.{target-is}
@@ -39,14 +39,11 @@ use Rattle.flash_core.specs.declared.flash.Arming.{Arming}
 use Rattle.agent_calls.specs.Takes.{CopiesTake, Takes, writes_to_copy}
 use Rattle.agent_machine.specs.Filling.{between}
 use Rattle.agent_calls.specs.Partly.{begins_over}
-use Rattle.fwu_model.specs.Answer.{are_named, booted_package, names_unknown, copied_parts, image_held}
 use Rattle.agent_calls.specs.Copies.{FillsBank, FollowsInStaging, CopiesImages, AnswersAs, BeginsPartly}
 use Rattle.agent_machine.proofs.CallGoing.{MeetsAs, call-goes, call-replies}
-use Rattle.agent_calls.proofs.Copies.{stays-none, stays-then}
 use Rattle.agent_calls.proofs.CopyingAll.{first-all}
-
-abbrev pub setting-of : Fields → (List ℕ → Bool) → Setting
-setting-of f passes = record { layout = f.layout; files = λ _. None; passes = passes }
+use Rattle.agent_machine.proofs.Answered.{stays-same}
+use Rattle.agent_machine.proofs.StoredCalls.{plain-of}
 
 -- what was done or stopped by the flash isn't refused
 pub done-unrefused : (q : Result (Unit {0}) Stop) → IsDone q → IsRefused q → ⊥
@@ -202,7 +199,7 @@ refused-partly m types named passes st is = record {
   guarded = λ tells rest. rest;
   keeps = λ tells. spared-same (IsSparedByAll m.fields.layout m.fields.boot) m.told;
   touches = λ b spared. refl;
-  stays = stays-none m;
+  stays = stays-same m;
 }
 
 -- ---- a begin that the flash stopped
@@ -247,7 +244,7 @@ module _ (old new : Moment) (types : List (List ℕ)) (named : List Bool) (passe
   begun-count : ((E : Setting) (s : State) (x : Session) → E.layout ≡ old.fields.layout → Shows old s x → (answer E s x (call.Begin 0)).reply ≡ Success)
       → (i : ℕ) → i < length old.fields.layout.rows → length (held old i) ≡ total_of old.fields (Some i)
   begun-count were =
-      let E = setting-of old.fields passes in
+      let E = plain-of old.fields passes in
       held-count old (λ tells.
       let w = some tells in
       record { state = w.0; session = w.1; shows = w.2; is = (begun-with old E w.0 w.1 w.2 types (held old) (were E w.0 w.1 refl w.2) known).2 })
@@ -348,7 +345,7 @@ module _ (old mid new : Moment) (types : List (List ℕ)) (passes : List ℕ →
   answers-by (Err q) a s E is follows goes = ap (λ (b : Answer). b.reply) is
 
   abbrev plain : Setting
-  plain = setting-of old.fields passes
+  plain = plain-of old.fields passes
 
   plain-fits : IsSettingOf old.fields passes plain
   plain-fits = record { layout = refl; verifier = refl }

@@ -16,7 +16,7 @@ use Rattle.fwu_model.specs.Call as call
 use Rattle.fwu_model.specs.Reply.{Reply}
 use Rattle.fwu_model.specs.Reply as reply
 use Rattle.fwu_model.specs.declared.kinds.Status.{Status}
-use Rattle.fwu_model.specs.Answer.{Answer, answer, answered, booted_package}
+use Rattle.fwu_model.specs.Answer.{Answer, answer, answered, booted_package, image_held}
 use Rattle.moves.specs.Moved.{GuardedBy, IsReady}
 use Rattle.moves.proofs.Composed.{does-nothing}
 use Rattle.agent_machine.specs.declared.stop.Stop.{Stop}
@@ -30,29 +30,27 @@ use Rattle.agent_machine.specs.Goes.{GoesByMoves}
 use Rattle.agent_machine.specs.Beside.{IsSparedByAll, KeepsSparedByAll, SparesBlocksByAll}
 use Rattle.agent_machine.proofs.Beside.{blocks-still, spared-told}
 use Rattle.agent_machine.specs.Knows.{Fitting, Knows}
-use Rattle.agent_machine.proofs.Going.{goes-nothing, goes-then}
+use Rattle.agent_machine.proofs.Going.{goes-nothing, goes-then, stays-then}
 use Rattle.agent_machine.proofs.Totals.{held-long}
 use Rattle.agent_machine.proofs.Reading.{image-piece}
 use Rattle.agent_machine.proofs.CallGoing.{MeetsAs, call-goes, call-replies, call-stopped}
 use Rattle.agent_machine.proofs.Filling.{open-answers, write-answers, commit-answers}
 use Rattle.agent_machine.specs.Filling.{between, within, filled}
-use Rattle.fwu_model.specs.Answer.{image_held}
-use Rattle.agent_calls.specs.Copies.{FollowsInStaging, CopiesPiece, CopiesFront, CopiesBytes, CopiesImage}
+use Rattle.agent_calls.specs.Copies.{FollowsInStaging, CopiesPiece, CopiesBytes, CopiesImage}
+use Rattle.agent_machine.proofs.Answered.{stays-same}
+
+-- the first bytes of an image were read and written
+pub record CopiesFront (image at : ℕ) (old new : Moment) : Type 0 where
+  pub stays : Stays old new
+  pub bytes : List ℕ
+  pub count : length bytes ≡ at
+  pub read : IsTrue old.tells → (s : State) (boot : ℕ) (parts : List Staged) → image < length parts
+      → Shows old s (within boot parts image []) → bytes ≡ take at (image_held s boot image)
+  pub goes : (E : Setting) (s : State) (boot : ℕ) (parts : List Staged) → E.layout ≡ old.fields.layout
+      → image < length parts → Shows old s (within boot parts image [])
+      → GoesByMoves E (Ok tt) old new s [] (within boot parts image bytes)
 
 -- ---- one after the other
-
-pub stays-none : (a : Moment) → Stays a a
-stays-none a = record { tells = refl; layout = refl; boot = refl; counter = refl; lengths = refl; guard = λ told. refl }
-
-pub stays-then : (a b c : Moment) → Stays a b → Stays b c → Stays a c
-stays-then a b c ab bc = record {
-  tells = bc.tells ∙ ab.tells;
-  layout = bc.layout ∙ ab.layout;
-  boot = bc.boot ∙ ab.boot;
-  counter = bc.counter ∙ ab.counter;
-  lengths = bc.lengths ∙ ab.lengths;
-  guard = λ told. bc.guard (subst IsTrue (sym ab.tells) told) ∙ ab.guard told;
-}
 
 any : List ℕ → Bool
 any _ = true
@@ -246,7 +244,7 @@ booted-is m s boot staging handles shows = on-boot boot m.fields.boot staging (s
 
 pub front-none : (image : ℕ) (m : Moment) → CopiesFront image 0 m m
 front-none image m = record {
-  stays = stays-none m;
+  stays = stays-same m;
   bytes = [];
   count = refl;
   read = λ tells s boot parts below shows. refl;

@@ -25,7 +25,7 @@ use Rattle.agent_machine.specs.Filling.{between}
 use Rattle.agent_calls.specs.Copies.{BeginsPartly}
 use Rattle.agent_calls.specs.Metas.{meta_begun}
 use Rattle.agent_calls.specs.Partly.{begins_over}
-use Rattle.agent_calls.proofs.BegunPartly.{setting-of}
+use Rattle.agent_machine.proofs.StoredCalls.{plain-of}
 use Rattle.agent_calls.proofs.CopyFilling.{begun-active}
 
 -- behind each committed image
@@ -82,7 +82,7 @@ copied-padded old new types passes (Err e) begins keeps rows some padded = tt
 copied-padded old new types passes (Ok u) begins keeps rows some padded = λ tells image lt un.
     let named = are_named old.fields.layout.rows types in
     let w = some tells in
-    let E = setting-of old.fields passes in
+    let E = plain-of old.fields passes in
     let a = begins.exact E w.0 w.1 (record { layout = refl; verifier = refl }) w.2 in
     let k : Kept = new.fields.session in
     let own = a.1.staged in

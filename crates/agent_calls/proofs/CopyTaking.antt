@@ -20,11 +20,11 @@ use Rattle.agent_machine.specs.Goes.{GoesByMoves}
 use Rattle.agent_machine.specs.Meets.{flash_result}
 use Rattle.agent_machine.specs.Moment.{Moment, Shows}
 use Rattle.agent_machine.specs.Filling.{within}
-use Rattle.agent_calls.specs.Copies.{CopiesFront, CopiesBytes, CopiesFirst}
+use Rattle.agent_calls.specs.Copies.{CopiesBytes}
 use Rattle.agent_calls.specs.Takes.{Takes, PieceTakes, FrontTakes, CopyTakes, CopiesTake, piece_at, pieces_of, writes_of_image, writes_of_pieces, writes_to_copy}
 use Rattle.agent_machine.proofs.CallGoing.{MeetsAs}
-use Rattle.agent_calls.proofs.Copies.{plain, image-opened}
-use Rattle.agent_calls.proofs.CopyingAll.{first-long, first-empty}
+use Rattle.agent_calls.proofs.Copies.{CopiesFront, plain, image-opened}
+use Rattle.agent_calls.proofs.CopyingAll.{CopiesFirst, first-long, first-empty}
 use Rattle.agent_calls.proofs.Pieces.{Pieces, next-piece, pieces-all, pieces-more, pieces-none}
 use Rattle.agent_calls.proofs.Taking.{takes-as, takes-none, takes-then}
 use Rattle.agent_machine.proofs.Writer.{writer, written}

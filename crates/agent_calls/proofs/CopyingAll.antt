@@ -1,6 +1,6 @@
 -- Copies of all images that aren't named, one after another.
-use Rattle.std.proofs.Common.{◌≡◌, ◌≢◌, ℕ, ◌+◌, ◌<◌, ◌≤◌, Bool, true, false, cond, List, [], length, get_or, set, replicate, Some, Ok, Err, inl, inr, refl, sym, ap, subst, ◌∙◌, arith, length-set, ltb, eq-eqb, ne_eqb, get_or-set_same, get_or-set_other, ext_get_or}
-use Rattle.std.specs.Prelude.{IsTrue, ◌==◌}
+use Rattle.std.proofs.Common.{◌≡◌, ◌≢◌, ℕ, ◌+◌, ◌<◌, ◌≤◌, Bool, true, false, cond, List, [], length, get_or, set, replicate, Some, Ok, Err, inl, inr, refl, sym, ap, subst, ◌∙◌, arith, length-set, ltb, eq-eqb, get_or-set_same, get_or-set_other, ext_get_or}
+use Rattle.std.specs.Prelude.{IsTrue}
 use Rattle.std.proofs.lemmas.Bool.{lt-ltb, le-ltb, cases_eq, cases_lt}
 use Rattle.std.proofs.lemmas.List.{get_or-replicate, length-replicate}
 use Rattle.std.proofs.lemmas.List.FromFn.{length-map-range_with_len, get_or-map-range_with_len}
@@ -9,12 +9,29 @@ use Rattle.agent_machine.specs.declared.stop.Stop.{Stop}
 use Rattle.agent_machine.specs.Fields.{total_of}
 use Rattle.agent_machine.specs.Moment.{Moment, Shows}
 use Rattle.agent_machine.specs.Goes.{GoesByMoves}
-use Rattle.agent_machine.proofs.Going.{goes-nothing, goes-then}
+use Rattle.agent_machine.specs.Meets.{Stays}
+use Rattle.fwu_model.specs.State.{State}
+use Rattle.fwu_model.specs.Sound.{Setting}
+use Rattle.agent_machine.proofs.Going.{goes-nothing, goes-then, stays-then}
 use Rattle.agent_machine.specs.Filling.{between, filled}
 use Rattle.agent_calls.specs.Partly.{copied_first}
 use Rattle.fwu_model.specs.Answer.{copied_part, copied_parts, image_held}
-use Rattle.agent_calls.specs.Copies.{CopiesImage, CopiesFirst, CopiesImages}
-use Rattle.agent_calls.proofs.Copies.{plain, follows-after, other-end, stays-none, stays-then}
+use Rattle.agent_calls.specs.Copies.{CopiesImage, CopiesImages}
+use Rattle.agent_calls.proofs.Copies.{plain, follows-after, other-end}
+use Rattle.agent_machine.proofs.Answered.{stays-same}
+use Rattle.agent_state.specs.Settles.{with_bytes}
+use Rattle.agent_state.proofs.Settled.{with-there}
+
+-- each of the first images that isn't named was copied
+pub record CopiesFirst (named : List Bool) (k : ℕ) (old new : Moment) : Type 0 where
+  pub stays : Stays old new
+  pub bytes : ℕ → List ℕ
+  pub count : (i : ℕ) → i < k → get_or named i true ≡ false → length (bytes i) ≡ total_of old.fields (Some i)
+  pub read : IsTrue old.tells → (s : State) (boot : ℕ) → Shows old s (between boot (replicate (length named) Nothing))
+      → (i : ℕ) → i < k → get_or named i true ≡ false → bytes i ≡ image_held s boot i
+  pub goes : (E : Setting) (s : State) (boot : ℕ) → E.layout ≡ old.fields.layout
+      → Shows old s (between boot (replicate (length named) Nothing))
+      → GoesByMoves E (Ok tt) old new s [] (between boot (copied_first named k bytes))
 
 -- ---- the parts, place by place
 
@@ -68,15 +85,8 @@ next-named named k bytes is =
       ]
     ]
 
--- these bytes of one image, and those of the others as they were
-abbrev pub with_bytes : (ℕ → List ℕ) → ℕ → List ℕ → ℕ → List ℕ
-with_bytes bytes k new i = cond (i == k) new (bytes i)
-
 with-same : (bytes : ℕ → List ℕ) (k : ℕ) (new : List ℕ) (i : ℕ) → i ≡ k → with_bytes bytes k new i ≡ new
 with-same bytes k new i e = ap (λ (b : Bool). cond b new (bytes i)) (eq-eqb i k e)
-
-with-other : (bytes : ℕ → List ℕ) (k : ℕ) (new : List ℕ) (i : ℕ) → i ≢ k → with_bytes bytes k new i ≡ bytes i
-with-other bytes k new i ne = ap (λ (b : Bool). cond b new (bytes i)) (ne_eqb i k ne)
 
 -- another one is committed
 next-copied : (named : List Bool) (k : ℕ) (bytes : ℕ → List ℕ) (new : List ℕ) → get_or named k true ≡ false → k < length named
@@ -104,7 +114,7 @@ next-copied named k bytes new is below-k =
       where
         elsewhere : (i : ℕ) → i ≢ k → part named k bytes i ≡ part named (k + 1) (with_bytes bytes k new) i
         elsewhere i ne = elim (cases_lt i k) [
-          | inl lt ↦ under named k bytes i lt ∙ ap (λ (xs : List ℕ). copied_part (get_or named i true) xs) (sym (with-other bytes k new i ne))
+          | inl lt ↦ under named k bytes i lt ∙ ap (λ (xs : List ℕ). copied_part (get_or named i true) xs) (sym (with-there bytes k new i ne))
               ∙ sym (under named (k + 1) (with_bytes bytes k new) i (omega (arith, lt)))
           | inr le ↦ over named k bytes i le ∙ sym (over named (k + 1) (with_bytes bytes k new) i (omega (arith, le, ne)))
         ]
@@ -116,7 +126,7 @@ first-empty named k bytes below = first-at named k bytes k below ∙ over named 
 
 pub copies-none : (named : List Bool) (m : Moment) → CopiesFirst named 0 m m
 copies-none named m = record {
-  stays = stays-none m;
+  stays = stays-same m;
   bytes = λ i. [];
   count = λ i lt is. absurd (omega (arith, lt));
   read = λ tells s boot shows i lt is. absurd (omega (arith, lt));
@@ -147,7 +157,7 @@ module _ (named : List Bool) (k : ℕ) (old mid : Moment) (first : CopiesFirst n
       bytes = with_bytes first.bytes k image.bytes;
       count = λ i lt not. elim (cases_eq i k) [
         | inl e ↦ ap (λ (xs : List ℕ). length xs) (with-same first.bytes k image.bytes i e) ∙ image.count ∙ ap (λ (l : List ℕ). get_or l k 0) first.stays.lengths ∙ ap (λ (j : ℕ). total_of old.fields (Some j)) (sym e)
-        | inr ne ↦ ap (λ (xs : List ℕ). length xs) (with-other first.bytes k image.bytes i ne)
+        | inr ne ↦ ap (λ (xs : List ℕ). length xs) (with-there first.bytes k image.bytes i ne)
             ∙ first.count i (omega (arith, lt, ne)) not
       ];
       read = λ tells s boot shows i lt not.
@@ -157,7 +167,7 @@ module _ (named : List Bool) (k : ℕ) (old mid : Moment) (first : CopiesFirst n
                 ∙ image.read (subst IsTrue (sym one.stays.tells) tells) s boot (copied_first named k first.bytes) within-parts
                 (first-empty named k first.bytes below) one.shows
                 ∙ ap (λ (j : ℕ). image_held s boot j) (sym e)
-            | inr ne ↦ with-other first.bytes k image.bytes i ne ∙ first.read tells s boot shows i (omega (arith, lt, ne)) not
+            | inr ne ↦ with-there first.bytes k image.bytes i ne ∙ first.read tells s boot shows i (omega (arith, lt, ne)) not
           ];
       goes = λ E s boot layout shows.
           let one = first.goes E s boot layout shows in

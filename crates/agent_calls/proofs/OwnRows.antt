@@ -2,12 +2,13 @@
 use Rattle.std.proofs.Common.{◌≡◌, ◌≢◌, cond, ℕ, ◌<◌, Bool, false, List, [], length, map, get_or, inl, inr, Some, None, sym, ap, ◌∙◌, arith}
 use Rattle.std.specs.Prelude.{IsTrue, ltb}
 use Rattle.std.specs.List.{position_or_len}
-use Rattle.std.proofs.lemmas.Bool.{cases_Bool, lt-ltb, and_parts}
+use Rattle.std.proofs.lemmas.Bool.{cases_Bool, lt-ltb}
 use Rattle.std.proofs.lemmas.List.{length-map, get_or-map, get_or_default}
 use Rattle.std.proofs.lemmas.List.Sums.{position_or_len_is}
 use Rattle.base_core.specs.Bytes.{same_bytes}
 use Rattle.fwu_formats.specs.Layout.{ImageRow, Layout, find_image, fits_layout, are_distinct}
 use Rattle.fwu_model.proofs.Staging.{same-self, same-is, distinct-at}
+use Rattle.fwu_model.proofs.Selects.{layout-distinct}
 
 abbrev pub no_row : ImageRow
 no_row = record { guid = []; slots = 0 }
@@ -38,12 +39,8 @@ own-image rows k distinct lt =
     ap (λ (i : ℕ). cond (ltb i (length rows)) (Some i) None) (own-place rows k distinct lt) ∙ ap (λ (b : Bool). cond b (Some k) None)
     (lt-ltb k (length rows) lt)
 
-distinct : (L : Layout) → IsTrue (fits_layout L) → IsTrue (are_distinct (map (λ r. r.guid) L.rows))
-unfolding fits_layout
-distinct L fit = (and_parts _ (are_distinct (map (λ (r : ImageRow). r.guid) L.rows)) fit).1
-
 pub found-by-row : (L : Layout) (k : ℕ) → IsTrue (fits_layout L) → k < length L.rows → find_image L.rows (get_or L.rows k no_row).guid ≡ Some k
-found-by-row L k fits lt = own-image L.rows k (distinct L fits) lt
+found-by-row L k fits lt = own-image L.rows k (layout-distinct L fits) lt
 
 -- where the row was read
 pub found-at : (L : Layout) (rows : List ImageRow) (k : ℕ) (d : ImageRow) → IsTrue (fits_layout L) → k < length L.rows

@@ -8,7 +8,7 @@ use Rattle.fwu_model.specs.MoveMetas.{meta_after}
 use Rattle.fwu_model.specs.Sound.{Setting}
 use Rattle.fwu_model.specs.Session.{Session, Staged, Nothing}
 use Rattle.fwu_model.specs.Reply.{Success, Refused}
-use Rattle.fwu_model.specs.Answer.{Answer}
+use Rattle.fwu_model.specs.Answer.{Answer, image_held}
 use Rattle.fwu_model.specs.Calm.{IsAtRest}
 use Rattle.moves.specs.Moved.{Does, GuardedBy, IsReady}
 use Rattle.agent_machine.specs.declared.stop.Stop.{Stop}
@@ -22,15 +22,13 @@ use Rattle.agent_machine.specs.Meets.{IsDone, IsSettingOf, Stays, flash_result}
 use Rattle.agent_machine.specs.Filling.{between, within, filled}
 use Rattle.agent_calls.specs.Metas.{has_invalid_target}
 use Rattle.agent_calls.specs.Partly.{begins_over, copied_first}
-use Rattle.fwu_model.specs.Answer.{image_held}
 
 -- Steps within a staging: done, and then the session is this one; or the flash stopped them. None is refused.
 abbrev pub FollowsInStaging : {T : Type 0} → Result T Stop → Setting → Moment → Moment → State → Session → Type 0
 FollowsInStaging (Ok x) E old new s y = GoesByMoves E (Ok tt) old new s [] y
 FollowsInStaging (Err stop.Lost) E old new s y = GoesByMoves E (Err flash_stop.Lost) old new s [] y
 FollowsInStaging (Err stop.Fault) E old new s y = GoesByMoves E (Err flash_stop.Failed) old new s [] y
-FollowsInStaging (Err (stop.Status st)) E old new s y = ⊥
-FollowsInStaging (Err stop.Gone) E old new s y = ⊥
+FollowsInStaging other E old new s y = ⊥
 
 -- A piece of an image of the bank that was started, from a place of it on, was read and written behind what was there.
 pub record CopiesPiece (image at : ℕ) (result : Result ℕ Stop) (old new : Moment) : Type 0 where
@@ -43,18 +41,7 @@ pub record CopiesPiece (image at : ℕ) (result : Result ℕ Stop) (old new : Mo
       → image < length parts → length before ≡ at → Shows old s (within boot parts image before)
       → FollowsInStaging result E old new s (within boot parts image (before ++ bytes))
 
--- its first bytes were
-pub record CopiesFront (image at : ℕ) (old new : Moment) : Type 0 where
-  pub stays : Stays old new
-  pub bytes : List ℕ
-  pub count : length bytes ≡ at
-  pub read : IsTrue old.tells → (s : State) (boot : ℕ) (parts : List Staged) → image < length parts
-      → Shows old s (within boot parts image []) → bytes ≡ take at (image_held s boot image)
-  pub goes : (E : Setting) (s : State) (boot : ℕ) (parts : List Staged) → E.layout ≡ old.fields.layout
-      → image < length parts → Shows old s (within boot parts image [])
-      → GoesByMoves E (Ok tt) old new s [] (within boot parts image bytes)
-
--- all of it was
+-- all of it was read and written
 pub record CopiesBytes (image : ℕ) (result : Result (Unit {0}) Stop) (old new : Moment) : Type 0 where
   pub stays : Stays old new
   pub bytes : List ℕ
@@ -76,18 +63,7 @@ pub record CopiesImage (image : ℕ) (result : Result (Unit {0}) Stop) (old new 
       → image < length parts → slice_index_or parts image Nothing ≡ Nothing → Shows old s (between boot parts)
       → FollowsInStaging result E old new s (between boot (filled parts image bytes true))
 
--- so each of the first images that isn't named
-pub record CopiesFirst (named : List Bool) (k : ℕ) (old new : Moment) : Type 0 where
-  pub stays : Stays old new
-  pub bytes : ℕ → List ℕ
-  pub count : (i : ℕ) → i < k → slice_index_or named i true ≡ false → length (bytes i) ≡ total_of old.fields (Some i)
-  pub read : IsTrue old.tells → (s : State) (boot : ℕ) → Shows old s (between boot (replicate (length named) Nothing))
-      → (i : ℕ) → i < k → slice_index_or named i true ≡ false → bytes i ≡ image_held s boot i
-  pub goes : (E : Setting) (s : State) (boot : ℕ) → E.layout ≡ old.fields.layout
-      → Shows old s (between boot (replicate (length named) Nothing))
-      → GoesByMoves E (Ok tt) old new s [] (between boot (copied_first named k bytes))
-
--- and all of them
+-- so each image that isn't named
 pub record CopiesImages (named : List Bool) (result : Result (Unit {0}) Stop) (old new : Moment) : Type 0 where
   pub stays : Stays old new
   pub bytes : ℕ → List ℕ

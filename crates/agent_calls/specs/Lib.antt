@@ -2,7 +2,6 @@ pub mod Snapshot
 pub mod Shown
 pub mod Started
 pub mod Told
-pub mod Asked
 pub mod Metas
 pub mod Records
 pub mod Readable

@@ -67,9 +67,8 @@ pub(crate) fn stopped(stop: FlashStop) -> Stop
 impl<D: Flash> Agent<D> {
     ghost use Rattle.std.specs.Prelude.{ℕ, ◌<◌, Bool, List, []};
     ghost use Rattle.agent_state.specs.Settles.{IsPlanOf};
-    ghost use Rattle.agent_machine.specs.Asks.{AsksNoVerifier, IsQuietPlan, PlansAs, IsPlannedIn};
+    ghost use Rattle.agent_machine.specs.Asks.{AsksNoVerifier, IsQuietPlan, PlansAs, IsPlannedIn, IsPlannedFor};
     ghost use Rattle.agent_machine.specs.Fields.{target};
-    ghost use Rattle.agent_calls.specs.Asked.{IsPlannedFor};
     ghost use Rattle.agent_machine.specs.Carries.{MayKeep, CarriedOut};
     ghost use Rattle.agent_calls.specs.Records.{KeepsRests};
     ghost use Rattle.agent_calls.specs.Shown.{fields, device, gone, moment};

@@ -11,8 +11,7 @@ use Rattle.fwu_formats.specs.Layout.{ImageRow}
 use Rattle.fwu_formats.specs.Manifest.{manifest_size}
 use Rattle.agent_kept.specs.declared.parts.Part.{Part}
 use Rattle.agent_kept.specs.declared.parts.Part.TheVariants.{Nothing, Open, Committed}
-use Rattle.agent_kept.specs.Kept.{Kept, IsKept, part_at, size_of, GrowsPart, AppendsPart, OpensPart, CommitsPart, IsNewPart, CommitsTo, Restarts}
-use Rattle.agent_kept.specs.Fronts.{FrontGrows}
+use Rattle.agent_kept.specs.Kept.{Kept, IsKept, part_at, size_of, GrowsPart, AppendsPart, OpensPart, CommitsPart, IsNewPart, CommitsTo, HasNothing, FrontGrows}
 
 -- the front that is kept, by its parts
 abbrev Fronts : List ImageRow → ℕ → List ℕ → List ℕ → Type 0
@@ -25,28 +24,18 @@ no-front m n bytes front none =
     (ap (λ (j : ℕ). take j front) (let e : min m 0 ≡ 0 = omega arith in e) ∙ sym (take_all m [] (omega arith)))
 
 same-open : (n m : ℕ) (x y : Sha256) → ◌≡◌ {A = Part} (Open n x) (Open m y) → (n ≡ m) × (x ≡ y)
-same-open n m x y e = (ap size_of e, ap (hasher-of x) e)
-  where
-    hasher-of : Sha256 → Part → Sha256
-    hasher-of d Nothing = d
-    hasher-of d (Open n h) = h
-    hasher-of d (Committed n digest bit) = d
+same-open n m x y e = (cc, cc)
 
 same-committed : (n m : ℕ) (x y : List ℕ) (a b : Bool) → ◌≡◌ {A = Part} (Committed n x a) (Committed m y b) → (n ≡ m) × (x ≡ y)
-same-committed n m x y a b e = (ap size_of e, ap digest-of e)
-  where
-    digest-of : Part → List ℕ
-    digest-of Nothing = []
-    digest-of (Open k h) = []
-    digest-of (Committed k d bit) = d
+same-committed n m x y a b e = (cc, cc)
 
-open-committed : (n m : ℕ) (x : Sha256) (digest : List ℕ) (bit : Bool) → ◌≡◌ {A = Part} (Open n x) (Committed m digest bit) → ⊥
+pub open-committed : (n m : ℕ) (x : Sha256) (digest : List ℕ) (bit : Bool) → ◌≡◌ {A = Part} (Open n x) (Committed m digest bit) → ⊥
 open-committed n m x digest bit e = absurd cc
 
-nothing-open : (n : ℕ) (x : Sha256) → ◌≡◌ {A = Part} Nothing (Open n x) → ⊥
+pub nothing-open : (n : ℕ) (x : Sha256) → ◌≡◌ {A = Part} Nothing (Open n x) → ⊥
 nothing-open n x e = absurd cc
 
-nothing-committed : (n : ℕ) (digest : List ℕ) (bit : Bool) → ◌≡◌ {A = Part} Nothing (Committed n digest bit) → ⊥
+pub nothing-committed : (n : ℕ) (digest : List ℕ) (bit : Bool) → ◌≡◌ {A = Part} Nothing (Committed n digest bit) → ⊥
 nothing-committed n digest bit e = absurd cc
 
 -- ---- one image changes
@@ -140,11 +129,10 @@ kept-committed k new image place bit staged is lt commits =
     part-fits : (p q : Part) → p ≡ part_at k image → CommitsTo p q bit → FitsPart q (staged image)
     part-fits Nothing q e c = subst (λ (x : Part). FitsPart x (staged image)) (sym c) tt
     part-fits (Committed n digest b) q e c = subst (λ (x : Part). FitsPart x (staged image)) (sym c) (is.committed image n digest b lt (sym e))
-    part-fits (Open n hasher) Nothing e c = absurd c
-    part-fits (Open n hasher) (Open m other) e c = absurd c
     part-fits (Open n hasher) (Committed m digest b) e c =
         let had = is.opened image n hasher lt (sym e) in
         (c.0 ∙ had.0, ∥∥₁_elim had.1 (Coded-set (coded_list coded_ℕ) digest (sha256 (staged image))) (c.2 (staged image)))
+    part-fits (Open n hasher) other e c = absurd c
 
     fits : FitsPart (part_at new image) (staged image)
     fits = part-fits (part_at k image) (part_at new image) refl commits.part
@@ -152,12 +140,10 @@ kept-committed k new image place bit staged is lt commits =
 -- ---- bytes are written behind an image
 
 -- an open image that grew is open
-grown : (p q : Part) (bytes : List ℕ) → GrowsPart p q bytes → (size : ℕ) × (hasher : Sha256) × (next : Sha256) × (p ≡ Open size hasher) × (q ≡ Open (size + length bytes) next) × ((m : List ℕ) → Holds256 hasher m → Holds256 next (m ++ bytes))
-grown Nothing q bytes g = absurd g
-grown (Committed size digest bit) q bytes g = absurd g
-grown (Open size hasher) Nothing bytes g = absurd g
-grown (Open size hasher) (Committed n digest bit) bytes g = absurd g
+pub grown : (p q : Part) (bytes : List ℕ) → GrowsPart p q bytes → (size : ℕ) × (hasher : Sha256) × (next : Sha256)
+    × (p ≡ Open size hasher) × (q ≡ Open (size + length bytes) next) × ((m : List ℕ) → Holds256 hasher m → Holds256 next (m ++ bytes))
 grown (Open size hasher) (Open n next) bytes g = (size, hasher, next, refl, ap (λ (k : ℕ). Open k next) g.0, g.1)
+grown p q bytes g = absurd g
 
 -- the kept front of an image that grew
 front-step : (m n : ℕ) (was bytes old new : List ℕ) → m ≤ 888 → n ≡ length was → take (min m n) old ≡ take m was → FrontGrows n bytes old new → take (min m (length (was ++ bytes))) new ≡ take m (was ++ bytes)
@@ -215,9 +201,9 @@ module _ (k new : Kept) (image : ℕ) (bytes : List ℕ) (staged after : ℕ →
 
 -- ---- a restart
 
-pub kept-restarted : (staging : Bool) (k new : Kept) (staged : ℕ → List ℕ) → Restarts staging k new → IsKept new staged
-kept-restarted staging k new staged restarts = record {
-  opened = λ i n hasher lt e. absurd (nothing-open n hasher (sym (restarts.nothing i) ∙ e));
-  committed = λ i n digest bit lt e. absurd (nothing-committed n digest bit (sym (restarts.nothing i) ∙ e));
-  front = no-front (manifest_size (length new.rows - 1)) (size_of (part_at new 0)) (staged 0) new.front (ap size_of (restarts.nothing 0));
+pub kept-nothing : (k : Kept) (staged : ℕ → List ℕ) → HasNothing k → IsKept k staged
+kept-nothing k staged none = record {
+  opened = λ i size hasher lt is. absurd (nothing-open size hasher (sym (none i) ∙ is));
+  committed = λ i size digest bit lt is. absurd (nothing-committed size digest bit (sym (none i) ∙ is));
+  front = no-front (manifest_size (length k.rows - 1)) (size_of (part_at k 0)) (staged 0) k.front (ap size_of (none 0));
 }

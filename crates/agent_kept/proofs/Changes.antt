@@ -6,8 +6,7 @@ use Rattle.agent_kept.specs.declared.parts.Part.{Part}
 use Rattle.agent_kept.specs.declared.parts.Part.TheVariants.{Nothing, Open, Committed}
 use Rattle.agent_kept.specs.declared.parts.Handle.{Handle}
 use Rattle.agent_kept.specs.declared.parts.Handle.TheVariants.{Free, Reads, Writes}
-use Rattle.agent_kept.specs.Handles.{is_writer_kept}
-use Rattle.agent_kept.specs.Sound.{size_of, is_part_open, slot_room_of, IsSoundKept, CommitsTo}
+use Rattle.agent_kept.specs.Sound.{is_writer_kept, size_of, is_part_open, slot_room_of, IsSoundKept, CommitsTo}
 
 -- what a handle writes is told by it
 same-writer : (a b : ℕ) → Writes a ≡ Writes b → a ≡ b

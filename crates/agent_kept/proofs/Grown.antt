@@ -2,7 +2,7 @@
 use Rattle.std.proofs.Common.{◌≡◌, ℕ, ◌+◌, ◌-◌, min, List, ◌++◌, length, take, sym, ap, ◌∙◌, arith}
 use Rattle.std.proofs.lemmas.List.{length-take-le, take_min}
 use Rattle.std.proofs.Math.Seq.{take-append-add}
-use Rattle.agent_kept.specs.Fronts.{FrontGrows}
+use Rattle.agent_kept.specs.Sound.{FrontGrows}
 
 pub front-grown : (size at count : ℕ) (bytes old new : List ℕ) → length old ≡ 888 → at ≡ min size 888 → count ≡ min (length bytes) (888 - at) → take (at + length (take count bytes)) new ≡ take at old ++ take count bytes → FrontGrows size bytes old new
 front-grown size at count bytes old new whole at-is count-is put =

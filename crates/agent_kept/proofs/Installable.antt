@@ -15,7 +15,7 @@ use Rattle.fwu_model.specs.Sound.{Setting}
 use Rattle.fwu_model.specs.Session.{is_committed}
 use Rattle.fwu_model.specs.Answer.{staged_bytes, staged_package, may_end}
 use Rattle.agent_kept.specs.declared.parts.Part.{Part}
-use Rattle.agent_kept.specs.declared.parts.Part.TheVariants.{Nothing, Open, Committed}
+use Rattle.agent_kept.specs.declared.parts.Part.TheVariants.{Nothing, Committed}
 use Rattle.agent_kept.specs.Kept.{Kept, IsKept, part_at, part_meant, parts_meant, size_of}
 use Rattle.agent_kept.specs.Judged.{is_installable, is_part_committed, is_part_of, manifest_kept, are_rows_kept, parts_of}
 
@@ -74,34 +74,28 @@ map-twice f g (x ∷ xs) = ap (λ l. f (g x) ∷ l) (map-twice f g xs)
 
 -- the length, and the digest of a committed image
 abbrev IsPartOf : Part → List ℕ → Type 0
-IsPartOf Nothing bytes = Unit {0}
-IsPartOf (Open size hasher) bytes = Unit {0}
 IsPartOf (Committed size digest bit) bytes = (size ≡ length bytes) × (digest ≡ sha256 bytes)
+IsPartOf other bytes = Unit {0}
 
 part-of : (k : Kept) (staged : ℕ → List ℕ) (i : ℕ) (p : Part) → IsKept k staged → i < length k.rows → part_at k i ≡ p → IsPartOf p (staged i)
-part-of k staged i Nothing is lt e = tt
-part-of k staged i (Open size hasher) is lt e = tt
 part-of k staged i (Committed size digest bit) is lt e = is.committed i size digest bit lt e
+part-of k staged i other is lt e = tt
 
 committed-same : (p : Part) (bytes : List ℕ) → is_part_committed p ≡ is_committed (part_meant p bytes)
 committed-same Nothing bytes = refl
-committed-same (Open size hasher) bytes = refl
-committed-same (Committed size digest bit) bytes = refl
+committed-same other bytes = refl
 
 bytes-of : (p : Part) (bytes : List ℕ) → is_part_committed p ≡ true → staged_bytes (part_meant p bytes) ≡ bytes
-bytes-of Nothing bytes is = absurd cc
-bytes-of (Open size hasher) bytes is = absurd cc
 bytes-of (Committed size digest bit) bytes is = refl
+bytes-of other bytes is = absurd cc
 
 size-of : (p : Part) (bytes : List ℕ) → is_part_committed p ≡ true → IsPartOf p bytes → size_of p ≡ length bytes
-size-of Nothing bytes is part = absurd cc
-size-of (Open size hasher) bytes is part = absurd cc
 size-of (Committed size digest bit) bytes is part = part.0
+size-of other bytes is part = absurd cc
 
 row-same : (r : Row) (p : Part) (bytes : List ℕ) → is_part_committed p ≡ true → IsPartOf p bytes → is_part_of r p ≡ is_image_of r bytes
-row-same r Nothing bytes is part = absurd cc
-row-same r (Open size hasher) bytes is part = absurd cc
 row-same r (Committed size digest bit) bytes is part = ap₂ (λ (n : ℕ) (d : List ℕ). (n == r.size) && same_bytes d r.digest) part.0 part.1
+row-same r other bytes is part = absurd cc
 
 -- ---- all of them
 

@@ -1,5 +1,5 @@
 -- The session that is meant, where an image or a handle changes.
-use Rattle.std.proofs.Common.{◌≡◌, ◌≢◌, inl, inr, ℕ, ◌-◌, ◌<◌, Bool, true, cond, List, length, get_or, set, Option, Some, None, sym, ap, ap₂, ◌∙◌, arith, ext_get_or, get_or-set_same, get_or-set_other, length-set}
+use Rattle.std.proofs.Common.{◌≡◌, ◌≢◌, inl, inr, ℕ, ◌-◌, ◌<◌, Bool, true, cond, List, length, get_or, set, Some, None, sym, ap, ◌∙◌, arith, ext_get_or, get_or-set_same, get_or-set_other, length-set}
 use Rattle.std.proofs.lemmas.Bool.{cases_eq}
 use Rattle.std.proofs.lemmas.List.{map-set}
 use Rattle.std.proofs.lemmas.List.FromFn.{length-map-range_with_len, get_or-map-range_with_len}
@@ -33,26 +33,9 @@ parts-changed k new image part bytes after rows lt here there =
       | inr ne ↦ there i ne ∙ sym (get_or-map-range_with_len f 0 n i i machine.Nothing inside (omega arith)) ∙ sym (get_or-set_other old image i part machine.Nothing ne)
     ])
 
--- the same images
-pub parts-same : (k new : Kept) (bytes after : ℕ → List ℕ) → new.rows ≡ k.rows → ((i : ℕ) → part_at new i ≡ part_at k i) → ((i : ℕ) → after i ≡ bytes i) → parts_meant new after ≡ parts_meant k bytes
-parts-same k new bytes after rows parts same =
-    let f = λ (i : ℕ). part_meant (part_at k i) (bytes i) in
-    let g = λ (i : ℕ). part_meant (part_at new i) (after i) in
-    let n : ℕ = length k.rows in
-    let left : length (listed n g) ≡ n = length-map-range_with_len g 0 n in
-    let count : length (listed n f) ≡ n = length-map-range_with_len f 0 n in
-    ap (λ (rs : List ImageRow). listed (length rs) g) rows
-    ∙ ext_get_or machine.Nothing (listed n g) (listed n f) (left ∙ sym count) (λ i below.
-    let inside : i < n = omega (arith, below, left) in
-    get_or-map-range_with_len g 0 n i i machine.Nothing inside (omega arith) ∙ ap₂ part_meant (parts i) (same i) ∙ sym (get_or-map-range_with_len f 0 n i i machine.Nothing inside (omega arith)))
-
 pub staging-on : (k : Kept) (bytes : ℕ → List ℕ) → k.staging ≡ true → staging_meant k bytes ≡ Some (parts_meant k bytes)
 staging-on k bytes on = ap (λ (b : Bool). cond b (Some (parts_meant k bytes)) None) on
 
 -- a handle changes
 pub handle-meant : (k : Kept) (number : ℕ) (h : Handle) → handles_meant (with_handle k number h) ≡ set (handles_meant k) (number - 1) (handle_meant h)
 handle-meant k number h = map-set handle_meant k.handles (number - 1) h
-
--- the session by its parts
-pub session-is : (boot : ℕ) (staging other : Option (List Staged)) (handles others : List machine.Handle) → staging ≡ other → handles ≡ others → machine.On boot staging handles ≡ machine.On boot other others
-session-is boot staging other handles others p q = ap₂ (machine.On boot) p q

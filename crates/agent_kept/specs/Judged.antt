@@ -1,23 +1,20 @@
 -- Whether the committed images are a complete package that may be installed, by what is kept of them.
-use Rattle.std.specs.Prelude.{ℕ, ◌-◌, Bool, true, false, ◌&&◌, ◌==◌, nat_le, List, length, take, drop}
+use Rattle.std.specs.Prelude.{ℕ, ◌-◌, Bool, true, false, ◌&&◌, ◌==◌, nat_le, List, length, take, drop, is_ok}
 use Rattle.std.specs.List.{list_all}
-use Rattle.std.specs.Prelude.{is_ok}
 use Rattle.base_core.specs.Bytes.{num_at, same_bytes, listed}
 use Rattle.fwu_formats.specs.Manifest.{Row, manifest_of, manifest_at, manifest_size, all_paired}
 use Rattle.agent_kept.specs.declared.parts.Part.{Part}
-use Rattle.agent_kept.specs.declared.parts.Part.TheVariants.{Nothing, Open, Committed}
+use Rattle.agent_kept.specs.declared.parts.Part.TheVariants.{Committed}
 use Rattle.agent_kept.specs.Kept.{Kept, part_at, size_of}
 
 abbrev pub is_part_committed : Part → Bool
-is_part_committed Nothing = false
-is_part_committed (Open size hasher) = false
 is_part_committed (Committed size digest bit) = true
+is_part_committed other = false
 
 -- an image with this length and digest is what the row says
 abbrev pub is_part_of : Row → Part → Bool
-is_part_of r Nothing = false
-is_part_of r (Open size hasher) = false
 is_part_of r (Committed size digest bit) = (size == r.size) && same_bytes digest r.digest
+is_part_of r other = false
 
 abbrev pub parts_of : Kept → List Part
 parts_of k = listed (length k.rows) (part_at k)

@@ -10,14 +10,12 @@ use Rattle.fwu_model.specs.State.{State}
 use Rattle.fwu_model.specs.Sound.{Setting}
 use Rattle.fwu_model.specs.Session as machine
 use Rattle.fwu_model.specs.Answer.{content}
-use Rattle.agent_kept.specs.Fronts.{FrontGrows}
 use Rattle.agent_kept.specs.declared.parts.Part.{Part}
 use Rattle.agent_kept.specs.declared.parts.Part.TheVariants.{Nothing, Open, Committed}
 use Rattle.agent_kept.specs.declared.parts.Handle.{Handle}
 use Rattle.agent_kept.specs.declared.parts.Handle.TheVariants.{Free, Reads, Writes}
 use Rattle.agent_kept.specs.declared.session.Session.{Session}
-pub use Rattle.agent_kept.specs.Handles.{is_free_kept, is_writer_kept}
-pub use Rattle.agent_kept.specs.Sound.{size_of, is_part_open, slot_room_of, IsSoundKept, CommitsTo}
+pub use Rattle.agent_kept.specs.Sound.{is_free_kept, is_writer_kept, FrontGrows, size_of, is_part_open, slot_room_of, IsSoundKept, CommitsTo}
 
 pub record Kept : Type 0 where
   pub rows : List ImageRow
@@ -37,9 +35,8 @@ abbrev pub handle_kept : Kept → ℕ → Handle
 handle_kept k place = slice_index_or k.handles place Free
 
 abbrev pub committed_part : Part → Option ℕ
-committed_part Nothing = None
-committed_part (Open size hasher) = None
 committed_part (Committed size digest bit) = Some size
+committed_part other = None
 
 -- how many bytes an image has that is committed
 abbrev pub committed_size : Kept → ℕ → Option ℕ
@@ -64,9 +61,8 @@ pub record SameBesideParts (old new : Kept) : Type 0 where
 
 -- an image without bytes
 abbrev pub IsNewPart : Part → Type 0
-IsNewPart Nothing = ⊥
 IsNewPart (Open size hasher) = (size ≡ 0) × Holds256 hasher []
-IsNewPart (Committed size digest bit) = ⊥
+IsNewPart other = ⊥
 
 -- an image is open, without bytes, and the handle at a place writes it; all else is the same
 pub record OpensPart (old : Kept) (image place : ℕ) (new : Kept) : Type 0 where

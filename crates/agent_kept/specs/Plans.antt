@@ -121,25 +121,8 @@ pub record Speaks (E : Setting) (s : State) (passes : List ℕ → Bool) (m : Me
 -- The same, and each reader has the total of what it reads: this a settled decision keeps.
 pub record SpeaksWhole (E : Setting) (s : State) (passes : List ℕ → Bool) (m : MetaRead) (counter : ℕ) (k : Kept) (boot : ℕ)
     (staged : ℕ → List ℕ) : Type 0 where
-  pub rows : k.rows ≡ E.layout.rows
-  pub banks : length s.banks ≡ E.layout.banks
-  pub verifier : E.passes ≡ passes
-  pub meta : m.meta ≡ meta_in s
-  pub counter_is : counter ≡ s.counter
-  pub kept : IsKept k staged
+  pub speaks : Speaks E s passes m counter k boot staged
   pub totals : HasTotals E s boot k
-
-abbrev pub loosely : (E : Setting) (s : State) (passes : List ℕ → Bool) (m : MetaRead) (counter : ℕ) (k : Kept) (boot : ℕ)
-    (staged : ℕ → List ℕ)
-    → SpeaksWhole E s passes m counter k boot staged → Speaks E s passes m counter k boot staged
-loosely E s passes m counter k boot staged sp = record {
-  rows = sp.rows;
-  banks = sp.banks;
-  verifier = sp.verifier;
-  meta = sp.meta;
-  counter_is = sp.counter_is;
-  kept = sp.kept;
-}
 
 -- the request fits the call: a write has the length of its bytes, and a read's handle, where it reads, the total of what it reads
 abbrev pub FitsRequest : Setting → State → ℕ → Kept → Request → List ℕ → Type 0

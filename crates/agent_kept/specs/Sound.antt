@@ -1,13 +1,30 @@
--- What a session keeps to, whatever was called: no handle and no image is beyond what the layout has.
-use Rattle.std.specs.Prelude.{◌≡◌, ℕ, ◌*◌, ◌<◌, ◌≤◌, Bool, true, false, List, [], length, Option, slice_index_or}
+-- What a handle, an image and the first bytes of image 0 are, and what a session keeps to, whatever was called: no handle and no image
+-- is beyond what the layout has.
+use Rattle.std.specs.Prelude.{◌≡◌, ℕ, ◌+◌, ◌*◌, ◌<◌, ◌≤◌, ◌++◌, min, Bool, true, false, List, [], length, take, Option, slice_index_or}
 use Rattle.base_core.specs.Block.{block_bytes}
 use Rattle.sha2.specs.Sha256.{sha256}
 use Rattle.sha2.specs.Hashers.{Holds256}
 use Rattle.fwu_formats.specs.Layout.{ImageRow}
+use Rattle.manifest_core.specs.Sizes.{most_manifest_bytes}
 use Rattle.agent_kept.specs.declared.parts.Part.{Part}
 use Rattle.agent_kept.specs.declared.parts.Part.TheVariants.{Nothing, Open, Committed}
 use Rattle.agent_kept.specs.declared.parts.Handle.{Handle}
 use Rattle.agent_kept.specs.declared.parts.Handle.TheVariants.{Free, Reads, Writes}
+
+abbrev pub is_free_kept : Handle → Bool
+is_free_kept Free = true
+is_free_kept other = false
+
+abbrev pub is_writer_kept : Handle → Bool
+is_writer_kept (Writes image) = true
+is_writer_kept other = false
+
+-- The first bytes of image 0, of which as many are kept as the largest manifest has, at most: with bytes behind the first ones, as
+-- many as there is room for.
+abbrev pub FrontGrows : ℕ → List ℕ → List ℕ → List ℕ → Type 0
+FrontGrows size bytes old new =
+    take (min most_manifest_bytes (size + length bytes)) new
+    ≡ take most_manifest_bytes (take (min most_manifest_bytes size) old ++ bytes)
 
 -- how many bytes of an image were written
 abbrev pub size_of : Part → ℕ
@@ -16,18 +33,15 @@ size_of (Open size hasher) = size
 size_of (Committed size digest bit) = size
 
 abbrev pub is_part_open : Part → Bool
-is_part_open Nothing = false
 is_part_open (Open size hasher) = true
-is_part_open (Committed size digest bit) = false
+is_part_open other = false
 
 -- an open image is committed: its length stays, and its digest is that of each message that it holds
 abbrev pub CommitsTo : Part → Part → Bool → Type 0
 CommitsTo (Open size hasher) (Committed n digest b) bit = (n ≡ size) × (b ≡ bit)
     × ((m : List ℕ) → Holds256 hasher m → digest ≡ sha256 m)
-CommitsTo (Open size hasher) Nothing bit = ⊥
-CommitsTo (Open size hasher) (Open n other) bit = ⊥
-CommitsTo Nothing new bit = new ≡ Nothing
-CommitsTo (Committed size digest b) new bit = new ≡ Committed size digest b
+CommitsTo (Open size hasher) new bit = ⊥
+CommitsTo old new bit = new ≡ old
 
 -- the bytes that an image's slot has room for
 abbrev pub slot_room_of : List ImageRow → ℕ → ℕ

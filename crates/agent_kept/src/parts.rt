@@ -34,7 +34,7 @@ pub enum Handle {
 }
 
 impl Handle {
-    ghost use Rattle.agent_kept.specs.Handles.{is_free_kept, is_writer_kept};
+    ghost use Rattle.agent_kept.specs.Sound.{is_free_kept, is_writer_kept};
 
     pub fn is_free(&self) -> bool
         ensures { result ≡ is_free_kept self.now }

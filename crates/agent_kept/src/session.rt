@@ -1,8 +1,7 @@
 //! What an agent keeps between its calls.
 ghost use Rattle.std.specs.Prelude.{◌≡◌, ◌+◌, ◌<◌, ◌≤◌, ◌++◌, ℕ, length, take, slice_index_or};
 ghost use Rattle.manifest_core.specs.Sizes.{most_manifest_bytes};
-ghost use Rattle.agent_kept.specs.Sound.{IsSoundKept};
-ghost use Rattle.agent_kept.specs.Fronts.{FrontGrows};
+ghost use Rattle.agent_kept.specs.Sound.{IsSoundKept, FrontGrows};
 
 use crate::parts::{Handle, Part};
 use base_core::{BLOCK_BYTES, Guid, ImageRow};

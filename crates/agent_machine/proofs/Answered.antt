@@ -35,7 +35,7 @@ use Rattle.agent_kept.specs.declared.kinds.Plan.TheVariants as plan
 use Rattle.agent_kept.specs.declared.kinds.Decision.{Decision}
 use Rattle.agent_kept.specs.declared.kinds.Decision.TheVariants as decision
 use Rattle.agent_kept.specs.Kept.{Kept, IsKept, HasTotals, size_of, part_at, handle_kept, part_meant, handles_meant, staging_meant, session_meant}
-use Rattle.agent_kept.specs.Plans.{call_of, planned, planned_in, SpeaksWhole, loosely, DecidesAs, FitsRequest}
+use Rattle.agent_kept.specs.Plans.{call_of, planned, planned_in, SpeaksWhole, DecidesAs, FitsRequest}
 use Rattle.agent_state.specs.Decides.{DecidesRequest}
 use Rattle.agent_state.specs.Settles.{SettlesIn, staged_after}
 use Rattle.agent_machine.specs.Deciding.{KeepsOldOrNew}
@@ -51,6 +51,7 @@ use Rattle.agent_machine.proofs.Beside.{blocks-still, spared-told}
 use Rattle.agent_machine.specs.Moment.{Moment, SpeaksOf, Shows}
 pub use Rattle.agent_machine.specs.Carries.{MeansSame, planned_moves, SameBeside, state_before, staging_before, CarriedOut}
 use Rattle.agent_machine.specs.Meets.{IsSettingOf, IsStopped, Stays, LeavesFlash, Meets, flash_result}
+use Rattle.agent_state.proofs.Moved.{row-length}
 
 -- ---- how many bytes there are to read
 
@@ -66,9 +67,6 @@ rows-total f from (suc n) each =
     let here : length (f from) ≡ 32 = each from (omega arith) (omega arith) in
     length-append (f from) (flat_map f (map (λ (i : ℕ). i) (range_with_len (from + 1) n))) ∙ omega (arith, rest, here)
 
-four-behind : (guid : List ℕ) (a b c d : ℕ) → length (guid ++ le 4 a ++ le 4 b ++ le 4 c ++ le 4 d) ≡ length guid + 16
-four-behind guid a b c d = simp length-append (omega arith)
-
 pub directory-total : (E : Setting) (s : State) (boot : ℕ) → IsTrue (fits_layout E.layout)
     → length (directory E s boot) ≡ directory_size (length E.layout.rows)
 unfolding directory
@@ -80,7 +78,7 @@ directory-total E s boot fits =
     rows-total (directory_row E s boot) 0 n (λ i low high.
     let guid = (get_or E.layout.rows i no_row).guid in
     let long : length guid ≡ 16 = (rows-limits no_row E.layout.rows (rows-fit E.layout fits) i (omega (arith, high))).guid in
-    four-behind guid (slot_bytes E.layout i) (length (get_or (booted_package s boot) i [])) (version_in (booted_package s boot) i)
+    row-length guid (slot_bytes E.layout i) (length (get_or (booted_package s boot) i [])) (version_in (booted_package s boot) i)
     (bit_number (get_or (bank s boot).bits i false)) ∙ omega (arith, long)) in
     length-append head (flat_map (directory_row E s boot) (listed n (λ (image : ℕ). image))) ∙ omega (arith, front, rows)
 
@@ -124,12 +122,14 @@ module _ (f : Fields) (fitting : Fitting f) (sound : SessionSound f) where
   pub shown-speaks : (E : Setting) (s : State) (passes : List ℕ → Bool) (staged : ℕ → List ℕ) → IsSettingOf f passes E → SpeaksOf f s
       → IsKept f.session staged → SpeaksWhole E s passes f.meta f.counter f.session f.boot staged
   shown-speaks E s passes staged setting speaks kept = record {
-    rows = fitting.rows ∙ ap (λ (L : Layout). L.rows) (sym setting.layout);
-    banks = speaks.banks ∙ ap (λ (L : Layout). L.banks) (sym setting.layout);
-    verifier = setting.verifier;
-    meta = speaks.meta;
-    counter_is = speaks.counter_is;
-    kept = kept;
+    speaks = record {
+      rows = fitting.rows ∙ ap (λ (L : Layout). L.rows) (sym setting.layout);
+      banks = speaks.banks ∙ ap (λ (L : Layout). L.banks) (sym setting.layout);
+      verifier = setting.verifier;
+      meta = speaks.meta;
+      counter_is = speaks.counter_is;
+      kept = kept;
+    };
     totals = shown-totals E s setting.layout speaks;
   }
 
@@ -139,7 +139,7 @@ FitsEach f passes r bytes = (E : Setting) (s : State) → IsSettingOf f passes E
 
 -- ---- a refusal
 
-stays-same : (m : Moment) → Stays m m
+pub stays-same : (m : Moment) → Stays m m
 stays-same m = assumption
 
 -- a flash at rest is guarded, whether or not it stopped then
@@ -188,8 +188,7 @@ module _ (m : Moment) (fitting : Fitting m.fields) (sound : SessionSound m.field
       → IsSettingOf f passes E → Shows m s x → DecidesAs E s x c bytes d
   decided-as d decides E s x setting shows =
       subst (λ (y : Session). DecidesAs E s y c bytes d) (sym shows.means)
-      (decides E s shows.staged bytes (loosely E s passes f.meta f.counter f.session f.boot shows.staged
-      (shown-speaks f fitting sound E s passes shows.staged setting shows.speaks shows.kept))
+      (decides E s shows.staged bytes (shown-speaks f fitting sound E s passes shows.staged setting shows.speaks shows.kept).speaks
       (fits E s setting shows.speaks))
 
   module _ (st : Status) (decides : DecidesRequest passes f.meta f.counter f.session f.boot r (decision.Refused st)) where
@@ -324,10 +323,10 @@ module _ (old new : Moment) (fitting : Fitting old.fields) (sound : SessionSound
 
       speaks-next : SpeaksOf is next
       speaks-next = record {
-        banks = st.spoken.banks ∙ ap (λ (L : Layout). L.banks) setting.layout ∙ sym (ap (λ (L : Layout). L.banks) out.beside.layout);
-        meta = st.spoken.meta;
+        banks = st.spoken.speaks.banks ∙ ap (λ (L : Layout). L.banks) setting.layout ∙ sym (ap (λ (L : Layout). L.banks) out.beside.layout);
+        meta = st.spoken.speaks.meta;
         form = sym (along (λ (y : State). y.form)) ∙ planned-form s (staging_meant k shows.staged) p ∙ shows.speaks.form ∙ sym out.beside.form;
-        counter_is = out.beside.counter ∙ st.spoken.counter_is;
+        counter_is = out.beside.counter ∙ st.spoken.speaks.counter_is;
         trials_are = out.trials s shows.staged shows.speaks shows.kept ∙ along (λ (y : State). y.trials);
         lengths_are =
             ap₂ (λ (L : Layout) (l : List ℕ). take (length L.rows) l) out.beside.layout out.beside.lengths ∙ shows.speaks.lengths_are
@@ -341,7 +340,6 @@ module _ (old new : Moment) (fitting : Fitting old.fields) (sound : SessionSound
           let tells : IsTrue old.tells = subst IsTrue out.tells now-tells in
           let one : s ≡ state_before old = (shows.told tells).0 in
           let two : meant shows.staged ≡ meant (staged_bytes was old.told.now) = sym shows.means ∙ (shows.told tells).1 in
-          let there = planned_in E (state_before old) (meant (staged_bytes was old.told.now)) bytes p in
           let st0 = settled E (state_before old) (staged_bytes was old.told.now) setting (subst (SpeaksOf was) one shows.speaks)
           (knows tells).staged.kept in (
             ap₂ (λ (y : State) (z : Session). after y (planned_in E y z bytes p).moves) one two
@@ -358,7 +356,7 @@ module _ (old new : Moment) (fitting : Fitting old.fields) (sound : SessionSound
         told = told-next;
         speaks = speaks-next;
         staged = staged_after p bytes shows.staged;
-        kept = st.spoken.kept;
+        kept = st.spoken.speaks.kept;
         means = sym st.next ∙ ap (λ (b : ℕ). session_meant is.session b (staged_after p bytes shows.staged)) (sym out.beside.boot);
       }
 

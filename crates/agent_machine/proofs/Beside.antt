@@ -9,8 +9,7 @@ use Rattle.fwu_formats.specs.Metadata.{Meta}
 use Rattle.fwu_formats.proofs.Same.{slots-fit}
 use Rattle.marks_core.specs.Marks.{Clears}
 use Rattle.replicas.specs.Stores.{Stores}
-use Rattle.agent_machine.specs.Beside.{IsBesideBank, IsSpared, IsSparedByAll, KeepsSpared, KeepsSparedByAll, KeepsWhere}
-use Rattle.agent_machine.specs.Beside.{SparesBlocks, SparesBlocksByAll, SparesBlocksWhere}
+use Rattle.agent_machine.specs.Beside.{IsBesideBank, IsSpared, IsSparedByAll, KeepsSpared, KeepsSparedByAll, KeepsWhere, SparesBlocks, SparesBlocksByAll, SparesBlocksWhere}
 use Rattle.agent_machine.specs.Ends.{ClearsAndStores}
 use Rattle.agent_machine.specs.Fields.{Fields, target}
 

@@ -28,12 +28,12 @@ use Rattle.agent_machine.specs.Fields.{Fields, target, rest_of, with_session}
 use Rattle.agent_machine.specs.Machine.{state_in}
 use Rattle.agent_machine.specs.Moment.{Moment}
 use Rattle.agent_machine.specs.Knows.{Fitting, SessionSound, Knows, SomeStaged}
-use Rattle.agent_machine.specs.Law.{StaysKnown}
 use Rattle.agent_machine.specs.Meets.{LeavesFlash, Meets}
 use Rattle.agent_machine.proofs.Answered.{rest-guarded, leaves-by, done-meets}
 use Rattle.agent_machine.proofs.Committing.{slot-room, finish-blocks, finish-spares, finish-stays, CommitLeaves, committed}
 use Rattle.agent_machine.proofs.Stored.{not-both}
 use Rattle.agent_machine.proofs.Room.{ReadsWell, set-readers, old-readers, free-well, fitting-again, staged-before}
+use Rattle.agent_machine.proofs.Staging.{StaysKnown}
 
 -- ---- an image is committed
 

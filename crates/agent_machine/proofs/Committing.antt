@@ -15,17 +15,16 @@ use Rattle.slot_writer.specs.Slots.{FinishesImage, IsBlankAhead, blocks_for, don
 use Rattle.agent_kept.specs.declared.parts.Part.{Part}
 use Rattle.agent_kept.specs.declared.parts.Part.TheVariants.{Nothing, Open, Committed}
 use Rattle.agent_kept.specs.Kept.{Kept, IsKept, CommitsPart, CommitsTo, part_at, part_meant, size_of}
-use Rattle.agent_kept.proofs.After.{kept-committed}
+use Rattle.agent_kept.proofs.After.{kept-committed, open-committed}
 use Rattle.agent_machine.specs.Beside.{KeepsSpared, SparesBlocks}
 use Rattle.agent_machine.proofs.Beside.{slot-blocks, slot-spares}
 use Rattle.agent_machine.specs.Fields.{Fields, target, rest_of, with_session}
 use Rattle.agent_machine.specs.Machine.{state_in, staged_bytes, part_bytes}
 use Rattle.agent_machine.specs.Knows.{Fitting, SessionSound, Knows}
-use Rattle.agent_machine.specs.Law.{StaysKnown}
 use Rattle.agent_machine.proofs.Answered.{MeansSame, kept-same}
 pub use Rattle.agent_machine.proofs.Staging.{slot-room}
-use Rattle.agent_machine.proofs.Staging.{stays-known}
-use Rattle.agent_machine.proofs.Writing.{known-again, open-not-committed}
+use Rattle.agent_machine.proofs.Staging.{StaysKnown, stays-known}
+use Rattle.agent_machine.proofs.Writing.{known-again}
 
 -- what ending an image leaves of the others, at any exit
 module _ {T : Type 0} (result : Result T FlashStop) (f : Fields) (image size : ℕ) (s t : Told)
@@ -114,7 +113,7 @@ module _ (f : Fields) (k : Kept) (image place size : ℕ) (hasher : Sha256) (bit
   committed-knows = known-again f k f.rests image s t knows stays commits.staging (record {
     kept = kept-after;
     ahead = λ other n h lt is. elim (cases_eq other image) [
-      | inl same ↦ absurd (open-not-committed n size h part.0 bit (sym is ∙ ap (λ (j : ℕ). part_at k j) same ∙ part.1))
+      | inl same ↦ absurd (open-committed n size h part.0 bit (sym is ∙ ap (λ (j : ℕ). part_at k j) same ∙ part.1))
       | inr ne ↦ stays.ahead other n h ne lt (sym (commits.others other ne) ∙ is)
     ];
     padded = λ other n d b lt is. elim (cases_eq other image) [

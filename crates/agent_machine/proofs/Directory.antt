@@ -1,6 +1,5 @@
 -- The directory of the bank that was started, by what the agent keeps and the manifest on the flash.
-use Rattle.std.proofs.Common.{◌≡◌, cond, ℕ, zero, suc, ◌+◌, ◌-◌, ◌*◌, ◌<◌, ◌≤◌, Bool, true, false, List, [], ◌∷◌, ◌++◌, length, get_or, take, drop}
-use Rattle.std.proofs.Common.{map, Option, Some, None, refl, sym, ap, ap₂, ◌∙◌, arith, IsTrue, IsFalse, leb, leb-true}
+use Rattle.std.proofs.Common.{◌≡◌, cond, ℕ, zero, suc, ◌+◌, ◌-◌, ◌*◌, ◌<◌, ◌≤◌, Bool, true, false, List, [], ◌∷◌, ◌++◌, length, get_or, take, drop, map, Option, Some, None, refl, sym, ap, ap₂, ◌∙◌, arith, IsTrue, IsFalse, leb, leb-true}
 use Rattle.std.proofs.lemmas.List.FromFn.{get_or-map-range_with_len}
 use Rattle.std.proofs.lemmas.Bool.{and_parts}
 use Rattle.std.proofs.lemmas.List.{take-take}
@@ -22,9 +21,8 @@ use Rattle.fwu_model.specs.Answer.{directory, directory_row, booted_package, hel
 use Rattle.agent_machine.specs.Fields.{Fields}
 use Rattle.agent_machine.specs.Machine.{state_in}
 use Rattle.agent_machine.specs.Knows.{Fitting, Knows}
-use Rattle.agent_machine.specs.Law.{IsInSlots}
 use Rattle.agent_machine.specs.Directory.{version_by, directory_row_by, directory_by, directory_head, manifest_in}
-use Rattle.agent_machine.proofs.Held.{held-in-slots}
+use Rattle.agent_machine.proofs.Held.{IsInSlots, held-in-slots}
 use Rattle.agent_machine.proofs.Totals.{held-long}
 
 -- rows of images below a bound

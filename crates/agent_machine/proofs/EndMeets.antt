@@ -21,7 +21,7 @@ use Rattle.agent_kept.specs.declared.kinds.Plan.TheVariants as plan
 use Rattle.agent_kept.specs.declared.kinds.Decision.TheVariants.{Do}
 use Rattle.agent_kept.specs.declared.kinds.Request.TheVariants as request
 use Rattle.agent_kept.specs.Kept.{Kept, Restarts, parts_meant, staging_meant, handles_meant}
-use Rattle.agent_kept.specs.Plans.{loosely, planned, planned_in, package_staged, bits_staged}
+use Rattle.agent_kept.specs.Plans.{planned, planned_in, package_staged, bits_staged}
 use Rattle.agent_kept.proofs.Meant.{staging-on}
 use Rattle.agent_state.specs.Decides.{DecidesRequest, next_bank}
 use Rattle.agent_state.specs.Settles.{Settles, bits_kept}
@@ -95,8 +95,8 @@ module _ (f : Fields) (k : Kept) (meta : MetaRead) (passes : List ℕ → Bool) 
       (subst (λ (o : Option (List Staged)). answer plain state (On f.boot o (handles_meant f.session)) call.End ≡ planned plain state f.boot o
       (handles_meant f.session) [] plan.End) on
       (decides plain state staged []
-      (loosely plain state passes f.meta f.counter f.session f.boot staged (shown-speaks f fitting sound plain state passes staged (record { layout = refl; verifier = refl })
-      (known-speaks f fitting s known) known.staged.kept)) tt))
+      (shown-speaks f fitting sound plain state passes staged (record { layout = refl; verifier = refl })
+      (known-speaks f fitting s known) known.staged.kept).speaks tt))
 
   ends : Knows f s → EndsBy f.layout state p bits s
   ends known = ends-meet f passes s fitting known (slot-room f fitting sound) some staging (may known)

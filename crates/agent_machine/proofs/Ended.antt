@@ -1,19 +1,17 @@
 -- The staging has ended, and its package is active: what the agent knows afterwards.
-use Rattle.std.proofs.Common.{◌≡◌, ◌≢◌, inr, ℕ, ◌+◌, ◌<◌, Bool, true, false, List, [], ◌∷◌, length, get_or, map, Option, Ok, refl, sym, ap, ap₂, ◌∙◌, subst, arith, IsTrue, get_or-set_other, set}
+use Rattle.std.proofs.Common.{◌≡◌, ◌≢◌, inr, ℕ, ◌+◌, ◌<◌, Bool, true, false, List, [], ◌∷◌, length, get_or, map, Option, Ok, sym, ap, ap₂, ◌∙◌, subst, arith, IsTrue, get_or-set_other, set}
 use Rattle.std.proofs.Math.Nat.{mod-lt}
-use Rattle.std.specs.List.{range_with_len}
 use Rattle.std.specs.Prelude.{is_some}
 use Rattle.flash_core.specs.Told.{Told}
 use Rattle.fwu_formats.specs.declared.kinds.BankState.TheVariants.{Invalid}
 use Rattle.fwu_formats.specs.Layout.{ImageRow, Layout}
 use Rattle.fwu_formats.specs.Metadata.{Meta, MetaRead, state_at, fits_meta}
 use Rattle.fwu_formats.specs.Image.{package_in}
-use Rattle.fwu_formats.proofs.Same.{map-same}
 use Rattle.fwu_formats.proofs.SealLaws.{limits}
 use Rattle.fwu_model.specs.Replica.{BothHold, in_version}
 use Rattle.fwu_model.specs.State.{State, Bank, Switch, bank, no_bank, update_bank, after, is_invalid, state_by}
 use Rattle.fwu_model.specs.MoveMetas.{meta_after, meta_in}
-use Rattle.fwu_model.specs.Answer.{held_package, committed_bit, staged_bits}
+use Rattle.fwu_model.specs.Answer.{held_package, staged_bits}
 use Rattle.fwu_model.proofs.Banks.{next-other}
 use Rattle.meta_layout.proofs.Fits.{MetaFits, meta-fits}
 use Rattle.marks_core.specs.Marks.{Clears}
@@ -22,12 +20,9 @@ use Rattle.moves.specs.Moved.{IsShown}
 use Rattle.moves.specs.Law.{EndsBy}
 use Rattle.moves.proofs.Fitting.{fits-switch}
 use Rattle.moves.proofs.Agree.{package-same}
-use Rattle.agent_kept.specs.declared.parts.Part.{Part}
-use Rattle.agent_kept.specs.declared.parts.Part.TheVariants.{Nothing, Open, Committed}
-use Rattle.agent_kept.specs.Kept.{Kept, Restarts, part_at, part_meant, parts_meant}
-use Rattle.agent_kept.proofs.Installable.{map-twice}
+use Rattle.agent_kept.specs.Kept.{Kept, Restarts, parts_meant}
 use Rattle.agent_state.specs.Decides.{next_bank}
-use Rattle.agent_state.specs.Settles.{bit_kept, bits_kept}
+use Rattle.agent_state.specs.Settles.{bits_kept}
 use Rattle.agent_state.proofs.Collected.{bits-count}
 use Rattle.agent_state.proofs.Machine.{next-is}
 use Rattle.agent_machine.specs.Fields.{Fields}
@@ -36,20 +31,7 @@ use Rattle.agent_machine.specs.Carries.{MeansSame}
 use Rattle.agent_machine.specs.Knows.{Fitting, Knows}
 use Rattle.agent_machine.proofs.Known.{state-held}
 use Rattle.agent_machine.proofs.Stored.{not-both, nothing-means, nothing-staged, restarted-fitting}
-
--- ---- the bits
-
-bit-meant : (p : Part) (bytes : List ℕ) → bit_kept p ≡ committed_bit (part_meant p bytes)
-bit-meant Nothing bytes = refl
-bit-meant (Open size hasher) bytes = refl
-bit-meant (Committed size digest bit) bytes = refl
-
-bits-meant : (k : Kept) (staged : ℕ → List ℕ) → bits_kept k ≡ staged_bits (parts_meant k staged)
-bits-meant k staged =
-    map-twice bit_kept (part_at k) (range_with_len 0 (length k.rows))
-    ∙ map-same (λ (i : ℕ). bit_kept (part_at k i)) (λ (i : ℕ). committed_bit (part_meant (part_at k i) (staged i))) (range_with_len 0 (length k.rows))
-    (λ i. bit-meant (part_at k i) (staged i))
-    ∙ sym (map-twice committed_bit (λ (i : ℕ). part_meant (part_at k i) (staged i)) (range_with_len 0 (length k.rows)))
+use Rattle.agent_state.proofs.Settled.{bits-meant}
 
 -- the metadata that is stored, in the words of a state that the fields speak of
 pub stored-is : (f : Fields) (st : State) (staged : ℕ → List ℕ) (p : List (List ℕ)) → f.meta.meta ≡ meta_in st

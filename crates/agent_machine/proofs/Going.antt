@@ -19,7 +19,7 @@ use Rattle.agent_machine.specs.Moment.{Moment, Shows}
 use Rattle.agent_machine.specs.Meets.{IsSettingOf, LeavesFlash, Meets, RepliesByMachine, Stays}
 use Rattle.agent_machine.specs.Goes.{GoesByMoves, Met, CallsMet, Done, Then, RanCalls, moves_of, session_of}
 
-stays-then : (a b c : Moment) → Stays a b → Stays b c → Stays a c
+pub stays-then : (a b c : Moment) → Stays a b → Stays b c → Stays a c
 stays-then a b c ab bc = record {
   tells = bc.tells ∙ ab.tells;
   layout = bc.layout ∙ ab.layout;

@@ -1,6 +1,5 @@
 -- What a bank holds is the first bytes of its slots.
-use Rattle.std.proofs.Common.{◌≡◌, ℕ, zero, suc, ◌+◌, ◌-◌, ◌<◌, ◌≤◌, ◌&&◌, ◌==◌, List, [], length, get_or, take}
-use Rattle.std.proofs.Common.{Some, Result, Ok, Err, sym, ap, ◌∙◌, subst, arith, IsTrue, eqb-true}
+use Rattle.std.proofs.Common.{◌≡◌, ℕ, zero, suc, ◌+◌, ◌-◌, ◌<◌, ◌≤◌, ◌&&◌, ◌==◌, List, [], length, get_or, take, Some, Result, Ok, Err, sym, ap, ◌∙◌, subst, arith, IsTrue, eqb-true}
 use Rattle.std.proofs.lemmas.Bool.{and_parts}
 use Rattle.std.proofs.lemmas.Option.{cond_some}
 use Rattle.std.proofs.lemmas.List.{length-take, take_min}
@@ -9,12 +8,18 @@ use Rattle.std.specs.Prelude.{is_ok}
 use Rattle.base_core.specs.Bytes.{num_at, listed}
 use Rattle.fwu_formats.specs.declared.kinds.ManifestFault.{ManifestFault}
 use Rattle.fwu_formats.specs.Layout.{Layout}
-use Rattle.fwu_formats.specs.Manifest.{Row, Manifest, manifest_of, manifest_size, manifest_part, row_at}
-use Rattle.fwu_formats.specs.Manifest.{is_complete}
+use Rattle.fwu_formats.specs.Manifest.{Row, Manifest, manifest_of, manifest_size, manifest_part, row_at, is_complete}
 use Rattle.fwu_formats.specs.Image.{slot, images_in, if_complete, package_by, package_in}
 use Rattle.base_core.proofs.Results.{ok-is}
+use Rattle.fwu_model.specs.Answer.{version_in}
 use Rattle.fwu_formats.proofs.Read.{manifest-holds}
-use Rattle.agent_machine.specs.Law.{IsInSlots}
+
+pub record IsInSlots (L : Layout) (image : List ℕ) (b : ℕ) (p : List (List ℕ)) : Type 0 where
+  pub count : length p ≡ length L.rows
+  -- each image is the first bytes of its slot
+  pub images : (i : ℕ) → i < length p → get_or p i [] ≡ take (length (get_or p i [])) (slot L image b i)
+  pub manifest : manifest_part p ≡ take (manifest_size (length L.rows - 1)) (slot L image b 0)
+  pub versions : (j : ℕ) → j + 1 < length L.rows → version_in p (suc j) ≡ (row_at (manifest_part p) j).version
 
 -- a front of the list is the front of its own length
 front-of : (n : ℕ) (xs : List ℕ) → take n xs ≡ take (length (take n xs)) xs

@@ -31,7 +31,8 @@ use Rattle.agent_machine.specs.Carries.{MeansSame, planned_moves, CarriedOut, Ma
 use Rattle.agent_machine.proofs.Answered.{kept-same, content-total}
 use Rattle.agent_machine.proofs.Showing.{some-after, kept-after}
 use Rattle.agent_machine.proofs.Room.{MayStage, ReadsWell, free-well, writer-well, old-readers, set-readers, staged-before, fitting-again, rows-some}
-use Rattle.agent_machine.proofs.Writing.{bytes-here, bytes-there, open-not-committed}
+use Rattle.agent_kept.proofs.After.{open-committed}
+use Rattle.agent_state.proofs.Settled.{with-here, with-there}
 use Rattle.agent_machine.proofs.Stored.{not-both, nothing-means, nothing-staged}
 
 -- ---- what changes
@@ -131,16 +132,16 @@ module _ (tells : Bool) (f : Fields) (k : Kept) (bytes : List ℕ) (fitting : Fi
       committed-before : (i size : ℕ) (digest : List ℕ) (bit : Bool) → part_at k i ≡ Committed size digest bit
           → part_at f.session i ≡ Committed size digest bit
       committed-before i size digest bit is = elim (cases_eq i image) [
-        | inl same ↦ absurd (open-not-committed 0 size _ digest bit (sym (opened i same) ∙ is))
+        | inl same ↦ absurd (open-committed 0 size _ digest bit (sym (opened i same) ∙ is))
         | inr ne ↦ sym (opens.others i ne) ∙ is
       ]
 
       bytes-after : (i : ℕ) → staged_bytes g t.now i ≡ with_bytes was image [] i
       bytes-after i = elim (cases_eq i image) [
         | inl same ↦ ap (λ (q : Part). part_bytes (start f.layout (target f) i) q (rest_of f i) t.now) (opened i same)
-            ∙ sym (bytes-here was image []) ∙ ap (with_bytes was image []) (sym same)
+            ∙ sym (with-here was image []) ∙ ap (with_bytes was image []) (sym same)
         | inr ne ↦ ap (λ (q : Part). part_bytes (start f.layout (target f) i) q (rest_of f i) t.now) (opens.others i ne)
-            ∙ sym (bytes-there was image [] i ne)
+            ∙ sym (with-there was image [] i ne)
       ]
 
       open-still : ((i : ℕ) → staged_after p bytes was i ≡ with_bytes was image [] i) → Still

@@ -22,9 +22,8 @@ use Rattle.agent_machine.specs.Beside.{KeepsSpared, SparesBlocks}
 use Rattle.agent_machine.proofs.Beside.{slot-blocks, slot-spares}
 use Rattle.agent_machine.specs.Fields.{Fields, total_of, target, with_session}
 use Rattle.agent_machine.specs.Knows.{Fitting, SessionSound, Knows}
-use Rattle.agent_machine.specs.Law.{StaysKnown}
 pub use Rattle.agent_machine.proofs.Staging.{slot-inside}
-use Rattle.agent_machine.proofs.Staging.{stays-known}
+use Rattle.agent_machine.proofs.Staging.{StaysKnown, stays-known}
 use Rattle.agent_machine.proofs.Answered.{IsImageOrDirectory, layout-limits}
 
 pub slot-small : (L : Layout) (image : ℕ) → IsTrue (fits_layout L) → image < length L.rows → slot_bytes L image ≤ 1048576

@@ -148,7 +148,7 @@ module _ (f : Fields) (fitting : Fitting f) (sound : SessionSound f) (bytes : Li
   kept-by s staged speaks kept =
       let whole = shown-speaks f fitting sound (plain f) s (λ _. true) staged (record { layout = refl; verifier = refl }) speaks
       kept in
-      (settles (plain f) s (λ _. true) f.counter f.boot staged whole (total (plain f) s refl speaks)).spoken.kept
+      (settles (plain f) s (λ _. true) f.counter f.boot staged whole (total (plain f) s refl speaks)).spoken.speaks.kept
 
   -- what is kept afterwards fits some bytes of the staged images
   pub some-after : ∥ SomeStaged f.session ∥₁ → ∥ SomeStaged k ∥₁

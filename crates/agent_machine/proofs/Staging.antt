@@ -1,17 +1,17 @@
 -- Writes in the slot of a staged image: the state, the other images and what is known of them stay.
-use Rattle.std.proofs.Common.{◌≡◌, ◌≢◌, ◌⊎◌, inl, inr, ℕ, zero, suc, ◌+◌, ◌*◌, ◌%◌, ◌<◌, ◌≤◌, List, [], ◌∷◌, ◌++◌, length, get_or, take, drop, refl, sym, ap, ◌∙◌, subst, arith, IsTrue}
+use Rattle.std.proofs.Common.{◌≡◌, ◌≢◌, ◌⊎◌, inl, inr, ℕ, zero, suc, ◌+◌, ◌*◌, ◌%◌, ◌<◌, ◌≤◌, List, [], ◌∷◌, ◌++◌, length, get_or, take, drop, Bool, Ok, refl, sym, ap, ◌∙◌, subst, arith, IsTrue}
 use Rattle.std.proofs.lemmas.Bool.{cases_lt}
 use Rattle.std.proofs.lemmas.List.{length-take, length-drop, get_or-take, get_or-drop, get_or_default, same_lists}
 use Rattle.flash_core.specs.Told.{Told}
-use Rattle.flash_core.specs.May.{Guards, Keeps}
+use Rattle.flash_core.specs.May.{Guards, Keeps, Quiet}
 use Rattle.flash_core.proofs.Calls.{keeps_wider}
 use Rattle.fwu_formats.specs.Layout.{ImageRow, Layout, start, slot_total, slot_bytes, blocks_needed}
 use Rattle.fwu_formats.specs.Metadata.{state_at}
-use Rattle.fwu_formats.specs.Image.{package_in}
+use Rattle.fwu_formats.specs.Image.{layout_seen, package_in}
 use Rattle.fwu_model.specs.Replica.{BothHold}
 use Rattle.fwu_model.specs.State.{State, bank, is_invalid}
 use Rattle.fwu_model.specs.Sound.{Setting}
-use Rattle.fwu_model.specs.Calm.{IsCalm}
+use Rattle.fwu_model.specs.Calm.{IsCalm, IsAtRest}
 use Rattle.moves.specs.Moved.{IsReady, IsShown}
 use Rattle.moves.proofs.Agree.{state-is, package-same, slots-fit}
 use Rattle.std.proofs.Math.Nat.{mod-lt}
@@ -19,15 +19,34 @@ use Rattle.moves.proofs.MetaIn.{deciding-fits}
 use Rattle.moves.proofs.Beside.{both-beside}
 use Rattle.moves.proofs.Staged.{staged-shows, staged-ready, staged-rest, banks-order}
 use Rattle.std.proofs.lemmas.List.Sums.{sum_by-cons}
-use Rattle.slot_writer.specs.Slots.{done_of}
+use Rattle.slot_writer.specs.Slots.{IsBlankAhead, done_of}
+use Rattle.sha2.specs.declared.Sha256.{Sha256}
 use Rattle.agent_kept.specs.declared.parts.Part.{Part}
 use Rattle.agent_kept.specs.declared.parts.Part.TheVariants.{Nothing, Open, Committed}
 use Rattle.agent_kept.specs.Kept.{part_at, size_of, slot_room_of}
 use Rattle.agent_machine.specs.Fields.{Fields, target, rest_of}
-use Rattle.agent_machine.specs.Machine.{state_in, part_bytes}
+use Rattle.agent_machine.specs.Machine.{state_in, part_bytes, staged_bytes}
 use Rattle.agent_machine.specs.Knows.{Fitting, SessionSound, Knows}
-use Rattle.agent_machine.specs.Law.{StaysKnown}
 use Rattle.agent_machine.proofs.Known.{both-decides, in-layout, known-shown, known-ready, state-held}
+
+-- What is written in the slot of a staged image, at any exit. The state stays, and so do the other
+-- staged images and all that is known beside this one.
+pub record StaysKnown (f : Fields) (image : ℕ) (s t : Told) : Type 0 where
+  pub state_is : state_in f t.now ≡ state_in f s.now
+  pub layout_is : layout_seen t.now ≡ Ok f.layout
+  pub both : BothHold f.layout f.meta t.now
+  pub held : package_in f.layout t.now f.boot ≡ package_in f.layout s.now f.boot
+  pub others : (other : ℕ) → other ≢ image → other < length f.layout.rows → staged_bytes f t.now other ≡ staged_bytes f s.now other
+  pub ahead : (other size : ℕ) (hasher : Sha256) → other ≢ image → other < length f.layout.rows
+      → part_at f.session other ≡ Open size hasher → IsBlankAhead (start f.layout (target f) other) (done_of size) t.now
+  pub padded : (other size : ℕ) (digest : List ℕ) (bit : Bool) → other ≢ image → other < length f.layout.rows
+      → part_at f.session other ≡ Committed size digest bit → IsBlankAhead (start f.layout (target f) other) size t.now
+  pub sure : (other size : ℕ) (digest : List ℕ) (bit : Bool) → other ≢ image → other < length f.layout.rows
+      → part_at f.session other ≡ Committed size digest bit
+      → let at = 4096 * start f.layout (target f) other in Quiet at (at + slot_bytes f.layout other) t
+  -- on a calm flash, and on any flash at rest
+  pub ready : (E : Setting) → E.layout ≡ f.layout → IsCalm E s (state_in f s.now) → Guards 1 7 s → IsReady E t (state_in f s.now)
+  pub rests : IsAtRest s → IsAtRest t
 
 slots-order : (rows : List ImageRow) (i j : ℕ) → i < j
     → slot_total (take i rows) + (get_or rows i (record { guid = []; slots = 0 })).slots ≤ slot_total (take j rows)

@@ -1,12 +1,9 @@
 -- What an agent knows after the plan of a begin, an accept or a previous: its fields fit each other, and, where metadata was stored, its flash shows them.
-use Rattle.std.proofs.Common.{◌≡◌, ◌≢◌, ℕ, ◌+◌, ◌-◌, ◌%◌, ◌<◌, ◌≤◌, min, Bool, true, false, ◌&&◌, ◌||◌, not, ◌==◌, List, [], length, get_or, set, take, replicate, Option, Some, refl, sym, ap, ◌∙◌, subst, arith, IsTrue, IsFalse, eqb-true, get_or-set_same, get_or-set_other}
+use Rattle.std.proofs.Common.{◌≡◌, ◌≢◌, ℕ, ◌+◌, ◌%◌, ◌<◌, ◌≤◌, Bool, true, false, ◌&&◌, ◌||◌, not, ◌==◌, List, [], get_or, set, replicate, Option, Some, refl, sym, ap, ◌∙◌, arith, IsTrue, IsFalse, eqb-true, get_or-set_same, get_or-set_other}
 use Rattle.std.proofs.lemmas.Bool.{not-false}
-use Rattle.std.proofs.lemmas.List.{take_all}
 use Rattle.flash_core.specs.Told.{Told}
-use Rattle.sha2.specs.declared.Sha256.{Sha256}
 use Rattle.fwu_formats.specs.Layout.{Layout}
 use Rattle.fwu_formats.specs.Metadata.{Meta, MetaRead, state_at, fits_meta}
-use Rattle.fwu_formats.specs.Manifest.{manifest_size}
 use Rattle.fwu_formats.specs.declared.kinds.BankState.TheVariants.{Invalid}
 use Rattle.fwu_formats.proofs.SealLaws.{limits}
 use Rattle.fwu_model.specs.State.{Free, Accept, Back, is_invalid, is_valid}
@@ -17,10 +14,9 @@ use Rattle.moves.proofs.Fitting.{fits-free, fits-accept, fits-back}
 use Rattle.agent_kept.specs.declared.kinds.Plan.{Plan}
 use Rattle.agent_kept.specs.declared.kinds.Plan.TheVariants as plan
 use Rattle.agent_kept.specs.declared.parts.Part.{Part}
-use Rattle.agent_kept.specs.declared.parts.Part.TheVariants.{Nothing, Open, Committed}
 use Rattle.agent_kept.specs.declared.parts.Handle.{Handle}
 use Rattle.agent_kept.specs.declared.parts.Handle.TheVariants as handle
-use Rattle.agent_kept.specs.Kept.{Kept, IsKept, HasNothing, Restarts, part_at, part_meant, handle_kept, size_of}
+use Rattle.agent_kept.specs.Kept.{Kept, HasNothing, Restarts, part_meant, handle_kept}
 use Rattle.agent_kept.proofs.Sounds.{frees, not-free-reads}
 use Rattle.agent_state.specs.Decides.{next_bank}
 use Rattle.agent_state.specs.Settles.{meta_planned}
@@ -29,6 +25,7 @@ use Rattle.agent_machine.specs.Machine.{staged_bytes}
 use Rattle.agent_machine.specs.Carries.{MeansSame}
 use Rattle.agent_machine.specs.Knows.{Fitting, HasStaged}
 use Rattle.agent_machine.specs.Stored.{MayBegin, MayAccept, MayGoBack, trials_planned}
+use Rattle.agent_kept.proofs.After.{kept-nothing, nothing-open, nothing-committed}
 
 -- the fields after a plan, with what is kept of the session then
 abbrev pub after_plan : Fields → Plan → Kept → Fields
@@ -40,27 +37,8 @@ after_plan f p k = record f {
 
 -- ---- nothing is kept of any image
 
-pub nothing-open : (n : ℕ) (x : Sha256) → ◌≡◌ {A = Part} Nothing (Open n x) → ⊥
-nothing-open n x e = absurd cc
-
-pub nothing-committed : (n : ℕ) (digest : List ℕ) (bit : Bool) → ◌≡◌ {A = Part} Nothing (Committed n digest bit) → ⊥
-nothing-committed n digest bit e = absurd cc
-
 pub not-both : (b : Bool) → b ≡ false → b ≡ true → ⊥
 not-both b f t = absurd (let e : false ≡ true = sym f ∙ t in cc)
-
--- no front of an image without bytes
-no-front : (m n : ℕ) (bytes front : List ℕ) → n ≡ 0 → take (min m (length (take n bytes))) front ≡ take m (take n bytes)
-no-front m n bytes front none =
-    subst (λ (j : ℕ). take (min m (length (take j bytes))) front ≡ take m (take j bytes)) (sym none)
-    (ap (λ (j : ℕ). take j front) (let e : min m 0 ≡ 0 = omega arith in e) ∙ sym (take_all m [] (omega arith)))
-
-pub kept-nothing : (k : Kept) (staged : ℕ → List ℕ) → HasNothing k → IsKept k staged
-kept-nothing k staged none = record {
-  opened = λ i size hasher lt is. absurd (nothing-open size hasher (sym (none i) ∙ is));
-  committed = λ i size digest bit lt is. absurd (nothing-committed size digest bit (sym (none i) ∙ is));
-  front = no-front (manifest_size (length k.rows - 1)) (size_of (part_at k 0)) (staged 0) k.front (ap size_of (none 0));
-}
 
 pub nothing-staged : (g : Fields) (t : Told) → HasNothing g.session → HasStaged g t
 nothing-staged g t none = record {

@@ -7,15 +7,14 @@ use Rattle.agent_kept.specs.declared.kinds.Plan.{Plan}
 use Rattle.agent_kept.specs.declared.kinds.Plan.TheVariants as plan
 use Rattle.agent_kept.specs.declared.kinds.Decision.TheVariants as decision
 use Rattle.agent_kept.specs.Kept.{Kept}
-use Rattle.agent_state.specs.Decides.{IsMetaOf}
 use Rattle.agent_state.specs.Settles.{Changes, Settles, SettlesBy, meta_planned}
 use Rattle.agent_machine.specs.Beside.{SparesBlocks}
 use Rattle.agent_machine.specs.Fields.{Fields}
 use Rattle.agent_machine.specs.Knows.{Fitting, Knows, SessionSound, SomeStaged}
 use Rattle.agent_machine.specs.Stored.{CarriesOut, MayCarryOut, StoresIf, is_stored, trials_planned}
 use Rattle.agent_machine.proofs.Answered.{shown-speaks}
-use Rattle.agent_machine.proofs.Room.{meta-of-session}
-use Rattle.agent_machine.proofs.Stored.{after_plan, kept-nothing, begun-fitting, accepted-fitting, back-fitting}
+use Rattle.agent_machine.proofs.Stored.{after_plan, begun-fitting, accepted-fitting, back-fitting}
+use Rattle.agent_kept.proofs.After.{kept-nothing}
 use Rattle.agent_machine.proofs.StoredKnown.{begun-known, restarted-known, accepted-known, back-known}
 use Rattle.agent_machine.proofs.StoredShows.{Parts, SpeaksWell, carried, begun-parts, restarted-parts, accepted-parts, unchanged-parts, back-parts}
 
@@ -83,9 +82,6 @@ planned-settles f (plan.BeginPartial store named) m k may settles = absurd may
 planned-settles f other m k may settles = settles
 
 -- the metadata fits what is kept
-pub is-meta-of : (f : Fields) → Fitting f → IsMetaOf f.session f.meta.meta
-is-meta-of = meta-of-session
-
 module _ (f : Fields) (fitting : Fitting f) (p : Plan) (k : Kept) (m : MetaRead) (trials : ℕ) (may : MayCarryOut f p) (changes : Changes f.session [] p k)
     (m-is : m ≡ record f.meta { meta = meta_planned f.session f.meta.meta p }) (trials-are : trials ≡ trials_planned p m.meta f.trials) where
   abbrev g : Fields

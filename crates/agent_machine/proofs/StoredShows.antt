@@ -179,9 +179,9 @@ module _ (tells : Bool) (f : Fields) (s t : Told) (result : CallResult) (p : Pla
                       ((parts.leaves is).state E shows.staged ok),
                   sym si.next ∙ parts.session (staged_after p [] shows.staged) (staged_bytes (after_plan f p k) t.now),
                 );
-            speaks = parts.speaks E x shows.staged shows.speaks si.spoken.meta;
+            speaks = parts.speaks E x shows.staged shows.speaks si.spoken.speaks.meta;
             staged = staged_after p [] shows.staged;
-            kept = si.spoken.kept;
+            kept = si.spoken.speaks.kept;
             means = sym si.next;
           })
 

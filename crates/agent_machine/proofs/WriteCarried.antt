@@ -28,13 +28,13 @@ use Rattle.agent_machine.specs.Carries.{MeansSame, CarriedOut, SameBeside}
 use Rattle.agent_machine.specs.Meets.{LeavesFlash, Meets, IsStopped, flash_result}
 use Rattle.agent_machine.specs.declared.stop.Stop.{Stop}
 use Rattle.fwu_model.specs.Reply.{Success}
-use Rattle.agent_machine.specs.Law.{StaysKnown, WriteMeets}
 use Rattle.agent_machine.proofs.Answered.{FitsEach, rest-guarded, leaves-by, done-meets, stopped-meets}
 use Rattle.agent_machine.proofs.Meeting.{success-says}
 use Rattle.agent_machine.proofs.Stored.{not-both}
 use Rattle.agent_machine.proofs.Room.{ReadsWell, fitting-again, old-readers, staged-before, appends-blocks, appends-spare, appends-stay}
 use Rattle.agent_machine.proofs.Showing.{some-after, kept-after}
-use Rattle.agent_machine.proofs.Writing.{means-written, write-meets}
+use Rattle.agent_machine.proofs.Writing.{WriteMeets, means-written, write-meets}
+use Rattle.agent_machine.proofs.Staging.{StaysKnown}
 
 -- ---- at any exit
 

@@ -1,5 +1,5 @@
 -- Bytes behind those of a staged image: what the agent knows afterwards.
-use Rattle.std.proofs.Common.{◌≡◌, ◌≢◌, inl, inr, ℕ, ◌+◌, ◌*◌, ◌<◌, ◌≤◌, Bool, true, List, [], ◌++◌, length, get_or, set, map, Option, Ok, refl, sym, ap, ap₂, ◌∙◌, subst, arith, cond, eq-eqb, ne_eqb, get_or-set_same, get_or-set_other}
+use Rattle.std.proofs.Common.{◌≡◌, ◌≢◌, inl, inr, ℕ, ◌+◌, ◌*◌, ◌<◌, ◌≤◌, true, List, [], ◌++◌, length, get_or, set, map, Option, Ok, refl, sym, ap, ap₂, ◌∙◌, subst, arith, get_or-set_same, get_or-set_other}
 use Rattle.std.proofs.lemmas.Bool.{cases_eq}
 use Rattle.std.specs.Prelude.{is_some}
 use Rattle.fwu_model.specs.Answer.{held_package}
@@ -9,38 +9,25 @@ use Rattle.fwu_formats.specs.Layout.{ImageRow, start, slot_bytes, blocks_needed}
 use Rattle.fwu_model.specs.State.{State}
 use Rattle.slot_writer.specs.Slots.{Appends, IsBlankAhead, done_of}
 use Rattle.agent_kept.specs.declared.parts.Part.{Part}
-use Rattle.agent_kept.specs.declared.parts.Part.TheVariants.{Nothing, Open, Committed}
+use Rattle.agent_kept.specs.declared.parts.Part.TheVariants.{Open}
 use Rattle.agent_kept.specs.declared.kinds.Plan.TheVariants as plan
-use Rattle.agent_kept.specs.Kept.{Kept, IsKept, part_at, part_meant, size_of, GrowsPart, AppendsPart}
+use Rattle.agent_kept.specs.Kept.{Kept, IsKept, part_at, part_meant, size_of, AppendsPart}
 use Rattle.agent_state.specs.Settles.{with_bytes, staged_after}
 use Rattle.agent_machine.specs.Fields.{Fields, target, rest_of, with_session}
-use Rattle.agent_machine.specs.Machine.{staged_bytes, part_bytes}
+use Rattle.agent_machine.specs.Machine.{state_in, staged_bytes, part_bytes}
 use Rattle.agent_machine.specs.Knows.{Fitting, SessionSound, HasStaged, Knows}
-use Rattle.agent_machine.specs.Law.{StaysKnown, WriteMeets}
+use Rattle.agent_machine.proofs.Staging.{StaysKnown}
 use Rattle.agent_machine.proofs.Answered.{MeansSame, kept-same}
 use Rattle.agent_machine.proofs.Room.{appends-stay}
+use Rattle.agent_kept.proofs.After.{grown, open-committed}
+use Rattle.agent_state.proofs.Settled.{with-here, with-there}
 
--- ---- with other bytes of one image
-
-pub bytes-here : (staged : ℕ → List ℕ) (image : ℕ) (bytes : List ℕ) → with_bytes staged image bytes image ≡ bytes
-bytes-here staged image bytes = ap (λ (b : Bool). cond b bytes (staged image)) (eq-eqb image image refl)
-
-pub bytes-there : (staged : ℕ → List ℕ) (image : ℕ) (bytes : List ℕ) (i : ℕ) → i ≢ image → with_bytes staged image bytes i ≡ staged i
-bytes-there staged image bytes i ne = ap (λ (b : Bool). cond b bytes (staged i)) (ne_eqb i image ne)
-
--- ---- an open image
-
--- an open image that grew is open
-pub grown : (p q : Part) (bytes : List ℕ) → GrowsPart p q bytes
-    → (size : ℕ) × (hasher : Sha256) × (next : Sha256) × (p ≡ Open size hasher) × (q ≡ Open (size + length bytes) next)
-grown Nothing q bytes g = absurd g
-grown (Committed size digest bit) q bytes g = absurd g
-grown (Open size hasher) Nothing bytes g = absurd g
-grown (Open size hasher) (Committed n digest bit) bytes g = absurd g
-grown (Open size hasher) (Open n next) bytes g = (size, hasher, next, refl, ap (λ (k : ℕ). Open k next) g.0)
-
-pub open-not-committed : (n m : ℕ) (x : Sha256) (digest : List ℕ) (bit : Bool) → ◌≡◌ {A = Part} (Open n x) (Committed m digest bit) → ⊥
-open-not-committed n m x digest bit e = absurd cc
+-- What the agent knows after a write, and the bytes of each staged image.
+pub record WriteMeets (f g : Fields) (image : ℕ) (bytes : List ℕ) (s t : Told) : Type 0 where
+  pub known : Knows g t
+  pub state_is : state_in g t.now ≡ state_in f s.now
+  pub appended : staged_bytes g t.now image ≡ staged_bytes f s.now image ++ bytes
+  pub others : (other : ℕ) → other ≢ image → other < length f.layout.rows → staged_bytes g t.now other ≡ staged_bytes f s.now other
 
 -- ---- the agent with another session, after writes in the slot of a staged image
 
@@ -85,7 +72,7 @@ module _ (f : Fields) (k : Kept) (image number at : ℕ) (bytes left : List ℕ)
       (fitting.free staging) within room
 
   part : (n : ℕ) × (hasher : Sha256) × (next : Sha256) × (part_at f.session image ≡ Open n hasher) × (part_at k image ≡ Open (n + length bytes) next)
-  part = grown (part_at f.session image) (part_at k image) bytes wrote.part
+  part = let all = grown (part_at f.session image) (part_at k image) bytes wrote.part in (all.0, all.1, all.2, all.3, all.4)
 
   few : image < length f.rests
   few = omega (arith, within, fitting.rests, rows-few)
@@ -116,9 +103,9 @@ module _ (f : Fields) (k : Kept) (image number at : ℕ) (bytes left : List ℕ)
       let below : i < length f.layout.rows = omega (arith, lt, ap (λ (l : List ImageRow). length l) (wrote.rest.rows ∙ fitting.rows)) in
       elim (cases_eq i image) [
         | inl same ↦
-            ap (staged_bytes g t.now) same ∙ image-grows ∙ sym (bytes-here (staged_bytes f s.now) image (staged_bytes f s.now image ++ bytes))
+            ap (staged_bytes g t.now) same ∙ image-grows ∙ sym (with-here (staged_bytes f s.now) image (staged_bytes f s.now image ++ bytes))
             ∙ ap (with_bytes (staged_bytes f s.now) image (staged_bytes f s.now image ++ bytes)) (sym same)
-        | inr ne ↦ others-same i ne below ∙ sym (bytes-there (staged_bytes f s.now) image (staged_bytes f s.now image ++ bytes) i ne)
+        | inr ne ↦ others-same i ne below ∙ sym (with-there (staged_bytes f s.now) image (staged_bytes f s.now image ++ bytes) i ne)
       ]
 
   pub means-written : MeansSame k (staged_after (plan.Write number image at (length bytes)) bytes (staged_bytes f s.now)) (staged_bytes g t.now)
@@ -137,11 +124,11 @@ module _ (f : Fields) (k : Kept) (image number at : ℕ) (bytes left : List ℕ)
       | inr ne ↦ stays.ahead other n hasher ne lt (sym (wrote.others other ne) ∙ is)
     ];
     padded = λ other n digest bit lt is. elim (cases_eq other image) [
-      | inl same ↦ absurd (open-not-committed (part.0 + length bytes) n part.2 digest bit (sym part.4 ∙ ap (λ (j : ℕ). part_at k j) (sym same) ∙ is))
+      | inl same ↦ absurd (open-committed (part.0 + length bytes) n part.2 digest bit (sym part.4 ∙ ap (λ (j : ℕ). part_at k j) (sym same) ∙ is))
       | inr ne ↦ stays.padded other n digest bit ne lt (sym (wrote.others other ne) ∙ is)
     ];
     sure = λ other n digest bit lt is. elim (cases_eq other image) [
-      | inl same ↦ absurd (open-not-committed (part.0 + length bytes) n part.2 digest bit (sym part.4 ∙ ap (λ (j : ℕ). part_at k j) (sym same) ∙ is))
+      | inl same ↦ absurd (open-committed (part.0 + length bytes) n part.2 digest bit (sym part.4 ∙ ap (λ (j : ℕ). part_at k j) (sym same) ∙ is))
       | inr ne ↦ stays.sure other n digest bit ne lt (sym (wrote.others other ne) ∙ is)
     ];
   }

@@ -20,17 +20,12 @@ MeansSame k staged other = (i : ℕ) → i < length k.rows → part_meant (part_
 
 -- the moves of a plan
 abbrev pub planned_moves : State → Option (List Staged) → Plan → List Move
-planned_moves s stg plan.Tell = []
 planned_moves s stg (plan.Begin store) = if store then Free (update_bank s) ∷ [] else []
 planned_moves s stg (plan.BeginPartial store named) = if store then Free (update_bank s) ∷ [] else []
-planned_moves s stg (plan.Open h image o total) = []
-planned_moves s stg (plan.Write h image at n) = []
-planned_moves s stg (plan.Read h image at n total) = []
-planned_moves s stg (plan.Commit h image bit) = []
 planned_moves s stg plan.End = Switch (update_bank s) (package_staged stg) (bits_staged stg) ∷ []
-planned_moves s stg plan.Cancel = []
 planned_moves s stg (plan.Accept image store) = if store then Accept image ∷ [] else []
 planned_moves s stg plan.Back = Back ∷ []
+planned_moves s stg other = []
 
 -- all that is kept beside the session, the metadata, the number of trials and the kept rests is the same
 pub record SameBeside (f g : Fields) : Type 0 where

@@ -8,7 +8,6 @@ pub mod Goes
 pub mod Knows
 pub mod Carries
 pub mod Asks
-pub mod Law
 pub mod Ends
 pub mod Stored
 pub mod Directory

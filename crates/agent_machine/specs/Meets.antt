@@ -1,10 +1,10 @@
 -- What a call of the agent says: of the reply, of the machine afterwards, and of the flash at each exit.
-use Rattle.std.specs.Prelude.{◌≡◌, ◌↔◌, ◌⊎◌, ℕ, ◌∷◌, Bool, false, ◌&&◌, List, [], length, take, Some, None, Result, Ok, Err, IsTrue, ⊤}
+use Rattle.std.specs.Prelude.{◌≡◌, ◌↔◌, ◌⊎◌, ℕ, ◌∷◌, Bool, false, ◌&&◌, List, [], length, take, None, Result, Ok, Err, IsErrAnd, IsTrue, ⊤}
 use Rattle.flash_core.specs.declared.flash.FlashStop.{FlashStop}
 use Rattle.flash_core.specs.declared.flash.FlashStop.TheVariants as flash_stop
 use Rattle.fwu_model.specs.declared.kinds.Status.TheVariants as status
 use Rattle.fwu_model.specs.State.{State, Back, after}
-use Rattle.fwu_model.specs.Session.{Session, Off, On}
+use Rattle.fwu_model.specs.Session.{Session, On}
 use Rattle.fwu_model.specs.Sound.{Setting}
 use Rattle.fwu_model.specs.Call.{Call, Previous}
 use Rattle.fwu_model.specs.Reply.{Reply, Refused, Got, Success}
@@ -20,33 +20,22 @@ use Rattle.agent_machine.specs.Moment.{Moment, Shows}
 
 -- whether the flash stopped it
 abbrev pub flash_result : {T : Type 0} → Result T Stop → Result (Unit {0}) FlashStop
-flash_result (Ok x) = Ok tt
-flash_result (Err (stop.Status st)) = Ok tt
 flash_result (Err stop.Lost) = Err flash_stop.Lost
 flash_result (Err stop.Fault) = Err flash_stop.Failed
-flash_result (Err stop.Gone) = Ok tt
+flash_result other = Ok tt
 
 abbrev pub IsStopped : {T : Type 0} → Result T Stop → Type 0
-IsStopped (Ok x) = ⊥
-IsStopped (Err (stop.Status st)) = ⊥
-IsStopped (Err stop.Lost) = ⊤
-IsStopped (Err stop.Fault) = ⊤
-IsStopped (Err stop.Gone) = ⊥
+IsStopped result = IsErrAnd (flash_result result) (λ cause. ⊤)
 
 abbrev pub IsRefused : {T : Type 0} → Result T Stop → Type 0
-IsRefused (Ok x) = ⊥
 IsRefused (Err (stop.Status st)) = ⊤
-IsRefused (Err stop.Lost) = ⊥
-IsRefused (Err stop.Fault) = ⊥
-IsRefused (Err stop.Gone) = ⊥
+IsRefused other = ⊥
 
 -- neither refused nor gone: it was answered, or the flash stopped it
 abbrev pub IsDone : {T : Type 0} → Result T Stop → Type 0
-IsDone (Ok x) = ⊤
 IsDone (Err (stop.Status st)) = ⊥
-IsDone (Err stop.Lost) = ⊤
-IsDone (Err stop.Fault) = ⊤
 IsDone (Err stop.Gone) = ⊥
+IsDone other = ⊤
 
 -- the setting has the agent's layout and the verifier that is handed in
 pub record IsSettingOf (f : Fields) (passes : List ℕ → Bool) (E : Setting) : Type 0 where
@@ -77,9 +66,7 @@ pub record RepliesByMachine (E : Setting) (s : State) (x : Session) (c : Call) (
 abbrev pub Answers : {T : Type 0} → (T → Reply → Type 0) → Result T Stop → Setting → State → Session → Call → Moment → Type 0
 Answers Says (Ok value) E s x c new = Says value (answer E s x c).reply × ShowsNext E s x c new
 Answers Says (Err (stop.Status st)) E s x c new = ((answer E s x c).reply ≡ Refused st) × ShowsNext E s x c new
-Answers Says (Err stop.Lost) E s x c new = ⊤
-Answers Says (Err stop.Fault) E s x c new = ⊤
-Answers Says (Err stop.Gone) E s x c new = ⊤
+Answers Says other E s x c new = ⊤
 
 -- What a call says of the flash, of an agent that isn't gone.
 pub record LeavesFlash (result : Result (Unit {0}) FlashStop) (passes : List ℕ → Bool) (c : Call) (old new : Moment) : Type 0 where
@@ -112,18 +99,15 @@ IsGot tells out value reply =
 
 -- the session and the numbers of the banks allow to go back, whatever any bank holds
 abbrev pub may_try : State → Session → Bool
-may_try s Off = false
-may_try s (On boot (Some parts) handles) = false
 may_try s (On boot None handles) = may_leave s boot && has_other s
+may_try s other = false
 
 -- Going back is decided by the verdict on a bank. Where the content isn't told that isn't known: but what the session and the
 -- numbers refuse is refused, and an answer goes back.
 abbrev pub GoesBack : Result (Unit {0}) Stop → State → Session → Moment → Type 0
 GoesBack (Ok value) s x new = IsTrue (may_try s x) × Shows new (after s (Back ∷ [])) x
 GoesBack (Err (stop.Status st)) s x new = (st ≡ status.Denied) × Shows new s x
-GoesBack (Err stop.Lost) s x new = ⊤
-GoesBack (Err stop.Fault) s x new = ⊤
-GoesBack (Err stop.Gone) s x new = ⊤
+GoesBack other s x new = ⊤
 
 -- What going back says of an agent that isn't gone: on a device that tells its content it is the machine's answer.
 pub record MeetsPrevious (result : Result (Unit {0}) Stop) (passes : List ℕ → Bool) (old new : Moment) : Type 0 where

@@ -57,9 +57,8 @@ may_try_kept m k boot = may_leave_kept m k boot && has_other_kept m
 
 -- a decision that is a plan
 abbrev pub is_to_do : Decision → Bool
-is_to_do (decision.Refused st) = false
 is_to_do (decision.Do p) = true
-is_to_do (decision.ByVerdict b) = false
+is_to_do other = false
 
 -- ---- what is spent of an armed loss
 
@@ -68,8 +67,7 @@ abbrev pub stored_arming : Option Arming → Option Arming
 stored_arming armed = lowered (lowered (lowered (lowered armed)))
 
 abbrev pub TakesIf : Bool → Option Arming → Option Arming → Type 0
-TakesIf true armed arming = arming ≡ stored_arming armed
-TakesIf false armed arming = arming ≡ armed
+TakesIf stores armed arming = arming ≡ (if stores then stored_arming armed else armed)
 
 -- metadata was stored; or it is as it was, and nothing was written
 abbrev pub TakesStore : MetaRead → MetaRead → Option Arming → Option Arming → Type 0

@@ -77,9 +77,6 @@ module _ (passes : List ℕ → Bool) (counter : ℕ) (k : Kept) where
   abbrev reads : Bool
   reads = is_ok (manifest_of k.rows m)
 
-  rest : Bool → Bool → Bool → Bool
-  rest a z o = ((((a && z) && o) && are_rows_kept k m) && leb counter (num_at 4 m 8)) && passes m
-
   pub none-installed : all ≡ false → false ≡ is_installable passes counter k
   unfolding is_installable
   none-installed e = sym (ap (λ (a : Bool). ((((a && sized) && reads) && are_rows_kept k m) && leb counter (num_at 4 m 8)) && passes m) e)

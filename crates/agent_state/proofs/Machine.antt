@@ -16,6 +16,7 @@ use Rattle.agent_kept.specs.declared.parts.Part.TheVariants.{Nothing, Open, Comm
 use Rattle.agent_kept.specs.declared.parts.Handle.{Handle}
 use Rattle.agent_kept.specs.declared.parts.Handle.TheVariants.{Free, Reads, Writes}
 use Rattle.agent_kept.specs.Kept.{Kept, part_at, part_meant, parts_meant, staging_meant, handle_meant, handles_meant, handle_kept, size_of, slot_room_of, IsKept}
+use Rattle.agent_kept.proofs.Meant.{staging-on}
 use Rattle.fwu_model.specs.MoveMetas.{meta_in}
 use Rattle.agent_state.specs.Decides.{next_bank, is_trial_kept, cannot_begin_kept, has_other_kept}
 
@@ -62,9 +63,6 @@ module _ (s : State) (m : MetaRead) (is : m.meta ≡ meta_in s) where
 
 -- ---- the staged images
 
-pub is-staging : (k : Kept) (staged : ℕ → List ℕ) → k.staging ≡ true → staging_meant k staged ≡ Some (parts_meant k staged)
-is-staging k staged e = ap (λ (b : Bool). cond b (Some (parts_meant k staged)) None) e
-
 pub is-idle : (k : Kept) (staged : ℕ → List ℕ) → k.staging ≡ false → staging_meant k staged ≡ None
 is-idle k staged e = ap (λ (b : Bool). cond b (Some (parts_meant k staged)) None) e
 
@@ -98,7 +96,7 @@ part-long k staged image (Committed size digest bit) is lt e = sym (is.committed
 -- the bytes of a staged image are as many as are counted
 pub staged-long : (k : Kept) (staged : ℕ → List ℕ) (image : ℕ) → IsKept k staged → image < length k.rows → k.staging ≡ true → length (staged_bytes (staged_at (staging_meant k staged) image)) ≡ size_of (part_at k image)
 staged-long k staged image is lt on =
-    ap (λ (stg : Option (List Staged)). length (staged_bytes (staged_at stg image))) (is-staging k staged on)
+    ap (λ (stg : Option (List Staged)). length (staged_bytes (staged_at stg image))) (staging-on k staged on)
     ∙ ap (λ (p : Staged). length (staged_bytes p)) (part-is k staged image lt) ∙ part-long k staged image (part_at k image) is lt refl
 
 pub slot-is : (E : Setting) (k : Kept) (image : ℕ) → k.rows ≡ E.layout.rows → slot_bytes E.layout image ≡ slot_room_of k.rows image

@@ -55,11 +55,8 @@ flat-length f g (x ∷ xs) same =
     length-append (f x) (flat_map f xs) ∙ ap₂ (λ (a b : ℕ). a + b) (same x) (flat-length f g xs same) ∙ sym (length-append (g x) (flat_map g xs))
 
 -- four numbers behind a type
-row-length : (guid : List ℕ) (a b c d : ℕ) → length (guid ++ le 4 a ++ le 4 b ++ le 4 c ++ le 4 d) ≡ length guid + 16
-row-length guid a b c d =
-    length-append (guid ++ le 4 a ++ le 4 b ++ le 4 c) (le 4 d)
-    ∙ ap (λ (n : ℕ). n + 4) (length-append (guid ++ le 4 a ++ le 4 b) (le 4 c) ∙ ap (λ (n : ℕ). n + 4) (length-append (guid ++ le 4 a) (le 4 b) ∙ ap (λ (n : ℕ). n + 4) (length-append guid (le 4 a))))
-    ∙ omega arith
+pub row-length : (guid : List ℕ) (a b c d : ℕ) → length (guid ++ le 4 a ++ le 4 b ++ le 4 c ++ le 4 d) ≡ length guid + 16
+row-length guid a b c d = simp length-append (omega arith)
 
 pub directory-length : (E : Setting) (s t : State) (boot : ℕ) → length (directory E s boot) ≡ length (directory E t boot)
 unfolding directory

@@ -61,37 +61,24 @@ module _ (k : Kept) (m : Meta) (fits : IsMetaOf k m) where
       (fits-active L one (fits-previous L m fits m.active whole.active) m.previous whole.previous, refl)
 
   planned-still : (p : Plan) → IsStill (meta_planned k m p)
-  planned-still plan.Tell = still
   planned-still (plan.Begin true) = freed-still
-  planned-still (plan.Begin false) = still
   planned-still (plan.BeginPartial true named) = freed-still
-  planned-still (plan.BeginPartial false named) = still
-  planned-still (plan.Open number image o total) = still
-  planned-still (plan.Write number image at n) = still
-  planned-still (plan.Read number image at n total) = still
-  planned-still (plan.Commit number image bit) = still
   planned-still plan.End = switched-still
-  planned-still plan.Cancel = still
   planned-still (plan.Accept image true) = accepted-still image
-  planned-still (plan.Accept image false) = still
   planned-still plan.Back = back-still
+  planned-still other = still
 
   -- the images stay
   rows-stay : (bytes : List ℕ) (p : Plan) (new : Kept) → Changes k bytes p new → new.rows ≡ k.rows
-  rows-stay bytes plan.Tell new c = ap (λ (x : Kept). x.rows) c
   rows-stay bytes (plan.Begin store) new c = c.rows
   rows-stay bytes (plan.BeginPartial store named) new c = c.rows
-  rows-stay bytes (plan.Open number image op.Read total) new c = ap (λ (x : Kept). x.rows) c
   rows-stay bytes (plan.Open number None op.Write total) new c = absurd c
   rows-stay bytes (plan.Open number (Some image) op.Write total) new c = c.rows
   rows-stay bytes (plan.Write number image at n) new c = c.rest.rows
-  rows-stay bytes (plan.Read number image at n total) new c = ap (λ (x : Kept). x.rows) c
-  rows-stay bytes (plan.Commit number None bit) new c = ap (λ (x : Kept). x.rows) c
   rows-stay bytes (plan.Commit number (Some image) bit) new c = c.rows
   rows-stay bytes plan.End new c = c.rows
   rows-stay bytes plan.Cancel new c = c.rows
-  rows-stay bytes (plan.Accept image store) new c = ap (λ (x : Kept). x.rows) c
-  rows-stay bytes plan.Back new c = ap (λ (x : Kept). x.rows) c
+  rows-stay bytes other new c = ap (λ (x : Kept). x.rows) c
 
   pub planned-fits : (bytes : List ℕ) (p : Plan) (new : Kept) (n : Meta) → Changes k bytes p new → n ≡ meta_planned k m p → IsMetaOf new n
   planned-fits bytes p new n changes is =

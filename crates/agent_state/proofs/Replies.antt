@@ -1,8 +1,7 @@
 -- What the machine answers, by what is tested.
 use Rattle.std.proofs.Common.{◌≡◌, ◌≢◌, ℕ, ◌+◌, ◌-◌, min, Bool, true, false, ◌&&◌, ◌||◌, not, ◌==◌, cond, leb, ltb, List, [], ◌∷◌, length, get_or, set, take, drop, map, Option, Some, None, refl, sym, ap, ap₂, ◌∙◌, subst, arith, length-drop}
 use Rattle.std.proofs.lemmas.List.{take_min, length-take}
-use Rattle.std.proofs.lemmas.Bool.{ne_eqb}
-use Rattle.std.proofs.lemmas.Bool.{ltb-false}
+use Rattle.std.proofs.lemmas.Bool.{ne_eqb, ltb-false}
 use Rattle.std.proofs.lemmas.List.Sums.{prefix_len-le-length}
 use Rattle.std.specs.List.{position, position_or_len, list_any}
 use Rattle.base_core.specs.Bytes.{same_bytes}
@@ -25,7 +24,7 @@ use Rattle.agent_kept.specs.declared.kinds.Decision.TheVariants.{Refused, Do}
 use Rattle.agent_kept.specs.declared.kinds.Plan.TheVariants as plan
 use Rattle.agent_kept.specs.declared.parts.Handle.{Handle}
 use Rattle.agent_kept.specs.declared.parts.Handle.TheVariants.{Free, Reads, Writes}
-use Rattle.agent_kept.specs.Handles.{is_free_kept, is_writer_kept}
+use Rattle.agent_kept.specs.Sound.{is_free_kept, is_writer_kept}
 use Rattle.agent_kept.specs.Kept.{Kept, handle_meant, handles_meant, parts_meant, session_meant}
 use Rattle.agent_state.specs.Decides.{opened_as}
 use Rattle.agent_kept.specs.Plans.{call_of, planned, DecidesAs, by_verdict, opened_staging, opened_handle}
@@ -290,16 +289,9 @@ opened-decides E s sess c bytes k target o total d is by =
     subst (λ (e : Decision). DecidesAs E s sess c bytes e) (sym is)
     (subst (λ (n : ℕ). DecidesAs E s sess c bytes (cond (leb 32 n) (Refused status.Busy) (Do (plan.Open (n + 1) target o total)))) (sym (lowest-is k.handles)) by)
 
-placed : (b : Bool) (n place : ℕ) → cond b (Some n) None ≡ Some place → place ≡ n
-placed true n place e = cc
-placed false n place e = absurd cc
-
 unplaced : (b : Bool) (n : ℕ) → cond b (Some n) None ≡ None → b ≡ false
 unplaced true n e = absurd cc
 unplaced false n e = refl
-
-pub first-is : (xs : List Handle) (place : ℕ) → position is_free_kept xs ≡ Some place → place ≡ position_or_len is_free_kept xs
-first-is xs place e = placed (ltb (position_or_len is_free_kept xs) (length xs)) _ place e
 
 pub none-is : (xs : List Handle) → position is_free_kept xs ≡ None → length xs ≡ position_or_len is_free_kept xs
 none-is xs e =

@@ -1,5 +1,5 @@
 -- Settling a plan leaves the machine's session and state.
-use Rattle.std.proofs.Common.{◌≡◌, ◌≢◌, inl, inr, ℕ, ◌+◌, ◌-◌, ◌<◌, ◌≤◌, Bool, true, false, cond, List, [], ◌∷◌, ◌++◌, length, get_or, set, map, replicate, Option, Some, None, refl, sym, ap, ap₂, ◌∙◌, subst, arith, length-set, get_or-set_same, get_or-set_other, eq-eqb, ne_eqb}
+use Rattle.std.proofs.Common.{◌≡◌, ◌≢◌, inl, inr, ℕ, ◌+◌, ◌-◌, ◌<◌, ◌≤◌, Bool, true, false, cond, List, [], ◌++◌, length, get_or, set, map, replicate, Option, Some, None, refl, sym, ap, ap₂, ◌∙◌, subst, arith, length-set, get_or-set_same, get_or-set_other, eq-eqb, ne_eqb}
 use Rattle.std.proofs.lemmas.Bool.{cases_eq, cases_lt}
 use Rattle.std.proofs.lemmas.List.{map-set, get_or_past}
 use Rattle.fwu_model.specs.declared.kinds.Op.TheVariants as op
@@ -9,7 +9,7 @@ use Rattle.fwu_model.specs.State.{State, bank, update_bank, Free, Switch, Accept
 use Rattle.fwu_model.specs.Sound.{Setting}
 use Rattle.fwu_model.specs.Session as machine
 use Rattle.fwu_model.specs.Session.{Staged}
-use Rattle.fwu_model.specs.Answer.{content, appended, with_appended, with_committed, staged_bytes, committed_bit}
+use Rattle.fwu_model.specs.Answer.{content, appended, with_appended, with_committed, staged_bytes, committed_bit, staged_bits}
 use Rattle.agent_kept.specs.declared.parts.Part.{Part}
 use Rattle.agent_kept.specs.declared.parts.Part.TheVariants as part
 use Rattle.agent_kept.specs.declared.parts.Handle.{Handle}
@@ -19,9 +19,10 @@ use Rattle.agent_kept.specs.declared.kinds.Plan.TheVariants as plan
 use Rattle.agent_kept.specs.declared.kinds.Decision.TheVariants as decision
 use Rattle.agent_kept.specs.Kept.{Kept, IsKept, HasTotals, part_at, handle_kept, part_meant, parts_meant, staging_meant, handle_meant, handles_meant, session_meant, with_handle, is_part_open, IsNewPart, GrowsPart, CommitsTo, Restarts, OpensPart, AppendsPart, CommitsPart}
 use Rattle.fwu_model.specs.MoveMetas.{meta_in, meta_after}
-use Rattle.agent_kept.specs.Plans.{SpeaksWhole, planned, with_open, bits_staged, package_staged}
+use Rattle.agent_kept.specs.Plans.{Speaks, SpeaksWhole, planned, with_open, bits_staged, package_staged}
+use Rattle.fwu_formats.proofs.Same.{map-same}
 use Rattle.agent_kept.proofs.Meant.{part-meant, parts-changed, staging-on, handle-meant}
-use Rattle.agent_kept.proofs.After.{kept-opened, kept-committed, kept-appended, kept-restarted}
+use Rattle.agent_kept.proofs.After.{kept-opened, kept-committed, kept-appended, kept-nothing}
 use Rattle.std.specs.List.{range_with_len}
 use Rattle.agent_kept.proofs.Installable.{map-twice}
 use Rattle.agent_kept.proofs.Sounds.{frees, restarts-staging, restarts-idle}
@@ -39,15 +40,19 @@ IsWhole other = Unit {0}
 -- what is spoken of after a change of what is kept, where the state and the metadata stay
 spoken-still : (E : Setting) (s : State) (passes : List ℕ → Bool) (m : MetaRead) (counter boot : ℕ) (k new : Kept) (staged after_it : ℕ → List ℕ) → SpeaksWhole E s passes m counter k boot staged
     → new.rows ≡ k.rows → IsKept new after_it → HasTotals E s boot new → SpeaksWhole E s passes m counter new boot after_it
-spoken-still E s passes m counter boot k new staged after_it sp rows is totals = record {
-  rows = rows ∙ sp.rows;
-  banks = sp.banks;
-  verifier = sp.verifier;
-  meta = sp.meta;
-  counter_is = sp.counter_is;
-  kept = is;
-  totals = totals;
-}
+spoken-still E s passes m counter boot k new staged after_it sp rows is totals =
+    let old = sp.speaks in
+    record {
+      speaks = record {
+        rows = rows ∙ old.rows;
+        banks = old.banks;
+        verifier = old.verifier;
+        meta = old.meta;
+        counter_is = old.counter_is;
+        kept = is;
+      };
+      totals = totals;
+    }
 
 -- what is kept of the images is the same with another handle
 kept-handle : (k : Kept) (number : ℕ) (h : Handle) (staged : ℕ → List ℕ) → IsKept k staged → IsKept (with_handle k number h) staged
@@ -108,23 +113,19 @@ totals-held E s t boot k same totals = record {
 
 -- ---- the plans
 
-with-here : (staged : ℕ → List ℕ) (image : ℕ) (bytes : List ℕ) → with_bytes staged image bytes image ≡ bytes
+pub with-here : (staged : ℕ → List ℕ) (image : ℕ) (bytes : List ℕ) → with_bytes staged image bytes image ≡ bytes
 with-here staged image bytes = ap (λ (b : Bool). cond b bytes (staged image)) (eq-eqb image image refl)
 
-with-there : (staged : ℕ → List ℕ) (image : ℕ) (bytes : List ℕ) (i : ℕ) → i ≢ image → with_bytes staged image bytes i ≡ staged i
+pub with-there : (staged : ℕ → List ℕ) (image : ℕ) (bytes : List ℕ) (i : ℕ) → i ≢ image → with_bytes staged image bytes i ≡ staged i
 with-there staged image bytes i ne = ap (λ (b : Bool). cond b bytes (staged i)) (ne_eqb i image ne)
 
 new-meant : (p : Part) (bytes : List ℕ) → IsNewPart p → part_meant p bytes ≡ machine.Open bytes
-new-meant part.Nothing bytes it = absurd it
 new-meant (part.Open size hasher) bytes it = refl
-new-meant (part.Committed size digest bit) bytes it = absurd it
+new-meant other bytes it = absurd it
 
 grown-meant : (p q : Part) (bytes x y : List ℕ) → GrowsPart p q bytes → y ≡ x ++ bytes → part_meant q y ≡ appended (part_meant p x) bytes
-grown-meant part.Nothing q bytes x y g e = absurd g
-grown-meant (part.Committed size digest bit) q bytes x y g e = absurd g
-grown-meant (part.Open size hasher) part.Nothing bytes x y g e = absurd g
-grown-meant (part.Open size hasher) (part.Committed n digest bit) bytes x y g e = absurd g
 grown-meant (part.Open size hasher) (part.Open n next) bytes x y g e = ap machine.Open e
+grown-meant p q bytes x y g e = absurd g
 
 ended-meant : (p q : Part) (bit : Bool) (x : List ℕ) → is_part_open p ≡ true → CommitsTo p q bit → part_meant q x ≡ machine.Committed (staged_bytes (part_meant p x)) bit
 ended-meant part.Nothing q bit x opened c = absurd cc
@@ -133,61 +134,60 @@ ended-meant (part.Open size hasher) part.Nothing bit x opened c = absurd c
 ended-meant (part.Open size hasher) (part.Open n other) bit x opened c = absurd c
 ended-meant (part.Open size hasher) (part.Committed n digest b) bit x opened c = ap (machine.Committed x) c.1
 
-map-same : {X : Type 0} (f g : ℕ → X) (xs : List ℕ) → ((i : ℕ) → f i ≡ g i) → map f xs ≡ map g xs
-map-same {X = X} f g [] same = refl
-map-same {X = X} f g (x ∷ xs) same = ap₂ (λ (a : X) (l : List X). a ∷ l) (same x) (map-same f g xs same)
-
 bit-meant : (p : Part) (bytes : List ℕ) → bit_kept p ≡ committed_bit (part_meant p bytes)
-bit-meant part.Nothing bytes = refl
-bit-meant (part.Open size hasher) bytes = refl
 bit-meant (part.Committed size digest bit) bytes = refl
+bit-meant other bytes = refl
 
-bits-meant : (k : Kept) (staged : ℕ → List ℕ) → k.staging ≡ true → bits_kept k ≡ bits_staged (staging_meant k staged)
-bits-meant k staged on =
+pub bits-meant : (k : Kept) (staged : ℕ → List ℕ) → bits_kept k ≡ staged_bits (parts_meant k staged)
+bits-meant k staged =
     map-twice bit_kept (part_at k) (range_with_len 0 (length k.rows))
     ∙ map-same (λ (i : ℕ). bit_kept (part_at k i)) (λ (i : ℕ). committed_bit (part_meant (part_at k i) (staged i))) (range_with_len 0 (length k.rows)) (λ i. bit-meant (part_at k i) (staged i))
     ∙ sym (map-twice committed_bit (λ (i : ℕ). part_meant (part_at k i) (staged i)) (range_with_len 0 (length k.rows)))
-    ∙ sym (ap bits_staged (staging-on k staged on))
 
 module _ (E : Setting) (s : State) (passes : List ℕ → Bool) (m : MetaRead) (counter boot : ℕ) (k : Kept) (staged : ℕ → List ℕ) (bytes : List ℕ) (sp : SpeaksWhole E s passes m counter k boot staged) (few : length k.rows ≤ 16) where
+  old : Speaks E s passes m counter k boot staged
+  old = sp.speaks
+
   abbrev SI : Plan → MetaRead → Kept → Type 0
   SI p new_meta new = SettlesIn E s passes counter boot staged bytes p k m new_meta new
 
   -- what is spoken of after a restart
   spoken-restarted : (staging : Bool) (t : State) (new_meta : MetaRead) (new : Kept) → Restarts staging k new → new_meta.meta ≡ meta_in t → length t.banks ≡ length s.banks → t.counter ≡ s.counter → SpeaksWhole E t passes new_meta counter new boot staged
   spoken-restarted staging t new_meta new restarts meta banks same = record {
-    rows = restarts.rows ∙ sp.rows;
-    banks = banks ∙ sp.banks;
-    verifier = sp.verifier;
-    meta = meta;
-    counter_is = sp.counter_is ∙ sym same;
-    kept = kept-restarted staging k new staged restarts;
+    speaks = record {
+      rows = restarts.rows ∙ old.rows;
+      banks = banks ∙ old.banks;
+      verifier = old.verifier;
+      meta = meta;
+      counter_is = old.counter_is ∙ sym same;
+      kept = kept-nothing new staged restarts.nothing;
+    };
     totals = totals-closed E t boot new restarts.closed;
   }
 
   next-staging : (new : Kept) → Restarts true k new → session_meant new boot staged ≡ machine.On boot (machine.nothing_staged E) machine.no_handles
   next-staging new restarts =
       restarts-staging new boot staged restarts.nothing restarts.staging_is restarts.closed
-      ∙ ap (λ (rs : List ImageRow). machine.On boot (Some (replicate (length rs) machine.Nothing)) machine.no_handles) (restarts.rows ∙ sp.rows)
+      ∙ ap (λ (rs : List ImageRow). machine.On boot (Some (replicate (length rs) machine.Nothing)) machine.no_handles) (restarts.rows ∙ old.rows)
 
   begins : (store : Bool) (new_meta : MetaRead) (new : Kept) → Restarts true k new → new_meta ≡ record m { meta = meta_planned k m.meta (plan.Begin store) } → SI (plan.Begin store) new_meta new
   unfolding planned
   begins true new_meta new restarts is = record {
     spoken =
         spoken-restarted true (after_move s (Free (update_bank s))) new_meta new restarts
-        (ap (λ (r : MetaRead). r.meta) is ∙ ap₂ (λ (x : Meta) (b : ℕ). meta_after x (Free b)) sp.meta (next-is s m sp.meta) ∙ meta-freed s (update_bank s))
+        (ap (λ (r : MetaRead). r.meta) is ∙ ap₂ (λ (x : Meta) (b : ℕ). meta_after x (Free b)) old.meta (next-is s m old.meta) ∙ meta-freed s (update_bank s))
         (length-set s.banks (update_bank s) _) refl;
     next = next-staging new restarts;
   }
   begins false new_meta new restarts is = record {
-    spoken = spoken-restarted true s new_meta new restarts (ap (λ (r : MetaRead). r.meta) is ∙ sp.meta) refl refl;
+    spoken = spoken-restarted true s new_meta new restarts (ap (λ (r : MetaRead). r.meta) is ∙ old.meta) refl refl;
     next = next-staging new restarts;
   }
 
   -- another handle, and the rest as it was
   module _ (number : ℕ) (h : Handle) (reads : ReadsWell E s boot h) where
     spoken-handle : SpeaksWhole E s passes m counter (with_handle k number h) boot staged
-    spoken-handle = spoken-still E s passes m counter boot k (with_handle k number h) staged staged sp refl (kept-handle k number h staged sp.kept) (totals-set E s boot k (with_handle k number h) (number - 1) h refl sp.totals reads)
+    spoken-handle = spoken-still E s passes m counter boot k (with_handle k number h) staged staged sp refl (kept-handle k number h staged old.kept) (totals-set E s boot k (with_handle k number h) (number - 1) h refl sp.totals reads)
 
     next-handle : session_meant (with_handle k number h) boot staged ≡ machine.On boot (staging_meant k staged) (set (handles_meant k) (number - 1) (handle_meant h))
     next-handle = ap (machine.On boot (staging_meant k staged)) (handle-meant k number h)
@@ -219,7 +219,7 @@ module _ (E : Setting) (s : State) (passes : List ℕ → Bool) (m : MetaRead) (
       record {
         spoken =
             spoken-still E s passes m counter boot k new staged after_it sp opened.rows
-            (kept-opened k new image (number - 1) staged after_it sp.kept opened (with-here staged image []) (with-there staged image []))
+            (kept-opened k new image (number - 1) staged after_it old.kept opened (with-here staged image []) (with-there staged image []))
             (totals-set E s boot k new (number - 1) (handle.Writes image) opened.handles sp.totals (writer-reads E s boot image));
         next =
             ap₂ (machine.On boot)
@@ -238,7 +238,7 @@ module _ (E : Setting) (s : State) (passes : List ℕ → Bool) (m : MetaRead) (
       record {
         spoken =
             spoken-still E s passes m counter boot k new staged after_it sp appends.rest.rows
-            (kept-appended k new image bytes staged after_it sp.kept few lt appends (with-here staged image (staged image ++ bytes)) (with-there staged image (staged image ++ bytes)))
+            (kept-appended k new image bytes staged after_it old.kept few lt appends (with-here staged image (staged image ++ bytes)) (with-there staged image (staged image ++ bytes)))
             (totals-same E s boot k new appends.rest.handles sp.totals);
         next =
             ap₂ (machine.On boot)
@@ -254,7 +254,7 @@ module _ (E : Setting) (s : State) (passes : List ℕ → Bool) (m : MetaRead) (
   unfolding planned
   commits number image bit new lt on opened ends = record {
     spoken =
-        spoken-still E s passes m counter boot k new staged staged sp ends.rows (kept-committed k new image (number - 1) bit staged sp.kept lt ends)
+        spoken-still E s passes m counter boot k new staged staged sp ends.rows (kept-committed k new image (number - 1) bit staged old.kept lt ends)
         (totals-set E s boot k new (number - 1) handle.Free ends.handles sp.totals (free-reads E s boot));
     next =
         ap₂ (machine.On boot)
@@ -276,8 +276,8 @@ module _ (E : Setting) (s : State) (passes : List ℕ → Bool) (m : MetaRead) (
         spoken =
             spoken-restarted false (after_move s (Switch (update_bank s) p bits)) new_meta new restarts
             (ap (λ (r : MetaRead). r.meta) is
-            ∙ ap₂ (λ (x : Meta) (b : ℕ). meta_after x (Switch b [] (bits_kept k))) sp.meta (next-is s m sp.meta)
-            ∙ ap (λ (l : List Bool). meta_after (meta_in s) (Switch (update_bank s) [] l)) (bits-meant k staged on)
+            ∙ ap₂ (λ (x : Meta) (b : ℕ). meta_after x (Switch b [] (bits_kept k))) old.meta (next-is s m old.meta)
+            ∙ ap (λ (l : List Bool). meta_after (meta_in s) (Switch (update_bank s) [] l)) (bits-meant k staged ∙ sym (ap bits_staged (staging-on k staged on)))
             ∙ meta-switched s (update_bank s) [] p bits)
             (length-set s.banks (update_bank s) _) refl;
         next = restarts-idle new boot staged restarts.staging_is restarts.closed;
@@ -286,19 +286,21 @@ module _ (E : Setting) (s : State) (passes : List ℕ → Bool) (m : MetaRead) (
   cancels : (new : Kept) → Restarts false k new → SI plan.Cancel m new
   unfolding planned
   cancels new restarts = record {
-    spoken = spoken-restarted false s m new restarts sp.meta refl refl;
+    spoken = spoken-restarted false s m new restarts old.meta refl refl;
     next = restarts-idle new boot staged restarts.staging_is restarts.closed;
   }
 
   -- the session stays
   spoken-moved : (t : State) (new_meta : MetaRead) → new_meta.meta ≡ meta_in t → length t.banks ≡ length s.banks → t.counter ≡ s.counter → (bank t boot).held ≡ (bank s boot).held → SpeaksWhole E t passes new_meta counter k boot staged
   spoken-moved t new_meta meta banks same held = record {
-    rows = sp.rows;
-    banks = banks ∙ sp.banks;
-    verifier = sp.verifier;
-    meta = meta;
-    counter_is = sp.counter_is ∙ sym same;
-    kept = sp.kept;
+    speaks = record {
+      rows = old.rows;
+      banks = banks ∙ old.banks;
+      verifier = old.verifier;
+      meta = meta;
+      counter_is = old.counter_is ∙ sym same;
+      kept = old.kept;
+    };
     totals = totals-held E s t boot k held sp.totals;
   }
 
@@ -306,16 +308,16 @@ module _ (E : Setting) (s : State) (passes : List ℕ → Bool) (m : MetaRead) (
   unfolding planned
   accepts image true new_meta is = record {
     spoken =
-        spoken-moved (after_move s (Accept image)) new_meta (ap (λ (r : MetaRead). r.meta) is ∙ ap (λ (x : Meta). meta_after x (Accept image)) sp.meta ∙ meta-accepted s image)
+        spoken-moved (after_move s (Accept image)) new_meta (ap (λ (r : MetaRead). r.meta) is ∙ ap (λ (x : Meta). meta_after x (Accept image)) old.meta ∙ meta-accepted s image)
         (length-set s.banks s.active _) refl (held-accepted s image boot);
     next = refl;
   }
-  accepts image false new_meta is = record { spoken = spoken-moved s new_meta (ap (λ (r : MetaRead). r.meta) is ∙ sp.meta) refl refl refl; next = refl }
+  accepts image false new_meta is = record { spoken = spoken-moved s new_meta (ap (λ (r : MetaRead). r.meta) is ∙ old.meta) refl refl refl; next = refl }
 
   goes-back : (new_meta : MetaRead) → new_meta ≡ record m { meta = meta_planned k m.meta plan.Back } → SI plan.Back new_meta k
   unfolding planned
   goes-back new_meta is = record {
-    spoken = spoken-moved (after_move s Back) new_meta (ap (λ (r : MetaRead). r.meta) is ∙ ap (λ (x : Meta). meta_after x Back) sp.meta) refl refl refl;
+    spoken = spoken-moved (after_move s Back) new_meta (ap (λ (r : MetaRead). r.meta) is ∙ ap (λ (x : Meta). meta_after x Back) old.meta) refl refl refl;
     next = refl;
   }
 

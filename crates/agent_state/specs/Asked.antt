@@ -1,5 +1,5 @@
 -- What a decision has of the request: a plan of the request's own kind, with the numbers that the request and what is kept give.
-use Rattle.std.specs.Prelude.{◌≡◌, ℕ, ◌+◌, ◌-◌, not, min, ◌==◌, Some, length, take}
+use Rattle.std.specs.Prelude.{◌≡◌, ◌+◌, ◌-◌, not, min, ◌==◌, Some, length, take}
 use Rattle.fwu_formats.specs.Layout.{find_image}
 use Rattle.fwu_formats.specs.Metadata.{Meta, state_at, bit_at}
 use Rattle.fwu_model.specs.State.{is_invalid}
@@ -39,12 +39,9 @@ IsPlanFor k m (request.Accept guid) (plan.Accept image store) =
     (find_image k.rows guid ≡ Some image) × (store ≡ not (bit_at m m.active image))
 IsPlanFor k m r p = ⊥
 
--- only going back waits for a verdict, on the previous bank
-abbrev pub IsVerdictFor : Meta → Request → ℕ → Type 0
-IsVerdictFor m request.Previous b = b ≡ m.previous
-IsVerdictFor m r b = ⊥
-
+-- a decision is one for the request: only going back waits for a verdict, on the previous bank
 abbrev pub IsFor : Kept → Meta → Request → Decision → Type 0
-IsFor k m r (decision.Refused st) = Unit {0}
 IsFor k m r (decision.Do p) = IsPlanFor k m r p
-IsFor k m r (decision.ByVerdict b) = IsVerdictFor m r b
+IsFor k m request.Previous (decision.ByVerdict b) = b ≡ m.previous
+IsFor k m r (decision.ByVerdict b) = ⊥
+IsFor k m r (decision.Refused st) = Unit {0}

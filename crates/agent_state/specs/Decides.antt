@@ -10,7 +10,7 @@ use Rattle.agent_kept.specs.declared.kinds.Request.{Request}
 use Rattle.agent_kept.specs.declared.kinds.Decision.{Decision}
 use Rattle.agent_kept.specs.declared.kinds.Decision.TheVariants.{Refused, Do}
 use Rattle.agent_kept.specs.declared.kinds.Plan.TheVariants as plan
-use Rattle.agent_kept.specs.Handles.{is_free_kept}
+use Rattle.agent_kept.specs.Sound.{is_free_kept}
 use Rattle.agent_kept.specs.Kept.{Kept, session_meant}
 use Rattle.agent_kept.specs.Plans.{DecidesAs, Speaks, FitsRequest, call_of}
 

@@ -26,9 +26,6 @@ IsNumber number = (1 ≤ number) × (number ≤ 32)
 
 -- a plan is of what is kept: its handles and images are those of the session, and there is room for a write
 abbrev pub IsPlanOf : Kept → Plan → Type 0
-IsPlanOf k plan.Tell = Unit {0}
-IsPlanOf k (plan.Begin store) = Unit {0}
-IsPlanOf k (plan.BeginPartial store named) = Unit {0}
 IsPlanOf k (plan.Open number image op.Read total) = IsNumber number
 IsPlanOf k (plan.Open number None op.Write total) = ⊥
 IsPlanOf k (plan.Open number (Some image) op.Write total) =
@@ -43,14 +40,12 @@ IsPlanOf k (plan.Commit number (Some image) bit) =
     IsNumber number × (image < length k.rows) × (k.staging ≡ true) × (is_part_open (part_at k image) ≡ true)
     × (handle_kept k (number - 1) ≡ handle.Writes image)
 IsPlanOf k plan.End = k.staging ≡ true
-IsPlanOf k plan.Cancel = Unit {0}
 IsPlanOf k (plan.Accept image store) = image < length k.rows
-IsPlanOf k plan.Back = Unit {0}
+IsPlanOf k other = Unit {0}
 
 abbrev pub IsDecisionOf : Kept → Decision → Type 0
-IsDecisionOf k (decision.Refused st) = Unit {0}
 IsDecisionOf k (decision.Do p) = IsPlanOf k p
-IsDecisionOf k (decision.ByVerdict b) = Unit {0}
+IsDecisionOf k other = Unit {0}
 
 -- a write comes with its bytes
 abbrev pub HasBytes : Plan → List ℕ → Type 0
@@ -60,7 +55,6 @@ HasBytes other bytes = Unit {0}
 -- ---- the session
 
 abbrev pub Changes : Kept → List ℕ → Plan → Kept → Type 0
-Changes k bytes plan.Tell new = new ≡ k
 Changes k bytes (plan.Begin store) new = Restarts true k new
 -- as of a begin: the copies are plans of their own
 Changes k bytes (plan.BeginPartial store named) new = Restarts true k new
@@ -73,21 +67,18 @@ Changes k bytes (plan.Commit number None bit) new = new ≡ with_handle k number
 Changes k bytes (plan.Commit number (Some image) bit) new = CommitsPart k image (number - 1) bit new
 Changes k bytes plan.End new = Restarts false k new
 Changes k bytes plan.Cancel new = Restarts false k new
-Changes k bytes (plan.Accept image store) new = new ≡ k
-Changes k bytes plan.Back new = new ≡ k
+Changes k bytes other new = new ≡ k
 
 -- a refusal, and what waits for a verdict, changes nothing
 abbrev pub ChangesBy : Kept → List ℕ → Decision → Kept → Type 0
-ChangesBy k bytes (decision.Refused st) new = new ≡ k
 ChangesBy k bytes (decision.Do p) new = Changes k bytes p new
-ChangesBy k bytes (decision.ByVerdict b) new = new ≡ k
+ChangesBy k bytes other new = new ≡ k
 
 -- ---- the metadata
 
 abbrev pub bit_kept : Part → Bool
-bit_kept part.Nothing = false
-bit_kept (part.Open size hasher) = false
 bit_kept (part.Committed size digest bit) = bit
+bit_kept other = false
 
 -- the bits of the images that are committed
 abbrev pub bits_kept : Kept → List Bool
@@ -95,22 +86,16 @@ bits_kept k = map bit_kept (parts_of k)
 
 -- the metadata after a plan: that of its move, or the same
 abbrev pub meta_planned : Kept → Meta → Plan → Meta
-meta_planned k m plan.Tell = m
 meta_planned k m (plan.Begin store) = if store then meta_after m (Free (next_bank m)) else m
 meta_planned k m (plan.BeginPartial store named) = if store then meta_after m (Free (next_bank m)) else m
-meta_planned k m (plan.Open number image o total) = m
-meta_planned k m (plan.Write number image at n) = m
-meta_planned k m (plan.Read number image at n total) = m
-meta_planned k m (plan.Commit number image bit) = m
 meta_planned k m plan.End = meta_after m (Switch (next_bank m) [] (bits_kept k))
-meta_planned k m plan.Cancel = m
 meta_planned k m (plan.Accept image store) = if store then meta_after m (Accept image) else m
 meta_planned k m plan.Back = meta_after m Back
+meta_planned k m other = m
 
 abbrev pub meta_settled : Kept → Meta → Decision → Meta
-meta_settled k m (decision.Refused st) = m
 meta_settled k m (decision.Do p) = meta_planned k m p
-meta_settled k m (decision.ByVerdict b) = m
+meta_settled k m other = m
 
 -- ---- the machine
 
@@ -146,8 +131,7 @@ Settles k m bytes p new_meta new =
     → SettlesIn E s passes counter boot staged bytes p k m new_meta new
 
 abbrev pub SettlesBy : Kept → MetaRead → List ℕ → Decision → MetaRead → Kept → Type 0
-SettlesBy k m bytes (decision.Refused st) new_meta new = Unit {0}
 -- A partial begin is settled as a begin. Each image that isn't named is then opened, written and committed, by plans of their own.
 SettlesBy k m bytes (decision.Do (plan.BeginPartial store named)) new_meta new = Settles k m bytes (plan.Begin store) new_meta new
 SettlesBy k m bytes (decision.Do p) new_meta new = Settles k m bytes p new_meta new
-SettlesBy k m bytes (decision.ByVerdict b) new_meta new = Unit {0}
+SettlesBy k m bytes other new_meta new = Unit {0}

@@ -6,7 +6,7 @@ ghost use Rattle.fwu_formats.specs.Layout.{find_image, dir_guid};
 ghost use Rattle.fwu_model.specs.Answer.{are_named, names_unknown};
 ghost use Rattle.base_core.specs.Bytes.{same_bytes};
 ghost use Rattle.std.specs.List.{list_any, position, position_or_len};
-ghost use Rattle.agent_kept.specs.Handles.{is_free_kept, is_writer_kept};
+ghost use Rattle.agent_kept.specs.Sound.{is_free_kept, is_writer_kept};
 ghost use Rattle.agent_kept.specs.Kept.{kept};
 ghost use Rattle.agent_state.specs.Ruled.{ruled_as};
 ghost use Rattle.agent_state.specs.Decides.{DecidesRequest, DecidesByMeta, IsMetaOf, DecidesBySession, next_bank, is_trial_kept, cannot_begin_kept, may_leave_kept, has_other_kept, lowest_free_kept, opened_as};

@@ -1,12 +1,12 @@
 -- What erases and programs leave of an arming, one after the other.
-use Rattle.std.proofs.Common.{◌≡◌, ℕ, ◌+◌, ◌-◌, ◌<◌, ◌≤◌, ◌∙◌, refl, ap, arith, Option, Some, None}
+use Rattle.std.proofs.Common.{◌≡◌, ℕ, ◌+◌, ◌-◌, ◌<◌, ◌≤◌, ◌∙◌, ap, arith, Option, Some, None}
 use Rattle.std.specs.Prelude.{Result, Ok, Err}
 use Rattle.flash_core.specs.declared.flash.Arming.{Arming}
 use Rattle.flash_core.specs.declared.flash.Counts.{Counts}
 use Rattle.flash_core.specs.declared.flash.FlashStop.{FlashStop}
 use Rattle.flash_core.specs.Counts.{Fires, arming_spent, lowered_by}
 use Rattle.flash_core.proofs.Spent.{lowered_then}
-use Rattle.flash_core.proofs.Unarmed.{unarmed_none, unarmed_spent, unarmed_then}
+use Rattle.flash_core.proofs.Unarmed.{unarmed_spent, unarmed_then}
 use Rattle.slot_writer.specs.Writes.{SpendsArming}
 
 -- one erase or program
@@ -32,19 +32,6 @@ spends_one (Err stop) armed arming old new is fires = record {
   lowered = tt;
   passed = tt;
   unarmed = unarmed_spent (Err stop) armed arming old new is fires;
-}
-
--- no erase and no program
-pub spends_none : {T : Type 0} (x : T) (armed : Option Arming) (counts : Counts) → SpendsArming {T = T} (Ok x) 0 armed armed counts counts
-spends_none x None counts = record {
-  lowered = refl;
-  passed = λ a e. absurd cc;
-  unarmed = unarmed_none x None counts;
-}
-spends_none x (Some armed) counts = record {
-  lowered = ap (λ (n : ℕ). Some (record { n = n; k = armed.k })) (omega arith);
-  passed = λ a e some. some;
-  unarmed = unarmed_none x (Some armed) counts;
 }
 
 -- calls that were done, and one more

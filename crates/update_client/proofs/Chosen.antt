@@ -8,13 +8,10 @@ use Rattle.fwu_formats.specs.Layout.{ImageRow}
 use Rattle.fwu_formats.specs.Package.{Entry, Toc, entry_of}
 use Rattle.fwu_model.specs.Reply.{Reply}
 use Rattle.fwu_model.specs.Reply as reply
-use Rattle.fwu_model.specs.Answer.{first_image_fault, first_size_fault, has_image, partial_fault, size_fault}
-use Rattle.fwu_model.specs.Answer.{image_fault as machine_fault}
+use Rattle.fwu_model.specs.Answer.{first_image_fault, first_size_fault, has_image, partial_fault, size_fault, image_fault as machine_fault}
 use Rattle.fip_tables.specs.declared.images.ImageFault.{ImageFault}
 use Rattle.fip_tables.specs.declared.images.ImageFault.TheVariants.{Missing, TooLarge}
-use Rattle.fip_tables.specs.Images.{AreImages, image_fault, images_fault, lowest_fault, no_entry, no_row, present_fault}
-use Rattle.fip_tables.specs.Images.{size_fault as table_fault}
-use Rattle.fip_tables.specs.Images.{ArePresent as AreThere}
+use Rattle.fip_tables.specs.Images.{AreImages, image_fault, images_fault, lowest_fault, no_entry, no_row, present_fault, size_fault as table_fault, ArePresent as AreThere}
 use Rattle.fip_tables.proofs.Chosen.{found_has}
 use Rattle.update_client.specs.declared.stops.SendStop.{SendStop}
 use Rattle.update_client.specs.Choosing.{AreChosen, refused_as, refused_image}

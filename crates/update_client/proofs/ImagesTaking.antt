@@ -14,8 +14,10 @@ use Rattle.agent_kept.specs.declared.parts.Handle.TheVariants.{Writes}
 use Rattle.agent_kept.specs.Kept.{part_at, handle_kept, size_of}
 use Rattle.agent_machine.specs.Ends.{IsWriter}
 use Rattle.agent_machine.specs.Moment.{Moment}
-use Rattle.update_client.specs.Pieces.{WritesFirst, WritesImage}
-use Rattle.update_client.specs.Images.{SendsFirst, no_entry, sent_parts}
+use Rattle.update_client.specs.Pieces.{WritesImage}
+use Rattle.update_client.proofs.WrittenImage.{WritesFirst}
+use Rattle.update_client.specs.Images.{no_entry, sent_parts}
+use Rattle.update_client.proofs.SentImages.{SendsFirst, take-next}
 use Rattle.update_client.specs.Choosing.{no_row}
 use Rattle.update_client.specs.Takes.{PayloadPieceTakes, FirstTake, ImageTakes, ImagesTake, writes_in, writes_of_entry, writes_sent}
 use Rattle.agent_calls.specs.Takes.{Takes, piece_at, pieces_of, writes_of_image, writes_of_pieces}
@@ -25,7 +27,6 @@ use Rattle.agent_machine.proofs.CallGoing.{MeetsAs}
 use Rattle.agent_machine.proofs.Writer.{writer, written}
 use Rattle.update_client.proofs.Staging.{sent-long, sent-other}
 use Rattle.update_client.proofs.WrittenPiece.{image-opened}
-use Rattle.update_client.proofs.SentImages.{take-next}
 
 -- ---- a piece
 

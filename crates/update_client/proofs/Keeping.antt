@@ -22,32 +22,24 @@ use Rattle.update_client.proofs.Spending.{stop-spent}
 
 -- no agent that is there answers that it is gone
 stops-stopped : (T U : Type 0) (q : Stop) (was now : Bool) → IsFalse was → GoesBy {T = T} (Err q) was now → StopsWithin {T = U} (Err (stopped_as q))
-stops-stopped T U (stop.Status st) was now here goes = tt
-stops-stopped T U stop.Lost was now here goes = tt
-stops-stopped T U stop.Fault was now here goes = tt
 stops-stopped T U stop.Gone was now here goes = absurd (gone-here (goes.gone.0 refl))
   where
     gone-here : IsTrue was → ⊥
     gone-here is = cc
+stops-stopped T U q was now here goes = tt
 
 reads-done : {T : Type 0} (x : T) (n : ℕ) → ReadsPieceBy {T = T} n n (Ok x)
 reads-done x n = record { later = omega arith; once = omega arith; failed = λ e. absurd cc }
 
 -- no stop of the agent is a failed read
 reads-stopped : (T : Type 0) (q : Stop) (n : ℕ) → ReadsPieceBy {T = T} n n (Err (stopped_as q))
-reads-stopped T (stop.Status st) n = record { later = omega arith; once = omega arith; failed = λ e. absurd cc }
 reads-stopped T stop.Lost n = record { later = omega arith; once = omega arith; failed = λ e. absurd cc }
-reads-stopped T stop.Fault n = record { later = omega arith; once = omega arith; failed = λ e. absurd cc }
-reads-stopped T stop.Gone n = record { later = omega arith; once = omega arith; failed = λ e. absurd cc }
+reads-stopped T q n = record { later = omega arith; once = omega arith; failed = λ e. absurd cc }
 
 -- the end reads no file
 stops-ended : (T : Type 0) (r : Result T SendStop) → StopsEnd r → StopsWithin r
-stops-ended T (Ok x) stops = tt
-stops-ended T (Err (End q)) stops = tt
 stops-ended T (Err ReadFailed) stops = tt
-stops-ended T (Err Lost) stops = tt
-stops-ended T (Err Fault) stops = tt
-stops-ended T (Err s) stops = stops
+stops-ended T r stops = stops
 
 reads-ended : (T : Type 0) (r : Result T SendStop) (n : ℕ) → StopsEnd r → ReadsPieceBy n n r
 reads-ended T (Ok x) n stops = reads-done x n

@@ -14,7 +14,6 @@ mod Spending
 mod Sparing
 mod Keeping
 pub mod ImagesTaking
-mod Stopped
 mod Unsent
 mod Over
 mod Present

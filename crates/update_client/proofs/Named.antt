@@ -11,10 +11,10 @@ use Rattle.fwu_formats.specs.Package.{Entry, Toc, entry_of}
 use Rattle.fwu_model.specs.Session.{Nothing}
 use Rattle.fwu_model.proofs.Staging.{same-self, same-is}
 use Rattle.fwu_model.specs.Answer.{are_named, names_unknown, copied_part, copied_parts, has_image, images_over, payload_or}
-use Rattle.update_client.specs.Partial.{kept_parts, present, types_of}
+use Rattle.update_client.specs.Partial.{present, types_of}
+use Rattle.update_client.proofs.Present.{kept_parts, kept-at, kept-long}
 use Rattle.update_client.specs.Choosing.{no_row}
 use Rattle.update_client.proofs.OwnImages.{found-has}
-use Rattle.update_client.proofs.Present.{kept-at, kept-long}
 use Rattle.update_client.proofs.Over.{payloads}
 
 -- a type that is named is that of an entry, so of an image that the table has

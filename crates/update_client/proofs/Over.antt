@@ -5,11 +5,18 @@ use Rattle.std.specs.List.{cons_option, list_all}
 use Rattle.fwu_formats.specs.Layout.{ImageRow}
 use Rattle.fwu_formats.specs.Package.{Entry, Toc, entry_of, payload}
 use Rattle.fwu_model.specs.Session.{Staged, Nothing, Committed, is_committed}
-use Rattle.fwu_model.specs.Answer.{staged_package, staged_bits}
-use Rattle.fwu_model.specs.Answer.{copied_part, has_image, payload_or}
+use Rattle.fwu_model.specs.Answer.{staged_package, staged_bits, copied_part, has_image, payload_or}
 use Rattle.update_client.specs.Images.{sent_parts}
 use Rattle.update_client.proofs.Staging.{append-one, set-place}
-use Rattle.update_client.specs.Partial.{present, places, kept_parts, over_images}
+use Rattle.update_client.specs.Partial.{present}
+use Rattle.update_client.proofs.Present.{places, kept_parts}
+
+-- these images sent over that
+abbrev pub over_images : Toc → (ℕ → List ℕ) → ℕ → List ImageRow → List (List ℕ) → List (List ℕ)
+over_images toc bytes a [] images = []
+over_images toc bytes a (r ∷ rows) [] = bytes a ∷ over_images toc bytes (a + 1) rows []
+over_images toc bytes a (r ∷ rows) (b ∷ images) =
+    cond (has_image toc r) (b ∷ over_images toc bytes (a + 1) rows images) (bytes a ∷ over_images toc bytes (a + 1) rows (b ∷ images))
 
 -- the parts then: each image committed, a sent one by the request
 abbrev pub done_parts : Toc → (ℕ → List ℕ) → Bool → ℕ → List ImageRow → List (List ℕ) → List Staged

@@ -5,8 +5,7 @@ use Rattle.std.specs.List.{find, range_with_len}
 use Rattle.std.proofs.lemmas.List.{length-replicate}
 use Rattle.std.proofs.lemmas.List.FromFn.{length-range_with_len, get_or-range_with_len}
 use Rattle.fwu_model.specs.Session.{Nothing}
-use Rattle.std.proofs.lemmas.Bool.{and_parts}
-use Rattle.fwu_formats.specs.Layout.{ImageRow, Layout, fits_layout, find_image, are_distinct, slot_bytes}
+use Rattle.fwu_formats.specs.Layout.{find_image, are_distinct, slot_bytes}
 use Rattle.fwu_formats.specs.Package.{Entry, Toc, has_guid}
 use Rattle.fwu_model.specs.Sound.{Setting}
 use Rattle.fwu_model.proofs.Staging.{same-is}
@@ -25,10 +24,6 @@ found-has guid (x ∷ xs) e is = by-test (has_guid guid x) (find (has_guid guid)
         → cond b (Some x) rest ≡ Some e → e.guid ≡ guid
     by-test true rest one others h = ap (λ (y : Entry). y.guid) (sym (some-is x e h)) ∙ one refl
     by-test false rest one others h = others h
-
-pub distinct : (L : Layout) → IsTrue (fits_layout L) → IsTrue (are_distinct (map (λ r. r.guid) L.rows))
-unfolding fits_layout
-distinct L fit = (and_parts _ (are_distinct (map (λ (r : ImageRow). r.guid) L.rows)) fit).1
 
 pub are-images : (E : Setting) (toc : Toc) (entries : List Entry) → IsTrue (are_distinct (map (λ r. r.guid) E.layout.rows))
     → ((k : ℕ) → slot_bytes E.layout k ≡ 4096 * (get_or E.layout.rows k no_row).slots)

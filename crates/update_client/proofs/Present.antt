@@ -9,7 +9,7 @@ use Rattle.std.proofs.lemmas.List.Sums.{sum_by-cons}
 use Rattle.std.specs.Option.{option_or}
 use Rattle.fwu_formats.specs.Layout.{ImageRow, Layout, fits_layout, are_distinct, find_image, slot_bytes}
 use Rattle.fwu_model.specs.Sound.{Setting}
-use Rattle.fwu_model.specs.Session.{Nothing}
+use Rattle.fwu_model.specs.Session.{Staged, Nothing}
 use Rattle.fwu_formats.specs.Package.{Entry, Toc, entry_of}
 use Rattle.fwu_model.specs.Reply.{Reply}
 use Rattle.fwu_model.specs.Reply as reply
@@ -17,8 +17,9 @@ use Rattle.update_client.specs.Choosing.{no_row}
 use Rattle.fwu_model.specs.Answer.{copied_part, first_size_fault, has_image, sent_over, size_fault, skipped}
 use Rattle.update_client.specs.Images.{AreUnstaged, no_entry}
 use Rattle.agent_calls.proofs.OwnRows.{guid_in, own-image}
-use Rattle.update_client.proofs.OwnImages.{distinct, found-has}
-use Rattle.update_client.specs.Partial.{AreSendable, kept_parts, places, present}
+use Rattle.update_client.proofs.OwnImages.{found-has}
+use Rattle.update_client.specs.Partial.{AreSendable, present}
+use Rattle.fwu_model.proofs.Selects.{layout-distinct}
 
 -- ---- how many they are
 
@@ -50,6 +51,18 @@ counted-by rows toc images others copied has none lacks =
     ap (λ (n : ℕ). reply.SentPartial n others copied) (has ∙ present-count rows toc)
     ∙ ap (λ (n : ℕ). reply.SentPartial (count_by (has_image toc) rows) n copied) none
     ∙ ap (reply.SentPartial (count_by (has_image toc) rows) (skipped rows toc)) lacking
+
+-- ---- what is staged, of the images from one of these numbers on
+
+-- the numbers of the images that are sent
+abbrev pub places : Toc → ℕ → List ImageRow → List ℕ
+places toc a [] = []
+places toc a (r ∷ rows) = cond (has_image toc r) (a ∷ places toc (a + 1) rows) (places toc (a + 1) rows)
+
+-- what the begin copied
+abbrev pub kept_parts : Toc → (ℕ → List ℕ) → ℕ → List ImageRow → List Staged
+kept_parts toc bytes a [] = []
+kept_parts toc bytes a (r ∷ rows) = copied_part (has_image toc r) (bytes a) ∷ kept_parts toc bytes (a + 1) rows
 
 -- ---- where they are
 
@@ -214,14 +227,14 @@ present-have P rows toc all k d below =
 
 -- the types of a layout's images are known
 pub rows-found : (L : Layout) (i : ℕ) → IsTrue (fits_layout L) → i < length L.rows → is_some (find_image L.rows (get_or L.rows i no_row).guid) ≡ true
-rows-found L i fit lt = ap (λ (o : Option ℕ). is_some o) (own-image L.rows i (distinct L fit) lt)
+rows-found L i fit lt = ap (λ (o : Option ℕ). is_some o) (own-image L.rows i (layout-distinct L fit) lt)
 
 pub placed-in : (E : Setting) (L : Layout) (toc : Toc) (bytes : ℕ → List ℕ) (entries : List Entry) → E.layout ≡ L → IsTrue (fits_layout L) → AreSendable L.rows toc entries
     → AreUnstaged E entries (places toc 0 L.rows) (kept_parts toc bytes 0 L.rows)
 placed-in E L toc bytes entries layout fit are =
     subst (λ (M : Layout). AreUnstaged E entries (places toc 0 M.rows) (kept_parts toc bytes 0 M.rows)) layout
     (let here = subst (λ (M : Layout). AreSendable M.rows toc entries) (sym layout) are in
-    are-present E toc bytes entries (distinct E.layout (subst (λ (M : Layout). IsTrue (fits_layout M)) (sym layout) fit)) (λ k. refl)
+    are-present E toc bytes entries (layout-distinct E.layout (subst (λ (M : Layout). IsTrue (fits_layout M)) (sym layout) fit)) (λ k. refl)
     (present-fit E.layout.rows toc entries here) here.entries_are)
 
 pub rows-some : (L : Layout) → IsTrue (fits_layout L) → 0 < length L.rows

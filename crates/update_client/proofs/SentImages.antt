@@ -7,6 +7,8 @@ use Rattle.fwu_formats.specs.Package.{Entry, payload}
 use Rattle.fwu_model.specs.State.{State}
 use Rattle.fwu_model.specs.Sound.{Setting}
 use Rattle.agent_machine.specs.Moment.{Moment, Shows}
+use Rattle.agent_machine.specs.Goes.{GoesByMoves}
+use Rattle.fip_tables.specs.Files.{Tells}
 use Rattle.agent_machine.proofs.Going.{goes-nothing}
 use Rattle.update_client.specs.declared.stops.SendStop.{SendStop}
 use Rattle.fwu_model.specs.Session.{Staged, Nothing}
@@ -14,8 +16,18 @@ use Rattle.agent_machine.specs.Filling.{between, filled}
 use Rattle.update_client.proofs.Staging.{sent-long, sent-next, sent-other}
 use Rattle.update_client.specs.Halts.{Halts}
 use Rattle.update_client.specs.Pieces.{SendsImage}
-use Rattle.update_client.specs.Images.{AreUnstaged, SendsFirst, SendsImages, no_entry, sent_parts}
+use Rattle.update_client.specs.Images.{AreUnstaged, SendsImages, no_entry, sent_parts}
 use Rattle.update_client.proofs.Halting.{halts-after}
+
+-- the first images were read, written and committed
+pub record SendsFirst (told : Option Directory) (name : List ℕ) (entries : List Entry) (request k : ℕ)
+    (old new : Moment) : Type 0 where
+  pub images : List (List ℕ)
+  pub count : length images ≡ k
+  pub read : (file : List ℕ) → Tells told name file → images ≡ map (payload file) (take k entries)
+  pub goes : (E : Setting) (s : State) (boot : ℕ) (parts : List Staged) (places : List ℕ) → E.layout ≡ old.fields.layout
+      → AreUnstaged E entries places parts → Shows old s (between boot parts)
+      → GoesByMoves E (Ok tt) old new s [] (between boot (sent_parts parts images places (request == 0)))
 
 pub take-next : (l : List Entry) (k : ℕ) → k < length l → take (k + 1) l ≡ take k l ++ get_or l k no_entry ∷ []
 take-next [] k lt = absurd (omega (arith, lt))

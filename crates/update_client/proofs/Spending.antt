@@ -10,10 +10,8 @@ use Rattle.agent_machine.specs.CallGoes.{Spent}
 use Rattle.update_client.specs.Halts.{flash_of, stopped_as}
 
 same-flash : (T U : Type 0) (q : Stop) → flash_result {T = T} (Err q) ≡ flash_of {T = U} (Err (stopped_as q))
-same-flash T U (stop.Status st) = refl
 same-flash T U stop.Lost = refl
-same-flash T U stop.Fault = refl
-same-flash T U stop.Gone = refl
+same-flash T U q = refl
 
 -- a stop of the agent, as that of a sending
 pub stop-spent : {D : Type 0} {g : Ghosts D} (T U : Type 0) (q : Stop) (gone : Bool) (a b : D) → Spent g (flash_result {T = T} (Err q)) gone a b
@@ -22,11 +20,9 @@ stop-spent {g = g} T U q gone a b spent = subst (λ (f : Result (Unit {0}) Flash
 
 -- a call that the flash did not stop
 pub unstopped : {T : Type 0} (result : Result T Stop) → (IsStopped result → ⊥) → flash_result result ≡ Ok tt
-unstopped (Ok x) never = refl
-unstopped (Err (stop.Status st)) never = refl
 unstopped (Err stop.Lost) never = absurd (never tt)
 unstopped (Err stop.Fault) never = absurd (never tt)
-unstopped (Err stop.Gone) never = refl
+unstopped result never = refl
 
 -- what a sending says of its device
 pub goes-of : {D : Type 0} {g : Ghosts D} (result : Result (Unit {0}) FlashStop) (gone : Bool) (a b : D) → Spent g result gone a b → Goes g result a b

@@ -5,7 +5,6 @@ use Rattle.flash_core.specs.declared.flash.Arming.{Arming}
 use Rattle.host_io.specs.Contents.{Directory}
 use Rattle.fwu_formats.specs.Package.{Entry}
 use Rattle.fwu_model.specs.Call as call
-use Rattle.fwu_model.specs.Reply.{Reply}
 use Rattle.fwu_model.specs.Reply as reply
 use Rattle.agent_machine.specs.Moment.{Moment}
 use Rattle.agent_machine.proofs.CallGoing.{MeetsAs}
@@ -15,7 +14,8 @@ use Rattle.agent_calls.proofs.Taking.{takes-then}
 use Rattle.update_client.specs.declared.stops.SendStop.{SendStop}
 use Rattle.update_client.specs.declared.stops.SendStop.TheVariants.{MissingImage, ImageTooLarge, Begin, End, ReadFailed}
 use Rattle.update_client.specs.Halts.{StopsEnd, is_unread}
-use Rattle.update_client.specs.Images.{SendsFirst, SendsImages, no_entry, sent_parts}
+use Rattle.update_client.specs.Images.{SendsImages, no_entry, sent_parts}
+use Rattle.update_client.proofs.SentImages.{SendsFirst}
 use Rattle.update_client.specs.Takes.{PayloadFrontTakes, ImageStarts, ImagesStart, ImagesTake, OnRefusedEnd, OnUnread, writes_in, writes_up_to}
 use Rattle.update_client.proofs.ImagesTaking.{FirstTaken}
 use Rattle.update_client.proofs.Staging.{sent-long, sent-other}
@@ -99,9 +99,6 @@ images-start told name size entries request k old mid a b c below first takes im
 -- no call of the sending of images is a refused end
 pub images-no-end : (told : Option Directory) (name : List ℕ) (size : ℕ) (entries : List Entry) (request : ℕ) (st : SendStop) (old new : Moment) (a b : Option Arming)
     → SendsImages told name entries request (Err st) old new → OnRefusedEnd {T = Unit {0}} (Err st) (ImagesTake size entries (length entries) old a b)
-images-no-end told name size entries request (MissingImage g) old new a b sent = tt
-images-no-end told name size entries request (ImageTooLarge g) old new a b sent = tt
-images-no-end told name size entries request (Begin q) old new a b sent = tt
 images-no-end told name size entries request (End q) old new a b sent =
     λ E s boot parts places layout are shows. absurd (sent.goes E s boot parts places layout are shows)
 images-no-end told name size entries request s old new a b sent = tt

@@ -18,7 +18,7 @@ use Rattle.agent_machine.specs.declared.stop.Stop.TheVariants as stop
 use Rattle.fwu_formats.specs.Metadata.{Meta}
 use Rattle.agent_machine.specs.Fields.{target}
 use Rattle.agent_machine.specs.Moment.{Moment, Shows, Showing}
-use Rattle.agent_machine.specs.Meets.{IsStopped}
+use Rattle.agent_machine.specs.Meets.{IsStopped, flash_result}
 use Rattle.agent_machine.specs.Goes.{GoesByMoves}
 use Rattle.update_client.specs.declared.stops.Sent.{Sent}
 use Rattle.update_client.specs.declared.stops.SendStop.{SendStop}
@@ -31,16 +31,14 @@ use Rattle.update_client.specs.Images.{AreUnstaged, sent_parts}
 use Rattle.update_client.specs.Finishes.{InstallsImages}
 use Rattle.update_client.specs.Sends.{Installs, AllowsBegin, IsInstalled, IsSwitched, Sends, SendEndsBy, send_answer}
 use Rattle.agent_machine.proofs.CallGoing.{MeetsAs, call-goes, call-replies, call-stopped}
-use Rattle.update_client.proofs.Staging.{begin-answers}
+use Rattle.update_client.proofs.Staging.{begin-answers, IsPacked, whole-packed}
 use Rattle.update_client.proofs.Installed.{told_value, told-is}
 use Rattle.update_client.proofs.OwnImages.{are-images}
-use Rattle.agent_machine.specs.Meets.{flash_result}
 use Rattle.agent_calls.specs.Copies.{AnswersAs}
 use Rattle.update_client.specs.Partial.{GoesAs}
 use Rattle.update_client.proofs.Packaged.{begin-done, each-on, early, unbegun}
 use Rattle.update_client.proofs.Started.{Started, done-goes, halted-goes, installs-as, unless-fault}
-use Rattle.update_client.proofs.Staging.{IsPacked, whole-packed}
-use Rattle.update_client.proofs.OwnImages.{distinct}
+use Rattle.fwu_model.proofs.Selects.{layout-distinct}
 
 abbrev of : Unit {0} → Reply
 of u = reply.Success
@@ -66,7 +64,7 @@ module _ (toc : Toc) (passes : List ℕ → Bool) (old : Moment) (entries : List
       → AreUnstaged E entries (range_with_len 0 (length old.fields.layout.rows)) (replicate (length old.fields.layout.rows) Nothing)
   unstaged E layout =
       subst (λ (L : Layout). AreUnstaged E entries (range_with_len 0 (length L.rows)) (replicate (length L.rows) Nothing)) layout
-      (are-images E toc entries (distinct E.layout (subst (λ (L : Layout). IsTrue (fits_layout L)) (sym layout) fit)) (λ k. refl)
+      (are-images E toc entries (layout-distinct E.layout (subst (λ (L : Layout). IsTrue (fits_layout L)) (sym layout) fit)) (λ k. refl)
       (subst (λ (L : Layout). AreChosen L.rows toc entries) (sym layout) chosen))
 
   pub begun : (E : Setting) (s : State) (boot : ℕ) (staging : Option (List Staged)) (handles : List Handle) → E.layout ≡ old.fields.layout

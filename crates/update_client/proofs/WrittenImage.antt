@@ -1,19 +1,32 @@
 -- An image that is written piece by piece.
-use Rattle.std.proofs.Common.{◌≡◌, ℕ, zero, suc, ◌+◌, ◌≤◌, List, [], ◌∷◌, ◌++◌, take, drop, Option, Ok, Err, refl, sym, ap, ◌∙◌, arith, length-append}
+use Rattle.std.proofs.Common.{◌≡◌, ℕ, zero, suc, ◌+◌, ◌<◌, ◌≤◌, List, [], ◌∷◌, ◌++◌, length, take, drop, Option, Ok, Err, refl, sym, ap, ◌∙◌, arith, length-append}
 use Rattle.std.proofs.Math.Seq.{take-add}
 use Rattle.host_io.specs.Contents.{Directory}
 use Rattle.fwu_formats.specs.Package.{Entry, payload}
 use Rattle.fwu_model.specs.State.{State}
 use Rattle.fwu_model.specs.Sound.{Setting}
-use Rattle.fwu_model.specs.Session.{Session}
-use Rattle.agent_machine.specs.Moment.{Moment}
+use Rattle.fwu_formats.specs.Layout.{slot_bytes}
+use Rattle.fip_tables.specs.Files.{Tells}
+use Rattle.fwu_model.specs.Session.{Session, Staged}
+use Rattle.agent_machine.specs.Moment.{Moment, Shows}
+use Rattle.agent_machine.specs.Goes.{GoesByMoves}
 use Rattle.agent_machine.proofs.Going.{goes-then, goes-nothing}
 use Rattle.update_client.proofs.Halting.{halts-after}
 use Rattle.update_client.specs.declared.stops.SendStop.{SendStop}
 use Rattle.update_client.specs.declared.stops.SendStop.TheVariants.{ReadFailed}
 use Rattle.agent_machine.specs.Filling.{within}
 use Rattle.update_client.specs.Halts.{Halts}
-use Rattle.update_client.specs.Pieces.{WritesPiece, WritesFirst, WritesImage}
+use Rattle.update_client.specs.Pieces.{WritesPiece, WritesImage}
+
+-- the first bytes of a payload were read and written
+pub record WritesFirst (told : Option Directory) (name : List ℕ) (e : Entry) (at : ℕ) (old new : Moment) : Type 0 where
+  pub bytes : List ℕ
+  pub count : length bytes ≡ at
+  pub read : (file : List ℕ) → Tells told name file → bytes ≡ take at (payload file e)
+  pub goes : (E : Setting) (s : State) (boot : ℕ) (parts : List Staged) (image : ℕ) → E.layout ≡ old.fields.layout
+      → image < length parts
+      → e.size ≤ slot_bytes E.layout image → Shows old s (within boot parts image [])
+      → GoesByMoves E (Ok tt) old new s [] (within boot parts image bytes)
 
 pub first-none : (told : Option Directory) (name : List ℕ) (e : Entry) (m : Moment) → WritesFirst told name e 0 m m
 first-none told name e m = record {

@@ -19,10 +19,9 @@ refused_as (image.TooLarge guid) = ImageTooLarge guid
 
 -- and as the machine tells it
 abbrev pub refused_image : Option Reply → Option SendStop
-refused_image None = None
 refused_image (Some (reply.Missing guid)) = Some (MissingImage guid)
 refused_image (Some (reply.TooLarge guid)) = Some (ImageTooLarge guid)
-refused_image (Some other) = None
+refused_image other = None
 
 -- the entry of each image's type, in the order of the images, and each payload fits its slot
 pub record AreChosen (rows : List ImageRow) (toc : Toc) (entries : List Entry) : Type 0 where

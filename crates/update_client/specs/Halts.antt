@@ -22,9 +22,7 @@ stopped_as stop.Gone = Gone
 -- the stop of a begin
 abbrev pub unbegun_as : Stop → SendStop
 unbegun_as (stop.Status st) = Begin st
-unbegun_as stop.Lost = Lost
-unbegun_as stop.Fault = Fault
-unbegun_as stop.Gone = Gone
+unbegun_as other = stopped_as other
 
 abbrev pub is_unread : SendStop → Bool
 is_unread ReadFailed = true
@@ -32,15 +30,9 @@ is_unread other = false
 
 -- whether the flash stopped it
 abbrev pub flash_of : {T : Type 0} → Result T SendStop → Result (Unit {0}) FlashStop
-flash_of (Ok x) = Ok tt
-flash_of (Err (MissingImage guid)) = Ok tt
-flash_of (Err (ImageTooLarge guid)) = Ok tt
-flash_of (Err (Begin st)) = Ok tt
-flash_of (Err (End st)) = Ok tt
-flash_of (Err ReadFailed) = Ok tt
 flash_of (Err Lost) = Err flash_stop.Lost
 flash_of (Err Fault) = Err flash_stop.Failed
-flash_of (Err Gone) = Ok tt
+flash_of other = Ok tt
 
 -- the staging stands, with whatever was staged
 pub record StillStaging (E : Setting) (old new : Moment) (s : State) (boot : ℕ) : Type 0 where
@@ -58,12 +50,11 @@ Halts (Err other) E old new s boot y = ⊥
 
 -- the stops of calls within a staging, on any device: no image is at fault, and no begin was refused
 abbrev pub StopsWithin : {T : Type 0} → Result T SendStop → Type 0
-StopsWithin (Ok x) = ⊤
 StopsWithin (Err (MissingImage guid)) = ⊥
 StopsWithin (Err (ImageTooLarge guid)) = ⊥
 StopsWithin (Err (Begin st)) = ⊥
 StopsWithin (Err Gone) = ⊥
-StopsWithin (Err other) = ⊤
+StopsWithin other = ⊤
 
 -- and of the end
 abbrev pub StopsEnd : {T : Type 0} → Result T SendStop → Type 0

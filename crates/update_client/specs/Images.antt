@@ -1,5 +1,5 @@
 -- What is sent of all images.
-use Rattle.std.specs.Prelude.{◌≡◌, ◌≢◌, ◌≤◌, ◌<◌, ◌==◌, ℕ, Bool, List, [], ◌∷◌, length, take, map, Option, Some, Result, Ok, OnOk, slice_index_or}
+use Rattle.std.specs.Prelude.{◌≡◌, ◌≢◌, ◌≤◌, ◌<◌, ◌==◌, ℕ, Bool, List, [], ◌∷◌, length, map, Option, Some, Result, OnOk, slice_index_or}
 use Rattle.host_io.specs.Contents.{Directory}
 use Rattle.fwu_formats.specs.Layout.{slot_bytes, find_image}
 use Rattle.fwu_formats.specs.Package.{Entry, payload}
@@ -8,7 +8,6 @@ use Rattle.fwu_model.specs.Sound.{Setting}
 use Rattle.fip_tables.specs.Files.{Tells}
 pub use Rattle.fip_tables.specs.Images.{no_entry}
 use Rattle.agent_machine.specs.Moment.{Moment, Shows}
-use Rattle.agent_machine.specs.Goes.{GoesByMoves}
 use Rattle.update_client.specs.declared.stops.SendStop.{SendStop}
 use Rattle.fwu_model.specs.Session.{Staged, Nothing}
 use Rattle.agent_machine.specs.Filling.{between, filled}
@@ -32,17 +31,7 @@ pub record AreUnstaged (E : Setting) (entries : List Entry) (places : List ℕ) 
   pub empty : (k : ℕ) → k < length entries → slice_index_or parts (slice_index_or places k 0) Nothing ≡ Nothing
   pub apart : (j k : ℕ) → j < k → k < length entries → slice_index_or places j 0 ≢ slice_index_or places k 0
 
--- the first images were read, written and committed
-pub record SendsFirst (told : Option Directory) (name : List ℕ) (entries : List Entry) (request k : ℕ)
-    (old new : Moment) : Type 0 where
-  pub images : List (List ℕ)
-  pub count : length images ≡ k
-  pub read : (file : List ℕ) → Tells told name file → images ≡ map (payload file) (take k entries)
-  pub goes : (E : Setting) (s : State) (boot : ℕ) (parts : List Staged) (places : List ℕ) → E.layout ≡ old.fields.layout
-      → AreUnstaged E entries places parts → Shows old s (between boot parts)
-      → GoesByMoves E (Ok tt) old new s [] (between boot (sent_parts parts images places (request == 0)))
-
--- all were, or that was stopped
+-- all images were read, written and committed, or that was stopped
 pub record SendsImages (told : Option Directory) (name : List ℕ) (entries : List Entry) (request : ℕ)
     (result : Result (Unit {0}) SendStop) (old new : Moment) : Type 0 where
   pub images : List (List ℕ)

@@ -1,27 +1,23 @@
 -- What a partial sending stages over the images of the active bank.
-use Rattle.std.specs.Prelude.{◌≡◌, ◌+◌, ◌<◌, ℕ, Bool, false, List, [], ◌∷◌, IsTrue, length, map, Option, Some, None, Result, Ok, Err, if◌then◌else◌, slice_index_or, ⊤}
+use Rattle.std.specs.Prelude.{◌≡◌, ◌+◌, ◌<◌, ℕ, Bool, false, List, [], IsTrue, length, map, Option, Some, None, Result, Ok, Err, slice_index_or, ⊤}
 use Rattle.fwu_formats.specs.Layout.{ImageRow}
 use Rattle.fwu_formats.specs.Package.{Entry, Toc}
-use Rattle.fwu_model.specs.Reply.{Reply}
 use Rattle.fwu_model.specs.Reply as reply
-use Rattle.fwu_model.specs.Session.{Session, Off, On, Staged}
-use Rattle.fwu_model.specs.Answer.{Answer, answer, answered, are_named, bits_over, copied_part, has_image, image_held, images_over, install_unless, partial_fault, sent_over}
+use Rattle.fwu_model.specs.Session.{Session, Off, On}
+use Rattle.fwu_model.specs.Answer.{Answer, answered, are_named, bits_over, has_image, image_held, images_over, install_unless, partial_fault, sent_over}
 use Rattle.agent_calls.specs.Takes.{writes_to_copy}
 use Rattle.update_client.specs.Takes.{writes_in}
 use Rattle.update_client.specs.declared.stops.SendStop.{SendStop}
-use Rattle.update_client.specs.declared.stops.SendStop.TheVariants.{MissingImage, ImageTooLarge, Begin, End, ReadFailed, Lost, Fault, Gone}
+use Rattle.update_client.specs.declared.stops.SendStop.TheVariants.{End, ReadFailed}
 pub use Rattle.fip_tables.specs.Images.{present}
 use Rattle.update_client.specs.Choosing.{no_row, refused_image}
-use Rattle.update_client.specs.Sends.{AnswersBy, AllowsBegin, IsInstalled, ended_session}
-use Rattle.flash_core.specs.declared.flash.FlashStop.TheVariants as flash_stop
+use Rattle.update_client.specs.Sends.{EndsAs, IsInstalled}
 use Rattle.host_io.specs.Contents.{Directory}
 use Rattle.fip_tables.specs.Files.{Tells}
 use Rattle.fwu_model.specs.State.{State}
 use Rattle.fwu_model.specs.Sound.{Setting}
-use Rattle.fwu_model.specs.Call as call
 use Rattle.agent_machine.specs.Fields.{Fields, total_of}
 use Rattle.agent_machine.specs.Moment.{Moment, Shows}
-use Rattle.agent_machine.specs.Goes.{GoesByMoves}
 use Rattle.update_client.specs.declared.stops.Sent.{Sent}
 
 -- ---- which entries are sent
@@ -38,26 +34,6 @@ abbrev pub SendsPresent : List ImageRow → Toc → Result (List Entry) SendStop
 SendsPresent rows toc (Ok entries) = AreSendable rows toc entries
 SendsPresent rows toc (Err fault) = refused_image (partial_fault rows toc) ≡ Some fault
 
--- ---- what is staged, of the images from one of these numbers on
-
--- the numbers of the images that are sent
-abbrev pub places : Toc → ℕ → List ImageRow → List ℕ
-places toc a [] = []
-places toc a (r ∷ rows) = if has_image toc r then a ∷ places toc (a + 1) rows else places toc (a + 1) rows
-
--- what the begin copied
-abbrev pub kept_parts : Toc → (ℕ → List ℕ) → ℕ → List ImageRow → List Staged
-kept_parts toc bytes a [] = []
-kept_parts toc bytes a (r ∷ rows) = copied_part (has_image toc r) (bytes a) ∷ kept_parts toc bytes (a + 1) rows
-
--- these images sent over that
-abbrev pub over_images : Toc → (ℕ → List ℕ) → ℕ → List ImageRow → List (List ℕ) → List (List ℕ)
-over_images toc bytes a [] images = []
-over_images toc bytes a (r ∷ rows) [] = bytes a ∷ over_images toc bytes (a + 1) rows []
-over_images toc bytes a (r ∷ rows) (b ∷ images) =
-    if has_image toc r then b ∷ over_images toc bytes (a + 1) rows images
-    else bytes a ∷ over_images toc bytes (a + 1) rows (b ∷ images)
-
 -- ---- the sending
 
 -- the machine's answer to a partial sending by the table that is given, where these are the images in the end
@@ -69,16 +45,7 @@ over_answer E toc p request s (On boot staging handles) =
 
 -- as of a sending, by the machine's answer to it
 abbrev pub GoesAs : Result Sent SendStop → Answer → Setting → Moment → Moment → State → Session → Type 0
-GoesAs (Ok sent) a E old new s x = AnswersBy (reply.SentPartial sent.images sent.skipped sent.copied) a E old new s
-GoesAs (Err (MissingImage guid)) a E old new s x = AnswersBy (reply.Missing guid) a E old new s
-GoesAs (Err (ImageTooLarge guid)) a E old new s x = AnswersBy (reply.TooLarge guid) a E old new s
-GoesAs (Err (Begin st)) a E old new s x = AnswersBy (reply.BeginRefused st) a E old new s
-GoesAs (Err (End st)) a E old new s x = AnswersBy (reply.EndRefused st) a E old new s
-GoesAs (Err ReadFailed) a E old new s x = AllowsBegin E s x × GoesByMoves E (Ok tt) old new s
-    (answer E s x (call.Begin 0)).moves (ended_session x)
-GoesAs (Err Lost) a E old new s x = AllowsBegin E s x × GoesByMoves E (Err flash_stop.Lost) old new s a.moves (ended_session x)
-GoesAs (Err Fault) a E old new s x = AllowsBegin E s x × GoesByMoves E (Err flash_stop.Failed) old new s a.moves (ended_session x)
-GoesAs (Err Gone) a E old new s x = ⊥
+GoesAs result a E old new s x = EndsAs (λ sent. reply.SentPartial sent.images sent.skipped sent.copied) result a E old new s x
 
 -- the begin was done, and the flash stopped nothing behind it
 abbrev pub WasBegun : Result Sent SendStop → Type 0

@@ -1,5 +1,5 @@
 -- What is written of an image.
-use Rattle.std.specs.Prelude.{◌≡◌, ◌≤◌, ◌<◌, ◌==◌, ℕ, ◌+◌, List, [], ◌++◌, length, take, drop, Option, Some, Result, Ok, Err, OnOk, IfOk, slice_index_or}
+use Rattle.std.specs.Prelude.{◌≡◌, ◌≤◌, ◌<◌, ◌==◌, ℕ, ◌+◌, List, [], ◌++◌, length, take, drop, Option, Some, Result, Err, OnOk, IfOk, slice_index_or}
 use Rattle.base_core.specs.Counts.{Rose}
 use Rattle.flash_core.specs.declared.flash.Flash as flash
 use Rattle.host_io.specs.declared.files.Files.{Ghosts}
@@ -13,7 +13,6 @@ use Rattle.fwu_model.specs.Session.{Staged, Nothing}
 use Rattle.fip_tables.specs.Files.{Tells}
 use Rattle.agent_machine.specs.Beside.{SparesBlocksByAll}
 use Rattle.agent_machine.specs.Moment.{Moment, Shows}
-use Rattle.agent_machine.specs.Goes.{GoesByMoves}
 use Rattle.agent_calls.specs.declared.agent.Agent.{Agent}
 use Rattle.agent_calls.specs.Shown.{SpentBy, moment}
 use Rattle.update_client.specs.declared.stops.SendStop.{SendStop}
@@ -31,16 +30,6 @@ pub record WritesPiece (told : Option Directory) (name : List ℕ) (e : Entry) (
       → E.layout ≡ old.fields.layout → image < length parts → length before ≡ at
       → e.size ≤ slot_bytes E.layout image → Shows old s (within boot parts image before)
       → Halts result E old new s boot (within boot parts image (before ++ bytes))
-
--- the first bytes of a payload were read and written
-pub record WritesFirst (told : Option Directory) (name : List ℕ) (e : Entry) (at : ℕ) (old new : Moment) : Type 0 where
-  pub bytes : List ℕ
-  pub count : length bytes ≡ at
-  pub read : (file : List ℕ) → Tells told name file → bytes ≡ take at (payload file e)
-  pub goes : (E : Setting) (s : State) (boot : ℕ) (parts : List Staged) (image : ℕ) → E.layout ≡ old.fields.layout
-      → image < length parts
-      → e.size ≤ slot_bytes E.layout image → Shows old s (within boot parts image [])
-      → GoesByMoves E (Ok tt) old new s [] (within boot parts image bytes)
 
 -- a payload was read and written whole
 pub record WritesImage (told : Option Directory) (name : List ℕ) (e : Entry) (result : Result (Unit {0}) SendStop)

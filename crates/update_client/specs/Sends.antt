@@ -1,5 +1,5 @@
 -- What a sending is to the machine.
-use Rattle.std.specs.Prelude.{◌≡◌, ◌↔◌, ◌⊎◌, ◌==◌, ℕ, Bool, List, [], length, replicate, Option, Some, None, Result, Ok, Err, IsTrue, ⊤}
+use Rattle.std.specs.Prelude.{◌≡◌, ◌↔◌, ◌⊎◌, ◌==◌, ℕ, Bool, List, [], length, replicate, Option, Some, None, Result, Ok, Err, IsErrAnd, IsTrue, ⊤}
 use Rattle.flash_core.specs.declared.flash.FlashStop.TheVariants as flash_stop
 use Rattle.host_io.specs.Contents.{Directory}
 use Rattle.fwu_formats.specs.Layout.{ImageRow}
@@ -15,6 +15,7 @@ use Rattle.fip_tables.specs.Files.{Tells}
 use Rattle.agent_machine.specs.Fields.{Fields, target}
 use Rattle.agent_machine.specs.Moment.{Moment, Shows}
 use Rattle.agent_machine.specs.Goes.{GoesByMoves}
+use Rattle.update_client.specs.Halts.{flash_of}
 use Rattle.update_client.specs.declared.stops.Sent.{Sent}
 use Rattle.update_client.specs.declared.stops.SendStop.{SendStop}
 use Rattle.update_client.specs.declared.stops.SendStop.TheVariants.{MissingImage, ImageTooLarge, Begin, End, ReadFailed, Lost, Fault, Gone}
@@ -41,24 +42,23 @@ AllowsBegin E s x = (answer E s x (call.Begin 0)).reply ≡ reply.Success
 -- An answer or a refusal is the machine's, with all its moves. A failed read leaves those of a begin, and no staging. At a stop of
 -- the flash each loss leaves a prefix of the moves. Neither comes where a begin is refused. An agent that is there is never
 -- answered to be gone.
-abbrev pub SendEndsBy : Result Sent SendStop → Setting → Toc → List (List ℕ) → ℕ → Moment → Moment → State → Session → Type 0
-SendEndsBy (Ok sent) E toc p request old new s x =
-    AnswersBy (reply.Sent sent.images sent.skipped) (send_answer E toc p request s x) E old new s
-SendEndsBy (Err (MissingImage guid)) E toc p request old new s x =
-    AnswersBy (reply.Missing guid) (send_answer E toc p request s x) E old new s
-SendEndsBy (Err (ImageTooLarge guid)) E toc p request old new s x =
-    AnswersBy (reply.TooLarge guid) (send_answer E toc p request s x) E old new s
-SendEndsBy (Err (Begin st)) E toc p request old new s x =
-    AnswersBy (reply.BeginRefused st) (send_answer E toc p request s x) E old new s
-SendEndsBy (Err (End st)) E toc p request old new s x = AnswersBy (reply.EndRefused st) (send_answer E toc p request s x) E old
-    new s
-SendEndsBy (Err ReadFailed) E toc p request old new s x =
+abbrev pub EndsAs : (Sent → Reply) → Result Sent SendStop → Answer → Setting → Moment → Moment → State → Session → Type 0
+EndsAs done (Ok sent) a E old new s x = AnswersBy (done sent) a E old new s
+EndsAs done (Err (MissingImage guid)) a E old new s x = AnswersBy (reply.Missing guid) a E old new s
+EndsAs done (Err (ImageTooLarge guid)) a E old new s x = AnswersBy (reply.TooLarge guid) a E old new s
+EndsAs done (Err (Begin st)) a E old new s x = AnswersBy (reply.BeginRefused st) a E old new s
+EndsAs done (Err (End st)) a E old new s x = AnswersBy (reply.EndRefused st) a E old new s
+EndsAs done (Err ReadFailed) a E old new s x =
     AllowsBegin E s x × GoesByMoves E (Ok tt) old new s (answer E s x (call.Begin 0)).moves (ended_session x)
-SendEndsBy (Err Lost) E toc p request old new s x =
-    AllowsBegin E s x × GoesByMoves E (Err flash_stop.Lost) old new s (send_answer E toc p request s x).moves (ended_session x)
-SendEndsBy (Err Fault) E toc p request old new s x =
-    AllowsBegin E s x × GoesByMoves E (Err flash_stop.Failed) old new s (send_answer E toc p request s x).moves (ended_session x)
-SendEndsBy (Err Gone) E toc p request old new s x = ⊥
+EndsAs done (Err Lost) a E old new s x =
+    AllowsBegin E s x × GoesByMoves E (Err flash_stop.Lost) old new s a.moves (ended_session x)
+EndsAs done (Err Fault) a E old new s x =
+    AllowsBegin E s x × GoesByMoves E (Err flash_stop.Failed) old new s a.moves (ended_session x)
+EndsAs done (Err Gone) a E old new s x = ⊥
+
+abbrev pub SendEndsBy : Result Sent SendStop → Setting → Toc → List (List ℕ) → ℕ → Moment → Moment → State → Session → Type 0
+SendEndsBy result E toc p request old new s x =
+    EndsAs (λ sent. reply.Sent sent.images sent.skipped) result (send_answer E toc p request s x) E old new s x
 
 -- What a sending says of an agent that isn't gone, on any device. There are images, those of the file where it is told. Each
 -- machine that the agent shows goes by the sending of them.
@@ -112,9 +112,7 @@ FaultsBy fault (Err (ImageTooLarge guid)) = fault ≡ Some (reply.TooLarge guid)
 FaultsBy fault other = fault ≡ None
 
 abbrev pub IsStoppedSend : Result Sent SendStop → Type 0
-IsStoppedSend (Err Lost) = ⊤
-IsStoppedSend (Err Fault) = ⊤
-IsStoppedSend other = ⊥
+IsStoppedSend result = IsErrAnd (flash_of result) (λ cause. ⊤)
 
 abbrev pub IsEarlySend : Result Sent SendStop → Type 0
 IsEarlySend (Err (MissingImage guid)) = ⊤

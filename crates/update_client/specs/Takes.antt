@@ -49,18 +49,26 @@ FirstTake size e pieces old armed arming = (E : Setting) (s : State) (boot : ℕ
     → e.size ≤ slot_bytes E.layout image → Shows old s (within boot parts image [])
     → Takes (writes_of_pieces size e.size pieces) armed arming
 
--- an image
-abbrev pub ImageTakes : ℕ → Entry → Moment → Option Arming → Option Arming → Type 0
-ImageTakes size e old armed arming = (E : Setting) (s : State) (boot : ℕ) (parts : List Staged) (image : ℕ)
+-- so many for an image of which nothing is staged
+abbrev pub UnstagedTakes : ℕ → Entry → Moment → Option Arming → Option Arming → Type 0
+UnstagedTakes writes e old armed arming = (E : Setting) (s : State) (boot : ℕ) (parts : List Staged) (image : ℕ)
     → E.layout ≡ old.fields.layout → image < length parts → find_image E.layout.rows e.guid ≡ Some image
     → e.size ≤ slot_bytes E.layout image → slice_index_or parts image Nothing ≡ Nothing → Shows old s (between boot parts)
-    → Takes (writes_of_image size e.size) armed arming
+    → Takes writes armed arming
 
--- the first images
-abbrev pub ImagesTake : ℕ → List Entry → ℕ → Moment → Option Arming → Option Arming → Type 0
-ImagesTake size entries k old armed arming = (E : Setting) (s : State) (boot : ℕ) (parts : List Staged) (places : List ℕ)
+-- all of its writes
+abbrev pub ImageTakes : ℕ → Entry → Moment → Option Arming → Option Arming → Type 0
+ImageTakes size e old armed arming = UnstagedTakes (writes_of_image size e.size) e old armed arming
+
+-- so many for images of which nothing is staged
+abbrev pub AllUnstagedTake : ℕ → List Entry → Moment → Option Arming → Option Arming → Type 0
+AllUnstagedTake writes entries old armed arming = (E : Setting) (s : State) (boot : ℕ) (parts : List Staged) (places : List ℕ)
     → E.layout ≡ old.fields.layout → AreUnstaged E entries places parts → Shows old s (between boot parts)
-    → Takes (writes_in size (take k entries)) armed arming
+    → Takes writes armed arming
+
+-- all writes of the first of them
+abbrev pub ImagesTake : ℕ → List Entry → ℕ → Moment → Option Arming → Option Arming → Type 0
+ImagesTake size entries k old armed arming = AllUnstagedTake (writes_in size (take k entries)) entries old armed arming
 
 -- all of them, and the switch that makes their bank active
 pub record InstallTakes (size : ℕ) (entries : List Entry) (old : Moment) (armed arming : Option Arming) : Type 0 where
@@ -90,10 +98,7 @@ pub record PayloadFrontTakes (size : ℕ) (e : Entry) (old : Moment) (armed armi
 pub record ImageStarts (size : ℕ) (e : Entry) (old : Moment) (armed arming : Option Arming) : Type 0 where
   pub pieces : ℕ
   pub more : size * pieces < e.size
-  pub takes : (E : Setting) (s : State) (boot : ℕ) (parts : List Staged) (image : ℕ)
-      → E.layout ≡ old.fields.layout → image < length parts → find_image E.layout.rows e.guid ≡ Some image
-      → e.size ≤ slot_bytes E.layout image → slice_index_or parts image Nothing ≡ Nothing → Shows old s (between boot parts)
-      → Takes (writes_of_pieces size e.size pieces) armed arming
+  pub takes : UnstagedTakes (writes_of_pieces size e.size pieces) e old armed arming
 
 -- the writes and commits of the first payloads, and the first pieces of the next one
 abbrev pub writes_up_to : ℕ → List Entry → ℕ → ℕ → ℕ
@@ -106,9 +111,7 @@ pub record ImagesStart (size : ℕ) (entries : List Entry) (old : Moment) (armed
   pub pieces : ℕ
   pub below : images < length entries
   pub more : size * pieces < (slice_index_or entries images no_entry).size
-  pub takes : (E : Setting) (s : State) (boot : ℕ) (parts : List Staged) (places : List ℕ)
-      → E.layout ≡ old.fields.layout → AreUnstaged E entries places parts → Shows old s (between boot parts)
-      → Takes (writes_up_to size entries images pieces) armed arming
+  pub takes : AllUnstagedTake (writes_up_to size entries images pieces) entries old armed arming
 
 -- ---- by its result
 

@@ -1,16 +1,14 @@
 use Rattle.std.proofs.Common.{List, sym, ap, ◌∙◌}
 use Rattle.fwu_formats.specs.Layout.{ImageRow, find_image}
-use Rattle.agent_kept.specs.Kept.{kept, handles_meant, staging_meant}
 use Rattle.base_core.specs.Bytes.{same_bytes}
 use Rattle.agent_state.proofs.Replies as replies
 use Rattle.agent_state.proofs.deciding.open.Goals as goal
 
 pub returns-then-not-is-clause-decides : goal.returns-then-not-is-clause-decides
 returns-then-not-is-clause-decides c = λ m boot passes counter E s staged bytes speaks fits.
-    let k = kept c.args.session.now in
-    let stg = staging_meant k staged in
-    let hs = handles_meant k in
-    replies.open-unknown E s boot stg hs bytes c.args.guid.now c.args.op c.args.total (ap (λ (l : List ImageRow). find_image l c.args.guid.now) (sym speaks.rows) ∙ sym c.find.ensures.value ∙ c.in-None.is) (sym (c.is.ensures ∙ ap (same_bytes c.args.guid.now) c.directory_guid.ensures) ∙ c.if-not-is.true)
+    replies.open-unknown E s boot _ _ bytes c.args.guid.now c.args.op c.args.total
+        (ap (λ (l : List ImageRow). find_image l c.args.guid.now) (sym speaks.rows) ∙ sym c.find.ensures.value ∙ c.in-None.is)
+        (sym (c.is.ensures ∙ ap (same_bytes c.args.guid.now) c.directory_guid.ensures) ∙ c.if-not-is.true)
 
 pub returns-in-Some-clause-decides : goal.returns-in-Some-clause-decides
 returns-in-Some-clause-decides c = c.open_image.ensures.decides c.args.guid.now (sym c.find.ensures.value ∙ c.in-Some.is)

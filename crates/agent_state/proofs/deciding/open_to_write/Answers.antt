@@ -9,6 +9,7 @@ use Rattle.agent_kept.specs.declared.kinds.Decision.TheVariants.{Refused}
 use Rattle.agent_kept.specs.Kept.{kept, handles_meant, staging_meant, parts_meant, part_meant}
 use Rattle.agent_kept.specs.Plans.{DecidesAs}
 use Rattle.agent_state.proofs.Machine as machine
+use Rattle.agent_kept.proofs.Meant.{staging-on}
 use Rattle.agent_state.proofs.Replies as replies
 use Rattle.agent_state.proofs.deciding.open_to_write.Goals as goal
 
@@ -26,7 +27,7 @@ returns-in-Committed-clause-decides c = λ guid found m boot passes counter E s 
     let stg = staging_meant k staged in
     let hs = handles_meant k in
     let at = ap (λ (l : List ImageRow). find_image l guid) (sym speaks.rows) ∙ found in
-    subst (λ (x : Option (List Staged)). DecidesAs E s (On boot x hs) (call.OpenWrite guid) bytes (Refused status.Denied)) (sym (machine.is-staging k staged (sym c.is_staging.ensures ∙ c.if-not-is_staging.false))) (replies.open-write-committed E s boot (parts_meant k staged) hs bytes guid c.args.image at (ap is_committed (machine.part-is k staged c.args.image c.requires.within ∙ ap (λ (p : Part). part_meant p (staged c.args.image)) (sym c.part.ensures ∙ c.in-Committed.is))))
+    subst (λ (x : Option (List Staged)). DecidesAs E s (On boot x hs) (call.OpenWrite guid) bytes (Refused status.Denied)) (sym (staging-on k staged (sym c.is_staging.ensures ∙ c.if-not-is_staging.false))) (replies.open-write-committed E s boot (parts_meant k staged) hs bytes guid c.args.image at (ap is_committed (machine.part-is k staged c.args.image c.requires.within ∙ ap (λ (p : Part). part_meant p (staged c.args.image)) (sym c.part.ensures ∙ c.in-Committed.is))))
 
 pub returns-in-Open-clause-decides : goal.returns-in-Open-clause-decides
 returns-in-Open-clause-decides c = λ guid found m boot passes counter E s staged bytes speaks fits.
@@ -34,7 +35,7 @@ returns-in-Open-clause-decides c = λ guid found m boot passes counter E s stage
     let stg = staging_meant k staged in
     let hs = handles_meant k in
     let at = ap (λ (l : List ImageRow). find_image l guid) (sym speaks.rows) ∙ found in
-    subst (λ (x : Option (List Staged)). DecidesAs E s (On boot x hs) (call.OpenWrite guid) bytes (Refused status.Busy)) (sym (machine.is-staging k staged (sym c.is_staging.ensures ∙ c.if-not-is_staging.false))) (replies.open-write-open E s boot (parts_meant k staged) hs bytes guid c.args.image at (ap is_committed (machine.part-is k staged c.args.image c.requires.within ∙ ap (λ (p : Part). part_meant p (staged c.args.image)) (sym c.part.ensures ∙ c.in-Open.is))) (ap is_open (machine.part-is k staged c.args.image c.requires.within ∙ ap (λ (p : Part). part_meant p (staged c.args.image)) (sym c.part.ensures ∙ c.in-Open.is))))
+    subst (λ (x : Option (List Staged)). DecidesAs E s (On boot x hs) (call.OpenWrite guid) bytes (Refused status.Busy)) (sym (staging-on k staged (sym c.is_staging.ensures ∙ c.if-not-is_staging.false))) (replies.open-write-open E s boot (parts_meant k staged) hs bytes guid c.args.image at (ap is_committed (machine.part-is k staged c.args.image c.requires.within ∙ ap (λ (p : Part). part_meant p (staged c.args.image)) (sym c.part.ensures ∙ c.in-Open.is))) (ap is_open (machine.part-is k staged c.args.image c.requires.within ∙ ap (λ (p : Part). part_meant p (staged c.args.image)) (sym c.part.ensures ∙ c.in-Open.is))))
 
 pub returns-in-Nothing-clause-decides : goal.returns-in-Nothing-clause-decides
 returns-in-Nothing-clause-decides c = λ guid found m boot passes counter E s staged bytes speaks fits.
@@ -42,4 +43,4 @@ returns-in-Nothing-clause-decides c = λ guid found m boot passes counter E s st
     let stg = staging_meant k staged in
     let hs = handles_meant k in
     let at = ap (λ (l : List ImageRow). find_image l guid) (sym speaks.rows) ∙ found in
-    subst (λ (x : Option (List Staged)). DecidesAs E s (On boot x hs) (call.OpenWrite guid) bytes c.opened.result) (sym (machine.is-staging k staged (sym c.is_staging.ensures ∙ c.if-not-is_staging.false))) (replies.opened-decides E s (On boot (Some (parts_meant k staged)) hs) (call.OpenWrite guid) bytes k (Some c.args.image) op.Write c.args.total c.opened.result c.opened.ensures (replies.open-write-nothing E s boot (parts_meant k staged) hs bytes guid c.args.image c.args.total at (ap is_committed (machine.part-is k staged c.args.image c.requires.within ∙ ap (λ (p : Part). part_meant p (staged c.args.image)) (sym c.part.ensures ∙ c.in-Nothing.is))) (ap is_open (machine.part-is k staged c.args.image c.requires.within ∙ ap (λ (p : Part). part_meant p (staged c.args.image)) (sym c.part.ensures ∙ c.in-Nothing.is)))))
+    subst (λ (x : Option (List Staged)). DecidesAs E s (On boot x hs) (call.OpenWrite guid) bytes c.opened.result) (sym (staging-on k staged (sym c.is_staging.ensures ∙ c.if-not-is_staging.false))) (replies.opened-decides E s (On boot (Some (parts_meant k staged)) hs) (call.OpenWrite guid) bytes k (Some c.args.image) op.Write c.args.total c.opened.result c.opened.ensures (replies.open-write-nothing E s boot (parts_meant k staged) hs bytes guid c.args.image c.args.total at (ap is_committed (machine.part-is k staged c.args.image c.requires.within ∙ ap (λ (p : Part). part_meant p (staged c.args.image)) (sym c.part.ensures ∙ c.in-Nothing.is))) (ap is_open (machine.part-is k staged c.args.image c.requires.within ∙ ap (λ (p : Part). part_meant p (staged c.args.image)) (sym c.part.ensures ∙ c.in-Nothing.is)))))

@@ -1,4 +1,4 @@
-use Rattle.std.proofs.Common.{rules, ℕ, ◌+◌, ◌-◌, ◌*◌, ◌≤◌, ◌<◌, length, sym, subst, arith, ap}
+use Rattle.std.proofs.Common.{rules, ℕ, ◌+◌, ◌*◌, ◌≤◌, ◌<◌, length, sym, subst, arith, ap}
 use Rattle.slot_writer.specs.Slots.{Programs, blocks_for}
 use Rattle.slot_writer.proofs.Behind.{range_blank, programs_written}
 use Rattle.slot_writer.proofs.writing.program_behind.Goals as goal

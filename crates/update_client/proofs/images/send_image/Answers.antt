@@ -12,7 +12,7 @@ use Rattle.update_client.specs.Takes.{FirstTake, PayloadFrontTakes, ImageStarts}
 use Rattle.update_client.proofs.ImagesTaking.{image-takes}
 use Rattle.update_client.proofs.Keeping.{keeps-called, keeps-stopped, keeps-then}
 use Rattle.update_client.proofs.Sparing.{spares-left}
-use Rattle.update_client.proofs.Stopped.{handed-on}
+use Rattle.base_core.proofs.Results.{handed-on}
 use Rattle.update_client.proofs.Unsent.{image-starts, unread-then}
 use Rattle.update_client.proofs.images.send_image.Goals as goal
 

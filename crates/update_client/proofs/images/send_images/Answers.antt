@@ -9,7 +9,7 @@ use Rattle.update_client.specs.Images.{no_entry}
 use Rattle.update_client.specs.Takes.{ImageTakes, ImageStarts, ImagesStart}
 use Rattle.update_client.proofs.Keeping.{keeps-none, keeps-then}
 use Rattle.update_client.proofs.SentImages.{images-none, images-more, images-stopped, images-done}
-use Rattle.update_client.proofs.Stopped.{handed-on}
+use Rattle.base_core.proofs.Results.{handed-on}
 use Rattle.update_client.proofs.Unsent.{images-start, unread-then}
 use Rattle.update_client.proofs.images.send_images.Goals as goal
 

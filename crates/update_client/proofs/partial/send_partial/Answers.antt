@@ -20,7 +20,7 @@ use Rattle.update_client.proofs.Named.{known-types}
 use Rattle.update_client.proofs.Present.{counted-by, present-have, rows-found, rows-some}
 use Rattle.update_client.proofs.WholeSending.{switches}
 use Rattle.update_client.proofs.WholePartly.{installs-over, over-early, over-unbegun, over-done, over-halted, over-started}
-use Rattle.update_client.proofs.Stopped.{handed-on}
+use Rattle.base_core.proofs.Results.{handed-on}
 use Rattle.update_client.proofs.partial.send_partial.Given as given
 use Rattle.update_client.proofs.partial.send_partial.Goals as goal
 use Rattle.update_client.proofs.partial.send_partial.Goals.{After-install}

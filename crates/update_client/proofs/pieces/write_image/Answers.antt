@@ -7,7 +7,7 @@ use Rattle.agent_calls.specs.Takes.{piece_at}
 use Rattle.update_client.specs.Pieces.{WritesPiece}
 use Rattle.update_client.proofs.WrittenImage.{first-none, first-more, image-stopped, image-done}
 use Rattle.update_client.proofs.Keeping.{keeps-none, keeps-ok, keeps-on, keeps-then}
-use Rattle.update_client.proofs.Stopped.{handed-on}
+use Rattle.base_core.proofs.Results.{handed-on}
 use Rattle.update_client.specs.Takes.{PayloadFrontTakes}
 use Rattle.update_client.proofs.Unsent.{front-takes, unread-then}
 use Rattle.update_client.proofs.pieces.write_image.Goals as goal

@@ -1,5 +1,5 @@
 use Rattle.std.proofs.Common.{◌≡◌, ◌+◌, ◌^◌, ◌<◌, ◌≤◌, List, length, Some, Err, sym, ap, subst, ◌∙◌}
-use Rattle.fwu_formats.specs.Layout.{ImageRow}
+use Rattle.fwu_formats.specs.Layout.{ImageRow, fits_layout}
 use Rattle.fwu_formats.specs.Package.{Entry}
 use Rattle.fwu_model.specs.Answer.{first_image_fault, skipped}
 use Rattle.agent_calls.specs.Shown.{device, fields, gone, moment}
@@ -7,7 +7,7 @@ use Rattle.update_client.specs.Choosing.{AreChosen, refused_image}
 use Rattle.update_client.specs.Halts.{flash_of}
 use Rattle.update_client.specs.Packages.{HoldsPayloads}
 use Rattle.update_client.specs.declared.stops.Sent.{Sent}
-use Rattle.update_client.specs.Takes.{writes_sent}
+use Rattle.update_client.specs.Takes.{writes_sent, writes_in}
 use Rattle.agent_machine.proofs.Showing.{shows-some}
 use Rattle.update_client.proofs.Chosen.{chosen_have}
 use Rattle.agent_machine.proofs.Spending.{call-spent, spent-then}
@@ -16,15 +16,13 @@ use Rattle.update_client.proofs.Spending.{goes-of, here-before, not-gone}
 use Rattle.agent_calls.proofs.Taking.{takes-begin}
 use Rattle.agent_calls.specs.Takes.{Takes, writes_to_begin}
 use Rattle.update_client.proofs.WholeSending.{installs-done, sends-early, sends-unbegun, sends-done, sends-halted, switches, whole-started}
-use Rattle.update_client.proofs.Stopped.{handed-on}
+use Rattle.base_core.proofs.Results.{handed-on}
 use Rattle.update_client.proofs.sending.send.Given as given
 use Rattle.update_client.proofs.sending.send.Goals as goal
 use Rattle.update_client.proofs.sending.send.Goals.{After-begin, After-install}
 use Rattle.agent_machine.specs.Moment.{Showing}
 use Rattle.std.specs.Prelude.{ℕ, IsTrue, IsFalse}
-use Rattle.fwu_formats.specs.Layout.{fits_layout}
 use Rattle.update_client.specs.Pieces.{SparesOthers}
-use Rattle.update_client.specs.Takes.{writes_in}
 use Rattle.update_client.proofs.ImagesTaking.{writes-chosen}
 use Rattle.update_client.proofs.Started.{Started, done-takes, halted-takes}
 

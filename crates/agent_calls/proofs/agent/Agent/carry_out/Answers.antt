@@ -4,12 +4,13 @@ use Rattle.meta_layout.proofs.Fits.{meta-fits}
 use Rattle.agent_kept.specs.Kept.{kept}
 use Rattle.agent_machine.specs.Stored.{CarriesOut}
 use Rattle.agent_machine.proofs.Beside.{metadata-blocks}
-use Rattle.agent_machine.proofs.StoredPlans.{is-meta-of, after-fitting, after-some, after-known, after-carried}
+use Rattle.agent_machine.proofs.StoredPlans.{after-fitting, after-some, after-known, after-carried}
+use Rattle.agent_machine.proofs.Room.{meta-of-session}
 use Rattle.agent_calls.specs.Shown.{fields, moment}
 use Rattle.agent_calls.proofs.agent.Agent.carry_out.Goals as goal
 
 pub settle-requires-clause-fits : goal.settle-requires-clause-fits
-settle-requires-clause-fits g c = is-meta-of (fields c.args.self.now) (c.args.self.now.fitting c.requires.here)
+settle-requires-clause-fits g c = meta-of-session (fields c.args.self.now) (c.args.self.now.fitting c.requires.here)
 
 pub trials_after-self-requires : goal.trials_after-self-requires
 trials_after-self-requires g c =

@@ -1,7 +1,8 @@
 use Rattle.std.specs.Prelude.{All, IsTrue, Ok, ◌≡◌}
 use Rattle.agent_calls.specs.Shown.{SpentBy, device, moment}
 use Rattle.agent_calls.specs.Takes.{CopiesTake}
-use Rattle.agent_calls.specs.Copies.{CopiesFirst, FillsBank}
+use Rattle.agent_calls.specs.Copies.{FillsBank}
+use Rattle.agent_calls.proofs.CopyingAll.{CopiesFirst}
 use Rattle.agent_calls.proofs.agent.Agent.copy_images.Given as goal
 
 abbrev pub invariant-loop-image : goal.invariant-loop-image

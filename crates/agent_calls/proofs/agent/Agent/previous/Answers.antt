@@ -5,7 +5,7 @@ use Rattle.agent_kept.specs.declared.kinds.Request.TheVariants as request
 use Rattle.agent_kept.specs.declared.kinds.Decision.TheVariants as decision
 use Rattle.agent_state.specs.Decides.{DecidesRequest}
 use Rattle.agent_machine.proofs.Answered.{layout-limits}
-use Rattle.agent_machine.proofs.StoredPlans.{is-meta-of}
+use Rattle.agent_machine.proofs.Room.{meta-of-session}
 use Rattle.agent_machine.proofs.StoredBack.{refused-meets-previous}
 use Rattle.agent_calls.specs.Shown.{fields}
 use Rattle.agent_calls.proofs.agent.Agent.previous.Goals as goal
@@ -17,7 +17,7 @@ decide-decision-requires-clause-some g c =
     omega (arith, (layout-limits a.layout fitting.layout).rows, ap (λ (l : List ImageRow). length l) fitting.rows)
 
 pub decide-decision-requires-clause-fits : goal.decide-decision-requires-clause-fits
-decide-decision-requires-clause-fits g c = is-meta-of (fields c.args.self.now) (c.args.self.now.fitting c.if-self.false)
+decide-decision-requires-clause-fits g c = meta-of-session (fields c.args.self.now) (c.args.self.now.fitting c.if-self.false)
 
 pub returns-in-Refused-clause-meets : goal.returns-in-Refused-clause-meets
 returns-in-Refused-clause-meets g c = λ here passes same.

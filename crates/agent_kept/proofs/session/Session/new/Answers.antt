@@ -1,16 +1,13 @@
-use Rattle.std.proofs.Common.{◌≡◌, ◌++◌, ℕ, false, List, length, take, get_or, replicate, sym, subst, arith}
+use Rattle.std.proofs.Common.{◌≡◌, ◌++◌, false, List, length, take, replicate, sym, subst, arith}
 use Rattle.std.proofs.lemmas.Grind.{common_steps}
 use Rattle.fwu_formats.specs.Layout.{ImageRow}
 use Rattle.agent_kept.specs.declared.parts.Handle.TheVariants.{Free}
 use Rattle.agent_kept.specs.Sound.{IsSoundKept}
-use Rattle.agent_kept.proofs.Sounds.{new-sound}
+use Rattle.agent_kept.proofs.Sounds.{new-sound, frees}
 use Rattle.agent_kept.proofs.session.Session.new.Goals as goal
 
 took : (xs ys zs : List ImageRow) → ys ≡ xs → take (length xs) (ys ++ zs) ≡ xs
 took xs ys zs e = grind (arith, common_steps)
-
-frees : (n place : ℕ) → get_or (replicate n Free) place Free ≡ Free
-frees n place = grind (arith, common_steps)
 
 pub invariant_of-result : goal.invariant_of-result
 invariant_of-result c = record {
