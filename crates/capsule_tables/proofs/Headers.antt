@@ -1,18 +1,43 @@
--- The headers, read range by range.
-use Rattle.std.proofs.Common.{◌≡◌, ◌∙◌, ◌≤◌, ◌<◌, ◌+◌, ℕ, Bool, true, false, cond, not, List, length, take, drop, ap, sym, refl, arith, Result, Ok, Err, Option, Some, None, ltb, le-ltb}
-use Rattle.std.specs.Prelude.{IfSome, IsErrAnd, nat_lt}
-use Rattle.base_core.specs.Bytes.{num_at, same_bytes}
+-- What the headers of a capsule say.
+use Rattle.std.proofs.Common.{◌≡◌, ◌≤◌, ◌+◌, ℕ, List, take, drop, ap, ◌∙◌, sym, subst, Result, Err, ◌<◌, Bool, true, false, cond, not, length, refl, arith, Ok, Option, Some, None, ltb, le-ltb}
+use Rattle.base_core.specs.Bytes.{num, num_at, same_bytes}
+use Rattle.fip_tables.proofs.Told.{part_of}
+use Rattle.std.specs.Prelude.{IsErrAnd, IfSome, nat_lt}
+use Rattle.std.proofs.lemmas.Result.{err_from_is_err_and}
+use Rattle.capsule_tables.specs.Answers.{IsCapsuleAnswer}
+use Rattle.fwu_formats.specs.declared.kinds.CapsuleFault.{CapsuleFault}
+use Rattle.capsule_tables.specs.declared.faults.CapsuleStop.{CapsuleStop}
+use Rattle.capsule_tables.specs.declared.faults.CapsuleStop.TheVariants as stop
 use Rattle.fip_tables.proofs.Steps.{is-less, skips, takes}
 use Rattle.fwu_formats.specs.Package.{Entry}
 use Rattle.fwu_formats.specs.Capsule.{Shape, fmp_guid, has_sizes, shape_in, shape_of, swapped}
 use Rattle.capsule_tables.specs.Ranges.{IsOfHeaders, IsRead, header_read, headers_read, item_read, shape_read, then_shape}
-use Rattle.capsule_tables.specs.declared.faults.CapsuleStop.{CapsuleStop}
-use Rattle.capsule_tables.specs.declared.faults.CapsuleStop.TheVariants as stop
-use Rattle.capsule_tables.proofs.Stops.{fault-answers}
-use Rattle.fwu_formats.specs.declared.kinds.CapsuleFault.{CapsuleFault}
 use Rattle.fwu_formats.specs.declared.kinds.CapsuleFault.TheVariants as fault
-use Rattle.capsule_tables.proofs.Windows.{num_in}
-use Rattle.fip_tables.proofs.Told.{part_of}
+
+-- ---- what a range of bytes says is what they say at its place
+
+pub num_in : (bytes : List ℕ) (at n k count : ℕ) → k + count ≤ n → num_at count (take n (drop at bytes)) k ≡ num_at count bytes (at + k)
+num_in bytes at n k count fits = ap num (part_of bytes at n k count fits)
+
+-- ---- answers that are handed on
+
+-- a fault that is handed on is the answer
+pub fault-answers : {T : Type 0} (r : Result T CapsuleStop) (f : CapsuleFault) (answer : Result T CapsuleFault) → IsErrAnd r (λ s. s ≡ stop.Fault f) → answer ≡ Err f → IsCapsuleAnswer r answer
+fault-answers r f answer is found =
+    let p = err_from_is_err_and r is in
+    let same : Err (stop.Fault f) ≡ r = sym (p.1 ∙ ap Err p.2) in
+    subst (λ x. IsCapsuleAnswer x answer) same found
+
+-- a stop is an answer wherever its fault is
+pub stop-answers : {T U : Type 0} (r : Result T CapsuleStop) (s : CapsuleStop) (one : Result U CapsuleFault) (answer : Result T CapsuleFault)
+    → r ≡ Err s → IsCapsuleAnswer {T = U} (Err s) one → ((f : CapsuleFault) → one ≡ Err f → answer ≡ Err f) → IsCapsuleAnswer r answer
+stop-answers r (stop.Fault f) one answer is found more = subst (λ x. IsCapsuleAnswer x answer) (sym is) (more f found)
+stop-answers r stop.ReadFailed one answer is found more = subst (λ x. IsCapsuleAnswer x answer) (sym is) tt
+
+pub handed-on : {T : Type 0} (r : Result T CapsuleStop) (s : CapsuleStop) → IsErrAnd r (λ x. x ≡ s) → r ≡ Err s
+handed-on r s is = let p = err_from_is_err_and r is in p.1 ∙ ap Err p.2
+
+-- ---- the headers, read range by range
 
 pub too-short : (bytes : List ℕ) → length bytes < 28 → shape_of bytes ≡ Err fault.ShortHeader
 unfolding shape_of

@@ -1,10 +1,6 @@
-pub mod Windows
 pub mod Headers
-pub mod Stops
 pub mod OneByOne
 pub mod Made
-pub mod MadeFaults
-pub mod MadeZeros
 pub mod ReadAgain
 pub mod Within
 pub mod Frames

@@ -16,7 +16,7 @@ use Rattle.fwu_formats.specs.Capsule.{Shape, after_headers, capsule_of, shape_of
 use Rattle.capsule_tables.specs.Ranges.{IsRead, good_entry, item_read}
 use Rattle.fwu_formats.specs.declared.kinds.CapsuleFault.{CapsuleFault}
 use Rattle.fwu_formats.specs.declared.kinds.CapsuleFault.TheVariants as fault
-use Rattle.capsule_tables.proofs.Windows.{num_in}
+use Rattle.capsule_tables.proofs.Headers.{num_in}
 
 -- ---- one item
 

@@ -18,33 +18,18 @@ use Rattle.fip_tables.specs.Packing.{is_nil, packed_part_at}
 use Rattle.fwu_formats.specs.Capsule.{Item, Shape, capsule_of, checked, entries_in, entry_in, fmp_guid, has_sizes, is_item, item_at, item_fault, item_place, places_end, shape_in, shape_of, swapped, usual_serial}
 use Rattle.capsule_tables.specs.Making.{IsCapsuleOf, MadeIsRead, capsule_bytes, capsule_size, capsule_front_bytes, headers_bytes, item_bytes, item_head, items_bytes, made_head, make_fault, places_bytes}
 use Rattle.fwu_formats.specs.declared.kinds.CapsuleFault.TheVariants as fault
-use Rattle.capsule_tables.proofs.MadeFaults.{parts-pass, size-passes}
-use Rattle.capsule_tables.proofs.MadeZeros.{few-parts, sizes, sizes-cons}
+use Rattle.capsule_tables.proofs.Made.{parts-pass, size-passes, few-parts, sizes, sizes-cons}
 use Rattle.capsule_tables.proofs.OneByOne.{capsule-is, passes-all}
 
 -- ---- a type turned round twice
 
 pub swapped-twice : (g : List ℕ) → length g ≡ 16 → swapped (swapped g) ≡ g
-swapped-twice [] long = absurd (omega (arith, long))
-swapped-twice (a ∷ []) long = absurd (omega (arith, long))
-swapped-twice (a ∷ b ∷ []) long = absurd (omega (arith, long))
-swapped-twice (a ∷ b ∷ c ∷ []) long = absurd (omega (arith, long))
-swapped-twice (a ∷ b ∷ c ∷ d ∷ []) long = absurd (omega (arith, long))
-swapped-twice (a ∷ b ∷ c ∷ d ∷ e ∷ []) long = absurd (omega (arith, long))
-swapped-twice (a ∷ b ∷ c ∷ d ∷ e ∷ f ∷ []) long = absurd (omega (arith, long))
-swapped-twice (a ∷ b ∷ c ∷ d ∷ e ∷ f ∷ g ∷ []) long = absurd (omega (arith, long))
 swapped-twice (a ∷ b ∷ c ∷ d ∷ e ∷ f ∷ g ∷ h ∷ rest) long = refl
+swapped-twice g long = absurd (omega (arith, long))
 
 pub swapped-length : (g : List ℕ) → length g ≡ 16 → length (swapped g) ≡ 16
-swapped-length [] long = absurd (omega (arith, long))
-swapped-length (a ∷ []) long = absurd (omega (arith, long))
-swapped-length (a ∷ b ∷ []) long = absurd (omega (arith, long))
-swapped-length (a ∷ b ∷ c ∷ []) long = absurd (omega (arith, long))
-swapped-length (a ∷ b ∷ c ∷ d ∷ []) long = absurd (omega (arith, long))
-swapped-length (a ∷ b ∷ c ∷ d ∷ e ∷ []) long = absurd (omega (arith, long))
-swapped-length (a ∷ b ∷ c ∷ d ∷ e ∷ f ∷ []) long = absurd (omega (arith, long))
-swapped-length (a ∷ b ∷ c ∷ d ∷ e ∷ f ∷ g ∷ []) long = absurd (omega (arith, long))
 swapped-length (a ∷ b ∷ c ∷ d ∷ e ∷ f ∷ g ∷ h ∷ rest) long = long
+swapped-length g long = absurd (omega (arith, long))
 
 -- ---- where the items begin
 

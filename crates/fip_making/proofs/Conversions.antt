@@ -1,9 +1,15 @@
--- What a capsule in a file gives, and what is made of it.
-use Rattle.std.proofs.Common.{◌≡◌, ℕ, List, [], Option, Some, None, Result, Ok, Err, map, refl, sym, ap, ◌∙◌}
+-- Packages and capsules that are made of one another.
+use Rattle.std.proofs.Common.{◌≡◌, ◌∙◌, List, Some, None, Ok, Err, length, map, refl, sym, ap, ℕ, [], Option, Result}
+use Rattle.fwu_formats.specs.Package.{Part, Toc}
+use Rattle.fip_tables.specs.Packing.{zeroed}
+use Rattle.fip_tables.specs.declared.faults.PackFault.{PackFault}
+use Rattle.capsule_tables.specs.Making.{capsule_bytes, make_fault}
+use Rattle.capsule_tables.proofs.Made.{same-make_fault}
+use Rattle.fip_making.specs.Values.{enclose_value, after, capsule_in, capsule_table, capsule_value, kept_part, pack_value, repackage_value, there}
+use Rattle.fip_making.specs.declared.stops.Stop.TheVariants as stop
 use Rattle.std.specs.Prelude.{unwrap_or}
 use Rattle.std.specs.List.{All}
 use Rattle.host_io.specs.Contents.{Directory}
-use Rattle.fwu_formats.specs.Package.{Toc}
 use Rattle.fip_tables.specs.Files.{Lacks, Tells}
 use Rattle.capsule_tables.specs.Answers.{IsCapsuleAnswer}
 use Rattle.fwu_formats.specs.Capsule.{capsule_of}
@@ -12,12 +18,22 @@ use Rattle.capsule_tables.specs.declared.faults.CapsuleStop.{CapsuleStop}
 use Rattle.capsule_tables.specs.declared.faults.CapsuleStop.TheVariants as read_stop
 use Rattle.capsule_tables.proofs.Within.{ends-within}
 use Rattle.fip_making.specs.Payloads.{HasEntry, bytes_in}
-use Rattle.fip_making.specs.Values.{after, capsule_in, capsule_table, capsule_value, enclose_value, kept_part, pack_value, repackage_value, there}
 use Rattle.fip_making.specs.declared.stops.Stop.{Stop}
-use Rattle.fip_making.specs.declared.stops.Stop.TheVariants as stop
 use Rattle.fip_making.proofs.Tables.{tells as tells-of}
 use Rattle.fip_making.proofs.Packings.{held-entries}
 use Rattle.fip_making.proofs.Repacking.{IsOpened, going-on, stopped, table_with}
+
+-- ---- payloads of capsules that are made
+
+-- sizes that fit a capsule, and sizes that don't
+module _ (ps os : List Part) (same : map zeroed ps ≡ os) where
+  pub encloses-zeroed : make_fault os ≡ None → enclose_value ps ≡ Ok (length ps, capsule_bytes ps)
+  unfolding enclose_value
+  encloses-zeroed none = let fits : make_fault ps ≡ None = sym (same-make_fault ps) ∙ ap make_fault same ∙ none in rw fits refl
+
+  pub encloses-not : (f : PackFault) → make_fault os ≡ Some f → enclose_value ps ≡ Err (stop.NotPacked f)
+  unfolding enclose_value
+  encloses-not f is = let fault : make_fault ps ≡ Some f = sym (same-make_fault ps) ∙ ap make_fault same ∙ is in rw fault refl
 
 -- ---- the table of a capsule in a file
 

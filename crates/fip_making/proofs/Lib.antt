@@ -1,15 +1,10 @@
 pub mod Conversions
-pub mod Enclosings
 pub mod Folds
-pub mod Makings
 pub mod ManifestLemmas
 pub mod Packings
-pub mod PartLemmas
 pub mod ReadsBy
-pub mod Refusing
 pub mod Repacking
-pub mod SourceFaults
 pub mod SourceLemmas
-pub mod Stopped
+pub mod Refusing
 pub mod Tables
-pub mod Whole
+pub mod Makings

@@ -1,5 +1,16 @@
--- Frames with payloads between their bytes.
-use Rattle.std.proofs.Common.{◌≡◌, ◌<◌, ◌∙◌, ℕ, zero, suc, List, [], ◌∷◌, Option, Some, Result, Ok, Err, get_or, length, map, arith, ap, refl, sym, subst}
+-- What is made of payloads.
+use Rattle.std.proofs.Common.{◌≡◌, ℕ, List, Option, Some, None, Ok, Err, Vec, inl, inr, subst, length, arith, refl, sym, ap, ◌∙◌, ◌<◌, zero, suc, [], ◌∷◌, Result, get_or, map}
+use Rattle.base_core.specs.Counts.{Rose}
+use Rattle.host_io.specs.Contents.{Directory, HasRange, Holds}
+use Rattle.host_io.specs.Whole.{HasFileCause, LacksFile}
+use Rattle.host_io.specs.declared.stops.ReadStop.{ReadStop}
+use Rattle.host_io.specs.declared.stops.ReadStop.TheVariants as read_stop
+use Rattle.std.specs.Global.{Global}
+use Rattle.fip_making.specs.Answers.{Gives}
+use Rattle.fip_making.specs.Values.{file_value, size_in, there}
+use Rattle.fip_making.specs.Stops.{unread_by, packed_by}
+use Rattle.fip_making.specs.declared.stops.Stop.TheVariants as stop
+use Rattle.fip_making.proofs.Tables.{sized, if-ok-as}
 use Rattle.std.proofs.lemmas.List.{length-map}
 use Rattle.std.specs.List.{All}
 use Rattle.fwu_formats.specs.Package.{Part}
@@ -9,19 +20,49 @@ use Rattle.fip_tables.specs.declared.faults.PackFault.{PackFault}
 use Rattle.fip_tables.specs.declared.faults.PackStop.{PackStop}
 use Rattle.fip_tables.specs.declared.faults.PackStop.TheVariants as pack
 use Rattle.fip_tables.specs.declared.frame.Frame.{Frame}
-use Rattle.host_io.specs.Contents.{Directory}
 use Rattle.host_io.specs.Joined.{Chunk, HasPiece, chunk_in, joined}
 use Rattle.host_io.specs.declared.joining.Piece.{Piece}
-use Rattle.fip_making.specs.Making.{MakesFile}
-use Rattle.fip_making.specs.Payloads.{IsMadeOf, IsThere, IsWholeFile, made_by, made_bytes, outline_of, part_told, payload_piece, payload_pieces}
-use Rattle.fip_making.specs.Stops.{packed_by}
+use Rattle.fip_making.specs.Payloads.{MakesFile, IsMadeOf, IsThere, IsWholeFile, made_by, made_bytes, outline_of, part_told, payload_piece, payload_pieces}
 use Rattle.fip_making.specs.declared.made.Made.{Made}
 use Rattle.fip_making.specs.declared.payloads.Payload.{Payload}
 use Rattle.fip_making.specs.declared.stops.Stop.{Stop}
-use Rattle.fip_making.specs.declared.stops.Stop.TheVariants as stop
-use Rattle.fip_making.proofs.Packings.{zeroed-all}
-use Rattle.fip_making.proofs.PartLemmas.{gives-same}
-use Rattle.fip_making.proofs.Tables.{if-ok-as}
+use Rattle.fip_making.proofs.Packings.{zeroed-all, gives-same}
+
+-- ---- whole files
+
+pub has-range : (o : Option Directory) (name : List ℕ) (n len : ℕ) → ((told : Directory) → o ≡ Some told → size_in told name ≡ Ok n) → len ≡ n → HasRange o name 0 len
+has-range None name n len knows e = tt
+has-range (Some d) name n len knows e = go (d name) refl
+  where
+    s : (bytes : List ℕ) × (d name ≡ Some bytes) × (length bytes ≡ n)
+    s = sized d name n (knows d refl)
+
+    go : (o : Option (List ℕ)) → d name ≡ o → HasRange (Some d) name 0 len
+    go None is = let no : ◌≡◌ {A = Option (List ℕ)} None (Some s.0) = sym is ∙ s.1 in cc
+    go (Some bytes) is = rw is (let same : bytes ≡ s.0 = (let both : ◌≡◌ {A = Option (List ℕ)} (Some bytes) (Some s.0) = sym is ∙ s.1 in cc) in let long = ap length same in omega (arith, long, s.2, e))
+
+-- what a file gives that was read whole
+pub value-read : (o : Option Directory) (told : Directory) (name bytes : List ℕ) → o ≡ Some told → Holds o name bytes → file_value told name ≡ Ok bytes
+unfolding file_value
+value-read None told name bytes e h = cc
+value-read (Some d) told name bytes e h = let same : d ≡ told = cc in ap there (sym (ap (λ (f : Directory). f name) same) ∙ h)
+
+missing : (told : Directory) (name : List ℕ) → told name ≡ None → file_value told name ≡ Err stop.FileFault
+unfolding file_value
+missing told name none = ap there none
+
+-- and one that was not
+module _ (o : Option Directory) (name : List ℕ) (before now : ℕ) where
+  pub value-unread : (told : Directory) (s : ReadStop) → o ≡ Some told → HasFileCause {T = Vec ℕ Global} o name before now (Err s)
+      → Gives (λ (v : Vec ℕ Global). v.items) (Rose before now) (file_value told name) (Err (unread_by s))
+  value-unread told read_stop.NoMemory e h = tt
+  value-unread told read_stop.Failed e h =
+      elim (h.failed refl) [
+        | inl rose ↦ inr rose
+        | inr lacks ↦ inl (missing told name (subst (λ (d : Option Directory). LacksFile d name) e lacks))
+      ]
+
+-- ---- frames with payloads between their bytes
 
 -- the pieces are the payloads' bytes, by the files
 chunks-told : (told : Directory) (gaps : List ℕ) (ps : List Payload) → map (chunk_in told) (payload_pieces gaps ps) ≡ chunks gaps (map (part_told told) ps)

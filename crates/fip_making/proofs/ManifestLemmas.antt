@@ -20,7 +20,7 @@ use Rattle.fip_making.specs.Values.{Image, after, file_value, image_in, image_li
 use Rattle.fip_making.specs.declared.stops.Stop.{Stop}
 use Rattle.fip_making.specs.declared.stops.Stop.TheVariants as stop
 use Rattle.fip_making.proofs.Folds.{before, before-none, each-more, ends-as, made-by, more-at, plain, stopped-by, stops-at, with_one}
-use Rattle.fip_making.proofs.Stopped.{err-of}
+use Rattle.fip_making.proofs.Refusing.{err-of}
 use Rattle.fip_making.proofs.Tables.{sized}
 
 -- the image of a name, by its file

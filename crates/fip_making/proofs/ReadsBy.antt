@@ -6,7 +6,6 @@ use Rattle.fwu_formats.specs.Package.{Toc}
 use Rattle.fip_tables.specs.Files.{Lacks, HasReadCause as PackageCause}
 use Rattle.fip_tables.specs.declared.toc.TocStop.{TocStop}
 use Rattle.fip_tables.specs.declared.toc.TocStop.TheVariants as toc
-use Rattle.capsule_tables.specs.declared.faults.CapsuleStop.TheVariants as items
 use Rattle.fip_making.specs.Answers.{AsksNothing, NoneFailed, ReadsOnly}
 use Rattle.host_io.specs.Access.{Access, Asks}
 use Rattle.host_io.specs.Reads.{ReadsFiles}
@@ -17,8 +16,7 @@ use Rattle.fip_making.specs.Stops.{stop_of_table}
 use Rattle.fip_making.specs.declared.stops.Stop.{Stop}
 use Rattle.fip_making.specs.declared.stops.Stop.TheVariants as stop
 use Rattle.fip_making.proofs.Tables.{rose-still}
-use Rattle.fip_making.proofs.Stopped.{err-same}
-use Rattle.fip_making.proofs.Refusing.{if-err-as}
+use Rattle.fip_making.proofs.Refusing.{err-same, if-err-as}
 
 -- a stop of a part is one of the whole, after parts that failed not once
 pub quiet-as : (X Y : Type 0) (s : Stop) (before between after : ℕ) → between ≡ before → NoneFailed {X = X} (Err s) between after → NoneFailed {X = Y} (Err s) before after

@@ -1,14 +1,27 @@
--- Which stops a part of a command may end with.
-use Rattle.std.proofs.Common.{◌≡◌, Result, Ok, Err}
-use Rattle.std.specs.Prelude.{IfErr}
+-- Which stops are whose, and what no longer asks for anything.
+use Rattle.std.proofs.Common.{◌≡◌, ◌∙◌, ap, Result, Err, Ok}
+use Rattle.std.specs.Prelude.{IsErrAnd, IfErr}
+use Rattle.std.proofs.lemmas.Result.{err_from_is_err_and}
+use Rattle.fip_making.specs.declared.stops.Stop.{Stop}
 use Rattle.fip_tables.specs.declared.toc.TocStop.{TocStop}
 use Rattle.fip_tables.specs.declared.toc.TocStop.TheVariants as toc
-use Rattle.capsule_tables.specs.declared.faults.CapsuleStop.TheVariants as items
 use Rattle.fip_making.specs.Refusals.{IsOfEnclosing, IsOfEntries, IsManifestStop, IsPackageStop, IsOfPackaging, IsOfPacking, IsOfRepacking, IsOfSource}
 use Rattle.fip_making.specs.Stops.{stop_of_table}
 use Rattle.fip_making.specs.Answers.{IsLate}
-use Rattle.fip_making.specs.declared.stops.Stop.{Stop}
 use Rattle.fip_making.specs.declared.stops.Stop.TheVariants as stop
+
+-- ---- a stop that is handed on
+
+pub err-same : {X : Type 0} {a b : Stop} → a ≡ b → ◌≡◌ {A = Result X Stop} (Err a) (Err b)
+err-same {X} e = ap (λ (s : Stop). Err s) e
+
+pub err-of : {X Y : Type 0} {a b : Stop} → ◌≡◌ {A = Result X Stop} (Err a) (Err b) → ◌≡◌ {A = Result Y Stop} (Err a) (Err b)
+err-of {X} {Y} {a} {b} e = let same : a ≡ b = cc in ap (λ (s : Stop). Err s) same
+
+pub handed-on : {T : Type 0} (r : Result T Stop) (s : Stop) → IsErrAnd r (λ x. x ≡ s) → r ≡ Err s
+handed-on r s is = let p = err_from_is_err_and r is in p.1 ∙ ap Err p.2
+
+-- ---- which stops a part of a command may end with
 
 -- a stop of a part is one of the whole
 pub if-err-as : {X : Type 0} (r : Result X Stop) (P Q : Stop → Type 0) → ((s : Stop) → P s → Q s) → IfErr r P → IfErr r Q

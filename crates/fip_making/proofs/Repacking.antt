@@ -15,7 +15,7 @@ use Rattle.fip_making.specs.Values.{after, first_missing, is_named, kept_part, p
 use Rattle.fip_making.specs.declared.stops.Stop.{Stop}
 use Rattle.fwu_formats.proofs.Tables.{ends-within}
 use Rattle.fip_making.proofs.Packings.{held-entries, held-stored, held-there}
-use Rattle.fip_making.proofs.Stopped.{err-of}
+use Rattle.fip_making.proofs.Refusing.{err-of}
 
 -- ---- a table that has all named entries
 

@@ -1,5 +1,8 @@
--- Reading a package from the source.
-use Rattle.std.proofs.Common.{◌≡◌, inl, inr, ◌≤◌, ◌<◌, ◌+◌, ℕ, List, [], ◌++◌, Option, Result, Ok, Err, true, false, length, nat_lt, arith, refl, ◌∙◌, length-append}
+-- What a reading of the source gives.
+use Rattle.std.proofs.Common.{◌≡◌, ◌≢◌, ℕ, Result, Ok, Err, ap, refl, inl, inr, ◌≤◌, ◌<◌, ◌+◌, List, [], ◌++◌, Option, true, false, length, nat_lt, arith, ◌∙◌, length-append}
+use Rattle.fip_making.specs.Answers.{source_failed, source_failures}
+use Rattle.fip_making.specs.declared.stops.Stop.{Stop}
+use Rattle.fip_making.specs.declared.stops.Stop.TheVariants as stop
 use Rattle.std.specs.Io.KnownBytes.{Consumes, IsAtEnd}
 use Rattle.std.proofs.KnownBytes.{Consumes-nil, Consumes-trans}
 use Rattle.std.proofs.lemmas.Bool.Decides.{nat_tests}
@@ -8,10 +11,22 @@ use Rattle.fwu_formats.specs.Package.{Toc, toc_of}
 use Rattle.fwu_formats.specs.declared.kinds.FipFault.{FipFault}
 use Rattle.fip_tables.specs.Answers.{decided}
 use Rattle.fip_tables.specs.Stream.{Fed, Stream}
-use Rattle.fip_making.specs.Source.{SourceEndsAs, FedSome}
+use Rattle.fip_making.specs.Seen.{SourceEndsAs, FedSome}
 use Rattle.fip_making.specs.Values.{GivenTo, StopsInTime, given_table, source_limit}
-use Rattle.fip_making.specs.declared.stops.Stop.{Stop}
-use Rattle.fip_making.specs.declared.stops.Stop.TheVariants as stop
+
+-- ---- how often a call of the source failed in a part that reads it
+
+-- another stop is no failure of the source
+pub quiet : (n : ℕ) (s : Stop) → s ≢ stop.FileFault → n ≡ source_failed s n
+quiet n stop.FileFault other = absurd (other refl)
+quiet n s other = refl
+
+-- nor is the end of what was given
+pub ended-quiet : {X : Type 0} (r : Result X Stop) (n : ℕ) → (◌≡◌ {A = Result X Stop} r (Err stop.FileFault) → ⊥) → n ≡ source_failures r n
+ended-quiet (Ok x) n other = refl
+ended-quiet (Err s) n other = quiet n s (λ e. other (ap (λ (x : Stop). Err x) e))
+
+-- ---- reading a package from the source
 
 -- what the source gave so far: all of it was fed, and nothing is decided
 pub record HasGiven (was now : Option (List ℕ)) (stream : Stream) (count : ℕ) : Type 0 where

@@ -23,9 +23,8 @@ IsLate s = ⊥
 
 -- no call of the files failed in a part of a command that ended so, unless it ended for a file's fault
 abbrev pub NoneFailed : {X : Type 0} → Result X Stop → ℕ → ℕ → Type 0
-NoneFailed (Ok x) before after = after ≡ before
 NoneFailed (Err FileFault) before after = ⊤
-NoneFailed (Err s) before after = after ≡ before
+NoneFailed result before after = after ≡ before
 
 -- A part that reads alone answers, over files that tell nothing, that a file failed only where faults rose. It answers neither
 -- usage nor that the sink failed. At most one call of the files fails.

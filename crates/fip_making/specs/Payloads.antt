@@ -1,13 +1,16 @@
--- The payloads of a package or a capsule to come, and what told files have of them.
-use Rattle.std.specs.Prelude.{◌≡◌, ℕ, List, [], Option, Some, length, map, take, drop, replicate, unwrap_or}
+-- The payloads of a package or a capsule to come, and what told files have of them. What is made of them asks for no file.
+use Rattle.std.specs.Prelude.{◌≡◌, ℕ, List, [], Option, Some, Result, IfOk, length, map, take, drop, replicate, unwrap_or}
 use Rattle.std.specs.List.{All, zip}
 use Rattle.host_io.specs.Contents.{Directory, HasRange}
 use Rattle.host_io.specs.Joined.{HasPiece, chunk_in, joined}
 use Rattle.host_io.specs.declared.joining.Piece.{Piece}
 use Rattle.fip_tables.specs.declared.frame.Frame.{Frame}
 use Rattle.fwu_formats.specs.Package.{Entry, Part}
+use Rattle.fip_making.specs.Answers.{AsksNothing, Gives}
+use Rattle.fip_making.specs.Refusals.{IsOfPacking}
 use Rattle.fip_making.specs.declared.made.Made.{Made}
 use Rattle.fip_making.specs.declared.payloads.Payload.{Payload}
+use Rattle.fip_making.specs.declared.stops.Stop.{Stop}
 
 -- the bytes of a file, by the files, and none of one that isn't there
 abbrev pub bytes_in : Directory → List ℕ → List ℕ
@@ -60,3 +63,12 @@ pub record IsWholeFile (told : Option Directory) (m : Made) : Type 0 where
   pub counted : m.count ≡ length m.pieces.items
   pub there : All (HasPiece told) m.pieces.items
   pub sized : (files : Directory) → told ≡ Some files → m.frame.size ≡ length (made_bytes files m)
+
+-- A file of so many payloads is made, or it is said why none is. `HasAll` is for files that have the payloads.
+pub record MakesFile (HasAll : Option Directory → Type 0) (value : Directory → Result (ℕ × List ℕ) Stop) (number : ℕ)
+    (result : Result Made Stop) : Type 0 where
+  -- by files that have them, what is made, or why nothing is
+  pub told : (told : Directory) → HasAll (Some told) → Gives (made_by told) ⊥ (value told) result
+  pub whole : (told : Option Directory) → HasAll told → IfOk result (IsWholeFile told)
+  pub count : IfOk result (λ m. m.count ≡ number)
+  pub asks : AsksNothing IsOfPacking result

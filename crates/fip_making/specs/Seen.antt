@@ -1,37 +1,33 @@
--- What a part of a command answers, as files and a source tell it. A word `GivesIn` is `Gives` with what those tell and count:
--- it takes how their types tell it, and each of them before and after.
-use Rattle.std.specs.Prelude.{◌≡◌, ◌≢◌, ◌≤◌, ℕ, List, Some, Result, Err, IfErr}
+-- What a part of a command answers, as files and a source tell it. A word `GivenToIn` is `GivenTo` with what those tell and
+-- count: it takes how their types tell it, and each of them before and after.
+use Rattle.std.specs.Prelude.{◌≡◌, ◌≢◌, ◌≤◌, ℕ, List, ◌++◌, Option, Some, Result, Ok, Err, IfErr, length}
+use Rattle.std.specs.Io.KnownBytes.{Consumes, IsAtEnd}
 use Rattle.base_core.specs.Counts.{Rose}
-use Rattle.fip_tables.specs.Stream.{Stream}
+use Rattle.fwu_formats.specs.Package.{Toc, toc_of}
+use Rattle.fip_tables.specs.Answers.{decided}
+use Rattle.fip_tables.specs.Stream.{Fed, Stream}
 use Rattle.host_io.specs.Access.{Access, Asks}
 use Rattle.host_io.specs.Contents.{Directory}
 use Rattle.host_io.specs.Once.{ReadsOnce}
 use Rattle.host_io.specs.Reads.{ReadsFiles}
 use Rattle.host_io.specs.declared.files.Files as files
 use Rattle.host_io.specs.declared.source.Source as source
-use Rattle.fip_making.specs.Source.{FedSome}
 use Rattle.fip_making.specs.Answers.{Gives, ReadsOnly, source_failures}
 use Rattle.fip_making.specs.Refusals.{IsOfSource}
-use Rattle.fip_making.specs.Values.{GivenTo}
+use Rattle.fip_making.specs.Values.{GivenTo, given_table}
 use Rattle.fip_making.specs.declared.stops.Stop.{Stop}
-use Rattle.fip_making.specs.declared.stops.Stop.TheVariants.{SinkFault, Usage}
-
-abbrev pub ReadsOnlyIn : {H X : Type 0} → files.Ghosts H → H → H → Result X Stop → Type 0
-ReadsOnlyIn h old new result = ReadsOnly (h.contents old) (h.contents new) (h.faults old) (h.faults new) result
-
-abbrev pub GivesIn : {H X Y : Type 0} → files.Ghosts H → (X → Y) → Result Y Stop → H → H → Result X Stop → Type 0
-GivesIn h view value old new result = Gives view (Rose (h.faults old) (h.faults new)) value result
+use Rattle.fip_making.specs.declared.stops.Stop.TheVariants as stop
 
 -- where files are told, a part that reads them alone answers of a value that they determine
 abbrev pub AsTold : {H X Y : Type 0} → files.Ghosts H → (Directory → X → Y) → (Directory → Result Y Stop) → H → H → Result X Stop
     → Type 0
 AsTold h view value old new result =
-    (told : Directory) → h.contents old ≡ Some told → GivesIn h (view told) (value told) old new result
+    (told : Directory) → h.contents old ≡ Some told → Gives (view told) (Rose (h.faults old) (h.faults new)) (value told) result
 
 -- What a part of a command leaves that reads files alone, and how it may end, whatever files they are.
 pub record ReadsFilesAlone {H X : Type 0} (h : files.Ghosts H) (IsOther : Access → Type 0) (IsOwn : Stop → Type 0)
     (old new : H) (result : Result X Stop) : Type 0 where
-  pub only : ReadsOnlyIn h old new result
+  pub only : ReadsOnly (h.contents old) (h.contents new) (h.faults old) (h.faults new) result
   -- no other access is made
   pub files : ReadsFiles h IsOther old new
   -- it ends with a stop of its own
@@ -41,9 +37,21 @@ pub record ReadsFilesAlone {H X : Type 0} (h : files.Ghosts H) (IsOther : Access
 abbrev pub ReadsOne : {H X : Type 0} → files.Ghosts H → List ℕ → (Stop → Type 0) → H → H → Result X Stop → Type 0
 ReadsOne h name IsOwn old new result = ReadsFilesAlone h (λ access. access ≢ Asks name) IsOwn old new result
 
-abbrev pub FedSomeIn : {I : Type 0} → source.Ghosts I → Stream → List ℕ → List ℕ → I → I → Result ℕ Stop → Type 0
-FedSomeIn i stream given piece old new result =
-    FedSome stream given piece (i.left old) (i.left new) (Rose (i.faults old) (i.faults new)) result
+-- The source gave a piece after what it had given, and the stream was fed it. None only at the end.
+abbrev pub FedSome : Stream → List ℕ → List ℕ → Option (List ℕ) → Option (List ℕ) → Type 0 → Result ℕ Stop → Type 0
+FedSome stream given piece was left source-rose (Ok n) =
+    Consumes was left piece × (length piece ≡ n) × (n ≡ 0 → IsAtEnd left) × Fed stream (given ++ piece)
+    × (decided (toc_of (given ++ piece)) ≡ Ok tt)
+FedSome stream given piece was left source-rose (Err (stop.NotFip f)) =
+    Consumes was left piece × (length piece ≤ 4096) × (decided (toc_of (given ++ piece)) ≡ Err f)
+FedSome stream given piece was left source-rose (Err stop.FileFault) = Consumes was left piece × (length piece ≤ 4096) × source-rose
+FedSome stream given piece was left source-rose (Err s) = ⊥
+
+-- what is answered where the source is at its end
+abbrev pub SourceEndsAs : List ℕ → Result (Toc × ℕ) Stop → Type 0
+SourceEndsAs given (Ok t) = given_table given ≡ Ok t
+SourceEndsAs given (Err (stop.NotFip f)) = given_table given ≡ Err (stop.NotFip f)
+SourceEndsAs given (Err s) = ⊥
 
 abbrev pub GivenToIn : {I X Y : Type 0} → source.Ghosts I → (X → Y) → (List ℕ → Result Y Stop) → I → I → Result X Stop → List ℕ
     → Type 0
@@ -56,6 +64,6 @@ pub record ReadsGiven {I X : Type 0} (i : source.Ghosts I) (old new : I) (result
   pub once : ReadsOnce i old new
   pub later : i.faults old ≤ i.faults new
   pub count : i.faults new ≡ source_failures result (i.faults old)
-  pub usage : result ≡ Err Usage → ⊥
-  pub sink : result ≡ Err SinkFault → ⊥
+  pub usage : result ≡ Err stop.Usage → ⊥
+  pub sink : result ≡ Err stop.SinkFault → ⊥
   pub refusals : IfErr result IsOfSource

@@ -2,8 +2,7 @@
 ghost use Rattle.std.specs.Prelude.{◌≡◌, All, IfOk, length, map};
 ghost use Rattle.fwu_formats.specs.Package.{Toc};
 ghost use Rattle.capsule_tables.specs.Answers.{IsSomeTable};
-ghost use Rattle.fip_making.specs.Payloads.{HasEntry, IsWholeFile, bytes_in, made_by};
-ghost use Rattle.fip_making.specs.Making.{MakesFile};
+ghost use Rattle.fip_making.specs.Payloads.{HasEntry, IsWholeFile, bytes_in, made_by, MakesFile};
 ghost use Rattle.fip_making.specs.Values.{IsTableOfSome, capsule_value, enclose_value, kept_part, pack_value, repackage_value};
 ghost use Rattle.fip_making.specs.Refusals.{IsOfEnclosing, IsOfPackaging};
 ghost use Rattle.fip_making.specs.Seen.{AsTold, ReadsOne};

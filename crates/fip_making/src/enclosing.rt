@@ -1,7 +1,6 @@
 //! Capsules that are made of payloads, by their sizes: no file is read for them.
 ghost use Rattle.std.specs.Prelude.{All, length, map};
-ghost use Rattle.fip_making.specs.Making.{MakesFile};
-ghost use Rattle.fip_making.specs.Payloads.{IsThere, part_told};
+ghost use Rattle.fip_making.specs.Payloads.{MakesFile, IsThere, part_told};
 ghost use Rattle.fip_making.specs.Values.{enclose_value};
 
 use crate::made::Made;

@@ -1,7 +1,6 @@
 //! Packages that are made of payloads, by their sizes: no file is read for them.
 ghost use Rattle.std.specs.Prelude.{◌≡◌, All, IfOk, length, map};
-ghost use Rattle.fip_making.specs.Making.{MakesFile};
-ghost use Rattle.fip_making.specs.Payloads.{IsThere, outline_of, part_told};
+ghost use Rattle.fip_making.specs.Payloads.{MakesFile, IsThere, outline_of, part_told};
 ghost use Rattle.fip_making.specs.Values.{pack_value};
 
 use crate::made::Made;

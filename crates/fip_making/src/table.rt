@@ -1,15 +1,15 @@
 //! The table of contents of a package, from a file or from the source, or of a capsule.
 ghost use Rattle.std.specs.Prelude.{◌≡◌, ◌≤◌, ◌<◌, ◌+◌, ◌^◌, ◌∷◌, [], All, IfOk, List, Some, Ok, Err, length, ℕ, ◌++◌};
 ghost use Rattle.std.specs.Io.KnownBytes.{Consumes, IsAtEnd};
+ghost use Rattle.base_core.specs.Counts.{Rose};
 ghost use Rattle.fwu_formats.specs.Package.{toc_of};
 ghost use Rattle.fip_tables.specs.Answers.{decided};
 ghost use Rattle.capsule_tables.specs.Answers.{IsSomeTable};
 ghost use Rattle.fip_tables.specs.Stream.{Fed};
 ghost use Rattle.fip_making.specs.Refusals.{IsOfCapsule, IsPackageStop, IsOfSource, Unstarved};
-ghost use Rattle.fip_making.specs.Seen.{AsTold, FedSomeIn, GivenToIn, ReadsGiven, ReadsOne};
+ghost use Rattle.fip_making.specs.Seen.{AsTold, FedSome, GivenToIn, ReadsGiven, ReadsOne, SourceEndsAs};
 ghost use Rattle.fip_making.specs.Answers.{AsksNothing, IsLate};
 ghost use Rattle.fip_making.specs.Values.{StopsInTime, after, capsule_in, given_table, size_in, sized_table, source_limit, IsTableOfSome};
-ghost use Rattle.fip_making.specs.Source.{SourceEndsAs};
 ghost use Rattle.fip_making.specs.declared.stops.Stop.TheVariants as stop;
 
 use crate::stops::Stop;
@@ -59,7 +59,8 @@ fn feed_some<I: Source>(source: &mut I, stream: &mut StreamToc) -> Result<usize,
     requires room { stream.old.count ≤ source_limit }
     ensures few { IfOk result (λ n. n ≤ 4096) }
     ensures fed { (given : List ℕ) → Fed stream.old given
-        → (piece : List ℕ) × FedSomeIn I.Source stream.new given piece source.old source.new result }
+        → (piece : List ℕ) × FedSome stream.new given piece (I.left source.old) (I.left source.new)
+        (Rose (I.faults source.old) (I.faults source.new)) result }
     ensures made { IfOk result (λ n. I.reads source.old source.new (Some n ∷ [])) }
     ensures source { ReadsGiven I.Source source.old source.new result }
     ensures memory { result ≡ Err stop.NoMemory → ⊥ }

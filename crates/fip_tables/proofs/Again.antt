@@ -1,6 +1,6 @@
 -- Parts that have no fault are read again: they fit a package.
-use Rattle.std.proofs.Common.{◌≡◌, ◌<◌, ◌≤◌, ℕ, suc, Bool, true, false, not, ◌&&◌, ◌==◌, List, [], ◌∷◌, length, get_or, map, Option, Some, None, IsTrue, refl, sym, ap, ◌∙◌, arith, eqb-true, eq-eqb, ltb, ltb-true, ltb-false}
-use Rattle.std.proofs.lemmas.Bool.{and_from, and_parts, or_parts, or_from}
+use Rattle.std.proofs.Common.{◌≡◌, ◌<◌, ◌≤◌, ℕ, suc, Bool, true, false, not, ◌&&◌, ◌==◌, List, [], ◌∷◌, length, get_or, map, Option, Some, None, IsTrue, inl, inr, refl, sym, ap, ◌∙◌, arith, eqb-true, eq-eqb, ltb, ltb-false}
+use Rattle.std.proofs.lemmas.Bool.{and_from, and_parts, cases_lt, or_parts, or_from}
 use Rattle.std.proofs.lemmas.List.Sums.{fails_before_first}
 use Rattle.std.proofs.lemmas.List.FromFn.{length-range_with_len}
 use Rattle.std.specs.Prelude.{position, if◌then◌else◌}
@@ -18,52 +18,43 @@ use Rattle.fip_tables.proofs.Plans.{packed-length}
 
 -- ---- what passes has none of the faults
 
-some-none : (f : PackFault) (o : Option PackFault) → o ≡ Some f → o ≡ None → ⊥
-some-none f o e g = let h : Some f ≡ None = sym e ∙ g in absurd cc
+-- there is none where each would be against what is known, and so for a test, and for an order
+pub none-of : {X : Type 0} (o : Option X) → ((x : X) → o ≡ Some x → ⊥) → o ≡ None
+none-of None h = refl
+none-of (Some x) h = absurd (h x refl)
+
+holds : (b : Bool) → (b ≡ false → ⊥) → b ≡ true
+holds true h = refl
+holds false h = absurd (h refl)
+
+pub at-most : (a b : ℕ) → (a < b → ⊥) → b ≤ a
+at-most a b h = elim (cases_lt a b) [
+  | inl lt ↦ absurd (h lt)
+  | inr le ↦ le
+]
+
+pub some-none : {o : Option PackFault} → o ≡ None → (f : PackFault) → o ≡ Some f → ⊥
+some-none ok f e = let h : Some f ≡ None = sym e ∙ ok in absurd cc
 
 module _ (parts : List Part) (ok : parts_fault parts ≡ None) where
   pub count-passes : length parts ≤ entry_limit
-  count-passes = go (ltb entry_limit (length parts)) refl
-    where
-      go : (b : Bool) → ltb entry_limit (length parts) ≡ b → length parts ≤ entry_limit
-      go true e = absurd (some-none _ _ (too-many parts (ltb-true entry_limit (length parts) e)) ok)
-      go false e = ltb-false entry_limit (length parts) e
+  count-passes = at-most _ _ (λ lt. some-none ok _ (too-many parts lt))
 
   pub repeat-passes : first_repeat parts ≡ None
-  repeat-passes = go (first_repeat parts) refl
-    where
-      go : (o : Option ℕ) → first_repeat parts ≡ o → first_repeat parts ≡ None
-      go None e = e
-      go (Some i) e = absurd (some-none _ _ (repeat-fault parts count-passes i e) ok)
+  repeat-passes = none-of _ (λ i e. some-none ok _ (repeat-fault parts count-passes i e))
 
   pub nil-passes : position is_nil parts ≡ None
-  nil-passes = go (position is_nil parts) refl
-    where
-      go : (o : Option ℕ) → position is_nil parts ≡ o → position is_nil parts ≡ None
-      go None e = e
-      go (Some i) e = absurd (some-none _ _ (nil-fault parts count-passes repeat-passes i e) ok)
+  nil-passes = none-of _ (λ i e. some-none ok _ (nil-fault parts count-passes repeat-passes i e))
 
 module _ (parts : List Part) (a : ℕ) (ok : pack_fault parts a ≡ None) where
   parts-pass : parts_fault parts ≡ None
-  parts-pass = go (parts_fault parts) refl
-    where
-      go : (o : Option PackFault) → parts_fault parts ≡ o → parts_fault parts ≡ None
-      go None e = e
-      go (Some f) e = absurd (some-none _ _ (shared-fault parts a f e) ok)
+  parts-pass = none-of _ (λ f e. some-none ok f (shared-fault parts a f e))
 
   align-passes : is_alignment a ≡ true
-  align-passes = go (is_alignment a) refl
-    where
-      go : (b : Bool) → is_alignment a ≡ b → is_alignment a ≡ true
-      go true e = e
-      go false e = absurd (some-none _ _ (align-fault parts a parts-pass e) ok)
+  align-passes = holds _ (λ e. some-none ok _ (align-fault parts a parts-pass e))
 
   size-passes : length (packed 0 0 parts a) ≤ package_limit
-  size-passes = go (ltb package_limit (length (packed 0 0 parts a))) refl
-    where
-      go : (b : Bool) → ltb package_limit (length (packed 0 0 parts a)) ≡ b → length (packed 0 0 parts a) ≤ package_limit
-      go true e = absurd (some-none _ _ (size-fault parts a parts-pass align-passes (ltb-true package_limit _ e)) ok)
-      go false e = ltb-false package_limit _ e
+  size-passes = at-most _ _ (λ lt. some-none ok _ (size-fault parts a parts-pass align-passes lt))
 
 -- ---- each part
 

@@ -11,8 +11,7 @@ use Rattle.fwu_formats.specs.Package.{Entry, Part, fip_name, packed, packed_entr
 use Rattle.host_io.specs.Joined.{Chunk, joined}
 use Rattle.fip_tables.specs.Packing.{AreOutlines, zeroed}
 use Rattle.fip_tables.specs.Frame.{AreInOrder, AreSixteen, chunks, toc_entry_bytes, gaps_from, last_end, marker, sizes_of, table_end, tabled, up_to}
-use Rattle.fip_tables.proofs.Plans.{outlines-sixteen, packed-length, sixteen-zeroed, table-length, table-spelled}
-use Rattle.fip_tables.proofs.Zeros.{length-zeroed, same-end, same-entries}
+use Rattle.fip_tables.proofs.Plans.{outlines-sixteen, packed-length, sixteen-zeroed, table-length, table-spelled, length-zeroed, same-end, same-entries}
 
 -- ---- the order of the payloads
 

@@ -7,8 +7,7 @@ use Rattle.fwu_formats.specs.Layout.{nil_guid}
 use Rattle.fwu_formats.specs.Package.{Entry, Toc, entry_at, entry_limit, entries_from, has_guid}
 use Rattle.fwu_formats.specs.declared.kinds.FipFault.{FipFault}
 use Rattle.fwu_formats.specs.declared.kinds.FipFault.TheVariants as fault
-use Rattle.fip_tables.specs.Decoded.{entry_from, IsHeaderOf}
-use Rattle.fip_tables.specs.Stream.{HasLastingFault, IsAmongEntries, IsPastMarker}
+use Rattle.fip_tables.specs.Stream.{entry_from, IsHeaderOf, HasLastingFault, IsAmongEntries, IsPastMarker}
 use Rattle.fip_tables.proofs.Fronts.{entry-front, entry-of-group, header-front, num-front}
 use Rattle.fip_tables.proofs.Steps.{another-is-too-many, bad-name, by-fault, equal-is-duplicate, marker-ends, new-is-read, zero-serial}
 
@@ -103,8 +102,4 @@ after-bad-header fault.ZeroSerial group bytes is whole header = record {
       zero-serial (bytes ++ rest) (omega (arith, all, length-append bytes rest)) (num-front 4 bytes rest 0 (omega (arith, all)) ∙ parts.0) (num-front 4 bytes rest 4 (omega (arith, all)) ∙ parts.1);
   lasts = refl;
 }
-after-bad-header fault.ShortHeader group bytes is whole header = absurd header
-after-bad-header (fault.NoEnd i) group bytes is whole header = absurd header
-after-bad-header fault.TooMany group bytes is whole header = absurd header
-after-bad-header (fault.Duplicate i) group bytes is whole header = absurd header
-after-bad-header (fault.Beyond i) group bytes is whole header = absurd header
+after-bad-header f group bytes is whole header = absurd header

@@ -1,14 +1,10 @@
 pub mod Fronts
 pub mod Steps
 pub mod Groups
-pub mod Kept
-pub mod Ends
-pub mod Stand
 pub mod Told
-pub mod Feeding
+pub mod Stand
 pub mod Firsts
 pub mod Plans
 pub mod Filled
-pub mod Zeros
 pub mod Again
 pub mod Chosen

@@ -9,7 +9,7 @@ use Rattle.fwu_formats.specs.Package.{Entry, Toc, entry_at, entry_limit, entries
 use Rattle.fwu_formats.specs.declared.kinds.FipFault.{FipFault}
 use Rattle.fwu_formats.specs.declared.kinds.FipFault.TheVariants as fault
 use Rattle.fip_tables.specs.Answers.{decided, has_marker, lasting}
-use Rattle.fip_tables.specs.Law.{FaultsStand, TablesStandByLength}
+use Rattle.fip_tables.specs.Again.{FaultsStand, TablesStandByLength}
 use Rattle.fip_tables.specs.Stream.{HasHeader}
 use Rattle.fip_tables.proofs.Fronts.{entry-front, header-front, num-front}
 use Rattle.fip_tables.proofs.Steps.{another-is-too-many, bad-name, by-entries, by-table, equal-is-duplicate, is-equal, marker-ends, new-is-read, no-room, short-header, zero-serial}
@@ -102,13 +102,10 @@ by-header bytes P short bad none good =
     ]
 
 lasting-is : (g f : FipFault) → lasting g ≡ Err f → g ≡ f
-lasting-is fault.ShortHeader f e = absurd cc
-lasting-is fault.BadName f e = cc
-lasting-is fault.ZeroSerial f e = cc
-lasting-is (fault.NoEnd i) f e = absurd cc
-lasting-is fault.TooMany f e = cc
-lasting-is (fault.Duplicate i) f e = cc
-lasting-is (fault.Beyond i) f e = absurd cc
+lasting-is fault.ShortHeader f e = cc
+lasting-is (fault.NoEnd i) f e = cc
+lasting-is (fault.Beyond i) f e = cc
+lasting-is g f e = cc
 
 -- the answer of bytes with a good header, by what their entries are
 undecided : (bytes : List ℕ) (toc : Toc) (o : Option ℕ) (f : FipFault) → decided (within bytes toc o) ≡ Err f → ⊥

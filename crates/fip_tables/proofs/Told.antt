@@ -1,10 +1,52 @@
--- What a file tells.
-use Rattle.std.proofs.Common.{◌≡◌, ◌≤◌, ◌+◌, ◌-◌, ◌++◌, ℕ, List, Option, Some, None, option_map, IfSome, length, take, drop, arith, sym, ap, subst, ◌∙◌}
-use Rattle.std.proofs.lemmas.List.{drop-drop, drop-take, take-take, take-append-drop}
-use Rattle.std.proofs.lemmas.Option.{same_Some}
+-- What is told of a file that is read.
+use Rattle.std.proofs.Common.{◌≡◌, ◌≤◌, ◌+◌, ◌++◌, ◌-◌, ◌∙◌, ap, sym, ℕ, List, length, take, drop, append_assoc, [], Option, Result, Err, refl, arith, Some, None, option_map, IfSome, subst}
+use Rattle.std.proofs.lemmas.List.{take-append-drop, take-take, drop-drop, drop-take}
 use Rattle.std.proofs.Math.Seq.{take-add}
+use Rattle.fip_tables.specs.Stream.{ReaderHolds, HoldsPartOfGroup, Reader, Stream}
 use Rattle.host_io.specs.Contents.{Directory, TellsRange, TellsSize}
-use Rattle.fip_tables.specs.Files.{Tells}
+use Rattle.host_io.specs.Reads.{ReadsFile}
+use Rattle.host_io.specs.declared.files.Files.{Ghosts}
+use Rattle.fwu_formats.specs.Package.{toc_of}
+use Rattle.fwu_formats.specs.declared.kinds.FipFault.{FipFault}
+use Rattle.fip_tables.specs.declared.toc.TocStop.{TocStop}
+use Rattle.fip_tables.specs.declared.toc.TocStop.TheVariants as stop
+use Rattle.fip_tables.specs.Files.{HasFed, IsTocAnswer, IsTableFault, IsOfSome, Tells}
+use Rattle.std.proofs.lemmas.Option.{same_Some}
+
+-- ---- what the loops keep
+
+-- so much of the piece is read
+pub record HasReadOn (before now : Reader) (piece : List ℕ) (at : ℕ) : Type 0 where
+  pub inside : at ≤ length piece
+  pub partial : HoldsPartOfGroup now
+  pub holds : (bytes : List ℕ) → ReaderHolds before bytes → ReaderHolds now (bytes ++ take at piece)
+
+pub take-further : (i n : ℕ) (xs : List ℕ) → n ≤ length xs - i → take i xs ++ take n (take (length xs - i) (drop i xs)) ≡ take (i + n) xs
+take-further i n xs le = ap (λ (ys : List ℕ). take i xs ++ ys) (take-take n (length xs - i) (drop i xs) le) ∙ sym (take-add i n xs)
+
+pub take-rest : (i : ℕ) (bytes xs : List ℕ) → (bytes ++ take i xs) ++ drop i xs ≡ bytes ++ xs
+take-rest i bytes xs = append_assoc bytes (take i xs) (drop i xs) ∙ ap (λ (ys : List ℕ). bytes ++ ys) (take-append-drop i xs)
+
+-- ---- what the loop over a file's table keeps
+
+pub record IsFeeding {H : Type 0} (g : Ghosts H) (name : List ℕ) (old now : H) (stream : Stream) (size at : ℕ) : Type 0 where
+  pub reads : ReadsFile g name old now
+  pub quiet : g.faults now ≡ g.faults old
+  pub inside : at ≤ size
+  pub fed : HasFed (g.contents old) name stream at
+
+-- an answer that stopped is that of the file, and of some bytes
+pub stopped-told : {X : Type 0} (told : Option Directory) (name : List ℕ) (s : TocStop) → ((f : FipFault) → ◌≡◌ {A = Result X TocStop} (Err s) (Err (stop.Fault f)) → IsTableFault told name f)
+    → (bytes : List ℕ) → Tells told name bytes → IsTocAnswer (Err s) (toc_of bytes)
+stopped-told told name (stop.Fault f) faults bytes t = (faults f refl).told_first bytes t
+stopped-told told name stop.ReadFailed faults bytes t = tt
+
+pub stopped-some : {X : Type 0} (told : Option Directory) (name : List ℕ) (s : TocStop) → ((f : FipFault) → ◌≡◌ {A = Result X TocStop} (Err s) (Err (stop.Fault f)) → IsTableFault told name f)
+    → IsOfSome (Err s)
+stopped-some told name (stop.Fault f) faults = record { bytes = (faults f refl).bytes; short = (faults f refl).short; answer = (faults f refl).first }
+stopped-some told name stop.ReadFailed faults = record { bytes = []; short = omega arith; answer = tt }
+
+-- ---- what a file tells
 
 -- a part of a piece is that part of the whole
 pub part_of : (bytes : List ℕ) (at n from count : ℕ) → from + count ≤ n → take count (drop from (take n (drop at bytes))) ≡ take count (drop (at + from) bytes)

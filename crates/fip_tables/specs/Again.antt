@@ -1,7 +1,9 @@
--- What is packed is read again.
-use Rattle.std.specs.Prelude.{◌≡◌, ◌<◌, ◌≤◌, ◌&&◌, ◌==◌, ℕ, Bool, IsTrue, None, Ok, List, length, map, nat_lt}
+-- The laws of the table, which hold whatever the code does. What is packed is read again.
+use Rattle.std.specs.Prelude.{◌≡◌, ◌<◌, ◌≤◌, ◌&&◌, ◌==◌, ◌++◌, ℕ, Bool, IsTrue, None, Ok, Err, List, length, map, nat_lt}
 use Rattle.std.specs.List.{list_all}
 use Rattle.fwu_formats.specs.Package.{Part, Toc, packed, payload, toc_of}
+use Rattle.fwu_formats.specs.declared.kinds.FipFault.{FipFault}
+use Rattle.fip_tables.specs.Answers.{decided, has_marker}
 use Rattle.fip_tables.specs.Packing.{pack_fault}
 
 -- a type of sixteen bytes, and flags that have room in their field
@@ -21,3 +23,15 @@ abbrev pub PassedIsRead : Type 0
 PassedIsRead =
     (serial flags : ℕ) (parts : List Part) (a : ℕ) → pack_fault parts a ≡ None → IsTrue (list_all part_has_fields parts)
     → 1 ≤ serial → serial < 4294967296 → flags < 18446744073709551616 → ReadsAgain serial flags parts (packed serial flags parts a)
+
+-- ---- what follows a package
+
+-- a fault that is decided is the first one of whatever continues the bytes
+abbrev pub FaultsStand : Type 0
+FaultsStand = (bytes rest : List ℕ) (f : FipFault) → decided (toc_of bytes) ≡ Err f → toc_of (bytes ++ rest) ≡ Err f
+
+-- Of what follows a whole table nothing but its length counts.
+abbrev pub TablesStandByLength : Type 0
+TablesStandByLength =
+    (bytes gap other : List ℕ) → IsTrue (has_marker (toc_of bytes)) → length gap ≡ length other
+    → toc_of (bytes ++ gap) ≡ toc_of (bytes ++ other)

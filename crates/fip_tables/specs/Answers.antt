@@ -2,17 +2,14 @@
 use Rattle.std.specs.Prelude.{Bool, true, false, Result, Ok, Err}
 use Rattle.fwu_formats.specs.Package.{Toc}
 use Rattle.fwu_formats.specs.declared.kinds.FipFault.{FipFault}
-use Rattle.fwu_formats.specs.declared.kinds.FipFault.TheVariants.{ShortHeader, BadName, ZeroSerial, NoEnd, TooMany, Duplicate, Beyond}
+use Rattle.fwu_formats.specs.declared.kinds.FipFault.TheVariants.{ShortHeader, NoEnd, Beyond}
 
 -- a fault that no further bytes mend, and of the others nothing
 abbrev pub lasting : FipFault → Result (Unit {0}) FipFault
 lasting ShortHeader = Ok tt
-lasting BadName = Err BadName
-lasting ZeroSerial = Err ZeroSerial
 lasting (NoEnd i) = Ok tt
-lasting TooMany = Err TooMany
-lasting (Duplicate i) = Err (Duplicate i)
 lasting (Beyond i) = Ok tt
+lasting f = Err f
 
 -- the fault of the bytes so far that their continuations have too
 abbrev pub decided : Result Toc FipFault → Result (Unit {0}) FipFault

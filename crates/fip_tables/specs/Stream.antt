@@ -1,8 +1,9 @@
 -- What a reader of a package's front holds, after the bytes so far.
-use Rattle.std.specs.Prelude.{◌≡◌, ◌≢◌, ◌≤◌, ◌<◌, ◌+◌, ◌*◌, ℕ, List, [], ◌++◌, Result, Ok, Err, length, drop}
+use Rattle.std.specs.Prelude.{◌≡◌, ◌≢◌, ◌≤◌, ◌<◌, ◌+◌, ◌*◌, ℕ, List, [], ◌++◌, Result, Ok, Err, length, take, drop}
 use Rattle.base_core.specs.Bytes.{num_at}
 use Rattle.fwu_formats.specs.Package.{Entry, Toc, fip_name, entry_limit, entries_from, toc_of}
 use Rattle.fwu_formats.specs.declared.kinds.FipFault.{FipFault}
+use Rattle.fwu_formats.specs.declared.kinds.FipFault.TheVariants.{BadName, ZeroSerial}
 use Rattle.fip_tables.specs.Answers.{lasting}
 use Rattle.fip_tables.specs.declared.reader.Stage.{Stage}
 use Rattle.fip_tables.specs.declared.reader.Stage.TheVariants.{Header, Table, Whole, Faulty}
@@ -17,6 +18,23 @@ pub record Reader : Type 0 where
 pub record Stream : Type 0 where
   pub reader : Reader
   pub count : ℕ
+
+-- the entry whose bytes begin at a place
+abbrev pub entry_from : List ℕ → ℕ → Entry
+entry_from bytes at = record {
+  guid = take 16 (drop at bytes);
+  offset = num_at 8 bytes (at + 16);
+  size = num_at 8 bytes (at + 24);
+  flags = num_at 8 bytes (at + 32);
+}
+
+-- the serial number and the flags of a header's sixteen bytes, or the first fault
+abbrev pub IsHeaderOf : List ℕ → Result (ℕ × ℕ) FipFault → Type 0
+IsHeaderOf header (Ok found) =
+    (num_at 4 header 0 ≡ fip_name) × (num_at 4 header 4 ≢ 0) × (found.0 ≡ num_at 4 header 4) × (found.1 ≡ num_at 8 header 8)
+IsHeaderOf header (Err BadName) = num_at 4 header 0 ≢ fip_name
+IsHeaderOf header (Err ZeroSerial) = (num_at 4 header 0 ≡ fip_name) × (num_at 4 header 4 ≡ 0)
+IsHeaderOf header (Err _) = ⊥
 
 pub record HasHeader (bytes : List ℕ) (toc : Toc) : Type 0 where
   pub long : 16 ≤ length bytes
@@ -62,9 +80,7 @@ ReaderHolds r bytes = ReaderHoldsAt r.stage r.toc r.pending bytes
 -- a group is what is read at once: the header's 16 bytes, or the 40 of an entry
 abbrev pub group_size : Stage → ℕ
 group_size Header = 16
-group_size Table = 40
-group_size Whole = 40
-group_size (Faulty f) = 40
+group_size at = 40
 
 abbrev pub IsGroup : Stage → List ℕ → Type 0
 IsGroup at bytes = length bytes ≡ group_size at
@@ -82,10 +98,8 @@ ReadsOn (Faulty f) = ⊥
 
 -- the fault that was met
 abbrev pub met : Stage → Result (Unit {0}) FipFault
-met Header = Ok tt
-met Table = Ok tt
-met Whole = Ok tt
 met (Faulty f) = Err f
+met at = Ok tt
 
 -- the end marker was fed, and no fault before it
 abbrev pub IsWholeStream : Stream → Type 0

@@ -5,7 +5,7 @@ ghost use Rattle.std.specs.List.{list_any};
 ghost use Rattle.base_core.specs.Bytes.{same_bytes};
 ghost use Rattle.base_core.specs.Guid.{nil_guid};
 ghost use Rattle.fwu_formats.specs.Package.{has_guid};
-ghost use Rattle.fip_tables.specs.Decoded.{entry_from};
+ghost use Rattle.fip_tables.specs.Stream.{entry_from};
 
 use base_core::{Guid, le64_at};
 use std::marker::Model;

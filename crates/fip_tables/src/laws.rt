@@ -1,7 +1,6 @@
 //! Laws: functions that do nothing, whose contract is the law.
 
-ghost use Rattle.fip_tables.specs.Again.{PassedIsRead};
-ghost use Rattle.fip_tables.specs.Law.{FaultsStand, TablesStandByLength};
+ghost use Rattle.fip_tables.specs.Again.{PassedIsRead, FaultsStand, TablesStandByLength};
 
 /// What is decided by the front of a package. No further bytes mend a bad name, a serial number of
 /// zero, an entry too many or a type that is there twice. Behind a whole table nothing counts but how

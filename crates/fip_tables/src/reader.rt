@@ -2,8 +2,7 @@
 
 ghost use Rattle.std.specs.Prelude.{◌≡◌, ◌≢◌, ◌+◌, ◌*◌, ◌<◌, ◌≤◌, ◌^◌, ◌++◌, ℕ, List, [], Option, IsTrue, IsNone, OnOk, ◌↔◌, length, take, position, MatchResult, Ok, Err};
 ghost use Rattle.fwu_formats.specs.Package.{is_beyond, toc_of, within};
-ghost use Rattle.fip_tables.specs.Decoded.{IsHeaderOf};
-ghost use Rattle.fip_tables.specs.Stream.{ReaderHoldsAt, IsGroup};
+ghost use Rattle.fip_tables.specs.Stream.{IsHeaderOf, ReaderHoldsAt, IsGroup};
 ghost use Rattle.fip_tables.specs.declared.reader.Stage.TheVariants as stage;
 
 use crate::entries::{Entries, Entry};

@@ -22,12 +22,12 @@ use Rattle.fwu_formats.specs.declared.kinds.CapsuleFault.{CapsuleFault}
 use Rattle.capsule_tables.proofs.ReadAgain.{made-is-read}
 use Rattle.capsule_tables.proofs.Within.{is-read, no-flags, types-sixteen}
 use Rattle.fip_words.specs.Order.{FipAsked, info_of_source, capsule, repackage}
-use Rattle.fip_tool.specs.Converted.{Converts, IsEnclosed, IsPackaged}
+use Rattle.fip_tool.specs.Converted.{Converts, IsConverted}
 use Rattle.fip_tool.specs.Steps.{Are, Did, Makes, Refuses, CommandStep, outcome_by, with_file, written}
 use Rattle.fip_making.specs.Values.{after, capsule_table, capsule_value, enclose_value, kept_part, pack_value, repackage_value, table_or_stop, there, unless_fault}
-use Rattle.fip_tool.specs.Tool.{encloses, outcome_of, packs}
+use Rattle.fip_tool.specs.Tool.{outcome_of, puts}
+use Rattle.fip_tool.specs.declared.lines.Format.TheVariants as format
 use Rattle.fip_making.specs.declared.stops.Stop.{Stop}
-use Rattle.fip_making.specs.declared.stops.Stop.TheVariants as stop
 
 -- ---- the parts of entries
 
@@ -74,104 +74,89 @@ done-has : {X : Type 0} (steps : X → List CommandStep) (r : Result X Stop) (fi
 done-has steps (Ok x) files now was text rose spoiled sink-rose d = (x, refl, d.1)
 done-has steps (Err s) files now was text rose spoiled sink-rose d = let no : Refuses s ≡ Makes [] = d.0 in cc
 
--- ---- a package as a capsule
+-- ---- a table of a file, and what is made of it
 
-abbrev enclosed_by : List ℕ × Toc → Result (ℕ × List ℕ) Stop
-enclosed_by p = enclose_value (map (kept_part p.0) p.1.entries)
+-- a value that a table of a file gives is one of some bytes with that table
+record IsOfTable {F X : Type 0} (read : List ℕ → Result Toc F) (o : Option (List ℕ)) (f : List ℕ × Toc → Result X Stop) (made : X) : Type 0 where
+  bytes : List ℕ
+  toc : Toc
+  is : o ≡ Some bytes
+  table : read bytes ≡ Ok toc
+  value : f (bytes, toc) ≡ Ok made
+
+from-table : {F X : Type 0} (read : List ℕ → Result Toc F) (table : Result Toc F → Result Toc Stop) → ((r : Result Toc F) (t : Toc) → table r ≡ Ok t → r ≡ Ok t)
+    → (o : Option (List ℕ)) (f : List ℕ × Toc → Result X Stop) (made : X)
+    → after (after (there o) (λ bytes. after (table (read bytes)) (λ t. Ok (bytes, t)))) f ≡ Ok made → IsOfTable read o f made
+from-table read table ok None f made h = cc
+from-table {X = X} read table ok (Some bytes) f made h = by-table (table (read bytes)) refl h
+  where
+    by-table : (r : Result Toc Stop) → table (read bytes) ≡ r → after (after r (λ t. Ok (bytes, t))) f ≡ Ok made → IsOfTable read (Some bytes) f made
+    by-table (Err s) is h = cc
+    by-table (Ok toc) is h = record { bytes = bytes; toc = toc; is = refl; table = ok (read bytes) toc is; value = h }
+
+package-ok : (r : Result Toc FipFault) (t : Toc) → table_or_stop r ≡ Ok t → r ≡ Ok t
+package-ok (Ok x) t e = cc
+package-ok (Err f) t e = cc
+
+capsule-ok : (r : Result Toc CapsuleFault) (t : Toc) → capsule_table r ≡ Ok t → r ≡ Ok t
+capsule-ok (Ok x) t e = cc
+capsule-ok (Err f) t e = cc
 
 -- what was made had no fault
 fault-none : {X : Type 0} (o : Option PackFault) (x made : X) → unless_fault o x ≡ Ok made → (o ≡ None) × (made ≡ x)
 fault-none None x made e = (refl, cc)
 fault-none (Some f) x made e = absurd cc
 
-enclosed-is : (parts : List Part) (made : ℕ × List ℕ) → enclose_value parts ≡ Ok made → (make_fault parts ≡ None) × (made.1 ≡ capsule_bytes parts)
-unfolding enclose_value
-enclosed-is parts made e = let f = fault-none {X = ℕ × List ℕ} (make_fault parts) (length parts, capsule_bytes parts) made e in (f.0, ap (λ (m : ℕ × List ℕ). m.1) f.1)
+module _ (files : Directory) (now : Option Directory) (from out : List ℕ) (made : ℕ × List ℕ) (are : Are now (with_file out made.1 files)) where
+  -- parts that are read again keep all
+  keeps-all : {F G : Type 0} (read : List ℕ → Result Toc F) (read_again : List ℕ → Result Toc G) (old new : List ℕ) (was is : Toc)
+      → files from ≡ Some old → read old ≡ Ok was → made.1 ≡ new → read_again new ≡ Ok is
+      → map (λ (e : Entry). e.guid) is.entries ≡ map (λ (p : Part). p.guid) (map (kept_part old) was.entries)
+      → map (payload new) is.entries ≡ map (λ (p : Part). p.bytes) (map (kept_part old) was.entries) → IsConverted read read_again files now from out
+  keeps-all read read_again old new was is given table same again types payloads = record {
+    old = old;
+    new = new;
+    was = was;
+    is = is;
+    given = (given, table);
+    made = (subst (λ (l : List ℕ). Tells now out l) same (file-there out made.1 files now are), again);
+    keeps = record {
+      types = types ∙ map-map (kept_part old) (λ (p : Part). p.guid) (λ (e : Entry). e.guid) was.entries (λ e. refl);
+      payloads = payloads ∙ map-map (kept_part old) (λ (p : Part). p.bytes) (payload old) was.entries (λ e. refl);
+    };
+  }
 
-capsule-kept : (files : Directory) (now : Option Directory) (from out : List ℕ) (made : ℕ × List ℕ) → capsule_value files from ≡ Ok made → Are now (with_file out made.1 files) → IsEnclosed files now from out
-unfolding capsule_value
-capsule-kept files now from out made value are = by-file (files from) refl value
-  where
-    kept : (bytes : List ℕ) (toc : Toc) → files from ≡ Some bytes → toc_of bytes ≡ Ok toc → enclosed_by (bytes, toc) ≡ Ok made → IsEnclosed files now from out
-    kept bytes toc is table h =
-        let parts = map (kept_part bytes) toc.entries in
-        let two = enclosed-is parts made h in
-        let read : IsCapsuleOf parts (capsule_bytes parts) = made-is-read parts two.0 (sixteen-parts bytes toc.entries (package-sixteen bytes toc table)) in
-        let there : Tells now out (capsule_bytes parts) = subst (λ (l : List ℕ). Tells now out l) two.1 (file-there out made.1 files now are) in
-        record {
-          old = bytes;
-          new = capsule_bytes parts;
-          was = toc;
-          is = read.toc;
-          given = (is, table);
-          made = (there, read.read);
-          keeps = record {
-            types = read.types ∙ map-map (kept_part bytes) (λ (p : Part). p.guid) (λ (e : Entry). e.guid) toc.entries (λ e. refl);
-            payloads = read.payloads ∙ map-map (kept_part bytes) (λ (p : Part). p.bytes) (payload bytes) toc.entries (λ e. refl);
-          };
-        }
+  capsule-kept : capsule_value files from ≡ Ok made → IsConverted toc_of capsule_of files now from out
+  unfolding capsule_value enclose_value
+  capsule-kept value =
+      let t = from-table toc_of table_or_stop package-ok (files from) (λ p. enclose_value (map (kept_part p.0) p.1.entries)) made value in
+      let parts = map (kept_part t.bytes) t.toc.entries in
+      let two = fault-none {X = ℕ × List ℕ} (make_fault parts) (length parts, capsule_bytes parts) made t.value in
+      let again : IsCapsuleOf parts (capsule_bytes parts) = made-is-read parts two.0 (sixteen-parts t.bytes t.toc.entries (package-sixteen t.bytes t.toc t.table)) in
+      keeps-all toc_of capsule_of t.bytes (capsule_bytes parts) t.toc again.toc t.is t.table (ap (λ (m : ℕ × List ℕ). m.1) two.1) again.read again.types again.payloads
 
-    by-table : (bytes : List ℕ) (r : Result Toc FipFault) → files from ≡ Some bytes → toc_of bytes ≡ r → after (after (table_or_stop r) (λ t. Ok (bytes, t))) enclosed_by ≡ Ok made → IsEnclosed files now from out
-    by-table bytes (Err f) is table h = cc
-    by-table bytes (Ok toc) is table h = kept bytes toc is table h
-
-    by-file : (o : Option (List ℕ)) → files from ≡ o → after (after (there o) (λ bytes. after (table_or_stop (toc_of bytes)) (λ t. Ok (bytes, t)))) enclosed_by ≡ Ok made → IsEnclosed files now from out
-    by-file None is h = cc
-    by-file (Some bytes) is h = by-table bytes (toc_of bytes) is refl h
-
--- ---- a capsule as a package
-
-abbrev packed_by : ℕ → List ℕ × Toc → Result (ℕ × List ℕ) Stop
-packed_by a p = pack_value p.1.serial p.1.flags (map (kept_part p.0) p.1.entries) a
-
-packed-is : (serial flags : ℕ) (parts : List Part) (a : ℕ) (made : ℕ × List ℕ) → pack_value serial flags parts a ≡ Ok made → (pack_fault parts a ≡ None) × (made.1 ≡ packed serial flags parts a)
-unfolding pack_value
-packed-is serial flags parts a made e =
-    let f = fault-none {X = ℕ × List ℕ} (pack_fault parts a) (length parts, packed serial flags parts a) made e in (f.0, ap (λ (m : ℕ × List ℕ). m.1) f.1)
-
-package-kept : (files : Directory) (now : Option Directory) (a : ℕ) (from out : List ℕ) (made : ℕ × List ℕ) → repackage_value files a from ≡ Ok made → Are now (with_file out made.1 files) → IsPackaged files now from out
-unfolding repackage_value
-package-kept files now a from out made value are = by-file (files from) refl value
-  where
-    kept : (bytes : List ℕ) (toc : Toc) → files from ≡ Some bytes → capsule_of bytes ≡ Ok toc → (packed_by a) (bytes, toc) ≡ Ok made → IsPackaged files now from out
-    kept bytes toc is table h =
-        let parts = map (kept_part bytes) toc.entries in
-        let two = packed-is toc.serial toc.flags parts a made h in
-        let r = is-read bytes toc table in
-        let serial = r.serial in
-        let flags = r.flags in
-        let again = passed-is-read toc.serial toc.flags parts a two.0 (fields-parts bytes toc.entries (types-sixteen bytes toc table) (no-flags bytes toc table))
-        (omega (arith, serial)) (omega (arith, serial)) (omega (arith, flags)) in
-        let there : Tells now out (packed toc.serial toc.flags parts a) = subst (λ (l : List ℕ). Tells now out l) two.1 (file-there out made.1 files now are) in
-        record {
-          old = bytes;
-          new = packed toc.serial toc.flags parts a;
-          was = toc;
-          is = again.0;
-          given = (is, table);
-          made = (there, again.1);
-          keeps = record {
-            types = again.4 ∙ map-map (kept_part bytes) (λ (p : Part). p.guid) (λ (e : Entry). e.guid) toc.entries (λ e. refl);
-            payloads = again.6 ∙ map-map (kept_part bytes) (λ (p : Part). p.bytes) (payload bytes) toc.entries (λ e. refl);
-          };
-        }
-
-    by-table : (bytes : List ℕ) (r : Result Toc CapsuleFault) → files from ≡ Some bytes → capsule_of bytes ≡ r → after (after (capsule_table r) (λ t. Ok (bytes, t))) (packed_by a) ≡ Ok made → IsPackaged files now from out
-    by-table bytes (Err f) is table h = cc
-    by-table bytes (Ok toc) is table h = kept bytes toc is table h
-
-    by-file : (o : Option (List ℕ)) → files from ≡ o → after (after (there o) (λ bytes. after (capsule_table (capsule_of bytes)) (λ t. Ok (bytes, t)))) (packed_by a) ≡ Ok made → IsPackaged files now from out
-    by-file None is h = cc
-    by-file (Some bytes) is h = by-table bytes (capsule_of bytes) is refl h
+  package-kept : (a : ℕ) → repackage_value files a from ≡ Ok made → IsConverted capsule_of toc_of files now from out
+  unfolding repackage_value pack_value
+  package-kept a value =
+      let t = from-table capsule_of capsule_table capsule-ok (files from) (λ p. pack_value p.1.serial p.1.flags (map (kept_part p.0) p.1.entries) a) made value in
+      let parts = map (kept_part t.bytes) t.toc.entries in
+      let two = fault-none {X = ℕ × List ℕ} (pack_fault parts a) (length parts, packed t.toc.serial t.toc.flags parts a) made t.value in
+      let r = is-read t.bytes t.toc t.table in
+      let serial = r.serial in
+      let flags = r.flags in
+      let again =
+      passed-is-read t.toc.serial t.toc.flags parts a two.0 (fields-parts t.bytes t.toc.entries (types-sixteen t.bytes t.toc t.table) (no-flags t.bytes t.toc t.table))
+      (omega (arith, serial)) (omega (arith, serial)) (omega (arith, flags)) in
+      keeps-all capsule_of toc_of t.bytes (packed t.toc.serial t.toc.flags parts a) t.toc again.0 t.is t.table (ap (λ (m : ℕ × List ℕ). m.1) two.1) again.1 again.4 again.6
 
 -- ---- by the words
 
 pub converted : (a : Option FipAsked) (files : Directory) (now : Option Directory) (was text : Option (List ℕ)) (rose spoiled sink-rose : Type 0)
     → (a ≢ Some info_of_source → Did (outcome_of a files) files now was text rose spoiled sink-rose (Ok tt)) → Converts a files now
 converted (Some (capsule from out)) files now was text rose spoiled sink-rose h =
-    let d = done-has (encloses out) (capsule_value files from) files now was text rose spoiled sink-rose (h (λ e. cc)) in
-    capsule-kept files now from out d.0 d.1 d.2
+    let d = done-has (puts format.Capsule out) (capsule_value files from) files now was text rose spoiled sink-rose (h (λ e. cc)) in
+    capsule-kept files now from out d.0 d.2 d.1
 converted (Some (repackage a from out)) files now was text rose spoiled sink-rose h =
-    let d = done-has (packs out) (repackage_value files a from) files now was text rose spoiled sink-rose (h (λ e. cc)) in
-    package-kept files now a from out d.0 d.1 d.2
+    let d = done-has (puts format.Package out) (repackage_value files a from) files now was text rose spoiled sink-rose (h (λ e. cc)) in
+    package-kept files now from out d.0 d.2 a d.1
 converted a files now was text rose spoiled sink-rose h = tt

@@ -1,23 +1,113 @@
 -- What is done for what the words ask for, from what a command did.
-use Rattle.std.proofs.Common.{◌≡◌, inl, inr, [], Option, Some, None, Result, Err, refl, sym, ap, subst, ◌∙◌, arith}
-use Rattle.std.specs.Prelude.{IsTrue}
-use Rattle.std.proofs.KnownBytes.{Appends-nil, Consumes-nil}
-use Rattle.std.proofs.lemmas.Bool.{false≢true}
+use Rattle.std.proofs.Common.{◌≡◌, ◌≤◌, ℕ, List, Some, Result, Err, ap, arith, refl, subst, sym, ◌∙◌, inl, inr, [], Option, None}
+use Rattle.std.specs.Prelude.{IfErr, IsTrue}
+use Rattle.base_core.specs.Counts.{Rose}
 use Rattle.fip_words.specs.Order.{FipAsked}
 use Rattle.host_io.specs.Access.{Access}
-use Rattle.host_io.proofs.Once.{once-none}
+use Rattle.host_io.specs.Contents.{Directory}
 use Rattle.host_io.specs.declared.files.Files as files
-use Rattle.host_io.specs.declared.source.Source as source
 use Rattle.host_io.specs.declared.sink.Sink as sink
-use Rattle.fip_tool.proofs.Did.{are-told}
-use Rattle.fip_tool.proofs.FileFaults.{faults-none}
-use Rattle.fip_making.proofs.SourceLemmas.{nothing-read}
-use Rattle.fip_tool.proofs.WroteLemmas.{wrote-none}
-use Rattle.fip_tool.proofs.Refusing.{memory-may}
-use Rattle.fip_tool.specs.Done.{CommandDone, DoneWithFiles}
-use Rattle.fip_tool.specs.Tool.{asks_files}
+use Rattle.host_io.specs.declared.writes.Writes.{Writes}
+use Rattle.fip_tool.specs.Done.{DoneWithFiles, PutsMade, RefusesAlone, WritesTexts, CommandDone}
+use Rattle.fip_making.specs.Stops.{status_number}
+use Rattle.fip_tool.specs.Names.{IsUnneeded, IsUnnamedBy, MayRefuse}
+use Rattle.fip_making.specs.Payloads.{made_by}
+use Rattle.fip_tool.specs.Said.{IsMadeLine, IsTexts}
+use Rattle.fip_tool.specs.Seen.{DidIn, DidSince, WroteIn, WroteForIn}
+use Rattle.fip_making.specs.Seen.{AsTold, ReadsFilesAlone}
+use Rattle.fip_tool.specs.Steps.{CommandPlan, outcome_by}
+use Rattle.fip_making.specs.Answers.{Gives, IsLate}
+use Rattle.fip_tool.specs.Tool.{command_outcome, puts, asks_files}
+use Rattle.fip_tool.specs.Wrote.{WroteFor}
+use Rattle.fip_tool.specs.declared.lines.Format.{Format}
+use Rattle.fip_making.specs.declared.made.Made.{Made}
 use Rattle.fip_making.specs.declared.stops.Stop.{Stop}
 use Rattle.fip_making.specs.declared.stops.Stop.TheVariants as stop
+use Rattle.fip_tool.proofs.Did.{did-later, are-told}
+use Rattle.fip_tool.proofs.Faults.{faults-as, faults-of, still, faults-none}
+use Rattle.fip_making.proofs.Refusing.{if-err-as, err-same}
+use Rattle.fip_tool.proofs.Refusing.{late-alone, made-alone, made-may, memory-may}
+use Rattle.fip_making.proofs.Tables.{either-rose}
+use Rattle.fip_tool.proofs.WritingLemmas.{tears-since}
+use Rattle.fip_tool.proofs.Texts.{says-as, says-nothing}
+use Rattle.fip_tool.proofs.WroteLemmas.{wrote-as, wrote-none}
+use Rattle.std.proofs.KnownBytes.{Appends-nil, Consumes-nil}
+use Rattle.std.proofs.lemmas.Bool.{false≢true}
+use Rattle.host_io.proofs.Once.{once-none}
+use Rattle.host_io.specs.declared.source.Source as source
+use Rattle.fip_making.proofs.SourceLemmas.{nothing-read}
+
+-- ---- what is done for an order that asks for files, from what its parts did
+
+module _ {H O : Type 0} {h : files.Ghosts H} {o : sink.Ghosts O} {one : FipAsked} where
+  -- a stop before anything was done
+  pub done-unread : {X : Type 0} {IsOther : Access → Type 0} {IsOwn : Stop → Type 0} {before after : H} {old : O} (s : Stop)
+      → ReadsFilesAlone {X = X} h IsOther IsOwn before after (Err s) → ((access : Access) → IsUnnamedBy (Some one) access → IsOther access)
+      → ((access : Access) → IsUnneeded (Some one) (status_number s) access → IsOther access)
+      → ((told : Directory) → h.contents before ≡ Some told → DidIn h o (command_outcome one told) told before after old old (Err s))
+      → MayRefuse (Some one) s → DoneWithFiles h o one (Err s) before after old old
+  done-unread {before = before} {old = old} s reads unnamed unneeded did may = record {
+    told = did;
+    says = says-nothing (IsTexts one) _ _ _ s (λ e. reads.only.sink (err-same e)) refl;
+    wrote = subst (λ (w : Writes). WroteFor (Some one) (o.taken old) (o.taken old) (h.writes before).done w.done (Err s)) (sym reads.files.unwritten) (wrote-none (Some one) (o.taken old) (h.writes before).done s);
+    file_count = faults-as (faults-of reads.only);
+    cause = λ e none. let same : s ≡ stop.FileFault = cc in reads.only.cause (err-same same) none;
+    usage = λ e. let same : s ≡ stop.Usage = cc in reads.only.usage (err-same same);
+    refusals = may;
+    spares = λ access other. reads.files.spares access (unnamed access other);
+    alone = λ refuses access other. reads.files.spares access (unneeded access other);
+    later = omega arith;
+    sink_count = still _ s (λ e. reads.only.sink (err-same e));
+  }
+
+  -- files were written, each with its text
+  pub done-texts : {result : Result (Unit {0}) Stop} {before after : H} {old new : O} → WritesTexts h o (IsTexts one) result before after old new
+      → (WroteIn h o (IsTexts one) before after old new result → WroteForIn h o (Some one) before after old new result) → ((s : Stop) → IsLate s → MayRefuse (Some one) s)
+      → ((told : Directory) → h.contents before ≡ Some told → DidIn h o (command_outcome one told) told before after old new result)
+      → ((access : Access) → IsUnnamedBy (Some one) access → h.spares before after access) → DoneWithFiles h o one result before after old new
+  done-texts {result = result} {before = before} {after = after} put writes late did spares = record {
+    told = did;
+    says = put.says;
+    wrote = writes put.wrote;
+    file_count = put.file_count;
+    cause = λ e none. put.cause e;
+    usage = put.usage;
+    refusals = if-err-as result IsLate (MayRefuse (Some one)) late put.late;
+    spares = spares;
+    alone = late-alone result (λ s. (access : Access) → IsUnneeded (Some one) (status_number s) access → h.spares before after access) put.late;
+    later = put.later_sink;
+    sink_count = put.sink_count;
+  }
+
+  -- what was made was put into a file, and its line was printed
+  pub done-made : {IsOther : Access → Type 0} {IsOwn : Stop → Type 0} {made : Result Made Stop} {result : Result (Unit {0}) Stop} {before mid after : H} {old new : O} (format : Format) (out : List ℕ) (value : Directory → Result (ℕ × List ℕ) Stop)
+      → ((told : Directory) → command_outcome one told ≡ outcome_by (puts format out) (value told)) → ((texts : List (List ℕ)) → IsMadeLine format made texts → IsTexts one texts)
+      → (WroteIn h o (IsTexts one) before after old new result → WroteForIn h o (Some one) before after old new result)
+      → ((s : Stop) → IsLate s → MayRefuse (Some one) s)
+      → ReadsFilesAlone h IsOther IsOwn before mid made → ((s : Stop) → IsOwn s → MayRefuse (Some one) s) → AsTold h made_by value before mid made
+      → ((told : Directory) (value : Result (ℕ × List ℕ) Stop) (count : ℕ) → h.contents mid ≡ Some told → count ≤ h.faults mid → Gives (made_by told) (Rose count (h.faults mid)) value made
+      → DidSince h o count (outcome_by (puts format out) value) told mid after old new result)
+      → PutsMade h o format made result mid after old new
+      → ((access : Access) → IsUnnamedBy (Some one) access → h.spares before after access)
+      → IfErr made (λ s. RefusesAlone h (Some one) before mid (status_number s))
+      → DoneWithFiles h o one result before after old new
+  done-made {IsOwn = IsOwn} {made = made} {result = result} {before = before} {mid = mid} {after = after} {old = old} {new = new} format out value outcome texts writes late reads turns gives did put spares alone = record {
+    told = λ told e.
+        subst (λ (all : CommandPlan). DidIn h o all told before after old new result) (sym (outcome told))
+        (did-later _ told _ _ _ _ _ _ _ _ result (λ r. r) (λ r. tears-since (h.writes after) reads.files.unwritten r) (did told (value told) (h.faults before) (reads.only.same ∙ e) reads.only.later (gives told e)));
+    says = says-as (IsMadeLine format made) (IsTexts one) _ _ _ _ result texts (λ r. r) (put.says reads.only.sink);
+    wrote = writes (wrote-as (IsMadeLine format made) (IsTexts one) _ _ _ _ _ result texts (ap (λ (w : Writes). w.done) reads.files.unwritten) put.wrote);
+    file_count = put.file_count (h.faults before) (faults-of reads.only);
+    cause = λ e none. either-rose _ _ _ reads.only.later put.later (λ failed. reads.only.cause failed none) (put.cause e);
+    usage = λ e. reads.only.usage (put.usage e);
+    refusals = made-may made result (MayRefuse (Some one)) late (if-err-as made IsOwn (MayRefuse (Some one)) turns reads.refusals) put.refusals;
+    spares = spares;
+    alone = made-alone made result mid after (λ (f : H) (s : Stop). (access : Access) → IsUnneeded (Some one) (status_number s) access → h.spares before f access) put.refusals put.kept alone;
+    later = put.later_sink;
+    sink_count = put.sink_count reads.only.sink;
+  }
+
+-- ---- what is done for what the words ask for, from what a command did
 
 module _ {H I O : Type 0} {h : files.Ghosts H} {i : source.Ghosts I} {o : sink.Ghosts O} where
   -- a command that asks for files does not touch the source

@@ -1,16 +1,25 @@
--- Which stops a command may end with.
-use Rattle.std.proofs.Common.{◌≡◌, ◌⊎◌, inl, inr, ℕ, List, Option, Some, None, Result, Ok, Err, arith, refl, subst, sym}
+-- Refusals, and what they ask for.
+use Rattle.std.proofs.Common.{zero, suc, List, [], ◌∷◌, map, arith, ◌≡◌, ◌⊎◌, inl, inr, ℕ, Option, Some, None, Result, Ok, Err, refl, subst, sym}
+use Rattle.std.specs.List.{All}
 use Rattle.std.specs.Prelude.{IfErr}
 use Rattle.fip_making.specs.Refusals.{IsOfPacking}
-use Rattle.fip_tool.specs.Refusals.{MayRefuse}
+use Rattle.fip_tool.specs.Names.{MayRefuse, IsRefusalStatus}
 use Rattle.fip_words.specs.Order.{FipAsked, info_of_source}
 use Rattle.fip_tool.specs.Ends.{Reported, StopTold}
 use Rattle.fip_making.specs.Stops.{status_number}
-use Rattle.fip_tool.specs.Names.{IsRefusalStatus}
 use Rattle.fip_making.specs.Answers.{IsLate}
 use Rattle.fip_making.specs.declared.stops.Stop.{Stop}
 use Rattle.fip_making.specs.declared.stops.Stop.TheVariants as stop
 use Rattle.fip_making.proofs.Refusing.{if-err-as}
+
+-- ---- files that are named, as the words have them
+
+pub of-map : {X Y : Type 0} (P : Y → Type 0) (f : X → Y) (xs : List X) → All P (map f xs) → All (λ x. P (f x)) xs
+of-map P f [] all k d lt = absurd (omega (arith, lt))
+of-map P f (x ∷ xs) all zero d lt = all 0 (f d) (omega arith)
+of-map P f (x ∷ xs) all (suc k) d lt = of-map P f xs (λ j e less. all (suc j) e (omega (arith, less))) k d (omega (arith, lt))
+
+-- ---- which stops a command may end with
 
 -- what comes late is no refusal
 pub late-unrefused : (s : Stop) → IsLate s → IsRefusalStatus (status_number s) → ⊥
@@ -25,10 +34,7 @@ late-alone r P h = if-err-as r IsLate (λ s. IsRefusalStatus (status_number s) �
 -- a refusal of what is packed
 pub packing-six : (s : Stop) → IsOfPacking s → IsRefusalStatus (status_number s) → status_number s ≡ 6
 packing-six (stop.NotPacked f) h refuses = refl
-packing-six stop.FileFault h refuses = absurd (late-unrefused stop.FileFault tt refuses)
-packing-six stop.SinkFault h refuses = absurd (late-unrefused stop.SinkFault tt refuses)
-packing-six stop.NoMemory h refuses = absurd (late-unrefused stop.NoMemory tt refuses)
-packing-six s h refuses = absurd h
+packing-six s h refuses = absurd (late-unrefused s h refuses)
 
 -- the stop of what is made, or one that comes late
 pub made-may : {X Y : Type 0} (made : Result X Stop) (r : Result Y Stop) (P : Stop → Type 0) → ((s : Stop) → IsLate s → P s) → IfErr made P

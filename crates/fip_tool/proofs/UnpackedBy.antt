@@ -11,19 +11,17 @@ use Rattle.host_io.specs.Contents.{Directory}
 use Rattle.host_io.specs.declared.files.Files as files
 use Rattle.host_io.specs.declared.sink.Sink as sink
 use Rattle.fip_tool.specs.Lines.{unpacked_line, unpacked_name}
-use Rattle.fip_tool.specs.Done.{WritesTexts}
+use Rattle.fip_tool.specs.Done.{WritesTexts, Unpacked}
 use Rattle.fip_tool.specs.Seen.{DidIn}
-use Rattle.fip_tool.specs.Steps.{Makes, Prints}
-use Rattle.fip_tool.specs.Torn.{MayTear, NoneUnwritten}
+use Rattle.fip_tool.specs.Steps.{Makes, Prints, MayTear, NoneUnwritten}
 use Rattle.fip_tool.specs.Steps as step
 use Rattle.fip_tool.specs.Tool.{unpack_steps}
-use Rattle.fip_tool.specs.Unpacked.{Unpacked}
 use Rattle.fip_making.specs.declared.stops.Stop.{Stop}
 use Rattle.fip_making.specs.declared.stops.Stop.TheVariants as stop
 use Rattle.fip_tool.proofs.Did.{refused}
-use Rattle.fip_tool.proofs.FileFaults.{faults-none}
+use Rattle.fip_tool.proofs.Faults.{faults-none}
 use Rattle.fip_tool.proofs.UnpackLemmas.{entry-did, line-is}
-use Rattle.fip_tool.proofs.WritesBy.{no-texts, texts-behind}
+use Rattle.fip_tool.proofs.WroteLemmas.{no-texts, texts-behind}
 
 -- the piece that a payload is, behind no frame, by files that tell the package's bytes
 pub piece-is : (told : Directory) (from bytes : List ℕ) (e : Entry) (at count : ℕ) → told from ≡ Some bytes → at ≡ e.offset → count ≡ e.size

@@ -1,5 +1,7 @@
 -- What a writing and a line leave.
-use Rattle.std.proofs.Common.{◌≡◌, ℕ, List, [], ◌∷◌, Option, Result, Ok, Err, ◌≤◌, length, refl, sym, ap, subst, ◌∙◌, append-nil}
+use Rattle.std.proofs.Common.{◌≡◌, sym, subst, ◌∙◌, ℕ, List, [], ◌∷◌, Option, Result, Ok, Err, ◌≤◌, length, refl, ap, append-nil}
+use Rattle.fip_tool.specs.Steps.{MayTear, NoneUnwritten, Makes, CommandStep, Writes, Prints, Are, Did, PrintedText, outcome_by, with_file}
+use Rattle.fip_making.proofs.Tables.{rose-still, rose-from}
 use Rattle.std.specs.Io.KnownBytes.{Appends}
 use Rattle.base_core.specs.Counts.{Rose}
 use Rattle.host_io.specs.Contents.{Directory}
@@ -8,17 +10,26 @@ use Rattle.host_io.specs.declared.writes.Writes as count
 use Rattle.fip_tool.specs.Lines.{made_line, manifest_line}
 use Rattle.fip_making.specs.Payloads.{joined_pieces, made_bytes}
 use Rattle.fip_making.specs.declared.made.Made.{Made}
-use Rattle.fip_tool.specs.Steps.{Makes, CommandStep, Writes, Prints, Are, Did, PrintedText, outcome_by, with_file}
-use Rattle.fip_tool.specs.Torn.{MayTear}
 use Rattle.fip_tool.specs.Tool.{puts, writes_manifest}
 use Rattle.fip_tool.specs.declared.lines.Format.{Format}
-use Rattle.fip_tool.specs.declared.lines.Format.TheVariants as kind
 use Rattle.fip_making.specs.declared.stops.Stop.{Stop}
 use Rattle.fip_making.specs.declared.stops.Stop.TheVariants as stop
 use Rattle.fip_tool.proofs.Did.{made-steps}
-use Rattle.fip_making.proofs.Tables.{rose-from}
 use Rattle.fip_tool.proofs.Texts.{appends-same}
-use Rattle.fip_tool.proofs.Torn.{tears-since}
+
+-- ---- files that may be torn
+
+-- what may be torn since no write was made, or since none failed
+pub tears-since : {mid before : count.Writes} (after : count.Writes) → mid ≡ before → MayTear mid after → MayTear before after
+tears-since after same tears = subst (λ (w : count.Writes). MayTear w after) same tears
+
+pub tears-still : (before mid after : count.Writes) → NoneUnwritten before mid → MayTear mid after → MayTear before after
+tears-still before mid after none tears = (rose-still _ _ _ (sym none.0) tears.0, rose-still _ _ _ (sym none.1) tears.1)
+
+pub none-unwritten : (before mid after : count.Writes) → NoneUnwritten before mid → NoneUnwritten mid after → NoneUnwritten before after
+none-unwritten before mid after first next = (next.0 ∙ first.0, next.1 ∙ first.1)
+
+-- ---- what a writing and a line leave
 
 -- what a frame's and pieces' slices make
 pub joined-made : (files : Directory) (m : Made) (frame : List ℕ) (pieces : List Piece) → frame ≡ m.frame.bytes.items → pieces ≡ m.pieces.items → joined_pieces files frame pieces ≡ made_bytes files m
@@ -30,13 +41,9 @@ pub made-put : (format : Format) (files : Directory) (out : List ℕ) (value : R
     → Did (Makes (Writes out laid ∷ Prints line ∷ [])) files now was text (Rose b c) (MayTear s t) sink-rose r
     → Did (outcome_by (puts format out) value) files now was text (Rose a c) (MayTear k t) sink-rose r
 made-put format files out value n bytes laid line now was text a b c k s t sink-rose r v is lined le kept did =
-    let steps : Writes out laid ∷ Prints line ∷ [] ≡ puts format out (n, bytes) = ap (λ (l : List ℕ). Writes out l ∷ Prints line ∷ []) is ∙ ap (λ (l : List ℕ). Writes out bytes ∷ Prints l ∷ []) lined ∙ spelled format in
+    let steps : Writes out laid ∷ Prints line ∷ [] ≡ puts format out (n, bytes) = ap (λ (l : List ℕ). Writes out l ∷ Prints line ∷ []) is ∙ ap (λ (l : List ℕ). Writes out bytes ∷ Prints l ∷ []) lined in
     made-steps (puts format out) value (n, bytes) files now was text (Rose b c) (Rose a c) (MayTear s t) (MayTear k t) sink-rose r v (rose-from a b c le) (tears-since t (sym kept))
     (subst (λ (l : List CommandStep). Did (Makes l) files now was text (Rose b c) (MayTear s t) sink-rose r) steps did)
-  where
-    spelled : (f : Format) → ◌≡◌ {A = List CommandStep} (Writes out bytes ∷ Prints (made_line f n (length bytes)) ∷ []) (puts f out (n, bytes))
-    spelled kind.Package = refl
-    spelled kind.Capsule = refl
 
 pub then-printed : (files : Directory) (now : Option Directory) (was text : Option (List ℕ)) (files-rose spoiled sink-rose : Type 0) (name bytes line : List ℕ) (r : Result (Unit {0}) Stop)
     → Are now (with_file name bytes files) → PrintedText was text sink-rose line r → Did (Makes (Writes name bytes ∷ Prints line ∷ [])) files now was text files-rose spoiled sink-rose r

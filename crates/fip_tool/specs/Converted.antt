@@ -1,5 +1,5 @@
 -- What the conversions between packages and capsules keep: the types and the payloads, in their order.
-use Rattle.std.specs.Prelude.{◌≡◌, ⊤, ℕ, List, Option, Some, Ok, map}
+use Rattle.std.specs.Prelude.{◌≡◌, ⊤, ℕ, List, Option, Some, Result, Ok, map}
 use Rattle.host_io.specs.Contents.{Directory}
 use Rattle.fwu_formats.specs.Package.{Toc, payload, toc_of}
 use Rattle.fwu_formats.specs.Capsule.{capsule_of}
@@ -11,28 +11,19 @@ pub record KeepsAll (old : List ℕ) (was : Toc) (new : List ℕ) (is : Toc) : T
   pub types : map (λ e. e.guid) is.entries ≡ map (λ e. e.guid) was.entries
   pub payloads : map (payload new) is.entries ≡ map (payload old) was.entries
 
--- one file was a package, and the other is a capsule of it
-pub record IsEnclosed (files : Directory) (now : Option Directory) (from out : List ℕ) : Type 0 where
+-- one file had a table by one reading, and the other has one by another reading, of which it keeps all
+pub record IsConverted {F G : Type 0} (read : List ℕ → Result Toc F) (read_again : List ℕ → Result Toc G) (files : Directory)
+    (now : Option Directory) (from out : List ℕ) : Type 0 where
   pub old : List ℕ
   pub new : List ℕ
   pub was : Toc
   pub is : Toc
-  pub given : (files from ≡ Some old) × (toc_of old ≡ Ok was)
-  pub made : Tells now out new × (capsule_of new ≡ Ok is)
-  pub keeps : KeepsAll old was new is
-
--- one file was a capsule, and the other is a package of it
-pub record IsPackaged (files : Directory) (now : Option Directory) (from out : List ℕ) : Type 0 where
-  pub old : List ℕ
-  pub new : List ℕ
-  pub was : Toc
-  pub is : Toc
-  pub given : (files from ≡ Some old) × (capsule_of old ≡ Ok was)
-  pub made : Tells now out new × (toc_of new ≡ Ok is)
+  pub given : (files from ≡ Some old) × (read old ≡ Ok was)
+  pub made : Tells now out new × (read_again new ≡ Ok is)
   pub keeps : KeepsAll old was new is
 
 -- what a command that is a conversion has done
 abbrev pub Converts : Option FipAsked → Directory → Option Directory → Type 0
-Converts (Some (capsule from out)) files now = IsEnclosed files now from out
-Converts (Some (repackage align from out)) files now = IsPackaged files now from out
+Converts (Some (capsule from out)) files now = IsConverted toc_of capsule_of files now from out
+Converts (Some (repackage align from out)) files now = IsConverted capsule_of toc_of files now from out
 Converts other files now = ⊤

@@ -1,21 +1,23 @@
 -- What is done for what the words ask for, by its result.
-use Rattle.std.specs.Prelude.{◌≡◌, ◌≢◌, ◌≤◌, ◌⊎◌, ℕ, List, Option, Some, None, Result, Err, IfErr, IsFalse}
+use Rattle.std.specs.Prelude.{◌≡◌, ◌≢◌, ◌≤◌, ◌⊎◌, ◌∷◌, [], ℕ, List, Option, Some, None, Result, Err, IfErr, IsFalse, OnOk, false}
 use Rattle.base_core.specs.Counts.{Rose}
+use Rattle.fwu_formats.specs.Package.{Entry}
 use Rattle.fip_words.specs.Order.{FipAsked, info_of_source}
-use Rattle.host_io.specs.Access.{Access}
+use Rattle.fip_words.specs.Values.{is_unpacked}
+use Rattle.host_io.specs.Access.{Access, Asks, Makes}
 use Rattle.host_io.specs.Contents.{Directory}
 use Rattle.host_io.specs.Once.{ReadsOnce}
 use Rattle.host_io.specs.declared.files.Files as files
 use Rattle.host_io.specs.declared.source.Source as source
 use Rattle.host_io.specs.declared.sink.Sink as sink
 use Rattle.fip_making.specs.Stops.{status_number}
-use Rattle.fip_tool.specs.Names.{IsRefusalStatus, IsUnneeded, IsUnnamedBy}
-use Rattle.fip_tool.specs.Refusals.{MayRefuse}
+use Rattle.fip_tool.specs.Lines.{unpacked_line, unpacked_name}
+use Rattle.fip_tool.specs.Names.{IsRefusalStatus, IsUnneeded, IsUnnamedBy, MayRefuse}
 use Rattle.fip_tool.specs.Said.{IsMadeLine, IsTexts, IsTextsOf}
 use Rattle.fip_tool.specs.Seen.{DidIn, ReadSourceIn, SaysIn, WroteForIn, WroteIn}
-use Rattle.fip_tool.specs.Steps.{FaultsOnce, sink_failures}
+use Rattle.fip_tool.specs.Steps.{FaultsOnce, Makes, NoneUnwritten, sink_failures}
 use Rattle.fip_making.specs.Answers.{IsLate, source_failures}
-use Rattle.fip_tool.specs.Tool.{asks_files, command_outcome, outcome_of}
+use Rattle.fip_tool.specs.Tool.{asks_files, command_outcome, outcome_of, unpack_steps}
 use Rattle.fip_tool.specs.declared.lines.Format.{Format}
 use Rattle.fip_making.specs.declared.made.Made.{Made}
 use Rattle.fip_making.specs.declared.stops.Stop.{Stop}
@@ -39,6 +41,21 @@ pub record WritesTexts {H O : Type 0} (h : files.Ghosts H) (o : sink.Ghosts O) (
   pub later : h.faults files_before ≤ h.faults files_after
   pub later_sink : o.faults sink_before ≤ o.faults sink_after
   pub sink_count : o.faults sink_after ≡ sink_failures result (o.faults sink_before)
+
+-- What was done for one entry of the package in the file `from`, by its result.
+pub record Unpacked {H O : Type 0} (h : files.Ghosts H) (o : sink.Ghosts O) (from prefix : List ℕ) (entry : Entry)
+    (result : Result (Unit {0}) Stop) (files_before files_after : H) (sink_before sink_after : O) : Type 0 where
+  pub told : (told : Directory) (bytes : List ℕ) → h.contents files_before ≡ Some told → told from ≡ Some bytes
+      → DidIn h o (Makes (unpack_steps prefix bytes (entry ∷ []))) told files_before files_after sink_before sink_after result
+  -- the file that is read is not the one that is written
+  pub other : OnOk result (is_unpacked prefix from ≡ false → from ≢ unpacked_name prefix entry.guid)
+  pub silent : h.contents files_before ≡ None → h.contents files_after ≡ None
+  pub unspoiled : OnOk result (NoneUnwritten (h.writes files_before) (h.writes files_after))
+  pub texts : WritesTexts h o (λ texts. texts ≡ unpacked_line prefix entry ∷ []) result files_before files_after sink_before
+      sink_after
+  -- its payload's file is made, and no other than the package asked for
+  pub spares : (access : Access) → access ≢ Asks from → ((guid : List ℕ) → access ≢ Makes (unpacked_name prefix guid))
+      → h.spares files_before files_after access
 
 -- What was done for an order that asks for files. A status is not told yet, nor a line that says why the command stopped.
 pub record DoneWithFiles {H O : Type 0} (h : files.Ghosts H) (o : sink.Ghosts O) (asked : FipAsked)

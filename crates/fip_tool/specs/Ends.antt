@@ -47,12 +47,6 @@ exit_status (Err s) = status_number s
 abbrev pub HasCauseOf : CommandPlan → Type 0 → Stop → Type 0
 HasCauseOf outcome files-rose s = (outcome ≡ Refuses s) ⊎ ((s ≡ stop.FileFault) × files-rose)
 
--- the text of the first n steps, and a front of a stop's line
-abbrev pub SaidStop : ℕ → CommandPlan → Option (List ℕ) → Option (List ℕ) → Type 0 → Type 0
-SaidStop n outcome was text files-rose =
-    (s : Stop) × HasCauseOf outcome files-rose s
-    × (k : ℕ) × Appends was text (printed (take n (steps_in_plan outcome)) ++ take k (stop_line s))
-
 -- The sink failed behind the first n steps: at the text of the next one, or at the line of a stop.
 abbrev pub SinkFailed : ℕ → CommandPlan → Directory → Option Directory → Option (List ℕ) → Option (List ℕ) → Type 0 → Type 0
     → Type 0
@@ -60,7 +54,8 @@ SinkFailed n outcome files now was text files-rose spoiled =
     (Are now (written (take n (steps_in_plan outcome)) files)
     × ((k : ℕ) × Appends was text (printed (take n (steps_in_plan outcome)) ++ half_printed k (drop n (steps_in_plan outcome))))
     × IsPrinting (drop n (steps_in_plan outcome)))
-    ⊎ (StandAfter n outcome files now spoiled × SaidStop n outcome was text files-rose)
+    ⊎ (StandAfter n outcome files now spoiled × ((s : Stop) × HasCauseOf outcome files-rose s
+    × (k : ℕ) × Appends was text (printed (take n (steps_in_plan outcome)) ++ take k (stop_line s))))
 
 -- How the tool ended. The files were `files` and the told contents are `now`; the sink's text was `was` and is `text`.
 -- Where it stopped, the files are those after the first steps, but for one whose writing failed.

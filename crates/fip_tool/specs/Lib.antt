@@ -1,5 +1,4 @@
 pub mod Steps
-pub mod Torn
 pub mod Lines
 pub mod Tool
 pub mod Ends
@@ -8,7 +7,4 @@ pub mod Wrote
 pub mod Seen
 pub mod Converted
 pub mod Done
-pub mod Unpacked
-pub mod Refusals
-pub mod Complete
 pub mod Names

@@ -1,7 +1,13 @@
--- Which accesses to files the words don't name, and which a refusal has no use for.
-use Rattle.std.specs.Prelude.{◌≡◌, ◌≢◌, ◌≤◌, ⊤, ℕ, List, Option, Some, None, All}
+-- Which accesses to files the words don't name, which a refusal has no use for, and which stops what the words ask for may end with,
+-- whatever files there are.
+use Rattle.std.specs.Prelude.{◌≡◌, ◌≢◌, ◌≤◌, ◌⊎◌, ⊤, ℕ, List, Option, Some, None, All}
 use Rattle.host_io.specs.Access.{Access, Asks, Makes}
 use Rattle.fip_words.specs.Order.{FipAsked, info, info_of_source, create, update, remove, unpack, manifest, capsule, repackage}
+use Rattle.fip_making.specs.Stops.{status_number}
+use Rattle.fip_making.specs.Answers.{IsLate}
+use Rattle.fip_making.specs.declared.stops.Stop.{Stop}
+use Rattle.fip_making.specs.declared.stops.Stop.TheVariants as stop
+use Rattle.fip_making.specs.Refusals.{IsOfEnclosing, IsOfEntries, IsManifestStop, IsPackageStop, IsOfPackaging, IsOfPacking, IsOfRepacking, IsOfSource}
 use Rattle.fip_tool.specs.Lines.{unpacked_name}
 
 -- it asks for none of the files that are to be read, and makes none of those that are to be made
@@ -42,3 +48,23 @@ IsUnneeded None status access = ⊤
 IsUnneeded (Some (update align from out parts)) status access =
     (access ≢ Asks from) × (status ≡ 6 → All (λ p. access ≢ Asks p.file) parts)
 IsUnneeded (Some asked) status access = IsUnasked asked access
+
+-- ---- stops
+
+-- what the words ask for may end so
+abbrev pub MayRefuse : Option FipAsked → Stop → Type 0
+MayRefuse None stop.Usage = ⊤
+MayRefuse None s = IsLate s
+MayRefuse (Some (info file)) s = IsPackageStop s
+MayRefuse (Some info_of_source) s = IsOfSource s
+MayRefuse (Some (create align out parts)) s = IsOfPacking s
+MayRefuse (Some (update align from out parts)) s = IsOfRepacking s
+MayRefuse (Some (remove align from out names)) s = IsOfRepacking s
+MayRefuse (Some (unpack from prefix names)) s = IsOfEntries s
+MayRefuse (Some (manifest out security rows)) s = IsManifestStop s
+MayRefuse (Some (capsule from out)) s = IsOfEnclosing s
+MayRefuse (Some (repackage align from out)) s = IsOfPackaging s
+
+-- By the status: all was done, or a stop came that is one of what was asked for.
+abbrev pub EndsFor : Option FipAsked → ℕ → Type 0
+EndsFor asked status = (status ≡ 0) ⊎ ((s : Stop) × MayRefuse asked s × (status ≡ status_number s))

@@ -5,7 +5,7 @@ use Rattle.fwu_formats.specs.Package.{Toc}
 use Rattle.capsule_tables.specs.Answers.{IsSomeTable}
 use Rattle.fip_words.specs.Order.{FipAsked, info, info_of_source, create, update, remove, unpack, manifest, capsule, repackage}
 use Rattle.fip_tool.specs.Lines.{capsule_line, info_text, made_line, manifest_line, packed_line, unpacked_line}
-use Rattle.fip_tool.specs.Ends.{exit_status, stop_line}
+use Rattle.fip_tool.specs.Ends.{stop_line}
 use Rattle.fip_tool.specs.Tool.{chosen}
 use Rattle.fip_making.specs.Values.{first_missing, is_named, IsTableOfSome}
 use Rattle.fip_tool.specs.declared.lines.Format.{Format}
@@ -82,11 +82,6 @@ SaysAll T was text sink-rose (Err SinkFault) =
     ⊎ ((s : Stop) × (said : List ℕ) × IsBefore T s said × (k : ℕ) × Appends was text (said ++ take k (stop_line s))))
 SaysAll T was text sink-rose (Err NoMemory) = (said : List ℕ) × IsBegunText T said × Appends was text said
 SaysAll T was text sink-rose (Err s) = (said : List ℕ) × IsBefore T s said × Appends was text (said ++ stop_line s)
-
--- and by the status
-abbrev pub SaidWith : Option FipAsked → Option (List ℕ) → Option (List ℕ) → Type 0 → ℕ → Type 0
-SaidWith asked was text sink-rose status =
-    (result : Result (Unit {0}) Stop) × (status ≡ exit_status result) × SaysAll (IsTextsOf asked) was text sink-rose result
 
 -- Where the sink failed, no call of this count failed, unless the line that tells so is cut.
 abbrev pub SinkAlone : Option FipAsked → Option (List ℕ) → Option (List ℕ) → ℕ → ℕ → Type 0

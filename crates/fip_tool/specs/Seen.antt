@@ -1,27 +1,20 @@
 -- What was done, as files, a source and a sink tell it. A word `DidIn` is `Did` with what those tell and count: it takes how
 -- their types tell it, and each of them before and after.
-use Rattle.std.specs.Prelude.{ℕ, List, Option, Result}
+use Rattle.std.specs.Prelude.{◌≡◌, ◌⊎◌, ℕ, List, Option, Some, Result, Ok, Err}
 use Rattle.base_core.specs.Counts.{Rose}
 use Rattle.fip_words.specs.Order.{FipAsked}
 use Rattle.host_io.specs.Contents.{Directory}
 use Rattle.host_io.specs.declared.files.Files as files
 use Rattle.host_io.specs.declared.source.Source as source
 use Rattle.host_io.specs.declared.sink.Sink as sink
-use Rattle.fip_tool.specs.Ends.{CommandEnded, Reported, StopTold}
-use Rattle.fip_tool.specs.Said.{SaidWith, Says, SinkAlone}
-use Rattle.fip_tool.specs.Steps.{Did, CommandPlan, PrintedText, Written}
-use Rattle.fip_tool.specs.Torn.{MayTear}
-use Rattle.fip_tool.specs.Tool.{EndedSource, ReadSource}
-use Rattle.fip_tool.specs.Wrote.{CommandWrote, WroteFor, WroteWith}
+use Rattle.fip_tool.specs.Ends.{Reported, exit_status}
+use Rattle.fip_tool.specs.Said.{IsTextsOf, Says, SaysAll, SinkAlone}
+use Rattle.fip_tool.specs.Steps.{Did, CommandPlan, MayTear, PrintedText, outcome_by}
+use Rattle.fip_tool.specs.Tool.{IsReadFor, given_value, no_files, prints}
+use Rattle.fip_tool.specs.Wrote.{CommandWrote, WroteFor}
+use Rattle.fip_making.specs.Stops.{status_number}
+use Rattle.fip_making.specs.Values.{StopsInTime}
 use Rattle.fip_making.specs.declared.stops.Stop.{Stop}
-
--- ---- in files
-
--- of told files, of which one with this name is to have these bytes
-abbrev pub WrittenIn : {H : Type 0} → files.Ghosts H → Directory → List ℕ → List ℕ → H → H → Result (Unit {0}) Stop → Type 0
-WrittenIn h told name bytes old new result =
-    Written told (h.contents new) (Rose (h.faults old) (h.faults new)) (MayTear (h.writes old) (h.writes new))
-    name bytes result
 
 -- ---- in a sink
 
@@ -31,14 +24,11 @@ PrintedIn o piece old new result = PrintedText (o.taken old) (o.taken new) (Rose
 abbrev pub SaysIn : {O : Type 0} → sink.Ghosts O → (List (List ℕ) → Type 0) → O → O → Result (Unit {0}) Stop → Type 0
 SaysIn o T old new result = Says T (o.taken old) (o.taken new) (Rose (o.faults old) (o.faults new)) result
 
-abbrev pub ToldIn : {O : Type 0} → sink.Ghosts O → Stop → O → O → Stop → Type 0
-ToldIn o s old new now = StopTold (o.taken old) (o.taken new) (Rose (o.faults old) (o.faults new)) s now
-
-abbrev pub ReportedIn : {O : Type 0} → sink.Ghosts O → Stop → O → O → Stop → Type 0
-ReportedIn o s old new now = Reported (o.taken old) (o.taken new) (Rose (o.faults old) (o.faults new)) s now
-
+-- By the status: what was printed in all.
 abbrev pub SaidWithIn : {O : Type 0} → sink.Ghosts O → Option FipAsked → O → O → ℕ → Type 0
-SaidWithIn o asked old new status = SaidWith asked (o.taken old) (o.taken new) (Rose (o.faults old) (o.faults new)) status
+SaidWithIn o asked old new status =
+    (result : Result (Unit {0}) Stop) × (status ≡ exit_status result)
+    × SaysAll (IsTextsOf asked) (o.taken old) (o.taken new) (Rose (o.faults old) (o.faults new)) result
 
 -- of a count of other calls that failed, before and after
 abbrev pub SinkAloneIn : {O : Type 0} → sink.Ghosts O → Option FipAsked → O → O → ℕ → ℕ → Type 0
@@ -68,26 +58,20 @@ abbrev pub WroteForIn : {H O : Type 0} → files.Ghosts H → sink.Ghosts O → 
 WroteForIn h o asked files-old files-new old new result =
     WroteFor asked (o.taken old) (o.taken new) (h.writes files-old).done (h.writes files-new).done result
 
-abbrev pub EndedIn : {H O : Type 0} → files.Ghosts H → sink.Ghosts O → CommandPlan → Directory → H → H → O → O → ℕ → Type 0
-EndedIn h o outcome told files-old files-new old new status =
-    CommandEnded outcome told (h.contents files-new) (o.taken old) (o.taken new) (Rose (h.faults files-old) (h.faults files-new))
-    (MayTear (h.writes files-old) (h.writes files-new)) (Rose (o.faults old) (o.faults new)) status
-
+-- And by the exit status. Where a command stopped, the line that tells why stands behind what it printed.
 abbrev pub WroteWithIn : {H O : Type 0} → files.Ghosts H → sink.Ghosts O → Option FipAsked → H → H → O → O → ℕ → Type 0
 WroteWithIn h o asked files-old files-new old new status =
-    WroteWith asked (o.taken old) (o.taken new) (Rose (o.faults old) (o.faults new))
-    (h.writes files-old).done (h.writes files-new).done status
+    ((status ≡ 0) × WroteForIn h o asked files-old files-new old new (Ok tt))
+    ⊎ ((s : Stop) × (now : Stop) × (printed : Option (List ℕ))
+    × WroteFor asked (o.taken old) printed (h.writes files-old).done (h.writes files-new).done (Err s)
+    × Reported printed (o.taken new) (Rose (o.faults old) (o.faults new)) s now × (status ≡ status_number now))
 
 -- ---- in a source and a sink, with what files tell before and after
 
+-- What was done of a listing of the source, by its result. No file was touched.
 abbrev pub ReadSourceIn : {I O : Type 0} → source.Ghosts I → sink.Ghosts O → Option Directory → Option Directory → I → I → O → O
     → Result (Unit {0}) Stop → Type 0
 ReadSourceIn i o told now source-old source-new old new result =
-    ReadSource result told now (i.left source-old) (i.left source-new) (o.taken old) (o.taken new)
-    (Rose (i.faults source-old) (i.faults source-new)) (Rose (o.faults old) (o.faults new))
-
-abbrev pub EndedSourceIn : {I O : Type 0} → source.Ghosts I → sink.Ghosts O → Option Directory → Option Directory → I → I → O → O
-    → ℕ → Type 0
-EndedSourceIn i o told now source-old source-new old new status =
-    EndedSource status told now (i.left source-old) (i.left source-new) (o.taken old) (o.taken new)
-    (Rose (i.faults source-old) (i.faults source-new)) (Rose (o.faults old) (o.faults new))
+    (given : List ℕ) × StopsInTime given × (now ≡ told) × IsReadFor result (i.left source-old) (i.left source-new) given
+    × Did (outcome_by prints (given_value given)) no_files (Some no_files) (o.taken old) (o.taken new)
+    (Rose (i.faults source-old) (i.faults source-new)) ⊥ (Rose (o.faults old) (o.faults new)) result

@@ -2,8 +2,10 @@
 use Rattle.std.specs.Prelude.{◌≡◌, ◌≢◌, ◌⊎◌, ◌+◌, ◌≤◌, ◌==◌, ◌||◌, IsFalse, ⊤, ℕ, List, [], ◌∷◌, ◌++◌, Option, Some, None, Result, Ok, Err, if◌then◌else◌, take, drop}
 use Rattle.std.specs.Str.{bytes_eq}
 use Rattle.std.specs.Io.KnownBytes.{Appends}
+use Rattle.base_core.specs.Counts.{Rose}
 use Rattle.host_io.specs.Calls.{raised}
 use Rattle.host_io.specs.Contents.{Directory}
+use Rattle.host_io.specs.declared.writes.Writes as count
 use Rattle.fip_making.specs.declared.stops.Stop.{Stop}
 use Rattle.fip_making.specs.declared.stops.Stop.TheVariants.{FileFault, SinkFault, NoMemory}
 use Rattle.fip_making.specs.Answers.{NoneFailed}
@@ -133,6 +135,16 @@ pub record FailsOnceAt (status before after : ℕ) : Type 0 where
   pub once : (after ≡ before) ⊎ (after ≡ raised before)
   pub failed : status ≡ 2 → after ≡ raised before
   pub none : IsFalse ((status == 2) || ((status == 3) || (status == 9))) → after ≡ before
+
+-- ---- one writing
+
+-- a write failed that may have torn its file
+abbrev pub MayTear : count.Writes → count.Writes → Type 0
+MayTear before after = Rose before.failed after.failed × Rose before.torn after.torn
+
+-- no write failed
+abbrev pub NoneUnwritten : count.Writes → count.Writes → Type 0
+NoneUnwritten before after = (after.failed ≡ before.failed) × (after.torn ≡ before.torn)
 
 -- what the writing of a file leaves: one that failed, all as it was, or its file torn
 abbrev pub Written : Directory → Option Directory → Type 0 → Type 0 → List ℕ → List ℕ → Result (Unit {0}) Stop → Type 0

@@ -1,13 +1,15 @@
 -- What each command of `fip` does, by the bytes of its files: the written files and the printed text.
 use Rattle.std.specs.Prelude.{◌≡◌, ◌⊎◌, ℕ, Bool, true, false, List, [], ◌∷◌, Option, Some, None, Result, Ok, Err, length, filter}
 use Rattle.std.specs.Io.KnownBytes.{Consumes, IsAtEnd}
+use Rattle.base_core.specs.Counts.{Rose}
 use Rattle.host_io.specs.Contents.{Directory}
+use Rattle.host_io.specs.declared.writes.Writes as count
 use Rattle.fwu_formats.specs.Package.{Entry, payload, toc_of}
 use Rattle.fip_tables.specs.Answers.{decided}
 use Rattle.fip_words.specs.Order.{FipAsked, info, info_of_source, create, update, remove, unpack, manifest, capsule, repackage}
-use Rattle.fip_tool.specs.Lines.{capsule_line, info_text, manifest_line, packed_line, unpacked_line, unpacked_name}
-use Rattle.fip_tool.specs.Ends.{EndedBy, exit_status}
-use Rattle.fip_tool.specs.Steps.{Did, CommandPlan, Refuses, CommandStep, Writes, Prints, outcome_by}
+use Rattle.fip_tool.specs.Lines.{info_text, made_line, manifest_line, unpacked_line, unpacked_name}
+use Rattle.fip_tool.specs.Ends.{CommandEnded, EndedBy, exit_status}
+use Rattle.fip_tool.specs.Steps.{CommandPlan, Makes, MayTear, Refuses, CommandStep, Writes, Prints, outcome_by}
 use Rattle.fip_tool.specs.declared.lines.Format.{Format}
 use Rattle.fip_tool.specs.declared.lines.Format.TheVariants as format
 use Rattle.fip_making.specs.declared.stops.Stop.{Stop}
@@ -27,16 +29,9 @@ given_value given = after (given_table given) (λ t. Ok (info_text t.0 t.1))
 
 -- ---- packages and capsules that are made
 
-abbrev pub encloses : List ℕ → ℕ × List ℕ → List CommandStep
-encloses out made = Writes out made.1 ∷ Prints (capsule_line made.0 (length made.1)) ∷ []
-
-abbrev pub packs : List ℕ → ℕ × List ℕ → List CommandStep
-packs out made = Writes out made.1 ∷ Prints (packed_line made.0 (length made.1)) ∷ []
-
 -- the steps for a package or a capsule that was made
 abbrev pub puts : Format → List ℕ → ℕ × List ℕ → List CommandStep
-puts format.Package out = packs out
-puts format.Capsule out = encloses out
+puts kind out made = Writes out made.1 ∷ Prints (made_line kind made.0 (length made.1)) ∷ []
 
 -- ---- payloads that are written
 
@@ -65,13 +60,13 @@ writes_manifest out security made = Writes out made.1 ∷ Prints (manifest_line 
 abbrev pub command_outcome : FipAsked → Directory → CommandPlan
 command_outcome (info file) files = outcome_by prints (info_value files file)
 command_outcome info_of_source files = Refuses stop.Usage
-command_outcome (create align out parts) files = outcome_by (packs out) (create_value files align parts)
-command_outcome (update align from out parts) files = outcome_by (packs out) (update_value files align from parts)
-command_outcome (remove align from out names) files = outcome_by (packs out) (remove_value files align from names)
+command_outcome (create align out parts) files = outcome_by (puts format.Package out) (create_value files align parts)
+command_outcome (update align from out parts) files = outcome_by (puts format.Package out) (update_value files align from parts)
+command_outcome (remove align from out names) files = outcome_by (puts format.Package out) (remove_value files align from names)
 command_outcome (unpack from prefix names) files = outcome_by (λ v. unpack_steps prefix v.0 v.1) (unpack_value files from names)
 command_outcome (manifest out security rows) files = outcome_by (writes_manifest out security) (manifest_value files security rows)
-command_outcome (capsule from out) files = outcome_by (encloses out) (capsule_value files from)
-command_outcome (repackage align from out) files = outcome_by (packs out) (repackage_value files align from)
+command_outcome (capsule from out) files = outcome_by (puts format.Capsule out) (capsule_value files from)
+command_outcome (repackage align from out) files = outcome_by (puts format.Package out) (repackage_value files align from)
 
 abbrev pub outcome_of : Option FipAsked → Directory → CommandPlan
 outcome_of None files = Refuses stop.Usage
@@ -80,15 +75,8 @@ outcome_of (Some asked) files = command_outcome asked files
 -- all but usage and a listing of the source ask for a file
 abbrev pub asks_files : Option FipAsked → Bool
 asks_files None = false
-asks_files (Some (info file)) = true
 asks_files (Some info_of_source) = false
-asks_files (Some (create align out parts)) = true
-asks_files (Some (update align from out parts)) = true
-asks_files (Some (remove align from out names)) = true
-asks_files (Some (unpack from prefix names)) = true
-asks_files (Some (manifest out security rows)) = true
-asks_files (Some (capsule from out)) = true
-asks_files (Some (repackage align from out)) = true
+asks_files (Some asked) = true
 
 -- no files at all
 abbrev pub no_files : Directory
@@ -100,17 +88,28 @@ IsReadFor (Ok done) was left given = Consumes was left given × IsAtEnd left
 IsReadFor (Err (stop.NotFip f)) was left given = Consumes was left given × (IsAtEnd left ⊎ (decided (toc_of given) ≡ Err f))
 IsReadFor (Err s) was left given = Consumes was left given
 
--- What was done of a listing of the source, by its result. No file was touched.
-abbrev pub ReadSource : Result (Unit {0}) Stop → Option Directory → Option Directory → Option (List ℕ) → Option (List ℕ)
-    → Option (List ℕ) → Option (List ℕ) → Type 0 → Type 0 → Type 0
-ReadSource result told now left-was left was text source-rose sink-rose =
-    (given : List ℕ) × StopsInTime given × (now ≡ told) × IsReadFor result left-was left given
-    × Did (outcome_by prints (given_value given)) no_files (Some no_files) was text source-rose ⊥ sink-rose result
-
--- and how the tool ended then
+-- How the tool ended that listed the source. No file was touched.
 abbrev pub EndedSource : ℕ → Option Directory → Option Directory → Option (List ℕ) → Option (List ℕ)
     → Option (List ℕ) → Option (List ℕ) → Type 0 → Type 0 → Type 0
 EndedSource status told now left-was left was text source-rose sink-rose =
     (given : List ℕ) × StopsInTime given × (now ≡ told) × (result : Result (Unit {0}) Stop) × (status ≡ exit_status result)
     × IsReadFor result left-was left given
     × EndedBy (outcome_by prints (given_value given)) no_files (Some no_files) was text source-rose ⊥ sink-rose result
+
+-- ---- when all is done
+
+-- Where what is read is there and nothing refuses it, and no call failed, all is done, unless memory was wanting.
+abbrev pub IsCompleteCommand : Type 0
+IsCompleteCommand =
+    (steps : List CommandStep) (files : Directory) (now : Option Directory) (was text : Option (List ℕ)) (f g s t status : ℕ)
+    (w x : count.Writes) → CommandEnded (Makes steps) files now was text (Rose f g) (MayTear w x) (Rose s t) status
+    → (Rose f g → ⊥) → (Rose s t → ⊥) → (status ≡ 0) ⊎ (status ≡ 9)
+
+-- A listing of the source, where what it gave is a package: no call of the source or of the sink failed, and so all of it is
+-- listed, unless memory was wanting.
+abbrev pub IsCompleteListing : Type 0
+IsCompleteListing =
+    (told now : Option Directory) (left_before left was text : Option (List ℕ)) (f g s t status : ℕ) (steps : List CommandStep)
+    → (e : EndedSource status told now left_before left was text (Rose f g) (Rose s t))
+    → outcome_by prints (given_value e.0) ≡ Makes steps
+    → (Rose f g → ⊥) → (Rose s t → ⊥) → (status ≡ 0) ⊎ (status ≡ 9)

@@ -2,9 +2,7 @@
 use Rattle.std.specs.Prelude.{◌≡◌, ◌⊎◌, ◌+◌, ◌<◌, ◌≤◌, ℕ, zero, suc, List, [], ◌++◌, Option, Some, None, Result, Ok, Err, length, take, drop}
 use Rattle.std.specs.Io.KnownBytes.{Appends}
 use Rattle.host_io.specs.Calls.{raised}
-use Rattle.fip_words.specs.Order.{FipAsked, info, info_of_source, create, update, remove, unpack, manifest, capsule, repackage}
-use Rattle.fip_tool.specs.Ends.{Reported}
-use Rattle.fip_making.specs.Stops.{status_number}
+use Rattle.fip_words.specs.Order.{FipAsked, info, info_of_source}
 use Rattle.fip_tool.specs.Said.{IsTexts, half_of, joined_texts}
 use Rattle.fip_making.specs.Answers.{IsLate}
 use Rattle.fip_making.specs.declared.stops.Stop.{Stop}
@@ -60,29 +58,9 @@ abbrev pub CommandWrote : (List (List ℕ) → Type 0) → Option (List ℕ) →
 CommandWrote T was text before after (Ok done) = WroteAll T was text before after
 CommandWrote T was text before after (Err s) = WroteNone was text before after ⊎ (IsLate s × WroteSome T s was text before after)
 
--- a listing writes nothing
+-- usage and a listing write nothing
 abbrev pub WroteFor : Option FipAsked → Option (List ℕ) → Option (List ℕ) → ℕ → ℕ → Result (Unit {0}) Stop → Type 0
 WroteFor None was text before after result = after ≡ before
 WroteFor (Some (info file)) was text before after result = after ≡ before
 WroteFor (Some info_of_source) was text before after result = after ≡ before
-WroteFor (Some (create align out parts)) was text before after result =
-    CommandWrote (IsTexts (create align out parts)) was text before after result
-WroteFor (Some (update align from out parts)) was text before after result =
-    CommandWrote (IsTexts (update align from out parts)) was text before after result
-WroteFor (Some (remove align from out names)) was text before after result =
-    CommandWrote (IsTexts (remove align from out names)) was text before after result
-WroteFor (Some (unpack from prefix names)) was text before after result =
-    CommandWrote (IsTexts (unpack from prefix names)) was text before after result
-WroteFor (Some (manifest out security rows)) was text before after result =
-    CommandWrote (IsTexts (manifest out security rows)) was text before after result
-WroteFor (Some (capsule from out)) was text before after result =
-    CommandWrote (IsTexts (capsule from out)) was text before after result
-WroteFor (Some (repackage align from out)) was text before after result =
-    CommandWrote (IsTexts (repackage align from out)) was text before after result
-
--- And by the exit status. Where a command stopped, the line that tells why stands behind what it printed.
-abbrev pub WroteWith : Option FipAsked → Option (List ℕ) → Option (List ℕ) → Type 0 → ℕ → ℕ → ℕ → Type 0
-WroteWith asked was text sink-rose before after status =
-    ((status ≡ 0) × WroteFor asked was text before after (Ok tt))
-    ⊎ ((s : Stop) × (now : Stop) × (printed : Option (List ℕ)) × WroteFor asked was printed before after (Err s)
-    × Reported printed text sink-rose s now × (status ≡ status_number now))
+WroteFor (Some asked) was text before after result = CommandWrote (IsTexts asked) was text before after result

@@ -1,7 +1,7 @@
 //! The tool: it reads its words, does the command, and tells how it ended.
 ghost use Rattle.std.specs.Prelude.{◌==◌, if◌then◌else◌, ◌≡◌, ◌≢◌, ◌≤◌, ◌⊎◌, IsFalse, List, Some, None, Ok, Err, ℕ, false, map, string_bytes};
 ghost use Rattle.base_core.specs.Counts.{Rose};
-ghost use Rattle.fip_tool.specs.Names.{IsUnnamedBy};
+ghost use Rattle.fip_tool.specs.Names.{IsUnnamedBy, EndsFor};
 ghost use Rattle.host_io.specs.Access.{Access};
 ghost use Rattle.host_io.specs.Calls.{raised};
 ghost use Rattle.host_io.specs.Contents.{Directory};
@@ -9,12 +9,12 @@ ghost use Rattle.host_io.specs.Once.{ReadsOnce};
 ghost use Rattle.host_io.specs.Reads.{ReadsFile};
 ghost use Rattle.fip_words.specs.Order.{FipAsked, asked, info_of_source, view};
 ghost use Rattle.fip_words.specs.Values.{is_unpacked};
-ghost use Rattle.fip_tool.specs.Refusals.{EndsFor};
 ghost use Rattle.fip_tool.specs.Converted.{Converts};
 ghost use Rattle.fip_tool.specs.Done.{CommandDone, DoneWithFiles, DoneWithSource, RefusesAlone};
-ghost use Rattle.fip_tool.specs.Seen.{EndedIn, EndedSourceIn, ReportedIn, SaidWithIn, SinkAloneIn, ToldIn, WroteWithIn};
-ghost use Rattle.fip_tool.specs.Steps.{FailsAtMostOnce, FailsOnceAt, line_failures, sink_failed};
-ghost use Rattle.fip_tool.specs.Tool.{asks_files, outcome_of};
+ghost use Rattle.fip_tool.specs.Ends.{CommandEnded, Reported, StopTold};
+ghost use Rattle.fip_tool.specs.Seen.{SaidWithIn, SinkAloneIn, WroteWithIn};
+ghost use Rattle.fip_tool.specs.Steps.{FailsAtMostOnce, FailsOnceAt, MayTear, line_failures, sink_failed};
+ghost use Rattle.fip_tool.specs.Tool.{EndedSource, asks_files, outcome_of};
 ghost use Rattle.fip_making.specs.declared.stops.Stop.TheVariants as stop;
 ghost use Rattle.fip_making.specs.declared.stops.Stop.TheVariants.{SinkFault};
 
@@ -56,7 +56,7 @@ fn info_of_source<I: Source, O: Sink>(
 
 // Tells why a command ended, and says why the tool ends then.
 fn tell<O: Sink>(alloc: Global, sink: &mut O, stop: Stop) -> Stop
-    ensures told { ToldIn O.Sink stop sink.old sink.new result }
+    ensures told { StopTold (O.taken sink.old) (O.taken sink.new) (Rose (O.faults sink.old) (O.faults sink.new)) stop result }
     ensures later { O.faults sink.old ≤ O.faults sink.new }
     ensures sink_count { (stop ≡ SinkFault → ⊥) → O.faults sink.new ≡ sink_failed result (O.faults sink.old) }
 {
@@ -71,7 +71,7 @@ fn tell<O: Sink>(alloc: Global, sink: &mut O, stop: Stop) -> Stop
 
 // Where the sink takes no more, and for want of memory, nothing is told.
 fn report<O: Sink>(alloc: Global, sink: &mut O, stop: Stop) -> Stop
-    ensures reported { ReportedIn O.Sink stop sink.old sink.new result }
+    ensures reported { Reported (O.taken sink.old) (O.taken sink.new) (Rose (O.faults sink.old) (O.faults sink.new)) stop result }
     ensures later { O.faults sink.old ≤ O.faults sink.new }
     ensures sink_count { O.faults sink.new ≡ line_failures stop result (O.faults sink.old) }
 {
@@ -167,11 +167,13 @@ pub fn fip_top<H: Files, I: Source, O: Sink>(
     // What was done is the first ones of the command's steps. Only where a writing may have torn its file is that other than they
     // leave it.
     ensures told { (told : Directory) → H.contents files.old ≡ Some told → asked (map string_bytes words.now) ≢ Some info_of_source
-        → EndedIn H.Files O.Sink (outcome_of (asked (map string_bytes words.now)) told) told
-        files.old files.new sink.old sink.new result }
+        → CommandEnded (outcome_of (asked (map string_bytes words.now)) told) told (H.contents files.new)
+        (O.taken sink.old) (O.taken sink.new) (Rose (H.faults files.old) (H.faults files.new))
+        (MayTear (H.writes files.old) (H.writes files.new)) (Rose (O.faults sink.old) (O.faults sink.new)) result }
     ensures source { asked (map string_bytes words.now) ≡ Some info_of_source
-        → EndedSourceIn I.Source O.Sink (H.contents files.old) (H.contents files.new)
-        source.old source.new sink.old sink.new result }
+        → EndedSource result (H.contents files.old) (H.contents files.new) (I.left source.old) (I.left source.new)
+        (O.taken sink.old) (O.taken sink.new) (Rose (I.faults source.old) (I.faults source.new))
+        (Rose (O.faults sink.old) (O.faults sink.new)) }
     // What the sink took, whatever files there are: the lines of the command, and where it stopped the line of the stop last.
     ensures said { SaidWithIn O.Sink (asked (map string_bytes words.now)) sink.old sink.new result }
     // Both conversions keep the types and the payloads, in their order.

@@ -7,12 +7,11 @@ ghost use Rattle.fip_words.specs.Values.{is_unpacked};
 ghost use Rattle.host_io.specs.Access.{Access, Asks, Makes};
 ghost use Rattle.host_io.specs.Contents.{Directory};
 ghost use Rattle.fip_tool.specs.Lines.{unpacked_line, unpacked_name};
-ghost use Rattle.fip_tool.specs.Done.{DoneWithFiles, WritesTexts};
+ghost use Rattle.fip_tool.specs.Done.{DoneWithFiles, WritesTexts, Unpacked};
 ghost use Rattle.fip_tool.specs.Seen.{DidIn};
 ghost use Rattle.fip_tool.specs.Steps.{Makes};
 ghost use Rattle.fip_making.specs.Values.{is_named};
 ghost use Rattle.fip_tool.specs.Tool.{unpack_steps};
-ghost use Rattle.fip_tool.specs.Unpacked.{Unpacked};
 
 use crate::lines::{add, add_guid, add_named};
 use crate::writing::{NewFile, join_and_print};

@@ -5,10 +5,9 @@ ghost use Rattle.host_io.specs.Access.{Access, Makes};
 ghost use Rattle.host_io.specs.Contents.{Directory};
 ghost use Rattle.host_io.specs.Joined.{HasPiece};
 ghost use Rattle.fip_tool.specs.Done.{PutsMade, WritesTexts};
-ghost use Rattle.fip_tool.specs.Seen.{DidIn, DidSince, WrittenIn};
-ghost use Rattle.fip_tool.specs.Steps.{FaultsOnce, Makes, Prints, Writes, outcome_by};
+ghost use Rattle.fip_tool.specs.Seen.{DidIn, DidSince};
+ghost use Rattle.fip_tool.specs.Steps.{FaultsOnce, Makes, MayTear, NoneUnwritten, Prints, Writes, Written, outcome_by};
 ghost use Rattle.fip_making.specs.Answers.{Gives, IsLate};
-ghost use Rattle.fip_tool.specs.Torn.{NoneUnwritten};
 ghost use Rattle.fip_making.specs.Payloads.{IsWholeFile, joined_pieces, made_by};
 ghost use Rattle.fip_tool.specs.Tool.{puts};
 ghost use Rattle.fip_tool.specs.Wrote.{written_once};
@@ -33,8 +32,9 @@ pub struct NewFile<'a> {
 fn join<H: Files>(alloc: Global, files: &mut H, file: &NewFile<'_>) -> Result<(), Stop>
     requires { All (HasPiece (H.contents files.old)) file.now.pieces.now }
     ensures told { (told : Directory) → H.contents files.old ≡ Some told
-        → WrittenIn H.Files told file.now.name.now (joined_pieces told file.now.frame.now file.now.pieces.now)
-        files.old files.new result }
+        → Written told (H.contents files.new) (Rose (H.faults files.old) (H.faults files.new))
+        (MayTear (H.writes files.old) (H.writes files.new))
+        file.now.name.now (joined_pieces told file.now.frame.now file.now.pieces.now) result }
     ensures spares { (access : Access) → access ≢ Makes file.now.name.now → H.spares files.old files.new access }
     ensures file_count { FaultsOnce (H.faults files.old) (H.faults files.new) result }
     ensures wrote { (H.writes files.new).done ≡ written_once result (H.writes files.old).done }

@@ -1,9 +1,15 @@
-use Rattle.std.proofs.Common.{◌≡◌, ◌∙◌, ◌+◌, ◌*◌, ◌++◌, ap, arith, rules, sym, length, ℕ, List, Some}
+use Rattle.std.proofs.Common.{◌≡◌, ◌≤◌, ◌∙◌, ◌+◌, ◌*◌, ◌++◌, ap, arith, rules, sym, length, ℕ, List, Some, None}
+use Rattle.fwu_formats.specs.Package.{Part}
+use Rattle.fip_tables.specs.Packing.{parts_fault}
 use Rattle.fip_tables.specs.declared.faults.PackFault.{PackFault}
-use Rattle.capsule_tables.specs.Making.{capsule_front_bytes, headers_bytes, heads_bytes, places_bytes}
+use Rattle.capsule_tables.specs.Making.{capsule_front_bytes, capsule_size, headers_bytes, heads_bytes, make_fault, places_bytes}
 use Rattle.capsule_tables.proofs.Frames.{frame-joined, frame-size, front-low, gaps-count}
-use Rattle.capsule_tables.proofs.MadeFaults.{no-fault, same-fault, shared, too-large}
+use Rattle.capsule_tables.proofs.Made.{no-fault, same-fault, shared, too-large}
 use Rattle.capsule_tables.proofs.making.capsule_frame.Goals as goal
+
+-- a capsule that is small enough has no fault
+small-fits : (parts : List Part) {size : ℕ} → parts_fault parts ≡ None → (size ≡ capsule_size parts) × (size ≤ 67108864) → make_fault parts ≡ None
+small-fits parts none is = let a = is.0 in let b = is.1 in no-fault parts none (omega (arith, a, b))
 
 pub returns-in_err-check_parts-clause-fault : goal.returns-in_err-check_parts-clause-fault
 returns-in_err-check_parts-clause-fault c = record {
@@ -49,22 +55,18 @@ returns-clause-frame c =
 
 pub returns-clause-fault : goal.returns-clause-fault
 returns-clause-fault c = record {
-  fits = no-fault c.args.parts.now c.in_ok-check_parts.ensures.ok.none (let a = c.in_ok-size.ensures.size.0 in let b = c.in_ok-size.ensures.size.1 in omega (arith, a, b));
+  fits = small-fits c.args.parts.now c.in_ok-check_parts.ensures.ok.none c.in_ok-size.ensures.size;
   err = search rules;
 }
 
 pub returns-in_err-bytes-clause-memory : goal.returns-in_err-bytes-clause-memory
-returns-in_err-bytes-clause-memory c = λ e.
-    no-fault c.args.parts.now c.in_ok-check_parts.ensures.ok.none (let a = c.in_ok-size.ensures.size.0 in let b = c.in_ok-size.ensures.size.1 in omega (arith, a, b))
+returns-in_err-bytes-clause-memory c = λ e. small-fits c.args.parts.now c.in_ok-check_parts.ensures.ok.none c.in_ok-size.ensures.size
 
 pub returns-in_err-add_places-clause-memory : goal.returns-in_err-add_places-clause-memory
-returns-in_err-add_places-clause-memory c = λ e.
-    no-fault c.args.parts.now c.in_ok-check_parts.ensures.ok.none (let a = c.in_ok-size.ensures.size.0 in let b = c.in_ok-size.ensures.size.1 in omega (arith, a, b))
+returns-in_err-add_places-clause-memory c = λ e. small-fits c.args.parts.now c.in_ok-check_parts.ensures.ok.none c.in_ok-size.ensures.size
 
 pub returns-in_err-gaps-clause-memory : goal.returns-in_err-gaps-clause-memory
-returns-in_err-gaps-clause-memory c = λ e.
-    no-fault c.args.parts.now c.in_ok-check_parts.ensures.ok.none (let a = c.in_ok-size.ensures.size.0 in let b = c.in_ok-size.ensures.size.1 in omega (arith, a, b))
+returns-in_err-gaps-clause-memory c = λ e. small-fits c.args.parts.now c.in_ok-check_parts.ensures.ok.none c.in_ok-size.ensures.size
 
 pub returns-in_err-add_heads-clause-memory : goal.returns-in_err-add_heads-clause-memory
-returns-in_err-add_heads-clause-memory c = λ e.
-    no-fault c.args.parts.now c.in_ok-check_parts.ensures.ok.none (let a = c.in_ok-size.ensures.size.0 in let b = c.in_ok-size.ensures.size.1 in omega (arith, a, b))
+returns-in_err-add_heads-clause-memory c = λ e. small-fits c.args.parts.now c.in_ok-check_parts.ensures.ok.none c.in_ok-size.ensures.size

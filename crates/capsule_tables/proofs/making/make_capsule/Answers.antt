@@ -5,7 +5,7 @@ use Rattle.fip_tables.specs.Frame.{chunks}
 use Rattle.fip_tables.specs.Packing.{AreOutlines, zeroed}
 use Rattle.fip_tables.specs.declared.faults.PackStop.{PackStop}
 use Rattle.capsule_tables.specs.Making.{IsCapsuleOf, make_fault}
-use Rattle.capsule_tables.proofs.MadeZeros.{same-make_fault, types-of}
+use Rattle.capsule_tables.proofs.Made.{same-make_fault, types-of}
 use Rattle.capsule_tables.proofs.ReadAgain.{made-is-read}
 use Rattle.capsule_tables.proofs.making.make_capsule.Goals as goal
 

@@ -4,7 +4,7 @@ use Rattle.host_io.specs.Contents.{Directory}
 use Rattle.fip_tables.specs.Files.{Tells}
 use Rattle.fwu_formats.specs.Capsule.{capsule_of, items_of, shape_of}
 use Rattle.capsule_tables.proofs.OneByOne.{capsule-is, headers-fault, items-fault}
-use Rattle.capsule_tables.proofs.Stops.{handed-on, stop-answers}
+use Rattle.capsule_tables.proofs.Headers.{handed-on, stop-answers}
 use Rattle.capsule_tables.proofs.read.read_capsule.Goals as goal
 
 pub returns-in_err-shape-clause-told : goal.returns-in_err-shape-clause-told

@@ -4,8 +4,7 @@ use Rattle.host_io.specs.Contents.{Directory}
 use Rattle.fip_tables.proofs.Told.{size_is}
 use Rattle.fip_tables.specs.Files.{Tells}
 use Rattle.capsule_tables.specs.Ranges.{header_read, shape_read}
-use Rattle.capsule_tables.proofs.Headers.{header-fault, header-passes, of-fields, of-header, of-shape, too-short}
-use Rattle.capsule_tables.proofs.Stops.{fault-answers}
+use Rattle.capsule_tables.proofs.Headers.{header-fault, header-passes, of-fields, of-header, of-shape, too-short, fault-answers}
 use Rattle.capsule_tables.proofs.shape.read_shape.Goals as goal
 
 pub returns-then-size-lt-HEADER_SIZE-clause-told : goal.returns-then-size-lt-HEADER_SIZE-clause-told

@@ -4,8 +4,7 @@ use Rattle.fip_words.specs.Order.{part_view}
 use Rattle.fip_making.specs.Payloads.{made_by, part_told}
 use Rattle.fip_making.specs.Values.{new_serial, pack_value}
 use Rattle.fip_making.specs.declared.payloads.Payload.{Payload}
-use Rattle.fip_making.proofs.PartLemmas.{create-err, create-of, gives-same}
-use Rattle.fip_making.proofs.Packings.{there-of-files}
+use Rattle.fip_making.proofs.Packings.{create-err, create-of, gives-same, there-of-files}
 use Rattle.fip_making.proofs.Tables.{gives-err}
 use Rattle.fip_making.proofs.making.created.Goals as goal
 

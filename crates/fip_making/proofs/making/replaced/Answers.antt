@@ -4,8 +4,7 @@ use Rattle.fwu_formats.specs.Package.{Entry, Toc}
 use Rattle.fip_words.specs.Order.{part_view}
 use Rattle.fip_making.specs.Payloads.{HasEntry, bytes_in, made_by, part_told}
 use Rattle.fip_making.specs.Values.{parts_in}
-use Rattle.fip_making.proofs.Packings.{there-of-files}
-use Rattle.fip_making.proofs.PartLemmas.{gives-same}
+use Rattle.fip_making.proofs.Packings.{there-of-files, gives-same}
 use Rattle.fip_making.proofs.Repacking.{replaced-value}
 use Rattle.fip_making.proofs.making.replaced.Goals as goal
 

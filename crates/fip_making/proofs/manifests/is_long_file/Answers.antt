@@ -1,7 +1,7 @@
 use Rattle.std.proofs.Common.{ℕ, Bool, refl}
 use Rattle.fip_words.specs.Order.{image_view}
 use Rattle.fip_making.proofs.ManifestLemmas.{long-made, long-stopped}
-use Rattle.fip_making.proofs.Stopped.{handed-on}
+use Rattle.fip_making.proofs.Refusing.{handed-on}
 use Rattle.fip_making.proofs.Tables.{gives-err}
 use Rattle.fip_making.proofs.manifests.is_long_file.Goals as goal
 

@@ -10,7 +10,7 @@ use Rattle.fip_making.proofs.ManifestLemmas.{count-more, rows-more-at, rows_valu
 use Rattle.fip_making.proofs.ReadsBy.{alone-starved, alone-then, alone-then-stopped, alone-wider, one-spared}
 use Rattle.fip_making.specs.Answers.{IsLate}
 use Rattle.fip_making.proofs.Tables.{gives-err, rose-still}
-use Rattle.fip_making.proofs.Stopped.{handed-on}
+use Rattle.fip_making.proofs.Refusing.{handed-on}
 use Rattle.fip_making.specs.declared.stops.Stop.TheVariants as stop
 use Rattle.fip_making.proofs.manifests.rows_of_files.Goals as goal
 

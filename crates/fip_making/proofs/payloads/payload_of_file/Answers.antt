@@ -3,8 +3,8 @@ use Rattle.fip_making.specs.Payloads.{part_told}
 use Rattle.fip_making.specs.declared.payloads.Payload.{Payload}
 use Rattle.fip_making.proofs.Packings.{payload-made, payload-stopped}
 use Rattle.fip_making.proofs.Tables.{gives-err}
-use Rattle.fip_making.proofs.Whole.{has-range}
-use Rattle.fip_making.proofs.Stopped.{handed-on}
+use Rattle.fip_making.proofs.Makings.{has-range}
+use Rattle.fip_making.proofs.Refusing.{handed-on}
 use Rattle.fip_making.proofs.payloads.payload_of_file.Goals as goal
 
 pub returns-clause-told : goal.returns-clause-told

@@ -4,8 +4,7 @@ use Rattle.std.specs.Global.{Global}
 use Rattle.host_io.specs.Contents.{Directory}
 use Rattle.fip_making.specs.Payloads.{IsThere, part_told}
 use Rattle.fip_making.specs.declared.payloads.Payload.{Payload}
-use Rattle.fip_making.proofs.Packings.{more-payloads, one-more-there}
-use Rattle.fip_making.proofs.PartLemmas.{stopped-at}
+use Rattle.fip_making.proofs.Packings.{more-payloads, one-more-there, stopped-at}
 use Rattle.fip_making.proofs.ReadsBy.{alone-starved, alone-then, alone-then-stopped, alone-wider, one-spared}
 use Rattle.fip_making.specs.Answers.{IsLate}
 use Rattle.fip_making.proofs.Tables.{gives-err, rose-still}

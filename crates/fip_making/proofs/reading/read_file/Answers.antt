@@ -1,6 +1,6 @@
 use Rattle.fip_making.specs.Stops.{unread_by}
-use Rattle.fip_making.proofs.Whole.{value-read, value-unread}
-use Rattle.fip_making.proofs.Stopped.{handed-on}
+use Rattle.fip_making.proofs.Makings.{value-read, value-unread}
+use Rattle.fip_making.proofs.Refusing.{handed-on}
 use Rattle.fip_making.proofs.reading.read_file.Goals as goal
 
 pub returns-clause-told : goal.returns-clause-told

@@ -1,5 +1,5 @@
 use Rattle.host_io.proofs.Once.{once-one}
-use Rattle.fip_making.proofs.Stopped.{handed-on}
+use Rattle.fip_making.proofs.Refusing.{handed-on}
 use Rattle.fip_making.specs.declared.stops.Stop.TheVariants as stop
 use Rattle.fip_making.proofs.table.feed_some.Goals as goal
 

@@ -4,8 +4,7 @@ use Rattle.fip_making.proofs.ReadsBy.{alone-done, alone-then, reads-no-table}
 use Rattle.fip_making.specs.Refusals.{IsPackageStop, Unstarved}
 use Rattle.fwu_formats.proofs.Tables.{ends-below}
 use Rattle.fip_making.proofs.Tables.{gives-err, size-err, sized, table-ok, table-stop, tells}
-use Rattle.fip_making.proofs.Stopped.{handed-on}
-use Rattle.fip_making.proofs.Refusing.{toc-needs-none, toc-of-package}
+use Rattle.fip_making.proofs.Refusing.{handed-on, toc-needs-none, toc-of-package}
 use Rattle.fip_making.specs.Stops.{stop_of_table}
 use Rattle.fip_making.proofs.table.read_package.Goals as goal
 

@@ -1,6 +1,7 @@
-use Rattle.std.proofs.Common.{◌≡◌, ◌∙◌, ◌-◌, ◌++◌, ap, sym, subst, arith, rules, length, replicate, take, List, Some}
-use Rattle.fwu_formats.specs.Package.{Entry, packed_entries}
-use Rattle.fip_tables.specs.Frame.{AreInOrder, gaps_from, sizes_of, table_end, up_to}
+use Rattle.std.proofs.Common.{◌≡◌, ◌≤◌, ◌∙◌, ◌-◌, ◌++◌, ℕ, ap, sym, subst, arith, rules, length, replicate, take, List, Some, None}
+use Rattle.fwu_formats.specs.Package.{Entry, Part, packed_entries}
+use Rattle.fip_tables.specs.Frame.{AreInOrder, gaps_from, last_end, sizes_of, table_end, up_to}
+use Rattle.fip_tables.specs.Packing.{MayFit, pack_fault}
 use Rattle.fip_tables.specs.declared.faults.PackFault.{PackFault}
 use Rattle.fip_tables.specs.declared.faults.PackStop.{PackStop}
 use Rattle.fip_tables.specs.declared.faults.PackStop.TheVariants as stop
@@ -11,6 +12,12 @@ use Rattle.fip_tables.proofs.frame.package_frame.Goals as goal
 
 same-fault : (a b : PackFault) → ◌≡◌ {A = PackStop} (stop.Fault b) (stop.Fault a) → a ≡ b
 same-fault a b e = cc
+
+-- a package that is small enough has no fault
+small-fits : {parts : List Part} {a size : ℕ} → MayFit parts a → size ≡ last_end a (table_end parts) parts → size ≤ 67108864 → pack_fault parts a ≡ None
+small-fits {parts} {a} ok last small =
+    let long = packed-length 0 0 parts a (outlines-sixteen parts ok.shared.outlines) in
+    no-fault parts a ok.shared.none ok.alignment (omega (arith, long, last, small))
 
 pub returns-in_err-places-clause-fault : goal.returns-in_err-places-clause-fault
 returns-in_err-places-clause-fault c = record {
@@ -65,36 +72,13 @@ returns-clause-frame c =
     }
 
 pub returns-clause-fault : goal.returns-clause-fault
-returns-clause-fault c =
-    let parts = c.args.outlines.now in
-    let a = c.args.align in
-    let ok = c.in_ok-check.ensures.ok in
-    let long = packed-length 0 0 parts a (outlines-sixteen parts ok.shared.outlines) in
-    record {
-      fits = no-fault parts a ok.shared.none ok.alignment (omega (arith, long, c.in_ok-places.ensures.size, c.in_ok-places.ensures.small));
-      err = search rules;
-    }
+returns-clause-fault c = record { fits = small-fits c.in_ok-check.ensures.ok c.in_ok-places.ensures.size c.in_ok-places.ensures.small; err = search rules }
 
 pub returns-in_err-gaps-clause-memory : goal.returns-in_err-gaps-clause-memory
-returns-in_err-gaps-clause-memory c = λ e.
-    let parts = c.args.outlines.now in
-    let a = c.args.align in
-    let ok = c.in_ok-check.ensures.ok in
-    let long = packed-length 0 0 parts a (outlines-sixteen parts c.in_ok-check.ensures.ok.shared.outlines) in
-    no-fault parts a ok.shared.none ok.alignment (omega (arith, long, c.in_ok-places.ensures.size, c.in_ok-places.ensures.small))
+returns-in_err-gaps-clause-memory c = λ e. small-fits c.in_ok-check.ensures.ok c.in_ok-places.ensures.size c.in_ok-places.ensures.small
 
 pub returns-in_err-bytes-clause-memory : goal.returns-in_err-bytes-clause-memory
-returns-in_err-bytes-clause-memory c = λ e.
-    let parts = c.args.outlines.now in
-    let a = c.args.align in
-    let ok = c.in_ok-check.ensures.ok in
-    let long = packed-length 0 0 parts a (outlines-sixteen parts c.in_ok-check.ensures.ok.shared.outlines) in
-    no-fault parts a ok.shared.none ok.alignment (omega (arith, long, c.in_ok-places.ensures.size, c.in_ok-places.ensures.small))
+returns-in_err-bytes-clause-memory c = λ e. small-fits c.in_ok-check.ensures.ok c.in_ok-places.ensures.size c.in_ok-places.ensures.small
 
 pub returns-in_err-resize-clause-memory : goal.returns-in_err-resize-clause-memory
-returns-in_err-resize-clause-memory c = λ e.
-    let parts = c.args.outlines.now in
-    let a = c.args.align in
-    let ok = c.in_ok-check.ensures.ok in
-    let long = packed-length 0 0 parts a (outlines-sixteen parts c.in_ok-check.ensures.ok.shared.outlines) in
-    no-fault parts a ok.shared.none ok.alignment (omega (arith, long, c.in_ok-places.ensures.size, c.in_ok-places.ensures.small))
+returns-in_err-resize-clause-memory c = λ e. small-fits c.in_ok-check.ensures.ok c.in_ok-places.ensures.size c.in_ok-places.ensures.small

@@ -6,7 +6,7 @@ use Rattle.fip_tables.specs.Packing.{AreOutlines, pack_fault, zeroed}
 use Rattle.fip_tables.specs.Frame.{chunks}
 use Rattle.fip_tables.specs.declared.faults.PackStop.{PackStop}
 use Rattle.fip_tables.proofs.Again.{fields-of-outlines, passed-is-read}
-use Rattle.fip_tables.proofs.Zeros.{zeros-decide}
+use Rattle.fip_tables.proofs.Plans.{zeros-decide}
 use Rattle.fip_tables.proofs.payloads.pack.Goals as goal
 
 pub returns-in_err-frame-clause-fault : goal.returns-in_err-frame-clause-fault

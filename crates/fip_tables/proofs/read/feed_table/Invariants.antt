@@ -1,5 +1,5 @@
 use Rattle.std.proofs.Common.{◌-◌}
-use Rattle.fip_tables.proofs.Feeding.{IsFeeding}
+use Rattle.fip_tables.proofs.Told.{IsFeeding}
 use Rattle.fip_tables.proofs.read.feed_table.Given as goal
 
 abbrev pub invariant-loop-at : goal.invariant-loop-at

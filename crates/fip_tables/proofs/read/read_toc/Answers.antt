@@ -2,7 +2,7 @@ use Rattle.std.proofs.Common.{sym, subst, Option}
 use Rattle.host_io.specs.Contents.{Directory}
 use Rattle.host_io.proofs.Reading.{reads-then}
 use Rattle.fip_tables.specs.Files.{Tells}
-use Rattle.fip_tables.proofs.Feeding.{stopped-some, stopped-told}
+use Rattle.fip_tables.proofs.Told.{stopped-some, stopped-told}
 use Rattle.fip_tables.proofs.read.read_toc.Goals as goal
 
 pub returns-in-Err-clause-told : goal.returns-in-Err-clause-told

@@ -1,7 +1,6 @@
 use Rattle.std.proofs.Common.{subst, ℕ, Result}
 use Rattle.fwu_formats.specs.declared.kinds.FipFault.{FipFault}
-use Rattle.fip_tables.specs.Decoded.{IsHeaderOf}
-use Rattle.fip_tables.specs.declared.reader.Stage.TheVariants as stage
+use Rattle.fip_tables.specs.Stream.{IsHeaderOf}
 use Rattle.fip_tables.proofs.Groups.{after-bad-header}
 use Rattle.fip_tables.proofs.reader.take_header.Goals as goal
 

@@ -1,9 +1,8 @@
 use Rattle.std.proofs.Common.{Vec, ℕ}
 use Rattle.std.specs.Global.{Global}
 use Rattle.fip_making.proofs.Tables.{gives-err}
-use Rattle.fip_tool.proofs.Listings.{info-err, info-made}
-use Rattle.fip_making.specs.declared.stops.Stop.TheVariants as stop
-use Rattle.fip_making.proofs.Stopped.{handed-on}
+use Rattle.fip_tool.proofs.Texts.{info-err, info-made}
+use Rattle.fip_making.proofs.Refusing.{handed-on}
 use Rattle.fip_tool.proofs.info.file_info.Goals as goal
 
 pub returns-clause-told : goal.returns-clause-told

@@ -1,8 +1,7 @@
 use Rattle.std.proofs.Common.{Vec, ℕ}
 use Rattle.std.specs.Global.{Global}
-use Rattle.fip_tool.proofs.Listings.{text-made, text-stopped, table-given}
-use Rattle.fip_making.proofs.Stopped.{handed-on}
-use Rattle.fip_making.specs.declared.stops.Stop.TheVariants as stop
+use Rattle.fip_tool.proofs.Texts.{text-made, text-stopped, table-given}
+use Rattle.fip_making.proofs.Refusing.{handed-on}
 use Rattle.fip_tool.proofs.info.source_info.Goals as goal
 
 pub returns-clause-given : goal.returns-clause-given

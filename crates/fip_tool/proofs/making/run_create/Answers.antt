@@ -1,33 +1,22 @@
-use Rattle.std.proofs.Common.{◌≡◌, ◌∙◌, ◌∷◌, [], ℕ, List, Result, Some, ap, length, map, sym, refl, ◌≢◌}
+use Rattle.std.proofs.Common.{Some, map, refl, ◌≢◌}
 use Rattle.fip_words.specs.Values.{NamedFile}
-use Rattle.fip_tool.proofs.NamedFiles.{of-map}
+use Rattle.fip_tool.proofs.Refusing.{of-map}
 use Rattle.host_io.specs.Access.{Asks}
-use Rattle.std.proofs.lemmas.List.{length-map}
 use Rattle.fip_words.specs.Order.{create, part_view}
-use Rattle.std.specs.Prelude.{IfOk}
-use Rattle.fip_words.specs.declared.values.FileWord.{FileWord}
 use Rattle.fip_tool.specs.Done.{RefusesAlone}
 use Rattle.fip_making.specs.Stops.{status_number}
-use Rattle.fip_tool.specs.Lines.{packed_line}
-use Rattle.fip_tool.specs.Said.{IsMadeLine, IsTexts}
 use Rattle.fip_making.specs.Values.{create_value}
 use Rattle.fip_tool.specs.declared.lines.Format.TheVariants as format
-use Rattle.fip_making.specs.declared.made.Made.{Made}
-use Rattle.fip_making.specs.declared.stops.Stop.{Stop}
-use Rattle.fip_tool.proofs.DoneWith.{done-made}
-use Rattle.fip_tool.proofs.Texts.{made-texts}
+use Rattle.fip_tool.proofs.DoneBy.{done-made}
+use Rattle.fip_tool.proofs.Texts.{create-texts}
 use Rattle.fip_making.proofs.Refusing.{if-err-all, late-of-packing}
 use Rattle.fip_tool.proofs.making.run_create.Goals as goal
-
--- the line is of all named files, with some size
-texts-are : (align : ℕ) (out : List ℕ) (made : Result Made Stop) (named : List FileWord) → IfOk made (λ m. m.count ≡ length named) → (texts : List (List ℕ)) → IsMadeLine format.Package made texts → IsTexts (create align out (map part_view named)) texts
-texts-are align out made named count texts t = let p = made-texts format.Package made (λ n. n ≡ length named) count texts t in (p.2, p.3 ∙ ap (λ (n : ℕ). packed_line n p.2 ∷ []) (p.1 ∙ sym (length-map named part_view)))
 
 pub returns : goal.returns
 returns g c =
     let made = c.created-made in
     let put = c.put_made.ensures in
-    done-made format.Package c.args.out.now (λ told. create_value told c.args.align (map part_view c.args.named.now)) (λ told. refl) (texts-are c.args.align c.args.out.now made.result c.args.named.now made.ensures.count) (λ w. w) late-of-packing
+    done-made format.Package c.args.out.now (λ told. create_value told c.args.align (map part_view c.args.named.now)) (λ told. refl) (create-texts c.args.align c.args.out.now made.result c.args.named.now made.ensures.count) (λ w. w) late-of-packing
     made.ensures.reads (λ s own. own) made.ensures.told put.told put.puts
     (λ access other. g.met.H.Files.joins _ _ _ access (made.ensures.reads.files.spares access (of-map (λ (p : NamedFile). access ≢ Asks p.file) part_view c.args.named.now other.0)) (put.spares access other.1))
     (if-err-all made.result (λ s. RefusesAlone g.H.Files (Some (create c.args.align c.args.out.now (map part_view c.args.named.now))) c.args.files.now made.new.files (status_number s)) (λ s refuses access other. made.ensures.reads.files.spares access (of-map (λ (p : NamedFile). access ≢ Asks p.file) part_view c.args.named.now other)))

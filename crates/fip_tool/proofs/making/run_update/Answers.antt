@@ -1,36 +1,24 @@
-use Rattle.std.proofs.Common.{◌≡◌, ◌⊎◌, inl, inr, ◌∙◌, ◌∷◌, [], ℕ, List, Result, None, Some, ap, length, map, refl, ◌≢◌}
+use Rattle.std.proofs.Common.{◌⊎◌, inl, inr, Some, map, refl, ◌≢◌}
 use Rattle.fip_words.specs.Values.{NamedFile}
-use Rattle.fip_tool.proofs.NamedFiles.{of-map}
+use Rattle.fip_tool.proofs.Refusing.{of-map, packing-six}
 use Rattle.host_io.specs.Access.{Asks}
 use Rattle.host_io.specs.Reads.{ReadsFile}
 use Rattle.fip_making.specs.Refusals.{IsOfPacking}
-use Rattle.fwu_formats.specs.Package.{Toc}
 use Rattle.fip_words.specs.Order.{update, part_view}
-use Rattle.std.specs.Prelude.{IfOk}
-use Rattle.fip_words.specs.declared.values.FileWord.{FileWord}
 use Rattle.fip_tool.specs.Done.{RefusesAlone}
 use Rattle.fip_making.specs.Stops.{status_number}
-use Rattle.fip_tool.specs.Lines.{packed_line}
-use Rattle.fip_tool.specs.Said.{IsMadeLine, IsTexts}
-use Rattle.fip_making.specs.Values.{IsTableOfSome, update_value, first_missing}
+use Rattle.fip_making.specs.Values.{update_value}
 use Rattle.fip_tool.specs.declared.lines.Format.TheVariants as format
-use Rattle.fip_making.specs.declared.made.Made.{Made}
-use Rattle.fip_making.specs.declared.stops.Stop.{Stop}
-use Rattle.fip_tool.proofs.DoneWith.{done-made}
-use Rattle.fip_tool.proofs.Texts.{made-texts}
+use Rattle.fip_tool.proofs.DoneBy.{done-made}
+use Rattle.fip_tool.proofs.Texts.{update-texts}
 use Rattle.fip_making.proofs.Refusing.{if-err-as, late-of-repacking}
-use Rattle.fip_tool.proofs.Refusing.{packing-six}
 use Rattle.fip_tool.proofs.making.run_update.Goals as goal
-
--- the line is of a package that was read, with some size
-texts-are : (align : ℕ) (from out : List ℕ) (made : Result Made Stop) (named : List FileWord) → IfOk made (λ m. (t : Toc) × IsTableOfSome t × (first_missing t (map (λ p. p.guid) (map part_view named)) ≡ None) × (m.count ≡ length t.entries)) → (texts : List (List ℕ)) → IsMadeLine format.Package made texts → IsTexts (update align from out (map part_view named)) texts
-texts-are align from out made named count texts t = let p = made-texts format.Package made (λ n. (t : Toc) × IsTableOfSome t × (first_missing t (map (λ p. p.guid) (map part_view named)) ≡ None) × (n ≡ length t.entries)) count texts t in (p.1.0, p.1.1, p.2, p.1.2, p.3 ∙ ap (λ (n : ℕ). packed_line n p.2 ∷ []) p.1.3)
 
 pub returns : goal.returns
 returns g c =
     let made = c.updated-made in
     let put = c.put_made.ensures in
-    done-made format.Package c.args.remade.now.out.now (λ told. update_value told c.args.remade.now.align c.args.remade.now.from.now (map part_view c.args.named.now)) (λ told. refl) (texts-are c.args.remade.now.align c.args.remade.now.from.now c.args.remade.now.out.now made.result c.args.named.now made.ensures.count) (λ w. w) late-of-repacking
+    done-made format.Package c.args.remade.now.out.now (λ told. update_value told c.args.remade.now.align c.args.remade.now.from.now (map part_view c.args.named.now)) (λ told. refl) (update-texts c.args.remade.now.align c.args.remade.now.from.now c.args.remade.now.out.now made.result c.args.named.now made.ensures.count) (λ w. w) late-of-repacking
     made.ensures.reads (λ s own. own) made.ensures.told put.told put.puts
     (λ access other. g.met.H.Files.joins _ _ _ access (made.ensures.reads.files.spares access (other.0, of-map (λ (p : NamedFile). access ≢ Asks p.file) part_view c.args.named.now other.1)) (put.spares access other.2))
     (if-err-as made.result (λ s. IsOfPacking s ⊎ ReadsFile g.H.Files c.args.remade.now.from.now c.args.files.now made.new.files)

@@ -3,15 +3,13 @@ use Rattle.base_core.specs.Counts.{Rose}
 use Rattle.fip_tool.proofs.Converted.{converted}
 use Rattle.fip_tool.proofs.Ending.{ends, reported-later}
 use Rattle.fip_tool.proofs.Refusing.{reported-may}
-use Rattle.fip_tool.proofs.SourceEnds.{reported-read}
+use Rattle.fip_tool.proofs.Faults.{reported-read, fails-once, none-of-source, sink-alone}
 use Rattle.fip_making.proofs.Tables.{rose-from, rose-until}
 use Rattle.fip_words.specs.Order.{asked}
 use Rattle.fip_tool.specs.Said.{IsTextsOf}
 use Rattle.fip_tool.proofs.Texts.{says-ends}
-use Rattle.fip_tool.specs.Torn.{MayTear}
+use Rattle.fip_tool.specs.Steps.{MayTear}
 use Rattle.fip_tool.specs.Tool.{no_files}
-use Rattle.fip_tool.proofs.SourceFaults.{fails-once}
-use Rattle.fip_tool.proofs.FileFaults.{none-of-source, sink-alone}
 use Rattle.fip_tool.proofs.top.fip_top.Goals as goal
 
 pub returns-in-Ok-clause-told : goal.returns-in-Ok-clause-told

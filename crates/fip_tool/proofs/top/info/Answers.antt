@@ -8,7 +8,7 @@ use Rattle.fip_tool.specs.Seen.{PrintedIn}
 use Rattle.fip_making.specs.Answers.{IsLate}
 use Rattle.fip_tool.specs.Tool.{info_value}
 use Rattle.fip_tool.proofs.Did.{printed-text}
-use Rattle.fip_tool.proofs.FileFaults.{faults-none}
+use Rattle.fip_tool.proofs.Faults.{faults-none}
 use Rattle.fip_making.proofs.Refusing.{if-err-as, late-of-package}
 use Rattle.fip_tool.proofs.Refusing.{late-alone}
 use Rattle.fip_tool.proofs.Texts.{says-printed}

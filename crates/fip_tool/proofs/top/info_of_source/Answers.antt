@@ -1,14 +1,12 @@
 use Rattle.std.proofs.Common.{◌∙◌, List, ℕ, refl, subst, sym}
 use Rattle.base_core.specs.Counts.{Rose}
-use Rattle.fip_tool.proofs.SourceEnds.{source-printed}
+use Rattle.fip_tool.proofs.Faults.{source-printed, printed-quiet}
 use Rattle.fip_words.specs.Order as asks
 use Rattle.fip_tool.specs.Said.{IsListing, IsTexts}
 use Rattle.fip_tool.proofs.Texts.{says-printed}
 use Rattle.fip_tool.specs.Steps.{PrintedText}
-use Rattle.fip_tool.proofs.SourceFaults.{printed-quiet}
 use Rattle.fip_making.specs.Answers.{IsLate}
 use Rattle.fip_making.specs.Refusals.{IsOfSource}
-use Rattle.fip_making.specs.declared.stops.Stop.TheVariants as stop
 use Rattle.fip_making.proofs.Refusing.{if-err-as, late-of-source}
 use Rattle.fip_tool.proofs.top.info_of_source.Goals as goal
 

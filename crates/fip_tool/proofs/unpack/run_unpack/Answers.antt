@@ -9,14 +9,13 @@ use Rattle.fip_tool.specs.Steps.{Makes}
 use Rattle.fip_tool.specs.Tool.{chosen, unpack_steps, unpack_value}
 use Rattle.fip_making.specs.Values.{is_named}
 use Rattle.fip_tool.proofs.Did.{made-steps, refused}
-use Rattle.fip_tool.proofs.DoneWith.{done-texts, done-unread}
-use Rattle.fip_making.proofs.Refusing.{late-of-entries}
+use Rattle.fip_tool.proofs.DoneBy.{done-texts, done-unread}
+use Rattle.fip_making.proofs.Refusing.{late-of-entries, handed-on}
 use Rattle.fip_making.proofs.Repacking.{opened, stored-of, there-of}
 use Rattle.fip_tool.proofs.UnpackLemmas.{unpack-err, unpack-of, chosen-filter}
-use Rattle.fip_making.proofs.Stopped.{handed-on}
 use Rattle.fip_making.proofs.Tables.{gives-err, rose-still}
-use Rattle.fip_tool.proofs.Torn.{tears-since}
-use Rattle.fip_tool.proofs.WritesBy.{texts-behind}
+use Rattle.fip_tool.proofs.WritingLemmas.{tears-since}
+use Rattle.fip_tool.proofs.WroteLemmas.{texts-behind}
 use Rattle.fip_tool.proofs.unpack.run_unpack.Goals as goal
 
 pub unpack_entries-requires-clause-stored : goal.unpack_entries-requires-clause-stored

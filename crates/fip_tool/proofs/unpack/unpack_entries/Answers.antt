@@ -8,14 +8,14 @@ use Rattle.fip_tool.specs.Lines.{unpacked_line}
 use Rattle.fip_tool.specs.Said.{joined_texts}
 use Rattle.fip_making.specs.Values.{is_named}
 use Rattle.fip_tool.proofs.Texts.{said-more, says-behind}
-use Rattle.fip_tool.proofs.FileFaults.{faults-then}
-use Rattle.fip_tool.proofs.Torn.{none-unwritten, tears-still}
+use Rattle.fip_tool.proofs.Faults.{faults-then}
+use Rattle.fip_tool.proofs.WritingLemmas.{none-unwritten, tears-still}
 use Rattle.fip_making.proofs.Tables.{rose-from, rose-still}
 use Rattle.fip_tool.proofs.UnpackLemmas.{all-done, next-chosen, next-passed, split-chosen, step-done, step-passed, step-stops, tells-still, there-still}
 use Rattle.fip_tool.specs.Steps.{sink_failed}
 use Rattle.fip_tool.specs.Wrote.{raised_by}
 use Rattle.fip_tool.proofs.WroteLemmas.{one-wrote, wrote-behind}
-use Rattle.fip_making.proofs.Stopped.{handed-on}
+use Rattle.fip_making.proofs.Refusing.{handed-on}
 use Rattle.fip_tool.proofs.unpack.unpack_entries.Goals as goal
 use Rattle.fip_tool.proofs.unpack.unpack_entries.Goals.{then-is_chosen+in_ok-unpack_entry, else-is_chosen}
 

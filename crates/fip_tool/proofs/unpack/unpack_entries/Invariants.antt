@@ -5,7 +5,7 @@ use Rattle.host_io.specs.Access.{Access, Asks, Makes}
 use Rattle.host_io.specs.Contents.{Directory}
 use Rattle.fip_tool.specs.Lines.{unpacked_line, unpacked_name}
 use Rattle.fip_tool.specs.Said.{joined_texts}
-use Rattle.fip_tool.specs.Torn.{NoneUnwritten}
+use Rattle.fip_tool.specs.Steps.{NoneUnwritten}
 use Rattle.fip_making.specs.Values.{is_named}
 use Rattle.fip_tool.specs.Wrote.{raised_by}
 use Rattle.fip_tool.proofs.UnpackLemmas.{IsUnpacking}

@@ -5,7 +5,7 @@ use Rattle.host_io.specs.declared.joining.Piece.{Piece}
 use Rattle.fip_tool.specs.Lines.{unpacked_name}
 use Rattle.fip_making.specs.Payloads.{joined_pieces}
 use Rattle.fip_tool.proofs.UnpackedBy.{made, piece-is, unnamed}
-use Rattle.fip_making.proofs.Stopped.{handed-on}
+use Rattle.fip_making.proofs.Refusing.{handed-on}
 use Rattle.fip_making.specs.declared.stops.Stop.TheVariants as stop
 use Rattle.fip_tool.proofs.unpack.unpack_entry.Goals as goal
 

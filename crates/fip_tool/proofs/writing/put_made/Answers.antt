@@ -6,9 +6,9 @@ use Rattle.fip_tool.specs.Steps.{FaultsOnce}
 use Rattle.fip_making.specs.declared.made.Made.{Made}
 use Rattle.fip_making.specs.declared.stops.Stop.{Stop}
 use Rattle.fip_making.specs.declared.stops.Stop.TheVariants as stop
-use Rattle.fip_making.proofs.Stopped.{handed-on}
-use Rattle.fip_tool.proofs.FileFaults.{faults-none}
-use Rattle.fip_tool.proofs.WritesBy.{no-texts, puts-texts}
+use Rattle.fip_making.proofs.Refusing.{handed-on}
+use Rattle.fip_tool.proofs.Faults.{faults-none}
+use Rattle.fip_tool.proofs.WroteLemmas.{no-texts, puts-texts}
 use Rattle.fip_tool.proofs.WritingLemmas.{joined-made, made-put}
 use Rattle.fip_tool.proofs.writing.put_made.Goals as goal
 

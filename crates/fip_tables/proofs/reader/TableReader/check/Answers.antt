@@ -4,7 +4,7 @@ use Rattle.fwu_formats.specs.declared.kinds.FipFault.TheVariants as fault
 use Rattle.fip_tables.specs.Stream.{ReaderHolds, HoldsPartOfGroup, Reader}
 use Rattle.fip_tables.specs.declared.reader.Stage.{Stage}
 use Rattle.fip_tables.specs.declared.reader.Stage.TheVariants as stage
-use Rattle.fip_tables.proofs.Ends.{answer_at, answers, as-answered}
+use Rattle.fip_tables.proofs.Fronts.{answer_at, answers, as-answered}
 use Rattle.fip_tables.proofs.reader.TableReader.check.Goals as goal
 
 -- the answer of a reader that is at a stage

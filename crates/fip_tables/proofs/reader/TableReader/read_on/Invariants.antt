@@ -1,5 +1,5 @@
 use Rattle.std.proofs.Common.{◌-◌, length}
-use Rattle.fip_tables.proofs.Kept.{HasReadOn}
+use Rattle.fip_tables.proofs.Told.{HasReadOn}
 use Rattle.fip_tables.proofs.reader.TableReader.read_on.Given as goal
 
 abbrev pub invariant-loop-at : goal.invariant-loop-at

@@ -1,6 +1,6 @@
 use Rattle.std.proofs.Common.{◌∙◌, sym, subst, ◌++◌}
 use Rattle.fip_tables.specs.Stream.{Stream, ReaderHolds}
-use Rattle.fip_tables.proofs.Ends.{met-decided}
+use Rattle.fip_tables.proofs.Fronts.{met-decided}
 use Rattle.fip_tables.proofs.stream.StreamToc.feed.Goals as goal
 
 pub returns-clause-fault : goal.returns-clause-fault

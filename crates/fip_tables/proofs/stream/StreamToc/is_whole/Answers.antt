@@ -2,7 +2,7 @@ use Rattle.std.proofs.Common.{◌∙◌, sym, subst, inl, inr, true≢false}
 use Rattle.std.proofs.lemmas.Bool.{cases_Bool}
 use Rattle.fip_tables.specs.Stream.{Stream, ReaderHolds, ReaderHoldsAt, HoldsPartOfGroup}
 use Rattle.fip_tables.specs.declared.reader.Stage.{Stage}
-use Rattle.fip_tables.proofs.Ends.{other-unmarked, whole-marked}
+use Rattle.fip_tables.proofs.Fronts.{other-unmarked, whole-marked}
 use Rattle.fip_tables.proofs.stream.StreamToc.is_whole.Goals as goal
 
 pub returns-clause-bytes : goal.returns-clause-bytes
