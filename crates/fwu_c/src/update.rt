@@ -63,7 +63,10 @@ pub extern "C" fn fwu_update(
             report.bytes = 0;
             16
         }
-        Some(false) => update(image, &mut block, file, acceptance, steps, room, report),
+        Some(false) => {
+            let sending = Sending { file, acceptance };
+            update(image, &mut block, sending, steps, room, report)
+        }
         // no read of this device fails
         None => 7,
     }
@@ -95,21 +98,29 @@ fn shows_trial(flash: StepFlash<'_>, block: &mut [u8]) -> Option<bool>
     }
 }
 
+/// A package whose bytes lie in memory, and whether each of its images is accepted at once, which 0 asks for.
+#[derive(Clone, Copy)]
+struct Sending<'a> {
+    file: &'a [u8],
+    acceptance: u32,
+}
+
 /// As `fwu_update`, of an image whose active bank is not on trial, with a buffer of 4096 bytes.
 fn update(
     image: &[u8],
     block: &mut Vec<u8>,
-    file: &[u8],
-    acceptance: u32,
+    sending: Sending<'_>,
     steps: &mut [Step],
     room: &mut [u8],
     report: &mut Report,
 ) -> u32
     requires { block_bytes ≤ length block.old.items }
     ensures updates { TellsAnswer result →
-        UpdatesBy image.now file.now acceptance result report.old report.new steps.new room.new }
+        UpdatesBy image.now sending.entry.file.now sending.entry.acceptance result report.old report.new steps.new
+        room.new }
     ensures tells { TellsSteps image.now result report.old steps.old room.old report.new steps.new room.new }
 {
+    let file = sending.file;
     let mut places = [0; MOST_PLACES];
     let count = read_places(file, &mut places);
     let tried = &places[..count];
@@ -118,7 +129,7 @@ fn update(
         Ok(flash) => flash,
         Err(why) => return unmade_number(why),
     };
-    update_over(flash, block, file, acceptance, steps, room, report)
+    update_over(flash, block, sending, steps, room, report)
 }
 
 /// Boots, keeps the bank that is started in memory of its own, and reports the end. Where none is started the number of the end
@@ -180,18 +191,19 @@ fn boot_agent<'a>(
 fn update_over(
     flash: StepFlash<'_>,
     block: &mut Vec<u8>,
-    file: &[u8],
-    acceptance: u32,
+    sending: Sending<'_>,
     steps: &mut [Step],
     room: &mut [u8],
     report: &mut Report,
 ) -> u32
-    requires new { IsJustMade file.now flash }
+    requires new { IsJustMade sending.file.now flash }
     requires block { block_bytes ≤ length block.old.items }
     ensures updates { TellsAnswer result →
-        UpdatesBy (image_of flash.entry) file.now acceptance result report.old report.new steps.new room.new }
+        UpdatesBy (image_of flash.entry) sending.entry.file.now sending.entry.acceptance result report.old report.new
+        steps.new room.new }
     ensures tells { TellsSteps (image_of flash.entry) result report.old steps.old room.old report.new steps.new room.new }
 {
+    let Sending { file, acceptance } = sending;
     let alloc = *block.allocator();
     let mut told = *report;
     match boot_agent(alloc, flash, block, &mut told) {

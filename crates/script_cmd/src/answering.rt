@@ -17,7 +17,7 @@ use flash_commands::{format_flash, show, soak};
 use flash_core::Flash;
 use fwu_words::{Allow, Order, UsageStop, allow_of, fwu_order};
 use host_io::{Files, Sink, Source};
-use script_runs::{Done, Refusal, refuse, run_turns};
+use script_runs::{Board, Done, Refusal, refuse, run_turns};
 use std::alloc::Global;
 use verify_core::{AnyManifest, Verifier};
 
@@ -28,23 +28,26 @@ pub fn answer_with<D: Flash, H: Files, I: Source, O: Sink, V: Verifier>(
     files: &mut H,
     source: &mut I,
     sink: &mut O,
-    flash: D,
-    verifier: &V,
+    board: Board<'_, D, V>,
 ) -> Done<D>
-    requires off { IsFalse (D.on flash) }
-    requires unarmed { D.arming flash ≡ None }
-    ensures answers { Answered (V.passes verifier.now) (device_of D.Flash flash)
+    requires off { IsFalse (D.on board.flash) }
+    requires unarmed { D.arming board.flash ≡ None }
+    ensures answers { Answered (V.passes board.entry.verifier.now) (device_of D.Flash board.entry.flash)
         (unlisted H.Files I.Source (map string_bytes words.now) files.old source.old) (ending result)
-        (world D.Flash H.Files I.Source O.Sink flash files.old source.old sink.old)
+        (world D.Flash H.Files I.Source O.Sink board.entry.flash files.old source.old sink.old)
         (world D.Flash H.Files I.Source O.Sink result.flash files.new source.new sink.new)
         (I.left source.new) files.old files.new source.old source.new }
     ensures reads { ReadsFiles H.Files (IsUnasked (unlisted H.Files I.Source (map string_bytes words.now) files.old source.old)
         (ending result).journal) files.old files.new }
     ensures once { ReadsOnce I.Source source.old source.new }
-    ensures size { D.blocks result.flash ≡ D.blocks flash }
+    ensures size { D.blocks result.flash ≡ D.blocks board.entry.flash }
 {
+    let Board { flash, verifier } = board;
     match fwu_order(alloc, words) {
-        Ok(Order::Turns(order)) => run_turns(alloc, order, files, source, sink, flash, verifier),
+        Ok(Order::Turns(order)) => {
+            let board = Board { flash, verifier };
+            run_turns(alloc, order, files, source, sink, board)
+        }
         Ok(Order::Show) => show(alloc, sink, flash),
         Ok(Order::Format(wanted)) => format_flash(alloc, wanted, files, sink, flash, verifier),
         Ok(Order::Soak { seed, rounds }) => soak(alloc, seed, rounds, sink, flash),
@@ -54,11 +57,16 @@ pub fn answer_with<D: Flash, H: Files, I: Source, O: Sink, V: Verifier>(
     }
 }
 
+/// The words behind `--allow`: the name of a list, and what follows.
+struct Listed<'a> {
+    name: &'a str,
+    rest: &'a [String],
+}
+
 /// Does what the words behind a list of digests ask for, for the manifests that it lists.
 fn run_listed<D: Flash, H: Files, I: Source, O: Sink>(
     alloc: Global,
-    name: &str,
-    rest: &[String],
+    listed: Listed<'_>,
     files: &mut H,
     source: &mut I,
     sink: &mut O,
@@ -66,17 +74,21 @@ fn run_listed<D: Flash, H: Files, I: Source, O: Sink>(
 ) -> Done<D>
     requires off { IsFalse (D.on flash) }
     requires unarmed { D.arming flash ≡ None }
-    ensures answers { AnswersHere D.Flash H.Files I.Source O.Sink (ReadsList (Some name.now) (H.contents files.old))
-        (inputs_of H.Files I.Source (asked (map string_bytes rest.now)) (Some name.now) files.old source.old)
+    ensures answers { AnswersHere D.Flash H.Files I.Source O.Sink (ReadsList (Some listed.entry.name.now) (H.contents files.old))
+        (inputs_of H.Files I.Source (asked (map string_bytes listed.entry.rest.now)) (Some listed.entry.name.now) files.old source.old)
         flash files.old source.old sink.old result files.new source.new sink.new }
     ensures reads { ReadsFiles H.Files (IsUnasked
-        (inputs_of H.Files I.Source (asked (map string_bytes rest.now)) (Some name.now) files.old source.old)
+        (inputs_of H.Files I.Source (asked (map string_bytes listed.entry.rest.now)) (Some listed.entry.name.now) files.old source.old)
         (ending result).journal) files.old files.new }
     ensures once { ReadsOnce I.Source source.old source.new }
     ensures size { D.blocks result.flash ≡ D.blocks flash }
 {
-    match read_list(alloc, files, name) {
-        Ok(list) => answer_with(alloc, rest, files, source, sink, flash, &list),
+    match read_list(alloc, files, listed.name) {
+        Ok(list) => {
+            let verifier = &list;
+            let board = Board { flash, verifier };
+            answer_with(alloc, listed.rest, files, source, sink, board)
+        }
         Err(ListStop::Failed) => refuse(alloc, sink, Refusal::Unread, flash),
         Err(ListStop::BadLine(line)) => refuse(alloc, sink, Refusal::BadList(line), flash),
         Err(ListStop::NoMemory) => refuse(alloc, sink, Refusal::NoMemory, flash),
@@ -104,8 +116,15 @@ pub fn answer<D: Flash, H: Files, I: Source, O: Sink>(
     ensures size { D.blocks result.flash ≡ D.blocks flash }
 {
     match allow_of(words) {
-        Allow::No => answer_with(alloc, words, files, source, sink, flash, &AnyManifest),
+        Allow::No => {
+            let verifier = &AnyManifest;
+            let board = Board { flash, verifier };
+            answer_with(alloc, words, files, source, sink, board)
+        }
         Allow::Usage => refuse(alloc, sink, Refusal::Usage, flash),
-        Allow::File { name, rest } => run_listed(alloc, name, rest, files, source, sink, flash),
+        Allow::File { name, rest } => {
+            let listed = Listed { name, rest };
+            run_listed(alloc, listed, files, source, sink, flash)
+        }
     }
 }

@@ -12,7 +12,7 @@ ghost use Rattle.script_cmd.specs.Here.{world};
 use crate::answering::{answer, answer_with};
 use flash_core::Flash;
 use host_io::{Files, Sink, Source};
-use script_runs::Done;
+use script_runs::{Board, Done};
 use std::alloc::Global;
 use verify_core::Verifier;
 
@@ -52,7 +52,8 @@ pub fn fwu_top_with<D: Flash, H: Files, I: Source, O: Sink, V: Verifier>(
     ensures once { ReadsOnce I.Source source.old source.new }
     ensures size { D.blocks result.flash ≡ D.blocks flash }
 {
-    answer_with(alloc, words, files, source, sink, flash, verifier)
+    let board = Board { flash, verifier };
+    answer_with(alloc, words, files, source, sink, board)
 }
 
 /// `fwu_top_with` for any manifest, or where the words begin with `--allow FILE`, for those whose digests that file lists. A list

@@ -24,6 +24,12 @@ use script_turns::Powered;
 use std::alloc::Global;
 use verify_core::Verifier;
 
+/// What a run is on: a flash, which is off, and who says whose manifests pass.
+pub struct Board<'v, D: Flash, V: Verifier> {
+    pub flash: D,
+    pub verifier: &'v V,
+}
+
 /// Does the turns that are asked for, at the place that is asked for. The script is read first, and room is made for its turns.
 pub fn run_turns<D: Flash, H: Files, I: Source, O: Sink, V: Verifier>(
     alloc: Global,
@@ -31,14 +37,13 @@ pub fn run_turns<D: Flash, H: Files, I: Source, O: Sink, V: Verifier>(
     files: &mut H,
     source: &mut I,
     sink: &mut O,
-    flash: D,
-    verifier: &V,
+    board: Board<'_, D, V>,
 ) -> Done<D>
-    requires off { IsFalse (D.on flash) }
-    requires unarmed { D.arming flash ≡ None }
+    requires off { IsFalse (D.on board.flash) }
+    requires unarmed { D.arming board.flash ≡ None }
     ensures way { (g : Given) → HasGoodList g.list g.files → g.files ≡ H.contents files.old
-        → GoesFor order D.Flash H.Files I.Source O.Sink (V.passes verifier.now) g
-        flash files.old source.old sink.old result files.new source.new sink.new }
+        → GoesFor order D.Flash H.Files I.Source O.Sink (V.passes board.entry.verifier.now) g
+        board.entry.flash files.old source.old sink.old result files.new source.new sink.new }
     ensures note { order.place ≡ place.Flash → IsFalse (is_beyond_model result.note) }
     // What it reads: for one boot neither the source nor a file, and only the file of a `send`.
     ensures boot_source { order.from ≡ origin.Boot → source.new ≡ source.old }
@@ -56,8 +61,9 @@ pub fn run_turns<D: Flash, H: Files, I: Source, O: Sink, V: Verifier>(
     ensures later_source { I.faults source.old ≤ I.faults source.new }
     ensures later_sink { O.faults sink.old ≤ O.faults sink.new }
     ensures once { ReadsOnce I.Source source.old source.new }
-    ensures size { D.blocks result.flash ≡ D.blocks flash }
+    ensures size { D.blocks result.flash ≡ D.blocks board.entry.flash }
 {
+    let Board { flash, verifier } = board;
     let ready = match script_of(alloc, order.from, source) {
         Ok(ready) => ready,
         Err(why) => return refuse(alloc, sink, why, flash),

@@ -13,7 +13,7 @@ mod refusing;
 mod room;
 mod running;
 
-pub use at_place::run_turns;
+pub use at_place::{Board, run_turns};
 pub use done::{Done, NoTable, Note};
 pub use printing::{put_line, put_usage};
 pub use refusing::{Refusal, refuse};

@@ -26,7 +26,7 @@ hand_over-requires-in-Some-Err c =
     record {
       known = none_end_is _ _ _ _ _ none;
       idle = λ idle. boot_idle none.end (told_of c.args.flash) (told_of c.in-Some-Err.flash)
-          (image_of c.args.flash, c.args.file.now, c.requires.new.fresh) none.boots.by_bytes
+          (image_of c.args.flash, c.args.sending.file.now, c.requires.new.fresh) none.boots.by_bytes
           (rw none.number_is at idle);
       kept = none.kept;
     }

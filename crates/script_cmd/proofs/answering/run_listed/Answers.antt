@@ -23,7 +23,7 @@ not-at-8 k held is = false≢true (ap (λ (n : ℕ). not (n == 8)) (sym is) ∙ 
 pub returns-in-Err-Failed-clause-answers : goal.returns-in-Err-Failed-clause-answers
 returns-in-Err-Failed-clause-answers g c =
     let e = c.refuse.ensures in
-    let name = c.args.name.now in
+    let name = c.args.listed.name.now in
     let files = g.H.Files.contents c.args.files.now in
     let why = list-lacks files name _ _ (c.in-Err-Failed.ensures.cause.failed (ap Err c.in-Err-Failed.field-0-is)) in
     let same = ap (moment g.D.Flash) e.flash in
@@ -38,7 +38,7 @@ returns-in-Err-Failed-clause-answers g c =
 
 pub returns-in-Ok-clause-answers : goal.returns-in-Ok-clause-answers
 returns-in-Ok-clause-answers g c =
-    let name = c.args.name.now in
+    let name = c.args.listed.name.now in
     let digests = c.in-Ok.list in
     let files = g.H.Files.contents c.args.files.now in
     let read = c.in-Ok.ensures.ok in
@@ -52,7 +52,7 @@ returns-in-Ok-clause-answers g c =
 pub returns-in-Err-BadLine-clause-answers : goal.returns-in-Err-BadLine-clause-answers
 returns-in-Err-BadLine-clause-answers g c =
     let e = c.refuse-in-Err-BadLine.ensures in
-    let name = c.args.name.now in
+    let name = c.args.listed.name.now in
     let line = c.in-Err-BadLine.line in
     let files = g.H.Files.contents c.args.files.now in
     let is = ap Err c.in-Err-BadLine.field-0-is in
@@ -96,13 +96,13 @@ returns-in-Err-NoMemory-clause-once g c = once-none g.I.Source g.met.I.Source.at
 
 pub returns-in-Ok-clause-reads : goal.returns-in-Ok-clause-reads
 returns-in-Ok-clause-reads g c =
-    asks-behind g.H.Files g.met.H.Files.joins c.args.name.now _ _ _ _ refl c.read_list.ensures.reads c.answer_with.ensures.reads
+    asks-behind g.H.Files g.met.H.Files.joins c.args.listed.name.now _ _ _ _ refl c.read_list.ensures.reads c.answer_with.ensures.reads
 
 pub returns-in-Err-Failed-clause-reads : goal.returns-in-Err-Failed-clause-reads
-returns-in-Err-Failed-clause-reads g c = asks-list g.H.Files c.args.name.now _ _ refl c.read_list.ensures.reads
+returns-in-Err-Failed-clause-reads g c = asks-list g.H.Files c.args.listed.name.now _ _ refl c.read_list.ensures.reads
 
 pub returns-in-Err-BadLine-clause-reads : goal.returns-in-Err-BadLine-clause-reads
-returns-in-Err-BadLine-clause-reads g c = asks-list g.H.Files c.args.name.now _ _ refl c.read_list.ensures.reads
+returns-in-Err-BadLine-clause-reads g c = asks-list g.H.Files c.args.listed.name.now _ _ refl c.read_list.ensures.reads
 
 pub returns-in-Err-NoMemory-clause-reads : goal.returns-in-Err-NoMemory-clause-reads
-returns-in-Err-NoMemory-clause-reads g c = asks-list g.H.Files c.args.name.now _ _ refl c.read_list.ensures.reads
+returns-in-Err-NoMemory-clause-reads g c = asks-list g.H.Files c.args.listed.name.now _ _ refl c.read_list.ensures.reads

@@ -40,8 +40,8 @@ returns-in-Flash-clause-way g c = λ given listed told.
     let e = c.run_script.ensures in
     let from = c.args.order.from in
     let left = g.I.Source.left c.args.source.now in
-    subst (λ (p : Place). GoesAt p g.D.Flash g.H.Files g.O.Sink (g.V.Verifier.passes c.args.verifier.now) (Some (plain_of from)) (record given { script = text_of from left }) (g.I.Source.faults c.args.source.now)
-    (g.I.Source.faults c.script_of.new.source) c.args.flash c.args.files.now c.args.sink.now c.run_script.result c.run_script.new.files c.run_script.new.sink) (sym c.in-Flash.is)
+    subst (λ (p : Place). GoesAt p g.D.Flash g.H.Files g.O.Sink (g.V.Verifier.passes c.args.board.verifier.now) (Some (plain_of from)) (record given { script = text_of from left }) (g.I.Source.faults c.args.source.now)
+    (g.I.Source.faults c.script_of.new.source) c.args.board.flash c.args.files.now c.args.sink.now c.run_script.result c.run_script.new.files c.run_script.new.sink) (sym c.in-Flash.is)
     (ran _ e.ran.0 listed (asks-of from) c.in-Ok.ensures.script (ran-told _ _ _ _ _ _ _ _ _ told (rw c.off.ensures.device at e.ran.1)) e.ends.ended e.ends.printed)
 
 pub returns-in-Flash-clause-boot_files : goal.returns-in-Flash-clause-boot_files
@@ -60,8 +60,8 @@ pub returns-in-Partitions-clause-way : goal.returns-in-Partitions-clause-way
 returns-in-Partitions-clause-way g c = λ given listed told.
     let from = c.args.order.from in
     let left = g.I.Source.left c.args.source.now in
-    subst (λ (p : Place). GoesAt p g.D.Flash g.H.Files g.O.Sink (g.V.Verifier.passes c.args.verifier.now) (Some (plain_of from)) (record given { script = text_of from left }) (g.I.Source.faults c.args.source.now)
-    (g.I.Source.faults c.script_of.new.source) c.args.flash c.args.files.now c.args.sink.now c.run_by_table.result c.run_by_table.new.files c.run_by_table.new.sink) (sym c.in-Partitions.is)
+    subst (λ (p : Place). GoesAt p g.D.Flash g.H.Files g.O.Sink (g.V.Verifier.passes c.args.board.verifier.now) (Some (plain_of from)) (record given { script = text_of from left }) (g.I.Source.faults c.args.source.now)
+    (g.I.Source.faults c.script_of.new.source) c.args.board.flash c.args.files.now c.args.sink.now c.run_by_table.result c.run_by_table.new.files c.run_by_table.new.sink) (sym c.in-Partitions.is)
     (c.run_by_table.ensures.way (Some (plain_of from)) (record given { script = text_of from left }) (g.I.Source.faults c.args.source.now) (g.I.Source.faults c.script_of.new.source)
     (record { good = listed; asks = asks-of from; has = c.in-Ok.ensures.script }) told)
 
