@@ -9,7 +9,7 @@ use Rattle.fwu_formats.specs.Metadata.{Meta, MetaRead, state_at}
 use Rattle.fwu_model.specs.State.{Free, Switch, Back, is_invalid}
 use Rattle.fwu_model.specs.MoveMetas.{meta_after}
 use Rattle.moves.specs.Law.{CallResult}
-use Rattle.moves.proofs.Fitting.{fits-back}
+use Rattle.moves.proofs.MetaMoves.{fits-back}
 use Rattle.replicas.specs.Stores.{WritesBoth, Stores}
 use Rattle.replicas.proofs.Both.{quiet_zero, quiet_one, stored}
 use Rattle.agent_kept.specs.declared.kinds.Request.TheVariants as request

@@ -16,7 +16,7 @@ use Rattle.marks_core.specs.Marks.{Clears}
 use Rattle.replicas.specs.Stores.{Stores}
 use Rattle.moves.specs.Law.{CallResult, EndsBy}
 use Rattle.moves.specs.Moved.{Does, GuardedBy, IsReady}
-use Rattle.moves.proofs.Cleared.{clear-guarded}
+use Rattle.moves.proofs.Trials.{clear-guarded}
 use Rattle.agent_kept.specs.declared.kinds.Plan.TheVariants as plan
 use Rattle.agent_kept.specs.declared.kinds.Decision.TheVariants.{Do}
 use Rattle.agent_kept.specs.declared.kinds.Request.TheVariants as request

@@ -18,7 +18,7 @@ use Rattle.marks_core.specs.Marks.{Clears}
 use Rattle.replicas.specs.Stores.{Stores}
 use Rattle.moves.specs.Moved.{IsShown}
 use Rattle.moves.specs.Law.{EndsBy}
-use Rattle.moves.proofs.Fitting.{fits-switch}
+use Rattle.moves.proofs.MetaMoves.{fits-switch}
 use Rattle.moves.proofs.Agree.{package-same}
 use Rattle.agent_kept.specs.Kept.{Kept, Restarts, parts_meant}
 use Rattle.agent_state.specs.Decides.{next_bank}

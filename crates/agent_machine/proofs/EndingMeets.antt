@@ -24,7 +24,7 @@ use Rattle.fwu_model.specs.MoveMetas.{meta_in}
 use Rattle.fwu_model.specs.Replica.{BothHold, in_version}
 use Rattle.moves.specs.Law.{EndsBy}
 use Rattle.moves.proofs.Agree.{state-is}
-use Rattle.moves.proofs.MetaIn.{meta-is}
+use Rattle.moves.proofs.MetaMoves.{meta-is}
 use Rattle.moves.proofs.Switching.{ends-by}
 use Rattle.meta_layout.proofs.Fits.{MetaFits, meta-fits}
 use Rattle.agent_kept.specs.declared.kinds.Plan.TheVariants as plan

@@ -16,8 +16,8 @@ use Rattle.fwu_model.specs.MoveMetas.{meta_after}
 use Rattle.moves.specs.Law.{QuietBy, CallResult}
 use Rattle.moves.proofs.Agree.{state-is}
 use Rattle.moves.proofs.Stored.{free-does, accept-does, back-does, free-shows, accept-shows, back-shows, store-guarded, quiet-free, quiet-accept, quiet-back}
-use Rattle.moves.proofs.Guarded.{rest-used}
-use Rattle.moves.proofs.MetaIn.{deciding-fits}
+use Rattle.moves.proofs.Repaired.{rest-used}
+use Rattle.moves.proofs.MetaMoves.{deciding-fits}
 use Rattle.agent_machine.specs.Fields.{Fields, target}
 use Rattle.agent_machine.specs.Machine.{state_in}
 use Rattle.agent_machine.specs.Knows.{Fitting, Knows}

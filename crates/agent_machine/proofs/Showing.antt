@@ -16,7 +16,7 @@ use Rattle.fwu_model.specs.Seen.{bank_in}
 use Rattle.fwu_model.specs.Answer.{held_package}
 use Rattle.fwu_model.specs.MoveMetas.{meta_in}
 use Rattle.meta_layout.proofs.Fits.{meta-fits}
-use Rattle.moves.proofs.MetaIn.{meta-is, deciding-fits}
+use Rattle.moves.proofs.MetaMoves.{meta-is, deciding-fits}
 use Rattle.agent_kept.specs.Kept.{Kept, IsKept, session_meant}
 use Rattle.agent_kept.specs.declared.kinds.Plan.{Plan}
 use Rattle.agent_state.specs.Settles.{HasTotal, Settles, staged_after}

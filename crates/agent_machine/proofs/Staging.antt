@@ -15,7 +15,7 @@ use Rattle.fwu_model.specs.Calm.{IsCalm, IsAtRest}
 use Rattle.moves.specs.Moved.{IsReady, IsShown}
 use Rattle.moves.proofs.Agree.{state-is, package-same, slots-fit}
 use Rattle.std.proofs.Math.Nat.{mod-lt}
-use Rattle.moves.proofs.MetaIn.{deciding-fits}
+use Rattle.moves.proofs.MetaMoves.{deciding-fits}
 use Rattle.moves.proofs.Beside.{both-beside}
 use Rattle.moves.proofs.Staged.{staged-shows, staged-ready, staged-rest, banks-order}
 use Rattle.std.proofs.lemmas.List.Sums.{sum_by-cons}

@@ -10,7 +10,7 @@ use Rattle.fwu_model.specs.State.{Free, Accept, Back, is_invalid, is_valid}
 use Rattle.fwu_model.specs.MoveMetas.{meta_after, bits_in, accepted_bits}
 use Rattle.fwu_model.proofs.Banks.{next-other, next-below}
 use Rattle.meta_layout.proofs.Fits.{MetaFits, meta-fits}
-use Rattle.moves.proofs.Fitting.{fits-free, fits-accept, fits-back}
+use Rattle.moves.proofs.MetaMoves.{fits-free, fits-accept, fits-back}
 use Rattle.agent_kept.specs.declared.kinds.Plan.{Plan}
 use Rattle.agent_kept.specs.declared.kinds.Plan.TheVariants as plan
 use Rattle.agent_kept.specs.declared.parts.Part.{Part}

@@ -25,7 +25,7 @@ use Rattle.moves.specs.Moved.{IsShown, GuardedBy}
 use Rattle.moves.proofs.Agree.{shown-as, shown-counter, counter-agrees, layout-kept, marks-agree, block-agrees, decides-agrees, front-kept, no_meta}
 use Rattle.moves.proofs.Composed.{does-nothing, does-idle}
 use Rattle.moves.proofs.Trials.{trial-does, trial-shows, raise-does, raise-shows}
-use Rattle.moves.proofs.Guarded.{trial-guarded, raise-guarded}
+use Rattle.moves.proofs.Repaired.{trial-guarded, raise-guarded}
 use Rattle.meta_layout.proofs.Fits.{meta-fits}
 use Rattle.early_boot.specs.declared.choosing.Chosen.{Chosen}
 use Rattle.early_boot.specs.declared.showing.Shown.{Shown}

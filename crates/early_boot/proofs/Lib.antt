@@ -1,7 +1,6 @@
 pub mod Lookups
 pub mod Choices
 pub mod Shapes
-pub mod Verdicts
 pub mod Written
 pub mod Exact
 pub mod Mended

@@ -106,14 +106,12 @@ module _ (passes : List ℕ → Bool) (counter : ℕ) (image : List ℕ) (L : La
 
     counted : num_at 4 whole 12 ≡ length rows - 1
     counted =
-        ap (λ (b : List ℕ). num_at 4 b 12) (sym whole-is)
-        ∙ num_front 4 12 (manifest_size (length rows - 1)) front (omega arith)
+        ap (λ (b : List ℕ). num_at 4 b 12) (sym whole-is) ∙ num_front 4 12 (manifest_size (length rows - 1)) front (omega arith)
         ∙ (manifest_passed rows front m h).count
 
     count : length m.rows ≡ length rows - 1
     count =
-        ap (λ (k : Manifest). length k.rows) (sym is-whole)
-        ∙ length-map-range_with_len (row_at whole) 0 (num_at 4 whole 12)
+        ap (λ (k : Manifest). length k.rows) (sym is-whole) ∙ length-map-range_with_len (row_at whole) 0 (num_at 4 whole 12)
         ∙ counted
 
     row-is : (i : ℕ) → i < length rows - 1 → get_or m.rows i none_said ≡ row_at whole i
@@ -135,8 +133,7 @@ module _ (passes : List ℕ → Bool) (counter : ℕ) (image : List ℕ) (L : La
         let next : i + 1 < length rows = omega (arith, within) in
         let fit : (row_at whole i).size ≤ 4096 * (get_or rows (i + 1) no_row).slots = sizes_fit rows whole m.security whole-size (ap version_of (manifest-same ∙ h)) i no_row next in
         image-same (row_at whole i) (slot L image bank (i + 1)) (drop (4096 * place rows first (i + 1)) image) (4096 * (get_or rows (i + 1) no_row).slots)
-        (slot-is (i + 1)) fit (slot-long (i + 1) next)
-        ∙ ap (is_image_of (row_at whole i)) (sym (image-is i within))
+        (slot-is (i + 1)) fit (slot-long (i + 1) next) ∙ ap (is_image_of (row_at whole i)) (sym (image-is i within))
         ∙ ap (λ (r : Row). is_image_of r (get_or parts (i + 1) [])) (sym (row-is i within))
 
     bads : lowest_bad (is_good image rows first whole) 0 (length rows - 1) ≡ lowest_bad (package_has_image m parts) 0 (length m.rows)

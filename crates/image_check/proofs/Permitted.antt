@@ -57,8 +57,7 @@ module _ (L : Layout) (image : List ℕ) (bank : ℕ) (fits : IsTrue (fits_layou
   count =
       ap (λ (k : Manifest). length k.rows) (sym is)
       ∙ length-map-range_with_len (row_at (take size front)) 0 (num_at 4 (take size front) 12)
-      ∙ num_front 4 12 size front (omega arith)
-      ∙ (manifest_passed L.rows front m h).count
+      ∙ num_front 4 12 size front (omega arith) ∙ (manifest_passed L.rows front m h).count
 
   manifest-is : take (manifest_size (length m.rows)) front ≡ take size front
   manifest-is = ap (λ (n : ℕ). take (manifest_size n) front) count

@@ -4,12 +4,8 @@ pub mod Calm
 pub mod Repaired
 pub mod Beside
 pub mod Trials
-pub mod Guarded
 pub mod MetaMoves
-pub mod MetaIn
-pub mod Fitting
 pub mod Stored
 pub mod Packages
-pub mod Cleared
 pub mod Staged
 pub mod Switching

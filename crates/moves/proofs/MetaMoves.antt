@@ -1,20 +1,28 @@
--- The metadata that a move writes, read again, is the state after the move.
-use Rattle.std.proofs.Common.{◌≡◌, ◌≢◌, ℕ, ◌<◌, Bool, true, false, cond, List, [], get_or, set, map, Option, Some, None, refl, sym, ap, ◌∙◌, arith, inl, inr, length-set, get_or-set_same, get_or-set_other, ext_get_or, IsTrue, IsFalse}
-use Rattle.std.proofs.lemmas.Bool.{cases_Bool, cases_eq}
+-- The metadata is of the layout and a function of the state that is shown.
+-- What a move writes of it is of the layout too, and read again it is the state after the move.
+use Rattle.std.proofs.Common.{◌≡◌, ◌≢◌, ℕ, ◌<◌, Bool, true, false, cond, List, [], get_or, set, map, Option, Some, None, refl, sym, ap, ◌∙◌, arith, inl, inr, length-set, get_or-set_same, get_or-set_other, ext_get_or, IsTrue, IsFalse, length, suc, ◌==◌, ◌∷◌, eq-eqb}
+use Rattle.std.proofs.lemmas.Bool.{cases_Bool, cases_eq, and_from}
 use Rattle.std.proofs.lemmas.List.FromFn.{length-map-range_with_len, get_or-map-range_with_len}
 use Rattle.base_core.specs.Bytes.{listed}
 use Rattle.fwu_formats.specs.declared.kinds.BankState.{BankState}
 use Rattle.fwu_formats.specs.declared.kinds.BankState.TheVariants.{Invalid, Valid, Accepted}
 use Rattle.fwu_formats.specs.Layout.{Layout}
-use Rattle.fwu_formats.specs.Metadata.{Meta, state_at}
-use Rattle.fwu_formats.specs.Image.{marks, package_in}
+use Rattle.fwu_formats.specs.Metadata.{Meta, state_at, MetaRead, meta_read, fits_meta}
+use Rattle.fwu_formats.specs.Image.{marks, package_in, deciding}
 use Rattle.fwu_formats.specs.Counter.{counter_in}
-use Rattle.fwu_model.specs.State.{Bank, bank, no_bank, is_invalid, is_valid, is_accepted, all_set, state_by, freed, with_bit, Free, Switch, Accept, Back, after_move}
+use Rattle.fwu_model.specs.State.{Bank, bank, no_bank, is_invalid, is_valid, is_accepted, all_set, state_by, freed, with_bit, Free, Switch, Accept, Back, after_move, State}
 use Rattle.fwu_formats.specs.Places.{trial_limit}
 use Rattle.fwu_model.specs.Seen.{state_of, bank_in}
 use Rattle.fwu_model.specs.Replica.{in_version}
-use Rattle.meta_layout.proofs.Fits.{MetaFits}
-use Rattle.fwu_model.specs.MoveMetas.{bits_in, accepted_bits, meta_after}
+use Rattle.meta_layout.proofs.Fits.{MetaFits, meta-fits, read-fits, fits-meta, row-length}
+use Rattle.fwu_model.specs.MoveMetas.{bits_in, accepted_bits, meta_after, meta_in}
+use Rattle.std.proofs.lemmas.Option.{same_Some}
+use Rattle.std.proofs.lemmas.List.{length-map, get_or-map}
+use Rattle.moves.specs.Moved.{IsShown}
+use Rattle.moves.proofs.Agree.{shown-meta}
+use Rattle.base_core.specs.Block.{block}
+use Rattle.fwu_formats.proofs.Read.{read-is, first-whole}
+use Rattle.std.specs.List.{list_all}
 
 -- a bank with this state and these bits
 abbrev pub bank_with : Layout → List ℕ → ℕ → BankState → List Bool → Bank
@@ -125,3 +133,88 @@ module _ (L : Layout) (image : List ℕ) (m : Meta) (whole : MetaFits L m) where
       none : (k : BankState) → IsTrue (is_accepted k) → cond (is_valid k) (marks image 3 trial_limit) 0 ≡ 0
       none Valid h = absurd cc
       none other h = refl
+
+pub deciding-of_layout : (L : Layout) (image : List ℕ) (r : MetaRead) → deciding L image ≡ Some r → IsTrue (fits_meta L r.meta)
+unfolding deciding
+deciding-of_layout L image r e =
+    elim (first-whole (meta_read L (block 1 image)) (meta_read L (block 2 image)) r e) [
+      | inl zero ↦ read-fits L (block 1 image) r (read-is L (block 1 image) r zero)
+      | inr one ↦ read-fits L (block 2 image) r (read-is L (block 2 image) r one)
+    ]
+
+pub deciding-fits : (L : Layout) (image : List ℕ) (r : MetaRead) → deciding L image ≡ Some r → MetaFits L r.meta
+deciding-fits L image r e = meta-fits L r.meta (deciding-of_layout L image r e)
+
+-- a part of each bank, as the metadata lists it
+parts-are : {X : Type 0} (L : Layout) (image : List ℕ) (m : Meta) (part : Bank → X) (d : X) (xs : List X) → length xs ≡ L.banks → ((b : ℕ) → part (bank_in L image m b) ≡ get_or xs b d) → map part (listed L.banks (bank_in L image m)) ≡ xs
+parts-are L image m part d xs len is =
+    let all = listed L.banks (bank_in L image m) in
+    let count = length-map-range_with_len (bank_in L image m) 0 L.banks in
+    let size = length-map all part in
+    ext_get_or d (map part all) xs (size ∙ count ∙ sym len) (λ i below.
+    let lt : i < L.banks = omega (arith, below, size, count) in
+    get_or-map part all i no_bank d (omega (arith, lt, count)) ∙ ap part (get_or-map-range_with_len (bank_in L image m) 0 L.banks i i no_bank lt (omega arith)) ∙ is i)
+
+pub meta-is : (L : Layout) (image : List ℕ) (r : MetaRead) (s : State) → MetaFits L r.meta → state_of L image r ≡ s → meta_in s ≡ r.meta
+meta-is L image r s whole is =
+    ap meta_in (sym is)
+    ∙ ap (λ (x : List BankState × List (List Bool)). record { active = r.meta.active; previous = r.meta.previous; states = x.0; bits = x.1 })
+    (double (parts-are L image r.meta (λ (k : Bank). k.state) Invalid r.meta.states whole.states (λ b. refl)) (parts-are L image r.meta (λ (k : Bank). k.bits) [] r.meta.bits whole.bits (λ b. refl)))
+  where
+    double : {a b : List BankState} {c d : List (List Bool)} → a ≡ b → c ≡ d → ◌≡◌ {A = List BankState × List (List Bool)} (a, c) (b, d)
+    double p q = cc
+
+-- what decides, by the state that is shown
+pub shown-decides : (L : Layout) (image : List ℕ) (s : State) → IsShown L image s → deciding L image ≡ Some (in_version s.form (meta_in s))
+shown-decides L image s shown =
+    let found = shown-meta L image s shown in
+    let r = found.0 in
+    let meta = meta-is L image r s (deciding-fits L image r found.1) found.2 in
+    let version : r.form ≡ s.form = ap (λ (x : State). x.form) found.2 in
+    found.1 ∙ ap (λ (n : ℕ). Some (in_version n r.meta)) version ∙ ap (λ (m : Meta). Some (in_version s.form m)) (sym meta)
+
+-- the same in version 2
+pub two-decides : (L : Layout) (image : List ℕ) (s : State) → IsShown L image s → s.form ≡ 2 → deciding L image ≡ Some (in_version 2 (meta_in s))
+two-decides L image s shown two = shown-decides L image s shown ∙ ap (λ (n : ℕ). Some (in_version n (meta_in s))) two
+
+-- the metadata that decides is that of the state, so a call that has written it knows it
+pub meta-held : (L : Layout) (image : List ℕ) (s : State) (m : Meta) (form : ℕ) → IsShown L image s → deciding L image ≡ Some (in_version form m) → meta_in s ≡ m
+meta-held L image s m form shown decided = ap (λ (r : MetaRead). r.meta) (same_Some (in_version s.form (meta_in s)) (in_version form m) (sym (shown-decides L image s shown) ∙ decided))
+
+-- ---- the metadata after a move is of the layout where the metadata before is
+
+rows-all : (n : ℕ) (rows : List (List Bool)) → ((b : ℕ) → b < length rows → length (get_or rows b []) ≡ n) → IsTrue (list_all (λ row. length row == n) rows)
+rows-all n [] each = refl
+rows-all n (row ∷ rows) each = and_from _ _ (eq-eqb (length row) n (each 0 (omega arith))) (rows-all n rows (λ b lt. each (suc b) (omega (arith, lt))))
+
+fits-from : (L : Layout) (m : Meta) → m.active < L.banks → m.previous < L.banks → length m.states ≡ L.banks → length m.bits ≡ L.banks → ((b : ℕ) → b < L.banks → length (bits_in m b) ≡ length L.rows) → IsTrue (fits_meta L m)
+fits-from L m active previous states bits rows = fits-meta L m (record { active = active; previous = previous; states = states; bits = bits; rows = rows-all (length L.rows) m.bits (λ b lt. rows b (omega (arith, lt, bits))) })
+
+module _ (L : Layout) (m : Meta) (fits : IsTrue (fits_meta L m)) where
+  whole : MetaFits L m
+  whole = meta-fits L m fits
+
+  set-rows : (b : ℕ) (bits : List Bool) → b < L.banks → length bits ≡ length L.rows → (c : ℕ) → c < L.banks → length (get_or (set m.bits b bits) c []) ≡ length L.rows
+  set-rows b bits lt len c below = elim (cases_eq c b) [
+    | inl same ↦ ap (λ (i : ℕ). length (get_or (set m.bits b bits) i [])) same ∙ ap length (get_or-set_same m.bits b bits [] (omega (arith, lt, whole.bits))) ∙ len
+    | inr ne ↦ ap length (get_or-set_other m.bits b c bits [] ne) ∙ row-length L m c whole below
+  ]
+
+  pub fits-free : (b : ℕ) → b < L.banks → IsTrue (fits_meta L (meta_after m (Free b)))
+  fits-free b lt =
+      let bits = map (λ (bit : Bool). false) (bits_in m b) in
+      fits-from L (meta_after m (Free b)) whole.active whole.previous (length-set m.states b Invalid ∙ whole.states) (length-set m.bits b bits ∙ whole.bits)
+      (set-rows b bits lt (length-map (bits_in m b) (λ (bit : Bool). false) ∙ row-length L m b whole lt))
+
+  pub fits-switch : (b : ℕ) (p : List (List ℕ)) (bits : List Bool) → b < L.banks → length bits ≡ length L.rows → IsTrue (fits_meta L (meta_after m (Switch b p bits)))
+  fits-switch b p bits lt len =
+      fits-from L (meta_after m (Switch b p bits)) lt whole.active (length-set m.states b (state_by bits) ∙ whole.states) (length-set m.bits b bits ∙ whole.bits) (set-rows b bits lt len)
+
+  pub fits-accept : (image : ℕ) → IsTrue (fits_meta L (meta_after m (Accept image)))
+  fits-accept image =
+      let bits = accepted_bits m image in
+      fits-from L (meta_after m (Accept image)) whole.active whole.previous (length-set m.states m.active _ ∙ whole.states) (length-set m.bits m.active bits ∙ whole.bits)
+      (set-rows m.active bits whole.active (length-set (bits_in m m.active) image true ∙ row-length L m m.active whole whole.active))
+
+  pub fits-back : IsTrue (fits_meta L (meta_after m Back))
+  fits-back = fits-from L (meta_after m Back) whole.previous whole.active whole.states whole.bits (λ c below. row-length L m c whole below)

@@ -16,7 +16,7 @@ use Rattle.replicas.proofs.Reading.{deciding_of}
 use Rattle.moves.specs.Moved.{IsReady, IsShown}
 use Rattle.fwu_model.specs.Calm.{IsAtRest}
 use Rattle.moves.proofs.Agree.{no_meta, Agrees, layout-agrees, decides-agrees, shown-meta, shown-by, used-below, used-at, at-used}
-use Rattle.moves.proofs.Guarded.{rest-used}
+use Rattle.moves.proofs.Repaired.{rest-used}
 use Rattle.base_core.proofs.Results.{same-Ok}
 
 -- banks follow one another

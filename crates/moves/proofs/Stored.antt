@@ -23,9 +23,8 @@ use Rattle.moves.specs.Moved.{IsReady, Does, IsShown, ShowsAfter, GuardedBy}
 use Rattle.fwu_model.specs.MoveMetas.{meta_after}
 use Rattle.moves.proofs.Agree.{QuietUsed, shown-by, state-is, bank-count, at-used}
 use Rattle.moves.proofs.Calm.{calm-shown, calm-sound, calm-tidy}
-use Rattle.moves.proofs.MetaMoves.{free-state, switch-state, accept-state, back-state}
-use Rattle.moves.proofs.Repaired.{store-writes, write-each, write-all, write-shows, quiet-after}
-use Rattle.moves.proofs.MetaIn.{deciding-fits}
+use Rattle.moves.proofs.MetaMoves.{free-state, switch-state, accept-state, back-state, deciding-fits}
+use Rattle.moves.proofs.Repaired.{store-writes, write-each, write-all, write-shows, quiet-after, guarded-by, rest-used, by-result}
 use Rattle.std.proofs.lemmas.Option.{same_Some}
 use Rattle.std.proofs.lemmas.Result.{on_ok_weaker}
 use Rattle.flash_core.proofs.Calls.{guards_kept}
@@ -33,7 +32,6 @@ use Rattle.fwu_model.specs.Calm.{IsAtRest}
 use Rattle.fwu_formats.proofs.SealLaws.{limits}
 use Rattle.fwu_formats.proofs.Read.{layout-fits}
 use Rattle.base_core.specs.Block.{block}
-use Rattle.moves.proofs.Guarded.{guarded-by, rest-used, by-result}
 
 -- the banks that a state has in use are quiet
 abbrev pub QuietBanks : Setting → Told → State → Type 0

@@ -23,10 +23,10 @@ use Rattle.fwu_model.specs.MoveMetas.{meta_after, meta_in}
 use Rattle.moves.specs.Law.{CallResult, EndsBy}
 use Rattle.moves.proofs.Agree.{no_meta, Agrees, front-kept, decides-agrees, package-same}
 use Rattle.moves.proofs.Beside.{both-beside}
-use Rattle.moves.proofs.Cleared.{clear-does, clear-shows, clear-guarded, blank-marks, blank-tidy}
+use Rattle.moves.proofs.Trials.{clear-does, clear-shows, clear-guarded, blank-marks, blank-tidy}
 use Rattle.moves.proofs.Composed.{does-stopped}
-use Rattle.moves.proofs.Guarded.{rest-used}
-use Rattle.moves.proofs.MetaIn.{two-decides}
+use Rattle.moves.proofs.Repaired.{rest-used}
+use Rattle.moves.proofs.MetaMoves.{two-decides}
 use Rattle.moves.proofs.Packages.{package-held}
 use Rattle.moves.proofs.Stored.{switch-does, switch-shows, store-guarded, quiet-switch}
 

@@ -34,8 +34,7 @@ CallResult = Result (Unit {0}) FlashStop
 pub record CallsCompose : Type 0 where
   -- a call that stopped did a prefix of whatever was to follow
   pub stopped : (given result : CallResult) (E : Setting) (s : State) (ms ns : List Move) (t : Told) → IsErr result
-      → Does given E s ms t
-      → Does result E s (ms ++ ns) t
+      → Does given E s ms t → Does result E s (ms ++ ns) t
   -- a call that is done, and the next one from the state that it left
   pub next : (result : CallResult) (E : Setting) (s : State) (ms ns : List Move) (m t : Told) → Does {T = Unit {0}} (Ok tt) E s ms m
       → (IsReady E m (after s ms) → Does result E (after s ms) ns t) → Does result E s (ms ++ ns) t
@@ -48,15 +47,13 @@ pub record CallsCompose : Type 0 where
 abbrev pub LossesLeaveCalm : Type 0
 LossesLeaveCalm =
     (result : CallResult) (E : Setting) (s : State) (ms : List Move) (old new : Told) → Does result E s ms old
-    → new ≡ fresh old.guard new.now → May old new.now
-    → (x : State) × Contains (prefixes s ms) x × IsCalm E new x
+    → new ≡ fresh old.guard new.now → May old new.now → (x : State) × Contains (prefixes s ms) x × IsCalm E new x
 
 -- a sound flash with nothing dirty is ready, where replica 1 holds what decides
 abbrev pub StartsAreReady : Type 0
 StartsAreReady =
     (E : Setting) (t : Told) (s : State) → NothingDirty t → SoundFlash E t.now → seen t.now ≡ Some s → Guards 1 7 t
-    → ((r : MetaRead) → deciding E.layout t.now ≡ Some r → meta_read E.layout (block 2 t.now) ≡ Some r)
-    → IsReady E t s
+    → ((r : MetaRead) → deciding E.layout t.now ≡ Some r → meta_read E.layout (block 2 t.now) ≡ Some r) → IsReady E t s
 
 -- ---- on a calm flash, with each loss
 
@@ -72,8 +69,7 @@ RepairsDo =
 abbrev pub TrialsDo : Type 0
 TrialsDo =
     (result : CallResult) (s t : Told) (state : State) (at : ℕ) → IsTrue (is_valid (bank state state.active).state)
-    → at ≡ state.trials
-    → at < trial_limit → Adds result 3 at s t → (E : Setting) → IsReady E s state
+    → at ≡ state.trials → at < trial_limit → Adds result 3 at s t → (E : Setting) → IsReady E s state
     → Does result E state (Trial ∷ []) t
 
 -- a record of the version that the active bank holds, which is accepted
@@ -123,13 +119,11 @@ RaisesShow = (result : CallResult) (v : ℕ) (s t : Told) (state : State) → Ra
 -- the writes of a boot
 pub record WritesStayGuarded : Type 0 where
   pub repair : (result : CallResult) (L : Layout) (s t : Told) → layout_seen s.now ≡ Ok L → IsAtRest s
-      → (which : Which) (r : MetaRead)
-      → Loads L which r s.now → Repairs result L r s t → GuardedBy result t
+      → (which : Which) (r : MetaRead) → Loads L which r s.now → Repairs result L r s t → GuardedBy result t
   pub trial : (result : CallResult) (L : Layout) (s t : Told) → layout_seen s.now ≡ Ok L → IsAtRest s → (at : ℕ) → at < trial_limit
       → Adds result 3 at s t → GuardedBy result t
   pub raise : (result : CallResult) (L : Layout) (s t : Told) → layout_seen s.now ≡ Ok L → IsAtRest s → (v : ℕ)
-      → Raises result v s t
-      → GuardedBy result t
+      → Raises result v s t → GuardedBy result t
 
 -- ---- metadata
 
@@ -184,12 +178,10 @@ StoresDoMoves = (result : CallResult) (E : Setting) (s t : Told) (state : State)
 pub record EndsBy (L : Layout) (state : State) (p : List (List ℕ)) (bits : List Bool) (s : Told) : Type 0 where
   -- stopped as the marks are cleared
   pub unclear : (given result : CallResult) (E : Setting) (t : Told) → IsErr result → E.layout ≡ L → IsCalm E s state → Guards 1 7 s
-      → Clears given 3 s t
-      → Does result E state (Switch (update_bank state) p bits ∷ []) t
+      → Clears given 3 s t → Does result E state (Switch (update_bank state) p bits ∷ []) t
   -- on a calm flash, with each loss
   pub does : (result : CallResult) (E : Setting) (m t : Told) → E.layout ≡ L → IsTrue (is_permitted E state.counter p)
-      → IsCalm E s state
-      → Guards 1 7 s → Clears {T = Unit {0}} (Ok tt) 3 s m
+      → IsCalm E s state → Guards 1 7 s → Clears {T = Unit {0}} (Ok tt) 3 s m
       → Stores result L (meta_after (meta_in state) (Switch (update_bank state) p bits)) m t
       → Does result E state (Switch (update_bank state) p bits ∷ []) t
   -- on any flash, when done
@@ -198,8 +190,7 @@ pub record EndsBy (L : Layout) (state : State) (p : List (List ℕ)) (bits : Lis
       → ShowsAfter result L state (Switch (update_bank state) p bits ∷ []) t
   -- on any flash at rest
   pub guarded : (result : CallResult) (m t : Told) → IsAtRest s → Clears {T = Unit {0}} (Ok tt) 3 s m
-      → Stores result L (meta_after (meta_in state) (Switch (update_bank state) p bits)) m t
-      → GuardedBy result t
+      → Stores result L (meta_after (meta_in state) (Switch (update_bank state) p bits)) m t → GuardedBy result t
 
 -- so where both replicas hold the metadata, the active bank is accepted, and the slots of the update bank begin with the images of
 -- a complete package and are quiet
@@ -226,8 +217,7 @@ ClearsDo = (result : CallResult) (s t : Told) (state : State) → IsTrue (is_acc
 abbrev pub StagingKeepsReady : Type 0
 StagingKeepsReady =
     (E : Setting) (s t : Told) (state : State) (u : ℕ) → IsReady E s state → IsTrue (is_invalid (bank state u).state)
-    → Keeps (block_bytes * start E.layout u 0) (block_bytes * start E.layout (u + 1) 0) s t
-    → IsReady E t state
+    → Keeps (block_bytes * start E.layout u 0) (block_bytes * start E.layout (u + 1) 0) s t → IsReady E t state
 
 -- ---- on any flash that shows a state
 

@@ -17,7 +17,7 @@ use Rattle.fip_tables.specs.Images.{no_row, no_entry}
 use Rattle.flash_core.proofs.Touches.{touches_then, touches_wider}
 use Rattle.flash_format.specs.Places.{HoldsThenErased}
 use Rattle.flash_format.specs.Planned.{pieces_in, block_pieces_of}
-use Rattle.flash_format.proofs.Clearing.{left_then, left_fewer}
+use Rattle.flash_format.proofs.Recorded.{left_then, left_fewer}
 use Rattle.flash_format.proofs.Ranges.{erased_stays}
 use Rattle.flash_format.proofs.Formats.{slots_more, slots_more_le, all_stand_more}
 use Rattle.flash_format.proofs.Taking.{pieces_all, pieces_more}

@@ -1,6 +1,5 @@
 use Rattle.std.proofs.Common.{◌-◌, ◌*◌, inr, arith}
-use Rattle.flash_format.proofs.Clearing.{only_then}
-use Rattle.flash_format.proofs.Recorded.{bare_fresh, bare_stays, on_ok_from}
+use Rattle.flash_format.proofs.Recorded.{only_then, bare_fresh, bare_stays, on_ok_from}
 use Rattle.flash_format.proofs.erasing.erase_all.Goals as goal
 
 pub returns-clause-clears : goal.returns-clause-clears

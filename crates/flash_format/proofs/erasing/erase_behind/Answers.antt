@@ -9,7 +9,7 @@ use Rattle.flash_core.proofs.Costs.{spends_then}
 use Rattle.flash_core.proofs.Spent.{spent_both, spent_one}
 use Rattle.flash_core.proofs.Touches.{touches_then, touches_wider}
 use Rattle.flash_format.specs.Places.{OnlyErased, Erased}
-use Rattle.flash_format.proofs.Clearing.{only_erase}
+use Rattle.flash_format.proofs.Recorded.{only_erase}
 use Rattle.flash_format.proofs.Ranges.{keeps_written, erased_more}
 use Rattle.flash_core.proofs.Unarmed.{unarmed_spent}
 use Rattle.flash_format.proofs.Stopped.{unarmed_then}

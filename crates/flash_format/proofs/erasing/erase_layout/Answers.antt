@@ -7,9 +7,8 @@ use Rattle.flash_core.proofs.Calls.{keeps_same}
 use Rattle.flash_core.proofs.Spent.{spent_barrier, spent_one}
 use Rattle.flash_core.proofs.Touches.{touches_still, touches_wider}
 use Rattle.flash_format.specs.Places.{OnlyErased, Erased}
-use Rattle.flash_format.proofs.Clearing.{only_erase, only_same, only_settled}
+use Rattle.flash_format.proofs.Recorded.{only_erase, only_same, only_settled, on_ok_from, keeps_settled, now_settled, clean_after}
 use Rattle.flash_format.proofs.Ranges.{keeps_written, erased_more}
-use Rattle.flash_format.proofs.Recorded.{on_ok_from, keeps_settled, now_settled, clean_after}
 use Rattle.flash_format.proofs.erasing.erase_layout.Goals as goal
 
 pub returns-in_err-erase-clause-writes : goal.returns-in_err-erase-clause-writes

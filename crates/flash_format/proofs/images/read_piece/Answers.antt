@@ -2,7 +2,7 @@ use Rattle.std.proofs.Common.{◌≡◌, ◌≤◌, ℕ, length, take, drop, ap,
 use Rattle.std.proofs.lemmas.List.{length-take-le, length-drop, length-append}
 use Rattle.base_core.proofs.Blocks.{length-blank}
 use Rattle.fwu_formats.specs.Package.{Entry, payload}
-use Rattle.flash_format.proofs.Pieces.{length-payload, piece_erased, piece_stands}
+use Rattle.flash_format.proofs.Ranges.{length-payload, piece_erased, piece_stands}
 use Rattle.flash_format.proofs.images.read_piece.Goals as goal
 
 pub slice_bounds-payload_at-end : goal.slice_bounds-payload_at-end

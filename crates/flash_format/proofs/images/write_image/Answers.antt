@@ -9,9 +9,8 @@ use Rattle.fip_tables.specs.Files.{Tells}
 use Rattle.fwu_formats.specs.Package.{Entry, payload}
 use Rattle.flash_core.proofs.Touches.{touches_then, touches_wider}
 use Rattle.flash_format.specs.Places.{HoldsThenErased}
-use Rattle.flash_format.proofs.Ranges.{erased_stays, stands_stays}
-use Rattle.flash_format.proofs.Clearing.{left_then, left_fewer}
-use Rattle.flash_format.proofs.Pieces.{stands_more}
+use Rattle.flash_format.proofs.Ranges.{erased_stays, stands_stays, stands_more}
+use Rattle.flash_format.proofs.Recorded.{left_then, left_fewer}
 use Rattle.flash_format.proofs.Stopped.{unarmed_then}
 use Rattle.flash_format.proofs.images.write_image.Goals as goal
 

@@ -9,9 +9,8 @@ use Rattle.fwu_formats.specs.Package.{payload}
 use Rattle.flash_core.proofs.Spent.{spent_one}
 use Rattle.flash_core.proofs.Touches.{touches_wider}
 use Rattle.flash_format.specs.Places.{LeavesNoMore, HoldsThenErased}
-use Rattle.flash_format.proofs.Ranges.{keeps_written, erased_range}
-use Rattle.flash_format.proofs.Clearing.{left_below}
-use Rattle.flash_format.proofs.Pieces.{piece_written}
+use Rattle.flash_format.proofs.Ranges.{keeps_written, erased_range, piece_written}
+use Rattle.flash_format.proofs.Recorded.{left_below}
 use Rattle.flash_format.proofs.images.write_piece.Goals as goal
 
 pub read_piece-requires-clause-erased : goal.read_piece-requires-clause-erased

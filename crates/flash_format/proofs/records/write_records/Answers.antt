@@ -10,7 +10,7 @@ use Rattle.flash_core.proofs.Touches.{touches_then, touches_wider}
 use Rattle.flash_format.specs.Formatted.{IsSpelled}
 use Rattle.flash_format.proofs.Ranges.{erased_stays}
 use Rattle.flash_format.proofs.Recorded.{on_ok_from, on_ok_map, both_stay, ordered_before, ordered_after}
-use Rattle.flash_format.proofs.Showing.{unlaid}
+use Rattle.flash_format.proofs.Formats.{unlaid}
 use Rattle.flash_format.proofs.records.write_records.Goals as goal
 
 pub returns-clause-both : goal.returns-clause-both

@@ -9,8 +9,7 @@ use Rattle.flash_core.specs.Touches.{TouchesOnly}
 use Rattle.flash_core.proofs.Touches.{touches_still, touches_then, touches_wider}
 use Rattle.flash_format.specs.Places.{IsBare, OnlyErased, AllStand, Erased}
 use Rattle.flash_format.specs.Formatted.{IsBlank}
-use Rattle.flash_format.proofs.Clearing.{only_above, only_settled}
-use Rattle.flash_format.proofs.Recorded.{bare_settled, bare_stays, keeps_settled, now_settled}
+use Rattle.flash_format.proofs.Recorded.{only_above, only_settled, bare_settled, bare_stays, keeps_settled, now_settled}
 use Rattle.flash_format.proofs.Ranges.{erased_stays}
 use Rattle.flash_format.proofs.Plans.{bank_within}
 use Rattle.flash_format.proofs.writing.fill.Given as given

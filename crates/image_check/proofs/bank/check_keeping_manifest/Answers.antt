@@ -59,8 +59,7 @@ returns-clause-verdict g c =
     IfOk-weaker c.check_manifest.result P Q
     (λ v is tells.
     let long = (g.met.D.Flash.sound c.args.flash.now tells).size in
-    is tells
-    ∙ ap (λ (t : Told). found passes asked.counter t.now rows first kept) (c.in_ok-read.ensures.content tells)
+    is tells ∙ ap (λ (t : Told). found passes asked.counter t.now rows first kept) (c.in_ok-read.ensures.content tells)
     ∙ ap (found passes asked.counter old.now rows first)
     (is-out ∙ front_read old.now rows first out _ (c.in_ok-read.ensures.bytes tells) (size ∙ c.manifest_size-size.ensures))
     ∙ ap (λ (r : List ImageRow). found passes asked.counter old.now r first (front_of old.now r first)) c.rows-rows.ensures.value
@@ -93,8 +92,7 @@ returns-clause-manifest g c =
     → take (manifest_size (length L.rows - 1)) (out ++ drop n front) ≡ front_of image L.rows (start L c.args.asked.now.bank 0) in
     IfOk-weaker c.check_manifest.result _ Q
     (λ v told tells.
-    ap (λ (k : ℕ). take k (out ++ drop n front)) (sym is)
-    ∙ take-front n out (drop n front) (c.read.auto.out ∙ size)
+    ap (λ (k : ℕ). take k (out ++ drop n front)) (sym is) ∙ take-front n out (drop n front) (c.read.auto.out ∙ size)
     ∙ front_read image rows first out _ (c.in_ok-read.ensures.bytes tells) (size ∙ c.manifest_size-size.ensures)
     ∙ ap (λ (r : List ImageRow). front_of image r first) c.rows-rows.ensures.value
     ∙ ap (front_of image L.rows) c.start-first.ensures)

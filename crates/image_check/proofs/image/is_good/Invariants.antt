@@ -1,5 +1,5 @@
 use Rattle.std.proofs.Common.{◌-◌}
-use Rattle.image_check.proofs.Taken.{HasGoneOn}
+use Rattle.image_check.proofs.UnderWay.{HasGoneOn}
 use Rattle.image_check.proofs.image.is_good.Given as goal
 
 -- the message has taken in what is done of the image

@@ -3,8 +3,7 @@ use Rattle.std.specs.Option.{ForSome}
 use Rattle.sha256_lanes.specs.Holding.{HoldsInLane}
 use Rattle.image_check.specs.Taken.{HasTaken, job_at}
 use Rattle.image_check.proofs.Stays.{reads_none, reads_then}
-use Rattle.image_check.proofs.Taken.{lane_more, of_lanes}
-use Rattle.image_check.proofs.UnderWay.{moved, piece_inside, stepped_after}
+use Rattle.image_check.proofs.UnderWay.{lane_more, of_lanes, moved, piece_inside, stepped_after}
 use Rattle.image_check.proofs.side.take_piece.Goals as goal
 
 pub read_for-requires-clause-inside : goal.read_for-requires-clause-inside

@@ -1,4 +1,4 @@
-use Rattle.moves.proofs.Guarded.{repair-guarded, trial-guarded, raise-guarded}
+use Rattle.moves.proofs.Repaired.{repair-guarded, trial-guarded, raise-guarded}
 use Rattle.moves.proofs.laws.writes_stay_guarded.Goals as goal
 
 pub returns : goal.returns

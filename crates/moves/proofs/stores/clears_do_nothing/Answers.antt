@@ -1,4 +1,4 @@
-use Rattle.moves.proofs.Cleared.{clear-does}
+use Rattle.moves.proofs.Trials.{clear-does}
 use Rattle.moves.proofs.stores.clears_do_nothing.Goals as goal
 
 pub returns : goal.returns

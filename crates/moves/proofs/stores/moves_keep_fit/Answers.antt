@@ -1,4 +1,4 @@
-use Rattle.moves.proofs.Fitting.{fits-free, fits-switch, fits-accept, fits-back}
+use Rattle.moves.proofs.MetaMoves.{fits-free, fits-switch, fits-accept, fits-back}
 use Rattle.moves.proofs.stores.moves_keep_fit.Goals as goal
 
 pub returns : goal.returns

@@ -1,5 +1,5 @@
-use Rattle.moves.proofs.Guarded.{rest-used}
-use Rattle.moves.proofs.MetaIn.{deciding-fits}
+use Rattle.moves.proofs.Repaired.{rest-used}
+use Rattle.moves.proofs.MetaMoves.{deciding-fits}
 use Rattle.moves.proofs.Stored.{quiet-free, quiet-accept, quiet-back, quiet-switch}
 use Rattle.moves.proofs.stores.moves_keep_quiet.Goals as goal
 

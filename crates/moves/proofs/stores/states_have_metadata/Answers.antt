@@ -1,4 +1,4 @@
-use Rattle.moves.proofs.MetaIn.{shown-decides, meta-held}
+use Rattle.moves.proofs.MetaMoves.{shown-decides, meta-held}
 use Rattle.moves.proofs.stores.states_have_metadata.Goals as goal
 
 pub returns : goal.returns

@@ -1,4 +1,4 @@
-use Rattle.moves.proofs.MetaIn.{two-decides}
+use Rattle.moves.proofs.MetaMoves.{two-decides}
 use Rattle.moves.proofs.Calm.{calm-shown}
 use Rattle.moves.proofs.Stored.{free-does, accept-does, back-does, switch-does}
 use Rattle.fwu_model.specs.MoveMetas.{meta_in}

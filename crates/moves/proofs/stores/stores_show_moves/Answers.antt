@@ -1,4 +1,4 @@
-use Rattle.moves.proofs.MetaIn.{two-decides}
+use Rattle.moves.proofs.MetaMoves.{two-decides}
 use Rattle.moves.proofs.Stored.{free-shows, accept-shows, back-shows, switch-shows, active-at, previous-at}
 use Rattle.fwu_model.specs.MoveMetas.{meta_in}
 use Rattle.moves.proofs.stores.stores_show_moves.Goals as goal
