@@ -27,8 +27,7 @@ use Rattle.script_turns.specs.Powered.{FitsMachine, TurnMoment, kept_at}
 use Rattle.script_turns.specs.Replies.{AnswersTo, CallSays, IsFlashStop, Replies, no_call_reply}
 use Rattle.script_turns.specs.Runs.{Follows}
 use Rattle.script_turns.specs.Turning.{Turns}
-use Rattle.fwu_wire.specs.Calls.{asks, asks_by, most_room, of_length, op_of, open_call}
-use Rattle.fwu_wire.specs.Functions.{function_of}
+use Rattle.fwu_wire.specs.Calls.{asks, asks_by, most_room, of_length, op_of, open_call, function_of}
 use Rattle.fwu_wire.specs.declared.functions.Function.{Function}
 use Rattle.fwu_wire.specs.declared.functions.Function.TheVariants as function
 use Rattle.serving.specs.Requests.{call_or_none, called}
