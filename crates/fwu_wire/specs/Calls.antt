@@ -1,15 +1,42 @@
--- Which call of the agent a request asks for, by its function and its arguments.
-use Rattle.std.specs.Prelude.{◌≡◌, ℕ, ◌==◌, nat_le, if◌then◌else◌, List, length, take, drop, Option, Some, None, option_map}
+-- The functions of the agent by their numbers, and which call a request asks for, by its function and its arguments.
+use Rattle.std.specs.Prelude.{◌≡◌, ℕ, ◌==◌, nat_le, if◌then◌else◌, List, length, take, drop, Option, Some, None, option_map, ◌≤◌}
 use Rattle.base_core.specs.Bytes.{num_at}
 use Rattle.fwu_model.specs.declared.kinds.Op.{Op}
 use Rattle.fwu_model.specs.declared.kinds.Op.TheVariants as op
 use Rattle.fwu_model.specs.Call.{Call}
 use Rattle.fwu_model.specs.Call as call
-use Rattle.fwu_wire.specs.Functions.{function_of}
 use Rattle.fwu_wire.specs.declared.functions.Function.{Function}
-use Rattle.fwu_wire.specs.declared.functions.Function.TheVariants as function
 use Rattle.fwu_wire.specs.declared.calls.AgentCall.{AgentCall}
 use Rattle.fwu_wire.specs.declared.calls.AgentCall.TheVariants as wire
+use Rattle.fwu_wire.specs.declared.functions.Function.TheVariants.{Discover, Begin, End, Cancel, Open, WriteStream, ReadStream, Commit, Accept, SelectPrevious}
+use Rattle.fwu_wire.specs.declared.replies.AgentReply.{AgentReply}
+use Rattle.fwu_wire.specs.declared.replies.AgentReply.TheVariants as reply
+
+abbrev pub number : Function → ℕ
+number Discover = 0
+number Begin = 16
+number End = 17
+number Cancel = 18
+number Open = 19
+number WriteStream = 20
+number ReadStream = 21
+number Commit = 22
+number Accept = 23
+number SelectPrevious = 24
+
+abbrev pub function_of : ℕ → Option Function
+function_of n =
+    if n == 0 then Some Discover
+    else if n == 16 then Some Begin
+    else if n == 17 then Some End
+    else if n == 18 then Some Cancel
+    else if n == 19 then Some Open
+    else if n == 20 then Some WriteStream
+    else if n == 21 then Some ReadStream
+    else if n == 22 then Some Commit
+    else if n == 23 then Some Accept
+    else if n == 24 then Some SelectPrevious
+    else None
 
 -- a read asks for so many bytes at most
 abbrev pub most_room : ℕ
@@ -43,16 +70,16 @@ asks_read args =
 -- the vendor flags and the atomic length have no meaning
 abbrev pub asks_by : Option Function → List ℕ → Option Call
 asks_by None args = None
-asks_by (Some function.Discover) args = of_length 0 args call.Discover
-asks_by (Some function.Begin) args = of_length 8 args (call.Begin (num_at 4 args 4))
-asks_by (Some function.End) args = of_length 0 args call.End
-asks_by (Some function.Cancel) args = of_length 0 args call.Cancel
-asks_by (Some function.Open) args = asks_open args
-asks_by (Some function.WriteStream) args = asks_write args
-asks_by (Some function.ReadStream) args = asks_read args
-asks_by (Some function.Commit) args = of_length 12 args (call.Commit (num_at 4 args 0) (num_at 4 args 4))
-asks_by (Some function.Accept) args = of_length 16 args (call.Accepts args)
-asks_by (Some function.SelectPrevious) args = of_length 0 args call.Previous
+asks_by (Some Discover) args = of_length 0 args call.Discover
+asks_by (Some Begin) args = of_length 8 args (call.Begin (num_at 4 args 4))
+asks_by (Some End) args = of_length 0 args call.End
+asks_by (Some Cancel) args = of_length 0 args call.Cancel
+asks_by (Some Open) args = asks_open args
+asks_by (Some WriteStream) args = asks_write args
+asks_by (Some ReadStream) args = asks_read args
+asks_by (Some Commit) args = of_length 12 args (call.Commit (num_at 4 args 0) (num_at 4 args 4))
+asks_by (Some Accept) args = of_length 16 args (call.Accepts args)
+asks_by (Some SelectPrevious) args = of_length 0 args call.Previous
 
 -- a message is the number of a function, and its arguments
 unfoldable pub asks : List ℕ → Option Call
@@ -77,3 +104,15 @@ abbrev pub TellsUnused : List ℕ → AgentCall → Type 0
 TellsUnused args (wire.Begin flags count) = flags ≡ num_at 4 args 0
 TellsUnused args (wire.Commit handle request atomic) = atomic ≡ num_at 4 args 8
 TellsUnused args other = Unit {0}
+
+-- ---- calls and replies whose bytes fit into a frame
+
+-- a read asks for no more bytes than a frame can have
+abbrev pub AsksWithin : AgentCall → Type 0
+AsksWithin (wire.Read handle room) = room ≤ most_room
+AsksWithin other = Unit {0}
+
+-- and got no more
+abbrev pub FitsFrame : AgentReply → Type 0
+FitsFrame (reply.Got total count) = count ≤ most_room
+FitsFrame other = Unit {0}

@@ -19,6 +19,9 @@ use Rattle.fwu_wire.specs.declared.stops.Stop.{Stop}
 use Rattle.fwu_wire.specs.declared.stops.Stop.TheVariants as stop
 use Rattle.fwu_wire.specs.declared.stops.Taken.{Taken}
 use Rattle.fwu_wire.specs.declared.stops.Taken.TheVariants as taken
+use Rattle.flash_core.specs.declared.flash.Flash.{Ghosts}
+use Rattle.agent_calls.specs.declared.agent.Agent.{Agent}
+use Rattle.fwu_wire.specs.declared.server.Server.{Server}
 
 -- ---- stops
 
@@ -92,8 +95,7 @@ pub record Buffers : Type 0 where
 -- whether it has the next number
 abbrev pub is_next : Admission → Bool
 is_next Acts = true
-is_next Repeats = false
-is_next Ignored = false
+is_next other = false
 
 -- the request acts
 abbrev pub IsNextRequest : LastAnswer → List ℕ → Type 0
@@ -118,6 +120,11 @@ GivesTaken number (Err why) old new out = (admission old.last number ≡ Acts) �
 abbrev pub IsReply : (List ℕ → Bool) → Option Call → ℕ → Result Taken Stop → List ℕ → Moment → Moment → Type 0
 IsReply passes asked number (Ok (taken.Reply n true)) after old new =
     (bytes : List ℕ) × (take n after ≡ frame (numbered number bytes)) × RepliesTo passes asked bytes old new
-IsReply passes asked number (Ok (taken.Reply n false)) after old new = ⊤
-IsReply passes asked number (Ok taken.Ignored) after old new = ⊤
-IsReply passes asked number (Err why) after old new = ⊤
+IsReply passes asked number other after old new = ⊤
+
+abbrev pub agent_of : {D : Type 0} {F : Ghosts D} → Server D F → Agent D F
+agent_of s = s.agent
+
+-- the number of the last request that acted, and its reply
+abbrev pub exchange_of : {D : Type 0} {F : Ghosts D} → Server D F → LastAnswer
+exchange_of s = s.exchange

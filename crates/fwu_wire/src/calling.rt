@@ -2,8 +2,7 @@
 ghost use Rattle.std.specs.Prelude.{◌≡◌, ◌≤◌, ℕ, Bool, List, IsFalse, IfOk, Err, length, ◌++◌};
 ghost use Rattle.agent_calls.specs.Shown.{AgentGoes, gone, moment};
 ghost use Rattle.fwu_model.specs.Call as call;
-ghost use Rattle.fwu_wire.specs.Calls.{most_room, open_call, shown};
-ghost use Rattle.fwu_wire.specs.Fitting.{AsksWithin, FitsFrame};
+ghost use Rattle.fwu_wire.specs.Calls.{most_room, open_call, shown, AsksWithin, FitsFrame};
 ghost use Rattle.fwu_wire.specs.Taken.{CallMeets, agents_answer, reply_in, said};
 
 use crate::calls::AgentCall;

@@ -1,7 +1,6 @@
 //! What a request asks the agent for.
 ghost use Rattle.std.specs.Prelude.{◌≡◌, ◌≤◌, Some, IfSome, drop, length, option_map};
-ghost use Rattle.fwu_wire.specs.Fitting.{AsksWithin};
-ghost use Rattle.fwu_wire.specs.Calls.{TellsUnused, asks, asks_by, asks_open, asks_read, asks_write, of_length, op_of, shown};
+ghost use Rattle.fwu_wire.specs.Calls.{AsksWithin, TellsUnused, asks, asks_by, asks_open, asks_read, asks_write, of_length, op_of, shown};
 
 use crate::functions::Function;
 use base_core::{Guid, le32_at};

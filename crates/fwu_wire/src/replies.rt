@@ -1,6 +1,6 @@
 //! The bytes of a reply.
 ghost use Rattle.std.specs.Prelude.{◌≡◌, ◌≤◌, ◌+◌, length, take, drop};
-ghost use Rattle.fwu_wire.specs.Fitting.{FitsFrame};
+ghost use Rattle.fwu_wire.specs.Calls.{FitsFrame};
 ghost use Rattle.fwu_model.specs.Reply as model;
 ghost use Rattle.fwu_wire.specs.Replies.{below_zero, message, not_understood, replied, state_number, status_number};
 

@@ -6,8 +6,7 @@ ghost use Rattle.wire_frames.specs.Frames.{IsBody, message_of, request_number_of
 ghost use Rattle.fwu_model.specs.Reply as model;
 ghost use Rattle.fwu_wire.specs.Calls.{asks};
 ghost use Rattle.fwu_wire.specs.Replies.{message};
-ghost use Rattle.fwu_wire.specs.Served.{agent_of, exchange_of};
-ghost use Rattle.fwu_wire.specs.Taken.{GivesTaken, IsNextRequest, IsReply, LeavesBy, RepliesTo, agent_stopped_by};
+ghost use Rattle.fwu_wire.specs.Taken.{agent_of, exchange_of, GivesTaken, IsNextRequest, IsReply, LeavesBy, RepliesTo, agent_stopped_by};
 
 use crate::calling::call_agent;
 use crate::calls::call_of;

@@ -19,8 +19,8 @@ use Rattle.agent_machine.specs.Fields.{Fields}
 use Rattle.agent_machine.specs.Moment as agent
 use Rattle.script_turns.specs.{Powered.FitsMachine, Powered.TurnMoment, Powered.kept_at, Runs.Follows, Turning.Turns}
 use Rattle.script_turns.specs.Replies.{AnswersTo, CallSays, IsFlashStop, Replies, no_call_reply}
-use Rattle.fwu_wire.specs.Calls.{asks, asks_by, most_room, of_length, op_of, open_call}
-use Rattle.fwu_wire.specs.{Functions.function_of, declared.functions.Function.Function}
+use Rattle.fwu_wire.specs.Calls.{asks, asks_by, most_room, of_length, op_of, open_call, function_of}
+use Rattle.fwu_wire.specs.declared.functions.Function.{Function}
 use Rattle.fwu_wire.specs.declared.functions.Function.TheVariants as function
 use Rattle.serving.specs.Written.{call_or_none, called}
 

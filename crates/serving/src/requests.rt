@@ -1,8 +1,7 @@
 //! The call of a run that a request asks for.
 ghost use Rattle.std.specs.Prelude.{◌≡◌, ◌≤◌, IfOk, length};
 ghost use Rattle.script_text.specs.Shown.{shown as script_shown};
-ghost use Rattle.fwu_wire.specs.Calls.{shown};
-ghost use Rattle.fwu_wire.specs.Fitting.{AsksWithin};
+ghost use Rattle.fwu_wire.specs.Calls.{shown, AsksWithin};
 ghost use Rattle.serving.specs.Written.{IsServedCall, called};
 
 use base_core::NoMemory;
