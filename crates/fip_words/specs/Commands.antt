@@ -27,11 +27,6 @@ abbrev pub manifest_app : App
 manifest_app = with_rule (with_rule (with_rule (new_app (codes "manifest")) (word (codes "out")))
     (word (codes "security"))) (some_words (codes "rows"))
 
--- those that list, make and change packages
-abbrev pub package_app : App
-package_app = with_leaf (with_leaf (with_leaf (with_leaf (top_app (codes "fip"))
-    info_app) create_app) (change_app (codes "update"))) (change_app (codes "remove"))
-
 -- capsule IN OUT
 abbrev pub capsule_app : App
 capsule_app = with_rule (with_rule (new_app (codes "capsule")) (word (codes "in"))) (word (codes "out"))
@@ -41,10 +36,8 @@ abbrev pub repackage_app : App
 repackage_app = with_rule (with_rule (with_rule (new_app (codes "package")) (option (codes "align")))
     (word (codes "in"))) (word (codes "out"))
 
--- and those that write payloads and manifests
-abbrev pub contents_app : App
-contents_app = with_leaf (with_leaf package_app unpack_app) manifest_app
-
--- and those that turn a package into a capsule, and back
+-- all commands
 abbrev pub fip_app : App
-fip_app = with_leaf (with_leaf contents_app capsule_app) repackage_app
+fip_app = with_leaf (with_leaf (with_leaf (with_leaf (with_leaf (with_leaf (with_leaf (with_leaf (top_app (codes "fip"))
+    info_app) create_app) (change_app (codes "update"))) (change_app (codes "remove")))
+    unpack_app) manifest_app) capsule_app) repackage_app

@@ -60,12 +60,10 @@ remove_by align from out names =
     option_and_then (λ ns. Some (remove a f o ns)) names) out) from) align
 
 -- not where IN is a file that may be written
-abbrev pub unpack_to : Text → Text → List (List ℕ) → Option FipAsked
-unpack_to from prefix names = if is_unpacked prefix from then None else Some (unpack from prefix names)
-
 abbrev pub unpack_by : Option Text → Option Text → Option (List (List ℕ)) → Option FipAsked
 unpack_by from prefix names =
-    option_and_then (λ f. option_and_then (λ p. option_and_then (λ ns. unpack_to f p ns) names) prefix) from
+    option_and_then (λ f. option_and_then (λ p.
+    option_and_then (λ ns. if is_unpacked p f then None else Some (unpack f p ns)) names) prefix) from
 
 abbrev pub manifest_by : Option Text → Option ℕ → Option (List NamedImage) → Option FipAsked
 manifest_by out security rows =
