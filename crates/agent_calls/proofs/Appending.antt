@@ -1,13 +1,11 @@
 -- What was appended to an image, and what is kept of it, by the fields.
 use Rattle.std.proofs.Common.{◌≡◌, ℕ, ◌+◌, ◌*◌, ◌%◌, ◌<◌, List, [], length, take, get_or, set, sym, ap, ◌∙◌, subst, arith, get_or-set_same}
-use Rattle.flash_core.specs.Told.{Told}
-use Rattle.flash_core.specs.Touches.{TouchesOnly}
+use Rattle.flash_core.specs.{Told.Told, Touches.TouchesOnly}
 use Rattle.fwu_formats.specs.Layout.{ImageRow, start}
 use Rattle.moves.specs.Law.{CallResult}
 use Rattle.slot_writer.specs.Slots.{Appends, blocks_for, done_of, kept_of}
 use Rattle.agent_kept.specs.Kept.{part_at, size_of}
-use Rattle.agent_machine.specs.Fields.{Fields, rest_of, target}
-use Rattle.agent_machine.specs.Knows.{Fitting}
+use Rattle.agent_machine.specs.{Fields.Fields, Fields.rest_of, Fields.target, Knows.Fitting}
 use Rattle.agent_machine.proofs.Answered.{layout-limits}
 
 -- which blocks that touched

@@ -5,45 +5,32 @@ use Rattle.std.specs.List.{list_any}
 use Rattle.std.proofs.lemmas.Bool.{or_parts, not-false}
 use Rattle.std.proofs.lemmas.List.{length-map, length-replicate}
 use Rattle.base_core.specs.Bytes.{same_bytes}
-use Rattle.flash_core.specs.declared.flash.FlashStop.{FlashStop}
+use Rattle.flash_core.specs.{declared.flash.FlashStop.FlashStop, declared.flash.Arming.Arming}
 use Rattle.std.proofs.Math.Logic.{∥∥₁_elim}
 use Rattle.std.specs.Coded.{Coded-set, coded_ℕ}
 use Rattle.fwu_formats.specs.Layout.{Layout, ImageRow}
+use Rattle.fwu_model.specs.{Sound.Setting, Reply.Success, Reply.Refused, declared.kinds.Status.Status}
 use Rattle.fwu_model.specs.State.{State, Bank, Move, Free, bank, no_bank, freed, is_invalid, update_bank, after}
-use Rattle.fwu_model.specs.Sound.{Setting}
 use Rattle.fwu_model.specs.Session.{Session, On, Staged, Handle, Nothing}
-use Rattle.fwu_model.specs.Call as call
-use Rattle.fwu_model.specs.Reply.{Success, Refused}
-use Rattle.fwu_model.specs.declared.kinds.Status.{Status}
-use Rattle.fwu_model.specs.declared.kinds.Status.TheVariants as status
 use Rattle.fwu_model.specs.Answer.{Answer, answer, answer_begin, answered, refused, cannot_begin, begin_moves, is_elsewhere, is_trial, agent_state, held_package, are_named, booted_package, names_unknown, copied_parts, image_held}
+use Rattle.fwu_model.specs.Call as call
+use Rattle.fwu_model.specs.declared.kinds.Status.TheVariants as status
 use Rattle.moves.specs.Moved.{Does}
 use Rattle.moves.proofs.Composed.{does-nothing}
 use Rattle.agent_kept.specs.Kept.{staging_meant, handles_meant}
 use Rattle.agent_state.proofs.Machine.{active-is}
-use Rattle.agent_machine.specs.declared.stop.Stop.{Stop}
-use Rattle.agent_machine.specs.declared.stop.Stop.TheVariants as stop
-use Rattle.agent_machine.specs.Fields.{total_of}
-use Rattle.agent_machine.specs.Knows.{Fitting}
-use Rattle.agent_machine.specs.Machine.{state_in}
-use Rattle.agent_machine.specs.Moment.{Moment, Shows, Showing}
+use Rattle.agent_machine.specs.{declared.stop.Stop.Stop, Fields.total_of, Knows.Fitting, Machine.state_in, Moment.Moment}
+use Rattle.agent_machine.specs.{Moment.Shows, Moment.Showing, Goes.GoesByMoves, Filling.between}
 use Rattle.agent_machine.specs.Meets.{IsDone, IsRefused, IsSettingOf, IsStopped, Stays, flash_result}
-use Rattle.agent_machine.specs.Goes.{GoesByMoves}
 use Rattle.agent_machine.specs.Beside.{IsBesideBank, IsSparedByAll, SparesBlocks, SparesBlocksByAll}
+use Rattle.agent_machine.specs.declared.stop.Stop.TheVariants as stop
+use Rattle.agent_machine.proofs.{Going.goes-then, Going.stays-then, Totals.held-long, Stored.target-other, StoredShows.target-is}
+use Rattle.agent_machine.proofs.{Answered.stays-same, StoredCalls.plain-of}
 use Rattle.agent_machine.proofs.Beside.{blocks-further, blocks-once, spared-once, spared-same}
-use Rattle.agent_machine.proofs.Going.{goes-then, stays-then}
-use Rattle.agent_machine.proofs.Totals.{held-long}
-use Rattle.agent_machine.proofs.Stored.{target-other}
-use Rattle.agent_machine.proofs.StoredShows.{target-is}
-use Rattle.flash_core.specs.declared.flash.Arming.{Arming}
-use Rattle.agent_calls.specs.Takes.{CopiesTake, Takes, writes_to_copy}
-use Rattle.agent_machine.specs.Filling.{between}
-use Rattle.agent_calls.specs.Partly.{begins_over}
-use Rattle.agent_calls.specs.Copies.{FillsBank, FollowsInStaging, CopiesImages, AnswersAs, BeginsPartly}
 use Rattle.agent_machine.proofs.CallGoing.{MeetsAs, call-goes, call-replies}
+use Rattle.agent_calls.specs.{Takes.CopiesTake, Takes.Takes, Takes.writes_to_copy, Partly.begins_over}
+use Rattle.agent_calls.specs.Copies.{FillsBank, FollowsInStaging, CopiesImages, AnswersAs, BeginsPartly}
 use Rattle.agent_calls.proofs.CopyingAll.{first-all}
-use Rattle.agent_machine.proofs.Answered.{stays-same}
-use Rattle.agent_machine.proofs.StoredCalls.{plain-of}
 
 -- what was done or stopped by the flash isn't refused
 pub done-unrefused : (q : Result (Unit {0}) Stop) → IsDone q → IsRefused q → ⊥

@@ -4,40 +4,26 @@ use Rattle.std.specs.Prelude.{IsTrue, IsFalse, IsErr, OnOk}
 use Rattle.std.proofs.lemmas.List.{take_all}
 use Rattle.std.proofs.Math.Seq.{take-add}
 use Rattle.std.proofs.lemmas.Result.{IfOk-from_err}
-use Rattle.flash_core.specs.Told.{Told}
-use Rattle.flash_core.specs.declared.flash.FlashStop.{FlashStop}
+use Rattle.flash_core.specs.{Told.Told, declared.flash.FlashStop.FlashStop}
 use Rattle.fwu_formats.specs.Layout.{slot_bytes, find_image, Layout, start}
-use Rattle.fwu_model.specs.State.{State}
-use Rattle.fwu_model.specs.Sound.{Setting}
+use Rattle.fwu_model.specs.{State.State, Sound.Setting, Calm.IsAtRest, Call.Call, Reply.Reply, declared.kinds.Status.Status}
 use Rattle.fwu_model.specs.Session.{Session, Staged, Nothing, Handle, On}
-use Rattle.fwu_model.specs.Calm.{IsAtRest}
-use Rattle.fwu_model.specs.Call.{Call}
-use Rattle.fwu_model.specs.Call as call
-use Rattle.fwu_model.specs.Reply.{Reply}
-use Rattle.fwu_model.specs.Reply as reply
-use Rattle.fwu_model.specs.declared.kinds.Status.{Status}
 use Rattle.fwu_model.specs.Answer.{Answer, answer, answered, booted_package, image_held}
+use Rattle.fwu_model.specs.Call as call
+use Rattle.fwu_model.specs.Reply as reply
 use Rattle.moves.specs.Moved.{GuardedBy, IsReady}
 use Rattle.moves.proofs.Composed.{does-nothing}
-use Rattle.agent_machine.specs.declared.stop.Stop.{Stop}
+use Rattle.agent_machine.specs.{declared.stop.Stop.Stop, Fields.Fields, Fields.total_of, Machine.state_in, Machine.session_in}
+use Rattle.agent_machine.specs.{Moment.Moment, Moment.Shows, Meets.GoesBy, Meets.Stays, Meets.flash_result, Goes.GoesByMoves}
+use Rattle.agent_machine.specs.{Knows.Fitting, Knows.Knows, Filling.between, Filling.within, Filling.filled}
+use Rattle.agent_machine.specs.Beside.{IsSparedByAll, KeepsSparedByAll, SparesBlocksByAll}
 use Rattle.agent_machine.specs.declared.stop.Stop.TheVariants as stop
 use Rattle.agent_kept.specs.Kept.{staging_meant, handles_meant}
-use Rattle.agent_machine.specs.Fields.{Fields, total_of}
-use Rattle.agent_machine.specs.Machine.{state_in, session_in}
-use Rattle.agent_machine.specs.Moment.{Moment, Shows}
-use Rattle.agent_machine.specs.Meets.{GoesBy, Stays, flash_result}
-use Rattle.agent_machine.specs.Goes.{GoesByMoves}
-use Rattle.agent_machine.specs.Beside.{IsSparedByAll, KeepsSparedByAll, SparesBlocksByAll}
-use Rattle.agent_machine.proofs.Beside.{blocks-still, spared-told}
-use Rattle.agent_machine.specs.Knows.{Fitting, Knows}
-use Rattle.agent_machine.proofs.Going.{goes-nothing, goes-then, stays-then}
-use Rattle.agent_machine.proofs.Totals.{held-long}
-use Rattle.agent_machine.proofs.Reading.{image-piece}
+use Rattle.agent_machine.proofs.{Beside.blocks-still, Beside.spared-told, Going.goes-nothing, Going.goes-then, Going.stays-then}
+use Rattle.agent_machine.proofs.{Totals.held-long, Reading.image-piece, Answered.stays-same}
 use Rattle.agent_machine.proofs.CallGoing.{MeetsAs, call-goes, call-replies, call-stopped}
 use Rattle.agent_machine.proofs.Filling.{open-answers, write-answers, commit-answers}
-use Rattle.agent_machine.specs.Filling.{between, within, filled}
 use Rattle.agent_calls.specs.Copies.{FollowsInStaging, CopiesPiece, CopiesBytes, CopiesImage}
-use Rattle.agent_machine.proofs.Answered.{stays-same}
 
 -- the first bytes of an image were read and written
 pub record CopiesFront (image at : ℕ) (old new : Moment) : Type 0 where

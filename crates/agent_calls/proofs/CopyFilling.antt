@@ -3,29 +3,18 @@ use Rattle.std.proofs.Common.{◌≡◌, inl, inr, ℕ, ◌+◌, ◌*◌, ◌%�
 use Rattle.std.specs.Prelude.{IsTrue, IsFalse, IsErrOf}
 use Rattle.std.proofs.lemmas.Bool.{cases_lt}
 use Rattle.std.proofs.lemmas.List.Elements.{All-get_or}
-use Rattle.flash_core.specs.Told.{Told}
-use Rattle.flash_core.specs.May.{Keeps}
-use Rattle.flash_core.specs.Touches.{TouchesOnly}
-use Rattle.flash_core.specs.declared.flash.FlashStop.{FlashStop}
-use Rattle.fwu_formats.specs.Layout.{Layout, start}
-use Rattle.fwu_formats.specs.Metadata.{Meta, MetaRead, state_at}
-use Rattle.fwu_model.specs.State.{Free, is_invalid}
-use Rattle.fwu_model.specs.MoveMetas.{meta_after}
+use Rattle.flash_core.specs.{Told.Told, May.Keeps, Touches.TouchesOnly, declared.flash.FlashStop.FlashStop}
+use Rattle.fwu_formats.specs.{Layout.Layout, Layout.start, Metadata.Meta, Metadata.MetaRead, Metadata.state_at}
+use Rattle.fwu_model.specs.{State.Free, State.is_invalid, MoveMetas.meta_after}
 use Rattle.replicas.specs.Stores.{Stores}
-use Rattle.agent_kept.specs.declared.parts.Handle.{Handle}
+use Rattle.agent_kept.specs.{declared.parts.Handle.Handle, Kept.handle_kept}
 use Rattle.agent_kept.specs.declared.parts.Handle.TheVariants as handle
-use Rattle.agent_kept.specs.Kept.{handle_kept}
-use Rattle.agent_machine.specs.declared.stop.Stop.{Stop}
-use Rattle.agent_machine.specs.declared.stop.Stop.TheVariants as stop
-use Rattle.agent_machine.specs.Fields.{Fields, target}
-use Rattle.agent_machine.specs.Moment.{Moment}
-use Rattle.agent_machine.specs.Meets.{IsDone, IsRefused, Stays}
-use Rattle.agent_machine.specs.Ends.{IsWriter}
-use Rattle.agent_machine.specs.Stored.{StoresIf}
+use Rattle.agent_machine.specs.{declared.stop.Stop.Stop, Fields.Fields, Fields.target, Moment.Moment, Meets.IsDone}
+use Rattle.agent_machine.specs.{Meets.IsRefused, Meets.Stays, Ends.IsWriter, Stored.StoresIf}
 use Rattle.agent_machine.specs.Beside.{IsBesideBank, IsSpared, KeepsSpared, KeepsWhere, SparesBlocks, SparesBlocksWhere}
+use Rattle.agent_machine.specs.declared.stop.Stop.TheVariants as stop
 use Rattle.agent_machine.proofs.Beside.{blocks-still, blocks-then, spared-same, spared-then, spared-told}
-use Rattle.agent_calls.specs.Copies.{FillsBank, StoresThenFills}
-use Rattle.agent_calls.specs.Metas.{meta_begun}
+use Rattle.agent_calls.specs.{Copies.FillsBank, Copies.StoresThenFills, Metas.meta_begun}
 
 -- ---- one after the other
 

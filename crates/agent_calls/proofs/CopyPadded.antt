@@ -4,27 +4,19 @@ use Rattle.std.proofs.lemmas.List.{length-map}
 use Rattle.std.proofs.lemmas.List.FromFn.{get_or-map-range_with_len}
 use Rattle.std.specs.List.{list_any}
 use Rattle.base_core.specs.Bytes.{same_bytes}
-use Rattle.fwu_formats.specs.Layout.{ImageRow, Layout, start}
-use Rattle.fwu_formats.specs.Metadata.{MetaRead}
-use Rattle.fwu_model.specs.State.{State}
-use Rattle.fwu_model.specs.Sound.{Setting}
+use Rattle.fwu_formats.specs.{Layout.ImageRow, Layout.Layout, Layout.start, Metadata.MetaRead}
+use Rattle.fwu_model.specs.{State.State, Sound.Setting, Reply.Success}
 use Rattle.fwu_model.specs.Session.{Session, On, Off, Staged, Handle, Nothing, Committed}
-use Rattle.fwu_model.specs.Reply.{Success}
-use Rattle.fwu_model.specs.declared.kinds.Status.TheVariants as status
 use Rattle.fwu_model.specs.Answer.{answered, are_named, begin_moves, cannot_begin, copied_part, copied_parts, names_unknown, refused}
+use Rattle.fwu_model.specs.declared.kinds.Status.TheVariants as status
 use Rattle.slot_writer.specs.Slots.{IsBlankAhead}
 use Rattle.agent_kept.specs.declared.parts.Part.{Part}
-use Rattle.agent_kept.specs.declared.parts.Part.TheVariants as part
 use Rattle.agent_kept.specs.Kept.{Kept, part_at, part_meant, parts_meant, staging_meant, handles_meant}
+use Rattle.agent_kept.specs.declared.parts.Part.TheVariants as part
 use Rattle.agent_state.proofs.Machine.{part-is}
-use Rattle.agent_machine.specs.declared.stop.Stop.{Stop}
+use Rattle.agent_machine.specs.{declared.stop.Stop.Stop, Meets.flash_result, Moment.Moment, Moment.Shows, Filling.between}
 use Rattle.agent_machine.specs.Fields.{target, total_of}
-use Rattle.agent_machine.specs.Meets.{flash_result}
-use Rattle.agent_machine.specs.Moment.{Moment, Shows}
-use Rattle.agent_machine.specs.Filling.{between}
-use Rattle.agent_calls.specs.Copies.{BeginsPartly}
-use Rattle.agent_calls.specs.Metas.{meta_begun}
-use Rattle.agent_calls.specs.Partly.{begins_over}
+use Rattle.agent_calls.specs.{Copies.BeginsPartly, Metas.meta_begun, Partly.begins_over}
 use Rattle.agent_machine.proofs.StoredCalls.{plain-of}
 use Rattle.agent_calls.proofs.CopyFilling.{begun-active}
 

@@ -1,13 +1,9 @@
 -- What a read spends, and calls that the flash stopped.
 use Rattle.std.proofs.Common.{◌≡◌, Bool, not, Result, Ok, Err, is_ok, refl, subst, ◌∙◌}
 use Rattle.std.specs.Prelude.{is_err}
-use Rattle.flash_core.specs.declared.flash.Flash.{Ghosts}
-use Rattle.flash_core.specs.declared.flash.FlashStop.{FlashStop}
-use Rattle.flash_core.specs.Calls.{Reads}
-use Rattle.agent_machine.specs.declared.stop.Stop.{Stop}
+use Rattle.flash_core.specs.{declared.flash.Flash.Ghosts, declared.flash.FlashStop.FlashStop, Calls.Reads}
+use Rattle.agent_machine.specs.{declared.stop.Stop.Stop, Meets.flash_result, CallGoes.Spent}
 use Rattle.agent_machine.specs.declared.stop.Stop.TheVariants as stop
-use Rattle.agent_machine.specs.Meets.{flash_result}
-use Rattle.agent_machine.specs.CallGoes.{Spent}
 use Rattle.flash_core.proofs.Unarmed.{unarmed_kept}
 
 -- a read

@@ -1,33 +1,22 @@
 -- What the copies take of an armed loss.
 use Rattle.std.proofs.Common.{◌≡◌, ℕ, suc, ◌+◌, ◌*◌, ◌<◌, ◌≤◌, Bool, true, false, cond, List, [], length, get_or, Option, Some, Result, Ok, Err, refl, sym, ap, subst, ◌∙◌, arith}
 use Rattle.std.specs.Prelude.{OnOk}
-use Rattle.flash_core.specs.declared.flash.Arming.{Arming}
-use Rattle.flash_core.specs.Counts.{lowered_by}
+use Rattle.flash_core.specs.{declared.flash.Arming.Arming, Counts.lowered_by}
 use Rattle.fwu_formats.specs.Layout.{find_image}
-use Rattle.fwu_model.specs.State.{State}
-use Rattle.fwu_model.specs.Sound.{Setting}
-use Rattle.fwu_model.specs.Session.{Session}
+use Rattle.fwu_model.specs.{State.State, Sound.Setting, Session.Session}
 use Rattle.fwu_model.specs.Call as call
 use Rattle.fwu_model.specs.Reply as reply
 use Rattle.base_core.specs.Block.{block_bytes}
 use Rattle.slot_writer.specs.Writes.{writes_to_append, writes_to_finish}
-use Rattle.agent_kept.specs.declared.parts.Handle.TheVariants.{Writes}
-use Rattle.agent_kept.specs.Kept.{part_at, handle_kept, size_of}
-use Rattle.agent_machine.specs.declared.stop.Stop.{Stop}
-use Rattle.agent_machine.specs.Ends.{IsWriter}
-use Rattle.agent_machine.specs.Fields.{total_of}
-use Rattle.agent_machine.specs.Goes.{GoesByMoves}
-use Rattle.agent_machine.specs.Meets.{flash_result}
-use Rattle.agent_machine.specs.Moment.{Moment, Shows}
-use Rattle.agent_machine.specs.Filling.{within}
+use Rattle.agent_kept.specs.{declared.parts.Handle.TheVariants.Writes, Kept.part_at, Kept.handle_kept, Kept.size_of}
+use Rattle.agent_machine.specs.{declared.stop.Stop.Stop, Ends.IsWriter, Fields.total_of, Goes.GoesByMoves, Meets.flash_result}
+use Rattle.agent_machine.specs.{Moment.Moment, Moment.Shows, Filling.within}
 use Rattle.agent_calls.specs.Copies.{CopiesBytes}
 use Rattle.agent_calls.specs.Takes.{Takes, PieceTakes, FrontTakes, CopyTakes, CopiesTake, piece_at, pieces_of, writes_of_image, writes_of_pieces, writes_to_copy}
-use Rattle.agent_machine.proofs.CallGoing.{MeetsAs}
-use Rattle.agent_calls.proofs.Copies.{CopiesFront, plain, image-opened}
-use Rattle.agent_calls.proofs.CopyingAll.{CopiesFirst, first-long, first-empty}
-use Rattle.agent_calls.proofs.Pieces.{Pieces, next-piece, pieces-all, pieces-more, pieces-none}
-use Rattle.agent_calls.proofs.Taking.{takes-as, takes-none, takes-then}
-use Rattle.agent_machine.proofs.Writer.{writer, written}
+use Rattle.agent_machine.proofs.{CallGoing.MeetsAs, Writer.writer, Writer.written}
+use Rattle.agent_calls.proofs.{Copies.CopiesFront, Copies.plain, Copies.image-opened, CopyingAll.CopiesFirst}
+use Rattle.agent_calls.proofs.{CopyingAll.first-long, CopyingAll.first-empty, Pieces.Pieces, Pieces.next-piece, Pieces.pieces-all}
+use Rattle.agent_calls.proofs.{Pieces.pieces-more, Pieces.pieces-none, Taking.takes-as, Taking.takes-none, Taking.takes-then}
 
 -- ---- a piece
 

@@ -4,21 +4,13 @@ use Rattle.std.specs.Prelude.{IsTrue}
 use Rattle.std.proofs.lemmas.Bool.{lt-ltb, le-ltb, cases_eq, cases_lt}
 use Rattle.std.proofs.lemmas.List.{get_or-replicate, length-replicate}
 use Rattle.std.proofs.lemmas.List.FromFn.{length-map-range_with_len, get_or-map-range_with_len}
-use Rattle.fwu_model.specs.Session.{Staged, Nothing, Committed}
-use Rattle.agent_machine.specs.declared.stop.Stop.{Stop}
-use Rattle.agent_machine.specs.Fields.{total_of}
-use Rattle.agent_machine.specs.Moment.{Moment, Shows}
-use Rattle.agent_machine.specs.Goes.{GoesByMoves}
-use Rattle.agent_machine.specs.Meets.{Stays}
-use Rattle.fwu_model.specs.State.{State}
-use Rattle.fwu_model.specs.Sound.{Setting}
-use Rattle.agent_machine.proofs.Going.{goes-nothing, goes-then, stays-then}
-use Rattle.agent_machine.specs.Filling.{between, filled}
-use Rattle.agent_calls.specs.Partly.{copied_first}
+use Rattle.fwu_model.specs.{Session.Staged, Session.Nothing, Session.Committed, State.State, Sound.Setting}
 use Rattle.fwu_model.specs.Answer.{copied_part, copied_parts, image_held}
-use Rattle.agent_calls.specs.Copies.{CopiesImage, CopiesImages}
+use Rattle.agent_machine.specs.{declared.stop.Stop.Stop, Fields.total_of, Moment.Moment, Moment.Shows, Goes.GoesByMoves}
+use Rattle.agent_machine.specs.{Meets.Stays, Filling.between, Filling.filled}
+use Rattle.agent_machine.proofs.{Going.goes-nothing, Going.goes-then, Going.stays-then, Answered.stays-same}
+use Rattle.agent_calls.specs.{Partly.copied_first, Copies.CopiesImage, Copies.CopiesImages}
 use Rattle.agent_calls.proofs.Copies.{plain, follows-after, other-end}
-use Rattle.agent_machine.proofs.Answered.{stays-same}
 use Rattle.agent_state.specs.Settles.{with_bytes}
 use Rattle.agent_state.proofs.Settled.{with-there}
 

@@ -1,22 +1,17 @@
 -- What an agent tells of what it is doing is the machine's.
 use Rattle.std.proofs.Common.{◌≡◌, ℕ, Bool, true, false, cond, List, [], Option, Some, None, Ok, refl, sym, ap, ◌∙◌, subst}
-use Rattle.fwu_model.specs.declared.kinds.AgentState.{AgentState}
+use Rattle.fwu_model.specs.{declared.kinds.AgentState.AgentState, State.State, State.is_valid, State.bank, State.after}
+use Rattle.fwu_model.specs.{Sound.Setting, Session.Session, Session.On, Session.Staged, Session.Handle}
 use Rattle.fwu_model.specs.declared.kinds.AgentState.TheVariants.{Staging, Trial, Regular}
-use Rattle.fwu_model.specs.State.{State, is_valid, bank, after}
-use Rattle.fwu_model.specs.Sound.{Setting}
-use Rattle.fwu_model.specs.Session.{Session, On, Staged, Handle}
+use Rattle.fwu_model.specs.Answer.{Answer, answer, answered, agent_state}
 use Rattle.fwu_model.specs.Call as call
 use Rattle.fwu_model.specs.Reply as reply
-use Rattle.fwu_model.specs.Answer.{Answer, answer, answered, agent_state}
 use Rattle.fwu_formats.specs.Metadata.{state_at}
 use Rattle.agent_kept.specs.Kept.{staging_meant, handles_meant, parts_meant}
 use Rattle.agent_state.proofs.Machine.{valid-is}
-use Rattle.agent_machine.specs.Fields.{Fields}
-use Rattle.agent_machine.specs.Moment.{Moment, Shows}
-use Rattle.agent_machine.specs.Meets.{Meets}
+use Rattle.agent_machine.specs.{Fields.Fields, Moment.Moment, Moment.Shows, Meets.Meets}
 use Rattle.agent_machine.proofs.Answered.{leaves-nothing}
-use Rattle.agent_calls.specs.declared.telling.Discovery.{Discovery}
-use Rattle.agent_calls.specs.Told.{state_kept}
+use Rattle.agent_calls.specs.{declared.telling.Discovery.Discovery, Told.state_kept}
 
 discovered : (E : Setting) (s : State) (boot : ℕ) (stg : Option (List Staged)) (hs : List Handle)
     → answer E s (On boot stg hs) call.Discover ≡ answered (reply.Discovered (agent_state s stg)) [] (On boot stg hs)

@@ -1,13 +1,10 @@
 -- What a call makes of the metadata, by its request.
 use Rattle.std.proofs.Common.{◌≡◌, inl, ℕ, ◌*◌, ◌≤◌, Bool, true, false, not, cond, List, [], length, sym, ap, ◌∙◌, subst, arith, IsFalse}
 use Rattle.std.specs.Prelude.{Result, Ok, Err, OnOk}
-use Rattle.flash_core.specs.declared.flash.FlashStop.{FlashStop}
-use Rattle.flash_core.specs.Told.{Told}
+use Rattle.flash_core.specs.{declared.flash.FlashStop.FlashStop, Told.Told}
 use Rattle.flash_core.proofs.Calls.{keeps_same, block_quiet}
-use Rattle.fwu_formats.specs.Layout.{blocks_needed}
-use Rattle.fwu_formats.specs.Metadata.{Meta, MetaRead, state_at}
-use Rattle.fwu_model.specs.State.{Free, Switch, Back, is_invalid}
-use Rattle.fwu_model.specs.MoveMetas.{meta_after}
+use Rattle.fwu_formats.specs.{Layout.blocks_needed, Metadata.Meta, Metadata.MetaRead, Metadata.state_at}
+use Rattle.fwu_model.specs.{State.Free, State.Switch, State.Back, State.is_invalid, MoveMetas.meta_after}
 use Rattle.moves.specs.Law.{CallResult}
 use Rattle.moves.proofs.MetaMoves.{fits-back}
 use Rattle.replicas.specs.Stores.{WritesBoth, Stores}
@@ -15,12 +12,8 @@ use Rattle.replicas.proofs.Both.{quiet_zero, quiet_one, stored}
 use Rattle.agent_kept.specs.declared.kinds.Request.TheVariants as request
 use Rattle.agent_kept.specs.declared.kinds.Plan.{Plan}
 use Rattle.agent_kept.specs.declared.kinds.Plan.TheVariants as plan
-use Rattle.agent_state.specs.Asked.{IsPlanFor}
-use Rattle.agent_state.specs.Decides.{next_bank}
-use Rattle.agent_state.specs.Settles.{bits_kept, meta_planned}
-use Rattle.agent_machine.specs.Fields.{Fields, target}
-use Rattle.agent_machine.specs.Knows.{Fitting}
-use Rattle.agent_machine.specs.Stored.{StoresIf, frees}
+use Rattle.agent_state.specs.{Asked.IsPlanFor, Decides.next_bank, Settles.bits_kept, Settles.meta_planned}
+use Rattle.agent_machine.specs.{Fields.Fields, Fields.target, Knows.Fitting, Stored.StoresIf, Stored.frees}
 use Rattle.agent_machine.proofs.Stored.{next-target}
 use Rattle.agent_calls.specs.Metas.{meta_begun, meta_ended}
 

@@ -7,8 +7,7 @@ use Rattle.std.proofs.lemmas.List.{length-map, get_or-map, get_or_default}
 use Rattle.std.proofs.lemmas.List.Sums.{position_or_len_is}
 use Rattle.base_core.specs.Bytes.{same_bytes}
 use Rattle.fwu_formats.specs.Layout.{ImageRow, Layout, find_image, fits_layout, are_distinct}
-use Rattle.fwu_model.proofs.Staging.{same-self, same-is, distinct-at}
-use Rattle.fwu_model.proofs.Selects.{layout-distinct}
+use Rattle.fwu_model.proofs.{Staging.same-self, Staging.same-is, Staging.distinct-at, Selects.layout-distinct}
 
 abbrev pub no_row : ImageRow
 no_row = record { guid = []; slots = 0 }

@@ -1,29 +1,20 @@
 -- What is planned of a partial begin.
 use Rattle.std.proofs.Common.{◌≡◌, cond, ℕ, Bool, true, false, List, [], length, take, Option, refl, sym, ap, subst, ◌∙◌}
 use Rattle.flash_core.specs.Told.{Told}
-use Rattle.fwu_formats.specs.Layout.{ImageRow}
-use Rattle.fwu_formats.specs.Metadata.{Meta}
-use Rattle.fwu_model.specs.State.{State}
-use Rattle.fwu_model.specs.Sound.{Setting}
+use Rattle.fwu_formats.specs.{Layout.ImageRow, Metadata.Meta}
+use Rattle.fwu_model.specs.{State.State, Sound.Setting, Reply.Success, declared.kinds.Status.Status}
 use Rattle.fwu_model.specs.Session.{Session, On, Staged, Handle}
-use Rattle.fwu_model.specs.Call as call
-use Rattle.fwu_model.specs.Reply.{Success}
-use Rattle.fwu_model.specs.declared.kinds.Status.{Status}
-use Rattle.fwu_model.specs.declared.kinds.Status.TheVariants as status
 use Rattle.fwu_model.specs.Answer.{Answer, answer, answer_begin_partial, answered, refused, are_named, begin_moves, begins_with, cannot_begin, copied_parts, image_held, names_unknown}
-use Rattle.agent_kept.specs.declared.kinds.Request.{Request}
+use Rattle.fwu_model.specs.Call as call
+use Rattle.fwu_model.specs.declared.kinds.Status.TheVariants as status
+use Rattle.agent_kept.specs.{declared.kinds.Request.Request, declared.kinds.Plan.Plan, Kept.Kept, Kept.staging_meant}
+use Rattle.agent_kept.specs.{Kept.handles_meant, Plans.call_of, Plans.planned, Plans.planned_in, Plans.FitsRequest}
 use Rattle.agent_kept.specs.declared.kinds.Request.TheVariants as request
-use Rattle.agent_kept.specs.declared.kinds.Plan.{Plan}
 use Rattle.agent_kept.specs.declared.kinds.Plan.TheVariants as plan
 use Rattle.agent_kept.specs.declared.kinds.Decision.TheVariants as decision
-use Rattle.agent_kept.specs.Kept.{Kept, staging_meant, handles_meant}
-use Rattle.agent_kept.specs.Plans.{call_of, planned, planned_in, FitsRequest}
-use Rattle.agent_state.specs.Asked.{IsPlanFor}
-use Rattle.agent_state.specs.Decides.{DecidesRequest}
-use Rattle.agent_machine.specs.Fields.{Fields}
+use Rattle.agent_state.specs.{Asked.IsPlanFor, Decides.DecidesRequest}
+use Rattle.agent_machine.specs.{Fields.Fields, Moment.Moment, Moment.Shows, Filling.between}
 use Rattle.agent_machine.specs.Knows.{Fitting, SessionSound, SomeStaged}
-use Rattle.agent_machine.specs.Moment.{Moment, Shows}
-use Rattle.agent_machine.specs.Filling.{between}
 use Rattle.agent_machine.proofs.StoredCalls.{bools-alike, plain-of, planned-of}
 use Rattle.agent_calls.specs.Partly.{begins_over, named_in}
 

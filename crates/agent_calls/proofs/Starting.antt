@@ -2,23 +2,15 @@
 use Rattle.std.proofs.Common.{◌≡◌, ℕ, ◌+◌, ◌-◌, ◌*◌, ◌<◌, min, false, List, [], length, get_or, take, replicate, None, sym, ap, ◌∙◌, subst, arith, IsTrue}
 use Rattle.std.proofs.lemmas.List.{nil_from_length, length-take, take_all, get_or-take}
 use Rattle.flash_core.specs.Told.{Told}
-use Rattle.fwu_formats.specs.Layout.{Layout, fits_layout}
-use Rattle.fwu_formats.specs.Metadata.{MetaRead, fits_meta}
-use Rattle.early_boot.specs.Knows.{KnowsStarted}
-use Rattle.early_boot.specs.Choosing.{LengthsFitSlots}
-use Rattle.early_boot.specs.Tells.{Started}
-use Rattle.agent_kept.specs.declared.parts.Handle.{Handle}
-use Rattle.agent_kept.specs.declared.parts.Handle.TheVariants.{Free}
+use Rattle.fwu_formats.specs.{Layout.Layout, Layout.fits_layout, Metadata.MetaRead, Metadata.fits_meta}
+use Rattle.early_boot.specs.{Knows.KnowsStarted, Choosing.LengthsFitSlots, Tells.Started}
+use Rattle.agent_kept.specs.{declared.parts.Handle.Handle, declared.parts.Handle.TheVariants.Free}
 use Rattle.agent_kept.specs.Kept.{Kept, IsKept, HasNothing, part_at, handle_kept, size_of}
 use Rattle.agent_kept.proofs.Sounds.{frees, restarts-idle}
-use Rattle.fwu_model.specs.State.{State}
-use Rattle.fwu_model.specs.Session.{Session, On, no_handles}
-use Rattle.agent_machine.specs.Moment.{Moment, Shows}
-use Rattle.agent_machine.specs.Fields.{Fields}
+use Rattle.fwu_model.specs.{State.State, Session.Session, Session.On, Session.no_handles}
+use Rattle.agent_machine.specs.{Moment.Moment, Moment.Shows, Fields.Fields, Knows.Fitting, Knows.Knows, Knows.SomeStaged}
 use Rattle.agent_machine.specs.Machine.{staged_bytes, state_in, session_in}
-use Rattle.agent_machine.specs.Knows.{Fitting, Knows, SomeStaged}
-use Rattle.agent_machine.proofs.Known.{state-held}
-use Rattle.agent_machine.proofs.Showing.{known-shows}
+use Rattle.agent_machine.proofs.{Known.state-held, Showing.known-shows}
 use Rattle.moves.specs.Moved.{IsShown}
 
 -- bytes of which nothing is kept

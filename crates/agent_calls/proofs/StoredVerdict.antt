@@ -1,19 +1,14 @@
 -- The verdict on a bank is good exactly where it holds a package that may be gone back to.
 use Rattle.std.proofs.Common.{◌≡◌, ℕ, Bool, true, false, List, refl, sym, ap₂, ◌∙◌, subst, IsTrue}
 use Rattle.std.proofs.lemmas.Bool.{false≢true}
-use Rattle.fwu_formats.specs.Layout.{Layout, fits_layout}
-use Rattle.fwu_formats.specs.Metadata.{Meta}
-use Rattle.fwu_formats.specs.Image.{package_in}
+use Rattle.fwu_formats.specs.{Layout.Layout, Layout.fits_layout, Metadata.Meta, Image.package_in}
 use Rattle.fwu_model.specs.Sound.{Setting, holds_permitted}
-use Rattle.image_check.specs.Verdict.{verdict_on}
-use Rattle.image_check.specs.Law.{verdict_may_start}
+use Rattle.image_check.specs.{Verdict.verdict_on, Law.verdict_may_start}
 use Rattle.image_check.proofs.Permitted.{held}
 use Rattle.agent_kept.specs.declared.kinds.Request.TheVariants as request
-use Rattle.agent_kept.specs.declared.kinds.Decision.{Decision}
+use Rattle.agent_kept.specs.{declared.kinds.Decision.Decision, Kept.Kept}
 use Rattle.agent_kept.specs.declared.kinds.Decision.TheVariants as decision
-use Rattle.agent_kept.specs.Kept.{Kept}
-use Rattle.agent_state.specs.Asked.{IsFor}
-use Rattle.agent_state.specs.Ruled.{ruled_as}
+use Rattle.agent_state.specs.{Asked.IsFor, Ruled.ruled_as}
 use Rattle.agent_machine.specs.Stored.{is_to_do}
 
 pub good-permitted : (E : Setting) (L : Layout) (passes : List ℕ → Bool) (counter : ℕ) (image : List ℕ) (bank previous : ℕ) (good : Bool)

@@ -2,18 +2,13 @@
 use Rattle.std.proofs.Common.{◌≡◌, inl, inr, ℕ, zero, suc, ◌+◌, ◌-◌, cond, Bool, true, false, List, [], ◌∷◌, get_or, set, Option, Some, None, refl, sym, ap, ◌∙◌, arith}
 use Rattle.std.proofs.Math.Logic.{∥∥₁_elim}
 use Rattle.std.proofs.Math.Nat.{ℕ_set}
-use Rattle.flash_core.specs.declared.flash.Arming.{Arming}
-use Rattle.flash_core.specs.Counts.{lowered_by}
+use Rattle.flash_core.specs.{declared.flash.Arming.Arming, Counts.lowered_by}
 use Rattle.flash_core.proofs.Spent.{spent_both, spent_none}
-use Rattle.fwu_formats.specs.declared.kinds.BankState.{BankState}
-use Rattle.fwu_formats.specs.declared.kinds.BankState.TheVariants.{Invalid}
+use Rattle.fwu_formats.specs.{declared.kinds.BankState.BankState, declared.kinds.BankState.TheVariants.Invalid}
 use Rattle.fwu_formats.specs.Metadata.{Meta, MetaRead, state_at}
-use Rattle.fwu_model.specs.State.{Free, is_invalid}
-use Rattle.fwu_model.specs.MoveMetas.{meta_after}
-use Rattle.agent_machine.specs.Fields.{Fields, target}
-use Rattle.agent_machine.specs.Stored.{TakesStore, stored_arming}
-use Rattle.agent_calls.specs.Metas.{meta_begun}
-use Rattle.agent_calls.specs.Takes.{Takes, writes_to_begin}
+use Rattle.fwu_model.specs.{State.Free, State.is_invalid, MoveMetas.meta_after}
+use Rattle.agent_machine.specs.{Fields.Fields, Fields.target, Stored.TakesStore, Stored.stored_arming}
+use Rattle.agent_calls.specs.{Metas.meta_begun, Takes.Takes, Takes.writes_to_begin}
 
 pub takes-none : (armed : Option Arming) → Takes 0 armed armed
 takes-none armed = spent_none armed

@@ -1,16 +1,11 @@
 -- What an answer or a refusal of a call of the agent says, as a reply of the machine.
 use Rattle.std.specs.Prelude.{◌≡◌, ℕ, Bool, List, [], ◌∷◌, length, IsTrue, ⊤}
 use Rattle.fwu_model.specs.declared.kinds.Status.TheVariants as status
+use Rattle.fwu_model.specs.{Sound.Setting, Session.Session, Call.Call, Reply.Reply, Answer.answer}
 use Rattle.fwu_model.specs.State.{State, Back, after}
-use Rattle.fwu_model.specs.Sound.{Setting}
-use Rattle.fwu_model.specs.Session.{Session}
-use Rattle.fwu_model.specs.Call.{Call}
 use Rattle.fwu_model.specs.Call as call
-use Rattle.fwu_model.specs.Reply.{Reply}
 use Rattle.fwu_model.specs.Reply as reply
-use Rattle.fwu_model.specs.Answer.{answer}
-use Rattle.agent_machine.specs.Fields.{Fields}
-use Rattle.agent_machine.specs.Moment.{Moment, Shows}
+use Rattle.agent_machine.specs.{Fields.Fields, Moment.Moment, Moment.Shows}
 use Rattle.agent_machine.specs.Meets.{IsSettingOf, ShowsNext, Stays, may_try}
 use Rattle.agent_calls.specs.GoneBack.{SomePassed}
 

@@ -1,27 +1,17 @@
 -- What a copy of images of the bank that was started leaves, step by step.
 use Rattle.std.specs.Prelude.{◌≡◌, ◌≤◌, ◌<◌, ℕ, ◌+◌, Bool, true, false, not, List, [], ◌++◌, length, take, drop, Result, Ok, Err, OnOk, IfOk, IsErr, replicate, ⊤, slice_index_or, IsTrue, Some}
-use Rattle.flash_core.specs.declared.flash.FlashStop.{FlashStop}
+use Rattle.flash_core.specs.{declared.flash.FlashStop.FlashStop, Told.Told}
 use Rattle.flash_core.specs.declared.flash.FlashStop.TheVariants as flash_stop
-use Rattle.flash_core.specs.Told.{Told}
-use Rattle.fwu_model.specs.State.{State, Free, after}
-use Rattle.fwu_model.specs.MoveMetas.{meta_after}
-use Rattle.fwu_model.specs.Sound.{Setting}
+use Rattle.fwu_model.specs.{State.State, State.Free, State.after, MoveMetas.meta_after, Sound.Setting, Reply.Success}
+use Rattle.fwu_model.specs.{Reply.Refused, Answer.Answer, Answer.image_held, Calm.IsAtRest}
 use Rattle.fwu_model.specs.Session.{Session, Staged, Nothing}
-use Rattle.fwu_model.specs.Reply.{Success, Refused}
-use Rattle.fwu_model.specs.Answer.{Answer, image_held}
-use Rattle.fwu_model.specs.Calm.{IsAtRest}
 use Rattle.moves.specs.Moved.{Does, GuardedBy, IsReady}
-use Rattle.agent_machine.specs.declared.stop.Stop.{Stop}
-use Rattle.agent_machine.specs.declared.stop.Stop.TheVariants as stop
-use Rattle.agent_machine.specs.Fields.{Fields, target, total_of}
-use Rattle.agent_machine.specs.Moment.{Moment, Shows}
-use Rattle.agent_machine.specs.Goes.{GoesByMoves}
+use Rattle.agent_machine.specs.{declared.stop.Stop.Stop, Fields.Fields, Fields.target, Fields.total_of, Moment.Moment}
+use Rattle.agent_machine.specs.{Moment.Shows, Goes.GoesByMoves, Stored.StoresIf, Filling.between, Filling.within, Filling.filled}
 use Rattle.agent_machine.specs.Beside.{IsBesideBank, KeepsSparedByAll, KeepsWhere, SparesBlocksByAll, SparesBlocksWhere}
-use Rattle.agent_machine.specs.Stored.{StoresIf}
 use Rattle.agent_machine.specs.Meets.{IsDone, IsSettingOf, Stays, flash_result}
-use Rattle.agent_machine.specs.Filling.{between, within, filled}
-use Rattle.agent_calls.specs.Metas.{has_invalid_target}
-use Rattle.agent_calls.specs.Partly.{begins_over, copied_first}
+use Rattle.agent_machine.specs.declared.stop.Stop.TheVariants as stop
+use Rattle.agent_calls.specs.{Metas.has_invalid_target, Partly.begins_over, Partly.copied_first}
 
 -- Steps within a staging: done, and then the session is this one; or the flash stopped them. None is refused.
 abbrev pub FollowsInStaging : {T : Type 0} → Result T Stop → Setting → Moment → Moment → State → Session → Type 0

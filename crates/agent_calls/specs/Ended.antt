@@ -1,15 +1,12 @@
 -- What the end of a staging does.
 use Rattle.std.specs.Prelude.{◌≡◌, ◌*◌, false, Result, OnOk, IsTrue}
 use Rattle.base_core.specs.Block.{block_bytes}
-use Rattle.flash_core.specs.declared.flash.Flash.{Ghosts}
-use Rattle.flash_core.specs.Touches.{TouchesOnly}
+use Rattle.flash_core.specs.{declared.flash.Flash.Ghosts, Touches.TouchesOnly}
 use Rattle.marks_core.specs.Marks.{is_clear}
 use Rattle.agent_kept.specs.Kept.{Restarts}
-use Rattle.agent_machine.specs.declared.stop.Stop.{Stop}
+use Rattle.agent_machine.specs.{declared.stop.Stop.Stop, Meets.IsDone, Meets.flash_result}
 use Rattle.agent_machine.specs.Ends.{ClearsAndStores, TakesSwitch, TakesSwitchBy}
-use Rattle.agent_machine.specs.Meets.{IsDone, flash_result}
-use Rattle.agent_calls.specs.Metas.{meta_ended}
-use Rattle.agent_calls.specs.Snapshot.{Snapshot}
+use Rattle.agent_calls.specs.{Metas.meta_ended, Snapshot.Snapshot}
 
 -- The update bank becomes the active one. What is left at each exit.
 pub record EndsStaging {D : Type 0} (g : Ghosts D) (result : Result (Unit {0}) Stop) (old new : Snapshot D) : Type 0 where

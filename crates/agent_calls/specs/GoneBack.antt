@@ -1,19 +1,14 @@
 -- What going back to a bank has on every device, and what it leaves.
 use Rattle.std.specs.Prelude.{◌≡◌, ◌⊎◌, ℕ, ◌*◌, Bool, false, List, Result, OnOk, IsTrue}
 use Rattle.base_core.specs.Block.{block_bytes}
-use Rattle.flash_core.specs.declared.flash.Flash.{Ghosts}
-use Rattle.flash_core.specs.Touches.{TouchesOnly}
+use Rattle.flash_core.specs.{declared.flash.Flash.Ghosts, Touches.TouchesOnly}
 use Rattle.fwu_formats.specs.Layout.{ImageRow}
-use Rattle.fwu_model.specs.MoveMetas.{meta_after}
-use Rattle.fwu_model.specs.State.{Back}
-use Rattle.image_check.specs.Passed.{HasPassed}
-use Rattle.image_check.specs.declared.bank.Verdict.TheVariants.{Good}
+use Rattle.fwu_model.specs.{MoveMetas.meta_after, State.Back}
+use Rattle.image_check.specs.{Passed.HasPassed, declared.bank.Verdict.TheVariants.Good}
 use Rattle.replicas.specs.Stores.{Stores}
-use Rattle.agent_machine.specs.declared.stop.Stop.{Stop}
+use Rattle.agent_machine.specs.{declared.stop.Stop.Stop, Stored.TakesStore, Stored.may_try_kept}
 use Rattle.agent_machine.specs.Meets.{IsDone, IsRefused, flash_result}
-use Rattle.agent_machine.specs.Stored.{TakesStore, may_try_kept}
-use Rattle.agent_calls.specs.Metas.{meta_back}
-use Rattle.agent_calls.specs.Snapshot.{Snapshot}
+use Rattle.agent_calls.specs.{Metas.meta_back, Snapshot.Snapshot}
 
 -- some package of these images passes, of a version that is not below the counter
 abbrev pub SomePassed : (List ℕ → Bool) → List ImageRow → ℕ → Type 0

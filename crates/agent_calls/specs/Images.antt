@@ -1,23 +1,17 @@
 -- What a call does with one image: a write and a commit with a staged one, an accept with one of the active bank.
 use Rattle.std.specs.Prelude.{◌≡◌, ℕ, ◌+◌, ◌*◌, ◌%◌, List, length, not, take, Result, OnOk, IsTrue, IsFalse}
 use Rattle.base_core.specs.Block.{block_bytes, granule_bytes}
-use Rattle.flash_core.specs.declared.flash.Flash.{Ghosts}
-use Rattle.flash_core.specs.Touches.{TouchesOnly}
-use Rattle.fwu_formats.specs.Layout.{start}
-use Rattle.fwu_formats.specs.Metadata.{bit_at}
-use Rattle.fwu_model.specs.MoveMetas.{meta_after}
-use Rattle.fwu_model.specs.State.{Accept}
+use Rattle.flash_core.specs.{declared.flash.Flash.Ghosts, Touches.TouchesOnly}
+use Rattle.fwu_formats.specs.{Layout.start, Metadata.bit_at}
+use Rattle.fwu_model.specs.{MoveMetas.meta_after, State.Accept}
 use Rattle.replicas.specs.Stores.{Stores}
 use Rattle.slot_writer.specs.Slots.{Appends, FinishesImage, blocks_for, done_of, kept_of}
 use Rattle.slot_writer.specs.Writes.{SpendsArming, writes_to_append, writes_to_finish}
 use Rattle.agent_kept.specs.declared.kinds.Plan.TheVariants as plan
 use Rattle.agent_kept.specs.Kept.{AppendsPart, part_at, size_of}
-use Rattle.agent_machine.specs.declared.stop.Stop.{Stop}
-use Rattle.agent_machine.specs.Fields.{rest_of, target}
+use Rattle.agent_machine.specs.{declared.stop.Stop.Stop, Fields.rest_of, Fields.target, Stored.trials_planned}
 use Rattle.agent_machine.specs.Meets.{IsDone, flash_result}
-use Rattle.agent_machine.specs.Stored.{trials_planned}
-use Rattle.agent_calls.specs.Metas.{meta_accepted}
-use Rattle.agent_calls.specs.Snapshot.{Snapshot}
+use Rattle.agent_calls.specs.{Metas.meta_accepted, Snapshot.Snapshot}
 
 -- Bytes were put behind those of a staged image.
 pub record AppendsImage {D : Type 0} (g : Ghosts D) (image : ℕ) (bytes : List ℕ) (result : Result (Unit {0}) Stop)

@@ -1,8 +1,7 @@
 -- The metadata that an agent keeps once a call changed it.
 use Rattle.std.specs.Prelude.{ℕ, Bool, if◌then◌else◌, []}
 use Rattle.fwu_formats.specs.Metadata.{MetaRead, state_at, bit_at}
-use Rattle.fwu_model.specs.State.{Free, Switch, Accept, Back, is_invalid}
-use Rattle.fwu_model.specs.MoveMetas.{meta_after}
+use Rattle.fwu_model.specs.{State.Free, State.Switch, State.Accept, State.Back, State.is_invalid, MoveMetas.meta_after}
 use Rattle.agent_state.specs.Settles.{bits_kept}
 use Rattle.agent_machine.specs.Fields.{Fields, target}
 

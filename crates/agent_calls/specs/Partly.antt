@@ -1,13 +1,11 @@
 -- A staging that begins with the images of the active bank, but for some that are named.
 use Rattle.std.specs.Prelude.{ℕ, Bool, true, false, replicate, nat_lt, if◌then◌else◌, List, [], length, slice_index_or}
 use Rattle.base_core.specs.Bytes.{listed}
-use Rattle.fwu_model.specs.State.{State}
-use Rattle.fwu_model.specs.Sound.{Setting}
+use Rattle.fwu_model.specs.{State.State, Sound.Setting, Answer.Answer, Answer.answered, Answer.begins_with, Answer.copied_part}
 use Rattle.fwu_model.specs.Session.{Session, Off, On, Staged, Nothing}
 use Rattle.fwu_model.specs.Reply as reply
 use Rattle.agent_kept.specs.declared.kinds.Plan.{Plan}
 use Rattle.agent_kept.specs.declared.kinds.Plan.TheVariants as plan
-use Rattle.fwu_model.specs.Answer.{Answer, answered, begins_with, copied_part}
 
 -- the images that a plan to begin in part names
 abbrev pub named_in : Plan → List Bool

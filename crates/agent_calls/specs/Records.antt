@@ -1,7 +1,6 @@
 -- What a call keeps that stores no metadata, and one that reads the device alone.
 use Rattle.std.specs.Prelude.{◌≡◌, Result, IsTrue}
-use Rattle.flash_core.specs.declared.flash.Flash.{Ghosts}
-use Rattle.flash_core.specs.declared.flash.FlashStop.{FlashStop}
+use Rattle.flash_core.specs.{declared.flash.Flash.Ghosts, declared.flash.FlashStop.FlashStop}
 use Rattle.flash_core.specs.Counts.{ReachesNone, arming_kept}
 use Rattle.agent_machine.specs.Fields.{Fields}
 

@@ -1,22 +1,12 @@
 -- An agent as contracts see it.
 use Rattle.std.specs.Prelude.{◌≡◌, ℕ, Bool, List, Option, Result, OnOk, IsFalse}
-use Rattle.flash_core.specs.declared.flash.Arming.{Arming}
-use Rattle.flash_core.specs.declared.flash.Flash.{Ghosts}
-use Rattle.flash_core.specs.declared.flash.FlashStop.{FlashStop}
-use Rattle.fwu_model.specs.Call.{Call}
-use Rattle.fwu_model.specs.Reply.{Reply, Success}
-use Rattle.agent_kept.specs.declared.kinds.Decision.{Decision}
-use Rattle.agent_kept.specs.declared.kinds.Request.{Request}
-use Rattle.agent_kept.specs.Kept.{kept}
+use Rattle.flash_core.specs.{declared.flash.Arming.Arming, declared.flash.Flash.Ghosts, declared.flash.FlashStop.FlashStop}
+use Rattle.fwu_model.specs.{Call.Call, Reply.Reply, Reply.Success}
+use Rattle.agent_kept.specs.{declared.kinds.Decision.Decision, declared.kinds.Request.Request, Kept.kept}
 use Rattle.agent_state.specs.Decides.{DecidesRequest}
-use Rattle.agent_calls.specs.declared.agent.Agent.{Agent}
-use Rattle.agent_machine.specs.declared.stop.Stop.{Stop}
+use Rattle.agent_calls.specs.{declared.agent.Agent.Agent, Snapshot.Snapshot}
+use Rattle.agent_machine.specs.{declared.stop.Stop.Stop, Fields.Fields, Meets.Meets, Moment.Moment, Stored.TakesStore}
 use Rattle.agent_machine.specs.CallGoes.{AgentAt, CallGoes, Spent}
-use Rattle.agent_machine.specs.Fields.{Fields}
-use Rattle.agent_machine.specs.Meets.{Meets}
-use Rattle.agent_machine.specs.Moment.{Moment}
-use Rattle.agent_machine.specs.Stored.{TakesStore}
-use Rattle.agent_calls.specs.Snapshot.{Snapshot}
 
 -- what it keeps beside its device
 abbrev pub fields : {D : Type 0} {F : Ghosts D} → Agent D F → Fields

@@ -1,15 +1,10 @@
 -- How many erases and programs a partial begin makes, as an armed loss counts them, on every device.
 use Rattle.std.specs.Prelude.{◌≡◌, ℕ, zero, suc, ◌+◌, ◌-◌, ◌*◌, ◌/◌, ◌<◌, min, Bool, true, List, [], length, replicate, Option, Some, if◌then◌else◌, slice_index_or}
 use Rattle.base_core.specs.Block.{block_bytes}
-use Rattle.flash_core.specs.declared.flash.Arming.{Arming}
-use Rattle.flash_core.specs.Counts.{lowered_by}
-use Rattle.fwu_model.specs.State.{State}
-use Rattle.fwu_model.specs.Sound.{Setting}
-use Rattle.fwu_model.specs.Session.{Staged, Nothing}
+use Rattle.flash_core.specs.{declared.flash.Arming.Arming, Counts.lowered_by}
+use Rattle.fwu_model.specs.{State.State, Sound.Setting, Session.Staged, Session.Nothing}
 use Rattle.slot_writer.specs.Writes.{writes_to_append, writes_to_finish}
-use Rattle.agent_machine.specs.Fields.{Fields, total_of}
-use Rattle.agent_machine.specs.Moment.{Moment, Shows}
-use Rattle.agent_machine.specs.Filling.{between, within}
+use Rattle.agent_machine.specs.{Fields.Fields, Fields.total_of, Moment.Moment, Moment.Shows, Filling.between, Filling.within}
 use Rattle.agent_calls.specs.Metas.{has_invalid_target}
 
 -- so many erases and programs were done, and no other

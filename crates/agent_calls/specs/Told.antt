@@ -1,8 +1,7 @@
 -- What an agent tells of itself.
 use Rattle.std.specs.Prelude.{◌≡◌, if◌then◌else◌, [], ◌∷◌}
 use Rattle.fwu_formats.specs.Metadata.{state_at}
-use Rattle.fwu_model.specs.State.{is_valid}
-use Rattle.fwu_model.specs.declared.kinds.AgentState.{AgentState}
+use Rattle.fwu_model.specs.{State.is_valid, declared.kinds.AgentState.AgentState}
 use Rattle.fwu_model.specs.declared.kinds.AgentState.TheVariants.{Staging, Trial, Regular}
 use Rattle.agent_machine.specs.Fields.{Fields}
 use Rattle.agent_calls.specs.declared.telling.Discovery.{Discovery}

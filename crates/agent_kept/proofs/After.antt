@@ -4,11 +4,8 @@ use Rattle.std.proofs.Math.Logic.{∥∥₁_map, ∥∥₁_elim}
 use Rattle.std.proofs.lemmas.Bool.{cases_eq, cases_lt}
 use Rattle.std.proofs.lemmas.List.{length-append, length-take, take-take, take_all, take_min, take-append-le}
 use Rattle.std.specs.Coded.{Coded-set, coded_ℕ, coded_list}
-use Rattle.sha2.specs.declared.Sha256.{Sha256}
-use Rattle.sha2.specs.Sha256.{sha256}
-use Rattle.sha2.specs.Hashers.{Holds256}
-use Rattle.fwu_formats.specs.Layout.{ImageRow}
-use Rattle.fwu_formats.specs.Manifest.{manifest_size}
+use Rattle.sha2.specs.{declared.Sha256.Sha256, Sha256.sha256, Hashers.Holds256}
+use Rattle.fwu_formats.specs.{Layout.ImageRow, Manifest.manifest_size}
 use Rattle.agent_kept.specs.declared.parts.Part.{Part}
 use Rattle.agent_kept.specs.declared.parts.Part.TheVariants.{Nothing, Open, Committed}
 use Rattle.agent_kept.specs.Kept.{Kept, IsKept, part_at, size_of, GrowsPart, AppendsPart, OpensPart, CommitsPart, IsNewPart, CommitsTo, HasNothing, FrontGrows}

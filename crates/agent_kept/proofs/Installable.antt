@@ -10,9 +10,7 @@ use Rattle.base_core.specs.Bytes.{num_at, same_bytes, listed}
 use Rattle.sha2.specs.Sha256.{sha256}
 use Rattle.fwu_formats.specs.Layout.{ImageRow}
 use Rattle.fwu_formats.specs.Manifest.{Row, manifest_of, manifest_at, manifest_size, manifest_part, version, all_paired, is_image_of, is_complete}
-use Rattle.fwu_model.specs.State.{State}
-use Rattle.fwu_model.specs.Sound.{Setting}
-use Rattle.fwu_model.specs.Session.{is_committed}
+use Rattle.fwu_model.specs.{State.State, Sound.Setting, Session.is_committed}
 use Rattle.fwu_model.specs.Answer.{staged_bytes, staged_package, may_end}
 use Rattle.agent_kept.specs.declared.parts.Part.{Part}
 use Rattle.agent_kept.specs.declared.parts.Part.TheVariants.{Nothing, Committed}

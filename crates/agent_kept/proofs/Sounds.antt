@@ -4,13 +4,11 @@ use Rattle.std.proofs.lemmas.Grind.{common_steps}
 use Rattle.std.specs.List.{range_with_len}
 use Rattle.fwu_model.specs.Session as machine
 use Rattle.fwu_model.specs.Session.{Staged}
+use Rattle.agent_kept.specs.{declared.parts.Part.Part, declared.parts.Part.TheVariants.Nothing, declared.parts.Handle.Handle}
 use Rattle.agent_kept.specs.Kept.{Kept, HasNothing, part_meant, parts_meant, handle_meant, session_meant}
-use Rattle.fwu_formats.specs.Layout.{ImageRow}
-use Rattle.agent_kept.specs.declared.parts.Part.{Part}
-use Rattle.agent_kept.specs.declared.parts.Part.TheVariants.{Nothing}
-use Rattle.agent_kept.specs.declared.parts.Handle.{Handle}
 use Rattle.agent_kept.specs.declared.parts.Handle.TheVariants.{Free, Reads, Writes}
 use Rattle.agent_kept.specs.Sound.{size_of, slot_room_of, IsSoundKept}
+use Rattle.fwu_formats.specs.Layout.{ImageRow}
 
 pub not-free-writes : (image : ℕ) → Free ≡ Writes image → ⊥
 not-free-writes image e = cc

@@ -3,9 +3,8 @@ use Rattle.std.specs.Prelude.{ℕ, ◌-◌, Bool, true, false, ◌&&◌, ◌==�
 use Rattle.std.specs.List.{list_all}
 use Rattle.base_core.specs.Bytes.{num_at, same_bytes, listed}
 use Rattle.fwu_formats.specs.Manifest.{Row, manifest_of, manifest_at, manifest_size, all_paired}
-use Rattle.agent_kept.specs.declared.parts.Part.{Part}
+use Rattle.agent_kept.specs.{declared.parts.Part.Part, Kept.Kept, Kept.part_at, Kept.size_of}
 use Rattle.agent_kept.specs.declared.parts.Part.TheVariants.{Committed}
-use Rattle.agent_kept.specs.Kept.{Kept, part_at, size_of}
 
 abbrev pub is_part_committed : Part → Bool
 is_part_committed (Committed size digest bit) = true

@@ -1,20 +1,13 @@
 -- What a session keeps, and which session of the machine it means, where the bytes of its staged images are given.
 use Rattle.std.specs.Prelude.{◌≡◌, ◌≢◌, ℕ, ◌+◌, ◌-◌, ◌<◌, ◌≤◌, min, Bool, if◌then◌else◌, List, [], ◌++◌, length, take, map, Option, Some, None, slice_index_or, slice_set, replicate}
 use Rattle.base_core.specs.Bytes.{listed}
-use Rattle.sha2.specs.Sha256.{sha256}
-use Rattle.sha2.specs.Hashers.{Holds256}
-use Rattle.sha2.specs.declared.Sha256.{Sha256}
-use Rattle.fwu_formats.specs.Layout.{ImageRow}
-use Rattle.fwu_formats.specs.Manifest.{manifest_size}
-use Rattle.fwu_model.specs.State.{State}
-use Rattle.fwu_model.specs.Sound.{Setting}
+use Rattle.sha2.specs.{Sha256.sha256, Hashers.Holds256, declared.Sha256.Sha256}
+use Rattle.fwu_formats.specs.{Layout.ImageRow, Manifest.manifest_size}
+use Rattle.fwu_model.specs.{State.State, Sound.Setting, Answer.content}
 use Rattle.fwu_model.specs.Session as machine
-use Rattle.fwu_model.specs.Answer.{content}
-use Rattle.agent_kept.specs.declared.parts.Part.{Part}
+use Rattle.agent_kept.specs.{declared.parts.Part.Part, declared.parts.Handle.Handle, declared.session.Session.Session}
 use Rattle.agent_kept.specs.declared.parts.Part.TheVariants.{Nothing, Open, Committed}
-use Rattle.agent_kept.specs.declared.parts.Handle.{Handle}
 use Rattle.agent_kept.specs.declared.parts.Handle.TheVariants.{Free, Reads, Writes}
-use Rattle.agent_kept.specs.declared.session.Session.{Session}
 pub use Rattle.agent_kept.specs.Sound.{is_free_kept, is_writer_kept, FrontGrows, size_of, is_part_open, slot_room_of, IsSoundKept, CommitsTo}
 
 pub record Kept : Type 0 where

@@ -1,10 +1,7 @@
 -- Laws of what is kept.
 use Rattle.std.specs.Prelude.{◌≡◌, ℕ, ◌≤◌, List, length}
-use Rattle.fwu_model.specs.State.{State}
-use Rattle.fwu_model.specs.Sound.{Setting}
-use Rattle.fwu_model.specs.Answer.{may_end}
-use Rattle.agent_kept.specs.Kept.{Kept, IsKept, parts_meant}
-use Rattle.agent_kept.specs.Judged.{is_installable}
+use Rattle.fwu_model.specs.{State.State, Sound.Setting, Answer.may_end}
+use Rattle.agent_kept.specs.{Kept.Kept, Kept.IsKept, Kept.parts_meant, Judged.is_installable}
 
 -- What is kept of the staged images says whether the machine may install them.
 abbrev pub JudgingIsExact : Type 0

@@ -1,26 +1,20 @@
 -- What is decided of a request, in the words of the machine.
 use Rattle.std.specs.Prelude.{◌≡◌, ℕ, ◌+◌, ◌-◌, Bool, if◌then◌else◌, List, [], ◌∷◌, take, drop, length, Option, Some, None, slice_set}
-use Rattle.fwu_model.specs.declared.kinds.Status.TheVariants.{Denied}
-use Rattle.fwu_model.specs.declared.kinds.Op.{Op}
+use Rattle.fwu_model.specs.{declared.kinds.Status.TheVariants.Denied, declared.kinds.Op.Op, State.State, State.Free, State.Switch}
+use Rattle.fwu_model.specs.{State.Accept, State.Back, State.bank, State.update_bank, Sound.Setting, Call.Call, MoveMetas.meta_in}
+use Rattle.fwu_model.specs.Session.{Session, On, Staged, Handle, nothing_staged, no_handles}
+use Rattle.fwu_model.specs.Answer.{Answer, answer, answered, refused, agent_state, with_appended, with_committed, content, copied_parts, image_held, staged_package, staged_bits, may_go_back}
 use Rattle.fwu_model.specs.declared.kinds.Op.TheVariants as op
 use Rattle.fwu_formats.specs.Metadata.{MetaRead}
-use Rattle.fwu_model.specs.State.{State, Free, Switch, Accept, Back, bank, update_bank}
-use Rattle.fwu_model.specs.Sound.{Setting}
-use Rattle.fwu_model.specs.Session.{Session, On, Staged, Handle, nothing_staged, no_handles}
 use Rattle.fwu_model.specs.Session as session
-use Rattle.fwu_model.specs.Call.{Call}
 use Rattle.fwu_model.specs.Call as call
 use Rattle.fwu_model.specs.Reply as reply
-use Rattle.fwu_model.specs.Answer.{Answer, answer, answered, refused, agent_state, with_appended, with_committed, content, copied_parts, image_held, staged_package, staged_bits, may_go_back}
-use Rattle.agent_kept.specs.declared.kinds.Request.{Request}
+use Rattle.agent_kept.specs.{declared.kinds.Request.Request, declared.kinds.Plan.Plan, declared.kinds.Decision.Decision}
+use Rattle.agent_kept.specs.Kept.{Kept, IsKept, HasTotals, handle_kept}
 use Rattle.agent_kept.specs.declared.kinds.Request.TheVariants as request
-use Rattle.agent_kept.specs.declared.kinds.Plan.{Plan}
 use Rattle.agent_kept.specs.declared.kinds.Plan.TheVariants as plan
-use Rattle.agent_kept.specs.declared.kinds.Decision.{Decision}
 use Rattle.agent_kept.specs.declared.kinds.Decision.TheVariants as decision
 use Rattle.agent_kept.specs.declared.parts.Handle.TheVariants as handle
-use Rattle.agent_kept.specs.Kept.{Kept, IsKept, HasTotals, handle_kept}
-use Rattle.fwu_model.specs.MoveMetas.{meta_in}
 
 -- the call that is requested, with the bytes of a write
 abbrev pub call_of : Request → List ℕ → Call

@@ -2,13 +2,11 @@
 -- is beyond what the layout has.
 use Rattle.std.specs.Prelude.{◌≡◌, ℕ, ◌+◌, ◌*◌, ◌<◌, ◌≤◌, ◌++◌, min, Bool, true, false, List, [], length, take, Option, slice_index_or}
 use Rattle.base_core.specs.Block.{block_bytes}
-use Rattle.sha2.specs.Sha256.{sha256}
-use Rattle.sha2.specs.Hashers.{Holds256}
+use Rattle.sha2.specs.{Sha256.sha256, Hashers.Holds256}
 use Rattle.fwu_formats.specs.Layout.{ImageRow}
 use Rattle.manifest_core.specs.Sizes.{most_manifest_bytes}
-use Rattle.agent_kept.specs.declared.parts.Part.{Part}
+use Rattle.agent_kept.specs.{declared.parts.Part.Part, declared.parts.Handle.Handle}
 use Rattle.agent_kept.specs.declared.parts.Part.TheVariants.{Nothing, Open, Committed}
-use Rattle.agent_kept.specs.declared.parts.Handle.{Handle}
 use Rattle.agent_kept.specs.declared.parts.Handle.TheVariants.{Free, Reads, Writes}
 
 abbrev pub is_free_kept : Handle → Bool

@@ -4,53 +4,35 @@ use Rattle.std.proofs.Math.ListN as listn
 use Rattle.std.proofs.lemmas.List.{length-append, get_or-take}
 use Rattle.std.specs.Prelude.{IsErr}
 use Rattle.std.specs.List.{range_with_len}
-use Rattle.sha2.specs.Sha256.{sha256}
-use Rattle.sha2.specs.Hashers.{Holds256}
+use Rattle.sha2.specs.{Sha256.sha256, Hashers.Holds256}
 use Rattle.base_core.specs.Bytes.{le, listed}
-use Rattle.flash_core.specs.Told.{Told}
-use Rattle.flash_core.specs.declared.flash.FlashStop.{FlashStop}
-use Rattle.fwu_formats.proofs.Same.{listed-same}
-use Rattle.fwu_formats.proofs.SealLaws.{limits}
-use Rattle.fwu_formats.proofs.Written.{rows-limits, rows-fit}
+use Rattle.flash_core.specs.{Told.Told, declared.flash.FlashStop.FlashStop}
+use Rattle.fwu_formats.proofs.{Same.listed-same, SealLaws.limits, Written.rows-limits, Written.rows-fit}
+use Rattle.fwu_formats.specs.{Manifest.manifest_size, Metadata.bit_number}
 use Rattle.fwu_formats.specs.Layout.{ImageRow, Layout, fits_layout, slot_bytes}
-use Rattle.fwu_formats.specs.Manifest.{manifest_size}
-use Rattle.fwu_formats.specs.Metadata.{bit_number}
-use Rattle.fwu_model.specs.declared.kinds.Status.{Status}
-use Rattle.fwu_model.specs.State.{State, bank, Move, after}
-use Rattle.fwu_model.specs.Session.{Session, On, Staged}
-use Rattle.fwu_model.specs.Session as machine
-use Rattle.fwu_model.specs.Sound.{Setting}
-use Rattle.fwu_model.specs.Call.{Call}
-use Rattle.fwu_model.specs.Reply.{Reply}
+use Rattle.fwu_model.specs.{declared.kinds.Status.Status, State.State, State.bank, State.Move, State.after, Session.Session}
+use Rattle.fwu_model.specs.{Session.On, Session.Staged, Sound.Setting, Call.Call, Reply.Reply, Calm.IsAtRest}
 use Rattle.fwu_model.specs.Answer.{staged_bytes as bytes_of, Answer, answer, refused, content, directory, directory_row, booted_package, held_package, version_in}
-use Rattle.fwu_model.specs.Calm.{IsAtRest}
+use Rattle.fwu_model.specs.Session as machine
 use Rattle.moves.specs.Moved.{Does, GuardedBy, IsReady}
 use Rattle.moves.proofs.Composed.{does-idle, does-nothing}
-use Rattle.agent_kept.specs.declared.parts.Part.{Part}
+use Rattle.agent_kept.specs.{declared.parts.Part.Part, declared.parts.Handle.TheVariants.Reads, declared.kinds.Request.Request}
+use Rattle.agent_kept.specs.{declared.kinds.Plan.Plan, declared.kinds.Decision.Decision}
 use Rattle.agent_kept.specs.declared.parts.Part.TheVariants.{Nothing, Open, Committed}
-use Rattle.agent_kept.specs.declared.parts.Handle.TheVariants.{Reads}
-use Rattle.agent_kept.specs.declared.kinds.Request.{Request}
-use Rattle.agent_kept.specs.declared.kinds.Plan.{Plan}
-use Rattle.agent_kept.specs.declared.kinds.Plan.TheVariants as plan
-use Rattle.agent_kept.specs.declared.kinds.Decision.{Decision}
-use Rattle.agent_kept.specs.declared.kinds.Decision.TheVariants as decision
 use Rattle.agent_kept.specs.Kept.{Kept, IsKept, HasTotals, size_of, part_at, handle_kept, part_meant, handles_meant, staging_meant, session_meant}
 use Rattle.agent_kept.specs.Plans.{call_of, planned, planned_in, SpeaksWhole, DecidesAs, FitsRequest}
-use Rattle.agent_state.specs.Decides.{DecidesRequest}
-use Rattle.agent_state.specs.Settles.{SettlesIn, staged_after}
-use Rattle.agent_machine.specs.Deciding.{KeepsOldOrNew}
-use Rattle.agent_machine.proofs.Deciding.{decides-same}
-use Rattle.agent_machine.specs.declared.stop.Stop.{Stop}
-use Rattle.agent_machine.specs.declared.stop.Stop.TheVariants as stop
-use Rattle.agent_machine.specs.Fields.{Fields, directory_size, total_of}
-pub use Rattle.agent_machine.specs.Fields.{IsImageOrDirectory}
+use Rattle.agent_kept.specs.declared.kinds.Plan.TheVariants as plan
+use Rattle.agent_kept.specs.declared.kinds.Decision.TheVariants as decision
+use Rattle.agent_state.specs.{Decides.DecidesRequest, Settles.SettlesIn, Settles.staged_after}
+use Rattle.agent_machine.specs.{Deciding.KeepsOldOrNew, declared.stop.Stop.Stop, Fields.Fields, Fields.directory_size}
+use Rattle.agent_machine.specs.{Fields.total_of, Knows.Fitting, Knows.SessionSound, Knows.Knows, Beside.IsSpared}
+use Rattle.agent_machine.specs.{Beside.KeepsSpared, Beside.SparesBlocks, Moment.Moment, Moment.SpeaksOf, Moment.Shows}
 use Rattle.agent_machine.specs.Machine.{state_in, session_in, staged_bytes}
-use Rattle.agent_machine.specs.Knows.{Fitting, SessionSound, Knows}
-use Rattle.agent_machine.specs.Beside.{IsSpared, KeepsSpared, SparesBlocks}
-use Rattle.agent_machine.proofs.Beside.{blocks-still, spared-told}
-use Rattle.agent_machine.specs.Moment.{Moment, SpeaksOf, Shows}
-pub use Rattle.agent_machine.specs.Carries.{MeansSame, planned_moves, SameBeside, state_before, staging_before, CarriedOut}
 use Rattle.agent_machine.specs.Meets.{IsSettingOf, IsStopped, Stays, LeavesFlash, Meets, flash_result}
+use Rattle.agent_machine.proofs.{Deciding.decides-same, Beside.blocks-still, Beside.spared-told}
+use Rattle.agent_machine.specs.declared.stop.Stop.TheVariants as stop
+pub use Rattle.agent_machine.specs.Fields.{IsImageOrDirectory}
+pub use Rattle.agent_machine.specs.Carries.{MeansSame, planned_moves, SameBeside, state_before, staging_before, CarriedOut}
 use Rattle.agent_state.proofs.Moved.{row-length}
 
 -- ---- how many bytes there are to read

@@ -1,17 +1,12 @@
 -- What no call of the agent changes.
 use Rattle.std.proofs.Common.{◌≡◌, ◌⊎◌, inl, inr, ℕ, ◌+◌, ◌*◌, ◌%◌, ◌<◌, ◌≤◌, take, Result, Ok, refl, sym, ap, ◌∙◌, subst, arith}
-use Rattle.flash_core.specs.Told.{Told}
-use Rattle.flash_core.specs.May.{Keeps}
-use Rattle.flash_core.specs.Touches.{TouchesOnly}
-use Rattle.flash_core.specs.declared.flash.FlashStop.{FlashStop}
-use Rattle.fwu_formats.specs.Layout.{Layout, slot_bytes, slot_total, start}
-use Rattle.fwu_formats.specs.Metadata.{Meta}
+use Rattle.flash_core.specs.{Told.Told, May.Keeps, Touches.TouchesOnly, declared.flash.FlashStop.FlashStop}
+use Rattle.fwu_formats.specs.{Layout.Layout, Layout.slot_bytes, Layout.slot_total, Layout.start, Metadata.Meta}
 use Rattle.fwu_formats.proofs.Same.{slots-fit}
 use Rattle.marks_core.specs.Marks.{Clears}
 use Rattle.replicas.specs.Stores.{Stores}
+use Rattle.agent_machine.specs.{Ends.ClearsAndStores, Fields.Fields, Fields.target}
 use Rattle.agent_machine.specs.Beside.{IsBesideBank, IsSpared, IsSparedByAll, KeepsSpared, KeepsSparedByAll, KeepsWhere, SparesBlocks, SparesBlocksByAll, SparesBlocksWhere}
-use Rattle.agent_machine.specs.Ends.{ClearsAndStores}
-use Rattle.agent_machine.specs.Fields.{Fields, target}
 
 -- ---- bytes that are kept
 

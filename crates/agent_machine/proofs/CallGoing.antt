@@ -3,18 +3,12 @@ use Rattle.std.proofs.Common.{◌≡◌, ℕ, List, Option, Some, None, Result, 
 use Rattle.std.proofs.lemmas.Result.{IfOk-from_err}
 use Rattle.std.specs.Prelude.{IsErr, OnOk, Bool}
 use Rattle.flash_core.specs.declared.flash.FlashStop.{FlashStop}
-use Rattle.fwu_model.specs.State.{State, after}
-use Rattle.fwu_model.specs.Session.{Session}
-use Rattle.fwu_model.specs.Sound.{Setting}
-use Rattle.fwu_model.specs.Call.{Call}
+use Rattle.fwu_model.specs.{State.State, State.after, Session.Session, Sound.Setting, Call.Call, Answer.answer}
 use Rattle.fwu_model.specs.Reply.{Reply, Refused}
-use Rattle.fwu_model.specs.Answer.{answer}
 use Rattle.agent_machine.proofs.Going.{leaves-goes}
-use Rattle.agent_machine.specs.declared.stop.Stop.{Stop}
-use Rattle.agent_machine.specs.declared.stop.Stop.TheVariants as stop
-use Rattle.agent_machine.specs.Moment.{Moment, Shows}
+use Rattle.agent_machine.specs.{declared.stop.Stop.Stop, Moment.Moment, Moment.Shows, Goes.GoesByMoves}
 use Rattle.agent_machine.specs.Meets.{Meets, Answers, RepliesByMachine, flash_result}
-use Rattle.agent_machine.specs.Goes.{GoesByMoves}
+use Rattle.agent_machine.specs.declared.stop.Stop.TheVariants as stop
 
 -- the machine's reply, where the call was answered or refused
 abbrev pub reply_of : {T : Type 0} → (T → Reply) → Result T Stop → Option Reply

@@ -1,39 +1,28 @@
 -- What the commit of an image says.
 use Rattle.std.proofs.Common.{◌≡◌, ℕ, ◌+◌, ◌-◌, ◌*◌, ◌<◌, ◌≤◌, Bool, true, List, [], length, get_or, Some, Ok, refl, sym, ap, subst, arith, IsTrue, ◌∙◌}
 use Rattle.std.proofs.Math.Logic.{∥∥₁_map}
-use Rattle.flash_core.specs.Told.{Told}
-use Rattle.flash_core.specs.Touches.{TouchesOnly}
+use Rattle.flash_core.specs.{Told.Told, Touches.TouchesOnly}
 use Rattle.sha2.specs.declared.Sha256.{Sha256}
 use Rattle.fwu_formats.specs.Layout.{ImageRow, start, blocks_needed}
-use Rattle.fwu_model.specs.Session.{Session}
+use Rattle.fwu_model.specs.{Session.Session, Reply.Success}
 use Rattle.fwu_model.specs.Call as call
-use Rattle.fwu_model.specs.Reply.{Success}
 use Rattle.moves.specs.Law.{CallResult}
 use Rattle.moves.proofs.Composed.{does-nothing}
 use Rattle.slot_writer.specs.Slots.{FinishesImage, blocks_for, done_of}
 use Rattle.agent_kept.specs.declared.kinds.Plan.TheVariants as plan
 use Rattle.agent_kept.specs.declared.kinds.Request.TheVariants as request
-use Rattle.agent_kept.specs.declared.kinds.Decision.TheVariants.{Do}
-use Rattle.agent_kept.specs.declared.parts.Part.{Part}
+use Rattle.agent_kept.specs.{declared.kinds.Decision.TheVariants.Do, declared.parts.Part.Part, declared.parts.Handle.Handle}
+use Rattle.agent_kept.specs.{declared.parts.Handle.TheVariants.Free, Plans.planned, Plans.planned_in}
 use Rattle.agent_kept.specs.declared.parts.Part.TheVariants.{Nothing, Open, Committed}
-use Rattle.agent_kept.specs.declared.parts.Handle.{Handle}
-use Rattle.agent_kept.specs.declared.parts.Handle.TheVariants.{Free}
 use Rattle.agent_kept.specs.Kept.{Kept, CommitsPart, is_part_open, part_at, size_of}
-use Rattle.agent_kept.specs.Plans.{planned, planned_in}
 use Rattle.agent_kept.proofs.After.{kept-committed}
-use Rattle.agent_state.specs.Decides.{DecidesRequest}
-use Rattle.agent_state.specs.Settles.{IsPlanOf, Settles}
-use Rattle.agent_machine.proofs.Deciding.{decides-kept}
-use Rattle.agent_machine.specs.Fields.{Fields, target, rest_of, with_session}
-use Rattle.agent_machine.specs.Machine.{state_in}
-use Rattle.agent_machine.specs.Moment.{Moment}
-use Rattle.agent_machine.specs.Knows.{Fitting, SessionSound, Knows, SomeStaged}
-use Rattle.agent_machine.specs.Meets.{LeavesFlash, Meets}
+use Rattle.agent_state.specs.{Decides.DecidesRequest, Settles.IsPlanOf, Settles.Settles}
+use Rattle.agent_machine.proofs.{Deciding.decides-kept, Stored.not-both, Staging.StaysKnown}
 use Rattle.agent_machine.proofs.Answered.{rest-guarded, leaves-by, done-meets}
 use Rattle.agent_machine.proofs.Committing.{slot-room, finish-blocks, finish-spares, finish-stays, CommitLeaves, committed}
-use Rattle.agent_machine.proofs.Stored.{not-both}
 use Rattle.agent_machine.proofs.Room.{ReadsWell, set-readers, old-readers, free-well, fitting-again, staged-before}
-use Rattle.agent_machine.proofs.Staging.{StaysKnown}
+use Rattle.agent_machine.specs.{Fields.Fields, Fields.target, Fields.rest_of, Fields.with_session, Machine.state_in, Moment.Moment}
+use Rattle.agent_machine.specs.{Knows.Fitting, Knows.SessionSound, Knows.Knows, Knows.SomeStaged, Meets.LeavesFlash, Meets.Meets}
 
 -- ---- an image is committed
 

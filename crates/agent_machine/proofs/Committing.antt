@@ -2,29 +2,22 @@
 use Rattle.std.proofs.Common.{◌≡◌, ◌≢◌, inl, inr, ℕ, ◌+◌, ◌*◌, ◌<◌, ◌≤◌, Bool, List, length, Ok, sym, ap, ap₂, ◌∙◌, subst, arith, IsTrue}
 use Rattle.std.proofs.lemmas.Bool.{cases_eq}
 use Rattle.std.specs.Prelude.{Result}
-use Rattle.flash_core.specs.declared.flash.FlashStop.{FlashStop}
-use Rattle.flash_core.specs.Told.{Told}
-use Rattle.flash_core.specs.May.{Keeps}
-use Rattle.flash_core.specs.Touches.{TouchesOnly}
+use Rattle.flash_core.specs.{declared.flash.FlashStop.FlashStop, Told.Told, May.Keeps, Touches.TouchesOnly}
 use Rattle.flash_core.proofs.Calls.{keeps_wider, quiet_fresh}
 use Rattle.sha2.specs.declared.Sha256.{Sha256}
-use Rattle.fwu_formats.specs.Layout.{ImageRow, start, slot_bytes, blocks_needed}
-use Rattle.fwu_formats.specs.Metadata.{state_at}
+use Rattle.fwu_formats.specs.{Layout.ImageRow, Layout.start, Layout.slot_bytes, Layout.blocks_needed, Metadata.state_at}
 use Rattle.fwu_model.specs.State.{is_invalid}
 use Rattle.slot_writer.specs.Slots.{FinishesImage, IsBlankAhead, blocks_for, done_of}
 use Rattle.agent_kept.specs.declared.parts.Part.{Part}
 use Rattle.agent_kept.specs.declared.parts.Part.TheVariants.{Nothing, Open, Committed}
 use Rattle.agent_kept.specs.Kept.{Kept, IsKept, CommitsPart, CommitsTo, part_at, part_meant, size_of}
 use Rattle.agent_kept.proofs.After.{kept-committed, open-committed}
-use Rattle.agent_machine.specs.Beside.{KeepsSpared, SparesBlocks}
-use Rattle.agent_machine.proofs.Beside.{slot-blocks, slot-spares}
+use Rattle.agent_machine.specs.{Beside.KeepsSpared, Beside.SparesBlocks, Knows.Fitting, Knows.SessionSound, Knows.Knows}
 use Rattle.agent_machine.specs.Fields.{Fields, target, rest_of, with_session}
 use Rattle.agent_machine.specs.Machine.{state_in, staged_bytes, part_bytes}
-use Rattle.agent_machine.specs.Knows.{Fitting, SessionSound, Knows}
-use Rattle.agent_machine.proofs.Answered.{MeansSame, kept-same}
+use Rattle.agent_machine.proofs.{Beside.slot-blocks, Beside.slot-spares, Answered.MeansSame, Answered.kept-same}
+use Rattle.agent_machine.proofs.{Staging.StaysKnown, Staging.stays-known, Writing.known-again}
 pub use Rattle.agent_machine.proofs.Staging.{slot-room}
-use Rattle.agent_machine.proofs.Staging.{StaysKnown, stays-known}
-use Rattle.agent_machine.proofs.Writing.{known-again}
 
 -- what ending an image leaves of the others, at any exit
 module _ {T : Type 0} (result : Result T FlashStop) (f : Fields) (image size : ℕ) (s t : Told)

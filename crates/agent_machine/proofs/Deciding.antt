@@ -1,18 +1,14 @@
 -- The metadata that decides in an image that a loss leaves is the old one or the new.
 use Rattle.std.proofs.Common.{◌≡◌, inl, inr, ℕ, ◌+◌, ◌*◌, ◌≤◌, List, Result, sym, ap, ◌∙◌, subst, arith}
 use Rattle.base_core.specs.Block.{block}
-use Rattle.flash_core.specs.declared.flash.FlashStop.{FlashStop}
-use Rattle.flash_core.specs.Told.{Told}
-use Rattle.flash_core.specs.May.{Guards, Keeps, May, Quiet}
+use Rattle.flash_core.specs.{declared.flash.FlashStop.FlashStop, Told.Told, May.Guards, May.Keeps, May.May, May.Quiet}
 use Rattle.flash_core.proofs.Calls.{guards_kept, keeps_same}
-use Rattle.fwu_formats.specs.Layout.{Layout}
-use Rattle.fwu_formats.specs.Metadata.{Meta, MetaRead, meta_read}
+use Rattle.fwu_formats.specs.{Layout.Layout, Metadata.Meta, Metadata.MetaRead, Metadata.meta_read}
 use Rattle.fwu_formats.proofs.Same.{block-same}
 use Rattle.fwu_model.specs.Replica.{BothHold, Decides, in_version}
 use Rattle.moves.proofs.Beside.{both-beside}
 use Rattle.replicas.specs.Stores.{Stores}
-use Rattle.agent_machine.specs.Deciding.{KeepsOldOrNew}
-use Rattle.agent_machine.specs.Ends.{ClearsAndStores}
+use Rattle.agent_machine.specs.{Deciding.KeepsOldOrNew, Ends.ClearsAndStores}
 use Rattle.agent_machine.proofs.Known.{both-decides}
 
 -- ---- what isn't written

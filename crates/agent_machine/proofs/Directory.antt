@@ -7,23 +7,14 @@ use Rattle.std.specs.Prelude.{flat_map, is_some, slice_range}
 use Rattle.std.specs.List.{range_with_len, list_all}
 use Rattle.base_core.specs.Bytes.{le, num_at, listed}
 use Rattle.flash_core.specs.Told.{Told}
+use Rattle.fwu_formats.specs.{Metadata.bit_number, Manifest.manifest_size, Manifest.row_at, Manifest.version, Image.package_in}
 use Rattle.fwu_formats.specs.Layout.{ImageRow, Layout, start, slot_bytes, fits_layout, is_row}
-use Rattle.fwu_formats.specs.Metadata.{bit_number}
-use Rattle.fwu_formats.specs.Manifest.{manifest_size, row_at, version}
-use Rattle.fwu_formats.specs.Image.{package_in}
-use Rattle.fwu_formats.proofs.SealLaws.{limits}
-use Rattle.fwu_formats.proofs.Spell.{part_front}
-use Rattle.fwu_formats.proofs.Written.{rows-fit}
-use Rattle.fwu_model.specs.State.{State, Bank, bank, no_bank}
-use Rattle.fwu_model.specs.Sound.{Setting}
-use Rattle.fwu_model.specs.Seen.{bank_in}
+use Rattle.fwu_formats.proofs.{SealLaws.limits, Spell.part_front, Written.rows-fit}
+use Rattle.fwu_model.specs.{State.State, State.Bank, State.bank, State.no_bank, Sound.Setting, Seen.bank_in}
 use Rattle.fwu_model.specs.Answer.{directory, directory_row, booted_package, held_package, version_in}
-use Rattle.agent_machine.specs.Fields.{Fields}
-use Rattle.agent_machine.specs.Machine.{state_in}
-use Rattle.agent_machine.specs.Knows.{Fitting, Knows}
+use Rattle.agent_machine.specs.{Fields.Fields, Machine.state_in, Knows.Fitting, Knows.Knows}
 use Rattle.agent_machine.specs.Directory.{version_by, directory_row_by, directory_by, directory_head, manifest_in}
-use Rattle.agent_machine.proofs.Held.{IsInSlots, held-in-slots}
-use Rattle.agent_machine.proofs.Totals.{held-long}
+use Rattle.agent_machine.proofs.{Held.IsInSlots, Held.held-in-slots, Totals.held-long}
 
 -- rows of images below a bound
 flat-same : (f g : ℕ → List ℕ) (from n : ℕ) → ((i : ℕ) → from ≤ i → i < from + n → f i ≡ g i)

@@ -1,46 +1,31 @@
 -- What the end of a staging says.
 use Rattle.std.proofs.Common.{◌≡◌, inl, inr, ℕ, ◌≤◌, Bool, true, false, List, [], ◌∷◌, length, Option, Some, None, Ok, refl, sym, ap, ◌∙◌, subst, IsTrue, arith}
 use Rattle.flash_core.specs.Told.{Told}
-use Rattle.fwu_formats.specs.Layout.{Layout}
-use Rattle.fwu_formats.specs.Metadata.{Meta, MetaRead}
+use Rattle.fwu_formats.specs.{Layout.Layout, Metadata.Meta, Metadata.MetaRead}
 use Rattle.fwu_formats.proofs.SealLaws.{limits}
+use Rattle.fwu_model.specs.{Sound.Setting, Calm.IsAtRest, Session.Session, Session.Staged, Session.On, Reply.Success}
+use Rattle.fwu_model.specs.{MoveMetas.meta_after, MoveMetas.meta_in, Replica.in_version}
 use Rattle.fwu_model.specs.State.{State, Move, Switch, update_bank, after, state_by}
-use Rattle.fwu_model.specs.Sound.{Setting}
-use Rattle.fwu_model.specs.Calm.{IsAtRest}
-use Rattle.fwu_model.specs.Session.{Session, Staged, On}
-use Rattle.fwu_model.specs.Call as call
-use Rattle.fwu_model.specs.Reply.{Success}
 use Rattle.fwu_model.specs.Answer.{answer, staged_package, staged_bits, may_end}
-use Rattle.fwu_model.specs.MoveMetas.{meta_after, meta_in}
+use Rattle.fwu_model.specs.Call as call
 use Rattle.marks_core.specs.Marks.{Clears}
 use Rattle.replicas.specs.Stores.{Stores}
-use Rattle.moves.specs.Law.{CallResult, EndsBy}
-use Rattle.moves.specs.Moved.{Does, GuardedBy, IsReady}
+use Rattle.moves.specs.{Law.CallResult, Law.EndsBy, Moved.Does, Moved.GuardedBy, Moved.IsReady}
 use Rattle.moves.proofs.Trials.{clear-guarded}
 use Rattle.agent_kept.specs.declared.kinds.Plan.TheVariants as plan
 use Rattle.agent_kept.specs.declared.kinds.Decision.TheVariants.{Do}
-use Rattle.agent_kept.specs.declared.kinds.Request.TheVariants as request
 use Rattle.agent_kept.specs.Kept.{Kept, Restarts, parts_meant, staging_meant, handles_meant}
 use Rattle.agent_kept.specs.Plans.{planned, planned_in, package_staged, bits_staged}
+use Rattle.agent_kept.specs.declared.kinds.Request.TheVariants as request
 use Rattle.agent_kept.proofs.Meant.{staging-on}
-use Rattle.agent_state.specs.Decides.{DecidesRequest, next_bank}
-use Rattle.agent_state.specs.Settles.{Settles, bits_kept}
-use Rattle.fwu_model.specs.Replica.{in_version}
-use Rattle.agent_machine.proofs.Deciding.{decides-ends}
-use Rattle.agent_machine.specs.Beside.{SparesBlocks}
-use Rattle.agent_machine.proofs.Beside.{ends-spare}
-use Rattle.agent_machine.specs.Carries.{planned_moves}
-use Rattle.agent_machine.specs.Fields.{Fields}
-use Rattle.agent_machine.specs.Machine.{state_in, staged_bytes}
-use Rattle.agent_machine.specs.Moment.{Moment}
-use Rattle.agent_machine.specs.Knows.{Fitting, SessionSound, Knows}
-use Rattle.agent_machine.specs.Meets.{IsSettingOf, LeavesFlash, Meets}
+use Rattle.agent_state.specs.{Decides.DecidesRequest, Decides.next_bank, Settles.Settles, Settles.bits_kept}
+use Rattle.agent_machine.proofs.{Deciding.decides-ends, Beside.ends-spare, Committing.slot-room, Showing.known-speaks}
 use Rattle.agent_machine.proofs.Answered.{shown-speaks, leaves-by, done-meets}
-use Rattle.agent_machine.proofs.Committing.{slot-room}
-use Rattle.agent_machine.proofs.Showing.{known-speaks}
 use Rattle.agent_machine.proofs.EndingMeets.{ended-may, ends-meet, permitted-in, state-meta}
 use Rattle.agent_machine.proofs.Ended.{stored-is, ended-held, EndLeaves, ended-leaves}
-use Rattle.agent_machine.specs.Ends.{ClearsAndStores}
+use Rattle.agent_machine.specs.{Beside.SparesBlocks, Carries.planned_moves, Fields.Fields, Machine.state_in, Machine.staged_bytes}
+use Rattle.agent_machine.specs.{Moment.Moment, Knows.Fitting, Knows.SessionSound, Knows.Knows, Ends.ClearsAndStores}
+use Rattle.agent_machine.specs.Meets.{IsSettingOf, LeavesFlash, Meets}
 
 -- a store that was done came after a clear that was done
 pub stored-when-done : (L : Layout) (m : Meta) (s t : Told) → ClearsAndStores {T = Unit {0}} (Ok tt) L m s t

@@ -3,35 +3,25 @@ use Rattle.std.proofs.Common.{◌≡◌, ◌≢◌, inr, ℕ, ◌+◌, ◌<◌, 
 use Rattle.std.proofs.Math.Nat.{mod-lt}
 use Rattle.std.specs.Prelude.{is_some}
 use Rattle.flash_core.specs.Told.{Told}
-use Rattle.fwu_formats.specs.declared.kinds.BankState.TheVariants.{Invalid}
-use Rattle.fwu_formats.specs.Layout.{ImageRow, Layout}
+use Rattle.fwu_formats.specs.{declared.kinds.BankState.TheVariants.Invalid, Layout.ImageRow, Layout.Layout, Image.package_in}
 use Rattle.fwu_formats.specs.Metadata.{Meta, MetaRead, state_at, fits_meta}
-use Rattle.fwu_formats.specs.Image.{package_in}
 use Rattle.fwu_formats.proofs.SealLaws.{limits}
-use Rattle.fwu_model.specs.Replica.{BothHold, in_version}
+use Rattle.fwu_model.specs.{Replica.BothHold, Replica.in_version, MoveMetas.meta_after, MoveMetas.meta_in}
 use Rattle.fwu_model.specs.State.{State, Bank, Switch, bank, no_bank, update_bank, after, is_invalid, state_by}
-use Rattle.fwu_model.specs.MoveMetas.{meta_after, meta_in}
 use Rattle.fwu_model.specs.Answer.{held_package, staged_bits}
 use Rattle.fwu_model.proofs.Banks.{next-other}
 use Rattle.meta_layout.proofs.Fits.{MetaFits, meta-fits}
 use Rattle.marks_core.specs.Marks.{Clears}
 use Rattle.replicas.specs.Stores.{Stores}
-use Rattle.moves.specs.Moved.{IsShown}
-use Rattle.moves.specs.Law.{EndsBy}
-use Rattle.moves.proofs.MetaMoves.{fits-switch}
-use Rattle.moves.proofs.Agree.{package-same}
+use Rattle.moves.specs.{Moved.IsShown, Law.EndsBy}
+use Rattle.moves.proofs.{MetaMoves.fits-switch, Agree.package-same}
 use Rattle.agent_kept.specs.Kept.{Kept, Restarts, parts_meant}
-use Rattle.agent_state.specs.Decides.{next_bank}
-use Rattle.agent_state.specs.Settles.{bits_kept}
-use Rattle.agent_state.proofs.Collected.{bits-count}
-use Rattle.agent_state.proofs.Machine.{next-is}
-use Rattle.agent_machine.specs.Fields.{Fields}
+use Rattle.agent_state.specs.{Decides.next_bank, Settles.bits_kept}
+use Rattle.agent_state.proofs.{Collected.bits-count, Machine.next-is, Settled.bits-meant}
+use Rattle.agent_machine.specs.{Fields.Fields, Carries.MeansSame, Knows.Fitting, Knows.Knows}
 use Rattle.agent_machine.specs.Machine.{state_in, staged_bytes}
-use Rattle.agent_machine.specs.Carries.{MeansSame}
-use Rattle.agent_machine.specs.Knows.{Fitting, Knows}
 use Rattle.agent_machine.proofs.Known.{state-held}
 use Rattle.agent_machine.proofs.Stored.{not-both, nothing-means, nothing-staged, restarted-fitting}
-use Rattle.agent_state.proofs.Settled.{bits-meant}
 
 -- the metadata that is stored, in the words of a state that the fields speak of
 pub stored-is : (f : Fields) (st : State) (staged : ℕ → List ℕ) (p : List (List ℕ)) → f.meta.meta ≡ meta_in st

@@ -5,38 +5,26 @@ use Rattle.std.proofs.lemmas.List.{take-take, length-map}
 use Rattle.std.proofs.lemmas.List.Sums.{sum_by-cons}
 use Rattle.std.proofs.lemmas.List.FromFn.{length-map-range_with_len, get_or-map-range_with_len}
 use Rattle.std.specs.List.{list_all, list_any, range_with_len}
-use Rattle.flash_core.specs.Told.{Told, is_unsure}
-use Rattle.flash_core.specs.May.{Quiet}
-use Rattle.fwu_formats.specs.Layout.{ImageRow, Layout, start, slot_total, slot_bytes}
-use Rattle.fwu_formats.specs.Metadata.{Meta, MetaRead}
-use Rattle.fwu_formats.specs.Manifest.{is_complete, version, manifest_part}
-use Rattle.fwu_formats.specs.Image.{slot}
-use Rattle.fwu_model.specs.declared.kinds.Status.{Status}
-use Rattle.fwu_model.specs.declared.kinds.Status.TheVariants as status
-use Rattle.fwu_model.specs.State.{State, bank, is_accepted}
-use Rattle.fwu_model.specs.Sound.{Setting, is_permitted}
-use Rattle.fwu_model.specs.Session.{Staged, Handle, On, is_committed}
-use Rattle.fwu_model.specs.Call as call
-use Rattle.fwu_model.specs.Reply.{Refused, Success}
-use Rattle.fwu_model.specs.Answer as answer
+use Rattle.flash_core.specs.{Told.Told, Told.is_unsure, May.Quiet}
+use Rattle.fwu_formats.specs.{Layout.ImageRow, Layout.Layout, Layout.start, Layout.slot_total, Layout.slot_bytes, Metadata.Meta}
+use Rattle.fwu_formats.specs.{Metadata.MetaRead, Manifest.is_complete, Manifest.version, Manifest.manifest_part, Image.slot}
+use Rattle.fwu_model.specs.{declared.kinds.Status.Status, State.State, State.bank, State.is_accepted, Sound.Setting}
+use Rattle.fwu_model.specs.{Sound.is_permitted, Session.Staged, Session.Handle, Session.On, Session.is_committed, Reply.Refused}
+use Rattle.fwu_model.specs.{Reply.Success, MoveMetas.meta_in, Replica.BothHold, Replica.in_version}
 use Rattle.fwu_model.specs.Answer.{Answer, answer, answer_end, is_writer, staged_package, staged_bits, may_end}
-use Rattle.fwu_model.specs.MoveMetas.{meta_in}
-use Rattle.fwu_model.specs.Replica.{BothHold, in_version}
+use Rattle.fwu_model.specs.declared.kinds.Status.TheVariants as status
+use Rattle.fwu_model.specs.Call as call
+use Rattle.fwu_model.specs.Answer as answer
 use Rattle.moves.specs.Law.{EndsBy}
-use Rattle.moves.proofs.Agree.{state-is}
-use Rattle.moves.proofs.MetaMoves.{meta-is}
-use Rattle.moves.proofs.Switching.{ends-by}
+use Rattle.moves.proofs.{Agree.state-is, MetaMoves.meta-is, Switching.ends-by}
 use Rattle.meta_layout.proofs.Fits.{MetaFits, meta-fits}
 use Rattle.agent_kept.specs.declared.kinds.Plan.TheVariants as plan
-use Rattle.agent_kept.specs.declared.parts.Part.{Part}
+use Rattle.agent_kept.specs.{declared.parts.Part.Part, Judged.is_part_committed, Plans.planned}
 use Rattle.agent_kept.specs.declared.parts.Part.TheVariants.{Nothing, Open, Committed}
 use Rattle.agent_kept.specs.Kept.{part_at, part_meant, parts_meant, size_of}
-use Rattle.agent_kept.specs.Judged.{is_part_committed}
-use Rattle.agent_kept.specs.Plans.{planned}
 use Rattle.agent_kept.proofs.Installable.{each-committed, map-twice}
-use Rattle.agent_machine.specs.Fields.{Fields, target}
+use Rattle.agent_machine.specs.{Fields.Fields, Fields.target, Knows.Fitting, Knows.Knows}
 use Rattle.agent_machine.specs.Machine.{state_in, staged_bytes, part_bytes}
-use Rattle.agent_machine.specs.Knows.{Fitting, Knows}
 use Rattle.agent_machine.proofs.Known.{known-shown, update-is}
 
 -- ---- what an answered end says

@@ -4,13 +4,12 @@ use Rattle.std.proofs.lemmas.Bool.{le-ltb}
 use Rattle.std.proofs.lemmas.List.{set-set}
 use Rattle.std.specs.Prelude.{nat_lt, ◌==◌, ◌||◌}
 use Rattle.fwu_formats.specs.Layout.{slot_bytes, find_image}
-use Rattle.fwu_model.specs.State.{State}
-use Rattle.fwu_model.specs.Sound.{Setting}
+use Rattle.fwu_model.specs.{State.State, Sound.Setting}
 use Rattle.fwu_model.specs.Session.{On, Staged, Nothing, Open, Committed, Writes, no_handles, is_open, is_committed}
+use Rattle.fwu_model.specs.Answer.{answer, answered, refused, opened, appended, staged_bytes, is_full, answer_open_write, open_image, answer_write, answer_commit}
 use Rattle.fwu_model.specs.declared.kinds.Status.TheVariants as status
 use Rattle.fwu_model.specs.Call as call
 use Rattle.fwu_model.specs.Reply as reply
-use Rattle.fwu_model.specs.Answer.{answer, answered, refused, opened, appended, staged_bytes, is_full, answer_open_write, open_image, answer_write, answer_commit}
 use Rattle.agent_machine.specs.Filling.{between, within, filled}
 
 module _ (E : Setting) (s : State) (boot : ℕ) (parts : List Staged) (image : ℕ) where

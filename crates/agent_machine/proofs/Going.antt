@@ -3,21 +3,15 @@ use Rattle.std.proofs.Common.{◌≡◌, List, [], ◌∷◌, ◌++◌, Result, 
 use Rattle.std.proofs.lemmas.Result.{on_ok_weaker, IfOk-from_err}
 use Rattle.std.specs.Prelude.{IsErr, OnOk}
 use Rattle.flash_core.specs.declared.flash.FlashStop.{FlashStop}
-use Rattle.fwu_model.specs.declared.kinds.Status.{Status}
-use Rattle.fwu_model.specs.State.{State, Move, after}
-use Rattle.fwu_model.specs.Session.{Session}
-use Rattle.fwu_model.specs.Sound.{Setting}
-use Rattle.fwu_model.specs.Call.{Call}
-use Rattle.fwu_model.specs.Reply.{Reply, Refused}
-use Rattle.fwu_model.specs.Answer.{answer}
+use Rattle.fwu_model.specs.{declared.kinds.Status.Status, State.State, State.Move, State.after, Session.Session, Sound.Setting}
+use Rattle.fwu_model.specs.{Call.Call, Reply.Reply, Reply.Refused, Answer.answer}
 use Rattle.moves.specs.Moved.{Does, IsReady}
 use Rattle.moves.proofs.Composed.{after-append, does-then, does-stopped, does-nothing}
-use Rattle.agent_machine.specs.Beside.{IsSparedByAll}
-use Rattle.agent_machine.proofs.Beside.{blocks-further, blocks-once, spared-further, spared-once, spared-same}
-use Rattle.agent_machine.specs.declared.stop.Stop.TheVariants as stop
-use Rattle.agent_machine.specs.Moment.{Moment, Shows}
+use Rattle.agent_machine.specs.{Beside.IsSparedByAll, Moment.Moment, Moment.Shows}
 use Rattle.agent_machine.specs.Meets.{IsSettingOf, LeavesFlash, Meets, RepliesByMachine, Stays}
 use Rattle.agent_machine.specs.Goes.{GoesByMoves, Met, CallsMet, Done, Then, RanCalls, moves_of, session_of}
+use Rattle.agent_machine.proofs.Beside.{blocks-further, blocks-once, spared-further, spared-once, spared-same}
+use Rattle.agent_machine.specs.declared.stop.Stop.TheVariants as stop
 
 pub stays-then : (a b c : Moment) → Stays a b → Stays b c → Stays a c
 stays-then a b c ab bc = record {

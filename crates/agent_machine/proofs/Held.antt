@@ -6,8 +6,7 @@ use Rattle.std.proofs.lemmas.List.{length-take, take_min}
 use Rattle.std.proofs.lemmas.List.FromFn.{length-map-range_with_len, get_or-map-range_with_len}
 use Rattle.std.specs.Prelude.{is_ok}
 use Rattle.base_core.specs.Bytes.{num_at, listed}
-use Rattle.fwu_formats.specs.declared.kinds.ManifestFault.{ManifestFault}
-use Rattle.fwu_formats.specs.Layout.{Layout}
+use Rattle.fwu_formats.specs.{declared.kinds.ManifestFault.ManifestFault, Layout.Layout}
 use Rattle.fwu_formats.specs.Manifest.{Row, Manifest, manifest_of, manifest_size, manifest_part, row_at, is_complete}
 use Rattle.fwu_formats.specs.Image.{slot, images_in, if_complete, package_by, package_in}
 use Rattle.base_core.proofs.Results.{ok-is}

@@ -2,21 +2,12 @@
 use Rattle.std.proofs.Common.{◌≡◌, ℕ, ◌+◌, ◌%◌, Bool, List, Option, Some, refl, sym, ap, ◌∙◌, subst}
 use Rattle.std.specs.Option.{option_or}
 use Rattle.base_core.specs.Block.{block}
-use Rattle.flash_core.specs.Told.{Told}
-use Rattle.flash_core.specs.May.{Guards}
-use Rattle.fwu_formats.specs.Layout.{Layout}
-use Rattle.fwu_formats.specs.Metadata.{MetaRead, meta_read}
-use Rattle.fwu_formats.specs.Image.{deciding}
-use Rattle.fwu_model.specs.Replica.{BothHold}
-use Rattle.fwu_model.specs.State.{State, update_bank}
-use Rattle.fwu_model.specs.Sound.{Setting}
-use Rattle.fwu_model.specs.Seen.{state_of}
-use Rattle.fwu_model.specs.Calm.{IsCalm}
+use Rattle.flash_core.specs.{Told.Told, May.Guards}
+use Rattle.fwu_formats.specs.{Layout.Layout, Metadata.MetaRead, Metadata.meta_read, Image.deciding}
+use Rattle.fwu_model.specs.{Replica.BothHold, State.State, State.update_bank, Sound.Setting, Seen.state_of, Calm.IsCalm}
 use Rattle.moves.specs.Moved.{IsReady, IsShown}
 use Rattle.moves.proofs.Agree.{bank-count, shown-as, shown-by}
-use Rattle.agent_machine.specs.Fields.{Fields, target}
-use Rattle.agent_machine.specs.Machine.{state_in}
-use Rattle.agent_machine.specs.Knows.{Knows}
+use Rattle.agent_machine.specs.{Fields.Fields, Fields.target, Machine.state_in, Knows.Knows}
 
 pub both-decides : (L : Layout) (image : List ℕ) (r : MetaRead) → BothHold L r image → deciding L image ≡ Some r
 unfolding deciding

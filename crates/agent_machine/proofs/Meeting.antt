@@ -1,22 +1,15 @@
 -- A call that is done: what it says of the reply, and where its plan needs no flash.
 use Rattle.std.proofs.Common.{◌≡◌, ◌∙◌, inl, ℕ, Bool, List, Option, Ok, refl, sym, ap, subst, IsTrue}
 use Rattle.flash_core.specs.Told.{Told}
-use Rattle.fwu_model.specs.State.{State}
-use Rattle.fwu_model.specs.Sound.{Setting}
-use Rattle.fwu_model.specs.Session.{Session, Staged}
+use Rattle.fwu_model.specs.{State.State, Sound.Setting, Session.Session, Session.Staged, Reply.Reply, Reply.Success}
 use Rattle.fwu_model.specs.Session as session
-use Rattle.fwu_model.specs.Reply.{Reply, Success}
-use Rattle.agent_kept.specs.declared.kinds.Request.{Request}
-use Rattle.agent_kept.specs.declared.kinds.Plan.{Plan}
+use Rattle.agent_kept.specs.{declared.kinds.Request.Request, declared.kinds.Plan.Plan, Kept.handles_meant, Kept.staging_meant}
+use Rattle.agent_kept.specs.Plans.{call_of, planned, planned_in}
 use Rattle.agent_kept.specs.declared.kinds.Plan.TheVariants as plan
 use Rattle.agent_kept.specs.declared.kinds.Decision.TheVariants as decision
-use Rattle.agent_kept.specs.Kept.{handles_meant, staging_meant}
-use Rattle.agent_kept.specs.Plans.{call_of, planned, planned_in}
 use Rattle.agent_state.specs.Decides.{DecidesRequest}
-use Rattle.agent_machine.specs.Asks.{IsQuietPlan}
+use Rattle.agent_machine.specs.{Asks.IsQuietPlan, Knows.Fitting, Knows.SessionSound, Knows.Knows, Moment.Moment, Moment.Shows}
 use Rattle.agent_machine.specs.Carries.{CarriedOut, state_before, staging_before}
-use Rattle.agent_machine.specs.Knows.{Fitting, SessionSound, Knows}
-use Rattle.agent_machine.specs.Moment.{Moment, Shows}
 use Rattle.agent_machine.specs.Meets.{IsSettingOf, LeavesFlash, Meets, Stays}
 use Rattle.agent_machine.proofs.Answered.{FitsEach, moves-told, still-leaves, done-meets}
 use Rattle.agent_machine.proofs.Quietly.{quiet-moves}

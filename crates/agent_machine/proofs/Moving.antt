@@ -1,26 +1,16 @@
 -- A store of the metadata of a move, by what the agent knows.
 use Rattle.std.proofs.Common.{◌≡◌, ℕ, ◌+◌, ◌<◌, List, [], ◌∷◌, Bool, Option, Some, refl, sym, ap, ◌∙◌, subst, arith, IsTrue, IsFalse}
 use Rattle.std.proofs.Math.Nat.{mod-lt}
-use Rattle.flash_core.specs.Told.{Told}
-use Rattle.flash_core.specs.May.{Guards}
-use Rattle.fwu_formats.specs.Layout.{Layout}
-use Rattle.fwu_formats.specs.Metadata.{Meta, state_at}
-use Rattle.fwu_formats.specs.Image.{deciding}
-use Rattle.fwu_model.specs.Replica.{in_version}
+use Rattle.flash_core.specs.{Told.Told, May.Guards}
+use Rattle.fwu_formats.specs.{Layout.Layout, Metadata.Meta, Metadata.state_at, Image.deciding}
+use Rattle.fwu_model.specs.{Replica.in_version, Calm.IsCalm, Calm.IsAtRest, MoveMetas.meta_after}
 use Rattle.fwu_model.specs.State.{State, Move, Free, Accept, Back, bank, update_bank, is_accepted, is_invalid}
 use Rattle.fwu_model.specs.Sound.{Setting, holds_permitted}
-use Rattle.fwu_model.specs.Calm.{IsCalm, IsAtRest}
 use Rattle.replicas.specs.Stores.{Stores}
-use Rattle.moves.specs.Moved.{Does, IsShown, ShowsAfter, GuardedBy}
-use Rattle.fwu_model.specs.MoveMetas.{meta_after}
-use Rattle.moves.specs.Law.{QuietBy, CallResult}
-use Rattle.moves.proofs.Agree.{state-is}
+use Rattle.moves.specs.{Moved.Does, Moved.IsShown, Moved.ShowsAfter, Moved.GuardedBy, Law.QuietBy, Law.CallResult}
+use Rattle.moves.proofs.{Agree.state-is, Repaired.rest-used, MetaMoves.deciding-fits}
 use Rattle.moves.proofs.Stored.{free-does, accept-does, back-does, free-shows, accept-shows, back-shows, store-guarded, quiet-free, quiet-accept, quiet-back}
-use Rattle.moves.proofs.Repaired.{rest-used}
-use Rattle.moves.proofs.MetaMoves.{deciding-fits}
-use Rattle.agent_machine.specs.Fields.{Fields, target}
-use Rattle.agent_machine.specs.Machine.{state_in}
-use Rattle.agent_machine.specs.Knows.{Fitting, Knows}
+use Rattle.agent_machine.specs.{Fields.Fields, Fields.target, Machine.state_in, Knows.Fitting, Knows.Knows}
 use Rattle.agent_machine.proofs.Known.{both-decides, in-layout, known-shown, known-ready, update-is}
 
 -- What a store of the metadata of a move is: on a calm flash under this premise, on any flash, and on any flash at rest.

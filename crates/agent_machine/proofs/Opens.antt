@@ -2,34 +2,21 @@
 use Rattle.std.proofs.Common.{◌≡◌, ℕ, Bool, List, [], Option, Result, Ok, Err, refl, sym, ap, ◌∙◌, subst, IsTrue}
 use Rattle.flash_core.specs.Told.{Told}
 use Rattle.fwu_formats.specs.Layout.{ImageRow, find_image}
-use Rattle.fwu_model.specs.declared.kinds.Op.{Op}
-use Rattle.fwu_model.specs.declared.kinds.Op.TheVariants as op
-use Rattle.fwu_model.specs.declared.kinds.Status.{Status}
-use Rattle.fwu_model.specs.State.{State}
+use Rattle.fwu_model.specs.{declared.kinds.Op.Op, declared.kinds.Status.Status, State.State, Sound.Setting, Call.Call, Reply.Reply}
 use Rattle.fwu_model.specs.Session.{Session, Staged}
+use Rattle.fwu_model.specs.declared.kinds.Op.TheVariants as op
 use Rattle.fwu_model.specs.Session as session
-use Rattle.fwu_model.specs.Sound.{Setting}
-use Rattle.fwu_model.specs.Call.{Call}
-use Rattle.fwu_model.specs.Reply.{Reply}
 use Rattle.fwu_model.specs.Reply as reply
-use Rattle.agent_kept.specs.declared.kinds.Plan.{Plan}
+use Rattle.agent_kept.specs.{declared.kinds.Plan.Plan, declared.kinds.Request.Request, Kept.staging_meant, Kept.handles_meant}
+use Rattle.agent_kept.specs.Plans.{call_of, planned, planned_in}
 use Rattle.agent_kept.specs.declared.kinds.Plan.TheVariants as plan
-use Rattle.agent_kept.specs.declared.kinds.Request.{Request}
 use Rattle.agent_kept.specs.declared.kinds.Request.TheVariants as request
 use Rattle.agent_kept.specs.declared.kinds.Decision.TheVariants as decision
-use Rattle.agent_kept.specs.Kept.{staging_meant, handles_meant}
-use Rattle.agent_kept.specs.Plans.{call_of, planned, planned_in}
-use Rattle.agent_state.specs.Decides.{DecidesRequest}
-use Rattle.agent_state.specs.Asked.{IsPlanFor}
-use Rattle.agent_machine.specs.declared.stop.Stop.{Stop}
-use Rattle.agent_machine.specs.declared.stop.Stop.TheVariants as stop
-use Rattle.agent_machine.specs.Fields.{Fields}
-use Rattle.agent_machine.specs.Carries.{CarriedOut}
+use Rattle.agent_state.specs.{Decides.DecidesRequest, Asked.IsPlanFor}
+use Rattle.agent_machine.specs.{declared.stop.Stop.Stop, Fields.Fields, Carries.CarriedOut, Moment.Moment, Meets.Meets}
 use Rattle.agent_machine.specs.Knows.{Fitting, SessionSound, Knows}
-use Rattle.agent_machine.specs.Moment.{Moment}
-use Rattle.agent_machine.specs.Meets.{Meets}
-use Rattle.agent_machine.proofs.Answered.{FitsEach, refused-meets}
-use Rattle.agent_machine.proofs.Meeting.{quiet-meets}
+use Rattle.agent_machine.specs.declared.stop.Stop.TheVariants as stop
+use Rattle.agent_machine.proofs.{Answered.FitsEach, Answered.refused-meets, Meeting.quiet-meets}
 
 -- what is read is not asked for by the call
 same-call : (guid bytes : List ℕ) (o : Op) (a b : ℕ) → call_of (request.Open guid o a) bytes ≡ call_of (request.Open guid o b) bytes

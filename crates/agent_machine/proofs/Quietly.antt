@@ -1,39 +1,29 @@
 -- A plan of which nothing is done on the flash: what the agent knows afterwards.
 use Rattle.std.proofs.Common.{◌≡◌, inl, inr, ℕ, ◌+◌, ◌-◌, ◌*◌, ◌<◌, ◌≤◌, Bool, true, false, List, [], length, get_or, set, replicate, Option, Some, None, refl, sym, ap, ◌∙◌, subst, arith, IsTrue}
 use Rattle.std.proofs.lemmas.Bool.{cases_eq}
-use Rattle.flash_core.specs.Told.{Told}
-use Rattle.flash_core.specs.May.{Quiet}
+use Rattle.flash_core.specs.{Told.Told, May.Quiet}
 use Rattle.sha2.specs.declared.Sha256.{Sha256}
 use Rattle.fwu_model.specs.declared.kinds.Op.TheVariants as op
-use Rattle.fwu_formats.specs.Layout.{start, slot_bytes}
-use Rattle.fwu_formats.specs.Metadata.{Meta, MetaRead, state_at}
+use Rattle.fwu_formats.specs.{Layout.start, Layout.slot_bytes, Metadata.Meta, Metadata.MetaRead, Metadata.state_at}
+use Rattle.fwu_model.specs.{Session.Staged, Sound.Setting, Seen.state_of}
 use Rattle.fwu_model.specs.State.{State, Move, bank, after, is_accepted}
-use Rattle.fwu_model.specs.Session.{Staged}
-use Rattle.fwu_model.specs.Sound.{Setting}
-use Rattle.fwu_model.specs.Seen.{state_of}
 use Rattle.slot_writer.specs.Slots.{IsBlankAhead, done_of}
-use Rattle.agent_kept.specs.declared.parts.Part.{Part}
+use Rattle.agent_kept.specs.{declared.parts.Part.Part, declared.parts.Handle.Handle, declared.kinds.Plan.Plan}
 use Rattle.agent_kept.specs.declared.parts.Part.TheVariants.{Nothing, Open, Committed}
-use Rattle.agent_kept.specs.declared.parts.Handle.{Handle}
 use Rattle.agent_kept.specs.declared.parts.Handle.TheVariants.{Free, Reads, Writes}
-use Rattle.agent_kept.specs.declared.kinds.Plan.{Plan}
+use Rattle.agent_kept.specs.Kept.{Kept, IsKept, HasNothing, OpensPart, IsNewPart, size_of, part_at, part_meant, handle_kept, staging_meant, with_handle}
 use Rattle.agent_kept.specs.declared.kinds.Plan.TheVariants as plan
 use Rattle.agent_kept.specs.declared.kinds.Decision.TheVariants as decision
-use Rattle.agent_kept.specs.Kept.{Kept, IsKept, HasNothing, OpensPart, IsNewPart, size_of, part_at, part_meant, handle_kept, staging_meant, with_handle}
-use Rattle.agent_kept.proofs.Sounds.{frees}
+use Rattle.agent_kept.proofs.{Sounds.frees, After.open-committed}
 use Rattle.agent_state.specs.Settles.{IsPlanOf, Changes, HasTotal, Settles, SettlesBy, meta_planned, staged_after, with_bytes}
-use Rattle.agent_machine.specs.Asks.{IsQuietPlan}
+use Rattle.agent_machine.specs.{Asks.IsQuietPlan, Machine.state_in, Machine.staged_bytes, Machine.part_bytes, Moment.SpeaksOf}
 use Rattle.agent_machine.specs.Fields.{Fields, IsImageOrDirectory, target, total_of, rest_of, with_session}
-use Rattle.agent_machine.specs.Machine.{state_in, staged_bytes, part_bytes}
 use Rattle.agent_machine.specs.Knows.{Fitting, SessionSound, HasStaged, Knows, SomeStaged}
-use Rattle.agent_machine.specs.Moment.{SpeaksOf}
 use Rattle.agent_machine.specs.Carries.{MeansSame, planned_moves, CarriedOut, MayKeep}
-use Rattle.agent_machine.proofs.Answered.{kept-same, content-total}
-use Rattle.agent_machine.proofs.Showing.{some-after, kept-after}
+use Rattle.agent_machine.proofs.{Answered.kept-same, Answered.content-total, Showing.some-after, Showing.kept-after}
 use Rattle.agent_machine.proofs.Room.{MayStage, ReadsWell, free-well, writer-well, old-readers, set-readers, staged-before, fitting-again, rows-some}
-use Rattle.agent_kept.proofs.After.{open-committed}
-use Rattle.agent_state.proofs.Settled.{with-here, with-there}
 use Rattle.agent_machine.proofs.Stored.{not-both, nothing-means, nothing-staged}
+use Rattle.agent_state.proofs.Settled.{with-here, with-there}
 
 -- ---- what changes
 

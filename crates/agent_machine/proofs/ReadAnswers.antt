@@ -1,34 +1,22 @@
 -- A read: what it says, and what it leaves.
 use Rattle.std.proofs.Common.{◌≡◌, inl, ℕ, ◌+◌, ◌≤◌, Bool, List, [], ◌++◌, length, take, drop, Option, Result, Ok, Err, refl, sym, ◌-◌, ap, ◌∙◌, subst, arith, IsTrue}
 use Rattle.std.proofs.lemmas.List.{length-take-le, take_at, length-take, length-drop}
-use Rattle.flash_core.specs.declared.flash.FlashStop.{FlashStop}
+use Rattle.flash_core.specs.{declared.flash.FlashStop.FlashStop, Told.Told}
 use Rattle.flash_core.specs.declared.flash.FlashStop.TheVariants as flash_stop
-use Rattle.flash_core.specs.Told.{Told}
-use Rattle.fwu_model.specs.declared.kinds.Status.{Status}
+use Rattle.fwu_model.specs.{declared.kinds.Status.Status, Sound.Setting, Reply.Reply, Answer.content, State.State}
 use Rattle.fwu_model.specs.Session.{Session, Staged, Handle}
-use Rattle.fwu_model.specs.Sound.{Setting}
-use Rattle.fwu_model.specs.Reply.{Reply}
-use Rattle.fwu_model.specs.Answer.{content}
-use Rattle.agent_kept.specs.declared.kinds.Plan.{Plan}
+use Rattle.agent_kept.specs.{declared.kinds.Plan.Plan, declared.kinds.Request.Request, Kept.staging_meant, Kept.handles_meant}
+use Rattle.agent_kept.specs.Plans.{call_of, planned, planned_in}
 use Rattle.agent_kept.specs.declared.kinds.Plan.TheVariants as plan
-use Rattle.agent_kept.specs.declared.kinds.Request.{Request}
 use Rattle.agent_kept.specs.declared.kinds.Request.TheVariants as request
 use Rattle.agent_kept.specs.declared.kinds.Decision.TheVariants as decision
-use Rattle.agent_kept.specs.Kept.{staging_meant, handles_meant}
-use Rattle.agent_kept.specs.Plans.{call_of, planned, planned_in}
-use Rattle.agent_state.specs.Decides.{DecidesRequest}
-use Rattle.agent_state.specs.Settles.{IsPlanOf}
+use Rattle.agent_state.specs.{Decides.DecidesRequest, Settles.IsPlanOf}
 use Rattle.agent_machine.specs.declared.stop.Stop.TheVariants as stop
+use Rattle.agent_machine.specs.{Carries.CarriedOut, Directory.piece_of, Knows.Fitting, Knows.SessionSound, Knows.Knows}
+use Rattle.agent_machine.specs.{Moment.Moment, Moment.Shows, Meets.IsGot, Meets.LeavesFlash, Meets.Meets, Meets.Stays}
 use Rattle.agent_machine.specs.Fields.{Fields, total_of, IsImageOrDirectory}
-use Rattle.agent_machine.specs.Carries.{CarriedOut}
-use Rattle.agent_machine.specs.Directory.{piece_of}
-use Rattle.agent_machine.specs.Knows.{Fitting, SessionSound, Knows}
-use Rattle.agent_machine.specs.Moment.{Moment, Shows}
-use Rattle.agent_machine.specs.Meets.{IsGot, LeavesFlash, Meets, Stays}
+use Rattle.agent_machine.proofs.{Room.old-readers, Reading.piece-is}
 use Rattle.agent_machine.proofs.Answered.{FitsEach, shown-totals, refused-meets, done-meets, stopped-meets, moves-told, still-leaves, content-total}
-use Rattle.fwu_model.specs.State.{State}
-use Rattle.agent_machine.proofs.Room.{old-readers}
-use Rattle.agent_machine.proofs.Reading.{piece-is}
 use Rattle.fwu_model.specs.Reply as reply
 
 -- what is told counts where it is told alone

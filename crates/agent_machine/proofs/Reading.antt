@@ -2,18 +2,12 @@
 use Rattle.std.proofs.Common.{◌≡◌, ℕ, ◌+◌, ◌*◌, ◌<◌, ◌≤◌, List, [], length, get_or, take, drop, Option, Some, None, ap, ◌∙◌, arith}
 use Rattle.std.proofs.lemmas.List.{drop-drop}
 use Rattle.flash_core.specs.Told.{Told}
-use Rattle.fwu_formats.specs.Layout.{start, slot_bytes}
-use Rattle.fwu_formats.specs.Image.{package_in, slot}
-use Rattle.fwu_formats.proofs.Spell.{part_front}
-use Rattle.fwu_formats.proofs.SealLaws.{limits}
-use Rattle.fwu_model.specs.Sound.{Setting}
-use Rattle.fwu_model.specs.Answer.{content, held_package}
+use Rattle.fwu_formats.specs.{Layout.start, Layout.slot_bytes, Image.package_in, Image.slot}
+use Rattle.fwu_formats.proofs.{Spell.part_front, SealLaws.limits}
+use Rattle.fwu_model.specs.{Sound.Setting, Answer.content, Answer.held_package}
+use Rattle.agent_machine.specs.{Machine.state_in, Knows.Fitting, Knows.Knows, Directory.piece_of}
 use Rattle.agent_machine.specs.Fields.{Fields, total_of, IsImageOrDirectory}
-use Rattle.agent_machine.specs.Machine.{state_in}
-use Rattle.agent_machine.specs.Knows.{Fitting, Knows}
-use Rattle.agent_machine.proofs.Held.{held-in-slots}
-use Rattle.agent_machine.specs.Directory.{piece_of}
-use Rattle.agent_machine.proofs.Totals.{held-long}
+use Rattle.agent_machine.proofs.{Held.held-in-slots, Totals.held-long}
 use Rattle.agent_machine.proofs.Directory.{package-is, directory-is, some-of}
 
 -- ---- an image of the bank that was started

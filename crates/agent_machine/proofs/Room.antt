@@ -3,10 +3,7 @@ use Rattle.std.proofs.Common.{◌≡◌, inl, inr, ℕ, ◌+◌, ◌*◌, ◌<�
 use Rattle.std.proofs.lemmas.Bool.{cases_eq, cases_lt}
 use Rattle.std.proofs.lemmas.List.{length-set, get_or-set_same, get_or-set_other, get_or_past}
 use Rattle.std.specs.Prelude.{Result}
-use Rattle.flash_core.specs.declared.flash.FlashStop.{FlashStop}
-use Rattle.flash_core.specs.Told.{Told}
-use Rattle.flash_core.specs.May.{Keeps}
-use Rattle.flash_core.specs.Touches.{TouchesOnly}
+use Rattle.flash_core.specs.{declared.flash.FlashStop.FlashStop, Told.Told, May.Keeps, Touches.TouchesOnly}
 use Rattle.flash_core.proofs.Calls.{keeps_wider}
 use Rattle.fwu_formats.specs.Layout.{ImageRow, Layout, start, slot_bytes, blocks_needed, fits_layout}
 use Rattle.fwu_formats.specs.Metadata.{state_at, fits_meta}
@@ -15,16 +12,13 @@ use Rattle.fwu_model.specs.State.{is_invalid}
 use Rattle.meta_layout.proofs.Fits.{meta-fits}
 use Rattle.agent_state.specs.Decides.{IsMetaOf}
 use Rattle.slot_writer.specs.Slots.{Appends, blocks_for, done_of}
-use Rattle.agent_kept.specs.declared.parts.Handle.{Handle}
+use Rattle.agent_kept.specs.{declared.parts.Handle.Handle, Kept.Kept, Kept.HasNothing, Kept.handle_kept, Kept.slot_room_of}
 use Rattle.agent_kept.specs.declared.parts.Handle.TheVariants.{Free, Reads, Writes}
-use Rattle.agent_kept.specs.Kept.{Kept, HasNothing, handle_kept, slot_room_of}
-use Rattle.agent_machine.specs.Beside.{KeepsSpared, SparesBlocks}
-use Rattle.agent_machine.proofs.Beside.{slot-blocks, slot-spares}
+use Rattle.agent_machine.specs.{Beside.KeepsSpared, Beside.SparesBlocks, Knows.Fitting, Knows.SessionSound, Knows.Knows}
 use Rattle.agent_machine.specs.Fields.{Fields, total_of, target, with_session}
-use Rattle.agent_machine.specs.Knows.{Fitting, SessionSound, Knows}
-pub use Rattle.agent_machine.proofs.Staging.{slot-inside}
-use Rattle.agent_machine.proofs.Staging.{StaysKnown, stays-known}
+use Rattle.agent_machine.proofs.{Beside.slot-blocks, Beside.slot-spares, Staging.StaysKnown, Staging.stays-known}
 use Rattle.agent_machine.proofs.Answered.{IsImageOrDirectory, layout-limits}
+pub use Rattle.agent_machine.proofs.Staging.{slot-inside}
 
 pub slot-small : (L : Layout) (image : ℕ) → IsTrue (fits_layout L) → image < length L.rows → slot_bytes L image ≤ 1048576
 slot-small L image h lt = let small = (rows-limits (record { guid = []; slots = 0 }) L.rows (rows-fit L h) image lt).slots in omega (arith, small)

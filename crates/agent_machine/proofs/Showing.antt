@@ -5,27 +5,17 @@ use Rattle.std.proofs.lemmas.List.{length-replicate, length-map, get_or-map}
 use Rattle.std.proofs.lemmas.List.FromFn.{length-map-range_with_len, get_or-map-range_with_len}
 use Rattle.base_core.specs.Bytes.{listed}
 use Rattle.flash_core.specs.Told.{Told}
-use Rattle.fwu_formats.specs.declared.kinds.BankState.{BankState}
-use Rattle.fwu_formats.specs.declared.kinds.BankState.TheVariants.{Invalid}
-use Rattle.fwu_formats.specs.Layout.{Layout}
-use Rattle.fwu_formats.specs.Metadata.{MetaRead, state_at}
-use Rattle.fwu_formats.specs.Image.{package_in}
+use Rattle.fwu_formats.specs.{declared.kinds.BankState.BankState, declared.kinds.BankState.TheVariants.Invalid, Layout.Layout}
+use Rattle.fwu_formats.specs.{Metadata.MetaRead, Metadata.state_at, Image.package_in}
+use Rattle.fwu_model.specs.{Sound.Setting, Seen.bank_in, Answer.held_package, MoveMetas.meta_in}
 use Rattle.fwu_model.specs.State.{State, Bank, bank, no_bank}
-use Rattle.fwu_model.specs.Sound.{Setting}
-use Rattle.fwu_model.specs.Seen.{bank_in}
-use Rattle.fwu_model.specs.Answer.{held_package}
-use Rattle.fwu_model.specs.MoveMetas.{meta_in}
 use Rattle.meta_layout.proofs.Fits.{meta-fits}
 use Rattle.moves.proofs.MetaMoves.{meta-is, deciding-fits}
-use Rattle.agent_kept.specs.Kept.{Kept, IsKept, session_meant}
-use Rattle.agent_kept.specs.declared.kinds.Plan.{Plan}
+use Rattle.agent_kept.specs.{Kept.Kept, Kept.IsKept, Kept.session_meant, declared.kinds.Plan.Plan}
 use Rattle.agent_state.specs.Settles.{HasTotal, Settles, staged_after}
-use Rattle.agent_machine.specs.Fields.{Fields}
-use Rattle.agent_machine.specs.Machine.{state_in, session_in, staged_bytes}
-use Rattle.agent_machine.specs.Knows.{Fitting, SessionSound, Knows, SomeStaged}
-use Rattle.agent_machine.specs.Moment.{SpeaksOf, Shows, Showing}
-use Rattle.agent_machine.proofs.Known.{both-decides}
-use Rattle.agent_machine.proofs.Answered.{shown-speaks}
+use Rattle.agent_machine.specs.{Fields.Fields, Machine.state_in, Machine.session_in, Machine.staged_bytes, Knows.Fitting}
+use Rattle.agent_machine.specs.{Knows.SessionSound, Knows.Knows, Knows.SomeStaged, Moment.SpeaksOf, Moment.Shows, Moment.Showing}
+use Rattle.agent_machine.proofs.{Known.both-decides, Answered.shown-speaks}
 
 -- ---- a state with the numbers that the fields have
 

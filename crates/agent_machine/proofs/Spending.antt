@@ -2,14 +2,11 @@
 use Rattle.std.proofs.Common.{◌≡◌, ◌⊎◌, inl, inr, Bool, true, false, not, Result, Ok, Err, is_ok, refl, sym, ◌∙◌, IsTrue, IsFalse}
 use Rattle.std.proofs.lemmas.Bool.{false≢true}
 use Rattle.std.specs.Prelude.{IsErrOf}
-use Rattle.flash_core.specs.declared.flash.Flash.{Ghosts}
-use Rattle.flash_core.specs.declared.flash.FlashStop.{FlashStop}
-use Rattle.flash_core.proofs.Costs.{spends_none, spends_then}
-use Rattle.flash_core.proofs.Unarmed.{unarmed_none, unarmed_then}
-use Rattle.agent_machine.specs.declared.stop.Stop.{Stop}
-use Rattle.agent_machine.specs.declared.stop.Stop.TheVariants as stop
+use Rattle.flash_core.specs.{declared.flash.Flash.Ghosts, declared.flash.FlashStop.FlashStop}
+use Rattle.flash_core.proofs.{Costs.spends_none, Costs.spends_then, Unarmed.unarmed_none, Unarmed.unarmed_then}
+use Rattle.agent_machine.specs.{declared.stop.Stop.Stop, CallGoes.AgentAt, CallGoes.CallGoes, CallGoes.Spent}
 use Rattle.agent_machine.specs.Meets.{GoesBy, IsDone, IsRefused, flash_result}
-use Rattle.agent_machine.specs.CallGoes.{AgentAt, CallGoes, Spent}
+use Rattle.agent_machine.specs.declared.stop.Stop.TheVariants as stop
 
 -- ---- whether an agent is gone
 

@@ -2,31 +2,22 @@
 use Rattle.std.proofs.Common.{◌≡◌, ◌≢◌, ◌⊎◌, inl, inr, ℕ, zero, suc, ◌+◌, ◌*◌, ◌%◌, ◌<◌, ◌≤◌, List, [], ◌∷◌, ◌++◌, length, get_or, take, drop, Bool, Ok, refl, sym, ap, ◌∙◌, subst, arith, IsTrue}
 use Rattle.std.proofs.lemmas.Bool.{cases_lt}
 use Rattle.std.proofs.lemmas.List.{length-take, length-drop, get_or-take, get_or-drop, get_or_default, same_lists}
-use Rattle.flash_core.specs.Told.{Told}
-use Rattle.flash_core.specs.May.{Guards, Keeps, Quiet}
+use Rattle.flash_core.specs.{Told.Told, May.Guards, May.Keeps, May.Quiet}
 use Rattle.flash_core.proofs.Calls.{keeps_wider}
+use Rattle.fwu_formats.specs.{Metadata.state_at, Image.layout_seen, Image.package_in}
 use Rattle.fwu_formats.specs.Layout.{ImageRow, Layout, start, slot_total, slot_bytes, blocks_needed}
-use Rattle.fwu_formats.specs.Metadata.{state_at}
-use Rattle.fwu_formats.specs.Image.{layout_seen, package_in}
-use Rattle.fwu_model.specs.Replica.{BothHold}
-use Rattle.fwu_model.specs.State.{State, bank, is_invalid}
-use Rattle.fwu_model.specs.Sound.{Setting}
-use Rattle.fwu_model.specs.Calm.{IsCalm, IsAtRest}
+use Rattle.fwu_model.specs.{Replica.BothHold, State.State, State.bank, State.is_invalid, Sound.Setting, Calm.IsCalm, Calm.IsAtRest}
 use Rattle.moves.specs.Moved.{IsReady, IsShown}
-use Rattle.moves.proofs.Agree.{state-is, package-same, slots-fit}
-use Rattle.std.proofs.Math.Nat.{mod-lt}
-use Rattle.moves.proofs.MetaMoves.{deciding-fits}
-use Rattle.moves.proofs.Beside.{both-beside}
+use Rattle.moves.proofs.{Agree.state-is, Agree.package-same, Agree.slots-fit, MetaMoves.deciding-fits, Beside.both-beside}
 use Rattle.moves.proofs.Staged.{staged-shows, staged-ready, staged-rest, banks-order}
+use Rattle.std.proofs.Math.Nat.{mod-lt}
 use Rattle.std.proofs.lemmas.List.Sums.{sum_by-cons}
 use Rattle.slot_writer.specs.Slots.{IsBlankAhead, done_of}
 use Rattle.sha2.specs.declared.Sha256.{Sha256}
-use Rattle.agent_kept.specs.declared.parts.Part.{Part}
+use Rattle.agent_kept.specs.{declared.parts.Part.Part, Kept.part_at, Kept.size_of, Kept.slot_room_of}
 use Rattle.agent_kept.specs.declared.parts.Part.TheVariants.{Nothing, Open, Committed}
-use Rattle.agent_kept.specs.Kept.{part_at, size_of, slot_room_of}
-use Rattle.agent_machine.specs.Fields.{Fields, target, rest_of}
+use Rattle.agent_machine.specs.{Fields.Fields, Fields.target, Fields.rest_of, Knows.Fitting, Knows.SessionSound, Knows.Knows}
 use Rattle.agent_machine.specs.Machine.{state_in, part_bytes, staged_bytes}
-use Rattle.agent_machine.specs.Knows.{Fitting, SessionSound, Knows}
 use Rattle.agent_machine.proofs.Known.{both-decides, in-layout, known-shown, known-ready, state-held}
 
 -- What is written in the slot of a staged image, at any exit. The state stays, and so do the other

@@ -2,30 +2,22 @@
 use Rattle.std.proofs.Common.{◌≡◌, ◌≢◌, ℕ, ◌+◌, ◌%◌, ◌<◌, ◌≤◌, Bool, true, false, ◌&&◌, ◌||◌, not, ◌==◌, List, [], get_or, set, replicate, Option, Some, refl, sym, ap, ◌∙◌, arith, IsTrue, IsFalse, eqb-true, get_or-set_same, get_or-set_other}
 use Rattle.std.proofs.lemmas.Bool.{not-false}
 use Rattle.flash_core.specs.Told.{Told}
-use Rattle.fwu_formats.specs.Layout.{Layout}
+use Rattle.fwu_formats.specs.{Layout.Layout, declared.kinds.BankState.TheVariants.Invalid}
 use Rattle.fwu_formats.specs.Metadata.{Meta, MetaRead, state_at, fits_meta}
-use Rattle.fwu_formats.specs.declared.kinds.BankState.TheVariants.{Invalid}
 use Rattle.fwu_formats.proofs.SealLaws.{limits}
 use Rattle.fwu_model.specs.State.{Free, Accept, Back, is_invalid, is_valid}
 use Rattle.fwu_model.specs.MoveMetas.{meta_after, bits_in, accepted_bits}
 use Rattle.fwu_model.proofs.Banks.{next-other, next-below}
 use Rattle.meta_layout.proofs.Fits.{MetaFits, meta-fits}
 use Rattle.moves.proofs.MetaMoves.{fits-free, fits-accept, fits-back}
-use Rattle.agent_kept.specs.declared.kinds.Plan.{Plan}
-use Rattle.agent_kept.specs.declared.kinds.Plan.TheVariants as plan
-use Rattle.agent_kept.specs.declared.parts.Part.{Part}
-use Rattle.agent_kept.specs.declared.parts.Handle.{Handle}
-use Rattle.agent_kept.specs.declared.parts.Handle.TheVariants as handle
+use Rattle.agent_kept.specs.{declared.kinds.Plan.Plan, declared.parts.Part.Part, declared.parts.Handle.Handle}
 use Rattle.agent_kept.specs.Kept.{Kept, HasNothing, Restarts, part_meant, handle_kept}
-use Rattle.agent_kept.proofs.Sounds.{frees, not-free-reads}
-use Rattle.agent_state.specs.Decides.{next_bank}
-use Rattle.agent_state.specs.Settles.{meta_planned}
-use Rattle.agent_machine.specs.Fields.{Fields, target}
-use Rattle.agent_machine.specs.Machine.{staged_bytes}
-use Rattle.agent_machine.specs.Carries.{MeansSame}
-use Rattle.agent_machine.specs.Knows.{Fitting, HasStaged}
-use Rattle.agent_machine.specs.Stored.{MayBegin, MayAccept, MayGoBack, trials_planned}
-use Rattle.agent_kept.proofs.After.{kept-nothing, nothing-open, nothing-committed}
+use Rattle.agent_kept.specs.declared.kinds.Plan.TheVariants as plan
+use Rattle.agent_kept.specs.declared.parts.Handle.TheVariants as handle
+use Rattle.agent_kept.proofs.{Sounds.frees, Sounds.not-free-reads, After.kept-nothing, After.nothing-open, After.nothing-committed}
+use Rattle.agent_state.specs.{Decides.next_bank, Settles.meta_planned}
+use Rattle.agent_machine.specs.{Fields.Fields, Fields.target, Machine.staged_bytes, Carries.MeansSame, Knows.Fitting}
+use Rattle.agent_machine.specs.{Knows.HasStaged, Stored.MayBegin, Stored.MayAccept, Stored.MayGoBack, Stored.trials_planned}
 
 -- the fields after a plan, with what is kept of the session then
 abbrev pub after_plan : Fields → Plan → Kept → Fields

@@ -2,20 +2,16 @@
 use Rattle.std.proofs.Common.{◌≡◌, ℕ, Bool, true, false, ◌&&◌, not, ◌==◌, cond, List, [], ◌∷◌, Option, Some, None, refl, sym, ap, ◌∙◌, IsTrue, eqb-true, inl, inr}
 use Rattle.std.proofs.lemmas.Bool.{cases_Bool, and_parts, cond-true, cond-false, not-false}
 use Rattle.fwu_formats.specs.Layout.{find_image}
-use Rattle.fwu_model.specs.declared.kinds.Status.{Status}
-use Rattle.fwu_model.specs.declared.kinds.Status.TheVariants as status
+use Rattle.fwu_model.specs.{declared.kinds.Status.Status, Sound.Setting, Reply.Success}
 use Rattle.fwu_model.specs.State.{State, Move, Free, Accept, Back, bank, update_bank}
-use Rattle.fwu_model.specs.Sound.{Setting}
 use Rattle.fwu_model.specs.Session.{Session, Staged, On, Handle, nothing_staged, no_handles}
-use Rattle.fwu_model.specs.Call as call
-use Rattle.fwu_model.specs.Reply.{Success}
 use Rattle.fwu_model.specs.Answer.{Answer, answer, answered, refused, answer_begin, answer_accept, begin_moves, accept_image, cannot_begin, is_elsewhere, may_leave, has_other, may_go_back}
-use Rattle.agent_kept.specs.declared.kinds.Plan.{Plan}
+use Rattle.fwu_model.specs.declared.kinds.Status.TheVariants as status
+use Rattle.fwu_model.specs.Call as call
+use Rattle.agent_kept.specs.{declared.kinds.Plan.Plan, Plans.planned, Plans.by_verdict}
 use Rattle.agent_kept.specs.declared.kinds.Plan.TheVariants as plan
-use Rattle.agent_kept.specs.Plans.{planned, by_verdict}
 use Rattle.agent_state.proofs.Replies.{begin-denied, accept-elsewhere, accept-staging, previous-stays, previous-alone, previous-asks, previous-staging}
-use Rattle.agent_machine.specs.Meets.{may_try}
-use Rattle.agent_machine.specs.Stored.{frees}
+use Rattle.agent_machine.specs.{Meets.may_try, Stored.frees}
 
 -- a plan is no refusal
 not-refused : (E : Setting) (s : State) (boot : ℕ) (stg : Option (List Staged)) (hs : List Handle) (p : Plan) (st : Status) (y : Session)

@@ -2,49 +2,36 @@
 use Rattle.std.proofs.Common.{◌≡◌, inl, inr, ℕ, Bool, true, false, ◌&&◌, ◌||◌, not, ◌==◌, cond, List, [], Option, Some, None, Result, Err, refl, sym, ap, ap₂, ◌∙◌, subst, IsTrue}
 use Rattle.std.specs.Prelude.{IsErr}
 use Rattle.std.proofs.lemmas.Bool.{and_parts, and_from, cases_Bool}
-use Rattle.flash_core.specs.declared.flash.FlashStop.{FlashStop}
-use Rattle.flash_core.specs.Told.{Told}
-use Rattle.fwu_formats.specs.Layout.{Layout}
-use Rattle.fwu_formats.specs.Metadata.{Meta, state_at}
-use Rattle.fwu_formats.specs.Image.{package_in}
+use Rattle.flash_core.specs.{declared.flash.FlashStop.FlashStop, Told.Told}
+use Rattle.fwu_formats.specs.{Layout.Layout, Metadata.Meta, Metadata.state_at, Image.package_in}
 use Rattle.fwu_formats.proofs.Read.{package-complete}
-use Rattle.fwu_model.specs.declared.kinds.Status.{Status}
-use Rattle.fwu_model.specs.declared.kinds.Status.TheVariants as status
+use Rattle.fwu_model.specs.{declared.kinds.Status.Status, Sound.Setting, Sound.is_permitted, Sound.holds_permitted, Calm.IsAtRest}
 use Rattle.fwu_model.specs.State.{State, Bank, bank, is_valid, is_accepted}
-use Rattle.fwu_model.specs.Sound.{Setting, is_permitted, holds_permitted}
 use Rattle.fwu_model.specs.Session.{Session, Staged, Handle, On}
-use Rattle.fwu_model.specs.Call as call
 use Rattle.fwu_model.specs.Answer.{Answer, answer, refused, may_go_back}
-use Rattle.fwu_model.specs.Calm.{IsAtRest}
+use Rattle.fwu_model.specs.declared.kinds.Status.TheVariants as status
+use Rattle.fwu_model.specs.Call as call
 use Rattle.fwu_model.proofs.Banks.{accepted-used}
 use Rattle.meta_layout.proofs.Fits.{meta-fits}
 use Rattle.moves.specs.Moved.{IsReady}
 use Rattle.moves.proofs.MetaMoves.{bank-at}
 use Rattle.agent_kept.specs.declared.kinds.Request.TheVariants as request
 use Rattle.agent_kept.specs.declared.kinds.Plan.TheVariants as plan
-use Rattle.agent_kept.specs.declared.kinds.Decision.{Decision}
-use Rattle.agent_kept.specs.declared.kinds.Decision.TheVariants as decision
+use Rattle.agent_kept.specs.{declared.kinds.Decision.Decision, Plans.by_verdict}
 use Rattle.agent_kept.specs.Kept.{session_meant, staging_meant, handles_meant, parts_meant}
-use Rattle.agent_kept.specs.Plans.{by_verdict}
-use Rattle.agent_state.specs.Decides.{DecidesRequest, has_other_kept}
-use Rattle.agent_state.specs.Ruled.{ruled_as}
-use Rattle.agent_state.proofs.Machine.{leave-is, other-is, is-idle}
-use Rattle.agent_state.proofs.Replies.{accepting, previous-staging}
-use Rattle.agent_machine.specs.Deciding.{KeepsOldOrNew}
-use Rattle.agent_machine.specs.Beside.{IsSpared, KeepsSpared}
-use Rattle.agent_machine.proofs.Beside.{blocks-still, blocks-then}
-use Rattle.agent_machine.specs.declared.stop.Stop.{Stop}
-use Rattle.agent_machine.specs.declared.stop.Stop.TheVariants as stop
-use Rattle.agent_machine.specs.Fields.{Fields}
-use Rattle.agent_machine.specs.Machine.{state_in}
+use Rattle.agent_kept.specs.declared.kinds.Decision.TheVariants as decision
+use Rattle.agent_state.specs.{Decides.DecidesRequest, Decides.has_other_kept, Ruled.ruled_as}
+use Rattle.agent_state.proofs.{Machine.leave-is, Machine.other-is, Machine.is-idle, Replies.accepting, Replies.previous-staging}
+use Rattle.agent_machine.specs.{Deciding.KeepsOldOrNew, Beside.IsSpared, Beside.KeepsSpared, declared.stop.Stop.Stop}
+use Rattle.agent_machine.specs.{Fields.Fields, Machine.state_in, Moment.Moment, Moment.Shows, Moment.SpeaksOf}
 use Rattle.agent_machine.specs.Knows.{Fitting, SessionSound, Knows}
 use Rattle.agent_machine.specs.Meets.{IsRefused, IsSettingOf, IsStopped, LeavesFlash, MeetsPrevious, flash_result, may_try}
-use Rattle.agent_machine.specs.Moment.{Moment, Shows, SpeaksOf}
 use Rattle.agent_machine.specs.Stored.{CarriesOut, MayBeDone, may_try_kept, is_to_do}
-use Rattle.agent_machine.proofs.Answered.{still-leaves}
+use Rattle.agent_machine.proofs.{Beside.blocks-still, Beside.blocks-then, Answered.still-leaves}
 use Rattle.agent_machine.proofs.StoredAnswers.{asks, stays, goes, denied-alone}
 use Rattle.agent_machine.proofs.StoredCalls.{refused-of, planned-meant, plain-of}
 use Rattle.agent_machine.proofs.StoredMeets.{shows-still, same-stays, same-leaves, refused-answers, refused-previous, carried-previous, back-planned}
+use Rattle.agent_machine.specs.declared.stop.Stop.TheVariants as stop
 
 -- ---- what the bank holds
 

@@ -3,34 +3,23 @@ use Rattle.std.proofs.Common.{◌≡◌, ℕ, Bool, true, false, cond, ◌<◌, 
 use Rattle.std.proofs.Math.Logic.{∥∥₁_elim}
 use Rattle.std.specs.Coded.{Coded-set, coded_ℕ, coded_bool}
 use Rattle.flash_core.specs.Told.{Told}
-use Rattle.fwu_formats.specs.Layout.{ImageRow}
-use Rattle.fwu_formats.specs.Metadata.{state_at}
-use Rattle.fwu_model.specs.declared.kinds.Status.{Status}
+use Rattle.fwu_formats.specs.{Layout.ImageRow, Metadata.state_at}
+use Rattle.fwu_model.specs.{declared.kinds.Status.Status, Sound.Setting, Session.Session, Answer.answer, Answer.refused}
 use Rattle.fwu_model.specs.State.{State, Move, Free, bank, is_invalid, update_bank}
-use Rattle.fwu_model.specs.Sound.{Setting}
-use Rattle.fwu_model.specs.Session.{Session}
 use Rattle.fwu_model.specs.Call as call
-use Rattle.fwu_model.specs.Answer.{answer, refused}
-use Rattle.agent_kept.specs.declared.kinds.Request.{Request}
-use Rattle.agent_kept.specs.declared.kinds.Request.TheVariants as request
-use Rattle.agent_kept.specs.declared.kinds.Plan.{Plan}
-use Rattle.agent_kept.specs.declared.kinds.Plan.TheVariants as plan
-use Rattle.agent_kept.specs.declared.kinds.Decision.{Decision}
-use Rattle.agent_kept.specs.declared.kinds.Decision.TheVariants as decision
+use Rattle.agent_kept.specs.{declared.kinds.Request.Request, declared.kinds.Plan.Plan, declared.kinds.Decision.Decision}
 use Rattle.agent_kept.specs.Kept.{Kept, session_meant, staging_meant, handles_meant, parts_meant}
 use Rattle.agent_kept.specs.Plans.{call_of, planned, planned_in, FitsRequest, DecidesAs}
+use Rattle.agent_kept.specs.declared.kinds.Request.TheVariants as request
+use Rattle.agent_kept.specs.declared.kinds.Plan.TheVariants as plan
+use Rattle.agent_kept.specs.declared.kinds.Decision.TheVariants as decision
 use Rattle.agent_state.specs.Decides.{DecidesRequest, cannot_begin_kept}
 use Rattle.agent_state.proofs.Machine.{state-is, active-is, cannot-is}
-use Rattle.agent_machine.specs.Fields.{Fields, target}
+use Rattle.agent_machine.specs.{Fields.Fields, Fields.target, Meets.IsSettingOf, Moment.Moment, Moment.Shows, Moment.Showing}
 use Rattle.agent_machine.specs.Knows.{Fitting, SessionSound, SomeStaged}
-use Rattle.agent_machine.specs.Meets.{IsSettingOf}
-use Rattle.agent_machine.specs.Moment.{Moment, Shows, Showing}
 use Rattle.agent_machine.specs.Stored.{MayBegin, MayAccept, frees}
-use Rattle.agent_machine.proofs.Answered.{decided-as}
-use Rattle.agent_machine.proofs.Meeting.{success-says}
-use Rattle.agent_machine.proofs.Showing.{shows-some}
+use Rattle.agent_machine.proofs.{Answered.decided-as, Meeting.success-says, Showing.shows-some, StoredMeets.AnswersBy}
 use Rattle.agent_machine.proofs.StoredAnswers.{Accepts, Begins, begins, accepts}
-use Rattle.agent_machine.proofs.StoredMeets.{AnswersBy}
 use Rattle.agent_machine.proofs.StoredShows.{target-is}
 
 -- ---- what a decision says of each machine that is shown

@@ -3,28 +3,21 @@ use Rattle.std.proofs.Common.{◌≡◌, ◌≢◌, inl, inr, ℕ, ◌<◌, Bool
 use Rattle.std.specs.Prelude.{is_some}
 use Rattle.std.proofs.lemmas.Bool.{cases_Bool, and_parts}
 use Rattle.flash_core.specs.Told.{Told}
-use Rattle.fwu_formats.specs.Metadata.{Meta, state_at}
-use Rattle.fwu_formats.specs.Image.{package_in}
-use Rattle.fwu_formats.specs.declared.kinds.BankState.{BankState}
+use Rattle.fwu_formats.specs.{Metadata.Meta, Metadata.state_at, Image.package_in, declared.kinds.BankState.BankState}
 use Rattle.fwu_formats.specs.declared.kinds.BankState.TheVariants.{Invalid, Accepted}
-use Rattle.fwu_model.specs.Replica.{BothHold, in_version}
+use Rattle.fwu_model.specs.{Replica.BothHold, Replica.in_version, Answer.held_package}
 use Rattle.fwu_model.specs.State.{State, Bank, Move, Free, Accept, Back, bank, is_invalid, is_accepted, after, all_set}
-use Rattle.fwu_model.specs.Answer.{held_package}
 use Rattle.fwu_model.specs.MoveMetas.{meta_after, bits_in, accepted_bits}
 use Rattle.fwu_model.proofs.Banks.{not_valid-accepted}
 use Rattle.replicas.specs.Stores.{Stores}
 use Rattle.moves.specs.Moved.{ShowsAfter}
-use Rattle.moves.proofs.Agree.{package-same}
-use Rattle.moves.proofs.MetaMoves.{bank-at}
+use Rattle.moves.proofs.{Agree.package-same, MetaMoves.bank-at}
 use Rattle.agent_kept.specs.declared.kinds.Plan.TheVariants as plan
 use Rattle.agent_kept.specs.Kept.{Kept, HasNothing, Restarts}
 use Rattle.agent_state.specs.Decides.{next_bank}
-use Rattle.agent_machine.specs.Fields.{Fields, target}
-use Rattle.agent_machine.specs.Machine.{state_in}
-use Rattle.agent_machine.specs.Knows.{Fitting, HasStaged, Knows}
+use Rattle.agent_machine.specs.{Fields.Fields, Fields.target, Machine.state_in, Knows.Fitting, Knows.HasStaged, Knows.Knows}
 use Rattle.agent_machine.specs.Stored.{MayBegin, MayAccept, MayGoBack}
-use Rattle.agent_machine.proofs.Known.{state-held}
-use Rattle.agent_machine.proofs.Moving.{stores-meet}
+use Rattle.agent_machine.proofs.{Known.state-held, Moving.stores-meet}
 use Rattle.agent_machine.proofs.Stored.{after_plan, whole, target-other, next-target, begin-booted, begin-settled, state-other, bits-after, nothing-staged, not-both}
 
 -- ---- one store

@@ -1,28 +1,18 @@
 -- What a plan that was carried out, or a refusal, says of a call.
 use Rattle.std.proofs.Common.{◌≡◌, inl, ℕ, Bool, List, [], ◌∷◌, None, Result, Ok, Err, refl, sym, ap, ◌∙◌, subst, IsTrue}
 use Rattle.flash_core.specs.Told.{Told}
-use Rattle.fwu_model.specs.declared.kinds.Status.{Status}
-use Rattle.fwu_model.specs.declared.kinds.Status.TheVariants as status
-use Rattle.fwu_model.specs.State.{State, Back, after}
-use Rattle.fwu_model.specs.Session.{Session}
-use Rattle.fwu_model.specs.Sound.{Setting}
-use Rattle.fwu_model.specs.Call.{Call, Previous}
-use Rattle.fwu_model.specs.Reply.{Reply, Success}
+use Rattle.fwu_model.specs.{declared.kinds.Status.Status, State.State, State.Back, State.after, Session.Session, Sound.Setting}
+use Rattle.fwu_model.specs.{Call.Call, Call.Previous, Reply.Reply, Reply.Success}
 use Rattle.fwu_model.specs.Answer.{Answer, answer, answered, refused}
+use Rattle.fwu_model.specs.declared.kinds.Status.TheVariants as status
 use Rattle.moves.specs.Moved.{Does}
-use Rattle.agent_kept.specs.declared.kinds.Plan.{Plan}
+use Rattle.agent_kept.specs.{declared.kinds.Plan.Plan, Kept.staging_meant, Kept.handles_meant, Plans.planned_in}
 use Rattle.agent_kept.specs.declared.kinds.Plan.TheVariants as plan
-use Rattle.agent_kept.specs.Kept.{staging_meant, handles_meant}
-use Rattle.agent_kept.specs.Plans.{planned_in}
-use Rattle.agent_machine.specs.declared.stop.Stop.{Stop}
-use Rattle.agent_machine.specs.declared.stop.Stop.TheVariants as stop
-use Rattle.agent_machine.specs.Fields.{Fields}
-use Rattle.agent_machine.specs.Machine.{state_in, session_in}
-use Rattle.agent_machine.specs.Moment.{Moment, Shows}
+use Rattle.agent_machine.specs.{declared.stop.Stop.Stop, Fields.Fields, Machine.state_in, Machine.session_in, Moment.Moment}
+use Rattle.agent_machine.specs.{Moment.Shows, Stored.CarriesOut, Stored.MayBeDone}
 use Rattle.agent_machine.specs.Meets.{Answers, GoesBack, IsRefused, IsSettingOf, LeavesFlash, Meets, MeetsPrevious, Stays, flash_result, may_try}
-use Rattle.agent_machine.proofs.Answered.{still-leaves}
-use Rattle.agent_machine.proofs.StoredAnswers.{back-is}
-use Rattle.agent_machine.specs.Stored.{CarriesOut, MayBeDone}
+use Rattle.agent_machine.specs.declared.stop.Stop.TheVariants as stop
+use Rattle.agent_machine.proofs.{Answered.still-leaves, StoredAnswers.back-is}
 
 abbrev Succeeds : Unit {0} → Reply → Type 0
 Succeeds value reply = reply ≡ Success

@@ -3,20 +3,18 @@ use Rattle.std.proofs.Common.{◌≡◌, ℕ, Bool, true, false, [], Ok, refl, s
 use Rattle.flash_core.specs.Told.{Told}
 use Rattle.fwu_formats.specs.Metadata.{MetaRead}
 use Rattle.moves.specs.Law.{CallResult}
-use Rattle.agent_kept.specs.declared.kinds.Plan.{Plan}
+use Rattle.agent_kept.specs.{declared.kinds.Plan.Plan, Kept.Kept}
 use Rattle.agent_kept.specs.declared.kinds.Plan.TheVariants as plan
 use Rattle.agent_kept.specs.declared.kinds.Decision.TheVariants as decision
-use Rattle.agent_kept.specs.Kept.{Kept}
 use Rattle.agent_state.specs.Settles.{Changes, Settles, SettlesBy, meta_planned}
-use Rattle.agent_machine.specs.Beside.{SparesBlocks}
-use Rattle.agent_machine.specs.Fields.{Fields}
+use Rattle.agent_machine.specs.{Beside.SparesBlocks, Fields.Fields}
 use Rattle.agent_machine.specs.Knows.{Fitting, Knows, SessionSound, SomeStaged}
 use Rattle.agent_machine.specs.Stored.{CarriesOut, MayCarryOut, StoresIf, is_stored, trials_planned}
 use Rattle.agent_machine.proofs.Answered.{shown-speaks}
 use Rattle.agent_machine.proofs.Stored.{after_plan, begun-fitting, accepted-fitting, back-fitting}
-use Rattle.agent_kept.proofs.After.{kept-nothing}
 use Rattle.agent_machine.proofs.StoredKnown.{begun-known, restarted-known, accepted-known, back-known}
 use Rattle.agent_machine.proofs.StoredShows.{Parts, SpeaksWell, carried, begun-parts, restarted-parts, accepted-parts, unchanged-parts, back-parts}
+use Rattle.agent_kept.proofs.After.{kept-nothing}
 
 module _ (f : Fields) (fitting : Fitting f) where
   pub planned-fitting : (p : Plan) (k : Kept) → MayCarryOut f p → Changes f.session [] p k → Fitting (after_plan f p k)

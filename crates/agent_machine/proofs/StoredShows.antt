@@ -2,41 +2,26 @@
 use Rattle.std.proofs.Common.{◌≡◌, ◌≢◌, ℕ, Bool, true, false, cond, List, [], ◌∷◌, length, set, take, map, Option, Ok, Err, refl, sym, ap, ap₂, ◌∙◌, subst, IsTrue, get_or-set_other, length-set}
 use Rattle.std.specs.Prelude.{OnOk, is_ok}
 use Rattle.flash_core.specs.Told.{Told}
-use Rattle.fwu_formats.specs.Layout.{Layout}
-use Rattle.fwu_formats.specs.Metadata.{Meta, MetaRead}
+use Rattle.fwu_formats.specs.{Layout.Layout, Metadata.Meta, Metadata.MetaRead}
+use Rattle.fwu_model.specs.{Sound.Setting, Session.Session, Session.Staged, Answer.held_package, Calm.IsAtRest, Seen.state_of}
 use Rattle.fwu_model.specs.State.{State, Bank, Move, Free, Accept, Back, bank, no_bank, update_bank, freed, with_bit, all_set, after}
-use Rattle.fwu_model.specs.Sound.{Setting}
-use Rattle.fwu_model.specs.Session as machine
-use Rattle.fwu_model.specs.Session.{Session, Staged}
-use Rattle.fwu_model.specs.Answer.{held_package}
 use Rattle.fwu_model.specs.MoveMetas.{meta_in, meta_after, bits_in}
-use Rattle.fwu_model.specs.Calm.{IsAtRest}
-use Rattle.moves.specs.Moved.{IsReady, Does, GuardedBy, ShowsAfter}
-use Rattle.moves.specs.Law.{CallResult}
+use Rattle.fwu_model.specs.Session as machine
+use Rattle.moves.specs.{Moved.IsReady, Moved.Does, Moved.GuardedBy, Moved.ShowsAfter, Law.CallResult}
 use Rattle.moves.proofs.Composed.{does-nothing}
 use Rattle.replicas.specs.Stores.{Stores}
-use Rattle.agent_kept.specs.declared.kinds.Plan.{Plan}
-use Rattle.agent_kept.specs.declared.kinds.Plan.TheVariants as plan
+use Rattle.agent_kept.specs.{declared.kinds.Plan.Plan, Plans.SpeaksWhole, Plans.planned, Plans.planned_in}
 use Rattle.agent_kept.specs.Kept.{Kept, Restarts, session_meant, handles_meant}
-use Rattle.agent_kept.specs.Plans.{SpeaksWhole, planned, planned_in}
+use Rattle.agent_kept.specs.declared.kinds.Plan.TheVariants as plan
 use Rattle.agent_kept.proofs.Sounds.{restarts-staging}
-use Rattle.agent_state.specs.Decides.{next_bank}
-use Rattle.agent_state.specs.Settles.{HasTotal, Settles, meta_planned, staged_after}
-use Rattle.fwu_model.specs.Seen.{state_of}
-use Rattle.agent_state.proofs.Machine.{next-is, active-is, bits-is, is-idle}
-use Rattle.agent_state.proofs.Moved.{held-accepted}
-use Rattle.agent_machine.specs.Deciding.{KeepsOldOrNew}
-use Rattle.agent_machine.proofs.Deciding.{decides-same, decides-stores}
+use Rattle.agent_state.specs.{Decides.next_bank, Settles.HasTotal, Settles.Settles, Settles.meta_planned, Settles.staged_after}
+use Rattle.agent_state.proofs.{Machine.next-is, Machine.active-is, Machine.bits-is, Machine.is-idle, Moved.held-accepted}
+use Rattle.agent_machine.specs.{Deciding.KeepsOldOrNew, Fields.Fields, Fields.target, Machine.state_in, Machine.staged_bytes}
+use Rattle.agent_machine.specs.{Knows.Fitting, Knows.Knows, Moment.Moment, Moment.Shows, Moment.SpeaksOf}
 use Rattle.agent_machine.specs.Beside.{IsSpared, KeepsSpared, SparesBlocks}
-use Rattle.agent_machine.proofs.Beside.{spared-told, stores-spare}
-use Rattle.agent_machine.specs.Fields.{Fields, target}
-use Rattle.agent_machine.specs.Machine.{state_in, staged_bytes}
-use Rattle.agent_machine.specs.Knows.{Fitting, Knows}
-use Rattle.agent_machine.specs.Moment.{Moment, Shows, SpeaksOf}
 use Rattle.agent_machine.specs.Stored.{MayBegin, MayAccept, MayGoBack, MayBeDone, CarriesOut}
-use Rattle.agent_machine.proofs.Answered.{rest-guarded}
-use Rattle.agent_machine.proofs.Known.{update-is}
-use Rattle.agent_machine.proofs.Moving.{StoreMeets, stores-meet}
+use Rattle.agent_machine.proofs.{Deciding.decides-same, Deciding.decides-stores, Beside.spared-told, Beside.stores-spare}
+use Rattle.agent_machine.proofs.{Answered.rest-guarded, Known.update-is, Moving.StoreMeets, Moving.stores-meet}
 use Rattle.agent_machine.proofs.Stored.{after_plan, next-target, target-other, begin-booted, bits-after}
 use Rattle.agent_machine.proofs.StoredKnown.{state-after, begin-accepted, accepting-used, back-accepted}
 

@@ -1,20 +1,15 @@
 -- Decisions of requests that ask no verifier, whatever verifier there is.
 use Rattle.std.proofs.Common.{◌≡◌, ℕ, Bool, List, length, Option, Some, None, refl, sym, ap, ◌∙◌}
-use Rattle.fwu_model.specs.declared.kinds.Status.{Status}
+use Rattle.fwu_model.specs.{declared.kinds.Status.Status, State.State, Sound.Setting, Session.On, Session.Staged, Session.Handle}
+use Rattle.fwu_model.specs.Answer.{answer, answer_begin, answer_begin_partial, answer_open_read, answer_open_write, answer_write, answer_read, answer_commit, answer_cancel, answer_accept, content, directory, handle_at}
 use Rattle.fwu_model.specs.declared.kinds.Op.TheVariants as op
 use Rattle.fwu_formats.specs.Metadata.{MetaRead}
-use Rattle.fwu_model.specs.State.{State}
-use Rattle.fwu_model.specs.Sound.{Setting}
-use Rattle.fwu_model.specs.Session.{On, Staged, Handle}
 use Rattle.fwu_model.specs.Session as session
-use Rattle.fwu_model.specs.Answer.{answer, answer_begin, answer_begin_partial, answer_open_read, answer_open_write, answer_write, answer_read, answer_commit, answer_cancel, answer_accept, content, directory, handle_at}
-use Rattle.agent_kept.specs.declared.kinds.Request.{Request}
+use Rattle.agent_kept.specs.{declared.kinds.Request.Request, declared.kinds.Plan.Plan, Kept.Kept}
+use Rattle.agent_kept.specs.Plans.{call_of, planned, Speaks, FitsRequest}
 use Rattle.agent_kept.specs.declared.kinds.Request.TheVariants as request
-use Rattle.agent_kept.specs.declared.kinds.Plan.{Plan}
 use Rattle.agent_kept.specs.declared.kinds.Plan.TheVariants as plan
 use Rattle.agent_kept.specs.declared.kinds.Decision.TheVariants as decision
-use Rattle.agent_kept.specs.Kept.{Kept}
-use Rattle.agent_kept.specs.Plans.{call_of, planned, Speaks, FitsRequest}
 use Rattle.agent_state.specs.Decides.{DecidesRequest}
 use Rattle.agent_machine.specs.Asks.{AsksNoVerifier}
 

@@ -1,40 +1,26 @@
 -- A write that was carried out, or stopped, on the flash.
 use Rattle.std.proofs.Common.{◌≡◌, ℕ, ◌+◌, ◌*◌, ◌<◌, ◌≤◌, Bool, List, length, get_or, set, Result, Ok, Err, refl, sym, ap, ◌∙◌, subst, arith, IsTrue}
 use Rattle.std.proofs.lemmas.List.{length-set}
-use Rattle.flash_core.specs.declared.flash.FlashStop.{FlashStop}
-use Rattle.flash_core.specs.Told.{Told}
-use Rattle.flash_core.specs.Touches.{TouchesOnly}
-use Rattle.fwu_formats.specs.Layout.{ImageRow, start, slot_bytes, blocks_needed}
-use Rattle.fwu_formats.specs.Metadata.{MetaRead}
-use Rattle.fwu_model.specs.Seen.{state_of}
+use Rattle.flash_core.specs.{declared.flash.FlashStop.FlashStop, Told.Told, Touches.TouchesOnly}
+use Rattle.fwu_formats.specs.{Layout.ImageRow, Layout.start, Layout.slot_bytes, Layout.blocks_needed, Metadata.MetaRead}
+use Rattle.fwu_model.specs.{Seen.state_of, Reply.Success}
 use Rattle.moves.proofs.Composed.{does-nothing}
 use Rattle.slot_writer.specs.Slots.{Appends, blocks_for, done_of}
-use Rattle.agent_kept.specs.declared.parts.Handle.{Handle}
-use Rattle.agent_kept.specs.declared.parts.Handle.TheVariants.{Free}
+use Rattle.agent_kept.specs.{declared.parts.Handle.Handle, declared.parts.Handle.TheVariants.Free, declared.kinds.Request.Request}
+use Rattle.agent_kept.specs.{Kept.Kept, Kept.IsKept, Kept.AppendsPart, Kept.part_at, Kept.size_of, Plans.call_of}
 use Rattle.agent_kept.specs.declared.kinds.Plan.TheVariants as plan
-use Rattle.agent_kept.specs.declared.kinds.Request.{Request}
 use Rattle.agent_kept.specs.declared.kinds.Request.TheVariants as request
 use Rattle.agent_kept.specs.declared.kinds.Decision.TheVariants as decision
-use Rattle.agent_kept.specs.Kept.{Kept, IsKept, AppendsPart, part_at, size_of}
-use Rattle.agent_kept.specs.Plans.{call_of}
-use Rattle.agent_state.specs.Decides.{DecidesRequest}
-use Rattle.agent_state.specs.Settles.{IsPlanOf, Settles, staged_after}
-use Rattle.agent_machine.proofs.Deciding.{decides-kept}
-use Rattle.agent_machine.specs.Fields.{Fields, target, rest_of, with_session}
-use Rattle.agent_machine.specs.Machine.{state_in, staged_bytes}
-use Rattle.agent_machine.specs.Knows.{Fitting, SessionSound, Knows, SomeStaged}
-use Rattle.agent_machine.specs.Moment.{Moment}
-use Rattle.agent_machine.specs.Carries.{MeansSame, CarriedOut, SameBeside}
-use Rattle.agent_machine.specs.Meets.{LeavesFlash, Meets, IsStopped, flash_result}
-use Rattle.agent_machine.specs.declared.stop.Stop.{Stop}
-use Rattle.fwu_model.specs.Reply.{Success}
+use Rattle.agent_state.specs.{Decides.DecidesRequest, Settles.IsPlanOf, Settles.Settles, Settles.staged_after}
+use Rattle.agent_machine.proofs.{Deciding.decides-kept, Meeting.success-says, Stored.not-both, Staging.StaysKnown}
 use Rattle.agent_machine.proofs.Answered.{FitsEach, rest-guarded, leaves-by, done-meets, stopped-meets}
-use Rattle.agent_machine.proofs.Meeting.{success-says}
-use Rattle.agent_machine.proofs.Stored.{not-both}
 use Rattle.agent_machine.proofs.Room.{ReadsWell, fitting-again, old-readers, staged-before, appends-blocks, appends-spare, appends-stay}
 use Rattle.agent_machine.proofs.Showing.{some-after, kept-after}
 use Rattle.agent_machine.proofs.Writing.{WriteMeets, means-written, write-meets}
-use Rattle.agent_machine.proofs.Staging.{StaysKnown}
+use Rattle.agent_machine.specs.{Fields.Fields, Fields.target, Fields.rest_of, Fields.with_session, Machine.state_in}
+use Rattle.agent_machine.specs.{Machine.staged_bytes, Knows.Fitting, Knows.SessionSound, Knows.Knows, Knows.SomeStaged}
+use Rattle.agent_machine.specs.{Moment.Moment, Carries.MeansSame, Carries.CarriedOut, Carries.SameBeside, declared.stop.Stop.Stop}
+use Rattle.agent_machine.specs.Meets.{LeavesFlash, Meets, IsStopped, flash_result}
 
 -- ---- at any exit
 

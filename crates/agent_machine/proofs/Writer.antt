@@ -4,17 +4,14 @@ use Rattle.std.proofs.lemmas.List.FromFn.{length-map-range_with_len}
 use Rattle.std.proofs.lemmas.Option.{cond_some}
 use Rattle.std.proofs.Math.ListN as listn
 use Rattle.sha2.specs.declared.Sha256.{Sha256}
-use Rattle.fwu_model.specs.State.{State}
-use Rattle.fwu_model.specs.Session.{On, Staged, no_handles}
+use Rattle.fwu_model.specs.{State.State, Session.On, Session.Staged, Session.no_handles}
 use Rattle.fwu_model.specs.Session as machine
-use Rattle.agent_kept.specs.declared.parts.Part.{Part}
+use Rattle.agent_kept.specs.{declared.parts.Part.Part, declared.parts.Handle.Handle}
 use Rattle.agent_kept.specs.declared.parts.Part.TheVariants.{Nothing, Open, Committed}
-use Rattle.agent_kept.specs.declared.parts.Handle.{Handle}
 use Rattle.agent_kept.specs.declared.parts.Handle.TheVariants.{Free, Reads, Writes}
 use Rattle.agent_kept.specs.Kept.{Kept, size_of, part_at, handle_kept, part_meant, handle_meant, parts_meant, staging_meant, handles_meant}
 use Rattle.agent_kept.proofs.Meant.{part-meant}
-use Rattle.agent_machine.specs.Moment.{Moment, Shows}
-use Rattle.agent_machine.specs.Filling.{within}
+use Rattle.agent_machine.specs.{Moment.Moment, Moment.Shows, Filling.within}
 
 writes-is : (h : Handle) (image : ℕ) → handle_meant h ≡ machine.Writes image → h ≡ Writes image
 writes-is Free image e = absurd cc

@@ -2,23 +2,19 @@
 use Rattle.std.proofs.Common.{◌≡◌, ◌≢◌, inl, inr, ℕ, ◌+◌, ◌*◌, ◌<◌, ◌≤◌, true, List, [], ◌++◌, length, get_or, set, map, Option, Ok, refl, sym, ap, ap₂, ◌∙◌, subst, arith, get_or-set_same, get_or-set_other}
 use Rattle.std.proofs.lemmas.Bool.{cases_eq}
 use Rattle.std.specs.Prelude.{is_some}
-use Rattle.fwu_model.specs.Answer.{held_package}
+use Rattle.fwu_model.specs.{Answer.held_package, State.State}
 use Rattle.flash_core.specs.Told.{Told}
 use Rattle.sha2.specs.declared.Sha256.{Sha256}
 use Rattle.fwu_formats.specs.Layout.{ImageRow, start, slot_bytes, blocks_needed}
-use Rattle.fwu_model.specs.State.{State}
 use Rattle.slot_writer.specs.Slots.{Appends, IsBlankAhead, done_of}
-use Rattle.agent_kept.specs.declared.parts.Part.{Part}
-use Rattle.agent_kept.specs.declared.parts.Part.TheVariants.{Open}
-use Rattle.agent_kept.specs.declared.kinds.Plan.TheVariants as plan
+use Rattle.agent_kept.specs.{declared.parts.Part.Part, declared.parts.Part.TheVariants.Open}
 use Rattle.agent_kept.specs.Kept.{Kept, IsKept, part_at, part_meant, size_of, AppendsPart}
+use Rattle.agent_kept.specs.declared.kinds.Plan.TheVariants as plan
 use Rattle.agent_state.specs.Settles.{with_bytes, staged_after}
 use Rattle.agent_machine.specs.Fields.{Fields, target, rest_of, with_session}
 use Rattle.agent_machine.specs.Machine.{state_in, staged_bytes, part_bytes}
 use Rattle.agent_machine.specs.Knows.{Fitting, SessionSound, HasStaged, Knows}
-use Rattle.agent_machine.proofs.Staging.{StaysKnown}
-use Rattle.agent_machine.proofs.Answered.{MeansSame, kept-same}
-use Rattle.agent_machine.proofs.Room.{appends-stay}
+use Rattle.agent_machine.proofs.{Staging.StaysKnown, Answered.MeansSame, Answered.kept-same, Room.appends-stay}
 use Rattle.agent_kept.proofs.After.{grown, open-committed}
 use Rattle.agent_state.proofs.Settled.{with-here, with-there}
 

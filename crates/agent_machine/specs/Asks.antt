@@ -1,14 +1,11 @@
 -- Which requests ask a verifier, and which plans need the flash.
 use Rattle.std.specs.Prelude.{ℕ, List, Bool, true, Some, Result, Ok, Err}
 use Rattle.fwu_model.specs.declared.kinds.Status.{Status}
-use Rattle.agent_kept.specs.declared.kinds.Request.{Request}
-use Rattle.agent_kept.specs.declared.kinds.Request.TheVariants as request
-use Rattle.agent_kept.specs.declared.kinds.Plan.{Plan}
-use Rattle.agent_kept.specs.declared.kinds.Plan.TheVariants as plan
+use Rattle.agent_kept.specs.{declared.kinds.Request.Request, declared.kinds.Plan.Plan}
 use Rattle.agent_kept.specs.declared.kinds.Decision.TheVariants.{Do, Refused}
-use Rattle.agent_state.specs.Asked.{IsPlanFor}
-use Rattle.agent_state.specs.Decides.{DecidesRequest}
-use Rattle.agent_state.specs.Settles.{IsPlanOf}
+use Rattle.agent_kept.specs.declared.kinds.Request.TheVariants as request
+use Rattle.agent_kept.specs.declared.kinds.Plan.TheVariants as plan
+use Rattle.agent_state.specs.{Asked.IsPlanFor, Decides.DecidesRequest, Settles.IsPlanOf}
 use Rattle.agent_machine.specs.Fields.{Fields}
 
 -- no verifier is asked

@@ -2,8 +2,7 @@
 use Rattle.std.specs.Prelude.{◌≡◌, ◌⊎◌, ℕ, ◌+◌, ◌*◌, ◌%◌, ◌<◌, ◌≤◌, length, IsFalse, slice_index}
 use Rattle.base_core.specs.Block.{block_bytes}
 use Rattle.flash_core.specs.Told.{Told, is_unsure}
-use Rattle.fwu_formats.specs.Layout.{Layout, start}
-use Rattle.fwu_formats.specs.Places.{first_replica, counter_block}
+use Rattle.fwu_formats.specs.{Layout.Layout, Layout.start, Places.first_replica, Places.counter_block}
 use Rattle.agent_machine.specs.Fields.{Fields, target}
 
 -- byte i lies beside blocks 1 to 3, which have the metadata and the marks of the starts on trial

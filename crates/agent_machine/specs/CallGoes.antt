@@ -1,12 +1,8 @@
 -- What each call of the agent promises, whatever it is asked for.
 use Rattle.std.specs.Prelude.{◌≡◌, Bool, not, Result, is_ok, IsErrOf, IsFalse}
-use Rattle.flash_core.specs.declared.flash.Flash.{Ghosts}
-use Rattle.flash_core.specs.declared.flash.FlashStop.{FlashStop}
-use Rattle.flash_core.specs.Counts.{Spends, StaysUnarmed}
-use Rattle.agent_machine.specs.declared.stop.Stop.{Stop}
+use Rattle.flash_core.specs.{declared.flash.Flash.Ghosts, declared.flash.FlashStop.FlashStop, Counts.Spends, Counts.StaysUnarmed}
+use Rattle.agent_machine.specs.{declared.stop.Stop.Stop, Fields.Fields, Meets.GoesBy, Meets.IsRefused, Meets.flash_result}
 use Rattle.agent_machine.specs.declared.stop.Stop.TheVariants as stop
-use Rattle.agent_machine.specs.Fields.{Fields}
-use Rattle.agent_machine.specs.Meets.{GoesBy, IsRefused, flash_result}
 
 -- an agent before a call or after it: its device, what it keeps beside that, and whether the flash stopped an earlier call
 pub record AgentAt (A D : Type 0) : Type 0 where

@@ -2,17 +2,14 @@
 use Rattle.std.specs.Prelude.{◌≡◌, ℕ, ◌<◌, Bool, if◌then◌else◌, List, [], ◌∷◌, length, Option, IsTrue}
 use Rattle.fwu_model.specs.declared.kinds.Op.TheVariants as op
 use Rattle.fwu_formats.specs.Metadata.{state_at}
+use Rattle.fwu_model.specs.{Session.Staged, Sound.Setting}
 use Rattle.fwu_model.specs.State.{State, Move, Free, Switch, Accept, Back, bank, update_bank, after, is_invalid, is_accepted}
-use Rattle.fwu_model.specs.Session.{Staged}
-use Rattle.fwu_model.specs.Sound.{Setting}
-use Rattle.agent_kept.specs.declared.kinds.Plan.{Plan}
-use Rattle.agent_kept.specs.declared.kinds.Plan.TheVariants as plan
+use Rattle.agent_kept.specs.{declared.kinds.Plan.Plan, Plans.package_staged, Plans.bits_staged}
 use Rattle.agent_kept.specs.Kept.{Kept, IsKept, part_at, part_meant, staging_meant}
-use Rattle.agent_kept.specs.Plans.{package_staged, bits_staged}
+use Rattle.agent_kept.specs.declared.kinds.Plan.TheVariants as plan
 use Rattle.agent_state.specs.Settles.{HasTotal, Settles, staged_after}
+use Rattle.agent_machine.specs.{Machine.state_in, Machine.staged_bytes, Moment.Moment, Moment.SpeaksOf}
 use Rattle.agent_machine.specs.Fields.{Fields, target, total_of, IsImageOrDirectory}
-use Rattle.agent_machine.specs.Machine.{state_in, staged_bytes}
-use Rattle.agent_machine.specs.Moment.{Moment, SpeaksOf}
 
 -- of the images of the layout these bytes mean the same, where what is kept has some of them
 abbrev pub MeansSame : Kept → (ℕ → List ℕ) → (ℕ → List ℕ) → Type 0

@@ -1,11 +1,8 @@
 -- The directory, by the numbers that the agent keeps and the manifest of the bank that was started.
 use Rattle.std.specs.Prelude.{ℕ, zero, suc, ◌+◌, ◌-◌, ◌*◌, List, [], ◌++◌, length, take, drop, Option, Some, None, slice_index_or, flat_map}
-use Rattle.base_core.specs.Block.{block_bytes}
-use Rattle.base_core.specs.Bytes.{le, num_at, listed}
-use Rattle.fwu_formats.specs.Layout.{Layout, start, slot_bytes}
+use Rattle.base_core.specs.{Block.block_bytes, Bytes.le, Bytes.num_at, Bytes.listed}
+use Rattle.fwu_formats.specs.{Layout.Layout, Layout.start, Layout.slot_bytes, Manifest.manifest_size, Manifest.row_at, Image.slot}
 use Rattle.fwu_formats.specs.Metadata.{Meta, bit_at, bit_number}
-use Rattle.fwu_formats.specs.Manifest.{manifest_size, row_at}
-use Rattle.fwu_formats.specs.Image.{slot}
 
 -- the version of an image: of image 0 the manifest's security version, else what its row says
 abbrev pub version_by : List ℕ → ℕ → ℕ

@@ -1,15 +1,10 @@
 -- What a commit and the end of a staging do on the flash.
 use Rattle.std.specs.Prelude.{◌≡◌, ◌⊎◌, ℕ, ◌-◌, ◌≤◌, Bool, true, false, Option, Ok, Result, IsErr}
-use Rattle.flash_core.specs.declared.flash.Arming.{Arming}
-use Rattle.flash_core.specs.declared.flash.FlashStop.{FlashStop}
-use Rattle.flash_core.specs.Counts.{lowered}
-use Rattle.flash_core.specs.Told.{Told}
-use Rattle.fwu_formats.specs.Layout.{Layout}
-use Rattle.fwu_formats.specs.Metadata.{Meta}
+use Rattle.flash_core.specs.{declared.flash.Arming.Arming, declared.flash.FlashStop.FlashStop, Counts.lowered, Told.Told}
+use Rattle.fwu_formats.specs.{Layout.Layout, Metadata.Meta}
 use Rattle.marks_core.specs.Marks.{Clears}
 use Rattle.replicas.specs.Stores.{Stores}
-use Rattle.agent_kept.specs.declared.parts.Handle.TheVariants.{Writes}
-use Rattle.agent_kept.specs.Kept.{handle_kept}
+use Rattle.agent_kept.specs.{declared.parts.Handle.TheVariants.Writes, Kept.handle_kept}
 use Rattle.agent_machine.specs.Fields.{Fields}
 
 -- a handle of a number from 1 on writes an image

@@ -1,7 +1,6 @@
 -- What an agent keeps beside its device.
 use Rattle.std.specs.Prelude.{ℕ, ◌+◌, ◌*◌, ◌%◌, ◌<◌, List, [], length, Option, Some, None, slice_index_or}
-use Rattle.fwu_formats.specs.Layout.{Layout}
-use Rattle.fwu_formats.specs.Metadata.{MetaRead}
+use Rattle.fwu_formats.specs.{Layout.Layout, Metadata.MetaRead}
 use Rattle.agent_kept.specs.Kept.{Kept}
 
 pub record Fields : Type 0 where

@@ -1,18 +1,12 @@
 -- Calls of the agent in a row, as what they do to the machine that it shows.
 use Rattle.std.specs.Prelude.{◌≡◌, List, [], ◌∷◌, ◌++◌, Result, Ok, OnOk, IsErr, IsTrue}
 use Rattle.flash_core.specs.declared.flash.FlashStop.{FlashStop}
+use Rattle.fwu_model.specs.{Session.Session, Sound.Setting, Call.Call, Reply.Reply, Answer.answer, Calm.IsAtRest}
 use Rattle.fwu_model.specs.State.{State, Move, after}
-use Rattle.fwu_model.specs.Session.{Session}
-use Rattle.fwu_model.specs.Sound.{Setting}
-use Rattle.fwu_model.specs.Call.{Call}
-use Rattle.fwu_model.specs.Reply.{Reply}
-use Rattle.fwu_model.specs.Answer.{answer}
 pub use Rattle.fwu_model.specs.InRow.{replies_of, moves_of, session_of}
-use Rattle.fwu_model.specs.Calm.{IsAtRest}
 use Rattle.moves.specs.Moved.{Does, GuardedBy, IsReady}
+use Rattle.agent_machine.specs.{Moment.Moment, Moment.Shows, Meets.RepliesByMachine, Meets.Stays}
 use Rattle.agent_machine.specs.Beside.{KeepsSparedByAll, SparesBlocksByAll}
-use Rattle.agent_machine.specs.Moment.{Moment, Shows}
-use Rattle.agent_machine.specs.Meets.{RepliesByMachine, Stays}
 
 -- From a moment that shows a state to one after these moves, with this session, or stopped on the way.
 pub record GoesByMoves (E : Setting) (result : Result (Unit {0}) FlashStop) (old new : Moment) (s : State) (ms : List Move)

@@ -1,21 +1,16 @@
 -- What an agent that isn't gone knows of its flash, sound or not.
 use Rattle.std.specs.Prelude.{◌≡◌, ℕ, ◌+◌, ◌*◌, ◌<◌, ◌≤◌, Bool, true, false, List, length, take, map, Option, Some, Ok, IsTrue, IsFalse, is_some}
 use Rattle.base_core.specs.Block.{block_bytes}
-use Rattle.flash_core.specs.Told.{Told}
-use Rattle.flash_core.specs.May.{Quiet}
+use Rattle.flash_core.specs.{Told.Told, May.Quiet}
 use Rattle.sha2.specs.declared.Sha256.{Sha256}
+use Rattle.fwu_formats.specs.{Metadata.fits_meta, Metadata.state_at, Image.layout_seen, Image.package_in}
 use Rattle.fwu_formats.specs.Layout.{fits_layout, start, slot_bytes}
-use Rattle.fwu_formats.specs.Metadata.{fits_meta, state_at}
-use Rattle.fwu_formats.specs.Image.{layout_seen, package_in}
-use Rattle.fwu_model.specs.Replica.{BothHold}
-use Rattle.fwu_model.specs.State.{is_invalid, is_accepted}
-use Rattle.fwu_model.specs.Answer.{held_package}
+use Rattle.fwu_model.specs.{Replica.BothHold, State.is_invalid, State.is_accepted, Answer.held_package}
 use Rattle.slot_writer.specs.Slots.{IsBlankAhead, done_of}
 use Rattle.agent_kept.specs.declared.parts.Part.TheVariants.{Open, Committed}
 use Rattle.agent_kept.specs.declared.parts.Handle.TheVariants.{Reads}
 use Rattle.agent_kept.specs.Kept.{Kept, IsKept, IsSoundKept, HasNothing, part_at, handle_kept}
-use Rattle.agent_machine.specs.Fields.{Fields, target, total_of}
-use Rattle.agent_machine.specs.Machine.{staged_bytes, state_in}
+use Rattle.agent_machine.specs.{Fields.Fields, Fields.target, Fields.total_of, Machine.staged_bytes, Machine.state_in}
 
 -- The fields fit each other, whatever the flash holds.
 pub record Fitting (f : Fields) : Type 0 where

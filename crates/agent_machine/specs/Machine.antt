@@ -2,13 +2,10 @@
 use Rattle.std.specs.Prelude.{ℕ, ◌*◌, List, [], drop, take}
 use Rattle.base_core.specs.Block.{block_bytes}
 use Rattle.fwu_formats.specs.Layout.{start}
-use Rattle.fwu_model.specs.State.{State}
-use Rattle.fwu_model.specs.Session.{Session}
-use Rattle.fwu_model.specs.Seen.{state_of}
+use Rattle.fwu_model.specs.{State.State, Session.Session, Seen.state_of}
 use Rattle.slot_writer.specs.Slots.{bytes_in}
-use Rattle.agent_kept.specs.declared.parts.Part.{Part}
+use Rattle.agent_kept.specs.{declared.parts.Part.Part, Kept.part_at, Kept.session_meant}
 use Rattle.agent_kept.specs.declared.parts.Part.TheVariants.{Nothing, Open, Committed}
-use Rattle.agent_kept.specs.Kept.{part_at, session_meant}
 use Rattle.agent_machine.specs.Fields.{Fields, target, rest_of}
 
 -- the bytes of a staged image whose slot begins at a block

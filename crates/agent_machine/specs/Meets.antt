@@ -3,20 +3,13 @@ use Rattle.std.specs.Prelude.{◌≡◌, ◌↔◌, ◌⊎◌, ℕ, ◌∷◌, B
 use Rattle.flash_core.specs.declared.flash.FlashStop.{FlashStop}
 use Rattle.flash_core.specs.declared.flash.FlashStop.TheVariants as flash_stop
 use Rattle.fwu_model.specs.declared.kinds.Status.TheVariants as status
-use Rattle.fwu_model.specs.State.{State, Back, after}
-use Rattle.fwu_model.specs.Session.{Session, On}
-use Rattle.fwu_model.specs.Sound.{Setting}
-use Rattle.fwu_model.specs.Call.{Call, Previous}
+use Rattle.fwu_model.specs.{State.State, State.Back, State.after, Session.Session, Session.On, Sound.Setting, Call.Call}
+use Rattle.fwu_model.specs.{Call.Previous, Answer.answer, Answer.may_leave, Answer.has_other, Calm.IsAtRest}
 use Rattle.fwu_model.specs.Reply.{Reply, Refused, Got, Success}
-use Rattle.fwu_model.specs.Answer.{answer, may_leave, has_other}
-use Rattle.fwu_model.specs.Calm.{IsAtRest}
 use Rattle.moves.specs.Moved.{Does, GuardedBy, IsReady}
-use Rattle.agent_machine.specs.Deciding.{KeepsOldOrNew}
-use Rattle.agent_machine.specs.declared.stop.Stop.{Stop}
-use Rattle.agent_machine.specs.declared.stop.Stop.TheVariants as stop
-use Rattle.agent_machine.specs.Fields.{Fields}
+use Rattle.agent_machine.specs.{Deciding.KeepsOldOrNew, declared.stop.Stop.Stop, Fields.Fields, Moment.Moment, Moment.Shows}
 use Rattle.agent_machine.specs.Beside.{KeepsSpared, SparesBlocks}
-use Rattle.agent_machine.specs.Moment.{Moment, Shows}
+use Rattle.agent_machine.specs.declared.stop.Stop.TheVariants as stop
 
 -- whether the flash stopped it
 abbrev pub flash_result : {T : Type 0} → Result T Stop → Result (Unit {0}) FlashStop

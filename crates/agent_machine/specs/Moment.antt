@@ -1,13 +1,9 @@
 -- What an agent has at a moment, and which machine it shows.
 use Rattle.std.specs.Prelude.{◌≡◌, ℕ, Bool, List, length, take, map, IsTrue}
 use Rattle.flash_core.specs.Told.{Told}
-use Rattle.fwu_model.specs.State.{State}
-use Rattle.fwu_model.specs.Session.{Session}
-use Rattle.fwu_model.specs.Answer.{booted_package}
-use Rattle.fwu_model.specs.MoveMetas.{meta_in}
+use Rattle.fwu_model.specs.{State.State, Session.Session, Answer.booted_package, MoveMetas.meta_in}
 use Rattle.agent_kept.specs.Kept.{IsKept, session_meant}
-use Rattle.agent_machine.specs.Fields.{Fields}
-use Rattle.agent_machine.specs.Machine.{state_in, session_in}
+use Rattle.agent_machine.specs.{Fields.Fields, Machine.state_in, Machine.session_in}
 
 pub record Moment : Type 0 where
   -- whether the device tells its content, and what it tells

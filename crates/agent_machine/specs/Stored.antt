@@ -1,30 +1,17 @@
 -- The plans of begin, accept and previous, which may store metadata: which of them may be carried out, and what that leaves.
 use Rattle.std.specs.Prelude.{◌≡◌, ◌⊎◌, ℕ, ◌<◌, Bool, true, false, ◌&&◌, if◌then◌else◌, [], length, Option, Result, OnOk, is_ok, IsTrue}
-use Rattle.flash_core.specs.declared.flash.Arming.{Arming}
-use Rattle.flash_core.specs.declared.flash.FlashStop.{FlashStop}
-use Rattle.flash_core.specs.Counts.{lowered}
-use Rattle.flash_core.specs.Told.{Told}
-use Rattle.fwu_formats.specs.Layout.{Layout}
-use Rattle.fwu_formats.specs.Metadata.{Meta, MetaRead, state_at}
+use Rattle.flash_core.specs.{declared.flash.Arming.Arming, declared.flash.FlashStop.FlashStop, Counts.lowered, Told.Told}
+use Rattle.fwu_formats.specs.{Layout.Layout, Metadata.Meta, Metadata.MetaRead, Metadata.state_at}
+use Rattle.fwu_model.specs.{Session.Session, Sound.Setting, Sound.holds_permitted, Calm.IsAtRest, MoveMetas.bits_in}
 use Rattle.fwu_model.specs.State.{State, bank, is_invalid, all_set, after}
-use Rattle.fwu_model.specs.Session.{Session}
-use Rattle.fwu_model.specs.Sound.{Setting, holds_permitted}
-use Rattle.fwu_model.specs.Calm.{IsAtRest}
-use Rattle.fwu_model.specs.MoveMetas.{bits_in}
 use Rattle.replicas.specs.Stores.{Stores}
 use Rattle.moves.specs.Moved.{Does, GuardedBy, IsReady}
-use Rattle.agent_kept.specs.declared.kinds.Decision.{Decision}
+use Rattle.agent_kept.specs.{declared.kinds.Decision.Decision, declared.kinds.Plan.Plan, Kept.Kept, Plans.planned_in}
 use Rattle.agent_kept.specs.declared.kinds.Decision.TheVariants as decision
-use Rattle.agent_kept.specs.declared.kinds.Plan.{Plan}
 use Rattle.agent_kept.specs.declared.kinds.Plan.TheVariants as plan
-use Rattle.agent_kept.specs.Kept.{Kept}
-use Rattle.agent_kept.specs.Plans.{planned_in}
 use Rattle.agent_state.specs.Decides.{cannot_begin_kept, may_leave_kept, has_other_kept}
-use Rattle.agent_machine.specs.Deciding.{KeepsOldOrNew}
+use Rattle.agent_machine.specs.{Deciding.KeepsOldOrNew, Fields.Fields, Fields.target, Meets.Stays, Moment.Moment, Moment.Shows}
 use Rattle.agent_machine.specs.Beside.{KeepsSpared, SparesBlocks}
-use Rattle.agent_machine.specs.Fields.{Fields, target}
-use Rattle.agent_machine.specs.Meets.{Stays}
-use Rattle.agent_machine.specs.Moment.{Moment, Shows}
 
 -- ---- which plans may be carried out
 

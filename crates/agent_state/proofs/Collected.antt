@@ -3,9 +3,7 @@ use Rattle.std.proofs.Common.{◌≡◌, ℕ, ◌+◌, ◌<◌, Bool, false, [],
 use Rattle.std.proofs.lemmas.List.{length-map, take_more}
 use Rattle.std.proofs.lemmas.List.FromFn.{length-map-range_with_len, get_or-map-range_with_len}
 use Rattle.std.proofs.Math.ListN as listn
-use Rattle.agent_kept.specs.declared.parts.Part.TheVariants.{Nothing}
-use Rattle.agent_kept.specs.Kept.{Kept, part_at}
-use Rattle.agent_kept.specs.Judged.{parts_of}
+use Rattle.agent_kept.specs.{declared.parts.Part.TheVariants.Nothing, Kept.Kept, Kept.part_at, Judged.parts_of}
 use Rattle.agent_state.specs.Settles.{bit_kept, bits_kept}
 
 module _ (k : Kept) where

@@ -9,8 +9,7 @@ use Rattle.fwu_formats.specs.Manifest.{Row, Manifest, row_at, manifest_of, manif
 use Rattle.fwu_formats.specs.declared.kinds.ManifestFault.{ManifestFault}
 use Rattle.manifest_core.specs.Shown.{version_of}
 use Rattle.manifest_core.proofs.Passed.{fault_is, manifest_passed}
-use Rattle.agent_kept.specs.declared.parts.Part.{Part}
-use Rattle.agent_kept.specs.Kept.{Kept, part_at, size_of}
+use Rattle.agent_kept.specs.{declared.parts.Part.Part, Kept.Kept, Kept.part_at, Kept.size_of}
 use Rattle.agent_kept.specs.Judged.{is_installable, is_part_committed, is_part_of, manifest_kept, are_rows_kept, parts_of}
 
 false-right : (b : Bool) → (b && false) ≡ false

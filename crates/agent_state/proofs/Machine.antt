@@ -4,20 +4,16 @@ use Rattle.std.proofs.lemmas.List.FromFn.{get_or-map-range_with_len}
 use Rattle.std.proofs.Math.ListN as listn
 use Rattle.std.proofs.lemmas.List.{length-map}
 use Rattle.fwu_model.specs.declared.kinds.AgentState.TheVariants as agent
-use Rattle.fwu_formats.specs.Layout.{ImageRow, slot_bytes}
-use Rattle.fwu_formats.specs.Metadata.{Meta, MetaRead, state_at}
+use Rattle.fwu_formats.specs.{Layout.ImageRow, Layout.slot_bytes, Metadata.Meta, Metadata.MetaRead, Metadata.state_at}
+use Rattle.fwu_model.specs.{Sound.Setting, Session.Staged, Session.staged_at, MoveMetas.meta_in}
 use Rattle.fwu_model.specs.State.{State, Bank, bank, no_bank, is_valid, is_accepted, update_bank}
-use Rattle.fwu_model.specs.Sound.{Setting}
-use Rattle.fwu_model.specs.Session as session
-use Rattle.fwu_model.specs.Session.{Staged, staged_at}
 use Rattle.fwu_model.specs.Answer.{agent_state, is_trial, cannot_begin, is_elsewhere, staged_bytes, handle_at, may_leave, has_other}
-use Rattle.agent_kept.specs.declared.parts.Part.{Part}
+use Rattle.fwu_model.specs.Session as session
+use Rattle.agent_kept.specs.{declared.parts.Part.Part, declared.parts.Handle.Handle}
 use Rattle.agent_kept.specs.declared.parts.Part.TheVariants.{Nothing, Open, Committed}
-use Rattle.agent_kept.specs.declared.parts.Handle.{Handle}
 use Rattle.agent_kept.specs.declared.parts.Handle.TheVariants.{Free, Reads, Writes}
 use Rattle.agent_kept.specs.Kept.{Kept, part_at, part_meant, parts_meant, staging_meant, handle_meant, handles_meant, handle_kept, size_of, slot_room_of, IsKept}
 use Rattle.agent_kept.proofs.Meant.{staging-on}
-use Rattle.fwu_model.specs.MoveMetas.{meta_in}
 use Rattle.agent_state.specs.Decides.{next_bank, is_trial_kept, cannot_begin_kept, has_other_kept}
 
 -- ---- the metadata

@@ -5,14 +5,12 @@ use Rattle.std.proofs.Math.Seq.{map-set_same}
 use Rattle.std.proofs.lemmas.List.{length-append, map-set}
 use Rattle.std.specs.Prelude.{flat_map}
 use Rattle.base_core.specs.Bytes.{le, listed}
-use Rattle.fwu_formats.specs.declared.kinds.BankState.{BankState}
+use Rattle.fwu_formats.specs.{declared.kinds.BankState.BankState, Layout.slot_bytes}
 use Rattle.fwu_formats.specs.declared.kinds.BankState.TheVariants.{Invalid, Accepted}
-use Rattle.fwu_formats.specs.Layout.{slot_bytes}
 use Rattle.fwu_formats.specs.Metadata.{Meta, state_at, bit_number}
+use Rattle.fwu_model.specs.{Sound.Setting, MoveMetas.meta_in, MoveMetas.meta_after, MoveMetas.bits_in, MoveMetas.accepted_bits}
 use Rattle.fwu_model.specs.State.{State, Bank, bank, no_bank, Free, Switch, Accept, after_move, freed, with_bit, state_by, all_set}
-use Rattle.fwu_model.specs.Sound.{Setting}
 use Rattle.fwu_model.specs.Answer.{content, directory, directory_row, booted_package, version_in, held_package}
-use Rattle.fwu_model.specs.MoveMetas.{meta_in, meta_after, bits_in, accepted_bits}
 
 -- ---- the metadata
 

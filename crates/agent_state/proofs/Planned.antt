@@ -1,18 +1,15 @@
 -- The metadata after a plan is of the layout that it was of.
 use Rattle.std.proofs.Common.{◌≡◌, ℕ, ◌<◌, Bool, true, false, List, [], length, set, map, Some, None, refl, sym, ap, ◌∙◌, subst, arith, length-set, IsTrue}
 use Rattle.std.proofs.lemmas.List.{length-map}
+use Rattle.fwu_formats.specs.{Layout.Layout, Layout.ImageRow, Metadata.Meta, Metadata.fits_meta}
 use Rattle.fwu_formats.specs.declared.kinds.BankState.TheVariants.{Invalid}
 use Rattle.fwu_model.specs.declared.kinds.Op.TheVariants as op
-use Rattle.fwu_formats.specs.Layout.{Layout, ImageRow}
-use Rattle.fwu_formats.specs.Metadata.{Meta, fits_meta}
 use Rattle.fwu_model.specs.State.{Free, Switch, Accept, Back, state_by}
-use Rattle.meta_layout.proofs.Fits.{MetaFits, meta-fits, row-length, fits-active, fits-previous, fits-state, fits-bits}
-use Rattle.agent_kept.specs.declared.kinds.Plan.{Plan}
-use Rattle.agent_kept.specs.declared.kinds.Plan.TheVariants as plan
-use Rattle.agent_kept.specs.Kept.{Kept}
 use Rattle.fwu_model.specs.MoveMetas.{bits_in, accepted_bits, meta_after}
-use Rattle.agent_state.specs.Decides.{next_bank, IsMetaOf}
-use Rattle.agent_state.specs.Settles.{Changes, bits_kept, meta_planned}
+use Rattle.meta_layout.proofs.Fits.{MetaFits, meta-fits, row-length, fits-active, fits-previous, fits-state, fits-bits}
+use Rattle.agent_kept.specs.{declared.kinds.Plan.Plan, Kept.Kept}
+use Rattle.agent_kept.specs.declared.kinds.Plan.TheVariants as plan
+use Rattle.agent_state.specs.{Decides.next_bank, Decides.IsMetaOf, Settles.Changes, Settles.bits_kept, Settles.meta_planned}
 use Rattle.agent_state.proofs.Collected.{bits-count}
 
 module _ (k : Kept) (m : Meta) (fits : IsMetaOf k m) where

@@ -6,28 +6,25 @@ use Rattle.std.proofs.lemmas.List.Sums.{prefix_len-le-length}
 use Rattle.std.specs.List.{position, position_or_len, list_any}
 use Rattle.base_core.specs.Bytes.{same_bytes}
 use Rattle.fwu_model.specs.declared.kinds.Status.TheVariants as status
-use Rattle.fwu_model.specs.declared.kinds.Op.{Op}
+use Rattle.fwu_model.specs.{declared.kinds.Op.Op, Sound.Setting, Call.Call}
+use Rattle.fwu_model.specs.State.{State, Move, bank, is_invalid, update_bank}
+use Rattle.fwu_model.specs.Session.{Session, Staged, On, staged_at, nothing_staged, no_handles, is_open, is_committed}
+use Rattle.fwu_model.specs.Answer.{answer, answered, refused, answer_begin, answer_open_read, answer_open_write, answer_write, answer_read, answer_commit, answer_end, answer_cancel, answer_accept, answer_previous, cannot_begin, is_elsewhere, is_writer, lowest_free, is_full, opened, open_read, handle_at, exceeds_slot, content, with_committed, may_end, accept_image, may_leave, has_other, may_go_back, answer_begin_partial, names_unknown, are_named, copied_parts, image_held}
 use Rattle.fwu_model.specs.declared.kinds.Op.TheVariants as op
 use Rattle.fwu_formats.specs.Layout.{dir_guid, find_image}
-use Rattle.fwu_model.specs.State.{State, Move, bank, is_invalid, update_bank}
 use Rattle.fwu_model.specs.State as move
-use Rattle.fwu_model.specs.Sound.{Setting}
 use Rattle.fwu_model.specs.Session as session
-use Rattle.fwu_model.specs.Session.{Session, Staged, On, staged_at, nothing_staged, no_handles, is_open, is_committed}
-use Rattle.fwu_model.specs.Call.{Call}
 use Rattle.fwu_model.specs.Call as call
 use Rattle.fwu_model.specs.Reply as reply
-use Rattle.fwu_model.specs.Answer.{answer, answered, refused, answer_begin, answer_open_read, answer_open_write, answer_write, answer_read, answer_commit, answer_end, answer_cancel, answer_accept, answer_previous, cannot_begin, is_elsewhere, is_writer, lowest_free, is_full, opened, open_read, handle_at, exceeds_slot, content, with_committed, may_end, accept_image, may_leave, has_other, may_go_back, answer_begin_partial, names_unknown, are_named, copied_parts, image_held}
 use Rattle.agent_kept.specs.declared.kinds.Request.TheVariants as request
-use Rattle.agent_kept.specs.declared.kinds.Decision.{Decision}
+use Rattle.agent_kept.specs.{declared.kinds.Decision.Decision, declared.parts.Handle.Handle}
 use Rattle.agent_kept.specs.declared.kinds.Decision.TheVariants.{Refused, Do}
-use Rattle.agent_kept.specs.declared.kinds.Plan.TheVariants as plan
-use Rattle.agent_kept.specs.declared.parts.Handle.{Handle}
 use Rattle.agent_kept.specs.declared.parts.Handle.TheVariants.{Free, Reads, Writes}
 use Rattle.agent_kept.specs.Sound.{is_free_kept, is_writer_kept}
 use Rattle.agent_kept.specs.Kept.{Kept, handle_meant, handles_meant, parts_meant, session_meant}
-use Rattle.agent_state.specs.Decides.{opened_as}
 use Rattle.agent_kept.specs.Plans.{call_of, planned, DecidesAs, by_verdict, opened_staging, opened_handle}
+use Rattle.agent_kept.specs.declared.kinds.Plan.TheVariants as plan
+use Rattle.agent_state.specs.Decides.{opened_as}
 
 if-true : {X : Type 0} (c : Bool) (a b : X) → c ≡ true → cond c a b ≡ a
 if-true true a b e = refl

@@ -3,29 +3,23 @@ use Rattle.std.proofs.Common.{◌≡◌, ◌≢◌, inl, inr, ℕ, ◌+◌, ◌-
 use Rattle.std.proofs.lemmas.Bool.{cases_eq, cases_lt}
 use Rattle.std.proofs.lemmas.List.{map-set, get_or_past}
 use Rattle.fwu_model.specs.declared.kinds.Op.TheVariants as op
-use Rattle.fwu_formats.specs.Layout.{ImageRow}
-use Rattle.fwu_formats.specs.Metadata.{Meta, MetaRead}
+use Rattle.fwu_formats.specs.{Layout.ImageRow, Metadata.Meta, Metadata.MetaRead}
+use Rattle.fwu_model.specs.{Sound.Setting, Session.Staged, MoveMetas.meta_in, MoveMetas.meta_after}
 use Rattle.fwu_model.specs.State.{State, bank, update_bank, Free, Switch, Accept, Back, after_move}
-use Rattle.fwu_model.specs.Sound.{Setting}
-use Rattle.fwu_model.specs.Session as machine
-use Rattle.fwu_model.specs.Session.{Staged}
 use Rattle.fwu_model.specs.Answer.{content, appended, with_appended, with_committed, staged_bytes, committed_bit, staged_bits}
-use Rattle.agent_kept.specs.declared.parts.Part.{Part}
+use Rattle.fwu_model.specs.Session as machine
+use Rattle.agent_kept.specs.{declared.parts.Part.Part, declared.parts.Handle.Handle, declared.kinds.Plan.Plan}
+use Rattle.agent_kept.specs.Kept.{Kept, IsKept, HasTotals, part_at, handle_kept, part_meant, parts_meant, staging_meant, handle_meant, handles_meant, session_meant, with_handle, is_part_open, IsNewPart, GrowsPart, CommitsTo, Restarts, OpensPart, AppendsPart, CommitsPart}
+use Rattle.agent_kept.specs.Plans.{Speaks, SpeaksWhole, planned, with_open, bits_staged, package_staged}
 use Rattle.agent_kept.specs.declared.parts.Part.TheVariants as part
-use Rattle.agent_kept.specs.declared.parts.Handle.{Handle}
 use Rattle.agent_kept.specs.declared.parts.Handle.TheVariants as handle
-use Rattle.agent_kept.specs.declared.kinds.Plan.{Plan}
 use Rattle.agent_kept.specs.declared.kinds.Plan.TheVariants as plan
 use Rattle.agent_kept.specs.declared.kinds.Decision.TheVariants as decision
-use Rattle.agent_kept.specs.Kept.{Kept, IsKept, HasTotals, part_at, handle_kept, part_meant, parts_meant, staging_meant, handle_meant, handles_meant, session_meant, with_handle, is_part_open, IsNewPart, GrowsPart, CommitsTo, Restarts, OpensPart, AppendsPart, CommitsPart}
-use Rattle.fwu_model.specs.MoveMetas.{meta_in, meta_after}
-use Rattle.agent_kept.specs.Plans.{Speaks, SpeaksWhole, planned, with_open, bits_staged, package_staged}
 use Rattle.fwu_formats.proofs.Same.{map-same}
+use Rattle.agent_kept.proofs.{Installable.map-twice, Sounds.frees, Sounds.restarts-staging, Sounds.restarts-idle}
 use Rattle.agent_kept.proofs.Meant.{part-meant, parts-changed, staging-on, handle-meant}
 use Rattle.agent_kept.proofs.After.{kept-opened, kept-committed, kept-appended, kept-nothing}
 use Rattle.std.specs.List.{range_with_len}
-use Rattle.agent_kept.proofs.Installable.{map-twice}
-use Rattle.agent_kept.proofs.Sounds.{frees, restarts-staging, restarts-idle}
 use Rattle.agent_state.specs.Settles.{IsPlanOf, HasTotal, Changes, bit_kept, bits_kept, meta_planned, with_bytes, SettlesBy, SettlesIn}
 use Rattle.agent_state.proofs.Machine.{next-is}
 use Rattle.agent_state.proofs.Moved.{meta-freed, meta-switched, meta-accepted, content-length, held-accepted}

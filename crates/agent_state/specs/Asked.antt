@@ -1,17 +1,13 @@
 -- What a decision has of the request: a plan of the request's own kind, with the numbers that the request and what is kept give.
 use Rattle.std.specs.Prelude.{◌≡◌, ◌+◌, ◌-◌, not, min, ◌==◌, Some, length, take}
-use Rattle.fwu_formats.specs.Layout.{find_image}
-use Rattle.fwu_formats.specs.Metadata.{Meta, state_at, bit_at}
-use Rattle.fwu_model.specs.State.{is_invalid}
-use Rattle.fwu_model.specs.Answer.{are_named}
-use Rattle.agent_kept.specs.declared.kinds.Request.{Request}
+use Rattle.fwu_formats.specs.{Layout.find_image, Metadata.Meta, Metadata.state_at, Metadata.bit_at}
+use Rattle.fwu_model.specs.{State.is_invalid, Answer.are_named}
+use Rattle.agent_kept.specs.{declared.kinds.Request.Request, declared.kinds.Decision.Decision, declared.kinds.Plan.Plan}
+use Rattle.agent_kept.specs.Kept.{Kept, part_at, handle_kept, size_of}
 use Rattle.agent_kept.specs.declared.kinds.Request.TheVariants as request
-use Rattle.agent_kept.specs.declared.kinds.Decision.{Decision}
 use Rattle.agent_kept.specs.declared.kinds.Decision.TheVariants as decision
-use Rattle.agent_kept.specs.declared.kinds.Plan.{Plan}
 use Rattle.agent_kept.specs.declared.kinds.Plan.TheVariants as plan
 use Rattle.agent_kept.specs.declared.parts.Handle.TheVariants as handle
-use Rattle.agent_kept.specs.Kept.{Kept, part_at, handle_kept, size_of}
 use Rattle.agent_state.specs.Decides.{next_bank, lowest_free_kept}
 
 -- the plan is one for the request

@@ -2,17 +2,12 @@
 use Rattle.std.specs.Prelude.{IsTrue, ℕ, ◌+◌, ◌%◌, Bool, ◌&&◌, ◌||◌, not, ◌==◌, if◌then◌else◌, List, length, Option, nat_le}
 use Rattle.std.specs.List.{position_or_len}
 use Rattle.fwu_model.specs.declared.kinds.Status.TheVariants as status
-use Rattle.fwu_model.specs.declared.kinds.Op.{Op}
+use Rattle.fwu_model.specs.{declared.kinds.Op.Op, State.State, State.is_valid, State.is_accepted, Sound.Setting}
 use Rattle.fwu_formats.specs.Metadata.{Meta, MetaRead, state_at, fits_meta}
-use Rattle.fwu_model.specs.State.{State, is_valid, is_accepted}
-use Rattle.fwu_model.specs.Sound.{Setting}
-use Rattle.agent_kept.specs.declared.kinds.Request.{Request}
-use Rattle.agent_kept.specs.declared.kinds.Decision.{Decision}
+use Rattle.agent_kept.specs.{declared.kinds.Request.Request, declared.kinds.Decision.Decision, Sound.is_free_kept, Kept.Kept}
+use Rattle.agent_kept.specs.{Kept.session_meant, Plans.DecidesAs, Plans.Speaks, Plans.FitsRequest, Plans.call_of}
 use Rattle.agent_kept.specs.declared.kinds.Decision.TheVariants.{Refused, Do}
 use Rattle.agent_kept.specs.declared.kinds.Plan.TheVariants as plan
-use Rattle.agent_kept.specs.Sound.{is_free_kept}
-use Rattle.agent_kept.specs.Kept.{Kept, session_meant}
-use Rattle.agent_kept.specs.Plans.{DecidesAs, Speaks, FitsRequest, call_of}
 
 -- the metadata is of a layout with these images
 abbrev pub IsMetaOf : Kept → Meta → Type 0

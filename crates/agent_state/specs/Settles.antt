@@ -2,20 +2,15 @@
 use Rattle.std.specs.Prelude.{◌≡◌, ℕ, ◌+◌, ◌-◌, ◌<◌, ◌≤◌, Bool, true, false, if◌then◌else◌, ◌==◌, List, [], ◌++◌, length, map, Some, None}
 use Rattle.fwu_model.specs.declared.kinds.Op.TheVariants as op
 use Rattle.fwu_formats.specs.Metadata.{Meta, MetaRead}
+use Rattle.fwu_model.specs.{Sound.Setting, Answer.content, MoveMetas.meta_after}
 use Rattle.fwu_model.specs.State.{State, Free, Switch, Accept, Back, after}
-use Rattle.fwu_model.specs.Sound.{Setting}
-use Rattle.fwu_model.specs.Answer.{content}
-use Rattle.agent_kept.specs.declared.parts.Part.{Part}
+use Rattle.agent_kept.specs.{declared.parts.Part.Part, declared.kinds.Plan.Plan, declared.kinds.Decision.Decision, Judged.parts_of}
+use Rattle.agent_kept.specs.Kept.{Kept, part_at, handle_kept, size_of, slot_room_of, is_part_open, session_meant, with_handle, Restarts, OpensPart, AppendsPart, CommitsPart}
+use Rattle.agent_kept.specs.Plans.{SpeaksWhole, planned_in}
 use Rattle.agent_kept.specs.declared.parts.Part.TheVariants as part
 use Rattle.agent_kept.specs.declared.parts.Handle.TheVariants as handle
-use Rattle.agent_kept.specs.declared.kinds.Plan.{Plan}
 use Rattle.agent_kept.specs.declared.kinds.Plan.TheVariants as plan
-use Rattle.agent_kept.specs.declared.kinds.Decision.{Decision}
 use Rattle.agent_kept.specs.declared.kinds.Decision.TheVariants as decision
-use Rattle.agent_kept.specs.Kept.{Kept, part_at, handle_kept, size_of, slot_room_of, is_part_open, session_meant, with_handle, Restarts, OpensPart, AppendsPart, CommitsPart}
-use Rattle.agent_kept.specs.Judged.{parts_of}
-use Rattle.fwu_model.specs.MoveMetas.{meta_after}
-use Rattle.agent_kept.specs.Plans.{SpeaksWhole, planned_in}
 use Rattle.agent_state.specs.Decides.{next_bank}
 
 -- ---- what a decision is settled on

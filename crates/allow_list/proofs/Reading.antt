@@ -6,9 +6,8 @@ use Rattle.std.proofs.lemmas.Option.{same_Some}
 use Rattle.std.proofs.Math.Seq.{take-add}
 use Rattle.base_core.proofs.Lists.{drop-front, take-front}
 use Rattle.fwu_formats.specs.Digests.{digests_of}
+use Rattle.host_io.specs.{Reads.ReadsFile, declared.files.Files.Ghosts}
 use Rattle.host_io.specs.Contents.{Directory, Holds, TellsRange, TellsSize}
-use Rattle.host_io.specs.Reads.{ReadsFile}
-use Rattle.host_io.specs.declared.files.Files.{Ghosts}
 use Rattle.verify_core.specs.Shown.{first_digest}
 use Rattle.verify_core.proofs.Lines.{behind, first_added, first_bad, first_in_front, from_line}
 use Rattle.allow_list.specs.Lists.{AddsLine, IsAnswerOf, LacksLine}

@@ -2,8 +2,7 @@
 use Rattle.std.specs.Prelude.{◌≡◌, ◌⊎◌, ◌≤◌, ◌+◌, ◌-◌, ◌∷◌, ◌++◌, ℕ, List, [], Option, None, Result, Err, IsSomeAnd, OnOk, length, min}
 use Rattle.base_core.specs.Counts.{Rose}
 use Rattle.fwu_formats.specs.Digests.{digests_of}
-use Rattle.host_io.specs.Contents.{Directory, Holds, TellsRange}
-use Rattle.host_io.specs.Whole.{LacksFile}
+use Rattle.host_io.specs.{Contents.Directory, Contents.Holds, Contents.TellsRange, Whole.LacksFile}
 use Rattle.verify_core.specs.Shown.{first_digest}
 use Rattle.allow_list.specs.declared.stops.ListStop.{ListStop}
 use Rattle.allow_list.specs.declared.stops.ListStop.TheVariants.{BadLine, Failed, NoMemory}

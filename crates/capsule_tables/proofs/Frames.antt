@@ -3,8 +3,7 @@ use Rattle.std.proofs.Common.{◌≡◌, ◌∙◌, ◌≤◌, ◌<◌, ◌+◌,
 use Rattle.std.proofs.Math.Seq.{drop-append-add, drop-append_seam, take-append-add, take-append_seam}
 use Rattle.fwu_formats.specs.Package.{Part}
 use Rattle.host_io.specs.Joined.{joined}
-use Rattle.fip_tables.specs.Frame.{AreSixteen, chunks}
-use Rattle.fip_tables.specs.Packing.{AreOutlines, zeroed}
+use Rattle.fip_tables.specs.{Frame.AreSixteen, Frame.chunks, Packing.AreOutlines, Packing.zeroed}
 use Rattle.capsule_tables.specs.Making.{capsule_bytes, capsule_size, capsule_front_bytes, head_gaps, heads_bytes, item_head, items_bytes, made_head}
 use Rattle.capsule_tables.proofs.Made.{same-front, same-gaps, same-heads, same-size, sizes, sizes-cons, types-of}
 use Rattle.capsule_tables.proofs.ReadAgain.{front-total, head-length, items-length}

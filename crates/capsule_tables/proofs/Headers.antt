@@ -1,17 +1,14 @@
 -- What the headers of a capsule say.
 use Rattle.std.proofs.Common.{◌≡◌, ◌≤◌, ◌+◌, ℕ, List, take, drop, ap, ◌∙◌, sym, subst, Result, Err, ◌<◌, Bool, true, false, cond, not, length, refl, arith, Ok, Option, Some, None, ltb, le-ltb}
 use Rattle.base_core.specs.Bytes.{num, num_at, same_bytes}
-use Rattle.fip_tables.proofs.Told.{part_of}
+use Rattle.fip_tables.proofs.{Told.part_of, Steps.is-less, Steps.skips, Steps.takes}
 use Rattle.std.specs.Prelude.{IsErrAnd, IfSome, nat_lt}
 use Rattle.std.proofs.lemmas.Result.{err_from_is_err_and}
-use Rattle.capsule_tables.specs.Answers.{IsCapsuleAnswer}
-use Rattle.fwu_formats.specs.declared.kinds.CapsuleFault.{CapsuleFault}
-use Rattle.capsule_tables.specs.declared.faults.CapsuleStop.{CapsuleStop}
-use Rattle.capsule_tables.specs.declared.faults.CapsuleStop.TheVariants as stop
-use Rattle.fip_tables.proofs.Steps.{is-less, skips, takes}
-use Rattle.fwu_formats.specs.Package.{Entry}
-use Rattle.fwu_formats.specs.Capsule.{Shape, fmp_guid, has_sizes, shape_in, shape_of, swapped}
+use Rattle.capsule_tables.specs.{Answers.IsCapsuleAnswer, declared.faults.CapsuleStop.CapsuleStop}
 use Rattle.capsule_tables.specs.Ranges.{IsOfHeaders, IsRead, header_read, headers_read, item_read, shape_read, then_shape}
+use Rattle.fwu_formats.specs.{declared.kinds.CapsuleFault.CapsuleFault, Package.Entry}
+use Rattle.fwu_formats.specs.Capsule.{Shape, fmp_guid, has_sizes, shape_in, shape_of, swapped}
+use Rattle.capsule_tables.specs.declared.faults.CapsuleStop.TheVariants as stop
 use Rattle.fwu_formats.specs.declared.kinds.CapsuleFault.TheVariants as fault
 
 -- ---- what a range of bytes says is what they say at its place

@@ -2,21 +2,18 @@
 use Rattle.std.proofs.Common.{◌≡◌, ◌∙◌, ◌≤◌, ◌<◌, List, Option, Some, None, Result, Err, ap, sym, refl, ltb, le-ltb, ◌+◌, ◌*◌, ◌++◌, ◌∷◌, [], ℕ, length, map, replicate, arith, get_or, drop, append_assoc}
 use Rattle.std.specs.Prelude.{IsErrAnd, nat_lt, if◌then◌else◌, sum_by}
 use Rattle.std.proofs.lemmas.Result.{err_from_is_err_and}
-use Rattle.fwu_formats.specs.Package.{Part}
+use Rattle.fwu_formats.specs.{Package.Part, Capsule.swapped}
 use Rattle.fip_tables.proofs.Steps.{is-less, skips, takes}
+use Rattle.fip_tables.proofs.Again.{at-most, count-passes, none-of, some-none}
+use Rattle.fip_tables.proofs.Plans.{outlines-sixteen, sixteen-zeroed, length-zeroed, zeros-share}
+use Rattle.fip_tables.specs.{declared.faults.PackFault.PackFault, declared.faults.PackStop.PackStop, Frame.AreSixteen}
 use Rattle.fip_tables.specs.Packing.{first_of, package_limit, parts_fault, AreOutlines, zeroed}
-use Rattle.fip_tables.specs.declared.faults.PackFault.{PackFault}
 use Rattle.fip_tables.specs.declared.faults.PackFault.TheVariants as fault
-use Rattle.fip_tables.specs.declared.faults.PackStop.{PackStop}
 use Rattle.fip_tables.specs.declared.faults.PackStop.TheVariants as stop
 use Rattle.capsule_tables.specs.Making.{capsule_size, make_fault, capsule_front_bytes, head_gaps, headers_bytes, heads_bytes, item_head, made_head, places_bytes}
 use Rattle.std.proofs.lemmas.List.{length-replicate, drop_more}
 use Rattle.std.proofs.lemmas.List.Sums.{sum_by-cons}
 use Rattle.base_core.specs.Bytes.{le}
-use Rattle.fip_tables.specs.Frame.{AreSixteen}
-use Rattle.fip_tables.proofs.Again.{at-most, count-passes, none-of, some-none}
-use Rattle.fip_tables.proofs.Plans.{outlines-sixteen, sixteen-zeroed, length-zeroed, zeros-share}
-use Rattle.fwu_formats.specs.Capsule.{swapped}
 
 -- ---- the first fault of parts to be made
 

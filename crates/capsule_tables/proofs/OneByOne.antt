@@ -5,16 +5,12 @@ use Rattle.std.proofs.lemmas.List.Elements.{All-push}
 use Rattle.std.proofs.lemmas.List.FromFn.{map-range_with_len_more}
 use Rattle.std.specs.List.{All, list_any, range_with_len}
 use Rattle.base_core.specs.Bytes.{num_at, same_bytes}
-use Rattle.host_io.specs.Reads.{ReadsFile}
-use Rattle.host_io.specs.declared.files.Files.{Ghosts}
-use Rattle.fwu_formats.specs.Layout.{are_distinct}
-use Rattle.fwu_formats.specs.Package.{Entry, has_guid}
+use Rattle.host_io.specs.{Reads.ReadsFile, declared.files.Files.Ghosts}
+use Rattle.fwu_formats.specs.{Layout.are_distinct, Package.Entry, Package.has_guid, declared.kinds.CapsuleFault.CapsuleFault}
+use Rattle.fwu_formats.specs.Capsule.{Shape, after_headers, capsule_of, shape_of, table_with, usual_serial, entries_in, entry_in, first_some, is_item, item_at, item_fault, item_place, items_of}
 use Rattle.fip_tables.specs.Files.{Tells}
 use Rattle.fip_tables.proofs.Told.{part_of}
-use Rattle.capsule_tables.specs.Answers.{AreEntries}
-use Rattle.fwu_formats.specs.Capsule.{Shape, after_headers, capsule_of, shape_of, table_with, usual_serial, entries_in, entry_in, first_some, is_item, item_at, item_fault, item_place, items_of}
-use Rattle.capsule_tables.specs.Ranges.{IsRead, good_entry, item_read}
-use Rattle.fwu_formats.specs.declared.kinds.CapsuleFault.{CapsuleFault}
+use Rattle.capsule_tables.specs.{Answers.AreEntries, Ranges.IsRead, Ranges.good_entry, Ranges.item_read}
 use Rattle.fwu_formats.specs.declared.kinds.CapsuleFault.TheVariants as fault
 use Rattle.capsule_tables.proofs.Headers.{num_in}
 

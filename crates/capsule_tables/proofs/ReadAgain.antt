@@ -7,15 +7,12 @@ use Rattle.std.proofs.lemmas.List.FromFn.{get_or-map-range_with_len, length-map-
 use Rattle.std.proofs.Math.Seq.{drop-append_seam}
 use Rattle.std.specs.Prelude.{nat_le}
 use Rattle.std.specs.List.{list_any, range_with_len}
-use Rattle.base_core.specs.Bytes.{le, num, num_at, same_bytes}
-use Rattle.base_core.specs.Guid.{nil_guid}
+use Rattle.base_core.specs.{Bytes.le, Bytes.num, Bytes.num_at, Bytes.same_bytes, Guid.nil_guid}
 use Rattle.fwu_formats.specs.Package.{Entry, Part, Toc, entry_limit, has_guid, payload}
-use Rattle.fwu_formats.proofs.Spell.{at-place, num-le, num-le4, within}
-use Rattle.fip_tables.proofs.Again.{no-repeat, none-at, nil-passes, repeat-passes, same-sym}
-use Rattle.fip_tables.proofs.Steps.{skips}
-use Rattle.fip_tables.specs.Frame.{AreSixteen}
-use Rattle.fip_tables.specs.Packing.{is_nil, packed_part_at}
 use Rattle.fwu_formats.specs.Capsule.{Item, Shape, capsule_of, checked, entries_in, entry_in, fmp_guid, has_sizes, is_item, item_at, item_fault, item_place, places_end, shape_in, shape_of, swapped, usual_serial}
+use Rattle.fwu_formats.proofs.Spell.{at-place, num-le, num-le4, within}
+use Rattle.fip_tables.proofs.{Again.no-repeat, Again.none-at, Again.nil-passes, Again.repeat-passes, Again.same-sym, Steps.skips}
+use Rattle.fip_tables.specs.{Frame.AreSixteen, Packing.is_nil, Packing.packed_part_at}
 use Rattle.capsule_tables.specs.Making.{IsCapsuleOf, MadeIsRead, capsule_bytes, capsule_size, capsule_front_bytes, headers_bytes, item_bytes, item_head, items_bytes, made_head, make_fault, places_bytes}
 use Rattle.fwu_formats.specs.declared.kinds.CapsuleFault.TheVariants as fault
 use Rattle.capsule_tables.proofs.Made.{parts-pass, size-passes, few-parts, sizes, sizes-cons}

@@ -5,8 +5,7 @@ use Rattle.std.proofs.lemmas.List.FromFn.{get_or-map-range_with_len, length-map-
 use Rattle.std.proofs.lemmas.List.{length-drop, length-take-le}
 use Rattle.std.specs.Prelude.{nat_le}
 use Rattle.std.specs.List.{All, list_any, range_with_len}
-use Rattle.base_core.specs.Bytes.{num_at, same_bytes}
-use Rattle.base_core.specs.Guid.{nil_guid}
+use Rattle.base_core.specs.{Bytes.num_at, Bytes.same_bytes, Guid.nil_guid}
 use Rattle.fwu_formats.specs.Package.{Entry, Toc, entry_limit, has_guid}
 use Rattle.fwu_formats.specs.Capsule.{Item, Shape, after_headers, capsule_of, entries_in, entry_in, first_some, fmp_guid, has_sizes, is_item, item_at, item_fault, item_place, places_end, shape_in, shape_of, swapped, table_with, unless, usual_serial}
 use Rattle.fwu_formats.specs.declared.kinds.CapsuleFault.{CapsuleFault}

@@ -2,11 +2,9 @@
 use Rattle.std.specs.Prelude.{◌≡◌, ◌≤◌, ◌+◌, ◌⊎◌, ℕ, List, Option, Result, Ok, Err, OnOk, All, IsTrue, length, map}
 use Rattle.base_core.specs.Counts.{Rose}
 use Rattle.host_io.specs.Contents.{Directory}
-use Rattle.fwu_formats.specs.Layout.{are_distinct}
-use Rattle.fwu_formats.specs.Package.{Entry, Toc}
-use Rattle.fip_tables.specs.Files.{Lacks, Tells}
-use Rattle.fwu_formats.specs.Capsule.{usual_serial}
+use Rattle.fwu_formats.specs.{Layout.are_distinct, Package.Entry, Package.Toc, Capsule.usual_serial}
 use Rattle.fwu_formats.specs.declared.kinds.CapsuleFault.{CapsuleFault}
+use Rattle.fip_tables.specs.Files.{Lacks, Tells}
 use Rattle.capsule_tables.specs.declared.faults.CapsuleStop.{CapsuleStop}
 use Rattle.capsule_tables.specs.declared.faults.CapsuleStop.TheVariants.{Fault, ReadFailed}
 

@@ -1,12 +1,9 @@
 -- What is written of parts: a capsule without drivers, whose items of version 2 stand one after the other.
 use Rattle.std.specs.Prelude.{◌≡◌, ◌+◌, ◌*◌, ℕ, nat_lt, if◌then◌else◌, List, [], ◌∷◌, ◌++◌, length, map, replicate, sum_by, Option, Some, None, Ok}
 use Rattle.base_core.specs.Bytes.{le}
-use Rattle.fwu_formats.specs.Package.{Part, Toc, payload}
-use Rattle.fip_tables.specs.Frame.{AreSixteen}
+use Rattle.fwu_formats.specs.{Package.Part, Package.Toc, Package.payload, Capsule.capsule_of, Capsule.fmp_guid, Capsule.swapped}
+use Rattle.fip_tables.specs.{Frame.AreSixteen, declared.faults.PackFault.PackFault, declared.faults.PackFault.TheVariants.TooLarge}
 use Rattle.fip_tables.specs.Packing.{first_of, package_limit, parts_fault}
-use Rattle.fip_tables.specs.declared.faults.PackFault.{PackFault}
-use Rattle.fip_tables.specs.declared.faults.PackFault.TheVariants.{TooLarge}
-use Rattle.fwu_formats.specs.Capsule.{capsule_of, fmp_guid, swapped}
 
 -- the bytes of an item before its image
 abbrev pub made_head : ℕ

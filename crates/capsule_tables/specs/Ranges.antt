@@ -2,12 +2,10 @@
 -- item.
 use Rattle.std.specs.Prelude.{◌≡◌, ◌<◌, ◌≤◌, ◌⊎◌, All, ℕ, ◌+◌, not, ◌==◌, nat_lt, nat_le, ◌&&◌, if◌then◌else◌, List, length, take, drop, Option, Some, None, Result, Ok, Err}
 use Rattle.base_core.specs.Bytes.{num_at, same_bytes}
-use Rattle.fwu_formats.specs.Package.{Entry, Toc, entry_limit}
+use Rattle.fwu_formats.specs.{Package.Entry, Package.Toc, Package.entry_limit, declared.kinds.CapsuleFault.CapsuleFault}
 use Rattle.fwu_formats.specs.Capsule.{Item, Shape, entry_in, entry_of_item, fmp_guid, head_size, is_item, item_at, item_place, places_end, swapped}
-use Rattle.fwu_formats.specs.declared.kinds.CapsuleFault.{CapsuleFault}
 use Rattle.fwu_formats.specs.declared.kinds.CapsuleFault.TheVariants as fault
-use Rattle.capsule_tables.specs.Answers.{IsCapsuleAnswer}
-use Rattle.capsule_tables.specs.declared.faults.CapsuleStop.{CapsuleStop}
+use Rattle.capsule_tables.specs.{Answers.IsCapsuleAnswer, declared.faults.CapsuleStop.CapsuleStop}
 use Rattle.capsule_tables.specs.declared.faults.CapsuleStop.TheVariants.{Fault, ReadFailed}
 
 -- where the payloads' header stands and where the capsule ends, in a file of so many bytes

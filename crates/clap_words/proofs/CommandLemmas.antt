@@ -1,9 +1,8 @@
 -- A command with one more argument, or with one more command below it.
 use Rattle.std.proofs.Common.{◌≡◌, ◌∙◌, false, ap, ap₂}
 use Rattle.std.proofs.Math.Bool.{or-false}
+use Rattle.clap.specs.{declared.builder.Arg.Arg, declared.builder.Command.Command}
 use Rattle.clap.specs.Words.{AddsArg, App, Rule, app_of, rule_of, with_rule}
-use Rattle.clap.specs.declared.builder.Arg.{Arg}
-use Rattle.clap.specs.declared.builder.Command.{Command}
 use Rattle.clap_words.specs.Words.{AddsLeaf, AddsRule, IsApp, with_leaf}
 
 -- what `clap` tells of an argument that it adds

@@ -1,8 +1,7 @@
 -- The command that is named, with its arguments.
 use Rattle.std.proofs.Common.{◌≡◌, List, Option, Some, None, Result, option_map, option_and_then, refl, subst, ap₂}
 use Rattle.clap.specs.Words.{Row, Text}
-use Rattle.clap_words.specs.declared.UsageStop.{UsageStop}
-use Rattle.clap_words.specs.Answers.{GivesAsked}
+use Rattle.clap_words.specs.{declared.UsageStop.UsageStop, Answers.GivesAsked}
 
 pub found : {X Y : Type 0} (view : X → Y) (f : Text → List Row → Option Y) (o : Option (Text × List Row)) (name : Text) (rows : List Row) (r : Result X UsageStop)
     → Some name ≡ option_map (λ (p : Text × List Row). p.0) o → Some rows ≡ option_map (λ (p : Text × List Row). p.1) o → GivesAsked view r (f name rows)

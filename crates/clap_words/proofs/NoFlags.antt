@@ -2,8 +2,7 @@
 use Rattle.std.proofs.Common.{◌≡◌, ◌==◌, false, [], ◌∷◌, None, refl, arith}
 use Rattle.std.specs.Str.{bytes_eq}
 use Rattle.std.proofs.lemmas.Bool.Decides.{nat_tests}
-use Rattle.clap.specs.Lexer.{long_of, short_of}
-use Rattle.clap.specs.Words.{Text}
+use Rattle.clap.specs.{Lexer.long_of, Lexer.short_of, Words.Text}
 use Rattle.clap_words.specs.Plain.{IsPlain}
 
 -- what `clap` sees of a word that is no flag

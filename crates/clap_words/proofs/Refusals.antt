@@ -2,16 +2,12 @@
 use Rattle.std.proofs.Common.{◌≡◌, ◌&&◌, Bool, true, false, not, List, [], ◌∷◌, Option, Some, None, refl, sym, ◌∙◌, true≢false}
 use Rattle.std.specs.Prelude.{is_some}
 use Rattle.std.proofs.Common.{◌⊎◌, inl, inr}
-use Rattle.clap.specs.Kinds.{IsAmong, Kinds, check_kinds, or_else}
-use Rattle.clap.specs.declared.error.ErrorKind.{ErrorKind}
-use Rattle.clap.specs.declared.error.ErrorKind.TheVariants.{OutOfMemory}
+use Rattle.clap.specs.{Kinds.IsAmong, Kinds.Kinds, Kinds.check_kinds, Kinds.or_else, declared.error.ErrorKind.ErrorKind}
+use Rattle.clap.specs.{declared.error.ErrorKind.TheVariants.OutOfMemory, Facts.explicit_source, Simple.argument_words}
+use Rattle.clap.specs.{Simple.built, Simple.entered, Simple.names_of, Takes.is_given, Walk.Held, Walk.finished, Walk.nothing_held}
+use Rattle.clap.specs.{Walk.settled, Walk.walk, Walk.walk_from, Words.App, Words.Row, Words.Text, Words.subcommand_of}
 use Rattle.clap.specs.Faults.{defaults_fault, entered_fault, fault_of, settle_fault, walk_fault}
-use Rattle.clap.specs.Facts.{explicit_source}
-use Rattle.clap.specs.Simple.{argument_words, built, entered, names_of}
-use Rattle.clap.specs.Takes.{is_given}
-use Rattle.clap.specs.Walk.{Held, finished, nothing_held, settled, walk, walk_from}
 use Rattle.std.specs.List.{list_any}
-use Rattle.clap.specs.Words.{App, Row, Text, subcommand_of}
 use Rattle.clap_words.specs.Words.{reads, unless_it_fails}
 
 or_else_end : (a b : Kinds) → or_else a b ≡ [] → b ≡ []

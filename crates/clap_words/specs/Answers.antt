@@ -1,8 +1,7 @@
 -- What is asked of a command's arguments, and what a function answers.
 use Rattle.std.specs.Prelude.{◌≡◌, List, [], Option, Some, None, Result, Ok, Err, option_and_then, unwrap_or}
 use Rattle.clap.specs.Words.{Row, Text, all_of, first_of}
-use Rattle.clap_words.specs.Values.{file_named}
-use Rattle.clap_words.specs.declared.UsageStop.{UsageStop}
+use Rattle.clap_words.specs.{Values.file_named, declared.UsageStop.UsageStop}
 use Rattle.clap_words.specs.declared.UsageStop.TheVariants.{Usage, NoMemory}
 
 -- what a function returned, seen by view, is what is asked, unless memory ran out

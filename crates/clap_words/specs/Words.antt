@@ -1,10 +1,8 @@
 -- What a command line's arguments are made of, and which command its words name.
 use Rattle.std.specs.Prelude.{◌≡◌, List, [], ◌∷◌, Option, Some, None, true, false}
+use Rattle.clap.specs.{Faults.fault_of, Kinds.Kinds, declared.builder.Command.Command}
 use Rattle.clap.specs.Words.{App, Row, Rule, Text, app_of, new_app, new_rule, subcommand_of, with_rule, with_subcommand}
-use Rattle.clap.specs.Faults.{fault_of}
-use Rattle.clap.specs.Kinds.{Kinds}
 use Rattle.clap.specs.declared.builder.ArgAction.TheVariants.{Set, Append}
-use Rattle.clap.specs.declared.builder.Command.{Command}
 use Rattle.clap.specs.declared.builder.Command.TheViews.{out-Command}
 
 -- an argument that has to be there

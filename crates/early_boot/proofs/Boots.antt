@@ -4,23 +4,16 @@ use Rattle.std.proofs.lemmas.Bool.{cond_both}
 use Rattle.std.proofs.lemmas.Result.{IfOk-from_err, on_ok_weaker}
 use Rattle.std.specs.Prelude.{IsErr, OnOk}
 use Rattle.base_core.specs.Block.{block}
-use Rattle.flash_core.specs.declared.flash.FlashStop.{FlashStop}
-use Rattle.flash_core.specs.Told.{Told}
-use Rattle.flash_core.specs.May.{Keeps}
+use Rattle.flash_core.specs.{declared.flash.FlashStop.FlashStop, Told.Told, May.Keeps}
 use Rattle.flash_core.proofs.Calls.{keeps_then, keeps_wider}
-use Rattle.fwu_formats.specs.Counter.{counter_in}
-use Rattle.fwu_formats.specs.Layout.{Layout}
-use Rattle.fwu_formats.specs.Metadata.{MetaRead, meta_read}
+use Rattle.fwu_formats.specs.{Counter.counter_in, Layout.Layout, Metadata.MetaRead, Metadata.meta_read}
+use Rattle.fwu_model.specs.{Sound.Setting, Sound.choice, Answer.migrate_moves, Replica.BothHold, Replica.in_version}
 use Rattle.fwu_model.specs.State.{State, Move, Migrate, after}
-use Rattle.fwu_model.specs.Sound.{Setting, choice}
-use Rattle.fwu_model.specs.Answer.{migrate_moves}
-use Rattle.fwu_model.specs.Replica.{BothHold, in_version}
 use Rattle.fwu_formats.proofs.Same.{block-same}
 use Rattle.replicas.specs.Stores.{Repairs}
 use Rattle.moves.specs.Moved.{IsShown}
 use Rattle.moves.proofs.Composed.{after-append, does-stopped, does-then}
-use Rattle.early_boot.specs.declared.showing.Shown.{Shown}
-use Rattle.early_boot.specs.Showing.{state_shown}
+use Rattle.early_boot.specs.{declared.showing.Shown.Shown, Showing.state_shown}
 use Rattle.early_boot.specs.Choosing.{boot_setting, chosen_in, with_package}
 use Rattle.early_boot.specs.Starting.{MendsReplicas, mended, BootWrites, Boots, RepairsAndCounts, all_moves, count_moves, Leads, WritesMoves}
 use Rattle.early_boot.proofs.Led.{guarded-stop, on-ok, writes-at}

@@ -3,19 +3,13 @@ use Rattle.std.proofs.Common.{◌≡◌, inl, inr, ℕ, Bool, List, length, map,
 use Rattle.std.proofs.lemmas.Bool.{cases_Bool}
 use Rattle.std.specs.Prelude.{is_some}
 use Rattle.flash_core.specs.Told.{Told}
-use Rattle.fwu_formats.specs.Metadata.{MetaRead, state_at}
-use Rattle.fwu_formats.specs.Manifest.{version}
-use Rattle.fwu_formats.specs.Image.{package_in}
+use Rattle.fwu_formats.specs.{Metadata.MetaRead, Metadata.state_at, Manifest.version, Image.package_in}
+use Rattle.fwu_model.specs.{Sound.Setting, Sound.choice, Answer.held_package}
 use Rattle.fwu_model.specs.State.{State, Numbers, bank, is_invalid}
-use Rattle.fwu_model.specs.Sound.{Setting, choice}
-use Rattle.fwu_model.specs.Answer.{held_package}
 use Rattle.fwu_model.proofs.Shown.{chosen-are-whole, shown-are-formed}
 use Rattle.moves.specs.Moved.{IsShown}
 use Rattle.moves.proofs.Agree.{layout-kept, used-at, shown-by, package-same}
-use Rattle.early_boot.specs.Choosing.{boot_setting}
-use Rattle.early_boot.specs.Started.{Started}
-use Rattle.early_boot.specs.EndsBy.{StartsChosen}
-use Rattle.early_boot.specs.Knows.{KnowsStarted}
+use Rattle.early_boot.specs.{Choosing.boot_setting, Started.Started, EndsBy.StartsChosen, Knows.KnowsStarted}
 use Rattle.early_boot.proofs.Written.{counter-then, trials-then}
 
 module _ (passes : List ℕ → Bool) (old : Told) (b : Started) (n : Numbers) (t : Told) (starts : StartsChosen passes old b n t) where

@@ -3,37 +3,27 @@ use Rattle.std.proofs.Common.{◌≡◌, inl, inr, ℕ, ◌+◌, ◌*◌, ◌<�
 use Rattle.std.proofs.lemmas.Bool.{cond_both}
 use Rattle.std.proofs.lemmas.Result.{IfOk-from_err, on_ok_weaker}
 use Rattle.std.specs.Prelude.{IsErr, OnOk}
-use Rattle.flash_core.specs.declared.flash.FlashStop.{FlashStop}
-use Rattle.flash_core.specs.Told.{Told}
+use Rattle.flash_core.specs.{declared.flash.FlashStop.FlashStop, Told.Told, May.Keeps}
 use Rattle.base_core.specs.Block.{block}
-use Rattle.flash_core.specs.May.{Keeps}
 use Rattle.flash_core.proofs.Calls.{keeps_same, keeps_wider}
-use Rattle.fwu_formats.specs.Layout.{Layout}
+use Rattle.fwu_formats.specs.{Layout.Layout, Manifest.version, Image.marks, Counter.counter_in, declared.kinds.BankState.BankState}
 use Rattle.fwu_formats.specs.Metadata.{fits_meta, state_at, meta_read}
-use Rattle.fwu_formats.specs.Manifest.{version}
-use Rattle.fwu_formats.specs.Image.{marks}
-use Rattle.fwu_formats.specs.Counter.{counter_in}
-use Rattle.fwu_model.specs.State.{State, Bank, Move, Trial, RaiseTo, bank, is_valid, is_accepted}
-use Rattle.fwu_model.specs.Calm.{IsGuarded}
-use Rattle.fwu_model.specs.Answer.{booted_package, chosen_moves, start_moves}
-use Rattle.fwu_formats.specs.declared.kinds.BankState.{BankState}
 use Rattle.fwu_formats.specs.declared.kinds.BankState.TheVariants.{Invalid, Valid, Accepted}
-use Rattle.marks_core.proofs.Counting.{blank_at_count}
-use Rattle.marks_core.proofs.Recording.{unwritten}
+use Rattle.fwu_model.specs.{Calm.IsGuarded, Answer.booted_package, Answer.chosen_moves, Answer.start_moves}
+use Rattle.fwu_model.specs.State.{State, Bank, Move, Trial, RaiseTo, bank, is_valid, is_accepted}
+use Rattle.marks_core.proofs.{Counting.blank_at_count, Recording.unwritten}
 use Rattle.marks_core.specs.Marks.{Adds, Raises}
 use Rattle.moves.specs.Moved.{IsShown, GuardedBy}
+use Rattle.moves.proofs.{Composed.does-nothing, Composed.does-idle, Repaired.trial-guarded, Repaired.raise-guarded}
 use Rattle.moves.proofs.Agree.{shown-as, shown-counter, counter-agrees, layout-kept, marks-agree, block-agrees, decides-agrees, front-kept, no_meta}
-use Rattle.moves.proofs.Composed.{does-nothing, does-idle}
 use Rattle.moves.proofs.Trials.{trial-does, trial-shows, raise-does, raise-shows}
-use Rattle.moves.proofs.Repaired.{trial-guarded, raise-guarded}
 use Rattle.meta_layout.proofs.Fits.{meta-fits}
-use Rattle.early_boot.specs.declared.choosing.Chosen.{Chosen}
-use Rattle.early_boot.specs.declared.showing.Shown.{Shown}
-use Rattle.replicas.specs.Which.{Finds}
+use Rattle.early_boot.specs.{declared.choosing.Chosen.Chosen, declared.showing.Shown.Shown}
 use Rattle.early_boot.specs.declared.counting_starts.Counting.{Counting}
-use Rattle.early_boot.specs.declared.counting_starts.Counting.TheVariants as counting
 use Rattle.early_boot.specs.Showing.{ShowsImage, state_shown, trials_in}
 use Rattle.early_boot.specs.Starting.{count_moves, IsStartOf, Leads, WritesMove, WritesMoves, counting_in, counting_of, with_counts}
+use Rattle.replicas.specs.Which.{Finds}
+use Rattle.early_boot.specs.declared.counting_starts.Counting.TheVariants as counting
 use Rattle.early_boot.proofs.Lookups.{bank-is}
 
 -- a stop from which the flash is guarded

@@ -1,10 +1,8 @@
 -- What a boot leaves of its device on any device: its reading, and then its writes.
 use Rattle.std.proofs.Common.{Ok, Err, refl, ◌∙◌}
 use Rattle.std.specs.Prelude.{Result, IsErrOf}
-use Rattle.flash_core.specs.declared.flash.Flash.{Ghosts}
-use Rattle.flash_core.specs.declared.flash.FlashStop.{FlashStop}
+use Rattle.flash_core.specs.{declared.flash.Flash.Ghosts, declared.flash.FlashStop.FlashStop, Calls.Goes, Calls.Reads}
 use Rattle.flash_core.specs.declared.flash.FlashStop.TheVariants.{Lost, Failed}
-use Rattle.flash_core.specs.Calls.{Goes, Reads}
 use Rattle.flash_core.proofs.Costs.{spends_then}
 use Rattle.flash_core.proofs.Unarmed.{unarmed_done, unarmed_kept, unarmed_stopped, unarmed_then}
 

@@ -1,17 +1,12 @@
 -- The numbers of what is shown, on any device.
 use Rattle.std.proofs.Common.{length, ◌≡◌, ◌⊎◌, ◌≤◌, inl, inr, refl, sym, ◌∙◌, arith}
 use Rattle.std.specs.Prelude.{IsTrue}
-use Rattle.fwu_formats.specs.Layout.{fits_layout}
-use Rattle.fwu_formats.specs.Metadata.{fits_meta}
-use Rattle.fwu_formats.specs.Places.{trial_limit}
+use Rattle.fwu_formats.specs.{Layout.fits_layout, Metadata.fits_meta, Places.trial_limit}
 use Rattle.fwu_formats.proofs.SealLaws.{limits}
 use Rattle.meta_layout.proofs.Fits.{meta-fits}
-use Rattle.replicas.specs.declared.which.Which.{Which}
+use Rattle.replicas.specs.{declared.which.Which.Which, Which.form_read_of}
 use Rattle.replicas.specs.declared.which.Which.TheVariants.{MigrateZero, MigrateOne}
-use Rattle.replicas.specs.Which.{form_read_of}
-use Rattle.early_boot.specs.Numbers.{AreNumbers, numbers_shown}
-use Rattle.early_boot.specs.Showing.{CountsNone}
-use Rattle.early_boot.specs.declared.showing.Shown.{Shown}
+use Rattle.early_boot.specs.{Numbers.AreNumbers, Numbers.numbers_shown, Showing.CountsNone, declared.showing.Shown.Shown}
 
 one-or-two : (which : Which) → (form_read_of which ≡ 1) ⊎ (form_read_of which ≡ 2)
 one-or-two MigrateZero = inl refl

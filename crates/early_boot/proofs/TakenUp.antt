@@ -3,38 +3,24 @@ use Rattle.std.proofs.Common.{◌≡◌, ℕ, ◌+◌, ◌==◌, ◌&&◌, ◌||
 use Rattle.std.proofs.lemmas.Bool.{and_from, and_parts, cond_both, not-true}
 use Rattle.std.proofs.lemmas.Option.{same_Some}
 use Rattle.std.specs.Prelude.{Result}
-use Rattle.flash_core.specs.declared.flash.Flash.{Ghosts}
-use Rattle.flash_core.specs.declared.flash.Arming.{Arming}
-use Rattle.flash_core.specs.declared.flash.FlashStop.{FlashStop}
-use Rattle.flash_core.specs.Calls.{Goes, Reads}
-use Rattle.flash_core.specs.Told.{Told}
-use Rattle.flash_core.specs.Touches.{TouchesOnly}
+use Rattle.flash_core.specs.{declared.flash.Flash.Ghosts, declared.flash.Arming.Arming, declared.flash.FlashStop.FlashStop}
+use Rattle.flash_core.specs.{Calls.Goes, Calls.Reads, Told.Told, Touches.TouchesOnly}
 use Rattle.flash_core.proofs.Touches.{touches_none}
-use Rattle.early_boot.proofs.Touching.{repair-within, touches-behind}
-use Rattle.fwu_formats.specs.Manifest.{version}
-use Rattle.fwu_formats.specs.Places.{trial_limit}
-use Rattle.fwu_formats.specs.declared.kinds.BankState.{BankState}
+use Rattle.early_boot.proofs.{Touching.repair-within, Touching.touches-behind, Boots.past-migration, Lookups.some-of}
+use Rattle.early_boot.proofs.{Left.goes-done, Left.goes-stopped, Left.read-all, Left.read-goes, Numbered.numbers-are}
+use Rattle.early_boot.proofs.TakingUp.{none-ends, refused-ends, stopped-ends, taken-ends, taken-knows}
+use Rattle.fwu_formats.specs.{Manifest.version, Places.trial_limit, declared.kinds.BankState.BankState}
 use Rattle.fwu_formats.specs.declared.kinds.BankState.TheVariants.{Invalid, Valid, Accepted}
 use Rattle.fwu_model.specs.State.{State, Move, RaiseTo, bank, is_accepted, is_valid, after}
 use Rattle.fwu_model.specs.Sound.{Setting, can_fall_back, can_start, choice, holds_permitted}
 use Rattle.fwu_model.specs.Answer.{booted_package, chosen_moves, held_package, migrate_moves, start_moves}
 use Rattle.moves.proofs.Composed.{after-append}
 use Rattle.replicas.specs.Stores.{TakesRepair, TouchesRepair}
-use Rattle.early_boot.specs.declared.choosing.Chosen.{Chosen}
-use Rattle.early_boot.specs.declared.showing.Shown.{Shown}
-use Rattle.early_boot.specs.declared.showing.Unshown.{Unshown}
-use Rattle.early_boot.specs.declared.showing.Unshown.TheVariants as unshown
+use Rattle.early_boot.specs.{declared.choosing.Chosen.Chosen, declared.showing.Shown.Shown, declared.showing.Unshown.Unshown}
+use Rattle.early_boot.specs.{Choosing.IsFound, Knows.KnowsStarted, Starting.TakesMending, Starting.mended, Tells.started_as}
 use Rattle.early_boot.specs.Showing.{HasShown, ShowsNothing, stop_in}
-use Rattle.early_boot.specs.Choosing.{IsFound}
-use Rattle.early_boot.specs.Knows.{KnowsStarted}
-use Rattle.early_boot.specs.Starting.{TakesMending, mended}
-use Rattle.early_boot.specs.Tells.{started_as}
 use Rattle.early_boot.specs.TakenUp.{BootedRuns, IsTakeUp, TakeUpEnds, TakenUp, MendsFound, OnceFound, RefusalIsIdle, SpendsFound, TakenByNumbers, TakesOnce, TakesTakeUp, not_started, running_bank, running_in, runs_from, stop_in_end, stopped, taken, unshown_as, was_started}
-use Rattle.early_boot.proofs.Boots.{past-migration}
-use Rattle.early_boot.proofs.Lookups.{some-of}
-use Rattle.early_boot.proofs.Left.{goes-done, goes-stopped, read-all, read-goes}
-use Rattle.early_boot.proofs.Numbered.{numbers-are}
-use Rattle.early_boot.proofs.TakingUp.{none-ends, refused-ends, stopped-ends, taken-ends, taken-knows}
+use Rattle.early_boot.specs.declared.showing.Unshown.TheVariants as unshown
 
 -- ---- nothing was shown, so that nothing was written
 

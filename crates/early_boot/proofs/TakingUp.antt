@@ -2,37 +2,22 @@
 use Rattle.std.proofs.Common.{◌≡◌, inl, inr, ℕ, ◌<◌, ◌==◌, ◌&&◌, Bool, true, false, cond, eqb-true, List, length, map, Option, Some, None, Ok, Err, refl, sym, ap, subst, ◌∙◌, arith, IsTrue, IsFalse}
 use Rattle.std.proofs.lemmas.Bool.{and_parts, cases_Bool, cond_both}
 use Rattle.std.specs.Prelude.{is_some}
-use Rattle.flash_core.specs.declared.flash.FlashStop.{FlashStop}
-use Rattle.flash_core.specs.Told.{Told}
-use Rattle.flash_core.specs.May.{Guards}
-use Rattle.fwu_formats.specs.Layout.{Layout}
+use Rattle.flash_core.specs.{declared.flash.FlashStop.FlashStop, Told.Told, May.Guards}
+use Rattle.fwu_formats.specs.{Layout.Layout, Manifest.version, Image.package_in, declared.kinds.BankState.BankState}
 use Rattle.fwu_formats.specs.Metadata.{Meta, MetaRead, fits_meta, state_at}
-use Rattle.fwu_formats.specs.Manifest.{version}
-use Rattle.fwu_formats.specs.Image.{package_in}
-use Rattle.fwu_formats.specs.declared.kinds.BankState.{BankState}
 use Rattle.fwu_formats.specs.declared.kinds.BankState.TheVariants.{Invalid}
+use Rattle.fwu_model.specs.{Sound.Setting, Sound.holds_permitted, Seen.state_of, Answer.booted_package, Answer.held_package}
+use Rattle.fwu_model.specs.{Answer.migrate_moves, Calm.IsCalm, Calm.IsAtRest, Run.prefixes, Headline.LeavesOneOf}
 use Rattle.fwu_model.specs.State.{State, Bank, bank, is_invalid, is_accepted, numbers_of, after}
-use Rattle.fwu_model.specs.Sound.{Setting, holds_permitted}
-use Rattle.fwu_model.specs.Seen.{state_of}
-use Rattle.fwu_model.specs.Answer.{booted_package, held_package, migrate_moves}
-use Rattle.fwu_model.specs.Calm.{IsCalm, IsAtRest}
-use Rattle.fwu_model.specs.Run.{prefixes}
-use Rattle.fwu_model.specs.Headline.{LeavesOneOf}
-use Rattle.moves.proofs.Agree.{shown-as, package-same}
-use Rattle.moves.proofs.Composed.{does-idle}
+use Rattle.moves.proofs.{Agree.shown-as, Agree.package-same, Composed.does-idle}
 use Rattle.meta_layout.proofs.Fits.{meta-fits}
-use Rattle.early_boot.specs.declared.choosing.Chosen.{Chosen}
-use Rattle.early_boot.specs.declared.showing.Shown.{Shown}
-use Rattle.early_boot.specs.declared.showing.Unshown.{Unshown}
-use Rattle.early_boot.specs.declared.showing.Unshown.TheVariants as unshown
+use Rattle.early_boot.specs.{declared.choosing.Chosen.Chosen, declared.showing.Shown.Shown, declared.showing.Unshown.Unshown}
+use Rattle.early_boot.specs.{Starting.MendsReplicas, Starting.mended, Knows.KnowsStarted, Tells.started_as}
 use Rattle.early_boot.specs.Showing.{ShowsImage, ShowsNothing, state_shown}
 use Rattle.early_boot.specs.Choosing.{boot_setting, candidate_in, chosen_as}
-use Rattle.early_boot.specs.Starting.{MendsReplicas, mended}
-use Rattle.early_boot.specs.Knows.{KnowsStarted}
-use Rattle.early_boot.specs.Tells.{started_as}
 use Rattle.early_boot.specs.TakenUp.{MendsFound, TakeUpEnds, TakesBank, TakesReady, may_run, not_started, running_in, runs_from, stopped, taken, unshown_as, was_started}
-use Rattle.early_boot.proofs.Choices.{sees, shown-numbers, state-seen}
-use Rattle.early_boot.proofs.Ended.{seen-metadata}
+use Rattle.early_boot.specs.declared.showing.Unshown.TheVariants as unshown
+use Rattle.early_boot.proofs.{Choices.sees, Choices.shown-numbers, Choices.state-seen, Ended.seen-metadata}
 use Rattle.early_boot.proofs.Lookups.{bank-is, found-by-test, some-of}
 
 -- ---- a bank that may run

@@ -1,28 +1,19 @@
 -- Which blocks a boot may erase or program, and how much nearer an armed loss it comes, by the bytes that its device told at entry.
 use Rattle.std.proofs.Common.{◌≡◌, inl, inr, ℕ, Bool, true, false, cond, ◌==◌, Option, Some, None, Ok, Err, sym, ap, subst, ◌∙◌, arith, not, List, refl}
 use Rattle.std.specs.Prelude.{Result, slice_index_or}
-use Rattle.flash_core.specs.declared.flash.FlashStop.{FlashStop}
-use Rattle.flash_core.specs.Touches.{TouchesOnly}
+use Rattle.flash_core.specs.{declared.flash.FlashStop.FlashStop, Touches.TouchesOnly, declared.flash.Arming.Arming}
 use Rattle.flash_core.proofs.Touches.{touches_none, touches_then, touches_wider}
-use Rattle.fwu_formats.specs.Metadata.{state_at, MetaRead}
-use Rattle.fwu_formats.specs.Places.{counter_block}
+use Rattle.fwu_formats.specs.{Metadata.state_at, Metadata.MetaRead, Places.counter_block}
 use Rattle.fwu_formats.specs.declared.kinds.BankState.TheVariants.{Invalid}
 use Rattle.fwu_model.specs.State.{Numbers}
-use Rattle.early_boot.specs.declared.choosing.Chosen.{Chosen}
-use Rattle.early_boot.specs.declared.counting_starts.Counting.{Counting}
-use Rattle.early_boot.specs.declared.counting_starts.Counting.TheVariants as counting
-use Rattle.early_boot.specs.declared.showing.Shown.{Shown}
+use Rattle.early_boot.specs.{declared.choosing.Chosen.Chosen, declared.counting_starts.Counting.Counting}
+use Rattle.early_boot.specs.{declared.showing.Shown.Shown, Numbers.numbers_shown, Showing.ShowsImage, Tells.started_as}
 use Rattle.early_boot.specs.Starting.{TouchesCounting, counting_in, counting_of, mended, TouchesFound, TouchesRepairAndStart, TakesMending, TakesMendingAndStart, TakesRepairAndStart, CountsLater, TakesCounting}
-use Rattle.early_boot.specs.Numbers.{numbers_shown}
 use Rattle.early_boot.specs.Ends.{Ended, booted, no_bank, lost, failed}
-use Rattle.replicas.specs.declared.which.Which.{Which}
-use Rattle.replicas.specs.declared.which.Which.TheVariants.{Same, RepairZero, RepairOne}
-use Rattle.replicas.specs.Which.{form_read_of}
-use Rattle.replicas.specs.Stores.{TouchesRepair, TakesRepair}
 use Rattle.early_boot.specs.EndsBy.{TouchesBoot, TouchesStart, TouchesStopped, counting_told, TakesBoot, TakesLoaded, TakesLoadedAndStart, TakesStart}
-use Rattle.flash_core.specs.declared.flash.Arming.{Arming}
-use Rattle.early_boot.specs.Showing.{ShowsImage}
-use Rattle.early_boot.specs.Tells.{started_as}
+use Rattle.early_boot.specs.declared.counting_starts.Counting.TheVariants as counting
+use Rattle.replicas.specs.{declared.which.Which.Which, Which.form_read_of, Stores.TouchesRepair, Stores.TakesRepair}
+use Rattle.replicas.specs.declared.which.Which.TheVariants.{Same, RepairZero, RepairOne}
 
 -- after reads
 pub touches-behind : (low high : ℕ) {a b c : ℕ → ℕ} → b ≡ a → TouchesOnly low high b c → TouchesOnly low high a c

@@ -3,23 +3,16 @@ use Rattle.std.proofs.Common.{◌≡◌, ◌≢◌, ◌⊎◌, inl, inr, ℕ, �
 use Rattle.std.proofs.lemmas.Bool.{cases_lt, cond_both, eqb-false}
 use Rattle.std.proofs.lemmas.Option.{same_Some}
 use Rattle.base_core.specs.Block.{granule}
-use Rattle.flash_core.specs.Told.{Told}
-use Rattle.flash_core.specs.May.{Keeps}
-use Rattle.fwu_formats.specs.Layout.{Layout}
-use Rattle.fwu_formats.specs.Metadata.{MetaRead}
-use Rattle.fwu_formats.specs.Image.{is_blank, marks}
-use Rattle.fwu_formats.specs.Counter.{counter_in}
+use Rattle.flash_core.specs.{Told.Told, May.Keeps}
+use Rattle.fwu_formats.specs.{Layout.Layout, Metadata.MetaRead, Image.is_blank, Image.marks, Counter.counter_in}
 use Rattle.fwu_model.specs.State as move
-use Rattle.fwu_model.specs.State.{State, Move, Numbers}
-use Rattle.fwu_model.specs.Seen.{state_of}
+use Rattle.fwu_model.specs.{State.State, State.Move, State.Numbers, Seen.state_of}
 use Rattle.fwu_model.proofs.Shown.{seen-by-metadata}
 use Rattle.marks_core.proofs.Counting.{same_granule}
 use Rattle.replicas.proofs.Reading.{by_zero}
 use Rattle.moves.proofs.Agree.{layout-kept}
-use Rattle.early_boot.specs.Showing.{trials_in}
+use Rattle.early_boot.specs.{Showing.trials_in, Started.Started, EndsBy.StartsChosen}
 use Rattle.early_boot.specs.Starting.{RepairsAndCounts, WritesMoves}
-use Rattle.early_boot.specs.Started.{Started}
-use Rattle.early_boot.specs.EndsBy.{StartsChosen}
 use Rattle.base_core.proofs.Lists.{prefix-same}
 
 -- ---- the granules of the trials

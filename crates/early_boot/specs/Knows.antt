@@ -1,15 +1,9 @@
 -- What is known of the flash of a boot that started a bank, sound or not.
 use Rattle.std.specs.Prelude.{◌≡◌, ℕ, List, length, map, is_some, Ok, IsTrue, IsFalse}
 use Rattle.flash_core.specs.Told.{Told}
-use Rattle.fwu_formats.specs.Metadata.{state_at}
-use Rattle.fwu_formats.specs.Manifest.{version}
-use Rattle.fwu_formats.specs.Image.{layout_seen, package_in}
-use Rattle.fwu_formats.specs.Counter.{counter_in}
-use Rattle.fwu_model.specs.Replica.{BothHold}
-use Rattle.fwu_model.specs.State.{is_invalid}
-use Rattle.fwu_model.specs.Answer.{held_package}
-use Rattle.early_boot.specs.Showing.{trials_in}
-use Rattle.early_boot.specs.Tells.{Started}
+use Rattle.fwu_formats.specs.{Metadata.state_at, Manifest.version, Image.layout_seen, Image.package_in, Counter.counter_in}
+use Rattle.fwu_model.specs.{Replica.BothHold, State.is_invalid, Answer.held_package}
+use Rattle.early_boot.specs.{Showing.trials_in, Tells.Started}
 
 pub record KnowsStarted (b : Started) (t : Told) : Type 0 where
   pub layout_is : layout_seen t.now ≡ Ok b.layout

@@ -1,38 +1,23 @@
 -- What a boot leaves of a flash that shows this: the replicas are repaired, a bank is chosen, and its start is counted.
 use Rattle.std.specs.Prelude.{◌≡◌, ◌⊎◌, ℕ, ◌*◌, Bool, List, [], ◌++◌, Option, Some, None, Result, Ok, Err, OnOk, IsTrue, ◌+◌, ◌<◌, ◌≤◌, ◌==◌, nat_lt, if◌then◌else◌, ◌∷◌, replicate}
 use Rattle.base_core.specs.Block.{block_bytes, block, granule_bytes, granule}
-use Rattle.flash_core.specs.declared.flash.Arming.{Arming}
-use Rattle.flash_core.specs.declared.flash.Flash.{Ghosts}
-use Rattle.flash_core.specs.declared.flash.FlashStop.{FlashStop}
-use Rattle.flash_core.specs.Told.{Told, NothingDirty}
-use Rattle.flash_core.specs.May.{Guards, Keeps}
-use Rattle.fwu_formats.specs.Counter.{counter_in, record_bytes}
-use Rattle.fwu_formats.specs.Layout.{Layout}
-use Rattle.fwu_formats.specs.Metadata.{MetaRead, meta_read, state_at}
-use Rattle.fwu_model.specs.State.{State, Move, after, Trial, RaiseTo, bank, is_valid}
-use Rattle.fwu_model.specs.Sound.{Setting, choice}
-use Rattle.fwu_model.specs.Seen.{IsTidy}
-use Rattle.fwu_model.specs.Calm.{IsCalm, IsAtRest}
-use Rattle.fwu_model.specs.Answer.{migrate_moves, chosen_moves, booted_package}
-use Rattle.fwu_model.specs.Replica.{BothHold, in_version}
-use Rattle.replicas.specs.Stores.{Repairs, TakesRepair, TouchesRepair, TakesOne}
-use Rattle.moves.specs.Moved.{IsShown, Does, GuardedBy, IsReady}
-use Rattle.early_boot.specs.declared.choosing.Chosen.{Chosen}
-use Rattle.early_boot.specs.declared.showing.Shown.{Shown}
-use Rattle.early_boot.specs.Showing.{ShowsImage, state_shown}
-use Rattle.early_boot.specs.Choosing.{IsFound, MayBeChosen, boot_setting}
-use Rattle.replicas.specs.declared.which.Which.{Which}
-use Rattle.replicas.specs.declared.which.Which.TheVariants.{Same, MigrateZero}
-use Rattle.flash_core.specs.Counts.{lowered}
-use Rattle.flash_core.specs.Touches.{TouchesOnly}
+use Rattle.flash_core.specs.{declared.flash.Arming.Arming, declared.flash.Flash.Ghosts, declared.flash.FlashStop.FlashStop}
+use Rattle.flash_core.specs.{Told.Told, Told.NothingDirty, May.Guards, May.Keeps, Counts.lowered, Touches.TouchesOnly}
 use Rattle.flash_core.specs.Replaces.{padded, Replaces}
-use Rattle.fwu_formats.specs.Manifest.{version}
-use Rattle.fwu_formats.specs.Image.{is_blank}
-use Rattle.fwu_formats.specs.Places.{trial_limit, trial_block}
-use Rattle.fwu_formats.specs.declared.kinds.BankState.{BankState}
+use Rattle.fwu_formats.specs.{Counter.counter_in, Counter.record_bytes, Layout.Layout, Manifest.version, Image.is_blank}
+use Rattle.fwu_formats.specs.{Places.trial_limit, Places.trial_block, declared.kinds.BankState.BankState}
+use Rattle.fwu_formats.specs.Metadata.{MetaRead, meta_read, state_at}
 use Rattle.fwu_formats.specs.declared.kinds.BankState.TheVariants.{Invalid, Valid, Accepted}
+use Rattle.fwu_model.specs.{Sound.Setting, Sound.choice, Seen.IsTidy, Calm.IsCalm, Calm.IsAtRest, Answer.migrate_moves}
+use Rattle.fwu_model.specs.{Answer.chosen_moves, Answer.booted_package, Replica.BothHold, Replica.in_version}
+use Rattle.fwu_model.specs.State.{State, Move, after, Trial, RaiseTo, bank, is_valid}
+use Rattle.replicas.specs.{Stores.Repairs, Stores.TakesRepair, Stores.TouchesRepair, Stores.TakesOne, declared.which.Which.Which}
+use Rattle.replicas.specs.declared.which.Which.TheVariants.{Same, MigrateZero}
+use Rattle.moves.specs.Moved.{IsShown, Does, GuardedBy, IsReady}
+use Rattle.early_boot.specs.{declared.choosing.Chosen.Chosen, declared.showing.Shown.Shown, Showing.ShowsImage}
+use Rattle.early_boot.specs.{Showing.state_shown, declared.counting_starts.Counting.Counting}
+use Rattle.early_boot.specs.Choosing.{IsFound, MayBeChosen, boot_setting}
 use Rattle.marks_core.specs.Marks.{TouchesOneRecord, record_place}
-use Rattle.early_boot.specs.declared.counting_starts.Counting.{Counting}
 use Rattle.early_boot.specs.declared.counting_starts.Counting.TheVariants as counting
 
 -- ---- what is written, on any flash, tidy or not, at any exit

@@ -1,43 +1,24 @@
 -- How a bank that an earlier boot started is taken up, by the bytes of the flash and by the machine.
 use Rattle.std.specs.Prelude.{◌≡◌, ◌⊎◌, ℕ, ◌*◌, ◌==◌, ◌&&◌, ◌||◌, not, nat_lt, if◌then◌else◌, Bool, false, List, length, map, None, Option, Some, ⊤, Result, Ok, Err, is_ok, IsTrue, slice_index_or}
 use Rattle.base_core.specs.Block.{block_bytes}
-use Rattle.flash_core.specs.declared.flash.FlashStop.{FlashStop}
-use Rattle.flash_core.specs.declared.flash.Flash.{Ghosts}
-use Rattle.flash_core.specs.declared.flash.Arming.{Arming}
-use Rattle.flash_core.specs.declared.flash.Counts.{Counts}
+use Rattle.flash_core.specs.{declared.flash.FlashStop.FlashStop, declared.flash.Flash.Ghosts, declared.flash.Arming.Arming}
+use Rattle.flash_core.specs.{declared.flash.Counts.Counts, Told.Told, Touches.TouchesOnly, May.Guards, May.Keeps}
 use Rattle.flash_core.specs.Counts.{Spends, StaysUnarmed}
-use Rattle.flash_core.specs.Told.{Told}
-use Rattle.flash_core.specs.Touches.{TouchesOnly}
-use Rattle.flash_core.specs.May.{Guards, Keeps}
-use Rattle.fwu_formats.specs.Layout.{Layout}
-use Rattle.fwu_formats.specs.Metadata.{MetaRead, state_at}
-use Rattle.fwu_formats.specs.Manifest.{version}
-use Rattle.fwu_formats.specs.Image.{layout_seen, deciding}
-use Rattle.fwu_formats.specs.declared.kinds.BankState.{BankState}
+use Rattle.fwu_formats.specs.{Layout.Layout, Metadata.MetaRead, Metadata.state_at, Manifest.version, Image.layout_seen}
+use Rattle.fwu_formats.specs.{Image.deciding, declared.kinds.BankState.BankState, declared.kinds.LayoutFault.LayoutFault}
 use Rattle.fwu_formats.specs.declared.kinds.BankState.TheVariants.{Invalid}
-use Rattle.fwu_formats.specs.declared.kinds.LayoutFault.{LayoutFault}
+use Rattle.fwu_model.specs.{Sound.Setting, Sound.choice, Sound.holds_permitted, Seen.seen, Session.On, Session.no_handles}
+use Rattle.fwu_model.specs.{Calm.IsCalm, Calm.IsAtRest, Run.prefixes, Headline.LeavesOneOf}
 use Rattle.fwu_model.specs.State.{State, Numbers, bank, is_valid, is_accepted, numbers_of, after}
-use Rattle.fwu_model.specs.Sound.{Setting, choice, holds_permitted}
-use Rattle.fwu_model.specs.Seen.{seen}
-use Rattle.fwu_model.specs.Session.{On, no_handles}
 use Rattle.fwu_model.specs.Answer.{booted_package, boot_moves, migrate_moves}
-use Rattle.fwu_model.specs.Calm.{IsCalm, IsAtRest}
-use Rattle.fwu_model.specs.Run.{prefixes}
-use Rattle.fwu_model.specs.Headline.{LeavesOneOf}
-use Rattle.replicas.specs.Stores.{Repairs, TakesRepair}
-use Rattle.replicas.specs.declared.which.Which.{Which}
+use Rattle.replicas.specs.{Stores.Repairs, Stores.TakesRepair, declared.which.Which.Which}
 use Rattle.moves.specs.Moved.{Does, IsShown, GuardedBy}
-use Rattle.early_boot.specs.declared.choosing.Chosen.{Chosen}
-use Rattle.early_boot.specs.declared.showing.Shown.{Shown}
-use Rattle.early_boot.specs.declared.showing.Unshown.{Unshown}
-use Rattle.early_boot.specs.declared.showing.Unshown.TheVariants as unshown
-use Rattle.early_boot.specs.declared.taking_up.TakeUpEnd.{TakeUpEnd}
-use Rattle.early_boot.specs.declared.taking_up.TakeUpEnd.TheVariants as take_up_end
-use Rattle.early_boot.specs.Choosing.{MayStart, found_in}
-use Rattle.early_boot.specs.Starting.{MendsReplicas, TakesMending}
-use Rattle.early_boot.specs.Numbers.{AreNumbers}
+use Rattle.early_boot.specs.{declared.choosing.Chosen.Chosen, declared.showing.Shown.Shown, declared.showing.Unshown.Unshown}
+use Rattle.early_boot.specs.{declared.taking_up.TakeUpEnd.TakeUpEnd, Choosing.MayStart, Choosing.found_in, Starting.MendsReplicas}
+use Rattle.early_boot.specs.{Starting.TakesMending, Numbers.AreNumbers, EndsBy.Renewed, EndsBy.TakesLoaded, EndsBy.WroteNothing}
 use Rattle.early_boot.specs.Started.{Started, started, device, started_session, started_numbers}
-use Rattle.early_boot.specs.EndsBy.{Renewed, TakesLoaded, WroteNothing}
+use Rattle.early_boot.specs.declared.showing.Unshown.TheVariants as unshown
+use Rattle.early_boot.specs.declared.taking_up.TakeUpEnd.TheVariants as take_up_end
 
 -- ---- which bank a boot may have started
 

@@ -1,9 +1,7 @@
 -- What a boot that started a bank tells beside its device.
 use Rattle.std.specs.Prelude.{ℕ, Bool, not, ◌==◌, List}
-use Rattle.fwu_formats.specs.Layout.{Layout}
-use Rattle.fwu_formats.specs.Metadata.{MetaRead}
-use Rattle.early_boot.specs.declared.choosing.Chosen.{Chosen}
-use Rattle.early_boot.specs.declared.showing.Shown.{Shown}
+use Rattle.fwu_formats.specs.{Layout.Layout, Metadata.MetaRead}
+use Rattle.early_boot.specs.{declared.choosing.Chosen.Chosen, declared.showing.Shown.Shown}
 
 pub record Started : Type 0 where
   pub layout : Layout

@@ -1,26 +1,18 @@
 -- Packages and capsules that are made of one another.
 use Rattle.std.proofs.Common.{◌≡◌, ◌∙◌, List, Some, None, Ok, Err, length, map, refl, sym, ap, ℕ, [], Option, Result}
-use Rattle.fwu_formats.specs.Package.{Part, Toc}
-use Rattle.fip_tables.specs.Packing.{zeroed}
-use Rattle.fip_tables.specs.declared.faults.PackFault.{PackFault}
-use Rattle.capsule_tables.specs.Making.{capsule_bytes, make_fault}
-use Rattle.capsule_tables.proofs.Made.{same-make_fault}
+use Rattle.fwu_formats.specs.{Package.Part, Package.Toc, Capsule.capsule_of, declared.kinds.CapsuleFault.CapsuleFault}
+use Rattle.fip_tables.specs.{Packing.zeroed, declared.faults.PackFault.PackFault, Files.Lacks, Files.Tells}
+use Rattle.capsule_tables.specs.{Making.capsule_bytes, Making.make_fault, Answers.IsCapsuleAnswer}
+use Rattle.capsule_tables.specs.declared.faults.CapsuleStop.{CapsuleStop}
+use Rattle.capsule_tables.proofs.{Made.same-make_fault, Within.ends-within}
+use Rattle.fip_making.specs.{Payloads.HasEntry, Payloads.bytes_in, declared.stops.Stop.Stop}
 use Rattle.fip_making.specs.Values.{enclose_value, after, capsule_in, capsule_table, capsule_value, kept_part, pack_value, repackage_value, there}
 use Rattle.fip_making.specs.declared.stops.Stop.TheVariants as stop
 use Rattle.std.specs.Prelude.{unwrap_or}
 use Rattle.std.specs.List.{All}
 use Rattle.host_io.specs.Contents.{Directory}
-use Rattle.fip_tables.specs.Files.{Lacks, Tells}
-use Rattle.capsule_tables.specs.Answers.{IsCapsuleAnswer}
-use Rattle.fwu_formats.specs.Capsule.{capsule_of}
-use Rattle.fwu_formats.specs.declared.kinds.CapsuleFault.{CapsuleFault}
-use Rattle.capsule_tables.specs.declared.faults.CapsuleStop.{CapsuleStop}
 use Rattle.capsule_tables.specs.declared.faults.CapsuleStop.TheVariants as read_stop
-use Rattle.capsule_tables.proofs.Within.{ends-within}
-use Rattle.fip_making.specs.Payloads.{HasEntry, bytes_in}
-use Rattle.fip_making.specs.declared.stops.Stop.{Stop}
-use Rattle.fip_making.proofs.Tables.{tells as tells-of}
-use Rattle.fip_making.proofs.Packings.{held-entries}
+use Rattle.fip_making.proofs.{Tables.tells as tells-of, Packings.held-entries}
 use Rattle.fip_making.proofs.Repacking.{IsOpened, going-on, stopped, table_with}
 
 -- ---- payloads of capsules that are made

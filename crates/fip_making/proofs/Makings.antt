@@ -1,32 +1,22 @@
 -- What is made of payloads.
 use Rattle.std.proofs.Common.{◌≡◌, ℕ, List, Option, Some, None, Ok, Err, Vec, inl, inr, subst, length, arith, refl, sym, ap, ◌∙◌, ◌<◌, zero, suc, [], ◌∷◌, Result, get_or, map}
 use Rattle.base_core.specs.Counts.{Rose}
+use Rattle.host_io.specs.{Whole.HasFileCause, Whole.LacksFile, declared.stops.ReadStop.ReadStop, declared.joining.Piece.Piece}
 use Rattle.host_io.specs.Contents.{Directory, HasRange, Holds}
-use Rattle.host_io.specs.Whole.{HasFileCause, LacksFile}
-use Rattle.host_io.specs.declared.stops.ReadStop.{ReadStop}
+use Rattle.host_io.specs.Joined.{Chunk, HasPiece, chunk_in, joined}
 use Rattle.host_io.specs.declared.stops.ReadStop.TheVariants as read_stop
 use Rattle.std.specs.Global.{Global}
-use Rattle.fip_making.specs.Answers.{Gives}
-use Rattle.fip_making.specs.Values.{file_value, size_in, there}
-use Rattle.fip_making.specs.Stops.{unread_by, packed_by}
+use Rattle.fip_making.specs.{Answers.Gives, Values.file_value, Values.size_in, Values.there, Stops.unread_by, Stops.packed_by}
+use Rattle.fip_making.specs.{declared.made.Made.Made, declared.payloads.Payload.Payload, declared.stops.Stop.Stop}
+use Rattle.fip_making.specs.Payloads.{MakesFile, IsMadeOf, IsThere, IsWholeFile, made_by, made_bytes, outline_of, part_told, payload_piece, payload_pieces}
 use Rattle.fip_making.specs.declared.stops.Stop.TheVariants as stop
-use Rattle.fip_making.proofs.Tables.{sized, if-ok-as}
+use Rattle.fip_making.proofs.{Tables.sized, Tables.if-ok-as, Packings.zeroed-all, Packings.gives-same}
 use Rattle.std.proofs.lemmas.List.{length-map}
 use Rattle.std.specs.List.{All}
 use Rattle.fwu_formats.specs.Package.{Part}
-use Rattle.fip_tables.specs.Frame.{IsFrame, chunks}
-use Rattle.fip_tables.specs.Packing.{zeroed}
-use Rattle.fip_tables.specs.declared.faults.PackFault.{PackFault}
-use Rattle.fip_tables.specs.declared.faults.PackStop.{PackStop}
+use Rattle.fip_tables.specs.{Frame.IsFrame, Frame.chunks, Packing.zeroed, declared.faults.PackFault.PackFault}
+use Rattle.fip_tables.specs.{declared.faults.PackStop.PackStop, declared.frame.Frame.Frame}
 use Rattle.fip_tables.specs.declared.faults.PackStop.TheVariants as pack
-use Rattle.fip_tables.specs.declared.frame.Frame.{Frame}
-use Rattle.host_io.specs.Joined.{Chunk, HasPiece, chunk_in, joined}
-use Rattle.host_io.specs.declared.joining.Piece.{Piece}
-use Rattle.fip_making.specs.Payloads.{MakesFile, IsMadeOf, IsThere, IsWholeFile, made_by, made_bytes, outline_of, part_told, payload_piece, payload_pieces}
-use Rattle.fip_making.specs.declared.made.Made.{Made}
-use Rattle.fip_making.specs.declared.payloads.Payload.{Payload}
-use Rattle.fip_making.specs.declared.stops.Stop.{Stop}
-use Rattle.fip_making.proofs.Packings.{zeroed-all, gives-same}
 
 -- ---- whole files
 

@@ -6,22 +6,15 @@ use Rattle.std.proofs.lemmas.List.{length-map, map-append}
 use Rattle.std.proofs.lemmas.List.Folds.{list_any-append}
 use Rattle.std.proofs.Math.Bool.{or-false}
 use Rattle.host_io.specs.Contents.{Directory}
-use Rattle.fwu_formats.specs.Manifest.{Row}
-use Rattle.fwu_formats.specs.declared.kinds.ManifestFault.{ManifestFault}
+use Rattle.fwu_formats.specs.{Manifest.Row, declared.kinds.ManifestFault.ManifestFault}
 use Rattle.fwu_formats.specs.declared.kinds.ManifestFault.TheVariants as fault
-use Rattle.manifest_core.specs.Shown.{row}
-use Rattle.manifest_core.specs.declared.rows.Row.{Row as CodeRow}
-use Rattle.fip_words.specs.Order.{image_view}
-use Rattle.fip_words.specs.Values.{NamedImage, each}
-use Rattle.fip_words.specs.declared.values.ImageWord.{ImageWord}
-use Rattle.fip_making.specs.Answers.{AsksNothing}
-use Rattle.fip_making.specs.Refusals.{IsManifestStop}
+use Rattle.manifest_core.specs.{Shown.row, declared.rows.Row.Row as CodeRow}
+use Rattle.fip_words.specs.{Order.image_view, Values.NamedImage, Values.each, declared.values.ImageWord.ImageWord}
+use Rattle.fip_making.specs.{Answers.AsksNothing, Refusals.IsManifestStop, declared.stops.Stop.Stop}
 use Rattle.fip_making.specs.Values.{Image, after, file_value, image_in, image_limit, image_row, is_long, manifest_value, of_rows, size_in, sizes_value, there, unless_long}
-use Rattle.fip_making.specs.declared.stops.Stop.{Stop}
 use Rattle.fip_making.specs.declared.stops.Stop.TheVariants as stop
+use Rattle.fip_making.proofs.{Refusing.err-of, Tables.sized}
 use Rattle.fip_making.proofs.Folds.{before, before-none, each-more, ends-as, made-by, more-at, plain, stopped-by, stops-at, with_one}
-use Rattle.fip_making.proofs.Refusing.{err-of}
-use Rattle.fip_making.proofs.Tables.{sized}
 
 -- the image of a name, by its file
 abbrev image_by : NamedImage → Option (List ℕ) → Option Image

@@ -2,14 +2,11 @@
 use Rattle.std.proofs.Common.{◌≡◌, ◌<◌, ◌+◌, ℕ, List, [], ◌∷◌, ◌++◌, Some, None, Result, Ok, Err, get_or, length, map, take, refl, ap, ◌∙◌, ◌≤◌, zero, suc, Bool, true, false, Option, drop, replicate, cond, option_map, unwrap_or, arith, sym, subst}
 use Rattle.host_io.specs.Contents.{Directory, HasRange}
 use Rattle.fwu_formats.specs.Package.{Part, packed, Entry, payload}
-use Rattle.fip_words.specs.Order.{part_view}
-use Rattle.fip_words.specs.Values.{NamedFile}
-use Rattle.fip_words.specs.declared.values.FileWord.{FileWord}
-use Rattle.fip_tables.specs.Packing.{pack_fault, zeroed}
-use Rattle.fip_tables.specs.declared.faults.PackFault.{PackFault}
-use Rattle.fip_making.specs.Answers.{Gives}
+use Rattle.fip_words.specs.{Order.part_view, Values.NamedFile, declared.values.FileWord.FileWord}
+use Rattle.fip_tables.specs.{Packing.pack_fault, Packing.zeroed, declared.faults.PackFault.PackFault, Files.Lacks, Files.Tells}
+use Rattle.fip_making.specs.{Answers.Gives, declared.stops.Stop.Stop, declared.payloads.Payload.Payload}
 use Rattle.fip_making.specs.Values.{after, create_value, new_serial, pack_value, part_in, parts_in, there, size_in, new_bytes, updated_part}
-use Rattle.fip_making.specs.declared.stops.Stop.{Stop}
+use Rattle.fip_making.specs.Payloads.{HasEntry, IsThere, bytes_in, outline_of, part_told}
 use Rattle.fip_making.specs.declared.stops.Stop.TheVariants as stop
 use Rattle.fip_making.proofs.Folds.{more-at as add-at, plain, stops-at, made-by, stopped-by}
 use Rattle.fip_making.proofs.Tables.{gives-err, sized}
@@ -18,10 +15,7 @@ use Rattle.std.specs.List.{All}
 use Rattle.std.proofs.lemmas.List.{length-drop, length-take-le, map-append, take_all}
 use Rattle.std.proofs.lemmas.List.Elements.{All-append}
 use Rattle.base_core.specs.Bytes.{same_bytes}
-use Rattle.fip_tables.specs.Files.{Lacks, Tells}
 use Rattle.fip_tables.proofs.Plans.{zeros-decide}
-use Rattle.fip_making.specs.Payloads.{HasEntry, IsThere, bytes_in, outline_of, part_told}
-use Rattle.fip_making.specs.declared.payloads.Payload.{Payload}
 
 -- ---- what one part of a command gives to the next
 

@@ -1,22 +1,16 @@
 -- What a part that reads alone answers, from what its own parts answered.
 use Rattle.std.proofs.Common.{◌≡◌, ◌≢◌, ◌<◌, ◌⊎◌, inl, inr, ℕ, List, All, Option, None, Result, Ok, Err, get_or, length, arith, refl, subst, sym, ◌∙◌}
 use Rattle.base_core.specs.Counts.{Rose}
-use Rattle.host_io.specs.Contents.{Directory}
+use Rattle.host_io.specs.{Contents.Directory, Access.Access, Access.Asks, Reads.ReadsFiles}
 use Rattle.fwu_formats.specs.Package.{Toc}
-use Rattle.fip_tables.specs.Files.{Lacks, HasReadCause as PackageCause}
-use Rattle.fip_tables.specs.declared.toc.TocStop.{TocStop}
+use Rattle.fip_tables.specs.{Files.Lacks, Files.HasReadCause as PackageCause, declared.toc.TocStop.TocStop}
 use Rattle.fip_tables.specs.declared.toc.TocStop.TheVariants as toc
+use Rattle.fip_making.specs.{Seen.ReadsFilesAlone, Stops.stop_of_table, declared.stops.Stop.Stop}
 use Rattle.fip_making.specs.Answers.{AsksNothing, NoneFailed, ReadsOnly}
-use Rattle.host_io.specs.Access.{Access, Asks}
-use Rattle.host_io.specs.Reads.{ReadsFiles}
 use Rattle.host_io.specs.declared.files.Files as files
 use Rattle.host_io.proofs.Reading.{reads-then as reads-after, reads-wider}
-use Rattle.fip_making.specs.Seen.{ReadsFilesAlone}
-use Rattle.fip_making.specs.Stops.{stop_of_table}
-use Rattle.fip_making.specs.declared.stops.Stop.{Stop}
 use Rattle.fip_making.specs.declared.stops.Stop.TheVariants as stop
-use Rattle.fip_making.proofs.Tables.{rose-still}
-use Rattle.fip_making.proofs.Refusing.{err-same, if-err-as}
+use Rattle.fip_making.proofs.{Tables.rose-still, Refusing.err-same, Refusing.if-err-as}
 
 -- a stop of a part is one of the whole, after parts that failed not once
 pub quiet-as : (X Y : Type 0) (s : Stop) (before between after : ℕ) → between ≡ before → NoneFailed {X = X} (Err s) between after → NoneFailed {X = Y} (Err s) before after

@@ -2,12 +2,10 @@
 use Rattle.std.proofs.Common.{◌≡◌, ◌∙◌, ap, Result, Err, Ok}
 use Rattle.std.specs.Prelude.{IsErrAnd, IfErr}
 use Rattle.std.proofs.lemmas.Result.{err_from_is_err_and}
-use Rattle.fip_making.specs.declared.stops.Stop.{Stop}
+use Rattle.fip_making.specs.{declared.stops.Stop.Stop, Stops.stop_of_table, Answers.IsLate}
+use Rattle.fip_making.specs.Refusals.{IsOfEnclosing, IsOfEntries, IsManifestStop, IsPackageStop, IsOfPackaging, IsOfPacking, IsOfRepacking, IsOfSource}
 use Rattle.fip_tables.specs.declared.toc.TocStop.{TocStop}
 use Rattle.fip_tables.specs.declared.toc.TocStop.TheVariants as toc
-use Rattle.fip_making.specs.Refusals.{IsOfEnclosing, IsOfEntries, IsManifestStop, IsPackageStop, IsOfPackaging, IsOfPacking, IsOfRepacking, IsOfSource}
-use Rattle.fip_making.specs.Stops.{stop_of_table}
-use Rattle.fip_making.specs.Answers.{IsLate}
 use Rattle.fip_making.specs.declared.stops.Stop.TheVariants as stop
 
 -- ---- a stop that is handed on

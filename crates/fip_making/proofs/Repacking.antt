@@ -4,18 +4,13 @@ use Rattle.std.specs.Prelude.{not, unwrap_or, filter}
 use Rattle.std.specs.List.{All}
 use Rattle.std.proofs.lemmas.List.Elements.{All-filter}
 use Rattle.host_io.specs.Contents.{Directory}
-use Rattle.fwu_formats.specs.Package.{Entry, Part, Toc, toc_of}
-use Rattle.fwu_formats.specs.declared.kinds.FipFault.{FipFault}
+use Rattle.fwu_formats.specs.{Package.Entry, Package.Part, Package.Toc, Package.toc_of, declared.kinds.FipFault.FipFault}
 use Rattle.fip_tables.specs.Files.{Lacks, Tells}
-use Rattle.fip_words.specs.Order.{part_view}
-use Rattle.fip_words.specs.Values.{NamedFile}
-use Rattle.fip_words.specs.declared.values.FileWord.{FileWord}
-use Rattle.fip_making.specs.Payloads.{HasEntry, bytes_in}
+use Rattle.fip_words.specs.{Order.part_view, Values.NamedFile, declared.values.FileWord.FileWord}
+use Rattle.fip_making.specs.{Payloads.HasEntry, Payloads.bytes_in, declared.stops.Stop.Stop}
 use Rattle.fip_making.specs.Values.{after, first_missing, is_named, kept_part, pack_value, package_read_in, parts_in, remove_value, sized_table, table_or_stop, there, unless_missing, update_value, updated_part}
-use Rattle.fip_making.specs.declared.stops.Stop.{Stop}
 use Rattle.fwu_formats.proofs.Tables.{ends-within}
-use Rattle.fip_making.proofs.Packings.{held-entries, held-stored, held-there}
-use Rattle.fip_making.proofs.Refusing.{err-of}
+use Rattle.fip_making.proofs.{Packings.held-entries, Packings.held-stored, Packings.held-there, Refusing.err-of}
 
 -- ---- a table that has all named entries
 

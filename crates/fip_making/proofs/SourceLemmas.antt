@@ -1,18 +1,14 @@
 -- What a reading of the source gives.
 use Rattle.std.proofs.Common.{◌≡◌, ◌≢◌, ℕ, Result, Ok, Err, ap, refl, inl, inr, ◌≤◌, ◌<◌, ◌+◌, List, [], ◌++◌, Option, true, false, length, nat_lt, arith, ◌∙◌, length-append}
-use Rattle.fip_making.specs.Answers.{source_failed, source_failures}
-use Rattle.fip_making.specs.declared.stops.Stop.{Stop}
+use Rattle.fip_making.specs.{Answers.source_failed, Answers.source_failures, declared.stops.Stop.Stop, Seen.SourceEndsAs}
+use Rattle.fip_making.specs.{Seen.FedSome, Values.GivenTo, Values.StopsInTime, Values.given_table, Values.source_limit}
 use Rattle.fip_making.specs.declared.stops.Stop.TheVariants as stop
 use Rattle.std.specs.Io.KnownBytes.{Consumes, IsAtEnd}
 use Rattle.std.proofs.KnownBytes.{Consumes-nil, Consumes-trans}
 use Rattle.std.proofs.lemmas.Bool.Decides.{nat_tests}
 use Rattle.std.proofs.lemmas.Bool.{lt-ltb}
-use Rattle.fwu_formats.specs.Package.{Toc, toc_of}
-use Rattle.fwu_formats.specs.declared.kinds.FipFault.{FipFault}
-use Rattle.fip_tables.specs.Answers.{decided}
-use Rattle.fip_tables.specs.Stream.{Fed, Stream}
-use Rattle.fip_making.specs.Seen.{SourceEndsAs, FedSome}
-use Rattle.fip_making.specs.Values.{GivenTo, StopsInTime, given_table, source_limit}
+use Rattle.fwu_formats.specs.{Package.Toc, Package.toc_of, declared.kinds.FipFault.FipFault}
+use Rattle.fip_tables.specs.{Answers.decided, Stream.Fed, Stream.Stream}
 
 -- ---- how often a call of the source failed in a part that reads it
 

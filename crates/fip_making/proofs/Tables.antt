@@ -2,15 +2,11 @@
 use Rattle.std.proofs.Common.{◌≡◌, ◌⊎◌, inl, inr, ◌≤◌, ℕ, List, Option, Some, None, Result, Ok, Err, IfOk, length, arith, refl, sym, ap, ◌∙◌}
 use Rattle.base_core.specs.Counts.{Rose}
 use Rattle.host_io.specs.Contents.{Directory}
-use Rattle.fwu_formats.specs.Package.{Toc, toc_of}
-use Rattle.fwu_formats.specs.declared.kinds.FipFault.{FipFault}
-use Rattle.fip_tables.specs.Files.{IsTocAnswer, Lacks, Tells}
-use Rattle.fip_tables.specs.declared.toc.TocStop.{TocStop}
+use Rattle.fwu_formats.specs.{Package.Toc, Package.toc_of, declared.kinds.FipFault.FipFault}
+use Rattle.fip_tables.specs.{Files.IsTocAnswer, Files.Lacks, Files.Tells, declared.toc.TocStop.TocStop}
 use Rattle.fip_tables.specs.declared.toc.TocStop.TheVariants.{Fault, ReadFailed}
-use Rattle.fip_making.specs.Answers.{Gives}
+use Rattle.fip_making.specs.{Answers.Gives, Stops.stop_of_table, declared.stops.Stop.Stop}
 use Rattle.fip_making.specs.Values.{after, size_in, sized_table, table_or_stop, there}
-use Rattle.fip_making.specs.Stops.{stop_of_table}
-use Rattle.fip_making.specs.declared.stops.Stop.{Stop}
 use Rattle.fip_making.specs.declared.stops.Stop.TheVariants as stop
 use Rattle.fip_making.proofs.Folds.{after-ok, is-there, made-by, stopped-by}
 

@@ -1,8 +1,7 @@
 -- What a part of a command answers that reads alone, or that asks for nothing outside.
 use Rattle.std.specs.Prelude.{◌≡◌, ◌⊎◌, ◌+◌, ◌≤◌, ⊤, ℕ, Option, None, Result, Ok, Err, IfErr}
 use Rattle.base_core.specs.Counts.{Rose}
-use Rattle.host_io.specs.Calls.{raised}
-use Rattle.host_io.specs.Contents.{Directory}
+use Rattle.host_io.specs.{Calls.raised, Contents.Directory}
 use Rattle.fip_making.specs.declared.stops.Stop.{Stop}
 use Rattle.fip_making.specs.declared.stops.Stop.TheVariants.{FileFault, SinkFault, NoMemory, Usage}
 

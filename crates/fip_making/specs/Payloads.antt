@@ -1,16 +1,12 @@
 -- The payloads of a package or a capsule to come, and what told files have of them. What is made of them asks for no file.
 use Rattle.std.specs.Prelude.{◌≡◌, ℕ, List, [], Option, Some, Result, IfOk, length, map, take, drop, replicate, unwrap_or}
 use Rattle.std.specs.List.{All, zip}
-use Rattle.host_io.specs.Contents.{Directory, HasRange}
+use Rattle.host_io.specs.{Contents.Directory, Contents.HasRange, declared.joining.Piece.Piece}
 use Rattle.host_io.specs.Joined.{HasPiece, chunk_in, joined}
-use Rattle.host_io.specs.declared.joining.Piece.{Piece}
 use Rattle.fip_tables.specs.declared.frame.Frame.{Frame}
 use Rattle.fwu_formats.specs.Package.{Entry, Part}
-use Rattle.fip_making.specs.Answers.{AsksNothing, Gives}
-use Rattle.fip_making.specs.Refusals.{IsOfPacking}
-use Rattle.fip_making.specs.declared.made.Made.{Made}
-use Rattle.fip_making.specs.declared.payloads.Payload.{Payload}
-use Rattle.fip_making.specs.declared.stops.Stop.{Stop}
+use Rattle.fip_making.specs.{Answers.AsksNothing, Answers.Gives, Refusals.IsOfPacking, declared.made.Made.Made}
+use Rattle.fip_making.specs.{declared.payloads.Payload.Payload, declared.stops.Stop.Stop}
 
 -- the bytes of a file, by the files, and none of one that isn't there
 abbrev pub bytes_in : Directory → List ℕ → List ℕ

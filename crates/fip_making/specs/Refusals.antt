@@ -1,7 +1,6 @@
 -- Which stops a part of a command may end with, whatever files there are: what it reads and makes decides which are its own.
 use Rattle.std.specs.Prelude.{⊤, ◌≢◌}
-use Rattle.fip_making.specs.Answers.{IsLate}
-use Rattle.fip_making.specs.declared.stops.Stop.{Stop}
+use Rattle.fip_making.specs.{Answers.IsLate, declared.stops.Stop.Stop}
 use Rattle.fip_making.specs.declared.stops.Stop.TheVariants as stop
 
 -- of what doesn't end for want of memory

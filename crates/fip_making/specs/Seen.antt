@@ -4,18 +4,12 @@ use Rattle.std.specs.Prelude.{◌≡◌, ◌≢◌, ◌≤◌, ℕ, List, ◌++�
 use Rattle.std.specs.Io.KnownBytes.{Consumes, IsAtEnd}
 use Rattle.base_core.specs.Counts.{Rose}
 use Rattle.fwu_formats.specs.Package.{Toc, toc_of}
-use Rattle.fip_tables.specs.Answers.{decided}
-use Rattle.fip_tables.specs.Stream.{Fed, Stream}
-use Rattle.host_io.specs.Access.{Access, Asks}
-use Rattle.host_io.specs.Contents.{Directory}
-use Rattle.host_io.specs.Once.{ReadsOnce}
-use Rattle.host_io.specs.Reads.{ReadsFiles}
+use Rattle.fip_tables.specs.{Answers.decided, Stream.Fed, Stream.Stream}
+use Rattle.host_io.specs.{Access.Access, Access.Asks, Contents.Directory, Once.ReadsOnce, Reads.ReadsFiles}
 use Rattle.host_io.specs.declared.files.Files as files
 use Rattle.host_io.specs.declared.source.Source as source
+use Rattle.fip_making.specs.{Refusals.IsOfSource, Values.GivenTo, Values.given_table, declared.stops.Stop.Stop}
 use Rattle.fip_making.specs.Answers.{Gives, ReadsOnly, source_failures}
-use Rattle.fip_making.specs.Refusals.{IsOfSource}
-use Rattle.fip_making.specs.Values.{GivenTo, given_table}
-use Rattle.fip_making.specs.declared.stops.Stop.{Stop}
 use Rattle.fip_making.specs.declared.stops.Stop.TheVariants as stop
 
 -- where files are told, a part that reads them alone answers of a value that they determine

@@ -1,14 +1,12 @@
 -- The stops of commands, and the exit status of each.
 use Rattle.std.specs.Prelude.{ℕ}
-use Rattle.host_io.specs.declared.stops.JoinStop.{JoinStop}
+use Rattle.host_io.specs.{declared.stops.JoinStop.JoinStop, declared.stops.ReadStop.ReadStop}
 use Rattle.host_io.specs.declared.stops.JoinStop.TheVariants as join_stop
-use Rattle.host_io.specs.declared.stops.ReadStop.{ReadStop}
 use Rattle.host_io.specs.declared.stops.ReadStop.TheVariants as read_stop
 use Rattle.capsule_tables.specs.declared.faults.CapsuleStop.{CapsuleStop}
 use Rattle.capsule_tables.specs.declared.faults.CapsuleStop.TheVariants as capsule_stop
-use Rattle.fip_tables.specs.declared.faults.PackStop.{PackStop}
+use Rattle.fip_tables.specs.{declared.faults.PackStop.PackStop, declared.toc.TocStop.TocStop}
 use Rattle.fip_tables.specs.declared.faults.PackStop.TheVariants as pack
-use Rattle.fip_tables.specs.declared.toc.TocStop.{TocStop}
 use Rattle.fip_tables.specs.declared.toc.TocStop.TheVariants as toc
 use Rattle.fip_making.specs.declared.stops.Stop.{Stop}
 use Rattle.fip_making.specs.declared.stops.Stop.TheVariants as stop

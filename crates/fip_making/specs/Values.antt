@@ -5,16 +5,12 @@ use Rattle.std.specs.Io.KnownBytes.{Consumes, IsAtEnd}
 use Rattle.base_core.specs.Bytes.{same_bytes}
 use Rattle.sha2.specs.Sha256.{sha256}
 use Rattle.host_io.specs.Contents.{Directory}
+use Rattle.fwu_formats.specs.{Manifest.Row, Manifest.manifest_bytes, declared.kinds.FipFault.FipFault, Capsule.capsule_of}
 use Rattle.fwu_formats.specs.Package.{Entry, Part, Toc, has_guid, packed, payload, toc_of}
-use Rattle.fwu_formats.specs.Manifest.{Row, manifest_bytes}
-use Rattle.fwu_formats.specs.declared.kinds.FipFault.{FipFault}
-use Rattle.fwu_formats.specs.declared.kinds.ManifestFault.TheVariants as fault
-use Rattle.fwu_formats.specs.Capsule.{capsule_of}
-use Rattle.capsule_tables.specs.Making.{capsule_bytes, make_fault}
 use Rattle.fwu_formats.specs.declared.kinds.CapsuleFault.{CapsuleFault}
-use Rattle.fip_tables.specs.Answers.{decided}
-use Rattle.fip_tables.specs.Packing.{pack_fault}
-use Rattle.fip_tables.specs.declared.faults.PackFault.{PackFault}
+use Rattle.fwu_formats.specs.declared.kinds.ManifestFault.TheVariants as fault
+use Rattle.capsule_tables.specs.Making.{capsule_bytes, make_fault}
+use Rattle.fip_tables.specs.{Answers.decided, Packing.pack_fault, declared.faults.PackFault.PackFault}
 use Rattle.fip_words.specs.Values.{NamedFile, NamedImage, each}
 use Rattle.fip_making.specs.declared.stops.Stop.{Stop}
 use Rattle.fip_making.specs.declared.stops.Stop.TheVariants as stop

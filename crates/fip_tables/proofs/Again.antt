@@ -9,10 +9,8 @@ use Rattle.base_core.specs.Bytes.{same_bytes}
 use Rattle.fwu_formats.specs.Layout.{are_distinct}
 use Rattle.fwu_formats.specs.Package.{FitsPackage, Part, entry_limit, is_part, packed}
 use Rattle.fwu_formats.proofs.PackWritten.{packed-is-read}
-use Rattle.fip_tables.specs.Again.{PassedIsRead, part_has_fields}
+use Rattle.fip_tables.specs.{Again.PassedIsRead, Again.part_has_fields, Frame.AreSixteen, declared.faults.PackFault.PackFault}
 use Rattle.fip_tables.specs.Packing.{AreOutlines, first_repeat, is_alignment, is_nil, is_repeat, pack_fault, package_limit, packed_part_at, parts_fault, zeroed}
-use Rattle.fip_tables.specs.Frame.{AreSixteen}
-use Rattle.fip_tables.specs.declared.faults.PackFault.{PackFault}
 use Rattle.fip_tables.proofs.Firsts.{align-fault, nil-fault, numbers, repeat-fault, shared-fault, size-fault, too-many}
 use Rattle.fip_tables.proofs.Plans.{packed-length}
 

@@ -3,13 +3,12 @@ use Rattle.std.proofs.Common.{◌≡◌, ℕ, ◌+◌, ◌*◌, ◌≤◌, List,
 use Rattle.std.proofs.lemmas.List.{take-append-le, drop-append-le, drop-drop}
 use Rattle.base_core.specs.Bytes.{num, num_at}
 use Rattle.fwu_formats.specs.Package.{Entry, Toc, entry_at, entry_limit, entries_from, is_beyond, toc_of, within}
-use Rattle.fip_tables.specs.Stream.{entry_from, HasHeader, ReaderHoldsAt, ReadsOn, group_size, met}
-use Rattle.std.specs.Prelude.{MatchResult, position}
 use Rattle.fwu_formats.specs.declared.kinds.FipFault.{FipFault}
-use Rattle.fwu_formats.specs.declared.kinds.FipFault.TheVariants as fault
-use Rattle.fip_tables.specs.Answers.{decided, has_marker, lasting}
-use Rattle.fip_tables.specs.declared.reader.Stage.{Stage}
+use Rattle.fip_tables.specs.{Answers.decided, Answers.has_marker, Answers.lasting, declared.reader.Stage.Stage}
+use Rattle.fip_tables.specs.Stream.{entry_from, HasHeader, ReaderHoldsAt, ReadsOn, group_size, met}
 use Rattle.fip_tables.specs.declared.reader.Stage.TheVariants.{Header, Table, Whole, Faulty}
+use Rattle.std.specs.Prelude.{MatchResult, position}
+use Rattle.fwu_formats.specs.declared.kinds.FipFault.TheVariants as fault
 use Rattle.fip_tables.proofs.Steps.{by-fault, by-table, no-room, short-header}
 
 -- ---- what stands in the front of bytes stands in whatever begins with them

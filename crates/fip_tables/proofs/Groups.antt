@@ -3,9 +3,8 @@ use Rattle.std.proofs.Common.{◌≡◌, ◌≢◌, ℕ, suc, ◌+◌, ◌-◌, 
 use Rattle.std.proofs.Math.ListN.{drop_of_length-le}
 use Rattle.std.specs.List.{list_any}
 use Rattle.base_core.specs.Bytes.{same_bytes}
-use Rattle.fwu_formats.specs.Layout.{nil_guid}
+use Rattle.fwu_formats.specs.{Layout.nil_guid, declared.kinds.FipFault.FipFault}
 use Rattle.fwu_formats.specs.Package.{Entry, Toc, entry_at, entry_limit, entries_from, has_guid}
-use Rattle.fwu_formats.specs.declared.kinds.FipFault.{FipFault}
 use Rattle.fwu_formats.specs.declared.kinds.FipFault.TheVariants as fault
 use Rattle.fip_tables.specs.Stream.{entry_from, IsHeaderOf, HasLastingFault, IsAmongEntries, IsPastMarker}
 use Rattle.fip_tables.proofs.Fronts.{entry-front, entry-of-group, header-front, num-front}

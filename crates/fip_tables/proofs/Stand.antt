@@ -4,13 +4,11 @@ use Rattle.std.proofs.lemmas.Bool.{cases_Bool, cases_lt}
 use Rattle.std.specs.List.{list_any}
 use Rattle.std.specs.Prelude.{position, IsTrue}
 use Rattle.base_core.specs.Bytes.{num_at, same_bytes}
-use Rattle.fwu_formats.specs.Layout.{nil_guid}
+use Rattle.fwu_formats.specs.{Layout.nil_guid, declared.kinds.FipFault.FipFault}
 use Rattle.fwu_formats.specs.Package.{Entry, Toc, entry_at, entry_limit, entries_from, fip_name, has_guid, is_beyond, toc_of, within, with_entries}
-use Rattle.fwu_formats.specs.declared.kinds.FipFault.{FipFault}
 use Rattle.fwu_formats.specs.declared.kinds.FipFault.TheVariants as fault
+use Rattle.fip_tables.specs.{Again.FaultsStand, Again.TablesStandByLength, Stream.HasHeader}
 use Rattle.fip_tables.specs.Answers.{decided, has_marker, lasting}
-use Rattle.fip_tables.specs.Again.{FaultsStand, TablesStandByLength}
-use Rattle.fip_tables.specs.Stream.{HasHeader}
 use Rattle.fip_tables.proofs.Fronts.{entry-front, header-front, num-front}
 use Rattle.fip_tables.proofs.Steps.{another-is-too-many, bad-name, by-entries, by-table, equal-is-duplicate, is-equal, marker-ends, new-is-read, no-room, short-header, zero-serial}
 

@@ -3,14 +3,12 @@ use Rattle.std.proofs.Common.{◌≡◌, ◌≤◌, ◌+◌, ◌++◌, ◌-◌, 
 use Rattle.std.proofs.lemmas.List.{take-append-drop, take-take, drop-drop, drop-take}
 use Rattle.std.proofs.Math.Seq.{take-add}
 use Rattle.fip_tables.specs.Stream.{ReaderHolds, HoldsPartOfGroup, Reader, Stream}
-use Rattle.host_io.specs.Contents.{Directory, TellsRange, TellsSize}
-use Rattle.host_io.specs.Reads.{ReadsFile}
-use Rattle.host_io.specs.declared.files.Files.{Ghosts}
-use Rattle.fwu_formats.specs.Package.{toc_of}
-use Rattle.fwu_formats.specs.declared.kinds.FipFault.{FipFault}
 use Rattle.fip_tables.specs.declared.toc.TocStop.{TocStop}
-use Rattle.fip_tables.specs.declared.toc.TocStop.TheVariants as stop
 use Rattle.fip_tables.specs.Files.{HasFed, IsTocAnswer, IsTableFault, IsOfSome, Tells}
+use Rattle.host_io.specs.{Reads.ReadsFile, declared.files.Files.Ghosts}
+use Rattle.host_io.specs.Contents.{Directory, TellsRange, TellsSize}
+use Rattle.fwu_formats.specs.{Package.toc_of, declared.kinds.FipFault.FipFault}
+use Rattle.fip_tables.specs.declared.toc.TocStop.TheVariants as stop
 use Rattle.std.proofs.lemmas.Option.{same_Some}
 
 -- ---- what the loops keep

@@ -3,8 +3,7 @@ use Rattle.std.specs.Prelude.{◌≡◌, ◌<◌, ◌≤◌, ◌&&◌, ◌==◌,
 use Rattle.std.specs.List.{list_all}
 use Rattle.fwu_formats.specs.Package.{Part, Toc, packed, payload, toc_of}
 use Rattle.fwu_formats.specs.declared.kinds.FipFault.{FipFault}
-use Rattle.fip_tables.specs.Answers.{decided, has_marker}
-use Rattle.fip_tables.specs.Packing.{pack_fault}
+use Rattle.fip_tables.specs.{Answers.decided, Answers.has_marker, Packing.pack_fault}
 
 -- a type of sixteen bytes, and flags that have room in their field
 abbrev pub part_has_fields : Part → Bool

@@ -1,7 +1,6 @@
 -- What can be said of a package before all of its bytes are there, by its answer so far.
 use Rattle.std.specs.Prelude.{Bool, true, false, Result, Ok, Err}
-use Rattle.fwu_formats.specs.Package.{Toc}
-use Rattle.fwu_formats.specs.declared.kinds.FipFault.{FipFault}
+use Rattle.fwu_formats.specs.{Package.Toc, declared.kinds.FipFault.FipFault}
 use Rattle.fwu_formats.specs.declared.kinds.FipFault.TheVariants.{ShortHeader, NoEnd, Beyond}
 
 -- a fault that no further bytes mend, and of the others nothing

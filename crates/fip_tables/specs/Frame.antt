@@ -1,12 +1,10 @@
 -- What a package has besides its payloads.
 use Rattle.std.specs.Prelude.{◌≡◌, ◌≤◌, ℕ, ◌+◌, ◌-◌, ◌*◌, List, [], ◌∷◌, ◌++◌, length, take, replicate, flat_map, map, sum_by}
 use Rattle.std.specs.Int.{next_multiple_of}
-use Rattle.base_core.specs.Bytes.{le}
-use Rattle.base_core.specs.Guid.{nil_guid}
+use Rattle.base_core.specs.{Bytes.le, Guid.nil_guid}
 use Rattle.fwu_formats.specs.Package.{Entry, Part, fip_name}
 use Rattle.host_io.specs.Joined.{Chunk, joined}
-use Rattle.fip_tables.specs.Packing.{AreOutlines, package_limit, zeroed}
-use Rattle.fip_tables.specs.declared.frame.Frame.{Frame}
+use Rattle.fip_tables.specs.{Packing.AreOutlines, Packing.package_limit, Packing.zeroed, declared.frame.Frame.Frame}
 
 -- where the table of a package ends
 abbrev pub table_end : List Part → ℕ

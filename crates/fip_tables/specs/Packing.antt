@@ -2,11 +2,9 @@
 use Rattle.std.specs.Prelude.{◌≡◌, ◌<◌, ◌≤◌, ℕ, Bool, true, ◌&&◌, not, nat_le, nat_lt, if◌then◌else◌, List, [], length, take, Option, Some, None, option_map, position, slice_index_or, replicate, Result, Err, OnOk}
 use Rattle.std.specs.List.{list_any, range_with_len}
 use Rattle.std.specs.Int.{is_power_of_two}
-use Rattle.base_core.specs.Bytes.{same_bytes}
-use Rattle.base_core.specs.Guid.{nil_guid}
+use Rattle.base_core.specs.{Bytes.same_bytes, Guid.nil_guid}
 use Rattle.fwu_formats.specs.Package.{Part, entry_limit, packed}
-use Rattle.fip_tables.specs.declared.faults.PackFault.{PackFault}
-use Rattle.fip_tables.specs.declared.faults.PackStop.{PackStop}
+use Rattle.fip_tables.specs.{declared.faults.PackFault.PackFault, declared.faults.PackStop.PackStop}
 use Rattle.fip_tables.specs.declared.faults.PackStop.TheVariants.{Fault}
 use Rattle.fip_tables.specs.declared.faults.PackFault.TheVariants.{TooMany, Duplicate, NilGuid, BadAlign, TooLarge}
 

@@ -4,8 +4,7 @@ use Rattle.base_core.specs.Bytes.{num_at}
 use Rattle.fwu_formats.specs.Package.{Entry, Toc, fip_name, entry_limit, entries_from, toc_of}
 use Rattle.fwu_formats.specs.declared.kinds.FipFault.{FipFault}
 use Rattle.fwu_formats.specs.declared.kinds.FipFault.TheVariants.{BadName, ZeroSerial}
-use Rattle.fip_tables.specs.Answers.{lasting}
-use Rattle.fip_tables.specs.declared.reader.Stage.{Stage}
+use Rattle.fip_tables.specs.{Answers.lasting, declared.reader.Stage.Stage}
 use Rattle.fip_tables.specs.declared.reader.Stage.TheVariants.{Header, Table, Whole, Faulty}
 
 -- a reader of a table: how far it is, the bytes that it holds back, and the table so far

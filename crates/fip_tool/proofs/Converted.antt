@@ -7,27 +7,20 @@ use Rattle.std.proofs.lemmas.List.{length-drop, length-take-le}
 use Rattle.std.proofs.lemmas.List.FromFn.{get_or-map-range_with_len}
 use Rattle.std.proofs.lemmas.Slice.Eq.{bytes_eq-Decides}
 use Rattle.host_io.specs.Contents.{Directory}
+use Rattle.fwu_formats.specs.{declared.kinds.FipFault.FipFault, Capsule.capsule_of, declared.kinds.CapsuleFault.CapsuleFault}
 use Rattle.fwu_formats.specs.Package.{Entry, Part, Toc, entry_at, packed, payload, toc_of}
-use Rattle.fwu_formats.specs.declared.kinds.FipFault.{FipFault}
 use Rattle.fwu_formats.proofs.Tables.{table-of}
-use Rattle.fip_tables.specs.Again.{part_has_fields}
-use Rattle.fip_tables.specs.Files.{Tells}
-use Rattle.fip_tables.specs.Frame.{AreSixteen}
-use Rattle.fip_tables.specs.Packing.{pack_fault}
+use Rattle.fip_tables.specs.{Again.part_has_fields, Files.Tells, Frame.AreSixteen, Packing.pack_fault}
 use Rattle.fip_tables.specs.declared.faults.PackFault.{PackFault}
 use Rattle.fip_tables.proofs.Again.{passed-is-read}
-use Rattle.fwu_formats.specs.Capsule.{capsule_of}
 use Rattle.capsule_tables.specs.Making.{IsCapsuleOf, capsule_bytes, make_fault}
-use Rattle.fwu_formats.specs.declared.kinds.CapsuleFault.{CapsuleFault}
-use Rattle.capsule_tables.proofs.ReadAgain.{made-is-read}
-use Rattle.capsule_tables.proofs.Within.{is-read, no-flags, types-sixteen}
+use Rattle.capsule_tables.proofs.{ReadAgain.made-is-read, Within.is-read, Within.no-flags, Within.types-sixteen}
 use Rattle.fip_words.specs.Order.{FipAsked, info_of_source, capsule, repackage}
-use Rattle.fip_tool.specs.Converted.{Converts, IsConverted}
+use Rattle.fip_tool.specs.{Converted.Converts, Converted.IsConverted, Tool.outcome_of, Tool.puts}
 use Rattle.fip_tool.specs.Steps.{Are, Did, Makes, Refuses, CommandStep, outcome_by, with_file, written}
 use Rattle.fip_making.specs.Values.{after, capsule_table, capsule_value, enclose_value, kept_part, pack_value, repackage_value, table_or_stop, there, unless_fault}
-use Rattle.fip_tool.specs.Tool.{outcome_of, puts}
-use Rattle.fip_tool.specs.declared.lines.Format.TheVariants as format
 use Rattle.fip_making.specs.declared.stops.Stop.{Stop}
+use Rattle.fip_tool.specs.declared.lines.Format.TheVariants as format
 
 -- ---- the parts of entries
 

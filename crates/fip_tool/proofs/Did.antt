@@ -3,9 +3,8 @@ use Rattle.std.proofs.Common.{◌≡◌, ◌⊎◌, inl, inr, ℕ, List, [], ◌
 use Rattle.std.specs.Io.KnownBytes.{Appends}
 use Rattle.host_io.specs.Contents.{Directory}
 use Rattle.fip_tool.specs.Steps.{CommandPlan, Makes, Refuses, CommandStep, Writes, Prints, Are, AreUpTo, StandAfter, Did, PrintedText, outcome_by}
-use Rattle.fip_making.specs.Answers.{Gives}
 use Rattle.fip_tool.specs.Tool.{prints}
-use Rattle.fip_making.specs.declared.stops.Stop.{Stop}
+use Rattle.fip_making.specs.{Answers.Gives, declared.stops.Stop.Stop}
 use Rattle.fip_making.specs.declared.stops.Stop.TheVariants as stop
 use Rattle.fip_tool.proofs.Texts.{appends-same}
 

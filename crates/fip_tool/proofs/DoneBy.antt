@@ -3,39 +3,25 @@ use Rattle.std.proofs.Common.{◌≡◌, ◌≤◌, ℕ, List, Some, Result, Err
 use Rattle.std.specs.Prelude.{IfErr, IsTrue}
 use Rattle.base_core.specs.Counts.{Rose}
 use Rattle.fip_words.specs.Order.{FipAsked}
-use Rattle.host_io.specs.Access.{Access}
-use Rattle.host_io.specs.Contents.{Directory}
+use Rattle.host_io.specs.{Access.Access, Contents.Directory, declared.writes.Writes.Writes}
 use Rattle.host_io.specs.declared.files.Files as files
 use Rattle.host_io.specs.declared.sink.Sink as sink
-use Rattle.host_io.specs.declared.writes.Writes.{Writes}
+use Rattle.fip_tool.specs.{Names.IsUnneeded, Names.IsUnnamedBy, Names.MayRefuse, Said.IsMadeLine, Said.IsTexts, Seen.DidIn}
+use Rattle.fip_tool.specs.{Seen.DidSince, Seen.WroteIn, Seen.WroteForIn, Steps.CommandPlan, Steps.outcome_by, Tool.command_outcome}
+use Rattle.fip_tool.specs.{Tool.puts, Tool.asks_files, Wrote.WroteFor, declared.lines.Format.Format}
 use Rattle.fip_tool.specs.Done.{DoneWithFiles, PutsMade, RefusesAlone, WritesTexts, CommandDone}
-use Rattle.fip_making.specs.Stops.{status_number}
-use Rattle.fip_tool.specs.Names.{IsUnneeded, IsUnnamedBy, MayRefuse}
-use Rattle.fip_making.specs.Payloads.{made_by}
-use Rattle.fip_tool.specs.Said.{IsMadeLine, IsTexts}
-use Rattle.fip_tool.specs.Seen.{DidIn, DidSince, WroteIn, WroteForIn}
-use Rattle.fip_making.specs.Seen.{AsTold, ReadsFilesAlone}
-use Rattle.fip_tool.specs.Steps.{CommandPlan, outcome_by}
-use Rattle.fip_making.specs.Answers.{Gives, IsLate}
-use Rattle.fip_tool.specs.Tool.{command_outcome, puts, asks_files}
-use Rattle.fip_tool.specs.Wrote.{WroteFor}
-use Rattle.fip_tool.specs.declared.lines.Format.{Format}
-use Rattle.fip_making.specs.declared.made.Made.{Made}
-use Rattle.fip_making.specs.declared.stops.Stop.{Stop}
+use Rattle.fip_making.specs.{Stops.status_number, Payloads.made_by, Seen.AsTold, Seen.ReadsFilesAlone, Answers.Gives}
+use Rattle.fip_making.specs.{Answers.IsLate, declared.made.Made.Made, declared.stops.Stop.Stop}
 use Rattle.fip_making.specs.declared.stops.Stop.TheVariants as stop
-use Rattle.fip_tool.proofs.Did.{did-later, are-told}
+use Rattle.fip_tool.proofs.{Did.did-later, Did.are-told, WritingLemmas.tears-since, Texts.says-as, Texts.says-nothing}
 use Rattle.fip_tool.proofs.Faults.{faults-as, faults-of, still, faults-none}
-use Rattle.fip_making.proofs.Refusing.{if-err-as, err-same}
 use Rattle.fip_tool.proofs.Refusing.{late-alone, made-alone, made-may, memory-may}
-use Rattle.fip_making.proofs.Tables.{either-rose}
-use Rattle.fip_tool.proofs.WritingLemmas.{tears-since}
-use Rattle.fip_tool.proofs.Texts.{says-as, says-nothing}
 use Rattle.fip_tool.proofs.WroteLemmas.{wrote-as, wrote-none}
+use Rattle.fip_making.proofs.{Refusing.if-err-as, Refusing.err-same, Tables.either-rose, SourceLemmas.nothing-read}
 use Rattle.std.proofs.KnownBytes.{Appends-nil, Consumes-nil}
 use Rattle.std.proofs.lemmas.Bool.{false≢true}
 use Rattle.host_io.proofs.Once.{once-none}
 use Rattle.host_io.specs.declared.source.Source as source
-use Rattle.fip_making.proofs.SourceLemmas.{nothing-read}
 
 -- ---- what is done for an order that asks for files, from what its parts did
 

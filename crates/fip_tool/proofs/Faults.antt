@@ -1,20 +1,18 @@
 -- How many calls of a sink, a source and files failed.
 use Rattle.std.proofs.Common.{◌≡◌, ◌≢◌, ℕ, refl, inl, inr, List, Option, Some, Result, Ok, Err, sym, ap, subst, ◌∙◌, [], None, arith}
+use Rattle.fip_tool.specs.{Ends.Reported, Ends.StopTold, Said.IsTextsOf, Said.Says, Said.SinkAlone}
 use Rattle.fip_tool.specs.Steps.{sink_failed, Did, PrintedText, outcome_by, FailsOnceAt, FaultsOnce}
-use Rattle.fip_making.specs.declared.stops.Stop.{Stop}
+use Rattle.fip_tool.specs.Tool.{IsReadFor, given_value, no_files, prints}
+use Rattle.fip_making.specs.{declared.stops.Stop.Stop, Stops.status_number}
+use Rattle.fip_making.specs.Answers.{source_failed, source_failures, NoneFailed, ReadsOnly}
 use Rattle.fip_making.specs.declared.stops.Stop.TheVariants as stop
 use Rattle.std.specs.Io.KnownBytes.{Consumes, IsAtEnd}
-use Rattle.fip_tool.specs.Ends.{Reported, StopTold}
-use Rattle.fip_making.specs.Stops.{status_number}
-use Rattle.fip_tool.specs.Tool.{IsReadFor, given_value, no_files, prints}
 use Rattle.fip_tool.proofs.Did.{printed-text}
 use Rattle.std.specs.Prelude.{◌==◌, ◌||◌, IsFalse}
 use Rattle.std.proofs.lemmas.Bool.{false≢true}
-use Rattle.fip_making.specs.Answers.{source_failed, source_failures, NoneFailed, ReadsOnly}
 use Rattle.host_io.specs.Contents.{Directory}
 use Rattle.std.proofs.KnownBytes.{Appends-trans}
 use Rattle.fip_words.specs.Order.{FipAsked}
-use Rattle.fip_tool.specs.Said.{IsTextsOf, Says, SinkAlone}
 use Rattle.fip_making.proofs.ReadsBy.{quiet-as, quiet-then}
 
 -- ---- how often the sink failed

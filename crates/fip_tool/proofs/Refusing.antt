@@ -2,13 +2,9 @@
 use Rattle.std.proofs.Common.{zero, suc, List, [], ◌∷◌, map, arith, ◌≡◌, ◌⊎◌, inl, inr, ℕ, Option, Some, None, Result, Ok, Err, refl, subst, sym}
 use Rattle.std.specs.List.{All}
 use Rattle.std.specs.Prelude.{IfErr}
-use Rattle.fip_making.specs.Refusals.{IsOfPacking}
-use Rattle.fip_tool.specs.Names.{MayRefuse, IsRefusalStatus}
+use Rattle.fip_making.specs.{Refusals.IsOfPacking, Stops.status_number, Answers.IsLate, declared.stops.Stop.Stop}
+use Rattle.fip_tool.specs.{Names.MayRefuse, Names.IsRefusalStatus, Ends.Reported, Ends.StopTold}
 use Rattle.fip_words.specs.Order.{FipAsked, info_of_source}
-use Rattle.fip_tool.specs.Ends.{Reported, StopTold}
-use Rattle.fip_making.specs.Stops.{status_number}
-use Rattle.fip_making.specs.Answers.{IsLate}
-use Rattle.fip_making.specs.declared.stops.Stop.{Stop}
 use Rattle.fip_making.specs.declared.stops.Stop.TheVariants as stop
 use Rattle.fip_making.proofs.Refusing.{if-err-as}
 

@@ -4,20 +4,14 @@ use Rattle.std.specs.Prelude.{IfOk, if◌then◌else◌, filter, not}
 use Rattle.std.proofs.Math.Seq.{drop-append_seam, take-append_seam}
 use Rattle.std.specs.Io.KnownBytes.{Appends, Consumes, IsAtEnd}
 use Rattle.std.proofs.KnownBytes.{Appends-nil, Appends-trans}
-use Rattle.fip_tool.specs.Ends.{Reported, StopTold, stop_line}
-use Rattle.fip_tool.specs.Lines.{made_line, info_text, packed_line, capsule_line}
+use Rattle.fip_tool.specs.{Ends.Reported, Ends.StopTold, Ends.stop_line, Lines.made_line, Lines.info_text, Lines.packed_line}
+use Rattle.fip_tool.specs.{Lines.capsule_line, Steps.PrintedText, declared.lines.Format.Format, Tool.given_value, Tool.info_value}
 use Rattle.fip_tool.specs.Said.{IsBefore, IsBegunText, IsCutText, IsMadeLine, Says, SaysAll, half_of, joined_texts, IsTexts}
-use Rattle.fip_making.specs.Answers.{IsLate}
-use Rattle.fip_tool.specs.Steps.{PrintedText}
-use Rattle.fip_tool.specs.declared.lines.Format.{Format}
-use Rattle.fip_making.specs.declared.made.Made.{Made}
-use Rattle.fip_making.specs.declared.stops.Stop.{Stop}
-use Rattle.fip_making.specs.declared.stops.Stop.TheVariants as stop
-use Rattle.fwu_formats.specs.Package.{Toc, toc_of}
-use Rattle.fwu_formats.specs.declared.kinds.FipFault.{FipFault}
-use Rattle.fip_tables.specs.Answers.{decided}
+use Rattle.fip_making.specs.{Answers.IsLate, declared.made.Made.Made, declared.stops.Stop.Stop}
 use Rattle.fip_making.specs.Values.{GivenTo, after, given_table, source_limit, sized_table, table_or_stop, unless_decided, IsTableOfSome, first_missing, is_named}
-use Rattle.fip_tool.specs.Tool.{given_value, info_value}
+use Rattle.fip_making.specs.declared.stops.Stop.TheVariants as stop
+use Rattle.fwu_formats.specs.{Package.Toc, Package.toc_of, declared.kinds.FipFault.FipFault}
+use Rattle.fip_tables.specs.Answers.{decided}
 use Rattle.host_io.specs.Contents.{Directory}
 use Rattle.std.proofs.lemmas.List.{length-map}
 use Rattle.fip_words.specs.Order.{create, part_view, remove, update, capsule, repackage}

@@ -6,8 +6,7 @@ use Rattle.std.proofs.lemmas.List.{drop_more, length-append, take_all, take_more
 use Rattle.std.proofs.lemmas.Bool.{and_from}
 use Rattle.std.proofs.lemmas.Bool.Decides.{nat_tests}
 use Rattle.std.proofs.lemmas.Slice.Eq.{bytes_eq-Decides}
-use Rattle.base_core.specs.Bytes.{same_bytes}
-use Rattle.base_core.specs.Guid.{guid_of, guid_text}
+use Rattle.base_core.specs.{Bytes.same_bytes, Guid.guid_of, Guid.guid_text}
 use Rattle.base_core.proofs.Spelled.{same_refl}
 use Rattle.fip_words.specs.Values.{bin, is_lower_guid, is_unpacked}
 use Rattle.std.proofs.lemmas.List.Elements.{filter-append}
@@ -17,11 +16,9 @@ use Rattle.std.proofs.KnownBytes.{Appends-trans}
 use Rattle.host_io.specs.Contents.{Directory}
 use Rattle.fip_tables.specs.Files.{Lacks, Tells}
 use Rattle.fwu_formats.specs.Package.{Entry, payload, Toc}
-use Rattle.fip_tool.specs.Lines.{unpacked_line, unpacked_name}
+use Rattle.fip_tool.specs.{Lines.unpacked_line, Lines.unpacked_name, Tool.chosen, Tool.unpack_steps, Tool.unpack_value}
 use Rattle.fip_tool.specs.Steps.{IsPrinting, Makes, Refuses, CommandStep, Writes, Prints, Are, AreUpTo, StandAfter, Did, half_printed, printed, with_file, written}
-use Rattle.fip_tool.specs.Tool.{chosen, unpack_steps, unpack_value}
-use Rattle.fip_making.specs.Values.{is_named, there}
-use Rattle.fip_making.specs.declared.stops.Stop.{Stop}
+use Rattle.fip_making.specs.{Values.is_named, Values.there, declared.stops.Stop.Stop}
 use Rattle.fip_making.specs.declared.stops.Stop.TheVariants as stop
 use Rattle.fip_tool.proofs.Did.{are-up-to, did-later}
 use Rattle.fip_making.proofs.Repacking.{IsOpened, going-on, stopped, table_with}

@@ -2,10 +2,9 @@
 use Rattle.std.proofs.Common.{◌≡◌, ℕ, Bool, true, false, List, Option, Some, None, codes, refl, sym, ap, ◌∙◌}
 use Rattle.std.specs.Prelude.{if◌then◌else◌, option_and_then}
 use Rattle.base_core.specs.Bytes.{same_bytes}
-use Rattle.fip_words.specs.Commands.{fip_app}
+use Rattle.fip_words.specs.{Commands.fip_app, Words.reads}
 use Rattle.fip_words.specs.Order.{FipAsked, info, info_of_source, unpack, align_in, asked, create_by, file_in, capsule_by, info_by, manifest_by, order_of, repackage_by, repackage_of, remove_by, unpack_by, update_by, values_of}
 use Rattle.fip_words.specs.Values.{NamedFile, NamedImage, is_unpacked, names_of, named_parts_of, named_rows_of}
-use Rattle.fip_words.specs.Words.{reads}
 
 module _ (from prefix : List ℕ) (names : List (List ℕ)) where
   abbrev Is : Option FipAsked → Type 0

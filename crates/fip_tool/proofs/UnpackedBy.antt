@@ -1,26 +1,19 @@
 -- What is done for an entry that is unpacked, from what its parts did.
 use Rattle.std.proofs.Common.{◌≡◌, ◌≢◌, ◌∷◌, ◌++◌, [], ℕ, List, Option, Some, None, Result, Ok, Err, ap, arith, false, refl, subst, ◌∙◌, append-nil}
 use Rattle.std.specs.Prelude.{OnOk, codes, decimal, take, drop, unwrap_or}
-use Rattle.base_core.specs.Counts.{Rose}
-use Rattle.base_core.specs.Guid.{guid_text}
+use Rattle.base_core.specs.{Counts.Rose, Guid.guid_text}
 use Rattle.fip_words.specs.Values.{is_unpacked}
 use Rattle.fwu_formats.specs.Package.{Entry, payload}
-use Rattle.host_io.specs.Access.{Access, Makes}
+use Rattle.host_io.specs.{Access.Access, Access.Makes, Contents.Directory}
 use Rattle.host_io.specs.Access as way
-use Rattle.host_io.specs.Contents.{Directory}
 use Rattle.host_io.specs.declared.files.Files as files
 use Rattle.host_io.specs.declared.sink.Sink as sink
-use Rattle.fip_tool.specs.Lines.{unpacked_line, unpacked_name}
-use Rattle.fip_tool.specs.Done.{WritesTexts, Unpacked}
-use Rattle.fip_tool.specs.Seen.{DidIn}
-use Rattle.fip_tool.specs.Steps.{Makes, Prints, MayTear, NoneUnwritten}
+use Rattle.fip_tool.specs.{Lines.unpacked_line, Lines.unpacked_name, Done.WritesTexts, Done.Unpacked, Seen.DidIn, Steps.Makes}
+use Rattle.fip_tool.specs.{Steps.Prints, Steps.MayTear, Steps.NoneUnwritten, Tool.unpack_steps}
 use Rattle.fip_tool.specs.Steps as step
-use Rattle.fip_tool.specs.Tool.{unpack_steps}
 use Rattle.fip_making.specs.declared.stops.Stop.{Stop}
 use Rattle.fip_making.specs.declared.stops.Stop.TheVariants as stop
-use Rattle.fip_tool.proofs.Did.{refused}
-use Rattle.fip_tool.proofs.Faults.{faults-none}
-use Rattle.fip_tool.proofs.UnpackLemmas.{entry-did, line-is}
+use Rattle.fip_tool.proofs.{Did.refused, Faults.faults-none, UnpackLemmas.entry-did, UnpackLemmas.line-is}
 use Rattle.fip_tool.proofs.WroteLemmas.{no-texts, texts-behind}
 
 -- the piece that a payload is, behind no frame, by files that tell the package's bytes

@@ -1,21 +1,15 @@
 -- What a writing and a line leave.
 use Rattle.std.proofs.Common.{◌≡◌, sym, subst, ◌∙◌, ℕ, List, [], ◌∷◌, Option, Result, Ok, Err, ◌≤◌, length, refl, ap, append-nil}
+use Rattle.fip_tool.specs.{Lines.made_line, Lines.manifest_line, Tool.puts, Tool.writes_manifest, declared.lines.Format.Format}
 use Rattle.fip_tool.specs.Steps.{MayTear, NoneUnwritten, Makes, CommandStep, Writes, Prints, Are, Did, PrintedText, outcome_by, with_file}
 use Rattle.fip_making.proofs.Tables.{rose-still, rose-from}
 use Rattle.std.specs.Io.KnownBytes.{Appends}
 use Rattle.base_core.specs.Counts.{Rose}
-use Rattle.host_io.specs.Contents.{Directory}
-use Rattle.host_io.specs.declared.joining.Piece.{Piece}
+use Rattle.host_io.specs.{Contents.Directory, declared.joining.Piece.Piece}
 use Rattle.host_io.specs.declared.writes.Writes as count
-use Rattle.fip_tool.specs.Lines.{made_line, manifest_line}
-use Rattle.fip_making.specs.Payloads.{joined_pieces, made_bytes}
-use Rattle.fip_making.specs.declared.made.Made.{Made}
-use Rattle.fip_tool.specs.Tool.{puts, writes_manifest}
-use Rattle.fip_tool.specs.declared.lines.Format.{Format}
-use Rattle.fip_making.specs.declared.stops.Stop.{Stop}
+use Rattle.fip_making.specs.{Payloads.joined_pieces, Payloads.made_bytes, declared.made.Made.Made, declared.stops.Stop.Stop}
 use Rattle.fip_making.specs.declared.stops.Stop.TheVariants as stop
-use Rattle.fip_tool.proofs.Did.{made-steps}
-use Rattle.fip_tool.proofs.Texts.{appends-same}
+use Rattle.fip_tool.proofs.{Did.made-steps, Texts.appends-same}
 
 -- ---- files that may be torn
 

@@ -2,28 +2,20 @@
 use Rattle.std.proofs.Common.{◌≡◌, ◌∙◌, ◌+◌, ◌≤◌, ◌⊎◌, inl, inr, ℕ, zero, suc, List, [], ◌∷◌, ◌++◌, Option, Some, None, Result, Ok, Err, length, take, ap, arith, refl, sym, subst, length-append, ◌≢◌}
 use Rattle.std.specs.Io.KnownBytes.{Appends}
 use Rattle.std.proofs.KnownBytes.{Appends-nil, Appends-trans}
-use Rattle.host_io.specs.Calls.{raised}
+use Rattle.host_io.specs.{Calls.raised, declared.writes.Writes.Writes}
 use Rattle.fip_words.specs.Order.{FipAsked, info, info_of_source}
-use Rattle.fip_tool.specs.Said.{Says, joined_texts, IsMadeLine}
-use Rattle.fip_making.specs.Answers.{IsLate}
-use Rattle.fip_tool.specs.Steps.{PrintedText, FaultsOnce, sink_failures}
+use Rattle.fip_tool.specs.{Said.Says, Said.joined_texts, Said.IsMadeLine, Steps.PrintedText, Steps.FaultsOnce, Steps.sink_failures}
+use Rattle.fip_tool.specs.{Done.PutsMade, Done.WritesTexts, Lines.made_line, declared.lines.Format.Format, Seen.PrintedIn}
 use Rattle.fip_tool.specs.Wrote.{IsRestOfTexts, CommandWrote, WroteAll, WroteFor, WroteNone, WroteSome, files_ahead, raised_by}
-use Rattle.fip_making.specs.declared.stops.Stop.{Stop}
+use Rattle.fip_making.specs.{Answers.IsLate, declared.stops.Stop.Stop, declared.made.Made.Made}
 use Rattle.fip_making.specs.declared.stops.Stop.TheVariants as stop
 use Rattle.fip_tool.proofs.Texts.{appends-same, back, front, front-of-one, joined-one, none-of-one, says-as, says-nothing, says-printed}
+use Rattle.fip_tool.proofs.Faults.{faults-as, faults-none, faults-then, still}
 use Rattle.std.specs.Prelude.{IfErr}
 use Rattle.base_core.specs.Counts.{Rose}
 use Rattle.host_io.specs.declared.files.Files as files
 use Rattle.host_io.specs.declared.sink.Sink as sink
-use Rattle.host_io.specs.declared.writes.Writes.{Writes}
-use Rattle.fip_tool.specs.Done.{PutsMade, WritesTexts}
-use Rattle.fip_tool.specs.Lines.{made_line}
-use Rattle.fip_tool.specs.declared.lines.Format.{Format}
-use Rattle.fip_making.specs.declared.made.Made.{Made}
-use Rattle.fip_making.proofs.Refusing.{if-err-as, err-same}
-use Rattle.fip_tool.specs.Seen.{PrintedIn}
-use Rattle.fip_tool.proofs.Faults.{faults-as, faults-none, faults-then, still}
-use Rattle.fip_making.proofs.Tables.{rose-still}
+use Rattle.fip_making.proofs.{Refusing.if-err-as, Refusing.err-same, Tables.rose-still}
 
 -- ---- one file and its text
 

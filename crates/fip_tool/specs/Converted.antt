@@ -1,8 +1,7 @@
 -- What the conversions between packages and capsules keep: the types and the payloads, in their order.
 use Rattle.std.specs.Prelude.{◌≡◌, ⊤, ℕ, List, Option, Some, Result, Ok, map}
 use Rattle.host_io.specs.Contents.{Directory}
-use Rattle.fwu_formats.specs.Package.{Toc, payload, toc_of}
-use Rattle.fwu_formats.specs.Capsule.{capsule_of}
+use Rattle.fwu_formats.specs.{Package.Toc, Package.payload, Package.toc_of, Capsule.capsule_of}
 use Rattle.fip_tables.specs.Files.{Tells}
 use Rattle.fip_words.specs.Order.{FipAsked, capsule, repackage}
 

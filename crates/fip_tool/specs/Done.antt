@@ -2,25 +2,18 @@
 use Rattle.std.specs.Prelude.{◌≡◌, ◌≢◌, ◌≤◌, ◌⊎◌, ◌∷◌, [], ℕ, List, Option, Some, None, Result, Err, IfErr, IsFalse, OnOk, false}
 use Rattle.base_core.specs.Counts.{Rose}
 use Rattle.fwu_formats.specs.Package.{Entry}
-use Rattle.fip_words.specs.Order.{FipAsked, info_of_source}
-use Rattle.fip_words.specs.Values.{is_unpacked}
-use Rattle.host_io.specs.Access.{Access, Asks, Makes}
-use Rattle.host_io.specs.Contents.{Directory}
-use Rattle.host_io.specs.Once.{ReadsOnce}
+use Rattle.fip_words.specs.{Order.FipAsked, Order.info_of_source, Values.is_unpacked}
+use Rattle.host_io.specs.{Access.Access, Access.Asks, Access.Makes, Contents.Directory, Once.ReadsOnce}
 use Rattle.host_io.specs.declared.files.Files as files
 use Rattle.host_io.specs.declared.source.Source as source
 use Rattle.host_io.specs.declared.sink.Sink as sink
-use Rattle.fip_making.specs.Stops.{status_number}
-use Rattle.fip_tool.specs.Lines.{unpacked_line, unpacked_name}
-use Rattle.fip_tool.specs.Names.{IsRefusalStatus, IsUnneeded, IsUnnamedBy, MayRefuse}
-use Rattle.fip_tool.specs.Said.{IsMadeLine, IsTexts, IsTextsOf}
-use Rattle.fip_tool.specs.Seen.{DidIn, ReadSourceIn, SaysIn, WroteForIn, WroteIn}
-use Rattle.fip_tool.specs.Steps.{FaultsOnce, Makes, NoneUnwritten, sink_failures}
+use Rattle.fip_making.specs.{Stops.status_number, declared.made.Made.Made, declared.stops.Stop.Stop}
 use Rattle.fip_making.specs.Answers.{IsLate, source_failures}
+use Rattle.fip_tool.specs.{Lines.unpacked_line, Lines.unpacked_name, Said.IsMadeLine, Said.IsTexts, Said.IsTextsOf}
+use Rattle.fip_tool.specs.{Steps.FaultsOnce, Steps.Makes, Steps.NoneUnwritten, Steps.sink_failures, declared.lines.Format.Format}
+use Rattle.fip_tool.specs.Names.{IsRefusalStatus, IsUnneeded, IsUnnamedBy, MayRefuse}
+use Rattle.fip_tool.specs.Seen.{DidIn, ReadSourceIn, SaysIn, WroteForIn, WroteIn}
 use Rattle.fip_tool.specs.Tool.{asks_files, command_outcome, outcome_of, unpack_steps}
-use Rattle.fip_tool.specs.declared.lines.Format.{Format}
-use Rattle.fip_making.specs.declared.made.Made.{Made}
-use Rattle.fip_making.specs.declared.stops.Stop.{Stop}
 use Rattle.fip_making.specs.declared.stops.Stop.TheVariants as stop
 
 -- a refusal with this status has made no file, and asked for none but those that it comes by

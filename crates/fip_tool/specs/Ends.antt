@@ -3,15 +3,13 @@ use Rattle.std.specs.Prelude.{◌≡◌, ◌⊎◌, ℕ, List, [], ◌++◌, Opt
 use Rattle.std.specs.Io.KnownBytes.{Appends}
 use Rattle.host_io.specs.Contents.{Directory}
 use Rattle.base_core.specs.Guid.{guid_text}
-use Rattle.fwu_formats.specs.FaultText.{capsule_fault_number, fip_fault_text}
-use Rattle.fwu_formats.specs.declared.kinds.ManifestFault.{ManifestFault}
+use Rattle.fwu_formats.specs.{FaultText.capsule_fault_number, FaultText.fip_fault_text, declared.kinds.ManifestFault.ManifestFault}
 use Rattle.fwu_formats.specs.declared.kinds.ManifestFault.TheVariants as manifest
 use Rattle.fip_tables.specs.declared.faults.PackFault.{PackFault}
 use Rattle.fip_tables.specs.declared.faults.PackFault.TheVariants as pack
 use Rattle.fip_tool.specs.Steps.{IsPrinting, CommandPlan, Makes, Refuses, Are, StandAfter, half_printed, steps_in_plan, printed, written}
-use Rattle.fip_making.specs.declared.stops.Stop.{Stop}
+use Rattle.fip_making.specs.{declared.stops.Stop.Stop, Stops.status_number}
 use Rattle.fip_making.specs.declared.stops.Stop.TheVariants as stop
-use Rattle.fip_making.specs.Stops.{status_number}
 
 abbrev pub pack_fault_text : PackFault → List ℕ
 pack_fault_text pack.TooMany = codes "too-many"

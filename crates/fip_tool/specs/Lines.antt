@@ -1,8 +1,7 @@
 -- The texts that `fip` prints.
 use Rattle.std.specs.Prelude.{ℕ, List, ◌++◌, codes, decimal, flat_map, length, reverse}
 use Rattle.hex.specs.Hex.{encode_lower}
-use Rattle.base_core.specs.Bytes.{le}
-use Rattle.base_core.specs.Guid.{guid_text}
+use Rattle.base_core.specs.{Bytes.le, Guid.guid_text}
 use Rattle.fwu_formats.specs.Package.{Entry, Toc}
 use Rattle.fip_words.specs.Values.{bin}
 use Rattle.fip_tool.specs.declared.lines.Format.{Format}

@@ -3,11 +3,9 @@
 use Rattle.std.specs.Prelude.{◌≡◌, ◌≢◌, ◌≤◌, ◌⊎◌, ⊤, ℕ, List, Option, Some, None, All}
 use Rattle.host_io.specs.Access.{Access, Asks, Makes}
 use Rattle.fip_words.specs.Order.{FipAsked, info, info_of_source, create, update, remove, unpack, manifest, capsule, repackage}
-use Rattle.fip_making.specs.Stops.{status_number}
-use Rattle.fip_making.specs.Answers.{IsLate}
-use Rattle.fip_making.specs.declared.stops.Stop.{Stop}
-use Rattle.fip_making.specs.declared.stops.Stop.TheVariants as stop
+use Rattle.fip_making.specs.{Stops.status_number, Answers.IsLate, declared.stops.Stop.Stop}
 use Rattle.fip_making.specs.Refusals.{IsOfEnclosing, IsOfEntries, IsManifestStop, IsPackageStop, IsOfPackaging, IsOfPacking, IsOfRepacking, IsOfSource}
+use Rattle.fip_making.specs.declared.stops.Stop.TheVariants as stop
 use Rattle.fip_tool.specs.Lines.{unpacked_name}
 
 -- it asks for none of the files that are to be read, and makes none of those that are to be made

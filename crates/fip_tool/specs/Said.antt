@@ -4,13 +4,10 @@ use Rattle.std.specs.Io.KnownBytes.{Appends}
 use Rattle.fwu_formats.specs.Package.{Toc}
 use Rattle.capsule_tables.specs.Answers.{IsSomeTable}
 use Rattle.fip_words.specs.Order.{FipAsked, info, info_of_source, create, update, remove, unpack, manifest, capsule, repackage}
+use Rattle.fip_tool.specs.{Ends.stop_line, Tool.chosen, declared.lines.Format.Format}
 use Rattle.fip_tool.specs.Lines.{capsule_line, info_text, made_line, manifest_line, packed_line, unpacked_line}
-use Rattle.fip_tool.specs.Ends.{stop_line}
-use Rattle.fip_tool.specs.Tool.{chosen}
+use Rattle.fip_making.specs.{declared.made.Made.Made, declared.stops.Stop.Stop}
 use Rattle.fip_making.specs.Values.{first_missing, is_named, IsTableOfSome}
-use Rattle.fip_tool.specs.declared.lines.Format.{Format}
-use Rattle.fip_making.specs.declared.made.Made.{Made}
-use Rattle.fip_making.specs.declared.stops.Stop.{Stop}
 use Rattle.fip_making.specs.declared.stops.Stop.TheVariants.{FileFault, SinkFault, NoMemory}
 
 -- the listing of some package, with some size

@@ -7,14 +7,10 @@ use Rattle.host_io.specs.Contents.{Directory}
 use Rattle.host_io.specs.declared.files.Files as files
 use Rattle.host_io.specs.declared.source.Source as source
 use Rattle.host_io.specs.declared.sink.Sink as sink
-use Rattle.fip_tool.specs.Ends.{Reported, exit_status}
-use Rattle.fip_tool.specs.Said.{IsTextsOf, Says, SaysAll, SinkAlone}
+use Rattle.fip_tool.specs.{Ends.Reported, Ends.exit_status, Said.IsTextsOf, Said.Says, Said.SaysAll, Said.SinkAlone}
+use Rattle.fip_tool.specs.{Tool.IsReadFor, Tool.given_value, Tool.no_files, Tool.prints, Wrote.CommandWrote, Wrote.WroteFor}
 use Rattle.fip_tool.specs.Steps.{Did, CommandPlan, MayTear, PrintedText, outcome_by}
-use Rattle.fip_tool.specs.Tool.{IsReadFor, given_value, no_files, prints}
-use Rattle.fip_tool.specs.Wrote.{CommandWrote, WroteFor}
-use Rattle.fip_making.specs.Stops.{status_number}
-use Rattle.fip_making.specs.Values.{StopsInTime}
-use Rattle.fip_making.specs.declared.stops.Stop.{Stop}
+use Rattle.fip_making.specs.{Stops.status_number, Values.StopsInTime, declared.stops.Stop.Stop}
 
 -- ---- in a sink
 

@@ -3,12 +3,10 @@ use Rattle.std.specs.Prelude.{◌≡◌, ◌≢◌, ◌⊎◌, ◌+◌, ◌≤�
 use Rattle.std.specs.Str.{bytes_eq}
 use Rattle.std.specs.Io.KnownBytes.{Appends}
 use Rattle.base_core.specs.Counts.{Rose}
-use Rattle.host_io.specs.Calls.{raised}
-use Rattle.host_io.specs.Contents.{Directory}
+use Rattle.host_io.specs.{Calls.raised, Contents.Directory}
 use Rattle.host_io.specs.declared.writes.Writes as count
-use Rattle.fip_making.specs.declared.stops.Stop.{Stop}
+use Rattle.fip_making.specs.{declared.stops.Stop.Stop, Answers.NoneFailed}
 use Rattle.fip_making.specs.declared.stops.Stop.TheVariants.{FileFault, SinkFault, NoMemory}
-use Rattle.fip_making.specs.Answers.{NoneFailed}
 
 -- a file is written whole, or a text is printed
 pub data CommandStep : Type 0 where

@@ -7,14 +7,13 @@ use Rattle.host_io.specs.declared.writes.Writes as count
 use Rattle.fwu_formats.specs.Package.{Entry, payload, toc_of}
 use Rattle.fip_tables.specs.Answers.{decided}
 use Rattle.fip_words.specs.Order.{FipAsked, info, info_of_source, create, update, remove, unpack, manifest, capsule, repackage}
+use Rattle.fip_tool.specs.{Ends.CommandEnded, Ends.EndedBy, Ends.exit_status, declared.lines.Format.Format}
 use Rattle.fip_tool.specs.Lines.{info_text, made_line, manifest_line, unpacked_line, unpacked_name}
-use Rattle.fip_tool.specs.Ends.{CommandEnded, EndedBy, exit_status}
 use Rattle.fip_tool.specs.Steps.{CommandPlan, Makes, MayTear, Refuses, CommandStep, Writes, Prints, outcome_by}
-use Rattle.fip_tool.specs.declared.lines.Format.{Format}
 use Rattle.fip_tool.specs.declared.lines.Format.TheVariants as format
 use Rattle.fip_making.specs.declared.stops.Stop.{Stop}
-use Rattle.fip_making.specs.declared.stops.Stop.TheVariants as stop
 use Rattle.fip_making.specs.Values.{StopsInTime, after, capsule_value, create_value, first_missing, given_table, is_named, manifest_value, package_read_in, remove_value, repackage_value, sized_table, unless_missing, update_value}
+use Rattle.fip_making.specs.declared.stops.Stop.TheVariants as stop
 
 -- ---- info
 

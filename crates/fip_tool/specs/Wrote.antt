@@ -4,8 +4,7 @@ use Rattle.std.specs.Io.KnownBytes.{Appends}
 use Rattle.host_io.specs.Calls.{raised}
 use Rattle.fip_words.specs.Order.{FipAsked, info, info_of_source}
 use Rattle.fip_tool.specs.Said.{IsTexts, half_of, joined_texts}
-use Rattle.fip_making.specs.Answers.{IsLate}
-use Rattle.fip_making.specs.declared.stops.Stop.{Stop}
+use Rattle.fip_making.specs.{Answers.IsLate, declared.stops.Stop.Stop}
 use Rattle.fip_making.specs.declared.stops.Stop.TheVariants.{FileFault, SinkFault}
 
 -- how many files were written after one writing with this result

@@ -1,11 +1,9 @@
 -- A command with each of its arguments, and a program with each of its commands.
 use Rattle.std.proofs.Common.{◌≡◌, ◌∙◌, ◌<◌, ◌≤◌, ◌+◌, ℕ, List, length, drop, get_or, add-one, ap, sym, drop-cons}
 use Rattle.std.proofs.lemmas.List.{drop_all}
-use Rattle.clap.specs.Words.{App, app_of}
-use Rattle.clap.specs.declared.builder.Command.{Command}
+use Rattle.clap.specs.{Words.App, Words.app_of, declared.builder.Command.Command}
 use Rattle.clap_words.specs.Words.{AddsRule, IsApp, with_leaf}
-use Rattle.fip_words.specs.declared.commands.Argument.{Argument}
-use Rattle.fip_words.specs.declared.commands.Leaf.{Leaf}
+use Rattle.fip_words.specs.{declared.commands.Argument.Argument, declared.commands.Leaf.Leaf}
 use Rattle.fip_words.specs.Arguments.{AddsArguments, argument_rule, leaf_app, with_leaves, with_rules}
 
 module _ (arguments : List Argument) (i : ℕ) where

@@ -1,9 +1,8 @@
 -- What is read, where no type is named twice.
 use Rattle.std.proofs.Common.{◌≡◌, ℕ, List, [], ◌∷◌, Some, None, true, false, map, refl, ap}
 use Rattle.fwu_formats.specs.Layout.{are_distinct}
-use Rattle.fip_words.specs.declared.values.FileWord.{FileWord}
+use Rattle.fip_words.specs.{declared.values.FileWord.FileWord, Order.part_view, Order.image_view}
 use Rattle.fip_words.specs.declared.values.ImageWord.{ImageWord}
-use Rattle.fip_words.specs.Order.{part_view, image_view}
 use Rattle.fip_words.specs.Values.{NamedFile, NamedImage, each, part_of, named_parts_of, named_row_of, named_rows_of}
 
 types-of_parts : (ps : List FileWord) → map (λ (p : NamedFile). p.guid) (map part_view ps) ≡ map (λ (p : FileWord). p.guid) ps

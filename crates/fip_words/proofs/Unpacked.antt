@@ -5,10 +5,8 @@ use Rattle.std.proofs.Math.Seq.{take-append_seam, drop-append_seam, drop-append-
 use Rattle.std.proofs.lemmas.List.{take-append-drop, drop-drop, length-append}
 use Rattle.std.proofs.lemmas.Bool.{and_from, and_parts, false≢true}
 use Rattle.uuid.specs.Text.{lower}
-use Rattle.uuid.proofs.TextLemmas.{by_index_length}
-use Rattle.uuid.proofs.RoundTrips.{parses_hyphenated_text}
-use Rattle.base_core.specs.Bytes.{same_bytes}
-use Rattle.base_core.specs.Guid.{guid_of, guid_text}
+use Rattle.uuid.proofs.{TextLemmas.by_index_length, RoundTrips.parses_hyphenated_text}
+use Rattle.base_core.specs.{Bytes.same_bytes, Guid.guid_of, Guid.guid_text}
 use Rattle.base_core.proofs.Spelled.{same_is, same_refl}
 use Rattle.fip_words.specs.Values.{bin, is_lower_guid, is_spelled, is_unpacked}
 

@@ -1,11 +1,9 @@
 -- The commands of a program and their arguments, as they are listed.
 use Rattle.std.specs.Prelude.{◌≡◌, List, [], ◌∷◌}
+use Rattle.clap.specs.{declared.builder.Command.Command, declared.builder.Command.TheViews.out-Command}
 use Rattle.clap.specs.Words.{App, Rule, app_of, new_app, with_rule}
-use Rattle.clap.specs.declared.builder.Command.{Command}
-use Rattle.clap.specs.declared.builder.Command.TheViews.{out-Command}
 use Rattle.clap_words.specs.Words.{option, some_words, with_leaf, word, words}
-use Rattle.fip_words.specs.declared.commands.Argument.{Argument}
-use Rattle.fip_words.specs.declared.commands.Leaf.{Leaf}
+use Rattle.fip_words.specs.{declared.commands.Argument.Argument, declared.commands.Leaf.Leaf}
 use Rattle.fip_words.specs.declared.commands.Argument.TheVariants.{Setting, Word, Words, SomeWords}
 
 -- what `clap` sees of an argument

@@ -4,11 +4,9 @@ use Rattle.base_core.specs.Bytes.{same_bytes}
 use Rattle.clap.specs.Words.{Row, Text, first_of}
 use Rattle.clap_words.specs.Words.{reads}
 pub use Rattle.clap_words.specs.Answers.{file_in, values_of}
-use Rattle.fip_words.specs.Commands.{fip_app}
+use Rattle.fip_words.specs.{Commands.fip_app, declared.values.FileWord.FileWord, declared.order.FipOrder.FipOrder}
 use Rattle.fip_words.specs.Values.{NamedFile, NamedImage, align_of, number_read, is_unpacked, names_of, named_parts_of, named_rows_of}
-use Rattle.fip_words.specs.declared.values.FileWord.{FileWord}
 use Rattle.fip_words.specs.declared.values.ImageWord.{ImageWord}
-use Rattle.fip_words.specs.declared.order.FipOrder.{FipOrder}
 use Rattle.fip_words.specs.declared.order.FipOrder.TheVariants.{Info, InfoOfSource, Create, Update, Remove, Unpack, Manifest, Capsule, Package}
 
 -- a command with its values

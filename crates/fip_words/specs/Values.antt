@@ -1,7 +1,6 @@
 -- The values on the command line of `fip`.
 use Rattle.std.specs.Prelude.{ℕ, ◌+◌, ◌==◌, ◌&&◌, Bool, false, List, Option, Some, None, length, take, drop, if◌then◌else◌, option_and_then, map, codes}
-use Rattle.base_core.specs.Bytes.{same_bytes}
-use Rattle.base_core.specs.Guid.{guid_of, guid_text}
+use Rattle.base_core.specs.{Bytes.same_bytes, Guid.guid_of, Guid.guid_text}
 use Rattle.fwu_formats.specs.Layout.{are_distinct}
 pub use Rattle.clap_words.specs.Values.{each}
 unfoldable pub use Rattle.clap_words.specs.Values.{file_named, name_of, number_read, split_of}

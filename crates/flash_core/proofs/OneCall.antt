@@ -5,8 +5,7 @@ use Rattle.std.proofs.lemmas.Bool.{cases_lt}
 use Rattle.std.proofs.lemmas.List.{ext_get_or}
 use Rattle.std.specs.List.{list_any}
 use Rattle.std.specs.Prelude.{IsTrue, IsFalse, ◌==◌, Result, Ok, Err}
-use Rattle.base_core.specs.Block.{block}
-use Rattle.base_core.specs.Seal.{Sealed}
+use Rattle.base_core.specs.{Block.block, Seal.Sealed}
 use Rattle.base_core.proofs.Blocks.{get_or-block}
 use Rattle.flash_core.specs.Told.{Told, NothingDirty, is_unsure, is_guarded, put, halt, written, fresh, finished, overwritten}
 use Rattle.flash_core.specs.May.{as_stable, as_now, as_finished, unsealed, May}

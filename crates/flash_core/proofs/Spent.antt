@@ -1,8 +1,7 @@
 -- What erases, programs and barriers leave of an arming.
 use Rattle.std.proofs.Common.{◌≡◌, ℕ, ◌+◌, ◌∙◌, refl, ap, arith, Option, Some, None}
 use Rattle.std.specs.Prelude.{Result, Ok, Err, OnOk}
-use Rattle.flash_core.specs.declared.flash.Arming.{Arming}
-use Rattle.flash_core.specs.declared.flash.FlashStop.{FlashStop}
+use Rattle.flash_core.specs.{declared.flash.Arming.Arming, declared.flash.FlashStop.FlashStop}
 use Rattle.flash_core.specs.Counts.{arming_kept, arming_spent, lowered, lowered_by}
 
 -- one erase or program that was done

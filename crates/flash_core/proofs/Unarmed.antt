@@ -1,9 +1,7 @@
 -- Whether a loss is armed, after one call and over several.
 use Rattle.std.proofs.Common.{◌≤◌, ◌≡◌, ◌∙◌, refl, ap, subst, Option, None}
 use Rattle.std.specs.Prelude.{Result, Ok, Err, IsErrOf}
-use Rattle.flash_core.specs.declared.flash.Arming.{Arming}
-use Rattle.flash_core.specs.declared.flash.Counts.{Counts}
-use Rattle.flash_core.specs.declared.flash.FlashStop.{FlashStop}
+use Rattle.flash_core.specs.{declared.flash.Arming.Arming, declared.flash.Counts.Counts, declared.flash.FlashStop.FlashStop}
 use Rattle.flash_core.specs.declared.flash.FlashStop.TheVariants.{Lost, Failed}
 use Rattle.flash_core.specs.Counts.{ReachesNone, StaysUnarmed, Fires, IsDue, arming_kept, arming_spent}
 use Rattle.flash_core.proofs.Costs.{rose_earlier}

@@ -1,10 +1,7 @@
 -- What a call leaves of a device: one that only reads, one that also writes, and one that writes in one place.
 use Rattle.std.specs.Prelude.{◌≡◌, ℕ, Result, is_ok, IsTrue, OnOk}
-use Rattle.flash_core.specs.declared.flash.Flash.{Ghosts}
-use Rattle.flash_core.specs.declared.flash.FlashStop.{FlashStop}
+use Rattle.flash_core.specs.{declared.flash.Flash.Ghosts, declared.flash.FlashStop.FlashStop, May.Keeps, Touches.TouchesOnly}
 use Rattle.flash_core.specs.Counts.{Spends, StaysUnarmed, ReachesNone, arming_kept, lowered_by}
-use Rattle.flash_core.specs.May.{Keeps}
-use Rattle.flash_core.specs.Touches.{TouchesOnly}
 
 -- Content and size stay, nothing is erased or programmed, and power is by the result. No loss is armed or reached, and each stop
 -- has its cause.

@@ -4,12 +4,10 @@ use Rattle.std.proofs.lemmas.Bool.{false≢true}
 use Rattle.std.proofs.lemmas.List.{take_min, append-nil, take-append-drop}
 use Rattle.std.specs.Prelude.{Option, Result, is_err, ◌==◌, if◌then◌else◌}
 use Rattle.base_core.specs.Bytes.{overwritten}
-use Rattle.flash_core.specs.declared.flash.Arming.{Arming}
-use Rattle.flash_core.specs.declared.flash.FlashStop.{FlashStop}
+use Rattle.flash_core.specs.{declared.flash.Arming.Arming, declared.flash.FlashStop.FlashStop}
 use Rattle.flash_core.specs.declared.flash.FlashStop.TheVariants.{Lost, Failed}
+use Rattle.flash_devices.specs.{File.to_write, File.LeavesFile, Meters.is_failed}
 use Rattle.flash_devices.specs.ByteFiles.{FailsWithin, written_over, WritesBytes}
-use Rattle.flash_devices.specs.File.{to_write, LeavesFile}
-use Rattle.flash_devices.specs.Meters.{is_failed}
 
 -- a write failed as the file tells it
 pub failed_as_told : {T U E : Type 0} (result : Result T FlashStop) (write : Result U E) (told : Option Bool) (old : Option (List ℕ)) (at place : ℕ) (part whole : List ℕ)

@@ -1,8 +1,7 @@
 -- What becomes of a call of a memory device, and what a stop leaves to the next power-on.
 use Rattle.std.specs.Prelude.{ℕ, Bool, false, ◌&&◌, if◌then◌else◌, Option, None, Some, length, slice_index, ◌≡◌, ◌<◌, ◌≤◌, min, Result, Ok, Err}
+use Rattle.flash_core.specs.{May.Leaves, May.TookEffect, declared.flash.FlashStop.FlashStop}
 use Rattle.flash_core.specs.Told.{Told, Operation, is_within, finished, fresh}
-use Rattle.flash_core.specs.May.{Leaves, TookEffect}
-use Rattle.flash_core.specs.declared.flash.FlashStop.{FlashStop}
 use Rattle.flash_core.specs.declared.flash.FlashStop.TheVariants.{Lost, Failed}
 use Rattle.flash_devices.specs.declared.meters.Fate.{Fate}
 use Rattle.flash_devices.specs.declared.meters.Fate.TheVariants.{Done, Fails, Dies}

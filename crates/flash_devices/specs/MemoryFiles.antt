@@ -1,7 +1,6 @@
 -- What a file in memory holds and counts, and which of its calls fail.
 use Rattle.std.specs.Prelude.{◌≡◌, ℕ, Bool, List}
-use Rattle.flash_devices.specs.Meters.{is_listed, following, counts_in}
-use Rattle.flash_devices.specs.declared.memory_file.MemoryFile.{MemoryFile}
+use Rattle.flash_devices.specs.{Meters.is_listed, Meters.following, Meters.counts_in, declared.memory_file.MemoryFile.MemoryFile}
 
 abbrev pub bytes_of : MemoryFile → List ℕ
 bytes_of f = f.bytes.items

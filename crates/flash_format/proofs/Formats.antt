@@ -4,27 +4,24 @@ use Rattle.std.proofs.Common.{◌≡◌, ℕ, ◌+◌, ◌-◌, ◌*◌, ◌<◌
 use Rattle.std.specs.List.{All}
 use Rattle.std.proofs.lemmas.Bool.{and_parts, and_from, le-leb, cases_lt}
 use Rattle.std.proofs.lemmas.List.{get_or-map, length-map, take_at, get_or-take, take-take, length-take-le, length-replicate, get_or-replicate, get_or_past}
-use Rattle.base_core.specs.Block.{blank, block, granule}
-use Rattle.flash_core.specs.Told.{Told, NothingDirty, fresh}
-use Rattle.flash_core.specs.May.{Keeps, Leaves, May}
+use Rattle.base_core.specs.{Block.blank, Block.block, Block.granule, Bytes.listed, Bytes.num_at}
+use Rattle.flash_core.specs.{Told.Told, Told.NothingDirty, Told.fresh, May.Keeps, May.Leaves, May.May}
+use Rattle.fwu_formats.specs.{Counter.counter_in, Counter.recorded, Counter.is_record, declared.kinds.BankState.BankState}
 use Rattle.fwu_formats.specs.Layout.{ImageRow, Layout, fits_layout, slot_total, slot_bytes, start, layout_of}
 use Rattle.fwu_formats.specs.Metadata.{first_meta, Meta, MetaRead, state_at, meta_read}
 use Rattle.fwu_formats.specs.Manifest.{is_complete, manifest_part, version}
 use Rattle.fwu_formats.specs.Image.{layout_seen, package_in, slot, deciding, is_blank, marks}
 use Rattle.fwu_formats.specs.Package.{Entry, Toc, entry_of, payload}
-use Rattle.fwu_model.specs.Answer.{images_of, payload_or}
-use Rattle.fwu_model.specs.Replica.{BothHold, in_version}
+use Rattle.fwu_formats.specs.declared.kinds.BankState.TheVariants.{Accepted, Invalid, Valid}
+use Rattle.fwu_model.specs.{Answer.images_of, Answer.payload_or, Replica.BothHold, Replica.in_version, Sound.Setting}
 use Rattle.fwu_model.specs.Seen.{seen, bank_in, state_of, SoundFlash}
-use Rattle.fwu_model.specs.Sound.{Setting}
-use Rattle.fwu_formats.proofs.SealLaws.{limits, layout-sealed, record-sealed}
+use Rattle.fwu_model.specs.State.{State, Bank, no_bank, bank, is_invalid, is_valid, is_accepted, all_set}
+use Rattle.fwu_formats.proofs.{SealLaws.limits, SealLaws.layout-sealed, SealLaws.record-sealed, Marks.marks-are-counted}
 use Rattle.fwu_model.proofs.Shown.{shown-are-formed, seen-by-metadata, shown-are-sound}
-use Rattle.image_check.specs.declared.bank.Verdict.{Verdict}
+use Rattle.image_check.specs.{declared.bank.Verdict.Verdict, Law.verdict_may_start, Verdict.verdict_on}
 use Rattle.image_check.specs.declared.bank.Verdict.TheVariants.{Good}
-use Rattle.image_check.specs.Law.{verdict_may_start}
-use Rattle.image_check.specs.Verdict.{verdict_on}
 use Rattle.image_check.proofs.Permitted.{good, permitted}
-use Rattle.moves.proofs.Agree.{package-same}
-use Rattle.moves.proofs.Packages.{package-held}
+use Rattle.moves.proofs.{Agree.package-same, Packages.package-held}
 use Rattle.fip_tables.specs.Images.{AreImages, no_entry, no_row}
 use Rattle.flash_format.specs.Formatted.{first_state, HoldsImages, IsFormatted, IsRefusedFormat, IsOrdered, IsWholeFormat, full_bank, empty_bank}
 use Rattle.flash_format.specs.Places.{AllStand, Erased, HoldsThenErased}
@@ -34,13 +31,7 @@ use Rattle.flash_core.proofs.Calls.{fresh_dirty, guard-fresh, now-fresh, quiet_f
 use Rattle.std.proofs.lemmas.List.Sums.{sum_by_more, sum_by_more_le}
 use Rattle.std.proofs.lemmas.List.FromFn.{length-map-range_with_len, get_or-map-range_with_len}
 use Rattle.std.specs.Option.{option_or}
-use Rattle.base_core.specs.Bytes.{listed, num_at}
 use Rattle.base_core.proofs.Seals.{blank_unsealed, is_false}
-use Rattle.fwu_formats.specs.Counter.{counter_in, recorded, is_record}
-use Rattle.fwu_model.specs.State.{State, Bank, no_bank, bank, is_invalid, is_valid, is_accepted, all_set}
-use Rattle.fwu_formats.specs.declared.kinds.BankState.{BankState}
-use Rattle.fwu_formats.specs.declared.kinds.BankState.TheVariants.{Accepted, Invalid, Valid}
-use Rattle.fwu_formats.proofs.Marks.{marks-are-counted}
 
 -- ---- erased blocks
 

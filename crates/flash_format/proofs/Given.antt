@@ -3,22 +3,15 @@ use Rattle.std.proofs.Common.{◌≡◌, ℕ, ◌+◌, ◌*◌, ◌≤◌, List,
 use Rattle.std.specs.Prelude.{IsTrue, not}
 use Rattle.std.specs.List.{All}
 use Rattle.std.proofs.lemmas.Bool.{not-false, ltb-false}
-use Rattle.fwu_formats.specs.Layout.{Layout, fits_layout, blocks_needed}
-use Rattle.fwu_formats.specs.Package.{Entry, Toc, toc_of}
+use Rattle.fwu_formats.specs.{Layout.Layout, Layout.fits_layout, Layout.blocks_needed, Package.Entry, Package.Toc, Package.toc_of}
+use Rattle.fwu_formats.specs.{declared.kinds.FipFault.FipFault, declared.kinds.LayoutFault.LayoutFault}
 use Rattle.fwu_model.specs.Answer.{images_of}
-use Rattle.fwu_formats.specs.declared.kinds.FipFault.{FipFault}
-use Rattle.fwu_formats.specs.declared.kinds.LayoutFault.{LayoutFault}
 use Rattle.fwu_formats.proofs.SealLaws.{was_not_refused}
 use Rattle.meta_layout.specs.Rows.{fitted}
-use Rattle.flash_format.specs.Formatted.{HoldsImages}
-use Rattle.flash_format.specs.Places.{AllStand}
-use Rattle.flash_format.specs.Planned.{HasToc}
-use Rattle.flash_format.specs.Stops.{FormatFinishes, IsOfBytes}
+use Rattle.flash_format.specs.{Formatted.HoldsImages, Places.AllStand, Planned.HasToc, Stops.FormatFinishes, Stops.IsOfBytes}
+use Rattle.flash_format.specs.{declared.stops.FormatStop.FormatStop, declared.stops.FormatStop.TheVariants.Input}
 use Rattle.flash_format.specs.declared.stops.InputFault.TheVariants.{Incomplete, Layout as BadLayout}
-use Rattle.flash_format.specs.declared.stops.FormatStop.{FormatStop}
-use Rattle.flash_format.specs.declared.stops.FormatStop.TheVariants.{Input}
-use Rattle.flash_format.proofs.Plans.{bank_within}
-use Rattle.flash_format.proofs.Formats.{holds_images}
+use Rattle.flash_format.proofs.{Plans.bank_within, Formats.holds_images}
 
 pub same_ok : {X F : Type 0} (x y : X) → ◌≡◌ {A = Result X F} (Ok x) (Ok y) → x ≡ y
 same_ok x y e = cc

@@ -4,14 +4,12 @@ use Rattle.std.specs.List.{All}
 use Rattle.host_io.specs.Contents.{Directory}
 use Rattle.fwu_formats.specs.Layout.{Layout, slot_total, blocks_needed, fits_layout}
 use Rattle.fwu_formats.specs.Package.{Entry, Toc, toc_of}
-use Rattle.fip_tables.specs.Files.{Lacks, Tells}
+use Rattle.fip_tables.specs.{Files.Lacks, Files.Tells, Images.AreImages}
 use Rattle.image_check.proofs.OfBank.{bank_fits}
-use Rattle.fwu_formats.proofs.SealLaws.{limits}
+use Rattle.fwu_formats.proofs.{SealLaws.limits, Tables.ends-within}
 use Rattle.std.specs.Prelude.{IsTrue}
-use Rattle.fip_tables.specs.Images.{AreImages}
 use Rattle.flash_format.specs.Planned.{IsPlanned}
 use Rattle.fip_tables.proofs.Chosen.{chosen_have}
-use Rattle.fwu_formats.proofs.Tables.{ends-within}
 
 pub planned_from : (told : Option Directory) (name : List ℕ) (L : Layout) (toc : Toc) (entries : List Entry) → AreImages L.rows toc entries → All (λ e. e.offset + e.size < 2 ^ 64) toc.entries
     → ((file : List ℕ) → Tells told name file → toc_of file ≡ Ok toc) → (Lacks told name → ⊥) → IsPlanned told name L entries

@@ -4,12 +4,10 @@ use Rattle.std.proofs.Common.{◌≡◌, ◌⊎◌, inl, inr, ℕ, ◌+◌, ◌-
 use Rattle.std.proofs.lemmas.List.{length-take-le, length-append, length-drop, get_or-take, get_or-drop, get_or_append_left, get_or-append_right, get_or_default, get_or_past, same_lists}
 use Rattle.std.proofs.lemmas.Bool.{cases_lt}
 use Rattle.std.specs.Prelude.{slice_range}
-use Rattle.base_core.specs.Block.{blank}
-use Rattle.base_core.specs.Bytes.{overwritten}
+use Rattle.base_core.specs.{Block.blank, Bytes.overwritten}
 use Rattle.base_core.proofs.Blocks.{length-blank, get_or-blank}
 use Rattle.base_core.proofs.Images.{overwritten_below, overwritten_inside, overwritten_above}
-use Rattle.flash_core.specs.Told.{Told, put, written}
-use Rattle.flash_core.specs.May.{Keeps}
+use Rattle.flash_core.specs.{Told.Told, Told.put, Told.written, May.Keeps}
 use Rattle.flash_core.proofs.Calls.{keeps_put, keeps_halt, now-put}
 use Rattle.flash_format.specs.Places.{Erased, HoldsThenErased}
 use Rattle.fwu_formats.specs.Package.{Entry, payload}

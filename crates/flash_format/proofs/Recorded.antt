@@ -4,26 +4,20 @@ use Rattle.std.specs.Prelude.{IsErr, OnOk, ◌%◌, Result, Ok, Err}
 use Rattle.std.proofs.lemmas.List.{get_or_default, get_or_past, append-nil, length-append, length-replicate}
 use Rattle.std.proofs.lemmas.Bool.{cases_lt, cases_eq}
 use Rattle.std.specs.Result.{result_ok}
-use Rattle.base_core.specs.Block.{blank, block}
-use Rattle.base_core.specs.Bytes.{overwritten}
+use Rattle.base_core.specs.{Block.blank, Block.block, Bytes.overwritten, Seal.Sealed}
+use Rattle.base_core.proofs.{Blocks.length-blank, Blocks.get_or-blank, Seals.blank_unsealed}
 use Rattle.base_core.proofs.Images.{length-overwritten, overwritten_inside, overwritten_above, block-overwritten_other}
-use Rattle.flash_core.specs.Told.{Told, put, settled, written, NothingDirty}
+use Rattle.flash_core.specs.{Told.Told, Told.put, Told.settled, Told.written, Told.NothingDirty, Replaces.padded}
 use Rattle.flash_core.specs.May.{Keeps, Leaves, May, KeepsBlock, as_stable, as_now, as_finished, unsealed}
-use Rattle.flash_core.specs.Replaces.{padded}
 use Rattle.flash_core.proofs.Calls.{now-halt, now-put, now-settle, keeps_settle, settle-fresh, now_kept, block_kept, block_quiet, keeps_same, quiet_fresh, quiet_kept, stable-put, stable-halt, stable-settle, finished-put, finished-halt, finished-settle}
+use Rattle.fwu_formats.specs.{Image.layout_seen, Package.Entry}
 use Rattle.fwu_formats.specs.Layout.{Layout, fits_layout, layout_of, blocks_needed, slot_total, start}
 use Rattle.fwu_formats.specs.Metadata.{Meta, MetaRead, meta_of, meta_read, meta_bytes, meta_size, replica_bytes, fits_meta, first_meta}
-use Rattle.fwu_formats.specs.Image.{layout_seen}
 use Rattle.fwu_model.specs.Replica.{BothHold, in_version}
 use Rattle.fwu_formats.proofs.MetaWritten.{meta-read}
 use Rattle.flash_format.specs.Formatted.{HasAtMost, IsBlank, IsInOrder, IsOrdered, IsUnlaid, IsWholeFormat, bared, begun, filled}
 use Rattle.flash_format.specs.Places.{Erased, HoldsThenErased, IsBare, OnlyErased, AllStand, LeavesNoMore}
-use Rattle.flash_format.proofs.Formats.{unlaid, block_blank, unlaid_by}
-use Rattle.flash_format.proofs.Ranges.{stands_whole, erased_stays}
-use Rattle.fwu_formats.specs.Package.{Entry}
-use Rattle.base_core.specs.Seal.{Sealed}
-use Rattle.base_core.proofs.Blocks.{length-blank, get_or-blank}
-use Rattle.base_core.proofs.Seals.{blank_unsealed}
+use Rattle.flash_format.proofs.{Formats.unlaid, Formats.block_blank, Formats.unlaid_by, Ranges.stands_whole, Ranges.erased_stays}
 
 -- ---- results
 

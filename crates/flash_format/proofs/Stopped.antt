@@ -2,10 +2,8 @@
 use Rattle.std.proofs.Common.{◌≡◌, ◌∙◌, ap, Result, Err, Option}
 use Rattle.std.specs.Prelude.{IsErrAnd, Result, Ok}
 use Rattle.std.proofs.lemmas.Result.{err_from_is_err_and}
-use Rattle.flash_core.specs.declared.flash.Arming.{Arming}
-use Rattle.flash_core.specs.declared.flash.Counts.{Counts}
+use Rattle.flash_core.specs.{declared.flash.Arming.Arming, declared.flash.Counts.Counts, Counts.StaysUnarmed}
 use Rattle.flash_core.specs.declared.flash.FlashStop.{FlashStop}
-use Rattle.flash_core.specs.Counts.{StaysUnarmed}
 
 pub handed-on : {T S : Type 0} (r : Result T S) (s : S) → IsErrAnd r (λ x. x ≡ s) → r ≡ Err s
 handed-on r s is = let p = err_from_is_err_and r is in p.1 ∙ ap Err p.2

@@ -2,9 +2,8 @@
 use Rattle.std.proofs.Common.{◌≡◌, ℕ, suc, ◌+◌, ◌*◌, ◌<◌, ◌≤◌, List, [], ◌∷◌, length, get_or, take, sym, ap, subst, ◌∙◌, arith, refl, Some, Ok, ap₂}
 use Rattle.std.proofs.lemmas.List.Sums.{sum_by-cons, sum_by_more}
 use Rattle.std.proofs.lemmas.List.{take_all}
-use Rattle.fwu_formats.specs.Layout.{ImageRow, Layout, slot_total}
+use Rattle.fwu_formats.specs.{Layout.ImageRow, Layout.Layout, Layout.slot_total, declared.kinds.FipFault.FipFault}
 use Rattle.fwu_formats.specs.Package.{Entry, Toc, entry_of, toc_of}
-use Rattle.fwu_formats.specs.declared.kinds.FipFault.{FipFault}
 use Rattle.fip_tables.specs.Images.{no_entry, no_row}
 use Rattle.flash_format.specs.Planned.{HasToc, pieces_by, pieces_for, pieces_in, block_pieces_of}
 use Rattle.flash_format.proofs.Given.{same_ok}

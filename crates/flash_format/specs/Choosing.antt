@@ -1,12 +1,9 @@
 -- What is refused before the flash is touched.
 use Rattle.std.specs.Prelude.{ℕ, List, Option, Some, Result, Ok, Err, option_map}
-use Rattle.fwu_formats.specs.Layout.{Layout}
-use Rattle.fwu_formats.specs.Package.{Toc, toc_of}
-use Rattle.fwu_formats.specs.declared.kinds.FipFault.{FipFault}
+use Rattle.fwu_formats.specs.{Layout.Layout, Package.Toc, Package.toc_of, declared.kinds.FipFault.FipFault}
 use Rattle.fwu_formats.specs.declared.kinds.LayoutFault.{LayoutFault}
 use Rattle.meta_layout.specs.Rows.{fitted}
-use Rattle.fip_tables.specs.Images.{images_fault}
-use Rattle.fip_tables.specs.declared.images.ImageFault.{ImageFault}
+use Rattle.fip_tables.specs.{Images.images_fault, declared.images.ImageFault.ImageFault}
 use Rattle.fip_tables.specs.declared.images.ImageFault.TheVariants as image
 use Rattle.flash_format.specs.declared.stops.InputFault.{InputFault}
 use Rattle.flash_format.specs.declared.stops.InputFault.TheVariants.{Layout as BadLayout, Package as BadPackage, Missing, TooLarge}

@@ -1,24 +1,16 @@
 -- What a flash shows that was formatted, and what one holds whose package was refused.
 use Rattle.std.specs.Prelude.{◌≡◌, ◌⊎◌, ◌+◌, ◌-◌, ◌*◌, ◌<◌, ℕ, Bool, true, false, List, [], ◌∷◌, ◌++◌, length, replicate, Some, None, Ok, IsErr, IsTrue, slice_index_or}
 use Rattle.base_core.specs.Block.{block_bytes, blank, block}
+use Rattle.flash_core.specs.{declared.flash.Flash.Ghosts, May.Keeps, May.May, Replaces.padded}
 use Rattle.flash_core.specs.Told.{Told, NothingDirty, fresh}
-use Rattle.flash_core.specs.declared.flash.Flash.{Ghosts}
-use Rattle.flash_core.specs.May.{Keeps, May}
-use Rattle.flash_core.specs.Replaces.{padded}
+use Rattle.fwu_formats.specs.{Metadata.first_meta, Metadata.replica_bytes, Image.layout_seen, Image.package_in, Image.slot}
 use Rattle.fwu_formats.specs.Layout.{ImageRow, Layout, blocks_needed, layout_bytes, slot_bytes, slot_total}
-use Rattle.fwu_formats.specs.Metadata.{first_meta, replica_bytes}
 use Rattle.fwu_formats.specs.Manifest.{is_complete, manifest_part, version}
-use Rattle.fwu_formats.specs.Image.{layout_seen, package_in, slot}
-use Rattle.fwu_model.specs.Replica.{BothHold, in_version}
-use Rattle.fwu_model.specs.Seen.{seen, SoundFlash}
-use Rattle.fwu_model.specs.State.{State, Bank}
-use Rattle.fwu_model.specs.Sound.{Setting}
 use Rattle.fwu_formats.specs.declared.kinds.BankState.TheVariants.{Accepted, Invalid}
+use Rattle.fwu_model.specs.{Seen.seen, Seen.SoundFlash, State.State, State.Bank, Sound.Setting}
+use Rattle.fwu_model.specs.Replica.{BothHold, in_version}
 use Rattle.flash_format.specs.Places.{OnlyErased, Erased}
-use Rattle.image_check.specs.Law.{verdict_may_start}
-use Rattle.image_check.specs.Passed.{HasPassed}
-use Rattle.image_check.specs.Verdict.{verdict_on}
-use Rattle.image_check.specs.declared.bank.Verdict.{Verdict}
+use Rattle.image_check.specs.{Law.verdict_may_start, Passed.HasPassed, Verdict.verdict_on, declared.bank.Verdict.Verdict}
 use Rattle.image_check.specs.declared.bank.Verdict.TheVariants.{Good}
 
 -- the layout that so many banks and these rows ask for

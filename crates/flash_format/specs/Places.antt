@@ -1,11 +1,9 @@
 -- What stands at a place of a flash, and what a loss leaves there while blocks are erased and the images written.
 use Rattle.std.specs.Prelude.{◌≡◌, ℕ, ◌+◌, ◌*◌, ◌<◌, ◌≤◌, List, slice_index, slice_index_or, ◌⊎◌}
 use Rattle.base_core.specs.Block.{block_bytes, blank, block, fewest_blocks}
-use Rattle.fwu_formats.specs.Layout.{Layout, start, slot_bytes}
-use Rattle.fwu_formats.specs.Package.{Entry, payload}
+use Rattle.fwu_formats.specs.{Layout.Layout, Layout.start, Layout.slot_bytes, Package.Entry, Package.payload}
 use Rattle.fip_tables.specs.Images.{no_entry}
-use Rattle.flash_core.specs.Told.{Told}
-use Rattle.flash_core.specs.May.{KeepsBlock, Quiet}
+use Rattle.flash_core.specs.{Told.Told, May.KeepsBlock, May.Quiet}
 
 -- the bytes from one place to before another are erased
 abbrev pub Erased : ℕ → ℕ → List ℕ → Type 0

@@ -4,13 +4,9 @@ use Rattle.base_core.specs.Block.{block_bytes}
 use Rattle.host_io.specs.Contents.{Directory}
 use Rattle.fwu_formats.specs.Layout.{Layout, ImageRow, blocks_needed, slot_total}
 use Rattle.fwu_formats.specs.Package.{Entry, Toc, toc_of, entry_of}
-use Rattle.fip_tables.specs.Files.{Lacks, Tells}
-use Rattle.fip_tables.specs.Images.{AreImages, no_entry, no_row}
-use Rattle.flash_core.specs.Told.{Told, NothingDirty}
-use Rattle.flash_format.specs.Formatted.{IsBlank}
-use Rattle.flash_format.specs.Places.{AllStand}
-use Rattle.flash_core.specs.Counts.{lowered_by}
-use Rattle.flash_core.specs.declared.flash.Arming.{Arming}
+use Rattle.fip_tables.specs.{Files.Lacks, Files.Tells, Images.AreImages, Images.no_entry, Images.no_row}
+use Rattle.flash_core.specs.{Told.Told, Told.NothingDirty, Counts.lowered_by, declared.flash.Arming.Arming}
+use Rattle.flash_format.specs.{Formatted.IsBlank, Places.AllStand}
 
 -- The payload of an entry can be read of the file of this name.
 pub record IsStored (told : Option Directory) (name : List ℕ) (e : Entry) : Type 0 where

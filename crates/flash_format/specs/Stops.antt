@@ -1,24 +1,17 @@
 -- Why a step stopped.
 use Rattle.std.specs.Prelude.{◌≡◌, ◌⊎◌, ◌+◌, ◌<◌, ◌≤◌, ◌^◌, ⊤, ℕ, Bool, false, List, Option, Some, None, Result, Ok, Err, length}
 use Rattle.base_core.specs.Counts.{Rose}
-use Rattle.host_io.specs.Contents.{Directory}
-use Rattle.host_io.specs.Reads.{ReadsFile}
-use Rattle.host_io.specs.declared.files.Files.{Ghosts}
+use Rattle.host_io.specs.{Contents.Directory, Reads.ReadsFile, declared.files.Files.Ghosts}
 use Rattle.fip_tables.specs.Files.{Lacks, Tells}
-use Rattle.image_check.specs.Law.{verdict_may_start}
-use Rattle.image_check.specs.Passed.{HasPassed}
-use Rattle.image_check.specs.declared.bank.Verdict.{Verdict}
+use Rattle.image_check.specs.{Law.verdict_may_start, Passed.HasPassed, declared.bank.Verdict.Verdict}
 use Rattle.meta_layout.specs.Rows.{fitted}
 use Rattle.flash_core.specs.declared.flash.FlashStop.{FlashStop}
+use Rattle.fwu_formats.specs.{Layout.ImageRow, Layout.Layout, Package.toc_of, Package.Toc, declared.kinds.FipFault.FipFault}
 use Rattle.fwu_formats.specs.declared.kinds.LayoutFault.{LayoutFault}
-use Rattle.fwu_formats.specs.Layout.{ImageRow, Layout}
-use Rattle.fwu_formats.specs.Package.{toc_of, Toc}
+use Rattle.flash_format.specs.{declared.stops.InputFault.InputFault, declared.stops.FormatStop.FormatStop}
 use Rattle.flash_format.specs.Choosing.{refusal, refusal_by}
-use Rattle.flash_format.specs.declared.stops.InputFault.{InputFault}
 use Rattle.flash_format.specs.declared.stops.InputFault.TheVariants.{Layout as BadLayout, Package, Missing, TooLarge, Incomplete}
-use Rattle.flash_format.specs.declared.stops.FormatStop.{FormatStop}
 use Rattle.flash_format.specs.declared.stops.FormatStop.TheVariants.{Input, ReadFailed, Flash}
-use Rattle.fwu_formats.specs.declared.kinds.FipFault.{FipFault}
 
 -- a result, as the flash's: a refusal and a file that could not be read are no stop
 abbrev pub flash_result : {T : Type 0} → Result T FormatStop → Result (Unit {0}) FlashStop

@@ -1,14 +1,9 @@
 -- What writing to a flash leaves, at any exit.
 use Rattle.std.specs.Prelude.{◌≡◌, ◌≤◌, ◌⊎◌, ℕ, Result, OnOk, IsTrue}
 use Rattle.base_core.specs.Block.{block_bytes}
-use Rattle.flash_core.specs.Calls.{Goes}
-use Rattle.flash_core.specs.Counts.{lowered_by}
-use Rattle.flash_core.specs.May.{Keeps}
-use Rattle.flash_core.specs.Touches.{TouchesOnly}
-use Rattle.flash_core.specs.declared.flash.Flash.{Ghosts}
+use Rattle.flash_core.specs.{Calls.Goes, Counts.lowered_by, May.Keeps, Touches.TouchesOnly, declared.flash.Flash.Ghosts}
+use Rattle.flash_format.specs.{Stops.RefusesNothing, Stops.flash_result, declared.stops.FormatStop.FormatStop}
 use Rattle.flash_format.specs.Places.{IsBare, LeavesNoMore, OnlyErased}
-use Rattle.flash_format.specs.Stops.{RefusesNothing, flash_result}
-use Rattle.flash_format.specs.declared.stops.FormatStop.{FormatStop}
 
 -- Power is on, and the device has at least so many blocks.
 pub record IsReadyDevice {D : Type 0} (g : Ghosts D) (blocks : ℕ) (flash : D) : Type 0 where

@@ -3,29 +3,18 @@ use Rattle.std.proofs.Common.{◌≡◌, ◌∙◌, ◌⊎◌, ◌≤◌, ◌*�
 use Rattle.std.proofs.Common.{None}
 use Rattle.std.specs.Prelude.{All, IsTrue}
 use Rattle.base_core.specs.Block.{block_bytes}
-use Rattle.flash_core.specs.Told.{Told, fresh}
-use Rattle.flash_core.specs.Touches.{TouchesOnly}
-use Rattle.flash_core.specs.Counts.{Spends}
-use Rattle.fwu_formats.specs.Digests.{passes_any}
-use Rattle.early_boot.specs.Started.{Started}
+use Rattle.flash_core.specs.{Told.Told, Told.fresh, Touches.TouchesOnly, Counts.Spends}
+use Rattle.fwu_formats.specs.{Digests.passes_any, Places.counter_block, Places.first_record}
+use Rattle.early_boot.specs.{Started.Started, EndsBy.BootEnds, EndsBy.EndsByBytes, EndsBy.TouchesBoot}
 use Rattle.early_boot.specs.Ends.{Ended, booted, bad_layout, no_metadata, no_bank, lost, failed, stop_of}
-use Rattle.early_boot.specs.EndsBy.{BootEnds, EndsByBytes, TouchesBoot}
-use Rattle.step_flash.specs.declared.flash.StepFlash.{StepFlash}
-use Rattle.step_flash.specs.declared.step.Step.{Step}
+use Rattle.step_flash.specs.{declared.flash.StepFlash.StepFlash, declared.step.Step.Step, Guard.guard_with, Guard.start_with}
+use Rattle.step_flash.specs.{Writes.LiesBeside, Stopped.under_as, Steps.AreDoable, Steps.run_with}
 use Rattle.step_flash.specs.Flash.{block_count, counts_of, flash_sizes, is_on, told_of, image_of, package_of, writes_of}
-use Rattle.step_flash.specs.Guard.{guard_with, start_with}
-use Rattle.step_flash.specs.Writes.{LiesBeside}
-use Rattle.step_flash.specs.Stopped.{under_as}
-use Rattle.step_flash.specs.Steps.{AreDoable, run_with}
-use Rattle.step_flash.proofs.Causes.{never_lost}
-use Rattle.step_flash.proofs.Guards.{by_guard}
-use Rattle.fwu_c.specs.declared.report.Report.{Report}
-use Rattle.fwu_formats.specs.Places.{counter_block, first_record}
-use Rattle.early_boot.proofs.Touching.{boot-spares}
-use Rattle.fwu_c.specs.Boots.{BootsBy}
-use Rattle.fwu_c.specs.Codes.{end_code}
+use Rattle.step_flash.proofs.{Causes.never_lost, Guards.by_guard}
+use Rattle.fwu_c.specs.{declared.report.Report.Report, Boots.BootsBy, Codes.end_code}
 use Rattle.fwu_c.specs.Handed.{HandsOver, HasFlashSize, IsDeviceEnd, IsJustMade, IsStartOfSteps, IsWithinWith, LieAsCounted, SameBut, boot_reach, is_idle_number}
 use Rattle.fwu_c.specs.Reports.{ReportsEnd, ReportsStart, SameStarts}
+use Rattle.early_boot.proofs.Touching.{boot-spares}
 
 pub guard_kept : (old t : Told) (e : Ended) → EndsByBytes (λ m. passes_any m) old e t → t.guard ≡ old.guard
 guard_kept old t (lost None) ends = cc

@@ -3,40 +3,26 @@ use Rattle.std.proofs.Common.{[], ◌≡◌, ◌∙◌, ◌⊎◌, inl, inr, ref
 use Rattle.std.specs.Prelude.{IsErrOf, OnOk, is_ok}
 use Rattle.base_core.specs.Block.{block_bytes}
 use Rattle.base_core.proofs.Results.{same-Ok}
-use Rattle.flash_core.specs.Told.{Told}
-use Rattle.flash_core.specs.May.{Guards}
-use Rattle.flash_core.specs.Touches.{TouchesOnly}
+use Rattle.flash_core.specs.{Told.Told, May.Guards, Touches.TouchesOnly}
 use Rattle.flash_core.proofs.Touches.{touches_none, touches_then}
 use Rattle.flash_core.specs.declared.flash.FlashStop.TheVariants as flash_stop
-use Rattle.fwu_formats.specs.Digests.{passes_any}
-use Rattle.fwu_formats.specs.Image.{layout_seen}
-use Rattle.fwu_formats.specs.Layout.{Layout}
-use Rattle.fwu_formats.specs.declared.kinds.LayoutFault.{LayoutFault}
-use Rattle.fwu_model.specs.declared.kinds.Status.{Status}
-use Rattle.fwu_model.specs.declared.kinds.Status.TheVariants as status
-use Rattle.fwu_model.specs.State.{State, after}
-use Rattle.fwu_model.specs.Sound.{Setting}
+use Rattle.fwu_formats.specs.{Digests.passes_any, Image.layout_seen, Layout.Layout, declared.kinds.LayoutFault.LayoutFault}
+use Rattle.fwu_model.specs.{declared.kinds.Status.Status, State.State, State.after, Sound.Setting, Call.Call, Reply.Reply}
+use Rattle.fwu_model.specs.{Reply.Success, Answer.answer, Answer.migrate_moves, Calm.IsCalm}
 use Rattle.fwu_model.specs.Session.{Session, On, no_handles}
-use Rattle.fwu_model.specs.Call.{Call}
-use Rattle.fwu_model.specs.Reply.{Reply, Success}
-use Rattle.fwu_model.specs.Answer.{answer, migrate_moves}
-use Rattle.fwu_model.specs.Calm.{IsCalm}
+use Rattle.fwu_model.specs.declared.kinds.Status.TheVariants as status
 use Rattle.moves.specs.Moved.{Does, IsShown}
 use Rattle.moves.proofs.Composed.{does-then}
 use Rattle.early_boot.specs.Started.{Started, started_numbers, started_session}
 use Rattle.early_boot.specs.TakenUp.{RunsByNumbers, TakenUp, TakesByBytes, taken, bad_layout, no_metadata, not_started, stopped, TakeUpEnds}
-use Rattle.agent_machine.specs.declared.stop.Stop.{Stop}
-use Rattle.agent_machine.specs.declared.stop.Stop.TheVariants as stop
+use Rattle.agent_machine.specs.{declared.stop.Stop.Stop, Moment.Moment, Moment.Shows, Fields.Fields}
 use Rattle.agent_machine.specs.Meets.{Answers, GoesBy, IsDone, IsRefused, IsSettingOf, IsStopped, LeavesFlash, ShowsNext, flash_result}
-use Rattle.agent_machine.specs.Moment.{Moment, Shows}
-use Rattle.agent_machine.specs.Fields.{Fields}
 use Rattle.agent_machine.specs.Beside.{IsSparedByAll, KeepsSparedByAll, KeepsWhere}
+use Rattle.agent_machine.specs.declared.stop.Stop.TheVariants as stop
 use Rattle.agent_machine.proofs.Beside.{spared-once}
 use Rattle.agent_calls.specs.Started.{StartsFrom}
-use Rattle.step_flash.specs.declared.step.Step.{Step}
-use Rattle.step_flash.specs.declared.flash.StepFlash.{StepFlash}
+use Rattle.step_flash.specs.{declared.step.Step.Step, declared.flash.StepFlash.StepFlash, Guard.start_told}
 use Rattle.step_flash.specs.Flash.{image_of, told_of, writes_of}
-use Rattle.step_flash.specs.Guard.{start_told}
 use Rattle.fwu_c.specs.declared.report.Report.{Report}
 use Rattle.fwu_c.specs.Calls.{MovesByAnswer, CallEnds, Called, CallsBy, CallsFrom, IsAccepted, IsStepResult, IsNotTaken, MakesCall, RefusesCall, RepliesAs, ReportsCall, ReportsTakeUp, TakesUpBank, call_code, called, called_code, not_taken, take_up_code}
 use Rattle.fwu_c.specs.Handed.{HandsOver, IsJustMade, IsDeviceEnd, IsStartOfSteps, SameBut, call_reach, is_idle_number, starts_none}

@@ -4,15 +4,13 @@ use Rattle.std.proofs.lemmas.Bool.{cases_lt}
 use Rattle.std.proofs.Math.Nat.{mod-lt}
 use Rattle.base_core.specs.Block.{block_bytes}
 use Rattle.flash_core.specs.Touches.{TouchesOnly}
-use Rattle.fwu_formats.specs.Layout.{Layout, fits_layout, slot_total, start}
-use Rattle.fwu_formats.specs.Places.{counter_block}
+use Rattle.fwu_formats.specs.{Layout.Layout, Layout.fits_layout, Layout.slot_total, Layout.start, Places.counter_block}
 use Rattle.fwu_formats.proofs.SealLaws.{limits}
 use Rattle.fwu_model.proofs.Banks.{next-other}
 use Rattle.moves.proofs.Staged.{banks-order}
 use Rattle.image_check.proofs.OfBank.{some_blocks}
 use Rattle.agent_machine.specs.Beside.{IsBesideBank, IsSparedByAll}
-use Rattle.step_flash.specs.declared.flash.StepFlash.{StepFlash}
-use Rattle.step_flash.specs.Flash.{block_count, writes_of}
+use Rattle.step_flash.specs.{declared.flash.StepFlash.StepFlash, Flash.block_count, Flash.writes_of}
 use Rattle.step_flash.proofs.Places.{none_behind}
 use Rattle.fwu_c.specs.Handed.{boot_reach}
 

@@ -2,23 +2,15 @@
 use Rattle.std.proofs.Common.{◌≡◌, ◌∙◌, inl, inr, refl, sym, ap, subst, ℕ, ◌==◌, Bool, true, List, length, replicate, Option, Some, Result, Ok, Err, arith, IsFalse, IsTrue}
 use Rattle.std.specs.Prelude.{OnOk, is_ok}
 use Rattle.base_core.specs.Counts.{Rose}
-use Rattle.fwu_formats.specs.Digests.{passes_any}
-use Rattle.fwu_formats.specs.Layout.{Layout}
-use Rattle.fwu_formats.specs.Package.{Toc, toc_of}
-use Rattle.fwu_model.specs.State.{State, after}
-use Rattle.fwu_model.specs.Sound.{Setting}
-use Rattle.fwu_model.specs.Session.{Session}
-use Rattle.fwu_model.specs.Reply.{Reply}
+use Rattle.fwu_formats.specs.{Digests.passes_any, Layout.Layout, Package.Toc, Package.toc_of}
+use Rattle.fwu_model.specs.{State.State, State.after, Sound.Setting, Session.Session, Reply.Reply}
 use Rattle.fwu_model.specs.Answer.{Answer, first_image_fault, images_of}
 use Rattle.moves.specs.Moved.{IsShown}
 use Rattle.early_boot.specs.Started.{Started, started_session}
-use Rattle.agent_machine.specs.Moment.{Moment, Shows}
-use Rattle.agent_machine.specs.Goes.{GoesByMoves}
+use Rattle.agent_machine.specs.{Moment.Moment, Moment.Shows, Goes.GoesByMoves}
 use Rattle.agent_calls.specs.Started.{StartsFrom}
-use Rattle.update_client.specs.declared.stops.Sent.{Sent}
-use Rattle.update_client.specs.declared.stops.SendStop.{SendStop}
+use Rattle.update_client.specs.{declared.stops.Sent.Sent, declared.stops.SendStop.SendStop, Halts.flash_of}
 use Rattle.update_client.specs.declared.stops.SendStop.TheVariants.{ReadFailed, Lost, Fault, Gone}
-use Rattle.update_client.specs.Halts.{flash_of}
 use Rattle.update_client.specs.Sends.{FaultsBy, GoneBy, Installs, IsEarlySend, IsInstalled, IsStoppedSend, Sends, SendEndsBy, ended_session, send_answer}
 use Rattle.package_files.specs.OneFile.{one_file}
 use Rattle.package_files.proofs.Alone.{finds_it}

@@ -4,17 +4,12 @@ use Rattle.std.specs.Prelude.{◌↔◌, option_map}
 use Rattle.std.proofs.lemmas.List.{length-map}
 use Rattle.base_core.specs.Block.{block, block_bytes}
 use Rattle.meta_layout.proofs.Places.{length-listed}
-use Rattle.fwu_formats.specs.Image.{deciding, layout_seen}
+use Rattle.fwu_formats.specs.{Image.deciding, Image.layout_seen, Metadata.MetaRead, Places.layout_block}
 use Rattle.fwu_formats.specs.Layout.{Layout, blocks_needed}
-use Rattle.fwu_formats.specs.Metadata.{MetaRead}
-use Rattle.fwu_formats.specs.Places.{layout_block}
-use Rattle.fwu_model.specs.State.{Bank, Numbers, State}
-use Rattle.fwu_model.specs.Seen.{bank_in, seen, state_of}
+use Rattle.fwu_model.specs.{State.Bank, State.Numbers, State.State, Seen.bank_in, Seen.seen, Seen.state_of}
 use Rattle.early_boot.specs.Numbers.{ShowsNumbers}
 use Rattle.early_boot.proofs.Lookups.{layout-inside}
-use Rattle.fwu_c.specs.Handed.{HasFlashSize}
-use Rattle.fwu_c.specs.Shows.{TellsShown}
-use Rattle.fwu_c.specs.declared.show.FlashShown.{FlashShown}
+use Rattle.fwu_c.specs.{Handed.HasFlashSize, Shows.TellsShown, declared.show.FlashShown.FlashShown}
 
 by_layout : (L : Layout) (image : List ℕ) (read : Option MetaRead) (s : State) → option_map (state_of L image) read ≡ Some s
     → length s.banks ≡ L.banks

@@ -1,20 +1,14 @@
 -- What a call promises that tells steps, whatever it is asked for.
 use Rattle.std.proofs.Common.{◌≡◌, ◌⊎◌, ◌==◌, inl, inr, refl, ap, ℕ, ◌≤◌, ◌*◌, Bool, List, All, drop, length, take, arith}
-use Rattle.fwu_c.specs.Reports.{SameStart}
+use Rattle.fwu_c.specs.{Reports.SameStart, declared.report.Report.Report}
+use Rattle.fwu_c.specs.Handed.{IsJustMade, LieAsCounted, HasFlashSize, IsDeviceEnd, IsUntouched, KeepsReport, TellsSteps, is_idle_number, starts_none, unmade_code}
 use Rattle.std.specs.Prelude.{◌↔◌, ◌||◌, IsTrue}
-use Rattle.step_flash.specs.declared.step.Step.{Step}
-use Rattle.fwu_c.specs.declared.report.Report.{Report}
-use Rattle.step_flash.specs.declared.flash.Unmade.{Unmade}
+use Rattle.step_flash.specs.{declared.step.Step.Step, declared.flash.Unmade.Unmade, Unmade.IsUnmade, Writes.LiesWithin}
+use Rattle.step_flash.specs.{declared.flash.StepFlash.StepFlash, Flash.flash_sizes, Flash.image_of, Flash.writes_of}
 use Rattle.step_flash.specs.declared.flash.Unmade.TheVariants.{NoFlash, NoMemory}
-use Rattle.step_flash.specs.Unmade.{IsUnmade}
-use Rattle.step_flash.specs.Writes.{LiesWithin}
 use Rattle.base_core.specs.Block.{block_bytes}
 use Rattle.flash_core.specs.Touches.{TouchesOnly}
-use Rattle.step_flash.specs.declared.flash.StepFlash.{StepFlash}
-use Rattle.step_flash.specs.Flash.{flash_sizes, image_of, writes_of}
 use Rattle.fwu_c.proofs.Booting.{counted_from_none}
-use Rattle.fwu_c.specs.Handed.{IsJustMade, LieAsCounted, HasFlashSize, IsDeviceEnd, IsUntouched, KeepsReport, TellsSteps}
-use Rattle.fwu_c.specs.Handed.{is_idle_number, starts_none, unmade_code}
 
 stays : (r : Report) (steps : List Step) (room : List ℕ) → IsUntouched r steps room r steps room
 stays r steps room = record { report_stays = refl; steps_stay = refl; room_stays = refl }

@@ -4,39 +4,25 @@ use Rattle.std.proofs.Math.ListN.{get_or-map}
 use Rattle.std.specs.Prelude.{All, IsTrue, IsFalse}
 use Rattle.base_core.specs.Block.{block_bytes}
 use Rattle.flash_core.specs.Told.{Told, fresh}
-use Rattle.fwu_formats.specs.Digests.{passes_any}
-use Rattle.fwu_formats.specs.Image.{layout_seen, deciding}
+use Rattle.fwu_formats.specs.{Digests.passes_any, Image.layout_seen, Image.deciding, declared.kinds.LayoutFault.LayoutFault}
+use Rattle.fwu_formats.specs.{declared.kinds.BankState.TheVariants.Invalid, Places.counter_block}
 use Rattle.fwu_formats.specs.Layout.{Layout, fits_layout, start}
-use Rattle.fwu_formats.specs.declared.kinds.LayoutFault.{LayoutFault}
-use Rattle.fwu_formats.specs.declared.kinds.BankState.TheVariants.{Invalid}
 use Rattle.fwu_model.specs.State.{State, Numbers, Bank, bank, no_bank, numbers_of, is_valid}
 use Rattle.fwu_model.specs.Seen.{seen}
 use Rattle.moves.specs.Moved.{IsShown}
-use Rattle.early_boot.specs.Numbers.{ShowsNumbers}
-use Rattle.early_boot.specs.Started.{Started}
-use Rattle.early_boot.specs.Ends.{Ended, booted}
-use Rattle.early_boot.specs.EndsBy.{BootEnds}
-use Rattle.step_flash.specs.declared.step.Step.{Step}
-use Rattle.step_flash.specs.declared.flash.StepFlash.{StepFlash}
-use Rattle.step_flash.specs.Flash.{block_count, image_of, told_of, writes_of}
-use Rattle.step_flash.specs.Guard.{start_with}
-use Rattle.step_flash.specs.Steps.{run_with}
+use Rattle.early_boot.specs.{Numbers.ShowsNumbers, Started.Started, Ends.Ended, Ends.booted, EndsBy.BootEnds}
+use Rattle.step_flash.specs.{declared.step.Step.Step, declared.flash.StepFlash.StepFlash, Flash.block_count, Flash.image_of}
+use Rattle.step_flash.specs.{Flash.told_of, Flash.writes_of, Guard.start_with, Steps.run_with, Writes.LiesWithin}
 use Rattle.step_flash.proofs.Room.{no_room_bytes}
-use Rattle.fwu_c.specs.declared.report.Report.{Report}
+use Rattle.fwu_c.specs.{declared.report.Report.Report, Agents.BeginsAgent}
 use Rattle.fwu_c.specs.Handed.{HandsOver, IsJustMade, HasFlashSize, IsDeviceEnd, TellsSteps, boot_reach, starts_none}
-use Rattle.update_client.specs.declared.stops.SendStop.TheVariants.{ReadFailed, Lost, Gone}
 use Rattle.fwu_c.specs.Sendings.{InstallsBy, IsOutcome, SendOutcome, outcome_code}
-use Rattle.fwu_c.specs.Updates.{ReportsBoot, IsOnTrial, ReportsNone, UpdateEnds, Updated, UpdatesBy}
-use Rattle.fwu_c.specs.Updates.{on_trial, not_booted, tried, update_code, ReportsUpdate, SparesInUse}
-use Rattle.agent_machine.specs.Moment.{Moment}
-use Rattle.agent_machine.specs.Beside.{IsSparedByAll, SparesBlocksByAll}
+use Rattle.fwu_c.specs.Updates.{ReportsBoot, IsOnTrial, ReportsNone, UpdateEnds, Updated, UpdatesBy, on_trial, not_booted, tried, update_code, ReportsUpdate, SparesInUse}
+use Rattle.update_client.specs.declared.stops.SendStop.TheVariants.{ReadFailed, Lost, Gone}
+use Rattle.agent_machine.specs.{Moment.Moment, Beside.IsSparedByAll, Beside.SparesBlocksByAll}
 use Rattle.fwu_formats.proofs.Read.{layout-fits}
-use Rattle.step_flash.specs.Writes.{LiesWithin}
-use Rattle.fwu_formats.specs.Places.{counter_block}
-use Rattle.fwu_c.specs.Agents.{BeginsAgent}
-use Rattle.fwu_c.proofs.Calls.{setting_of}
+use Rattle.fwu_c.proofs.{Calls.setting_of, Telling.keeps_fault, Telling.lie_further, Telling.told_handed}
 use Rattle.fwu_c.proofs.Places.{has-blocks, in-use-unwritten, marks-spared, update-touches}
-use Rattle.fwu_c.proofs.Telling.{keeps_fault, lie_further, told_handed}
 use Rattle.fwu_c.proofs.Booting.{beside_marks_by, code_few, counted_from_none, end_same, guard_kept, over, start_same}
 
 -- ---- trials

@@ -2,18 +2,11 @@
 use Rattle.std.specs.Prelude.{◌≡◌, ℕ, ◌*◌, List, [], All, length, take}
 use Rattle.base_core.specs.Block.{block_bytes}
 use Rattle.flash_core.specs.Told.{Told}
-use Rattle.fwu_formats.specs.Digests.{passes_any}
-use Rattle.fwu_formats.specs.Places.{counter_block, first_record}
-use Rattle.early_boot.specs.Ends.{Ended}
-use Rattle.early_boot.specs.EndsBy.{BootEnds}
-use Rattle.step_flash.specs.declared.step.Step.{Step}
-use Rattle.step_flash.specs.Guard.{start_told}
-use Rattle.step_flash.specs.Steps.{AreDoable, run}
+use Rattle.fwu_formats.specs.{Digests.passes_any, Places.counter_block, Places.first_record}
+use Rattle.early_boot.specs.{Ends.Ended, EndsBy.BootEnds}
+use Rattle.step_flash.specs.{declared.step.Step.Step, Guard.start_told, Steps.AreDoable, Steps.run}
 use Rattle.step_flash.specs.Writes.{LiesBeside, LiesWithin}
-use Rattle.fwu_c.specs.Codes.{end_code}
-use Rattle.fwu_c.specs.Handed.{IsWithin, boot_reach}
-use Rattle.fwu_c.specs.Reports.{ReportsEnd}
-use Rattle.fwu_c.specs.declared.report.Report.{Report}
+use Rattle.fwu_c.specs.{Codes.end_code, Handed.IsWithin, Handed.boot_reach, Reports.ReportsEnd, declared.report.Report.Report}
 
 -- From the image it boots as the definitions say. What the flash then tells is what the steps make of the image. At 5 an erase or a
 -- program beyond them may be under way.

@@ -1,48 +1,28 @@
 -- What C is told of one call of the agent, in the session behind a boot of a bank.
 use Rattle.std.specs.Prelude.{◌≡◌, ◌≢◌, ℕ, ◌++◌, Bool, List, [], All, length, take, None, Some, Result, Ok, Err, OnOk, IsTrue, ⊤}
 use Rattle.base_core.specs.Block.{block_bytes}
-use Rattle.flash_core.specs.Told.{Told}
-use Rattle.flash_core.specs.Touches.{TouchesOnly}
-use Rattle.flash_core.specs.May.{Guards}
+use Rattle.flash_core.specs.{Told.Told, Touches.TouchesOnly, May.Guards, declared.flash.Flash.Ghosts}
 use Rattle.flash_core.specs.declared.flash.FlashStop.{FlashStop}
 use Rattle.flash_core.specs.declared.flash.FlashStop.TheVariants as flash_stop
-use Rattle.fwu_formats.specs.Digests.{passes_any}
-use Rattle.fwu_formats.specs.Layout.{find_image}
-use Rattle.fwu_formats.specs.Metadata.{bit_at}
-use Rattle.fwu_model.specs.declared.kinds.Status.{Status}
-use Rattle.fwu_model.specs.declared.kinds.Status.TheVariants as status
-use Rattle.fwu_model.specs.State.{State, after}
-use Rattle.fwu_model.specs.Sound.{Setting}
-use Rattle.fwu_model.specs.Session.{On, no_handles}
-use Rattle.fwu_model.specs.Call.{Call}
-use Rattle.fwu_model.specs.Call as call
-use Rattle.fwu_model.specs.Reply.{Reply, Refused, Success}
+use Rattle.fwu_formats.specs.{Digests.passes_any, Layout.find_image, Metadata.bit_at}
+use Rattle.fwu_model.specs.{declared.kinds.Status.Status, State.State, State.after, Sound.Setting, Session.On, Session.no_handles}
+use Rattle.fwu_model.specs.{Call.Call, Reply.Reply, Reply.Refused, Reply.Success, Calm.IsCalm, Calm.IsAtRest}
 use Rattle.fwu_model.specs.Answer.{Answer, answer, migrate_moves}
-use Rattle.fwu_model.specs.Calm.{IsCalm, IsAtRest}
+use Rattle.fwu_model.specs.declared.kinds.Status.TheVariants as status
+use Rattle.fwu_model.specs.Call as call
 use Rattle.moves.specs.Moved.{Does, GuardedBy, IsReady, IsShown}
 use Rattle.early_boot.specs.Started.{Started, started_numbers, started_session}
 use Rattle.early_boot.specs.TakenUp.{RunsByNumbers, TakenUp, TakeUpEnds, taken, bad_layout, no_metadata, not_started, stopped}
-use Rattle.agent_machine.specs.Moment.{Moment}
+use Rattle.agent_machine.specs.{Moment.Moment, declared.stop.Stop.Stop, Meets.IsRefused, Meets.flash_result}
 use Rattle.agent_machine.specs.Beside.{IsSparedByAll, KeepsWhere}
-use Rattle.agent_machine.specs.declared.stop.Stop.{Stop}
 use Rattle.agent_machine.specs.declared.stop.Stop.TheVariants as stop
-use Rattle.agent_machine.specs.Meets.{IsRefused, flash_result}
-use Rattle.step_flash.specs.declared.step.Step.{Step}
-use Rattle.step_flash.specs.declared.flash.StepFlash.{StepFlash}
-use Rattle.step_flash.specs.Flash.{block_count, told_of, writes_of}
-use Rattle.step_flash.specs.Guard.{start_told}
-use Rattle.step_flash.specs.Steps.{AreDoable, run}
-use Rattle.step_flash.specs.Writes.{LiesWithin}
-use Rattle.agent_calls.specs.Shown.{device, gone, moment}
-use Rattle.agent_calls.specs.declared.agent.Agent.{Agent}
-use Rattle.flash_core.specs.declared.flash.Flash.{Ghosts}
-use Rattle.fwu_c.specs.Agents.{BeginsAgent}
-use Rattle.fwu_c.specs.Codes.{fault_code}
+use Rattle.step_flash.specs.{declared.step.Step.Step, declared.flash.StepFlash.StepFlash, Flash.block_count, Flash.told_of}
+use Rattle.step_flash.specs.{Flash.writes_of, Guard.start_told, Steps.AreDoable, Steps.run, Writes.LiesWithin}
+use Rattle.agent_calls.specs.{Shown.device, Shown.gone, Shown.moment, declared.agent.Agent.Agent}
+use Rattle.fwu_c.specs.{Agents.BeginsAgent, Codes.fault_code, declared.calling.AgentCall.AgentCall, declared.report.Report.Report}
 use Rattle.fwu_c.specs.Handed.{IsWithin, KeepsReport, call_reach}
 use Rattle.fwu_c.specs.Reports.{ReportsStart, SameStarts}
-use Rattle.fwu_c.specs.declared.calling.AgentCall.{AgentCall}
 use Rattle.fwu_c.specs.declared.calling.AgentCall.TheVariants.{Accept, Previous}
-use Rattle.fwu_c.specs.declared.report.Report.{Report}
 
 -- ---- numbers
 

@@ -1,10 +1,8 @@
 -- The numbers that a caller in C is told.
 use Rattle.std.specs.Prelude.{ℕ, nat_lt, if◌then◌else◌, List, Option, Some, None, Result, Ok, Err}
 use Rattle.early_boot.specs.Ends.{Ended, booted, bad_layout, no_metadata, no_bank, lost, failed}
-use Rattle.fwu_formats.specs.Layout.{Layout}
+use Rattle.fwu_formats.specs.{Layout.Layout, declared.kinds.FipFault.FipFault, declared.kinds.LayoutFault.LayoutFault}
 use Rattle.fwu_formats.specs.Package.{Toc, Entry, entry_of}
-use Rattle.fwu_formats.specs.declared.kinds.FipFault.{FipFault}
-use Rattle.fwu_formats.specs.declared.kinds.LayoutFault.{LayoutFault}
 use Rattle.fwu_formats.specs.declared.kinds.LayoutFault.TheVariants.{Short, BadMagic, BadSize, BadCrc, BadField, BeyondFlash}
 
 -- the number of a boot's end

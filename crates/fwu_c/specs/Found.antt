@@ -1,11 +1,8 @@
 -- What is found in a package, and in a manifest.
 use Rattle.std.specs.Prelude.{◌≡◌, ℕ, List, Option, Some, None, Result, Ok, Err}
-use Rattle.fwu_formats.specs.Layout.{Layout}
-use Rattle.fwu_formats.specs.Manifest.{Manifest, manifest_of}
+use Rattle.fwu_formats.specs.{Layout.Layout, Manifest.Manifest, Manifest.manifest_of, declared.kinds.FipFault.FipFault}
+use Rattle.fwu_formats.specs.{declared.kinds.LayoutFault.LayoutFault, declared.kinds.ManifestFault.ManifestFault}
 use Rattle.fwu_formats.specs.Package.{Toc, Entry, entry_of}
-use Rattle.fwu_formats.specs.declared.kinds.FipFault.{FipFault}
-use Rattle.fwu_formats.specs.declared.kinds.LayoutFault.{LayoutFault}
-use Rattle.fwu_formats.specs.declared.kinds.ManifestFault.{ManifestFault}
 use Rattle.fwu_c.specs.declared.packages.Place.{Place}
 
 -- the entry of a type, where the bytes are a package

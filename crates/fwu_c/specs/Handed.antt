@@ -1,19 +1,13 @@
 -- The steps of a device, as they were handed over.
 use Rattle.std.specs.Prelude.{◌≡◌, ◌≢◌, ◌↔◌, ◌⊎◌, ◌<◌, ◌≤◌, ◌*◌, ◌==◌, ◌||◌, true, All, Bool, ℕ, List, IsTrue, drop, length, take}
 use Rattle.base_core.specs.Block.{block_bytes, fewest_blocks, most_blocks}
-use Rattle.flash_core.specs.Told.{Told}
-use Rattle.flash_core.specs.Touches.{TouchesOnly}
-use Rattle.step_flash.specs.declared.step.Step.{Step}
-use Rattle.step_flash.specs.declared.flash.StepFlash.{StepFlash}
-use Rattle.step_flash.specs.declared.flash.Unmade.{Unmade}
+use Rattle.flash_core.specs.{Told.Told, Touches.TouchesOnly}
+use Rattle.step_flash.specs.{declared.step.Step.Step, declared.flash.StepFlash.StepFlash, declared.flash.Unmade.Unmade}
+use Rattle.step_flash.specs.{Guard.start_with, Stopped.under_as, Writes.LiesBeside, Writes.LiesWithin}
 use Rattle.step_flash.specs.declared.flash.Unmade.TheVariants.{NoFlash, NoMemory}
 use Rattle.step_flash.specs.Flash.{block_count, image_of, is_on, package_of, room_of, steps_of, told_of, writes_of}
-use Rattle.step_flash.specs.Guard.{start_with}
-use Rattle.step_flash.specs.Stopped.{under_as}
 use Rattle.step_flash.specs.Steps.{AreDoable, IsInsideWith, room_bytes, run_with}
-use Rattle.step_flash.specs.Writes.{LiesBeside, LiesWithin}
-use Rattle.fwu_c.specs.Reports.{SameStart}
-use Rattle.fwu_c.specs.declared.report.Report.{Report}
+use Rattle.fwu_c.specs.{Reports.SameStart, declared.report.Report.Report}
 
 -- nothing but the numbers of steps and of bytes changed
 abbrev pub SameBut : Report → Report → Type 0

@@ -2,8 +2,7 @@
 use Rattle.std.specs.Prelude.{◌≡◌, if◌then◌else◌, length, take, ⊤}
 use Rattle.early_boot.specs.Started.{Started}
 use Rattle.early_boot.specs.Ends.{Ended, booted, bad_layout, no_metadata, no_bank, lost, failed}
-use Rattle.fwu_c.specs.Codes.{fault_code}
-use Rattle.fwu_c.specs.declared.report.Report.{Report}
+use Rattle.fwu_c.specs.{Codes.fault_code, declared.report.Report.Report}
 
 -- each field is that of the start
 pub record ReportsStart (b : Started) (r : Report) : Type 0 where

@@ -1,28 +1,18 @@
 -- What came of a package in memory, on a flash whose bank was started.
 use Rattle.std.specs.Prelude.{◌≡◌, ℕ, ◌==◌, List, length, replicate, Option, Some, None, Result, Ok, Err, IsErr, OnOk, ⊤}
-use Rattle.flash_core.specs.Told.{Told}
-use Rattle.fwu_formats.specs.Digests.{passes_any}
-use Rattle.fwu_formats.specs.Layout.{Layout}
-use Rattle.fwu_formats.specs.Package.{Toc, toc_of}
-use Rattle.fwu_model.specs.State.{State, after}
-use Rattle.fwu_model.specs.Sound.{Setting}
-use Rattle.fwu_model.specs.Reply.{Reply}
-use Rattle.fwu_model.specs.Reply as reply
+use Rattle.flash_core.specs.{Told.Told, declared.flash.Flash.Ghosts}
+use Rattle.fwu_formats.specs.{Digests.passes_any, Layout.Layout, Package.Toc, Package.toc_of}
+use Rattle.fwu_model.specs.{State.State, State.after, Sound.Setting, Reply.Reply, Calm.IsAtRest}
 use Rattle.fwu_model.specs.Answer.{Answer, first_image_fault, images_of}
-use Rattle.fwu_model.specs.Calm.{IsAtRest}
+use Rattle.fwu_model.specs.Reply as reply
 use Rattle.moves.specs.Moved.{Does, GuardedBy, IsReady, IsShown}
 use Rattle.early_boot.specs.Started.{Started, started_session}
 use Rattle.agent_machine.specs.Beside.{IsSparedByAll, KeepsWhere, SparesBlocksByAll}
-use Rattle.agent_calls.specs.Shown.{device, gone, moment}
-use Rattle.agent_calls.specs.declared.agent.Agent.{Agent}
-use Rattle.flash_core.specs.declared.flash.Flash.{Ghosts}
-use Rattle.step_flash.specs.declared.flash.StepFlash.{StepFlash}
-use Rattle.step_flash.specs.Flash.{block_count, told_of, writes_of}
+use Rattle.agent_calls.specs.{Shown.device, Shown.gone, Shown.moment, declared.agent.Agent.Agent}
+use Rattle.step_flash.specs.{declared.flash.StepFlash.StepFlash, Flash.block_count, Flash.told_of, Flash.writes_of}
 use Rattle.fwu_c.specs.Agents.{BeginsAgent}
-use Rattle.update_client.specs.declared.stops.Sent.{Sent}
-use Rattle.update_client.specs.declared.stops.SendStop.{SendStop}
+use Rattle.update_client.specs.{declared.stops.Sent.Sent, declared.stops.SendStop.SendStop, Halts.flash_of}
 use Rattle.update_client.specs.declared.stops.SendStop.TheVariants.{MissingImage, ImageTooLarge, Begin, End, ReadFailed, Lost, Fault, Gone}
-use Rattle.update_client.specs.Halts.{flash_of}
 use Rattle.update_client.specs.Sends.{FaultsBy, IsEarlySend, IsInstalled, send_answer}
 
 -- none where the bytes are no package

@@ -1,21 +1,14 @@
 -- What C is told of what a flash shows.
 use Rattle.std.specs.Prelude.{◌≡◌, ◌≢◌, ◌↔◌, ◌≤◌, ℕ, zero, suc, Bool, false, List, [], drop, length, take, None, Ok, Err, slice_index_or}
 use Rattle.base_core.specs.Bytes.{listed}
-use Rattle.fwu_formats.specs.Digests.{passes_any}
-use Rattle.fwu_formats.specs.Image.{layout_seen, deciding}
-use Rattle.fwu_formats.specs.Layout.{Layout}
-use Rattle.fwu_formats.specs.Metadata.{bit_number}
-use Rattle.fwu_formats.specs.declared.kinds.BankState.{BankState}
+use Rattle.fwu_formats.specs.{Digests.passes_any, Image.layout_seen, Image.deciding, Layout.Layout, Metadata.bit_number}
+use Rattle.fwu_formats.specs.{declared.kinds.BankState.BankState, declared.kinds.LayoutFault.LayoutFault}
 use Rattle.fwu_formats.specs.declared.kinds.BankState.TheVariants.{Invalid, Valid, Accepted}
-use Rattle.fwu_formats.specs.declared.kinds.LayoutFault.{LayoutFault}
 use Rattle.fwu_model.specs.State.{Numbers}
-use Rattle.image_check.specs.declared.bank.Verdict.{Verdict}
+use Rattle.image_check.specs.{declared.bank.Verdict.Verdict, Verdict.verdict_on}
 use Rattle.image_check.specs.declared.bank.Verdict.TheVariants.{Good, BadManifest, NotAccepted, BadImage, BelowCounter}
-use Rattle.image_check.specs.Verdict.{verdict_on}
 use Rattle.early_boot.specs.Numbers.{AreNumbers, ShowsNumbers}
-use Rattle.fwu_c.specs.Codes.{fault_code}
-use Rattle.fwu_c.specs.Handed.{HasFlashSize}
-use Rattle.fwu_c.specs.declared.show.BankShown.{BankShown}
+use Rattle.fwu_c.specs.{Codes.fault_code, Handed.HasFlashSize, declared.show.BankShown.BankShown}
 use Rattle.fwu_c.specs.declared.show.FlashShown.{FlashShown}
 
 abbrev pub state_code : BankState → ℕ

@@ -1,12 +1,10 @@
 -- Where a bank keeps its images.
 use Rattle.std.specs.Prelude.{◌≡◌, ℕ, ◌*◌, nat_lt, if◌then◌else◌, drop, length, take, slice_index_or}
 use Rattle.std.specs.Prelude.{Option, Some, None, Result, Ok, Err}
-use Rattle.base_core.specs.Block.{block_bytes}
-use Rattle.base_core.specs.Bytes.{listed}
+use Rattle.base_core.specs.{Block.block_bytes, Bytes.listed}
 use Rattle.fwu_formats.specs.Layout.{Layout, no_row, slot_bytes, start}
 use Rattle.fwu_formats.specs.declared.kinds.LayoutFault.{LayoutFault}
-use Rattle.fwu_c.specs.declared.slots.Slot.{Slot}
-use Rattle.fwu_c.specs.declared.slots.Slots.{Slots}
+use Rattle.fwu_c.specs.{declared.slots.Slot.Slot, declared.slots.Slots.Slots}
 
 -- the slot of an image of a bank, in bytes
 abbrev pub slot_of : Layout → ℕ → ℕ → Slot

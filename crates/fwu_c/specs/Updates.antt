@@ -1,30 +1,17 @@
 -- What C is told of an update.
 use Rattle.std.specs.Prelude.{◌≡◌, ◌≢◌, ℕ, ◌+◌, ◌*◌, All, Bool, List, length, take, Some, Ok, IsTrue, ⊤}
 use Rattle.base_core.specs.Block.{block_bytes}
-use Rattle.flash_core.specs.Told.{Told}
-use Rattle.flash_core.specs.Touches.{TouchesOnly}
-use Rattle.fwu_formats.specs.Digests.{passes_any}
-use Rattle.fwu_formats.specs.Image.{layout_seen}
-use Rattle.fwu_formats.specs.Places.{counter_block, first_record}
-use Rattle.fwu_model.specs.State.{State, Numbers, bank, is_valid}
-use Rattle.fwu_model.specs.Seen.{seen}
-use Rattle.early_boot.specs.Started.{Started}
-use Rattle.early_boot.specs.Ends.{Ended, booted}
-use Rattle.early_boot.specs.EndsBy.{BootEnds}
+use Rattle.flash_core.specs.{Told.Told, Touches.TouchesOnly}
+use Rattle.fwu_formats.specs.{Digests.passes_any, Image.layout_seen, Places.counter_block, Places.first_record, Layout.start}
+use Rattle.fwu_model.specs.{State.State, State.Numbers, State.bank, State.is_valid, Seen.seen}
+use Rattle.early_boot.specs.{Started.Started, Ends.Ended, Ends.booted, EndsBy.BootEnds}
 use Rattle.agent_machine.specs.Moment.{Moment}
-use Rattle.step_flash.specs.declared.step.Step.{Step}
-use Rattle.step_flash.specs.declared.flash.StepFlash.{StepFlash}
+use Rattle.step_flash.specs.{declared.step.Step.Step, declared.flash.StepFlash.StepFlash, Guard.start_with, Steps.AreDoable}
+use Rattle.step_flash.specs.{Steps.run_with, Writes.LiesBeside, Writes.LiesWithin}
 use Rattle.step_flash.specs.Flash.{block_count, told_of, writes_of}
-use Rattle.step_flash.specs.Guard.{start_with}
-use Rattle.step_flash.specs.Steps.{AreDoable, run_with}
-use Rattle.step_flash.specs.Writes.{LiesBeside, LiesWithin}
-use Rattle.fwu_c.specs.Agents.{BeginsAgent}
-use Rattle.fwu_c.specs.Codes.{end_code}
-use Rattle.fwu_formats.specs.Layout.{start}
-use Rattle.fwu_c.specs.Handed.{IsWithinWith, KeepsReport, boot_reach}
-use Rattle.fwu_c.specs.Reports.{ReportsEnd, ReportsStart}
+use Rattle.fwu_c.specs.{Agents.BeginsAgent, Codes.end_code, Handed.IsWithinWith, Handed.KeepsReport, Handed.boot_reach}
+use Rattle.fwu_c.specs.{Reports.ReportsEnd, Reports.ReportsStart, declared.report.Report.Report}
 use Rattle.fwu_c.specs.Sendings.{SendOutcome, InstallsBy, outcome_code}
-use Rattle.fwu_c.specs.declared.report.Report.{Report}
 
 -- 6 and 7 tell nothing
 abbrev pub TellsAnswer : ℕ → Type 0

@@ -8,11 +8,9 @@ use Rattle.std.proofs.lemmas.List.FromFn.{length-map-range_with_len}
 use Rattle.sha2.specs.Sha256.{sha256}
 use Rattle.base_core.specs.Bytes.{num_at, listed, are_bytes}
 use Rattle.base_core.proofs.Spelled.{same_is}
-use Rattle.fwu_formats.specs.Layout.{ImageRow}
+use Rattle.fwu_formats.specs.{Layout.ImageRow, Law.HaveOneSpelling}
 use Rattle.fwu_formats.specs.Manifest.{Manifest, manifest_magic, version_limit, form_of, manifest_size, manifest_row_bytes, manifest_body, manifest_bytes, row_at, manifest_at, manifest_of}
-use Rattle.fwu_formats.specs.Law.{HaveOneSpelling}
-use Rattle.fwu_formats.proofs.Read.{manifest-holds}
-use Rattle.fwu_formats.proofs.Spell.{num_front}
+use Rattle.fwu_formats.proofs.{Read.manifest-holds, Spell.num_front}
 use Rattle.fwu_formats.proofs.OneSpelling.{all-take, flat-map, next, next-num, pieces, layout-one-spelling, meta-one-spelling, record-one-spelling}
 
 form-is : (form security : ℕ) → IsTrue ((form == 1) || ((form == 2) && ltb version_limit security)) → IsFalse ((form == 1) && ltb version_limit security) → form ≡ form_of security

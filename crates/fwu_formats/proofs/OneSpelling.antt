@@ -10,14 +10,12 @@ use Rattle.std.proofs.lemmas.List.{drop-drop, length-take-le, get_or-take, get_o
 use Rattle.std.proofs.lemmas.List.FromFn.{get_or-map-range_with_len, length-map-range_with_len, map-range_with_len_more}
 use Rattle.base_core.specs.Bytes.{num, le, num_at, part, same_bytes, listed, are_bytes}
 use Rattle.base_core.specs.Crc.{crc}
-use Rattle.base_core.proofs.Spelled.{same_is}
+use Rattle.base_core.proofs.{Spelled.same_is, Lists.piece-within}
 use Rattle.fwu_formats.specs.Layout.{Layout, ImageRow, nil_guid, fits_layout, layout_magic, layout_of, layout_at, layout_size, layout_body, layout_bytes, row_bytes, has_zeros}
 use Rattle.fwu_formats.specs.Metadata.{Field, Meta, MetaRead, meta_of, meta_bytes, meta_body, meta_size, entry_size, entry_place, entry_bytes, entries_bytes, bit_at, bit_number, bits_from, has_bank_entry, has_entry, has_entries, has_states, has_indices, has_fields, header_fields, is_state_byte, state_byte, state_of_byte, meta_at, fits_v2, BankState}
 use Rattle.fwu_formats.specs.Counter.{is_record, record_magic, record_size, record_body, record_bytes, recorded}
-use Rattle.fwu_formats.proofs.SealLaws.{layout-holds, meta-holds, limits}
+use Rattle.fwu_formats.proofs.{SealLaws.layout-holds, SealLaws.meta-holds, SealLaws.limits, Spell.each-range}
 pub use Rattle.fwu_formats.proofs.Spell.{all-at}
-use Rattle.fwu_formats.proofs.Spell.{each-range}
-use Rattle.base_core.proofs.Lists.{piece-within}
 
 -- ---- lists
 

@@ -3,9 +3,8 @@ use Rattle.std.proofs.Common.{◌≡◌, ℕ, true, false, codes, refl, List, []
 use Rattle.sha2.specs.Sha256.{sha256, hash_after, compress, schedule, first_words, rounds, digest_bytes}
 use Rattle.base_core.specs.Bytes.{part}
 use Rattle.hex.specs.Hex.{decode_pairs}
+use Rattle.fwu_formats.specs.{Package.packed, Digests.digests_of, Digests.passes_listed}
 use Rattle.fwu_formats.specs.Manifest.{manifest_bytes, manifest_of, is_complete}
-use Rattle.fwu_formats.specs.Package.{packed}
-use Rattle.fwu_formats.specs.Digests.{digests_of, passes_listed}
 use Rattle.fwu_formats.specs.declared.kinds.ManifestFault.TheVariants as manifest_fault
 use Rattle.fwu_formats.proofs.Worked.{tb_fw, nt_fw, manifest_guid, L, changed}
 

@@ -7,8 +7,7 @@ use Rattle.std.proofs.lemmas.List.FromFn.{length-map-range_with_len, get_or-map-
 use Rattle.std.proofs.lemmas.Option.{same_Some}
 use Rattle.std.specs.Option.{option_or}
 use Rattle.std.specs.Result.{result_ok}
-use Rattle.base_core.specs.Block.{block}
-use Rattle.base_core.specs.Bytes.{num_at, same_bytes}
+use Rattle.base_core.specs.{Block.block, Bytes.num_at, Bytes.same_bytes}
 use Rattle.sha2.specs.Sha256.{sha256}
 use Rattle.fwu_formats.specs.Layout.{Layout, ImageRow, layout_of, fits_layout}
 use Rattle.fwu_formats.specs.Metadata.{MetaRead, meta_of, meta_read, bits_from, state_at_v1, bits_v1, BankState, Invalid, Valid, Accepted, MetaFault}

@@ -4,12 +4,10 @@ use Rattle.std.proofs.lemmas.List.Sums.{sum_by-cons}
 use Rattle.std.proofs.lemmas.List.FromFn.{length-map-range_with_len, get_or-map-range_with_len}
 use Rattle.std.specs.List.{range_with_len, list_all}
 use Rattle.std.specs.Option.{option_or}
-use Rattle.base_core.specs.Bytes.{listed}
-use Rattle.fwu_formats.specs.Layout.{ImageRow, Layout, slot_total}
+use Rattle.base_core.specs.{Bytes.listed, Block.block, Block.granule}
+use Rattle.fwu_formats.specs.{Layout.ImageRow, Layout.Layout, Layout.slot_total, Counter.counter_in}
 use Rattle.fwu_formats.specs.Manifest.{Manifest, manifest_of, manifest_size, ManifestFault}
 use Rattle.fwu_formats.specs.Image.{is_blank, marks, is_tidy, slot, images_in, if_complete, package_by, package_in}
-use Rattle.base_core.specs.Block.{block, granule}
-use Rattle.fwu_formats.specs.Counter.{counter_in}
 use Rattle.base_core.proofs.Lists.{prefix-same}
 use Rattle.fwu_formats.proofs.Spell.{listed-is}
 

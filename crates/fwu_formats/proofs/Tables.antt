@@ -11,15 +11,11 @@ use Rattle.std.proofs.Math.Seq.{get_or-append_seam, take-length}
 use Rattle.std.proofs.lemmas.List.Elements.{All-append}
 use Rattle.std.proofs.lemmas.List.Quantifiers.{all_pairs_push}
 use Rattle.base_core.specs.Bytes.{num_at, same_bytes}
-use Rattle.base_core.proofs.Spelled.{same_is, same_refl}
-use Rattle.fwu_formats.specs.Layout.{nil_guid}
+use Rattle.base_core.proofs.{Spelled.same_is, Spelled.same_refl, Results.same-Ok, Lists.none-found}
+use Rattle.fwu_formats.specs.{Layout.nil_guid, Law.TablesAreRead}
 use Rattle.fwu_formats.specs.Package.{Entry, Toc, IsTable, fip_name, entry_limit, entry_at, has_guid, entries_from, is_beyond, within, with_entries, toc_of, FipFault}
-use Rattle.fwu_formats.specs.Law.{TablesAreRead}
 use Rattle.fwu_formats.specs.declared.kinds.FipFault.TheVariants as fault
-use Rattle.fwu_formats.proofs.SealLaws.{was_not_refused}
-use Rattle.fwu_formats.proofs.Spell.{listed-is, not_refused}
-use Rattle.base_core.proofs.Results.{same-Ok}
-use Rattle.base_core.proofs.Lists.{none-found}
+use Rattle.fwu_formats.proofs.{SealLaws.was_not_refused, Spell.listed-is, Spell.not_refused}
 
 abbrev no_entry : Entry
 no_entry = record { guid = []; offset = 0; size = 0; flags = 0 }

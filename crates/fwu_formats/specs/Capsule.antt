@@ -2,8 +2,7 @@
 -- and the items themselves.
 use Rattle.std.specs.Prelude.{ℕ, ◌+◌, ◌*◌, Bool, not, ◌&&◌, ◌==◌, nat_lt, nat_le, if◌then◌else◌, List, [], ◌∷◌, ◌++◌, length, take, drop, reverse, Option, Some, None, Result, Ok, Err}
 use Rattle.std.specs.List.{list_any}
-use Rattle.base_core.specs.Bytes.{listed, num_at, part, same_bytes}
-use Rattle.base_core.specs.Guid.{nil_guid}
+use Rattle.base_core.specs.{Bytes.listed, Bytes.num_at, Bytes.part, Bytes.same_bytes, Guid.nil_guid}
 use Rattle.fwu_formats.specs.Package.{Entry, Toc, entry_limit, has_guid}
 use Rattle.fwu_formats.specs.declared.kinds.CapsuleFault.{CapsuleFault}
 use Rattle.fwu_formats.specs.declared.kinds.CapsuleFault.TheVariants as fault

@@ -1,10 +1,9 @@
 -- What is printed of a fault of a format.
 use Rattle.std.specs.Prelude.{ℕ, List, ◌++◌, codes, decimal}
-use Rattle.fwu_formats.specs.declared.kinds.LayoutFault.{LayoutFault}
-use Rattle.fwu_formats.specs.declared.kinds.LayoutFault.TheVariants as layout
-use Rattle.fwu_formats.specs.declared.kinds.FipFault.{FipFault}
-use Rattle.fwu_formats.specs.declared.kinds.FipFault.TheVariants as fip
+use Rattle.fwu_formats.specs.{declared.kinds.LayoutFault.LayoutFault, declared.kinds.FipFault.FipFault}
 use Rattle.fwu_formats.specs.declared.kinds.CapsuleFault.{CapsuleFault}
+use Rattle.fwu_formats.specs.declared.kinds.LayoutFault.TheVariants as layout
+use Rattle.fwu_formats.specs.declared.kinds.FipFault.TheVariants as fip
 use Rattle.fwu_formats.specs.declared.kinds.CapsuleFault.TheVariants as capsule
 
 -- a layout fault's number

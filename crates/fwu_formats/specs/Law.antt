@@ -1,9 +1,7 @@
 -- The laws of the formats: what is read is within its limits and sealed, what is written is read again, and how marks are counted.
 -- Each stands as a clause of a function of its own.
 use Rattle.std.specs.Prelude.{◌≡◌, ℕ, ◌<◌, ◌≤◌, List, ◌++◌, Some, Ok, IsTrue, length, IsFalse, map, ◌-◌, take}
-use Rattle.base_core.specs.Block.{granule}
-use Rattle.base_core.specs.Bytes.{are_bytes}
-use Rattle.base_core.specs.Seal.{is_sealed}
+use Rattle.base_core.specs.{Block.granule, Bytes.are_bytes, Seal.is_sealed}
 use Rattle.fwu_formats.specs.Layout.{Layout, ImageRow, layout_of, layout_size, layout_bytes, fits_layout, blocks_needed}
 use Rattle.fwu_formats.specs.Metadata.{Meta, MetaRead, meta_of, meta_read, meta_size, meta_bytes, meta_bytes_v1, fits_meta, IsSayableInV1}
 use Rattle.fwu_formats.specs.Manifest.{Manifest, FitsImages, manifest_of, manifest_size, manifest_bytes}

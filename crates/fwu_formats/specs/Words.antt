@@ -1,10 +1,8 @@
 -- Words: the numbers, bytes, types and names of files that a word of a script or of a command line spells.
 use Rattle.std.specs.Prelude.{ℕ, ◌+◌, ◌-◌, ◌*◌, Bool, ◌&&◌, ◌==◌, nat_le, if◌then◌else◌, List, [], length, Option, Some, None, option_and_then, Result, Ok, Err, codes, decimal, fold}
 use Rattle.std.specs.List.{list_all}
-use Rattle.base_core.specs.Bytes.{same_bytes}
-use Rattle.base_core.specs.Guid.{guid_of}
-use Rattle.hex.specs.Hex.{decode_of}
-use Rattle.hex.specs.declared.error.FromHexError.{FromHexError}
+use Rattle.base_core.specs.{Bytes.same_bytes, Guid.guid_of}
+use Rattle.hex.specs.{Hex.decode_of, declared.error.FromHexError.FromHexError}
 
 abbrev pub is_word : List ℕ → List ℕ → Bool
 is_word w text = same_bytes w text

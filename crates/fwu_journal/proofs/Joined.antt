@@ -5,8 +5,7 @@ use Rattle.std.specs.List.{join_with_byte}
 use Rattle.std.specs.Global.{Global}
 use Rattle.std.proofs.lemmas.List.{take_more, length-take-le, map-append, length-map}
 use Rattle.fwu_model.specs.Text.{comma}
-use Rattle.fwu_journal.specs.Joined.{comma_before}
-use Rattle.fwu_journal.specs.Room.{Grows}
+use Rattle.fwu_journal.specs.{Joined.comma_before, Room.Grows}
 use Rattle.fwu_journal.proofs.Grown.{grows-then}
 
 -- a piece more is behind a comma, unless it is the first

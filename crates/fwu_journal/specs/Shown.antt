@@ -2,13 +2,10 @@
 use Rattle.std.specs.Prelude.{◌≡◌, ◌≤◌, ◌+◌, ℕ, List, length, map, ⊤, vec_len, vec_capacity}
 use Rattle.fwu_model.specs.Reply as model
 use Rattle.fwu_model.specs.Script.{room_limit}
-use Rattle.early_boot.specs.Ends.{some_numbers}
-use Rattle.early_boot.specs.Numbers.{numbers}
+use Rattle.early_boot.specs.{Ends.some_numbers, Numbers.numbers}
 use Rattle.script_text.specs.Shown.{shown}
-use Rattle.fwu_journal.specs.declared.journal.Reply.{Reply}
+use Rattle.fwu_journal.specs.{declared.journal.Reply.Reply, declared.journal.Turn.Turn, declared.journal.Journal.Journal}
 use Rattle.fwu_journal.specs.declared.journal.Reply.TheVariants as kind
-use Rattle.fwu_journal.specs.declared.journal.Turn.{Turn}
-use Rattle.fwu_journal.specs.declared.journal.Journal.{Journal}
 
 abbrev pub reply : Reply → model.Reply
 reply kind.Off = model.IsOff

@@ -4,12 +4,10 @@ use Rattle.std.proofs.lemmas.List.{length-map, get_or-map}
 use Rattle.std.proofs.lemmas.List.FromFn.{length-map-range_with_len, get_or-map-range_with_len}
 use Rattle.base_core.specs.Bytes.{listed}
 use Rattle.fwu_formats.specs.Layout.{ImageRow}
-use Rattle.fwu_model.specs.State.{State}
-use Rattle.fwu_model.specs.Sound.{Setting}
-use Rattle.fwu_model.specs.Call as call
-use Rattle.fwu_model.specs.Reply.{Reply, Turn, Call}
+use Rattle.fwu_model.specs.{State.State, Sound.Setting, Reply.Reply, Reply.Turn, Reply.Call}
 use Rattle.fwu_model.specs.Answer.{images_of, type_of_image}
 use Rattle.fwu_model.specs.Given.{maybe_done, bytes_given, Since, package_given, file_given, given_by}
+use Rattle.fwu_model.specs.Call as call
 
 abbrev pub is_partial : Call → Bool
 is_partial (call.BeginPartial types) = true

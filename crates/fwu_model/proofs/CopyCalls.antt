@@ -10,21 +10,16 @@ use Rattle.std.proofs.Math.Seq.{take-add}
 use Rattle.std.proofs.Math.Nat.{div-add-mod}
 use Rattle.base_core.specs.Bytes.{same_bytes, listed}
 use Rattle.fwu_formats.specs.Layout.{ImageRow, slot_bytes, find_image, are_distinct, fits_layout}
+use Rattle.fwu_model.specs.{Sound.Setting, Sound.holds_complete, Reply.Reply, Reply.Call, Law.PartialBeginsAreCalls}
 use Rattle.fwu_model.specs.State.{State, Move, bank, after}
-use Rattle.fwu_model.specs.Sound.{Setting, holds_complete}
 use Rattle.fwu_model.specs.Session.{Session, Off, On, Staged, Nothing, Open, Committed, Handle, Writes, no_handles, nothing_staged, is_open, is_committed}
-use Rattle.fwu_model.specs.Call as call
-use Rattle.fwu_model.specs.Reply.{Reply, Call}
-use Rattle.fwu_model.specs.Reply as reply
-use Rattle.fwu_model.specs.declared.kinds.Status.TheVariants as status
 use Rattle.fwu_model.specs.Answer.{Answer, answered, refused, answer, answer_begin, answer_begin_partial, answer_open_write, answer_write, answer_commit, are_named, names_unknown, cannot_begin, begin_moves, copied_part, copied_parts, type_of_image, image_held, held_package, opened, is_full, with_appended, appended, staged_bytes}
 use Rattle.fwu_model.specs.InRow.{replies_of, moves_of, session_of, is_done, ComeTo, piece_count, piece, copy_calls, copy_unless, begin_calls}
-use Rattle.fwu_model.specs.Law.{PartialBeginsAreCalls}
-use Rattle.fwu_model.proofs.Sessions.{nothing-at}
-use Rattle.fwu_model.proofs.Matches.{no_row}
+use Rattle.fwu_model.specs.Call as call
+use Rattle.fwu_model.specs.Reply as reply
+use Rattle.fwu_model.specs.declared.kinds.Status.TheVariants as status
+use Rattle.fwu_model.proofs.{Sessions.nothing-at, Matches.no_row, Selects.layout-distinct, ImageSizes.image-fits}
 use Rattle.fwu_model.proofs.Staging.{same-self, differs, type-other}
-use Rattle.fwu_model.proofs.Selects.{layout-distinct}
-use Rattle.fwu_model.proofs.ImageSizes.{image-fits}
 
 -- ---- the type of an image finds it
 

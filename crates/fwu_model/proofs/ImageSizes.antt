@@ -10,9 +10,7 @@ use Rattle.base_core.specs.Bytes.{num_at}
 use Rattle.fwu_formats.specs.Layout.{ImageRow, Layout, slot_bytes, is_row, fits_layout}
 use Rattle.fwu_formats.specs.Manifest.{Row, is_complete, manifest_of, manifest_at, manifest_part, manifest_size, row_at, is_image_of, all_paired}
 use Rattle.base_core.proofs.Results.{ok-is}
-use Rattle.fwu_formats.proofs.Read.{manifest-holds}
-use Rattle.fwu_formats.proofs.SealLaws.{limits}
-use Rattle.fwu_formats.proofs.Written.{rows-fit}
+use Rattle.fwu_formats.proofs.{Read.manifest-holds, SealLaws.limits, Written.rows-fit}
 use Rattle.fwu_model.proofs.Matches.{no_row}
 
 sized-at : (rows : List Row) (images : List (List ℕ)) (d : Row) (j : ℕ) → IsTrue (all_paired is_image_of rows images) → j < length rows

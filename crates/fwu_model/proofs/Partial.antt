@@ -1,19 +1,15 @@
 -- Worked values of partial updates, each computed: two images, and a package of the manifest alone.
 use Rattle.std.proofs.Common.{◌≡◌, ℕ, true, false, codes, refl, List, [], ◌∷◌, Some, None, Ok, Err, replicate}
 use Rattle.sha2.specs.Sha256.{sha256, digest_bytes, hash_after, compress, rounds, schedule, first_words}
-use Rattle.fwu_formats.specs.Layout.{dir_guid}
+use Rattle.fwu_formats.specs.{Layout.dir_guid, Package.packed, Package.toc_of, Package.entries_from}
 use Rattle.fwu_formats.specs.Manifest.{manifest_bytes, manifest_of, is_complete, version}
-use Rattle.fwu_formats.specs.Package.{packed, toc_of, entries_from}
 use Rattle.fwu_formats.proofs.Worked.{manifest_guid, tb_fw, nt_fw}
+use Rattle.fwu_model.specs.{Sound.Setting, InRow.begin_calls, Script.script_of, Script.line_of, Text.line}
 use Rattle.fwu_model.specs.State.{State, Switch, Invalid, Valid, Accepted}
-use Rattle.fwu_model.specs.Sound.{Setting}
 use Rattle.fwu_model.specs.Session.{Session, On, Nothing, Committed, no_handles}
+use Rattle.fwu_model.specs.Answer.{answer, answer_begin_partial, answer_send_partial, answered, refused, copied_parts, images_over, first_size_fault}
 use Rattle.fwu_model.specs.Call as call
 use Rattle.fwu_model.specs.Reply as reply
-use Rattle.fwu_model.specs.Answer.{answer, answer_begin_partial, answer_send_partial, answered, refused, copied_parts, images_over, first_size_fault}
-use Rattle.fwu_model.specs.InRow.{begin_calls}
-use Rattle.fwu_model.specs.Script.{script_of, line_of}
-use Rattle.fwu_model.specs.Text.{line}
 use Rattle.std.specs.Fmt.{digits}
 use Rattle.uuid.specs.Text.{by_index}
 use Rattle.fwu_model.specs.declared.kinds.Status.TheVariants as status

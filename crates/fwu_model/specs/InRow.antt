@@ -2,13 +2,10 @@
 use Rattle.std.specs.Prelude.{◌≡◌, ℕ, ◌+◌, ◌-◌, ◌*◌, ◌/◌, Bool, true, false, if◌then◌else◌, List, [], ◌∷◌, ◌++◌, length, take, drop, map, flat_map, IsTrue, slice_index_or}
 use Rattle.std.specs.List.{list_all, range_with_len}
 use Rattle.base_core.specs.Block.{block_bytes}
-use Rattle.fwu_model.specs.State.{State, Move, after}
-use Rattle.fwu_model.specs.Sound.{Setting}
-use Rattle.fwu_model.specs.Session.{Session}
-use Rattle.fwu_model.specs.Call as call
-use Rattle.fwu_model.specs.Reply.{Reply, Call}
-use Rattle.fwu_model.specs.Reply as reply
+use Rattle.fwu_model.specs.{State.State, State.Move, State.after, Sound.Setting, Session.Session, Reply.Reply, Reply.Call}
 use Rattle.fwu_model.specs.Answer.{Answer, answer, are_named, type_of_image, image_held}
+use Rattle.fwu_model.specs.Call as call
+use Rattle.fwu_model.specs.Reply as reply
 
 -- the replies to calls in a row, their moves, and the session after them
 abbrev pub replies_of : Setting → State → Session → List Call → List Reply

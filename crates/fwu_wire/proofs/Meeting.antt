@@ -2,31 +2,21 @@
 use Rattle.std.proofs.Common.{◌≡◌, ℕ, ◌≤◌, Bool, List, [], ◌++◌, length, take, Result, Ok, Err, refl, sym, ap, subst, ◌∙◌, IsTrue, IsFalse}
 use Rattle.std.specs.Prelude.{IfOk, OnOk}
 use Rattle.std.proofs.lemmas.List.{length-take-le, take-append-le}
-use Rattle.fwu_model.specs.declared.kinds.Op.{Op}
+use Rattle.fwu_model.specs.{declared.kinds.Op.Op, declared.kinds.Status.Status, Call.Call, Reply.Reply, Answer.answer}
 use Rattle.fwu_model.specs.declared.kinds.Op.TheVariants as op
-use Rattle.fwu_model.specs.declared.kinds.Status.{Status}
-use Rattle.fwu_model.specs.Call.{Call}
 use Rattle.fwu_model.specs.Call as call
-use Rattle.fwu_model.specs.Reply.{Reply}
 use Rattle.fwu_model.specs.Reply as reply
-use Rattle.fwu_model.specs.Answer.{answer}
 use Rattle.agent_kept.specs.declared.kinds.Request.TheVariants as request
 use Rattle.agent_kept.specs.Plans.{call_of}
 use Rattle.agent_machine.specs.declared.stop.Stop as agents
 use Rattle.agent_machine.specs.declared.stop.Stop.TheVariants as agent_stop
-use Rattle.agent_machine.specs.Meets.{IsGot, Meets, MeetsPrevious}
+use Rattle.agent_machine.specs.{Meets.IsGot, Meets.Meets, Meets.MeetsPrevious, CallGoes.AgentAt, CallGoes.CallGoes, Moment.Moment}
 use Rattle.agent_machine.specs.Meets as meets
-use Rattle.agent_machine.specs.CallGoes.{AgentAt, CallGoes}
 use Rattle.flash_core.specs.declared.flash.Flash.{Ghosts}
-use Rattle.agent_machine.specs.Moment.{Moment}
-use Rattle.agent_calls.specs.GoneBack.{SomePassed}
-use Rattle.agent_calls.specs.AnswersCall.{IsPreviousCall, IsReplyOf}
-use Rattle.fwu_wire.specs.Calls.{open_call}
-use Rattle.fwu_wire.specs.Replies.{replied}
+use Rattle.agent_calls.specs.{GoneBack.SomePassed, AnswersCall.IsPreviousCall, AnswersCall.IsReplyOf}
+use Rattle.fwu_wire.specs.{Calls.open_call, Replies.replied, declared.replies.AgentReply.AgentReply, declared.stops.Stop.Stop}
 use Rattle.fwu_wire.specs.Taken.{CallMeets, IsRefusalReply, agents_answer, reply_in, said}
-use Rattle.fwu_wire.specs.declared.replies.AgentReply.{AgentReply}
 use Rattle.fwu_wire.specs.declared.replies.AgentReply.TheVariants as wire
-use Rattle.fwu_wire.specs.declared.stops.Stop.{Stop}
 
 -- a refusal has no bytes
 refused-as : (tells : Bool) (c : Call) (q : Reply) (st : Status) → q ≡ reply.Refused st → IsReplyOf tells c q (reply.Refused st)

@@ -1,15 +1,13 @@
 -- The functions of the agent by their numbers, and which call a request asks for, by its function and its arguments.
 use Rattle.std.specs.Prelude.{◌≡◌, ℕ, ◌==◌, nat_le, if◌then◌else◌, List, length, take, drop, Option, Some, None, option_map, ◌≤◌}
 use Rattle.base_core.specs.Bytes.{num_at}
-use Rattle.fwu_model.specs.declared.kinds.Op.{Op}
+use Rattle.fwu_model.specs.{declared.kinds.Op.Op, Call.Call}
 use Rattle.fwu_model.specs.declared.kinds.Op.TheVariants as op
-use Rattle.fwu_model.specs.Call.{Call}
 use Rattle.fwu_model.specs.Call as call
-use Rattle.fwu_wire.specs.declared.functions.Function.{Function}
-use Rattle.fwu_wire.specs.declared.calls.AgentCall.{AgentCall}
-use Rattle.fwu_wire.specs.declared.calls.AgentCall.TheVariants as wire
+use Rattle.fwu_wire.specs.{declared.functions.Function.Function, declared.calls.AgentCall.AgentCall}
 use Rattle.fwu_wire.specs.declared.functions.Function.TheVariants.{Discover, Begin, End, Cancel, Open, WriteStream, ReadStream, Commit, Accept, SelectPrevious}
 use Rattle.fwu_wire.specs.declared.replies.AgentReply.{AgentReply}
+use Rattle.fwu_wire.specs.declared.calls.AgentCall.TheVariants as wire
 use Rattle.fwu_wire.specs.declared.replies.AgentReply.TheVariants as reply
 
 abbrev pub number : Function → ℕ

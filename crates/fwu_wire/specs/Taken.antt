@@ -1,27 +1,20 @@
 -- What a call of the agent gave, as a reply of the machine, and what a server made of a request.
 use Rattle.std.specs.Prelude.{◌≡◌, ℕ, Bool, true, false, List, length, take, Option, Some, None, Result, Ok, Err, IfOk, ⊤}
-use Rattle.fwu_model.specs.Call.{Call}
-use Rattle.fwu_model.specs.Reply.{Reply}
+use Rattle.fwu_model.specs.{Call.Call, Reply.Reply}
 use Rattle.fwu_model.specs.Reply as reply
 use Rattle.agent_machine.specs.declared.stop.Stop as agents
 use Rattle.agent_machine.specs.declared.stop.Stop.TheVariants as agent_stop
-use Rattle.agent_machine.specs.Meets.{LeavesFlash, flash_result}
-use Rattle.agent_machine.specs.Moment.{Moment}
-use Rattle.agent_calls.specs.AnswersCall.{AnswersCall}
-use Rattle.wire_frames.specs.declared.exchange.Admission.{Admission}
+use Rattle.agent_machine.specs.{Meets.LeavesFlash, Meets.flash_result, Moment.Moment}
+use Rattle.agent_calls.specs.{AnswersCall.AnswersCall, declared.agent.Agent.Agent}
+use Rattle.wire_frames.specs.{declared.exchange.Admission.Admission, Frames.frame, Frames.request_number_of, Frames.numbered}
 use Rattle.wire_frames.specs.declared.exchange.Admission.TheVariants.{Acts, Repeats, Ignored}
 use Rattle.wire_frames.specs.Exchange.{LastAnswer, admission, answered, written}
-use Rattle.wire_frames.specs.Frames.{frame, request_number_of, numbered}
-use Rattle.fwu_wire.specs.Replies.{message, replied}
-use Rattle.fwu_wire.specs.declared.replies.AgentReply.{AgentReply}
+use Rattle.fwu_wire.specs.{Replies.message, Replies.replied, declared.replies.AgentReply.AgentReply, declared.stops.Stop.Stop}
+use Rattle.fwu_wire.specs.{declared.stops.Taken.Taken, declared.server.Server.Server}
 use Rattle.fwu_wire.specs.declared.replies.AgentReply.TheVariants as wire
-use Rattle.fwu_wire.specs.declared.stops.Stop.{Stop}
 use Rattle.fwu_wire.specs.declared.stops.Stop.TheVariants as stop
-use Rattle.fwu_wire.specs.declared.stops.Taken.{Taken}
 use Rattle.fwu_wire.specs.declared.stops.Taken.TheVariants as taken
 use Rattle.flash_core.specs.declared.flash.Flash.{Ghosts}
-use Rattle.agent_calls.specs.declared.agent.Agent.{Agent}
-use Rattle.fwu_wire.specs.declared.server.Server.{Server}
 
 -- ---- stops
 

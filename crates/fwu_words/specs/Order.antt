@@ -3,15 +3,11 @@ use Rattle.std.specs.Prelude.{ℕ, Bool, false, List, Option, Some, None, codes,
 use Rattle.base_core.specs.Bytes.{same_bytes}
 use Rattle.clap.specs.Words.{Row, Text, first_of}
 use Rattle.fwu_formats.specs.Layout.{ImageRow}
-use Rattle.clap_words.specs.Words.{reads}
-use Rattle.clap_words.specs.Answers.{file_in}
-use Rattle.fwu_words.specs.Commands.{fwu_app}
-use Rattle.fwu_words.specs.Values.{banks_of, number_read, rows_of}
-use Rattle.fwu_words.specs.declared.orders.Order.{Order}
+use Rattle.clap_words.specs.{Words.reads, Answers.file_in}
+use Rattle.fwu_words.specs.{Commands.fwu_app, Values.banks_of, Values.number_read, Values.rows_of, declared.orders.Order.Order}
+use Rattle.fwu_words.specs.{declared.orders.Place.Place, declared.orders.ScriptFrom.ScriptFrom}
 use Rattle.fwu_words.specs.declared.orders.Order.TheVariants.{Turns, Show, Format, Soak, Serve}
-use Rattle.fwu_words.specs.declared.orders.Place.{Place}
 use Rattle.fwu_words.specs.declared.orders.Place.TheVariants as place
-use Rattle.fwu_words.specs.declared.orders.ScriptFrom.{ScriptFrom}
 use Rattle.fwu_words.specs.declared.orders.ScriptFrom.TheVariants as origin
 
 -- a command with its values

@@ -7,12 +7,9 @@ use Rattle.std.specs.List.{list_all}
 use Rattle.sha2.specs.Sha256.{sha256}
 use Rattle.sha2.proofs.Facts256.{length-sha256}
 use Rattle.base_core.specs.Bytes.{same_bytes}
-use Rattle.fwu_formats.specs.Layout.{ImageRow, is_row}
+use Rattle.fwu_formats.specs.{Layout.ImageRow, Layout.is_row, Package.Part, Package.packed}
 use Rattle.fwu_formats.specs.Manifest.{FitsImages, Manifest, all_paired, is_complete, is_image_of, is_manifest_row, manifest_at, manifest_bytes, manifest_of, manifest_size, version}
-use Rattle.fwu_formats.specs.Package.{Part, packed}
-use Rattle.fwu_formats.proofs.ManifestWritten.{written-is-read}
-use Rattle.fwu_formats.proofs.Read.{manifest-holds}
-use Rattle.fwu_formats.proofs.Tables.{tables-are-read}
+use Rattle.fwu_formats.proofs.{ManifestWritten.written-is-read, Read.manifest-holds, Tables.tables-are-read}
 use Rattle.fip_tables.specs.Packing.{pack_fault}
 use Rattle.fip_tables.proofs.Again.{passed-is-read}
 use Rattle.gen_core.specs.Generated.{generated, generated_images, generated_parts, image_parts, manifest_for, parts_from, manifest_row_of}

@@ -9,8 +9,7 @@ use Rattle.base_core.specs.Bytes.{same_bytes}
 use Rattle.fwu_formats.specs.Layout.{ImageRow, are_distinct, find_image}
 use Rattle.fwu_formats.specs.Package.{Entry, Part, Toc, entry_of, has_guid, payload}
 use Rattle.fwu_model.specs.Answer.{first_image_fault, images_of, skipped, payload_or}
-use Rattle.gen_core.proofs.Making.{guids_of}
-use Rattle.gen_core.proofs.Packing.{FitRows, NoRow, OneMore}
+use Rattle.gen_core.proofs.{Making.guids_of, Packing.FitRows, Packing.NoRow, Packing.OneMore}
 use Rattle.base_core.proofs.Spelled.{same_refl}
 
 -- ---- each image finds its own entry

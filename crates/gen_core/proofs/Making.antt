@@ -4,12 +4,10 @@ use Rattle.std.proofs.lemmas.Bool.{and_from, and_parts, le-leb}
 use Rattle.std.proofs.lemmas.Bool.Decides.{nat_tests}
 use Rattle.std.specs.List.{All, list_all}
 use Rattle.base_core.specs.Bytes.{same_bytes}
+use Rattle.fwu_formats.specs.{Manifest.all_paired, Package.Part}
 use Rattle.fwu_formats.specs.Layout.{ImageRow, is_row, are_distinct, fits_layout, nil_guid}
-use Rattle.fwu_formats.specs.Manifest.{all_paired}
-use Rattle.fwu_formats.specs.Package.{Part}
+use Rattle.gen_core.specs.{Law.LayoutsHaveImages, Setup.soak_layout}
 use Rattle.gen_core.specs.Generated.{are_images, fit_sizes, image_bytes, image_parts}
-use Rattle.gen_core.specs.Law.{LayoutsHaveImages}
-use Rattle.gen_core.specs.Setup.{soak_layout}
 use Rattle.std.proofs.lemmas.List.FromFn.{length-map-range_with_len}
 use Rattle.std.proofs.Math.Seq.{take-length}
 

@@ -5,15 +5,11 @@ use Rattle.std.proofs.lemmas.Bool.{cases_Bool, cond-true, cond-false}
 use Rattle.std.proofs.lemmas.Fmt.{decimal_injective}
 use Rattle.base_core.specs.Bytes.{same_bytes}
 use Rattle.fwu_model.proofs.Staging.{same-is}
+use Rattle.gen_core.specs.{Draws.draw, Draws.drawn, Draws.register_after, Generated.fit_sizes, Generated.generated_images}
+use Rattle.gen_core.specs.{Law.InstallsPackage, Law.RoundsHavePackages, Setup.soak_layout, declared.rounds.Round.Round}
 use Rattle.gen_core.specs.Calls.{file_name, packages_of, round_package}
-use Rattle.gen_core.specs.Draws.{draw, drawn, register_after}
-use Rattle.gen_core.specs.Generated.{fit_sizes, generated_images}
-use Rattle.gen_core.specs.Law.{InstallsPackage, RoundsHavePackages}
 use Rattle.gen_core.specs.Rounds.{draws_of, round_of, rounds_from, security_in_round, sizes_in_round, soak_rounds}
-use Rattle.gen_core.specs.Setup.{soak_layout}
-use Rattle.gen_core.specs.declared.rounds.Round.{Round}
-use Rattle.gen_core.proofs.Making.{soak-images, soak-sizes_fit}
-use Rattle.gen_core.proofs.Completing.{generated-are-complete}
+use Rattle.gen_core.proofs.{Making.soak-images, Making.soak-sizes_fit, Completing.generated-are-complete}
 use Rattle.base_core.proofs.Spelled.{same_refl}
 
 -- ---- names

@@ -8,14 +8,11 @@ use Rattle.std.specs.Int.{next_multiple_of}
 use Rattle.sha2.specs.Sha256.{sha256}
 use Rattle.sha2.proofs.Facts256.{length-sha256}
 use Rattle.base_core.specs.Bytes.{le, same_bytes}
-use Rattle.fwu_formats.specs.Layout.{ImageRow, is_row, are_distinct, nil_guid}
+use Rattle.fwu_formats.specs.{Layout.ImageRow, Layout.is_row, Layout.are_distinct, Layout.nil_guid, Package.Part}
 use Rattle.fwu_formats.specs.Manifest.{Manifest, all_paired, manifest_row_bytes, manifest_body, manifest_bytes, manifest_size, manifest_magic, form_of}
-use Rattle.fwu_formats.specs.Package.{Part}
-use Rattle.fip_tables.specs.Again.{part_has_fields}
-use Rattle.fip_tables.specs.Frame.{AreSixteen, last_end, table_end}
+use Rattle.fip_tables.specs.{Again.part_has_fields, Frame.AreSixteen, Frame.last_end, Frame.table_end}
 use Rattle.fip_tables.specs.Packing.{is_alignment, is_nil, is_repeat, pack_fault, packed_part_at}
-use Rattle.fip_tables.proofs.Firsts.{no-fault, none-repeats, none-shared, position-none}
-use Rattle.fip_tables.proofs.Plans.{packed-length}
+use Rattle.fip_tables.proofs.{Firsts.no-fault, Firsts.none-repeats, Firsts.none-shared, Firsts.position-none, Plans.packed-length}
 use Rattle.gen_core.specs.Generated.{image_parts, manifest_row_of, manifest_for, generated_parts}
 use Rattle.gen_core.proofs.Making.{AreImages, FitSizes, IsRow, guids_of, is_within, row-limits, image-length, image_parts-length}
 use Rattle.base_core.proofs.Spelled.{same_sym}

@@ -5,13 +5,10 @@ use Rattle.fwu_formats.specs.Layout.{blocks_needed, fits_layout}
 use Rattle.fwu_formats.proofs.Worked.{L}
 use Rattle.fwu_model.specs.Call as call
 use Rattle.fwu_model.specs.Reply as reply
-use Rattle.gen_core.specs.Calls.{soak_calls, round_calls}
+use Rattle.gen_core.specs.{Calls.soak_calls, Calls.round_calls, Generated.image_bytes, Line.soak_line, Line.totals_of}
+use Rattle.gen_core.specs.{Setup.soak_layout, Setup.is_too_small, declared.rounds.Ending.TheVariants.Nothing}
 use Rattle.gen_core.specs.Draws.{register_after, step, drawn}
-use Rattle.gen_core.specs.Generated.{image_bytes}
-use Rattle.gen_core.specs.Line.{soak_line, totals_of}
 use Rattle.gen_core.specs.Rounds.{round_of, security_in_round, sizes_in_round}
-use Rattle.gen_core.specs.Setup.{soak_layout, is_too_small}
-use Rattle.gen_core.specs.declared.rounds.Ending.TheVariants.{Nothing}
 
 -- ---- what a soak runs on
 

@@ -4,14 +4,10 @@ use Rattle.base_core.specs.Bytes.{same_bytes}
 use Rattle.fwu_formats.specs.Layout.{ImageRow}
 use Rattle.fwu_model.specs.Call.{Call}
 use Rattle.fwu_model.specs.Call as call
-use Rattle.gen_core.specs.Generated.{generated}
+use Rattle.gen_core.specs.{Generated.generated, Setup.soak_layout, declared.rounds.Cut.Cut, declared.rounds.Ending.Ending}
+use Rattle.gen_core.specs.{declared.rounds.Round.Round, declared.calls.SoakCall.SoakCall}
 use Rattle.gen_core.specs.Rounds.{sizes_in_round, soak_rounds}
-use Rattle.gen_core.specs.Setup.{soak_layout}
-use Rattle.gen_core.specs.declared.rounds.Cut.{Cut}
-use Rattle.gen_core.specs.declared.rounds.Ending.{Ending}
 use Rattle.gen_core.specs.declared.rounds.Ending.TheVariants.{Nothing, Boot, Accept, Previous}
-use Rattle.gen_core.specs.declared.rounds.Round.{Round}
-use Rattle.gen_core.specs.declared.calls.SoakCall.{SoakCall}
 use Rattle.gen_core.specs.declared.calls.SoakCall.TheVariants as does
 
 -- the name of the package of a round, as g1

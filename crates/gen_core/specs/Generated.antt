@@ -2,12 +2,9 @@
 use Rattle.std.specs.Prelude.{ℕ, ◌+◌, ◌*◌, ◌%◌, Bool, ◌&&◌, ◌==◌, nat_le, List, [], ◌∷◌, length, drop, map}
 use Rattle.std.specs.List.{list_all}
 use Rattle.sha2.specs.Sha256.{sha256}
-use Rattle.base_core.specs.Block.{block_bytes}
-use Rattle.base_core.specs.Bytes.{listed}
-use Rattle.base_core.specs.Limits.{fewest_images, most_images}
-use Rattle.fwu_formats.specs.Layout.{ImageRow, is_row, are_distinct}
+use Rattle.base_core.specs.{Block.block_bytes, Bytes.listed, Limits.fewest_images, Limits.most_images}
+use Rattle.fwu_formats.specs.{Layout.ImageRow, Layout.is_row, Layout.are_distinct, Package.Part, Package.packed}
 use Rattle.fwu_formats.specs.Manifest.{Row, Manifest, manifest_bytes, all_paired}
-use Rattle.fwu_formats.specs.Package.{Part, packed}
 
 -- ---- for which images, and of which sizes
 

@@ -1,14 +1,11 @@
 -- What holds of packages that are made from a number, and of the rounds that draw them.
 use Rattle.std.specs.Prelude.{◌≡◌, ℕ, ◌+◌, ◌<◌, ◌≤◌, List, Some, None, Ok, IsTrue, slice_index_or}
+use Rattle.fwu_formats.specs.{Manifest.is_complete, Manifest.version, Package.Toc, Package.toc_of}
 use Rattle.fwu_formats.specs.Layout.{Layout, ImageRow, fits_layout}
-use Rattle.fwu_formats.specs.Manifest.{is_complete, version}
-use Rattle.fwu_formats.specs.Package.{Toc, toc_of}
 use Rattle.fwu_model.specs.Answer.{images_of, first_image_fault, skipped}
-use Rattle.gen_core.specs.Calls.{file_name, first_package, packages_of, round_package}
+use Rattle.gen_core.specs.{Calls.file_name, Calls.first_package, Calls.packages_of, Calls.round_package, Rounds.round_of}
+use Rattle.gen_core.specs.{Rounds.sizes_in_round, Rounds.soak_rounds, Setup.soak_layout, declared.rounds.Round.Round}
 use Rattle.gen_core.specs.Generated.{are_images, fit_sizes, generated, generated_images}
-use Rattle.gen_core.specs.Rounds.{round_of, sizes_in_round, soak_rounds}
-use Rattle.gen_core.specs.Setup.{soak_layout}
-use Rattle.gen_core.specs.declared.rounds.Round.{Round}
 
 -- The file is a package that installs these images on a flash of these image rows. No image of the layout is missing or larger than
 -- its slot, no entry is skipped, and the images are complete, of this security version.

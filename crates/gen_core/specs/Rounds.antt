@@ -1,10 +1,8 @@
 -- The rounds of a soak: what each draws, in this order.
 use Rattle.std.specs.Prelude.{ℕ, zero, suc, ◌+◌, ◌-◌, ◌/◌, min, ◌==◌, if◌then◌else◌, List, [], ◌∷◌, Option, Some, None}
+use Rattle.gen_core.specs.{declared.rounds.Cut.Cut, declared.rounds.Ending.Ending, declared.rounds.Round.Round}
 use Rattle.gen_core.specs.Draws.{draw, register_after}
-use Rattle.gen_core.specs.declared.rounds.Cut.{Cut}
-use Rattle.gen_core.specs.declared.rounds.Ending.{Ending}
 use Rattle.gen_core.specs.declared.rounds.Ending.TheVariants.{Nothing, Boot, Accept, Previous}
-use Rattle.gen_core.specs.declared.rounds.Round.{Round}
 
 -- the sizes in bytes of the two images behind the manifest
 abbrev pub sizes_in_round : ℕ → List ℕ

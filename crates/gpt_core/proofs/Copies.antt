@@ -3,19 +3,16 @@ use Rattle.std.proofs.Common.{◌≡◌, ◌⊎◌, inl, inr, ℕ, ◌+◌, ◌-
 use Rattle.std.proofs.lemmas.Bool.{cases_Bool, and_parts, or_right}
 use Rattle.std.proofs.lemmas.List.{append-nil, drop_all, length-take-le, length-drop}
 use Rattle.std.specs.Prelude.{IsTrue, slice_range, nat_le}
-use Rattle.base_core.specs.Block.{block}
-use Rattle.base_core.specs.Bytes.{num_at, overwritten}
-use Rattle.base_core.specs.Crc.{crc}
+use Rattle.base_core.specs.{Block.block, Bytes.num_at, Bytes.overwritten, Crc.crc}
 use Rattle.base_core.specs.Seal.{Sealed, has_table_seal, has_own_seal, has_v1_seal, is_sealed}
-use Rattle.base_core.proofs.Blocks.{length-block, same_block}
+use Rattle.base_core.proofs.{Blocks.length-block, Blocks.same_block, Spelled.same_refl}
 use Rattle.base_core.proofs.Images.{block-overwritten_front, overwritten_below, overwritten_above}
-use Rattle.base_core.proofs.Spelled.{same_refl}
 use Rattle.flash_core.proofs.Calls.{same_range}
 use Rattle.gpt_core.specs.declared.table.TableCopy.{TableCopy}
 use Rattle.gpt_core.specs.declared.table.TableCopy.TheVariants.{Primary, Backup}
 use Rattle.gpt_core.specs.declared.table.WhichTable.TheVariants.{Same, RepairPrimary, RepairBackup}
-pub use Rattle.gpt_core.specs.Table.{copy_from, copy_to}
 use Rattle.gpt_core.specs.Table.{Table, blocks_of, header_at, other, entries_at, number_in, header_has_fields, is_roomy, is_header, table_entries_in, partition_table_of, checked_table, copy_in, same_table, DecidesTable, entry_number_of}
+pub use Rattle.gpt_core.specs.Table.{copy_from, copy_to}
 
 -- ---- a valid copy
 

@@ -2,10 +2,7 @@
 use Rattle.std.proofs.Common.{◌≡◌, ℕ, ◌&&◌, ◌==◌, List, Some, refl, sym, ap, ◌∙◌, subst, le-leb, eq-eqb, eqb-true}
 use Rattle.std.proofs.lemmas.Bool.{and_parts, and_from}
 use Rattle.std.specs.Prelude.{IsTrue}
-use Rattle.base_core.specs.Block.{block}
-use Rattle.base_core.specs.Bytes.{num_at, part}
-use Rattle.base_core.specs.Crc.{crc}
-use Rattle.base_core.specs.Seal.{has_table_seal}
+use Rattle.base_core.specs.{Block.block, Bytes.num_at, Bytes.part, Crc.crc, Seal.has_table_seal}
 use Rattle.gpt_core.specs.declared.table.TableCopy.{TableCopy}
 use Rattle.gpt_core.specs.Table.{Table, IsCopy, blocks_of, number_in, header_at, other, entries_at, has_start, has_places, header_has_fields, is_roomy, is_header, table_entries_in, copy_in}
 use Rattle.gpt_core.proofs.Copies.{table_by, valid_parts, valid_from, valid_roomy}

@@ -1,9 +1,7 @@
 -- What the code reads of a copy is what the copy says.
 use Rattle.std.proofs.Common.{◌≡◌, ℕ, ◌+◌, ◌*◌, ◌≤◌, true, false, List, length, Option, Some, None, refl, sym, ap, ◌∙◌, arith, subst}
 use Rattle.std.specs.Prelude.{slice_range, ◌==◌}
-use Rattle.base_core.specs.Block.{block}
-use Rattle.base_core.specs.Bytes.{num_at}
-use Rattle.base_core.specs.Crc.{crc}
+use Rattle.base_core.specs.{Block.block, Bytes.num_at, Crc.crc}
 use Rattle.gpt_core.specs.declared.table.TableCopy.{TableCopy}
 use Rattle.gpt_core.specs.Table.{Table, FitsTable, blocks_of, entry_number_of, number_in, header_at, entries_at, is_header, table_entries_in, partition_table_of, checked_table, copy_in}
 use Rattle.gpt_core.proofs.Copies.{valid_roomy, if_some, some_is}

@@ -5,18 +5,14 @@ use Rattle.std.proofs.lemmas.Result.{IfOk-weaker}
 use Rattle.std.specs.Prelude.{◌≢◌, IsTrue, Result, Ok, if◌then◌else◌}
 use Rattle.base_core.specs.Bytes.{same_bytes}
 use Rattle.base_core.proofs.Spelled.{same_is}
-use Rattle.flash_core.specs.declared.flash.FlashStop.{FlashStop}
-use Rattle.flash_core.specs.Told.{Told}
-use Rattle.gpt_core.specs.declared.table.TableCopy.{TableCopy}
+use Rattle.flash_core.specs.{declared.flash.FlashStop.FlashStop, Told.Told}
+use Rattle.gpt_core.specs.{declared.table.TableCopy.TableCopy, declared.table.WhichTable.WhichTable, Writes.Spans}
 use Rattle.gpt_core.specs.declared.table.TableCopy.TheVariants.{Primary, Backup}
-use Rattle.gpt_core.specs.declared.table.WhichTable.{WhichTable}
 use Rattle.gpt_core.specs.declared.table.WhichTable.TheVariants.{Same, RepairPrimary, RepairBackup}
 use Rattle.gpt_core.specs.Table.{Table, FitsTable, blocks_of, entry_number_of, header_at, entries_at, copy_in, copy_from, copy_to, same_table, deciding_table, table_in_image, DecidesTable}
 use Rattle.gpt_core.specs.Repair.{MendsTable, HeadersGuarded, Ready, RepairSteps, IsMended}
-use Rattle.gpt_core.specs.Writes.{Spans}
+use Rattle.gpt_core.proofs.{Mending.both_say, Stepping.image_is_now}
 use Rattle.gpt_core.proofs.Copies.{some_is, table_by, same_table_refl, header_within, entries_within}
-use Rattle.gpt_core.proofs.Mending.{both_say}
-use Rattle.gpt_core.proofs.Stepping.{image_is_now}
 
 -- What the copies say where this table decides, and this is to be repaired.
 abbrev TableFinds : WhichTable → Table → Option Table → Option Table → Type 0

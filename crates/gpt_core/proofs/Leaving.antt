@@ -1,21 +1,14 @@
 -- A repair of a table leaves the flash that its partitions are.
 use Rattle.std.proofs.Common.{◌≡◌, ◌⊎◌, inl, inr, ℕ, ◌+◌, ◌-◌, ◌*◌, ◌/◌, ◌<◌, ◌≤◌, List, Ok, sym, ◌∙◌, ap, subst, arith, refl}
 use Rattle.std.proofs.lemmas.Bool.{cases_lt, lt-ltb, le-ltb}
-use Rattle.flash_core.specs.Told.{Told, NothingDirty, fresh}
-use Rattle.flash_core.specs.May.{Keeps, May}
-use Rattle.gpt_core.specs.declared.layout.Places.{Places}
-use Rattle.gpt_core.specs.declared.table.WhichTable.{WhichTable}
+use Rattle.flash_core.specs.{Told.Told, Told.NothingDirty, Told.fresh, May.Keeps, May.May}
+use Rattle.gpt_core.specs.{declared.layout.Places.Places, declared.table.WhichTable.WhichTable, Places.behind, Places.byte_behind}
+use Rattle.gpt_core.specs.{Places.through, PlacesOf.places_of, Repair.StaysBeside, Repair.TouchesToMend, Table.Table}
+use Rattle.gpt_core.specs.{Table.blocks_of, Table.entry_number_of, View.view_of, View.writes_seen}
 use Rattle.gpt_core.specs.declared.table.WhichTable.TheVariants.{Same, RepairPrimary, RepairBackup}
-use Rattle.gpt_core.specs.Places.{behind, byte_behind, through}
-use Rattle.gpt_core.specs.PlacesOf.{places_of}
-use Rattle.gpt_core.specs.Repair.{StaysBeside, TouchesToMend}
-use Rattle.gpt_core.specs.Table.{Table, blocks_of, entry_number_of}
-use Rattle.gpt_core.specs.View.{view_of, writes_seen}
 use Rattle.flash_core.proofs.OneCall.{sure_settled}
-use Rattle.gpt_core.proofs.Stepping.{image_is_now}
+use Rattle.gpt_core.proofs.{Stepping.image_is_now, Seen.by_block, Seen.through-same, Viewed.now-view, Viewed.view-fresh}
 use Rattle.gpt_core.proofs.Placing.{Within, places_within}
-use Rattle.gpt_core.proofs.Seen.{by_block, through-same}
-use Rattle.gpt_core.proofs.Viewed.{now-view, view-fresh}
 
 -- the view of a device with nothing dirty has nothing dirty
 pub view-clean : (p : Places) (t : Told) → NothingDirty t → NothingDirty (view_of p t)

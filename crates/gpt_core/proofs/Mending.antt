@@ -1,18 +1,13 @@
 -- The heart of a repair: each of its steps, at any loss, leaves images in which the same table decides.
 use Rattle.std.proofs.Common.{◌≡◌, ◌⊎◌, inl, inr, ℕ, ◌+◌, ◌*◌, ◌<◌, ◌≤◌, List, length, get_or, Some, None, sym, ◌∙◌, arith, subst}
 use Rattle.std.specs.Prelude.{Result, Ok, Err}
-use Rattle.base_core.specs.Block.{block, blank}
-use Rattle.base_core.specs.Seal.{Sealed}
-use Rattle.base_core.proofs.Blocks.{same_block}
-use Rattle.base_core.proofs.Seals.{blank_unsealed}
-use Rattle.flash_core.specs.Told.{Told, NothingDirty, put, halt, written, overwritten}
-use Rattle.flash_core.specs.May.{May, Keeps}
-use Rattle.flash_core.proofs.Images.{length-overwritten}
-use Rattle.gpt_core.specs.declared.table.TableCopy.{TableCopy}
+use Rattle.base_core.specs.{Block.block, Block.blank, Seal.Sealed}
+use Rattle.base_core.proofs.{Blocks.same_block, Seals.blank_unsealed}
+use Rattle.flash_core.specs.{Told.Told, Told.NothingDirty, Told.put, Told.halt, Told.written, Told.overwritten, May.May, May.Keeps}
+use Rattle.flash_core.proofs.{Images.length-overwritten, OneCall.one_call_left, OneCall.one_call_outside, OneCall.sure_settled}
+use Rattle.gpt_core.specs.{declared.table.TableCopy.TableCopy, Repair.Ready}
 use Rattle.gpt_core.specs.declared.table.TableCopy.TheVariants.{Primary, Backup}
 use Rattle.gpt_core.specs.Table.{Table, blocks_of, header_at, other, entries_at, copy_in, DecidesTable, BothSay, entry_number_of}
-use Rattle.gpt_core.specs.Repair.{Ready}
-use Rattle.flash_core.proofs.OneCall.{one_call_left, one_call_outside, sure_settled}
 use Rattle.gpt_core.proofs.Copies.{block_beside, none_unsealed, copy_from, copy_to, header_within, entries_within, within_image, copies_apart, copy_stays, table_roomy, primary_decides, backup_decides}
 
 -- ---- with one copy, or with both

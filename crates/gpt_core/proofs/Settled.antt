@@ -1,8 +1,7 @@
 -- What a barrier leaves of what is dirty.
 use Rattle.std.proofs.Common.{◌≡◌, sym, subst}
 use Rattle.std.specs.Prelude.{Result, Ok, Err, OnOk}
-use Rattle.flash_core.specs.declared.flash.FlashStop.{FlashStop}
-use Rattle.flash_core.specs.Told.{Told, NothingDirty, settled}
+use Rattle.flash_core.specs.{declared.flash.FlashStop.FlashStop, Told.Told, Told.NothingDirty, Told.settled}
 use Rattle.flash_core.proofs.Calls.{settle-fresh}
 
 -- after a barrier nothing is dirty

@@ -2,21 +2,16 @@
 use Rattle.std.proofs.Common.{◌≡◌, ◌⊎◌, inl, inr, ℕ, ◌+◌, ◌*◌, ◌<◌, ◌≤◌, List, ◌++◌, length, take, drop, replicate, refl, sym, ap, ◌∙◌, arith, subst, append_assoc, length-append}
 use Rattle.std.proofs.lemmas.List.{drop-drop, length-replicate, drop-replicate}
 use Rattle.std.specs.Prelude.{IsTrue, codes}
-use Rattle.base_core.specs.Block.{block}
+use Rattle.base_core.specs.{Block.block, Crc.crc, Seal.has_table_seal}
 use Rattle.base_core.specs.Bytes.{num, le, num_at, part, overwritten, same_bytes}
-use Rattle.base_core.specs.Crc.{crc}
-use Rattle.base_core.specs.Seal.{has_table_seal}
-use Rattle.flash_core.proofs.Calls.{same_range}
-use Rattle.base_core.proofs.Seals.{table_from}
-use Rattle.flash_core.proofs.Images.{length-overwritten}
-use Rattle.gpt_core.specs.declared.table.TableCopy.{TableCopy}
+use Rattle.flash_core.proofs.{Calls.same_range, Images.length-overwritten}
+use Rattle.base_core.proofs.{Seals.table_from, Lists.take-front, Lists.drop-front}
+use Rattle.base_core.proofs.Spelled.{num-le4, num-le8, crc-below}
+use Rattle.gpt_core.specs.{declared.table.TableCopy.TableCopy, Repair.Spells}
 use Rattle.gpt_core.specs.declared.table.TableCopy.TheVariants.{Primary, Backup}
 use Rattle.gpt_core.specs.Table.{Table, FitsTable, blocks_of, entry_number_of, number_in, header_at, other, entries_at, table_entries_in, header_lead, header_places, header_back, header_with, header_bytes}
-use Rattle.gpt_core.specs.Repair.{Spells}
 use Rattle.gpt_core.proofs.CopyFacts.{said}
 use Rattle.gpt_core.proofs.Copies.{block_beside, block_over, header_within, entries_within, within_image}
-use Rattle.base_core.proofs.Spelled.{num-le4, num-le8, crc-below}
-use Rattle.base_core.proofs.Lists.{take-front, drop-front}
 
 -- ---- pieces one after another
 

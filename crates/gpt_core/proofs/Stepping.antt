@@ -3,18 +3,16 @@ use Rattle.std.proofs.Common.{◌≡◌, ◌⊎◌, inl, inr, ℕ, ◌+◌, ◌*
 use Rattle.std.proofs.lemmas.List.{ext_get_or}
 use Rattle.std.proofs.lemmas.Result.{IfOk-from_err}
 use Rattle.std.specs.Prelude.{IsTrue, Result, Ok, Err, IsErr, OnOk}
-use Rattle.base_core.specs.Block.{block, blank}
-use Rattle.base_core.specs.Bytes.{part, overwritten}
+use Rattle.base_core.specs.{Block.block, Block.blank, Bytes.part, Bytes.overwritten}
 use Rattle.base_core.proofs.Blocks.{length-blank}
-use Rattle.flash_core.specs.declared.flash.FlashStop.{FlashStop}
+use Rattle.flash_core.specs.{declared.flash.FlashStop.FlashStop, May.May, May.Keeps}
 use Rattle.flash_core.specs.Told.{Told, NothingDirty, is_guarded, put, halt, settle, settled}
-use Rattle.flash_core.specs.May.{May, Keeps}
 use Rattle.flash_core.proofs.Calls.{now-put, now-settle, guard-put, guard-settle, settle-fresh, keeps_halt, keeps_put, keeps_settle, keeps_same}
+use Rattle.flash_core.proofs.OneCall.{sure_settled}
 use Rattle.gpt_core.specs.declared.table.TableCopy.{TableCopy}
-use Rattle.gpt_core.proofs.Copies.{block_over, entries_whole}
 use Rattle.gpt_core.specs.Table.{Table, blocks_of, entry_number_of, header_at, entries_at, other, copy_in, DecidesTable}
 use Rattle.gpt_core.specs.Repair.{Ready, Cleared, Filled, RepairSteps, IsMended}
-use Rattle.flash_core.proofs.OneCall.{sure_settled}
+use Rattle.gpt_core.proofs.Copies.{block_over, entries_whole}
 use Rattle.gpt_core.proofs.Mending.{decides_without, both_say, head_inside, none_blank, done_size, says_done, decides_done, header_stopped, header_done, entries_kept, entries_step}
 
 -- an image of a device with nothing dirty is what it holds

@@ -2,10 +2,8 @@
 use Rattle.std.proofs.Common.{◌≡◌, ◌⊎◌, inl, inr, ℕ, ◌+◌, ◌-◌, ◌*◌, ◌/◌, ◌<◌, ◌≤◌, Some, ◌∙◌, arith, refl, subst}
 use Rattle.std.proofs.lemmas.Bool.{cases_lt, lt-ltb, le-ltb}
 use Rattle.flash_core.specs.Touches.{TouchesOnly}
-use Rattle.gpt_core.specs.declared.layout.Places.{Places}
-use Rattle.gpt_core.specs.Places.{behind, byte_behind, Fit}
-use Rattle.gpt_core.specs.View.{place_seen, writes_seen}
-use Rattle.gpt_core.specs.Beside.{IsHiddenBlock, TouchesPlaces}
+use Rattle.gpt_core.specs.{declared.layout.Places.Places, Places.behind, Places.byte_behind, Places.Fit, View.place_seen}
+use Rattle.gpt_core.specs.{View.writes_seen, Beside.IsHiddenBlock, Beside.TouchesPlaces}
 use Rattle.gpt_core.proofs.Seen.{Shown, beside_or_within, shown_seen, byte_in}
 
 -- a place isn't beside the bytes that begin with it

@@ -1,12 +1,10 @@
 -- The places that a table gives: one partition that is the store, and two for the metadata.
 use Rattle.std.specs.Prelude.{if◌then◌else◌, ℕ, ◌+◌, ◌-◌, ◌*◌, ◌&&◌, ◌||◌, nat_le, nat_lt, Bool, List, [], ◌∷◌, ◌++◌, length, map, filter, codes, slice_index, Result, Ok, Err}
-use Rattle.base_core.specs.Block.{fewest_blocks, most_blocks}
-use Rattle.base_core.specs.Bytes.{num_at, part, listed, same_bytes}
-use Rattle.gpt_core.specs.declared.layout.Places.{Places}
-use Rattle.gpt_core.specs.declared.layout.PlaceFault.{PlaceFault}
+use Rattle.base_core.specs.{Block.fewest_blocks, Block.most_blocks, Bytes.num_at, Bytes.part, Bytes.listed, Bytes.same_bytes}
+use Rattle.gpt_core.specs.{declared.layout.Places.Places, declared.layout.PlaceFault.PlaceFault}
 use Rattle.gpt_core.specs.declared.layout.PlaceFault.TheVariants.{NoStore, Replicas, TooSmall}
-pub use Rattle.gpt_core.specs.declared.partitions.Partition.{Partition}
 use Rattle.gpt_core.specs.Table.{Table, entry_number_of, blocks_of}
+pub use Rattle.gpt_core.specs.declared.partitions.Partition.{Partition}
 
 -- sixteen bytes of a table, whose first three fields are little-endian, in the order of a GUID's text
 abbrev pub in_text_order : List ℕ → List ℕ

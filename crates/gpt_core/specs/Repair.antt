@@ -1,15 +1,10 @@
 -- What a repair of a table leaves.
 use Rattle.std.specs.Prelude.{◌≡◌, ℕ, ◌+◌, ◌-◌, ◌*◌, List, length, Some, IsTrue, Result, OnOk}
-use Rattle.base_core.specs.Block.{block_bytes, block, blank}
-use Rattle.base_core.specs.Bytes.{overwritten}
-use Rattle.flash_core.specs.declared.flash.FlashStop.{FlashStop}
+use Rattle.base_core.specs.{Block.block_bytes, Block.block, Block.blank, Bytes.overwritten}
+use Rattle.flash_core.specs.{declared.flash.FlashStop.FlashStop, May.May, May.Keeps, Touches.TouchesOnly}
 use Rattle.flash_core.specs.Told.{Told, NothingDirty, is_guarded}
-use Rattle.flash_core.specs.May.{May, Keeps}
-use Rattle.flash_core.specs.Touches.{TouchesOnly}
-use Rattle.gpt_core.specs.declared.table.WhichTable.{WhichTable}
+use Rattle.gpt_core.specs.{declared.table.WhichTable.WhichTable, declared.table.TableCopy.TableCopy, Writes.HoldsFrom}
 use Rattle.gpt_core.specs.declared.table.WhichTable.TheVariants.{Same, RepairPrimary, RepairBackup}
-use Rattle.gpt_core.specs.declared.table.TableCopy.{TableCopy}
-use Rattle.gpt_core.specs.Writes.{HoldsFrom}
 use Rattle.gpt_core.specs.Table.{Table, blocks_of, entry_number_of, header_at, entries_at, other, copy_in, DecidesTable, BothSay}
 
 -- Nothing is dirty, and the blocks of both headers are guarded.

@@ -2,13 +2,10 @@
 -- device has two copies of its table. The primary has its header in block 1 and its entries from block 2 on. The backup has its
 -- header in the last block and its entries in the blocks before that.
 use Rattle.std.specs.Prelude.{if◌then◌else◌, ◌≡◌, ℕ, ◌+◌, ◌-◌, ◌*◌, ◌/◌, ◌≤◌, ◌&&◌, ◌==◌, Bool, nat_le, List, ◌++◌, length, Option, Some, None, IsTrue, codes, replicate}
+use Rattle.base_core.specs.{Block.block_bytes, Block.block, Crc.crc, Seal.has_table_seal}
 use Rattle.base_core.specs.Bytes.{num_at, part, le, same_bytes}
-use Rattle.base_core.specs.Block.{block_bytes, block}
-use Rattle.base_core.specs.Crc.{crc}
-use Rattle.base_core.specs.Seal.{has_table_seal}
-use Rattle.gpt_core.specs.declared.table.TableCopy.{TableCopy}
+use Rattle.gpt_core.specs.{declared.table.TableCopy.TableCopy, declared.table.WhichTable.WhichTable}
 use Rattle.gpt_core.specs.declared.table.TableCopy.TheVariants.{Primary, Backup}
-use Rattle.gpt_core.specs.declared.table.WhichTable.{WhichTable}
 use Rattle.gpt_core.specs.declared.table.WhichTable.TheVariants.{Same, RepairPrimary, RepairBackup}
 
 -- what both copies are to say

@@ -1,7 +1,6 @@
 -- What writing to the blocks of a device asks for, and which bytes it leaves there.
 use Rattle.std.specs.Prelude.{◌≡◌, ℕ, ◌+◌, ◌-◌, ◌*◌, ◌/◌, ◌%◌, ◌<◌, ◌≤◌, List, length}
-use Rattle.base_core.specs.Block.{block_bytes, granule_bytes}
-use Rattle.base_core.specs.Bytes.{part}
+use Rattle.base_core.specs.{Block.block_bytes, Block.granule_bytes, Bytes.part}
 
 -- how many blocks so many bytes take
 abbrev pub blocks_filled : ℕ → ℕ

@@ -3,9 +3,8 @@ use Rattle.std.proofs.Common.{◌≡◌, ◌<◌, ◌≤◌, ◌+◌, ◌++◌, 
 use Rattle.std.proofs.lemmas.List.{drop_all, drop_more, map-append, take_all, take_more}
 use Rattle.std.specs.Prelude.{OnOk}
 use Rattle.std.specs.Io.KnownBytes.{Appends}
-use Rattle.host_io.specs.Contents.{Directory}
+use Rattle.host_io.specs.{Contents.Directory, declared.joining.Piece.Piece}
 use Rattle.host_io.specs.Joined.{AppendsJoined, AppendsPiece, AppendsSome, Chunk, chunk_in, joined}
-use Rattle.host_io.specs.declared.joining.Piece.{Piece}
 use Rattle.host_io.proofs.Pieces.{appends_none, appends_twice}
 
 -- what stands behind the first pieces, with what they made so far

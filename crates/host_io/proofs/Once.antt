@@ -1,8 +1,7 @@
 -- Reads of a source, one after the other.
 use Rattle.std.proofs.Common.{ℕ, zero, suc, List, [], ◌∷◌, ◌++◌, Option, All, arith, subst, sym, append_assoc, append-nil}
 use Rattle.std.proofs.lemmas.List.Elements.{All-append}
-use Rattle.host_io.specs.Once.{GaveBytes, ReadsBytes, ReadsOnce}
-use Rattle.host_io.specs.declared.source.Source.{Ghosts}
+use Rattle.host_io.specs.{Once.GaveBytes, Once.ReadsBytes, Once.ReadsOnce, declared.source.Source.Ghosts}
 
 none-gave : All GaveBytes []
 none-gave k d few = absurd (omega (arith, few))

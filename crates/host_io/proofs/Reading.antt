@@ -1,8 +1,6 @@
 -- Calls that only read, one after the other.
 use Rattle.std.proofs.Common.{◌∙◌, arith, refl}
-use Rattle.host_io.specs.Access.{Access}
-use Rattle.host_io.specs.declared.files.Files.{Ghosts}
-use Rattle.host_io.specs.Reads.{ReadsFiles}
+use Rattle.host_io.specs.{Access.Access, declared.files.Files.Ghosts, Reads.ReadsFiles}
 
 -- no call
 pub reads-none : {H : Type 0} (g : Ghosts H) (IsOther : Access → Type 0) → ((f : H) (access : Access) → g.spares f f access) → (f : H)

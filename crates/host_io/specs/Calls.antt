@@ -1,10 +1,8 @@
 -- The calls of an object in memory. They have the numbers 1, 2 and so on, up to the greatest u64.
 use Rattle.std.specs.Prelude.{◌≡◌, ◌⊎◌, ℕ, ◌+◌, min, List, Contains, Option, Some, None, Result, Ok, Err}
-use Rattle.host_io.specs.declared.stops.JoinStop.{JoinStop}
-use Rattle.host_io.specs.declared.stops.JoinStop.TheVariants as join
-use Rattle.host_io.specs.declared.stops.WriteStop.{WriteStop}
-use Rattle.host_io.specs.declared.writes.Writes.{Writes}
+use Rattle.host_io.specs.{declared.stops.JoinStop.JoinStop, declared.stops.WriteStop.WriteStop, declared.writes.Writes.Writes}
 use Rattle.host_io.specs.declared.stops.WriteStop.TheVariants.{Failed, NoMemory}
+use Rattle.host_io.specs.declared.stops.JoinStop.TheVariants as join
 
 pub record Calls : Type 0 where
   -- the numbers of the calls that fail

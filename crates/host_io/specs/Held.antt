@@ -1,9 +1,6 @@
 -- What is seen of the objects in memory.
 use Rattle.std.specs.Prelude.{◌≡◌, ℕ, List, Option, Some, Result}
-use Rattle.host_io.specs.Calls.{Calls}
-use Rattle.host_io.specs.Causes.{CountsCall}
-use Rattle.host_io.specs.Contents.{Directory, bytes_in}
-use Rattle.host_io.specs.declared.writes.Writes.{Writes}
+use Rattle.host_io.specs.{Calls.Calls, Causes.CountsCall, Contents.Directory, Contents.bytes_in, declared.writes.Writes.Writes}
 
 -- a source: the bytes that are left
 pub record HeldSource : Type 0 where

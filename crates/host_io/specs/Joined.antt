@@ -1,8 +1,7 @@
 -- Files that are made of a frame and of pieces of files.
 use Rattle.std.specs.Prelude.{◌≡◌, ⊤, ℕ, List, [], ◌∷◌, ◌++◌, Option, Some, None, drop, length, map, take, unwrap_or}
 use Rattle.std.specs.Io.KnownBytes.{Appends}
-use Rattle.host_io.specs.Contents.{Directory, HasRange, Holds}
-use Rattle.host_io.specs.declared.joining.Piece.{Piece}
+use Rattle.host_io.specs.{Contents.Directory, Contents.HasRange, Contents.Holds, declared.joining.Piece.Piece}
 
 -- bytes that stand behind so many more of the frame
 pub record Chunk : Type 0 where

@@ -1,7 +1,6 @@
 -- What calls leave that only read files.
 use Rattle.std.specs.Prelude.{◌≡◌, ◌≢◌, ◌≤◌, ℕ, List}
-use Rattle.host_io.specs.Access.{Access, Asks}
-use Rattle.host_io.specs.declared.files.Files.{Ghosts}
+use Rattle.host_io.specs.{Access.Access, Access.Asks, declared.files.Files.Ghosts}
 
 -- Contents stay, nothing is written, no count of faults falls, and no other access is made.
 pub record ReadsFiles {H : Type 0} (g : Ghosts H) (IsOther : Access → Type 0) (old new : H) : Type 0 where

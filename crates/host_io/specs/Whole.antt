@@ -1,8 +1,7 @@
 -- A file that is read whole.
 use Rattle.std.specs.Prelude.{◌≡◌, ◌⊎◌, ◌≤◌, ◌+◌, ℕ, List, Option, Some, None, Result, Err, OnOk}
 use Rattle.base_core.specs.Counts.{Rose}
-use Rattle.host_io.specs.Contents.{Directory}
-use Rattle.host_io.specs.declared.stops.ReadStop.{ReadStop}
+use Rattle.host_io.specs.{Contents.Directory, declared.stops.ReadStop.ReadStop}
 use Rattle.host_io.specs.declared.stops.ReadStop.TheVariants.{Failed, NoMemory}
 
 -- told contents lack the name

@@ -1,12 +1,10 @@
 -- The lowest bad image.
 use Rattle.std.proofs.Common.{◌≡◌, ℕ, zero, suc, ◌+◌, ◌-◌, ◌≤◌, ◌<◌, Bool, true, false, length, take, Some, None, refl, sym, ap, ◌∙◌, subst, arith, inl, inr, Ok}
 use Rattle.std.proofs.lemmas.Bool.{cases_eq, cases_lt}
-use Rattle.flash_core.specs.declared.flash.Flash.{Ghosts}
-use Rattle.flash_core.specs.Calls.{Reads}
+use Rattle.flash_core.specs.{declared.flash.Flash.Ghosts, Calls.Reads}
 use Rattle.fwu_formats.specs.Layout.{slot_total}
+use Rattle.image_check.specs.{Verdict.lowest_bad, declared.image.Images.Images}
 use Rattle.image_check.specs.Taken.{IsFoundAt, IsLowestBad, is_good_in}
-use Rattle.image_check.specs.Verdict.{lowest_bad}
-use Rattle.image_check.specs.declared.image.Images.{Images}
 
 -- the images of the first rows are good, the last of them begins at this block, and nothing but reads was done
 pub record HasPassed {D : Type 0} (g : Ghosts D) (old new : D) (images : Images) (block k : ℕ) : Type 0 where

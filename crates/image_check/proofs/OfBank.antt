@@ -9,18 +9,14 @@ use Rattle.std.specs.Prelude.{IsTrue, slice_range}
 use Rattle.std.specs.List.{list_all}
 use Rattle.base_core.specs.Bytes.{num_at, same_bytes}
 use Rattle.sha2.specs.Sha256.{sha256}
+use Rattle.fwu_formats.specs.{Image.slot, Image.images_in, declared.kinds.ManifestFault.ManifestFault}
 use Rattle.fwu_formats.specs.Layout.{Layout, ImageRow, slot_total, fits_layout, is_row, no_row}
 use Rattle.fwu_formats.specs.Manifest.{Row, Manifest, manifest_of, manifest_at, manifest_size, row_at, is_image_of}
-use Rattle.fwu_formats.specs.Image.{slot, images_in}
-use Rattle.fwu_formats.specs.declared.kinds.ManifestFault.{ManifestFault}
-use Rattle.fwu_formats.proofs.SealLaws.{limits}
+use Rattle.fwu_formats.proofs.{SealLaws.limits, Spell.num_front}
 use Rattle.manifest_core.specs.Shown.{version_of}
-use Rattle.fwu_formats.proofs.Spell.{num_front}
-use Rattle.manifest_core.proofs.InTurn.{of_front}
-use Rattle.manifest_core.proofs.Passed.{manifest_passed, sizes_fit}
+use Rattle.manifest_core.proofs.{InTurn.of_front, Passed.manifest_passed, Passed.sizes_fit}
 use Rattle.image_check.specs.Verdict.{is_good, place, by_version, found, front_of, lowest_bad, by_manifest, package_has_image, verdict_on}
-use Rattle.image_check.proofs.Sums.{total_more_le}
-use Rattle.image_check.proofs.Lowest.{same_bad}
+use Rattle.image_check.proofs.{Sums.total_more_le, Lowest.same_bad}
 
 -- a bank's blocks are among those of all banks
 pub bank_fits : (bank banks total blocks : ℕ) → bank < banks → 8 + banks * total ≤ blocks → 8 + bank * total + total ≤ blocks

@@ -6,15 +6,12 @@ use Rattle.std.proofs.lemmas.List.FromFn.{length-map-range_with_len}
 use Rattle.std.proofs.lemmas.Option.{same_Some}
 use Rattle.std.specs.Prelude.{IsTrue, not, if◌then◌else◌}
 use Rattle.base_core.specs.Bytes.{num_at, listed}
-use Rattle.fwu_formats.specs.Layout.{Layout, fits_layout}
+use Rattle.fwu_formats.specs.{Layout.Layout, Layout.fits_layout, declared.kinds.ManifestFault.ManifestFault}
 use Rattle.fwu_formats.specs.Manifest.{Manifest, manifest_of, manifest_at, manifest_size, row_at, all_paired, is_image_of, is_complete, version, manifest_part}
 use Rattle.fwu_formats.specs.Image.{slot, images_in, package_by, package_in}
 use Rattle.fwu_model.specs.Sound.{Setting, is_permitted, holds_permitted}
-use Rattle.fwu_formats.specs.declared.kinds.ManifestFault.{ManifestFault}
-use Rattle.fwu_formats.proofs.SealLaws.{limits}
-use Rattle.fwu_formats.proofs.Spell.{num_front}
-use Rattle.manifest_core.proofs.InTurn.{of_front}
-use Rattle.manifest_core.proofs.Passed.{manifest_passed}
+use Rattle.fwu_formats.proofs.{SealLaws.limits, Spell.num_front}
+use Rattle.manifest_core.proofs.{InTurn.of_front, Passed.manifest_passed}
 use Rattle.image_check.specs.declared.bank.Verdict.TheVariants as verdict
 use Rattle.image_check.specs.Verdict.{lowest_bad, by_images, by_manifest, package_has_image, verdict_on}
 use Rattle.image_check.specs.Law.{GoodIsHeld, GoodIsPermitted, PermittedIsGood, verdict_may_start}

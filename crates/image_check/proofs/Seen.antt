@@ -5,13 +5,11 @@ use Rattle.std.proofs.Math.Seq.{take-length}
 use Rattle.std.specs.Prelude.{IsTrue}
 use Rattle.std.specs.List.{range_with_len}
 use Rattle.base_core.specs.Bytes.{listed}
-use Rattle.fwu_formats.specs.Layout.{ImageRow}
+use Rattle.fwu_formats.specs.{Layout.ImageRow, declared.kinds.ManifestFault.ManifestFault}
 use Rattle.fwu_formats.specs.Manifest.{Manifest, manifest_of, manifest_at, manifest_size, row_at, all_paired, is_image_of, is_complete, version}
-use Rattle.fwu_formats.specs.declared.kinds.ManifestFault.{ManifestFault}
 use Rattle.manifest_core.specs.Shown.{version_of}
 use Rattle.manifest_core.proofs.Passed.{manifest_passed}
-use Rattle.image_check.specs.Verdict.{ManifestFitsSlots}
-use Rattle.image_check.specs.Passed.{HasImage, HasImages, HasPackage, HasPackageBy}
+use Rattle.image_check.specs.{Verdict.ManifestFitsSlots, Passed.HasImage, Passed.HasImages, Passed.HasPackage, Passed.HasPackageBy}
 
 -- the images that the rows from k on have
 record Collected (manifest : List ℕ) (k n : ℕ) : Type 0 where

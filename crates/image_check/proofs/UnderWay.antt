@@ -5,20 +5,12 @@ use Rattle.std.proofs.lemmas.List.{get_or-set_other, get_or-set_same, drop-drop}
 use Rattle.std.specs.Option.{ForSome}
 use Rattle.std.specs.Prelude.{IsTrue, IfSome, slice_range}
 use Rattle.base_core.specs.Block.{block_bytes}
-use Rattle.flash_core.specs.Calls.{Reads}
-use Rattle.flash_core.specs.Told.{Told}
-use Rattle.flash_core.specs.declared.flash.Flash.{Ghosts}
+use Rattle.flash_core.specs.{Calls.Reads, Told.Told, declared.flash.Flash.Ghosts}
 use Rattle.fwu_formats.specs.Layout.{ImageRow, no_row, slot_total}
-use Rattle.sha256_lanes.specs.Holding.{HoldsInLane, GoesOnAs}
-use Rattle.sha256_lanes.specs.declared.lanes.Lanes.{Lanes}
-use Rattle.image_check.specs.Verdict.{place}
+use Rattle.sha256_lanes.specs.{Holding.HoldsInLane, Holding.GoesOnAs, declared.lanes.Lanes.Lanes, declared.alone.Message.Message}
+use Rattle.image_check.specs.{Verdict.place, declared.image.Images.Images, declared.image.Job.Job, declared.side.Work.Work}
 use Rattle.image_check.specs.Taken.{AreReadable, HasNoLane, HasRow, HasTaken, HaveGoneOn, HaveStepped, IsBegun, IsFoundAt, IsLowestBad, IsPieceOfJobs, IsUnderWay, gone_on, is_good_in, job_at, left, new_job}
-use Rattle.image_check.specs.declared.image.Images.{Images}
-use Rattle.image_check.specs.declared.image.Job.{Job}
-use Rattle.image_check.specs.declared.side.Work.{Work}
-use Rattle.image_check.proofs.Lowest.{none_found, one_found}
-use Rattle.image_check.proofs.Sums.{total_more, total_more_le}
-use Rattle.sha256_lanes.specs.declared.alone.Message.{Message}
+use Rattle.image_check.proofs.{Lowest.none_found, Lowest.one_found, Sums.total_more, Sums.total_more_le}
 
 -- nothing but reads was done so far, and a message has taken in so many bytes of a range
 pub record HasGoneOn {D : Type 0} (g : Ghosts D) (old new : D) (message : Message) (at count done : ℕ) : Type 0 where

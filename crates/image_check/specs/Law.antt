@@ -1,12 +1,8 @@
 -- A bank is good exactly where it holds a complete package that is permitted.
 use Rattle.std.specs.Prelude.{◌≡◌, ℕ, Bool, true, false, List, Some, IsTrue}
-use Rattle.fwu_formats.specs.Layout.{fits_layout}
-use Rattle.fwu_formats.specs.Manifest.{version}
-use Rattle.fwu_formats.specs.Image.{package_in}
+use Rattle.fwu_formats.specs.{Layout.fits_layout, Manifest.version, Image.package_in}
 use Rattle.fwu_model.specs.Sound.{Setting, is_permitted, holds_permitted}
-use Rattle.image_check.specs.declared.bank.Verdict.{Verdict}
-use Rattle.image_check.specs.declared.bank.Verdict.TheVariants.{Good}
-use Rattle.image_check.specs.Verdict.{verdict_on}
+use Rattle.image_check.specs.{declared.bank.Verdict.Verdict, declared.bank.Verdict.TheVariants.Good, Verdict.verdict_on}
 
 -- the bank holds a permitted package of this version
 abbrev pub HoldsPermitted : Setting → ℕ → List ℕ → ℕ → ℕ → Type 0

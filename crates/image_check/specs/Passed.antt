@@ -2,8 +2,7 @@
 use Rattle.std.specs.Prelude.{◌≡◌, ◌+◌, ◌-◌, ◌≤◌, ◌<◌, ⊤, ℕ, Bool, List, ◌∷◌, length, is_ok, IsTrue, IsFalse, Option, Some, None}
 use Rattle.fwu_formats.specs.Layout.{ImageRow}
 use Rattle.fwu_formats.specs.Manifest.{Row, manifest_of, manifest_part, manifest_size, row_at, is_complete, is_image_of, version}
-use Rattle.image_check.specs.Verdict.{ManifestFitsSlots}
-use Rattle.image_check.specs.declared.bank.Verdict.{Verdict}
+use Rattle.image_check.specs.{Verdict.ManifestFitsSlots, declared.bank.Verdict.Verdict}
 use Rattle.image_check.specs.declared.bank.Verdict.TheVariants as verdict
 
 -- ---- of the images

@@ -1,17 +1,12 @@
 -- What is known of the images of a bank that are hashed, alone or side by side in lanes.
 use Rattle.std.specs.Prelude.{◌≡◌, ℕ, ◌+◌, ◌-◌, ◌*◌, ◌%◌, ◌<◌, ◌≤◌, Bool, true, false, List, length, take, drop, Option, Some, None, slice_index_or, IsTrue}
 use Rattle.std.specs.Option.{ForSome}
-use Rattle.base_core.specs.Block.{block_bytes}
-use Rattle.base_core.specs.Limits.{most_images}
+use Rattle.base_core.specs.{Block.block_bytes, Limits.most_images}
 use Rattle.flash_core.specs.declared.flash.Flash.{Ghosts}
-use Rattle.fwu_formats.specs.Layout.{slot_total}
-use Rattle.fwu_formats.specs.Manifest.{manifest_size, row_at}
+use Rattle.fwu_formats.specs.{Layout.slot_total, Manifest.manifest_size, Manifest.row_at}
 use Rattle.sha256_lanes.specs.Holding.{HoldsInLane}
-use Rattle.image_check.specs.Verdict.{ManifestFitsSlots, is_good, place, lowest_bad}
-use Rattle.image_check.specs.Passed.{HasImage, HasImages}
-use Rattle.image_check.specs.declared.image.Images.{Images}
-use Rattle.image_check.specs.declared.image.Job.{Job}
-use Rattle.image_check.specs.declared.side.Work.{Work}
+use Rattle.image_check.specs.{Verdict.ManifestFitsSlots, Verdict.is_good, Verdict.place, Verdict.lowest_bad, Passed.HasImage}
+use Rattle.image_check.specs.{Passed.HasImages, declared.image.Images.Images, declared.image.Job.Job, declared.side.Work.Work}
 
 -- the fewest bytes of a buffer in which images are hashed side by side: a block for each lane
 abbrev pub lanes_bytes : ℕ

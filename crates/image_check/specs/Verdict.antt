@@ -1,13 +1,11 @@
 -- The verdict on a bank, by what a flash holds.
 use Rattle.std.specs.Prelude.{ℕ, zero, suc, ◌+◌, Bool, not, nat_lt, if◌then◌else◌, List, [], length, Option, Some, None, Result, Ok, Err, slice_index_or, ◌-◌, ◌*◌, ◌<◌, ◌≤◌, take, drop}
+use Rattle.fwu_formats.specs.{Image.slot, Image.images_in, declared.kinds.ManifestFault.ManifestFault}
 use Rattle.fwu_formats.specs.Layout.{Layout, ImageRow, slot_total}
 use Rattle.fwu_formats.specs.Manifest.{Manifest, manifest_of, manifest_part, is_image_of, manifest_size, row_at}
-use Rattle.fwu_formats.specs.Image.{slot, images_in}
-use Rattle.fwu_formats.specs.declared.kinds.ManifestFault.{ManifestFault}
 use Rattle.image_check.specs.declared.bank.Verdict.{Verdict}
 use Rattle.image_check.specs.declared.bank.Verdict.TheVariants as verdict
-use Rattle.base_core.specs.Block.{block_bytes}
-use Rattle.base_core.specs.Bytes.{same_bytes}
+use Rattle.base_core.specs.{Block.block_bytes, Bytes.same_bytes}
 use Rattle.sha2.specs.Sha256.{sha256}
 use Rattle.manifest_core.specs.Shown.{version_of}
 

@@ -5,9 +5,8 @@ use Rattle.std.proofs.lemmas.List.{take_all, length-take-le, take-take, length-d
 use Rattle.std.specs.Prelude.{if◌then◌else◌, nat_lt}
 use Rattle.base_core.specs.Bytes.{num_at, listed, same_bytes}
 use Rattle.sha2.specs.Sha256.{sha256}
-use Rattle.fwu_formats.specs.Layout.{ImageRow}
+use Rattle.fwu_formats.specs.{Layout.ImageRow, declared.kinds.ManifestFault.ManifestFault}
 use Rattle.fwu_formats.specs.Manifest.{Manifest, manifest_of, manifest_at, manifest_size, manifest_magic, row_at, has_form, is_version_too_high, all_paired}
-use Rattle.fwu_formats.specs.declared.kinds.ManifestFault.{ManifestFault}
 use Rattle.fwu_formats.specs.declared.kinds.ManifestFault.TheVariants as fault
 use Rattle.manifest_core.specs.Shown.{version_of, is_named, fits_slot}
 use Rattle.fwu_formats.proofs.Spell.{num_front}

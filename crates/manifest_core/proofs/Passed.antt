@@ -5,14 +5,11 @@ use Rattle.std.proofs.lemmas.List.{get_or-drop, length-map, length-drop}
 use Rattle.std.specs.Prelude.{IsTrue}
 use Rattle.std.specs.List.{range_with_len}
 use Rattle.base_core.specs.Bytes.{num_at, listed}
-use Rattle.fwu_formats.specs.Layout.{ImageRow}
+use Rattle.fwu_formats.specs.{Layout.ImageRow, declared.kinds.ManifestFault.ManifestFault}
 use Rattle.fwu_formats.specs.Manifest.{Row, Manifest, manifest_of, manifest_size, row_at, all_paired}
-use Rattle.fwu_formats.specs.declared.kinds.ManifestFault.{ManifestFault}
-use Rattle.manifest_core.specs.Shown.{version_of, fits_slot, row}
-use Rattle.manifest_core.specs.declared.rows.Row.{Row as SpecRow}
+use Rattle.manifest_core.specs.{Shown.version_of, Shown.fits_slot, Shown.row, declared.rows.Row.Row as SpecRow}
 use Rattle.std.proofs.lemmas.List.FromFn.{length-map-range_with_len}
-use Rattle.fwu_formats.proofs.Spell.{num_front}
-use Rattle.fwu_formats.proofs.Read.{ManifestHolds, manifest-holds}
+use Rattle.fwu_formats.proofs.{Spell.num_front, Read.ManifestHolds, Read.manifest-holds}
 use Rattle.base_core.proofs.Results.{same-Ok}
 
 -- a test of two lists side by side holds at each place

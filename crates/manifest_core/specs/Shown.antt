@@ -1,12 +1,9 @@
 -- The values of the code as those of the model.
 use Rattle.std.specs.Prelude.{◌≡◌, ℕ, ◌+◌, ◌*◌, Bool, IsTrue, List, length, drop, Result, Ok, Err, nat_le}
-use Rattle.base_core.specs.Block.{block_bytes}
-use Rattle.base_core.specs.Bytes.{same_bytes}
-use Rattle.base_core.specs.declared.rows.ImageRow.{ImageRow}
+use Rattle.base_core.specs.{Block.block_bytes, Bytes.same_bytes, declared.rows.ImageRow.ImageRow}
 use Rattle.fwu_formats.specs.Manifest as model
 use Rattle.fwu_formats.specs.declared.kinds.ManifestFault.{ManifestFault}
-use Rattle.manifest_core.specs.declared.rows.Row.{Row}
-use Rattle.manifest_core.specs.declared.value.ManifestStop.{ManifestStop}
+use Rattle.manifest_core.specs.{declared.rows.Row.Row, declared.value.ManifestStop.ManifestStop}
 use Rattle.manifest_core.specs.declared.value.ManifestStop.TheVariants.{Fault, NoMemory}
 
 -- what a manifest says of an image

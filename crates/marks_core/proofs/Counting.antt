@@ -4,19 +4,16 @@ use Rattle.std.proofs.lemmas.Bool.{cases_lt, cases_Bool, and_parts, eqb-true, fa
 use Rattle.std.proofs.lemmas.Result.{IfOk-from_err, on_ok_weaker}
 use Rattle.std.specs.Prelude.{Result, Ok, Err, OnOk, IsErr, slice_range, ◌==◌, IsFalse}
 use Rattle.base_core.specs.Block.{granule, blank, block}
-use Rattle.flash_core.specs.declared.flash.FlashStop.{FlashStop}
+use Rattle.flash_core.specs.{declared.flash.FlashStop.FlashStop, May.Keeps, May.Leaves, May.Quiet, declared.flash.Arming.Arming}
 use Rattle.flash_core.specs.Told.{Told, IsSound, put, halt, settled, NothingDirty, overwritten}
-use Rattle.flash_core.specs.May.{Keeps, Leaves, Quiet}
+use Rattle.flash_core.specs.Counts.{arming_kept, lowered}
 use Rattle.flash_core.proofs.Calls.{keeps_same, keeps_put, keeps_halt, keeps_settle, now-put, now-settle, settle-fresh, quiet_settle}
+use Rattle.flash_core.proofs.Images.{slice_range-overwritten, block-overwritten_front}
 use Rattle.fwu_formats.specs.Image.{is_blank, marks, is_tidy}
-use Rattle.fwu_formats.proofs.Marks.{marks-are-counted}
+use Rattle.fwu_formats.proofs.{Marks.marks-are-counted, Same.range-same}
 use Rattle.marks_core.specs.Marks.{IsNextMark, CountsOnce, Adds, Clears, TakesClear}
 use Rattle.std.proofs.lemmas.List.{length-take-le, length-drop, drop_all, append-nil}
-use Rattle.flash_core.proofs.Images.{slice_range-overwritten, block-overwritten_front}
-use Rattle.fwu_formats.proofs.Same.{range-same}
 use Rattle.base_core.proofs.Blocks.{length-blank, length-block}
-use Rattle.flash_core.specs.Counts.{arming_kept, lowered}
-use Rattle.flash_core.specs.declared.flash.Arming.{Arming}
 
 pub granule_range : (b j : ℕ) (image : List ℕ) → granule b j image ≡ slice_range image (4096 * b + 16 * j) (4096 * b + 16 * j + 16)
 unfolding granule

@@ -3,21 +3,13 @@ use Rattle.std.proofs.Common.{◌≡◌, ◌⊎◌, inl, inr, ℕ, ◌+◌, ◌-
 use Rattle.std.proofs.lemmas.Bool.{cases_Bool, cases_lt, cond-true, cond-false}
 use Rattle.std.proofs.lemmas.Result.{on_ok_weaker, IfOk-from_err}
 use Rattle.std.specs.Prelude.{nat_lt, unwrap_or, Result, IsErr}
-use Rattle.base_core.specs.Bytes.{num_at}
-use Rattle.base_core.specs.Block.{block, blank}
-use Rattle.base_core.specs.Seal.{Sealed}
-use Rattle.flash_core.specs.declared.flash.FlashStop.{FlashStop}
-use Rattle.flash_core.specs.Told.{Told}
-use Rattle.flash_core.specs.May.{May, Quiet}
+use Rattle.base_core.specs.{Bytes.num_at, Block.block, Block.blank, Seal.Sealed}
+use Rattle.flash_core.specs.{declared.flash.FlashStop.FlashStop, Told.Told, May.May, May.Quiet, Touches.TouchesOnly}
 use Rattle.flash_core.specs.Replaces.{padded, IsOldOrNew, Replaces}
-use Rattle.flash_core.specs.Touches.{TouchesOnly}
 use Rattle.flash_core.proofs.Touches.{touches_none, touches_then, touches_wider}
 use Rattle.flash_core.proofs.Calls.{block_quiet, keeps_same, keeps_wider, block_kept, now_kept}
-use Rattle.fwu_formats.specs.Image.{marks}
-use Rattle.fwu_formats.specs.Counter.{record_bytes, is_record, recorded, counter_in}
-use Rattle.fwu_formats.proofs.Same.{marks-same}
-use Rattle.fwu_formats.proofs.SealLaws.{record-sealed}
-use Rattle.fwu_formats.proofs.Written.{record-read}
+use Rattle.fwu_formats.specs.{Image.marks, Counter.record_bytes, Counter.is_record, Counter.recorded, Counter.counter_in}
+use Rattle.fwu_formats.proofs.{Same.marks-same, SealLaws.record-sealed, Written.record-read}
 use Rattle.marks_core.specs.Marks.{value_in, place_for, record_place, Raises, TouchesOneRecord}
 
 -- a block without a seal counts as 0

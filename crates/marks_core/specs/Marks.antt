@@ -1,15 +1,10 @@
 -- What adding a mark, clearing a block and raising the counter leave.
 use Rattle.std.specs.Prelude.{◌≡◌, ◌⊎◌, ℕ, ◌+◌, ◌*◌, ◌<◌, ◌≤◌, Bool, true, false, IsTrue, List, Option, replicate, Result, OnOk, nat_lt, if◌then◌else◌, Some, None}
-use Rattle.base_core.specs.Block.{block_bytes, granule_bytes, block, blank, granule}
-use Rattle.flash_core.specs.Counts.{lowered}
-use Rattle.flash_core.specs.declared.flash.Arming.{Arming}
-use Rattle.flash_core.specs.declared.flash.FlashStop.{FlashStop}
-use Rattle.flash_core.specs.Told.{Told, NothingDirty}
+use Rattle.base_core.specs.{Block.block_bytes, Block.granule_bytes, Block.block, Block.blank, Block.granule, Bytes.num_at}
+use Rattle.flash_core.specs.{Counts.lowered, declared.flash.Arming.Arming, declared.flash.FlashStop.FlashStop, Told.Told}
+use Rattle.flash_core.specs.{Told.NothingDirty, Replaces.padded, Replaces.Replaces, Touches.TouchesOnly}
 use Rattle.flash_core.specs.May.{May, Keeps, Quiet, Guards}
 use Rattle.fwu_formats.specs.Image.{is_blank, marks, is_tidy}
-use Rattle.base_core.specs.Bytes.{num_at}
-use Rattle.flash_core.specs.Replaces.{padded, Replaces}
-use Rattle.flash_core.specs.Touches.{TouchesOnly}
 use Rattle.fwu_formats.specs.Counter.{is_record, record_bytes, counter_in}
 
 -- A mark may go to this place of a block: it is the count, below the limit, and up to the limit no mark follows it.

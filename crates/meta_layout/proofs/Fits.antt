@@ -5,18 +5,14 @@ use Rattle.std.specs.List.{list_all, range_with_len}
 use Rattle.std.proofs.lemmas.Bool.{and_parts, and_from, lt-ltb, ltb-true, not-false, cond_both}
 use Rattle.std.proofs.lemmas.List.{length-set, length-replicate}
 use Rattle.std.proofs.lemmas.List.FromFn.{length-map-range_with_len}
-use Rattle.base_core.specs.Bytes.{num_at, part}
-use Rattle.base_core.specs.Crc.{crc}
-use Rattle.fwu_formats.specs.Layout.{Layout, fits_layout}
+use Rattle.base_core.specs.{Bytes.num_at, Bytes.part, Crc.crc}
+use Rattle.fwu_formats.specs.{Layout.Layout, Layout.fits_layout, declared.kinds.BankState.BankState}
 use Rattle.fwu_formats.specs.Metadata.{Meta, MetaRead, fits_meta, meta_of, read_v2, read_v1, meta_at, meta_at_v1, meta_size, meta_size_v1, fits_v2, fits_v1, has_fields, header_fields, has_indices, has_states, has_entries, bits_from, bits_v1, state_at_v1, state_of_byte, first_meta}
-use Rattle.fwu_formats.specs.declared.kinds.BankState.{BankState}
 use Rattle.fwu_formats.specs.declared.kinds.MetaFault.{MetaFault}
-use Rattle.fwu_formats.specs.declared.kinds.MetaFault.TheVariants as fault
-use Rattle.fwu_formats.proofs.SealLaws.{was_not_refused, limits}
-use Rattle.fwu_formats.proofs.OneSpelling.{all-at}
-use Rattle.base_core.proofs.Results.{same-Ok}
-use Rattle.fwu_formats.proofs.Read.{bits-length, v1-length}
 use Rattle.fwu_formats.specs.declared.kinds.BankState.TheVariants.{Invalid, Accepted}
+use Rattle.fwu_formats.specs.declared.kinds.MetaFault.TheVariants as fault
+use Rattle.fwu_formats.proofs.{SealLaws.was_not_refused, SealLaws.limits, OneSpelling.all-at, Read.bits-length, Read.v1-length}
+use Rattle.base_core.proofs.Results.{same-Ok}
 
 -- the parts of the condition
 pub record MetaFits (L : Layout) (m : Meta) : Type 0 where

@@ -2,8 +2,7 @@
 use Rattle.std.proofs.Common.{◌≡◌, ℕ, zero, suc, ◌≤◌, ◌<◌, Bool, true, false, ◌==◌, eq-eqb, List, [], ◌∷◌, length, take, map, replicate, ltb, Err, refl, sym, ap, ◌∙◌, arith}
 use Rattle.std.proofs.lemmas.Bool.{lt-ltb, ne_eqb}
 use Rattle.base_core.specs.Bytes.{num_at}
-use Rattle.fwu_formats.specs.Layout.{Layout}
-use Rattle.fwu_formats.specs.Metadata.{meta_size, read_v2, read_v1, meta_of}
+use Rattle.fwu_formats.specs.{Layout.Layout, Metadata.meta_size, Metadata.read_v2, Metadata.read_v1, Metadata.meta_of}
 use Rattle.fwu_formats.specs.declared.kinds.MetaFault.TheVariants as fault
 use Rattle.meta_layout.proofs.Layouts.{ge-ltb}
 

@@ -3,8 +3,7 @@ use Rattle.std.proofs.lemmas.List.FromFn.{map-range_with_len_more, length-map-ra
 use Rattle.base_core.specs.Bytes.{listed}
 use Rattle.std.proofs.Common.{Bool, true, false, ◌&&◌, [], ◌∷◌, ◌++◌, zero-add, ◌≡◌, ℕ, ◌+◌, ◌<◌, List, length, get_or, refl, sym, ap, ◌∙◌}
 use Rattle.std.proofs.lemmas.List.{get_or_default}
-use Rattle.fwu_formats.specs.Layout.{Layout, ImageRow, nil_guid}
-use Rattle.fwu_formats.specs.Metadata.{entry_place, has_entry}
+use Rattle.fwu_formats.specs.{Layout.Layout, Layout.ImageRow, Layout.nil_guid, Metadata.entry_place, Metadata.has_entry}
 use Rattle.meta_layout.specs.Entries.{has_entry_at}
 
 pub entry-is : (L : Layout) (from : ℕ) (block : List ℕ) (image : ℕ) (row : ImageRow) (rows : List ImageRow) (at banks : ℕ)

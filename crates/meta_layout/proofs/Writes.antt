@@ -3,11 +3,10 @@ use Rattle.std.proofs.Common.{IsTrue, map, ◌≡◌, ℕ, ◌+◌, ◌-◌, ◌
 use Rattle.std.proofs.Math.Seq.{take-append-add}
 use Rattle.std.proofs.lemmas.List.{take-replicate, length-replicate, take_all, drop-replicate, get_or_default, length-drop, drop_all, drop-take, drop-append-le, length-take-le, drop_at}
 use Rattle.fwu_formats.specs.Metadata.{Meta, meta_size, entry_size, state_byte, fits_meta, entry_bytes, entries_bytes, meta_body}
+use Rattle.fwu_formats.specs.Layout.{ImageRow, Layout, nil_guid}
 use Rattle.meta_layout.proofs.Fits.{meta-fits, row-length}
 use Rattle.meta_layout.specs.Entries.{HasBits, meta_entry_of, front_bytes, rest_bytes}
-use Rattle.base_core.specs.Bytes.{overwritten, le, part}
-use Rattle.base_core.specs.Crc.{crc}
-use Rattle.fwu_formats.specs.Layout.{ImageRow, Layout, nil_guid}
+use Rattle.base_core.specs.{Bytes.overwritten, Bytes.le, Bytes.part, Crc.crc}
 
 pub seal-is : (out blanked new : List ℕ) (size sum : ℕ) → 4 ≤ size → size ≤ length out → new ≡ overwritten 0 (le 4 sum) blanked → sum ≡ crc (part out 4 size)
     → blanked ≡ take size out ++ replicate (length out - size) 0xFF → new ≡ le 4 (crc (part out 4 size)) ++ part out 4 size ++ replicate (length out - size) 0xFF

@@ -2,9 +2,8 @@
 use Rattle.std.specs.Prelude.{◌≡◌, ℕ, ◌+◌, ◌*◌, ◌<◌, ◌&&◌, ◌==◌, Bool, List, [], ◌++◌, ◌-◌, ◌%◌, length, take, drop, map, replicate, flat_map, slice_index_or}
 use Rattle.std.specs.List.{list_all, range_with_len}
 use Rattle.base_core.specs.Bytes.{le, num_at, same_bytes, listed}
-use Rattle.fwu_formats.specs.Layout.{Layout, nil_guid}
+use Rattle.fwu_formats.specs.{Layout.Layout, Layout.nil_guid, declared.kinds.BankState.BankState}
 use Rattle.fwu_formats.specs.Metadata.{Meta, meta_size, entry_size, state_byte, bit_number, bit_at, entry_place, has_bank_entry, state_of_byte, bits_v1, state_at_v1, bits_from}
-use Rattle.fwu_formats.specs.declared.kinds.BankState.{BankState}
 
 -- what an entry at a place says of the banks
 abbrev pub has_bank_entries : List ℕ → List ℕ → ℕ → ℕ → Bool

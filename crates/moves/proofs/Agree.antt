@@ -3,21 +3,16 @@ use Rattle.std.proofs.Common.{◌≡◌, ◌⊎◌, inl, inr, ℕ, ◌+◌, ◌*
 use Rattle.std.proofs.lemmas.Bool.{cases_Bool}
 use Rattle.std.proofs.lemmas.Option.{same_Some}
 use Rattle.std.proofs.lemmas.List.FromFn.{length-map-range_with_len, get_or-map-range_with_len}
-use Rattle.base_core.specs.Block.{block}
-use Rattle.base_core.specs.Bytes.{listed}
-use Rattle.flash_core.specs.Told.{Told}
-use Rattle.flash_core.specs.May.{Leaves, Keeps, Quiet}
-use Rattle.fwu_formats.specs.Layout.{Layout, layout_of, start}
+use Rattle.base_core.specs.{Block.block, Bytes.listed}
+use Rattle.flash_core.specs.{Told.Told, May.Leaves, May.Keeps, May.Quiet}
+use Rattle.fwu_formats.specs.{Layout.Layout, Layout.layout_of, Layout.start, Counter.counter_in, Places.trial_limit}
 use Rattle.fwu_formats.specs.Metadata.{Meta, MetaRead, state_at}
 use Rattle.fwu_formats.specs.Image.{layout_seen, deciding, marks, is_tidy, is_blank, package_in}
-use Rattle.fwu_formats.specs.Counter.{counter_in}
 use Rattle.fwu_model.specs.State.{State, Bank, bank, no_bank, is_invalid, is_valid}
-use Rattle.fwu_formats.specs.Places.{trial_limit}
 use Rattle.fwu_model.specs.Seen.{state_of, bank_in, IsTidy}
-use Rattle.fwu_model.proofs.Banks.{in_range}
+use Rattle.fwu_model.proofs.{Banks.in_range, Shown.seen-by-metadata}
 use Rattle.fwu_formats.proofs.Same.{block-same, listed-same, marks-same, range-same, package-same as package-by_slots}
 use Rattle.fwu_formats.proofs.Marks.{marks-are-counted}
-use Rattle.fwu_model.proofs.Shown.{seen-by-metadata}
 use Rattle.marks_core.proofs.Counting.{same_granule}
 use Rattle.replicas.proofs.Reading.{deciding_of}
 use Rattle.moves.specs.Moved.{IsShown}

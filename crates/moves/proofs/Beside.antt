@@ -1,19 +1,13 @@
 -- Writes to blocks 3 to 7: the metadata that decides stays, and what is seen changes in the trials and the counter alone.
 use Rattle.std.proofs.Common.{◌≡◌, inl, ℕ, ◌+◌, ◌*◌, ◌≤◌, cond, List, Bool, refl, sym, ap, ◌∙◌, arith, IsTrue, IsFalse}
-use Rattle.flash_core.specs.Told.{Told, NothingDirty}
-use Rattle.flash_core.specs.May.{Keeps, Leaves, Quiet}
+use Rattle.flash_core.specs.{Told.Told, Told.NothingDirty, May.Keeps, May.Leaves, May.Quiet}
 use Rattle.flash_core.proofs.Calls.{quiet_fresh, guards_kept}
-use Rattle.fwu_formats.specs.declared.kinds.BankState.{BankState}
+use Rattle.fwu_formats.specs.{declared.kinds.BankState.BankState, Layout.Layout, Layout.start, Image.marks, Places.trial_limit}
 use Rattle.fwu_formats.specs.declared.kinds.BankState.TheVariants.{Valid}
-use Rattle.fwu_formats.specs.Layout.{Layout, start}
 use Rattle.fwu_formats.specs.Metadata.{MetaRead, meta_read, state_at}
-use Rattle.fwu_formats.specs.Image.{marks}
+use Rattle.fwu_model.specs.{Sound.Setting, Sound.Sound, Seen.IsTidy, Seen.state_of, Replica.BothHold}
 use Rattle.fwu_model.specs.State.{State, bank, is_invalid, is_valid}
-use Rattle.fwu_formats.specs.Places.{trial_limit}
-use Rattle.fwu_model.specs.Sound.{Setting, Sound}
-use Rattle.fwu_model.specs.Seen.{IsTidy, state_of}
 use Rattle.moves.specs.Moved.{IsReady, IsShown}
-use Rattle.fwu_model.specs.Replica.{BothHold}
 use Rattle.moves.proofs.Agree.{no_meta, front-kept, Agrees, agrees-now, agrees-left, block-agrees, decides-agrees, shown-meta, state-is, used-below}
 use Rattle.moves.proofs.Calm.{calm-shown, calm-used, sound-flash}
 

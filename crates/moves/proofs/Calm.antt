@@ -4,11 +4,8 @@ use Rattle.std.proofs.lemmas.Option.{same_Some}
 use Rattle.std.specs.Prelude.{Contains}
 use Rattle.flash_core.specs.Told.{Told}
 use Rattle.fwu_formats.specs.Metadata.{MetaRead}
-use Rattle.fwu_model.specs.State.{State}
-use Rattle.fwu_model.specs.Sound.{Setting, Sound}
+use Rattle.fwu_model.specs.{State.State, Sound.Setting, Sound.Sound, Calm.IsCalm, Headline.ShowsOneOf}
 use Rattle.fwu_model.specs.Seen.{IsTidy, SoundFlash, state_of}
-use Rattle.fwu_model.specs.Calm.{IsCalm}
-use Rattle.fwu_model.specs.Headline.{ShowsOneOf}
 use Rattle.moves.specs.Moved.{IsShown}
 use Rattle.moves.proofs.Agree.{QuietUsed, at-used}
 

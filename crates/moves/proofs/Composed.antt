@@ -5,17 +5,10 @@ use Rattle.std.proofs.lemmas.List.FromFn.{length-map-range_with_len, get_or-map-
 use Rattle.std.proofs.lemmas.Result.{on_ok_weaker, IfOk-from_err}
 use Rattle.std.specs.Prelude.{IsErr, Contains}
 use Rattle.base_core.specs.Block.{block}
-use Rattle.flash_core.specs.declared.flash.FlashStop.{FlashStop}
-use Rattle.flash_core.specs.Told.{Told, NothingDirty, fresh}
-use Rattle.flash_core.specs.May.{May, Guards}
-use Rattle.fwu_formats.specs.Metadata.{MetaRead, meta_read}
-use Rattle.fwu_formats.specs.Image.{deciding}
+use Rattle.flash_core.specs.{declared.flash.FlashStop.FlashStop, Told.Told, Told.NothingDirty, Told.fresh, May.May, May.Guards}
+use Rattle.fwu_formats.specs.{Metadata.MetaRead, Metadata.meta_read, Image.deciding}
+use Rattle.fwu_model.specs.{Sound.Setting, Seen.seen, Seen.SoundFlash, Calm.IsCalm, Run.prefixes, Headline.ShowsOneOf}
 use Rattle.fwu_model.specs.State.{State, Move, after, after_move}
-use Rattle.fwu_model.specs.Sound.{Setting}
-use Rattle.fwu_model.specs.Seen.{seen, SoundFlash}
-use Rattle.fwu_model.specs.Calm.{IsCalm}
-use Rattle.fwu_model.specs.Run.{prefixes}
-use Rattle.fwu_model.specs.Headline.{ShowsOneOf}
 use Rattle.fwu_model.proofs.Frame.{calm-stays, calm-again, start-is-calm}
 use Rattle.moves.specs.Moved.{IsReady, Does}
 

@@ -3,24 +3,19 @@
 use Rattle.std.proofs.Common.{◌≡◌, ◌≢◌, ℕ, ◌<◌, Bool, true, false, cond, List, [], get_or, set, map, Option, Some, None, refl, sym, ap, ◌∙◌, arith, inl, inr, length-set, get_or-set_same, get_or-set_other, ext_get_or, IsTrue, IsFalse, length, suc, ◌==◌, ◌∷◌, eq-eqb}
 use Rattle.std.proofs.lemmas.Bool.{cases_Bool, cases_eq, and_from}
 use Rattle.std.proofs.lemmas.List.FromFn.{length-map-range_with_len, get_or-map-range_with_len}
-use Rattle.base_core.specs.Bytes.{listed}
-use Rattle.fwu_formats.specs.declared.kinds.BankState.{BankState}
+use Rattle.base_core.specs.{Bytes.listed, Block.block}
+use Rattle.fwu_formats.specs.{declared.kinds.BankState.BankState, Layout.Layout, Counter.counter_in, Places.trial_limit}
 use Rattle.fwu_formats.specs.declared.kinds.BankState.TheVariants.{Invalid, Valid, Accepted}
-use Rattle.fwu_formats.specs.Layout.{Layout}
 use Rattle.fwu_formats.specs.Metadata.{Meta, state_at, MetaRead, meta_read, fits_meta}
 use Rattle.fwu_formats.specs.Image.{marks, package_in, deciding}
-use Rattle.fwu_formats.specs.Counter.{counter_in}
+use Rattle.fwu_model.specs.{Seen.state_of, Seen.bank_in, Replica.in_version}
 use Rattle.fwu_model.specs.State.{Bank, bank, no_bank, is_invalid, is_valid, is_accepted, all_set, state_by, freed, with_bit, Free, Switch, Accept, Back, after_move, State}
-use Rattle.fwu_formats.specs.Places.{trial_limit}
-use Rattle.fwu_model.specs.Seen.{state_of, bank_in}
-use Rattle.fwu_model.specs.Replica.{in_version}
-use Rattle.meta_layout.proofs.Fits.{MetaFits, meta-fits, read-fits, fits-meta, row-length}
 use Rattle.fwu_model.specs.MoveMetas.{bits_in, accepted_bits, meta_after, meta_in}
+use Rattle.meta_layout.proofs.Fits.{MetaFits, meta-fits, read-fits, fits-meta, row-length}
 use Rattle.std.proofs.lemmas.Option.{same_Some}
 use Rattle.std.proofs.lemmas.List.{length-map, get_or-map}
 use Rattle.moves.specs.Moved.{IsShown}
 use Rattle.moves.proofs.Agree.{shown-meta}
-use Rattle.base_core.specs.Block.{block}
 use Rattle.fwu_formats.proofs.Read.{read-is, first-whole}
 use Rattle.std.specs.List.{list_all}
 

@@ -3,24 +3,16 @@
 -- On any flash at rest no write of a boot meets the layout or a bank that may be in use.
 use Rattle.std.proofs.Common.{◌≡◌, ◌≤◌, ℕ, List, inr, Ok, Result, refl, sym, ap, subst, ◌∙◌, arith, ◌⊎◌, inl, ◌<◌, Some, ◌+◌, ◌*◌, Err}
 use Rattle.std.specs.Prelude.{Contains, OnOk, IsFalse}
-use Rattle.flash_core.specs.declared.flash.FlashStop.{FlashStop}
+use Rattle.flash_core.specs.{declared.flash.FlashStop.FlashStop, May.Guards, May.May, May.Keeps, May.Quiet}
 use Rattle.flash_core.specs.Told.{Told, is_unsure, NothingDirty}
-use Rattle.flash_core.specs.May.{Guards, May, Keeps, Quiet}
-use Rattle.fwu_formats.specs.Layout.{Layout, start}
-use Rattle.fwu_formats.specs.Metadata.{MetaRead, Meta, meta_read}
-use Rattle.fwu_formats.specs.Image.{layout_seen, marks, deciding}
-use Rattle.fwu_formats.specs.Counter.{counter_in}
+use Rattle.fwu_formats.specs.{Layout.Layout, Layout.start, Metadata.MetaRead, Metadata.Meta, Metadata.meta_read, Image.layout_seen}
+use Rattle.fwu_formats.specs.{Image.marks, Image.deciding, Counter.counter_in, Places.trial_limit}
+use Rattle.fwu_model.specs.{Sound.Setting, Sound.Sound, Seen.IsTidy, Seen.state_of, Calm.IsCalm, Calm.IsGuarded, Calm.IsAtRest}
+use Rattle.fwu_model.specs.{Run.prefixes, Replica.in_version, Replica.BothHold, Replica.Decides, Headline.ShowsOneOf}
 use Rattle.fwu_model.specs.State.{State, Migrate, after, after_move}
-use Rattle.fwu_model.specs.Sound.{Setting, Sound}
-use Rattle.fwu_model.specs.Seen.{IsTidy, state_of}
-use Rattle.fwu_model.specs.Calm.{IsCalm, IsGuarded, IsAtRest}
-use Rattle.fwu_model.specs.Run.{prefixes}
-use Rattle.fwu_model.specs.Replica.{in_version, BothHold, Decides}
 use Rattle.fwu_model.proofs.Banks.{sound-migrate}
-use Rattle.replicas.specs.declared.which.Which.{Which}
+use Rattle.replicas.specs.{declared.which.Which.Which, Which.Loads, Stores.Repairs, Stores.Stores}
 use Rattle.replicas.specs.declared.which.Which.TheVariants.{Same, MigrateZero, MigrateOne}
-use Rattle.replicas.specs.Which.{Loads}
-use Rattle.replicas.specs.Stores.{Repairs, Stores}
 use Rattle.moves.specs.Moved.{Does, IsShown, ShowsAfter, repair_moves, IsReady, GuardedBy}
 use Rattle.moves.proofs.Agree.{no_meta, front-kept, layout-kept, marks-agree, counter-agrees, agrees-now, meta-tidy, shown-by, Agrees, QuietUsed, agrees-left, meta-shows, used-at, used-below, layout-agrees, decides-agrees, shown-as, shown-meta, at-used}
 use Rattle.moves.proofs.Calm.{calm-shown, calm-sound, calm-tidy, calm-used, sound-flash, one-of}
@@ -29,11 +21,8 @@ use Rattle.std.proofs.lemmas.Bool.{cases_lt}
 use Rattle.std.proofs.lemmas.Option.{same_Some}
 use Rattle.std.proofs.lemmas.Result.{on_ok_weaker}
 use Rattle.base_core.specs.Block.{block}
-use Rattle.flash_core.proofs.Calls.{may_now, quiet_fresh, guards_kept, keeps_wider}
-use Rattle.flash_core.proofs.Costs.{on_ok_both}
-use Rattle.fwu_model.specs.Headline.{ShowsOneOf}
+use Rattle.flash_core.proofs.{Calls.may_now, Calls.quiet_fresh, Calls.guards_kept, Calls.keeps_wider, Costs.on_ok_both}
 use Rattle.replicas.proofs.Reading.{by_zero}
-use Rattle.fwu_formats.specs.Places.{trial_limit}
 use Rattle.marks_core.specs.Marks.{Adds, Raises}
 
 -- what stays quiet after a call that writes from low to high, where that is quiet afterwards

@@ -2,19 +2,14 @@
 use Rattle.std.proofs.Common.{◌≡◌, ◌⊎◌, inl, inr, ℕ, ◌+◌, ◌*◌, ◌<◌, ◌≤◌, List, sym, ap, subst, ◌∙◌, arith, IsTrue, IsFalse}
 use Rattle.std.proofs.lemmas.Bool.{cases_lt}
 use Rattle.base_core.specs.Block.{block}
-use Rattle.flash_core.specs.Told.{Told}
-use Rattle.flash_core.specs.May.{May, Keeps, Quiet}
+use Rattle.flash_core.specs.{Told.Told, May.May, May.Keeps, May.Quiet}
 use Rattle.flash_core.proofs.Calls.{guards_kept}
-use Rattle.fwu_formats.specs.Layout.{Layout, start, slot_total}
-use Rattle.fwu_formats.specs.Metadata.{meta_read}
-use Rattle.fwu_model.specs.State.{State, bank, is_invalid}
-use Rattle.fwu_model.specs.Sound.{Setting}
-use Rattle.fwu_model.specs.Seen.{SameWhereUsed}
+use Rattle.fwu_formats.specs.{Layout.Layout, Layout.start, Layout.slot_total, Metadata.meta_read}
+use Rattle.fwu_model.specs.{State.State, State.bank, State.is_invalid, Sound.Setting, Seen.SameWhereUsed, Calm.IsAtRest}
 use Rattle.fwu_formats.proofs.Same.{block-same}
 use Rattle.fwu_model.proofs.Frame.{seen-where-used}
 use Rattle.replicas.proofs.Reading.{deciding_of}
 use Rattle.moves.specs.Moved.{IsReady, IsShown}
-use Rattle.fwu_model.specs.Calm.{IsAtRest}
 use Rattle.moves.proofs.Agree.{no_meta, Agrees, layout-agrees, decides-agrees, shown-meta, shown-by, used-below, used-at, at-used}
 use Rattle.moves.proofs.Repaired.{rest-used}
 use Rattle.base_core.proofs.Results.{same-Ok}

@@ -2,25 +2,18 @@
 -- No exit of it puts a bank in use at risk.
 use Rattle.std.proofs.Common.{◌≡◌, ◌≢◌, cond, ℕ, ◌+◌, ◌*◌, ◌<◌, Bool, true, false, List, [], ◌∷◌, length, get_or, set, Some, Result, refl, sym, ap, subst, ◌∙◌, arith, inl, inr, ◌⊎◌, IsTrue, IsFalse, get_or-set_same, get_or-set_other, ◌≤◌, Ok}
 use Rattle.std.proofs.lemmas.Bool.{cases_eq}
-use Rattle.flash_core.specs.declared.flash.FlashStop.{FlashStop}
-use Rattle.flash_core.specs.Told.{Told}
-use Rattle.flash_core.specs.May.{Quiet}
-use Rattle.fwu_formats.specs.declared.kinds.BankState.{BankState}
+use Rattle.flash_core.specs.{declared.flash.FlashStop.FlashStop, Told.Told, May.Quiet}
+use Rattle.fwu_formats.specs.{declared.kinds.BankState.BankState, Layout.start, Layout.Layout, Metadata.Meta, Metadata.MetaRead}
+use Rattle.fwu_formats.specs.{Metadata.state_at, Metadata.meta_read, Manifest.is_complete, Places.trial_limit}
 use Rattle.fwu_formats.specs.declared.kinds.BankState.TheVariants.{Accepted, Invalid}
-use Rattle.fwu_formats.specs.Layout.{start, Layout}
-use Rattle.fwu_formats.specs.Metadata.{Meta, MetaRead, state_at, meta_read}
-use Rattle.fwu_formats.specs.Manifest.{is_complete}
 use Rattle.fwu_formats.specs.Image.{deciding, package_in, marks, is_tidy, layout_seen}
+use Rattle.fwu_model.specs.{Seen.IsTidy, Seen.state_of, Replica.in_version, Replica.Decides, MoveMetas.meta_after, Calm.IsAtRest}
 use Rattle.fwu_model.specs.State.{State, Bank, Move, Free, Switch, Accept, Back, bank, no_bank, is_invalid, is_valid, is_accepted, all_set, state_by, freed, with_bit, update_bank, after_move}
-use Rattle.fwu_formats.specs.Places.{trial_limit}
 use Rattle.fwu_model.specs.Sound.{Setting, Sound, is_permitted, holds_permitted}
-use Rattle.fwu_model.specs.Seen.{IsTidy, state_of}
-use Rattle.fwu_model.specs.Replica.{in_version, Decides}
 use Rattle.fwu_model.proofs.Banks.{accepted-used, accepted-not_valid, in_range, update-other, update-below, active-below, sound-free, sound-switch, sound-accept, sound-back, next-other, next-below}
 use Rattle.meta_layout.proofs.Fits.{MetaFits}
 use Rattle.replicas.specs.Stores.{Stores}
 use Rattle.moves.specs.Moved.{IsReady, Does, IsShown, ShowsAfter, GuardedBy}
-use Rattle.fwu_model.specs.MoveMetas.{meta_after}
 use Rattle.moves.proofs.Agree.{QuietUsed, shown-by, state-is, bank-count, at-used}
 use Rattle.moves.proofs.Calm.{calm-shown, calm-sound, calm-tidy}
 use Rattle.moves.proofs.MetaMoves.{free-state, switch-state, accept-state, back-state, deciding-fits}
@@ -28,9 +21,7 @@ use Rattle.moves.proofs.Repaired.{store-writes, write-each, write-all, write-sho
 use Rattle.std.proofs.lemmas.Option.{same_Some}
 use Rattle.std.proofs.lemmas.Result.{on_ok_weaker}
 use Rattle.flash_core.proofs.Calls.{guards_kept}
-use Rattle.fwu_model.specs.Calm.{IsAtRest}
-use Rattle.fwu_formats.proofs.SealLaws.{limits}
-use Rattle.fwu_formats.proofs.Read.{layout-fits}
+use Rattle.fwu_formats.proofs.{SealLaws.limits, Read.layout-fits}
 use Rattle.base_core.specs.Block.{block}
 
 -- the banks that a state has in use are quiet

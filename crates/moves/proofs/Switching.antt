@@ -4,31 +4,20 @@ use Rattle.std.proofs.lemmas.Option.{same_Some}
 use Rattle.std.specs.List.{list_any}
 use Rattle.std.specs.Prelude.{◌==◌, IsErr}
 use Rattle.base_core.specs.Block.{block}
-use Rattle.flash_core.specs.Told.{Told, settle}
-use Rattle.flash_core.specs.May.{Guards, Quiet}
+use Rattle.flash_core.specs.{Told.Told, Told.settle, May.Guards, May.Quiet}
 use Rattle.flash_core.proofs.Calls.{now-settle, guard-settle, quiet_settle}
-use Rattle.fwu_formats.specs.Layout.{Layout, start}
+use Rattle.fwu_formats.specs.{Layout.Layout, Layout.start, Manifest.is_complete, Image.deciding, Image.package_in, Image.slot}
 use Rattle.fwu_formats.specs.Metadata.{Meta, MetaRead, meta_read}
-use Rattle.fwu_formats.specs.Manifest.{is_complete}
-use Rattle.fwu_formats.specs.Image.{deciding, package_in, slot}
+use Rattle.fwu_model.specs.{Sound.Setting, Sound.is_permitted, Seen.seen, Seen.SoundFlash, Calm.IsCalm, Calm.IsAtRest}
+use Rattle.fwu_model.specs.{Replica.BothHold, Replica.in_version, MoveMetas.meta_after, MoveMetas.meta_in}
 use Rattle.fwu_model.specs.State.{State, Switch, bank, update_bank, is_accepted}
-use Rattle.fwu_model.specs.Sound.{Setting, is_permitted}
-use Rattle.fwu_model.specs.Seen.{seen, SoundFlash}
-use Rattle.fwu_model.specs.Calm.{IsCalm, IsAtRest}
-use Rattle.fwu_model.specs.Replica.{BothHold, in_version}
 use Rattle.marks_core.specs.Marks.{Clears}
 use Rattle.replicas.specs.Stores.{Stores}
-use Rattle.moves.specs.Moved.{IsReady, Does, IsShown, ShowsAfter, GuardedBy}
-use Rattle.fwu_model.specs.MoveMetas.{meta_after, meta_in}
-use Rattle.moves.specs.Law.{CallResult, EndsBy}
+use Rattle.moves.specs.{Moved.IsReady, Moved.Does, Moved.IsShown, Moved.ShowsAfter, Moved.GuardedBy, Law.CallResult, Law.EndsBy}
+use Rattle.moves.proofs.{Beside.both-beside, Composed.does-stopped, Repaired.rest-used, MetaMoves.two-decides}
+use Rattle.moves.proofs.{Packages.package-held, Stored.switch-does, Stored.switch-shows, Stored.store-guarded, Stored.quiet-switch}
 use Rattle.moves.proofs.Agree.{no_meta, Agrees, front-kept, decides-agrees, package-same}
-use Rattle.moves.proofs.Beside.{both-beside}
 use Rattle.moves.proofs.Trials.{clear-does, clear-shows, clear-guarded, blank-marks, blank-tidy}
-use Rattle.moves.proofs.Composed.{does-stopped}
-use Rattle.moves.proofs.Repaired.{rest-used}
-use Rattle.moves.proofs.MetaMoves.{two-decides}
-use Rattle.moves.proofs.Packages.{package-held}
-use Rattle.moves.proofs.Stored.{switch-does, switch-shows, store-guarded, quiet-switch}
 
 -- a barrier leaves a ready flash ready
 pub settled-ready : (E : Setting) (s : Told) (state : State) → IsReady E s state → IsReady E (settle s) state

@@ -1,36 +1,25 @@
 -- A mark in block 3, a record of the counter and cleared marks, as the machine sees them: a trial, the counter raised, and no change.
 use Rattle.std.proofs.Common.{◌≡◌, inl, inr, ℕ, ◌+◌, ◌*◌, ◌<◌, cond, Bool, List, [], ◌∷◌, Some, Result, refl, sym, ap, ◌∙◌, arith, IsTrue, ◌⊎◌, Option, None, ◌-◌, ◌≤◌, take, drop, Ok, IsFalse}
 use Rattle.std.proofs.lemmas.Result.{on_ok_weaker}
-use Rattle.flash_core.specs.declared.flash.FlashStop.{FlashStop}
-use Rattle.flash_core.specs.Told.{Told}
-use Rattle.flash_core.specs.May.{May, Keeps, Quiet}
-use Rattle.flash_core.proofs.Calls.{keeps_wider, may_now, guards_kept}
-use Rattle.flash_core.proofs.Costs.{on_ok_both}
-use Rattle.fwu_formats.specs.Layout.{Layout}
-use Rattle.fwu_formats.specs.Metadata.{MetaRead, state_at}
+use Rattle.flash_core.specs.{declared.flash.FlashStop.FlashStop, Told.Told, May.May, May.Keeps, May.Quiet}
+use Rattle.flash_core.proofs.{Calls.keeps_wider, Calls.may_now, Calls.guards_kept, Costs.on_ok_both}
+use Rattle.fwu_formats.specs.{Layout.Layout, Metadata.MetaRead, Metadata.state_at, Places.trial_limit, Manifest.version}
+use Rattle.fwu_formats.specs.{Counter.counter_in, declared.kinds.BankState.BankState, declared.kinds.BankState.TheVariants.Valid}
 use Rattle.fwu_formats.specs.Image.{deciding, marks, layout_seen, is_tidy, is_blank}
+use Rattle.fwu_model.specs.{Sound.Setting, Sound.Sound, Sound.holds_permitted, Seen.IsTidy, Seen.state_of, Headline.ShowsOneOf}
+use Rattle.fwu_model.specs.{Answer.held_package, Answer.booted_package, Calm.IsAtRest}
 use Rattle.fwu_model.specs.State.{State, Trial, bank, is_valid, after_move, RaiseTo, is_accepted}
-use Rattle.fwu_formats.specs.Places.{trial_limit}
-use Rattle.fwu_model.specs.Sound.{Setting, Sound, holds_permitted}
-use Rattle.fwu_model.specs.Seen.{IsTidy, state_of}
-use Rattle.fwu_model.specs.Headline.{ShowsOneOf}
 use Rattle.fwu_model.proofs.Banks.{sound-trial, held_version, accepted-not_valid, sound-raise, accepted-used}
 use Rattle.marks_core.specs.Marks.{Adds, IsNextMark, CountsOnce, Raises, Clears}
 use Rattle.moves.specs.Moved.{IsReady, IsShown, Does, ShowsAfter, GuardedBy}
 use Rattle.moves.proofs.Agree.{Agrees, agrees-now, beside-shows, counter-agrees, shown-meta, shown-counter, marks-agree, state-is, used-below}
 use Rattle.moves.proofs.Beside.{active-valid, marks-are-trials, beside-agrees, beside-ready, trials-are, stays-ready}
 use Rattle.moves.proofs.Calm.{calm-shown, calm-sound, calm-tidy, one-of}
-use Rattle.fwu_formats.specs.Manifest.{version}
-use Rattle.fwu_formats.specs.Counter.{counter_in}
-use Rattle.fwu_model.specs.Answer.{held_package, booted_package}
+use Rattle.moves.proofs.Repaired.{by-result, guarded-beside, quiet-after}
 use Rattle.std.proofs.lemmas.List.{take-replicate, take-take, drop-take, drop-drop}
 use Rattle.base_core.specs.Block.{block, blank, granule}
 use Rattle.base_core.proofs.Blocks.{drop-blank}
-use Rattle.fwu_formats.specs.declared.kinds.BankState.{BankState}
-use Rattle.fwu_formats.specs.declared.kinds.BankState.TheVariants.{Valid}
 use Rattle.fwu_formats.proofs.Marks.{marks-are-counted}
-use Rattle.fwu_model.specs.Calm.{IsAtRest}
-use Rattle.moves.proofs.Repaired.{by-result, guarded-beside, quiet-after}
 
 -- the next mark may go where the trials say
 pub next-trial : (L : Layout) (now : List ℕ) (state : State) (at : ℕ) → IsShown L now state → IsTidy now state → IsTrue (is_valid (bank state state.active).state) → at ≡ state.trials → at < trial_limit → IsNextMark now 3 at trial_limit

@@ -1,28 +1,19 @@
 -- What writes are to the machine, as laws over what is told before and after. Each stands as the contract of a function of its own.
 use Rattle.std.specs.Prelude.{◌≡◌, ℕ, ◌<◌, ◌≤◌, List, [], ◌∷◌, ◌++◌, Some, Ok, Result, IsErr, IsTrue, Contains, ◌+◌, ◌*◌, Bool, length, take, IsFalse, slice_index_or}
 use Rattle.base_core.specs.Block.{block, block_bytes}
-use Rattle.flash_core.specs.declared.flash.FlashStop.{FlashStop}
+use Rattle.flash_core.specs.{declared.flash.FlashStop.FlashStop, May.May, May.Guards, May.Keeps, May.Quiet}
 use Rattle.flash_core.specs.Told.{Told, NothingDirty, fresh, settle}
-use Rattle.flash_core.specs.May.{May, Guards, Keeps, Quiet}
-use Rattle.fwu_formats.specs.Layout.{Layout, start}
+use Rattle.fwu_formats.specs.{Layout.Layout, Layout.start, Counter.counter_in, Places.trial_limit}
 use Rattle.fwu_formats.specs.Metadata.{MetaRead, meta_read, Meta, fits_meta, state_at}
 use Rattle.fwu_formats.specs.Manifest.{version, is_complete}
 use Rattle.fwu_formats.specs.Image.{layout_seen, deciding, marks, is_tidy, slot, package_in}
-use Rattle.fwu_formats.specs.Counter.{counter_in}
+use Rattle.fwu_model.specs.{Seen.seen, Seen.IsTidy, Seen.SoundFlash, Answer.booted_package, Calm.IsCalm, Calm.IsAtRest}
+use Rattle.fwu_model.specs.{Run.prefixes, Replica.BothHold, Replica.in_version, MoveMetas.meta_after, MoveMetas.meta_in}
 use Rattle.fwu_model.specs.State.{State, Move, Trial, RaiseTo, bank, is_valid, is_accepted, after, Free, Switch, Accept, Back, update_bank, is_invalid, state_by}
-use Rattle.fwu_formats.specs.Places.{trial_limit}
 use Rattle.fwu_model.specs.Sound.{Setting, is_permitted, holds_permitted}
-use Rattle.fwu_model.specs.Seen.{seen, IsTidy, SoundFlash}
-use Rattle.fwu_model.specs.Answer.{booted_package}
-use Rattle.fwu_model.specs.Calm.{IsCalm, IsAtRest}
-use Rattle.fwu_model.specs.Run.{prefixes}
 use Rattle.marks_core.specs.Marks.{Adds, Raises, Clears}
-use Rattle.replicas.specs.declared.which.Which.{Which}
-use Rattle.replicas.specs.Which.{Loads}
-use Rattle.replicas.specs.Stores.{Repairs, Stores}
+use Rattle.replicas.specs.{declared.which.Which.Which, Which.Loads, Stores.Repairs, Stores.Stores}
 use Rattle.moves.specs.Moved.{IsReady, Does, IsShown, ShowsAfter, GuardedBy, repair_moves}
-use Rattle.fwu_model.specs.Replica.{BothHold, in_version}
-use Rattle.fwu_model.specs.MoveMetas.{meta_after, meta_in}
 
 -- the result of a call without a value
 abbrev pub CallResult : Type 0

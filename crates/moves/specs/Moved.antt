@@ -1,18 +1,10 @@
 -- What a call leaves of a flash, in the words of the machine.
 use Rattle.std.specs.Prelude.{◌≡◌, ℕ, List, [], ◌∷◌, Some, Ok, Err, Result, OnOk}
 use Rattle.base_core.specs.Block.{block}
-use Rattle.flash_core.specs.declared.flash.FlashStop.{FlashStop}
-use Rattle.flash_core.specs.Told.{Told}
-use Rattle.flash_core.specs.May.{Guards}
-use Rattle.fwu_formats.specs.Layout.{Layout}
-use Rattle.fwu_formats.specs.Metadata.{MetaRead, meta_read}
-use Rattle.fwu_formats.specs.Image.{layout_seen, deciding}
-use Rattle.fwu_model.specs.State.{State, Move, Migrate, after}
-use Rattle.fwu_model.specs.Sound.{Setting}
-use Rattle.fwu_model.specs.Seen.{seen}
-use Rattle.fwu_model.specs.Calm.{IsCalm, IsGuarded, IsAtRest}
-use Rattle.fwu_model.specs.Run.{prefixes}
-use Rattle.fwu_model.specs.Headline.{LeavesOneOf}
+use Rattle.flash_core.specs.{declared.flash.FlashStop.FlashStop, Told.Told, May.Guards}
+use Rattle.fwu_formats.specs.{Layout.Layout, Metadata.MetaRead, Metadata.meta_read, Image.layout_seen, Image.deciding}
+use Rattle.fwu_model.specs.{State.State, State.Move, State.Migrate, State.after, Sound.Setting, Seen.seen, Calm.IsCalm}
+use Rattle.fwu_model.specs.{Calm.IsGuarded, Calm.IsAtRest, Run.prefixes, Headline.LeavesOneOf}
 use Rattle.replicas.specs.declared.which.Which.{Which}
 use Rattle.replicas.specs.declared.which.Which.TheVariants.{MigrateZero, MigrateOne}
 

@@ -3,20 +3,17 @@ use Rattle.std.proofs.Common.{◌≡◌, inl, inr, ℕ, ◌+◌, ◌*◌, ◌≤
 use Rattle.std.proofs.lemmas.Result.{on_ok_weaker}
 use Rattle.std.specs.Prelude.{Result, Ok, Err, OnOk}
 use Rattle.base_core.specs.Block.{block}
-use Rattle.flash_core.specs.declared.flash.FlashStop.{FlashStop}
-use Rattle.flash_core.specs.Told.{Told, is_guarded}
-use Rattle.flash_core.specs.May.{May, Guards, Quiet, Keeps}
-use Rattle.flash_core.specs.Replaces.{padded, IsOldOrNew, IsSettled, Replaces}
+use Rattle.flash_core.specs.{declared.flash.FlashStop.FlashStop, Told.Told, Told.is_guarded, May.May, May.Guards, May.Quiet}
+use Rattle.flash_core.specs.{May.Keeps, Replaces.padded, Replaces.IsOldOrNew, Replaces.IsSettled, Replaces.Replaces}
 use Rattle.flash_core.proofs.Calls.{keeps_wider, keeps_then, block_kept, now_kept, guarded_kept, quiet_fresh, keeps_same, block_quiet, guards_kept}
-use Rattle.fwu_formats.specs.Layout.{Layout, fits_layout}
+use Rattle.fwu_formats.specs.{Layout.Layout, Layout.fits_layout, Image.deciding}
 use Rattle.fwu_formats.specs.Metadata.{Meta, MetaRead, meta_read, fits_meta, replica_bytes}
 use Rattle.fwu_model.specs.Replica.{BothHold, Decides, in_version}
 use Rattle.replicas.specs.Stores.{IsBetween, IsBacked, WritesBoth, Stores, Rewrites, replica_block, Repairs}
-use Rattle.replicas.proofs.Reading.{by_zero, by_one, deciding_of, unread, replica_read}
-use Rattle.std.proofs.lemmas.Option.{same_Some}
-use Rattle.fwu_formats.specs.Image.{deciding}
 use Rattle.replicas.specs.Which.{Loads}
 use Rattle.replicas.specs.declared.which.Which.TheVariants.{Same, RepairZero, RepairOne, MigrateZero, MigrateOne}
+use Rattle.replicas.proofs.Reading.{by_zero, by_one, deciding_of, unread, replica_read}
+use Rattle.std.proofs.lemmas.Option.{same_Some}
 
 pub quiet_zero : (s : Told) → Quiet 4096 12288 s → Quiet (4096 * 1) (4096 * 1 + 4096) s
 quiet_zero s quiet i above below = quiet i above (omega (arith, below))

@@ -3,21 +3,14 @@ use Rattle.std.proofs.Common.{◌≡◌, inl, inr, cond, ℕ, Bool, true, false,
 use Rattle.std.specs.Prelude.{not, ◌==◌, ◌-◌, ◌%◌}
 use Rattle.std.specs.Option.{ForSome, option_or}
 use Rattle.std.specs.Result.{result_ok}
-use Rattle.base_core.specs.Bytes.{num_at, part}
-use Rattle.base_core.specs.Crc.{crc}
-use Rattle.base_core.specs.Block.{block, blank}
-use Rattle.base_core.specs.Seal.{Sealed}
+use Rattle.base_core.specs.{Bytes.num_at, Bytes.part, Crc.crc, Block.block, Block.blank, Seal.Sealed}
 use Rattle.flash_core.specs.Replaces.{padded}
-use Rattle.fwu_formats.specs.declared.kinds.MetaFault.{MetaFault}
-use Rattle.fwu_formats.specs.declared.kinds.MetaFault.TheVariants as fault
-use Rattle.fwu_formats.specs.Layout.{Layout, fits_layout}
+use Rattle.fwu_formats.specs.{declared.kinds.MetaFault.MetaFault, Layout.Layout, Layout.fits_layout, Image.deciding}
 use Rattle.fwu_formats.specs.Metadata.{Meta, MetaRead, meta_of, meta_read, meta_bytes, meta_size, meta_size_v1, replica_bytes, fits_meta, fits_v1, fits_v2, meta_at, meta_at_v1, read_v1, read_v2}
-use Rattle.fwu_formats.specs.Image.{deciding}
+use Rattle.fwu_formats.specs.declared.kinds.MetaFault.TheVariants as fault
 use Rattle.fwu_model.specs.Replica.{in_version}
-use Rattle.fwu_formats.proofs.SealLaws.{read-sealed, was_not_refused}
-use Rattle.fwu_formats.proofs.MetaWritten.{meta-read}
-use Rattle.replicas.specs.Which.{HasForm, Finds, Loads}
-use Rattle.replicas.specs.declared.which.Which.{Which}
+use Rattle.fwu_formats.proofs.{SealLaws.read-sealed, SealLaws.was_not_refused, MetaWritten.meta-read}
+use Rattle.replicas.specs.{Which.HasForm, Which.Finds, Which.Loads, declared.which.Which.Which}
 use Rattle.replicas.specs.declared.which.Which.TheVariants.{RepairZero, MigrateOne}
 
 -- ---- one block

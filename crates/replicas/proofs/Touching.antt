@@ -1,8 +1,7 @@
 -- Which blocks a repair may erase or program.
 use Rattle.std.proofs.Common.{◌≡◌, ℕ, sym, subst}
 use Rattle.flash_core.proofs.Touches.{touches_none}
-use Rattle.replicas.specs.Stores.{TouchesRepair}
-use Rattle.replicas.specs.declared.which.Which.{Which}
+use Rattle.replicas.specs.{Stores.TouchesRepair, declared.which.Which.Which}
 use Rattle.replicas.specs.declared.which.Which.TheVariants.{Same, RepairZero, RepairOne}
 
 -- where nothing was erased or programmed

@@ -1,17 +1,12 @@
 -- The two replicas of the metadata, in blocks 1 and 2, and what a store and a repair leave.
 use Rattle.std.specs.Prelude.{◌≡◌, ◌⊎◌, ℕ, ◌*◌, List, Some, Result, OnOk, Option}
 use Rattle.base_core.specs.Block.{block_bytes, block}
-use Rattle.flash_core.specs.declared.flash.FlashStop.{FlashStop}
-use Rattle.flash_core.specs.Told.{Told, NothingDirty}
+use Rattle.flash_core.specs.{declared.flash.FlashStop.FlashStop, Told.Told, Told.NothingDirty, Replaces.padded}
+use Rattle.flash_core.specs.{Replaces.IsOldOrNew, declared.flash.Arming.Arming, Counts.lowered, Touches.TouchesOnly}
 use Rattle.flash_core.specs.May.{May, Guards, Keeps, Quiet}
-use Rattle.flash_core.specs.Replaces.{padded, IsOldOrNew}
-use Rattle.fwu_formats.specs.Layout.{Layout}
+use Rattle.fwu_formats.specs.{Layout.Layout, Image.deciding}
 use Rattle.fwu_formats.specs.Metadata.{Meta, MetaRead, meta_read, replica_bytes}
-use Rattle.fwu_formats.specs.Image.{deciding}
 use Rattle.fwu_model.specs.Replica.{BothHold, Decides, in_version}
-use Rattle.flash_core.specs.declared.flash.Arming.{Arming}
-use Rattle.flash_core.specs.Counts.{lowered}
-use Rattle.flash_core.specs.Touches.{TouchesOnly}
 use Rattle.replicas.specs.declared.which.Which.{Which}
 use Rattle.replicas.specs.declared.which.Which.TheVariants.{Same, RepairZero, RepairOne, MigrateZero, MigrateOne}
 

@@ -1,15 +1,10 @@
 -- What loading finds.
 use Rattle.std.specs.Prelude.{◌≡◌, ◌≢◌, ◌⊎◌, List, ℕ, Option, Some, None, Result, Ok, Err, IfOk, IsErrOf, IsTrue}
 use Rattle.base_core.specs.Block.{block}
-use Rattle.flash_core.specs.declared.flash.Flash.{Ghosts}
-use Rattle.flash_core.specs.declared.flash.FlashStop.{FlashStop}
-use Rattle.flash_core.specs.Calls.{Reads}
-use Rattle.fwu_formats.specs.Layout.{Layout}
-use Rattle.fwu_formats.specs.Metadata.{MetaRead, fits_meta, meta_read}
-use Rattle.fwu_formats.specs.Image.{deciding}
-use Rattle.replicas.specs.declared.which.Which.{Which}
+use Rattle.flash_core.specs.{declared.flash.Flash.Ghosts, declared.flash.FlashStop.FlashStop, Calls.Reads}
+use Rattle.fwu_formats.specs.{Layout.Layout, Metadata.MetaRead, Metadata.fits_meta, Metadata.meta_read, Image.deciding}
+use Rattle.replicas.specs.{declared.which.Which.Which, declared.which.ReplicaStop.ReplicaStop}
 use Rattle.replicas.specs.declared.which.Which.TheVariants.{Same, RepairZero, RepairOne, MigrateZero, MigrateOne}
-use Rattle.replicas.specs.declared.which.ReplicaStop.{ReplicaStop}
 use Rattle.replicas.specs.declared.which.ReplicaStop.TheVariants.{NoMetadata, Flash}
 
 -- metadata is read in version 1 or 2

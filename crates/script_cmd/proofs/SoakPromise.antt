@@ -2,10 +2,10 @@
 use Rattle.std.proofs.Common.{◌≡◌, ◌≢◌, ◌⊎◌, ◌||◌, ◌==◌, ℕ, Bool, true, false, not, if◌then◌else◌, List, ◌∷◌, ◌++◌, Option, Some, None, Ok, Err, refl, sym, ap, subst, ◌∙◌, inl, inr, arith, append-nil, IsTrue, IsFalse, Contains}
 use Rattle.std.specs.Prelude.{nat_lt, ◌*◌, option_map, []}
 use Rattle.base_core.specs.Block.{block_bytes}
-use Rattle.fip_tables.specs.Images.{images_fault, image_fault as reader_fault}
-use Rattle.fip_tables.specs.declared.images.ImageFault.{ImageFault}
+use Rattle.fip_tables.specs.{Images.images_fault, Images.image_fault as reader_fault, declared.images.ImageFault.ImageFault}
 use Rattle.fip_tables.specs.declared.images.ImageFault.TheVariants as image
 use Rattle.fwu_formats.specs.Package.{Entry, Toc, entry_of}
+use Rattle.fwu_formats.specs.Layout.{ImageRow, Layout, fits_layout, blocks_needed}
 use Rattle.fwu_model.specs.{Answer.first_image_fault, Answer.image_fault, Causes.cuts_in}
 use Rattle.fwu_model.specs.{Causes.may_fail_before, Causes.status_by, Headline.IsPrefixOf, Headline.made_after, Reply.Reply}
 use Rattle.fwu_model.specs.{Reply.Turn, Run.ends_run, Run.is_refused_boot, Seen.seen, Sound.Sound, Wrote.may_lack}
@@ -15,7 +15,6 @@ use Rattle.std.proofs.{lemmas.Bool.false≢true, lemmas.Option.same_Some}
 use Rattle.std.proofs.lemmas.List.Elements.{Contains-append_right, Contains-get_or}
 use Rattle.flash_core.specs.{Counts.Rose, declared.flash.Counts.Counts, May.Guards}
 use Rattle.fwu_formats.specs.{Digests.passes_any, Manifest.is_complete, Manifest.version, declared.kinds.LayoutFault.LayoutFault}
-use Rattle.fwu_formats.specs.Layout.{ImageRow, Layout, fits_layout, blocks_needed}
 use Rattle.fwu_model.specs.Reply as reply
 use Rattle.fwu_model.proofs.{Complete.runs-boot, Selects.runs-select}
 use Rattle.fwu_words.specs.Order as ask
@@ -30,10 +29,10 @@ use Rattle.gen_core.proofs.Naming.{rounds-have-packages}
 use Rattle.script_turns.specs.{Powered.TurnMoment, Powered.at, Turning.NoneFalls, Runs.Ran, Runs.RunsTo, Runs.calls_of}
 use Rattle.script_runs.specs.Ending.{Device, Ending, World, in_model, noted}
 use Rattle.flash_commands.specs.Formatting.{Tries, format_status, format_text}
-use Rattle.flash_commands.specs.Formatting as format
-use Rattle.host_io.specs.Printed.{Prints, all, front, nothing}
 use Rattle.flash_commands.specs.Soaking.{first_files, soak_files, stop_line}
 use Rattle.flash_commands.specs.SoakWays.{SoakEnds, SoakWay, all_done, lacking, list_refused, not_formatted, ran, starved, stopped, too_small}
+use Rattle.flash_commands.specs.Formatting as format
+use Rattle.host_io.specs.Printed.{Prints, all, front, nothing}
 use Rattle.script_runs.specs.{Ways.Given, declared.done.Note.Note}
 use Rattle.script_runs.proofs.TopSources.{by-plan, printed-plan, not-done}
 use Rattle.script_turns.proofs.RunTurns.{rose-before}

@@ -5,9 +5,8 @@ use Rattle.std.specs.List.{cons_option}
 use Rattle.fwu_formats.specs.Words.{named}
 use Rattle.std.proofs.lemmas.Bool.{lt-ltb, le-ltb}
 use Rattle.std.proofs.lemmas.List.{length-append}
-use Rattle.fwu_model.specs.Call.{Call}
+use Rattle.fwu_model.specs.{Call.Call, Script.names_limit, Script.onto_types, Script.types_of, Script.begin_call}
 use Rattle.fwu_model.specs.Call as call
-use Rattle.fwu_model.specs.Script.{names_limit, onto_types, types_of, begin_call}
 
 -- no call where a word is no type, or there are too many
 no-types : (all : List (List ℕ)) → types_of all ≡ None → None ≡ begin_call all

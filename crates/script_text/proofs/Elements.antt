@@ -4,10 +4,8 @@ use Rattle.std.specs.Prelude.{All, option_map, slice_get}
 use Rattle.std.proofs.lemmas.List.{get_or-map, length-map, map-set}
 use Rattle.std.proofs.lemmas.List.Elements.{All-set}
 use Rattle.std.proofs.lemmas.Option.{slice_get-map, slice_get_read}
-use Rattle.script_text.specs.declared.call.Call.{Call}
+use Rattle.script_text.specs.{declared.call.Call.Call, Armable.IsArmable, Shown.HasBuffer, Shown.shown}
 use Rattle.script_text.specs.declared.call.Call.TheVariants.{Show}
-use Rattle.script_text.specs.Armable.{IsArmable}
-use Rattle.script_text.specs.Shown.{HasBuffer, shown}
 
 pub shown_at : (calls : List Call) (k : ℕ) (c : Call) → k < length (map shown calls) → c ≡ get_or calls k c → slice_get (map shown calls) k ≡ Some (shown c)
 shown_at calls k c within is =

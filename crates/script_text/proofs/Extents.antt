@@ -7,8 +7,7 @@ use Rattle.std.proofs.lemmas.List.Splits.{length-slice_split}
 use Rattle.std.proofs.lemmas.List.{take_more, take_all, take-append-drop}
 use Rattle.std.proofs.lemmas.List.Sums.{sum_by-append}
 use Rattle.fwu_model.specs.Script.{without_empty_last, script_lines, is_too_long}
-use Rattle.script_text.specs.Limit.{Extent, IsExtentOf}
-use Rattle.script_text.specs.Law.{LongStaysLong}
+use Rattle.script_text.specs.{Limit.Extent, Limit.IsExtentOf, Law.LongStaysLong}
 use Rattle.script_text.proofs.Parts.{some_parts}
 
 abbrev pub is_end : ℕ → Bool

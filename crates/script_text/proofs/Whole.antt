@@ -7,11 +7,10 @@ use Rattle.std.proofs.lemmas.List.Elements.{All-from_recursion}
 use Rattle.std.proofs.lemmas.Option.{cond_some}
 use Rattle.base_core.specs.Bytes.{same_bytes}
 use Rattle.fwu_model.specs.Call.{Call}
+use Rattle.fwu_model.specs.Script.{both, open_call, simple_call, call_of_three, call_of_words, line_of, after_line, calls_from, script_lines, script_of, call_of_four, call_of_others, begin_call, names_limit, types_of}
 use Rattle.fwu_model.specs.Call as call
 use Rattle.fwu_formats.specs.Words.{is_word, digits_value, named, number_of, number_up_to, bytes_of, file_word_of, request_of, at_least_one}
-use Rattle.fwu_model.specs.Script.{both, open_call, simple_call, call_of_three, call_of_words, line_of, after_line, calls_from, script_lines, script_of, call_of_four, call_of_others, begin_call, names_limit, types_of}
-use Rattle.script_text.specs.Armable.{IsArmable}
-use Rattle.script_text.specs.Law.{CutsAreArmable, CallsHaveLines}
+use Rattle.script_text.specs.{Armable.IsArmable, Law.CutsAreArmable, Law.CallsHaveLines}
 
 abbrev Outcome : Type 0
 Outcome = Result (List Call) ℕ

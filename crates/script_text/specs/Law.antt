@@ -1,7 +1,6 @@
 -- Laws of scripts.
 use Rattle.std.specs.Prelude.{◌≡◌, ℕ, ◌≤◌, List, ◌++◌, length, Ok, All, IsTrue}
-use Rattle.fwu_model.specs.Call.{Call}
-use Rattle.fwu_model.specs.Script.{script_of, script_lines, is_too_long}
+use Rattle.fwu_model.specs.{Call.Call, Script.script_of, Script.script_lines, Script.is_too_long}
 use Rattle.script_text.specs.Armable.{IsArmable}
 
 -- every cut of a script can be armed

@@ -3,12 +3,10 @@ use Rattle.std.specs.Prelude.{◌≡◌, ◌≤◌, ◌<◌, ℕ, ◌==◌, Bool
 use Rattle.fwu_model.specs.Call as model
 use Rattle.fwu_model.specs.Script.{room_limit}
 use Rattle.fwu_model.specs.declared.kinds.Op.TheVariants as op
-use Rattle.script_text.specs.declared.call.Call.{Call}
-use Rattle.script_text.specs.declared.call.Call.TheVariants as variant
-use Rattle.script_text.specs.declared.line.Line.{Line}
-use Rattle.script_text.specs.declared.line.Line.TheVariants as line
-use Rattle.script_text.specs.declared.script.ScriptFault.{ScriptFault}
+use Rattle.script_text.specs.{declared.call.Call.Call, declared.line.Line.Line, declared.script.ScriptFault.ScriptFault}
 use Rattle.script_text.specs.declared.script.ScriptFault.TheVariants.{BadLine, NoMemory}
+use Rattle.script_text.specs.declared.call.Call.TheVariants as variant
+use Rattle.script_text.specs.declared.line.Line.TheVariants as line
 
 abbrev pub shown : Call → model.Call
 shown variant.Discover = model.Discover

@@ -14,8 +14,7 @@ use Rattle.agent_machine.specs.{Fields.Fields, Meets.Stays}
 use Rattle.agent_machine.specs.Moment as agent
 use Rattle.agent_calls.specs.Takes.{Takes as TakesWrites, writes_to_begin}
 use Rattle.update_client.specs.{declared.stops.Sent.Sent, declared.stops.SendStop.SendStop, Choosing.no_row, Sends.send_answer}
-use Rattle.update_client.specs.declared.stops.SendStop.TheVariants.{MissingImage, ImageTooLarge, Begin, End, ReadFailed, Lost}
-use Rattle.update_client.specs.declared.stops.SendStop.TheVariants.{Fault, Gone}
+use Rattle.update_client.specs.declared.stops.SendStop.TheVariants.{MissingImage, ImageTooLarge, Begin, End, ReadFailed, Lost, Fault, Gone}
 use Rattle.update_client.specs.Takes.{DoneSendTakes as TakesSent, writes_sent}
 use Rattle.update_client.specs.Partial.{AreWhole, over_answer, writes_over}
 use Rattle.script_turns.specs.declared.tables.TableStop.TheVariants as table_stop

@@ -3,8 +3,7 @@ use Rattle.std.proofs.Common.{◌≡◌, ℕ, ◌<◌, ◌≤◌, ◌+◌, List,
 use Rattle.std.proofs.lemmas.List.{append-nil, length-take-le, take_all}
 use Rattle.sha2.specs.Sha256.{compress, initial_hash_256}
 use Rattle.sha2.proofs.Absorbing256.{IsAbsorbed_block}
-use Rattle.sha256_lanes.specs.Holding.{IsOfBlocks}
-use Rattle.sha256_lanes.specs.Lanes.{of_four}
+use Rattle.sha256_lanes.specs.{Holding.IsOfBlocks, Lanes.of_four}
 use Rattle.sha256_lanes.proofs.FourLanes.{below_four}
 
 -- one block more of a piece

@@ -1,9 +1,7 @@
 -- What a hash value and the hasher hold.
 use Rattle.std.specs.Prelude.{◌≡◌, ℕ, ◌%◌, List, [], ◌∷◌, length}
 use Rattle.sha2.specs.Sha256.{IsAbsorbed, initial_hash_256}
-use Rattle.sha256_lanes.specs.Lanes.{lane}
-use Rattle.sha256_lanes.specs.declared.alone.Message.{Message}
-use Rattle.sha256_lanes.specs.declared.lanes.Lanes.{Lanes}
+use Rattle.sha256_lanes.specs.{Lanes.lane, declared.alone.Message.Message, declared.lanes.Lanes.Lanes}
 
 -- the hash value h has taken in the message m, which is of whole blocks
 unfoldable pub IsOfBlocks : List ℕ → List ℕ → Type 0

@@ -5,9 +5,7 @@ use Rattle.std.proofs.lemmas.Bool.{cases_lt}
 use Rattle.std.proofs.Math.Seq.{take-append-add, take-append_seam}
 use Rattle.std.proofs.lemmas.Result.{on_ok_weaker}
 use Rattle.std.specs.Prelude.{Result, Ok, Err}
-use Rattle.flash_core.specs.declared.flash.FlashStop.{FlashStop}
-use Rattle.flash_core.specs.Told.{Told, settle, settled}
-use Rattle.flash_core.specs.May.{Keeps}
+use Rattle.flash_core.specs.{declared.flash.FlashStop.FlashStop, Told.Told, Told.settle, Told.settled, May.Keeps}
 use Rattle.flash_core.proofs.Calls.{keeps_same, keeps_wider, keeps_then, keeps_settle, now-settle, settle-fresh}
 use Rattle.slot_writer.specs.Slots.{Programs, Appends, FinishesImage, IsBlankAhead, blocks_for, done_of, bytes_in}
 

@@ -5,9 +5,7 @@ use Rattle.std.proofs.lemmas.List.{length-take, length-drop, get_or-take, get_or
 use Rattle.std.specs.Prelude.{Result, Ok, Err}
 use Rattle.base_core.specs.Block.{blank}
 use Rattle.base_core.proofs.Blocks.{length-blank, get_or-blank}
-use Rattle.flash_core.specs.declared.flash.FlashStop.{FlashStop}
-use Rattle.flash_core.specs.Told.{Told, written}
-use Rattle.flash_core.specs.May.{Keeps}
+use Rattle.flash_core.specs.{declared.flash.FlashStop.FlashStop, Told.Told, Told.written, May.Keeps}
 use Rattle.flash_core.proofs.Images.{overwritten_above, slice_range-overwritten}
 use Rattle.flash_core.proofs.Calls.{keeps_wider, keeps_put, keeps_halt, now-put, stable-put, stable-halt}
 use Rattle.slot_writer.specs.Slots.{Erases, Programs, IsBlankAhead, blocks_for}

@@ -5,8 +5,7 @@ use Rattle.std.proofs.lemmas.Result.{IfOk-from_err}
 use Rattle.std.specs.Prelude.{Result, Ok, IsErr}
 use Rattle.base_core.specs.Block.{blank}
 use Rattle.base_core.proofs.Blocks.{length-blank, get_or-blank}
-use Rattle.flash_core.specs.declared.flash.FlashStop.{FlashStop}
-use Rattle.flash_core.specs.Told.{Told, overwritten, put, halt}
+use Rattle.flash_core.specs.{declared.flash.FlashStop.FlashStop, Told.Told, Told.overwritten, Told.put, Told.halt}
 use Rattle.flash_core.proofs.Images.{overwritten_below, overwritten_inside}
 use Rattle.flash_core.proofs.Calls.{keeps_wider, keeps_put, keeps_halt, now-put, stable-put, stable-halt}
 use Rattle.slot_writer.specs.Slots.{Erases}

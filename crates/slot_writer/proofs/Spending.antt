@@ -1,12 +1,9 @@
 -- What erases and programs leave of an arming, one after the other.
 use Rattle.std.proofs.Common.{◌≡◌, ℕ, ◌+◌, ◌-◌, ◌<◌, ◌≤◌, ◌∙◌, ap, arith, Option, Some, None}
 use Rattle.std.specs.Prelude.{Result, Ok, Err}
-use Rattle.flash_core.specs.declared.flash.Arming.{Arming}
-use Rattle.flash_core.specs.declared.flash.Counts.{Counts}
-use Rattle.flash_core.specs.declared.flash.FlashStop.{FlashStop}
+use Rattle.flash_core.specs.{declared.flash.Arming.Arming, declared.flash.Counts.Counts, declared.flash.FlashStop.FlashStop}
 use Rattle.flash_core.specs.Counts.{Fires, arming_spent, lowered_by}
-use Rattle.flash_core.proofs.Spent.{lowered_then}
-use Rattle.flash_core.proofs.Unarmed.{unarmed_spent, unarmed_then}
+use Rattle.flash_core.proofs.{Spent.lowered_then, Unarmed.unarmed_spent, Unarmed.unarmed_then}
 use Rattle.slot_writer.specs.Writes.{SpendsArming}
 
 -- one erase or program

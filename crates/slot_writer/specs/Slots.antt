@@ -1,9 +1,7 @@
 -- An image in a slot that begins at a block: its bytes, and what writing behind them leaves.
 use Rattle.std.specs.Prelude.{◌≡◌, ℕ, ◌+◌, ◌-◌, ◌*◌, ◌/◌, ◌%◌, ◌<◌, ◌≤◌, List, ◌++◌, length, take, drop, slice_index, slice_range, Result, OnOk}
 use Rattle.base_core.specs.Block.{block_bytes, granule_bytes}
-use Rattle.flash_core.specs.declared.flash.FlashStop.{FlashStop}
-use Rattle.flash_core.specs.Told.{Told, NothingDirty, settled}
-use Rattle.flash_core.specs.May.{Keeps}
+use Rattle.flash_core.specs.{declared.flash.FlashStop.FlashStop, Told.Told, Told.NothingDirty, Told.settled, May.Keeps}
 
 -- how many blocks so many bytes reach
 abbrev pub blocks_for : ℕ → ℕ

@@ -2,9 +2,7 @@
 use Rattle.std.specs.Prelude.{if◌then◌else◌, ◌==◌, ◌&&◌, nat_lt, nat_le, ◌≡◌, ℕ, ◌+◌, ◌-◌, ◌*◌, ◌/◌, ◌%◌, ◌<◌, ◌≤◌, Option, Result, OnOk}
 use Rattle.std.specs.Option.{ForSome}
 use Rattle.base_core.specs.Block.{granule_bytes}
-use Rattle.flash_core.specs.declared.flash.Arming.{Arming}
-use Rattle.flash_core.specs.declared.flash.Counts.{Counts}
-use Rattle.flash_core.specs.declared.flash.FlashStop.{FlashStop}
+use Rattle.flash_core.specs.{declared.flash.Arming.Arming, declared.flash.Counts.Counts, declared.flash.FlashStop.FlashStop}
 use Rattle.flash_core.specs.Counts.{StaysUnarmed, lowered_by}
 use Rattle.slot_writer.specs.Slots.{blocks_for, done_of}
 

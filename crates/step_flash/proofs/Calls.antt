@@ -2,14 +2,10 @@
 use Rattle.std.proofs.Common.{◌≡◌, inl, inr, ℕ, ◌≤◌, Bool, true, false, List, Option, Some, None, sym, ap, arith, subst, refl}
 use Rattle.std.proofs.lemmas.Bool.{cases_lt}
 use Rattle.std.specs.Option.{ForSome}
-use Rattle.flash_core.specs.Counts.{IsDue, lowered}
-use Rattle.flash_core.specs.declared.flash.Arming.{Arming}
+use Rattle.flash_core.specs.{Counts.IsDue, Counts.lowered, declared.flash.Arming.Arming, May.Leaves, May.NoChance}
 use Rattle.flash_core.specs.Told.{Told, Operation, fresh, put, halt, settle}
-use Rattle.flash_core.specs.May.{Leaves, NoChance}
 use Rattle.flash_core.proofs.Calls.{may_now}
-use Rattle.step_flash.specs.Device.{back_on}
-use Rattle.step_flash.specs.Guard.{start_with}
-use Rattle.step_flash.specs.Stopped.{under_as}
+use Rattle.step_flash.specs.{Device.back_on, Guard.start_with, Stopped.under_as}
 
 module _ (u : Option Operation) (live : Bool) (r : Told) where
   -- an erase or a program was stopped

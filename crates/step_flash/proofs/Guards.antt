@@ -2,14 +2,10 @@
 use Rattle.std.proofs.Common.{◌≡◌, ℕ, ◌+◌, ◌==◌, Bool, true, false, if◌then◌else◌, List, [], ◌∷◌, ◌++◌, sym, ◌∙◌, ap, arith, refl}
 use Rattle.std.proofs.lemmas.List.{append_cancel_left}
 use Rattle.base_core.specs.Block.{most_blocks}
-use Rattle.flash_core.specs.Told.{Told, fresh, put, settle}
-use Rattle.flash_core.specs.May.{usual_guard}
-use Rattle.step_flash.specs.declared.step.Step.{Step}
-use Rattle.step_flash.specs.declared.flash.StepFlash.{StepFlash}
-use Rattle.step_flash.specs.Device.{after_steps, back_on}
-use Rattle.step_flash.specs.Flash.{image_of, package_of, told_of}
+use Rattle.flash_core.specs.{Told.Told, Told.fresh, Told.put, Told.settle, May.usual_guard}
+use Rattle.step_flash.specs.{declared.step.Step.Step, declared.flash.StepFlash.StepFlash, Device.after_steps, Device.back_on}
+use Rattle.step_flash.specs.{Flash.image_of, Flash.package_of, Flash.told_of, Steps.run_with, Steps.run_step, Steps.bytes_of}
 use Rattle.step_flash.specs.Guard.{beyond, guard_with, start_with}
-use Rattle.step_flash.specs.Steps.{run_with, run_step, bytes_of}
 
 step_guard : (file room : List ℕ) (t : Told) (s : Step) → (run_step file room t s).guard ≡ t.guard
 unfolding put settle fresh

@@ -8,9 +8,8 @@ use Rattle.base_core.proofs.Blocks.{length-blank}
 use Rattle.flash_core.specs.Told.{Told, IsSound, put}
 use Rattle.step_flash.specs.declared.step.Step.{Step}
 use Rattle.step_flash.specs.Steps.{AreDoable, IsDoable, IsInsideWith, NotesBytes, StandsAt, TakesProgram, barrier_step, bytes_in_room, copy_step, erase_step, program_step, room_bytes, run_step, run_with}
+use Rattle.step_flash.proofs.{Grows.copy_noted, Grows.program_noted, Room.room_more, Room.room_same}
 use Rattle.step_flash.proofs.Doable.{barrier_doable, doable_more, erase_doable, program_doable, program_more}
-use Rattle.step_flash.proofs.Grows.{copy_noted, program_noted}
-use Rattle.step_flash.proofs.Room.{room_more, room_same}
 use Rattle.step_flash.proofs.Sounds.{sound_put, sound_settle}
 
 -- what the ghost fields of a device say of its steps

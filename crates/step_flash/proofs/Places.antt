@@ -4,11 +4,9 @@ use Rattle.std.specs.List.{count_by}
 use Rattle.std.proofs.lemmas.List.Sums.{get_or-le-sum_by, sum_by-le, sum_by_push}
 use Rattle.std.proofs.lemmas.Bool.{and_from, cases_lt, le-ltb, lt-ltb}
 use Rattle.base_core.specs.Block.{block_bytes}
-use Rattle.flash_core.specs.Told.{Told}
-use Rattle.flash_core.specs.Touches.{TouchesOnly}
-use Rattle.step_flash.specs.declared.step.Step.{Step}
+use Rattle.flash_core.specs.{Told.Told, Touches.TouchesOnly}
+use Rattle.step_flash.specs.{declared.step.Step.Step, Writes.LiesBeside, Writes.LiesWithin, Writes.meets, Writes.writes_in}
 use Rattle.step_flash.specs.Steps.{AreDoable, IsDoable, IsInsideWith, NotesBytes, barrier_step, copy_step, program_step, run_step}
-use Rattle.step_flash.specs.Writes.{LiesBeside, LiesWithin, meets, writes_in}
 
 -- ---- what one step more counts
 

@@ -5,8 +5,7 @@ use Rattle.std.proofs.lemmas.List.Sums.{fold_more}
 use Rattle.base_core.specs.Block.{blank, block_bytes}
 use Rattle.base_core.proofs.Blocks.{length-blank}
 use Rattle.flash_core.specs.Told.{Told, fresh, put, settle, overwritten}
-use Rattle.flash_core.proofs.Calls.{now-put, now-settle}
-use Rattle.flash_core.proofs.Images.{length-overwritten}
+use Rattle.flash_core.proofs.{Calls.now-put, Calls.now-settle, Images.length-overwritten}
 use Rattle.step_flash.specs.declared.step.Step.{Step}
 use Rattle.step_flash.specs.Steps.{IsInsideWith, bytes_of, run_step, run_with, source_of}
 use Rattle.step_flash.proofs.Slices.{length-part}

@@ -1,8 +1,7 @@
 -- The bytes of the room, by the steps whose bytes they are.
 use Rattle.std.proofs.Common.{◌≡◌, ◌∙◌, ap, refl, ℕ, ◌+◌, List, [], ◌∷◌, ◌++◌, arith}
 use Rattle.std.proofs.lemmas.List.Sums.{fold-append}
-use Rattle.step_flash.specs.declared.step.Step.{Step}
-use Rattle.step_flash.specs.Steps.{bytes_in_room, room_bytes}
+use Rattle.step_flash.specs.{declared.step.Step.Step, Steps.bytes_in_room, Steps.room_bytes}
 
 pub no_room_bytes : room_bytes [] ≡ 0
 unfolding room_bytes

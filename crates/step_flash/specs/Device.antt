@@ -2,22 +2,13 @@
 use Rattle.std.specs.Prelude.{◌≡◌, ◌⊎◌, if◌then◌else◌, ℕ, ◌+◌, ◌++◌, ◌∷◌, [], Bool, true, false, List, Option, Some, None, is_none, min, slice_range, length}
 use Rattle.std.specs.Prelude.{Result, is_ok, IsErrOf, IsTrue, OnErr, OnOk}
 use Rattle.std.proofs.Common.{refl}
-use Rattle.flash_core.specs.Told.{Told, IsSound, fresh, settle, settled, written}
-use Rattle.flash_core.specs.Touches.{TouchesOnly}
-use Rattle.flash_core.specs.May.{Leaves, NoChance, TookEffect}
+use Rattle.flash_core.specs.{Told.Told, Told.IsSound, Told.fresh, Told.settle, Told.settled, Told.written, Touches.TouchesOnly}
+use Rattle.flash_core.specs.{May.Leaves, May.NoChance, May.TookEffect, declared.flash.Arming.Arming, declared.flash.Counts.Counts}
+use Rattle.flash_core.specs.{declared.flash.FlashStop.FlashStop, declared.flash.FlashStop.TheVariants.Failed}
 use Rattle.flash_core.specs.Counts.{Fires, Idles, ReachesNone, Rose, Spends, arming_kept, arming_spent, landed_of}
-use Rattle.flash_core.specs.declared.flash.Arming.{Arming}
-use Rattle.flash_core.specs.declared.flash.Counts.{Counts}
-use Rattle.flash_core.specs.declared.flash.FlashStop.{FlashStop}
-use Rattle.flash_core.specs.declared.flash.FlashStop.TheVariants.{Failed}
-use Rattle.step_flash.specs.declared.device.StepDevice.{StepDevice}
-use Rattle.step_flash.specs.declared.device.StepParts.{StepParts}
-use Rattle.step_flash.specs.declared.step.Step.{Step}
-use Rattle.step_flash.specs.declared.stopped.Stopped.{Stopped}
-use Rattle.step_flash.specs.Guard.{start_with}
-use Rattle.step_flash.specs.Steps.{NotesBytes, run_with}
-use Rattle.step_flash.specs.Stopped.{under_as, under_of}
-use Rattle.step_flash.specs.Writes.{writes_in}
+use Rattle.step_flash.specs.{declared.device.StepDevice.StepDevice, declared.device.StepParts.StepParts, declared.step.Step.Step}
+use Rattle.step_flash.specs.{declared.stopped.Stopped.Stopped, Guard.start_with, Steps.NotesBytes, Steps.run_with}
+use Rattle.step_flash.specs.{Stopped.under_as, Stopped.under_of, Writes.writes_in}
 
 abbrev pub is_on : StepDevice → Bool
 is_on d = d.on

@@ -2,13 +2,9 @@
 use Rattle.std.specs.Prelude.{◌≤◌, ℕ, Bool, List, Option}
 use Rattle.std.specs.Option.{ForSome}
 use Rattle.base_core.specs.Block.{fewest_blocks, most_blocks}
-use Rattle.flash_core.specs.Told.{Told, IsSound}
-use Rattle.flash_core.specs.declared.flash.Arming.{Arming}
-use Rattle.flash_core.specs.declared.flash.Counts.{Counts}
+use Rattle.flash_core.specs.{Told.Told, Told.IsSound, declared.flash.Arming.Arming, declared.flash.Counts.Counts}
+use Rattle.step_flash.specs.{declared.device.StepParts.StepParts, declared.step.Step.Step, declared.flash.StepFlash.StepFlash}
 use Rattle.step_flash.specs.declared.device.StepDevice.{StepDevice}
-use Rattle.step_flash.specs.declared.device.StepParts.{StepParts}
-use Rattle.step_flash.specs.declared.step.Step.{Step}
-use Rattle.step_flash.specs.declared.flash.StepFlash.{StepFlash}
 use Rattle.step_flash.specs.Device as device
 
 abbrev pub is_on : StepFlash → Bool

@@ -8,8 +8,7 @@
 -- they have the same image and the same package.
 use Rattle.std.specs.Prelude.{ℕ, ◌+◌, ◌++◌, List, [], ◌∷◌, map}
 use Rattle.base_core.specs.Block.{most_blocks}
-use Rattle.flash_core.specs.Told.{Told, fresh}
-use Rattle.flash_core.specs.May.{usual_guard}
+use Rattle.flash_core.specs.{Told.Told, Told.fresh, May.usual_guard}
 
 -- bytes as numbers of blocks that no flash has
 abbrev pub beyond : List ℕ → List ℕ

@@ -2,8 +2,7 @@
 use Rattle.std.specs.Prelude.{◌≡◌, ◌⊎◌, ℕ, Bool, List, ◌+◌, ◌*◌, ◌≤◌, ◌&&◌, not, nat_lt}
 use Rattle.std.specs.List.{count_by}
 use Rattle.base_core.specs.Block.{block_bytes}
-use Rattle.step_flash.specs.declared.step.Step.{Step}
-use Rattle.step_flash.specs.Steps.{is_barrier}
+use Rattle.step_flash.specs.{declared.step.Step.Step, Steps.is_barrier}
 
 -- whether a step erases or programs a byte of block b
 abbrev pub meets : ℕ → Step → Bool

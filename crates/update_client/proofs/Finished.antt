@@ -2,30 +2,22 @@
 use Rattle.std.proofs.Common.{◌≡◌, cond, ℕ, Bool, true, false, List, [], ◌∷◌, inl, inr, None, Result, Ok, Err, refl, sym, ap, subst, ◌∙◌, append-nil}
 use Rattle.std.specs.Prelude.{IsErr, IsFalse}
 use Rattle.flash_core.specs.declared.flash.FlashStop.TheVariants as flash_stop
-use Rattle.fwu_model.specs.State.{State, Move, Switch, update_bank, after}
-use Rattle.fwu_model.specs.Sound.{Setting}
-use Rattle.fwu_model.specs.Session.{On, Staged, is_committed, no_handles}
-use Rattle.fwu_model.specs.Call as call
-use Rattle.fwu_model.specs.Reply.{Reply}
-use Rattle.fwu_model.specs.Reply as reply
-use Rattle.fwu_model.specs.declared.kinds.Status.{Status}
-use Rattle.fwu_model.specs.declared.kinds.Status.TheVariants as status
+use Rattle.fwu_model.specs.{State.State, State.Move, State.Switch, State.update_bank, State.after, Sound.Setting, Session.On}
+use Rattle.fwu_model.specs.{Session.Staged, Session.is_committed, Session.no_handles, Reply.Reply, declared.kinds.Status.Status}
 use Rattle.fwu_model.specs.Answer.{Answer, may_install, staged_bits, staged_package}
-use Rattle.agent_machine.specs.declared.stop.Stop.{Stop}
-use Rattle.agent_machine.specs.declared.stop.Stop.TheVariants as stop
-use Rattle.agent_machine.specs.Moment.{Moment, Shows}
+use Rattle.fwu_model.specs.Call as call
+use Rattle.fwu_model.specs.Reply as reply
+use Rattle.fwu_model.specs.declared.kinds.Status.TheVariants as status
+use Rattle.agent_machine.specs.{declared.stop.Stop.Stop, Moment.Moment, Moment.Shows, Goes.GoesByMoves, Filling.between}
 use Rattle.agent_machine.specs.Meets.{GoesBy, flash_result}
-use Rattle.agent_machine.specs.Goes.{GoesByMoves}
+use Rattle.agent_machine.specs.declared.stop.Stop.TheVariants as stop
 use Rattle.agent_machine.proofs.Going.{goes-then}
 use Rattle.agent_machine.proofs.CallGoing.{MeetsAs, call-goes, call-replies, call-stopped}
+use Rattle.update_client.specs.{Halts.Halts, Halts.stopped_as, Finishes.FinishesSend, Finishes.FinishesBy, Finishes.end_moves}
 use Rattle.update_client.specs.declared.stops.SendStop.TheVariants.{End, Lost, Fault}
 use Rattle.std.specs.List.{list_all}
-use Rattle.agent_machine.specs.Filling.{between}
-use Rattle.update_client.specs.Halts.{Halts, stopped_as}
 use Rattle.agent_calls.proofs.Copies.{no-success}
-use Rattle.update_client.proofs.WrittenPiece.{call-halts}
-use Rattle.update_client.specs.Finishes.{FinishesSend, FinishesBy, end_moves}
-use Rattle.update_client.proofs.Staging.{end-answer, end-answers, cancel-answers}
+use Rattle.update_client.proofs.{WrittenPiece.call-halts, Staging.end-answer, Staging.end-answers, Staging.cancel-answers}
 
 abbrev of : Unit {0} → Reply
 of u = reply.Success

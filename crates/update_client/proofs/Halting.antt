@@ -1,15 +1,11 @@
 -- Calls within a staging, one after another.
 use Rattle.std.proofs.Common.{ℕ, [], Some, Result, Ok, Err}
 use Rattle.flash_core.specs.declared.flash.FlashStop.TheVariants as flash_stop
-use Rattle.fwu_model.specs.State.{State}
-use Rattle.fwu_model.specs.Sound.{Setting}
-use Rattle.fwu_model.specs.Session.{Session, On}
-use Rattle.agent_machine.specs.Moment.{Moment}
-use Rattle.agent_machine.specs.Goes.{GoesByMoves}
+use Rattle.fwu_model.specs.{State.State, Sound.Setting, Session.Session, Session.On}
+use Rattle.agent_machine.specs.{Moment.Moment, Goes.GoesByMoves}
 use Rattle.agent_machine.proofs.Going.{goes-then}
-use Rattle.update_client.specs.declared.stops.SendStop.{SendStop}
+use Rattle.update_client.specs.{declared.stops.SendStop.SendStop, Halts.Halts}
 use Rattle.update_client.specs.declared.stops.SendStop.TheVariants.{ReadFailed, Lost, Fault}
-use Rattle.update_client.specs.Halts.{Halts}
 
 -- what was done before a call that halts
 pub halts-after : {T : Type 0} (result : Result T SendStop) (E : Setting) (old mid new : Moment) (s : State) (boot : ℕ) (x y : Session) → GoesByMoves E

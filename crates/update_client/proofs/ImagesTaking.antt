@@ -3,30 +3,21 @@ use Rattle.std.proofs.Common.{Bool, ◌≡◌, ℕ, suc, ◌+◌, ◌*◌, ◌<�
 use Rattle.std.proofs.lemmas.List.{take_all}
 use Rattle.std.specs.Prelude.{◌==◌}
 use Rattle.host_io.specs.Contents.{Directory}
-use Rattle.flash_core.specs.declared.flash.Arming.{Arming}
-use Rattle.fwu_formats.specs.Layout.{ImageRow}
-use Rattle.fwu_formats.specs.Package.{Entry, Toc, entry_of}
+use Rattle.flash_core.specs.{declared.flash.Arming.Arming, Counts.lowered_by}
+use Rattle.fwu_formats.specs.{Layout.ImageRow, Package.Entry, Package.Toc, Package.entry_of}
 use Rattle.fwu_model.specs.Call as call
 use Rattle.fwu_model.specs.Reply as reply
-use Rattle.flash_core.specs.Counts.{lowered_by}
 use Rattle.slot_writer.specs.Writes.{writes_to_append, writes_to_finish}
-use Rattle.agent_kept.specs.declared.parts.Handle.TheVariants.{Writes}
-use Rattle.agent_kept.specs.Kept.{part_at, handle_kept, size_of}
-use Rattle.agent_machine.specs.Ends.{IsWriter}
-use Rattle.agent_machine.specs.Moment.{Moment}
-use Rattle.update_client.specs.Pieces.{WritesImage}
-use Rattle.update_client.proofs.WrittenImage.{WritesFirst}
-use Rattle.update_client.specs.Images.{no_entry, sent_parts}
-use Rattle.update_client.proofs.SentImages.{SendsFirst, take-next}
-use Rattle.update_client.specs.Choosing.{no_row}
+use Rattle.agent_kept.specs.{declared.parts.Handle.TheVariants.Writes, Kept.part_at, Kept.handle_kept, Kept.size_of}
+use Rattle.agent_machine.specs.{Ends.IsWriter, Moment.Moment}
+use Rattle.update_client.specs.{Pieces.WritesImage, Images.no_entry, Images.sent_parts, Choosing.no_row}
 use Rattle.update_client.specs.Takes.{PayloadPieceTakes, FirstTake, ImageTakes, ImagesTake, writes_in, writes_of_entry, writes_sent}
+use Rattle.update_client.proofs.{WrittenImage.WritesFirst, Staging.sent-long, Staging.sent-other, WrittenPiece.image-opened}
+use Rattle.update_client.proofs.SentImages.{SendsFirst, take-next}
 use Rattle.agent_calls.specs.Takes.{Takes, piece_at, pieces_of, writes_of_image, writes_of_pieces}
 use Rattle.agent_calls.proofs.Pieces.{Pieces, next-piece, pieces-all, pieces-more, pieces-none}
 use Rattle.agent_calls.proofs.Taking.{takes-none, takes-then}
-use Rattle.agent_machine.proofs.CallGoing.{MeetsAs}
-use Rattle.agent_machine.proofs.Writer.{writer, written}
-use Rattle.update_client.proofs.Staging.{sent-long, sent-other}
-use Rattle.update_client.proofs.WrittenPiece.{image-opened}
+use Rattle.agent_machine.proofs.{CallGoing.MeetsAs, Writer.writer, Writer.written}
 
 -- ---- a piece
 

@@ -4,24 +4,17 @@ use Rattle.std.specs.Prelude.{IsFalse, IsTrue, ◌==◌}
 use Rattle.flash_core.specs.declared.flash.FlashStop.TheVariants as flash_stop
 use Rattle.host_io.specs.Contents.{Directory}
 use Rattle.fwu_formats.specs.Package.{Entry, payload}
-use Rattle.fwu_model.specs.State.{State}
-use Rattle.fwu_model.specs.Sound.{Setting}
+use Rattle.fwu_model.specs.{State.State, Sound.Setting, Reply.Reply, Answer.Answer, Answer.staged_bits, Answer.staged_package}
 use Rattle.fwu_model.specs.Session.{Session, On, Staged, Handle, no_handles}
 use Rattle.fwu_model.specs.Call as call
-use Rattle.fwu_model.specs.Reply.{Reply}
 use Rattle.fwu_model.specs.Reply as reply
-use Rattle.fwu_model.specs.Answer.{Answer, staged_bits, staged_package}
 use Rattle.std.proofs.lemmas.List.{length-map}
 use Rattle.fip_tables.specs.Files.{Tells}
-use Rattle.agent_machine.specs.declared.stop.Stop.{Stop}
-use Rattle.agent_machine.specs.declared.stop.Stop.TheVariants as stop
-use Rattle.agent_machine.specs.Moment.{Moment, Shows}
+use Rattle.agent_machine.specs.{declared.stop.Stop.Stop, Moment.Moment, Moment.Shows, Goes.GoesByMoves, Filling.between}
 use Rattle.agent_machine.specs.Meets.{GoesBy, IsStopped}
-use Rattle.agent_machine.specs.Goes.{GoesByMoves}
-use Rattle.update_client.specs.declared.stops.SendStop.{SendStop}
+use Rattle.agent_machine.specs.declared.stop.Stop.TheVariants as stop
+use Rattle.update_client.specs.{declared.stops.SendStop.SendStop, Halts.Halts, Halts.is_unread}
 use Rattle.update_client.specs.declared.stops.SendStop.TheVariants.{End, ReadFailed, Lost, Fault}
-use Rattle.agent_machine.specs.Filling.{between}
-use Rattle.update_client.specs.Halts.{Halts, is_unread}
 use Rattle.update_client.specs.Images.{AreUnstaged, SendsImages, sent_parts}
 use Rattle.update_client.specs.Finishes.{FinishesSend, FinishesBy, InstallsImages, end_moves}
 use Rattle.agent_machine.proofs.Going.{goes-then, goes-stopped}

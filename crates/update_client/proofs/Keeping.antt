@@ -1,22 +1,16 @@
 -- What the parts of a sending keep, one after the other.
 use Rattle.std.proofs.Common.{◌≡◌, ◌∙◌, ℕ, Bool, List, length, Result, Ok, Err, refl, ap, subst, arith, IsTrue, IsFalse}
 use Rattle.flash_core.specs.declared.flash.Flash as flash
-use Rattle.host_io.specs.Access.{Access}
-use Rattle.host_io.specs.declared.files.Files.{Ghosts}
-use Rattle.host_io.specs.Reads.{ReadsFile}
+use Rattle.host_io.specs.{Access.Access, declared.files.Files.Ghosts, Reads.ReadsFile}
 use Rattle.host_io.proofs.Reading.{reads-none, reads-then}
-use Rattle.agent_machine.specs.declared.stop.Stop.{Stop}
+use Rattle.agent_machine.specs.{declared.stop.Stop.Stop, Meets.GoesBy}
 use Rattle.agent_machine.specs.declared.stop.Stop.TheVariants as stop
-use Rattle.agent_machine.specs.Meets.{GoesBy}
 use Rattle.agent_machine.proofs.Spending.{call-spent, none-spent, spent-then}
-use Rattle.agent_calls.specs.declared.agent.Agent.{Agent}
-use Rattle.agent_calls.specs.Shown.{AgentGoes, SpentBy, device, gone, moment}
-use Rattle.update_client.specs.declared.stops.SendStop.{SendStop}
+use Rattle.agent_calls.specs.{declared.agent.Agent.Agent, Shown.AgentGoes, Shown.SpentBy, Shown.device, Shown.gone, Shown.moment}
+use Rattle.update_client.specs.{declared.stops.SendStop.SendStop, Pieces.KeepsBeside, Pieces.ReadsPieceBy, Pieces.SparesOthers}
 use Rattle.update_client.specs.declared.stops.SendStop.TheVariants.{MissingImage, End, ReadFailed, Lost, Fault}
 use Rattle.update_client.specs.Halts.{StopsEnd, StopsWithin, flash_of, stopped_as}
-use Rattle.update_client.specs.Pieces.{KeepsBeside, ReadsPieceBy, SparesOthers}
-use Rattle.update_client.proofs.Sparing.{spares-none, spares-then}
-use Rattle.update_client.proofs.Spending.{stop-spent}
+use Rattle.update_client.proofs.{Sparing.spares-none, Sparing.spares-then, Spending.stop-spent}
 
 -- ---- which stop it is
 

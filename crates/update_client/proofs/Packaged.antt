@@ -3,30 +3,22 @@ use Rattle.std.proofs.Common.{◌≡◌, cond, ℕ, ◌+◌, ◌<◌, ◌≤◌,
 use Rattle.std.proofs.Math.Nat.{mod-lt}
 use Rattle.flash_core.specs.declared.flash.FlashStop.{FlashStop}
 use Rattle.flash_core.specs.declared.flash.FlashStop.TheVariants as flash_stop
+use Rattle.fwu_model.specs.{Sound.Setting, Reply.Reply, declared.kinds.Status.Status}
 use Rattle.fwu_model.specs.State.{Bank, State, Move, Free, Switch, after, bank, freed, is_invalid, no_bank, state_by, update_bank}
-use Rattle.fwu_model.specs.Sound.{Setting}
 use Rattle.fwu_model.specs.Session.{Session, Off, On, Staged, Handle, Nothing, no_handles}
-use Rattle.fwu_model.specs.Call as call
-use Rattle.fwu_model.specs.Reply.{Reply}
-use Rattle.fwu_model.specs.Reply as reply
-use Rattle.fwu_model.specs.declared.kinds.Status.{Status}
-use Rattle.fwu_model.specs.declared.kinds.Status.TheVariants as status
 use Rattle.fwu_model.specs.Answer.{Answer, answer, answered, refused, begin_moves, cannot_begin, install_package, install_unless, may_install}
-use Rattle.agent_machine.specs.declared.stop.Stop.{Stop}
-use Rattle.agent_machine.specs.declared.stop.Stop.TheVariants as stop
+use Rattle.fwu_model.specs.Call as call
+use Rattle.fwu_model.specs.Reply as reply
+use Rattle.fwu_model.specs.declared.kinds.Status.TheVariants as status
+use Rattle.agent_machine.specs.{declared.stop.Stop.Stop, Meets.flash_result, Goes.GoesByMoves, Filling.between}
 use Rattle.agent_machine.specs.Moment.{Moment, Shows}
-use Rattle.agent_machine.specs.Meets.{flash_result}
-use Rattle.agent_machine.specs.Goes.{GoesByMoves}
+use Rattle.agent_machine.specs.declared.stop.Stop.TheVariants as stop
 use Rattle.agent_machine.proofs.Going.{goes-then, goes-nothing, goes-stopped}
-use Rattle.agent_machine.specs.Filling.{between}
 use Rattle.agent_calls.specs.Copies.{AnswersAs}
-use Rattle.update_client.specs.declared.stops.SendStop.{SendStop}
+use Rattle.update_client.specs.{declared.stops.SendStop.SendStop, Choosing.refused_image, Halts.unbegun_as, Partial.GoesAs}
 use Rattle.update_client.specs.declared.stops.SendStop.TheVariants.{MissingImage, ImageTooLarge, End, ReadFailed, Lost, Fault}
-use Rattle.update_client.specs.Choosing.{refused_image}
 use Rattle.update_client.specs.Finishes.{FinishesSend, end_moves}
-use Rattle.update_client.specs.Halts.{unbegun_as}
 use Rattle.update_client.specs.Sends.{AnswersBy, AllowsBegin, IsInstalled}
-use Rattle.update_client.specs.Partial.{GoesAs}
 use Rattle.update_client.proofs.Staging.{begin-answers, begun-keeps, begun-may}
 
 some-is : (a b : SendStop) → ◌≡◌ {A = Option SendStop} (Some a) (Some b) → a ≡ b

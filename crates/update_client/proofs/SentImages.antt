@@ -4,20 +4,13 @@ use Rattle.std.proofs.lemmas.List.{map-append, take_all}
 use Rattle.std.specs.Prelude.{◌==◌}
 use Rattle.host_io.specs.Contents.{Directory}
 use Rattle.fwu_formats.specs.Package.{Entry, payload}
-use Rattle.fwu_model.specs.State.{State}
-use Rattle.fwu_model.specs.Sound.{Setting}
-use Rattle.agent_machine.specs.Moment.{Moment, Shows}
-use Rattle.agent_machine.specs.Goes.{GoesByMoves}
+use Rattle.fwu_model.specs.{State.State, Sound.Setting, Session.Staged, Session.Nothing}
+use Rattle.agent_machine.specs.{Moment.Moment, Moment.Shows, Goes.GoesByMoves, Filling.between, Filling.filled}
 use Rattle.fip_tables.specs.Files.{Tells}
 use Rattle.agent_machine.proofs.Going.{goes-nothing}
-use Rattle.update_client.specs.declared.stops.SendStop.{SendStop}
-use Rattle.fwu_model.specs.Session.{Staged, Nothing}
-use Rattle.agent_machine.specs.Filling.{between, filled}
-use Rattle.update_client.proofs.Staging.{sent-long, sent-next, sent-other}
-use Rattle.update_client.specs.Halts.{Halts}
-use Rattle.update_client.specs.Pieces.{SendsImage}
+use Rattle.update_client.specs.{declared.stops.SendStop.SendStop, Halts.Halts, Pieces.SendsImage}
 use Rattle.update_client.specs.Images.{AreUnstaged, SendsImages, no_entry, sent_parts}
-use Rattle.update_client.proofs.Halting.{halts-after}
+use Rattle.update_client.proofs.{Staging.sent-long, Staging.sent-next, Staging.sent-other, Halting.halts-after}
 
 -- the first images were read, written and committed
 pub record SendsFirst (told : Option Directory) (name : List ℕ) (entries : List Entry) (request k : ℕ)

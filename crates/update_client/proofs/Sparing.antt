@@ -1,16 +1,11 @@
 -- Which blocks the calls of a sending erase or program.
 use Rattle.std.proofs.Common.{◌∙◌, inl, inr, ℕ, Bool, List, Result, refl, sym, subst, IsFalse}
 use Rattle.std.proofs.lemmas.Bool.{cases_Bool}
-use Rattle.flash_core.specs.declared.flash.Flash.{Ghosts}
-use Rattle.flash_core.specs.declared.flash.FlashStop.{FlashStop}
+use Rattle.flash_core.specs.{declared.flash.Flash.Ghosts, declared.flash.FlashStop.FlashStop}
 use Rattle.fwu_model.specs.Call.{Call}
-use Rattle.agent_machine.specs.declared.stop.Stop.{Stop}
-use Rattle.agent_machine.specs.Beside.{SparesBlocksByAll}
+use Rattle.agent_machine.specs.{declared.stop.Stop.Stop, Beside.SparesBlocksByAll, Meets.LeavesFlash, Moment.Moment}
 use Rattle.agent_machine.proofs.Beside.{blocks-further, blocks-once}
-use Rattle.agent_machine.specs.Meets.{LeavesFlash}
-use Rattle.agent_machine.specs.Moment.{Moment}
-use Rattle.agent_calls.specs.declared.agent.Agent.{Agent}
-use Rattle.agent_calls.specs.Copies.{BeginsPartly}
+use Rattle.agent_calls.specs.{declared.agent.Agent.Agent, Copies.BeginsPartly}
 use Rattle.agent_calls.specs.Shown.{AgentGoes, device, fields, gone}
 use Rattle.update_client.specs.Pieces.{SparesOthers}
 

@@ -1,12 +1,8 @@
 -- What the calls of a sending spend, with its own stops.
 use Rattle.std.proofs.Common.{◌≡◌, Bool, true, false, Result, Ok, Err, refl, ap, subst, IsFalse, IsTrue}
-use Rattle.flash_core.specs.declared.flash.Flash.{Ghosts}
-use Rattle.flash_core.specs.declared.flash.FlashStop.{FlashStop}
-use Rattle.flash_core.specs.Calls.{Goes}
-use Rattle.agent_machine.specs.declared.stop.Stop.{Stop}
+use Rattle.flash_core.specs.{declared.flash.Flash.Ghosts, declared.flash.FlashStop.FlashStop, Calls.Goes}
+use Rattle.agent_machine.specs.{declared.stop.Stop.Stop, Meets.GoesBy, Meets.IsStopped, Meets.flash_result, CallGoes.Spent}
 use Rattle.agent_machine.specs.declared.stop.Stop.TheVariants as stop
-use Rattle.agent_machine.specs.Meets.{GoesBy, IsStopped, flash_result}
-use Rattle.agent_machine.specs.CallGoes.{Spent}
 use Rattle.update_client.specs.Halts.{flash_of, stopped_as}
 
 same-flash : (T U : Type 0) (q : Stop) → flash_result {T = T} (Err q) ≡ flash_of {T = U} (Err (stopped_as q))

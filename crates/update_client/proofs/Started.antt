@@ -5,30 +5,20 @@ use Rattle.std.proofs.lemmas.List.{take_all}
 use Rattle.host_io.specs.Contents.{Directory}
 use Rattle.flash_core.specs.declared.flash.Arming.{Arming}
 use Rattle.fwu_formats.proofs.SealLaws.{limits}
-use Rattle.fwu_formats.specs.Layout.{Layout, fits_layout}
-use Rattle.fwu_formats.specs.Package.{Entry}
-use Rattle.fwu_model.specs.State.{State, after}
-use Rattle.fwu_model.specs.Sound.{Setting}
+use Rattle.fwu_formats.specs.{Layout.Layout, Layout.fits_layout, Package.Entry}
+use Rattle.fwu_model.specs.{State.State, State.after, Sound.Setting, Reply.Reply}
 use Rattle.fwu_model.specs.Session.{Session, On, Staged, Handle}
-use Rattle.fwu_model.specs.Reply.{Reply}
+use Rattle.fwu_model.specs.Answer.{Answer, begin_moves, cannot_begin, install_package, install_unless, staged_bits}
 use Rattle.fwu_model.specs.Reply as reply
 use Rattle.fwu_model.specs.declared.kinds.Status.TheVariants as status
-use Rattle.fwu_model.specs.Answer.{Answer, begin_moves, cannot_begin, install_package, install_unless, staged_bits}
-use Rattle.agent_machine.specs.Ends.{TakesSwitch}
-use Rattle.agent_machine.specs.Filling.{between}
-use Rattle.agent_machine.specs.Goes.{GoesByMoves}
-use Rattle.agent_machine.specs.Moment.{Moment, Shows, Showing}
+use Rattle.agent_machine.specs.{Ends.TakesSwitch, Filling.between, Goes.GoesByMoves, Moment.Moment, Moment.Shows, Moment.Showing}
 use Rattle.agent_calls.specs.Takes.{Takes}
 use Rattle.agent_calls.proofs.Taking.{takes-some, takes-then}
-use Rattle.update_client.specs.declared.stops.SendStop.{SendStop}
-use Rattle.update_client.specs.Finishes.{FinishesSend, InstallsImages}
-use Rattle.update_client.specs.Images.{AreUnstaged, sent_parts}
-use Rattle.update_client.specs.Partial.{GoesAs}
-use Rattle.update_client.specs.Sends.{AnswersBy, IsInstalled}
+use Rattle.update_client.specs.{declared.stops.SendStop.SendStop, Finishes.FinishesSend, Finishes.InstallsImages}
+use Rattle.update_client.specs.{Images.AreUnstaged, Images.sent_parts, Partial.GoesAs, Sends.AnswersBy, Sends.IsInstalled}
 use Rattle.update_client.specs.Takes.{ImagesStart, ImagesTake, InstallTakes, InstallTakesBy, SendTakesBy, UnreadTakes, writes_in, writes_up_to}
-use Rattle.update_client.proofs.Unsent.{end-then, unread-then}
+use Rattle.update_client.proofs.{Unsent.end-then, Unsent.unread-then, Staging.IsPacked}
 use Rattle.update_client.proofs.Packaged.{each-on, installs, sent-done, sent-halted}
-use Rattle.update_client.proofs.Staging.{IsPacked}
 
 -- the begin was done, and nothing is staged of the images that are sent
 pub record Started (passes : List ℕ → Bool) (entries : List Entry) (old m1 : Moment) : Type 0 where

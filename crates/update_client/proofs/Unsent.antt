@@ -9,17 +9,13 @@ use Rattle.fwu_model.specs.Reply as reply
 use Rattle.agent_machine.specs.Moment.{Moment}
 use Rattle.agent_machine.proofs.CallGoing.{MeetsAs}
 use Rattle.agent_calls.specs.Takes.{Takes, writes_of_pieces}
-use Rattle.agent_calls.proofs.Pieces.{next-piece}
-use Rattle.agent_calls.proofs.Taking.{takes-then}
-use Rattle.update_client.specs.declared.stops.SendStop.{SendStop}
+use Rattle.agent_calls.proofs.{Pieces.next-piece, Taking.takes-then}
+use Rattle.update_client.specs.{declared.stops.SendStop.SendStop, Halts.StopsEnd, Halts.is_unread}
 use Rattle.update_client.specs.declared.stops.SendStop.TheVariants.{MissingImage, ImageTooLarge, Begin, End, ReadFailed}
-use Rattle.update_client.specs.Halts.{StopsEnd, is_unread}
 use Rattle.update_client.specs.Images.{SendsImages, no_entry, sent_parts}
-use Rattle.update_client.proofs.SentImages.{SendsFirst}
 use Rattle.update_client.specs.Takes.{PayloadFrontTakes, ImageStarts, ImagesStart, ImagesTake, OnRefusedEnd, OnUnread, writes_in, writes_up_to}
-use Rattle.update_client.proofs.ImagesTaking.{FirstTaken}
+use Rattle.update_client.proofs.{SentImages.SendsFirst, ImagesTaking.FirstTaken, WrittenPiece.image-opened}
 use Rattle.update_client.proofs.Staging.{sent-long, sent-other}
-use Rattle.update_client.proofs.WrittenPiece.{image-opened}
 
 -- ---- which stop it is
 

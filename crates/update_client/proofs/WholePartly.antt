@@ -5,38 +5,25 @@ use Rattle.std.specs.List.{list_all, list_any}
 use Rattle.std.proofs.lemmas.List.{get_or-map, length-map}
 use Rattle.base_core.specs.Bytes.{same_bytes}
 use Rattle.host_io.specs.Contents.{Directory}
-use Rattle.fwu_formats.specs.Layout.{Layout, ImageRow, fits_layout}
-use Rattle.fwu_formats.specs.Package.{Entry, Toc, payload}
-use Rattle.fwu_model.specs.State.{State, after}
-use Rattle.fwu_model.specs.Sound.{Setting}
+use Rattle.fwu_formats.specs.{Layout.Layout, Layout.ImageRow, Layout.fits_layout, Package.Entry, Package.Toc, Package.payload}
+use Rattle.fwu_model.specs.{State.State, State.after, Sound.Setting, Reply.Reply}
 use Rattle.fwu_model.specs.Session.{Session, On, Staged, Handle, is_committed}
-use Rattle.fwu_model.specs.Reply.{Reply}
+use Rattle.fwu_model.specs.Answer.{Answer, answered, refused, begin_moves, bits_over, cannot_begin, has_image, images_over, partial_fault, sent_over, staged_bits, staged_package, are_named, copied_parts, image_held, names_unknown}
 use Rattle.fwu_model.specs.Reply as reply
 use Rattle.fwu_model.specs.declared.kinds.Status.TheVariants as status
-use Rattle.fwu_model.specs.Answer.{Answer, answered, refused, begin_moves, bits_over, cannot_begin, has_image, images_over, partial_fault, sent_over, staged_bits, staged_package, are_named, copied_parts, image_held, names_unknown}
-use Rattle.agent_machine.specs.declared.stop.Stop.{Stop}
-use Rattle.agent_machine.specs.declared.stop.Stop.TheVariants as stop
-use Rattle.agent_machine.specs.Moment.{Moment, Shows}
+use Rattle.agent_machine.specs.{declared.stop.Stop.Stop, Moment.Moment, Moment.Shows, Goes.GoesByMoves, Filling.between}
 use Rattle.agent_machine.specs.Meets.{IsSettingOf, flash_result}
-use Rattle.agent_machine.specs.Goes.{GoesByMoves}
-use Rattle.agent_machine.specs.Filling.{between}
-use Rattle.agent_calls.specs.Partly.{begins_over}
-use Rattle.agent_calls.specs.Copies.{AnswersAs, BeginsPartly}
+use Rattle.agent_machine.specs.declared.stop.Stop.TheVariants as stop
+use Rattle.agent_calls.specs.{Partly.begins_over, Copies.AnswersAs, Copies.BeginsPartly}
 use Rattle.agent_calls.proofs.BegunPartly.{held, held-is}
-use Rattle.update_client.specs.declared.stops.Sent.{Sent}
-use Rattle.update_client.specs.declared.stops.SendStop.{SendStop}
+use Rattle.update_client.specs.{declared.stops.Sent.Sent, declared.stops.SendStop.SendStop, Finishes.InstallsImages}
+use Rattle.update_client.specs.{Halts.unbegun_as, Images.AreUnstaged, Images.sent_parts, Sends.IsInstalled}
 use Rattle.update_client.specs.Choosing.{no_row, refused_image}
-use Rattle.update_client.specs.Finishes.{InstallsImages}
-use Rattle.update_client.specs.Halts.{unbegun_as}
-use Rattle.update_client.specs.Images.{AreUnstaged, sent_parts}
 use Rattle.update_client.specs.Partial.{AreWhole, GoesAs, WasBegun, IsCountedOver, SendsOver, over_answer, present, types_of, AreSendable, InstallsOver}
-use Rattle.update_client.proofs.Installed.{told_value, told-is}
-use Rattle.update_client.proofs.Named.{copied-is, named-is, payloads-are}
+use Rattle.update_client.proofs.{Installed.told_value, Installed.told-is, Named.copied-is, Named.named-is, Named.payloads-are}
+use Rattle.update_client.proofs.{Staging.IsPacked, Present.placed-in, Present.kept_parts, Present.places}
 use Rattle.update_client.proofs.Over.{done-bits, done-committed, done-package, over-payloads, sent-over, over_images}
-use Rattle.update_client.specs.Sends.{IsInstalled}
-use Rattle.update_client.proofs.Staging.{IsPacked}
 use Rattle.update_client.proofs.Packaged.{begin-done, each-on, early, early-cases, unbegun}
-use Rattle.update_client.proofs.Present.{placed-in, kept_parts, places}
 use Rattle.update_client.proofs.Started.{Started, done-goes, halted-goes, installs-as, unless-fault}
 
 -- a partial begin goes by the machine's answer

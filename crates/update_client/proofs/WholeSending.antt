@@ -4,40 +4,28 @@ use Rattle.std.proofs.Math.Nat.{ℕ_set}
 use Rattle.std.proofs.Math.Logic.{∥∥₁_elim}
 use Rattle.std.specs.Prelude.{◌%◌, ◌==◌, IsTrue}
 use Rattle.host_io.specs.Contents.{Directory}
-use Rattle.fwu_formats.specs.Layout.{Layout, ImageRow, fits_layout}
+use Rattle.fwu_formats.specs.{Layout.Layout, Layout.ImageRow, Layout.fits_layout, Metadata.Meta}
 use Rattle.fwu_formats.specs.Package.{Toc, Entry, entry_of, payload}
-use Rattle.fwu_model.specs.State.{State, update_bank}
-use Rattle.fwu_model.specs.Sound.{Setting}
+use Rattle.fwu_model.specs.{State.State, State.update_bank, Sound.Setting, Reply.Reply}
 use Rattle.fwu_model.specs.Session.{Session, On, Staged, Handle, Nothing}
-use Rattle.fwu_model.specs.Call as call
-use Rattle.fwu_model.specs.Reply.{Reply}
-use Rattle.fwu_model.specs.Reply as reply
 use Rattle.fwu_model.specs.Answer.{Answer, answer, cannot_begin, begin_moves, first_image_fault, images_of, skipped, payload_or}
-use Rattle.agent_machine.specs.declared.stop.Stop.{Stop}
+use Rattle.fwu_model.specs.Call as call
+use Rattle.fwu_model.specs.Reply as reply
+use Rattle.agent_machine.specs.{declared.stop.Stop.Stop, Fields.target, Moment.Moment, Moment.Shows, Moment.Showing}
+use Rattle.agent_machine.specs.{Meets.IsStopped, Meets.flash_result, Goes.GoesByMoves, Filling.between}
 use Rattle.agent_machine.specs.declared.stop.Stop.TheVariants as stop
-use Rattle.fwu_formats.specs.Metadata.{Meta}
-use Rattle.agent_machine.specs.Fields.{target}
-use Rattle.agent_machine.specs.Moment.{Moment, Shows, Showing}
-use Rattle.agent_machine.specs.Meets.{IsStopped, flash_result}
-use Rattle.agent_machine.specs.Goes.{GoesByMoves}
-use Rattle.update_client.specs.declared.stops.Sent.{Sent}
-use Rattle.update_client.specs.declared.stops.SendStop.{SendStop}
+use Rattle.update_client.specs.{declared.stops.Sent.Sent, declared.stops.SendStop.SendStop, Halts.unbegun_as, Images.AreUnstaged}
+use Rattle.update_client.specs.{Images.sent_parts, Finishes.InstallsImages, Partial.GoesAs}
 use Rattle.update_client.specs.declared.stops.SendStop.TheVariants.{Begin}
-use Rattle.std.specs.List.{range_with_len}
-use Rattle.agent_machine.specs.Filling.{between}
-use Rattle.update_client.specs.Halts.{unbegun_as}
 use Rattle.update_client.specs.Choosing.{AreChosen, refused_image, no_row, no_entry}
-use Rattle.update_client.specs.Images.{AreUnstaged, sent_parts}
-use Rattle.update_client.specs.Finishes.{InstallsImages}
 use Rattle.update_client.specs.Sends.{Installs, AllowsBegin, IsInstalled, IsSwitched, Sends, SendEndsBy, send_answer}
+use Rattle.std.specs.List.{range_with_len}
 use Rattle.agent_machine.proofs.CallGoing.{MeetsAs, call-goes, call-replies, call-stopped}
+use Rattle.update_client.proofs.{Installed.told_value, Installed.told-is, OwnImages.are-images}
 use Rattle.update_client.proofs.Staging.{begin-answers, IsPacked, whole-packed}
-use Rattle.update_client.proofs.Installed.{told_value, told-is}
-use Rattle.update_client.proofs.OwnImages.{are-images}
-use Rattle.agent_calls.specs.Copies.{AnswersAs}
-use Rattle.update_client.specs.Partial.{GoesAs}
 use Rattle.update_client.proofs.Packaged.{begin-done, each-on, early, unbegun}
 use Rattle.update_client.proofs.Started.{Started, done-goes, halted-goes, installs-as, unless-fault}
+use Rattle.agent_calls.specs.Copies.{AnswersAs}
 use Rattle.fwu_model.proofs.Selects.{layout-distinct}
 
 abbrev of : Unit {0} → Reply

@@ -2,21 +2,14 @@
 use Rattle.std.proofs.Common.{◌≡◌, ℕ, zero, suc, ◌+◌, ◌<◌, ◌≤◌, List, [], ◌∷◌, ◌++◌, length, take, drop, Option, Ok, Err, refl, sym, ap, ◌∙◌, arith, length-append}
 use Rattle.std.proofs.Math.Seq.{take-add}
 use Rattle.host_io.specs.Contents.{Directory}
-use Rattle.fwu_formats.specs.Package.{Entry, payload}
-use Rattle.fwu_model.specs.State.{State}
-use Rattle.fwu_model.specs.Sound.{Setting}
-use Rattle.fwu_formats.specs.Layout.{slot_bytes}
+use Rattle.fwu_formats.specs.{Package.Entry, Package.payload, Layout.slot_bytes}
+use Rattle.fwu_model.specs.{State.State, Sound.Setting, Session.Session, Session.Staged}
 use Rattle.fip_tables.specs.Files.{Tells}
-use Rattle.fwu_model.specs.Session.{Session, Staged}
-use Rattle.agent_machine.specs.Moment.{Moment, Shows}
-use Rattle.agent_machine.specs.Goes.{GoesByMoves}
+use Rattle.agent_machine.specs.{Moment.Moment, Moment.Shows, Goes.GoesByMoves, Filling.within}
 use Rattle.agent_machine.proofs.Going.{goes-then, goes-nothing}
 use Rattle.update_client.proofs.Halting.{halts-after}
-use Rattle.update_client.specs.declared.stops.SendStop.{SendStop}
+use Rattle.update_client.specs.{declared.stops.SendStop.SendStop, Halts.Halts, Pieces.WritesPiece, Pieces.WritesImage}
 use Rattle.update_client.specs.declared.stops.SendStop.TheVariants.{ReadFailed}
-use Rattle.agent_machine.specs.Filling.{within}
-use Rattle.update_client.specs.Halts.{Halts}
-use Rattle.update_client.specs.Pieces.{WritesPiece, WritesImage}
 
 -- the first bytes of a payload were read and written
 pub record WritesFirst (told : Option Directory) (name : List ℕ) (e : Entry) (at : ℕ) (old new : Moment) : Type 0 where

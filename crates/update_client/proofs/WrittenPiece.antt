@@ -2,33 +2,22 @@
 use Rattle.std.proofs.Common.{◌≡◌, ◌≢◌, ℕ, ◌+◌, ◌<◌, ◌≤◌, Bool, List, [], ◌++◌, length, take, drop, get_or, set, Option, Some, Ok, Err, refl, sym, subst, ◌∙◌, arith}
 use Rattle.std.specs.Prelude.{IsFalse, ◌==◌}
 use Rattle.host_io.specs.Contents.{Directory}
-use Rattle.fwu_formats.specs.Layout.{slot_bytes, find_image}
-use Rattle.fwu_formats.specs.Package.{Entry, payload}
-use Rattle.fwu_model.specs.State.{State}
-use Rattle.fwu_model.specs.Sound.{Setting}
+use Rattle.fwu_formats.specs.{Layout.slot_bytes, Layout.find_image, Package.Entry, Package.payload}
+use Rattle.fwu_model.specs.{State.State, Sound.Setting, Call.Call, Reply.Reply, declared.kinds.Status.Status}
 use Rattle.fwu_model.specs.Session.{Session, Staged, Nothing, Open, Writes, no_handles}
-use Rattle.fwu_model.specs.Call as call
-use Rattle.fwu_model.specs.Call.{Call}
-use Rattle.fwu_model.specs.Reply.{Reply}
-use Rattle.fwu_model.specs.Reply as reply
-use Rattle.fwu_model.specs.declared.kinds.Status.{Status}
 use Rattle.fwu_model.specs.Answer.{Answer, answer, answered}
+use Rattle.fwu_model.specs.Call as call
+use Rattle.fwu_model.specs.Reply as reply
 use Rattle.fip_tables.specs.Files.{Tells}
-use Rattle.agent_machine.specs.declared.stop.Stop.{Stop}
+use Rattle.agent_machine.specs.{declared.stop.Stop.Stop, Moment.Moment, Moment.Shows, Meets.GoesBy, Goes.GoesByMoves}
+use Rattle.agent_machine.specs.Filling.{between, filled, within}
 use Rattle.agent_machine.specs.declared.stop.Stop.TheVariants as stop
-use Rattle.agent_machine.specs.Moment.{Moment, Shows}
-use Rattle.agent_machine.specs.Meets.{GoesBy}
-use Rattle.agent_machine.specs.Goes.{GoesByMoves}
-use Rattle.agent_machine.proofs.Going.{goes-nothing, goes-then}
-use Rattle.agent_machine.proofs.CallGoing.{MeetsAs, call-goes}
+use Rattle.agent_machine.proofs.{Going.goes-nothing, Going.goes-then, CallGoing.MeetsAs, CallGoing.call-goes}
+use Rattle.agent_machine.proofs.Filling.{open-answers, write-answers, commit-answers}
 use Rattle.agent_calls.specs.Copies.{FollowsInStaging}
 use Rattle.agent_calls.proofs.Copies.{call-done, call-follows, no-opened, no-success}
-use Rattle.update_client.specs.declared.stops.SendStop.{SendStop}
-use Rattle.update_client.specs.declared.stops.SendStop.TheVariants.{ReadFailed}
-use Rattle.agent_machine.specs.Filling.{between, filled, within}
-use Rattle.update_client.specs.Halts.{Halts, stopped_as}
-use Rattle.update_client.specs.Pieces.{WritesPiece, WritesImage, SendsImage}
-use Rattle.agent_machine.proofs.Filling.{open-answers, write-answers, commit-answers}
+use Rattle.update_client.specs.{declared.stops.SendStop.SendStop, declared.stops.SendStop.TheVariants.ReadFailed, Halts.Halts}
+use Rattle.update_client.specs.{Halts.stopped_as, Pieces.WritesPiece, Pieces.WritesImage, Pieces.SendsImage}
 use Rattle.update_client.proofs.Halting.{halts-after, other-end}
 
 pub piece-unread : (told : Option Directory) (name : List ℕ) (e : Entry) (at : ℕ) (m : Moment)

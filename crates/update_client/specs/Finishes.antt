@@ -5,17 +5,12 @@ use Rattle.flash_core.specs.declared.flash.FlashStop.TheVariants as flash_stop
 use Rattle.host_io.specs.Contents.{Directory}
 use Rattle.fwu_formats.specs.Package.{Entry, payload}
 use Rattle.fip_tables.specs.Files.{Tells}
-use Rattle.fwu_model.specs.State.{State, Move, Switch, update_bank}
-use Rattle.fwu_model.specs.Sound.{Setting}
+use Rattle.fwu_model.specs.{State.State, State.Move, State.Switch, State.update_bank, Sound.Setting, Answer.may_install}
+use Rattle.fwu_model.specs.{Answer.staged_bits, Answer.staged_package, declared.kinds.Status.TheVariants.AuthFail}
 use Rattle.fwu_model.specs.Session.{On, Staged, is_committed, no_handles}
-use Rattle.fwu_model.specs.Answer.{may_install, staged_bits, staged_package}
-use Rattle.fwu_model.specs.declared.kinds.Status.TheVariants.{AuthFail}
-use Rattle.agent_machine.specs.Moment.{Moment, Shows}
-use Rattle.agent_machine.specs.Goes.{GoesByMoves}
-use Rattle.update_client.specs.declared.stops.SendStop.{SendStop}
+use Rattle.agent_machine.specs.{Moment.Moment, Moment.Shows, Goes.GoesByMoves, Filling.between}
+use Rattle.update_client.specs.{declared.stops.SendStop.SendStop, Images.AreUnstaged, Images.sent_parts}
 use Rattle.update_client.specs.declared.stops.SendStop.TheVariants.{End, ReadFailed, Lost, Fault}
-use Rattle.agent_machine.specs.Filling.{between}
-use Rattle.update_client.specs.Images.{AreUnstaged, sent_parts}
 
 abbrev pub end_moves : Setting → State → List (List ℕ) → List Bool → List Move
 end_moves E s p bits = if may_install E s p then Switch (update_bank s) p bits ∷ [] else []

@@ -2,13 +2,9 @@
 use Rattle.std.specs.Prelude.{ℕ, Bool, true, false, List, [], Some, Result, Ok, Err, ⊤}
 use Rattle.flash_core.specs.declared.flash.FlashStop.{FlashStop}
 use Rattle.flash_core.specs.declared.flash.FlashStop.TheVariants as flash_stop
-use Rattle.fwu_model.specs.State.{State}
-use Rattle.fwu_model.specs.Sound.{Setting}
-use Rattle.fwu_model.specs.Session.{Session, On, Staged, Handle}
-use Rattle.agent_machine.specs.declared.stop.Stop.{Stop}
+use Rattle.fwu_model.specs.{State.State, Sound.Setting, Session.Session, Session.On, Session.Staged, Session.Handle}
+use Rattle.agent_machine.specs.{declared.stop.Stop.Stop, Moment.Moment, Goes.GoesByMoves}
 use Rattle.agent_machine.specs.declared.stop.Stop.TheVariants as stop
-use Rattle.agent_machine.specs.Moment.{Moment}
-use Rattle.agent_machine.specs.Goes.{GoesByMoves}
 use Rattle.update_client.specs.declared.stops.SendStop.{SendStop}
 use Rattle.update_client.specs.declared.stops.SendStop.TheVariants.{MissingImage, ImageTooLarge, Begin, End, ReadFailed, Lost, Fault, Gone}
 

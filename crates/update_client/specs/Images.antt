@@ -1,17 +1,12 @@
 -- What is sent of all images.
 use Rattle.std.specs.Prelude.{◌≡◌, ◌≢◌, ◌≤◌, ◌<◌, ◌==◌, ℕ, Bool, List, [], ◌∷◌, length, map, Option, Some, Result, OnOk, slice_index_or}
 use Rattle.host_io.specs.Contents.{Directory}
-use Rattle.fwu_formats.specs.Layout.{slot_bytes, find_image}
-use Rattle.fwu_formats.specs.Package.{Entry, payload}
-use Rattle.fwu_model.specs.State.{State}
-use Rattle.fwu_model.specs.Sound.{Setting}
+use Rattle.fwu_formats.specs.{Layout.slot_bytes, Layout.find_image, Package.Entry, Package.payload}
+use Rattle.fwu_model.specs.{State.State, Sound.Setting, Session.Staged, Session.Nothing}
 use Rattle.fip_tables.specs.Files.{Tells}
 pub use Rattle.fip_tables.specs.Images.{no_entry}
-use Rattle.agent_machine.specs.Moment.{Moment, Shows}
-use Rattle.update_client.specs.declared.stops.SendStop.{SendStop}
-use Rattle.fwu_model.specs.Session.{Staged, Nothing}
-use Rattle.agent_machine.specs.Filling.{between, filled}
-use Rattle.update_client.specs.Halts.{Halts}
+use Rattle.agent_machine.specs.{Moment.Moment, Moment.Shows, Filling.between, Filling.filled}
+use Rattle.update_client.specs.{declared.stops.SendStop.SendStop, Halts.Halts}
 
 -- these bytes of images, each committed where nothing was staged
 abbrev pub sent_parts : List Staged → List (List ℕ) → List ℕ → Bool → List Staged

@@ -1,24 +1,17 @@
 -- What a partial sending stages over the images of the active bank.
 use Rattle.std.specs.Prelude.{◌≡◌, ◌+◌, ◌<◌, ℕ, Bool, false, List, [], IsTrue, length, map, Option, Some, None, Result, Ok, Err, slice_index_or, ⊤}
-use Rattle.fwu_formats.specs.Layout.{ImageRow}
-use Rattle.fwu_formats.specs.Package.{Entry, Toc}
+use Rattle.fwu_formats.specs.{Layout.ImageRow, Package.Entry, Package.Toc}
 use Rattle.fwu_model.specs.Reply as reply
-use Rattle.fwu_model.specs.Session.{Session, Off, On}
+use Rattle.fwu_model.specs.{Session.Session, Session.Off, Session.On, State.State, Sound.Setting}
 use Rattle.fwu_model.specs.Answer.{Answer, answered, are_named, bits_over, has_image, image_held, images_over, install_unless, partial_fault, sent_over}
 use Rattle.agent_calls.specs.Takes.{writes_to_copy}
-use Rattle.update_client.specs.Takes.{writes_in}
-use Rattle.update_client.specs.declared.stops.SendStop.{SendStop}
+use Rattle.update_client.specs.{Takes.writes_in, declared.stops.SendStop.SendStop, Choosing.no_row, Choosing.refused_image}
+use Rattle.update_client.specs.{Sends.EndsAs, Sends.IsInstalled, declared.stops.Sent.Sent}
 use Rattle.update_client.specs.declared.stops.SendStop.TheVariants.{End, ReadFailed}
 pub use Rattle.fip_tables.specs.Images.{present}
-use Rattle.update_client.specs.Choosing.{no_row, refused_image}
-use Rattle.update_client.specs.Sends.{EndsAs, IsInstalled}
 use Rattle.host_io.specs.Contents.{Directory}
 use Rattle.fip_tables.specs.Files.{Tells}
-use Rattle.fwu_model.specs.State.{State}
-use Rattle.fwu_model.specs.Sound.{Setting}
-use Rattle.agent_machine.specs.Fields.{Fields, total_of}
-use Rattle.agent_machine.specs.Moment.{Moment, Shows}
-use Rattle.update_client.specs.declared.stops.Sent.{Sent}
+use Rattle.agent_machine.specs.{Fields.Fields, Fields.total_of, Moment.Moment, Moment.Shows}
 
 -- ---- which entries are sent
 

@@ -2,22 +2,14 @@
 use Rattle.std.specs.Prelude.{◌≡◌, ◌≤◌, ◌<◌, ◌==◌, ℕ, ◌+◌, List, [], ◌++◌, length, take, drop, Option, Some, Result, Err, OnOk, IfOk, slice_index_or}
 use Rattle.base_core.specs.Counts.{Rose}
 use Rattle.flash_core.specs.declared.flash.Flash as flash
-use Rattle.host_io.specs.declared.files.Files.{Ghosts}
-use Rattle.host_io.specs.Contents.{Directory}
-use Rattle.host_io.specs.Reads.{ReadsFile}
-use Rattle.fwu_formats.specs.Layout.{slot_bytes, find_image}
-use Rattle.fwu_formats.specs.Package.{Entry, payload}
-use Rattle.fwu_model.specs.State.{State}
-use Rattle.fwu_model.specs.Sound.{Setting}
-use Rattle.fwu_model.specs.Session.{Staged, Nothing}
+use Rattle.host_io.specs.{declared.files.Files.Ghosts, Contents.Directory, Reads.ReadsFile}
+use Rattle.fwu_formats.specs.{Layout.slot_bytes, Layout.find_image, Package.Entry, Package.payload}
+use Rattle.fwu_model.specs.{State.State, Sound.Setting, Session.Staged, Session.Nothing}
 use Rattle.fip_tables.specs.Files.{Tells}
-use Rattle.agent_machine.specs.Beside.{SparesBlocksByAll}
-use Rattle.agent_machine.specs.Moment.{Moment, Shows}
-use Rattle.agent_calls.specs.declared.agent.Agent.{Agent}
-use Rattle.agent_calls.specs.Shown.{SpentBy, moment}
-use Rattle.update_client.specs.declared.stops.SendStop.{SendStop}
-use Rattle.update_client.specs.declared.stops.SendStop.TheVariants.{ReadFailed}
+use Rattle.agent_machine.specs.{Beside.SparesBlocksByAll, Moment.Moment, Moment.Shows}
 use Rattle.agent_machine.specs.Filling.{between, filled, within}
+use Rattle.agent_calls.specs.{declared.agent.Agent.Agent, Shown.SpentBy, Shown.moment}
+use Rattle.update_client.specs.{declared.stops.SendStop.SendStop, declared.stops.SendStop.TheVariants.ReadFailed}
 use Rattle.update_client.specs.Halts.{Halts, StopsWithin, flash_of}
 
 -- a piece of a payload, from a place of it on, was read and written behind what was there

@@ -2,22 +2,15 @@
 use Rattle.std.specs.Prelude.{◌≡◌, ◌↔◌, ◌⊎◌, ◌==◌, ℕ, Bool, List, [], length, replicate, Option, Some, None, Result, Ok, Err, IsErrAnd, IsTrue, ⊤}
 use Rattle.flash_core.specs.declared.flash.FlashStop.TheVariants as flash_stop
 use Rattle.host_io.specs.Contents.{Directory}
-use Rattle.fwu_formats.specs.Layout.{ImageRow}
-use Rattle.fwu_model.specs.State.{State, bank, update_bank}
-use Rattle.fwu_model.specs.Sound.{Setting}
+use Rattle.fwu_formats.specs.{Layout.ImageRow, Package.Toc}
+use Rattle.fwu_model.specs.{State.State, State.bank, State.update_bank, Sound.Setting, Reply.Reply}
 use Rattle.fwu_model.specs.Session.{Session, Off, On, no_handles}
-use Rattle.fwu_formats.specs.Package.{Toc}
-use Rattle.fwu_model.specs.Call as call
-use Rattle.fwu_model.specs.Reply.{Reply}
-use Rattle.fwu_model.specs.Reply as reply
 use Rattle.fwu_model.specs.Answer.{Answer, answer, answered, images_of, send_package}
+use Rattle.fwu_model.specs.Call as call
+use Rattle.fwu_model.specs.Reply as reply
 use Rattle.fip_tables.specs.Files.{Tells}
-use Rattle.agent_machine.specs.Fields.{Fields, target}
-use Rattle.agent_machine.specs.Moment.{Moment, Shows}
-use Rattle.agent_machine.specs.Goes.{GoesByMoves}
-use Rattle.update_client.specs.Halts.{flash_of}
-use Rattle.update_client.specs.declared.stops.Sent.{Sent}
-use Rattle.update_client.specs.declared.stops.SendStop.{SendStop}
+use Rattle.agent_machine.specs.{Fields.Fields, Fields.target, Moment.Moment, Moment.Shows, Goes.GoesByMoves}
+use Rattle.update_client.specs.{Halts.flash_of, declared.stops.Sent.Sent, declared.stops.SendStop.SendStop}
 use Rattle.update_client.specs.declared.stops.SendStop.TheVariants.{MissingImage, ImageTooLarge, Begin, End, ReadFailed, Lost, Fault, Gone}
 
 -- the machine's answer to a sending by the table that is given, of the images that were read

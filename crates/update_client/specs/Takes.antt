@@ -1,19 +1,12 @@
 -- How many erases and programs a sending makes, as an armed loss counts them, on every device.
 use Rattle.std.specs.Prelude.{◌≡◌, ℕ, ◌+◌, ◌*◌, ◌<◌, ◌≤◌, List, [], ◌∷◌, length, take, Option, Some, None, Result, Err, OnOk, slice_index_or, ⊤}
-use Rattle.flash_core.specs.declared.flash.Arming.{Arming}
-use Rattle.flash_core.specs.Counts.{lowered_by}
-use Rattle.fwu_formats.specs.Layout.{ImageRow, find_image, slot_bytes}
-use Rattle.fwu_formats.specs.Package.{Entry, Toc, entry_of}
-use Rattle.fwu_model.specs.State.{State}
-use Rattle.fwu_model.specs.Sound.{Setting}
-use Rattle.fwu_model.specs.Session.{Staged, Nothing}
+use Rattle.flash_core.specs.{declared.flash.Arming.Arming, Counts.lowered_by}
+use Rattle.fwu_formats.specs.{Layout.ImageRow, Layout.find_image, Layout.slot_bytes, Package.Entry, Package.Toc, Package.entry_of}
+use Rattle.fwu_model.specs.{State.State, Sound.Setting, Session.Staged, Session.Nothing}
 use Rattle.slot_writer.specs.Writes.{writes_to_append}
-use Rattle.agent_machine.specs.Ends.{TakesSwitch}
-use Rattle.agent_machine.specs.Moment.{Moment, Shows}
-use Rattle.agent_machine.specs.Filling.{between, within}
+use Rattle.agent_machine.specs.{Ends.TakesSwitch, Moment.Moment, Moment.Shows, Filling.between, Filling.within}
 use Rattle.agent_calls.specs.Takes.{Takes, pieces_of, writes_of_image, writes_of_pieces}
-use Rattle.update_client.specs.Images.{AreUnstaged, no_entry}
-use Rattle.update_client.specs.declared.stops.SendStop.{SendStop}
+use Rattle.update_client.specs.{Images.AreUnstaged, Images.no_entry, declared.stops.SendStop.SendStop}
 use Rattle.update_client.specs.declared.stops.SendStop.TheVariants.{End, ReadFailed}
 
 -- the writes and commits of these payloads, written `size` bytes at a time

@@ -4,12 +4,10 @@ use Rattle.std.specs.Io.KnownBytes.{Consumes}
 use Rattle.std.proofs.KnownBytes.{Consumes-trans}
 use Rattle.std.proofs.lemmas.List.{length-take-le, take_all, take_at}
 use Rattle.base_core.specs.Bytes.{le, num, num_at}
-use Rattle.host_io.specs.Once.{ReadsOnce}
-use Rattle.host_io.specs.declared.source.Source.{Ghosts}
-use Rattle.wire_frames.specs.declared.stream.Cut.{Cut}
-use Rattle.wire_frames.specs.declared.stream.Cut.TheVariants as cut
-use Rattle.wire_frames.specs.Frames.{IsPartialFrame, frame}
+use Rattle.host_io.specs.{Once.ReadsOnce, declared.source.Source.Ghosts}
+use Rattle.wire_frames.specs.{declared.stream.Cut.Cut, Frames.IsPartialFrame, Frames.frame}
 use Rattle.wire_frames.specs.Stream.{CutsShort, ReadsFrame, ReadsSource, StopsReading, stop_by}
+use Rattle.wire_frames.specs.declared.stream.Cut.TheVariants as cut
 
 -- the front of a buffer, with bytes that came behind it
 pub taken-more : (at n : ℕ) (out new tail : List ℕ) → at ≤ length out → n ≤ length new → take (at + n) (take at out ++ (new ++ tail)) ≡ take at out ++ take n new

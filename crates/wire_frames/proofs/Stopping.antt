@@ -3,10 +3,9 @@ use Rattle.std.proofs.Common.{◌≡◌, ℕ, List, [], ◌∷◌, ◌++◌, len
 use Rattle.std.specs.Io.KnownBytes.{Consumes}
 use Rattle.std.proofs.lemmas.List.{take_all, take_at}
 use Rattle.base_core.specs.Bytes.{num, num_at}
-use Rattle.wire_frames.specs.declared.stream.FrameStop.{FrameStop}
-use Rattle.wire_frames.specs.declared.stream.FrameStop.TheVariants as stop
+use Rattle.wire_frames.specs.{declared.stream.FrameStop.FrameStop, Stream.StopsReading, Stream.StopsStream}
 use Rattle.wire_frames.specs.Frames.{AreBodies, HasBadLength, IsLength, frames}
-use Rattle.wire_frames.specs.Stream.{StopsReading, StopsStream}
+use Rattle.wire_frames.specs.declared.stream.FrameStop.TheVariants as stop
 
 -- four bytes that are a bad length are one also with others behind them
 bad-more : (bytes more : List ℕ) → length bytes ≡ 4 → HasBadLength bytes → HasBadLength (bytes ++ more)

@@ -1,14 +1,10 @@
 -- Frames that come from a source.
 use Rattle.std.specs.Prelude.{◌≡◌, ◌⊎◌, ◌+◌, ◌<◌, ◌≤◌, ℕ, Bool, if◌then◌else◌, List, [], ◌∷◌, ◌++◌, Option, Some, Result, Ok, Err, OnOk, length, ⊤}
 use Rattle.std.specs.Io.KnownBytes.{Consumes, IsAtEnd}
-use Rattle.host_io.specs.Calls.{raised}
-use Rattle.host_io.specs.Once.{ReadsBytes, ReadsOnce}
-use Rattle.host_io.specs.declared.source.Source.{Ghosts}
+use Rattle.host_io.specs.{Calls.raised, Once.ReadsBytes, Once.ReadsOnce, declared.source.Source.Ghosts}
+use Rattle.wire_frames.specs.{declared.stream.Cut.Cut, declared.stream.Short.Short, declared.stream.FrameStop.FrameStop}
 use Rattle.wire_frames.specs.Frames.{AreBodies, HasBadLength, IsBody, IsPartialFrame, Splits, frame, frames}
-use Rattle.wire_frames.specs.declared.stream.Cut.{Cut}
 use Rattle.wire_frames.specs.declared.stream.Cut.TheVariants as cut
-use Rattle.wire_frames.specs.declared.stream.Short.{Short}
-use Rattle.wire_frames.specs.declared.stream.FrameStop.{FrameStop}
 use Rattle.wire_frames.specs.declared.stream.FrameStop.TheVariants as stop
 
 -- the most bytes that are taken from a source

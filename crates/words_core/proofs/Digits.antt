@@ -7,8 +7,7 @@ use Rattle.std.proofs.lemmas.Bool.{and_parts, true≢false}
 use Rattle.std.proofs.lemmas.List.Sums.{list_all-from_AllPass}
 use Rattle.hex.specs.Hex.{decode_of, decode_pairs, hex_digit_value, is_hex_digit, pair_value}
 use Rattle.hex.specs.declared.error.FromHexError.{FromHexError}
-use Rattle.hex.proofs.HexLemmas.{decode_of-ok, decode_of-odd}
-use Rattle.hex.proofs.Pairs.{cons_byte, decode_pairs-ok_pair}
+use Rattle.hex.proofs.{HexLemmas.decode_of-ok, HexLemmas.decode_of-odd, Pairs.cons_byte, Pairs.decode_pairs-ok_pair}
 use Rattle.fwu_formats.specs.Words.{bytes_of, is_word, ok_bytes}
 
 abbrev value : ℕ → ℕ

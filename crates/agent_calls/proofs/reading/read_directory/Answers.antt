@@ -1,12 +1,9 @@
 use Rattle.std.proofs.Common.{◌≡◌, ℕ, ◌-◌, List, length, take, drop, ap, ◌∙◌, arith}
 use Rattle.std.proofs.lemmas.List.{length-take, length-replicate}
-use Rattle.fwu_formats.specs.Layout.{ImageRow}
-use Rattle.fwu_formats.specs.Manifest.{manifest_size}
+use Rattle.fwu_formats.specs.{Layout.ImageRow, Manifest.manifest_size}
 use Rattle.fwu_formats.proofs.SealLaws.{limits}
-use Rattle.agent_machine.specs.Directory.{directory_by, manifest_in}
-use Rattle.agent_machine.specs.Fields.{directory_size}
-use Rattle.agent_machine.proofs.Directory.{manifest-fits, manifest-read, piece-at}
-use Rattle.agent_machine.proofs.Room.{slot-inside}
+use Rattle.agent_machine.specs.{Directory.directory_by, Directory.manifest_in, Fields.directory_size}
+use Rattle.agent_machine.proofs.{Directory.manifest-fits, Directory.manifest-read, Directory.piece-at, Room.slot-inside}
 use Rattle.agent_calls.proofs.reading.read_directory.Goals as goal
 
 pub read-requires-clause-inside : goal.read-requires-clause-inside

@@ -3,10 +3,9 @@ use Rattle.fwu_model.specs.declared.kinds.Status.TheVariants as status
 use Rattle.fwu_model.specs.Session.{Staged, On}
 use Rattle.fwu_formats.specs.Layout.{ImageRow, find_image}
 use Rattle.fwu_model.specs.Call as call
+use Rattle.agent_kept.specs.{Kept.kept, Kept.handles_meant, Kept.staging_meant, Plans.DecidesAs}
 use Rattle.agent_kept.specs.declared.kinds.Decision.TheVariants.{Refused, Do}
 use Rattle.agent_kept.specs.declared.kinds.Plan.TheVariants as plan
-use Rattle.agent_kept.specs.Kept.{kept, handles_meant, staging_meant}
-use Rattle.agent_kept.specs.Plans.{DecidesAs}
 use Rattle.meta_layout.proofs.Fits.{meta-fits, row-length}
 use Rattle.agent_state.proofs.Machine as machine
 use Rattle.agent_state.proofs.Replies as replies

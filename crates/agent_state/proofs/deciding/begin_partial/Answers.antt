@@ -1,9 +1,7 @@
 use Rattle.std.proofs.Common.{◌≡◌, not, List, length, take, sym, ap, ◌∙◌, subst}
-use Rattle.fwu_model.specs.State.{is_invalid, update_bank}
-use Rattle.fwu_formats.specs.Layout.{ImageRow}
-use Rattle.fwu_formats.specs.Metadata.{state_at}
+use Rattle.fwu_model.specs.{State.is_invalid, State.update_bank, Answer.are_named, Answer.names_unknown}
+use Rattle.fwu_formats.specs.{Layout.ImageRow, Metadata.state_at}
 use Rattle.agent_kept.specs.Kept.{kept, handles_meant, staging_meant}
-use Rattle.fwu_model.specs.Answer.{are_named, names_unknown}
 use Rattle.agent_state.proofs.Machine as machine
 use Rattle.agent_state.proofs.Replies as replies
 use Rattle.agent_state.proofs.deciding.begin_partial.Goals as goal

@@ -1,12 +1,10 @@
 use Rattle.std.proofs.Common.{sym, subst}
-use Rattle.agent_kept.specs.declared.kinds.Decision.TheVariants.{Do}
-use Rattle.agent_kept.specs.declared.kinds.Plan.TheVariants as plan
+use Rattle.agent_kept.specs.{declared.kinds.Decision.TheVariants.Do, declared.kinds.Request.Request}
 use Rattle.agent_kept.specs.Kept.{kept, handles_meant, staging_meant}
+use Rattle.agent_kept.specs.declared.kinds.Plan.TheVariants as plan
 use Rattle.meta_layout.proofs.Fits.{meta-fits}
-use Rattle.agent_kept.specs.declared.kinds.Request.{Request}
-use Rattle.agent_state.specs.Decides.{DecidesRequest}
+use Rattle.agent_state.specs.{Decides.DecidesRequest, Asked.IsFor}
 use Rattle.agent_state.proofs.Replies as replies
-use Rattle.agent_state.specs.Asked.{IsFor}
 use Rattle.agent_state.proofs.deciding.decide.Goals as goal
 
 pub returns-in-Discover-clause-decides : goal.returns-in-Discover-clause-decides

@@ -2,17 +2,14 @@ use Rattle.std.proofs.Common.{ℕ, Bool, List, Option, sym, ap, ap₂, ◌∙◌
 use Rattle.fwu_model.specs.declared.kinds.Status.TheVariants as status
 use Rattle.fwu_model.specs.Session.{Staged, On}
 use Rattle.fwu_model.specs.Call as call
+use Rattle.agent_kept.specs.{Plans.DecidesAs, Judged.is_installable, Sound.is_writer_kept}
 use Rattle.agent_kept.specs.declared.kinds.Decision.TheVariants.{Refused, Do}
-use Rattle.agent_kept.specs.declared.kinds.Plan.TheVariants as plan
 use Rattle.agent_kept.specs.Kept.{kept, handles_meant, staging_meant, parts_meant}
-use Rattle.agent_kept.specs.Plans.{DecidesAs}
-use Rattle.agent_kept.specs.Judged.{is_installable}
-use Rattle.agent_kept.proofs.Installable.{judging-exact}
+use Rattle.agent_kept.specs.declared.kinds.Plan.TheVariants as plan
+use Rattle.agent_kept.proofs.{Installable.judging-exact, Meant.staging-on}
 use Rattle.agent_state.proofs.Machine as machine
-use Rattle.agent_kept.proofs.Meant.{staging-on}
 use Rattle.agent_state.proofs.Replies as replies
 use Rattle.std.specs.List.{list_any}
-use Rattle.agent_kept.specs.Sound.{is_writer_kept}
 use Rattle.agent_state.proofs.deciding.end.Goals as goal
 
 pub returns-then-not-is_staging-clause-decides : goal.returns-then-not-is_staging-clause-decides

@@ -1,14 +1,12 @@
 use Rattle.std.proofs.Common.{List, None, sym, ap, ◌∙◌, subst}
 use Rattle.fwu_model.specs.declared.kinds.Status.TheVariants as status
 use Rattle.fwu_model.specs.declared.kinds.Op.TheVariants as op
-use Rattle.fwu_model.specs.Session.{On}
+use Rattle.fwu_model.specs.{Session.On, declared.kinds.Op.Op}
 use Rattle.fwu_formats.specs.Layout.{ImageRow, find_image}
 use Rattle.fwu_model.specs.Call as call
-use Rattle.agent_kept.specs.declared.kinds.Decision.TheVariants.{Refused}
+use Rattle.agent_kept.specs.{declared.kinds.Decision.TheVariants.Refused, Plans.DecidesAs, Plans.call_of}
 use Rattle.agent_kept.specs.Kept.{kept, handles_meant, session_meant, staging_meant}
-use Rattle.fwu_model.specs.declared.kinds.Op.{Op}
 use Rattle.agent_kept.specs.declared.kinds.Request.TheVariants as request
-use Rattle.agent_kept.specs.Plans.{DecidesAs, call_of}
 use Rattle.agent_state.proofs.Replies as replies
 use Rattle.agent_state.proofs.deciding.open_directory.Goals as goal
 

@@ -2,12 +2,10 @@ use Rattle.std.proofs.Common.{List, Option, Some, sym, ap, ◌∙◌, subst}
 use Rattle.fwu_model.specs.declared.kinds.Status.TheVariants as status
 use Rattle.fwu_model.specs.declared.kinds.Op.TheVariants as op
 use Rattle.fwu_model.specs.Session.{Staged, On, is_open, is_committed}
-use Rattle.agent_kept.specs.declared.parts.Part.{Part}
+use Rattle.agent_kept.specs.{declared.parts.Part.Part, declared.kinds.Decision.TheVariants.Refused, Plans.DecidesAs}
+use Rattle.agent_kept.specs.Kept.{kept, handles_meant, staging_meant, parts_meant, part_meant}
 use Rattle.fwu_formats.specs.Layout.{ImageRow, find_image}
 use Rattle.fwu_model.specs.Call as call
-use Rattle.agent_kept.specs.declared.kinds.Decision.TheVariants.{Refused}
-use Rattle.agent_kept.specs.Kept.{kept, handles_meant, staging_meant, parts_meant, part_meant}
-use Rattle.agent_kept.specs.Plans.{DecidesAs}
 use Rattle.agent_state.proofs.Machine as machine
 use Rattle.agent_kept.proofs.Meant.{staging-on}
 use Rattle.agent_state.proofs.Replies as replies

@@ -1,12 +1,9 @@
 use Rattle.std.proofs.Common.{◌≡◌, ℕ, List, Option, None, sym, ◌∙◌, subst}
 use Rattle.fwu_model.specs.declared.kinds.Status.TheVariants as status
-use Rattle.fwu_model.specs.Session.{Staged, On}
-use Rattle.fwu_model.specs.State.{bank}
+use Rattle.fwu_model.specs.{Session.Staged, Session.On, State.bank, Answer.answer, Answer.may_go_back}
 use Rattle.fwu_model.specs.Call as call
+use Rattle.agent_kept.specs.{Kept.kept, Kept.handles_meant, Kept.staging_meant, Plans.DecidesAs, Plans.by_verdict}
 use Rattle.agent_kept.specs.declared.kinds.Decision.TheVariants.{Refused, ByVerdict}
-use Rattle.agent_kept.specs.Kept.{kept, handles_meant, staging_meant}
-use Rattle.agent_kept.specs.Plans.{DecidesAs, by_verdict}
-use Rattle.fwu_model.specs.Answer.{answer, may_go_back}
 use Rattle.agent_state.proofs.Machine as machine
 use Rattle.agent_state.proofs.Replies as replies
 use Rattle.agent_state.proofs.deciding.previous.Goals as goal

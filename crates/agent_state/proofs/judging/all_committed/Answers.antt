@@ -1,6 +1,5 @@
 use Rattle.std.proofs.Common.{length, sym, ap, ◌∙◌, arith}
-use Rattle.agent_kept.specs.Kept.{kept}
-use Rattle.agent_kept.specs.Judged.{is_part_committed}
+use Rattle.agent_kept.specs.{Kept.kept, Judged.is_part_committed}
 use Rattle.agent_state.proofs.Judges.{all-committed, one-open}
 use Rattle.agent_state.proofs.judging.all_committed.Goals as goal
 

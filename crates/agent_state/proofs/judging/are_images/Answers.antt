@@ -1,6 +1,5 @@
 use Rattle.std.proofs.Common.{length, sym, ap, ap₂, ◌∙◌, arith}
-use Rattle.agent_kept.specs.Kept.{kept}
-use Rattle.agent_kept.specs.Judged.{is_part_of}
+use Rattle.agent_kept.specs.{Kept.kept, Judged.is_part_of}
 use Rattle.agent_state.proofs.Judges.{all-rows, one-row}
 use Rattle.agent_state.proofs.judging.are_images.Goals as goal
 

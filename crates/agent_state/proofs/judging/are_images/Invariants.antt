@@ -1,7 +1,6 @@
 use Rattle.std.proofs.Common.{◌≡◌, ℕ, ◌+◌, ◌<◌, true}
 use Rattle.fwu_formats.specs.Manifest.{row_at}
-use Rattle.agent_kept.specs.Kept.{kept, part_at}
-use Rattle.agent_kept.specs.Judged.{is_part_of}
+use Rattle.agent_kept.specs.{Kept.kept, Kept.part_at, Judged.is_part_of}
 use Rattle.agent_state.proofs.judging.are_images.Given as goal
 
 abbrev pub invariant-loop-image : goal.invariant-loop-image

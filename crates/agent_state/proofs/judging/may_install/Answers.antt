@@ -1,10 +1,8 @@
 use Rattle.std.proofs.Common.{◌≡◌, ◌-◌, ◌+◌, ◌*◌, ℕ, List, length, take, sym, ap, ap₂, ◌∙◌}
 use Rattle.std.proofs.lemmas.Bool.{ne_eqb, eq-eqb}
-use Rattle.fwu_formats.specs.Layout.{ImageRow}
-use Rattle.fwu_formats.specs.Manifest.{manifest_of, manifest_size}
+use Rattle.fwu_formats.specs.{Layout.ImageRow, Manifest.manifest_of, Manifest.manifest_size}
 use Rattle.manifest_core.specs.Shown.{version_of}
-use Rattle.agent_kept.specs.Kept.{Kept, kept}
-use Rattle.agent_kept.specs.Judged.{manifest_kept, are_rows_kept}
+use Rattle.agent_kept.specs.{Kept.Kept, Kept.kept, Judged.manifest_kept, Judged.are_rows_kept}
 use Rattle.agent_state.proofs.Judges.{none-installed, not-sized, faulty, counted, installed, front-whole}
 use Rattle.agent_state.proofs.judging.may_install.Goals as goal
 

@@ -1,10 +1,8 @@
 use Rattle.std.proofs.Common.{sym, subst, ap}
-use Rattle.agent_kept.specs.declared.kinds.Decision.{Decision}
-use Rattle.agent_kept.specs.Kept.{Kept, kept}
+use Rattle.agent_kept.specs.{declared.kinds.Decision.Decision, Kept.Kept, Kept.kept}
 use Rattle.agent_state.specs.Settles.{IsDecisionOf, SettlesBy}
 use Rattle.fwu_formats.specs.Metadata.{MetaRead}
-use Rattle.agent_state.proofs.Planned.{planned-fits}
-use Rattle.agent_state.proofs.Settled.{settled-by}
+use Rattle.agent_state.proofs.{Planned.planned-fits, Settled.settled-by}
 use Rattle.agent_state.proofs.settling.settle.Goals as goal
 
 pub returns-in-Do-clause-settles : goal.returns-in-Do-clause-settles

@@ -1,8 +1,7 @@
 use Rattle.std.proofs.Common.{◌∙◌, ap, arith, refl, subst, sym, ℕ, List, Option, Err}
 use Rattle.host_io.specs.Contents.{Directory}
 use Rattle.host_io.proofs.Reading.{reads-none, reads-then}
-use Rattle.allow_list.specs.declared.stops.ListStop.{ListStop}
-use Rattle.allow_list.specs.Lists.{AddsLine, IsAnswerOf, LacksLine}
+use Rattle.allow_list.specs.{declared.stops.ListStop.ListStop, Lists.AddsLine, Lists.IsAnswerOf, Lists.LacksLine}
 use Rattle.allow_list.proofs.Reading.{IsReadTo, at_bad, at_end, at_first, at_next, whole_line}
 use Rattle.allow_list.proofs.read.read_lines.Goals as goal
 

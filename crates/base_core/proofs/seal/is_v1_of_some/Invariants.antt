@@ -1,6 +1,5 @@
 use Rattle.std.proofs.Common.{◌≡◌, ℕ, ◌<◌, ◌≤◌, false}
-use Rattle.base_core.specs.Limits.{fewest_banks}
-use Rattle.base_core.specs.Seal.{has_v1_checksum}
+use Rattle.base_core.specs.{Limits.fewest_banks, Seal.has_v1_checksum}
 use Rattle.base_core.proofs.seal.is_v1_of_some.Given as goal
 
 abbrev pub invariant-loop-banks : goal.invariant-loop-banks

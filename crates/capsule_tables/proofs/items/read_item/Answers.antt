@@ -1,12 +1,11 @@
 use Rattle.std.proofs.Common.{◌≡◌, ◌∙◌, ◌+◌, ◌*◌, ℕ, List, Option, take, drop, ap, sym, subst}
-use Rattle.capsule_tables.proofs.Headers.{of-item}
+use Rattle.capsule_tables.proofs.{Headers.of-item, OneByOne.item-by-range, OneByOne.place-by-range}
 use Rattle.host_io.proofs.Reading.{reads-then}
 use Rattle.base_core.specs.Bytes.{num_at}
 use Rattle.host_io.specs.Contents.{Directory}
 use Rattle.fip_tables.specs.Files.{Tells}
 use Rattle.fwu_formats.specs.Capsule.{Shape, item_place}
 use Rattle.capsule_tables.specs.Ranges.{item_read}
-use Rattle.capsule_tables.proofs.OneByOne.{item-by-range, place-by-range}
 use Rattle.capsule_tables.proofs.items.read_item.Goals as goal
 
 pub returns-clause-told : goal.returns-clause-told

@@ -1,14 +1,12 @@
 use Rattle.std.proofs.Common.{All, ◌≡◌, ◌∙◌, ◌+◌, ◌++◌, ◌∷◌, [], ◌<◌, ℕ, true, false, List, Option, None, Ok, length, ap, sym, subst, arith, ◌≤◌, length-append}
-use Rattle.capsule_tables.specs.Ranges.{IsRead}
+use Rattle.capsule_tables.specs.{Ranges.IsRead, Answers.AreEntries}
 use Rattle.std.proofs.lemmas.List.Elements.{All-push}
 use Rattle.std.specs.Prelude.{IfSome}
 use Rattle.std.specs.List.{list_any}
 use Rattle.host_io.specs.Contents.{Directory}
-use Rattle.fwu_formats.specs.Package.{Entry, has_guid}
+use Rattle.fwu_formats.specs.{Package.Entry, Package.has_guid, Capsule.Shape, Capsule.entries_in, Capsule.item_fault}
 use Rattle.host_io.proofs.Reading.{reads-then}
 use Rattle.fip_tables.specs.Files.{Tells}
-use Rattle.capsule_tables.specs.Answers.{AreEntries}
-use Rattle.fwu_formats.specs.Capsule.{Shape, entries_in, item_fault}
 use Rattle.capsule_tables.proofs.OneByOne.{bad, entries-more, entry-is, fine, further, one-more, passes-all, repeated, stops-at}
 use Rattle.capsule_tables.proofs.items.read_items.Goals as goal
 

@@ -2,8 +2,7 @@ use Rattle.std.proofs.Common.{◌≡◌, ◌∙◌, ◌++◌, ◌∷◌, [], ap,
 use Rattle.std.proofs.lemmas.List.{length-replicate}
 use Rattle.base_core.proofs.Spelled.{four_spelled}
 use Rattle.base_core.specs.Bytes.{le}
-use Rattle.fwu_formats.specs.Package.{Part}
-use Rattle.fwu_formats.specs.Capsule.{swapped}
+use Rattle.fwu_formats.specs.{Package.Part, Capsule.swapped}
 use Rattle.capsule_tables.proofs.Made.{further}
 use Rattle.capsule_tables.proofs.making.add_head.Goals as goal
 

@@ -1,7 +1,6 @@
 use Rattle.std.proofs.Common.{◌≡◌, ◌≤◌, ◌∙◌, ◌+◌, ◌*◌, ◌++◌, ap, arith, rules, sym, length, ℕ, List, Some, None}
 use Rattle.fwu_formats.specs.Package.{Part}
-use Rattle.fip_tables.specs.Packing.{parts_fault}
-use Rattle.fip_tables.specs.declared.faults.PackFault.{PackFault}
+use Rattle.fip_tables.specs.{Packing.parts_fault, declared.faults.PackFault.PackFault}
 use Rattle.capsule_tables.specs.Making.{capsule_front_bytes, capsule_size, headers_bytes, heads_bytes, make_fault, places_bytes}
 use Rattle.capsule_tables.proofs.Frames.{frame-joined, frame-size, front-low, gaps-count}
 use Rattle.capsule_tables.proofs.Made.{no-fault, same-fault, shared, too-large}

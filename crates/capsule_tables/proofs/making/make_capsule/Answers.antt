@@ -1,12 +1,9 @@
 use Rattle.std.proofs.Common.{◌≡◌, ◌∙◌, ap, rules, sym, subst, List, Err, map}
 use Rattle.fwu_formats.specs.Package.{Part}
 use Rattle.host_io.specs.Joined.{joined}
-use Rattle.fip_tables.specs.Frame.{chunks}
-use Rattle.fip_tables.specs.Packing.{AreOutlines, zeroed}
-use Rattle.fip_tables.specs.declared.faults.PackStop.{PackStop}
+use Rattle.fip_tables.specs.{Frame.chunks, Packing.AreOutlines, Packing.zeroed, declared.faults.PackStop.PackStop}
 use Rattle.capsule_tables.specs.Making.{IsCapsuleOf, make_fault}
-use Rattle.capsule_tables.proofs.Made.{same-make_fault, types-of}
-use Rattle.capsule_tables.proofs.ReadAgain.{made-is-read}
+use Rattle.capsule_tables.proofs.{Made.same-make_fault, Made.types-of, ReadAgain.made-is-read}
 use Rattle.capsule_tables.proofs.making.make_capsule.Goals as goal
 
 pub returns-in_err-frame-clause-fault : goal.returns-in_err-frame-clause-fault

@@ -1,9 +1,6 @@
 use Rattle.std.proofs.Common.{◌≡◌, ◌∙◌, true, ap}
-use Rattle.clap.specs.Simple.{app_of_fields}
-use Rattle.clap.specs.Words.{App}
-use Rattle.clap.specs.declared.builder.Command.{Command}
-use Rattle.clap.specs.declared.builder.Command.TheViews.{out-Command}
-use Rattle.clap.specs.declared.builder.command.Command.TheOpen.{Command-F}
+use Rattle.clap.specs.{Simple.app_of_fields, Words.App, declared.builder.Command.Command}
+use Rattle.clap.specs.{declared.builder.Command.TheViews.out-Command, declared.builder.command.Command.TheOpen.Command-F}
 use Rattle.clap_words.proofs.commands.top.Goals as goal
 
 abbrev Fields : Type 0

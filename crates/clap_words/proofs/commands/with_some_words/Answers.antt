@@ -1,8 +1,6 @@
 use Rattle.std.proofs.Common.{◌≡◌, ◌∙◌, Some, false, true, ap}
 use Rattle.std.proofs.lemmas.Result.{IfOk-weaker}
-use Rattle.clap.specs.Words.{Rule, rule_of}
-use Rattle.clap.specs.declared.builder.Arg.{Arg}
-use Rattle.clap.specs.declared.builder.ArgAction.TheVariants.{Append}
+use Rattle.clap.specs.{Words.Rule, Words.rule_of, declared.builder.Arg.Arg, declared.builder.ArgAction.TheVariants.Append}
 use Rattle.clap_words.specs.Words.{some_words}
 use Rattle.clap_words.proofs.CommandLemmas.{arg_added}
 use Rattle.clap_words.proofs.commands.with_some_words.Goals as goal

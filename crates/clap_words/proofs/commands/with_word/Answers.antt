@@ -1,8 +1,6 @@
 use Rattle.std.proofs.Common.{◌≡◌, ◌∙◌, Some, false, true, ap}
 use Rattle.std.proofs.lemmas.Result.{IfOk-weaker}
-use Rattle.clap.specs.Words.{Rule, rule_of}
-use Rattle.clap.specs.declared.builder.Arg.{Arg}
-use Rattle.clap.specs.declared.builder.ArgAction.TheVariants.{Set}
+use Rattle.clap.specs.{Words.Rule, Words.rule_of, declared.builder.Arg.Arg, declared.builder.ArgAction.TheVariants.Set}
 use Rattle.clap_words.specs.Words.{word}
 use Rattle.clap_words.proofs.CommandLemmas.{arg_added}
 use Rattle.clap_words.proofs.commands.with_word.Goals as goal

@@ -1,6 +1,5 @@
 use Rattle.std.proofs.Common.{◌≡◌, ◌∙◌, ◌&&◌, Bool, true, false, map, string_bytes, refl, sym, true≢false}
-use Rattle.clap.specs.Words.{app_of, kind_of}
-use Rattle.clap.specs.Faults.{fault_of}
+use Rattle.clap.specs.{Words.app_of, Words.kind_of, Faults.fault_of}
 use Rattle.clap_words.proofs.Refusals.{fault_is_some, reads_nothing}
 use Rattle.clap_words.proofs.found.matches.Goals as goal
 

@@ -1,33 +1,23 @@
 use Rattle.std.proofs.Common.{◌≡◌, ℕ, Bool, List, Option, Some, None, Ok, Err, sym, ap, subst, ◌∙◌, arith, IsTrue}
 use Rattle.std.specs.Prelude.{Result}
-use Rattle.flash_core.specs.declared.flash.Arming.{Arming}
-use Rattle.flash_core.specs.declared.flash.Flash.{Ghosts}
-use Rattle.flash_core.specs.declared.flash.FlashStop.{FlashStop}
+use Rattle.flash_core.specs.{declared.flash.Arming.Arming, declared.flash.Flash.Ghosts, declared.flash.FlashStop.FlashStop}
+use Rattle.flash_core.specs.{Calls.Goes, Calls.Reads, Told.Told, Touches.TouchesOnly}
 use Rattle.flash_core.specs.declared.flash.FlashStop.TheVariants as flash_stop
-use Rattle.flash_core.specs.Calls.{Goes, Reads}
-use Rattle.flash_core.specs.Told.{Told}
-use Rattle.flash_core.specs.Touches.{TouchesOnly}
 use Rattle.flash_core.proofs.Touches.{touches_none}
+use Rattle.early_boot.proofs.{Choices.starts_by_numbers, Choices.shown-numbers, Numbered.numbers-are, Known.started-knows}
 use Rattle.early_boot.proofs.Touching.{boot-within, none-touches, stopped-start, none-spent, none-takes, start-spent, start-takes, start-touches}
-use Rattle.early_boot.specs.declared.choosing.Chosen.{Chosen}
-use Rattle.early_boot.specs.declared.showing.Shown.{Shown}
-use Rattle.early_boot.specs.declared.showing.Unshown.{Unshown}
-use Rattle.early_boot.specs.declared.showing.Unshown.TheVariants as unshown
+use Rattle.early_boot.proofs.Ended.{unshown-ends, started-ends, none-ends, stopped-ends}
+use Rattle.early_boot.proofs.Left.{goes-done, goes-stopped, read-all, read-goes}
+use Rattle.early_boot.specs.{declared.choosing.Chosen.Chosen, declared.showing.Shown.Shown, declared.showing.Unshown.Unshown}
+use Rattle.early_boot.specs.{Choosing.MayStart, Choosing.chosen_by, Started.started_as, Knows.KnowsStarted}
 use Rattle.early_boot.specs.Showing.{HasShown, ShowsNothing, state_shown, stop_in}
-use Rattle.early_boot.specs.Choosing.{MayStart, chosen_by}
-use Rattle.fwu_formats.specs.Layout.{Layout}
-use Rattle.fwu_model.specs.State.{Numbers, numbers_of}
 use Rattle.early_boot.specs.EndsBy.{StartedBy, StartsPermitted, BootEnds, IdleEnd, IsBoot, TakesBoot, TakesByBytes, TouchesBoot, stopped_with, unshown_end}
-use Rattle.early_boot.proofs.Choices.{starts_by_numbers, shown-numbers}
 use Rattle.early_boot.specs.Starting.{mended, Boots, IsCountedStart, TakesMendingAndStart, TakesRepairAndStart, TouchesRepairAndStart}
 use Rattle.early_boot.specs.Numbers.{AreNumbers, numbers, numbers_shown}
-use Rattle.early_boot.proofs.Numbered.{numbers-are}
-use Rattle.early_boot.specs.Started.{started_as}
 use Rattle.early_boot.specs.Ends.{Ended, booted, device_of, failed, lost, no_bank, stop_of}
-use Rattle.early_boot.specs.Knows.{KnowsStarted}
-use Rattle.early_boot.proofs.Ended.{unshown-ends, started-ends, none-ends, stopped-ends}
-use Rattle.early_boot.proofs.Known.{started-knows}
-use Rattle.early_boot.proofs.Left.{goes-done, goes-stopped, read-all, read-goes}
+use Rattle.early_boot.specs.declared.showing.Unshown.TheVariants as unshown
+use Rattle.fwu_formats.specs.Layout.{Layout}
+use Rattle.fwu_model.specs.State.{Numbers, numbers_of}
 use Rattle.early_boot.proofs.start.boot_in.Goals as goal
 
 -- ---- what a boot promises, on any device

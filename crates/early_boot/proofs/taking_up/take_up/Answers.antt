@@ -1,7 +1,5 @@
 use Rattle.std.proofs.Common.{refl, sym, subst}
-use Rattle.early_boot.specs.declared.showing.Shown.{Shown}
-use Rattle.early_boot.specs.Knows.{KnowsStarted}
-use Rattle.early_boot.specs.Tells.{started_as}
+use Rattle.early_boot.specs.{declared.showing.Shown.Shown, Knows.KnowsStarted, Tells.started_as}
 use Rattle.early_boot.specs.TakenUp.{IsTakeUp, TakenUp, device_left, taken, unshown_as}
 use Rattle.early_boot.proofs.TakenUp.{knows-taken, none-take-up, refused-take-up, stopped-take-up, taken-take-up}
 use Rattle.early_boot.proofs.taking_up.take_up.Goals as goal

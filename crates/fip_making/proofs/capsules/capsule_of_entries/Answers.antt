@@ -1,10 +1,8 @@
 use Rattle.std.proofs.Common.{◌∙◌, List, ap, length, map, subst, sym}
 use Rattle.std.specs.List.{All}
+use Rattle.fip_making.specs.{Values.enclose_value, Values.updated_part, declared.payloads.Payload.Payload}
 use Rattle.fip_making.specs.Payloads.{IsThere, bytes_in, part_told}
-use Rattle.fip_making.specs.Values.{enclose_value, updated_part}
-use Rattle.fip_making.specs.declared.payloads.Payload.{Payload}
-use Rattle.fip_making.proofs.Makings.{makes-as}
-use Rattle.fip_making.proofs.Packings.{none-there}
+use Rattle.fip_making.proofs.{Makings.makes-as, Packings.none-there}
 use Rattle.fip_making.proofs.capsules.capsule_of_entries.Goals as goal
 
 pub returns : goal.returns

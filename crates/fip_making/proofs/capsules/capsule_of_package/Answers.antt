@@ -1,13 +1,9 @@
 use Rattle.std.proofs.Common.{◌∙◌, [], List, Some, ap, map, subst, sym}
 use Rattle.std.specs.List.{All}
 use Rattle.fwu_formats.specs.Package.{Entry, Toc}
-use Rattle.fip_making.specs.Payloads.{HasEntry, bytes_in, made_by}
-use Rattle.fip_making.specs.Values.{enclose_value, kept_part}
+use Rattle.fip_making.specs.{Payloads.HasEntry, Payloads.bytes_in, Payloads.made_by, Values.enclose_value, Values.kept_part}
+use Rattle.fip_making.proofs.{Packings.gives-same, Repacking.has-entries, Repacking.opened, Tables.gives-err, Refusing.handed-on}
 use Rattle.fip_making.proofs.Conversions.{capsule-err, capsule-of}
-use Rattle.fip_making.proofs.Packings.{gives-same}
-use Rattle.fip_making.proofs.Repacking.{has-entries, opened}
-use Rattle.fip_making.proofs.Tables.{gives-err}
-use Rattle.fip_making.proofs.Refusing.{handed-on}
 use Rattle.fip_making.proofs.capsules.capsule_of_package.Goals as goal
 
 pub returns-clause-whole : goal.returns-clause-whole

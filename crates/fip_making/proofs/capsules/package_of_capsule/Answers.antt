@@ -1,10 +1,8 @@
 use Rattle.std.proofs.Common.{Some, sym}
 use Rattle.fwu_formats.specs.Package.{Toc}
 use Rattle.fip_making.specs.Payloads.{made_by}
+use Rattle.fip_making.proofs.{Packings.gives-same, Tables.gives-err, Refusing.handed-on}
 use Rattle.fip_making.proofs.Conversions.{has-items, opened-capsule, package-err, package-of}
-use Rattle.fip_making.proofs.Packings.{gives-same}
-use Rattle.fip_making.proofs.Tables.{gives-err}
-use Rattle.fip_making.proofs.Refusing.{handed-on}
 use Rattle.fip_making.proofs.capsules.package_of_capsule.Goals as goal
 
 pub returns-clause-whole : goal.returns-clause-whole

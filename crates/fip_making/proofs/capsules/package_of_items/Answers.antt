@@ -1,11 +1,8 @@
 use Rattle.std.proofs.Common.{◌∙◌, List, ap, length, map, subst, sym}
 use Rattle.std.specs.List.{All}
 use Rattle.fwu_formats.specs.Package.{Part, Toc}
-use Rattle.fip_making.specs.Payloads.{HasEntry, IsThere, bytes_in, part_told}
-use Rattle.fip_making.specs.Values.{pack_value}
-use Rattle.fip_making.proofs.Makings.{makes-as}
-use Rattle.fip_making.proofs.Packings.{none-there}
-use Rattle.fip_making.proofs.Repacking.{kept-updated}
+use Rattle.fip_making.specs.{Payloads.HasEntry, Payloads.IsThere, Payloads.bytes_in, Payloads.part_told, Values.pack_value}
+use Rattle.fip_making.proofs.{Makings.makes-as, Packings.none-there, Repacking.kept-updated}
 use Rattle.fip_making.proofs.capsules.package_of_items.Goals as goal
 
 pub returns : goal.returns

@@ -1,10 +1,8 @@
 use Rattle.std.proofs.Common.{◌∙◌}
 use Rattle.capsule_tables.specs.Making.{capsule_bytes}
-use Rattle.fip_making.specs.Stops.{packed_by}
-use Rattle.fip_making.specs.Values.{enclose_value}
+use Rattle.fip_making.specs.{Stops.packed_by, Values.enclose_value}
+use Rattle.fip_making.proofs.{Makings.makes-framed, Makings.makes-unpacked, Refusing.handed-on}
 use Rattle.fip_making.proofs.Conversions.{encloses-not, encloses-zeroed}
-use Rattle.fip_making.proofs.Makings.{makes-framed, makes-unpacked}
-use Rattle.fip_making.proofs.Refusing.{handed-on}
 use Rattle.fip_making.proofs.enclosing.enclosed.Goals as goal
 
 pub returns-in_err-frame : goal.returns-in_err-frame

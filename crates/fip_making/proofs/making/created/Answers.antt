@@ -1,9 +1,8 @@
 use Rattle.std.proofs.Common.{◌∙◌, List, Vec, Some, ap, map, sym}
 use Rattle.std.specs.Global.{Global}
 use Rattle.fip_words.specs.Order.{part_view}
-use Rattle.fip_making.specs.Payloads.{made_by, part_told}
+use Rattle.fip_making.specs.{Payloads.made_by, Payloads.part_told, declared.payloads.Payload.Payload}
 use Rattle.fip_making.specs.Values.{new_serial, pack_value}
-use Rattle.fip_making.specs.declared.payloads.Payload.{Payload}
 use Rattle.fip_making.proofs.Packings.{create-err, create-of, gives-same, there-of-files}
 use Rattle.fip_making.proofs.Tables.{gives-err}
 use Rattle.fip_making.proofs.making.created.Goals as goal

@@ -1,10 +1,8 @@
 use Rattle.std.proofs.Common.{Some, sym}
 use Rattle.fwu_formats.specs.Package.{Toc}
 use Rattle.fip_making.specs.Payloads.{made_by}
-use Rattle.fip_making.proofs.Packings.{gives-same}
+use Rattle.fip_making.proofs.{Packings.gives-same, Tables.gives-err, Refusing.handed-on}
 use Rattle.fip_making.proofs.Repacking.{has-entries, opened, remove-err, remove-of}
-use Rattle.fip_making.proofs.Tables.{gives-err}
-use Rattle.fip_making.proofs.Refusing.{handed-on}
 use Rattle.fip_making.proofs.making.removed.Goals as goal
 
 pub returns-clause-whole : goal.returns-clause-whole

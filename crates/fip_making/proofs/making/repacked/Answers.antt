@@ -1,8 +1,7 @@
 use Rattle.std.proofs.Common.{◌∙◌, List, ap, length, map, subst, sym}
 use Rattle.std.specs.List.{All}
 use Rattle.fwu_formats.specs.Package.{Part, Toc}
-use Rattle.fip_making.specs.Payloads.{IsThere, part_told}
-use Rattle.fip_making.specs.Values.{pack_value}
+use Rattle.fip_making.specs.{Payloads.IsThere, Payloads.part_told, Values.pack_value}
 use Rattle.fip_making.proofs.Makings.{makes-as}
 use Rattle.fip_making.proofs.making.repacked.Goals as goal
 

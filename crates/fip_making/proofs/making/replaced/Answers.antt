@@ -2,10 +2,8 @@ use Rattle.std.proofs.Common.{◌≡◌, ◌∙◌, All, List, Option, ℕ, Some
 use Rattle.host_io.specs.Contents.{Directory}
 use Rattle.fwu_formats.specs.Package.{Entry, Toc}
 use Rattle.fip_words.specs.Order.{part_view}
-use Rattle.fip_making.specs.Payloads.{HasEntry, bytes_in, made_by, part_told}
-use Rattle.fip_making.specs.Values.{parts_in}
-use Rattle.fip_making.proofs.Packings.{there-of-files, gives-same}
-use Rattle.fip_making.proofs.Repacking.{replaced-value}
+use Rattle.fip_making.specs.{Payloads.HasEntry, Payloads.bytes_in, Payloads.made_by, Payloads.part_told, Values.parts_in}
+use Rattle.fip_making.proofs.{Packings.there-of-files, Packings.gives-same, Repacking.replaced-value}
 use Rattle.fip_making.proofs.making.replaced.Goals as goal
 
 -- the entries' payloads, in files that stayed as they were

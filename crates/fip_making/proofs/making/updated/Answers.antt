@@ -1,13 +1,10 @@
 use Rattle.std.proofs.Common.{◌∙◌, ap, sym}
 use Rattle.host_io.proofs.Reading.{reads-wider}
 use Rattle.fwu_formats.specs.Package.{Toc}
-use Rattle.fip_making.specs.Payloads.{made_by}
-use Rattle.fip_making.proofs.Packings.{gives-same}
+use Rattle.fip_making.specs.{Payloads.made_by, Values.first_missing}
+use Rattle.fip_making.proofs.{Packings.gives-same, Tables.gives-err, Tables.if-ok-as, Tables.rose-from, ReadsBy.alone-then}
+use Rattle.fip_making.proofs.{ReadsBy.alone-wider, Refusing.packing-of-repacking, Refusing.handed-on}
 use Rattle.fip_making.proofs.Repacking.{has-entries, opened, types-are, update-err, update-of}
-use Rattle.fip_making.specs.Values.{first_missing}
-use Rattle.fip_making.proofs.Tables.{gives-err, if-ok-as, rose-from}
-use Rattle.fip_making.proofs.ReadsBy.{alone-then, alone-wider}
-use Rattle.fip_making.proofs.Refusing.{packing-of-repacking, handed-on}
 use Rattle.fip_making.proofs.making.updated.Goals as goal
 
 pub replaced-requires : goal.replaced-requires

@@ -3,9 +3,7 @@ use Rattle.std.specs.Prelude.{filter, not}
 use Rattle.fwu_formats.specs.Package.{Entry, Part, Toc}
 use Rattle.fip_making.specs.Payloads.{HasEntry, IsThere, bytes_in, part_told}
 use Rattle.fip_making.specs.Values.{is_named, pack_value}
-use Rattle.fip_making.proofs.Makings.{makes-as}
-use Rattle.fip_making.proofs.Packings.{none-there}
-use Rattle.fip_making.proofs.Repacking.{kept-all, kept-updated}
+use Rattle.fip_making.proofs.{Makings.makes-as, Packings.none-there, Repacking.kept-all, Repacking.kept-updated}
 use Rattle.fip_making.proofs.making.without.Goals as goal
 
 pub returns : goal.returns

@@ -2,14 +2,11 @@ use Rattle.std.proofs.Common.{◌≡◌, ◌∙◌, Bool, Ok, Some, List, ap, ar
 use Rattle.std.proofs.lemmas.List.{take_all}
 use Rattle.std.specs.Prelude.{◌||◌}
 use Rattle.host_io.specs.Contents.{Directory}
-use Rattle.fip_words.specs.Order.{image_view}
-use Rattle.fip_words.specs.declared.values.ImageWord.{ImageWord}
-use Rattle.fip_making.specs.Values.{nothing}
+use Rattle.fip_words.specs.{Order.image_view, declared.values.ImageWord.ImageWord}
+use Rattle.fip_making.specs.{Values.nothing, Answers.IsLate}
+use Rattle.fip_making.proofs.{Packings.gives-same, Tables.gives-err, Tables.rose-still}
 use Rattle.fip_making.proofs.ManifestLemmas.{longs-more-at, longs_value, sizes-of, sizes-stopped-at}
-use Rattle.fip_making.proofs.Packings.{gives-same}
-use Rattle.fip_making.proofs.Tables.{gives-err, rose-still}
 use Rattle.fip_making.proofs.ReadsBy.{alone-then, alone-then-stopped, alone-wider, one-spared}
-use Rattle.fip_making.specs.Answers.{IsLate}
 use Rattle.fip_making.proofs.Refusing.{handed-on, late-of-manifest}
 use Rattle.fip_making.proofs.manifests.check_sizes.Goals.{then-is_long, else-is_long}
 use Rattle.fip_making.proofs.manifests.check_sizes.Goals as goal

@@ -1,7 +1,5 @@
 use Rattle.std.proofs.Common.{◌≡◌, ◌≢◌, All, Some, Ok, map, take}
-use Rattle.host_io.specs.Access.{Asks}
-use Rattle.host_io.specs.Contents.{Directory}
-use Rattle.host_io.specs.Reads.{ReadsFiles}
+use Rattle.host_io.specs.{Access.Asks, Contents.Directory, Reads.ReadsFiles}
 use Rattle.fip_words.specs.Order.{image_view}
 use Rattle.fip_making.proofs.ManifestLemmas.{longs_value}
 use Rattle.fip_making.proofs.manifests.check_sizes.Given as goal

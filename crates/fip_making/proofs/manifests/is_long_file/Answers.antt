@@ -1,8 +1,6 @@
 use Rattle.std.proofs.Common.{ℕ, Bool, refl}
 use Rattle.fip_words.specs.Order.{image_view}
-use Rattle.fip_making.proofs.ManifestLemmas.{long-made, long-stopped}
-use Rattle.fip_making.proofs.Refusing.{handed-on}
-use Rattle.fip_making.proofs.Tables.{gives-err}
+use Rattle.fip_making.proofs.{ManifestLemmas.long-made, ManifestLemmas.long-stopped, Refusing.handed-on, Tables.gives-err}
 use Rattle.fip_making.proofs.manifests.is_long_file.Goals as goal
 
 pub returns-clause-told : goal.returns-clause-told

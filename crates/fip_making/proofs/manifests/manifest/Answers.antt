@@ -1,15 +1,12 @@
 use Rattle.std.proofs.Common.{◌∙◌, Vec, Err, ℕ, map, option_map}
 use Rattle.std.specs.Global.{Global}
 use Rattle.fip_words.specs.Order.{image_view}
-use Rattle.manifest_core.specs.Shown.{row}
-use Rattle.manifest_core.specs.declared.rows.Row.{Row as CodeRow}
+use Rattle.manifest_core.specs.{Shown.row, declared.rows.Row.Row as CodeRow}
+use Rattle.fip_making.proofs.{Packings.gives-same, Tables.gives-err, Tables.rose-from, ReadsBy.alone-asked, ReadsBy.alone-then}
+use Rattle.fip_making.proofs.{ReadsBy.alone-then-stopped, Refusing.handed-on, Refusing.late-of-manifest}
 use Rattle.fip_making.proofs.ManifestLemmas.{asks-refused, made-of, sizes-refuse, too-long-of, value-stopped}
 use Rattle.fip_making.specs.Values.{nothing}
 use Rattle.fip_making.specs.declared.stops.Stop.TheVariants as stop
-use Rattle.fip_making.proofs.Packings.{gives-same}
-use Rattle.fip_making.proofs.Tables.{gives-err, rose-from}
-use Rattle.fip_making.proofs.ReadsBy.{alone-asked, alone-then, alone-then-stopped}
-use Rattle.fip_making.proofs.Refusing.{handed-on, late-of-manifest}
 use Rattle.fip_making.proofs.manifests.manifest.Goals as goal
 
 pub returns-in-Some-clause-told : goal.returns-in-Some-clause-told

@@ -2,9 +2,7 @@ use Rattle.fip_words.specs.Order.{image_view}
 use Rattle.manifest_core.specs.Shown.{row}
 use Rattle.std.proofs.Common.{Vec, ℕ, option_map}
 use Rattle.std.specs.Global.{Global}
-use Rattle.fip_making.proofs.ManifestLemmas.{row-made, row-stopped}
-use Rattle.fip_making.proofs.Tables.{gives-err}
-use Rattle.fip_making.proofs.Refusing.{handed-on}
+use Rattle.fip_making.proofs.{ManifestLemmas.row-made, ManifestLemmas.row-stopped, Tables.gives-err, Refusing.handed-on}
 use Rattle.fip_making.proofs.manifests.row_of_file.Goals as goal
 
 pub returns-clause-told : goal.returns-clause-told

@@ -2,15 +2,12 @@ use Rattle.std.proofs.Common.{◌≡◌, ◌∙◌, Ok, Option, List, Vec, ap, m
 use Rattle.std.proofs.lemmas.List.{take_all}
 use Rattle.std.specs.Global.{Global}
 use Rattle.fwu_formats.specs.Manifest.{Row}
-use Rattle.fip_words.specs.Order.{image_view}
-use Rattle.fip_words.specs.declared.values.ImageWord.{ImageWord}
-use Rattle.manifest_core.specs.Shown.{row}
-use Rattle.manifest_core.specs.declared.rows.Row.{Row as CodeRow}
+use Rattle.fip_words.specs.{Order.image_view, declared.values.ImageWord.ImageWord}
+use Rattle.manifest_core.specs.{Shown.row, declared.rows.Row.Row as CodeRow}
+use Rattle.fip_making.proofs.{Tables.gives-err, Tables.rose-still, Refusing.handed-on}
 use Rattle.fip_making.proofs.ManifestLemmas.{count-more, rows-more-at, rows_value, seen-more, stopped-at}
 use Rattle.fip_making.proofs.ReadsBy.{alone-starved, alone-then, alone-then-stopped, alone-wider, one-spared}
 use Rattle.fip_making.specs.Answers.{IsLate}
-use Rattle.fip_making.proofs.Tables.{gives-err, rose-still}
-use Rattle.fip_making.proofs.Refusing.{handed-on}
 use Rattle.fip_making.specs.declared.stops.Stop.TheVariants as stop
 use Rattle.fip_making.proofs.manifests.rows_of_files.Goals as goal
 

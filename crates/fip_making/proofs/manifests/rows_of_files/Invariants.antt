@@ -1,8 +1,6 @@
 use Rattle.std.proofs.Common.{◌≡◌, ◌≢◌, All, Some, Ok, length, map, take, option_map}
 use Rattle.std.specs.Prelude.{IfSome}
-use Rattle.host_io.specs.Access.{Asks}
-use Rattle.host_io.specs.Contents.{Directory}
-use Rattle.host_io.specs.Reads.{ReadsFiles}
+use Rattle.host_io.specs.{Access.Asks, Contents.Directory, Reads.ReadsFiles}
 use Rattle.manifest_core.specs.Shown.{row}
 use Rattle.fip_words.specs.Order.{image_view}
 use Rattle.fip_making.proofs.ManifestLemmas.{rows_value}

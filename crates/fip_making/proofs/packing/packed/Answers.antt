@@ -1,10 +1,8 @@
 use Rattle.std.proofs.Common.{◌∙◌, List}
 use Rattle.fwu_formats.specs.Package.{Part, packed}
-use Rattle.fip_making.specs.Stops.{packed_by}
-use Rattle.fip_making.specs.Values.{pack_value}
+use Rattle.fip_making.specs.{Stops.packed_by, Values.pack_value}
+use Rattle.fip_making.proofs.{Packings.packs-not, Packings.packs-zeroed, Refusing.handed-on}
 use Rattle.fip_making.proofs.Makings.{makes-framed, makes-unpacked}
-use Rattle.fip_making.proofs.Packings.{packs-not, packs-zeroed}
-use Rattle.fip_making.proofs.Refusing.{handed-on}
 use Rattle.fip_making.proofs.packing.packed.Goals as goal
 
 pub returns-in_err-frame : goal.returns-in_err-frame

@@ -2,9 +2,8 @@ use Rattle.std.proofs.Common.{refl, sym, ap, ◌∙◌}
 use Rattle.std.specs.Prelude.{find}
 use Rattle.base_core.specs.Bytes.{same_bytes}
 use Rattle.fwu_formats.specs.Package.{Entry}
-use Rattle.fip_making.specs.declared.payloads.Payload.{Payload}
+use Rattle.fip_making.specs.{declared.payloads.Payload.Payload, Payloads.IsThere, Payloads.bytes_in}
 use Rattle.fip_making.proofs.Packings.{entry-kept, entry-renewed, found-has}
-use Rattle.fip_making.specs.Payloads.{IsThere, bytes_in}
 use Rattle.fip_making.proofs.payloads.payload_of_entry.Goals as goal
 
 pub returns-in-Some-clause-told : goal.returns-in-Some-clause-told

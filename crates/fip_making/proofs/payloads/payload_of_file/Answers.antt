@@ -1,10 +1,7 @@
 use Rattle.std.proofs.Common.{refl}
-use Rattle.fip_making.specs.Payloads.{part_told}
-use Rattle.fip_making.specs.declared.payloads.Payload.{Payload}
+use Rattle.fip_making.specs.{Payloads.part_told, declared.payloads.Payload.Payload}
+use Rattle.fip_making.proofs.{Tables.gives-err, Makings.has-range, Refusing.handed-on}
 use Rattle.fip_making.proofs.Packings.{payload-made, payload-stopped}
-use Rattle.fip_making.proofs.Tables.{gives-err}
-use Rattle.fip_making.proofs.Makings.{has-range}
-use Rattle.fip_making.proofs.Refusing.{handed-on}
 use Rattle.fip_making.proofs.payloads.payload_of_file.Goals as goal
 
 pub returns-clause-told : goal.returns-clause-told

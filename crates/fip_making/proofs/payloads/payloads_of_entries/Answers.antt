@@ -2,8 +2,7 @@ use Rattle.std.proofs.Common.{◌≡◌, ◌∙◌, ◌+◌, All, List, [], ◌�
 use Rattle.std.proofs.lemmas.List.{length-append, map-append, take_more}
 use Rattle.std.proofs.lemmas.List.Elements.{All-get_or}
 use Rattle.fwu_formats.specs.Package.{Entry, Part}
-use Rattle.fip_making.specs.Payloads.{HasEntry, IsThere, bytes_in, part_told}
-use Rattle.fip_making.specs.Values.{updated_part}
+use Rattle.fip_making.specs.{Payloads.HasEntry, Payloads.IsThere, Payloads.bytes_in, Payloads.part_told, Values.updated_part}
 use Rattle.fip_making.proofs.Packings.{one-more-there}
 use Rattle.fip_making.proofs.payloads.payloads_of_entries.Goals as goal
 

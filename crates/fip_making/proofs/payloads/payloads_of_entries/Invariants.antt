@@ -1,7 +1,6 @@
 use Rattle.std.proofs.Common.{◌≡◌, All, Option, length, map, take}
 use Rattle.host_io.specs.Contents.{Directory}
-use Rattle.fip_making.specs.Payloads.{HasEntry, IsThere, bytes_in, part_told}
-use Rattle.fip_making.specs.Values.{updated_part}
+use Rattle.fip_making.specs.{Payloads.HasEntry, Payloads.IsThere, Payloads.bytes_in, Payloads.part_told, Values.updated_part}
 use Rattle.fip_making.proofs.payloads.payloads_of_entries.Given as goal
 
 -- the payloads so far are those of the first entries

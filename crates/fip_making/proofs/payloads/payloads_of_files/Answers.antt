@@ -2,11 +2,9 @@ use Rattle.std.proofs.Common.{◌∙◌, All, Ok, Option, List, Vec, [], ◌∷�
 use Rattle.std.proofs.lemmas.List.{length-append}
 use Rattle.std.specs.Global.{Global}
 use Rattle.host_io.specs.Contents.{Directory}
-use Rattle.fip_making.specs.Payloads.{IsThere, part_told}
-use Rattle.fip_making.specs.declared.payloads.Payload.{Payload}
+use Rattle.fip_making.specs.{Payloads.IsThere, Payloads.part_told, declared.payloads.Payload.Payload, Answers.IsLate}
 use Rattle.fip_making.proofs.Packings.{more-payloads, one-more-there, stopped-at}
 use Rattle.fip_making.proofs.ReadsBy.{alone-starved, alone-then, alone-then-stopped, alone-wider, one-spared}
-use Rattle.fip_making.specs.Answers.{IsLate}
 use Rattle.fip_making.proofs.Tables.{gives-err, rose-still}
 use Rattle.fip_words.specs.declared.values.FileWord.{FileWord}
 use Rattle.fip_making.proofs.payloads.payloads_of_files.Goals as goal

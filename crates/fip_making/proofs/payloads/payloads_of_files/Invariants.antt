@@ -1,10 +1,7 @@
 use Rattle.std.proofs.Common.{◌≡◌, ◌≢◌, All, Some, Ok, length, map, take}
-use Rattle.host_io.specs.Access.{Asks}
-use Rattle.host_io.specs.Contents.{Directory}
-use Rattle.host_io.specs.Reads.{ReadsFiles}
+use Rattle.host_io.specs.{Access.Asks, Contents.Directory, Reads.ReadsFiles}
 use Rattle.fip_words.specs.Order.{part_view}
-use Rattle.fip_making.specs.Payloads.{IsThere, part_told}
-use Rattle.fip_making.specs.Values.{parts_in}
+use Rattle.fip_making.specs.{Payloads.IsThere, Payloads.part_told, Values.parts_in}
 use Rattle.fip_making.proofs.payloads.payloads_of_files.Given as goal
 
 -- the files are as they were, and the payloads so far are the first files

@@ -1,6 +1,5 @@
 use Rattle.fip_making.specs.Stops.{unread_by}
-use Rattle.fip_making.proofs.Makings.{value-read, value-unread}
-use Rattle.fip_making.proofs.Refusing.{handed-on}
+use Rattle.fip_making.proofs.{Makings.value-read, Makings.value-unread, Refusing.handed-on}
 use Rattle.fip_making.proofs.reading.read_file.Goals as goal
 
 pub returns-clause-told : goal.returns-clause-told

@@ -1,12 +1,9 @@
 use Rattle.std.proofs.Common.{ℕ, List, Ok, ap, arith, subst, ◌∙◌}
 use Rattle.base_core.specs.Counts.{Rose}
 use Rattle.host_io.proofs.Once.{bytes-none, bytes-one, bytes-then, once-then}
+use Rattle.fip_making.proofs.{Tables.rose-from, Refusing.if-err-as, Refusing.handed-on}
 use Rattle.fip_making.proofs.SourceLemmas.{goes-on, last, nothing-yet, stopped, too-long, ended-quiet}
-use Rattle.fip_making.proofs.Tables.{rose-from}
-use Rattle.fip_making.specs.Seen.{FedSome}
-use Rattle.fip_making.specs.Answers.{source_failed}
-use Rattle.fip_making.specs.Refusals.{IsOfSource, Unstarved}
-use Rattle.fip_making.proofs.Refusing.{if-err-as, handed-on}
+use Rattle.fip_making.specs.{Seen.FedSome, Answers.source_failed, Refusals.IsOfSource, Refusals.Unstarved}
 use Rattle.fip_making.proofs.table.read_given.Goals as goal
 
 pub loop-count-init : goal.loop-count-init

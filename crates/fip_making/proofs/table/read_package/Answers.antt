@@ -1,11 +1,10 @@
 use Rattle.std.proofs.Common.{◌∙◌}
 use Rattle.host_io.proofs.Reading.{reads-then as reads-after}
 use Rattle.fip_making.proofs.ReadsBy.{alone-done, alone-then, reads-no-table}
-use Rattle.fip_making.specs.Refusals.{IsPackageStop, Unstarved}
-use Rattle.fwu_formats.proofs.Tables.{ends-below}
 use Rattle.fip_making.proofs.Tables.{gives-err, size-err, sized, table-ok, table-stop, tells}
 use Rattle.fip_making.proofs.Refusing.{handed-on, toc-needs-none, toc-of-package}
-use Rattle.fip_making.specs.Stops.{stop_of_table}
+use Rattle.fip_making.specs.{Refusals.IsPackageStop, Refusals.Unstarved, Stops.stop_of_table}
+use Rattle.fwu_formats.proofs.Tables.{ends-below}
 use Rattle.fip_making.proofs.table.read_package.Goals as goal
 
 pub returns-in_err-size-clause-told : goal.returns-in_err-size-clause-told

@@ -1,13 +1,11 @@
 use Rattle.std.proofs.Common.{◌≡◌, ◌≤◌, ◌∙◌, ◌-◌, ◌++◌, ℕ, ap, sym, subst, arith, rules, length, replicate, take, List, Some, None}
 use Rattle.fwu_formats.specs.Package.{Entry, Part, packed_entries}
+use Rattle.fip_tables.specs.{Packing.MayFit, Packing.pack_fault, declared.faults.PackStop.PackStop}
 use Rattle.fip_tables.specs.Frame.{AreInOrder, gaps_from, last_end, sizes_of, table_end, up_to}
-use Rattle.fip_tables.specs.Packing.{MayFit, pack_fault}
 use Rattle.fip_tables.specs.declared.faults.PackFault.{PackFault}
-use Rattle.fip_tables.specs.declared.faults.PackStop.{PackStop}
 use Rattle.fip_tables.specs.declared.faults.PackStop.TheVariants as stop
+use Rattle.fip_tables.proofs.{Firsts.no-fault, Firsts.size-fault, Plans.outlines-sixteen, Plans.packed-length}
 use Rattle.fip_tables.proofs.Filled.{entries-count, frame-joined, frame-size, gaps-count, planned-in-order, planned-room}
-use Rattle.fip_tables.proofs.Firsts.{no-fault, size-fault}
-use Rattle.fip_tables.proofs.Plans.{outlines-sixteen, packed-length}
 use Rattle.fip_tables.proofs.frame.package_frame.Goals as goal
 
 same-fault : (a b : PackFault) → ◌≡◌ {A = PackStop} (stop.Fault b) (stop.Fault a) → a ≡ b

@@ -2,8 +2,7 @@ use Rattle.std.proofs.Common.{◌≤◌, ℕ, Some, length, sym, ap, ◌∙◌, 
 use Rattle.std.specs.Prelude.{◌==◌}
 use Rattle.std.proofs.lemmas.List.{get_or_default}
 use Rattle.fwu_formats.specs.Layout.{ImageRow}
-use Rattle.fip_tables.specs.Images.{no_row}
-use Rattle.fip_tables.specs.declared.images.ImageFault.TheVariants.{Missing}
+use Rattle.fip_tables.specs.{Images.no_row, declared.images.ImageFault.TheVariants.Missing}
 use Rattle.fip_tables.proofs.Chosen.{all_present, none_present}
 use Rattle.fip_tables.proofs.images.present_images_of.Goals as goal
 

@@ -1,8 +1,7 @@
 use Rattle.std.proofs.Common.{◌≡◌, ◌∙◌, ap, subst, sym, Some, Result, IfErr}
 use Rattle.std.proofs.lemmas.Result.{err_from_is_err_and}
 use Rattle.fip_tables.proofs.Firsts.{align-fault, shared-fault}
-use Rattle.fip_tables.specs.Packing.{pack_fault}
-use Rattle.fip_tables.specs.declared.faults.PackFault.{PackFault}
+use Rattle.fip_tables.specs.{Packing.pack_fault, declared.faults.PackFault.PackFault}
 use Rattle.fip_tables.proofs.outline.check.Goals as goal
 
 pub returns-in_err-check_parts-clause-err : goal.returns-in_err-check_parts-clause-err

@@ -1,12 +1,9 @@
 use Rattle.std.proofs.Common.{◌∙◌, ◌<◌, ap, sym, subst, arith, rules, List, Err, map}
 use Rattle.fwu_formats.specs.Package.{Part}
 use Rattle.host_io.specs.Joined.{joined}
-use Rattle.fip_tables.specs.Again.{ReadsAgain}
+use Rattle.fip_tables.specs.{Again.ReadsAgain, Frame.chunks, declared.faults.PackStop.PackStop}
 use Rattle.fip_tables.specs.Packing.{AreOutlines, pack_fault, zeroed}
-use Rattle.fip_tables.specs.Frame.{chunks}
-use Rattle.fip_tables.specs.declared.faults.PackStop.{PackStop}
-use Rattle.fip_tables.proofs.Again.{fields-of-outlines, passed-is-read}
-use Rattle.fip_tables.proofs.Plans.{zeros-decide}
+use Rattle.fip_tables.proofs.{Again.fields-of-outlines, Again.passed-is-read, Plans.zeros-decide}
 use Rattle.fip_tables.proofs.payloads.pack.Goals as goal
 
 pub returns-in_err-frame-clause-fault : goal.returns-in_err-frame-clause-fault

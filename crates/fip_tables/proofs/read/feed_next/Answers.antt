@@ -1,11 +1,9 @@
 use Rattle.std.proofs.Common.{◌≡◌, ◌∙◌, ◌+◌, ◌-◌, ◌≤◌, ◌++◌, ap, sym, subst, arith, ℕ, List, length, take, drop, length-append, append-nil, [], Err, Result}
 use Rattle.std.proofs.lemmas.List.{length-take-le}
-use Rattle.fwu_formats.specs.Package.{toc_of}
-use Rattle.fwu_formats.specs.declared.kinds.FipFault.{FipFault}
+use Rattle.fwu_formats.specs.{Package.toc_of, declared.kinds.FipFault.FipFault}
 use Rattle.fip_tables.specs.declared.toc.TocStop.TheVariants as stop
 use Rattle.fip_tables.specs.declared.toc.TocStop.{TocStop}
-use Rattle.fip_tables.proofs.Stand.{faults-stand}
-use Rattle.fip_tables.proofs.Told.{longer_front, front_and_rest, range_is}
+use Rattle.fip_tables.proofs.{Stand.faults-stand, Told.longer_front, Told.front_and_rest, Told.range_is}
 use Rattle.fip_tables.proofs.read.feed_next.Goals as goal
 
 same-fault : {X : Type 0} (a b : FipFault) → ◌≡◌ {A = Result X TocStop} (Err (stop.Fault a)) (Err (stop.Fault b)) → a ≡ b

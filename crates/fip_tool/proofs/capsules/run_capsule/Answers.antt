@@ -1,11 +1,9 @@
 use Rattle.std.proofs.Common.{Some, refl}
 use Rattle.fip_words.specs.Order.{capsule}
 use Rattle.fip_tool.specs.Done.{RefusesAlone}
-use Rattle.fip_making.specs.Stops.{status_number}
-use Rattle.fip_making.specs.Values.{capsule_value}
+use Rattle.fip_making.specs.{Stops.status_number, Values.capsule_value}
 use Rattle.fip_tool.specs.declared.lines.Format.TheVariants as format
-use Rattle.fip_tool.proofs.DoneBy.{done-made}
-use Rattle.fip_tool.proofs.Texts.{capsule-texts}
+use Rattle.fip_tool.proofs.{DoneBy.done-made, Texts.capsule-texts}
 use Rattle.fip_making.proofs.Refusing.{if-err-all, late-of-enclosing}
 use Rattle.fip_tool.proofs.capsules.run_capsule.Goals as goal
 

@@ -1,11 +1,9 @@
 use Rattle.std.proofs.Common.{Some, refl}
 use Rattle.fip_words.specs.Order.{repackage}
 use Rattle.fip_tool.specs.Done.{RefusesAlone}
-use Rattle.fip_making.specs.Stops.{status_number}
-use Rattle.fip_making.specs.Values.{repackage_value}
+use Rattle.fip_making.specs.{Stops.status_number, Values.repackage_value}
 use Rattle.fip_tool.specs.declared.lines.Format.TheVariants as format
-use Rattle.fip_tool.proofs.DoneBy.{done-made}
-use Rattle.fip_tool.proofs.Texts.{package-texts}
+use Rattle.fip_tool.proofs.{DoneBy.done-made, Texts.package-texts}
 use Rattle.fip_making.proofs.Refusing.{if-err-all, late-of-packaging}
 use Rattle.fip_tool.proofs.capsules.run_package.Goals as goal
 

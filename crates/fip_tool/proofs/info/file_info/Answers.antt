@@ -1,8 +1,7 @@
 use Rattle.std.proofs.Common.{Vec, ℕ}
 use Rattle.std.specs.Global.{Global}
-use Rattle.fip_making.proofs.Tables.{gives-err}
+use Rattle.fip_making.proofs.{Tables.gives-err, Refusing.handed-on}
 use Rattle.fip_tool.proofs.Texts.{info-err, info-made}
-use Rattle.fip_making.proofs.Refusing.{handed-on}
 use Rattle.fip_tool.proofs.info.file_info.Goals as goal
 
 pub returns-clause-told : goal.returns-clause-told

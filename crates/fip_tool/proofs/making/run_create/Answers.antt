@@ -1,14 +1,10 @@
 use Rattle.std.proofs.Common.{Some, map, refl, ◌≢◌}
-use Rattle.fip_words.specs.Values.{NamedFile}
-use Rattle.fip_tool.proofs.Refusing.{of-map}
+use Rattle.fip_words.specs.{Values.NamedFile, Order.create, Order.part_view}
+use Rattle.fip_tool.proofs.{Refusing.of-map, DoneBy.done-made, Texts.create-texts}
 use Rattle.host_io.specs.Access.{Asks}
-use Rattle.fip_words.specs.Order.{create, part_view}
 use Rattle.fip_tool.specs.Done.{RefusesAlone}
-use Rattle.fip_making.specs.Stops.{status_number}
-use Rattle.fip_making.specs.Values.{create_value}
+use Rattle.fip_making.specs.{Stops.status_number, Values.create_value}
 use Rattle.fip_tool.specs.declared.lines.Format.TheVariants as format
-use Rattle.fip_tool.proofs.DoneBy.{done-made}
-use Rattle.fip_tool.proofs.Texts.{create-texts}
 use Rattle.fip_making.proofs.Refusing.{if-err-all, late-of-packing}
 use Rattle.fip_tool.proofs.making.run_create.Goals as goal
 

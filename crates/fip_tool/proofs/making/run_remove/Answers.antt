@@ -1,11 +1,9 @@
 use Rattle.std.proofs.Common.{Some, refl}
 use Rattle.fip_words.specs.Order.{remove}
 use Rattle.fip_tool.specs.Done.{RefusesAlone}
-use Rattle.fip_making.specs.Stops.{status_number}
-use Rattle.fip_making.specs.Values.{remove_value}
+use Rattle.fip_making.specs.{Stops.status_number, Values.remove_value}
 use Rattle.fip_tool.specs.declared.lines.Format.TheVariants as format
-use Rattle.fip_tool.proofs.DoneBy.{done-made}
-use Rattle.fip_tool.proofs.Texts.{remove-texts}
+use Rattle.fip_tool.proofs.{DoneBy.done-made, Texts.remove-texts}
 use Rattle.fip_making.proofs.Refusing.{if-err-all, late-of-repacking}
 use Rattle.fip_tool.proofs.making.run_remove.Goals as goal
 

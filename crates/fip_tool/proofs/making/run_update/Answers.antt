@@ -1,16 +1,10 @@
 use Rattle.std.proofs.Common.{◌⊎◌, inl, inr, Some, map, refl, ◌≢◌}
-use Rattle.fip_words.specs.Values.{NamedFile}
-use Rattle.fip_tool.proofs.Refusing.{of-map, packing-six}
-use Rattle.host_io.specs.Access.{Asks}
-use Rattle.host_io.specs.Reads.{ReadsFile}
-use Rattle.fip_making.specs.Refusals.{IsOfPacking}
-use Rattle.fip_words.specs.Order.{update, part_view}
+use Rattle.fip_words.specs.{Values.NamedFile, Order.update, Order.part_view}
+use Rattle.fip_tool.proofs.{Refusing.of-map, Refusing.packing-six, DoneBy.done-made, Texts.update-texts}
+use Rattle.host_io.specs.{Access.Asks, Reads.ReadsFile}
+use Rattle.fip_making.specs.{Refusals.IsOfPacking, Stops.status_number, Values.update_value}
 use Rattle.fip_tool.specs.Done.{RefusesAlone}
-use Rattle.fip_making.specs.Stops.{status_number}
-use Rattle.fip_making.specs.Values.{update_value}
 use Rattle.fip_tool.specs.declared.lines.Format.TheVariants as format
-use Rattle.fip_tool.proofs.DoneBy.{done-made}
-use Rattle.fip_tool.proofs.Texts.{update-texts}
 use Rattle.fip_making.proofs.Refusing.{if-err-as, late-of-repacking}
 use Rattle.fip_tool.proofs.making.run_update.Goals as goal
 

@@ -3,24 +3,14 @@ use Rattle.std.proofs.lemmas.List.{length-map}
 use Rattle.std.specs.Global.{Global}
 use Rattle.base_core.specs.Counts.{Rose}
 use Rattle.fip_words.specs.Order as asks
-use Rattle.fip_words.specs.Order.{image_view}
-use Rattle.fip_words.specs.Values.{NamedImage}
+use Rattle.fip_words.specs.{Order.image_view, Values.NamedImage}
 use Rattle.host_io.specs.Access.{Asks}
-use Rattle.fip_tool.specs.Lines.{manifest_line}
-use Rattle.fip_tool.specs.Said.{IsTexts}
-use Rattle.fip_tool.specs.Steps.{outcome_by, MayTear}
-use Rattle.fip_making.specs.Values.{manifest_value}
-use Rattle.fip_tool.specs.Tool.{writes_manifest}
+use Rattle.fip_tool.specs.{Lines.manifest_line, Said.IsTexts, Steps.outcome_by, Steps.MayTear, Tool.writes_manifest}
+use Rattle.fip_making.specs.{Values.manifest_value, Refusals.IsManifestStop}
 use Rattle.fip_making.specs.declared.stops.Stop.TheVariants as stop
-use Rattle.fip_tool.proofs.Did.{no-memory-yet, refused}
-use Rattle.fip_tool.proofs.DoneBy.{done-texts, done-unread}
-use Rattle.fip_tool.proofs.WritingLemmas.{manifest-written, tears-since}
-use Rattle.fip_tool.proofs.Refusing.{of-map}
-use Rattle.fip_making.proofs.ReadsBy.{alone-starved}
-use Rattle.fip_making.specs.Refusals.{IsManifestStop}
-use Rattle.fip_making.proofs.Refusing.{late-of-manifest, handed-on}
-use Rattle.fip_making.proofs.Tables.{rose-from}
-use Rattle.fip_tool.proofs.WroteLemmas.{texts-behind}
+use Rattle.fip_tool.proofs.{Did.no-memory-yet, Did.refused, DoneBy.done-texts, DoneBy.done-unread, WritingLemmas.manifest-written}
+use Rattle.fip_tool.proofs.{WritingLemmas.tears-since, Refusing.of-map, WroteLemmas.texts-behind}
+use Rattle.fip_making.proofs.{ReadsBy.alone-starved, Refusing.late-of-manifest, Refusing.handed-on, Tables.rose-from}
 use Rattle.fip_tool.proofs.manifest.run_manifest.Goals as goal
 
 pub returns : goal.returns

@@ -1,15 +1,10 @@
 use Rattle.std.proofs.Common.{◌∙◌, Ok, Err, Some, inl, inr, map, refl, string_bytes, sym}
 use Rattle.base_core.specs.Counts.{Rose}
-use Rattle.fip_tool.proofs.Converted.{converted}
-use Rattle.fip_tool.proofs.Ending.{ends, reported-later}
-use Rattle.fip_tool.proofs.Refusing.{reported-may}
+use Rattle.fip_tool.proofs.{Converted.converted, Ending.ends, Ending.reported-later, Refusing.reported-may, Texts.says-ends}
 use Rattle.fip_tool.proofs.Faults.{reported-read, fails-once, none-of-source, sink-alone}
 use Rattle.fip_making.proofs.Tables.{rose-from, rose-until}
 use Rattle.fip_words.specs.Order.{asked}
-use Rattle.fip_tool.specs.Said.{IsTextsOf}
-use Rattle.fip_tool.proofs.Texts.{says-ends}
-use Rattle.fip_tool.specs.Steps.{MayTear}
-use Rattle.fip_tool.specs.Tool.{no_files}
+use Rattle.fip_tool.specs.{Said.IsTextsOf, Steps.MayTear, Tool.no_files}
 use Rattle.fip_tool.proofs.top.fip_top.Goals as goal
 
 pub returns-in-Ok-clause-told : goal.returns-in-Ok-clause-told

@@ -1,17 +1,10 @@
 use Rattle.std.proofs.Common.{◌≢◌, ◌∙◌, List, ℕ, ap, refl, subst}
-use Rattle.host_io.specs.Access.{Access, Asks}
-use Rattle.host_io.specs.declared.writes.Writes.{Writes}
+use Rattle.host_io.specs.{Access.Access, Access.Asks, declared.writes.Writes.Writes}
 use Rattle.fip_words.specs.Order as asks
-use Rattle.fip_making.specs.Refusals.{IsPackageStop}
-use Rattle.fip_tool.specs.Said.{IsTexts}
-use Rattle.fip_tool.specs.Seen.{PrintedIn}
-use Rattle.fip_making.specs.Answers.{IsLate}
-use Rattle.fip_tool.specs.Tool.{info_value}
-use Rattle.fip_tool.proofs.Did.{printed-text}
-use Rattle.fip_tool.proofs.Faults.{faults-none}
+use Rattle.fip_making.specs.{Refusals.IsPackageStop, Answers.IsLate}
+use Rattle.fip_tool.specs.{Said.IsTexts, Seen.PrintedIn, Tool.info_value}
+use Rattle.fip_tool.proofs.{Did.printed-text, Faults.faults-none, Refusing.late-alone, Texts.says-printed}
 use Rattle.fip_making.proofs.Refusing.{if-err-as, late-of-package}
-use Rattle.fip_tool.proofs.Refusing.{late-alone}
-use Rattle.fip_tool.proofs.Texts.{says-printed}
 use Rattle.fip_tool.proofs.top.info.Goals as goal
 
 pub returns-clause-done : goal.returns-clause-done

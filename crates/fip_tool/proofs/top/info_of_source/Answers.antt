@@ -1,12 +1,9 @@
 use Rattle.std.proofs.Common.{◌∙◌, List, ℕ, refl, subst, sym}
 use Rattle.base_core.specs.Counts.{Rose}
-use Rattle.fip_tool.proofs.Faults.{source-printed, printed-quiet}
+use Rattle.fip_tool.proofs.{Faults.source-printed, Faults.printed-quiet, Texts.says-printed}
 use Rattle.fip_words.specs.Order as asks
-use Rattle.fip_tool.specs.Said.{IsListing, IsTexts}
-use Rattle.fip_tool.proofs.Texts.{says-printed}
-use Rattle.fip_tool.specs.Steps.{PrintedText}
-use Rattle.fip_making.specs.Answers.{IsLate}
-use Rattle.fip_making.specs.Refusals.{IsOfSource}
+use Rattle.fip_tool.specs.{Said.IsListing, Said.IsTexts, Steps.PrintedText}
+use Rattle.fip_making.specs.{Answers.IsLate, Refusals.IsOfSource}
 use Rattle.fip_making.proofs.Refusing.{if-err-as, late-of-source}
 use Rattle.fip_tool.proofs.top.info_of_source.Goals as goal
 

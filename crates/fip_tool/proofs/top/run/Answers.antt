@@ -1,6 +1,5 @@
 use Rattle.std.proofs.Common.{Some, ap, map, ◌∙◌, string_bytes}
-use Rattle.fip_tool.proofs.DoneBy.{done-starved, done-usage}
-use Rattle.fip_tool.proofs.UnpackWords.{asked-is-other}
+use Rattle.fip_tool.proofs.{DoneBy.done-starved, DoneBy.done-usage, UnpackWords.asked-is-other}
 use Rattle.fip_tool.proofs.top.run.Goals as goal
 
 pub command-requires : goal.command-requires

@@ -2,20 +2,14 @@ use Rattle.std.proofs.Common.{◌≡◌, ◌∙◌, ◌≤◌, ◌+◌, ℕ, All
 use Rattle.std.specs.Prelude.{◌==◌, ◌||◌}
 use Rattle.fwu_formats.specs.Package.{Entry, Toc}
 use Rattle.fip_words.specs.Order.{unpack}
-use Rattle.fip_tool.specs.Lines.{unpacked_line}
-use Rattle.fip_tool.specs.Said.{IsTexts}
-use Rattle.fip_tool.specs.Seen.{DidIn}
-use Rattle.fip_tool.specs.Steps.{Makes}
+use Rattle.fip_tool.specs.{Lines.unpacked_line, Said.IsTexts, Seen.DidIn, Steps.Makes}
 use Rattle.fip_tool.specs.Tool.{chosen, unpack_steps, unpack_value}
 use Rattle.fip_making.specs.Values.{is_named}
-use Rattle.fip_tool.proofs.Did.{made-steps, refused}
+use Rattle.fip_tool.proofs.{Did.made-steps, Did.refused, WritingLemmas.tears-since, WroteLemmas.texts-behind}
 use Rattle.fip_tool.proofs.DoneBy.{done-texts, done-unread}
-use Rattle.fip_making.proofs.Refusing.{late-of-entries, handed-on}
-use Rattle.fip_making.proofs.Repacking.{opened, stored-of, there-of}
 use Rattle.fip_tool.proofs.UnpackLemmas.{unpack-err, unpack-of, chosen-filter}
-use Rattle.fip_making.proofs.Tables.{gives-err, rose-still}
-use Rattle.fip_tool.proofs.WritingLemmas.{tears-since}
-use Rattle.fip_tool.proofs.WroteLemmas.{texts-behind}
+use Rattle.fip_making.proofs.{Refusing.late-of-entries, Refusing.handed-on, Tables.gives-err, Tables.rose-still}
+use Rattle.fip_making.proofs.Repacking.{opened, stored-of, there-of}
 use Rattle.fip_tool.proofs.unpack.run_unpack.Goals as goal
 
 pub unpack_entries-requires-clause-stored : goal.unpack_entries-requires-clause-stored

@@ -4,20 +4,14 @@ use Rattle.std.proofs.lemmas.List.{length-append, length-map, map-append}
 use Rattle.std.specs.Prelude.{◌==◌, ◌||◌}
 use Rattle.std.proofs.lemmas.List.Elements.{All-get_or}
 use Rattle.fwu_formats.specs.Package.{Entry}
-use Rattle.fip_tool.specs.Lines.{unpacked_line}
-use Rattle.fip_tool.specs.Said.{joined_texts}
+use Rattle.fip_tool.specs.{Lines.unpacked_line, Said.joined_texts, Steps.sink_failed, Wrote.raised_by}
 use Rattle.fip_making.specs.Values.{is_named}
-use Rattle.fip_tool.proofs.Texts.{said-more, says-behind}
-use Rattle.fip_tool.proofs.Faults.{faults-then}
-use Rattle.fip_tool.proofs.WritingLemmas.{none-unwritten, tears-still}
-use Rattle.fip_making.proofs.Tables.{rose-from, rose-still}
+use Rattle.fip_tool.proofs.{Texts.said-more, Texts.says-behind, Faults.faults-then, WritingLemmas.none-unwritten}
+use Rattle.fip_tool.proofs.{WritingLemmas.tears-still, WroteLemmas.one-wrote, WroteLemmas.wrote-behind}
 use Rattle.fip_tool.proofs.UnpackLemmas.{all-done, next-chosen, next-passed, split-chosen, step-done, step-passed, step-stops, tells-still, there-still}
-use Rattle.fip_tool.specs.Steps.{sink_failed}
-use Rattle.fip_tool.specs.Wrote.{raised_by}
-use Rattle.fip_tool.proofs.WroteLemmas.{one-wrote, wrote-behind}
-use Rattle.fip_making.proofs.Refusing.{handed-on}
-use Rattle.fip_tool.proofs.unpack.unpack_entries.Goals as goal
 use Rattle.fip_tool.proofs.unpack.unpack_entries.Goals.{then-is_chosen+in_ok-unpack_entry, else-is_chosen}
+use Rattle.fip_making.proofs.{Tables.rose-from, Tables.rose-still, Refusing.handed-on}
+use Rattle.fip_tool.proofs.unpack.unpack_entries.Goals as goal
 
 pub unpack_entry-requires-clause-stored : goal.unpack_entry-requires-clause-stored
 unpack_entry-requires-clause-stored g c = λ bytes tells.

@@ -1,13 +1,9 @@
 use Rattle.std.proofs.Common.{◌≡◌, ◌≢◌, ◌≤◌, ℕ, List, None, Some, filter, length, map, take}
 use Rattle.std.specs.Prelude.{◌==◌, ◌||◌}
 use Rattle.std.specs.Io.KnownBytes.{Appends}
-use Rattle.host_io.specs.Access.{Access, Asks, Makes}
-use Rattle.host_io.specs.Contents.{Directory}
-use Rattle.fip_tool.specs.Lines.{unpacked_line, unpacked_name}
-use Rattle.fip_tool.specs.Said.{joined_texts}
-use Rattle.fip_tool.specs.Steps.{NoneUnwritten}
+use Rattle.host_io.specs.{Access.Access, Access.Asks, Access.Makes, Contents.Directory}
+use Rattle.fip_tool.specs.{Lines.unpacked_line, Lines.unpacked_name, Said.joined_texts, Steps.NoneUnwritten, Wrote.raised_by}
 use Rattle.fip_making.specs.Values.{is_named}
-use Rattle.fip_tool.specs.Wrote.{raised_by}
 use Rattle.fip_tool.proofs.UnpackLemmas.{IsUnpacking}
 use Rattle.fip_tool.proofs.unpack.unpack_entries.Given as goal
 

@@ -1,7 +1,6 @@
 use Rattle.std.proofs.Common.{◌∷◌, ◌∙◌, [], ap}
 use Rattle.fwu_formats.specs.Package.{Entry}
-use Rattle.host_io.specs.Contents.{Directory}
-use Rattle.host_io.specs.declared.joining.Piece.{Piece}
+use Rattle.host_io.specs.{Contents.Directory, declared.joining.Piece.Piece}
 use Rattle.fip_tool.specs.Lines.{unpacked_name}
 use Rattle.fip_making.specs.Payloads.{joined_pieces}
 use Rattle.fip_tool.proofs.UnpackedBy.{made, piece-is, unnamed}

@@ -1,6 +1,5 @@
 use Rattle.fip_making.specs.Payloads.{joined_pieces}
-use Rattle.fip_tool.proofs.WroteLemmas.{one-text}
-use Rattle.fip_tool.proofs.WritingLemmas.{then-printed}
+use Rattle.fip_tool.proofs.{WroteLemmas.one-text, WritingLemmas.then-printed}
 use Rattle.fip_tool.proofs.writing.join_and_print.Goals as goal
 
 pub returns-clause-told : goal.returns-clause-told

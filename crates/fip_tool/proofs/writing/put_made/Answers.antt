@@ -1,14 +1,10 @@
 use Rattle.std.proofs.Common.{◌≡◌, ◌∙◌, Result, Ok, Err, ap, arith, refl, subst, sym}
-use Rattle.fip_tool.specs.Lines.{made_line}
+use Rattle.fip_tool.specs.{Lines.made_line, Done.PutsMade, Steps.FaultsOnce}
+use Rattle.fip_making.specs.{declared.made.Made.Made, declared.stops.Stop.Stop}
 use Rattle.fip_making.specs.Payloads.{IsWholeFile, made_by, made_bytes}
-use Rattle.fip_tool.specs.Done.{PutsMade}
-use Rattle.fip_tool.specs.Steps.{FaultsOnce}
-use Rattle.fip_making.specs.declared.made.Made.{Made}
-use Rattle.fip_making.specs.declared.stops.Stop.{Stop}
 use Rattle.fip_making.specs.declared.stops.Stop.TheVariants as stop
 use Rattle.fip_making.proofs.Refusing.{handed-on}
-use Rattle.fip_tool.proofs.Faults.{faults-none}
-use Rattle.fip_tool.proofs.WroteLemmas.{no-texts, puts-texts}
+use Rattle.fip_tool.proofs.{Faults.faults-none, WroteLemmas.no-texts, WroteLemmas.puts-texts}
 use Rattle.fip_tool.proofs.WritingLemmas.{joined-made, made-put}
 use Rattle.fip_tool.proofs.writing.put_made.Goals as goal
 

@@ -1,6 +1,5 @@
 use Rattle.std.proofs.Common.{◌≡◌, drop}
-use Rattle.clap.specs.Words.{app_of}
-use Rattle.clap.specs.declared.builder.Command.TheViews.{out-Command}
+use Rattle.clap.specs.{Words.app_of, declared.builder.Command.TheViews.out-Command}
 use Rattle.fip_words.specs.Arguments.{with_rules}
 use Rattle.fip_words.proofs.commands.with_arguments.Given as goal
 

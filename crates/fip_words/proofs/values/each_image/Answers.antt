@@ -1,7 +1,6 @@
 use Rattle.std.proofs.Common.{◌∙◌, Bor, List, ap, map, ℕ}
 use Rattle.std.proofs.lemmas.List.{map_push}
-use Rattle.fip_words.specs.Values.{named_row_of}
-use Rattle.fip_words.specs.Order.{image_view}
+use Rattle.fip_words.specs.{Values.named_row_of, Order.image_view}
 use Rattle.clap_words.proofs.EachLemmas.{all_read, next_read, none_read, not_read}
 use Rattle.fip_words.proofs.values.each_image.Goals as goal
 

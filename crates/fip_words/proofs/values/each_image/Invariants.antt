@@ -1,6 +1,5 @@
 use Rattle.std.proofs.Common.{◌≡◌, ◌++◌, map, drop, option_map}
-use Rattle.fip_words.specs.Values.{each, named_row_of}
-use Rattle.fip_words.specs.Order.{image_view}
+use Rattle.fip_words.specs.{Values.each, Values.named_row_of, Order.image_view}
 use Rattle.fip_words.proofs.values.each_image.Given as goal
 
 -- what was read so far, and what is left to read, are all

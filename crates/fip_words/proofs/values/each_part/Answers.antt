@@ -1,7 +1,6 @@
 use Rattle.std.proofs.Common.{◌∙◌, Bor, List, ap, map, ℕ}
 use Rattle.std.proofs.lemmas.List.{map_push}
-use Rattle.fip_words.specs.Values.{part_of}
-use Rattle.fip_words.specs.Order.{part_view}
+use Rattle.fip_words.specs.{Values.part_of, Order.part_view}
 use Rattle.clap_words.proofs.EachLemmas.{all_read, next_read, none_read, not_read}
 use Rattle.fip_words.proofs.values.each_part.Goals as goal
 

@@ -1,6 +1,5 @@
 use Rattle.std.proofs.Common.{◌≡◌, ◌++◌, map, drop, option_map}
-use Rattle.fip_words.specs.Values.{each, part_of}
-use Rattle.fip_words.specs.Order.{part_view}
+use Rattle.fip_words.specs.{Values.each, Values.part_of, Order.part_view}
 use Rattle.fip_words.proofs.values.each_part.Given as goal
 
 -- what was read so far, and what is left to read, are all

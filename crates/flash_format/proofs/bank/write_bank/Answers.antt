@@ -1,27 +1,19 @@
 use Rattle.std.proofs.Common.{◌≡◌, inr, ◌+◌, ◌*◌, ◌<◌, ◌≤◌, ℕ, List, length, get_or, take, sym, ap, subst, ◌∙◌, arith, rules}
 use Rattle.std.specs.Prelude.{Ok, Option}
 use Rattle.std.proofs.lemmas.List.{get_or_default}
-use Rattle.flash_core.specs.May.{Keeps}
-use Rattle.flash_core.proofs.Calls.{keeps_wider, keeps_then}
-use Rattle.flash_core.proofs.Costs.{spends_then}
-use Rattle.flash_core.proofs.Spent.{spent_both}
-use Rattle.flash_core.specs.Counts.{lowered_by}
+use Rattle.flash_core.specs.{May.Keeps, Counts.lowered_by}
+use Rattle.flash_core.proofs.{Calls.keeps_wider, Calls.keeps_then, Costs.spends_then, Spent.spent_both}
+use Rattle.flash_core.proofs.Touches.{touches_then, touches_wider}
 use Rattle.host_io.specs.Contents.{Directory}
 use Rattle.host_io.proofs.Reading.{reads-then}
-use Rattle.fip_tables.specs.Files.{Tells}
-use Rattle.fwu_formats.specs.Layout.{ImageRow, slot_total, start, slot_bytes}
-use Rattle.fwu_formats.specs.Package.{Entry, payload}
+use Rattle.fip_tables.specs.{Files.Tells, Images.no_row, Images.no_entry}
+use Rattle.fwu_formats.specs.{Layout.ImageRow, Layout.slot_total, Layout.start, Layout.slot_bytes, Package.Entry, Package.payload}
 use Rattle.fwu_formats.proofs.SealLaws.{limits}
 use Rattle.image_check.proofs.OfBank.{bank_fits}
-use Rattle.fip_tables.specs.Images.{no_row, no_entry}
-use Rattle.flash_core.proofs.Touches.{touches_then, touches_wider}
-use Rattle.flash_format.specs.Places.{HoldsThenErased}
-use Rattle.flash_format.specs.Planned.{pieces_in, block_pieces_of}
+use Rattle.flash_format.specs.{Places.HoldsThenErased, Planned.pieces_in, Planned.block_pieces_of}
+use Rattle.flash_format.proofs.{Ranges.erased_stays, Taking.pieces_all, Taking.pieces_more, Stopped.unarmed_then}
 use Rattle.flash_format.proofs.Recorded.{left_then, left_fewer}
-use Rattle.flash_format.proofs.Ranges.{erased_stays}
 use Rattle.flash_format.proofs.Formats.{slots_more, slots_more_le, all_stand_more}
-use Rattle.flash_format.proofs.Taking.{pieces_all, pieces_more}
-use Rattle.flash_format.proofs.Stopped.{unarmed_then}
 use Rattle.flash_format.proofs.bank.write_bank.Goals as goal
 
 pub start-first-requires-clause-below : goal.start-first-requires-clause-below

@@ -1,13 +1,10 @@
 use Rattle.std.proofs.Common.{◌≡◌, ℕ, ◌+◌, ◌*◌, ◌≤◌, List, take}
 use Rattle.std.specs.Prelude.{IsTrue, Ok}
-use Rattle.flash_core.specs.Counts.{Spends, StaysUnarmed, lowered_by}
-use Rattle.flash_core.specs.May.{Keeps}
+use Rattle.flash_core.specs.{Counts.Spends, Counts.StaysUnarmed, Counts.lowered_by, May.Keeps, Touches.TouchesOnly}
 use Rattle.fwu_formats.specs.Layout.{slot_total}
 use Rattle.host_io.specs.Reads.{ReadsFile}
 use Rattle.fip_tables.specs.Files.{Tells}
-use Rattle.flash_core.specs.Touches.{TouchesOnly}
-use Rattle.flash_format.specs.Places.{LeavesNoMore, Erased, AllStand}
-use Rattle.flash_format.specs.Planned.{pieces_in}
+use Rattle.flash_format.specs.{Places.LeavesNoMore, Places.Erased, Places.AllStand, Planned.pieces_in}
 use Rattle.flash_format.proofs.bank.write_bank.Given as goal
 
 abbrev pub invariant-loop-k : goal.invariant-loop-k

@@ -2,17 +2,11 @@ use Rattle.std.proofs.Common.{◌+◌, ◌-◌, ◌*◌, ◌∙◌, sym, subst, 
 use Rattle.std.specs.Prelude.{Ok}
 use Rattle.base_core.specs.Block.{blank}
 use Rattle.base_core.proofs.Blocks.{length-blank}
-use Rattle.flash_core.specs.Told.{Told}
-use Rattle.flash_core.specs.May.{Keeps}
-use Rattle.flash_core.proofs.Calls.{keeps_wider}
-use Rattle.flash_core.proofs.Costs.{spends_then}
-use Rattle.flash_core.proofs.Spent.{spent_both, spent_one}
+use Rattle.flash_core.specs.{Told.Told, May.Keeps}
+use Rattle.flash_core.proofs.{Calls.keeps_wider, Costs.spends_then, Spent.spent_both, Spent.spent_one, Unarmed.unarmed_spent}
 use Rattle.flash_core.proofs.Touches.{touches_then, touches_wider}
 use Rattle.flash_format.specs.Places.{OnlyErased, Erased}
-use Rattle.flash_format.proofs.Recorded.{only_erase}
-use Rattle.flash_format.proofs.Ranges.{keeps_written, erased_more}
-use Rattle.flash_core.proofs.Unarmed.{unarmed_spent}
-use Rattle.flash_format.proofs.Stopped.{unarmed_then}
+use Rattle.flash_format.proofs.{Recorded.only_erase, Ranges.keeps_written, Ranges.erased_more, Stopped.unarmed_then}
 use Rattle.flash_format.proofs.erasing.erase_behind.Goals as goal
 
 pub returns-in_err-erase-clause-writes : goal.returns-in_err-erase-clause-writes

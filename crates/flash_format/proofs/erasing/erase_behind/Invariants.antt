@@ -1,8 +1,6 @@
 use Rattle.std.proofs.Common.{◌≡◌, ◌-◌, ◌*◌}
 use Rattle.std.specs.Prelude.{IsTrue, Ok}
-use Rattle.flash_core.specs.Counts.{Spends, StaysUnarmed, lowered_by}
-use Rattle.flash_core.specs.May.{Keeps}
-use Rattle.flash_core.specs.Touches.{TouchesOnly}
+use Rattle.flash_core.specs.{Counts.Spends, Counts.StaysUnarmed, Counts.lowered_by, May.Keeps, Touches.TouchesOnly}
 use Rattle.flash_format.specs.Places.{OnlyErased, Erased}
 use Rattle.flash_format.proofs.erasing.erase_behind.Given as goal
 

@@ -1,11 +1,8 @@
 use Rattle.std.proofs.Common.{◌≡◌, sym, ap, subst, ◌∙◌, arith, rules, ◌*◌, ◌+◌}
 use Rattle.base_core.specs.Block.{blank}
 use Rattle.base_core.proofs.Blocks.{length-blank}
-use Rattle.flash_core.specs.Told.{Told}
-use Rattle.flash_core.specs.May.{Keeps}
-use Rattle.flash_core.proofs.Calls.{keeps_same}
-use Rattle.flash_core.proofs.Spent.{spent_barrier, spent_one}
-use Rattle.flash_core.proofs.Touches.{touches_still, touches_wider}
+use Rattle.flash_core.specs.{Told.Told, May.Keeps}
+use Rattle.flash_core.proofs.{Calls.keeps_same, Spent.spent_barrier, Spent.spent_one, Touches.touches_still, Touches.touches_wider}
 use Rattle.flash_format.specs.Places.{OnlyErased, Erased}
 use Rattle.flash_format.proofs.Recorded.{only_erase, only_same, only_settled, on_ok_from, keeps_settled, now_settled, clean_after}
 use Rattle.flash_format.proofs.Ranges.{keeps_written, erased_more}

@@ -1,14 +1,10 @@
 use Rattle.std.proofs.Common.{◌≡◌, ℕ, length, ap, subst, arith, Result, Err}
 use Rattle.std.specs.Prelude.{IsTrue, OnOk}
-use Rattle.flash_format.specs.Places.{IsBare}
-use Rattle.flash_core.specs.Told.{NothingDirty}
-use Rattle.flash_format.specs.Planned.{IsFilled}
-use Rattle.flash_format.specs.Stops.{flash_result}
-use Rattle.flash_format.specs.declared.stops.FormatStop.{FormatStop}
+use Rattle.flash_format.specs.{Places.IsBare, Planned.IsFilled, Stops.flash_result, declared.stops.FormatStop.FormatStop}
 use Rattle.flash_format.specs.declared.stops.FormatStop.TheVariants.{ReadFailed}
-use Rattle.flash_format.proofs.Given.{finishes_more}
+use Rattle.flash_core.specs.Told.{NothingDirty}
+use Rattle.flash_format.proofs.{Given.finishes_more, Stopped.handed-on}
 use Rattle.flash_format.proofs.Recorded.{bare_is_unlaid, blank_stays, images_stay, in_order_before, in_order_filled}
-use Rattle.flash_format.proofs.Stopped.{handed-on}
 use Rattle.flash_format.proofs.formatting.carry_out.Goals as goal
 
 pub returns-in_err-fill-clause-failed : goal.returns-in_err-fill-clause-failed

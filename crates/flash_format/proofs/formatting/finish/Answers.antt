@@ -1,11 +1,9 @@
 use Rattle.std.proofs.Common.{inl, sym, subst, arith, rules}
-use Rattle.flash_core.specs.Told.{Told, NothingDirty}
-use Rattle.flash_core.specs.May.{Keeps}
+use Rattle.flash_core.specs.{Told.Told, Told.NothingDirty, May.Keeps}
 use Rattle.flash_core.proofs.Calls.{keeps_same}
 use Rattle.flash_format.specs.Formatted.{HasAtMost, IsWholeFormat}
+use Rattle.flash_format.proofs.{Recorded.bare_fresh, Recorded.bare_unlaid, Recorded.ordered_before, Stopped.handed-on}
 use Rattle.flash_format.proofs.Formats.{formatted, refused, whole_after, whole_before, unlaid}
-use Rattle.flash_format.proofs.Recorded.{bare_fresh, bare_unlaid, ordered_before}
-use Rattle.flash_format.proofs.Stopped.{handed-on}
 use Rattle.flash_format.proofs.formatting.finish.Goals as goal
 
 pub returns-in_err-version-clause-refused : goal.returns-in_err-version-clause-refused

@@ -1,25 +1,18 @@
 use Rattle.std.proofs.Common.{◌≡◌, ◌*◌, ℕ, List, ap, sym, subst, arith, Option, Result, Ok, Err, rules}
 use Rattle.host_io.proofs.Reading.{reads-then}
 use Rattle.std.specs.Prelude.{IsTrue}
-use Rattle.flash_core.specs.May.{Keeps}
-use Rattle.flash_core.specs.Touches.{TouchesOnly}
+use Rattle.flash_core.specs.{May.Keeps, Touches.TouchesOnly}
 use Rattle.host_io.specs.Contents.{Directory}
-use Rattle.fwu_formats.specs.Layout.{Layout, blocks_needed, fits_layout}
+use Rattle.fwu_formats.specs.{Layout.Layout, Layout.blocks_needed, Layout.fits_layout, Package.Toc, Package.toc_of}
 use Rattle.fwu_model.specs.Answer.{images_of}
-use Rattle.fwu_formats.specs.Package.{Toc, toc_of}
 use Rattle.fip_tables.specs.Files.{Tells}
 use Rattle.image_check.specs.Passed.{HasPassed}
+use Rattle.flash_format.specs.{Stops.FormatFinishes, declared.formatting.Formatted.Formatted, declared.stops.FormatStop.FormatStop}
+use Rattle.flash_format.specs.{declared.stops.FormatStop.TheVariants.Input, declared.stops.InputFault.TheVariants.Incomplete}
 use Rattle.flash_format.specs.Formatted.{HoldsImages, IsBlank, IsInOrder, IsRefusedFormat}
 use Rattle.flash_format.specs.Planned.{IsFilled, FormatTakes, pieces_in}
-use Rattle.flash_format.specs.Stops.{FormatFinishes}
-use Rattle.flash_format.specs.declared.formatting.Formatted.{Formatted}
-use Rattle.flash_format.specs.declared.stops.FormatStop.{FormatStop}
-use Rattle.flash_format.specs.declared.stops.FormatStop.TheVariants.{Input}
-use Rattle.flash_format.specs.declared.stops.InputFault.TheVariants.{Incomplete}
-use Rattle.flash_format.proofs.Formats.{not_refused}
+use Rattle.flash_format.proofs.{Formats.not_refused, Taking.pieces_fit, Taking.pieces_told, Stopped.handed-on}
 use Rattle.flash_format.proofs.Given.{fitted_is, hold_given, finishes_err}
-use Rattle.flash_format.proofs.Taking.{pieces_fit, pieces_told}
-use Rattle.flash_format.proofs.Stopped.{handed-on}
 use Rattle.flash_format.proofs.formatting.format.Goals as goal
 
 pub carry_out-requires-clause-ready : goal.carry_out-requires-clause-ready

@@ -1,17 +1,14 @@
 use Rattle.std.proofs.Common.{◌≡◌, ◌+◌, ◌*◌, ◌≤◌, ℕ, inl, inr, drop, sym, ap, subst, ◌∙◌, arith, rules}
 use Rattle.std.specs.Prelude.{Ok, Option}
-use Rattle.flash_core.proofs.Calls.{keeps_wider, keeps_then}
-use Rattle.flash_core.proofs.Costs.{spends_then}
-use Rattle.flash_core.proofs.Spent.{spent_both}
+use Rattle.flash_core.proofs.{Calls.keeps_wider, Calls.keeps_then, Costs.spends_then, Spent.spent_both}
+use Rattle.flash_core.proofs.Touches.{touches_then, touches_wider}
 use Rattle.host_io.specs.Contents.{Directory}
 use Rattle.host_io.proofs.Reading.{reads-then}
 use Rattle.fip_tables.specs.Files.{Tells}
 use Rattle.fwu_formats.specs.Package.{Entry, payload}
-use Rattle.flash_core.proofs.Touches.{touches_then, touches_wider}
 use Rattle.flash_format.specs.Places.{HoldsThenErased}
+use Rattle.flash_format.proofs.{Recorded.left_then, Recorded.left_fewer, Stopped.unarmed_then}
 use Rattle.flash_format.proofs.Ranges.{erased_stays, stands_stays, stands_more}
-use Rattle.flash_format.proofs.Recorded.{left_then, left_fewer}
-use Rattle.flash_format.proofs.Stopped.{unarmed_then}
 use Rattle.flash_format.proofs.images.write_image.Goals as goal
 
 pub returns-in_err-write_piece-clause-writes : goal.returns-in_err-write_piece-clause-writes

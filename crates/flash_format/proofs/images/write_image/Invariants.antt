@@ -1,11 +1,9 @@
 use Rattle.std.proofs.Common.{◌≡◌, ℕ, ◌+◌, ◌*◌, ◌≤◌, List}
 use Rattle.std.specs.Prelude.{IsTrue, Ok}
-use Rattle.flash_core.specs.Counts.{Spends, StaysUnarmed, lowered_by}
-use Rattle.flash_core.specs.May.{Keeps}
+use Rattle.flash_core.specs.{Counts.Spends, Counts.StaysUnarmed, Counts.lowered_by, May.Keeps, Touches.TouchesOnly}
 use Rattle.fwu_formats.specs.Package.{payload}
 use Rattle.host_io.specs.Reads.{ReadsFile}
 use Rattle.fip_tables.specs.Files.{Tells}
-use Rattle.flash_core.specs.Touches.{TouchesOnly}
 use Rattle.flash_format.specs.Places.{LeavesNoMore, Erased, HoldsThenErased}
 use Rattle.flash_format.proofs.images.write_image.Given as goal
 

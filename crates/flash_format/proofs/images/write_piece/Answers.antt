@@ -2,15 +2,11 @@ use Rattle.std.proofs.Common.{◌≡◌, ◌+◌, ◌*◌, ◌≤◌, ℕ, lengt
 use Rattle.std.specs.Prelude.{slice_range}
 use Rattle.std.proofs.lemmas.List.{length-take-le}
 use Rattle.base_core.specs.Block.{blank}
-use Rattle.flash_core.specs.Told.{Told}
-use Rattle.flash_core.specs.May.{Keeps}
-use Rattle.flash_core.proofs.Calls.{keeps_same}
+use Rattle.flash_core.specs.{Told.Told, May.Keeps}
+use Rattle.flash_core.proofs.{Calls.keeps_same, Spent.spent_one, Touches.touches_wider}
 use Rattle.fwu_formats.specs.Package.{payload}
-use Rattle.flash_core.proofs.Spent.{spent_one}
-use Rattle.flash_core.proofs.Touches.{touches_wider}
 use Rattle.flash_format.specs.Places.{LeavesNoMore, HoldsThenErased}
-use Rattle.flash_format.proofs.Ranges.{keeps_written, erased_range, piece_written}
-use Rattle.flash_format.proofs.Recorded.{left_below}
+use Rattle.flash_format.proofs.{Ranges.keeps_written, Ranges.erased_range, Ranges.piece_written, Recorded.left_below}
 use Rattle.flash_format.proofs.images.write_piece.Goals as goal
 
 pub read_piece-requires-clause-erased : goal.read_piece-requires-clause-erased

@@ -1,10 +1,6 @@
 use Rattle.std.proofs.Common.{◌∙◌, inl, refl, sym, subst, Result, Err, rules}
-use Rattle.fwu_formats.specs.Layout.{Layout}
-use Rattle.fwu_formats.specs.Package.{toc_of}
-use Rattle.fwu_formats.specs.declared.kinds.LayoutFault.{LayoutFault}
-use Rattle.flash_format.specs.Choosing.{refusal, refusal_by}
-use Rattle.flash_format.specs.Stops.{RefusesAs, IsOfBytes}
-use Rattle.flash_format.specs.declared.plan.Plan.{Plan}
+use Rattle.fwu_formats.specs.{Layout.Layout, Package.toc_of, declared.kinds.LayoutFault.LayoutFault}
+use Rattle.flash_format.specs.{Choosing.refusal, Choosing.refusal_by, Stops.RefusesAs, Stops.IsOfBytes, declared.plan.Plan.Plan}
 use Rattle.flash_format.specs.declared.stops.FormatStop.TheVariants.{Input}
 use Rattle.flash_format.specs.declared.stops.InputFault.TheVariants.{Layout as BadLayout}
 use Rattle.flash_format.proofs.Given.{of_fault}

@@ -1,15 +1,11 @@
 use Rattle.std.proofs.Common.{◌≡◌, ◌*◌, ℕ, length, sym, ap, subst, ◌∙◌, arith, rules, ◌+◌}
 use Rattle.base_core.specs.Block.{block}
-use Rattle.flash_core.specs.Told.{Told}
-use Rattle.flash_core.specs.May.{Keeps}
-use Rattle.flash_core.proofs.Calls.{keeps_same}
-use Rattle.flash_core.proofs.Spent.{spent_barrier, spent_one}
-use Rattle.flash_core.proofs.Touches.{touches_still, touches_wider}
-use Rattle.flash_format.specs.Places.{HoldsThenErased}
+use Rattle.flash_core.specs.{Told.Told, May.Keeps}
+use Rattle.flash_core.proofs.{Calls.keeps_same, Spent.spent_barrier, Spent.spent_one, Touches.touches_still, Touches.touches_wider}
+use Rattle.flash_format.specs.{Places.HoldsThenErased, Formatted.HasAtMost}
 use Rattle.flash_format.proofs.Ranges.{keeps_written, erased_range}
-use Rattle.fwu_formats.specs.Layout.{layout_bytes}
-use Rattle.flash_format.specs.Formatted.{HasAtMost}
 use Rattle.flash_format.proofs.Recorded.{at_most_written, on_ok_from, keeps_settled, now_settled, clean_after, stands_put, block_padded, padded_front, padded_whole, layout_read}
+use Rattle.fwu_formats.specs.Layout.{layout_bytes}
 use Rattle.flash_format.proofs.records.write_layout.Goals as goal
 
 pub program-requires-clause-blank : goal.program-requires-clause-blank

@@ -1,16 +1,12 @@
 use Rattle.std.proofs.Common.{◌≡◌, inl, inr, ◌∙◌, arith, IsTrue, rules}
 use Rattle.base_core.specs.Block.{block}
 use Rattle.flash_core.specs.Replaces.{padded}
-use Rattle.flash_core.proofs.Calls.{now_kept}
-use Rattle.fwu_formats.specs.Layout.{layout_bytes}
-use Rattle.fwu_formats.specs.Metadata.{first_meta}
+use Rattle.flash_core.proofs.{Calls.now_kept, Spent.spent_then, Touches.touches_then, Touches.touches_wider}
+use Rattle.fwu_formats.specs.{Layout.layout_bytes, Metadata.first_meta}
 use Rattle.fwu_model.specs.Replica.{in_version}
-use Rattle.flash_core.proofs.Spent.{spent_then}
-use Rattle.flash_core.proofs.Touches.{touches_then, touches_wider}
 use Rattle.flash_format.specs.Formatted.{IsSpelled}
-use Rattle.flash_format.proofs.Ranges.{erased_stays}
+use Rattle.flash_format.proofs.{Ranges.erased_stays, Formats.unlaid}
 use Rattle.flash_format.proofs.Recorded.{on_ok_from, on_ok_map, both_stay, ordered_before, ordered_after}
-use Rattle.flash_format.proofs.Formats.{unlaid}
 use Rattle.flash_format.proofs.records.write_records.Goals as goal
 
 pub returns-clause-both : goal.returns-clause-both

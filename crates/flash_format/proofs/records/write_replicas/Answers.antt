@@ -2,16 +2,12 @@ use Rattle.std.proofs.Common.{◌≡◌, ◌≤◌, inl, inr, ℕ, List, Some, �
 use Rattle.std.proofs.lemmas.List.{length-take}
 use Rattle.std.specs.Prelude.{IsTrue}
 use Rattle.base_core.specs.Block.{block}
-use Rattle.flash_core.specs.Told.{Told}
-use Rattle.flash_core.specs.May.{Keeps}
-use Rattle.flash_core.specs.Replaces.{padded}
-use Rattle.flash_core.proofs.Calls.{keeps_same, now_kept}
-use Rattle.flash_core.proofs.Spent.{spent_barrier, spent_both, spent_one}
+use Rattle.flash_core.specs.{Told.Told, May.Keeps, Replaces.padded}
+use Rattle.flash_core.proofs.{Calls.keeps_same, Calls.now_kept, Spent.spent_barrier, Spent.spent_both, Spent.spent_one}
+use Rattle.flash_core.proofs.Touches.{touches_still, touches_then, touches_wider}
 use Rattle.fwu_formats.specs.Metadata.{Meta, MetaRead, meta_read, first_meta, fits_meta, replica_bytes}
 use Rattle.fwu_model.specs.Replica.{in_version}
-use Rattle.flash_core.proofs.Touches.{touches_still, touches_then, touches_wider}
-use Rattle.flash_format.specs.Formatted.{HoldTwice}
-use Rattle.flash_format.specs.Places.{HoldsThenErased}
+use Rattle.flash_format.specs.{Formatted.HoldTwice, Places.HoldsThenErased}
 use Rattle.flash_format.proofs.Ranges.{keeps_written, erased_range, erased_stays}
 use Rattle.flash_format.proofs.Recorded.{on_ok_from, keeps_settled, now_settled, clean_after, stands_put, block_padded, replica_read}
 use Rattle.flash_format.proofs.records.write_replicas.Goals as goal

@@ -1,20 +1,14 @@
 use Rattle.std.proofs.Common.{◌+◌, ◌*◌, ℕ, List, length, inl, inr, ap, sym, subst, ◌∙◌, arith}
 use Rattle.std.specs.Prelude.{IsTrue}
-use Rattle.flash_core.specs.Told.{Told, NothingDirty}
-use Rattle.flash_core.specs.May.{Keeps}
+use Rattle.flash_core.specs.{Told.Told, Told.NothingDirty, May.Keeps, Touches.TouchesOnly}
 use Rattle.flash_core.proofs.Calls.{keeps_wider, keeps_then, settle-fresh}
-use Rattle.fwu_formats.specs.Layout.{slot_total, blocks_needed}
-use Rattle.fwu_formats.specs.Package.{Entry}
-use Rattle.flash_core.specs.Touches.{TouchesOnly}
 use Rattle.flash_core.proofs.Touches.{touches_still, touches_then, touches_wider}
-use Rattle.flash_format.specs.Places.{IsBare, OnlyErased, AllStand, Erased}
-use Rattle.flash_format.specs.Formatted.{IsBlank}
+use Rattle.fwu_formats.specs.{Layout.slot_total, Layout.blocks_needed, Package.Entry}
+use Rattle.flash_format.specs.{Places.IsBare, Places.OnlyErased, Places.AllStand, Places.Erased, Formatted.IsBlank}
+use Rattle.flash_format.proofs.{Ranges.erased_stays, Plans.bank_within, writing.fill.Goals.After-write_bank}
 use Rattle.flash_format.proofs.Recorded.{only_above, only_settled, bare_settled, bare_stays, keeps_settled, now_settled}
-use Rattle.flash_format.proofs.Ranges.{erased_stays}
-use Rattle.flash_format.proofs.Plans.{bank_within}
 use Rattle.flash_format.proofs.writing.fill.Given as given
 use Rattle.flash_format.proofs.writing.fill.Goals as goal
-use Rattle.flash_format.proofs.writing.fill.Goals.{After-write_bank}
 
 pub write_bank-requires-clause-erased : goal.write_bank-requires-clause-erased
 write_bank-requires-clause-erased g c = λ tells i above below.

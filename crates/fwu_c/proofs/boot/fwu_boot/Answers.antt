@@ -1,5 +1,4 @@
-use Rattle.fwu_c.proofs.Booting.{made_new}
-use Rattle.fwu_c.proofs.Telling.{told_unmade}
+use Rattle.fwu_c.proofs.{Booting.made_new, Telling.told_unmade}
 use Rattle.fwu_c.proofs.boot.fwu_boot.Goals as goal
 
 pub boot_over-requires-clause-new : goal.boot_over-requires-clause-new

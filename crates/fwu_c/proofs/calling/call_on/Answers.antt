@@ -1,5 +1,4 @@
-use Rattle.fwu_c.proofs.Booting.{made_new}
-use Rattle.fwu_c.proofs.Telling.{told_unmade}
+use Rattle.fwu_c.proofs.{Booting.made_new, Telling.told_unmade}
 use Rattle.fwu_c.proofs.calling.call_on.Goals as goal
 
 pub call_over-requires-clause-new : goal.call_over-requires-clause-new

@@ -4,8 +4,7 @@ use Rattle.base_core.specs.Block.{block_bytes}
 use Rattle.flash_core.proofs.Touches.{touches_then}
 use Rattle.agent_calls.specs.Shown.{device}
 use Rattle.step_flash.specs.Flash.{image_of, told_of}
-use Rattle.fwu_c.specs.Calls.{call_of}
-use Rattle.fwu_c.specs.Handed.{call_reach, starts_none}
+use Rattle.fwu_c.specs.{Calls.call_of, Handed.call_reach, Handed.starts_none}
 use Rattle.fwu_c.proofs.Booting.{given, has_flash_size}
 use Rattle.fwu_c.proofs.Calls.{call_end_is, call_starts, called_by, refused_by, take_up_end_is, take_up_idle}
 use Rattle.fwu_c.proofs.Telling.{idle_starts, keeps_fault, lie_inside, told_handed, told_no_room}

@@ -1,8 +1,7 @@
 use Rattle.std.proofs.Common.{refl, sym, subst, Result, IsFalse}
 use Rattle.std.specs.Prelude.{IsErrOf}
 use Rattle.flash_core.specs.declared.flash.FlashStop.TheVariants as flash_stop
-use Rattle.agent_machine.specs.declared.stop.Stop.{Stop}
-use Rattle.agent_machine.specs.Meets.{flash_result}
+use Rattle.agent_machine.specs.{declared.stop.Stop.Stop, Meets.flash_result}
 use Rattle.agent_calls.specs.Shown as agent
 use Rattle.step_flash.proofs.Causes.{never_lost}
 use Rattle.fwu_c.specs.Calls.{IsStepResult, call_of}

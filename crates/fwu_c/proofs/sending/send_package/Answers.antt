@@ -3,9 +3,7 @@ use Rattle.std.specs.Prelude.{All, IsErrOf, IsFalse}
 use Rattle.flash_core.specs.declared.flash.FlashStop.TheVariants as flash_stop
 use Rattle.host_io.specs.Contents.{Directory}
 use Rattle.agent_calls.specs.Shown as agent
-use Rattle.update_client.specs.declared.stops.Sent.{Sent}
-use Rattle.update_client.specs.declared.stops.SendStop.{SendStop}
-use Rattle.update_client.specs.Halts.{flash_of}
+use Rattle.update_client.specs.{declared.stops.Sent.Sent, declared.stops.SendStop.SendStop, Halts.flash_of}
 use Rattle.step_flash.specs.Flash.{told_of}
 use Rattle.step_flash.proofs.Causes.{never_lost}
 use Rattle.fwu_c.specs.Sendings.{IsSent}

@@ -2,8 +2,7 @@ use Rattle.std.proofs.Common.{◌≡◌, ◌∙◌, ◌<◌, ◌+◌, List, ap, 
 use Rattle.std.proofs.lemmas.List.{drop-drop, drop-set-lt, length-set, take_more_set}
 use Rattle.meta_layout.proofs.Places.{pushed}
 use Rattle.early_boot.specs.Numbers.{numbers}
-use Rattle.fwu_c.specs.Shows.{bank_shown}
-use Rattle.fwu_c.specs.declared.show.BankShown.{BankShown}
+use Rattle.fwu_c.specs.{Shows.bank_shown, declared.show.BankShown.BankShown}
 use Rattle.fwu_c.proofs.show.show_banks.Goals as goal
 
 pub loop-bank-preserved : goal.loop-bank-preserved

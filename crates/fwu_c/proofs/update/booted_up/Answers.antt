@@ -1,17 +1,11 @@
 use Rattle.std.proofs.Common.{◌≡◌, ◌∙◌, refl, sym}
-use Rattle.early_boot.specs.Ends.{booted, device_of, ended}
+use Rattle.early_boot.specs.{Ends.booted, Ends.device_of, Ends.ended, Numbers.numbers, Started.started}
+use Rattle.early_boot.specs.{declared.booted.Booted.Booted, declared.numbers.Numbers.Numbers, declared.ends.BootEnd.BootEnd}
 use Rattle.early_boot.proofs.Touching.{boot-spares}
-use Rattle.early_boot.specs.Numbers.{numbers}
-use Rattle.early_boot.specs.Started.{started}
-use Rattle.fwu_c.specs.Codes.{end_code}
-use Rattle.fwu_c.proofs.Booting.{boot_end_is}
-use Rattle.fwu_c.proofs.Telling.{keeps_started}
+use Rattle.fwu_c.specs.{Codes.end_code, Updates.IsNotBooted}
+use Rattle.fwu_c.proofs.{Booting.boot_end_is, Telling.keeps_started}
 use Rattle.flash_core.specs.declared.flash.Flash.{Ghosts}
-use Rattle.early_boot.specs.declared.booted.Booted.{Booted}
-use Rattle.early_boot.specs.declared.numbers.Numbers.{Numbers}
-use Rattle.early_boot.specs.declared.ends.BootEnd.{BootEnd}
 use Rattle.early_boot.specs.declared.ends.BootEnd.TheVariants as boot_end
-use Rattle.fwu_c.specs.Updates.{IsNotBooted}
 use Rattle.fwu_c.proofs.update.booted_up.Goals as goal
 
 -- an end of a boot that started no bank

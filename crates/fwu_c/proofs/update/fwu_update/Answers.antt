@@ -1,6 +1,5 @@
-use Rattle.fwu_c.proofs.Booting.{has_flash_size, made_new}
+use Rattle.fwu_c.proofs.{Booting.has_flash_size, Booting.made_new, Updating.denied_by, Updating.told_denied}
 use Rattle.fwu_c.proofs.Telling.{told_no_room, told_unmade}
-use Rattle.fwu_c.proofs.Updating.{denied_by, told_denied}
 use Rattle.fwu_c.proofs.update.fwu_update.Goals as goal
 
 pub shows_trial-requires-clause-new : goal.shows_trial-requires-clause-new

@@ -1,8 +1,7 @@
 use Rattle.std.proofs.Common.{append-nil, sym, subst, arith}
 use Rattle.hex.specs.Hex.{encode_with, lower_digits}
 use Rattle.hex.proofs.HexLemmas.{length-encode_with}
-use Rattle.fwu_journal.proofs.Spelled.{digits-more, length-digits}
-use Rattle.fwu_journal.proofs.Grown.{grows-then}
+use Rattle.fwu_journal.proofs.{Spelled.digits-more, Spelled.length-digits, Grown.grows-then}
 use Rattle.fwu_journal.specs.Room.{Grows}
 use Rattle.fwu_journal.proofs.digits.add_digits.Goals as goal
 

@@ -1,10 +1,8 @@
 use Rattle.std.proofs.Common.{◌≤◌, ◌∙◌, ℕ, List, Option, length, take, ap, subst, arith}
 use Rattle.fwu_model.specs.Call.{Call}
 use Rattle.agent_calls.specs.Shown.{agent_at, moment}
-use Rattle.fwu_wire.specs.Replies.{message, replied}
-use Rattle.fwu_wire.specs.Taken.{RepliesTo}
-use Rattle.fwu_wire.proofs.Meeting.{goes-told, refused-by}
-use Rattle.fwu_wire.proofs.Written.{behind-eight}
+use Rattle.fwu_wire.specs.{Replies.message, Replies.replied, Taken.RepliesTo}
+use Rattle.fwu_wire.proofs.{Meeting.goes-told, Meeting.refused-by, Written.behind-eight}
 use Rattle.fwu_wire.proofs.server.answer.Goals as goal
 
 pub returns-in-Ok-clause-replies : goal.returns-in-Ok-clause-replies

@@ -1,9 +1,8 @@
 use Rattle.std.proofs.Common.{◌≡◌, ◌∙◌, Some, false, ap}
 use Rattle.std.proofs.Math.Bool.{or-false}
 use Rattle.std.proofs.lemmas.Result.{IfOk-weaker}
+use Rattle.clap.specs.{declared.builder.Arg.Arg, declared.builder.ArgAction.TheVariants.SetTrue}
 use Rattle.clap.specs.Words.{Rule, app_of, rule_of, with_rule}
-use Rattle.clap.specs.declared.builder.Arg.{Arg}
-use Rattle.clap.specs.declared.builder.ArgAction.TheVariants.{SetTrue}
 use Rattle.fwu_words.specs.Commands.{flag}
 use Rattle.fwu_words.proofs.commands.with_flag.Goals as goal
 

@@ -1,7 +1,6 @@
 use Rattle.std.proofs.Common.{◌∙◌, sym, ap, subst, option_and_then, map, string_bytes, List, Option}
 use Rattle.clap.specs.Words.{App, Row, Text}
-use Rattle.clap_words.specs.Words.{reads}
-use Rattle.clap_words.specs.Answers.{GivesAsked}
+use Rattle.clap_words.specs.{Words.reads, Answers.GivesAsked}
 use Rattle.fwu_words.specs.Order.{Asked, asked, order_of, view}
 use Rattle.clap_words.proofs.AnswerLemmas.{error_answers}
 use Rattle.fwu_words.proofs.orders.fwu_order.Goals as goal

@@ -1,8 +1,7 @@
 use Rattle.std.proofs.Common.{◌≡◌, [], ◌∷◌, ◌++◌, List, map, ap, ◌∙◌, append_assoc}
 use Rattle.std.proofs.lemmas.List.{map-append}
 use Rattle.fwu_model.specs.Call.{Call}
-use Rattle.gen_core.specs.Calls.{round_calls, shown}
-use Rattle.gen_core.specs.declared.calls.SoakCall.{SoakCall}
+use Rattle.gen_core.specs.{Calls.round_calls, Calls.shown, declared.calls.SoakCall.SoakCall}
 use Rattle.gen_core.proofs.calls.add_calls.Goals as goal
 
 in-order : (a b c d e : List SoakCall) (x y : SoakCall) (cut ends : List Call) → map shown b ≡ map shown a ++ cut → c ≡ b ++ x ∷ [] → d ≡ c ++ y ∷ []

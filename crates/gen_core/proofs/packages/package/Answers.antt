@@ -2,8 +2,7 @@ use Rattle.std.proofs.Common.{◌≡◌, ◌-◌, ℕ, List, length, drop, arith
 use Rattle.std.proofs.lemmas.List.{length-take-le, length-drop}
 use Rattle.fwu_formats.specs.Package.{Part, packed}
 use Rattle.fip_tables.specs.Packing.{pack_fault}
-use Rattle.gen_core.specs.Generated.{generated, generated_images}
-use Rattle.gen_core.specs.Law.{InstallsPackage}
+use Rattle.gen_core.specs.{Generated.generated, Generated.generated_images, Law.InstallsPackage}
 use Rattle.gen_core.proofs.Making.{are-sizes, images-are, sizes-fit}
 use Rattle.gen_core.proofs.Completing.{generated-are-complete, made-pass, parts-made}
 use Rattle.gen_core.proofs.packages.package.Goals as goal

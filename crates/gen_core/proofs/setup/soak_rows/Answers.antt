@@ -1,7 +1,6 @@
 use Rattle.std.proofs.Common.{◌≡◌, [], ◌∷◌, List, IsTrue, subst}
 use Rattle.fwu_formats.specs.Layout.{ImageRow}
-use Rattle.gen_core.specs.Generated.{are_images}
-use Rattle.gen_core.specs.Setup.{soak_layout}
+use Rattle.gen_core.specs.{Generated.are_images, Setup.soak_layout}
 use Rattle.gen_core.proofs.Making.{soak-images}
 use Rattle.gen_core.proofs.setup.soak_rows.Goals as goal
 

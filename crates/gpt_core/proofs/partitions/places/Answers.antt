@@ -1,8 +1,6 @@
 use Rattle.std.proofs.Common.{rules, ◌≡◌, length, arith, ap, sym, ◌∙◌, Ok, Err}
 use Rattle.std.specs.Prelude.{Result, IfOk}
-use Rattle.gpt_core.specs.declared.layout.Places.{Places}
-use Rattle.gpt_core.specs.declared.layout.PlaceFault.{PlaceFault}
-use Rattle.gpt_core.specs.Places.{Fit}
+use Rattle.gpt_core.specs.{declared.layout.Places.Places, declared.layout.PlaceFault.PlaceFault, Places.Fit}
 use Rattle.gpt_core.specs.PlacesOf.{metadata_type, places_of}
 use Rattle.gpt_core.proofs.Placing.{few_of_type, places_fit}
 use Rattle.gpt_core.proofs.partitions.places.Goals as goal

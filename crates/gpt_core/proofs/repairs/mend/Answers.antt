@@ -1,8 +1,7 @@
 use Rattle.std.proofs.Common.{◌≡◌, ℕ, ◌+◌, ◌*◌, ◌/◌, length, ap, sym, subst, ◌∙◌}
 use Rattle.gpt_core.specs.Table.{Table, header_at, entries_at, blocks_of, entry_number_of, header_bytes}
 use Rattle.gpt_core.specs.Repair.{Spells}
-use Rattle.gpt_core.proofs.Spelling.{spells}
-use Rattle.gpt_core.proofs.Deciding.{inside_copy}
+use Rattle.gpt_core.proofs.{Spelling.spells, Deciding.inside_copy}
 use Rattle.flash_core.proofs.Spent.{spent_as}
 use Rattle.gpt_core.proofs.repairs.mend.Goals as goal
 

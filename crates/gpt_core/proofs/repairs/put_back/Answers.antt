@@ -1,6 +1,5 @@
 use Rattle.std.proofs.Common.{◌++◌, take, ap, ◌∙◌, ℕ, rules}
-use Rattle.base_core.specs.Bytes.{le}
-use Rattle.base_core.specs.Crc.{crc}
+use Rattle.base_core.specs.{Bytes.le, Crc.crc}
 use Rattle.gpt_core.specs.Table.{Table, entries_at, blocks_of, entry_number_of, header_back}
 use Rattle.gpt_core.proofs.Spelling.{put_four}
 use Rattle.gpt_core.proofs.repairs.put_back.Goals as goal

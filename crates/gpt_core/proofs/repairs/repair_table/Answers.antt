@@ -1,6 +1,5 @@
 use Rattle.std.proofs.Common.{◌≡◌, Some, subst}
-use Rattle.gpt_core.specs.Table.{table_in_image}
-use Rattle.gpt_core.specs.declared.table.WhichTable.{WhichTable}
+use Rattle.gpt_core.specs.{Table.table_in_image, declared.table.WhichTable.WhichTable}
 use Rattle.gpt_core.proofs.Deciding.{mends_from, mends_same, ready_primary, ready_backup}
 use Rattle.gpt_core.proofs.repairs.repair_table.Goals as goal
 

@@ -1,6 +1,5 @@
 use Rattle.std.proofs.Common.{◌++◌, List, ℕ, replicate, ap, ◌∙◌}
-use Rattle.base_core.specs.Bytes.{overwritten}
-use Rattle.base_core.specs.Crc.{crc}
+use Rattle.base_core.specs.{Bytes.overwritten, Crc.crc}
 use Rattle.gpt_core.specs.Table.{header_with}
 use Rattle.gpt_core.proofs.Spelling.{over_zeros}
 use Rattle.gpt_core.proofs.repairs.spell.Goals as goal

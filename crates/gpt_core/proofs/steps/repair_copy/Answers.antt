@@ -2,10 +2,8 @@ use Rattle.std.proofs.Common.{arith, ◌*◌, ap, ◌∙◌, subst}
 use Rattle.std.proofs.lemmas.Result.{err_from_is_err_and}
 use Rattle.std.specs.Prelude.{is_err, Ok}
 use Rattle.base_core.specs.Bytes.{overwritten}
-use Rattle.gpt_core.specs.Table.{copy_in}
-use Rattle.gpt_core.specs.Repair.{Filled, FillsEntries, WritesHeader}
-use Rattle.gpt_core.proofs.Stepping.{steps_stopped}
-use Rattle.gpt_core.proofs.Filling.{empty_stays}
+use Rattle.gpt_core.specs.{Table.copy_in, Repair.Filled, Repair.FillsEntries, Repair.WritesHeader}
+use Rattle.gpt_core.proofs.{Stepping.steps_stopped, Filling.empty_stays}
 use Rattle.gpt_core.proofs.steps.repair_copy.Goals as goal
 
 pub write_header-requires-clause-empty : goal.write_header-requires-clause-empty

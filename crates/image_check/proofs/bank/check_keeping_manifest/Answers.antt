@@ -3,11 +3,9 @@ use Rattle.std.specs.Prelude.{IsTrue, IfOk}
 use Rattle.std.proofs.lemmas.Result.{IfOk-weaker}
 use Rattle.flash_core.specs.Told.{Told}
 use Rattle.base_core.proofs.Lists.{take-front}
-use Rattle.fwu_formats.specs.Layout.{ImageRow, slot_total, start}
-use Rattle.fwu_formats.specs.Manifest.{manifest_size}
+use Rattle.fwu_formats.specs.{Layout.ImageRow, Layout.slot_total, Layout.start, Manifest.manifest_size}
+use Rattle.image_check.specs.{Passed.IsVerdictBy, declared.bank.Verdict.Verdict}
 use Rattle.image_check.specs.Verdict.{found, front_of, verdict_on}
-use Rattle.image_check.specs.Passed.{IsVerdictBy}
-use Rattle.image_check.specs.declared.bank.Verdict.{Verdict}
 use Rattle.image_check.proofs.OfBank.{bank_fits, found_is, front_read, some_blocks}
 use Rattle.image_check.proofs.bank.check_keeping_manifest.Goals as goal
 

@@ -5,8 +5,7 @@ use Rattle.base_core.specs.Bytes.{same_bytes}
 use Rattle.sha2.specs.Sha256.{sha256}
 use Rattle.sha256_lanes.specs.Holding.{GoesOnAs}
 use Rattle.fwu_formats.specs.Manifest.{Row, row_at}
-use Rattle.image_check.proofs.Stays.{reads_then}
-use Rattle.image_check.proofs.UnderWay.{joined, piece_told, taken_more, job_inside}
+use Rattle.image_check.proofs.{Stays.reads_then, UnderWay.joined, UnderWay.piece_told, UnderWay.taken_more, UnderWay.job_inside}
 use Rattle.image_check.proofs.image.is_good.Goals as goal
 
 pub slice_bounds-piece-end-in-loop-done : goal.slice_bounds-piece-end-in-loop-done

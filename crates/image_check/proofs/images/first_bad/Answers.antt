@@ -1,11 +1,8 @@
 use Rattle.std.proofs.Common.{◌+◌, ◌<◌, [], ap, arith, length, subst, sym, ℕ}
 use Rattle.sha256_lanes.specs.Holding.{GoesOnAs}
-use Rattle.image_check.specs.Taken.{IsBegun, IsFoundAt}
-use Rattle.image_check.specs.declared.image.Job.{Job}
+use Rattle.image_check.specs.{Taken.IsBegun, Taken.IsFoundAt, declared.image.Job.Job}
+use Rattle.image_check.proofs.{Stays.reads_then, Sums.total_more, UnderWay.begun_new, UnderWay.found_here}
 use Rattle.image_check.proofs.Lowest.{found_more, none_found, one_found}
-use Rattle.image_check.proofs.Stays.{reads_then}
-use Rattle.image_check.proofs.Sums.{total_more}
-use Rattle.image_check.proofs.UnderWay.{begun_new, found_here}
 use Rattle.image_check.proofs.images.first_bad.Goals as goal
 
 pub is_good-requires-clause-begun : goal.is_good-requires-clause-begun

@@ -1,8 +1,6 @@
 use Rattle.std.proofs.Common.{◌+◌, ◌<◌, ◌∙◌, Some, ap, arith, length, slice_index_or, sym}
-use Rattle.image_check.specs.Taken.{new_job}
-use Rattle.image_check.specs.declared.image.Images.{Images}
-use Rattle.image_check.proofs.Stays.{reads_then}
-use Rattle.image_check.proofs.UnderWay.{begun, block_fits}
+use Rattle.image_check.specs.{Taken.new_job, declared.image.Images.Images}
+use Rattle.image_check.proofs.{Stays.reads_then, UnderWay.begun, UnderWay.block_fits}
 use Rattle.image_check.proofs.side.begin_all.Goals as goal
 
 pub overflow_add-work-in-loop-work : goal.overflow_add-work-in-loop-work

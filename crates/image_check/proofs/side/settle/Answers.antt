@@ -1,10 +1,9 @@
 use Rattle.std.proofs.Common.{None, arith, refl, slice_set, subst, sym}
 use Rattle.sha256_lanes.specs.Holding.{GoesOnAs, HoldsInLane}
-use Rattle.image_check.specs.Taken.{HaveStepped, IsFoundAt}
-use Rattle.image_check.specs.declared.side.Work.{Work}
+use Rattle.image_check.specs.{Taken.HaveStepped, Taken.IsFoundAt, declared.side.Work.Work}
 use Rattle.image_check.proofs.UnderWay.{begun_by, settled, stepped_after}
-use Rattle.image_check.proofs.side.settle.Goals as goal
 use Rattle.image_check.proofs.side.settle.Goals.{else-job-work-via-then-job-work+in_ok-is_good+else-not-branch, else-job-work-via-else-job-work}
+use Rattle.image_check.proofs.side.settle.Goals as goal
 
 pub is_good-requires-clause-begun : goal.is_good-requires-clause-begun
 is_good-requires-clause-begun g c =

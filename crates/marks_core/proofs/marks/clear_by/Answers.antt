@@ -1,8 +1,7 @@
 use Rattle.std.proofs.Common.{◌+◌, ◌*◌, Bool, ◌∙◌, ap, sym, subst}
 use Rattle.std.specs.Prelude.{Ok}
 use Rattle.base_core.specs.Block.{blank}
-use Rattle.flash_core.specs.Counts.{lowered}
-use Rattle.flash_core.specs.Told.{put, halt, settled}
+use Rattle.flash_core.specs.{Counts.lowered, Told.put, Told.halt, Told.settled}
 use Rattle.flash_core.proofs.Touches.{touches_none, touches_still, touches_then}
 use Rattle.fwu_formats.specs.Image.{is_blank}
 use Rattle.marks_core.specs.Marks.{Clears, TakesClear}

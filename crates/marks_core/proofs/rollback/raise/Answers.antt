@@ -1,8 +1,7 @@
 use Rattle.std.proofs.Common.{inl, ◌≤◌, length, sym, subst, arith}
 use Rattle.std.proofs.lemmas.List.{length-take-le}
 use Rattle.std.specs.Prelude.{List, ℕ}
-use Rattle.flash_core.specs.Told.{Told}
-use Rattle.flash_core.specs.Replaces.{padded, Replaces}
+use Rattle.flash_core.specs.{Told.Told, Replaces.padded, Replaces.Replaces}
 use Rattle.flash_core.proofs.Touches.{touches_none}
 use Rattle.fwu_formats.specs.Counter.{record_bytes}
 use Rattle.marks_core.specs.Marks.{Raises, record_place}

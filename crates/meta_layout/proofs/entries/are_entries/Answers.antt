@@ -1,8 +1,6 @@
 use Rattle.std.proofs.Common.{◌≡◌, ◌<◌, ◌≤◌, ◌∙◌, List, length, arith, below_more, sym, ap}
-use Rattle.fwu_formats.specs.Layout.{ImageRow}
-use Rattle.fwu_formats.specs.Metadata.{has_entry}
-use Rattle.meta_layout.proofs.ImageRows.{range-true, range-false}
-use Rattle.meta_layout.proofs.Places.{entry-is}
+use Rattle.fwu_formats.specs.{Layout.ImageRow, Metadata.has_entry}
+use Rattle.meta_layout.proofs.{ImageRows.range-true, ImageRows.range-false, Places.entry-is}
 use Rattle.meta_layout.proofs.entries.are_entries.Goals as goal
 
 pub loop-image-preserved : goal.loop-image-preserved

@@ -1,6 +1,5 @@
 use Rattle.std.proofs.Common.{◌≡◌, ◌+◌, ◌<◌, ◌++◌, List, length, take, ap, ◌∙◌, arith}
-use Rattle.fwu_formats.specs.Layout.{ImageRow}
-use Rattle.fwu_formats.specs.Metadata.{entry_bytes}
+use Rattle.fwu_formats.specs.{Layout.ImageRow, Metadata.entry_bytes}
 use Rattle.fwu_formats.proofs.OneSpelling.{listed-more}
 use Rattle.meta_layout.proofs.Writes.{has-bits, entry-bytes}
 use Rattle.meta_layout.proofs.write.put_entries.Goals as goal

@@ -1,8 +1,7 @@
 use Rattle.std.proofs.Common.{◌≡◌, ◌-◌, ◌++◌, take, ap, ◌∙◌, arith}
 use Rattle.fwu_formats.specs.Metadata.{meta_size, entries_bytes}
 use Rattle.meta_layout.specs.Entries.{rest_bytes}
-use Rattle.meta_layout.proofs.Fits.{meta-fits}
-use Rattle.meta_layout.proofs.Writes.{body-two}
+use Rattle.meta_layout.proofs.{Fits.meta-fits, Writes.body-two}
 use Rattle.meta_layout.proofs.write.put_version_two.Goals as goal
 
 pub returns : goal.returns

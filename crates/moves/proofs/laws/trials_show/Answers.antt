@@ -1,5 +1,4 @@
-use Rattle.moves.proofs.Beside.{marks-are-trials}
-use Rattle.moves.proofs.Trials.{trial-shows}
+use Rattle.moves.proofs.{Beside.marks-are-trials, Trials.trial-shows}
 use Rattle.moves.proofs.laws.trials_show.Goals as goal
 
 pub returns : goal.returns

@@ -1,5 +1,4 @@
-use Rattle.moves.proofs.Repaired.{rest-used}
-use Rattle.moves.proofs.MetaMoves.{deciding-fits}
+use Rattle.moves.proofs.{Repaired.rest-used, MetaMoves.deciding-fits}
 use Rattle.moves.proofs.Stored.{quiet-free, quiet-accept, quiet-back, quiet-switch}
 use Rattle.moves.proofs.stores.moves_keep_quiet.Goals as goal
 

@@ -1,5 +1,4 @@
-use Rattle.moves.proofs.Trials.{clear-shows}
-use Rattle.moves.proofs.Staged.{staged-shows}
+use Rattle.moves.proofs.{Trials.clear-shows, Staged.staged-shows}
 use Rattle.moves.proofs.stores.others_show_nothing.Goals as goal
 
 pub returns : goal.returns

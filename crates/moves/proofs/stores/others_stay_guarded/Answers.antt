@@ -1,6 +1,4 @@
-use Rattle.moves.proofs.Trials.{clear-guarded}
-use Rattle.moves.proofs.Staged.{staged-rest}
-use Rattle.moves.proofs.Stored.{store-guarded}
+use Rattle.moves.proofs.{Trials.clear-guarded, Staged.staged-rest, Stored.store-guarded}
 use Rattle.moves.proofs.stores.others_stay_guarded.Goals as goal
 
 pub returns : goal.returns

@@ -1,5 +1,4 @@
-use Rattle.moves.proofs.MetaMoves.{two-decides}
-use Rattle.moves.proofs.Calm.{calm-shown}
+use Rattle.moves.proofs.{MetaMoves.two-decides, Calm.calm-shown}
 use Rattle.moves.proofs.Stored.{free-does, accept-does, back-does, switch-does}
 use Rattle.fwu_model.specs.MoveMetas.{meta_in}
 use Rattle.moves.proofs.stores.stores_do_moves.Goals as goal

@@ -2,8 +2,7 @@ use Rattle.std.proofs.Common.{◌≤◌, length, refl, arith}
 use Rattle.std.proofs.lemmas.Result.{IfOk-from_err}
 use Rattle.std.specs.Prelude.{Ok}
 use Rattle.flash_core.proofs.Touches.{touches_then, touches_wider}
-use Rattle.replicas.proofs.Reading.{replica_read}
-use Rattle.replicas.proofs.Both.{spelled_out, other_stopped, both_migrated}
+use Rattle.replicas.proofs.{Reading.replica_read, Both.spelled_out, Both.other_stopped, Both.both_migrated}
 use Rattle.replicas.proofs.repairing.migrate_zero.Goals as goal
 
 pub returns-in_err-replace-clause-repairs : goal.returns-in_err-replace-clause-repairs

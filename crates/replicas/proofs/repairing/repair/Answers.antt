@@ -3,18 +3,13 @@ use Rattle.std.proofs.lemmas.Bool.{false≢true}
 use Rattle.std.proofs.lemmas.Result.{IfOk-from_err, on_ok_weaker}
 use Rattle.std.specs.Prelude.{Ok, OnOk}
 use Rattle.base_core.specs.Block.{block}
-use Rattle.flash_core.specs.declared.flash.Arming.{Arming}
-use Rattle.flash_core.specs.Told.{Told}
-use Rattle.flash_core.specs.Replaces.{padded}
+use Rattle.flash_core.specs.{declared.flash.Arming.Arming, Told.Told, Replaces.padded}
 use Rattle.flash_core.proofs.Touches.{touches_wider}
 use Rattle.fwu_formats.specs.Metadata.{meta_read, replica_bytes}
 use Rattle.fwu_model.specs.Replica.{in_version}
-use Rattle.replicas.specs.Stores.{WritesBoth, Repairs, TakesRepair}
-use Rattle.replicas.specs.Which.{Loads}
-use Rattle.replicas.specs.declared.which.Which.{Which}
+use Rattle.replicas.specs.{Stores.WritesBoth, Stores.Repairs, Stores.TakesRepair, Which.Loads, declared.which.Which.Which}
 use Rattle.replicas.specs.declared.which.Which.TheVariants.{RepairZero, RepairOne, MigrateZero, MigrateOne}
-use Rattle.replicas.proofs.Reading.{replica_read}
-use Rattle.replicas.proofs.Touching.{touches-as, touches-still}
+use Rattle.replicas.proofs.{Reading.replica_read, Touching.touches-as, Touching.touches-still}
 use Rattle.replicas.proofs.Both.{spelled_out, unchanged, same_mended, zero_repaired, one_repaired, one_migrated, held_migrated}
 use Rattle.replicas.proofs.repairing.repair.Goals as goal
 

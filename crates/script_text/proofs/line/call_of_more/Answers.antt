@@ -1,8 +1,7 @@
 use Rattle.std.proofs.Common.{List, ℕ, ◌==◌, ◌∷◌, ◌∙◌, sym, ap}
 use Rattle.std.specs.List.{slice_split}
 use Rattle.fwu_model.specs.Script.{call_of_others}
-use Rattle.script_text.proofs.Parts.{some_parts}
-use Rattle.script_text.proofs.Lines.{five_words}
+use Rattle.script_text.proofs.{Parts.some_parts, Lines.five_words}
 use Rattle.script_text.proofs.line.call_of_more.Goals as goal
 
 pub returns-in-Some-split-clause-call : goal.returns-in-Some-split-clause-call

@@ -3,8 +3,7 @@ use Rattle.std.specs.Prelude.{IfOk, option_map}
 use Rattle.std.specs.List.{slice_split}
 use Rattle.fwu_model.specs.Call.{Call}
 use Rattle.script_text.specs.Shown.{shown}
-use Rattle.script_text.proofs.Parts.{some_parts}
-use Rattle.script_text.proofs.Lines.{begin_words}
+use Rattle.script_text.proofs.{Parts.some_parts, Lines.begin_words}
 use Rattle.script_text.proofs.line.call_of_words.Goals as goal
 
 pub returns-then-is_word-clause-call : goal.returns-then-is_word-clause-call

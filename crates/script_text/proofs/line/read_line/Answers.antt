@@ -1,8 +1,7 @@
 use Rattle.std.proofs.Common.{◌∙◌, sym, ap, Option, Some}
 use Rattle.std.specs.Prelude.{option_map}
 use Rattle.fwu_model.specs.Call.{Call}
-use Rattle.script_text.specs.Shown.{shown}
-use Rattle.script_text.specs.declared.call.Call.{Call as Held}
+use Rattle.script_text.specs.{Shown.shown, declared.call.Call.Call as Held}
 use Rattle.script_text.proofs.Lines.{line_nothing, line_call}
 use Rattle.script_text.proofs.line.read_line.Goals as goal
 

@@ -1,7 +1,6 @@
 use Rattle.std.proofs.Common.{◌∙◌, sym, ap, map, List, arith}
 use Rattle.std.proofs.lemmas.List.Elements.{All-nil}
-use Rattle.fwu_model.specs.Call.{Call}
-use Rattle.fwu_model.specs.Script.{script_of}
+use Rattle.fwu_model.specs.{Call.Call, Script.script_of}
 use Rattle.script_text.specs.Shown.{HasBuffer, shown}
 use Rattle.script_text.proofs.Reading.{behind, from_line, front_of_none, at_end, none_left}
 use Rattle.script_text.proofs.Whole.{cuts-are-armable, calls-have-lines}

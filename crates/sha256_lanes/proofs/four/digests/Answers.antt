@@ -1,7 +1,6 @@
 use Rattle.std.proofs.Common.{ℕ, [], ◌-◌, ◌%◌, ◌<◌, ◌∙◌, take, ap, arith}
 use Rattle.sha2.specs.Sha256.{sha256}
-use Rattle.sha256_lanes.proofs.Ends.{cut_length, cut_message}
-use Rattle.sha256_lanes.proofs.FourLanes.{below_four}
+use Rattle.sha256_lanes.proofs.{Ends.cut_length, Ends.cut_message, FourLanes.below_four}
 use Rattle.sha256_lanes.proofs.four.digests.Goals as goal
 
 pub returns : goal.returns

@@ -1,6 +1,5 @@
 use Rattle.std.proofs.Common.{ℕ, List, ◌++◌, ◌*◌, ◌≤◌, ◌<◌, length, take}
-use Rattle.sha256_lanes.specs.Holding.{IsOfBlocks}
-use Rattle.sha256_lanes.specs.Lanes.{lane, of_four}
+use Rattle.sha256_lanes.specs.{Holding.IsOfBlocks, Lanes.lane, Lanes.of_four}
 use Rattle.sha256_lanes.proofs.lanes.absorb_blocks.Given as goal
 
 abbrev pub invariant-pieces : goal.invariant-pieces

@@ -1,7 +1,6 @@
 use Rattle.std.proofs.Common.{ℕ, ◌∙◌, sym, ap, ap₂, slice_index}
 use Rattle.sha2.specs.Sha256.{add32, big_sigma1}
-use Rattle.sha256_lanes.proofs.FourLanes.{lane_of_splat}
-use Rattle.sha256_lanes.proofs.LaneWords.{word_of_lane, ch_same}
+use Rattle.sha256_lanes.proofs.{FourLanes.lane_of_splat, LaneWords.word_of_lane, LaneWords.ch_same}
 use Rattle.sha256_lanes.proofs.rounds.temp1.Goals as goal
 
 pub returns : goal.returns

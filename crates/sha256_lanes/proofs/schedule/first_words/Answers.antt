@@ -1,8 +1,7 @@
 use Rattle.std.proofs.Common.{◌≡◌, ◌*◌, [], ◌∷◌, ◌∙◌, length-set, slice_index, arith}
 use Rattle.sha2.specs.Sha256.{word_at}
 use Rattle.sha256_lanes.specs.Lanes.{of_four}
-use Rattle.sha256_lanes.proofs.FourLanes.{below_four}
-use Rattle.sha256_lanes.proofs.LaneWords.{words_more}
+use Rattle.sha256_lanes.proofs.{FourLanes.below_four, LaneWords.words_more}
 use Rattle.sha256_lanes.proofs.schedule.first_words.Goals as goal
 
 pub loop-t-preserved : goal.loop-t-preserved

@@ -2,9 +2,7 @@ use Rattle.std.proofs.Common.{◌≡◌, ℕ, ◌+◌, ◌-◌, ◌*◌, ◌%◌
 use Rattle.std.proofs.lemmas.List.{length-take-le, take_all, take_rest}
 use Rattle.std.specs.Prelude.{OnOk}
 use Rattle.slot_writer.specs.Slots.{Appends, done_of}
-use Rattle.slot_writer.proofs.Behind.{reached}
-use Rattle.slot_writer.proofs.Keeping.{kept-filled}
-use Rattle.slot_writer.proofs.Appending.{filled-appended}
+use Rattle.slot_writer.proofs.{Behind.reached, Keeping.kept-filled, Appending.filled-appended}
 use Rattle.slot_writer.proofs.writing.append.Goals as goal
 use Rattle.std.proofs.lemmas.Result.{on_ok_weaker}
 

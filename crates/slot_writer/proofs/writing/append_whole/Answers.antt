@@ -1,7 +1,6 @@
 use Rattle.std.proofs.Common.{◌≡◌, ℕ, ◌+◌, ◌-◌, ◌*◌, ◌%◌, ◌≤◌, length, take, drop, ap, ◌∙◌, arith}
 use Rattle.std.proofs.lemmas.List.{length-drop, take_rest}
-use Rattle.slot_writer.proofs.Behind.{reached}
-use Rattle.slot_writer.proofs.Appending.{whole-appended}
+use Rattle.slot_writer.proofs.{Behind.reached, Appending.whole-appended}
 use Rattle.slot_writer.proofs.writing.append_whole.Goals as goal
 
 pub returns-clause-appends : goal.returns-clause-appends

@@ -1,11 +1,9 @@
 use Rattle.std.proofs.Common.{◌+◌, ◌-◌, ◌*◌, ◌≤◌, length, ◌∙◌, sym, subst, ap, arith}
 use Rattle.std.proofs.lemmas.Result.{err_from_is_err_and}
 use Rattle.std.specs.Prelude.{is_err, Ok}
-use Rattle.flash_core.proofs.Costs.{spends_then}
-use Rattle.flash_core.proofs.Touches.{touches_then, touches_wider}
+use Rattle.flash_core.proofs.{Costs.spends_then, Touches.touches_then, Touches.touches_wider}
 use Rattle.slot_writer.specs.Slots.{Erases}
-use Rattle.slot_writer.proofs.Erasing.{erase_stopped, erase_more}
-use Rattle.slot_writer.proofs.Spending.{spends_one, spends_then_arming}
+use Rattle.slot_writer.proofs.{Erasing.erase_stopped, Erasing.erase_more, Spending.spends_one, Spending.spends_then_arming}
 use Rattle.slot_writer.proofs.writing.erase_blocks.Goals as goal
 
 pub returns-in_err-erase-clause-erases : goal.returns-in_err-erase-clause-erases

@@ -1,9 +1,7 @@
 use Rattle.std.proofs.Common.{◌≡◌, ◌-◌, ◌*◌}
 use Rattle.std.specs.Prelude.{IsTrue, Ok}
-use Rattle.flash_core.specs.Counts.{Spends}
-use Rattle.flash_core.specs.Touches.{TouchesOnly}
-use Rattle.slot_writer.specs.Slots.{Erases}
-use Rattle.slot_writer.specs.Writes.{SpendsArming}
+use Rattle.flash_core.specs.{Counts.Spends, Touches.TouchesOnly}
+use Rattle.slot_writer.specs.{Slots.Erases, Writes.SpendsArming}
 use Rattle.slot_writer.proofs.writing.erase_blocks.Given as goal
 
 -- the blocks before this one are erased

@@ -1,11 +1,9 @@
 use Rattle.std.proofs.Common.{Err, refl, sym, subst}
 use Rattle.fwu_model.specs.Call as call
 use Rattle.fwu_model.specs.Reply as reply
-use Rattle.agent_machine.specs.declared.stop.Stop.{Stop}
-use Rattle.agent_machine.specs.Meets.{GoesBy}
+use Rattle.agent_machine.specs.{declared.stop.Stop.Stop, Meets.GoesBy}
 use Rattle.agent_calls.specs.Shown.{gone, moment}
-use Rattle.update_client.specs.declared.stops.SendStop.{SendStop}
-use Rattle.update_client.specs.Finishes.{FinishesBy}
+use Rattle.update_client.specs.{declared.stops.SendStop.SendStop, Finishes.FinishesBy}
 use Rattle.update_client.proofs.Finished.{finish-done, finish-lost, finish-failed, finish-refused, finish-halted, still-here}
 use Rattle.update_client.proofs.Sparing.{spares-left, spares-then}
 use Rattle.update_client.proofs.finishing.finish.Goals as goal

@@ -2,18 +2,12 @@ use Rattle.std.proofs.Common.{◌≡◌, false, length, Result, Err, sym, subst,
 use Rattle.std.proofs.lemmas.Result.{on_ok_weaker}
 use Rattle.flash_core.specs.declared.flash.FlashStop.{FlashStop}
 use Rattle.agent_calls.specs.Shown.{SpentBy, device, moment}
-use Rattle.update_client.specs.declared.stops.SendStop.{SendStop}
-use Rattle.update_client.specs.declared.stops.SendStop.TheVariants.{ReadFailed}
-use Rattle.update_client.specs.Halts.{flash_of, is_unread}
-use Rattle.update_client.specs.Images.{SendsImages}
-use Rattle.update_client.specs.Pieces.{KeepsBeside}
+use Rattle.update_client.specs.{declared.stops.SendStop.SendStop, declared.stops.SendStop.TheVariants.ReadFailed, Halts.flash_of}
+use Rattle.update_client.specs.{Halts.is_unread, Images.SendsImages, Pieces.KeepsBeside, Takes.ImagesTake}
+use Rattle.update_client.proofs.{Keeping.keeps-ended, Keeping.keeps-then, Sparing.spares-left, Sparing.spares-then}
+use Rattle.update_client.proofs.{Spending.unstopped, Unsent.end-of, Unsent.end-read, Unsent.images-no-end, Unsent.other-read}
 use Rattle.update_client.proofs.Installed.{installed, uncancelled, interrupted, unread-is}
 use Rattle.agent_machine.proofs.Spending.{call-spent, spent-then}
-use Rattle.update_client.proofs.Keeping.{keeps-ended, keeps-then}
-use Rattle.update_client.proofs.Sparing.{spares-left, spares-then}
-use Rattle.update_client.proofs.Spending.{unstopped}
-use Rattle.update_client.specs.Takes.{ImagesTake}
-use Rattle.update_client.proofs.Unsent.{end-of, end-read, images-no-end, other-read}
 use Rattle.update_client.proofs.finishing.install.Goals as goal
 
 pub returns-then-not-is_unread-clause-installs : goal.returns-then-not-is_unread-clause-installs

@@ -3,17 +3,13 @@ use Rattle.fwu_formats.specs.Package.{Entry}
 use Rattle.fwu_model.specs.Call as call
 use Rattle.fwu_model.specs.Reply as reply
 use Rattle.agent_machine.proofs.CallGoing.{MeetsAs}
-use Rattle.agent_calls.specs.Shown.{device, moment}
-use Rattle.agent_calls.specs.Takes.{pieces_of}
-use Rattle.update_client.specs.declared.stops.SendStop.{SendStop}
-use Rattle.update_client.specs.Pieces.{SendsImage}
-use Rattle.update_client.proofs.WrittenPiece.{image-unopened, image-unwritten, image-sent, image-uncommitted}
+use Rattle.agent_calls.specs.{Shown.device, Shown.moment, Takes.pieces_of}
+use Rattle.update_client.specs.{declared.stops.SendStop.SendStop, Pieces.SendsImage}
 use Rattle.update_client.specs.Takes.{FirstTake, PayloadFrontTakes, ImageStarts}
-use Rattle.update_client.proofs.ImagesTaking.{image-takes}
+use Rattle.update_client.proofs.{ImagesTaking.image-takes, Sparing.spares-left, Unsent.image-starts, Unsent.unread-then}
+use Rattle.update_client.proofs.WrittenPiece.{image-unopened, image-unwritten, image-sent, image-uncommitted}
 use Rattle.update_client.proofs.Keeping.{keeps-called, keeps-stopped, keeps-then}
-use Rattle.update_client.proofs.Sparing.{spares-left}
 use Rattle.base_core.proofs.Results.{handed-on}
-use Rattle.update_client.proofs.Unsent.{image-starts, unread-then}
 use Rattle.update_client.proofs.images.send_image.Goals as goal
 
 pub returns-in-Err-clause-sent : goal.returns-in-Err-clause-sent

@@ -1,16 +1,13 @@
 use Rattle.std.proofs.Common.{◌≡◌, ◌<◌, ℕ, length, get_or, Ok, Err, Option, subst, ◌∙◌, arith}
 use Rattle.std.proofs.lemmas.List.{get_or_default}
+use Rattle.update_client.proofs.{Keeping.keeps-none, Keeping.keeps-then, Unsent.images-start, Unsent.unread-then}
 use Rattle.update_client.proofs.ImagesTaking.{images-take-none, images-take-more, images-take-all}
+use Rattle.update_client.proofs.SentImages.{images-none, images-more, images-stopped, images-done}
 use Rattle.host_io.specs.Contents.{Directory}
 use Rattle.fwu_formats.specs.Package.{Entry}
 use Rattle.agent_calls.specs.Shown.{device, moment}
-use Rattle.update_client.specs.Pieces.{SendsImage}
-use Rattle.update_client.specs.Images.{no_entry}
-use Rattle.update_client.specs.Takes.{ImageTakes, ImageStarts, ImagesStart}
-use Rattle.update_client.proofs.Keeping.{keeps-none, keeps-then}
-use Rattle.update_client.proofs.SentImages.{images-none, images-more, images-stopped, images-done}
+use Rattle.update_client.specs.{Pieces.SendsImage, Images.no_entry, Takes.ImageTakes, Takes.ImageStarts, Takes.ImagesStart}
 use Rattle.base_core.proofs.Results.{handed-on}
-use Rattle.update_client.proofs.Unsent.{images-start, unread-then}
 use Rattle.update_client.proofs.images.send_images.Goals as goal
 
 pub loop-k-init : goal.loop-k-init

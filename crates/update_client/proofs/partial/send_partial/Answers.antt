@@ -1,32 +1,23 @@
 use Rattle.std.proofs.Common.{◌≡◌, ◌+◌, ◌^◌, ◌<◌, ◌≤◌, ℕ, false, List, length, take, Some, Ok, Err, sym, ap, subst, ◌∙◌, arith, IsFalse}
-use Rattle.fwu_formats.specs.Layout.{ImageRow}
-use Rattle.fwu_formats.specs.Package.{Entry}
+use Rattle.fwu_formats.specs.{Layout.ImageRow, Package.Entry}
 use Rattle.fwu_model.specs.Answer.{skipped, are_named, names_unknown, partial_fault}
-use Rattle.agent_calls.specs.Shown.{device, fields, gone, moment}
+use Rattle.agent_calls.specs.{Shown.device, Shown.fields, Shown.gone, Shown.moment, Copies.BeginsPartly}
 use Rattle.agent_calls.specs.Takes.{Takes, writes_to_begin, writes_to_copy}
-use Rattle.agent_machine.proofs.Showing.{shows-some}
-use Rattle.update_client.specs.Takes.{writes_in}
-use Rattle.agent_calls.specs.Copies.{BeginsPartly}
-use Rattle.update_client.specs.declared.stops.Sent.{Sent}
-use Rattle.update_client.specs.Halts.{flash_of}
-use Rattle.agent_machine.proofs.Spending.{call-spent, spent-then}
+use Rattle.agent_machine.proofs.{Showing.shows-some, Spending.call-spent, Spending.spent-then}
+use Rattle.update_client.specs.{Takes.writes_in, declared.stops.Sent.Sent, Halts.flash_of, Choosing.refused_image}
+use Rattle.update_client.specs.{Packages.HoldsPayloads, Pieces.SparesOthers}
+use Rattle.update_client.specs.Partial.{AreSendable, present, types_of, writes_copied, writes_over}
+use Rattle.update_client.proofs.{Named.known-types, WholeSending.switches, partial.send_partial.Goals.After-install}
 use Rattle.update_client.proofs.Sparing.{begun-spares, gone-spares, spares-then}
 use Rattle.update_client.proofs.Spending.{goes-of, here-before, not-gone}
-use Rattle.update_client.specs.Choosing.{refused_image}
-use Rattle.update_client.specs.Packages.{HoldsPayloads}
-use Rattle.update_client.specs.Partial.{AreSendable, present, types_of, writes_copied, writes_over}
-use Rattle.fip_tables.proofs.Chosen.{present_few}
-use Rattle.update_client.proofs.Named.{known-types}
 use Rattle.update_client.proofs.Present.{counted-by, present-have, rows-found, rows-some}
-use Rattle.update_client.proofs.WholeSending.{switches}
 use Rattle.update_client.proofs.WholePartly.{installs-over, over-early, over-unbegun, over-done, over-halted, over-started}
+use Rattle.update_client.proofs.Started.{Started, done-takes, halted-takes}
+use Rattle.fip_tables.proofs.Chosen.{present_few}
 use Rattle.base_core.proofs.Results.{handed-on}
 use Rattle.update_client.proofs.partial.send_partial.Given as given
 use Rattle.update_client.proofs.partial.send_partial.Goals as goal
-use Rattle.update_client.proofs.partial.send_partial.Goals.{After-install}
 use Rattle.agent_machine.specs.Moment.{Showing}
-use Rattle.update_client.specs.Pieces.{SparesOthers}
-use Rattle.update_client.proofs.Started.{Started, done-takes, halted-takes}
 
 pub choose_present-requires-clause-some : goal.choose_present-requires-clause-some
 choose_present-requires-clause-some g c =

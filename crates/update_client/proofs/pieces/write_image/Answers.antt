@@ -1,15 +1,13 @@
 use Rattle.std.proofs.Common.{◌≡◌, ℕ, ◌<◌, length, Ok, Err, Option, ap, subst, ◌∙◌, arith}
 use Rattle.host_io.specs.Contents.{Directory}
 use Rattle.update_client.proofs.ImagesTaking.{first-taken-none, first-taken-more, first-taken-all}
-use Rattle.fwu_formats.specs.Package.{Entry}
-use Rattle.agent_calls.specs.Shown.{device, moment}
-use Rattle.agent_calls.specs.Takes.{piece_at}
-use Rattle.update_client.specs.Pieces.{WritesPiece}
 use Rattle.update_client.proofs.WrittenImage.{first-none, first-more, image-stopped, image-done}
 use Rattle.update_client.proofs.Keeping.{keeps-none, keeps-ok, keeps-on, keeps-then}
-use Rattle.base_core.proofs.Results.{handed-on}
-use Rattle.update_client.specs.Takes.{PayloadFrontTakes}
 use Rattle.update_client.proofs.Unsent.{front-takes, unread-then}
+use Rattle.fwu_formats.specs.Package.{Entry}
+use Rattle.agent_calls.specs.{Shown.device, Shown.moment, Takes.piece_at}
+use Rattle.update_client.specs.{Pieces.WritesPiece, Takes.PayloadFrontTakes}
+use Rattle.base_core.proofs.Results.{handed-on}
 use Rattle.update_client.proofs.pieces.write_image.Goals as goal
 
 pub returns-clause-wrote : goal.returns-clause-wrote

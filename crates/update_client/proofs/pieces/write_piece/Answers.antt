@@ -5,12 +5,10 @@ use Rattle.flash_core.specs.Counts.{lowered_by}
 use Rattle.slot_writer.specs.Writes.{writes_to_append}
 use Rattle.agent_kept.specs.Kept.{part_at, size_of}
 use Rattle.agent_calls.specs.Shown.{device, fields, moment}
-use Rattle.update_client.specs.declared.stops.SendStop.{SendStop}
-use Rattle.update_client.specs.Pieces.{WritesPiece}
+use Rattle.update_client.specs.{declared.stops.SendStop.SendStop, Pieces.WritesPiece}
+use Rattle.update_client.proofs.{ImagesTaking.piece-takes, Sparing.spares-left}
 use Rattle.update_client.proofs.WrittenPiece.{piece-unread, piece-written, piece-stopped}
-use Rattle.update_client.proofs.ImagesTaking.{piece-takes}
 use Rattle.update_client.proofs.Keeping.{keeps-called, keeps-read, keeps-stopped, keeps-then}
-use Rattle.update_client.proofs.Sparing.{spares-left}
 use Rattle.update_client.proofs.pieces.write_piece.Goals as goal
 
 pub returns-in-Err-clause-wrote : goal.returns-in-Err-clause-wrote

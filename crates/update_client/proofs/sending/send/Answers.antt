@@ -1,30 +1,21 @@
 use Rattle.std.proofs.Common.{◌≡◌, ◌+◌, ◌^◌, ◌<◌, ◌≤◌, List, length, Some, Err, sym, ap, subst, ◌∙◌}
-use Rattle.fwu_formats.specs.Layout.{ImageRow, fits_layout}
-use Rattle.fwu_formats.specs.Package.{Entry}
+use Rattle.fwu_formats.specs.{Layout.ImageRow, Layout.fits_layout, Package.Entry}
 use Rattle.fwu_model.specs.Answer.{first_image_fault, skipped}
-use Rattle.agent_calls.specs.Shown.{device, fields, gone, moment}
-use Rattle.update_client.specs.Choosing.{AreChosen, refused_image}
-use Rattle.update_client.specs.Halts.{flash_of}
-use Rattle.update_client.specs.Packages.{HoldsPayloads}
-use Rattle.update_client.specs.declared.stops.Sent.{Sent}
-use Rattle.update_client.specs.Takes.{writes_sent, writes_in}
-use Rattle.agent_machine.proofs.Showing.{shows-some}
-use Rattle.update_client.proofs.Chosen.{chosen_have}
-use Rattle.agent_machine.proofs.Spending.{call-spent, spent-then}
-use Rattle.update_client.proofs.Sparing.{spares-left, spares-then}
+use Rattle.agent_calls.specs.{Shown.device, Shown.fields, Shown.gone, Shown.moment, Takes.Takes, Takes.writes_to_begin}
+use Rattle.update_client.specs.{Choosing.AreChosen, Choosing.refused_image, Halts.flash_of, Packages.HoldsPayloads}
+use Rattle.update_client.specs.{declared.stops.Sent.Sent, Takes.writes_sent, Takes.writes_in, Pieces.SparesOthers}
+use Rattle.agent_machine.proofs.{Showing.shows-some, Spending.call-spent, Spending.spent-then}
+use Rattle.update_client.proofs.{Chosen.chosen_have, Sparing.spares-left, Sparing.spares-then, ImagesTaking.writes-chosen}
 use Rattle.update_client.proofs.Spending.{goes-of, here-before, not-gone}
-use Rattle.agent_calls.proofs.Taking.{takes-begin}
-use Rattle.agent_calls.specs.Takes.{Takes, writes_to_begin}
 use Rattle.update_client.proofs.WholeSending.{installs-done, sends-early, sends-unbegun, sends-done, sends-halted, switches, whole-started}
+use Rattle.update_client.proofs.sending.send.Goals.{After-begin, After-install}
+use Rattle.update_client.proofs.Started.{Started, done-takes, halted-takes}
+use Rattle.agent_calls.proofs.Taking.{takes-begin}
 use Rattle.base_core.proofs.Results.{handed-on}
 use Rattle.update_client.proofs.sending.send.Given as given
 use Rattle.update_client.proofs.sending.send.Goals as goal
-use Rattle.update_client.proofs.sending.send.Goals.{After-begin, After-install}
 use Rattle.agent_machine.specs.Moment.{Showing}
 use Rattle.std.specs.Prelude.{ℕ, IsTrue, IsFalse}
-use Rattle.update_client.specs.Pieces.{SparesOthers}
-use Rattle.update_client.proofs.ImagesTaking.{writes-chosen}
-use Rattle.update_client.proofs.Started.{Started, done-takes, halted-takes}
 
 pub install-requires-clause-payloads : goal.install-requires-clause-payloads
 install-requires-clause-payloads g c = subst (λ (l : List Entry). HoldsPayloads (g.H.Files.contents c.args.files.now) c.args.name.now l) (sym c.as_slice.ensures)

@@ -1,20 +1,16 @@
 use Rattle.std.proofs.Common.{◌≡◌, ℕ, List, Bool, true, not, refl, sym, ap, ◌∙◌, subst}
 use Rattle.fwu_formats.specs.Metadata.{state_at}
-use Rattle.fwu_model.specs.State.{is_invalid}
+use Rattle.fwu_model.specs.{State.is_invalid, Answer.Answer}
 use Rattle.fwu_model.specs.Call as call
-use Rattle.fwu_model.specs.Answer.{Answer}
 use Rattle.agent_kept.specs.declared.kinds.Request.TheVariants as request
 use Rattle.agent_kept.specs.declared.kinds.Plan.TheVariants as plan
-use Rattle.agent_machine.specs.Fields.{target}
-use Rattle.agent_machine.specs.Stored.{MayBegin}
+use Rattle.agent_machine.specs.{Fields.target, Stored.MayBegin, Meets.flash_result}
 use Rattle.agent_machine.proofs.StoredCalls.{begin-may, begin-answers, refused-of}
 use Rattle.agent_machine.proofs.StoredMeets.{AnswersBy, carried-meets, refused-meets}
 use Rattle.agent_calls.specs.Shown.{fields, moment}
-use Rattle.agent_machine.specs.Meets.{flash_result}
-use Rattle.agent_calls.proofs.Makes.{begin-frees, begin-stores, begin-keeps}
+use Rattle.agent_calls.proofs.{Makes.begin-frees, Makes.begin-stores, Makes.begin-keeps, agent.Agent.begin.Goals.After-carry_out}
 use Rattle.agent_calls.proofs.agent.Agent.begin.Given as given
 use Rattle.agent_calls.proofs.agent.Agent.begin.Goals as goal
-use Rattle.agent_calls.proofs.agent.Agent.begin.Goals.{After-carry_out}
 
 -- a begin stores where the update bank isn't invalid
 module _ (g : given.Over) (c : After-carry_out g) where

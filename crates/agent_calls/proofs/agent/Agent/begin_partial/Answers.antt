@@ -4,28 +4,20 @@ use Rattle.std.proofs.lemmas.List.{length-map}
 use Rattle.base_core.specs.Bytes.{same_bytes}
 use Rattle.fwu_formats.specs.Layout.{ImageRow}
 use Rattle.agent_kept.specs.declared.kinds.Request.TheVariants as request
-use Rattle.agent_machine.proofs.Showing.{known-shows, shows-some}
-use Rattle.agent_machine.proofs.StoredCalls.{refused-of}
-use Rattle.agent_machine.specs.Meets.{IsDone, flash_result}
+use Rattle.agent_machine.proofs.{Showing.known-shows, Showing.shows-some, StoredCalls.refused-of}
 use Rattle.agent_machine.proofs.Spending.{call-spent, spent-goes, spent-then}
-use Rattle.agent_calls.specs.Shown.{agent_at, device, fields, moment}
-use Rattle.std.specs.Prelude.{All, Err, IsTrue, OnOk}
+use Rattle.agent_machine.specs.{Meets.IsDone, Meets.flash_result, Beside.SparesBlocksByAll, Moment.Showing, Moment.Shows}
+use Rattle.agent_calls.specs.{Shown.agent_at, Shown.device, Shown.fields, Shown.moment, Copies.BeginsPartly, Copies.CopiesImages}
 use Rattle.agent_calls.specs.Takes.{CopiesTake, Takes, writes_to_begin, writes_to_copy}
-use Rattle.agent_machine.specs.Beside.{SparesBlocksByAll}
-use Rattle.agent_machine.specs.Moment.{Showing, Shows}
-use Rattle.fwu_model.specs.Session.{Session}
-use Rattle.fwu_model.specs.State.{State}
-use Rattle.agent_calls.proofs.CopyFilling.{stored-alone, stored-filled}
-use Rattle.agent_calls.proofs.CopyPadded.{copied-padded, on-ok}
-use Rattle.agent_calls.proofs.CopyTaking.{when-done}
+use Rattle.std.specs.Prelude.{All, Err, IsTrue, OnOk}
+use Rattle.fwu_model.specs.{Session.Session, State.State, Answer.are_named, Answer.names_unknown}
+use Rattle.agent_calls.proofs.{CopyFilling.stored-alone, CopyFilling.stored-filled, CopyPadded.copied-padded, CopyPadded.on-ok}
+use Rattle.agent_calls.proofs.{CopyTaking.when-done, agent.Agent.begin_partial.Goals.After-rows-count}
 use Rattle.agent_calls.proofs.Taking.{takes-begin, takes-some, takes-then}
-use Rattle.fwu_model.specs.Answer.{are_named, names_unknown}
-use Rattle.agent_calls.specs.Copies.{BeginsPartly, CopiesImages}
 use Rattle.agent_calls.proofs.BegunPartly.{held, refused-partly, unbegun-stopped, begun-partly, only-done, partly-touched, takes-at, done-unrefused}
 use Rattle.agent_calls.proofs.PlannedPartly.{IsPartial, named-are, partial-plan, plan-known, refused-partial}
 use Rattle.agent_calls.proofs.agent.Agent.begin_partial.Given as given
 use Rattle.agent_calls.proofs.agent.Agent.begin_partial.Goals as goal
-use Rattle.agent_calls.proofs.agent.Agent.begin_partial.Goals.{After-rows-count}
 
 pub returns-in-Err-clause-begins : goal.returns-in-Err-clause-begins
 returns-in-Err-clause-begins g c = λ here passes.

@@ -1,15 +1,12 @@
 use Rattle.std.proofs.Common.{◌≡◌, [], refl, sym, ap, subst}
 use Rattle.fwu_model.specs.Reply.{Success}
 use Rattle.fwu_formats.specs.Metadata.{Meta}
-use Rattle.agent_kept.specs.declared.kinds.Plan.{Plan}
+use Rattle.agent_kept.specs.{declared.kinds.Plan.Plan, Kept.Kept}
 use Rattle.agent_kept.specs.declared.kinds.Plan.TheVariants as plan
 use Rattle.agent_kept.specs.declared.kinds.Request.TheVariants as request
-use Rattle.agent_kept.specs.Kept.{Kept}
 use Rattle.agent_state.specs.Asked.{IsPlanFor}
-use Rattle.agent_machine.specs.Asks.{IsQuietPlan}
-use Rattle.agent_machine.specs.Fields.{Fields}
-use Rattle.agent_machine.proofs.Answered.{refused-meets}
-use Rattle.agent_machine.proofs.Meeting.{SaysSuccess, quiet-success}
+use Rattle.agent_machine.specs.{Asks.IsQuietPlan, Fields.Fields}
+use Rattle.agent_machine.proofs.{Answered.refused-meets, Meeting.SaysSuccess, Meeting.quiet-success}
 use Rattle.agent_calls.specs.Shown.{fields, moment}
 use Rattle.agent_calls.proofs.agent.Agent.cancel.Goals as goal
 

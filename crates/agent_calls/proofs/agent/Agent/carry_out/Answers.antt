@@ -3,9 +3,8 @@ use Rattle.flash_core.specs.declared.flash.FlashStop.{FlashStop}
 use Rattle.meta_layout.proofs.Fits.{meta-fits}
 use Rattle.agent_kept.specs.Kept.{kept}
 use Rattle.agent_machine.specs.Stored.{CarriesOut}
-use Rattle.agent_machine.proofs.Beside.{metadata-blocks}
+use Rattle.agent_machine.proofs.{Beside.metadata-blocks, Room.meta-of-session}
 use Rattle.agent_machine.proofs.StoredPlans.{after-fitting, after-some, after-known, after-carried}
-use Rattle.agent_machine.proofs.Room.{meta-of-session}
 use Rattle.agent_calls.specs.Shown.{fields, moment}
 use Rattle.agent_calls.proofs.agent.Agent.carry_out.Goals as goal
 

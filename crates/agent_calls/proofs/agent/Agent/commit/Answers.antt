@@ -4,10 +4,8 @@ use Rattle.fwu_model.specs.Reply.{Success}
 use Rattle.agent_kept.specs.declared.kinds.Plan.TheVariants as plan
 use Rattle.agent_kept.specs.declared.kinds.Request.TheVariants as request
 use Rattle.agent_kept.specs.Kept.{Kept, kept, handles_meant, handle_meant, staging_meant}
-use Rattle.agent_state.proofs.Machine.{handle-is}
-use Rattle.agent_state.proofs.Replies.{commit-free, commit-reads, commit-writes}
-use Rattle.agent_machine.proofs.Answered.{refused-meets}
-use Rattle.agent_machine.proofs.Meeting.{quiet-success}
+use Rattle.agent_state.proofs.{Machine.handle-is, Replies.commit-free, Replies.commit-reads, Replies.commit-writes}
+use Rattle.agent_machine.proofs.{Answered.refused-meets, Meeting.quiet-success}
 use Rattle.agent_calls.specs.Shown.{moment}
 use Rattle.agent_calls.proofs.agent.Agent.commit.Goals as goal
 

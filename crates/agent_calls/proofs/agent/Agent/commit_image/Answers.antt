@@ -1,9 +1,7 @@
 use Rattle.std.proofs.Common.{◌≡◌, ℕ, ◌+◌, ◌*◌, ◌<◌, ◌≤◌, List, [], length, Some, Ok, Err, refl, sym, ap, subst, arith, ◌∙◌, IsTrue}
 use Rattle.std.proofs.Math.Nat.{mod-lt}
-use Rattle.flash_core.specs.Told.{Told}
-use Rattle.flash_core.specs.Touches.{TouchesOnly}
-use Rattle.fwu_formats.specs.Layout.{ImageRow, blocks_needed, start}
-use Rattle.fwu_formats.specs.Metadata.{MetaRead}
+use Rattle.flash_core.specs.{Told.Told, Touches.TouchesOnly}
+use Rattle.fwu_formats.specs.{Layout.ImageRow, Layout.blocks_needed, Layout.start, Metadata.MetaRead}
 use Rattle.meta_layout.proofs.Fits.{meta-fits}
 use Rattle.fwu_model.specs.Reply.{Success}
 use Rattle.fwu_model.specs.Call as call
@@ -12,13 +10,9 @@ use Rattle.slot_writer.specs.Slots.{FinishesImage, blocks_for, done_of}
 use Rattle.agent_kept.specs.declared.kinds.Plan.TheVariants as plan
 use Rattle.agent_kept.specs.Kept.{Kept, kept, part_at, size_of}
 use Rattle.agent_state.specs.Settles.{Settles}
+use Rattle.agent_machine.specs.{Knows.Fitting, Knows.Knows, Moment.Moment, Meets.LeavesFlash, Meets.Meets}
 use Rattle.agent_machine.specs.Fields.{Fields, target, rest_of}
-use Rattle.agent_machine.specs.Knows.{Fitting, Knows}
-use Rattle.agent_machine.specs.Moment.{Moment}
-use Rattle.agent_machine.specs.Meets.{LeavesFlash, Meets}
-use Rattle.agent_machine.proofs.Committing.{slot-room}
-use Rattle.agent_machine.proofs.Room.{slot-inside, meta-of-session}
-use Rattle.agent_machine.proofs.Answered.{stopped-meets}
+use Rattle.agent_machine.proofs.{Committing.slot-room, Room.slot-inside, Room.meta-of-session, Answered.stopped-meets}
 use Rattle.agent_machine.proofs.CommitMeets.{commit-leaves, commit-fitting, commit-some, commit-knows, commit-meets}
 use Rattle.agent_calls.specs.Shown.{fields, moment}
 use Rattle.agent_calls.proofs.agent.Agent.commit_image.Given as given

@@ -1,8 +1,7 @@
 use Rattle.std.proofs.Common.{◌≡◌, ◌<◌, ℕ, List, Some, get_or, refl, ap, ◌∙◌, arith}
 use Rattle.base_core.specs.Block.{block_bytes}
 use Rattle.agent_machine.specs.Fields.{total_of}
-use Rattle.agent_calls.specs.Shown.{device, fields, gone, moment}
-use Rattle.agent_calls.specs.Takes.{piece_at}
+use Rattle.agent_calls.specs.{Shown.device, Shown.fields, Shown.gone, Shown.moment, Takes.piece_at}
 use Rattle.agent_calls.proofs.CopyFilling.{fills-none, fills-then}
 use Rattle.agent_calls.proofs.Copies.{front-none, front-more, bytes-stopped, bytes-done}
 use Rattle.agent_calls.proofs.CopyTaking.{front-taken-none, front-taken-more, front-taken-all}

@@ -2,10 +2,8 @@ use Rattle.std.proofs.Common.{◌-◌, ◌≡◌, ◌≤◌, Some, length}
 use Rattle.std.specs.Prelude.{Ok}
 use Rattle.base_core.specs.Block.{block_bytes}
 use Rattle.agent_machine.specs.Fields.{total_of}
-use Rattle.agent_calls.specs.Shown.{SpentBy, device, fields, moment}
-use Rattle.agent_calls.proofs.CopyTaking.{FrontTaken}
-use Rattle.agent_calls.specs.Copies.{FillsBank}
-use Rattle.agent_calls.proofs.Copies.{CopiesFront}
+use Rattle.agent_calls.specs.{Shown.SpentBy, Shown.device, Shown.fields, Shown.moment, Copies.FillsBank}
+use Rattle.agent_calls.proofs.{CopyTaking.FrontTaken, Copies.CopiesFront}
 use Rattle.agent_calls.proofs.agent.Agent.copy_bytes.Given as goal
 
 abbrev pub invariant-loop-at : goal.invariant-loop-at

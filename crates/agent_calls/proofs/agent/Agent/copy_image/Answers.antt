@@ -1,18 +1,16 @@
 use Rattle.std.proofs.Common.{◌<◌, Some, length, sym, ap, subst, true}
 use Rattle.fwu_formats.specs.Layout.{Layout}
+use Rattle.agent_calls.specs.{Takes.FrontTakes, Takes.pieces_of, Copies.FillsBank}
 use Rattle.agent_calls.specs.Shown.{device, fields, gone, moment}
 use Rattle.agent_machine.specs.Fields.{target, total_of}
 use Rattle.base_core.specs.Block.{block_bytes}
-use Rattle.agent_calls.specs.Takes.{FrontTakes, pieces_of}
-use Rattle.agent_calls.specs.Copies.{FillsBank}
+use Rattle.agent_calls.proofs.{CopyTaking.copy-takes, CopyTaking.lowered-of, OwnRows.found-at}
 use Rattle.agent_calls.proofs.CopyFilling.{fills-behind, fills-ended, fills-still, fills-then, slot-behind}
-use Rattle.agent_calls.proofs.CopyTaking.{copy-takes, lowered-of}
 use Rattle.agent_calls.proofs.Copies.{image-unopened, image-uncopied, image-ended}
+use Rattle.agent_calls.proofs.agent.Agent.copy_image.Goals.{After-copy_bytes, After-open}
 use Rattle.agent_machine.proofs.Spending.{call-spent, spent-then}
-use Rattle.agent_calls.proofs.OwnRows.{found-at}
 use Rattle.agent_calls.proofs.agent.Agent.copy_image.Given as given
 use Rattle.agent_calls.proofs.agent.Agent.copy_image.Goals as goal
-use Rattle.agent_calls.proofs.agent.Agent.copy_image.Goals.{After-copy_bytes, After-open}
 
 pub returns-in-Err-clause-copies : goal.returns-in-Err-clause-copies
 returns-in-Err-clause-copies g c =

@@ -1,9 +1,8 @@
 use Rattle.std.proofs.Common.{◌≡◌, ℕ, true, false, length, get_or, refl, subst, ◌∙◌, arith}
 use Rattle.std.proofs.lemmas.List.{get_or_default}
-use Rattle.agent_calls.specs.Shown.{device, gone, moment}
+use Rattle.agent_calls.specs.{Shown.device, Shown.gone, Shown.moment, Takes.CopiesTake}
 use Rattle.agent_calls.proofs.CopyFilling.{fills-none, fills-then, unnamed}
 use Rattle.agent_calls.proofs.CopyingAll.{copies-none, copies-named, copies-more, copies-stopped, copies-done}
-use Rattle.agent_calls.specs.Takes.{CopiesTake}
 use Rattle.agent_calls.proofs.CopyTaking.{copies-take-none, copies-take-named, copies-take-more}
 use Rattle.agent_machine.proofs.Spending.{none-spent, spent-then}
 use Rattle.agent_calls.proofs.agent.Agent.copy_images.Goals as goal

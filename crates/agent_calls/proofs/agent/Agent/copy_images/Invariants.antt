@@ -1,7 +1,5 @@
 use Rattle.std.specs.Prelude.{All, IsTrue, Ok, ◌≡◌}
-use Rattle.agent_calls.specs.Shown.{SpentBy, device, moment}
-use Rattle.agent_calls.specs.Takes.{CopiesTake}
-use Rattle.agent_calls.specs.Copies.{FillsBank}
+use Rattle.agent_calls.specs.{Shown.SpentBy, Shown.device, Shown.moment, Takes.CopiesTake, Copies.FillsBank}
 use Rattle.agent_calls.proofs.CopyingAll.{CopiesFirst}
 use Rattle.agent_calls.proofs.agent.Agent.copy_images.Given as goal
 

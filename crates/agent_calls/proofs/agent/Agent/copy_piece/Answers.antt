@@ -2,27 +2,19 @@ use Rattle.std.proofs.Common.{◌≡◌, ◌+◌, ◌≤◌, ◌++◌, ◌*◌, 
 use Rattle.std.proofs.lemmas.List.{length-take-le, take-append-le, take_all}
 use Rattle.std.specs.Prelude.{IsFalse}
 use Rattle.fwu_formats.specs.Layout.{start}
-use Rattle.fwu_model.specs.State.{State}
-use Rattle.fwu_model.specs.Sound.{Setting}
-use Rattle.fwu_model.specs.Session.{Session}
-use Rattle.agent_machine.specs.Fields.{Fields, target, total_of}
-use Rattle.agent_machine.specs.Goes.{GoesByMoves}
-use Rattle.agent_machine.specs.Meets.{Stays}
-use Rattle.agent_machine.specs.Moment.{Shows}
-use Rattle.flash_core.specs.declared.flash.Arming.{Arming}
-use Rattle.flash_core.specs.Counts.{lowered_by}
+use Rattle.fwu_model.specs.{State.State, Sound.Setting, Session.Session}
+use Rattle.agent_machine.specs.{Fields.Fields, Fields.target, Fields.total_of, Goes.GoesByMoves, Meets.Stays, Moment.Shows}
+use Rattle.flash_core.specs.{declared.flash.Arming.Arming, Counts.lowered_by}
 use Rattle.slot_writer.specs.Writes.{writes_to_append}
 use Rattle.agent_kept.specs.Kept.{part_at, size_of}
 use Rattle.agent_machine.proofs.Spending.{call-spent, spent-then}
-use Rattle.agent_calls.proofs.CopySpending.{err-spent, read-spent}
-use Rattle.agent_calls.specs.Copies.{FillsBank}
+use Rattle.agent_calls.proofs.{CopySpending.err-spent, CopySpending.read-spent, CopyTaking.piece-takes}
 use Rattle.agent_calls.proofs.CopyFilling.{fills-by, fills-behind, fills-still, fills-then, slot-behind}
-use Rattle.agent_calls.proofs.CopyTaking.{piece-takes}
-use Rattle.agent_calls.specs.Shown.{device, fields, gone, moment}
 use Rattle.agent_calls.proofs.Copies.{piece-unread, piece-held, piece-written, piece-stopped, read-goes, read-stays}
+use Rattle.agent_calls.proofs.agent.Agent.copy_piece.Goals.{After-read_part, After-write_stream}
+use Rattle.agent_calls.specs.{Copies.FillsBank, Shown.device, Shown.fields, Shown.gone, Shown.moment}
 use Rattle.agent_calls.proofs.agent.Agent.copy_piece.Given as given
 use Rattle.agent_calls.proofs.agent.Agent.copy_piece.Goals as goal
-use Rattle.agent_calls.proofs.agent.Agent.copy_piece.Goals.{After-read_part, After-write_stream}
 
 pub returns-in-Err-clause-copies : goal.returns-in-Err-clause-copies
 returns-in-Err-clause-copies g c =

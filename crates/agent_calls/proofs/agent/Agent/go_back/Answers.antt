@@ -1,19 +1,15 @@
 use Rattle.std.proofs.Common.{◌≡◌, Bool, inl, inr, true, false, refl, sym, subst, arith}
 use Rattle.std.specs.Prelude.{Option, OnOk, Err}
-use Rattle.flash_core.specs.declared.flash.Arming.{Arming}
-use Rattle.flash_core.specs.Told.{Told}
+use Rattle.flash_core.specs.{declared.flash.Arming.Arming, Told.Told}
 use Rattle.flash_core.proofs.Touches.{touches_none, touches_then}
-use Rattle.fwu_model.specs.State.{Back}
-use Rattle.fwu_model.specs.MoveMetas.{meta_after}
+use Rattle.fwu_model.specs.{State.Back, MoveMetas.meta_after}
 use Rattle.moves.specs.Law.{CallResult}
 use Rattle.replicas.specs.Stores.{Stores}
 use Rattle.agent_kept.specs.Kept.{kept}
 use Rattle.agent_state.specs.Ruled.{ruled_as}
-use Rattle.agent_machine.specs.Meets.{IsRefused, IsStopped, flash_result}
-use Rattle.agent_machine.specs.declared.stop.Stop.{Stop}
-use Rattle.agent_machine.specs.declared.stop.Stop.TheVariants as stop
-use Rattle.agent_machine.specs.Fields.{Fields}
+use Rattle.agent_machine.specs.{Meets.IsRefused, Meets.IsStopped, Meets.flash_result, declared.stop.Stop.Stop, Fields.Fields}
 use Rattle.agent_machine.specs.Stored.{TakesStore, is_to_do, may_try_kept}
+use Rattle.agent_machine.specs.declared.stop.Stop.TheVariants as stop
 use Rattle.meta_layout.proofs.Fits.{meta-fits}
 use Rattle.agent_machine.proofs.StoredBack.{untried-meets, stopped-meets, bad-meets, back-meets}
 use Rattle.agent_calls.specs.Shown.{fields, moment}

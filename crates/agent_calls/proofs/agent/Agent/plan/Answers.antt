@@ -3,8 +3,7 @@ use Rattle.fwu_formats.specs.Digests.{passes_any}
 use Rattle.agent_kept.specs.declared.kinds.Decision.{Decision}
 use Rattle.agent_state.specs.Decides.{DecidesRequest}
 use Rattle.agent_machine.specs.Fields.{Fields}
-use Rattle.agent_machine.proofs.Room.{meta-of-session, rows-some}
-use Rattle.agent_machine.proofs.Verdicts.{refuses-any, plans-any}
+use Rattle.agent_machine.proofs.{Room.meta-of-session, Room.rows-some, Verdicts.refuses-any, Verdicts.plans-any}
 use Rattle.agent_calls.specs.Shown.{fields}
 use Rattle.agent_calls.proofs.agent.Agent.plan.Goals as goal
 

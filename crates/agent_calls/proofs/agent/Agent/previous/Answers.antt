@@ -4,9 +4,7 @@ use Rattle.agent_kept.specs.Kept.{kept}
 use Rattle.agent_kept.specs.declared.kinds.Request.TheVariants as request
 use Rattle.agent_kept.specs.declared.kinds.Decision.TheVariants as decision
 use Rattle.agent_state.specs.Decides.{DecidesRequest}
-use Rattle.agent_machine.proofs.Answered.{layout-limits}
-use Rattle.agent_machine.proofs.Room.{meta-of-session}
-use Rattle.agent_machine.proofs.StoredBack.{refused-meets-previous}
+use Rattle.agent_machine.proofs.{Answered.layout-limits, Room.meta-of-session, StoredBack.refused-meets-previous}
 use Rattle.agent_calls.specs.Shown.{fields}
 use Rattle.agent_calls.proofs.agent.Agent.previous.Goals as goal
 

@@ -2,15 +2,13 @@ use Rattle.std.proofs.Common.{◌≤◌, [], length, refl, ap, ◌∙◌, subst,
 use Rattle.agent_kept.specs.declared.kinds.Plan.TheVariants as plan
 use Rattle.agent_kept.specs.declared.kinds.Request.TheVariants as request
 use Rattle.agent_state.specs.Asked.{IsPlanFor}
-use Rattle.agent_machine.specs.Fields.{Fields}
-use Rattle.agent_machine.specs.Directory.{piece_of}
-use Rattle.agent_machine.specs.Meets.{IsGot, Stays}
+use Rattle.agent_machine.specs.{Fields.Fields, Directory.piece_of, Meets.IsGot, Meets.Stays}
 use Rattle.agent_machine.proofs.ReadAnswers.{read-refused, read-lost, read-faulty, read-meets, carried-from, filled}
 use Rattle.agent_calls.specs.Shown.{fields, moment}
 use Rattle.agent_calls.proofs.Copies.{read-stays}
+use Rattle.agent_calls.proofs.agent.Agent.read_stream.Goals.{After-read_part, In-Read}
 use Rattle.agent_calls.proofs.agent.Agent.read_stream.Given as given
 use Rattle.agent_calls.proofs.agent.Agent.read_stream.Goals as goal
-use Rattle.agent_calls.proofs.agent.Agent.read_stream.Goals.{After-read_part, In-Read}
 
 -- a plan to read reads no more than there is room for
 module _ (g : given.Over) (c : In-Read g) where

@@ -1,9 +1,7 @@
 use Rattle.std.proofs.Common.{sym, subst}
-use Rattle.fwu_model.specs.State.{State}
+use Rattle.fwu_model.specs.{State.State, Calm.IsCalm}
 use Rattle.moves.specs.Moved.{IsReady, IsShown}
-use Rattle.fwu_model.specs.Calm.{IsCalm}
-use Rattle.agent_machine.proofs.Known.{known-shown, known-ready}
-use Rattle.agent_machine.proofs.Showing.{shows-some}
+use Rattle.agent_machine.proofs.{Known.known-shown, Known.known-ready, Showing.shows-some}
 use Rattle.agent_calls.specs.Shown.{fields}
 use Rattle.agent_calls.proofs.agent.Agent.showing.Goals as goal
 

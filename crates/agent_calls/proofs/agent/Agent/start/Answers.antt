@@ -2,8 +2,7 @@ use Rattle.std.proofs.Common.{◌≡◌, ◌<◌, ◌≤◌, List, length, refl,
 use Rattle.fwu_formats.specs.Layout.{Layout, ImageRow}
 use Rattle.agent_kept.specs.Kept.{kept, slot_room_of}
 use Rattle.agent_machine.proofs.Room.{slots-small}
-use Rattle.early_boot.specs.Choosing.{LengthsFitSlots}
-use Rattle.early_boot.specs.Started.{started, started_session}
+use Rattle.early_boot.specs.{Choosing.LengthsFitSlots, Started.started, Started.started_session}
 use Rattle.agent_calls.proofs.Starting.{starts-fitting, starts-some, starts-known, starts-session, starts-shows}
 use Rattle.agent_calls.proofs.agent.Agent.start.Goals as goal
 

@@ -4,16 +4,10 @@ use Rattle.fwu_model.specs.Call as call
 use Rattle.agent_kept.specs.Kept.{Kept, kept}
 use Rattle.agent_kept.specs.declared.kinds.Plan.TheVariants as plan
 use Rattle.flash_core.specs.Touches.{TouchesOnly}
+use Rattle.agent_machine.specs.{Fields.Fields, Moment.Moment, Ends.ClearsAndStores, Meets.LeavesFlash}
 use Rattle.agent_machine.specs.Beside.{IsBesideMetadata, SparesBlocks}
-use Rattle.agent_machine.specs.Fields.{Fields}
-use Rattle.agent_machine.specs.Moment.{Moment}
-use Rattle.agent_machine.specs.Ends.{ClearsAndStores}
-use Rattle.agent_machine.specs.Meets.{LeavesFlash}
 use Rattle.moves.specs.Law.{CallResult}
-use Rattle.agent_machine.proofs.Answered.{stopped-meets}
-use Rattle.agent_machine.proofs.Room.{meta-of-session}
-use Rattle.agent_machine.proofs.Showing.{some-after}
-use Rattle.agent_machine.proofs.Ended.{ended-fitting}
+use Rattle.agent_machine.proofs.{Answered.stopped-meets, Room.meta-of-session, Showing.some-after, Ended.ended-fitting}
 use Rattle.agent_machine.proofs.EndMeets.{stored-when-done, end-leaves, end-knows, end-meets}
 use Rattle.agent_calls.specs.Shown.{fields}
 use Rattle.agent_calls.proofs.Makes.{end-keeps}

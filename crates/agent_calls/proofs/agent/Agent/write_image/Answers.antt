@@ -1,18 +1,16 @@
 use Rattle.std.proofs.Common.{◌≡◌, ℕ, ◌+◌, ◌*◌, ◌≤◌, List, [], length, set, get_or-set_other, Ok, Err, refl, sym, ap, ◌∙◌, subst, arith, IsTrue}
 use Rattle.fwu_formats.specs.Layout.{ImageRow, blocks_needed, start, slot_bytes}
-use Rattle.slot_writer.specs.Writes.{SpendsArming, writes_to_append}
+use Rattle.slot_writer.specs.{Writes.SpendsArming, Writes.writes_to_append, Slots.Appends, Slots.done_of}
 use Rattle.agent_kept.specs.Kept.{kept, part_at, size_of, slot_room_of}
-use Rattle.agent_machine.specs.Fields.{Fields, rest_of, target}
-use Rattle.agent_machine.specs.Knows.{Fitting}
+use Rattle.agent_machine.specs.{Fields.Fields, Fields.rest_of, Fields.target, Knows.Fitting}
 use Rattle.agent_machine.proofs.Room.{slot-inside, meta-of-session}
 use Rattle.agent_machine.proofs.WriteCarried.{write-fitting, write-known, write-some, write-done, write-stopped}
 use Rattle.agent_calls.specs.Shown.{fields, moment}
 use Rattle.agent_calls.proofs.Appending.{appended, left-kept, left_of, touched}
-use Rattle.slot_writer.specs.Slots.{Appends, done_of}
+use Rattle.agent_calls.proofs.agent.Agent.write_image.Goals.{After-append}
 use Rattle.moves.specs.Law.{CallResult}
 use Rattle.agent_calls.proofs.agent.Agent.write_image.Given as given
 use Rattle.agent_calls.proofs.agent.Agent.write_image.Goals as goal
-use Rattle.agent_calls.proofs.agent.Agent.write_image.Goals.{After-append}
 
 -- ---- the bytes, by the fields: they fit the slot, which lies in the flash
 

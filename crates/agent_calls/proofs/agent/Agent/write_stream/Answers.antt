@@ -4,11 +4,10 @@ use Rattle.agent_kept.specs.declared.kinds.Plan.{Plan}
 use Rattle.agent_kept.specs.declared.kinds.Plan.TheVariants as plan
 use Rattle.agent_kept.specs.declared.kinds.Request.TheVariants as request
 use Rattle.agent_kept.specs.declared.kinds.Decision.TheVariants as decision
-use Rattle.agent_state.specs.Decides.{DecidesRequest}
+use Rattle.agent_state.specs.{Decides.DecidesRequest, Asked.IsPlanFor}
 use Rattle.agent_machine.specs.Fields.{Fields}
 use Rattle.agent_machine.proofs.Answered.{refused-meets}
 use Rattle.agent_calls.specs.Shown.{fields, moment}
-use Rattle.agent_state.specs.Asked.{IsPlanFor}
 use Rattle.agent_calls.proofs.agent.Agent.write_stream.Goals as goal
 
 pub returns-in-Write-clause-meets : goal.returns-in-Write-clause-meets

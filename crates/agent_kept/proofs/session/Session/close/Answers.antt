@@ -1,7 +1,6 @@
 use Rattle.std.proofs.Common.{◌-◌, ◌<◌, length, refl, arith}
 use Rattle.agent_kept.specs.declared.parts.Handle.TheVariants.{Free}
-use Rattle.agent_kept.proofs.Changes.{handle-sound}
-use Rattle.agent_kept.proofs.Sounds.{not-free-reads}
+use Rattle.agent_kept.proofs.{Changes.handle-sound, Sounds.not-free-reads}
 use Rattle.agent_kept.proofs.session.Session.close.Goals as goal
 
 pub invariant_of-self : goal.invariant_of-self

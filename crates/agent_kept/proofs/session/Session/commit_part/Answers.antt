@@ -1,7 +1,5 @@
 use Rattle.std.proofs.Common.{◌≡◌, ◌-◌, ◌<◌, List, set, get_or, take, length, arith, ap, ◌∙◌, length-set, get_or-set_same, get_or-set_other}
-use Rattle.agent_kept.specs.declared.parts.Part.{Part}
-use Rattle.agent_kept.specs.declared.parts.Part.TheVariants.{Nothing}
-use Rattle.agent_kept.specs.Sound.{size_of}
+use Rattle.agent_kept.specs.{declared.parts.Part.Part, declared.parts.Part.TheVariants.Nothing, Sound.size_of}
 use Rattle.agent_kept.proofs.Changes.{commit-sound, commits-size}
 use Rattle.agent_kept.proofs.session.Session.commit_part.Goals as goal
 

@@ -1,8 +1,7 @@
 use Rattle.std.proofs.Common.{◌≡◌, ◌++◌, false, List, length, take, replicate, sym, subst, arith}
 use Rattle.std.proofs.lemmas.Grind.{common_steps}
 use Rattle.fwu_formats.specs.Layout.{ImageRow}
-use Rattle.agent_kept.specs.declared.parts.Handle.TheVariants.{Free}
-use Rattle.agent_kept.specs.Sound.{IsSoundKept}
+use Rattle.agent_kept.specs.{declared.parts.Handle.TheVariants.Free, Sound.IsSoundKept}
 use Rattle.agent_kept.proofs.Sounds.{new-sound, frees}
 use Rattle.agent_kept.proofs.session.Session.new.Goals as goal
 

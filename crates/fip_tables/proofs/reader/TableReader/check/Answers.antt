@@ -1,8 +1,7 @@
 use Rattle.std.proofs.Common.{◌≡◌, ◌∙◌, ap, sym, subst, ℕ, List, Err}
 use Rattle.fwu_formats.specs.Package.{toc_of}
 use Rattle.fwu_formats.specs.declared.kinds.FipFault.TheVariants as fault
-use Rattle.fip_tables.specs.Stream.{ReaderHolds, HoldsPartOfGroup, Reader}
-use Rattle.fip_tables.specs.declared.reader.Stage.{Stage}
+use Rattle.fip_tables.specs.{Stream.ReaderHolds, Stream.HoldsPartOfGroup, Stream.Reader, declared.reader.Stage.Stage}
 use Rattle.fip_tables.specs.declared.reader.Stage.TheVariants as stage
 use Rattle.fip_tables.proofs.Fronts.{answer_at, answers, as-answered}
 use Rattle.fip_tables.proofs.reader.TableReader.check.Goals as goal

@@ -1,8 +1,7 @@
 use Rattle.std.proofs.Common.{◌∙◌, ◌-◌, ◌≤◌, ap, sym, subst, arith, ℕ, List, length, ◌++◌, take, drop, append_assoc, true≢false, length-drop}
 use Rattle.std.proofs.lemmas.List.{length-take-le}
 use Rattle.fip_tables.specs.Stream.{ReaderHolds, ReadsOn}
-use Rattle.fip_tables.proofs.Fronts.{holds-on}
-use Rattle.fip_tables.proofs.Told.{take-further, take-rest}
+use Rattle.fip_tables.proofs.{Fronts.holds-on, Told.take-further, Told.take-rest}
 use Rattle.fip_tables.proofs.reader.TableReader.read_on.Goals as goal
 
 pub loop-at-preserved : goal.loop-at-preserved

@@ -5,8 +5,7 @@ use Rattle.flash_core.specs.Touches.{TouchesOnly}
 use Rattle.std.proofs.lemmas.Result.{err_from_is_err_and}
 use Rattle.std.specs.Prelude.{is_err}
 use Rattle.flash_core.proofs.Touches.{touches_none, touches_then}
-use Rattle.flash_devices.specs.Meters.{CountsMet, counts_in}
-use Rattle.flash_devices.specs.MemoryFiles.{writes_of}
+use Rattle.flash_devices.specs.{Meters.CountsMet, Meters.counts_in, MemoryFiles.writes_of}
 use Rattle.flash_devices.proofs.FileSteps.{nothing_written}
 use Rattle.flash_devices.proofs.memory_file.MemoryFileByteFile.write_at.Goals as goal
 

@@ -6,8 +6,7 @@ use Rattle.sha2.specs.Sha256.{sha256}
 use Rattle.base_core.specs.Bytes.{le}
 use Rattle.fwu_formats.specs.Manifest.{Manifest, manifest_of, manifest_body, manifest_bytes, manifest_magic, manifest_row_bytes, is_manifest_row, form_of}
 use Rattle.fwu_formats.proofs.ManifestWritten.{written-is-read}
-use Rattle.manifest_core.specs.declared.rows.Row.{Row as SpecRow}
-use Rattle.manifest_core.specs.Shown.{row}
+use Rattle.manifest_core.specs.{declared.rows.Row.Row as SpecRow, Shown.row}
 use Rattle.manifest_core.proofs.value.Manifest.write.Goals as goal
 
 spelled : (c : goal.In_ok-extend_from_slice) → c.extend_from_slice.new.self.items ≡ manifest_bytes c.args.self.now

@@ -1,7 +1,6 @@
 use Rattle.std.proofs.Common.{◌≡◌, ◌+◌, ◌*◌, List, sym, ap, ◌∙◌}
 use Rattle.fwu_formats.specs.Layout.{Layout, ImageRow, fits_layout, blocks_needed, slot_total}
-use Rattle.fwu_formats.proofs.SealLaws.{limits}
-use Rattle.fwu_formats.proofs.Written.{rows-fit}
+use Rattle.fwu_formats.proofs.{SealLaws.limits, Written.rows-fit}
 use Rattle.meta_layout.proofs.Layouts.{fitted-bad, fitted-beyond, fitted-ok}
 use Rattle.meta_layout.proofs.layout.Layout.of_rows.Goals as goal
 

@@ -1,6 +1,5 @@
 use Rattle.std.proofs.Common.{refl, ◌≡◌, ℕ, ◌&&◌, ◌==◌, List, sym, ap, ◌∙◌}
-use Rattle.base_core.specs.Bytes.{num_at, part, listed}
-use Rattle.base_core.specs.Crc.{crc}
+use Rattle.base_core.specs.{Bytes.num_at, Bytes.part, Bytes.listed, Crc.crc}
 use Rattle.fwu_formats.specs.Layout.{Layout, ImageRow, layout_at, are_zero}
 use Rattle.meta_layout.specs.Rows.{has_row_zeros, layout_row_at, fitted}
 use Rattle.meta_layout.proofs.Layouts.{short, bad-magic, bad-size, short-rows, bad-sum, not-zero, as-fitted}

@@ -1,7 +1,6 @@
 use Rattle.std.proofs.Common.{false, refl}
 use Rattle.std.proofs.lemmas.List.{drop-replicate}
-use Rattle.meta_layout.proofs.Arrays.{length-view}
-use Rattle.meta_layout.proofs.Metas.{cleared}
+use Rattle.meta_layout.proofs.{Arrays.length-view, Metas.cleared}
 use Rattle.meta_layout.proofs.lists.Bits.cleared.Goals as goal
 
 pub invariant_of-result : goal.invariant_of-result

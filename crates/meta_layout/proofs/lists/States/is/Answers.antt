@@ -1,7 +1,6 @@
 use Rattle.std.proofs.Common.{IsTrue, ◌≡◌, refl}
 use Rattle.std.proofs.lemmas.Bool.{false≢true}
-use Rattle.fwu_formats.specs.contracts.kinds.BankStatePartialEq.TheImpl.{eq-value}
-use Rattle.fwu_formats.specs.declared.kinds.BankState.{BankState}
+use Rattle.fwu_formats.specs.{contracts.kinds.BankStatePartialEq.TheImpl.eq-value, declared.kinds.BankState.BankState}
 use Rattle.fwu_formats.specs.declared.kinds.BankState.TheVariants.{Invalid, Valid, Accepted}
 use Rattle.meta_layout.proofs.Same.{Tells, padded_test, padded-tells, told}
 use Rattle.meta_layout.proofs.lists.States.is.Goals as goal

@@ -2,8 +2,7 @@ use Rattle.std.proofs.Common.{◌≡◌, ◌<◌, List, length, get_or, map, sli
 use Rattle.std.specs.Prelude.{slice_get}
 use Rattle.std.proofs.lemmas.List.{map-set}
 use Rattle.fwu_model.specs.Call.{Call}
-use Rattle.script_text.specs.Shown.{shown}
-use Rattle.script_text.specs.declared.call.Call.{Call as Held}
+use Rattle.script_text.specs.{Shown.shown, declared.call.Call.Call as Held}
 use Rattle.script_text.proofs.Elements.{shown_at, armable_at, armable_without, buffers_without}
 use Rattle.script_text.proofs.script.Script.take.Goals as goal
 

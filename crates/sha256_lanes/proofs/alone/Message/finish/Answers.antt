@@ -1,7 +1,6 @@
 use Rattle.std.proofs.Common.{◌-◌, ◌%◌, ◌++◌, ◌∙◌, length, take, refl}
 use Rattle.std.proofs.lemmas.List.{take_rest}
-use Rattle.sha256_lanes.proofs.Blocks.{of_whole_blocks}
-use Rattle.sha256_lanes.proofs.Ends.{digest_of_padded}
+use Rattle.sha256_lanes.proofs.{Blocks.of_whole_blocks, Ends.digest_of_padded}
 use Rattle.sha256_lanes.proofs.alone.Message.finish.Goals as goal
 
 pub returns : goal.returns

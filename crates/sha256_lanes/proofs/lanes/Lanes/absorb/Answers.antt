@@ -1,6 +1,5 @@
 use Rattle.std.proofs.Common.{List, ℕ, ◌++◌, sym, subst}
-use Rattle.sha256_lanes.specs.Holding.{IsOfBlocks}
-use Rattle.sha256_lanes.specs.Lanes.{lane, of_four}
+use Rattle.sha256_lanes.specs.{Holding.IsOfBlocks, Lanes.lane, Lanes.of_four}
 use Rattle.sha256_lanes.proofs.LaneStates.{eight_items}
 use Rattle.sha256_lanes.proofs.lanes.Lanes.absorb.Goals as goal
 

@@ -1,13 +1,9 @@
 use Rattle.std.proofs.Common.{inl, inr, sym, subst, ap, refl, rules, ◌∙◌, List}
 use Rattle.std.proofs.lemmas.Bool.{cases_Bool}
+use Rattle.step_flash.specs.{Guard.start_with, Steps.barrier_step, Steps.run_with, Stopped.under_of, declared.step.Step.Step}
 use Rattle.step_flash.specs.Device.{after_steps, none_under}
-use Rattle.step_flash.specs.Guard.{start_with}
-use Rattle.step_flash.specs.Steps.{barrier_step, run_with}
-use Rattle.step_flash.specs.Stopped.{under_of}
-use Rattle.step_flash.specs.declared.step.Step.{Step}
-use Rattle.step_flash.proofs.Places.{barrier_meets_none, step_touches}
+use Rattle.step_flash.proofs.{Places.barrier_meets_none, Places.step_touches, Calls.settle_noted}
 use Rattle.step_flash.proofs.Noted.{Fits, barrier_fits, run_push}
-use Rattle.step_flash.proofs.Calls.{settle_noted}
 use Rattle.step_flash.proofs.device.StepDevice.barrier.Goals as goal
 
 pub invariant_of-self : goal.invariant_of-self

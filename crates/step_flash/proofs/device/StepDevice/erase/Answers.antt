@@ -1,13 +1,9 @@
 use Rattle.std.proofs.Common.{arith, rules, sym, subst, ap, refl, ◌≡◌, ◌∙◌, ◌*◌, ◌%◌, ◌+◌, ◌≤◌, List}
 use Rattle.std.specs.Option.{ForSome}
 use Rattle.base_core.specs.Block.{blank, block_bytes}
+use Rattle.step_flash.specs.{Guard.start_with, Stopped.under_of, Steps.erase_step, Steps.run_with, declared.step.Step.Step}
 use Rattle.step_flash.specs.Device.{after_steps, none_under}
-use Rattle.step_flash.specs.Guard.{start_with}
-use Rattle.step_flash.specs.Stopped.{under_of}
-use Rattle.step_flash.specs.Steps.{erase_step, run_with}
-use Rattle.step_flash.specs.declared.step.Step.{Step}
-use Rattle.step_flash.proofs.Calls.{lowered_ahead, put_noted}
-use Rattle.step_flash.proofs.Places.{step_touches}
+use Rattle.step_flash.proofs.{Calls.lowered_ahead, Calls.put_noted, Places.step_touches}
 use Rattle.step_flash.proofs.Noted.{Fits, erase_fits, run_push}
 use Rattle.step_flash.proofs.device.StepDevice.erase.Goals as goal
 

@@ -3,8 +3,7 @@ use Rattle.std.proofs.lemmas.List.{get_or_default, get_or-take, length-take-le}
 use Rattle.base_core.specs.Block.{block_bytes}
 use Rattle.flash_core.specs.Told.{Told}
 use Rattle.flash_core.proofs.Calls.{now-fresh}
-use Rattle.step_flash.specs.Guard.{guard_with, start_with}
-use Rattle.step_flash.specs.Steps.{IsInsideWith, run_step, run_with}
+use Rattle.step_flash.specs.{Guard.guard_with, Guard.start_with, Steps.IsInsideWith, Steps.run_step, Steps.run_with}
 use Rattle.step_flash.proofs.ReadBack.{run_none, run_more, run_size}
 use Rattle.step_flash.proofs.device.StepDevice.fill.Goals as goal
 

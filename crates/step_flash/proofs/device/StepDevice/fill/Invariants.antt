@@ -1,6 +1,5 @@
 use Rattle.std.proofs.Common.{◌≡◌, ◌+◌, length, take, slice_range}
-use Rattle.step_flash.specs.Guard.{start_with}
-use Rattle.step_flash.specs.Steps.{run_with}
+use Rattle.step_flash.specs.{Guard.start_with, Steps.run_with}
 use Rattle.step_flash.proofs.device.StepDevice.fill.Given as goal
 
 abbrev pub invariant-loop-step : goal.invariant-loop-step

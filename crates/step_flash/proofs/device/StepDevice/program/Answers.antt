@@ -1,11 +1,8 @@
 use Rattle.std.proofs.Common.{rules, ◌≡◌, ◌∙◌, ap, sym, subst, refl, ◌+◌, ◌≤◌, ℕ, Bool, List, length, slice_range, true}
 use Rattle.std.specs.Option.{ForSome}
+use Rattle.step_flash.specs.{Guard.start_with, Stopped.under_of, Steps.TakesProgram, Steps.run_with}
 use Rattle.step_flash.specs.Device.{after_steps, back_on, none_under}
-use Rattle.step_flash.specs.Guard.{start_with}
-use Rattle.step_flash.specs.Stopped.{under_of}
-use Rattle.step_flash.specs.Steps.{TakesProgram, run_with}
-use Rattle.step_flash.proofs.Calls.{lowered_ahead, put_noted}
-use Rattle.step_flash.proofs.Places.{program_touches}
+use Rattle.step_flash.proofs.{Calls.lowered_ahead, Calls.put_noted, Places.program_touches}
 use Rattle.step_flash.proofs.Noted.{Fits, program_fits, program_run}
 use Rattle.step_flash.proofs.device.StepDevice.program.Goals as goal
 
