@@ -19,6 +19,12 @@ pub record Started : Type 0 where
 -- by what is shown and what is chosen
 abbrev pub started_as : Shown → Chosen → Started
 started_as shown chosen = record {
-  layout = shown.layout; meta = shown.meta; trials = shown.trials; counter = shown.counter;
-  bank = chosen.bank; version = chosen.version; lengths = chosen.lengths; fallback = not (chosen.bank == shown.meta.meta.active);
+  layout = shown.layout;
+  meta = shown.meta;
+  trials = shown.trials;
+  counter = shown.counter;
+  bank = chosen.bank;
+  version = chosen.version;
+  lengths = chosen.lengths;
+  fallback = not (chosen.bank == shown.meta.meta.active);
 }

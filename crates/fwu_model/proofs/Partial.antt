@@ -63,9 +63,9 @@ on_trial = record {
 -- where it is on trial, the image that is sent isn't accepted yet, and the one that is copied is
 sent :
     (answer E regular here (call.SendPartial (codes "m.fip") 0)
-      ≡ answered (reply.SentPartial 1 0 1) (Switch 1 (manifest 2 ∷ bytes ∷ []) (true ∷ true ∷ []) ∷ []) here)
+    ≡ answered (reply.SentPartial 1 0 1) (Switch 1 (manifest 2 ∷ bytes ∷ []) (true ∷ true ∷ []) ∷ []) here)
     × (answer E regular here (call.SendPartial (codes "m.fip") 1)
-      ≡ answered (reply.SentPartial 1 0 1) (Switch 1 (manifest 2 ∷ bytes ∷ []) (false ∷ true ∷ []) ∷ []) here)
+    ≡ answered (reply.SentPartial 1 0 1) (Switch 1 (manifest 2 ∷ bytes ∷ []) (false ∷ true ∷ []) ∷ []) here)
 unfolding answer answer_send_partial toc_of entries_from packed images_over first_size_fault is_complete manifest_of manifest_bytes version sha256 digest_bytes hash_after compress rounds schedule first_words
 sent = (refl, refl)
 
@@ -75,9 +75,9 @@ sent = (refl, refl)
 -- staging begins, whatever is named.
 begun :
     (answer E regular here (call.BeginPartial (manifest_guid ∷ []))
-      ≡ answered reply.Success [] (On 0 (Some (Nothing ∷ Committed bytes true ∷ [])) no_handles))
+    ≡ answered reply.Success [] (On 0 (Some (Nothing ∷ Committed bytes true ∷ [])) no_handles))
     × (answer E regular here (call.BeginPartial (manifest_guid ∷ manifest_guid ∷ []))
-      ≡ answer E regular here (call.BeginPartial (manifest_guid ∷ [])))
+    ≡ answer E regular here (call.BeginPartial (manifest_guid ∷ [])))
     × (answer E regular here (call.BeginPartial (manifest_guid ∷ nt_fw ∷ [])) ≡ refused status.Unknown here)
     × (answer E regular here (call.BeginPartial (dir_guid ∷ [])) ≡ refused status.Unknown here)
     × (answer E on_trial (On 1 None no_handles) (call.BeginPartial (nt_fw ∷ [])) ≡ refused status.Denied (On 1 None no_handles))
@@ -95,9 +95,9 @@ calls_of_begin = (refl, refl)
 -- sixteen types may be named, and no more
 lines_read :
     (script_of (codes "begin\nbegin tb-fw\nsend m.fip trial partial\n")
-      ≡ Ok (call.Begin 0 ∷ call.BeginPartial (tb_fw ∷ []) ∷ call.SendPartial (codes "m.fip") 1 ∷ []))
+    ≡ Ok (call.Begin 0 ∷ call.BeginPartial (tb_fw ∷ []) ∷ call.SendPartial (codes "m.fip") 1 ∷ []))
     × (script_of (codes "begin dir dir dir dir dir dir dir dir dir dir dir dir dir dir dir dir\n")
-      ≡ Ok (call.BeginPartial (replicate 16 dir_guid) ∷ []))
+    ≡ Ok (call.BeginPartial (replicate 16 dir_guid) ∷ []))
     × (script_of (codes "begin dir dir dir dir dir dir dir dir dir dir dir dir dir dir dir dir dir\n") ≡ Err 1)
     × (script_of (codes "begin tb-fw 1\n") ≡ Err 1) × (script_of (codes "send m.fip now whole\n") ≡ Err 1)
 unfolding script_of line_of by_index

@@ -59,15 +59,15 @@ image = refl
 lines :
     (soak_line 1 [] ≡ codes "soak rounds=1 turns=0 boots=0 losses=0 fallbacks=0 sends=0 bank=0 version=0 counter=0\n")
     × (soak_line 0 (record { call = call.Boot; reply = reply.Booted 0 1 0 1 false; numbers = None } ∷ [])
-      ≡ codes "soak rounds=0 turns=1 boots=1 losses=0 fallbacks=0 sends=0 bank=0 version=1 counter=1\n")
+    ≡ codes "soak rounds=0 turns=1 boots=1 losses=0 fallbacks=0 sends=0 bank=0 version=1 counter=1\n")
     × (soak_line 1 (record { call = call.Boot; reply = reply.Booted 0 1 0 1 false; numbers = None }
-      ∷ record { call = call.Cut 2 3322; reply = reply.CutOk; numbers = None }
-      ∷ record { call = call.Send (codes "g1") 1; reply = reply.Lost; numbers = None }
-      ∷ record { call = call.Boot; reply = reply.Booted 0 1 0 1 false; numbers = None } ∷ [])
-      ≡ codes "soak rounds=1 turns=4 boots=2 losses=1 fallbacks=0 sends=0 bank=0 version=1 counter=1\n")
+    ∷ record { call = call.Cut 2 3322; reply = reply.CutOk; numbers = None }
+    ∷ record { call = call.Send (codes "g1") 1; reply = reply.Lost; numbers = None }
+    ∷ record { call = call.Boot; reply = reply.Booted 0 1 0 1 false; numbers = None } ∷ [])
+    ≡ codes "soak rounds=1 turns=4 boots=2 losses=1 fallbacks=0 sends=0 bank=0 version=1 counter=1\n")
     × (soak_line 2 (record { call = call.Send (codes "g1") 1; reply = reply.Sent 3 0; numbers = None }
-      ∷ record { call = call.Boot; reply = reply.Booted 1 2 1 1 false; numbers = None }
-      ∷ record { call = call.Boot; reply = reply.Booted 0 1 3 1 true; numbers = None } ∷ [])
-      ≡ codes "soak rounds=2 turns=3 boots=2 losses=0 fallbacks=1 sends=1 bank=0 version=1 counter=1\n")
+    ∷ record { call = call.Boot; reply = reply.Booted 1 2 1 1 false; numbers = None }
+    ∷ record { call = call.Boot; reply = reply.Booted 0 1 3 1 true; numbers = None } ∷ [])
+    ≡ codes "soak rounds=2 turns=3 boots=2 losses=0 fallbacks=1 sends=1 bank=0 version=1 counter=1\n")
 unfolding totals_of digits
 lines = (refl, refl, refl, refl)

@@ -7,7 +7,7 @@ use Rattle.wire_frames.specs.{declared.exchange.Admission.Admission, declared.st
 use Rattle.wire_frames.specs.Exchange.{admission, LastAnswer}
 use Rattle.wire_frames.specs.Frames.{AreBodies, IsBody, frame, frames, request_number_of, numbered, message_of}
 use Rattle.wire_frames.specs.Stream.{ReadsFrame, StopsReading, most_bytes, stop_faults}
-use Rattle.wire_frames.proofs.Once.{Admits, admits, next, again, other}
+use Rattle.wire_frames.proofs.Once.{Admits, admits}
 use Rattle.fwu_model.specs.{Reply.Turn, Call.Call, Run.ends_run}
 use Rattle.fwu_wire.specs.Replies.{message}
 use Rattle.std.specs.{List.list_any, Io.KnownBytes.Appends, Io.KnownBytes.Consumes}
@@ -42,12 +42,12 @@ last-more last (b ∷ bodies) body = last-more (last_next last b) bodies body
 -- ---- the numbers that are answered
 
 next-grows : (last : ℕ) (body : List ℕ) → last ≤ last_next last body
-next-grows last body = by (admits last (request_number_of body))
+next-grows last body = by (admission last (request_number_of body)) (admits last (request_number_of body))
   where
-    by : Admits last (request_number_of body) → last ≤ last_next last body
-    by (next is number) = subst (λ (a : Admission). last ≤ last_by a last (request_number_of body)) (sym is) (omega (arith, number))
-    by (again is number some) = subst (λ (a : Admission). last ≤ last_by a last (request_number_of body)) (sym is) (omega arith)
-    by (other is) = subst (λ (a : Admission). last ≤ last_by a last (request_number_of body)) (sym is) (omega arith)
+    by : (a : Admission) → Admits last (request_number_of body) a → last ≤ last_by a last (request_number_of body)
+    by Acts number = omega (arith, number)
+    by Repeats same = omega arith
+    by Ignored none = omega arith
 
 last-grows : (last : ℕ) (bodies : List (List ℕ)) → last ≤ last_after last bodies
 last-grows last [] = omega arith
@@ -61,16 +61,18 @@ Within k (n ∷ ns) = (1 ≤ n) × (n ≤ k) × Within k ns
 pub answered-within : (last : ℕ) (bodies : List (List ℕ)) → Within (last_after last bodies) (answered_numbers last bodies)
 unfolding Within
 answered-within last [] = tt
-answered-within last (body ∷ bodies) = by (admits last (request_number_of body)) (λ at. answered-within at bodies)
+answered-within last (body ∷ bodies) =
+    by (admission last (request_number_of body)) (admits last (request_number_of body)) (λ at. answered-within at bodies)
   where
     all : Admission → Type 0
     all a = Within (last_after (last_by a last (request_number_of body)) bodies) (number_by a last (request_number_of body) ++ answered_numbers (last_by a last (request_number_of body)) bodies)
 
-    by : Admits last (request_number_of body) → ((at : ℕ) → Within (last_after at bodies) (answered_numbers at bodies)) → all (admission last (request_number_of body))
-    by (next is number) rest =
-        subst all (sym is) (let few = last-grows (request_number_of body) bodies in (omega (arith, number), omega (arith, few), rest (request_number_of body)))
-    by (again is number some) rest = subst all (sym is) (let few = last-grows last bodies in (some, omega (arith, few), rest last))
-    by (other is) rest = subst all (sym is) (rest last)
+    by : (a : Admission) → Admits last (request_number_of body) a
+        → ((at : ℕ) → Within (last_after at bodies) (answered_numbers at bodies)) → all a
+    by Acts number rest =
+        let few = last-grows (request_number_of body) bodies in (omega (arith, number), omega (arith, few), rest (request_number_of body))
+    by Repeats same rest = let few = last-grows last bodies in (same.1, omega (arith, few), rest last)
+    by Ignored none rest = rest last
 
 -- ---- the frames
 
@@ -245,15 +247,15 @@ module _ (E : Scene) (first : List Turn) (start : TurnMoment) (off : start.on �
   new-on result is number (stopped e stop ends same_exchange same_sink) goes = absurd (cc)
 
   pub one-on : (result : Result (Unit {0}) ServeEnd) → ServesOne E body mid new result → result ≡ Ok tt → ServesRequests E first start (bodies ++ body ∷ []) old new
-  one-on result serves goes = by (admits mid.exchange.last (request_number_of body))
+  one-on result serves goes =
+      by (admission mid.exchange.last (request_number_of body)) refl (admits mid.exchange.last (request_number_of body)) serves
     where
-      as-so : (a : Admission) → admission mid.exchange.last (request_number_of body) ≡ a → ServesBy a E body mid new result
-      as-so a is = subst (λ (x : Admission). ServesBy x E body mid new result) is serves
-
-      by : Admits mid.exchange.last (request_number_of body) → ServesRequests E first start (bodies ++ body ∷ []) old new
-      by (next is number) = new-on result is number (as-so Acts is) goes
-      by (again is number some) = repeats-on is some result (as-so Repeats is) goes
-      by (other is) = ignored-on is (as-so Ignored is).0
+      by : (a : Admission) → admission mid.exchange.last (request_number_of body) ≡ a
+          → Admits mid.exchange.last (request_number_of body) a → ServesBy a E body mid new result
+          → ServesRequests E first start (bodies ++ body ∷ []) old new
+      by Acts is number served = new-on result is number served goes
+      by Repeats is same served = repeats-on is same.1 result served goes
+      by Ignored is none served = ignored-on is served.0
 
 -- ---- what a serving's loop keeps
 

@@ -16,12 +16,12 @@ use Rattle.wire_frames.proofs.Places.{get-cases, get-keeps, get-seam, get-taken,
 -- ---- what becomes of a request
 
 -- what its number is then
-abbrev Admits : ℕ → ℕ → Admission → Type 0
+abbrev pub Admits : ℕ → ℕ → Admission → Type 0
 Admits last number Acts = number ≡ last + 1
 Admits last number Repeats = (number ≡ last) × (1 ≤ last)
 Admits last number Ignored = ⊤
 
-admits : (last number : ℕ) → Admits last number (admission last number)
+pub admits : (last number : ℕ) → Admits last number (admission last number)
 admits last number = first (number == last + 1) refl
   where
     second : (b : Bool) → ((number == last) && not (number == 0)) ≡ b → Admits last number (cond b Repeats Ignored)
@@ -316,7 +316,7 @@ module _ (w : WireWorld) (h : Holds w) where
       same_Some r.pair.request (body_of w.client.request) (sym asked_at ∙ ap (slice_get w.asked) last_at ∙ h.asked.opened waits) in
       let pair : Pair = record { request = body_of w.client.request; reply = body_of bytes } in
       let pair_is : r.pair ≡ pair = ap (λ (q : List ℕ). record { request = q; reply = r.pair.reply }) request_is
-          ∙ ap (λ (q : List ℕ). record { request = body_of w.client.request; reply = q }) (sym reply_is) in
+      ∙ ap (λ (q : List ℕ). record { request = body_of w.client.request; reply = q }) (sym reply_is) in
       let at : slice_get w.acted (length w.taken) ≡ Some pair = ap (slice_get w.acted) (sym at_taken) ∙ r.at ∙ ap Some pair_is in
       let within = slice_get_within w.acted (length w.taken) pair at in
       let more : length (w.taken ++ pair ∷ []) ≡ length w.taken + 1 = length_push w.taken pair in

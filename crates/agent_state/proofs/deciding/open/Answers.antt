@@ -7,8 +7,8 @@ use Rattle.agent_state.proofs.deciding.open.Goals as goal
 pub returns-then-not-is-clause-decides : goal.returns-then-not-is-clause-decides
 returns-then-not-is-clause-decides c = λ m boot passes counter E s staged bytes speaks fits.
     replies.open-unknown E s boot _ _ bytes c.args.guid.now c.args.op c.args.total
-        (ap (λ (l : List ImageRow). find_image l c.args.guid.now) (sym speaks.rows) ∙ sym c.find.ensures.value ∙ c.in-None.is)
-        (sym (c.is.ensures ∙ ap (same_bytes c.args.guid.now) c.directory_guid.ensures) ∙ c.if-not-is.true)
+    (ap (λ (l : List ImageRow). find_image l c.args.guid.now) (sym speaks.rows) ∙ sym c.find.ensures.value ∙ c.in-None.is)
+    (sym (c.is.ensures ∙ ap (same_bytes c.args.guid.now) c.directory_guid.ensures) ∙ c.if-not-is.true)
 
 pub returns-in-Some-clause-decides : goal.returns-in-Some-clause-decides
 returns-in-Some-clause-decides c = c.open_image.ensures.decides c.args.guid.now (sym c.find.ensures.value ∙ c.in-Some.is)

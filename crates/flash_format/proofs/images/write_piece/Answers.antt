@@ -27,7 +27,7 @@ returns-in_err-program-clause-writes g c =
     let at = 4096 * c.args.block in
     let bytes = take c.in-Ok.size c.read_piece.new.out in
     let size : length bytes ≤ 4096 =
-        omega (arith, length-take-le c.in-Ok.size c.read_piece.new.out (omega (arith, c.in-Ok.ensures.some, c.in-Ok.ensures.buffer)), c.in-Ok.ensures.some) in
+    omega (arith, length-take-le c.in-Ok.size c.read_piece.new.out (omega (arith, c.in-Ok.ensures.some, c.in-Ok.ensures.buffer)), c.in-Ok.ensures.some) in
     record {
       keeps = λ tells.
           let s = g.D.Flash.told c.args.flash.now in
@@ -49,7 +49,7 @@ returns-clause-writes g c =
     let at = 4096 * c.args.block in
     let bytes = take c.in-Ok.size c.read_piece.new.out in
     let size : length bytes ≤ 4096 =
-        omega (arith, length-take-le c.in-Ok.size c.read_piece.new.out (omega (arith, c.in-Ok.ensures.some, c.in-Ok.ensures.buffer)), c.in-Ok.ensures.some) in
+    omega (arith, length-take-le c.in-Ok.size c.read_piece.new.out (omega (arith, c.in-Ok.ensures.some, c.in-Ok.ensures.buffer)), c.in-Ok.ensures.some) in
     record {
       keeps = λ tells.
           let s = g.D.Flash.told c.args.flash.now in
