@@ -27,7 +27,7 @@ pub record HasMetadata (image : List ℕ) : Type 0 where
 pub record ShowedBy (tells : Bool) (g : Given) (ending : Ending Note) (old new : World) : Type 0 where
   pub showed : Showed tells g old new ending.status ending.noted
   pub refuses_list : RefusesBadList g old.flash new.flash ending.status old.faults new.faults
-  -- on any device no block is erased or programmed
+  -- on any device that counts its writes no block is erased or programmed
   pub writes : new.flash.writes ≡ old.flash.writes
   pub content : IsTrue tells → NothingDirty old.flash.told → new.flash.told ≡ old.flash.told
   pub guard : IsTrue tells → new.flash.told.guard ≡ old.flash.told.guard

@@ -214,7 +214,8 @@ pub record RunsByTable (passes : List ℕ → Bool) (device : Device) (inputs : 
   pub starts : Starts device.tells device.blocks old.flash places start
   -- no turn changed anything besides the three partitions, and nothing there is unsure
   pub beside : IsTrue device.tells → Beside places start.told new.flash.told
-  -- on any device no turn erased or programmed a block besides them, and what came before the turns none of theirs
+  -- On any device that counts its writes: no turn erased or programmed a block besides them, and what came before the turns
+  -- none of theirs.
   pub touches : TouchesPlaces places start.writes new.flash.writes
   pub unwritten : writes_seen places start.writes ≡ writes_seen places old.flash.writes
   -- where nothing was dirty the flash is at the start what it was when it was handed in

@@ -58,7 +58,7 @@ pub fn fwu_top_with<D: Flash, H: Files, I: Source, O: Sink, V: Verifier>(
 
 /// `fwu_top_with` for any manifest, or where the words begin with `--allow FILE`, for those whose digests that file lists. A list
 /// that isn't there or can't be read is answered by status 2, and one with a bad line by 13, before the other words are looked
-/// at.
+/// at. (That such a list is answered so is a clause where the files tell what they hold. The system's files don't.)
 pub fn fwu_top<D: Flash, H: Files, I: Source, O: Sink>(
     alloc: Global,
     words: &[String],

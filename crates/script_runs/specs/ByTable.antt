@@ -92,7 +92,7 @@ pub record Starts (tells : Bool) (blocks : ℕ) (old : TurnMoment) (p : Places)
   pub mends : IsTrue tells → HeadersGuarded blocks woken → MendsTable {T = Unit {0}} (Ok tt) blocks has.table start.told
   -- but for the copy that was repaired nothing changed
   pub beside : IsTrue tells → StaysBeside blocks has.table has.which woken start.told
-  -- and on any device no other block was erased or programmed
+  -- and on any device that counts its writes no other block was erased or programmed
   pub touches : TouchesToMend blocks has.table has.which old.writes start.writes
   pub clean : IsTrue tells → NothingDirty start.told
   pub waits : Waits 0 old start

@@ -99,7 +99,7 @@ pub record BootsAs (passes : List ℕ → Bool) (tells : Bool) (old : TurnMoment
   pub idle : IdleEnd end mid.armed new.armed mid.counts new.counts
   -- by the repair of the metadata, and by what the start is counted as; a loss that is armed stays so while power comes back
   pub spent : TakesBoot end old.armed new.armed
-  -- on any device: no block was erased or programmed but these, which are of blocks 1 to 3, 5 and 6
+  -- on any device that counts its writes: no block was erased or programmed but these, which are of blocks 1 to 3, 5 and 6
   pub touches : TouchesBoot end mid.writes new.writes
   pub started : StartedBy end
   pub permitted : StartsPermitted passes end

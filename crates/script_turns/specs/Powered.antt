@@ -73,7 +73,7 @@ moment_of p = moment_in (the p.inside p.there)
 -- the device is as it was
 pub record SameDevice (old new : TurnMoment) : Type 0 where
   pub told : new.told ≡ old.told
-  -- nothing was erased or programmed, also on a device that tells no content
+  -- nothing was erased or programmed, on a device that counts that, also where it tells no content
   pub writes : new.writes ≡ old.writes
   pub counts : new.counts ≡ old.counts
   pub armed : new.armed ≡ old.armed

@@ -108,7 +108,7 @@ pub record Ran (passes : List ℕ → Bool) (tells : Bool) (files : Option Direc
   pub fault_turns : (t : Turn) → Contains journal t → t.reply ≡ reply.Fault → Rose old.counts.faults new.counts.faults
   pub unread_turns : (t : Turn) → Contains journal t → t.reply ≡ reply.ReadFault → FileNotRead files from to t.call
   pub later : from ≤ to
-  -- on any device: which blocks were erased or programmed
+  -- on any device that counts its writes: which blocks were erased or programmed
   pub touches : RunTouches journal old new
   -- what each of them did, on any device
   pub follows : Follows passes tells files journal old new from to

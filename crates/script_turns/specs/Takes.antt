@@ -1,6 +1,6 @@
--- What an armed loss counts of a turn, on any device. "Did nothing" says of each device, also of one that tells no content, that
--- nothing was erased or programmed, and that its counts, its power and the armed loss stay. "Wrote nothing" says of the armed loss
--- alone that it stays.
+-- What an armed loss counts of a turn, on any device. "Did nothing" says of each device, also of one that tells no content, that its
+-- counts, its power and the armed loss stay, and that nothing was erased or programmed, where the device counts that. "Wrote
+-- nothing" says of the armed loss alone that it stays.
 use Rattle.std.specs.Prelude.{◌≡◌, ◌⊎◌, ℕ, ◌+◌, ◌-◌, Bool, true, false, List, length, Option, Some, None, Result, Ok, Err, ⊤}
 use Rattle.flash_core.specs.declared.flash.FlashStop.{FlashStop}
 use Rattle.flash_core.specs.declared.flash.FlashStop.TheVariants as flash_stop

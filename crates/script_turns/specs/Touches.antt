@@ -1,4 +1,5 @@
--- Which blocks a turn erases or programs, on every device, whatever its reads give, and which metadata decides after it.
+-- Which blocks a turn erases or programs, on every device that counts its writes, whatever its reads give.
+-- And which metadata decides after it.
 use Rattle.std.specs.Prelude.{◌≡◌, ℕ, ◌*◌, Option, Some, None, ◌⊎◌}
 use Rattle.base_core.specs.Block.{block_bytes}
 use Rattle.flash_core.specs.{Touches.TouchesOnly, Told.Told}
@@ -9,7 +10,7 @@ use Rattle.agent_machine.specs.{Beside.SparesBlocks, Beside.SparesBlocksByAll, F
 use Rattle.agent_calls.specs.Metas.{meta_accepted, meta_back, meta_begun, meta_ended}
 use Rattle.script_turns.specs.Powered.{TurnMoment}
 
--- ---- which blocks a turn erases or programs, on every device, whatever its reads give
+-- ---- which blocks a turn erases or programs, on every device that counts its writes, whatever its reads give
 
 -- A boot: the replicas, in blocks 1 and 2, the marks of starts on trial, in block 3, and the records, in blocks 5 and 6. The
 -- counter's marks, in block 4, stay.

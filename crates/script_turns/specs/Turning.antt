@@ -48,7 +48,7 @@ pub record Turns (passes : List ℕ → Bool) (tells : Bool) (files : Option Dir
   -- on any device: the reply, what the agent keeps, and what an armed loss counts
   pub replies : Replies passes tells files c old t new
   pub takes : TakesTurn files c old t.reply new was are
-  -- on any device: which blocks are erased or programmed
+  -- on any device that counts its writes: which blocks are erased or programmed
   pub touches : Touches c old new
   pub power : new.power ≡ power_after old.power t.reply
   -- no call changes which blocks are guarded
