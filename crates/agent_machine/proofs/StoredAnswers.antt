@@ -1,5 +1,5 @@
 -- What the machine answers where a decision of a begin, an accept or a previous is no refusal.
-use Rattle.std.proofs.Common.{◌≡◌, ℕ, Bool, true, false, ◌&&◌, not, ◌==◌, cond, List, [], ◌∷◌, Option, Some, None, refl, sym, ap, ◌∙◌, IsTrue, eqb-true, inl, inr}
+use Rattle.std.proofs.Common.{◌≡◌, ℕ, Bool, true, false, ◌&&◌, not, ◌==◌, cond, List, [], ◌∷◌, Option, Some, None, refl, sym, ap, ◌∙◌, IsTrue, eqb-true, inl, inr, get_or}
 use Rattle.std.proofs.lemmas.Bool.{cases_Bool, and_parts, cond-true, cond-false, not-false}
 use Rattle.fwu_formats.specs.Layout.{find_image}
 use Rattle.fwu_model.specs.{declared.kinds.Status.Status, Sound.Setting, Reply.Success}
