@@ -5,7 +5,7 @@ use Rattle.host_io.specs.Contents.{Directory}
 use Rattle.fwu_formats.specs.{Layout.ImageRow, Package.Toc}
 use Rattle.fwu_model.specs.{State.State, State.bank, State.update_bank, Sound.Setting, Reply.Reply}
 use Rattle.fwu_model.specs.Session.{Session, Off, On, no_handles}
-use Rattle.fwu_model.specs.Answer.{Answer, answer, answered, images_of, send_package}
+use Rattle.fwu_model.specs.Answer.{Answer, answer, answered, images_of, send_package, skipped}
 use Rattle.fwu_model.specs.Call as call
 use Rattle.fwu_model.specs.Reply as reply
 use Rattle.fip_tables.specs.Files.{Tells}
