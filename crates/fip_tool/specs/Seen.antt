@@ -7,7 +7,8 @@ use Rattle.host_io.specs.Contents.{Directory}
 use Rattle.host_io.specs.declared.files.Files as files
 use Rattle.host_io.specs.declared.source.Source as source
 use Rattle.host_io.specs.declared.sink.Sink as sink
-use Rattle.fip_tool.specs.{Ends.Reported, Ends.exit_status, Said.IsTextsOf, Said.Says, Said.SaysAll, Said.SinkAlone}
+use Rattle.fip_tool.specs.{Ends.CommandEnded, Ends.Reported, Ends.exit_status, Said.IsTextsOf, Said.Says, Said.SaysAll}
+use Rattle.fip_tool.specs.Said.{SinkAlone}
 use Rattle.fip_tool.specs.{Tool.IsReadFor, Tool.given_value, Tool.no_files, Tool.prints, Wrote.CommandWrote, Wrote.WroteFor}
 use Rattle.fip_tool.specs.Steps.{Did, CommandPlan, MayTear, PrintedText, outcome_by}
 use Rattle.fip_making.specs.{Stops.status_number, Values.StopsInTime, declared.stops.Stop.Stop}
@@ -71,3 +72,8 @@ ReadSourceIn i o told now source-old source-new old new result =
     (given : List ℕ) × StopsInTime given × (now ≡ told) × IsReadFor result (i.left source-old) (i.left source-new) given
     × Did (outcome_by prints (given_value given)) no_files (Some no_files) (o.taken old) (o.taken new)
     (Rose (i.faults source-old) (i.faults source-new)) ⊥ (Rose (o.faults old) (o.faults new)) result
+
+abbrev pub EndedIn : {H O : Type 0} → files.Ghosts H → sink.Ghosts O → CommandPlan → Directory → H → H → O → O → ℕ → Type 0
+EndedIn h o outcome told files-old files-new old new status =
+    CommandEnded outcome told (h.contents files-new) (o.taken old) (o.taken new) (Rose (h.faults files-old) (h.faults files-new))
+    (MayTear (h.writes files-old) (h.writes files-new)) (Rose (o.faults old) (o.faults new)) status

@@ -11,9 +11,9 @@ ghost use Rattle.fip_words.specs.Order.{FipAsked, asked, info_of_source, view};
 ghost use Rattle.fip_words.specs.Values.{is_unpacked};
 ghost use Rattle.fip_tool.specs.Converted.{Converts};
 ghost use Rattle.fip_tool.specs.Done.{CommandDone, DoneWithFiles, DoneWithSource, RefusesAlone};
-ghost use Rattle.fip_tool.specs.Ends.{CommandEnded, Reported, StopTold};
-ghost use Rattle.fip_tool.specs.Seen.{SaidWithIn, SinkAloneIn, WroteWithIn};
-ghost use Rattle.fip_tool.specs.Steps.{FailsAtMostOnce, FailsOnceAt, MayTear, line_failures, sink_failed};
+ghost use Rattle.fip_tool.specs.Ends.{Reported, StopTold};
+ghost use Rattle.fip_tool.specs.Seen.{EndedIn, SaidWithIn, SinkAloneIn, WroteWithIn};
+ghost use Rattle.fip_tool.specs.Steps.{FailsAtMostOnce, FailsOnceAt, line_failures, sink_failed};
 ghost use Rattle.fip_tool.specs.Tool.{EndedSource, asks_files, outcome_of};
 ghost use Rattle.fip_making.specs.declared.stops.Stop.TheVariants as stop;
 ghost use Rattle.fip_making.specs.declared.stops.Stop.TheVariants.{SinkFault};
@@ -167,9 +167,8 @@ pub fn fip_top<H: Files, I: Source, O: Sink>(
     // What was done is the first ones of the command's steps. Only where a writing may have torn its file is that other than they
     // leave it.
     ensures told { (told : Directory) → H.contents files.old ≡ Some told → asked (map string_bytes words.now) ≢ Some info_of_source
-        → CommandEnded (outcome_of (asked (map string_bytes words.now)) told) told (H.contents files.new)
-        (O.taken sink.old) (O.taken sink.new) (Rose (H.faults files.old) (H.faults files.new))
-        (MayTear (H.writes files.old) (H.writes files.new)) (Rose (O.faults sink.old) (O.faults sink.new)) result }
+        → EndedIn H.Files O.Sink (outcome_of (asked (map string_bytes words.now)) told) told
+        files.old files.new sink.old sink.new result }
     ensures source { asked (map string_bytes words.now) ≡ Some info_of_source
         → EndedSource result (H.contents files.old) (H.contents files.new) (I.left source.old) (I.left source.new)
         (O.taken sink.old) (O.taken sink.new) (Rose (I.faults source.old) (I.faults source.new))

@@ -1,5 +1,5 @@
 -- What a run wrote, whichever way it ended.
-use Rattle.std.proofs.Common.{◌≡◌, ℕ, List, ◌++◌, take, drop, Option, Some, None, refl, sym, ap, subst, ◌∙◌, inl, inr, IsTrue, IsFalse, arith, append-nil, []}
+use Rattle.std.proofs.Common.{◌≡◌, ℕ, Bool, List, ◌++◌, take, drop, Option, Some, None, refl, sym, ap, subst, ◌∙◌, inl, inr, IsTrue, IsFalse, arith, append-nil, []}
 use Rattle.std.specs.Io.KnownBytes.{Appends}
 use Rattle.std.proofs.{lemmas.Bool.false≢true, lemmas.List.take-append-drop, lemmas.Option.same_Some}
 use Rattle.fwu_model.specs.{declared.kinds.Note.Note, Reply.Turn, Text.text, Allow.list_bytes, Causes.Faults}

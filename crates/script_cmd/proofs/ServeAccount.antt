@@ -16,7 +16,6 @@ use Rattle.wire_frames.specs.Frames.{frame, frames, request_number_of, numbered}
 use Rattle.wire_frames.specs.declared.exchange.Admission.TheVariants.{Acts, Repeats, Ignored}
 use Rattle.wire_frames.specs.declared.stream.FrameStop.TheVariants as stop
 use Rattle.wire_frames.proofs.Once.{Admits, admits}
-use Rattle.wire_frames.proofs.Once as once
 use Rattle.serving.specs.Serving.{OneStop, Puts, ServesAgain, ServesBy, ServesNew, ServesOne, answered, stopped}
 use Rattle.serving.specs.Serving as acts
 use Rattle.serving.specs.{Ends.IsEarlyEnd, Ends.end_by, Ends.end_of_stop, Ends.status_of, declared.ends.ServeEnd.ServeEnd}
@@ -188,17 +187,16 @@ new-last E number c e turns old new early is (stopped why stops_by same_end exch
 no-answer : (e : ServeEnd) → ◌≡◌ {A = Result (Unit {0}) ServeEnd} (Err e) (Ok tt) → ⊥
 no-answer e is = cc
 
-one-last : (E : Scene) (body : List ℕ) (e : ServeEnd) (bodies : List (List ℕ)) (turns : List Turn) (old new : At) → IsEarlyEnd e → AnswersRequests bodies turns old.exchange → Admits old.exchange.last (request_number_of body) → ServesOne E body old new (Err e)
-    → Last e turns old new
-one-last E body e bodies turns old new early answers (once.next so number) serves =
-    new-last E (request_number_of body) _ e turns old new early (omega (arith, number, answers.count)) (subst (λ (a : Admission). ServesBy a E body old new (Err e)) so serves)
-one-last E body e bodies turns old new early answers (once.again so number some) serves =
-    let puts : ServesAgain old new (Err e) = subst (λ (a : Admission). ServesBy a E body old new (Err e)) so serves in
-    put-last e turns [] old new old.exchange.reply early (ap (λ (r : RunAt). r.journal) puts.run ∙ sym (append-nil old.run.journal))
-    (answers.kept some ∙ ap (λ (n : ℕ). frame_of (messages_of turns) n) (sym answers.count) ∙ ap last_frame (sym (append-nil turns))) puts.puts
-one-last E body e bodies turns old new early answers (once.other so) serves =
-    let both : (new ≡ old) × (◌≡◌ {A = Result (Unit {0}) ServeEnd} (Err e) (Ok tt)) = subst (λ (a : Admission). ServesBy a E body old new (Err e)) so serves in
-    absurd (no-answer e both.1)
+one-last : (E : Scene) (body : List ℕ) (e : ServeEnd) (bodies : List (List ℕ)) (turns : List Turn) (old new : At) → IsEarlyEnd e
+    → AnswersRequests bodies turns old.exchange → (a : Admission) → Admits old.exchange.last (request_number_of body) a
+    → ServesBy a E body old new (Err e) → Last e turns old new
+one-last E body e bodies turns old new early answers Acts number serves =
+    new-last E (request_number_of body) _ e turns old new early (omega (arith, number, answers.count)) serves
+one-last E body e bodies turns old new early answers Repeats same serves =
+    put-last e turns [] old new old.exchange.reply early (ap (λ (r : RunAt). r.journal) serves.run ∙ sym (append-nil old.run.journal))
+    (answers.kept same.1 ∙ ap (λ (n : ℕ). frame_of (messages_of turns) n) (sym answers.count)
+    ∙ ap last_frame (sym (append-nil turns))) serves.puts
+one-last E body e bodies turns old new early answers Ignored none serves = absurd (no-answer e serves.1)
 
 -- ---- what was taken of the source
 
@@ -271,7 +269,8 @@ by-ends : (E : Scene) (t : Turn) (start : TurnMoment) (old new : At) (e : ServeE
 by-ends E t start old new e from to (at_the_end bodies mid why goes takes there is) = by-stream E t start old new e from to bodies mid there.taken why goes takes there.stops is
 by-ends E t start old new e from to (at_a_request bodies body mid goes takes count one early) =
     by-request E t start old new e from to bodies body mid goes takes early
-    (one-last E body e bodies goes.turns mid new early goes.answers (admits mid.exchange.last (request_number_of body)) one)
+    (one-last E body e bodies goes.turns mid new early goes.answers (admission mid.exchange.last (request_number_of body))
+    (admits mid.exchange.last (request_number_of body)) one)
 
 pub account : (E : Scene) (start : TurnMoment) (sink : Port) (new : At) (e : ServeEnd) (from to : Port) → ServesFrom E start sink new e from to → Account from.bytes to.bytes e new.run.journal sink.bytes new.sink.bytes
 account E start sink new e from to (not_started stops exchange same unread) = by-stop E start sink new e from.bytes to.bytes stops same

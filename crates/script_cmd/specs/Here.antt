@@ -56,7 +56,14 @@ world d h i o flash files source sink =
       faults = faults_of h.faults i.faults o.faults files source sink;
     }
 
--- what was answered, by the manifests of a list that was read
+-- what was answered, for the manifests that pass
+abbrev pub AnsweredHere : {D H I O : Type 0} → flash.Ghosts D → files.Ghosts H → source.Ghosts I → sink.Ghosts O
+    → (List ℕ → Bool) → Inputs → D → H → I → O → Done D → H → I → O → Type 0
+AnsweredHere d h i o passes inputs flash files source sink done files_after source_after sink_after =
+    Answered passes (device_of d flash) inputs (ending done) (world d h i o flash files source sink)
+    (world d h i o done.flash files_after source_after sink_after) (i.left source_after) files files_after source source_after
+
+-- and by the manifests of a list that was read
 abbrev pub AnswersHere : {D H I O : Type 0} → flash.Ghosts D → files.Ghosts H → source.Ghosts I → sink.Ghosts O
     → ((List ℕ → Bool) → Type 0) → Inputs → D → H → I → O → Done D → H → I → O → Type 0
 AnswersHere d h i o Has inputs flash files source sink done files_after source_after sink_after =

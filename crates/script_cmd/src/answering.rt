@@ -4,11 +4,10 @@ ghost use Rattle.host_io.specs.Once.{ReadsOnce};
 ghost use Rattle.host_io.specs.Reads.{ReadsFiles};
 ghost use Rattle.fwu_model.specs.Allow.{asks_list, list_name};
 ghost use Rattle.fwu_words.specs.Order.{asked};
-ghost use Rattle.script_cmd.specs.Here.{Answered, AnswersHere, world};
+ghost use Rattle.script_cmd.specs.Here.{AnsweredHere, AnswersHere};
 ghost use Rattle.script_cmd.specs.Handed.{listed, unlisted, inputs_of};
 ghost use Rattle.script_cmd.specs.ReadsInputs.{IsUnasked};
 ghost use Rattle.script_runs.specs.Ending.{ending};
-ghost use Rattle.script_runs.specs.Ways.{device_of};
 ghost use Rattle.script_cmd.specs.ByList.{HasPasses, ReadsList};
 
 use crate::serving_command::serve_source;
@@ -32,11 +31,9 @@ pub fn answer_with<D: Flash, H: Files, I: Source, O: Sink, V: Verifier>(
 ) -> Done<D>
     requires off { IsFalse (D.on board.flash) }
     requires unarmed { D.arming board.flash ≡ None }
-    ensures answers { Answered (V.passes board.entry.verifier.now) (device_of D.Flash board.entry.flash)
-        (unlisted H.Files I.Source (map string_bytes words.now) files.old source.old) (ending result)
-        (world D.Flash H.Files I.Source O.Sink board.entry.flash files.old source.old sink.old)
-        (world D.Flash H.Files I.Source O.Sink result.flash files.new source.new sink.new)
-        (I.left source.new) files.old files.new source.old source.new }
+    ensures answers { AnsweredHere D.Flash H.Files I.Source O.Sink (V.passes board.entry.verifier.now)
+        (unlisted H.Files I.Source (map string_bytes words.now) files.old source.old)
+        board.entry.flash files.old source.old sink.old result files.new source.new sink.new }
     ensures reads { ReadsFiles H.Files (IsUnasked (unlisted H.Files I.Source (map string_bytes words.now) files.old source.old)
         (ending result).journal) files.old files.new }
     ensures once { ReadsOnce I.Source source.old source.new }
@@ -58,6 +55,7 @@ pub fn answer_with<D: Flash, H: Files, I: Source, O: Sink, V: Verifier>(
 }
 
 /// The words behind `--allow`: the name of a list, and what follows.
+#[derive(Clone, Copy)]
 struct Listed<'a> {
     name: &'a str,
     rest: &'a [String],
