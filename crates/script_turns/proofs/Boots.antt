@@ -19,7 +19,7 @@ use Rattle.early_boot.specs.Started.{Started, started_session}
 use Rattle.early_boot.specs.Ends.{Ended, booted, bad_layout, no_metadata, no_bank, lost, failed, stop_of}
 use Rattle.early_boot.specs.EndsBy.{BootEnds, EndsByBytes, EndsByMachine, IdleEnd, StartsReady, StopsWith, StartedBy, StartsPermitted, TakesBoot, TakesByBytes, TouchesBoot}
 use Rattle.script_turns.specs.{Powered.TurnMoment, Powered.IsAt, Powered.IsSafe, Powered.ShowsAt, Boots.BootsFrom, Replies.LeavesOn}
-use Rattle.script_turns.specs.{Replies.power_after, Takes.StaysFree, Takes.TakesBy, Takes.stop_told, Touches.TouchesByBoot}
+use Rattle.script_turns.specs.{Replies.power_after, Takes.TakesBy, Takes.stop_told, Touches.TouchesByBoot}
 use Rattle.script_turns.specs.Turning.{NoneFalls, Turns, GetsPower, IsOnAfter, ShowsStarted, boot_turn, reply_of_end}
 use Rattle.script_turns.proofs.{RunTurns.rose-after, RunTurns.rose-before, Touching.touches-booted}
 use Rattle.script_turns.proofs.Staying.{as-told, among, falls-same, safe-by, same-guards}
@@ -206,7 +206,8 @@ reached-had tells None old mid has = has.idles.reached
 reached-had tells (Some f) old mid has = ap (λ (c : Counts). c.reached) has.counts
 
 boots-free : (e : Ended) (old mid new : TurnMoment) → mid.armed ≡ old.armed → old.counts.cuts ≤ mid.counts.cuts → mid.counts.reached ≡ old.counts.reached
-    → StaysUnarmed (stop_of e) mid.armed new.armed mid.counts new.counts → StaysFree (reply_of_end e) old new
+    → StaysUnarmed (stop_of e) mid.armed new.armed mid.counts new.counts
+    → StaysUnarmed (stop_told (reply_of_end e)) old.armed new.armed old.counts new.counts
 boots-free e old mid new armed cuts reached unarmed = record {
   spent = λ lost. unarmed.spent (subst (λ (x : Result (Unit {0}) FlashStop). IsErrOf x flash_stop.Lost) (sym (stop-of-reply e)) lost);
   free = λ none.
@@ -356,7 +357,7 @@ module _ (passes : List ℕ → Bool) (tells : Bool) (files : Option Directory) 
       }
     where
       takes : (o : Option Fields) → TakesBy files call.Boot o old (reply_of_end e) new
-      takes None = tt
+      takes None = λ no. absurd cc
       takes (Some f) = tt
 
       guard : IsTrue tells → new.told.guard ≡ mid.told.guard

@@ -29,9 +29,9 @@ use Rattle.agent_machine.specs.Meets.{Answers, IsDone, IsSettingOf, LeavesFlash,
 use Rattle.agent_calls.specs.AnswersCall.{AnswersCall, GoesBackBy, IsDecided, IsPreviousCall, IsReplyOf, PermitsBack}
 use Rattle.script_turns.specs.Powered.{TurnMoment, IsAt, IsSafe, at, kept_at}
 use Rattle.script_turns.specs.Replies.{AnswersBegin, AnswersTo, CallSays, IsFlashStop, Replies, power_after}
-use Rattle.script_turns.specs.{Takes.TakesOn, Takes.stop_told, Calls.is_agents, Calls.is_composed, Calls.on_by, Calls.reply_by}
+use Rattle.script_turns.specs.{Takes.TakesOn, Takes.stop_told, Calls.is_agents, Calls.is_composed, Calls.reply_by}
 use Rattle.script_turns.specs.{Touches.DecidesAfter, Touches.IsMetaAfter, Turning.Makes, Turning.Turns, Turning.quiet_turn}
-use Rattle.script_turns.proofs.{Quiets.lacks-none, Touching.touches-called}
+use Rattle.script_turns.proofs.{CallTakes.on_by, Quiets.lacks-none, Touching.touches-called}
 use Rattle.script_turns.proofs.Staying.{among, no-numbers, no-stop, safe-by, same-guards, as-told, shows-as, told-shows}
 
 -- ---- the calls of the agent

@@ -22,9 +22,9 @@ use Rattle.fwu_journal.specs.Shown.{IsShortReply, turn}
 use Rattle.script_text.specs.Shown.{shown}
 use Rattle.script_text.specs.declared.call.Call.TheVariants as variant
 use Rattle.script_turns.specs.{Touches.IsMetaAfter, Powered.TurnMoment, Powered.SameDevice, Stage.on_where, Takes.TakesOn}
-use Rattle.script_turns.specs.{Calls.is_there, Calls.moment_where, Calls.on_by, Calls.open_call, Calls.reply_by, Turned.IsCallTurn}
+use Rattle.script_turns.specs.{Calls.is_there, Calls.moment_where, Calls.open_call, Calls.reply_by, Turned.IsCallTurn}
 use Rattle.script_turns.specs.{Turned.LeavesAgent, Turning.Turns, Turning.quiet_turn, declared.turned.AgentTurn.AgentTurn}
-use Rattle.script_turns.proofs.CallTakes.{done_reply, got, with}
+use Rattle.script_turns.proofs.CallTakes.{done_reply, got, on_by, with}
 use Rattle.script_turns.proofs.CallTurns.{Called, GoesBackAs, begin-turns, call-turns, is_single}
 
 -- ---- an agent that isn't gone

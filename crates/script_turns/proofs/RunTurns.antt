@@ -5,7 +5,7 @@ use Rattle.std.proofs.{Math.Seq.get_or-append_seam, lemmas.List.Elements.Contain
 use Rattle.std.proofs.lemmas.Bool.{cases_Bool, cases_lt, false≢true, or_parts}
 use Rattle.std.proofs.lemmas.Option.{same_Some, slice_get-get_or, slice_get_within}
 use Rattle.std.specs.Prelude.{IsErrOf, []}
-use Rattle.flash_core.specs.{Counts.Rose, Counts.stops_in, declared.flash.Arming.Arming, declared.flash.Counts.Counts, Told.Told}
+use Rattle.flash_core.specs.{Counts.Rose, Counts.StaysUnarmed, Counts.stops_in, declared.flash.Arming.Arming, declared.flash.Counts.Counts, Told.Told}
 use Rattle.flash_core.specs.{Told.NothingDirty, Told.fresh, Told.is_unsure, May.Guards, May.Quiet}
 use Rattle.flash_core.specs.declared.flash.FlashStop.TheVariants as flash_stop
 use Rattle.host_io.specs.Contents.{Directory}
@@ -17,7 +17,7 @@ use Rattle.fwu_model.specs.Headline.{ArmedBy, IsCut, made_after}
 use Rattle.fwu_model.specs.Causes.{FileNotRead, LossesAreCounted, cuts_in, greatest, is_cut, is_lost, losses_in}
 use Rattle.fwu_model.proofs.{Runs.runs-grow, Frame.calm-stays, Frame.start-is-calm}
 use Rattle.agent_machine.specs.Fields.{Fields}
-use Rattle.script_turns.specs.{Boots.BootsFrom, Replies.Replies, Replies.power_after, Takes.StaysFree, Takes.stop_told}
+use Rattle.script_turns.specs.{Boots.BootsFrom, Replies.Replies, Replies.power_after, Takes.stop_told}
 use Rattle.script_turns.specs.Powered.{FitsMachine, TurnMoment, IsSafe, ShowsCondition}
 use Rattle.script_turns.specs.Turning.{Makes, NoneFalls, Turns}
 use Rattle.script_turns.specs.Runs.{Follows, LossesAreDue, Ran, RunsFree, RunsTo, armings_left, power_left, stops_of}
@@ -150,7 +150,7 @@ none-cut journal t none = (omega (arith, cuts-more journal t, none), uncut (is_c
 lost-told : (r : Reply) → r ≡ reply.Lost → IsErrOf (stop_told r) flash_stop.Lost
 lost-told r is = subst (λ (x : Reply). IsErrOf (stop_told x) flash_stop.Lost) (sym is) refl
 
-free-on : (t : Turn) (journal : List Turn) (old mid new : TurnMoment) → NoneFalls old.counts mid.counts → NoneFalls mid.counts new.counts → StaysFree t.reply mid new → RunsFree journal old mid → RunsFree (journal ++ t ∷ []) old new
+free-on : (t : Turn) (journal : List Turn) (old mid new : TurnMoment) → NoneFalls old.counts mid.counts → NoneFalls mid.counts new.counts → StaysUnarmed (stop_told t.reply) mid.armed new.armed mid.counts new.counts → RunsFree journal old mid → RunsFree (journal ++ t ∷ []) old new
 free-on t journal old mid new before behind free was =
     let turned = free.free was.armed in
     record {
@@ -168,7 +168,7 @@ few-left (Some a) = omega arith
 
 -- a turn takes an armed loss, or one that is counted, if it is lost; and it arms one, if it is a `cut`
 due-on : (t : Turn) (journal : List Turn) (old mid new : TurnMoment) → NoneFalls mid.counts new.counts
-    → (IsTrue (is_cut t.call) → IsFalse (is_lost t.reply)) → (IsFalse (is_cut t.call) → StaysFree t.reply mid new)
+    → (IsTrue (is_cut t.call) → IsFalse (is_lost t.reply)) → (IsFalse (is_cut t.call) → StaysUnarmed (stop_told t.reply) mid.armed new.armed mid.counts new.counts)
     → LossesAreDue journal old mid → LossesAreDue (journal ++ t ∷ []) old new
 due-on t journal old mid new falls quiet free (inr top) = let cuts = falls.cuts in inr (omega arith)
 due-on t journal old mid new falls quiet free (inl sum) = elim (one-more (is_cut t.call) (is_lost t.reply) refl refl) [

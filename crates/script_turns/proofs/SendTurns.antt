@@ -15,7 +15,7 @@ use Rattle.fwu_model.specs.{Causes.FileNotRead, Causes.LacksFile, Headline.IsCut
 use Rattle.fwu_model.specs.Session.{Session, Off, On, Staged, Handle}
 use Rattle.fwu_model.specs.Call as call
 use Rattle.fwu_model.specs.Reply as reply
-use Rattle.fwu_model.specs.Answer.{Answer, answer, answered, answer_send, answer_send_partial, bits_over, first_image_fault, type_of_image, has_image, image_held, images_of, images_over, install_unless, partial_fault, payload_or, send_file, send_file_over, send_package, sent_over, skipped, table_in}
+use Rattle.fwu_model.specs.Answer.{Answer, answer, answered, answer_send, answer_send_partial, bits_over, type_of_image, has_image, image_held, images_of, images_over, install_unless, partial_fault, payload_or, send_file, send_file_over, send_package, sent_over, table_in}
 use Rattle.fwu_model.specs.Run.{Condition, HasNumbers, Step, Answered, Stopped, asks_state, is_boot, is_off, is_send, is_stop, moved_on, prefixes, stopped_moves}
 use Rattle.moves.specs.Moved.{IsReady}
 use Rattle.moves.proofs.Composed.{does-idle}
@@ -28,20 +28,24 @@ use Rattle.update_client.specs.{declared.stops.Sent.Sent, declared.stops.SendSto
 use Rattle.update_client.specs.declared.stops.SendStop.TheVariants.{MissingImage, End, ReadFailed, Lost, Fault, Gone}
 use Rattle.update_client.specs.Pieces.{ReadsPieceBy, unread_in}
 use Rattle.update_client.specs.Sends.{AnswersBy, GoneBy, IsEarlySend, Sends, SendEndsBy, ended_session, send_answer}
-use Rattle.update_client.specs.Partial.{GoesAs, SendsOver, WasBegun, over_answer}
-use Rattle.agent_calls.specs.{Takes.Takes as TakesWrites, declared.agent.Agent.Agent}
-use Rattle.update_client.specs.Takes.{OnRefusedEnd, OnUnread, DoneSendTakes as TakesSent, SendTakesBy, UnreadTakes}
+use Rattle.update_client.specs.Partial.{GoesAs, SendsOver, WasBegun, over_answer, writes_over}
+use Rattle.agent_calls.specs.{Takes.Takes as TakesWrites, Takes.writes_to_begin, declared.agent.Agent.Agent}
+use Rattle.update_client.specs.Takes.{OnRefusedEnd, OnUnread, DoneSendTakes as TakesSent, SendTakesBy, UnreadTakes, writes_sent}
 use Rattle.agent_calls.specs.Shown.{device, fields, gone, moment}
 use Rattle.fwu_journal.specs.Shown.{turn}
 use Rattle.flash_core.proofs.Unarmed.{unarmed_none}
 use Rattle.script_turns.specs.{declared.turned.AgentTurn.AgentTurn, Calls.is_composed, Calls.moment_where, Stage.on_where}
 use Rattle.script_turns.specs.{Replies.Replies, Replies.power_after, Turning.Makes, Turning.Turns, Turning.quiet_turn}
 use Rattle.script_turns.specs.Powered.{TurnMoment, at, kept_at, IsAt, IsSafe, ShowsAt}
-use Rattle.script_turns.specs.Sending.{AnswersSend, IsTableOf, LacksSent, SendSays, SendsAs, SpendsSent, TellsBegun, done_reply, is_answered, on_sent, send_call, sent_reply, writes_partly, writes_whole}
-use Rattle.script_turns.specs.Takes.{AreSent, SendTakes, StaysFree, TakesOn, stop_told, unread_told, writes_before}
+use Rattle.script_turns.specs.Sending.{AnswersSend, IsTableOf, LacksSent, SendSays, SendsAs, SpendsSent, TellsBegun, done_reply, is_answered, send_call, sent_reply}
+use Rattle.script_turns.specs.Takes.{AreSent, SendTakes, TakesOn, stop_told, unread_told, writes_before}
 use Rattle.script_turns.proofs.Staying.{shows-here, as-told, counts_none, shows-as, told-shows, among, falls-same, no-stop, safe-by, same-guards}
 use Rattle.script_turns.proofs.{CallTakes.with, Touching.touches-sent}
 use denote.Struct.Props.{props}
+
+-- what an agent keeps, where it is there after a sending
+abbrev on_sent : Result Sent SendStop → Fields → Option Fields
+on_sent result f = on_where (is_answered result) f
 
 -- ---- the call
 
@@ -189,8 +193,8 @@ goes-over (Err q) a E old new s x h = h
 
 -- the writes up to the end, by whether it is partial
 abbrev writes_to_send : Bool → Fields → Toc → ℕ
-writes_to_send false f toc = writes_whole f toc
-writes_to_send true f toc = writes_partly f toc
+writes_to_send false f toc = writes_to_begin f + writes_sent block_bytes f.layout.rows toc
+writes_to_send true f toc = writes_to_begin f + writes_over block_bytes f.layout.rows f.lengths toc
 
 -- What either kind says of an agent that isn't gone: each machine that the agent shows goes by an answer, which is the machine's own
 -- where the device and the files are told.
@@ -500,9 +504,9 @@ module _ (partly : Bool) (passes : List ℕ → Bool) (tells : Bool) (files : Op
   sent-takes (Err s) power toc powered same table unread =
       let d = same tt in record { told = d.0; writes = d.1; counts = d.2; armed = d.3; power = powered }
 
-  sent-free : (result : Result Sent SendStop) (power : Bool) → StaysUnarmed (flash_of result) armed arming cs ds
-      → StaysFree (sent_reply partly result) (at (Some f) t w cs armed true) (at (on_sent result g) u v ds arming power)
-  sent-free result power free =
+  sent-free : (result : Result Sent SendStop) → StaysUnarmed (flash_of result) armed arming cs ds
+      → StaysUnarmed (stop_told (sent_reply partly result)) armed arming cs ds
+  sent-free result free =
       subst (λ (told : Result (Unit {0}) FlashStop). StaysUnarmed told armed arming cs ds) (tells-end partly result).stop_is free
 
   -- the turn of a sending that ended, on a device that has power
@@ -519,7 +523,7 @@ module _ (partly : Bool) (passes : List ℕ → Bool) (tells : Bool) (files : Op
     counts = record { faults = spent.faults; cuts = spent.cuts; reached = spent.reached; chances = spent.chances };
     made = makes-none partly name request cs.made ds.made spent.made;
     armed = never-cuts partly name request (sent_reply partly result) arming;
-    free = λ no. sent-free result power free;
+    free = λ no. sent-free result free;
     lost = λ e. spent.lost (ends.stop_is ∙ ap stop_told e);
     failed = λ e. spent.failed (ends.stop_is ∙ ap stop_told e);
     once = omega (arith, spent.once, ap stops_in ends.stop_is);

@@ -3,7 +3,7 @@ use Rattle.std.proofs.Common.{Bool, true, ℕ, sym, subst, IsTrue, ◌≡◌, �
 use Rattle.flash_core.specs.{Told.Told, declared.flash.Counts.Counts, declared.flash.FlashStop.FlashStop, May.Guards}
 use Rattle.flash_core.specs.declared.flash.Flash.{Ghosts}
 use Rattle.fwu_model.specs.{State.State, State.Numbers, Session.Session, Call.Call, Reply.Reply, Run.is_boot, Run.is_stop}
-use Rattle.fwu_model.specs.Calm.{IsAtRest}
+use Rattle.fwu_model.specs.{Calm.IsAtRest, Replica.BothHold}
 use Rattle.agent_machine.specs.{Fields.Fields, Moment.Showing, Moment.Shows}
 use Rattle.agent_machine.specs.Moment as agent
 use Rattle.std.specs.Prelude.{MatchBool, IsSome, IsNone, is_ok, [], Option, Some, is_some}
@@ -13,7 +13,7 @@ use Rattle.std.proofs.lemmas.Option.{same_Some}
 use Rattle.agent_calls.specs.Shown as of_agent
 use Rattle.agent_calls.specs.declared.agent.Agent.{Agent}
 use Rattle.agent_machine.proofs.{Known.known-shown, Showing.shows-some}
-use Rattle.script_turns.specs.Powered.{ShowsAt, kept_at, FitsMachine, IsHeld, IsSeen, moment_in, moment_of, the, IsSafe}
+use Rattle.script_turns.specs.Powered.{ShowsAt, kept_at, FitsMachine, moment_in, moment_of, the, IsSafe}
 use Rattle.script_turns.specs.{Turning.NoneFalls, Stage.on_where, declared.powered.Powered.Powered, declared.stage.Stage.Stage}
 use Rattle.script_turns.specs.declared.stage.Stage.TheVariants as stage
 
@@ -71,19 +71,19 @@ seen-here {F = F} a here tells s x shows =
     let t = F.told a.flash in
     subst (λ (y : State). IsShown a.layout t.now y) (sym (shows.told tells).0) (known-shown (of_agent.fields a) t (a.knows here tells))
 
-fits-where : (tells here : Bool) (f : Fields) (t : Told) (w : ℕ → ℕ) → (IsTrue here → ∥ Showing (kept_at tells f t w) ∥₁) → (IsTrue here → IsSeen tells f t) → (IsTrue here → IsHeld tells f t)
-    → (g : Fields) → on_where here f ≡ Some g → ∥ Showing (kept_at tells g t w) ∥₁ × IsSeen tells g t × IsHeld tells g t
-fits-where tells true f t w shows seen held g e =
-    subst (λ (x : Fields). ∥ Showing (kept_at tells x t w) ∥₁ × IsSeen tells x t × IsHeld tells x t) (same_Some _ _ e)
-    (shows refl, seen refl, held refl)
-fits-where tells false f t w shows seen held g e = absurd cc
+-- what holds of what an agent keeps, where it is there
+fits-where : (P : Fields → Type 0) (here : Bool) (f : Fields) → (IsTrue here → P f) → (g : Fields) → on_where here f ≡ Some g → P g
+fits-where P true f holds g e = subst P (same_Some _ _ e) (holds refl)
+fits-where P false f holds g e = absurd cc
 
 pub fits-stage : {D : Type 0} {F : Ghosts D} (s : Stage D F) → FitsMachine F.tells (moment_in s)
 fits-stage (stage.Off flash) = λ f e. absurd cc
 fits-stage (stage.Fresh fresh) = λ f e. absurd cc
-fits-stage {F = F} (stage.On live) = λ f e.
+fits-stage {F = F} (stage.On live) =
+    let t = F.told (of_agent.device live.agent) in
     let w = F.writes (of_agent.device live.agent) in
-    fits-where F.tells live.here (of_agent.fields live.agent) (F.told (of_agent.device live.agent)) w live.shows (λ here told s x shows. live.seen here told s x (shows w)) (λ here told. (live.agent.knows (live.not_gone here) told).both) f e
+    fits-where (λ f. ∥ Showing (kept_at F.tells f t w) ∥₁ × (IsTrue F.tells → (s : State) (x : Session) → ShowsAt F.tells f t s x → IsShown f.layout t.now s) × (IsTrue F.tells → BothHold f.layout f.meta t.now))
+    live.here (of_agent.fields live.agent) (λ here. (live.shows here, λ told s x shows. live.seen here told s x (shows w), λ told. (live.agent.knows (live.not_gone here) told).both))
 
 pub fitting : {D : Type 0} {F : Ghosts D} (p : Powered D F) → FitsMachine F.tells (moment_of p)
 fitting p = fits-stage (the p.inside p.there)
