@@ -18,11 +18,11 @@ use Rattle.agent_machine.specs.Moment as agent
 use Rattle.agent_machine.proofs.Beside.{spared-told}
 use Rattle.script_turns.specs.Powered.{moment_in, TurnMoment, at, SameDevice, IsAt, IsSafe, ShowsAt, numbers_kept}
 use Rattle.script_turns.specs.{Stage.device, Stage.has_power, declared.stage.Stage.Stage, Sending.LacksSent, Calls.is_agents}
-use Rattle.script_turns.specs.{Calls.needs_bank, Takes.TakesBy, Takes.stop_told, Touches.Touches}
+use Rattle.script_turns.specs.{Calls.needs_bank, Takes.TakesBy, Takes.stop_told}
 use Rattle.script_turns.specs.{Touches.TouchesBy, Turned.IsStageTurn, Turned.TurnLeaves, Turned.TurnsAlone}
 use Rattle.script_turns.specs.Turning.{Turns, Arms, Makes, NoneFalls, quiet_turn}
 use Rattle.script_turns.specs.Replies.{Replies, no_call_reply, power_after, show_reply}
-use Rattle.script_turns.proofs.Staying.{counts_none, among, falls-same, no-numbers, no-stop}
+use Rattle.script_turns.proofs.Staying.{counts_none, among, falls-same, makes-none, never-boots, never-cuts, no-numbers, no-stop}
 
 -- ---- the turn of a call that asks for no file
 
@@ -61,7 +61,7 @@ pub record IsQuiet (tells : Bool) (files : Option Directory) (what : Call) (r : 
   pub power : new.power ≡ old.power
   pub keeps_power : power_after old.power r ≡ old.power
   pub takes : TakesBy files what old.on old r new
-  pub touches : Touches what old new
+  pub touches : TouchesBy what old.on old.writes new.writes
   pub answers : AnswersBy what r old.on old.told
 
 -- only what is sent can be lacking
@@ -266,11 +266,8 @@ module _ (passes : List ℕ → Bool) (tells : Bool) (files : Option Directory) 
 
   -- what goes by the call
   record LeavesOff (c : Call) : Type 0 where
-    made : Makes c cs.made cs.made
-    cut : IsCut (Some (quiet_turn c reply.IsOff)) armed
     replies : Replies passes tells files c here (quiet_turn c reply.IsOff) here
     looks : Looks passes tells files here was c reply.IsOff None
-    no_boot : IsFalse (is_boot c)
     answers : (E : Setting) (s : State) → reply.IsOff ≡ (answer E s Off c).reply
 
   leaves-off : (c : Call) → IsTrue (needs_bank c) → LeavesOff c
@@ -280,16 +277,13 @@ module _ (passes : List ℕ → Bool) (tells : Bool) (files : Option Directory) 
   leaves-off call.Show asks = absurd cc
   leaves-off call.NoCall asks = absurd cc
   leaves-off q asks = record {
-    made = refl;
-    cut = tt;
     replies = (refl, refl);
     looks = record { no_stop = refl; free = unarmed_none tt armed cs; power = refl; takes = λ no. same-device here; touches = refl };
-    no_boot = refl;
     answers = λ E s. refl;
   }
 
   pub off-turn : (c : Call) → IsTrue (needs_bank c) → Turns passes tells files c (quiet_turn c reply.IsOff) here here was was
   off-turn c asks =
       let leaves = leaves-off c asks in
-      looks-turns passes tells files here was c reply.IsOff leaves.no_boot (λ lacks some. absurd cc) (λ f on agents. absurd cc)
-      leaves.made leaves.cut leaves.looks leaves.answers leaves.replies
+      looks-turns passes tells files here was c reply.IsOff (never-boots c asks) (λ lacks some. absurd cc) (λ f on agents. absurd cc)
+      (makes-none c cs.made cs.made asks refl) (never-cuts c reply.IsOff armed asks) leaves.looks leaves.answers leaves.replies

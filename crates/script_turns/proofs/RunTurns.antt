@@ -6,8 +6,10 @@ use Rattle.std.proofs.lemmas.Bool.{cases_Bool, cases_lt, false≢true, or_parts}
 use Rattle.std.proofs.lemmas.Option.{same_Some, slice_get-get_or, slice_get_within}
 use Rattle.std.specs.Prelude.{IsErrOf, []}
 use Rattle.flash_core.specs.{Counts.Rose, Counts.StaysUnarmed, Counts.stops_in, declared.flash.Arming.Arming, declared.flash.Counts.Counts, Told.Told}
-use Rattle.flash_core.specs.{Told.NothingDirty, Told.fresh, Told.is_unsure, May.Guards, May.Quiet}
+use Rattle.flash_core.specs.{Told.NothingDirty, May.Guards}
+use Rattle.flash_core.proofs.Calls.{quiet_fresh}
 use Rattle.flash_core.specs.declared.flash.FlashStop.TheVariants as flash_stop
+pub use Rattle.base_core.proofs.Counts.{rose_earlier as rose-before}
 use Rattle.host_io.specs.Contents.{Directory}
 use Rattle.fwu_model.specs.{State.State, Sound.Setting, Call.Call, Reply.Reply, Reply.Turn, Calm.IsGuarded}
 use Rattle.fwu_model.specs.Call as call
@@ -56,10 +58,6 @@ falls-on old mid new first then = record {
   chances = let a = first.chances in let b = then.chances in omega arith;
 }
 
-pub rose-before : (old mid new : ℕ) → old ≤ mid → Rose mid new → Rose old new
-rose-before old mid new later (inl more) = inl (omega arith)
-rose-before old mid new later (inr top) = inr top
-
 pub rose-after : (old mid new : ℕ) → mid ≤ new → Rose old mid → Rose old new
 rose-after old mid new later (inl more) = inl (omega arith)
 rose-after old mid new later (inr top) = inr (omega arith)
@@ -98,19 +96,15 @@ module _ (t : Turn) (journal : List Turn) (old mid new : Counts) where
 
 -- ---- a flash with nothing dirty
 
-clean-quiet : (t : Told) → NothingDirty t → (low high : ℕ) → Quiet low high t
-unfolding fresh is_unsure
-clean-quiet t clean low high i from below = subst (λ (x : Told). IsFalse (is_unsure x i)) (sym clean) refl
-
 clean-guarded : (t : Told) → NothingDirty t → IsGuarded t
 clean-guarded t clean = record {
-  layout = clean-quiet t clean 0 4096;
-  banks = λ image L s may layout shows b valid i from below. clean-quiet t clean i (i + 1) i (omega arith) (omega arith);
+  layout = quiet_fresh 0 4096 t clean;
+  banks = λ image L s may layout shows b valid i from below. quiet_fresh i (i + 1) t clean i (omega arith) (omega arith);
 }
 
 clean-safe : (power : Bool) (t : Told) → NothingDirty t → Guards 1 7 t → IsSafe power t
 clean-safe false t clean guard = (guard, clean-guarded t clean)
-clean-safe true t clean guard = record { guard = guard; front = clean-quiet t clean 0 (4096 * 8); guarded = clean-guarded t clean }
+clean-safe true t clean guard = record { guard = guard; front = quiet_fresh 0 (4096 * 8) t clean; guarded = clean-guarded t clean }
 
 -- ---- the arming
 

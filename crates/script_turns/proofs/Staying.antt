@@ -1,8 +1,9 @@
 -- What stays the same, as several kinds of turns say it, and which machine an agent shows and fits.
-use Rattle.std.proofs.Common.{Bool, true, ℕ, sym, subst, IsTrue, ◌≡◌, ◌≢◌, Contains, ◌==◌, List, ◌∷◌, None, Ok, Err, Result, refl, ap, arith, IsFalse, false}
-use Rattle.flash_core.specs.{Told.Told, declared.flash.Counts.Counts, declared.flash.FlashStop.FlashStop, May.Guards}
+use Rattle.std.proofs.Common.{Bool, true, ℕ, sym, subst, IsTrue, ◌≡◌, ◌≢◌, Contains, ◌==◌, List, ◌∷◌, None, Ok, Err, Result, refl, ap, arith, IsFalse, false, ◌||◌}
+use Rattle.flash_core.specs.{Told.Told, declared.flash.Arming.Arming, declared.flash.Counts.Counts, declared.flash.FlashStop.FlashStop, May.Guards}
 use Rattle.flash_core.specs.declared.flash.Flash.{Ghosts}
-use Rattle.fwu_model.specs.{State.State, State.Numbers, Session.Session, Call.Call, Reply.Reply, Run.is_boot, Run.is_stop}
+use Rattle.fwu_model.specs.{State.State, State.Numbers, Session.Session, Call.Call, Reply.Reply, Run.is_boot, Run.is_send, Run.is_stop, Headline.IsCut}
+use Rattle.fwu_model.specs.Call as call
 use Rattle.fwu_model.specs.{Calm.IsAtRest, Replica.BothHold}
 use Rattle.agent_machine.specs.{Fields.Fields, Moment.Showing, Moment.Shows}
 use Rattle.agent_machine.specs.Moment as agent
@@ -14,7 +15,7 @@ use Rattle.agent_calls.specs.Shown as of_agent
 use Rattle.agent_calls.specs.declared.agent.Agent.{Agent}
 use Rattle.agent_machine.proofs.{Known.known-shown, Showing.shows-some}
 use Rattle.script_turns.specs.Powered.{ShowsAt, kept_at, FitsMachine, moment_in, moment_of, the, IsSafe}
-use Rattle.script_turns.specs.{Turning.NoneFalls, Stage.on_where, declared.powered.Powered.Powered, declared.stage.Stage.Stage}
+use Rattle.script_turns.specs.{Turning.Makes, Turning.NoneFalls, Turning.quiet_turn, Calls.is_agents, Calls.needs_bank, Stage.on_where, declared.powered.Powered.Powered, declared.stage.Stage.Stage}
 use Rattle.script_turns.specs.declared.stage.Stage.TheVariants as stage
 
 -- ---- which machine an agent shows, whatever its device counts
@@ -50,6 +51,23 @@ safe-by (Err stop) t u same rest now = (same-guards t u same rest.guard, now)
 -- the one candidate
 pub among : (states : List State) (s : State) → states ≡ s ∷ [] → Contains states s
 among states s one = subst (λ (xs : List State). Contains xs s) (sym one) (0, omega arith, refl)
+
+-- of the calls for which a bank must have been started none is a boot or a `cut`
+pub never-boots : (c : Call) → IsTrue (needs_bank c) → IsFalse (is_boot c)
+never-boots call.Boot asks = absurd cc
+never-boots other asks = refl
+
+pub makes-none : (c : Call) (before now : ℕ) → IsTrue (needs_bank c) → now ≡ before → Makes c before now
+makes-none (call.Cut n k) before now asks same = absurd cc
+makes-none other before now asks same = same
+
+pub never-cuts : (c : Call) (r : Reply) (armed : Option Arming) → IsTrue (needs_bank c) → IsCut (Some (quiet_turn c r)) armed
+never-cuts (call.Cut n k) r armed asks = absurd cc
+never-cuts other r armed asks = tt
+
+-- a call of the agent is one of these
+pub needs-agent : (c : Call) → IsTrue (is_agents c) → IsTrue (needs_bank c)
+needs-agent c agents = subst (λ (b : Bool). IsTrue (b || is_send c)) (sym agents) refl
 
 -- a call that is no boot tells no numbers
 pub no-numbers : (c : Call) → IsFalse (is_boot c) → MatchBool (is_boot c) (IsSome {T = Numbers} None) (IsNone {T = Numbers} None)

@@ -1,5 +1,5 @@
 -- What a turn of `send` says, whole or partial, on any device and of any file.
-use Rattle.std.specs.Prelude.{◌≡◌, ◌≢◌, ◌<◌, ℕ, ◌+◌, Bool, true, false, List, length, Option, Some, None, Result, Ok, Err, IsTrue}
+use Rattle.std.specs.Prelude.{◌≡◌, ◌≢◌, ◌⊎◌, ◌<◌, ℕ, ◌+◌, Bool, true, false, List, length, Option, Some, None, Result, Ok, Err, IsTrue}
 use Rattle.std.specs.Prelude.{⊤, slice_index_or}
 use Rattle.base_core.specs.Block.{block_bytes}
 use Rattle.flash_core.specs.declared.flash.Arming.{Arming}
@@ -107,18 +107,17 @@ AnswersSend partial passes files name request (reply.BadCapsule f) old new armed
 AnswersSend partial passes files name request r old new armed arming =
     SendsAs partial passes files name request r old new armed arming
 
--- the flash stopped it, or the file could not be read
-abbrev pub IsSendStop : Reply → Type 0
-IsSendStop reply.Lost = ⊤
-IsSendStop reply.Fault = ⊤
-IsSendStop reply.ReadFault = ⊤
-IsSendStop other = ⊥
+-- the flash stopped it
+abbrev pub IsFlashStop : Reply → Type 0
+IsFlashStop reply.Lost = ⊤
+IsFlashStop reply.Fault = ⊤
+IsFlashStop other = ⊥
 
--- While off nothing is sent. Else it is answered, or stopped and nothing is on.
+-- While off nothing is sent. Else it is answered, or nothing is on: the flash stopped it, or the file could not be read.
 abbrev pub SendSays : Bool → (List ℕ → Bool) → Bool → Option Directory → List ℕ → ℕ → Option Fields → TurnMoment → Reply
     → Option Fields → TurnMoment → Type 0
 SendSays partial passes tells files name request None before r on now = (r ≡ reply.IsOff) × (on ≡ None)
-SendSays partial passes tells files name request (Some f) before r None now = IsSendStop r
+SendSays partial passes tells files name request (Some f) before r None now = IsFlashStop r ⊎ (r ≡ reply.ReadFault)
 SendSays partial passes tells files name request (Some f) before r (Some g) now =
     AnswersSend partial passes files name request r (kept_at tells f before.told before.writes)
     (kept_at tells g now.told now.writes) before.armed now.armed

@@ -10,7 +10,7 @@ use Rattle.moves.specs.Moved.{IsShown}
 use Rattle.agent_machine.specs.{Beside.KeepsSpared, Beside.KeepsSparedByAll, Fields.Fields}
 use Rattle.early_boot.specs.{Started.started_session, Ends.Ended, Ends.booted}
 use Rattle.script_turns.specs.{Powered.TurnMoment, Powered.IsAt, Powered.IsSafe, Powered.ShowsAt, Boots.BootsFrom, Calls.is_agents}
-use Rattle.script_turns.specs.{Calls.is_composed, Touches.DecidesAfter, Touches.Touches, Replies.Replies, Replies.power_after}
+use Rattle.script_turns.specs.{Calls.is_composed, Touches.DecidesAfter, Touches.TouchesBy, Replies.Replies, Replies.power_after}
 use Rattle.script_turns.specs.{Sending.LacksSent, Takes.TakesTurn, Takes.stop_told, Takes.unread_told}
 pub use Rattle.script_turns.specs.Arms.{Arms, NoneFalls}
 pub use Rattle.script_turns.specs.Boots.{IsOnAfter, PowersOn, GetsPower, numbers_of_end, reply_of_end}
@@ -49,7 +49,7 @@ pub record Turns (passes : List ℕ → Bool) (tells : Bool) (files : Option Dir
   pub replies : Replies passes tells files c old t new
   pub takes : TakesTurn files c old t.reply new was are
   -- on any device that counts its writes: which blocks are erased or programmed
-  pub touches : Touches c old new
+  pub touches : TouchesBy c old.on old.writes new.writes
   pub power : new.power ≡ power_after old.power t.reply
   -- no call changes which blocks are guarded
   pub guard : IsTrue tells → new.told.guard ≡ old.told.guard
