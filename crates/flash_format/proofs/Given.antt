@@ -1,20 +1,18 @@
 -- What was given: a layout that fits a flash, and the images of a file. On any files, each answer is that of some bytes.
-use Rattle.std.proofs.Common.{◌≡◌, ℕ, ◌+◌, ◌*◌, ◌≤◌, List, length, Result, Ok, Err, sym, subst, ◌∙◌, arith, ltb, refl, [], inl}
+use Rattle.std.proofs.Common.{◌≡◌, ℕ, ◌*◌, ◌≤◌, List, length, Option, Result, Ok, Err, subst, arith, ltb, refl, [], inl}
+use Rattle.host_io.specs.Contents.{Directory}
+use Rattle.fip_tables.specs.Files.{Tells}
 use Rattle.std.specs.Prelude.{IsTrue, not}
-use Rattle.std.specs.List.{All}
 use Rattle.std.proofs.lemmas.Bool.{not-false, ltb-false}
 use Rattle.fwu_formats.specs.{Layout.Layout, Layout.fits_layout, Layout.blocks_needed, Package.Entry, Package.Toc, Package.toc_of}
-use Rattle.fwu_formats.specs.{declared.kinds.FipFault.FipFault, declared.kinds.LayoutFault.LayoutFault}
+use Rattle.fwu_formats.specs.{declared.kinds.LayoutFault.LayoutFault}
 use Rattle.fwu_model.specs.Answer.{images_of}
 use Rattle.fwu_formats.proofs.SealLaws.{was_not_refused}
 use Rattle.meta_layout.specs.Rows.{fitted}
-use Rattle.flash_format.specs.{Formatted.HoldsImages, Places.AllStand, Planned.HasToc, Stops.FormatFinishes, Stops.IsOfBytes}
+use Rattle.flash_format.specs.{Formatted.HoldsImages, Places.AllStand, Planned.IsPlan, Stops.FormatFinishes, Stops.IsOfBytes}
 use Rattle.flash_format.specs.{declared.stops.FormatStop.FormatStop, declared.stops.FormatStop.TheVariants.Input}
 use Rattle.flash_format.specs.declared.stops.InputFault.TheVariants.{Incomplete, Layout as BadLayout}
-use Rattle.flash_format.proofs.{Plans.bank_within, Formats.holds_images}
-
-pub same_ok : {X F : Type 0} (x y : X) → ◌≡◌ {A = Result X F} (Ok x) (Ok y) → x ≡ y
-same_ok x y e = cc
+use Rattle.flash_format.proofs.{Plans.bank_within, Plans.same_ok, Formats.holds_images}
 
 -- a layout that fits a flash
 pub record IsFitted (L : Layout) (blocks : ℕ) (K : Layout) : Type 0 where
@@ -30,14 +28,13 @@ fitted_is L blocks K e =
     let same = same_ok {F = LayoutFault} L K b.1 in
     subst (IsFitted L blocks) same (record { is = refl; fits = not-false (fits_layout L) a.0; inside = ltb-false blocks (blocks_needed L) b.0 })
 
-pub hold_given : (L K : Layout) (blocks : ℕ) (file : List ℕ) (toc : Toc) (entries : List Entry) (image : List ℕ) → IsFitted L blocks K → length image ≡ 4096 * blocks → HasToc file K entries → toc_of file ≡ Ok toc
-    → All (λ e. e.offset + e.size ≤ length file) entries → AllStand (length K.rows) K file entries image → HoldsImages L (images_of L.rows file toc) image
-hold_given L K blocks file toc entries image fitted size has is stored stand =
-    let same : has.toc ≡ toc = same_ok {F = FipFault} has.toc toc (sym has.is ∙ is) in
+pub hold_given : (told : Option Directory) (name : List ℕ) (L K : Layout) (blocks : ℕ) (file : List ℕ) (toc : Toc) (entries : List Entry) (image : List ℕ) → IsFitted L blocks K → length image ≡ 4096 * blocks → IsPlan told name K entries
+    → Tells told name file → toc_of file ≡ Ok toc → AllStand (length K.rows) K file entries image → HoldsImages L (images_of L.rows file toc) image
+hold_given told name L K blocks file toc entries image fitted size plan tells is stand =
     let enough = bank_within K fitted.fits in
     let inside = fitted.inside in
-    let holds = holds_images K file has.toc entries has.chosen stored image (omega (arith, enough, inside, size)) fitted.fits stand in
-    subst (λ (l : Layout). HoldsImages l (images_of l.rows file toc) image) fitted.is (subst (λ (t : Toc). HoldsImages K (images_of K.rows file t) image) same holds)
+    let holds = holds_images K file toc entries (plan.chosen file toc tells is) (λ k d below. (plan.stored k d below).within file tells) image (omega (arith, enough, inside, size)) fitted.fits stand in
+    subst (λ (l : Layout). HoldsImages l (images_of l.rows file toc) image) fitted.is holds
 
 -- a fact that follows
 pub finishes_more : (T : Type 0) (result : Result T FormatStop) (A B : Type 0) → (A → B) → FormatFinishes result A → FormatFinishes result B

@@ -9,7 +9,7 @@ use Rattle.base_core.proofs.{Blocks.length-blank, Blocks.get_or-blank, Seals.bla
 use Rattle.base_core.proofs.Images.{length-overwritten, overwritten_inside, overwritten_above, block-overwritten_other}
 use Rattle.flash_core.specs.{Told.Told, Told.put, Told.settled, Told.written, Told.NothingDirty, Replaces.padded}
 use Rattle.flash_core.specs.May.{Keeps, Leaves, May, KeepsBlock, as_stable, as_now, as_finished, unsealed}
-use Rattle.flash_core.proofs.Calls.{now-halt, now-put, now-settle, keeps_settle, settle-fresh, now_kept, block_kept, block_quiet, keeps_same, quiet_fresh, quiet_kept, stable-put, stable-halt, stable-settle, finished-put, finished-halt, finished-settle}
+use Rattle.flash_core.proofs.Calls.{now-halt, now-put, now-settle, keeps_put, keeps_settle, settle-fresh, now_kept, block_kept, block_quiet, keeps_same, quiet_fresh, quiet_kept, stable-put, stable-halt, stable-settle, finished-put, finished-halt, finished-settle}
 use Rattle.fwu_formats.specs.{Image.layout_seen, Package.Entry}
 use Rattle.fwu_formats.specs.Layout.{Layout, fits_layout, layout_of, blocks_needed, slot_total, start}
 use Rattle.fwu_formats.specs.Metadata.{Meta, MetaRead, meta_of, meta_read, meta_bytes, meta_size, replica_bytes, fits_meta, first_meta}
@@ -45,7 +45,7 @@ clean_after A (Err e) t u is = tt
 
 -- ---- a block
 
-pub stands_put : (b : ℕ) (bytes : List ℕ) (t : Told) → 4096 * b + 4096 ≤ length t.now → length bytes ≤ 4096 → Erased (4096 * b) (4096 * b + 4096) t.now → HoldsThenErased (4096 * b) 4096 bytes (put (4096 * b) bytes t).now
+stands_put : (b : ℕ) (bytes : List ℕ) (t : Told) → 4096 * b + 4096 ≤ length t.now → length bytes ≤ 4096 → Erased (4096 * b) (4096 * b + 4096) t.now → HoldsThenErased (4096 * b) 4096 bytes (put (4096 * b) bytes t).now
 stands_put b bytes t inside short erased i below = ap (λ (l : List ℕ). get_or l (4096 * b + i) 0) (now-put (4096 * b) bytes t) ∙ at (cases_lt i (length bytes))
   where
     fits : 4096 * b + length bytes ≤ length t.now
@@ -59,14 +59,23 @@ stands_put b bytes t inside short erased i below = ap (λ (l : List ℕ). get_or
         overwritten_above (4096 * b) bytes t.now fits (4096 * b + i) 0 (omega arith)
         ∙ erased (4096 * b + i) (omega arith) (omega arith) ∙ sym (get_or_past bytes i 255 r)
 
-pub block_padded : (b : ℕ) (bytes image : List ℕ) → 4096 * b + 4096 ≤ length image → length bytes ≤ 4096 → HoldsThenErased (4096 * b) 4096 bytes image → block b image ≡ padded bytes
+block_padded : (b : ℕ) (bytes image : List ℕ) → 4096 * b + 4096 ≤ length image → length bytes ≤ 4096 → HoldsThenErased (4096 * b) 4096 bytes image → block b image ≡ padded bytes
 unfolding block
 block_padded b bytes image inside short stands = stands_whole (4096 * b) 4096 bytes image inside short stands
 
 -- a block that is written whole
-pub padded_whole : (bytes : List ℕ) → length bytes ≡ 4096 → padded bytes ≡ bytes
+padded_whole : (bytes : List ℕ) → length bytes ≡ 4096 → padded bytes ≡ bytes
 unfolding blank
 padded_whole bytes whole = let none : 4096 - length bytes ≡ 0 = omega arith in ap (λ (n : ℕ). bytes ++ replicate n 255) none ∙ append-nil bytes
+
+pub length_put : (at : ℕ) (bytes : List ℕ) (t : Told) → at + length bytes ≤ length t.now → length (put at bytes t).now ≡ length t.now
+length_put at bytes t fits = ap length (now-put at bytes t) ∙ length-overwritten at bytes t.now fits
+
+-- block 0 that is programmed whole
+pub whole_put : (bytes : List ℕ) (t : Told) → 4096 ≤ length t.now → length bytes ≡ 4096 → Erased 0 4096 t.now → block 0 (put 0 bytes t).now ≡ bytes
+whole_put bytes t room whole erased =
+    block_padded 0 bytes (put 0 bytes t).now (omega (arith, room, length_put 0 bytes t (omega (arith, room, whole)))) (omega (arith, whole)) (stands_put 0 bytes t (omega (arith, room)) (omega (arith, whole)) erased)
+    ∙ padded_whole bytes whole
 
 -- a block of bytes that ends with erased ones
 pub padded_front : (bytes front : List ℕ) (n : ℕ) → length bytes ≡ 4096 → bytes ≡ front ++ replicate n 255 → bytes ≡ padded front
@@ -81,11 +90,47 @@ read-is : (L : Layout) (bytes : List ℕ) (r : MetaRead) → meta_of L bytes ≡
 unfolding meta_read
 read-is L bytes r is = ap result_ok is
 
-pub replica_read : (L : Layout) (m : Meta) → IsTrue (fits_layout L) → IsTrue (fits_meta L m) → meta_read L (padded (replica_bytes L m)) ≡ Some (in_version 2 m)
+replica_read : (L : Layout) (m : Meta) → IsTrue (fits_layout L) → IsTrue (fits_meta L m) → meta_read L (padded (replica_bytes L m)) ≡ Some (in_version 2 m)
 replica_read L m layout fits =
     let fill = replicate ((16 - meta_size L % 16) % 16) 0xFF in
     let rest = blank (4096 - length (replica_bytes L m)) in
     read-is L (padded (replica_bytes L m)) (in_version 2 m) (ap (meta_of L) (append_assoc (meta_bytes L m) fill rest) ∙ meta-read L m (fill ++ rest) layout fits)
+
+-- blocks 1 and 2 have these bytes, and behind them erased ones
+abbrev pub HoldTwice : List ℕ → List ℕ → Type 0
+HoldTwice bytes image = (block 1 image ≡ padded bytes) × (block 2 image ≡ padded bytes)
+
+pub put_twice : {T E : Type 0} (result : Result T E) (bytes : List ℕ) (s : Told) → 12288 ≤ length s.now → length bytes ≤ 4096 → Erased 4096 12288 s.now → HoldTwice bytes (settled result (put 8192 bytes (put 4096 bytes s))).now
+put_twice result bytes s room few erased = subst (HoldTwice bytes) (sym (now_settled result t)) (kept ∙ first, second)
+  where
+    m : Told
+    m = put 4096 bytes s
+
+    t : Told
+    t = put 8192 bytes m
+
+    same : length m.now ≡ length s.now
+    same = length_put 4096 bytes s (omega (arith, room, few))
+
+    fits : 8192 + length bytes ≤ length m.now
+    fits = omega (arith, room, few, same)
+
+    first : block 1 m.now ≡ padded bytes
+    first = block_padded 1 bytes m.now (omega (arith, room, same)) few (stands_put 1 bytes s (omega (arith, room)) few (λ i above below. erased i above (omega (arith, below))))
+
+    kept : block 1 t.now ≡ block 1 m.now
+    kept = ap (block 1) (now-put 8192 bytes m) ∙ block-overwritten_other 8192 bytes m.now fits 1 (omega (arith, room, same)) (inr (omega arith))
+
+    behind : Erased 8192 12288 m.now
+    behind = erased_stays 8192 12288 4096 8192 s m (inr (omega arith)) (keeps_put 4096 8192 s s 4096 bytes (omega arith) (omega (arith, few)) (omega (arith, room, few)) (keeps_same 4096 8192 s)) (λ i above below. erased i (omega (arith, above)) below)
+
+    second : block 2 t.now ≡ padded bytes
+    second = block_padded 2 bytes t.now (omega (arith, room, same, length_put 8192 bytes m fits)) few (stands_put 2 bytes m (omega (arith, room, same)) few behind)
+
+pub both_first : (L : Layout) (image : List ℕ) → IsTrue (fits_layout L) → IsTrue (fits_meta L (first_meta L)) → HoldTwice (replica_bytes L (first_meta L)) image → BothHold L (in_version 2 (first_meta L)) image
+both_first L image layout fits twice =
+    let read = replica_read L (first_meta L) layout fits in
+    record { zero = ap (meta_read L) twice.0 ∙ read; one = ap (meta_read L) twice.1 ∙ read }
 
 pub layout_read : (L : Layout) (bytes image : List ℕ) (blocks : ℕ) → length image ≡ 4096 * blocks → blocks_needed L ≤ blocks → block 0 image ≡ bytes
     → ((n : ℕ) → blocks_needed L ≤ n → layout_of bytes n ≡ Ok L) → layout_seen image ≡ Ok L
@@ -98,10 +143,8 @@ pub at_most_written : {T E : Type 0} (result : Result T E) (L : Layout) (bytes :
     → ((n : ℕ) → blocks_needed L ≤ n → layout_of bytes n ≡ Ok L) → HasAtMost L (written result 0 bytes s).now
 at_most_written (Err e) L bytes blocks s size many enough erased whole reads = inl (subst (λ (image : List ℕ). IsErr (layout_seen image)) (sym (now-halt 0 bytes s)) (unlaid s.now (omega (arith, size, many)) erased))
 at_most_written (Ok x) L bytes blocks s size many enough erased whole reads =
-    let stands : HoldsThenErased 0 4096 bytes (put 0 bytes s).now = stands_put 0 bytes s (omega (arith, size, many)) (omega (arith, whole)) (λ i above below. erased i above below) in
-    let same : length (put 0 bytes s).now ≡ length s.now = ap length (now-put 0 bytes s) ∙ length-overwritten 0 bytes s.now (omega (arith, size, many, whole)) in
-    let there = block_padded 0 bytes (put 0 bytes s).now (omega (arith, size, many, same)) (omega (arith, whole)) stands ∙ padded_whole bytes whole in
-    inr (layout_read L bytes (put 0 bytes s).now blocks (same ∙ size) enough there reads)
+    let same = length_put 0 bytes s (omega (arith, size, many, whole)) in
+    inr (layout_read L bytes (put 0 bytes s).now blocks (same ∙ size) enough (whole_put bytes s (omega (arith, size, many)) whole erased) reads)
 
 -- the replicas stay where block 0 is written
 pub both_stay : (L : Layout) (r : MetaRead) (s t : Told) → 12288 ≤ length s.now → Keeps 0 4096 s t → BothHold L r s.now → BothHold L r t.now

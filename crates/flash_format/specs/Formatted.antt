@@ -44,11 +44,6 @@ pub record IsFormatted (passes : List ℕ → Bool) (L : Layout) (v : ℕ) (t : 
   pub shows : seen t.now ≡ Some (first_state L installed)
   pub sound : (E : Setting) → E.layout ≡ L → E.passes ≡ passes → SoundFlash E t.now
 
--- The first bytes of both replicas' blocks are these, and behind them are erased ones.
-pub record HoldTwice (bytes image : List ℕ) : Type 0 where
-  pub zero : block 1 image ≡ padded bytes
-  pub one : block 2 image ≡ padded bytes
-
 -- the layout and the first metadata stand in their one spelling, with erased bytes behind them
 pub record IsSpelled (L : Layout) (image : List ℕ) : Type 0 where
   pub layout : block 0 image ≡ padded (layout_bytes L)
@@ -96,11 +91,6 @@ HasAtMost L image = IsErr (layout_seen image) ⊎ (layout_seen image ≡ Ok L)
 -- both replicas are those of the first metadata
 abbrev pub HoldFirst : Layout → List ℕ → Type 0
 HoldFirst L image = BothHold L (in_version 2 (first_meta L)) image
-
--- and they have its one spelling
-pub record AreFirst (L : Layout) (image : List ℕ) : Type 0 where
-  pub both : HoldFirst L image
-  pub spelled : HoldTwice (replica_bytes L (first_meta L)) image
 
 -- each image that the next power-on may leave has no layout, or both replicas
 abbrev pub IsOrdered : Layout → Told → Type 0

@@ -10,15 +10,13 @@ use Rattle.fwu_formats.specs.{Layout.ImageRow, Layout.Layout, Package.toc_of, Pa
 use Rattle.fwu_formats.specs.declared.kinds.LayoutFault.{LayoutFault}
 use Rattle.flash_format.specs.{declared.stops.InputFault.InputFault, declared.stops.FormatStop.FormatStop}
 use Rattle.flash_format.specs.Choosing.{refusal, refusal_by}
-use Rattle.flash_format.specs.declared.stops.InputFault.TheVariants.{Layout as BadLayout, Package, Missing, TooLarge, Incomplete}
+use Rattle.flash_format.specs.declared.stops.InputFault.TheVariants.{Layout as BadLayout, Package, Incomplete}
 use Rattle.flash_format.specs.declared.stops.FormatStop.TheVariants.{Input, ReadFailed, Flash}
 
 -- a result, as the flash's: a refusal and a file that could not be read are no stop
 abbrev pub flash_result : {T : Type 0} → Result T FormatStop → Result (Unit {0}) FlashStop
-flash_result (Ok x) = Ok tt
-flash_result (Err (Input fault)) = Ok tt
-flash_result (Err ReadFailed) = Ok tt
 flash_result (Err (Flash stop)) = Err stop
+flash_result other = Ok tt
 
 -- how many calls of the files failed, by a result that tells it
 abbrev pub unread_in : {T : Type 0} → Result T FormatStop → ℕ
@@ -53,10 +51,8 @@ StopsEarly other = ⊤
 
 -- a refusal by the layout, the package or an image: before the flash is touched
 abbrev pub IsEarlyStop : {T : Type 0} → Result T FormatStop → Type 0
-IsEarlyStop (Err (Input (BadLayout fault))) = ⊤
-IsEarlyStop (Err (Input (Package fault))) = ⊤
-IsEarlyStop (Err (Input (Missing guid))) = ⊤
-IsEarlyStop (Err (Input (TooLarge guid))) = ⊤
+IsEarlyStop (Err (Input (Incomplete verdict))) = ⊥
+IsEarlyStop (Err (Input fault)) = ⊤
 IsEarlyStop other = ⊥
 
 -- Where this is to be refused the result is that refusal, unless the file could not be read; else it is no such refusal.
@@ -91,13 +87,6 @@ pub record RefusesInput {T : Type 0} (told : Option Directory) (name : List ℕ)
   -- On any files by some bytes, unless the file could not be read: those have that fault, or they are a package with each image.
   pub some : IsOfBytes (fitted L blocks) result
 
--- what is in the bank may be refused, and nothing else
-abbrev pub RefusesBank : {T : Type 0} → Result T FormatStop → Type 0
-RefusesBank (Ok x) = ⊤
-RefusesBank (Err (Input (Incomplete verdict))) = ⊤
-RefusesBank (Err (Flash stop)) = ⊤
-RefusesBank other = ⊥
-
 -- The fact of the verdict, where what is in the bank was refused.
 abbrev pub IfRefused : {T : Type 0} → Result T FormatStop → (Verdict → Type 0) → Type 0
 IfRefused result fact = (found : Verdict) → result ≡ Err (Input (Incomplete found)) → fact found
@@ -123,16 +112,3 @@ IsTableRead answer (Ok toc) = answer ≡ Ok toc
 IsTableRead answer (Err (Input (Package fault))) = answer ≡ Err fault
 IsTableRead answer (Err ReadFailed) = ⊤
 IsTableRead answer other = ⊥
-
--- on any files: it is the answer of some bytes, unless the file could not be read
-pub record IsTableOfBytes (result : Result Toc FormatStop) : Type 0 where
-  pub bytes : List ℕ
-  pub short : length bytes < 2 ^ 64
-  pub table : IsTableRead (toc_of bytes) result
-
--- a file that is no package, or could not be read, and nothing else, stops the reading
-abbrev pub StopsTable : Result Toc FormatStop → Type 0
-StopsTable (Ok toc) = ⊤
-StopsTable (Err (Input (Package fault))) = ⊤
-StopsTable (Err ReadFailed) = ⊤
-StopsTable other = ⊥

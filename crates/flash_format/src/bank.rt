@@ -4,7 +4,7 @@ ghost use Rattle.base_core.specs.Block.{block_bytes};
 ghost use Rattle.fwu_formats.specs.Layout.{blocks_needed, slot_total};
 ghost use Rattle.fip_tables.specs.Files.{Tells};
 ghost use Rattle.flash_format.specs.Places.{Erased, AllStand};
-ghost use Rattle.flash_format.specs.Planned.{IsPlanned, pieces_in};
+ghost use Rattle.flash_format.specs.Planned.{IsPlan, pieces_in};
 ghost use Rattle.flash_format.specs.Stops.{ReadsPackage};
 ghost use Rattle.flash_format.specs.Writes.{IsReadyDevice, WritesImages};
 
@@ -26,7 +26,7 @@ pub fn write_bank<D: Flash, H: Files>(
     requires ready { IsReadyDevice D.Flash (blocks_needed layout.now) flash.old }
     requires erased { IsTrue D.tells →
         Erased (block_bytes * 8) (block_bytes * (8 + slot_total layout.now.rows)) (D.told flash.old).now }
-    requires planned { IsPlanned (H.contents files.old) name.now layout.now entries.now }
+    requires planned { IsPlan (H.contents files.old) name.now layout.now entries.now }
 
     ensures writes { WritesImages D.Flash 8 (block_bytes * 8) (block_bytes * (8 + slot_total layout.now.rows))
         (pieces_in entries.now) result flash.old flash.new }

@@ -1,5 +1,5 @@
 //! Formatting a flash.
-ghost use Rattle.std.specs.Prelude.{◌≡◌, ◌⊎◌, ◌*◌, ℕ, List, Ok, Err, IfOk, OnOk, IsTrue};
+ghost use Rattle.std.specs.Prelude.{◌≡◌, ◌⊎◌, ◌*◌, ℕ, List, Ok, Err, IfOk, IfErr, OnOk, IsTrue};
 ghost use Rattle.base_core.specs.Block.{block_bytes};
 ghost use Rattle.flash_core.specs.Calls.{Goes};
 ghost use Rattle.flash_core.specs.Counts.{lowered_by};
@@ -14,8 +14,8 @@ ghost use Rattle.meta_layout.specs.Rows.{fitted};
 ghost use Rattle.fip_tables.specs.Files.{Lacks, Tells};
 ghost use Rattle.flash_format.specs.Formatted.{asked, HasAtMost, HoldsImages, IsBlank, IsInOrder, IsMade, IsOrdered, IsRefusedFormat, IsUnlaid, IsWholeFormat};
 ghost use Rattle.flash_format.specs.Places.{Erased};
-ghost use Rattle.flash_format.specs.Planned.{IsFilled, IsPlanned, FormatTakes, pieces_in, writes_to_format};
-ghost use Rattle.flash_format.specs.Stops.{flash_result, FormatFinishes, IfRefused, IsByVerdict, IsEarlyStop, IsOfLayout, ReadsPackage, RefusesBank, RefusesInput};
+ghost use Rattle.flash_format.specs.Planned.{IsFilled, IsPlan, FormatTakes, writes_to_format};
+ghost use Rattle.flash_format.specs.Stops.{flash_result, FormatFinishes, IfRefused, IsByVerdict, IsEarlyStop, IsOfLayout, ReadsPackage, RefusesInput, StopsEarly};
 ghost use Rattle.flash_format.specs.declared.stops.FormatStop.TheVariants.{ReadFailed as FileFailed};
 ghost use Rattle.flash_format.specs.Writes.{IsReadyDevice};
 
@@ -62,7 +62,8 @@ fn finish<D: Flash, V: Verifier>(
     ensures spent { OnOk result (D.arming flash.new ≡ lowered_by 3 (D.arming flash.old)) }
     ensures worn { IfRefused result (λ found. D.arming flash.new ≡ D.arming flash.old) }
     ensures refuses { IsByVerdict (V.passes verifier.now) layout.now.rows result }
-    ensures stops { RefusesBank result }
+    // It stops by the flash, or by what is in the bank.
+    ensures stops { IfErr result (λ why. StopsEarly why → ⊥) }
 {
     let _rows = layout.rows();
     let version = check_bank(flash, layout, verifier)?;
@@ -79,7 +80,7 @@ fn carry_out<D: Flash, H: Files, V: Verifier>(
     verifier: &V,
 ) -> Result<u32, FormatStop>
     requires ready { IsReadyDevice D.Flash (blocks_needed plan.now.layout) flash.old }
-    requires planned { IsPlanned (H.contents files.old) name.now plan.now.layout plan.now.entries }
+    requires planned { IsPlan (H.contents files.old) name.now plan.now.layout plan.now.entries }
 
     ensures made { IfOk result (λ version. IsMade D.Flash (V.passes verifier.now) plan.now.layout version flash.new) }
     ensures refused { IfRefused result (λ found. IsTrue D.tells →
@@ -93,9 +94,9 @@ fn carry_out<D: Flash, H: Files, V: Verifier>(
     ensures ordered { IsTrue D.tells → IsInOrder (V.passes verifier.now) plan.now.layout (D.told flash.old) (D.told flash.new) }
     ensures goes { Goes D.Flash (flash_result result) flash.old flash.new }
     ensures spent { OnOk result (D.arming flash.new
-        ≡ lowered_by (writes_to_format plan.now.layout (pieces_in plan.now.entries) 3) (D.arming flash.old)) }
+        ≡ lowered_by (writes_to_format plan.now.layout plan.now.entries 3) (D.arming flash.old)) }
     ensures worn { IfRefused result (λ found. D.arming flash.new
-        ≡ lowered_by (writes_to_format plan.now.layout (pieces_in plan.now.entries) 0) (D.arming flash.old)) }
+        ≡ lowered_by (writes_to_format plan.now.layout plan.now.entries 0) (D.arming flash.old)) }
     ensures refuses { IsByVerdict (V.passes verifier.now) plan.now.layout.rows result }
     ensures stops { IsEarlyStop result → ⊥ }
     ensures reads { ReadsPackage H.Files name.now result files.old files.new }

@@ -5,7 +5,8 @@ ghost use Rattle.flash_core.specs.Told.{NothingDirty};
 ghost use Rattle.flash_core.specs.Replaces.{padded};
 ghost use Rattle.fwu_formats.specs.Layout.{blocks_needed, layout_bytes};
 ghost use Rattle.fwu_formats.specs.Image.{layout_seen};
-ghost use Rattle.flash_format.specs.Formatted.{AreFirst, HasAtMost, HoldFirst, IsOrdered, IsSpelled};
+ghost use Rattle.fwu_formats.specs.Metadata.{first_meta, replica_bytes};
+ghost use Rattle.flash_format.specs.Formatted.{HasAtMost, HoldFirst, IsOrdered, IsSpelled};
 ghost use Rattle.flash_format.specs.Places.{Erased};
 ghost use Rattle.flash_format.specs.Writes.{IsReadyDevice};
 ghost use Rattle.flash_core.specs.Calls.{WritesWithin};
@@ -21,7 +22,10 @@ fn write_replicas<D: Flash>(flash: &mut D, layout: &Layout) -> Result<(), FlashS
     requires erased { IsTrue D.tells → Erased (block_bytes * 1) (block_bytes * 3) (D.told flash.old).now }
 
     ensures writes { WritesWithin D.Flash (block_bytes * 1) (block_bytes * 3) 2 result flash.old flash.new }
-    ensures replicas { OnOk result (IsTrue D.tells → AreFirst layout.now (D.told flash.new).now) }
+    ensures replicas { OnOk result (IsTrue D.tells → HoldFirst layout.now (D.told flash.new).now) }
+    ensures spelled { OnOk result (IsTrue D.tells →
+        (block 1 (D.told flash.new).now ≡ padded (replica_bytes layout.now (first_meta layout.now)))
+        × (block 2 (D.told flash.new).now ≡ padded (replica_bytes layout.now (first_meta layout.now)))) }
     ensures clean { OnOk result (IsTrue D.tells → NothingDirty (D.told flash.new)) }
 {
     let mut bytes = [0xFF; BLOCK_BYTES as usize];

@@ -1,8 +1,8 @@
 //! The table of a package in a file.
-ghost use Rattle.std.specs.Prelude.{◌≡◌, ◌+◌, ◌^◌, ◌<◌, ℕ, List, Ok, Err, All, IfOk};
+ghost use Rattle.std.specs.Prelude.{◌≡◌, ◌+◌, ◌^◌, ◌<◌, ℕ, List, Ok, Err, All, IfOk, length};
 ghost use Rattle.fwu_formats.specs.Package.{toc_of};
 ghost use Rattle.fip_tables.specs.Files.{Lacks, Tells};
-ghost use Rattle.flash_format.specs.Stops.{ReadsPackage, IsTableRead, IsTableOfBytes, StopsTable};
+ghost use Rattle.flash_format.specs.Stops.{ReadsPackage, IsTableRead};
 ghost use Rattle.flash_format.specs.declared.stops.FormatStop.TheVariants.{ReadFailed as FileFailed};
 
 use crate::stops::{FormatStop, InputFault};
@@ -13,8 +13,8 @@ use host_io::Files;
 /// file it is.
 pub fn read_table<H: Files>(files: &mut H, name: &str) -> Result<Toc, FormatStop>
     ensures told { (file : List ℕ) → Tells (H.contents files.old) name.now file → IsTableRead (toc_of file) result }
-    ensures some { IsTableOfBytes result }
-    ensures stops { StopsTable result }
+    // on any files: the table, or the fault, of some bytes
+    ensures some { (bytes : List ℕ) × (length bytes < 2 ^ 64) × IsTableRead (toc_of bytes) result }
     // A name that told files lack is no package that is refused.
     ensures missing { Lacks (H.contents files.old) name.now → result ≡ Err FileFailed }
     ensures there { IfOk result (λ toc. Lacks (H.contents files.old) name.now → ⊥) }

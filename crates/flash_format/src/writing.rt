@@ -1,5 +1,5 @@
 //! Writing the images of a plan, and testing them.
-ghost use Rattle.std.specs.Prelude.{◌≡◌, ◌+◌, ◌*◌, IsTrue, IfOk, OnOk};
+ghost use Rattle.std.specs.Prelude.{◌≡◌, ◌+◌, ◌*◌, IsTrue, IfOk, IfErr, OnOk};
 ghost use Rattle.base_core.specs.Block.{block_bytes};
 ghost use Rattle.flash_core.specs.Calls.{Goes};
 ghost use Rattle.flash_core.specs.Counts.{lowered_by};
@@ -10,8 +10,8 @@ ghost use Rattle.image_check.specs.Passed.{HasPassed};
 ghost use Rattle.image_check.specs.Verdict.{verdict_on};
 ghost use Rattle.image_check.specs.declared.bank.Verdict.TheVariants.{Good};
 ghost use Rattle.flash_format.specs.Places.{IsBare, Erased};
-ghost use Rattle.flash_format.specs.Planned.{IsFilled, IsPlanned, pieces_in};
-ghost use Rattle.flash_format.specs.Stops.{flash_result, IfRefused, IsByVerdict, ReadsPackage, RefusesBank, RefusesNothing};
+ghost use Rattle.flash_format.specs.Planned.{IsFilled, IsPlan, pieces_in};
+ghost use Rattle.flash_format.specs.Stops.{flash_result, IfRefused, IsByVerdict, ReadsPackage, RefusesNothing, StopsEarly};
 ghost use Rattle.flash_format.specs.Writes.{ClearsFirst, IsReadyDevice};
 
 use crate::bank::write_bank;
@@ -32,7 +32,7 @@ pub fn fill<D: Flash, H: Files>(
     name: &str,
 ) -> Result<(), FormatStop>
     requires ready { IsReadyDevice D.Flash (blocks_needed plan.now.layout) flash.old }
-    requires planned { IsPlanned (H.contents files.old) name.now plan.now.layout plan.now.entries }
+    requires planned { IsPlan (H.contents files.old) name.now plan.now.layout plan.now.entries }
 
     ensures keeps { IsTrue D.tells → Keeps 0 (block_bytes * blocks_needed plan.now.layout) (D.told flash.old) (D.told flash.new) }
     // On every device, whatever its reads give: no block beyond the last bank is erased or programmed.
@@ -76,7 +76,8 @@ pub fn check_bank<D: Flash, V: Verifier>(
     ensures writes { D.writes flash.new ≡ D.writes flash.old }
     ensures goes { Goes D.Flash (flash_result result) flash.old flash.new }
     ensures arming { OnOk (flash_result result) (D.arming flash.new ≡ D.arming flash.old) }
-    ensures stops { RefusesBank result }
+    // It stops by the flash, or by what is in the bank.
+    ensures stops { IfErr result (λ why. StopsEarly why → ⊥) }
 {
     let mut buffer = [0; LANES_BYTES];
     let _banks = layout.banks();

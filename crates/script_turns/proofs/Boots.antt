@@ -19,9 +19,9 @@ use Rattle.early_boot.specs.Started.{Started, started_session}
 use Rattle.early_boot.specs.Ends.{Ended, booted, bad_layout, no_metadata, no_bank, lost, failed, stop_of}
 use Rattle.early_boot.specs.EndsBy.{BootEnds, EndsByBytes, EndsByMachine, IdleEnd, StartsReady, StopsWith, StartedBy, StartsPermitted, TakesBoot, TakesByBytes, TouchesBoot}
 use Rattle.script_turns.specs.{Powered.TurnMoment, Powered.IsAt, Powered.IsSafe, Powered.ShowsAt, Boots.BootsFrom, Replies.LeavesOn}
-use Rattle.script_turns.specs.{Replies.power_after, Takes.StaysFree, Takes.TakesBy, Takes.stop_told, Touches.TouchesByBoot}
+use Rattle.script_turns.specs.{Replies.power_after, Takes.TakesBy, Takes.stop_told, Touches.TouchesByBoot}
 use Rattle.script_turns.specs.Turning.{NoneFalls, Turns, GetsPower, IsOnAfter, ShowsStarted, boot_turn, reply_of_end}
-use Rattle.script_turns.proofs.{RunTurns.rose-after, RunTurns.rose-before, Touching.touches-booted}
+use Rattle.script_turns.proofs.{RunTurns.rose-after, RunTurns.rose-before}
 use Rattle.script_turns.proofs.Staying.{as-told, among, falls-same, safe-by, same-guards}
 
 -- ---- the guard
@@ -147,25 +147,35 @@ stop-of-reply : (e : Ended) → stop_of e ≡ stop_told (reply_of_end e)
 stop-of-reply no_metadata = refl
 stop-of-reply other = refl
 
--- Until the boot begins no count falls, no stop is counted, and no arming is made.
-record Waits (old was : Counts) : Type 0 where
-  falls : NoneFalls old was
-  once : all_stops was ≤ all_stops old
-  made : was.made ≡ old.made
+-- Until the boot begins no count falls, no stop is counted, and no arming is made. Nothing is written, and the armed loss stays.
+record Waits (old mid : TurnMoment) : Type 0 where
+  falls : NoneFalls old.counts mid.counts
+  once : all_stops mid.counts ≤ all_stops old.counts
+  made : mid.counts.made ≡ old.counts.made
+  reached : mid.counts.reached ≡ old.counts.reached
+  armed : mid.armed ≡ old.armed
+  writes : mid.writes ≡ old.writes
 
-waits-none : (was : Counts) → Waits was was
-waits-none was = record { falls = falls-same was; once = omega arith; made = refl }
-
-waits : (tells : Bool) (on : Option Fields) (old mid : TurnMoment) → GetsPower tells on old mid → Waits old.counts mid.counts
+waits : (tells : Bool) (on : Option Fields) (old mid : TurnMoment) → GetsPower tells on old mid → Waits old mid
 waits tells None old mid has = record {
   falls = record { faults = omega (arith, has.idles.faults); cuts = omega (arith, has.idles.cuts); reached = omega (arith, has.idles.reached); chances = has.idles.chances };
   once = omega (arith, has.idles.faults, has.idles.cuts, has.idles.reached);
   made = has.made;
+  reached = has.idles.reached;
+  armed = has.armed;
+  writes = has.writes;
 }
-waits tells (Some f) old mid has = subst (Waits old.counts) (sym has.counts) (waits-none old.counts)
+waits tells (Some f) old mid has = record {
+  falls = subst (NoneFalls old.counts) (sym has.counts) (falls-same old.counts);
+  once = omega (arith, ap all_stops has.counts);
+  made = ap (λ (c : Counts). c.made) has.counts;
+  reached = ap (λ (c : Counts). c.reached) has.counts;
+  armed = has.armed;
+  writes = has.writes;
+}
 
-module _ (old was are : Counts) (waiting : Waits old was) where
-  falls-then : (e : Ended) → Spends (stop_of e) was are → NoneFalls old are
+module _ (old mid : TurnMoment) (are : Counts) (waiting : Waits old mid) where
+  falls-then : (e : Ended) → Spends (stop_of e) mid.counts are → NoneFalls old.counts are
   falls-then e costs = record {
     faults = omega (arith, costs.faults, waiting.falls.faults);
     cuts = omega (arith, costs.cuts, waiting.falls.cuts);
@@ -173,19 +183,19 @@ module _ (old was are : Counts) (waiting : Waits old was) where
     chances = omega (arith, costs.chances, waiting.falls.chances);
   }
 
-  lost-then : (e : Ended) → Spends (stop_of e) was are → reply_of_end e ≡ reply.Lost → Rose old.cuts are.cuts ⊎ Rose old.reached are.reached
+  lost-then : (e : Ended) → Spends (stop_of e) mid.counts are → reply_of_end e ≡ reply.Lost → Rose old.counts.cuts are.cuts ⊎ Rose old.counts.reached are.reached
   lost-then (lost n) costs h = by-cause (costs.lost refl)
     where
-      by-cause : Rose was.cuts are.cuts ⊎ Rose was.reached are.reached → Rose old.cuts are.cuts ⊎ Rose old.reached are.reached
-      by-cause (inl rose) = inl (rose-before old.cuts was.cuts are.cuts waiting.falls.cuts rose)
-      by-cause (inr rose) = inr (rose-before old.reached was.reached are.reached waiting.falls.reached rose)
+      by-cause : Rose mid.counts.cuts are.cuts ⊎ Rose mid.counts.reached are.reached → Rose old.counts.cuts are.cuts ⊎ Rose old.counts.reached are.reached
+      by-cause (inl rose) = inl (rose-before old.counts.cuts mid.counts.cuts are.cuts waiting.falls.cuts rose)
+      by-cause (inr rose) = inr (rose-before old.counts.reached mid.counts.reached are.reached waiting.falls.reached rose)
   lost-then other costs h = absurd cc
 
-  failed-then : (e : Ended) → Spends (stop_of e) was are → reply_of_end e ≡ reply.Fault → Rose old.faults are.faults
-  failed-then (failed n) costs h = rose-before old.faults was.faults are.faults waiting.falls.faults (costs.failed refl)
+  failed-then : (e : Ended) → Spends (stop_of e) mid.counts are → reply_of_end e ≡ reply.Fault → Rose old.counts.faults are.faults
+  failed-then (failed n) costs h = rose-before old.counts.faults mid.counts.faults are.faults waiting.falls.faults (costs.failed refl)
   failed-then other costs h = absurd cc
 
-  once-then : (e : Ended) → Spends (stop_of e) was are → all_stops are ≤ all_stops old + stops_in (stop_told (reply_of_end e))
+  once-then : (e : Ended) → Spends (stop_of e) mid.counts are → all_stops are ≤ all_stops old.counts + stops_in (stop_told (reply_of_end e))
   once-then e costs = omega (arith, waiting.once, costs.once, ap stops_in (stop-of-reply e))
 
 -- ---- what an armed loss counts
@@ -193,25 +203,13 @@ module _ (old was are : Counts) (waiting : Waits old was) where
 reaches-then : {T : Type 0} (result : Result T FlashStop) (old was are : Counts) → old.cuts ≤ was.cuts → was.reached ≡ old.reached → ReachesNone result was are → ReachesNone result old are
 reaches-then result old was are cuts reached none = record { same = none.same ∙ reached; lost = λ h. rose-before old.cuts was.cuts are.cuts cuts (none.lost h) }
 
-armed-had : (tells : Bool) (on : Option Fields) (old mid : TurnMoment) → GetsPower tells on old mid → mid.armed ≡ old.armed
-armed-had tells None old mid has = has.armed
-armed-had tells (Some f) old mid has = has.armed
-
-writes-had : (tells : Bool) (on : Option Fields) (old mid : TurnMoment) → GetsPower tells on old mid → mid.writes ≡ old.writes
-writes-had tells None old mid has = has.writes
-writes-had tells (Some f) old mid has = has.writes
-
-reached-had : (tells : Bool) (on : Option Fields) (old mid : TurnMoment) → GetsPower tells on old mid → mid.counts.reached ≡ old.counts.reached
-reached-had tells None old mid has = has.idles.reached
-reached-had tells (Some f) old mid has = ap (λ (c : Counts). c.reached) has.counts
-
-boots-free : (e : Ended) (old mid new : TurnMoment) → mid.armed ≡ old.armed → old.counts.cuts ≤ mid.counts.cuts → mid.counts.reached ≡ old.counts.reached
-    → StaysUnarmed (stop_of e) mid.armed new.armed mid.counts new.counts → StaysFree (reply_of_end e) old new
-boots-free e old mid new armed cuts reached unarmed = record {
+boots-free : (e : Ended) (old mid new : TurnMoment) → Waits old mid → StaysUnarmed (stop_of e) mid.armed new.armed mid.counts new.counts
+    → StaysUnarmed (stop_told (reply_of_end e)) old.armed new.armed old.counts new.counts
+boots-free e old mid new waiting unarmed = record {
   spent = λ lost. unarmed.spent (subst (λ (x : Result (Unit {0}) FlashStop). IsErrOf x flash_stop.Lost) (sym (stop-of-reply e)) lost);
   free = λ none.
-      let free = unarmed.free (armed ∙ none) in
-      (free.0, subst (λ (x : Result (Unit {0}) FlashStop). ReachesNone x old.counts new.counts) (stop-of-reply e) (reaches-then (stop_of e) old.counts mid.counts new.counts cuts reached free.1));
+      let free = unarmed.free (waiting.armed ∙ none) in
+      (free.0, subst (λ (x : Result (Unit {0}) FlashStop). ReachesNone x old.counts new.counts) (stop-of-reply e) (reaches-then (stop_of e) old.counts mid.counts new.counts waiting.falls.cuts waiting.reached free.1));
 }
 
 -- ---- the flash that boots
@@ -306,16 +304,16 @@ module _ (passes : List ℕ → Bool) (tells : Bool) (files : Option Directory) 
     (ended : EndsTurn passes tells e mid new) where
   boots-by : (on : Option Fields) → old.on ≡ on → GetsPower tells on old mid → Turns passes tells files call.Boot (boot_turn e) old new faults faults
   boots-by on on_is has =
-      let waiting : Waits old.counts mid.counts = waits tells on old mid has in record {
+      let waiting : Waits old mid = waits tells on old mid has in record {
         call_is = refl;
         unnumbered = λ no. absurd cc;
-        counts = falls-then old.counts mid.counts new.counts waiting e ended.costs;
+        counts = falls-then old mid new.counts waiting e ended.costs;
         made = ended.costs.made ∙ waiting.made;
         armed = tt;
-        free = λ no. boots-free e old mid new (armed-had tells on old mid has) waiting.falls.cuts (reached-had tells on old mid has) ended.unarmed;
-        lost = lost-then old.counts mid.counts new.counts waiting e ended.costs;
-        failed = failed-then old.counts mid.counts new.counts waiting e ended.costs;
-        once = once-then old.counts mid.counts new.counts waiting e ended.costs;
+        free = λ no. boots-free e old mid new waiting ended.unarmed;
+        lost = lost-then old mid new.counts waiting e ended.costs;
+        failed = failed-then old mid new.counts waiting e ended.costs;
+        once = once-then old mid new.counts waiting e ended.costs;
         unread = λ is. absurd (reads-none e is);
         lacking = λ lacks some. absurd lacks;
         later = omega arith;
@@ -331,7 +329,7 @@ module _ (passes : List ℕ → Bool) (tells : Bool) (files : Option Directory) 
             numbers_are = refl;
             on_is = ended.on_is;
             idle = ended.idle;
-            spent = subst (λ (a : Option Arming). TakesBoot e a new.armed) (armed-had tells on old mid has) ended.spent;
+            spent = subst (λ (a : Option Arming). TakesBoot e a new.armed) waiting.armed ended.spent;
             touches = ended.touches_fewer;
             started = ended.started;
             permitted = ended.permitted;
@@ -340,8 +338,7 @@ module _ (passes : List ℕ → Bool) (tells : Bool) (files : Option Directory) 
           },
         );
         takes = record { by_call = takes old.on; unread = λ is. absurd (reads-none e is) };
-        touches = touches-booted old.on old.writes new.writes
-            (subst (λ (w : ℕ → ℕ). TouchesByBoot w new.writes) (writes-had tells on old mid has) ended.touches);
+        touches = subst (λ (w : ℕ → ℕ). TouchesByBoot w new.writes) waiting.writes ended.touches;
         power = ended.power_is ∙ power-after-end e old.power;
         guard = λ told. guard told ∙ guard-had tells on old mid told has;
         step = λ told E c passes_are files_are is none. step told E c passes_are (subst (λ (o : Option Fields). IsAt E c o old.told) on_is is) none;
@@ -356,7 +353,7 @@ module _ (passes : List ℕ → Bool) (tells : Bool) (files : Option Directory) 
       }
     where
       takes : (o : Option Fields) → TakesBy files call.Boot o old (reply_of_end e) new
-      takes None = tt
+      takes None = λ no. absurd cc
       takes (Some f) = tt
 
       guard : IsTrue tells → new.told.guard ≡ mid.told.guard

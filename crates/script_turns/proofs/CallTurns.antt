@@ -8,7 +8,7 @@ use Rattle.flash_core.specs.{Counts.Spends, Counts.StaysUnarmed, Counts.stops_in
 use Rattle.flash_core.specs.declared.flash.FlashStop.TheVariants as flash_stop
 use Rattle.host_io.specs.Contents.{Directory}
 use Rattle.fwu_model.specs.{State.State, State.after, Sound.Setting, Call.Call, Reply.Reply, declared.kinds.Status.Status}
-use Rattle.fwu_model.specs.{Calm.IsAtRest, Headline.IsCut, Headline.LeavesOneOf}
+use Rattle.fwu_model.specs.{Calm.IsAtRest, Headline.LeavesOneOf}
 use Rattle.fwu_model.specs.Session.{Session, Off, On, Staged, Nothing, Committed, no_handles}
 use Rattle.fwu_model.specs.Call as call
 use Rattle.fwu_model.specs.Reply as reply
@@ -29,10 +29,10 @@ use Rattle.agent_machine.specs.Meets.{Answers, IsDone, IsSettingOf, LeavesFlash,
 use Rattle.agent_calls.specs.AnswersCall.{AnswersCall, GoesBackBy, IsDecided, IsPreviousCall, IsReplyOf, PermitsBack}
 use Rattle.script_turns.specs.Powered.{TurnMoment, IsAt, IsSafe, at, kept_at}
 use Rattle.script_turns.specs.Replies.{AnswersBegin, AnswersTo, CallSays, IsFlashStop, Replies, power_after}
-use Rattle.script_turns.specs.{Takes.TakesOn, Takes.stop_told, Calls.is_agents, Calls.is_composed, Calls.on_by, Calls.reply_by}
-use Rattle.script_turns.specs.{Touches.DecidesAfter, Touches.IsMetaAfter, Turning.Makes, Turning.Turns, Turning.quiet_turn}
-use Rattle.script_turns.proofs.{Quiets.lacks-none, Touching.touches-called}
-use Rattle.script_turns.proofs.Staying.{among, no-numbers, no-stop, safe-by, same-guards, as-told, shows-as, told-shows}
+use Rattle.script_turns.specs.{Takes.TakesOn, Takes.stop_told, Calls.is_agents, Calls.is_composed, Calls.reply_by}
+use Rattle.script_turns.specs.{Touches.DecidesAfter, Touches.IsMetaAfter, Turning.Turns, Turning.quiet_turn}
+use Rattle.script_turns.proofs.{CallTakes.on_by, Quiets.lacks-none, Touching.touches-called}
+use Rattle.script_turns.proofs.Staying.{among, makes-none, needs-agent, never-boots, never-cuts, no-numbers, no-stop, safe-by, same-guards, as-told, shows-as, told-shows}
 
 -- ---- the calls of the agent
 
@@ -45,22 +45,10 @@ single-agents : (c : Call) → IsTrue (is_single c) → IsTrue (is_agents c)
 single-agents (call.BeginPartial types) single = absurd cc
 single-agents other single = single
 
-never-boots : (c : Call) → IsTrue (is_agents c) → IsFalse (is_boot c)
-never-boots call.Boot agents = absurd cc
-never-boots other agents = refl
-
 never-sends : (c : Call) → IsTrue (is_agents c) → IsFalse (is_send c)
 never-sends (call.Send name request) agents = absurd cc
 never-sends (call.SendPartial name request) agents = absurd cc
 never-sends other agents = refl
-
-makes-none : (c : Call) (before now : ℕ) → IsTrue (is_agents c) → now ≡ before → Makes c before now
-makes-none (call.Cut n k) before now agents same = absurd cc
-makes-none other before now agents same = same
-
-never-cuts : (c : Call) (r : Reply) (armed : Option Arming) → IsTrue (is_agents c) → IsCut (Some (quiet_turn c r)) armed
-never-cuts (call.Cut n k) r armed agents = absurd cc
-never-cuts other r armed agents = tt
 
 replies-of : (passes : List ℕ → Bool) (tells : Bool) (files : Option Directory) (c : Call) (f : Fields) (old new : TurnMoment) (r : Reply) → IsTrue (is_agents c) → old.on ≡ Some f
     → CallSays passes tells c old.on old r new.on new → Replies passes tells files c old (quiet_turn c r) new
@@ -159,8 +147,8 @@ module _ (passes : List ℕ → Bool) (tells : Bool) (files : Option Directory) 
     call_is = refl;
     unnumbered = λ no. refl;
     counts = record { faults = costs.faults; cuts = costs.cuts; reached = costs.reached; chances = costs.chances };
-    made = makes-none c was.made are.made agents costs.made;
-    armed = never-cuts c r after_armed agents;
+    made = makes-none c was.made are.made (needs-agent c agents) costs.made;
+    armed = never-cuts c r after_armed (needs-agent c agents);
     free = λ no. subst (λ (q : Result (Unit {0}) FlashStop). StaysUnarmed q armed after_armed was are) ends.stop_is free;
     lost = λ e. costs.lost (ends.stop_is ∙ ap stop_told e);
     failed = λ e. costs.failed (ends.stop_is ∙ ap stop_told e);
@@ -204,10 +192,10 @@ module _ (passes : List ℕ → Bool) (tells : Bool) (files : Option Directory) 
       let exact = answers test E s x setting shows in
       let does = leaves.does E s x setting shows test on.ready in (
         moved_on from c (after s (answer E s x c).moves ∷ []) (answer E s x c).next,
-        Answered none (asks c tells f told w s x (never-boots c agents) shows) (record {
+        Answered none (asks c tells f told w s x (never-boots c (needs-agent c agents)) shows) (record {
           state = s;
           found = record { candidate = among from.candidates s on.one; numbers = tt };
-          numbers = no-numbers c (never-boots c agents);
+          numbers = no-numbers c (never-boots c (needs-agent c agents));
           reply_is = exact.0;
           next_is = refl;
         }),
@@ -264,10 +252,10 @@ module _ (passes : List ℕ → Bool) (tells : Bool) (files : Option Directory) 
       let shows = told-shows tells f told s x w test on.shows in
       let does = leaves.does E s x setting shows test on.ready in (
         moved_on from c (prefixes s (stopped_moves E s x c (stopped_reply why))) Off,
-        Stopped (is-stop why) (asks c tells f told w s x (never-boots c agents) shows) (record {
+        Stopped (is-stop why) (asks c tells f told w s x (never-boots c (needs-agent c agents)) shows) (record {
           state = s;
           found = record { candidate = among from.candidates s on.one; numbers = tt };
-          numbers = no-numbers c (never-boots c agents);
+          numbers = no-numbers c (never-boots c (needs-agent c agents));
           reads = λ e. absurd ((tells-stopped why).no_read e);
           next_is = refl;
         }),

@@ -22,9 +22,9 @@ use Rattle.fwu_journal.specs.Shown.{IsShortReply, turn}
 use Rattle.script_text.specs.Shown.{shown}
 use Rattle.script_text.specs.declared.call.Call.TheVariants as variant
 use Rattle.script_turns.specs.{Touches.IsMetaAfter, Powered.TurnMoment, Powered.SameDevice, Stage.on_where, Takes.TakesOn}
-use Rattle.script_turns.specs.{Calls.is_there, Calls.moment_where, Calls.on_by, Calls.open_call, Calls.reply_by, Turned.IsCallTurn}
+use Rattle.script_turns.specs.{Calls.is_there, Calls.moment_where, Calls.open_call, Calls.reply_by, Turned.IsCallTurn}
 use Rattle.script_turns.specs.{Turned.LeavesAgent, Turning.Turns, Turning.quiet_turn, declared.turned.AgentTurn.AgentTurn}
-use Rattle.script_turns.proofs.CallTakes.{done_reply, got, with}
+use Rattle.script_turns.proofs.CallTakes.{done_reply, got, on_by, with}
 use Rattle.script_turns.proofs.CallTurns.{Called, GoesBackAs, begin-turns, call-turns, is_single}
 
 -- ---- an agent that isn't gone
@@ -138,11 +138,6 @@ on-where-there (Ok value) here = refl
 on-where-there (Err stop.Gone) here = absurd (here refl)
 on-where-there (Err other) here = refl
 
-kept-where-there : {T : Type 0} (result : Result T Stop) (f : Fields) → on_where (is_there result) f ≡ on_by result f
-kept-where-there (Ok value) f = refl
-kept-where-there (Err (stop.Status st)) f = refl
-kept-where-there (Err other) f = refl
-
 -- a stop ends the agent
 ends : {T : Type 0} (result : Result T Stop) → IsStopped result → IsTrue (is_there result) → ⊥
 ends (Ok value) stopped there = absurd stopped
@@ -173,7 +168,7 @@ module _ {D T : Type 0} {F : Ghosts D} (a b : Agent D F) (done : AgentTurn) (res
       → Turns passes F.tells files c (quiet_turn c r) (with (Some (fields a)) a) (with (on_by result (fields b)) b) faults faults
       → Turns passes F.tells files c (turn done.turn) (moment_where true a) (moment_where done.here b) faults faults
   turned-by passes files faults c r turn_is here_is turns =
-      subst (λ (on : Option Fields). Turns passes F.tells files c (turn done.turn) (moment_where true a) (with on b) faults faults) (sym (ap (λ (there : Bool). on_where there (fields b)) here_is ∙ kept-where-there result (fields b)))
+      subst (λ (on : Option Fields). Turns passes F.tells files c (turn done.turn) (moment_where true a) (with on b) faults faults) (sym (ap (λ (there : Bool). on_where there (fields b)) here_is))
       (subst (λ (t : Turn). Turns passes F.tells files c t (moment_where true a) (with (on_by result (fields b)) b) faults faults) (sym turn_is) turns)
 
   pub turns-by : (says : T → Reply) (passes : List ℕ → Bool) (c : Call) → turn done.turn ≡ quiet_turn c (reply_by says result) → done.here ≡ is_there result

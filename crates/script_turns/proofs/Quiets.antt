@@ -1,6 +1,6 @@
 -- Turns that ask for no file, that leave the flash as it is, and those of a flash on which no bank was started.
 use Rattle.std.proofs.Common.{◌≡◌, List, Bool, ℕ, refl, sym, subst, ◌≤◌, true, not, ◌||◌, ◌∷◌, Option, Some, None, ap, ◌∙◌, arith, IsTrue, IsFalse}
-use Rattle.flash_core.specs.{declared.flash.Flash.Ghosts, Counts.all_stops, Told.Told, declared.flash.Arming.Arming}
+use Rattle.flash_core.specs.{declared.flash.Flash.Ghosts, Counts.StaysUnarmed, Counts.all_stops, Told.Told, declared.flash.Arming.Arming}
 use Rattle.flash_core.specs.declared.flash.Counts.{Counts}
 use Rattle.host_io.specs.{Access.Access, Contents.Directory}
 use Rattle.host_io.specs.declared.files.Files as files
@@ -18,11 +18,11 @@ use Rattle.agent_machine.specs.Moment as agent
 use Rattle.agent_machine.proofs.Beside.{spared-told}
 use Rattle.script_turns.specs.Powered.{moment_in, TurnMoment, at, SameDevice, IsAt, IsSafe, ShowsAt, numbers_kept}
 use Rattle.script_turns.specs.{Stage.device, Stage.has_power, declared.stage.Stage.Stage, Sending.LacksSent, Calls.is_agents}
-use Rattle.script_turns.specs.{Calls.needs_bank, Takes.StaysFree, Takes.TakesByCall, Takes.TakesBy, Touches.Touches}
+use Rattle.script_turns.specs.{Calls.needs_bank, Takes.TakesBy, Takes.stop_told}
 use Rattle.script_turns.specs.{Touches.TouchesBy, Turned.IsStageTurn, Turned.TurnLeaves, Turned.TurnsAlone}
 use Rattle.script_turns.specs.Turning.{Turns, Arms, Makes, NoneFalls, quiet_turn}
 use Rattle.script_turns.specs.Replies.{Replies, no_call_reply, power_after, show_reply}
-use Rattle.script_turns.proofs.Staying.{counts_none, among, falls-same, no-numbers, no-stop}
+use Rattle.script_turns.proofs.Staying.{counts_none, among, falls-same, makes-none, never-boots, never-cuts, no-numbers, no-stop}
 
 -- ---- the turn of a call that asks for no file
 
@@ -57,11 +57,11 @@ pub record IsQuiet (tells : Bool) (files : Option Directory) (what : Call) (r : 
   pub once : all_stops new.counts ≤ all_stops old.counts
   pub made : Makes what old.counts.made new.counts.made
   pub armed : IsCut (Some (quiet_turn what r)) new.armed
-  pub free : IsFalse (is_cut what) → StaysFree r old new
+  pub free : IsFalse (is_cut what) → StaysUnarmed (stop_told r) old.armed new.armed old.counts new.counts
   pub power : new.power ≡ old.power
   pub keeps_power : power_after old.power r ≡ old.power
-  pub takes : TakesByCall files what old r new
-  pub touches : Touches what old new
+  pub takes : TakesBy files what old.on old r new
+  pub touches : TouchesBy what old.on old.writes new.writes
   pub answers : AnswersBy what r old.on old.told
 
 -- only what is sent can be lacking
@@ -172,17 +172,17 @@ module _ (passes : List ℕ → Bool) (tells : Bool) (files : Option Directory) 
   -- what goes by what is on, of a call that changes nothing
   pub record Looks (what : Call) (r : Reply) (on : Option Fields) : Type 0 where
     pub no_stop : IsFalse (is_stop r)
-    pub free : StaysFree r m m
+    pub free : StaysUnarmed (stop_told r) m.armed m.armed m.counts m.counts
     pub power : power_after m.power r ≡ m.power
     pub takes : TakesBy files what on m r m
     pub touches : TouchesBy what on m.writes m.writes
 
   show-looks : (on : Option Fields) → Looks call.Show (show_reply on) on
-  show-looks None = record { no_stop = refl; free = unarmed_none tt _ _; power = refl; takes = same-device m; touches = refl }
+  show-looks None = record { no_stop = refl; free = unarmed_none tt _ _; power = refl; takes = λ no. same-device m; touches = refl }
   show-looks (Some f) = record { no_stop = refl; free = unarmed_none tt _ _; power = refl; takes = same-device m; touches = refl }
 
   no_call-looks : (on : Option Fields) → Looks call.NoCall (no_call_reply on) on
-  no_call-looks None = record { no_stop = refl; free = unarmed_none tt _ _; power = refl; takes = same-device m; touches = refl }
+  no_call-looks None = record { no_stop = refl; free = unarmed_none tt _ _; power = refl; takes = λ no. same-device m; touches = refl }
   no_call-looks (Some f) = record { no_stop = refl; free = unarmed_none tt _ _; power = refl; takes = same-device m; touches = refl }
 
   pub looks-turns : (what : Call) (r : Reply) → IsFalse (is_boot what) → (LacksSent files what → IsSome m.on → ⊥)
@@ -230,7 +230,7 @@ cut-answers n k None t = λ E s. sym (ap (λ (a : Answer). a.reply) (cut-on n k 
 cut-answers n k (Some f) t = λ E s x shows. cut-on n k E s x
 
 cut-takes : (files : Option Directory) (n k : ℕ) (on : Option Fields) (old new : TurnMoment) → TakesBy files (call.Cut n k) on old reply.CutOk new
-cut-takes files n k None old new = tt
+cut-takes files n k None old new = λ no. absurd cc
 cut-takes files n k (Some f) old new = tt
 
 cut-touches : (n k : ℕ) (on : Option Fields) (w v : ℕ → ℕ) → v ≡ w → TouchesBy (call.Cut n k) on w v
@@ -266,11 +266,8 @@ module _ (passes : List ℕ → Bool) (tells : Bool) (files : Option Directory) 
 
   -- what goes by the call
   record LeavesOff (c : Call) : Type 0 where
-    made : Makes c cs.made cs.made
-    cut : IsCut (Some (quiet_turn c reply.IsOff)) armed
     replies : Replies passes tells files c here (quiet_turn c reply.IsOff) here
     looks : Looks passes tells files here was c reply.IsOff None
-    no_boot : IsFalse (is_boot c)
     answers : (E : Setting) (s : State) → reply.IsOff ≡ (answer E s Off c).reply
 
   leaves-off : (c : Call) → IsTrue (needs_bank c) → LeavesOff c
@@ -280,16 +277,13 @@ module _ (passes : List ℕ → Bool) (tells : Bool) (files : Option Directory) 
   leaves-off call.Show asks = absurd cc
   leaves-off call.NoCall asks = absurd cc
   leaves-off q asks = record {
-    made = refl;
-    cut = tt;
     replies = (refl, refl);
-    looks = record { no_stop = refl; free = unarmed_none tt armed cs; power = refl; takes = same-device here; touches = refl };
-    no_boot = refl;
+    looks = record { no_stop = refl; free = unarmed_none tt armed cs; power = refl; takes = λ no. same-device here; touches = refl };
     answers = λ E s. refl;
   }
 
   pub off-turn : (c : Call) → IsTrue (needs_bank c) → Turns passes tells files c (quiet_turn c reply.IsOff) here here was was
   off-turn c asks =
       let leaves = leaves-off c asks in
-      looks-turns passes tells files here was c reply.IsOff leaves.no_boot (λ lacks some. absurd cc) (λ f on agents. absurd cc)
-      leaves.made leaves.cut leaves.looks leaves.answers leaves.replies
+      looks-turns passes tells files here was c reply.IsOff (never-boots c asks) (λ lacks some. absurd cc) (λ f on agents. absurd cc)
+      (makes-none c cs.made cs.made asks refl) (never-cuts c reply.IsOff armed asks) leaves.looks leaves.answers leaves.replies

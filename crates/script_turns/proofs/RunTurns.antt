@@ -5,9 +5,11 @@ use Rattle.std.proofs.{Math.Seq.get_or-append_seam, lemmas.List.Elements.Contain
 use Rattle.std.proofs.lemmas.Bool.{cases_Bool, cases_lt, false≢true, or_parts}
 use Rattle.std.proofs.lemmas.Option.{same_Some, slice_get-get_or, slice_get_within}
 use Rattle.std.specs.Prelude.{IsErrOf, []}
-use Rattle.flash_core.specs.{Counts.Rose, Counts.stops_in, declared.flash.Arming.Arming, declared.flash.Counts.Counts, Told.Told}
-use Rattle.flash_core.specs.{Told.NothingDirty, Told.fresh, Told.is_unsure, May.Guards, May.Quiet}
+use Rattle.flash_core.specs.{Counts.Rose, Counts.StaysUnarmed, Counts.stops_in, declared.flash.Arming.Arming, declared.flash.Counts.Counts, Told.Told}
+use Rattle.flash_core.specs.{Told.NothingDirty, May.Guards}
+use Rattle.flash_core.proofs.Calls.{quiet_fresh}
 use Rattle.flash_core.specs.declared.flash.FlashStop.TheVariants as flash_stop
+pub use Rattle.base_core.proofs.Counts.{rose_earlier as rose-before}
 use Rattle.host_io.specs.Contents.{Directory}
 use Rattle.fwu_model.specs.{State.State, Sound.Setting, Call.Call, Reply.Reply, Reply.Turn, Calm.IsGuarded}
 use Rattle.fwu_model.specs.Call as call
@@ -17,7 +19,7 @@ use Rattle.fwu_model.specs.Headline.{ArmedBy, IsCut, made_after}
 use Rattle.fwu_model.specs.Causes.{FileNotRead, LossesAreCounted, cuts_in, greatest, is_cut, is_lost, losses_in}
 use Rattle.fwu_model.proofs.{Runs.runs-grow, Frame.calm-stays, Frame.start-is-calm}
 use Rattle.agent_machine.specs.Fields.{Fields}
-use Rattle.script_turns.specs.{Boots.BootsFrom, Replies.Replies, Replies.power_after, Takes.StaysFree, Takes.stop_told}
+use Rattle.script_turns.specs.{Boots.BootsFrom, Replies.Replies, Replies.power_after, Takes.stop_told}
 use Rattle.script_turns.specs.Powered.{FitsMachine, TurnMoment, IsSafe, ShowsCondition}
 use Rattle.script_turns.specs.Turning.{Makes, NoneFalls, Turns}
 use Rattle.script_turns.specs.Runs.{Follows, LossesAreDue, Ran, RunsFree, RunsTo, armings_left, power_left, stops_of}
@@ -55,10 +57,6 @@ falls-on old mid new first then = record {
   reached = let a = first.reached in let b = then.reached in omega arith;
   chances = let a = first.chances in let b = then.chances in omega arith;
 }
-
-pub rose-before : (old mid new : ℕ) → old ≤ mid → Rose mid new → Rose old new
-rose-before old mid new later (inl more) = inl (omega arith)
-rose-before old mid new later (inr top) = inr top
 
 pub rose-after : (old mid new : ℕ) → mid ≤ new → Rose old mid → Rose old new
 rose-after old mid new later (inl more) = inl (omega arith)
@@ -98,19 +96,15 @@ module _ (t : Turn) (journal : List Turn) (old mid new : Counts) where
 
 -- ---- a flash with nothing dirty
 
-clean-quiet : (t : Told) → NothingDirty t → (low high : ℕ) → Quiet low high t
-unfolding fresh is_unsure
-clean-quiet t clean low high i from below = subst (λ (x : Told). IsFalse (is_unsure x i)) (sym clean) refl
-
 clean-guarded : (t : Told) → NothingDirty t → IsGuarded t
 clean-guarded t clean = record {
-  layout = clean-quiet t clean 0 4096;
-  banks = λ image L s may layout shows b valid i from below. clean-quiet t clean i (i + 1) i (omega arith) (omega arith);
+  layout = quiet_fresh 0 4096 t clean;
+  banks = λ image L s may layout shows b valid i from below. quiet_fresh i (i + 1) t clean i (omega arith) (omega arith);
 }
 
 clean-safe : (power : Bool) (t : Told) → NothingDirty t → Guards 1 7 t → IsSafe power t
 clean-safe false t clean guard = (guard, clean-guarded t clean)
-clean-safe true t clean guard = record { guard = guard; front = clean-quiet t clean 0 (4096 * 8); guarded = clean-guarded t clean }
+clean-safe true t clean guard = record { guard = guard; front = quiet_fresh 0 (4096 * 8) t clean; guarded = clean-guarded t clean }
 
 -- ---- the arming
 
@@ -150,7 +144,7 @@ none-cut journal t none = (omega (arith, cuts-more journal t, none), uncut (is_c
 lost-told : (r : Reply) → r ≡ reply.Lost → IsErrOf (stop_told r) flash_stop.Lost
 lost-told r is = subst (λ (x : Reply). IsErrOf (stop_told x) flash_stop.Lost) (sym is) refl
 
-free-on : (t : Turn) (journal : List Turn) (old mid new : TurnMoment) → NoneFalls old.counts mid.counts → NoneFalls mid.counts new.counts → StaysFree t.reply mid new → RunsFree journal old mid → RunsFree (journal ++ t ∷ []) old new
+free-on : (t : Turn) (journal : List Turn) (old mid new : TurnMoment) → NoneFalls old.counts mid.counts → NoneFalls mid.counts new.counts → StaysUnarmed (stop_told t.reply) mid.armed new.armed mid.counts new.counts → RunsFree journal old mid → RunsFree (journal ++ t ∷ []) old new
 free-on t journal old mid new before behind free was =
     let turned = free.free was.armed in
     record {
@@ -168,7 +162,7 @@ few-left (Some a) = omega arith
 
 -- a turn takes an armed loss, or one that is counted, if it is lost; and it arms one, if it is a `cut`
 due-on : (t : Turn) (journal : List Turn) (old mid new : TurnMoment) → NoneFalls mid.counts new.counts
-    → (IsTrue (is_cut t.call) → IsFalse (is_lost t.reply)) → (IsFalse (is_cut t.call) → StaysFree t.reply mid new)
+    → (IsTrue (is_cut t.call) → IsFalse (is_lost t.reply)) → (IsFalse (is_cut t.call) → StaysUnarmed (stop_told t.reply) mid.armed new.armed mid.counts new.counts)
     → LossesAreDue journal old mid → LossesAreDue (journal ++ t ∷ []) old new
 due-on t journal old mid new falls quiet free (inr top) = let cuts = falls.cuts in inr (omega arith)
 due-on t journal old mid new falls quiet free (inl sum) = elim (one-more (is_cut t.call) (is_lost t.reply) refl refl) [

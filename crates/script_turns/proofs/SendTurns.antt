@@ -11,12 +11,12 @@ use Rattle.flash_core.specs.Counts.{Spends, StaysUnarmed, stops_in}
 use Rattle.fwu_formats.specs.{Layout.ImageRow, Layout.Layout, Package.Entry, Package.Toc, Package.entry_of}
 use Rattle.fwu_formats.proofs.Same.{listed-same}
 use Rattle.fwu_model.specs.{State.State, State.Move, State.after, Sound.Setting, Call.Call, Reply.Reply, Reply.Turn}
-use Rattle.fwu_model.specs.{Causes.FileNotRead, Causes.LacksFile, Headline.IsCut, Headline.LeavesOneOf}
+use Rattle.fwu_model.specs.{Causes.FileNotRead, Causes.LacksFile, Headline.LeavesOneOf}
 use Rattle.fwu_model.specs.Session.{Session, Off, On, Staged, Handle}
 use Rattle.fwu_model.specs.Call as call
 use Rattle.fwu_model.specs.Reply as reply
-use Rattle.fwu_model.specs.Answer.{Answer, answer, answered, answer_send, answer_send_partial, bits_over, first_image_fault, type_of_image, has_image, image_held, images_of, images_over, install_unless, partial_fault, payload_or, send_file, send_file_over, send_package, sent_over, skipped, table_in}
-use Rattle.fwu_model.specs.Run.{Condition, HasNumbers, Step, Answered, Stopped, asks_state, is_boot, is_off, is_send, is_stop, moved_on, prefixes, stopped_moves}
+use Rattle.fwu_model.specs.Answer.{Answer, answer, answered, answer_send, answer_send_partial, bits_over, type_of_image, has_image, image_held, images_of, images_over, install_unless, partial_fault, payload_or, send_file, send_file_over, send_package, sent_over, table_in}
+use Rattle.fwu_model.specs.Run.{Condition, Step, Answered, Stopped, asks_state, is_boot, is_off, is_send, is_stop, moved_on, prefixes, stopped_moves}
 use Rattle.moves.specs.Moved.{IsReady}
 use Rattle.moves.proofs.Composed.{does-idle}
 use Rattle.fip_tables.specs.Files.{Lacks, Tells}
@@ -25,29 +25,36 @@ use Rattle.agent_machine.specs.{Machine.state_in, Machine.session_in, Knows.Fitt
 use Rattle.agent_machine.proofs.{Beside.spared-same, Showing.known-shows}
 use Rattle.agent_machine.specs.Moment as agent
 use Rattle.update_client.specs.{declared.stops.Sent.Sent, declared.stops.SendStop.SendStop, Halts.flash_of, Choosing.no_row}
-use Rattle.update_client.specs.declared.stops.SendStop.TheVariants.{MissingImage, End, ReadFailed, Lost, Fault, Gone}
+use Rattle.update_client.specs.declared.stops.SendStop.TheVariants.{End, ReadFailed, Lost, Fault, Gone}
 use Rattle.update_client.specs.Pieces.{ReadsPieceBy, unread_in}
 use Rattle.update_client.specs.Sends.{AnswersBy, GoneBy, IsEarlySend, Sends, SendEndsBy, ended_session, send_answer}
-use Rattle.update_client.specs.Partial.{GoesAs, SendsOver, WasBegun, over_answer}
-use Rattle.agent_calls.specs.{Takes.Takes as TakesWrites, declared.agent.Agent.Agent}
-use Rattle.update_client.specs.Takes.{OnRefusedEnd, OnUnread, DoneSendTakes as TakesSent, SendTakesBy, UnreadTakes}
+use Rattle.update_client.specs.Partial.{GoesAs, SendsOver, WasBegun, over_answer, writes_over}
+use Rattle.agent_calls.specs.{Takes.Takes as TakesWrites, Takes.writes_to_begin, declared.agent.Agent.Agent}
+use Rattle.update_client.specs.Takes.{OnRefusedEnd, OnUnread, DoneSendTakes as TakesSent, SendTakesBy, UnreadTakes, writes_sent}
 use Rattle.agent_calls.specs.Shown.{device, fields, gone, moment}
 use Rattle.fwu_journal.specs.Shown.{turn}
 use Rattle.flash_core.proofs.Unarmed.{unarmed_none}
-use Rattle.script_turns.specs.{declared.turned.AgentTurn.AgentTurn, Calls.is_composed, Calls.moment_where, Stage.on_where}
-use Rattle.script_turns.specs.{Replies.Replies, Replies.power_after, Turning.Makes, Turning.Turns, Turning.quiet_turn}
+use Rattle.script_turns.specs.{declared.turned.AgentTurn.AgentTurn, Calls.is_composed, Calls.moment_where, Calls.needs_bank, Stage.on_where}
+use Rattle.script_turns.specs.{Replies.Replies, Replies.power_after, Turning.Turns, Turning.quiet_turn}
 use Rattle.script_turns.specs.Powered.{TurnMoment, at, kept_at, IsAt, IsSafe, ShowsAt}
-use Rattle.script_turns.specs.Sending.{AnswersSend, IsTableOf, LacksSent, SendSays, SendsAs, SpendsSent, TellsBegun, done_reply, is_answered, on_sent, send_call, sent_reply, writes_partly, writes_whole}
-use Rattle.script_turns.specs.Takes.{AreSent, SendTakes, StaysFree, TakesOn, stop_told, unread_told, writes_before}
-use Rattle.script_turns.proofs.Staying.{shows-here, as-told, counts_none, shows-as, told-shows, among, falls-same, no-stop, safe-by, same-guards}
+use Rattle.script_turns.specs.Sending.{AnswersSend, IsTableOf, LacksSent, SendSays, SendsAs, SpendsSent, TellsBegun, done_reply, is_answered, send_call, sent_reply}
+use Rattle.script_turns.specs.Takes.{AreSent, SendTakes, TakesOn, stop_told, unread_told, writes_before}
+use Rattle.script_turns.proofs.Staying.{shows-here, as-told, counts_none, makes-none, never-boots, never-cuts, no-numbers, shows-as, told-shows, among, falls-same, no-stop, safe-by, same-guards}
 use Rattle.script_turns.proofs.{CallTakes.with, Touching.touches-sent}
 use denote.Struct.Props.{props}
 
+-- what an agent keeps, where it is there after a sending
+abbrev on_sent : Result Sent SendStop → Fields → Option Fields
+on_sent result f = on_where (is_answered result) f
+
 -- ---- the call
 
+asks-send : (partly : Bool) (name : List ℕ) (request : ℕ) → IsTrue (needs_bank (send_call partly name request))
+asks-send false name request = refl
+asks-send true name request = refl
+
 no-boot : (partly : Bool) (name : List ℕ) (request : ℕ) → IsFalse (is_boot (send_call partly name request))
-no-boot false name request = refl
-no-boot true name request = refl
+no-boot partly name request = never-boots (send_call partly name request) (asks-send partly name request)
 
 does-send : (partly : Bool) (name : List ℕ) (request : ℕ) → IsTrue (is_send (send_call partly name request))
 does-send false name request = refl
@@ -55,14 +62,6 @@ does-send true name request = refl
 
 always-reads : (partly : Bool) (name : List ℕ) (request : ℕ) → IsFalse (is_send (send_call partly name request)) → ⊥
 always-reads partly name request never = let sends = does-send partly name request in absurd (false≢true (sym never ∙ sends))
-
-makes-none : (partly : Bool) (name : List ℕ) (request before now : ℕ) → now ≡ before → Makes (send_call partly name request) before now
-makes-none false name request before now same = same
-makes-none true name request before now same = same
-
-never-cuts : (partly : Bool) (name : List ℕ) (request : ℕ) (r : Reply) (armed : Option Arming) → IsCut (Some (quiet_turn (send_call partly name request) r)) armed
-never-cuts false name request r armed = tt
-never-cuts true name request r armed = tt
 
 not-read : (partly : Bool) (files : Option Directory) (name : List ℕ) (request was are : ℕ) → Rose was are ⊎ LacksFile files name → FileNotRead files was are (send_call partly name request)
 not-read false files name request was are cause = cause
@@ -82,10 +81,6 @@ takes-as : (partly : Bool) (files : Option Directory) (name : List ℕ) (request
     → SendTakes partly files name f r old new → TakesOn files (send_call partly name request) f old r new
 takes-as false files name request f old r new takes = takes
 takes-as true files name request f old r new takes = takes
-
-no-numbers : (partly : Bool) (name : List ℕ) (request : ℕ) (r : Reply) → HasNumbers (quiet_turn (send_call partly name request) r)
-no-numbers false name request r = refl
-no-numbers true name request r = refl
 
 -- ---- what the machine answers
 
@@ -189,8 +184,8 @@ goes-over (Err q) a E old new s x h = h
 
 -- the writes up to the end, by whether it is partial
 abbrev writes_to_send : Bool → Fields → Toc → ℕ
-writes_to_send false f toc = writes_whole f toc
-writes_to_send true f toc = writes_partly f toc
+writes_to_send false f toc = writes_to_begin f + writes_sent block_bytes f.layout.rows toc
+writes_to_send true f toc = writes_to_begin f + writes_over block_bytes f.layout.rows f.lengths toc
 
 -- What either kind says of an agent that isn't gone: each machine that the agent shows goes by an answer, which is the machine's own
 -- where the device and the files are told.
@@ -291,7 +286,7 @@ module _ (E : Setting) (from : Condition) (partly : Bool) (name : List ℕ) (req
     Answered no_stop asks (record {
       state = s;
       found = record { candidate = among from.candidates s is.shows.one; numbers = tt };
-      numbers = no-numbers partly name request r;
+      numbers = no-numbers asked (no-boot partly name request);
       reply_is = replied ∙ sym (ap (λ (b : Answer). b.reply) same);
       next_is = sym (ap (λ (b : Answer). moved_on from asked (after s b.moves ∷ []) b.next) same);
     }),
@@ -309,7 +304,7 @@ module _ (E : Setting) (from : Condition) (partly : Bool) (name : List ℕ) (req
     Stopped stop asks (record {
       state = s;
       found = record { candidate = among from.candidates s is.shows.one; numbers = tt };
-      numbers = no-numbers partly name request r;
+      numbers = no-numbers asked (no-boot partly name request);
       reads = λ e. does-send partly name request;
       next_is = sym (ap (λ (ns : List Move). moved_on from asked (prefixes s ns) Off) same);
     }),
@@ -336,8 +331,8 @@ module _ (partly : Bool) (passes : List ℕ → Bool) (tells : Bool) (files : Op
     call_is = refl;
     unnumbered = λ no. refl;
     counts = falls-same cs;
-    made = makes-none partly name request _ _ refl;
-    armed = never-cuts partly name request r armed;
+    made = makes-none (send_call partly name request) _ _ (asks-send partly name request) refl;
+    armed = never-cuts (send_call partly name request) r armed (asks-send partly name request);
     free = λ no. subst (λ (q : Result (Unit {0}) FlashStop). StaysUnarmed q armed armed cs cs) (sym calm) (unarmed_none tt armed cs);
     lost = λ e. absurd (let lost = ap stop_told e in cc);
     failed = λ e. absurd (let failed = ap stop_told e in cc);
@@ -382,7 +377,7 @@ module _ (partly : Bool) (passes : List ℕ → Bool) (tells : Bool) (files : Op
   pub unread-table : are ≤ was + 1 → Rose was are ⊎ LacksFile files name
       → Turns passes tells files (send_call partly name request) (quiet_turn (send_call partly name request) reply.ReadFault) here (left None) was are
   unread-table once cause =
-      unsent reply.ReadFault None refl refl (λ e. cause) (λ lacks. refl) once tt
+      unsent reply.ReadFault None refl refl (λ e. cause) (λ lacks. refl) once (inr refl)
       (inl (record { told = refl; writes = refl; counts = refl; armed = refl; power = refl }))
       (λ e E from told is. step-stopped E from partly name request reply.ReadFault f t t is refl
       (answer E is.shows.state from.session (call.Begin 0)).moves refl refl
@@ -432,9 +427,9 @@ module _ (partly : Bool) (passes : List ℕ → Bool) (tells : Bool) (files : Op
       → SpendsSent (sent_reply partly result) (writes_to_send partly f toc) armed arming
       → SendSays partly passes tells files name request (Some f) (at (Some f) t w cs armed true) (sent_reply partly result) (on_sent result g) (at (on_sent result g) u v ds arming power)
   says power toc (Ok sent) there sends stays spent = done-says partly sent (says-answered toc (Ok sent) sends stays (done_reply partly sent) (λ tells. tt) sends.goes spent)
-  says power toc (Err ReadFailed) there sends stays spent = tt
-  says power toc (Err Lost) there sends stays spent = tt
-  says power toc (Err Fault) there sends stays spent = tt
+  says power toc (Err ReadFailed) there sends stays spent = inr refl
+  says power toc (Err Lost) there sends stays spent = inl tt
+  says power toc (Err Fault) there sends stays spent = inl tt
   says power toc (Err Gone) there sends stays spent = absurd (there refl)
   says power toc (Err s) there sends stays spent =
       says-answered toc (Err s) sends stays (sent_reply partly (Err s)) (λ tells. tells) sends.goes spent
@@ -500,9 +495,9 @@ module _ (partly : Bool) (passes : List ℕ → Bool) (tells : Bool) (files : Op
   sent-takes (Err s) power toc powered same table unread =
       let d = same tt in record { told = d.0; writes = d.1; counts = d.2; armed = d.3; power = powered }
 
-  sent-free : (result : Result Sent SendStop) (power : Bool) → StaysUnarmed (flash_of result) armed arming cs ds
-      → StaysFree (sent_reply partly result) (at (Some f) t w cs armed true) (at (on_sent result g) u v ds arming power)
-  sent-free result power free =
+  sent-free : (result : Result Sent SendStop) → StaysUnarmed (flash_of result) armed arming cs ds
+      → StaysUnarmed (stop_told (sent_reply partly result)) armed arming cs ds
+  sent-free result free =
       subst (λ (told : Result (Unit {0}) FlashStop). StaysUnarmed told armed arming cs ds) (tells-end partly result).stop_is free
 
   -- the turn of a sending that ended, on a device that has power
@@ -517,9 +512,9 @@ module _ (partly : Bool) (passes : List ℕ → Bool) (tells : Bool) (files : Op
     call_is = refl;
     unnumbered = λ no. refl;
     counts = record { faults = spent.faults; cuts = spent.cuts; reached = spent.reached; chances = spent.chances };
-    made = makes-none partly name request cs.made ds.made spent.made;
-    armed = never-cuts partly name request (sent_reply partly result) arming;
-    free = λ no. sent-free result power free;
+    made = makes-none (send_call partly name request) cs.made ds.made (asks-send partly name request) spent.made;
+    armed = never-cuts (send_call partly name request) (sent_reply partly result) arming (asks-send partly name request);
+    free = λ no. sent-free result free;
     lost = λ e. spent.lost (ends.stop_is ∙ ap stop_told e);
     failed = λ e. spent.failed (ends.stop_is ∙ ap stop_told e);
     once = omega (arith, spent.once, ap stops_in ends.stop_is);
@@ -571,12 +566,7 @@ moment-as a was there is = ap (λ (h : Bool). moment_where h a) is
 
 -- after a sending
 moment-sent : {D : Type 0} {F : Ghosts D} (a : Agent D F) (there : Bool) (result : Result Sent SendStop) → there ≡ is_answered result → moment_where there a ≡ with (on_sent result (fields a)) a
-moment-sent a there result is = ap (λ (h : Bool). moment_where h a) is ∙ ap (λ (on : Option Fields). with on a) (kept result (fields a))
-  where
-    kept : (sent : Result Sent SendStop) (f : Fields) → on_where (is_answered sent) f ≡ on_sent sent f
-    kept (Ok sent) f = refl
-    kept (Err (MissingImage guid)) f = refl
-    kept (Err s) f = refl
+moment-sent a there result is = ap (λ (h : Bool). moment_where h a) is
 
 with-power : (m : TurnMoment) → IsTrue m.power → m ≡ at m.on m.told m.writes m.counts m.armed true
 with-power m power = ap (λ (on : Bool). at m.on m.told m.writes m.counts m.armed on) power

@@ -1,9 +1,10 @@
 -- What stays the same, as several kinds of turns say it, and which machine an agent shows and fits.
-use Rattle.std.proofs.Common.{Bool, true, ℕ, sym, subst, IsTrue, ◌≡◌, ◌≢◌, Contains, ◌==◌, List, ◌∷◌, None, Ok, Err, Result, refl, ap, arith, IsFalse, false}
-use Rattle.flash_core.specs.{Told.Told, declared.flash.Counts.Counts, declared.flash.FlashStop.FlashStop, May.Guards}
+use Rattle.std.proofs.Common.{Bool, true, ℕ, sym, subst, IsTrue, ◌≡◌, ◌≢◌, Contains, ◌==◌, List, ◌∷◌, None, Ok, Err, Result, refl, ap, arith, IsFalse, false, ◌||◌}
+use Rattle.flash_core.specs.{Told.Told, declared.flash.Arming.Arming, declared.flash.Counts.Counts, declared.flash.FlashStop.FlashStop, May.Guards}
 use Rattle.flash_core.specs.declared.flash.Flash.{Ghosts}
-use Rattle.fwu_model.specs.{State.State, State.Numbers, Session.Session, Call.Call, Reply.Reply, Run.is_boot, Run.is_stop}
-use Rattle.fwu_model.specs.Calm.{IsAtRest}
+use Rattle.fwu_model.specs.{State.State, State.Numbers, Session.Session, Call.Call, Reply.Reply, Run.is_boot, Run.is_send, Run.is_stop, Headline.IsCut}
+use Rattle.fwu_model.specs.Call as call
+use Rattle.fwu_model.specs.{Calm.IsAtRest, Replica.BothHold}
 use Rattle.agent_machine.specs.{Fields.Fields, Moment.Showing, Moment.Shows}
 use Rattle.agent_machine.specs.Moment as agent
 use Rattle.std.specs.Prelude.{MatchBool, IsSome, IsNone, is_ok, [], Option, Some, is_some}
@@ -13,8 +14,8 @@ use Rattle.std.proofs.lemmas.Option.{same_Some}
 use Rattle.agent_calls.specs.Shown as of_agent
 use Rattle.agent_calls.specs.declared.agent.Agent.{Agent}
 use Rattle.agent_machine.proofs.{Known.known-shown, Showing.shows-some}
-use Rattle.script_turns.specs.Powered.{ShowsAt, kept_at, FitsMachine, IsHeld, IsSeen, moment_in, moment_of, the, IsSafe}
-use Rattle.script_turns.specs.{Turning.NoneFalls, Stage.on_where, declared.powered.Powered.Powered, declared.stage.Stage.Stage}
+use Rattle.script_turns.specs.Powered.{ShowsAt, kept_at, FitsMachine, moment_in, moment_of, the, IsSafe}
+use Rattle.script_turns.specs.{Turning.Makes, Turning.NoneFalls, Turning.quiet_turn, Calls.is_agents, Calls.needs_bank, Stage.on_where, declared.powered.Powered.Powered, declared.stage.Stage.Stage}
 use Rattle.script_turns.specs.declared.stage.Stage.TheVariants as stage
 
 -- ---- which machine an agent shows, whatever its device counts
@@ -51,6 +52,23 @@ safe-by (Err stop) t u same rest now = (same-guards t u same rest.guard, now)
 pub among : (states : List State) (s : State) → states ≡ s ∷ [] → Contains states s
 among states s one = subst (λ (xs : List State). Contains xs s) (sym one) (0, omega arith, refl)
 
+-- of the calls for which a bank must have been started none is a boot or a `cut`
+pub never-boots : (c : Call) → IsTrue (needs_bank c) → IsFalse (is_boot c)
+never-boots call.Boot asks = absurd cc
+never-boots other asks = refl
+
+pub makes-none : (c : Call) (before now : ℕ) → IsTrue (needs_bank c) → now ≡ before → Makes c before now
+makes-none (call.Cut n k) before now asks same = absurd cc
+makes-none other before now asks same = same
+
+pub never-cuts : (c : Call) (r : Reply) (armed : Option Arming) → IsTrue (needs_bank c) → IsCut (Some (quiet_turn c r)) armed
+never-cuts (call.Cut n k) r armed asks = absurd cc
+never-cuts other r armed asks = tt
+
+-- a call of the agent is one of these
+pub needs-agent : (c : Call) → IsTrue (is_agents c) → IsTrue (needs_bank c)
+needs-agent c agents = subst (λ (b : Bool). IsTrue (b || is_send c)) (sym agents) refl
+
 -- a call that is no boot tells no numbers
 pub no-numbers : (c : Call) → IsFalse (is_boot c) → MatchBool (is_boot c) (IsSome {T = Numbers} None) (IsNone {T = Numbers} None)
 no-numbers c never = subst (λ (b : Bool). MatchBool b (IsSome {T = Numbers} None) (IsNone {T = Numbers} None)) (sym never) refl
@@ -71,19 +89,19 @@ seen-here {F = F} a here tells s x shows =
     let t = F.told a.flash in
     subst (λ (y : State). IsShown a.layout t.now y) (sym (shows.told tells).0) (known-shown (of_agent.fields a) t (a.knows here tells))
 
-fits-where : (tells here : Bool) (f : Fields) (t : Told) (w : ℕ → ℕ) → (IsTrue here → ∥ Showing (kept_at tells f t w) ∥₁) → (IsTrue here → IsSeen tells f t) → (IsTrue here → IsHeld tells f t)
-    → (g : Fields) → on_where here f ≡ Some g → ∥ Showing (kept_at tells g t w) ∥₁ × IsSeen tells g t × IsHeld tells g t
-fits-where tells true f t w shows seen held g e =
-    subst (λ (x : Fields). ∥ Showing (kept_at tells x t w) ∥₁ × IsSeen tells x t × IsHeld tells x t) (same_Some _ _ e)
-    (shows refl, seen refl, held refl)
-fits-where tells false f t w shows seen held g e = absurd cc
+-- what holds of what an agent keeps, where it is there
+fits-where : (P : Fields → Type 0) (here : Bool) (f : Fields) → (IsTrue here → P f) → (g : Fields) → on_where here f ≡ Some g → P g
+fits-where P true f holds g e = subst P (same_Some _ _ e) (holds refl)
+fits-where P false f holds g e = absurd cc
 
 pub fits-stage : {D : Type 0} {F : Ghosts D} (s : Stage D F) → FitsMachine F.tells (moment_in s)
 fits-stage (stage.Off flash) = λ f e. absurd cc
 fits-stage (stage.Fresh fresh) = λ f e. absurd cc
-fits-stage {F = F} (stage.On live) = λ f e.
+fits-stage {F = F} (stage.On live) =
+    let t = F.told (of_agent.device live.agent) in
     let w = F.writes (of_agent.device live.agent) in
-    fits-where F.tells live.here (of_agent.fields live.agent) (F.told (of_agent.device live.agent)) w live.shows (λ here told s x shows. live.seen here told s x (shows w)) (λ here told. (live.agent.knows (live.not_gone here) told).both) f e
+    fits-where (λ f. ∥ Showing (kept_at F.tells f t w) ∥₁ × (IsTrue F.tells → (s : State) (x : Session) → ShowsAt F.tells f t s x → IsShown f.layout t.now s) × (IsTrue F.tells → BothHold f.layout f.meta t.now))
+    live.here (of_agent.fields live.agent) (λ here. (live.shows here, λ told s x shows. live.seen here told s x (shows w), λ told. (live.agent.knows (live.not_gone here) told).both))
 
 pub fitting : {D : Type 0} {F : Ghosts D} (p : Powered D F) → FitsMachine F.tells (moment_of p)
 fitting p = fits-stage (the p.inside p.there)

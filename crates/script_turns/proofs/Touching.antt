@@ -16,13 +16,13 @@ use Rattle.agent_machine.specs.Moment as agent
 use Rattle.agent_machine.proofs.Beside.{blocks-once}
 use Rattle.script_turns.specs.{Calls.is_agents, Calls.is_composed, Powered.TurnMoment, Replies.AnswersTo, Replies.CallSays}
 use Rattle.script_turns.specs.{Replies.Replies, Runs.RunTouches, Runs.SparesBanks, Runs.boots_in, Touches.TouchesBy}
-use Rattle.script_turns.specs.{Touches.TouchesByBoot, Touches.TouchesOn, Turning.Turns}
+use Rattle.script_turns.specs.{Touches.TouchesByBoot, Turning.Turns}
 use Rattle.script_turns.specs.Sending.{send_call, AnswersSend, SendSays, SendsAs}
 
 -- ---- which blocks a turn touches, by its call
 
 -- of a call of the agent
-pub touches-called : (c : Call) (f : Fields) (w v : ℕ → ℕ) → IsTrue (is_agents c) → SparesBlocksByAll f w v → (IsFalse (is_composed c) → SparesBlocks f w v) → TouchesOn c f w v
+pub touches-called : (c : Call) (f : Fields) (w v : ℕ → ℕ) → IsTrue (is_agents c) → SparesBlocksByAll f w v → (IsFalse (is_composed c) → SparesBlocks f w v) → TouchesBy c (Some f) w v
 touches-called call.Boot f w v agents all one = absurd cc
 touches-called call.Show f w v agents all one = absurd cc
 touches-called call.NoCall f w v agents all one = absurd cc
@@ -33,20 +33,26 @@ touches-called (call.SendPartial name request) f w v agents all one = all
 touches-called other f w v agents all one = one refl
 
 -- of a sending
-pub touches-sent : (partly : Bool) (name : List ℕ) (request : ℕ) (f : Fields) (w v : ℕ → ℕ) → SparesBlocksByAll f w v → TouchesOn (send_call partly name request) f w v
+pub touches-sent : (partly : Bool) (name : List ℕ) (request : ℕ) (f : Fields) (w v : ℕ → ℕ) → SparesBlocksByAll f w v → TouchesBy (send_call partly name request) (Some f) w v
 touches-sent false name request f w v all = all
 touches-sent true name request f w v all = all
-
--- of a boot, whatever was on
-pub touches-booted : (on : Option Fields) (w v : ℕ → ℕ) → TouchesByBoot w v → TouchesBy call.Boot on w v
-touches-booted None w v boot = boot
-touches-booted (Some f) w v boot = boot
 
 same-at : (b : ℕ) (w v : ℕ → ℕ) → v ≡ w → v b ≡ w b
 same-at b w v same = ap (λ (writes : ℕ → ℕ). writes b) same
 
 pub boot-touches : (e : Ended) (w v : ℕ → ℕ) → TouchesOnly 4096 28672 w v → TouchesBoot e w v → TouchesByBoot w v
 boot-touches e w v front fewer = record { front = front; marks_still = boot-spares e w v fewer }
+
+-- where a bank was started, and it is no boot
+called-spares : (c : Call) (f : Fields) (w v : ℕ → ℕ) → IsFalse (is_boot c) → TouchesBy c (Some f) w v → SparesBlocksByAll f w v
+called-spares call.Boot f w v never touches = absurd cc
+called-spares call.Show f w v never touches = λ b out. ap (λ (writes : ℕ → ℕ). writes b) touches
+called-spares call.NoCall f w v never touches = λ b out. ap (λ (writes : ℕ → ℕ). writes b) touches
+called-spares (call.Cut n k) f w v never touches = λ b out. ap (λ (writes : ℕ → ℕ). writes b) touches
+called-spares (call.BeginPartial types) f w v never touches = touches
+called-spares (call.Send name request) f w v never touches = touches
+called-spares (call.SendPartial name request) f w v never touches = touches
+called-spares other f w v never touches = blocks-once f touches
 
 -- ---- blocks 0 and 4
 
@@ -63,21 +69,11 @@ boot-left w v boot = (boot.front layout_block (inl (omega arith)), boot.marks_st
 all-left : (f : Fields) (w v : ℕ → ℕ) → SparesBlocksByAll f w v → LeavesFixed w v
 all-left f w v all = (all layout_block (inl (omega arith), inl (omega arith)), all counter_block (inr (omega arith), inl (omega arith)))
 
-one-left : (f : Fields) (w v : ℕ → ℕ) → SparesBlocks f w v → LeavesFixed w v
-one-left f w v one = (one layout_block (inl (omega arith), λ active. inl (omega arith)), one counter_block (inr (omega arith), λ active. inl (omega arith)))
-
 -- no turn touches them
 pub fixed-left : (c : Call) (on : Option Fields) (w v : ℕ → ℕ) → TouchesBy c on w v → LeavesFixed w v
-fixed-left call.Boot None w v touches = boot-left w v touches
+fixed-left call.Boot on w v touches = boot-left w v touches
 fixed-left other None w v touches = same-left w v touches
-fixed-left call.Boot (Some f) w v touches = boot-left w v touches
-fixed-left call.Show (Some f) w v touches = same-left w v touches
-fixed-left call.NoCall (Some f) w v touches = same-left w v touches
-fixed-left (call.Cut n k) (Some f) w v touches = same-left w v touches
-fixed-left (call.BeginPartial types) (Some f) w v touches = all-left f w v touches
-fixed-left (call.Send name request) (Some f) w v touches = all-left f w v touches
-fixed-left (call.SendPartial name request) (Some f) w v touches = all-left f w v touches
-fixed-left other (Some f) w v touches = one-left f w v touches
+fixed-left other (Some f) w v touches = all-left f w v (called-spares other f w v refl touches)
 
 -- ---- the counts, by the call
 
@@ -88,19 +84,8 @@ off-still call.Boot None w v never off touches = absurd cc
 off-still other None w v never off touches = touches
 
 booted-touches : (c : Call) (on : Option Fields) (w v : ℕ → ℕ) → IsTrue (is_boot c) → TouchesBy c on w v → TouchesByBoot w v
-booted-touches call.Boot None w v boot touches = touches
-booted-touches call.Boot (Some f) w v boot touches = touches
+booted-touches call.Boot on w v boot touches = touches
 booted-touches other on w v boot touches = absurd cc
-
-called-spares : (c : Call) (f : Fields) (w v : ℕ → ℕ) → IsFalse (is_boot c) → TouchesOn c f w v → SparesBlocksByAll f w v
-called-spares call.Boot f w v never touches = absurd cc
-called-spares call.Show f w v never touches = λ b out. ap (λ (writes : ℕ → ℕ). writes b) touches
-called-spares call.NoCall f w v never touches = λ b out. ap (λ (writes : ℕ → ℕ). writes b) touches
-called-spares (call.Cut n k) f w v never touches = λ b out. ap (λ (writes : ℕ → ℕ). writes b) touches
-called-spares (call.BeginPartial types) f w v never touches = touches
-called-spares (call.Send name request) f w v never touches = touches
-called-spares (call.SendPartial name request) f w v never touches = touches
-called-spares other f w v never touches = blocks-once f touches
 
 on-spares : (c : Call) (on : Option Fields) (f : Fields) (w v : ℕ → ℕ) → IsFalse (is_boot c) → on ≡ Some f → TouchesBy c on w v → SparesBlocksByAll f w v
 on-spares c on f w v never is touches = called-spares c f w v never (subst (λ (o : Option Fields). TouchesBy c o w v) is touches)

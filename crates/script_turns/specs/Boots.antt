@@ -1,6 +1,6 @@
 -- What a boot's reply says of the bytes of a flash, sound or not, and what a boot does.
 use Rattle.std.specs.Prelude.{◌≡◌, ℕ, Bool, List, Some, None, ⊤, Ok, Err, ◌⊎◌, Option, IsTrue}
-use Rattle.fwu_model.specs.{declared.kinds.NoBoot.NoBoot, State.State, State.Numbers, Answer.booted_package, Reply.Reply}
+use Rattle.fwu_model.specs.{State.State, State.Numbers, Answer.booted_package, Reply.Reply}
 use Rattle.fwu_model.specs.Reply.{Turn}
 use Rattle.fwu_model.specs.declared.kinds.NoBoot.TheVariants as no_boot
 use Rattle.fwu_formats.specs.{Layout.Layout, Manifest.version, Image.layout_seen, Image.deciding}
@@ -28,15 +28,12 @@ pub record ChoseNone (passes : List ℕ → Bool) (image : List ℕ) (active pre
   pub active_is : active ≡ state.active
   pub previous_is : previous ≡ state.previous
 
-abbrev pub IsRefusedBy : (List ℕ → Bool) → List ℕ → NoBoot → Type 0
-IsRefusedBy passes image (no_boot.Layout f) = layout_seen image ≡ Err f
-IsRefusedBy passes image no_boot.Metadata = (L : Layout) × (layout_seen image ≡ Ok L) × (deciding L image ≡ None)
-IsRefusedBy passes image (no_boot.Bank active previous) = ChoseNone passes image active previous
-
 -- by the layout, the metadata that decides, and the choice; a stop says nothing of them, and a boot has no other reply
 abbrev pub BootsFrom : (List ℕ → Bool) → List ℕ → Reply → Type 0
 BootsFrom passes image (reply.Booted bank v trials counter fallback) = ChoseBank passes image bank v
-BootsFrom passes image (reply.NotBooted why) = IsRefusedBy passes image why
+BootsFrom passes image (reply.NotBooted (no_boot.Layout f)) = layout_seen image ≡ Err f
+BootsFrom passes image (reply.NotBooted no_boot.Metadata) = (L : Layout) × (layout_seen image ≡ Ok L) × (deciding L image ≡ None)
+BootsFrom passes image (reply.NotBooted (no_boot.Bank active previous)) = ChoseNone passes image active previous
 BootsFrom passes image reply.Lost = ⊤
 BootsFrom passes image reply.Fault = ⊤
 BootsFrom passes image other = ⊥

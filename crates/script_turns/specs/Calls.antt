@@ -1,11 +1,11 @@
 -- The turn of a call of the agent, by what the call gave.
-use Rattle.std.specs.Prelude.{ℕ, Bool, true, false, List, Option, Result, Ok, Err, ◌||◌}
+use Rattle.std.specs.Prelude.{ℕ, Bool, true, false, List, Result, Ok, Err, ◌||◌}
 use Rattle.flash_core.specs.declared.flash.Flash.{Ghosts}
 use Rattle.fwu_model.specs.{declared.kinds.Op.Op, Call.Call, Reply.Reply, Run.is_send}
 use Rattle.fwu_model.specs.declared.kinds.Op.TheVariants as op
 use Rattle.fwu_model.specs.Call as call
 use Rattle.fwu_model.specs.Reply as reply
-use Rattle.agent_machine.specs.{declared.stop.Stop.Stop, Fields.Fields}
+use Rattle.agent_machine.specs.{declared.stop.Stop.Stop}
 use Rattle.agent_machine.specs.declared.stop.Stop.TheVariants as stop
 use Rattle.agent_calls.specs.{declared.agent.Agent.Agent, Shown.device, Shown.fields}
 use Rattle.script_turns.specs.{Stage.on_where, Powered.TurnMoment, Powered.moment_on}
@@ -48,10 +48,6 @@ abbrev pub is_there : {T : Type 0} → Result T Stop → Bool
 is_there (Ok value) = true
 is_there (Err (stop.Status st)) = true
 is_there (Err other) = false
-
--- what the agent keeps, where it is there afterwards
-abbrev pub on_by : {T : Type 0} → Result T Stop → Fields → Option Fields
-on_by result f = on_where (is_there result) f
 
 -- the flash of an agent that is there, or is not
 abbrev pub moment_where : {D : Type 0} {F : Ghosts D} → Bool → Agent D F → TurnMoment

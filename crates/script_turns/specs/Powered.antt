@@ -87,18 +87,13 @@ kept_at tells f t w = record { tells = tells; told = t; writes = w; fields = f }
 abbrev pub ShowsAt : Bool → Fields → Told → State → Session → Type 0
 ShowsAt tells f t s x = (w : ℕ → ℕ) → agent.Shows (kept_at tells f t w) s x
 
--- where the device tells its content, sound or not, the flash shows the state that the agent shows: what was answered stands there
-abbrev pub IsSeen : Bool → Fields → Told → Type 0
-IsSeen tells f t = IsTrue tells → (s : State) (x : Session) → ShowsAt tells f t s x → IsShown f.layout t.now s
-
--- and both replicas hold the metadata that the agent keeps
-abbrev pub IsHeld : Bool → Fields → Told → Type 0
-IsHeld tells f t = IsTrue tells → BothHold f.layout f.meta t.now
-
--- what the agent keeps fits some machine, where a bank was started, and the flash shows it, by two replicas
+-- What the agent keeps fits some machine, where a bank was started. Where the device tells its content, sound or not, the flash shows
+-- the state that the agent shows: what was answered stands there. And both replicas hold the metadata that the agent keeps.
 abbrev pub FitsMachine : Bool → TurnMoment → Type 0
 FitsMachine tells m = (f : Fields) → m.on ≡ Some f
-    → ∥ agent.Showing (kept_at tells f m.told m.writes) ∥₁ × IsSeen tells f m.told × IsHeld tells f m.told
+    → ∥ agent.Showing (kept_at tells f m.told m.writes) ∥₁
+    × (IsTrue tells → (s : State) (x : Session) → ShowsAt tells f m.told s x → IsShown f.layout m.told.now s)
+    × (IsTrue tells → BothHold f.layout f.meta m.told.now)
 
 -- ---- the condition of a run, on a flash that tells its content
 

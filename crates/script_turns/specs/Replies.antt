@@ -1,5 +1,5 @@
 -- Which reply a turn has, on any device, and what the agent keeps afterwards.
-use Rattle.std.specs.Prelude.{◌≡◌, ◌<◌, ℕ, Bool, true, false, not, ◌==◌, List, length, Option, Some, None, IsTrue, ⊤}
+use Rattle.std.specs.Prelude.{◌≡◌, ◌<◌, ℕ, Bool, true, false, not, ◌==◌, List, length, Option, Some, None, IsTrue}
 use Rattle.std.specs.Prelude.{slice_index_or}
 use Rattle.fwu_model.specs.{State.State, State.after, Sound.Setting, Session.Session, Session.no_handles, Answer.are_named}
 use Rattle.fwu_model.specs.{Answer.image_held, Call.Call, Reply.Reply, Reply.Turn}
@@ -12,6 +12,7 @@ use Rattle.agent_machine.specs.Moment as agent
 use Rattle.agent_calls.specs.{Partly.begins_over, AnswersCall.AnswersCall}
 use Rattle.script_turns.specs.Powered.{TurnMoment, kept_at, numbers_kept}
 use Rattle.script_turns.specs.{Arms.Arms, Boots.BootsAs, Sending.SendSays}
+pub use Rattle.script_turns.specs.Sending.{IsFlashStop}
 
 -- what `show` answers, by what the agent keeps where the flash is on
 abbrev pub show_reply : Option Fields → Reply
@@ -52,12 +53,6 @@ power_after power reply.Fault = false
 power_after power other = power
 
 -- ---- the agent's calls
-
--- the flash stopped it
-abbrev pub IsFlashStop : Reply → Type 0
-IsFlashStop reply.Lost = ⊤
-IsFlashStop reply.Fault = ⊤
-IsFlashStop other = ⊥
 
 -- A partial begin, on any device. There are bytes of the images that aren't named, when it is done as many as the agent keeps of
 -- the bank that was started. Where the device tells they are the active bank's. An answer or a refusal is that of each machine that

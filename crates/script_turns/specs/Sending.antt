@@ -1,5 +1,5 @@
 -- What a turn of `send` says, whole or partial, on any device and of any file.
-use Rattle.std.specs.Prelude.{◌≡◌, ◌≢◌, ◌<◌, ℕ, ◌+◌, Bool, true, false, List, length, Option, Some, None, Result, Ok, Err, IsTrue}
+use Rattle.std.specs.Prelude.{◌≡◌, ◌≢◌, ◌⊎◌, ◌<◌, ℕ, ◌+◌, Bool, true, false, List, length, Option, Some, None, Result, Ok, Err, IsTrue}
 use Rattle.std.specs.Prelude.{⊤, slice_index_or}
 use Rattle.base_core.specs.Block.{block_bytes}
 use Rattle.flash_core.specs.declared.flash.Arming.{Arming}
@@ -17,20 +17,12 @@ use Rattle.update_client.specs.{declared.stops.Sent.Sent, declared.stops.SendSto
 use Rattle.update_client.specs.declared.stops.SendStop.TheVariants.{MissingImage, ImageTooLarge, Begin, End, ReadFailed, Lost, Fault, Gone}
 use Rattle.update_client.specs.Takes.{DoneSendTakes as TakesSent, writes_sent}
 use Rattle.update_client.specs.Partial.{AreWhole, over_answer, writes_over}
-use Rattle.script_turns.specs.declared.tables.TableStop.TheVariants as table_stop
-use Rattle.script_turns.specs.{Tables.IsOfTable, Powered.TurnMoment, Powered.kept_at, Stage.on_where}
+use Rattle.script_turns.specs.{Tables.IsOfAnswer, Powered.TurnMoment, Powered.kept_at}
 
 -- a sending of all images, or one over those of the active bank
 abbrev pub send_call : Bool → List ℕ → ℕ → Call
 send_call false name request = call.Send name request
 send_call true name request = call.SendPartial name request
-
--- a table, or what is answered to a file without one, is of what was read
-abbrev pub IsOfAnswer : Result Toc Reply → Type 0
-IsOfAnswer (Ok toc) = IsOfTable (Ok toc)
-IsOfAnswer (Err (reply.BadPackage f)) = IsOfTable (Err (table_stop.Package f))
-IsOfAnswer (Err (reply.BadCapsule f)) = IsOfTable (Err (table_stop.Capsule f))
-IsOfAnswer (Err other) = ⊤
 
 -- the table of the file, or what is answered to it: that of its bytes, where they are told, and of what was read, on any files
 abbrev pub IsTableOf : Option Directory → List ℕ → Result Toc Reply → Type 0
@@ -48,14 +40,6 @@ IsUnnamed (call.Send name request) access = access ≢ Asks name
 IsUnnamed (call.SendPartial name request) access = access ≢ Asks name
 IsUnnamed other access = ⊤
 
--- the writes of a sending up to its end: those of its begin, and of its images in pieces of 4096 bytes
-abbrev pub writes_whole : Fields → Toc → ℕ
-writes_whole f toc = writes_to_begin f + writes_sent block_bytes f.layout.rows toc
-
--- of a partial one with those of the images that are copied
-abbrev pub writes_partly : Fields → Toc → ℕ
-writes_partly f toc = writes_to_begin f + writes_over block_bytes f.layout.rows f.lengths toc
-
 -- A sending that is done takes off an armed loss the erases and programs of its writes and of the switch, and no other. One whose
 -- end is refused takes those of its writes alone.
 abbrev pub SpendsSent : Reply → ℕ → Option Arming → Option Arming → Type 0
@@ -65,7 +49,8 @@ SpendsSent (reply.EndRefused st) writes armed arming = TakesWrites writes armed 
 SpendsSent other writes armed arming = ⊤
 
 -- Some table and images were sent, those of the file where it is told. The answer is that of each machine that the agent shows, and
--- it shows the machine after it. An armed loss counts the writes of this same table.
+-- it shows the machine after it. An armed loss counts the writes of this same table: those of the begin, and of its images in pieces
+-- of 4096 bytes.
 pub record SendsBy (passes : List ℕ → Bool) (files : Option Directory) (name : List ℕ) (request : ℕ) (r : Reply)
     (old new : agent.Moment) (armed arming : Option Arming) : Type 0 where
   pub toc : Toc
@@ -76,7 +61,7 @@ pub record SendsBy (passes : List ℕ → Bool) (files : Option Directory) (name
       → (r ≡ (send_answer E toc images request s x).reply)
       × agent.Shows new (after s (send_answer E toc images request s x).moves) (send_answer E toc images request s x).next
   pub stays : Stays old new
-  pub spent : SpendsSent r (writes_whole old.fields toc) armed arming
+  pub spent : SpendsSent r (writes_to_begin old.fields + writes_sent block_bytes old.fields.layout.rows toc) armed arming
 
 -- the reply of a partial sending tells that its begin was done
 abbrev pub TellsBegun : Reply → Type 0
@@ -87,7 +72,7 @@ TellsBegun other = ⊥
 -- Some table and images were sent over some bytes of the images that the table lacks. These are the active bank's where the device
 -- tells, and behind a begin that was done as many on any device. The images are those of the file over these bytes where it is
 -- told. The answer is that of each machine that the agent shows, and it shows the machine after it. An armed loss counts the writes
--- of this same table.
+-- of this same table, and those of the images that are copied.
 pub record SendsOverBy (passes : List ℕ → Bool) (files : Option Directory) (name : List ℕ) (request : ℕ) (r : Reply)
     (old new : agent.Moment) (armed arming : Option Arming) : Type 0 where
   pub toc : Toc
@@ -102,7 +87,8 @@ pub record SendsOverBy (passes : List ℕ → Bool) (files : Option Directory) (
       → (r ≡ (over_answer E toc images request s x).reply)
       × agent.Shows new (after s (over_answer E toc images request s x).moves) (over_answer E toc images request s x).next
   pub stays : Stays old new
-  pub spent : SpendsSent r (writes_partly old.fields toc) armed arming
+  pub spent : SpendsSent r (writes_to_begin old.fields + writes_over block_bytes old.fields.layout.rows old.fields.lengths toc)
+      armed arming
 
 -- by whether it is partial
 abbrev pub SendsAs : Bool → (List ℕ → Bool) → Option Directory → List ℕ → ℕ → Reply → agent.Moment → agent.Moment
@@ -121,18 +107,17 @@ AnswersSend partial passes files name request (reply.BadCapsule f) old new armed
 AnswersSend partial passes files name request r old new armed arming =
     SendsAs partial passes files name request r old new armed arming
 
--- the flash stopped it, or the file could not be read
-abbrev pub IsSendStop : Reply → Type 0
-IsSendStop reply.Lost = ⊤
-IsSendStop reply.Fault = ⊤
-IsSendStop reply.ReadFault = ⊤
-IsSendStop other = ⊥
+-- the flash stopped it
+abbrev pub IsFlashStop : Reply → Type 0
+IsFlashStop reply.Lost = ⊤
+IsFlashStop reply.Fault = ⊤
+IsFlashStop other = ⊥
 
--- While off nothing is sent. Else it is answered, or stopped and nothing is on.
+-- While off nothing is sent. Else it is answered, or nothing is on: the flash stopped it, or the file could not be read.
 abbrev pub SendSays : Bool → (List ℕ → Bool) → Bool → Option Directory → List ℕ → ℕ → Option Fields → TurnMoment → Reply
     → Option Fields → TurnMoment → Type 0
 SendSays partial passes tells files name request None before r on now = (r ≡ reply.IsOff) × (on ≡ None)
-SendSays partial passes tells files name request (Some f) before r None now = IsSendStop r
+SendSays partial passes tells files name request (Some f) before r None now = IsFlashStop r ⊎ (r ≡ reply.ReadFault)
 SendSays partial passes tells files name request (Some f) before r (Some g) now =
     AnswersSend partial passes files name request r (kept_at tells f before.told before.writes)
     (kept_at tells g now.told now.writes) before.armed now.armed
@@ -163,7 +148,3 @@ is_answered (Err Lost) = false
 is_answered (Err Fault) = false
 is_answered (Err Gone) = false
 is_answered other = true
-
--- what the agent keeps, where it is there afterwards
-abbrev pub on_sent : Result Sent SendStop → Fields → Option Fields
-on_sent result f = on_where (is_answered result) f

@@ -1,5 +1,5 @@
 -- The table that a file is sent by.
-use Rattle.std.specs.Prelude.{◌≡◌, ◌⊎◌, ◌+◌, ◌≤◌, ℕ, List, Option, Result, Ok, Err, IfOk}
+use Rattle.std.specs.Prelude.{◌≡◌, ◌⊎◌, ◌+◌, ◌≤◌, ℕ, List, Option, Result, Ok, Err, IfOk, ⊤}
 use Rattle.base_core.specs.Counts.{Rose}
 use Rattle.host_io.specs.{Contents.Directory, Reads.ReadsFile, declared.files.Files.Ghosts}
 use Rattle.fwu_formats.specs.Package.{Toc}
@@ -13,19 +13,19 @@ use Rattle.update_client.specs.Packages.{HoldsPayloads}
 use Rattle.script_turns.specs.declared.tables.TableStop.{TableStop}
 use Rattle.script_turns.specs.declared.tables.TableStop.TheVariants.{Package, Capsule, ReadFailed}
 
--- it is the table, or what `send` answers to the file, unless the file could not be read
-abbrev pub IsTableAnswer : Result Toc Reply → Result Toc TableStop → Type 0
-IsTableAnswer found (Ok toc) = found ≡ Ok toc
-IsTableAnswer found (Err (Package f)) = found ≡ Err (reply.BadPackage f)
-IsTableAnswer found (Err (Capsule f)) = found ≡ Err (reply.BadCapsule f)
-IsTableAnswer found (Err ReadFailed) = Unit {0}
+-- the table, or what `send` answers to the file
+abbrev pub table_answer : Result Toc TableStop → Result Toc Reply
+table_answer (Ok toc) = Ok toc
+table_answer (Err (Package f)) = Err (reply.BadPackage f)
+table_answer (Err (Capsule f)) = Err (reply.BadCapsule f)
+table_answer (Err ReadFailed) = Err reply.ReadFault
 
 -- Whatever the file, it is of what was read: of a package some bytes have it, and of a capsule some headers and items.
-abbrev pub IsOfTable : Result Toc TableStop → Type 0
-IsOfTable (Ok toc) = IsOfSome (Ok toc) ⊎ IsOfReads (Ok toc)
-IsOfTable (Err (Package f)) = IsOfSome (Err (toc_stop.Fault f))
-IsOfTable (Err (Capsule f)) = IsOfReads (Err (capsule_stop.Fault f))
-IsOfTable (Err ReadFailed) = Unit {0}
+abbrev pub IsOfAnswer : Result Toc Reply → Type 0
+IsOfAnswer (Ok toc) = IsOfSome (Ok toc) ⊎ IsOfReads (Ok toc)
+IsOfAnswer (Err (reply.BadPackage f)) = IsOfSome (Err (toc_stop.Fault f))
+IsOfAnswer (Err (reply.BadCapsule f)) = IsOfReads (Err (capsule_stop.Fault f))
+IsOfAnswer (Err other) = ⊤
 
 -- how many calls of the files failed, by a result that tells it
 abbrev pub unread_in : {T : Type 0} → Result T TableStop → ℕ
@@ -43,9 +43,9 @@ pub record HasTableCause {T : Type 0} (files : Option Directory) (name : List �
 -- what a reading of the table of a file leaves
 pub record ReadsTable {H : Type 0} (g : Ghosts H) (answer : List ℕ → Result Toc Reply) (name : List ℕ)
     (result : Result Toc TableStop) (old new : H) : Type 0 where
-  -- where the file's bytes are told, it is their table, or what `send` answers to them
-  pub told : (file : List ℕ) → Tells (g.contents old) name file → IsTableAnswer (answer file) result
-  pub some : IsOfTable result
+  -- where the file's bytes are told and could be read, it is their table, or what `send` answers to them
+  pub told : (result ≡ Err ReadFailed → ⊥) → (file : List ℕ) → Tells (g.contents old) name file → answer file ≡ table_answer result
+  pub some : IsOfAnswer (table_answer result)
   pub found : IfOk result (λ toc. HoldsPayloads (g.contents old) name toc.entries)
   pub missing : Lacks (g.contents old) name → result ≡ Err ReadFailed
   pub reads : ReadsFile g name old new

@@ -1,10 +1,10 @@
 -- What an armed loss counts of a turn, on any device. "Did nothing" says of each device, also of one that tells no content, that its
 -- counts, its power and the armed loss stay, and that nothing was erased or programmed, where the device counts that. "Wrote
 -- nothing" says of the armed loss alone that it stays.
-use Rattle.std.specs.Prelude.{◌≡◌, ◌⊎◌, ℕ, ◌+◌, ◌-◌, Bool, true, false, List, length, Option, Some, None, Result, Ok, Err, ⊤}
+use Rattle.std.specs.Prelude.{◌≡◌, ◌⊎◌, ℕ, ◌+◌, ◌-◌, Bool, true, false, List, length, Option, Some, None, Result, Ok, Err, ⊤, IsFalse, ◌||◌}
 use Rattle.flash_core.specs.declared.flash.FlashStop.{FlashStop}
 use Rattle.flash_core.specs.declared.flash.FlashStop.TheVariants as flash_stop
-use Rattle.flash_core.specs.Counts.{ReachesNone, Rose, StaysUnarmed, arming_kept}
+use Rattle.flash_core.specs.Counts.{ReachesNone, Rose, arming_kept}
 use Rattle.base_core.specs.Block.{block_bytes}
 use Rattle.host_io.specs.Contents.{Directory}
 use Rattle.fwu_formats.specs.{Layout.ImageRow, Package.Entry, Package.Toc}
@@ -14,7 +14,7 @@ use Rattle.agent_kept.specs.declared.parts.Handle.TheVariants as handle
 use Rattle.agent_machine.specs.{Fields.Fields, Ends.IsWriter, Ends.TakesSwitch, Stored.TakesStore}
 use Rattle.agent_calls.specs.Takes.{Takes as TakesWrites, writes_to_begin, writes_to_copy}
 use Rattle.update_client.specs.{Choosing.AreChosen, Takes.UnreadTakes, Partial.present, Partial.writes_copied}
-use Rattle.fwu_model.specs.{Answer.are_named, Call.Call, Reply.Reply}
+use Rattle.fwu_model.specs.{Answer.are_named, Call.Call, Reply.Reply, Run.is_boot, Causes.is_cut}
 use Rattle.fwu_model.specs.Call as call
 use Rattle.fwu_model.specs.Reply as reply
 use Rattle.script_turns.specs.{Powered.TurnMoment, Powered.SameDevice, Sending.IsTableOf}
@@ -30,34 +30,16 @@ abbrev pub unread_told : Reply → ℕ
 unread_told reply.ReadFault = 1
 unread_told other = 0
 
--- a loss leaves none armed; where none was armed, none is, and none was reached
-abbrev pub StaysFree : Reply → TurnMoment → TurnMoment → Type 0
-StaysFree r old new = StaysUnarmed (stop_told r) old.armed new.armed old.counts new.counts
+-- by a reply: what was done where it tells that, and what where it is a refusal
+abbrev pub ByReply : Reply → Type 0 → Type 0 → Type 0
+ByReply reply.Success done refused = done
+ByReply (reply.Refused st) done refused = refused
+ByReply other done refused = ⊤
 
--- A begin that is done stored the metadata, or wrote nothing where the update bank was invalid already. A refused one did nothing.
-abbrev pub BeginsBy : Reply → Fields → TurnMoment → TurnMoment → Type 0
-BeginsBy reply.Success f old new = TakesWrites (writes_to_begin f) old.armed new.armed
-BeginsBy (reply.Refused st) f old new = SameDevice old new
-BeginsBy other f old new = ⊤
-
--- A partial begin that is done wrote what a begin writes, and each image that is copied, and no other. A refused one did nothing.
-abbrev pub BeginsOver : Reply → List (List ℕ) → Fields → TurnMoment → TurnMoment → Type 0
-BeginsOver reply.Success types f old new = TakesWrites (writes_to_begin f
-    + writes_to_copy (are_named f.layout.rows types) f.lengths (length f.layout.rows)) old.armed new.armed
-BeginsOver (reply.Refused st) types f old new = SameDevice old new
-BeginsOver other types f old new = ⊤
-
--- an accept stored the metadata, or has it as it was and wrote nothing; a refused one did nothing
-abbrev pub AcceptsBy : Reply → Fields → Option Fields → TurnMoment → TurnMoment → Type 0
-AcceptsBy reply.Success f (Some g) old new = TakesStore f.meta g.meta old.armed new.armed
-AcceptsBy (reply.Refused st) f on old new = SameDevice old new
-AcceptsBy other f on old new = ⊤
-
--- so of going back, but that a refused one may have read the flash; it erased and programmed nothing
-abbrev pub IsStoredBy : Reply → Fields → Option Fields → TurnMoment → TurnMoment → Type 0
-IsStoredBy reply.Success f (Some g) old new = TakesStore f.meta g.meta old.armed new.armed
-IsStoredBy (reply.Refused st) f on old new = (new.armed ≡ old.armed) × (new.writes ≡ old.writes)
-IsStoredBy other f on old new = ⊤
+-- the metadata was stored, or is as it was and nothing was written
+abbrev pub StoresMeta : Fields → Option Fields → TurnMoment → TurnMoment → Type 0
+StoresMeta f (Some g) old new = TakesStore f.meta g.meta old.armed new.armed
+StoresMeta f None old new = ⊤
 
 -- what a write through a handle wrote, by the image of the handle; a refused one did nothing
 abbrev pub WritesBy : Reply → Fields → ℕ → List ℕ → TurnMoment → TurnMoment → Type 0
@@ -71,12 +53,6 @@ pub record CommitsBy (r : Reply) (f : Fields) (number : ℕ) (old new : TurnMome
   pub spent : (image : ℕ) → IsWriter f number image
       → SpendsArming (stop_told r) (writes_to_finish (size_of (part_at f.session image))) old.armed new.armed old.counts new.counts
   pub still : ((image : ℕ) → IsWriter f number image → ⊥) → SameDevice old new
-
--- a switch is an erase of the marks, or none, and a store; a refused end did nothing
-abbrev pub IsSwitchedBy : Reply → TurnMoment → TurnMoment → Type 0
-IsSwitchedBy reply.Success old new = TakesSwitch old.armed new.armed
-IsSwitchedBy (reply.Refused st) old new = SameDevice old new
-IsSwitchedBy other old new = ⊤
 
 -- A read writes nothing, and reaches no armed loss. A loss that no arming made clears the arming.
 pub record ReadTakes (r : Reply) (old new : TurnMoment) : Type 0 where
@@ -115,37 +91,35 @@ SendTakes partial files name f (reply.BeginRefused st) old new = SameDevice old 
 SendTakes partial files name f reply.ReadFault old new = SameDevice old new ⊎ StopTakes partial files name f old new
 SendTakes partial files name f other old new = ⊤
 
--- By what the agent kept: the calls that are not named did nothing. What a boot takes stands beside its end, in `BootsAs`.
+-- By what the agent kept: the calls that are not named did nothing. Nor did a refused one, but that a refused going back may have
+-- read the flash. A begin stores the metadata, or writes nothing where the update bank was invalid already. A partial one writes
+-- each image that is copied besides. An end is a switch: an erase of the marks, or none, and a store. What a boot takes stands
+-- beside its end, in `BootsAs`.
 abbrev pub TakesOn : Option Directory → Call → Fields → TurnMoment → Reply → TurnMoment → Type 0
-TakesOn files (call.Begin n) f old r new = BeginsBy r f old new
-TakesOn files (call.BeginPartial types) f old r new = BeginsOver r types f old new
+TakesOn files (call.Begin n) f old r new =
+    ByReply r (TakesWrites (writes_to_begin f) old.armed new.armed) (SameDevice old new)
+TakesOn files (call.BeginPartial types) f old r new = ByReply r (TakesWrites (writes_to_begin f
+    + writes_to_copy (are_named f.layout.rows types) f.lengths (length f.layout.rows)) old.armed new.armed) (SameDevice old new)
 TakesOn files (call.Write number bytes) f old r new = WritesBy r f number bytes old new
 TakesOn files (call.Read number room) f old r new = ReadTakes r old new
 TakesOn files (call.Commit number request) f old r new = CommitsBy r f number old new
-TakesOn files call.End f old r new = IsSwitchedBy r old new
-TakesOn files (call.Accepts guid) f old r new = AcceptsBy r f new.on old new
-TakesOn files call.Previous f old r new = IsStoredBy r f new.on old new
+TakesOn files call.End f old r new = ByReply r (TakesSwitch old.armed new.armed) (SameDevice old new)
+TakesOn files (call.Accepts guid) f old r new = ByReply r (StoresMeta f new.on old new) (SameDevice old new)
+TakesOn files call.Previous f old r new =
+    ByReply r (StoresMeta f new.on old new) ((new.armed ≡ old.armed) × (new.writes ≡ old.writes))
 TakesOn files (call.Send name request) f old r new = SendTakes false files name f r old new
 TakesOn files (call.SendPartial name request) f old r new = SendTakes true files name f r old new
 TakesOn files call.Boot f old r new = ⊤
 TakesOn files (call.Cut n k) f old r new = ⊤
 TakesOn files other f old r new = SameDevice old new
 
--- no flash that is off is touched but by a boot and a `cut`
-abbrev pub TakesOff : Call → TurnMoment → Reply → TurnMoment → Type 0
-TakesOff call.Boot old r new = ⊤
-TakesOff (call.Cut n k) old r new = ⊤
-TakesOff other old r new = SameDevice old new
-
+-- and no flash that is off is touched but by a boot and a `cut`
 abbrev pub TakesBy : Option Directory → Call → Option Fields → TurnMoment → Reply → TurnMoment → Type 0
-TakesBy files c None old r new = TakesOff c old r new
+TakesBy files c None old r new = IsFalse (is_boot c || is_cut c) → SameDevice old new
 TakesBy files c (Some f) old r new = TakesOn files c f old r new
-
-abbrev pub TakesByCall : Option Directory → Call → TurnMoment → Reply → TurnMoment → Type 0
-TakesByCall files c old r new = TakesBy files c old.on old r new
 
 -- and a file that is not there, or could not be read before anything was sent, leaves the device as it is
 pub record TakesTurn (files : Option Directory) (c : Call) (old : TurnMoment) (r : Reply) (new : TurnMoment)
     (was are : ℕ) : Type 0 where
-  pub by_call : TakesByCall files c old r new
+  pub by_call : TakesBy files c old.on old r new
   pub unread : r ≡ reply.ReadFault → (Rose was are → ⊥) → SameDevice old new

@@ -8,7 +8,6 @@ use Rattle.fwu_model.specs.Call.{Call}
 use Rattle.fwu_model.specs.Call as call
 use Rattle.agent_machine.specs.{Beside.SparesBlocks, Beside.SparesBlocksByAll, Fields.Fields, Deciding.KeepsOldOrNew}
 use Rattle.agent_calls.specs.Metas.{meta_accepted, meta_back, meta_begun, meta_ended}
-use Rattle.script_turns.specs.Powered.{TurnMoment}
 
 -- ---- which blocks a turn erases or programs, on every device that counts its writes, whatever its reads give
 
@@ -18,31 +17,19 @@ pub record TouchesByBoot (old new : ℕ → ℕ) : Type 0 where
   pub front : TouchesOnly block_bytes (block_bytes * 7) old new
   pub marks_still : new counter_block ≡ old counter_block
 
--- Where a bank was started: a call of the agent touches only the metadata, the marks of the starts on trial and the bank behind
--- the one that was started. That bank it touches only where the one that was started is active, or by calls in a row. A show, a cut
--- and a request for no call touch nothing.
-abbrev pub TouchesOn : Call → Fields → (ℕ → ℕ) → (ℕ → ℕ) → Type 0
-TouchesOn call.Boot f old new = TouchesByBoot old new
-TouchesOn call.Show f old new = new ≡ old
-TouchesOn call.NoCall f old new = new ≡ old
-TouchesOn (call.Cut n k) f old new = new ≡ old
-TouchesOn (call.BeginPartial types) f old new = SparesBlocksByAll f old new
-TouchesOn (call.Send name request) f old new = SparesBlocksByAll f old new
-TouchesOn (call.SendPartial name request) f old new = SparesBlocksByAll f old new
-TouchesOn other f old new = SparesBlocks f old new
-
--- where none was: but for a boot nothing
-abbrev pub TouchesOff : Call → (ℕ → ℕ) → (ℕ → ℕ) → Type 0
-TouchesOff call.Boot old new = TouchesByBoot old new
-TouchesOff other old new = new ≡ old
-
--- by what the agent keeps
+-- A boot touches these, whatever was on, and where no bank was started no other call touches any. Where one was, a call of the agent
+-- touches only the metadata, the marks of the starts on trial and the bank behind the one that was started. That bank it touches only
+-- where the one that was started is active, or by calls in a row. A show, a cut and a request for no call touch nothing.
 abbrev pub TouchesBy : Call → Option Fields → (ℕ → ℕ) → (ℕ → ℕ) → Type 0
-TouchesBy c None old new = TouchesOff c old new
-TouchesBy c (Some f) old new = TouchesOn c f old new
-
-abbrev pub Touches : Call → TurnMoment → TurnMoment → Type 0
-Touches c old new = TouchesBy c old.on old.writes new.writes
+TouchesBy call.Boot on old new = TouchesByBoot old new
+TouchesBy other None old new = new ≡ old
+TouchesBy call.Show (Some f) old new = new ≡ old
+TouchesBy call.NoCall (Some f) old new = new ≡ old
+TouchesBy (call.Cut n k) (Some f) old new = new ≡ old
+TouchesBy (call.BeginPartial types) (Some f) old new = SparesBlocksByAll f old new
+TouchesBy (call.Send name request) (Some f) old new = SparesBlocksByAll f old new
+TouchesBy (call.SendPartial name request) (Some f) old new = SparesBlocksByAll f old new
+TouchesBy other (Some f) old new = SparesBlocks f old new
 
 -- ---- which metadata decides in what a loss leaves of a call of the agent
 

@@ -1,6 +1,6 @@
 -- What one turn of a run does.
 use Rattle.std.specs.Prelude.{◌≡◌, ◌⊎◌, ℕ, ◌+◌, ◌≤◌, min, Bool, List, Option, Some, None, IsSome, IsTrue, IsFalse, ⊤}
-use Rattle.flash_core.specs.{Counts.Rose, Counts.all_stops, Counts.stops_in, Told.Told, Told.NothingDirty}
+use Rattle.flash_core.specs.{Counts.Rose, Counts.StaysUnarmed, Counts.all_stops, Counts.stops_in, Told.Told, Told.NothingDirty}
 use Rattle.host_io.specs.Contents.{Directory}
 use Rattle.fwu_model.specs.{State.State, Sound.Setting, Call.Call, Reply.Reply, Reply.Turn, Run.Condition, Run.Step, Run.is_boot}
 use Rattle.fwu_model.specs.{Run.is_send, Headline.IsCut, Causes.FileNotRead, Causes.greatest, Causes.is_cut}
@@ -10,8 +10,8 @@ use Rattle.moves.specs.Moved.{IsShown}
 use Rattle.agent_machine.specs.{Beside.KeepsSpared, Beside.KeepsSparedByAll, Fields.Fields}
 use Rattle.early_boot.specs.{Started.started_session, Ends.Ended, Ends.booted}
 use Rattle.script_turns.specs.{Powered.TurnMoment, Powered.IsAt, Powered.IsSafe, Powered.ShowsAt, Boots.BootsFrom, Calls.is_agents}
-use Rattle.script_turns.specs.{Calls.is_composed, Touches.DecidesAfter, Touches.Touches, Replies.Replies, Replies.power_after}
-use Rattle.script_turns.specs.{Sending.LacksSent, Takes.StaysFree, Takes.TakesTurn, Takes.stop_told, Takes.unread_told}
+use Rattle.script_turns.specs.{Calls.is_composed, Touches.DecidesAfter, Touches.TouchesBy, Replies.Replies, Replies.power_after}
+use Rattle.script_turns.specs.{Sending.LacksSent, Takes.TakesTurn, Takes.stop_told, Takes.unread_told}
 pub use Rattle.script_turns.specs.Arms.{Arms, NoneFalls}
 pub use Rattle.script_turns.specs.Boots.{IsOnAfter, PowersOn, GetsPower, numbers_of_end, reply_of_end}
 
@@ -31,7 +31,7 @@ pub record Turns (passes : List ℕ → Bool) (tells : Bool) (files : Option Dir
   pub made : Makes c old.counts.made new.counts.made
   pub armed : IsCut (Some t) new.armed
   -- a loss leaves none armed; where none was armed, none is and none is reached, but by a `cut`
-  pub free : IsFalse (is_cut c) → StaysFree t.reply old new
+  pub free : IsFalse (is_cut c) → StaysUnarmed (stop_told t.reply) old.armed new.armed old.counts new.counts
   -- each stop has its cause
   pub lost : t.reply ≡ reply.Lost → Rose old.counts.cuts new.counts.cuts ⊎ Rose old.counts.reached new.counts.reached
   pub failed : t.reply ≡ reply.Fault → Rose old.counts.faults new.counts.faults
@@ -49,7 +49,7 @@ pub record Turns (passes : List ℕ → Bool) (tells : Bool) (files : Option Dir
   pub replies : Replies passes tells files c old t new
   pub takes : TakesTurn files c old t.reply new was are
   -- on any device that counts its writes: which blocks are erased or programmed
-  pub touches : Touches c old new
+  pub touches : TouchesBy c old.on old.writes new.writes
   pub power : new.power ≡ power_after old.power t.reply
   -- no call changes which blocks are guarded
   pub guard : IsTrue tells → new.told.guard ≡ old.told.guard

@@ -1,4 +1,4 @@
-use Rattle.std.proofs.Common.{◌-◌, ◌*◌, inr, arith}
+use Rattle.std.proofs.Common.{◌*◌, inr, arith}
 use Rattle.flash_format.proofs.Recorded.{only_then, bare_fresh, bare_stays, on_ok_from}
 use Rattle.flash_format.proofs.erasing.erase_all.Goals as goal
 

@@ -1,9 +1,12 @@
 use Rattle.std.proofs.Common.{inl, sym, subst, arith, rules}
+use Rattle.std.specs.Prelude.{IsTrue}
 use Rattle.flash_core.specs.{Told.Told, Told.NothingDirty, May.Keeps}
 use Rattle.flash_core.proofs.Calls.{keeps_same}
 use Rattle.flash_format.specs.Formatted.{HasAtMost, IsWholeFormat}
 use Rattle.flash_format.proofs.{Recorded.bare_fresh, Recorded.bare_unlaid, Recorded.ordered_before, Stopped.handed-on}
 use Rattle.flash_format.proofs.Formats.{formatted, refused, whole_after, whole_before, unlaid}
+use Rattle.flash_format.proofs.formatting.finish.Given as given
+use Rattle.flash_format.proofs.formatting.finish.Goals.{After-write_records}
 use Rattle.flash_format.proofs.formatting.finish.Goals as goal
 
 pub returns-in_err-version-clause-refused : goal.returns-in_err-version-clause-refused
@@ -50,25 +53,22 @@ returns-in_err-version-clause-whole g c =
     let bare = bare_fresh s (λ i above below. c.requires.erased tells i above (omega (arith, below))) clean in
     subst (IsWholeFormat passes L) (sym (c.check_bank.ensures.content tells)) (whole_before passes L s (λ image may. bare_unlaid s image (omega (arith, size, many)) bare may))
 
+module _ (g : given.Over) (c : After-write_records g) where
+  whole : IsTrue g.D.Flash.tells → NothingDirty (g.D.Flash.told c.args.flash.now) → IsWholeFormat (g.V.Verifier.passes c.args.verifier.now) c.args.layout.now (g.D.Flash.told c.write_records.new.flash)
+  whole tells clean =
+      let s = g.D.Flash.told c.args.flash.now in
+      let t = g.D.Flash.told c.write_records.new.flash in
+      let same = c.check_bank.ensures.content tells in
+      let size = (g.met.D.Flash.sound c.args.flash.now tells).size in
+      let many = (g.met.D.Flash.sizes c.args.flash.now).0 in
+      whole_after (g.V.Verifier.passes c.args.verifier.now) c.args.layout.now c.in_ok-version.version s t c.rows-rows.ensures.fit (omega (arith, size, many)) (c.requires.erased tells) clean (c.in_ok-version.ensures.good tells)
+      (subst (λ (m : Told). Keeps 0 12288 m t) same (c.write_records.ensures.writes.keeps tells)) (c.write_records.ensures.ordered tells (subst NothingDirty (sym same) clean))
+
 pub returns-in_err-write_records-clause-whole : goal.returns-in_err-write_records-clause-whole
-returns-in_err-write_records-clause-whole g c = λ tells clean.
-    let s = g.D.Flash.told c.args.flash.now in
-    let t = g.D.Flash.told c.write_records.new.flash in
-    let same = c.check_bank.ensures.content tells in
-    let size = (g.met.D.Flash.sound c.args.flash.now tells).size in
-    let many = (g.met.D.Flash.sizes c.args.flash.now).0 in
-    whole_after (g.V.Verifier.passes c.args.verifier.now) c.args.layout.now c.in_ok-version.version s t c.rows-rows.ensures.fit (omega (arith, size, many)) (c.requires.erased tells) clean (c.in_ok-version.ensures.good tells)
-    (subst (λ (m : Told). Keeps 0 12288 m t) same (c.write_records.ensures.writes.keeps tells)) (c.write_records.ensures.ordered tells (subst NothingDirty (sym same) clean))
+returns-in_err-write_records-clause-whole g c = whole g (goal.at.returns-in_err-write_records-clause-whole g c).After-write_records
 
 pub returns-clause-whole : goal.returns-clause-whole
-returns-clause-whole g c = λ tells clean.
-    let s = g.D.Flash.told c.args.flash.now in
-    let t = g.D.Flash.told c.write_records.new.flash in
-    let same = c.check_bank.ensures.content tells in
-    let size = (g.met.D.Flash.sound c.args.flash.now tells).size in
-    let many = (g.met.D.Flash.sizes c.args.flash.now).0 in
-    whole_after (g.V.Verifier.passes c.args.verifier.now) c.args.layout.now c.in_ok-version.version s t c.rows-rows.ensures.fit (omega (arith, size, many)) (c.requires.erased tells) clean (c.in_ok-version.ensures.good tells)
-    (subst (λ (m : Told). Keeps 0 12288 m t) same (c.write_records.ensures.writes.keeps tells)) (c.write_records.ensures.ordered tells (subst NothingDirty (sym same) clean))
+returns-clause-whole g c = whole g (goal.at.returns-clause-whole g c).After-write_records
 
 pub returns-in_err-version-clause-at_most : goal.returns-in_err-version-clause-at_most
 returns-in_err-version-clause-at_most g c =

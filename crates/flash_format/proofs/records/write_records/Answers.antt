@@ -16,7 +16,7 @@ returns-clause-both g c = on_ok_from _ c.write_layout.result (λ tells.
     let t = g.D.Flash.told c.write_layout.new.flash in
     let size = (g.met.D.Flash.sound c.write_replicas.new.flash tells).size in
     let many = (g.met.D.Flash.sizes c.write_replicas.new.flash).0 in
-    both_stay L (in_version 2 (first_meta L)) s t (omega (arith, size, many)) (c.write_layout.ensures.writes.keeps tells) (c.in_ok-write_replicas.ensures.replicas tells).both)
+    both_stay L (in_version 2 (first_meta L)) s t (omega (arith, size, many)) (c.write_layout.ensures.writes.keeps tells) (c.in_ok-write_replicas.ensures.replicas tells))
 
 pub returns-in_err-write_replicas-clause-ordered : goal.returns-in_err-write_replicas-clause-ordered
 returns-in_err-write_replicas-clause-ordered g c = λ tells clean.
@@ -29,7 +29,7 @@ pub returns-clause-ordered : goal.returns-clause-ordered
 returns-clause-ordered g c = λ tells clean.
     let size = (g.met.D.Flash.sound c.write_replicas.new.flash tells).size in
     let many = (g.met.D.Flash.sizes c.write_replicas.new.flash).0 in
-    ordered_after c.args.layout.now (g.D.Flash.told c.write_replicas.new.flash) (g.D.Flash.told c.write_layout.new.flash) (omega (arith, size, many)) (c.in_ok-write_replicas.ensures.clean tells) (c.in_ok-write_replicas.ensures.replicas tells).both
+    ordered_after c.args.layout.now (g.D.Flash.told c.write_replicas.new.flash) (g.D.Flash.told c.write_layout.new.flash) (omega (arith, size, many)) (c.in_ok-write_replicas.ensures.clean tells) (c.in_ok-write_replicas.ensures.replicas tells)
     (c.write_layout.ensures.writes.keeps tells)
 
 pub returns-clause-writes : goal.returns-clause-writes
@@ -53,8 +53,8 @@ returns-clause-spelled g c =
     let keeps = c.write_layout.ensures.writes.keeps tells in
     record {
       layout = first tells;
-      zero = now_kept 1 0 4096 s t (omega (arith, size, many)) (inr (omega arith)) keeps ∙ (c.in_ok-write_replicas.ensures.replicas tells).spelled.zero;
-      one = now_kept 2 0 4096 s t (omega (arith, size, many)) (inr (omega arith)) keeps ∙ (c.in_ok-write_replicas.ensures.replicas tells).spelled.one;
+      zero = now_kept 1 0 4096 s t (omega (arith, size, many)) (inr (omega arith)) keeps ∙ (c.in_ok-write_replicas.ensures.spelled tells).0;
+      one = now_kept 2 0 4096 s t (omega (arith, size, many)) (inr (omega arith)) keeps ∙ (c.in_ok-write_replicas.ensures.spelled tells).1;
     })
     c.write_layout.ensures.spelled
 

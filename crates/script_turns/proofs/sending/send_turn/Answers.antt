@@ -33,8 +33,8 @@ returns-in-Err-Package-clause-turns g c =
     turns-as _ (quiet_turn (send_call c.args.partial (string_bytes c.args.name) c.args.request) answer) (moment_where true agent) (moment_where true agent) _ _
     (c.answered.ensures.turn ∙ ap (λ (x : Call). quiet_turn x answer) c.send_call.ensures) refl
     (moment-as agent c.answered.result.here true c.answered.ensures.here)
-    (bad-table c.args.partial _ _ _ _ _ _ _ _ _ _ _ _ _ read.cause.later answer (omega (arith, read.cause.once)) refl refl refl (read.told, read.some)
-    ((read.told, read.some), refl)
+    (bad-table c.args.partial _ _ _ _ _ _ _ _ _ _ _ _ _ read.cause.later answer (omega (arith, read.cause.once)) refl refl refl (read.told (λ e. absurd cc), read.some)
+    ((read.told (λ e. absurd cc), read.some), refl)
     (λ lacks. let failed = read.missing lacks in cc) (same-device _))
 
 pub returns-in-Err-Capsule-clause-turns : goal.returns-in-Err-Capsule-clause-turns
@@ -46,8 +46,8 @@ returns-in-Err-Capsule-clause-turns g c =
     turns-as _ (quiet_turn (send_call c.args.partial (string_bytes c.args.name) c.args.request) answer) (moment_where true agent) (moment_where true agent) _ _
     (turned.ensures.turn ∙ ap (λ (x : Call). quiet_turn x answer) c.send_call-in-Err-Capsule.ensures) refl
     (moment-as agent turned.result.here true turned.ensures.here)
-    (bad-table c.args.partial _ _ _ _ _ _ _ _ _ _ _ _ _ read.cause.later answer (omega (arith, read.cause.once)) refl refl refl (read.told, read.some)
-    ((read.told, read.some), refl)
+    (bad-table c.args.partial _ _ _ _ _ _ _ _ _ _ _ _ _ read.cause.later answer (omega (arith, read.cause.once)) refl refl refl (read.told (λ e. absurd cc), read.some)
+    ((read.told (λ e. absurd cc), read.some), refl)
     (λ lacks. let failed = read.missing lacks in cc) (same-device _))
 
 pub returns-in-Err-ReadFailed-clause-turns : goal.returns-in-Err-ReadFailed-clause-turns
