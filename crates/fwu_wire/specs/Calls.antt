@@ -1,5 +1,5 @@
 -- The functions of the agent by their numbers, and which call a request asks for, by its function and its arguments.
-use Rattle.std.specs.Prelude.{◌≡◌, ℕ, ◌==◌, nat_le, if◌then◌else◌, List, length, take, drop, Option, Some, None, option_map, ◌≤◌}
+use Rattle.std.specs.Prelude.{◌≡◌, ℕ, ◌==◌, ◌&&◌, nat_le, if◌then◌else◌, List, length, take, drop, Option, Some, None, option_map, ◌≤◌}
 use Rattle.base_core.specs.Bytes.{num_at}
 use Rattle.fwu_model.specs.{declared.kinds.Op.Op, Call.Call}
 use Rattle.fwu_model.specs.declared.kinds.Op.TheVariants as op
@@ -10,18 +10,7 @@ use Rattle.fwu_wire.specs.declared.replies.AgentReply.{AgentReply}
 use Rattle.fwu_wire.specs.declared.calls.AgentCall.TheVariants as wire
 use Rattle.fwu_wire.specs.declared.replies.AgentReply.TheVariants as reply
 
-abbrev pub number : Function → ℕ
-number Discover = 0
-number Begin = 16
-number End = 17
-number Cancel = 18
-number Open = 19
-number WriteStream = 20
-number ReadStream = 21
-number Commit = 22
-number Accept = 23
-number SelectPrevious = 24
-
+-- the function of a number
 abbrev pub function_of : ℕ → Option Function
 function_of n =
     if n == 0 then Some Discover
@@ -36,10 +25,6 @@ function_of n =
     else if n == 24 then Some SelectPrevious
     else None
 
--- a read asks for so many bytes at most
-abbrev pub most_room : ℕ
-most_room = 4096
-
 -- the arguments have so many bytes
 abbrev pub of_length : ℕ → List ℕ → Call → Option Call
 of_length n args c = if length args == n then Some c else None
@@ -51,30 +36,18 @@ abbrev pub open_call : List ℕ → Op → Call
 open_call guid op.Read = call.OpenRead guid
 open_call guid op.Write = call.OpenWrite guid
 
-abbrev pub asks_open : List ℕ → Option Call
-asks_open args =
-    if length args == 20 then option_map (open_call (take 16 args)) (op_of (num_at 4 args 16)) else None
-
--- the bytes stand behind the handle. No body has more than 4,096 of them
-abbrev pub asks_write : List ℕ → Option Call
-asks_write args = if nat_le 4 (length args) then Some (call.Write (num_at 4 args 0) (drop 4 args)) else None
-
-abbrev pub asks_read : List ℕ → Option Call
-asks_read args =
-    if length args == 8
-    then (if nat_le (num_at 4 args 4) most_room then Some (call.Read (num_at 4 args 0) (num_at 4 args 4)) else None)
-    else None
-
--- the vendor flags and the atomic length have no meaning
+-- By the function. The vendor flags and the atomic length have no meaning. The bytes of a write stand behind its handle; no body
+-- has more than 4,096 of them. A read asks for 4,096 at most.
 abbrev pub asks_by : Option Function → List ℕ → Option Call
 asks_by None args = None
 asks_by (Some Discover) args = of_length 0 args call.Discover
 asks_by (Some Begin) args = of_length 8 args (call.Begin (num_at 4 args 4))
 asks_by (Some End) args = of_length 0 args call.End
 asks_by (Some Cancel) args = of_length 0 args call.Cancel
-asks_by (Some Open) args = asks_open args
-asks_by (Some WriteStream) args = asks_write args
-asks_by (Some ReadStream) args = asks_read args
+asks_by (Some Open) args = if length args == 20 then option_map (open_call (take 16 args)) (op_of (num_at 4 args 16)) else None
+asks_by (Some WriteStream) args = if nat_le 4 (length args) then Some (call.Write (num_at 4 args 0) (drop 4 args)) else None
+asks_by (Some ReadStream) args =
+    if (length args == 8) && nat_le (num_at 4 args 4) 4096 then Some (call.Read (num_at 4 args 0) (num_at 4 args 4)) else None
 asks_by (Some Commit) args = of_length 12 args (call.Commit (num_at 4 args 0) (num_at 4 args 4))
 asks_by (Some Accept) args = of_length 16 args (call.Accepts args)
 asks_by (Some SelectPrevious) args = of_length 0 args call.Previous
@@ -107,10 +80,10 @@ TellsUnused args other = Unit {0}
 
 -- a read asks for no more bytes than a frame can have
 abbrev pub AsksWithin : AgentCall → Type 0
-AsksWithin (wire.Read handle room) = room ≤ most_room
+AsksWithin (wire.Read handle room) = room ≤ 4096
 AsksWithin other = Unit {0}
 
 -- and got no more
 abbrev pub FitsFrame : AgentReply → Type 0
-FitsFrame (reply.Got total count) = count ≤ most_room
+FitsFrame (reply.Got total count) = count ≤ 4096
 FitsFrame other = Unit {0}

@@ -1,14 +1,14 @@
 -- What a call of the agent gave, as a reply of the machine, and what a server made of a request.
 use Rattle.std.specs.Prelude.{◌≡◌, ℕ, Bool, true, false, List, length, take, Option, Some, None, Result, Ok, Err, IfOk, ⊤}
-use Rattle.fwu_model.specs.{Call.Call, Reply.Reply}
-use Rattle.fwu_model.specs.Reply as reply
+use Rattle.fwu_model.specs.{Call.Call, Reply.Reply, declared.kinds.Status.Status}
+use Rattle.fwu_model.specs.Reply as model
 use Rattle.agent_machine.specs.declared.stop.Stop as agents
 use Rattle.agent_machine.specs.declared.stop.Stop.TheVariants as agent_stop
 use Rattle.agent_machine.specs.{Meets.LeavesFlash, Meets.flash_result, Moment.Moment}
 use Rattle.agent_calls.specs.{AnswersCall.AnswersCall, declared.agent.Agent.Agent}
 use Rattle.wire_frames.specs.{declared.exchange.Admission.Admission, Frames.frame, Frames.request_number_of, Frames.numbered}
 use Rattle.wire_frames.specs.declared.exchange.Admission.TheVariants.{Acts, Repeats, Ignored}
-use Rattle.wire_frames.specs.Exchange.{LastAnswer, admission, answered, written}
+use Rattle.wire_frames.specs.Exchange.{LastAnswer, admission}
 use Rattle.fwu_wire.specs.{Replies.message, Replies.replied, declared.replies.AgentReply.AgentReply, declared.stops.Stop.Stop}
 use Rattle.fwu_wire.specs.{declared.stops.Taken.Taken, declared.server.Server.Server}
 use Rattle.fwu_wire.specs.declared.replies.AgentReply.TheVariants as wire
@@ -45,32 +45,24 @@ agents_answer (Ok (wire.Refused st)) = Err (agent_stop.Status st)
 agents_answer (Ok other) = Ok tt
 agents_answer (Err why) = Err (agents_stop why)
 
--- with the bytes that were read
-abbrev pub reply_in : Result AgentReply Stop → List ℕ → Result Reply Stop
-reply_in (Ok r) bytes = Ok (replied r bytes)
-reply_in (Err why) bytes = Err why
-
--- The agent was called, and its answer or refusal is the machine's; or the flash stopped it.
-pub record CallMeets (passes : List ℕ → Bool) (c : Call) (result : Result Reply Stop) (old new : Moment) : Type 0 where
-  pub answers : IfOk result (λ r. AnswersCall passes c r old new)
+-- The agent was called, and its answer or refusal is the machine's, with the bytes that were read; or the flash stopped it.
+pub record CallMeets (passes : List ℕ → Bool) (c : Call) (result : Result AgentReply Stop) (bytes : List ℕ) (old new : Moment)
+    : Type 0 where
+  pub answers : IfOk result (λ r. AnswersCall passes c (replied r bytes) old new)
   pub leaves : LeavesFlash (flash_result (agent_stopped_by result)) passes c old new
 
 -- ---- a request that acts
-
-abbrev pub IsRefusalReply : Reply → Type 0
-IsRefusalReply (reply.Refused st) = ⊤
-IsRefusalReply other = ⊥
 
 -- The message is that of the machine's reply to the call. A refusal leaves what the agent keeps.
 pub record RepliesToCall (passes : List ℕ → Bool) (c : Call) (bytes : List ℕ) (old new : Moment) : Type 0 where
   pub reply : Reply
   pub message_is : bytes ≡ message reply
   pub answers : AnswersCall passes c reply old new
-  pub refused : IsRefusalReply reply → new.fields ≡ old.fields
+  pub refused : (st : Status) → reply ≡ model.Refused st → new.fields ≡ old.fields
 
 -- The message of the reply to a request: to its call; or that of a request for no call, which does nothing.
 abbrev pub RepliesTo : (List ℕ → Bool) → Option Call → List ℕ → Moment → Moment → Type 0
-RepliesTo passes None bytes old new = (bytes ≡ message reply.NotUnderstood) × (new ≡ old)
+RepliesTo passes None bytes old new = (bytes ≡ message model.NotUnderstood) × (new ≡ old)
 RepliesTo passes (Some c) bytes old new = RepliesToCall passes c bytes old new
 
 -- what the flash has at any exit, and what a loss leaves of it
@@ -80,34 +72,21 @@ LeavesBy result passes (Some c) old new = LeavesFlash (flash_result (agent_stopp
 
 -- ---- any request
 
--- a buffer before and after a request
-pub record Buffers : Type 0 where
-  pub before : List ℕ
-  pub after : List ℕ
-
--- whether it has the next number
-abbrev pub is_next : Admission → Bool
-is_next Acts = true
-is_next other = false
-
 -- the request acts
 abbrev pub IsNextRequest : LastAnswer → List ℕ → Type 0
 IsNextRequest a body = admission a.last (request_number_of body) ≡ Acts
 
--- A frame of n bytes was given for a request of this number, by the steps of the exchange. It is what is written for the request,
--- where the frame of a request that acts is the one at the front of the buffer. That one is kept.
-pub record GivesReply (number n : ℕ) (acted : Bool) (old new : LastAnswer) (out : Buffers) : Type 0 where
-  pub whole : length (take n out.after) ≡ n
-  pub writes : written old number (take n out.after) ≡ Some (take n out.after)
-  pub keeps : new ≡ answered old number (take n out.after)
-  pub acts : acted ≡ is_next (admission old.last number)
-
--- What is given for a request, by its number and what is kept: a reply; or nothing, and nothing changes. Or the agent is stopped,
--- in a request that acts, and nothing is kept.
-abbrev pub GivesTaken : ℕ → Result Taken Stop → LastAnswer → LastAnswer → Buffers → Type 0
-GivesTaken number (Ok (taken.Reply n acted)) old new out = GivesReply number n acted old new out
-GivesTaken number (Ok taken.Ignored) old new out = (admission old.last number ≡ Ignored) × (new ≡ old) × (out.after ≡ out.before)
-GivesTaken number (Err why) old new out = (admission old.last number ≡ Acts) × (new ≡ old)
+-- What is given for a request of this number, by what becomes of it. One that acts gets a frame of n bytes at the front of the
+-- buffer, which is kept; or the agent is stopped, and nothing is kept. A repeat gets the frame that is kept. Another one changes
+-- nothing.
+abbrev pub GivesTaken : Admission → ℕ → Result Taken Stop → LastAnswer → LastAnswer → List ℕ → List ℕ → Type 0
+GivesTaken Acts number (Ok (taken.Reply n true)) old new before after =
+    (length (take n after) ≡ n) × (new ≡ record { last = number; reply = take n after })
+GivesTaken Acts number (Err why) old new before after = new ≡ old
+GivesTaken Repeats number (Ok (taken.Reply n false)) old new before after =
+    (length (take n after) ≡ n) × (take n after ≡ old.reply) × (new ≡ old)
+GivesTaken Ignored number (Ok taken.Ignored) old new before after = (new ≡ old) × (after ≡ before)
+GivesTaken admitted number other old new before after = ⊥
 
 -- the frame of a request that acted is that of its reply
 abbrev pub IsReply : (List ℕ → Bool) → Option Call → ℕ → Result Taken Stop → List ℕ → Moment → Moment → Type 0

@@ -2,8 +2,8 @@
 ghost use Rattle.std.specs.Prelude.{◌≡◌, ◌≤◌, ℕ, Bool, List, IsFalse, IfOk, Err, length, ◌++◌};
 ghost use Rattle.agent_calls.specs.Shown.{AgentGoes, gone, moment};
 ghost use Rattle.fwu_model.specs.Call as call;
-ghost use Rattle.fwu_wire.specs.Calls.{most_room, open_call, shown, AsksWithin, FitsFrame};
-ghost use Rattle.fwu_wire.specs.Taken.{CallMeets, agents_answer, reply_in, said};
+ghost use Rattle.fwu_wire.specs.Calls.{open_call, shown, AsksWithin, FitsFrame};
+ghost use Rattle.fwu_wire.specs.Taken.{CallMeets, agents_answer, said};
 
 use crate::calls::AgentCall;
 use crate::replies::AgentReply;
@@ -38,7 +38,7 @@ fn done(answer: Result<(), AgentStop>) -> Result<AgentReply, Stop>
 
 fn discover<D: Flash>(agent: &mut Agent<D>) -> Result<AgentReply, Stop>
     ensures meets { IsFalse (gone agent.old) → (passes : List ℕ → Bool) → (bytes : List ℕ) →
-        CallMeets passes call.Discover (reply_in result bytes) (moment agent.old) (moment agent.new) }
+        CallMeets passes call.Discover result bytes (moment agent.old) (moment agent.new) }
     ensures goes { AgentGoes (agents_answer result) agent.old agent.new }
     ensures still { agent.new ≡ agent.old }
     ensures fits { IfOk result FitsFrame }
@@ -51,7 +51,7 @@ fn discover<D: Flash>(agent: &mut Agent<D>) -> Result<AgentReply, Stop>
 
 fn open<D: Flash>(agent: &mut Agent<D>, guid: Guid, op: Op) -> Result<AgentReply, Stop>
     ensures meets { IsFalse (gone agent.old) → (passes : List ℕ → Bool) → (bytes : List ℕ) →
-        CallMeets passes (open_call guid op) (reply_in result bytes)
+        CallMeets passes (open_call guid op) result bytes
         (moment agent.old) (moment agent.new) }
     ensures goes { AgentGoes (agents_answer result) agent.old agent.new }
     ensures fits { IfOk result FitsFrame }
@@ -64,9 +64,9 @@ fn open<D: Flash>(agent: &mut Agent<D>, guid: Guid, op: Op) -> Result<AgentReply
 
 /// Reads to the front of the buffer.
 fn read<D: Flash>(agent: &mut Agent<D>, handle: u32, out: &mut [u8]) -> Result<AgentReply, Stop>
-    requires few { length out.old ≤ most_room }
+    requires few { length out.old ≤ 4096 }
     ensures meets { IsFalse (gone agent.old) → (passes : List ℕ → Bool) → (behind : List ℕ) →
-        CallMeets passes (call.Read handle (length out.old)) (reply_in result (out.new ++ behind))
+        CallMeets passes (call.Read handle (length out.old)) result (out.new ++ behind)
         (moment agent.old) (moment agent.new) }
     ensures goes { AgentGoes (agents_answer result) agent.old agent.new }
     ensures fits { IfOk result FitsFrame }
@@ -84,10 +84,10 @@ pub fn call_agent<D: Flash, V: Verifier>(
     out: &mut [u8],
     verifier: &V,
 ) -> Result<AgentReply, Stop>
-    requires room { most_room ≤ length out.old }
+    requires room { 4096 ≤ length out.old }
     requires within { AsksWithin call.now }
     ensures meets { IsFalse (gone agent.old) →
-        CallMeets (V.passes verifier.now) (shown call.now) (reply_in result out.new)
+        CallMeets (V.passes verifier.now) (shown call.now) result out.new
         (moment agent.old) (moment agent.new) }
     ensures goes { AgentGoes (agents_answer result) agent.old agent.new }
     ensures fits { IfOk result FitsFrame }

@@ -1,6 +1,6 @@
 //! What a request asks the agent for.
 ghost use Rattle.std.specs.Prelude.{◌≡◌, ◌≤◌, Some, IfSome, drop, length, option_map};
-ghost use Rattle.fwu_wire.specs.Calls.{AsksWithin, TellsUnused, asks, asks_by, asks_open, asks_read, asks_write, of_length, op_of, shown};
+ghost use Rattle.fwu_wire.specs.Calls.{AsksWithin, TellsUnused, asks, asks_by, of_length, op_of, shown};
 
 use crate::functions::Function;
 use base_core::{Guid, le32_at};
@@ -73,7 +73,7 @@ fn op_of(number: u32) -> Option<Op>
 }
 
 fn open_of<'a>(args: &[u8]) -> Option<AgentCall<'a>>
-    ensures call { option_map shown result ≡ asks_open args.now }
+    ensures call { option_map shown result ≡ asks_by (Some Function.Open) args.now }
     ensures within { IfSome result AsksWithin }
     ensures unused { IfSome result (TellsUnused args.now) }
 {
@@ -90,7 +90,7 @@ fn open_of<'a>(args: &[u8]) -> Option<AgentCall<'a>>
 }
 
 fn write_of<'a>(args: &'a [u8]) -> Option<AgentCall<'a>>
-    ensures call { option_map shown result ≡ asks_write args.entry.now }
+    ensures call { option_map shown result ≡ asks_by (Some Function.WriteStream) args.entry.now }
     ensures within { IfSome result AsksWithin }
     ensures unused { IfSome result (TellsUnused args.entry.now) }
 {
@@ -104,7 +104,7 @@ fn write_of<'a>(args: &'a [u8]) -> Option<AgentCall<'a>>
 }
 
 fn read_of<'a>(args: &[u8]) -> Option<AgentCall<'a>>
-    ensures call { option_map shown result ≡ asks_read args.now }
+    ensures call { option_map shown result ≡ asks_by (Some Function.ReadStream) args.now }
     ensures within { IfSome result AsksWithin }
     ensures unused { IfSome result (TellsUnused args.now) }
 {

@@ -2,7 +2,7 @@
 ghost use Rattle.std.specs.Prelude.{◌≡◌, ◌≤◌, ◌+◌, length, take, drop};
 ghost use Rattle.fwu_wire.specs.Calls.{FitsFrame};
 ghost use Rattle.fwu_model.specs.Reply as model;
-ghost use Rattle.fwu_wire.specs.Replies.{below_zero, message, not_understood, replied, state_number, status_number};
+ghost use Rattle.fwu_wire.specs.Replies.{below_zero, message, replied, state_number, status_number};
 
 use crate::words::put_words;
 use fwu_model::{AgentState, Status};

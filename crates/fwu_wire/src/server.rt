@@ -96,9 +96,8 @@ impl<D: Flash> Server<D> {
     ) -> Result<Taken, Stop>
         requires some { 4 ≤ length message.now }
         requires room { 4112 ≤ length out.old }
-        requires next { admission (exchange_of self.old).last number ≡ Admission.Acts }
-        ensures gives { GivesTaken number result (exchange_of self.old) (exchange_of self.new)
-            (record { before = out.old; after = out.new }) }
+        ensures gives { GivesTaken Admission.Acts number result (exchange_of self.old) (exchange_of self.new)
+            out.old out.new }
         ensures reply { IsFalse (gone (agent_of self.old)) →
             IsReply (V.passes verifier.now) (asks message.now) number result out.new
             (moment (agent_of self.old)) (moment (agent_of self.new)) }
@@ -134,9 +133,8 @@ impl<D: Flash> Server<D> {
         requires body { IsBody request.now }
         requires room { 4112 ≤ length out.old }
         // By the number and what is kept: what is given, and what is kept then.
-        ensures gives { GivesTaken (request_number_of request.now) result
-            (exchange_of self.old) (exchange_of self.new)
-            (record { before = out.old; after = out.new }) }
+        ensures gives { GivesTaken (admission (exchange_of self.old).last (request_number_of request.now))
+            (request_number_of request.now) result (exchange_of self.old) (exchange_of self.new) out.old out.new }
         // On any device: the reply to a request that acted is the machine's.
         ensures reply { IsFalse (gone (agent_of self.old)) →
             IsReply (V.passes verifier.now) (asks (message_of request.now))

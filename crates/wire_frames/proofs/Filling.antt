@@ -1,12 +1,12 @@
 -- Pieces that come one after the other, and the frame that they make.
-use Rattle.std.proofs.Common.{◌≡◌, ℕ, suc, ◌+◌, ◌*◌, ◌/◌, ◌%◌, ◌<◌, ◌≤◌, Bool, true, false, List, [], ◌∷◌, ◌++◌, length, get_or, take, drop, Option, Err, refl, sym, ap, subst, ◌∙◌, inr, arith, append_assoc, append-nil, length-append, take-append-drop}
+use Rattle.std.proofs.Common.{◌≡◌, ℕ, suc, ◌+◌, ◌*◌, ◌/◌, ◌%◌, ◌<◌, ◌≤◌, Bool, true, false, List, [], ◌∷◌, ◌++◌, length, get_or, take, drop, Option, Err, refl, sym, ap, subst, ◌∙◌, inr, arith, append_assoc, length-append, take-append-drop}
 use Rattle.std.specs.Io.KnownBytes.{Consumes}
 use Rattle.std.proofs.KnownBytes.{Consumes-trans}
 use Rattle.std.proofs.lemmas.List.{length-take-le, take_all, take_at}
 use Rattle.base_core.specs.Bytes.{le, num, num_at}
 use Rattle.host_io.specs.{Once.ReadsOnce, declared.source.Source.Ghosts}
-use Rattle.wire_frames.specs.{declared.stream.Cut.Cut, Frames.IsPartialFrame, Frames.frame}
-use Rattle.wire_frames.specs.Stream.{CutsShort, ReadsFrame, ReadsSource, StopsReading, stop_by}
+use Rattle.wire_frames.specs.{declared.stream.Cut.Cut, declared.stream.FrameStop.FrameStop, Frames.IsPartialFrame, Frames.frame}
+use Rattle.wire_frames.specs.Stream.{CutsShort, ReadsFrame, ReadsSource, StopsReading, stop_by, stop_faults}
 use Rattle.wire_frames.specs.declared.stream.Cut.TheVariants as cut
 
 -- the front of a buffer, with bytes that came behind it
@@ -47,31 +47,33 @@ reads-frame head out rest body n taken mid now a b c four spelled some few size 
 -- ---- what is cut short
 
 -- a read that gave no value
-pub read-none : {I T E : Type 0} (g : Ghosts I) (old new : I) (why : E) (told : ℕ → ℕ) → g.faults new ≡ told (g.faults old) → g.faults old ≤ g.faults new
-    → ReadsOnce g old new → ReadsSource {T = T} g old new (Err why) told
-read-none g old new why told faults later once = record { faults = faults; later = later; goes = tt; once = once }
+pub read-none : {I T : Type 0} (g : Ghosts I) (old new : I) (why : FrameStop) → g.faults new ≡ stop_faults {T = T} (Err why) (g.faults old) → g.faults old ≤ g.faults new
+    → ReadsOnce g old new → ReadsSource {T = T} g old new (Err why)
+read-none g old new why faults later once = record { faults = faults; later = later; goes = tt; once = once }
 
--- what was taken of a piece that was cut short
-pub stops-by : (why : Cut) (bytes got : List ℕ) (taken mid now : ℕ) (between : Bool) (a b c : Option (List ℕ)) → Consumes a b bytes → CutsShort why got mid now b c → mid ≡ taken + length bytes → IsPartialFrame (bytes ++ got)
-    → (between ≡ true → bytes ++ got ≡ []) → (between ≡ false → 1 ≤ length (bytes ++ got)) → StopsReading (stop_by why between) taken now a c
-stops-by cut.Ended bytes got taken mid now true a b c first s sum part none some =
-    let all = Consumes-trans a b s.mid bytes got first s.came in
-    let left = Consumes-trans a s.mid c (bytes ++ got) [] all s.ends.0 in
-    let count = s.count in
-    (subst (Consumes a c) (append-nil (bytes ++ got) ∙ none refl) left, s.ends.1, omega (arith, sum, count, length-append bytes got, ap length (none refl)))
-stops-by cut.Ended bytes got taken mid now false a b c first s sum part none some =
-    let all = Consumes-trans a b s.mid bytes got first s.came in
-    let left = Consumes-trans a s.mid c (bytes ++ got) [] all s.ends.0 in
-    let count = s.count in
-    (bytes ++ got, subst (Consumes a c) (append-nil (bytes ++ got)) left, omega (arith, sum, count, length-append bytes got), inr (part, some refl, s.ends.1))
-stops-by cut.TooLong bytes got taken mid now between a b c first s sum part none some =
-    let all = Consumes-trans a b s.mid bytes got first s.came in
-    let count = s.count in
-    (bytes ++ got, s.ends.0, part, Consumes-trans a s.mid c (bytes ++ got) (s.ends.0 ∷ []) all s.ends.1, omega (arith, sum, count, length-append bytes got), s.most refl)
-stops-by cut.Failed bytes got taken mid now between a b c first s sum part none some =
-    let all = Consumes-trans a b s.mid bytes got first s.came in
-    let count = s.count in
-    (bytes ++ got, part, subst (Consumes a c) (append-nil (bytes ++ got)) (Consumes-trans a s.mid c (bytes ++ got) [] all s.ends), omega (arith, sum, count, length-append bytes got))
+-- an end is no failure, within a frame or not
+pub read-between : {I T U : Type 0} (g : Ghosts I) (old new : I) (why : Cut) (between : Bool) → ReadsSource {T = U} g old new (Err (stop_by why false)) → ReadsSource {T = T} g old new (Err (stop_by why between))
+read-between g old new cut.Ended true r = read-none g old new _ r.faults r.later r.once
+read-between g old new cut.Ended false r = read-none g old new _ r.faults r.later r.once
+read-between g old new cut.TooLong between r = read-none g old new _ r.faults r.later r.once
+read-between g old new cut.Failed between r = read-none g old new _ r.faults r.later r.once
+
+-- other bytes came before it
+pub cuts-behind : (why : Cut) (bytes got : List ℕ) (taken mid now : ℕ) (a b c : Option (List ℕ)) → Consumes a b bytes → mid ≡ taken + length bytes → CutsShort why got mid now b c → CutsShort why (bytes ++ got) taken now a c
+cuts-behind cut.Ended bytes got taken mid now a b c first sum (came, ended, count) =
+    (Consumes-trans a b c bytes got first came, ended, omega (arith, sum, count, length-append bytes got))
+cuts-behind cut.TooLong bytes got taken mid now a b c first sum (x, came, count, most) =
+    (x, subst (Consumes a c) (sym (append_assoc bytes got (x ∷ []))) (Consumes-trans a b c bytes (got ++ x ∷ []) first came), omega (arith, sum, count, length-append bytes got), most)
+cuts-behind cut.Failed bytes got taken mid now a b c first sum (came, count) =
+    (Consumes-trans a b c bytes got first came, omega (arith, sum, count, length-append bytes got))
+
+-- what was taken where no whole frame came
+pub stops-by : (why : Cut) (bytes : List ℕ) (taken now : ℕ) (between : Bool) (a c : Option (List ℕ)) → CutsShort why bytes taken now a c → IsPartialFrame bytes
+    → (between ≡ true → bytes ≡ []) → (between ≡ false → 1 ≤ length bytes) → StopsReading (stop_by why between) taken now a c
+stops-by cut.Ended bytes taken now true a c (came, ended, count) part none some = (subst (Consumes a c) (none refl) came, ended, omega (arith, count, ap length (none refl)))
+stops-by cut.Ended bytes taken now false a c (came, ended, count) part none some = (bytes, came, count, inr (part, some refl, ended))
+stops-by cut.TooLong bytes taken now between a c (b, came, count, most) part none some = (bytes, b, part, came, count, most)
+stops-by cut.Failed bytes taken now between a c (came, count) part none some = (bytes, part, came, count)
 
 -- a length, and fewer bytes than it says
 pub partial-body : (head got : List ℕ) (n : ℕ) → length head ≡ 4 → n ≡ num_at 4 head 0 → 8 ≤ n → n ≤ 4108 → length got < n → IsPartialFrame (head ++ got)

@@ -1,15 +1,15 @@
 -- What holds of the two sides, whatever has happened, and that each request acts at most once.
-use Rattle.std.proofs.Common.{◌≡◌, ◌⊎◌, ℕ, zero, suc, ◌+◌, ◌-◌, ◌<◌, ◌≤◌, Bool, true, false, not, ◌&&◌, ◌==◌, cond, List, [], ◌∷◌, ◌++◌, length, take, drop, Option, Some, None, refl, sym, ap, subst, ◌∙◌, inl, inr, arith, take-append-drop}
+use Rattle.std.proofs.Common.{◌≡◌, ◌⊎◌, ℕ, zero, suc, ◌+◌, ◌-◌, ◌<◌, ◌≤◌, Bool, true, false, not, ◌&&◌, ◌==◌, cond, List, [], ◌∷◌, ◌++◌, length, map, take, drop, Option, Some, None, refl, sym, ap, subst, ◌∙◌, inl, inr, arith, take-append-drop}
 use Rattle.std.specs.Prelude.{⊤, nat_lt, nat_le, option_map}
 use Rattle.std.specs.List.{slice_get}
 use Rattle.std.proofs.lemmas.Bool.{and_parts, eqb-false, eqb-true, not-true, ltb-true, false≢true}
 use Rattle.std.proofs.lemmas.Option.{same_Some, slice_get-map, slice_get_within}
 use Rattle.std.proofs.lemmas.List.{append-nil, length_push, map-append, take-append-le}
-use Rattle.wire_frames.specs.{declared.exchange.Admission.Admission, Asking.Asking, Asking.fits, Asking.may_ask, Asking.next_frame}
+use Rattle.wire_frames.specs.{declared.exchange.Admission.Admission, Asking.Asking, Asking.fits, Asking.may_ask}
 use Rattle.wire_frames.specs.declared.exchange.Admission.TheVariants.{Acts, Repeats, Ignored}
 use Rattle.wire_frames.specs.Frames.{body_of, frame, request_number_of, numbered}
-use Rattle.wire_frames.specs.Exchange.{LastAnswer, admission, answered_by, written_by}
-use Rattle.wire_frames.specs.Events.{ActsAtMostOnce, Event, Asks, Again, Request_comes, Reply_comes, IsFrontOf, Pair, WireWorld, acts, asks, answers, closes, gives_again, happens, reply_comes, request_comes, requests_of, run, sent, serves, start_world, stops}
+use Rattle.wire_frames.specs.Exchange.{LastAnswer, admission}
+use Rattle.wire_frames.specs.Events.{ActsAtMostOnce, Event, Asks, Again, Request_comes, Reply_comes, IsFrontOf, Pair, WireWorld, acts, asks, happens, reply_comes, request_comes, run, serves, start_world}
 use Rattle.wire_frames.proofs.Numbers.{body-frame, number-numbered}
 use Rattle.wire_frames.proofs.Places.{get-cases, get-keeps, get-seam, get-taken, take-next}
 
@@ -56,6 +56,10 @@ record AskedInOrder (client : Asking) (asked : List (List ℕ)) : Type 0 where
   count : length asked ≡ client.last
   numbers : (n : ℕ) (request : List ℕ) → slice_get asked n ≡ Some request → request_number_of request ≡ n + 1
   opened : client.is_open ≡ true → slice_get asked (client.last - 1) ≡ Some (body_of client.request)
+
+-- the requests of pairs
+abbrev requests_of : List Pair → List (List ℕ)
+requests_of pairs = map (λ (p : Pair). p.request) pairs
 
 -- the first of them acted, and have replies of their numbers, of which the last is kept
 record ActedInOrder (server : LastAnswer) (asked : List (List ℕ)) (acted : List Pair) : Type 0 where
@@ -128,9 +132,9 @@ module _ (w : WireWorld) (h : Holds w) where
   asks-on message may =
       let parts = and_parts (not w.client.is_open) (nat_lt w.client.last 4294967295) may in
       let free : w.client.last < 4294967295 = ltb-true w.client.last 4294967295 parts.1 in
-      let body : List ℕ = body_of (next_frame w.client message) in
-      let number : request_number_of body ≡ w.client.last + 1 =
-      ap request_number_of (body-frame (numbered (w.client.last + 1) message)) ∙ number-numbered (w.client.last + 1) message (omega (arith, free)) in
+      let body : List ℕ = numbered (w.client.last + 1) message in
+      let number : request_number_of body ≡ w.client.last + 1 = number-numbered (w.client.last + 1) message (omega (arith, free)) in
+      let same : Some body ≡ Some (body_of (frame body)) = ap Some (sym (body-frame body)) in
       let count = h.asked.count in
       let more : length (w.asked ++ body ∷ []) ≡ w.client.last + 1 = length_push w.asked body ∙ ap (λ (n : ℕ). n + 1) count in
       let behind = h.acted.behind in
@@ -139,10 +143,10 @@ module _ (w : WireWorld) (h : Holds w) where
           few = omega (arith, free);
           count = more;
           numbers = numbers-more request_number_of w.asked body (number ∙ ap (λ (n : ℕ). n + 1) (sym count)) h.asked.numbers;
-          opened = λ is. get-seam w.asked body (w.client.last + 1 - 1) (omega (arith, count));
+          opened = λ is. get-seam w.asked body (w.client.last + 1 - 1) (omega (arith, count)) ∙ same;
         };
-        requests = in-front (λ (b : List ℕ). WasAsked (w.asked ++ body ∷ []) (body_of b)) (next_frame w.client message) w.requests
-            (record { place = length w.asked; at = get-seam w.asked body (length w.asked) refl })
+        requests = in-front (λ (b : List ℕ). WasAsked (w.asked ++ body ∷ []) (body_of b)) (frame body) w.requests
+            (record { place = length w.asked; at = get-seam w.asked body (length w.asked) refl ∙ same })
             (λ k bytes is. asked-still w.asked (body ∷ []) (body_of bytes) (h.requests k bytes is));
         acted = record {
           first = h.acted.first ∙ sym (take-append-le w.server.last w.asked (body ∷ []) behind);
@@ -254,48 +258,26 @@ module _ (w : WireWorld) (h : Holds w) where
       }
 
   -- by its number
-  answers-on : (request message : List ℕ) → WasAsked w.asked request → w.stopped ≡ [] → Holds (answers w request message)
-  answers-on request message r none = by (admission w.server.last number) (admits w.server.last number)
+  serves-on : (request : List ℕ) (message : Option (List ℕ)) → WasAsked w.asked request → Holds (serves (admission w.server.last (request_number_of request)) w request message)
+  serves-on request message r = by (admission w.server.last (request_number_of request)) (admits w.server.last (request_number_of request))
     where
-      number : ℕ
-      number = request_number_of request
-
-      reply : List ℕ
-      reply = numbered number message
-
-      after : Admission → WireWorld
-      after a = record w {
-        server = answered_by a w.server number (frame reply);
-        replies = sent w.replies (written_by a w.server (frame reply));
-        acted = acts a w.acted request reply;
-      }
-
-      by : (a : Admission) → Admits w.server.last number a → Holds (after a)
-      by Acts next =
+      act : (gone : Bool) (given : Option (List ℕ)) → w.gone ≡ gone → request_number_of request ≡ w.server.last + 1 → Holds (cond gone w (acts w request given))
+      act true given is next = h
+      act false None is next = stops-on request r next
+      act false (Some bytes) is next =
           let within = slice_get_within w.asked w.server.last request (next-at request r next) in
           let few = h.asked.few in
           let count = h.asked.count in
-          acts-on request reply r next (number-numbered number message (omega (arith, next, within, few, count))) none
-      by Repeats same = gives-on same.1
-      by Ignored _ = h
+          acts-on request (numbered (request_number_of request) bytes) r next (number-numbered (request_number_of request) bytes (omega (arith, next, within, few, count))) (h.quiet is)
 
-  serves-on : (gone : Bool) (request : List ℕ) (message : Option (List ℕ)) → w.gone ≡ gone → WasAsked w.asked request → Holds (serves gone w request message)
-  serves-on true request message is r = by (admission w.server.last (request_number_of request)) (admits w.server.last (request_number_of request))
-    where
-      by : (a : Admission) → Admits w.server.last (request_number_of request) a → Holds (gives_again a w)
-      by Repeats same = gives-on same.1
-      by other _ = h
-  serves-on false request None is r = by (admission w.server.last (request_number_of request)) (admits w.server.last (request_number_of request))
-    where
-      by : (a : Admission) → Admits w.server.last (request_number_of request) a → Holds (stops a w request)
-      by Acts next = stops-on request r next
+      by : (a : Admission) → Admits w.server.last (request_number_of request) a → Holds (serves a w request message)
+      by Acts next = act w.gone message refl next
       by Repeats same = gives-on same.1
       by Ignored _ = h
-  serves-on false request (Some message) is r = answers-on request message r (h.quiet is)
 
   request-on : (which : ℕ) (found : Option (List ℕ)) (message : Option (List ℕ)) → slice_get w.requests which ≡ found → Holds (request_comes w found message)
   request-on which None message is = h
-  request-on which (Some bytes) message is = serves-on w.gone (body_of bytes) message refl (h.requests which bytes is)
+  request-on which (Some bytes) message is = serves-on (body_of bytes) message (h.requests which bytes is)
 
   -- ---- a reply comes
 
@@ -339,8 +321,10 @@ module _ (w : WireWorld) (h : Holds w) where
   reply-on which None is = h
   reply-on which (Some bytes) is = by (fits w.client (body_of bytes)) refl
     where
-      by : (b : Bool) → fits w.client (body_of bytes) ≡ b
-          → Holds (record w { client = cond b (record w.client { is_open = false }) w.client; taken = closes b w.taken (body_of w.client.request) (body_of bytes) })
+      more : List Pair
+      more = w.taken ++ record { request = body_of w.client.request; reply = body_of bytes } ∷ []
+
+      by : (b : Bool) → fits w.client (body_of bytes) ≡ b → Holds (record w { client = cond b (record w.client { is_open = false }) w.client; taken = cond b more w.taken })
       by true fit =
           let parts = and_parts w.client.is_open (nat_le 4 (length (body_of bytes)) && (request_number_of (body_of bytes) == w.client.last)) fit in
           let later = and_parts (nat_le 4 (length (body_of bytes))) (request_number_of (body_of bytes) == w.client.last) parts.1 in

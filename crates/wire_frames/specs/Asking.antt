@@ -17,12 +17,9 @@ asked_none = record { last = 0; is_open = false; request = [] }
 abbrev pub may_ask : Asking → Bool
 may_ask a = not a.is_open && nat_lt a.last 4294967295
 
--- the frame of the next request
-abbrev pub next_frame : Asking → List ℕ → List ℕ
-next_frame a message = frame (numbered (a.last + 1) message)
-
+-- after asking with this message, by the next number
 abbrev pub asked : Asking → List ℕ → Asking
-asked a message = record { last = a.last + 1; is_open = true; request = next_frame a message }
+asked a message = record { last = a.last + 1; is_open = true; request = frame (numbered (a.last + 1) message) }
 
 -- a reply is that of the open request
 abbrev pub fits : Asking → List ℕ → Bool

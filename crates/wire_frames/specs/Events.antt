@@ -1,10 +1,10 @@
 -- The two sides and what is on the way between them, over whatever may happen within one power cycle.
 use Rattle.std.specs.Prelude.{◌≡◌, ℕ, ◌+◌, ◌≤◌, Bool, true, false, if◌then◌else◌, List, [], ◌∷◌, ◌++◌, length, map, Option, Some, None, slice_get}
 use Rattle.wire_frames.specs.declared.exchange.Admission.{Admission}
-use Rattle.wire_frames.specs.declared.exchange.Admission.TheVariants.{Acts, Repeats}
+use Rattle.wire_frames.specs.declared.exchange.Admission.TheVariants.{Acts, Repeats, Ignored}
 use Rattle.wire_frames.specs.Frames.{body_of, frame, request_number_of, numbered}
-use Rattle.wire_frames.specs.Exchange.{LastAnswer, admission, answered, none_yet, written}
-use Rattle.wire_frames.specs.Asking.{Asking, asked, asked_none, closed, fits, may_ask, next_frame}
+use Rattle.wire_frames.specs.Exchange.{LastAnswer, admission, none_yet}
+use Rattle.wire_frames.specs.Asking.{Asking, asked, asked_none, closed, fits, may_ask}
 
 -- a request and a reply, as bodies of frames
 pub record Pair : Type 0 where
@@ -43,67 +43,46 @@ pub data Event : Type 0 where
   -- a reply comes to the client
   Reply_comes : (which : ℕ) → Event
 
--- ---- the client asks
-
+-- the client asks, by the next number
 abbrev pub asks : WireWorld → List ℕ → WireWorld
-asks w message = record w {
-  client = asked w.client message;
-  requests = next_frame w.client message ∷ w.requests;
-  asked = w.asked ++ body_of (next_frame w.client message) ∷ [];
-}
+asks w message =
+    let body = numbered (w.client.last + 1) message in
+    record w { client = asked w.client message; requests = frame body ∷ w.requests; asked = w.asked ++ body ∷ [] }
 
 -- ---- a request comes
 
--- a reply is sent, where there is one
-abbrev pub sent : List (List ℕ) → Option (List ℕ) → List (List ℕ)
-sent replies None = replies
-sent replies (Some reply) = reply ∷ replies
-
--- the request acts, where its number is the next, and is answered with this message
-abbrev pub acts : Admission → List Pair → List ℕ → List ℕ → List Pair
-acts Acts pairs request reply = pairs ++ record { request = request; reply = reply } ∷ []
-acts other pairs request reply = pairs
-
-abbrev pub answers : WireWorld → List ℕ → List ℕ → WireWorld
-answers w request message =
+-- It acts, and is answered with this message, and the frame of its reply is kept. Or the flash stops it.
+abbrev pub acts : WireWorld → List ℕ → Option (List ℕ) → WireWorld
+acts w request None = record w { gone = true; stopped = request ∷ [] }
+acts w request (Some message) =
     let reply = numbered (request_number_of request) message in
     record w {
-      server = answered w.server (request_number_of request) (frame reply);
-      replies = sent w.replies (written w.server (request_number_of request) (frame reply));
-      acted = acts (admission w.server.last (request_number_of request)) w.acted request reply;
+      server = record { last = request_number_of request; reply = frame reply };
+      replies = frame reply ∷ w.replies;
+      acted = w.acted ++ record { request = request; reply = reply } ∷ [];
     }
 
--- Once the flash stopped a request, no other acts. The last reply may still be given again.
-abbrev pub gives_again : Admission → WireWorld → WireWorld
-gives_again Repeats w = record w { replies = w.server.reply ∷ w.replies }
-gives_again other w = w
-
--- the flash stops the request, where its number is the next
-abbrev pub stops : Admission → WireWorld → List ℕ → WireWorld
-stops Acts w request = record w { gone = true; stopped = request ∷ [] }
-stops other w request = gives_again other w
-
-abbrev pub serves : Bool → WireWorld → List ℕ → Option (List ℕ) → WireWorld
-serves true w request message = gives_again (admission w.server.last (request_number_of request)) w
-serves false w request None = stops (admission w.server.last (request_number_of request)) w request
-serves false w request (Some message) = answers w request message
+-- By what becomes of it. Once the flash stopped a request, no other acts. The last reply may still be given again.
+abbrev pub serves : Admission → WireWorld → List ℕ → Option (List ℕ) → WireWorld
+serves Acts w request message = if w.gone then w else acts w request message
+serves Repeats w request message = record w { replies = w.server.reply ∷ w.replies }
+serves Ignored w request message = w
 
 abbrev pub request_comes : WireWorld → Option (List ℕ) → Option (List ℕ) → WireWorld
 request_comes w None message = w
-request_comes w (Some bytes) message = serves w.gone w (body_of bytes) message
+request_comes w (Some bytes) message =
+    serves (admission w.server.last (request_number_of (body_of bytes))) w (body_of bytes) message
 
 -- ---- a reply comes
 
-abbrev pub closes : Bool → List Pair → List ℕ → List ℕ → List Pair
-closes true pairs request reply = pairs ++ record { request = request; reply = reply } ∷ []
-closes false pairs request reply = pairs
-
 abbrev pub reply_comes : WireWorld → Option (List ℕ) → WireWorld
 reply_comes w None = w
-reply_comes w (Some bytes) = record w {
-  client = closed w.client (body_of bytes);
-  taken = closes (fits w.client (body_of bytes)) w.taken (body_of w.client.request) (body_of bytes);
-}
+reply_comes w (Some bytes) =
+    let pair : Pair = record { request = body_of w.client.request; reply = body_of bytes } in
+    record w {
+      client = closed w.client (body_of bytes);
+      taken = if fits w.client (body_of bytes) then w.taken ++ pair ∷ [] else w.taken;
+    }
 
 -- ---- all that may happen
 
@@ -122,20 +101,13 @@ run (e ∷ events) w = run events (happens w e)
 abbrev pub IsFrontOf : {X : Type 0} → List X → List X → Type 0
 IsFrontOf {X} xs ys = (rest : List X) × (xs ++ rest ≡ ys)
 
--- the requests of pairs
-abbrev pub requests_of : List Pair → List (List ℕ)
-requests_of pairs = map (λ (p : Pair). p.request) pairs
-
 -- Whatever is lost, repeated or comes out of order, and whenever the flash stops a request:
 pub record ActsAtMostOnce (w : WireWorld) : Type 0 where
   -- the requests are numbered from 1 on, so that no two are one
   pub numbers : (n : ℕ) (request : List ℕ) → slice_get w.asked n ≡ Some request → request_number_of request ≡ n + 1
   -- those that acted, and the one that was stopped, are the first that were asked, each once and in this order
-  pub once : IsFrontOf (requests_of w.acted ++ w.stopped) w.asked
+  pub once : IsFrontOf (map (λ (p : Pair). p.request) w.acted ++ w.stopped) w.asked
   -- and the replies that were taken are those of the first of them, each with its own request
   pub own : IsFrontOf w.taken w.acted
   -- no request is asked before the reply to the last one was taken
   pub in_turn : length w.asked ≤ length w.taken + 1
-
-abbrev pub EachRequestActsAtMostOnce : Type 0
-EachRequestActsAtMostOnce = (events : List Event) → ActsAtMostOnce (run events start_world)

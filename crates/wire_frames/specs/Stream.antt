@@ -1,9 +1,9 @@
 -- Frames that come from a source.
-use Rattle.std.specs.Prelude.{◌≡◌, ◌⊎◌, ◌+◌, ◌<◌, ◌≤◌, ℕ, Bool, if◌then◌else◌, List, [], ◌∷◌, ◌++◌, Option, Some, Result, Ok, Err, OnOk, length, ⊤}
+use Rattle.std.specs.Prelude.{◌≡◌, ◌⊎◌, ◌+◌, ◌<◌, ◌≤◌, ℕ, Bool, if◌then◌else◌, List, [], ◌∷◌, ◌++◌, Option, Result, Err, OnOk, length, ⊤}
 use Rattle.std.specs.Io.KnownBytes.{Consumes, IsAtEnd}
 use Rattle.host_io.specs.{Calls.raised, Once.ReadsBytes, Once.ReadsOnce, declared.source.Source.Ghosts}
-use Rattle.wire_frames.specs.{declared.stream.Cut.Cut, declared.stream.Short.Short, declared.stream.FrameStop.FrameStop}
-use Rattle.wire_frames.specs.Frames.{AreBodies, HasBadLength, IsBody, IsPartialFrame, Splits, frame, frames}
+use Rattle.wire_frames.specs.{declared.stream.Cut.Cut, declared.stream.FrameStop.FrameStop}
+use Rattle.wire_frames.specs.Frames.{HasBadLength, IsBody, IsPartialFrame, Splits, frame}
 use Rattle.wire_frames.specs.declared.stream.Cut.TheVariants as cut
 use Rattle.wire_frames.specs.declared.stream.FrameStop.TheVariants as stop
 
@@ -13,9 +13,14 @@ most_bytes = 1073741824
 
 -- ---- reads
 
--- How a source was read for an answer, by which the number of failed reads is told from the one before.
-pub record ReadsSource {I T E : Type 0} (g : Ghosts I) (old new : I) (answer : Result T E) (told : ℕ → ℕ) : Type 0 where
-  pub faults : g.faults new ≡ told (g.faults old)
+-- how many reads have failed after an answer
+abbrev pub stop_faults : {T : Type 0} → Result T FrameStop → ℕ → ℕ
+stop_faults (Err stop.Failed) before = raised before
+stop_faults other before = before
+
+-- How a source was read for an answer.
+pub record ReadsSource {I T : Type 0} (g : Ghosts I) (old new : I) (answer : Result T FrameStop) : Type 0 where
+  pub faults : g.faults new ≡ stop_faults answer (g.faults old)
   pub later : g.faults old ≤ g.faults new
   -- each read for all that was asked gave bytes
   pub goes : OnOk answer (ReadsBytes g old new)
@@ -24,40 +29,20 @@ pub record ReadsSource {I T E : Type 0} (g : Ghosts I) (old new : I) (answer : R
 
 -- ---- a piece that was cut short
 
--- what a source did that gave no byte of a piece: it ended, or gave a byte too many, or failed
-abbrev pub EndsAt : Cut → Option (List ℕ) → Option (List ℕ) → Type 0
-EndsAt cut.Ended old new = Consumes old new [] × IsAtEnd new
-EndsAt cut.TooLong old new = (b : ℕ) × Consumes old new (b ∷ [])
-EndsAt cut.Failed old new = Consumes old new []
-
--- how many reads have failed then
-abbrev pub faults_by : Cut → ℕ → ℕ
-faults_by cut.Failed before = raised before
-faults_by other before = before
-
-abbrev pub faults_told : {T : Type 0} → Result T Cut → ℕ → ℕ
-faults_told (Ok value) before = before
-faults_told (Err why) before = faults_by why before
-
--- these bytes of the piece came before, and were counted
-pub record CutsShort (why : Cut) (got : List ℕ) (taken now : ℕ) (old new : Option (List ℕ)) : Type 0 where
-  pub mid : Option (List ℕ)
-  pub came : Consumes old mid got
-  pub ends : EndsAt why mid new
-  pub count : now ≡ taken + length got
-  pub most : why ≡ cut.TooLong → now ≡ most_bytes
-
-abbrev pub faults_of : {T : Type 0} → Result T Short → ℕ → ℕ
-faults_of (Ok value) before = before
-faults_of (Err short) before = faults_by short.why before
-
--- ---- a frame
+-- These bytes of the piece came, and were counted. Behind them the source ended, or gave a byte more than are taken, or failed.
+abbrev pub CutsShort : Cut → List ℕ → ℕ → ℕ → Option (List ℕ) → Option (List ℕ) → Type 0
+CutsShort cut.Ended got taken now old new = Consumes old new got × IsAtEnd new × (now ≡ taken + length got)
+CutsShort cut.TooLong got taken now old new =
+    (b : ℕ) × Consumes old new (got ++ b ∷ []) × (now ≡ taken + length got) × (now ≡ most_bytes)
+CutsShort cut.Failed got taken now old new = Consumes old new got × (now ≡ taken + length got)
 
 -- an end is none within a frame
 abbrev pub stop_by : Cut → Bool → FrameStop
 stop_by cut.Ended between = if between then stop.End else stop.BadFrame
 stop_by cut.TooLong between = stop.TooLong
 stop_by cut.Failed between = stop.Failed
+
+-- ---- a frame
 
 -- a frame was taken, and nothing behind it
 pub record ReadsFrame (body : List ℕ) (taken now : ℕ) (old new : Option (List ℕ)) : Type 0 where
@@ -78,10 +63,6 @@ StopsReading stop.TooLong taken now old new =
 StopsReading stop.Failed taken now old new =
     (bytes : List ℕ) × IsPartialFrame bytes × Consumes old new bytes × (now ≡ taken + length bytes)
 
-abbrev pub stop_faults : {T : Type 0} → Result T FrameStop → ℕ → ℕ
-stop_faults (Err stop.Failed) before = raised before
-stop_faults other before = before
-
 -- ---- a whole stream
 
 -- what a stream is where reading stops behind these frames
@@ -90,9 +71,3 @@ StopsStream stop.End stream bodies = Splits stream bodies []
 StopsStream stop.BadFrame stream bodies = (rest : List ℕ) × Splits stream bodies rest × (1 ≤ length rest)
 StopsStream stop.TooLong stream bodies = most_bytes < length stream
 StopsStream stop.Failed stream bodies = ⊤
-
--- So where no read fails, why reading stops and which frames it gave is said by the bytes of the stream.
-abbrev pub StopsByTheBytes : Type 0
-StopsByTheBytes = (stream : List ℕ) (bodies : List (List ℕ)) (mid left : Option (List ℕ)) (now : ℕ) (why : FrameStop)
-    → AreBodies bodies → Consumes (Some stream) mid (frames bodies) → StopsReading why (length (frames bodies)) now mid left
-    → StopsStream why stream bodies

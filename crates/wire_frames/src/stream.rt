@@ -1,9 +1,10 @@
 //! Frames that come from a source.
-ghost use Rattle.std.specs.Prelude.{◌≡◌, ◌<◌, ◌≤◌, ◌+◌, ℕ, IfOk, IfErr, OnOk, Err, [], length, take};
+ghost use Rattle.std.specs.Prelude.{◌≡◌, ◌<◌, ◌≤◌, ◌+◌, ℕ, IfOk, IfErr, OnOk, Err, [], false, length, take};
+ghost use Rattle.std.specs.Result.{result_map_both};
 ghost use Rattle.std.specs.Io.KnownBytes.{Consumes};
 ghost use Rattle.base_core.specs.Bytes.{le, num_at};
 ghost use Rattle.wire_frames.specs.Frames.{PutsFront};
-ghost use Rattle.wire_frames.specs.Stream.{CutsShort, EndsAt, ReadsFrame, ReadsSource, StopsReading, faults_by, faults_of, faults_told, most_bytes, stop_by, stop_faults};
+ghost use Rattle.wire_frames.specs.Stream.{CutsShort, ReadsFrame, ReadsSource, StopsReading, most_bytes, stop_by};
 
 use crate::frames::{FEWEST_BODY_BYTES, LENGTH_BYTES, MOST_BODY_BYTES};
 use base_core::le32_at;
@@ -60,8 +61,8 @@ impl Model for FrameReader {
 
 /// Whether the source goes on behind the most bytes that are taken.
 fn past_the_most<I: Source>(source: &mut I) -> Cut
-    ensures ends { EndsAt result (I.left source.old) (I.left source.new) }
-    ensures reads { ReadsSource {T = ℕ} I.Source source.old source.new (Err result) (faults_by result) }
+    ensures ends { CutsShort result [] most_bytes most_bytes (I.left source.old) (I.left source.new) }
+    ensures reads { ReadsSource {T = ℕ} I.Source source.old source.new (Err (stop_by result false)) }
 {
     let mut one = [0; 1];
     match source.read(&mut one) {
@@ -118,7 +119,8 @@ impl FrameReader {
         ensures cut { IfErr result (λ why. CutsShort why [] self.old self.new
             (I.left source.old) (I.left source.new)) }
         ensures within { self.new ≤ most_bytes }
-        ensures reads { ReadsSource I.Source source.old source.new result (faults_told result) }
+        ensures reads { ReadsSource I.Source source.old source.new
+            (result_map_both (λ n. n) (λ why. stop_by why false) result) }
     {
         let room = (MOST_SOURCE_BYTES - self.taken).min(out.len() as u64) as usize;
         if room == 0 {
@@ -142,7 +144,8 @@ impl FrameReader {
         ensures cut { IfErr result (λ s. CutsShort s.why (take s.count out.new) self.old self.new
             (I.left source.old) (I.left source.new)) }
         ensures within { self.new ≤ most_bytes }
-        ensures reads { ReadsSource I.Source source.old source.new result (faults_of result) }
+        ensures reads { ReadsSource I.Source source.old source.new
+            (result_map_both (λ v. v) (λ s. stop_by s.why false) result) }
     {
         // what is known of each reader is known of this one from here on
         let _ = &self.taken;
@@ -169,7 +172,7 @@ impl FrameReader {
         ensures stops { IfErr result (λ why. StopsReading why self.old self.new
             (I.left source.old) (I.left source.new)) }
         ensures within { self.new ≤ most_bytes }
-        ensures reads { ReadsSource I.Source source.old source.new result (stop_faults result) }
+        ensures reads { ReadsSource I.Source source.old source.new result }
     {
         let mut head = [0; LENGTH_BYTES];
         if let Err(short) = self.fill(source, &mut head) {

@@ -1,9 +1,9 @@
-use Rattle.std.proofs.Common.{◌≡◌, ◌<◌, false, List, ℕ, ◌∙◌, subst, sym, refl, length, take, drop, arith, length-append, rules}
+use Rattle.std.proofs.Common.{◌≡◌, ◌<◌, Err, false, List, ℕ, ◌∙◌, subst, sym, refl, length, take, drop, ◌++◌, arith, length-append, rules}
 use Rattle.std.proofs.lemmas.List.{length-take, length-take-le}
 use Rattle.std.proofs.lemmas.Bool.{false≢true}
 use Rattle.host_io.proofs.Once.{bytes-then, once-then}
-use Rattle.wire_frames.specs.Stream.{StopsReading}
-use Rattle.wire_frames.proofs.Filling.{partial-body, reads-frame, stops-by, read-none}
+use Rattle.wire_frames.specs.Stream.{ReadsSource, StopsReading}
+use Rattle.wire_frames.proofs.Filling.{cuts-behind, partial-body, read-between, reads-frame, stops-by, read-none}
 use Rattle.wire_frames.proofs.stream.FrameReader.next.Goals as goal
 
 pub returns-in-Ok-clause-frame : goal.returns-in-Ok-clause-frame
@@ -26,7 +26,8 @@ returns-in-Err-fill-clause-stops g c =
     let less : short.count < n = omega (arith, c.in-Err-fill.ensures.short, length-take-le n c.args.body.now (omega (arith, room, few))) in
     let fewer : length got < n = omega (arith, less, length-take short.count c.fill-2.new.out) in
     subst (λ why. StopsReading why c.args.self.now c.fill-2.new.self (g.I.Source.left c.args.source.now) (g.I.Source.left c.fill-2.new.source)) (sym c.stop_of-in-Err-fill.ensures)
-    (stops-by short.why head got c.args.self.now c.fill.new.self c.fill-2.new.self false _ (g.I.Source.left c.fill.new.source) _ c.in_default.ensures.bytes c.in-Err-fill.ensures.cut c.in_default.ensures.taken
+    (stops-by short.why (head ++ got) c.args.self.now c.fill-2.new.self false _ _
+    (cuts-behind short.why head got _ c.fill.new.self _ _ (g.I.Source.left c.fill.new.source) _ c.in_default.ensures.bytes c.in_default.ensures.taken c.in-Err-fill.ensures.cut)
     (partial-body head got n c.fill.auto.out c.length_in-length.ensures.value c.if-length-lt-FEWEST_BODY_BYTES.false few fewer)
     (λ is. absurd (false≢true is)) (λ is. omega (arith, length-append head got, c.fill.auto.out)))
 
@@ -40,5 +41,10 @@ returns-in-Ok-clause-reads g c = record {
 
 pub returns-in-Err-fill-clause-reads : goal.returns-in-Err-fill-clause-reads
 returns-in-Err-fill-clause-reads g c =
-    read-none g.I.Source _ _ _ _ (search rules) (search rules)
+    read-none g.I.Source _ _ _ (search rules) (search rules)
     (once-then g.I.Source g.met.I.Source.joins c.args.source.now c.fill.new.source c.fill-2.new.source c.in_default.ensures.reads.goes c.fill-2.ensures.reads.once)
+
+pub returns-in-Err-clause-reads : goal.returns-in-Err-clause-reads
+returns-in-Err-clause-reads g c =
+    subst (λ why. ReadsSource g.I.Source c.args.source.now c.fill.new.source (Err why)) (sym c.stop_of.ensures)
+    (read-between g.I.Source _ _ c.in-Err.short.why _ c.in-Err.ensures.reads)

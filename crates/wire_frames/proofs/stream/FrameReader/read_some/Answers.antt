@@ -1,12 +1,11 @@
 use Rattle.std.proofs.Common.{arith, rules}
-use Rattle.std.proofs.KnownBytes.{Consumes-nil}
 use Rattle.host_io.proofs.Once.{bytes-one, once-one}
 use Rattle.wire_frames.proofs.Filling.{read-none}
 use Rattle.wire_frames.proofs.stream.FrameReader.read_some.Goals as goal
 
 pub returns-in-Ok-eq0-clause-reads : goal.returns-in-Ok-eq0-clause-reads
 returns-in-Ok-eq0-clause-reads g c =
-    read-none g.I.Source _ _ _ _ (search rules) (search rules)
+    read-none g.I.Source _ _ _ (search rules) (search rules)
     (once-one g.I.Source c.args.source.now c.read.new.self _ c.in-Ok-eq0.ensures.made)
 
 pub returns-in-Ok-clause-reads : goal.returns-in-Ok-clause-reads
@@ -19,14 +18,5 @@ returns-in-Ok-clause-reads g c = record {
 
 pub returns-in-Err-clause-reads : goal.returns-in-Err-clause-reads
 returns-in-Err-clause-reads g c =
-    read-none g.I.Source _ _ _ _ (search rules) (search rules)
+    read-none g.I.Source _ _ _ (search rules) (search rules)
     (once-one g.I.Source c.args.source.now c.read.new.self _ c.in-Err.ensures.made)
-
-pub returns-in-Err-clause-cut : goal.returns-in-Err-clause-cut
-returns-in-Err-clause-cut g c = record {
-  mid = g.I.Source.left c.args.source.now;
-  came = Consumes-nil _;
-  ends = search rules;
-  count = omega arith;
-  most = search rules;
-}
