@@ -36,8 +36,12 @@ abbrev pub open_call : List ℕ → Op → Call
 open_call guid op.Read = call.OpenRead guid
 open_call guid op.Write = call.OpenWrite guid
 
+-- a read asks for so many bytes at most
+abbrev pub most_room : ℕ
+most_room = 4096
+
 -- By the function. The vendor flags and the atomic length have no meaning. The bytes of a write stand behind its handle; no body
--- has more than 4,096 of them. A read asks for 4,096 at most.
+-- has more than 4,096 of them.
 abbrev pub asks_by : Option Function → List ℕ → Option Call
 asks_by None args = None
 asks_by (Some Discover) args = of_length 0 args call.Discover
@@ -47,7 +51,7 @@ asks_by (Some Cancel) args = of_length 0 args call.Cancel
 asks_by (Some Open) args = if length args == 20 then option_map (open_call (take 16 args)) (op_of (num_at 4 args 16)) else None
 asks_by (Some WriteStream) args = if nat_le 4 (length args) then Some (call.Write (num_at 4 args 0) (drop 4 args)) else None
 asks_by (Some ReadStream) args =
-    if (length args == 8) && nat_le (num_at 4 args 4) 4096 then Some (call.Read (num_at 4 args 0) (num_at 4 args 4)) else None
+    if (length args == 8) && nat_le (num_at 4 args 4) most_room then Some (call.Read (num_at 4 args 0) (num_at 4 args 4)) else None
 asks_by (Some Commit) args = of_length 12 args (call.Commit (num_at 4 args 0) (num_at 4 args 4))
 asks_by (Some Accept) args = of_length 16 args (call.Accepts args)
 asks_by (Some SelectPrevious) args = of_length 0 args call.Previous
@@ -80,10 +84,10 @@ TellsUnused args other = Unit {0}
 
 -- a read asks for no more bytes than a frame can have
 abbrev pub AsksWithin : AgentCall → Type 0
-AsksWithin (wire.Read handle room) = room ≤ 4096
+AsksWithin (wire.Read handle room) = room ≤ most_room
 AsksWithin other = Unit {0}
 
 -- and got no more
 abbrev pub FitsFrame : AgentReply → Type 0
-FitsFrame (reply.Got total count) = count ≤ 4096
+FitsFrame (reply.Got total count) = count ≤ most_room
 FitsFrame other = Unit {0}

@@ -2,7 +2,7 @@
 ghost use Rattle.std.specs.Prelude.{◌≡◌, ◌≤◌, ℕ, Bool, List, IsFalse, IfOk, Err, length, ◌++◌};
 ghost use Rattle.agent_calls.specs.Shown.{AgentGoes, gone, moment};
 ghost use Rattle.fwu_model.specs.Call as call;
-ghost use Rattle.fwu_wire.specs.Calls.{open_call, shown, AsksWithin, FitsFrame};
+ghost use Rattle.fwu_wire.specs.Calls.{most_room, open_call, shown, AsksWithin, FitsFrame};
 ghost use Rattle.fwu_wire.specs.Taken.{CallMeets, agents_answer, said};
 
 use crate::calls::AgentCall;
@@ -64,7 +64,7 @@ fn open<D: Flash>(agent: &mut Agent<D>, guid: Guid, op: Op) -> Result<AgentReply
 
 /// Reads to the front of the buffer.
 fn read<D: Flash>(agent: &mut Agent<D>, handle: u32, out: &mut [u8]) -> Result<AgentReply, Stop>
-    requires few { length out.old ≤ 4096 }
+    requires few { length out.old ≤ most_room }
     ensures meets { IsFalse (gone agent.old) → (passes : List ℕ → Bool) → (behind : List ℕ) →
         CallMeets passes (call.Read handle (length out.old)) result (out.new ++ behind)
         (moment agent.old) (moment agent.new) }
@@ -84,7 +84,7 @@ pub fn call_agent<D: Flash, V: Verifier>(
     out: &mut [u8],
     verifier: &V,
 ) -> Result<AgentReply, Stop>
-    requires room { 4096 ≤ length out.old }
+    requires room { most_room ≤ length out.old }
     requires within { AsksWithin call.now }
     ensures meets { IsFalse (gone agent.old) →
         CallMeets (V.passes verifier.now) (shown call.now) result out.new
