@@ -10,7 +10,7 @@ use Rattle.fwu_model.specs.{Call.Call, Reply.Reply, Reply.Turn, Run.is_refused_b
 use Rattle.fwu_model.specs.declared.kinds.Op.{Op}
 use Rattle.fwu_model.specs.Call as call
 use Rattle.fwu_model.specs.Reply as reply
-use Rattle.fwu_model.specs.Session.{Handle, Nothing, Off, On, Reads, Session, Staged, Writes, is_committed, is_open}
+use Rattle.fwu_model.specs.Session.{Handle, Nothing, Off, On, Session, Staged, Writes, is_committed, is_open}
 use Rattle.fwu_model.specs.Session as handle
 use Rattle.fwu_model.specs.declared.kinds.Op.TheVariants as op
 use Rattle.host_io.specs.Contents.{Directory}
@@ -97,9 +97,8 @@ module _ (E : Setting) (s : State) (boot : ℕ) where
 
   other-write : (staging : Option (List Staged)) (handles : List Handle) (bytes : List ℕ) (which : Handle) → Other (answer_write E boot staging handles bytes which)
   unfolding answer_write
-  other-write staging handles bytes handle.Free = refl
-  other-write staging handles bytes (Reads target place) = refl
   other-write staging handles bytes (Writes image) = cond_both (exceeds_slot E staging image bytes) _ _ Other (λ e. refl) (λ e. refl)
+  other-write staging handles bytes other = refl
 
   other-read : (staging : Option (List Staged)) (handles : List Handle) (h room : ℕ) (which : Handle) → Other (answer_read E s boot staging handles h room which)
   unfolding answer_read

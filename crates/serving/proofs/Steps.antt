@@ -32,33 +32,27 @@ last-acts last number bodies is = let next = eqb-true number (last + 1) is in om
 
 acting-more : (last : ℕ) (bodies : List (List ℕ)) (body : List ℕ) → acting last (bodies ++ body ∷ []) ≡ acting last bodies ++ acting (last_after last bodies) (body ∷ [])
 acting-more last [] body = let none : last ≡ last + 0 = omega arith in ap (λ (k : ℕ). acting k (body ∷ [])) none
-acting-more last (b ∷ bodies) body = by (n == last + 1) refl (λ at. acting-more at bodies body)
+acting-more last (b ∷ bodies) body = by (request_number_of b) (request_number_of b == last + 1) refl (λ at. acting-more at bodies body)
   where
-    n : ℕ
-    n = request_number_of b
-
-    by : (x : Bool) → (n == last + 1) ≡ x → ((at : ℕ) → acting at (bodies ++ body ∷ []) ≡ acting at bodies ++ acting (last_after at bodies) (body ∷ []))
+    by : (n : ℕ) (x : Bool) → (n == last + 1) ≡ x → ((at : ℕ) → acting at (bodies ++ body ∷ []) ≡ acting at bodies ++ acting (last_after at bodies) (body ∷ []))
         → cond x (b ∷ acting n (bodies ++ body ∷ [])) (acting last (bodies ++ body ∷ []))
         ≡ cond x (b ∷ acting n bodies) (acting last bodies) ++ acting (last + length (cond x (b ∷ acting n bodies) (acting last bodies))) (body ∷ [])
-    by true is rest = ap (λ (l : List (List ℕ)). b ∷ l) (rest n ∙ ap (λ (k : ℕ). acting n bodies ++ acting k (body ∷ [])) (last-acts last n bodies is))
-    by false is rest = rest last
+    by n true is rest = ap (λ (l : List (List ℕ)). b ∷ l) (rest n ∙ ap (λ (k : ℕ). acting n bodies ++ acting k (body ∷ [])) (last-acts last n bodies is))
+    by n false is rest = rest last
 
 answered-more : (last : ℕ) (bodies : List (List ℕ)) (body : List ℕ)
     → answered_numbers last (bodies ++ body ∷ []) ≡ answered_numbers last bodies ++ answered_numbers (last_after last bodies) (body ∷ [])
 answered-more last [] body = let none : last ≡ last + 0 = omega arith in ap (λ (k : ℕ). answered_numbers k (body ∷ [])) none
-answered-more last (b ∷ bodies) body = by (n == last + 1) refl ((n == last) && not (n == 0)) (λ at. answered-more at bodies body)
+answered-more last (b ∷ bodies) body = by (request_number_of b) (request_number_of b == last + 1) refl ((request_number_of b == last) && not (request_number_of b == 0)) (λ at. answered-more at bodies body)
   where
-    n : ℕ
-    n = request_number_of b
-
-    by : (x : Bool) → (n == last + 1) ≡ x → (y : Bool)
+    by : (n : ℕ) (x : Bool) → (n == last + 1) ≡ x → (y : Bool)
         → ((at : ℕ) → answered_numbers at (bodies ++ body ∷ []) ≡ answered_numbers at bodies ++ answered_numbers (last_after at bodies) (body ∷ []))
         → cond x (n ∷ answered_numbers n (bodies ++ body ∷ [])) (cond y (n ∷ answered_numbers last (bodies ++ body ∷ [])) (answered_numbers last (bodies ++ body ∷ [])))
         ≡ cond x (n ∷ answered_numbers n bodies) (cond y (n ∷ answered_numbers last bodies) (answered_numbers last bodies))
         ++ answered_numbers (last + length (cond x (b ∷ acting n bodies) (acting last bodies))) (body ∷ [])
-    by true is y rest = ap (λ (l : List ℕ). n ∷ l) (rest n ∙ ap (λ (k : ℕ). answered_numbers n bodies ++ answered_numbers k (body ∷ [])) (last-acts last n bodies is))
-    by false is true rest = ap (λ (l : List ℕ). n ∷ l) (rest last)
-    by false is false rest = rest last
+    by n true is y rest = ap (λ (l : List ℕ). n ∷ l) (rest n ∙ ap (λ (k : ℕ). answered_numbers n bodies ++ answered_numbers k (body ∷ [])) (last-acts last n bodies is))
+    by n false is true rest = ap (λ (l : List ℕ). n ∷ l) (rest last)
+    by n false is false rest = rest last
 
 -- each number that is answered is one of the first numbers
 unfoldable pub Within : ℕ → List ℕ → Type 0
@@ -68,20 +62,17 @@ Within k (n ∷ ns) = (1 ≤ n) × (n ≤ k) × Within k ns
 answered-within : (last : ℕ) (bodies : List (List ℕ)) → Within (last_after last bodies) (answered_numbers last bodies)
 unfolding Within
 answered-within last [] = tt
-answered-within last (b ∷ bodies) = by (n == last + 1) refl ((n == last) && not (n == 0)) refl (λ at. answered-within at bodies)
+answered-within last (b ∷ bodies) = by (request_number_of b) (request_number_of b == last + 1) refl ((request_number_of b == last) && not (request_number_of b == 0)) refl (λ at. answered-within at bodies)
   where
-    n : ℕ
-    n = request_number_of b
-
-    by : (x : Bool) → (n == last + 1) ≡ x → (y : Bool) → ((n == last) && not (n == 0)) ≡ y → ((at : ℕ) → Within (last_after at bodies) (answered_numbers at bodies))
+    by : (n : ℕ) (x : Bool) → (n == last + 1) ≡ x → (y : Bool) → ((n == last) && not (n == 0)) ≡ y → ((at : ℕ) → Within (last_after at bodies) (answered_numbers at bodies))
         → Within (last + length (cond x (b ∷ acting n bodies) (acting last bodies))) (cond x (n ∷ answered_numbers n bodies) (cond y (n ∷ answered_numbers last bodies) (answered_numbers last bodies)))
-    by true is y again rest =
+    by n true is y again rest =
         let next = eqb-true n (last + 1) is in (omega (arith, next), omega (arith, next), subst (λ (k : ℕ). Within k (answered_numbers n bodies)) (last-acts last n bodies is) (rest n))
-    by false is true again rest =
+    by n false is true again rest =
         let parts = and_parts (n == last) (not (n == 0)) again in
         let same = eqb-true n last parts.0 in
         let some = eqb-false n 0 (not-true (n == 0) parts.1) in (omega (arith, some), omega (arith, same), rest last)
-    by false is false again rest = rest last
+    by n false is false again rest = rest last
 
 -- what one request adds, by what becomes of it
 abbrev Adds : List ℕ → Admission → List (List ℕ) → List ℕ → Type 0
@@ -90,12 +81,9 @@ Adds body Repeats acts numbers = (acts ≡ []) × (numbers ≡ request_number_of
 Adds body Ignored acts numbers = (acts ≡ []) × (numbers ≡ [])
 
 adds : (last : ℕ) (body : List ℕ) → Adds body (admission last (request_number_of body)) (acting last (body ∷ [])) (answered_numbers last (body ∷ []))
-adds last body = by (n == last + 1) ((n == last) && not (n == 0))
+adds last body = by (request_number_of body == last + 1) ((request_number_of body == last) && not (request_number_of body == 0))
   where
-    n : ℕ
-    n = request_number_of body
-
-    by : (x y : Bool) → Adds body (cond x Acts (cond y Repeats Ignored)) (cond x (body ∷ []) []) (cond x (n ∷ []) (cond y (n ∷ []) []))
+    by : (x y : Bool) → Adds body (cond x Acts (cond y Repeats Ignored)) (cond x (body ∷ []) []) (cond x (request_number_of body ∷ []) (cond y (request_number_of body ∷ []) []))
     by true y = (refl, refl)
     by false true = (refl, refl)
     by false false = (refl, refl)
