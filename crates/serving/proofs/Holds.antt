@@ -72,15 +72,11 @@ put-source e before after faults (at_memory is same) = source-still e faults fau
 
 stop-sink : (why : FrameStop) (n : ℕ) → FailsAtThree (status_of (end_of_stop why)) n n
 stop-sink stop.End n = record { failed = λ three. absurd (omega (arith, three)); quiet = λ other. refl }
-stop-sink stop.Failed n = record { failed = λ three. absurd (omega (arith, three)); quiet = λ other. refl }
-stop-sink stop.TooLong n = record { failed = λ three. absurd (omega (arith, three)); quiet = λ other. refl }
-stop-sink stop.BadFrame n = record { failed = λ three. absurd (omega (arith, three)); quiet = λ other. refl }
+stop-sink other n = record { failed = λ three. absurd (omega (arith, three)); quiet = λ other. refl }
 
 stop-source : (why : FrameStop) (before after : ℕ) → after ≡ stop_faults {T = ℕ} (Err why) before → before ≤ after → FailsAtRead (end_of_stop why) before after
-stop-source stop.End before after is later = record { failed = λ failed. absurd (cc); quiet = λ other. is; later = later }
 stop-source stop.Failed before after is later = record { failed = λ failed. is; quiet = λ other. absurd (other refl); later = later }
-stop-source stop.TooLong before after is later = record { failed = λ failed. absurd (cc); quiet = λ other. is; later = later }
-stop-source stop.BadFrame before after is later = record { failed = λ failed. absurd (cc); quiet = λ other. is; later = later }
+stop-source other before after is later = record { failed = λ failed. absurd (cc); quiet = λ other. is; later = later }
 
 -- ---- what was taken
 

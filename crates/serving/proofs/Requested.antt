@@ -1,7 +1,7 @@
 -- No answer to a request is a refused boot, on any device.
-use Rattle.std.proofs.Common.{◌≡◌, ◌==◌, refl, sym, subst, ℕ, Bool, List, ◌∷◌, length, take, drop, get_or, Option, Some, None, IsTrue, IsFalse, IfSome, true, false, not, ◌||◌}
+use Rattle.std.proofs.Common.{◌≡◌, ◌==◌, refl, sym, subst, ℕ, Bool, List, ◌∷◌, length, take, drop, get_or, Option, Some, None, IsTrue, IsFalse, IfSome, true, false, not, ◌||◌, ◌&&◌}
 use Rattle.std.specs.Prelude.{nat_le, option_map, []}
-use Rattle.std.specs.List.{list_any}
+use Rattle.std.specs.{List.list_any, Option.unwrap_or}
 use Rattle.std.proofs.{Math.Bool.Bool-set, Math.Logic.∥∥₁_elim, lemmas.Bool.cond_both}
 use Rattle.base_core.specs.Bytes.{num_at, same_bytes}
 use Rattle.fwu_formats.specs.Layout.{dir_guid}
@@ -10,7 +10,7 @@ use Rattle.fwu_model.specs.{Call.Call, Reply.Reply, Reply.Turn, Run.is_refused_b
 use Rattle.fwu_model.specs.declared.kinds.Op.{Op}
 use Rattle.fwu_model.specs.Call as call
 use Rattle.fwu_model.specs.Reply as reply
-use Rattle.fwu_model.specs.Session.{Handle, Nothing, Off, On, Reads, Session, Staged, Writes, is_committed, is_open}
+use Rattle.fwu_model.specs.Session.{Handle, Nothing, Off, On, Session, Staged, Writes, is_committed, is_open}
 use Rattle.fwu_model.specs.Session as handle
 use Rattle.fwu_model.specs.declared.kinds.Op.TheVariants as op
 use Rattle.host_io.specs.Contents.{Directory}
@@ -19,10 +19,10 @@ use Rattle.agent_machine.specs.Fields.{Fields}
 use Rattle.agent_machine.specs.Moment as agent
 use Rattle.script_turns.specs.{Powered.FitsMachine, Powered.TurnMoment, Powered.kept_at, Runs.Follows, Turning.Turns}
 use Rattle.script_turns.specs.Replies.{AnswersTo, CallSays, IsFlashStop, Replies, no_call_reply}
-use Rattle.fwu_wire.specs.Calls.{asks, asks_by, most_room, of_length, op_of, open_call, function_of}
+use Rattle.fwu_wire.specs.Calls.{asks, asks_by, of_length, op_of, open_call, function_of}
 use Rattle.fwu_wire.specs.declared.functions.Function.{Function}
 use Rattle.fwu_wire.specs.declared.functions.Function.TheVariants as function
-use Rattle.serving.specs.Written.{call_or_none, called}
+use Rattle.serving.specs.Written.{called}
 
 -- ---- the calls of requests
 
@@ -54,12 +54,12 @@ asks-some (Some function.End) args = asks-length 0 args call.End refl
 asks-some (Some function.Cancel) args = asks-length 0 args call.Cancel refl
 asks-some (Some function.Open) args = cond_both (length args == 20) _ _ MayAsk (λ e. asks-open (take 16 args) (op_of (num_at 4 args 16))) (λ e. tt)
 asks-some (Some function.WriteStream) args = cond_both (nat_le 4 (length args)) _ _ MayAsk (λ e. refl) (λ e. tt)
-asks-some (Some function.ReadStream) args = cond_both (length args == 8) _ _ MayAsk (λ e. cond_both (nat_le (num_at 4 args 4) most_room) _ _ MayAsk (λ f. refl) (λ f. tt)) (λ e. tt)
+asks-some (Some function.ReadStream) args = cond_both ((length args == 8) && nat_le (num_at 4 args 4) 4096) _ _ MayAsk (λ e. refl) (λ e. tt)
 asks-some (Some function.Commit) args = asks-length 12 args (call.Commit (num_at 4 args 0) (num_at 4 args 4)) refl
 asks-some (Some function.Accept) args = asks-length 16 args (call.Accepts args) refl
 asks-some (Some function.SelectPrevious) args = asks-length 0 args call.Previous refl
 
-asked-or : (o : Option Call) → MayAsk o → IsTrue (is_asked (call_or_none o))
+asked-or : (o : Option Call) → MayAsk o → IsTrue (is_asked (unwrap_or o call.NoCall))
 asked-or None may = refl
 asked-or (Some c) may = may
 
@@ -97,9 +97,8 @@ module _ (E : Setting) (s : State) (boot : ℕ) where
 
   other-write : (staging : Option (List Staged)) (handles : List Handle) (bytes : List ℕ) (which : Handle) → Other (answer_write E boot staging handles bytes which)
   unfolding answer_write
-  other-write staging handles bytes handle.Free = refl
-  other-write staging handles bytes (Reads target place) = refl
   other-write staging handles bytes (Writes image) = cond_both (exceeds_slot E staging image bytes) _ _ Other (λ e. refl) (λ e. refl)
+  other-write staging handles bytes other = refl
 
   other-read : (staging : Option (List Staged)) (handles : List Handle) (h room : ℕ) (which : Handle) → Other (answer_read E s boot staging handles h room which)
   unfolding answer_read

@@ -1,8 +1,8 @@
 -- A serving that begins, with one turn more, and one request that acts.
-use Rattle.std.proofs.Common.{◌≡◌, ℕ, Bool, false, true, cond, List, ◌∷◌, ◌++◌, Option, Ok, Err, Result, None, refl, sym, ap, subst, ◌∙◌, arith, IsFalse, append_assoc, [], ◌+◌, take}
+use Rattle.std.proofs.Common.{◌≡◌, ℕ, Bool, false, cond, List, ◌∷◌, ◌++◌, Option, Ok, Err, Result, None, refl, sym, ap, subst, ◌∙◌, arith, IsFalse, append_assoc, [], ◌+◌, take}
 use Rattle.std.specs.Prelude.{◌||◌, IfErr, IfOk}
 use Rattle.std.specs.{List.list_any, Io.KnownBytes.Appends}
-use Rattle.std.proofs.{lemmas.List.Sums.sum_by-append, KnownBytes.Appends-nil}
+use Rattle.std.proofs.{lemmas.List.Folds.list_any-append, lemmas.List.Sums.sum_by-append, KnownBytes.Appends-nil}
 use Rattle.host_io.specs.{Contents.Directory, Calls.raised, Printed.all, Printed.front, Printed.nothing}
 use Rattle.fwu_model.specs.{Call.Call, Reply.Reply, Reply.Turn, Run.ends_run, Run.is_send}
 use Rattle.fwu_model.specs.Call as call
@@ -35,12 +35,7 @@ goes-none files was are c any none unread is = refl
 -- ---- the journal
 
 pub any-more : {X : Type 0} (p : X → Bool) (xs : List X) (x : X) → IsFalse (list_any p xs) → IsFalse (p x) → IsFalse (list_any p (xs ++ x ∷ []))
-any-more p [] x none is = ap (λ (b : Bool). b || false) is
-any-more p (y ∷ xs) x none is = by (p y) none (λ no_more. any-more p xs x no_more is)
-  where
-    by : (b : Bool) → (b || list_any p xs) ≡ false → (IsFalse (list_any p xs) → IsFalse (list_any p (xs ++ x ∷ []))) → (b || list_any p (xs ++ x ∷ [])) ≡ false
-    by true no_more rest = no_more
-    by false no_more rest = rest no_more
+any-more p xs x none is = list_any-append p xs (x ∷ []) ∙ ap (λ (b : Bool). b || (p x || false)) none ∙ ap (λ (b : Bool). b || false) is
 
 pub uncut-more : (journal : List Turn) (t : Turn) → cuts_in journal ≡ 0 → IsFalse (is_cut t.call) → cuts_in (journal ++ t ∷ []) ≡ 0
 uncut-more journal t none uncut =
@@ -115,7 +110,7 @@ module _ (E : Scene) (start : TurnMoment) (sink : Port) (off : start.on ≡ None
         none = subst (λ (j : List Turn). list_any (λ (u : Turn). ends_run u.reply) j ≡ false) (sym one.kept)
             (ap (λ (b : Bool). b || false) (goes-none E.files E.faults E.faults call.Boot t.reply refl one.turns.unread goes));
         uncut = stands.uncut;
-        answers = record { calls_are = refl; last = refl; count = refl; kept = λ some. absurd (omega (arith, some)) };
+        answers = record { calls_are = refl; count = refl; kept = λ some. absurd (omega (arith, some)) };
         took = Appends-nil sink.bytes;
         quiet = refl;
       }

@@ -1,6 +1,7 @@
 -- The requests of a source, one more of them, and all so far.
-use Rattle.std.proofs.Common.{◌≡◌, ℕ, ◌+◌, ◌-◌, ◌≤◌, List, ◌∷◌, ◌++◌, length, map, suc, get_or, refl, sym, ap, subst, ◌∙◌, arith, append_assoc, append-nil, [], Ok, Result, None, Err, length-append}
-use Rattle.std.proofs.lemmas.List.{get_or_append_left, get_or_push, length_push}
+use Rattle.std.proofs.Common.{◌≡◌, ℕ, ◌+◌, ◌-◌, ◌≤◌, Bool, true, false, not, ◌&&◌, ◌==◌, cond, IsTrue, List, ◌∷◌, ◌++◌, length, map, suc, get_or, refl, sym, ap, subst, ◌∙◌, arith, append_assoc, append-nil, [], Ok, Result, None, Err, length-append}
+use Rattle.std.proofs.lemmas.Bool.{and_parts, eqb-false, eqb-true, not-true}
+use Rattle.std.proofs.lemmas.List.{get_or_append_left, get_or_push, length_push, length-map, map_push}
 use Rattle.std.proofs.lemmas.List.Concat.{flat_map-append}
 use Rattle.std.proofs.KnownBytes.{Appends-trans, Consumes-nil, Consumes-trans}
 use Rattle.wire_frames.specs.{declared.exchange.Admission.Admission, declared.stream.FrameStop.FrameStop}
@@ -13,7 +14,7 @@ use Rattle.fwu_wire.specs.Replies.{message}
 use Rattle.std.specs.{List.list_any, Io.KnownBytes.Appends, Io.KnownBytes.Consumes}
 use Rattle.script_turns.specs.Powered.{TurnMoment}
 use Rattle.wire_frames.specs.declared.exchange.Admission.TheVariants.{Acts, Repeats, Ignored}
-use Rattle.serving.specs.Written.{act_by, acting, answered_numbers, frame_of, last_after, last_by, last_next, messages_of, number_by, written, called, AnswersRequests}
+use Rattle.serving.specs.Written.{acting, answered_numbers, frame_of, messages_of, written, called, AnswersRequests}
 use Rattle.serving.specs.Serving.{OneReply, ServesAgain, ServesBy, ServesNew, ServesOne, answered, stopped}
 use Rattle.serving.specs.{Going.ServesRequests, Going.GoesOn, Going.ServeEnds, Scene.At, Scene.RunAt, Scene.Scene, Scene.Port}
 use Rattle.serving.specs.{declared.ends.ServeEnd.ServeEnd, Ends.IsEarlyEnd, Ends.end_of_stop}
@@ -21,58 +22,71 @@ use Rattle.serving.proofs.Starts.{Stands, any-more, goes-none, put-all, stands-o
 
 -- ---- what is done for requests, with one request more
 
-pub acting-more : (last : ℕ) (bodies : List (List ℕ)) (body : List ℕ) → acting last (bodies ++ body ∷ []) ≡ acting last bodies ++ act_by (admission (last_after last bodies) (request_number_of body)) body
-acting-more last [] body = append-nil (act_by (admission last (request_number_of body)) body)
-acting-more last (b ∷ bodies) body =
-    ap (λ (l : List (List ℕ)). act_by (admission last (request_number_of b)) b ++ l) (acting-more (last_next last b) bodies body)
-    ∙ sym (append_assoc (act_by (admission last (request_number_of b)) b) (acting (last_next last b) bodies) (act_by (admission (last_after (last_next last b) bodies) (request_number_of body)) body))
+-- the last number that acted, behind these
+abbrev last_after : ℕ → List (List ℕ) → ℕ
+last_after last bodies = last + length (acting last bodies)
 
-pub answered-more : (last : ℕ) (bodies : List (List ℕ)) (body : List ℕ)
-    → answered_numbers last (bodies ++ body ∷ []) ≡ answered_numbers last bodies ++ number_by (admission (last_after last bodies) (request_number_of body)) (last_after last bodies) (request_number_of body)
-answered-more last [] body = append-nil (number_by (admission last (request_number_of body)) last (request_number_of body))
-answered-more last (b ∷ bodies) body =
-    let at = last_next last b in
-    ap (λ (l : List ℕ). number_by (admission last (request_number_of b)) last (request_number_of b) ++ l) (answered-more at bodies body)
-    ∙ sym (append_assoc (number_by (admission last (request_number_of b)) last (request_number_of b)) (answered_numbers at bodies) (number_by (admission (last_after at bodies) (request_number_of body)) (last_after at bodies) (request_number_of body)))
+-- behind one that acts it goes on from its number
+last-acts : (last number : ℕ) (bodies : List (List ℕ)) → IsTrue (number == last + 1) → last_after number bodies ≡ last + suc (length (acting number bodies))
+last-acts last number bodies is = let next = eqb-true number (last + 1) is in omega (arith, next)
 
-pub last-more : (last : ℕ) (bodies : List (List ℕ)) (body : List ℕ) → last_after last (bodies ++ body ∷ []) ≡ last_next (last_after last bodies) body
-last-more last [] body = refl
-last-more last (b ∷ bodies) body = last-more (last_next last b) bodies body
-
--- ---- the numbers that are answered
-
-next-grows : (last : ℕ) (body : List ℕ) → last ≤ last_next last body
-next-grows last body = by (admission last (request_number_of body)) (admits last (request_number_of body))
+acting-more : (last : ℕ) (bodies : List (List ℕ)) (body : List ℕ) → acting last (bodies ++ body ∷ []) ≡ acting last bodies ++ acting (last_after last bodies) (body ∷ [])
+acting-more last [] body = let none : last ≡ last + 0 = omega arith in ap (λ (k : ℕ). acting k (body ∷ [])) none
+acting-more last (b ∷ bodies) body = by (request_number_of b) (request_number_of b == last + 1) refl (λ at. acting-more at bodies body)
   where
-    by : (a : Admission) → Admits last (request_number_of body) a → last ≤ last_by a last (request_number_of body)
-    by Acts number = omega (arith, number)
-    by Repeats same = omega arith
-    by Ignored none = omega arith
+    by : (n : ℕ) (x : Bool) → (n == last + 1) ≡ x → ((at : ℕ) → acting at (bodies ++ body ∷ []) ≡ acting at bodies ++ acting (last_after at bodies) (body ∷ []))
+        → cond x (b ∷ acting n (bodies ++ body ∷ [])) (acting last (bodies ++ body ∷ []))
+        ≡ cond x (b ∷ acting n bodies) (acting last bodies) ++ acting (last + length (cond x (b ∷ acting n bodies) (acting last bodies))) (body ∷ [])
+    by n true is rest = ap (λ (l : List (List ℕ)). b ∷ l) (rest n ∙ ap (λ (k : ℕ). acting n bodies ++ acting k (body ∷ [])) (last-acts last n bodies is))
+    by n false is rest = rest last
 
-last-grows : (last : ℕ) (bodies : List (List ℕ)) → last ≤ last_after last bodies
-last-grows last [] = omega arith
-last-grows last (body ∷ bodies) = let first = next-grows last body in let rest = last-grows (last_next last body) bodies in omega (arith, first, rest)
+answered-more : (last : ℕ) (bodies : List (List ℕ)) (body : List ℕ)
+    → answered_numbers last (bodies ++ body ∷ []) ≡ answered_numbers last bodies ++ answered_numbers (last_after last bodies) (body ∷ [])
+answered-more last [] body = let none : last ≡ last + 0 = omega arith in ap (λ (k : ℕ). answered_numbers k (body ∷ [])) none
+answered-more last (b ∷ bodies) body = by (request_number_of b) (request_number_of b == last + 1) refl ((request_number_of b == last) && not (request_number_of b == 0)) (λ at. answered-more at bodies body)
+  where
+    by : (n : ℕ) (x : Bool) → (n == last + 1) ≡ x → (y : Bool)
+        → ((at : ℕ) → answered_numbers at (bodies ++ body ∷ []) ≡ answered_numbers at bodies ++ answered_numbers (last_after at bodies) (body ∷ []))
+        → cond x (n ∷ answered_numbers n (bodies ++ body ∷ [])) (cond y (n ∷ answered_numbers last (bodies ++ body ∷ [])) (answered_numbers last (bodies ++ body ∷ [])))
+        ≡ cond x (n ∷ answered_numbers n bodies) (cond y (n ∷ answered_numbers last bodies) (answered_numbers last bodies))
+        ++ answered_numbers (last + length (cond x (b ∷ acting n bodies) (acting last bodies))) (body ∷ [])
+    by n true is y rest = ap (λ (l : List ℕ). n ∷ l) (rest n ∙ ap (λ (k : ℕ). answered_numbers n bodies ++ answered_numbers k (body ∷ [])) (last-acts last n bodies is))
+    by n false is true rest = ap (λ (l : List ℕ). n ∷ l) (rest last)
+    by n false is false rest = rest last
 
--- each is one of the first numbers
+-- each number that is answered is one of the first numbers
 unfoldable pub Within : ℕ → List ℕ → Type 0
 Within k [] = Unit {0}
 Within k (n ∷ ns) = (1 ≤ n) × (n ≤ k) × Within k ns
 
-pub answered-within : (last : ℕ) (bodies : List (List ℕ)) → Within (last_after last bodies) (answered_numbers last bodies)
+answered-within : (last : ℕ) (bodies : List (List ℕ)) → Within (last_after last bodies) (answered_numbers last bodies)
 unfolding Within
 answered-within last [] = tt
-answered-within last (body ∷ bodies) =
-    by (admission last (request_number_of body)) (admits last (request_number_of body)) (λ at. answered-within at bodies)
+answered-within last (b ∷ bodies) = by (request_number_of b) (request_number_of b == last + 1) refl ((request_number_of b == last) && not (request_number_of b == 0)) refl (λ at. answered-within at bodies)
   where
-    all : Admission → Type 0
-    all a = Within (last_after (last_by a last (request_number_of body)) bodies) (number_by a last (request_number_of body) ++ answered_numbers (last_by a last (request_number_of body)) bodies)
+    by : (n : ℕ) (x : Bool) → (n == last + 1) ≡ x → (y : Bool) → ((n == last) && not (n == 0)) ≡ y → ((at : ℕ) → Within (last_after at bodies) (answered_numbers at bodies))
+        → Within (last + length (cond x (b ∷ acting n bodies) (acting last bodies))) (cond x (n ∷ answered_numbers n bodies) (cond y (n ∷ answered_numbers last bodies) (answered_numbers last bodies)))
+    by n true is y again rest =
+        let next = eqb-true n (last + 1) is in (omega (arith, next), omega (arith, next), subst (λ (k : ℕ). Within k (answered_numbers n bodies)) (last-acts last n bodies is) (rest n))
+    by n false is true again rest =
+        let parts = and_parts (n == last) (not (n == 0)) again in
+        let same = eqb-true n last parts.0 in
+        let some = eqb-false n 0 (not-true (n == 0) parts.1) in (omega (arith, some), omega (arith, same), rest last)
+    by n false is false again rest = rest last
 
-    by : (a : Admission) → Admits last (request_number_of body) a
-        → ((at : ℕ) → Within (last_after at bodies) (answered_numbers at bodies)) → all a
-    by Acts number rest =
-        let few = last-grows (request_number_of body) bodies in (omega (arith, number), omega (arith, few), rest (request_number_of body))
-    by Repeats same rest = let few = last-grows last bodies in (same.1, omega (arith, few), rest last)
-    by Ignored none rest = rest last
+-- what one request adds, by what becomes of it
+abbrev Adds : List ℕ → Admission → List (List ℕ) → List ℕ → Type 0
+Adds body Acts acts numbers = (acts ≡ body ∷ []) × (numbers ≡ request_number_of body ∷ [])
+Adds body Repeats acts numbers = (acts ≡ []) × (numbers ≡ request_number_of body ∷ [])
+Adds body Ignored acts numbers = (acts ≡ []) × (numbers ≡ [])
+
+adds : (last : ℕ) (body : List ℕ) → Adds body (admission last (request_number_of body)) (acting last (body ∷ [])) (answered_numbers last (body ∷ []))
+adds last body = by (request_number_of body == last + 1) ((request_number_of body == last) && not (request_number_of body == 0))
+  where
+    by : (x y : Bool) → Adds body (cond x Acts (cond y Repeats Ignored)) (cond x (body ∷ []) []) (cond x (request_number_of body ∷ []) (cond y (request_number_of body ∷ []) []))
+    by true y = (refl, refl)
+    by false true = (refl, refl)
+    by false false = (refl, refl)
 
 -- ---- the frames
 
@@ -96,16 +110,11 @@ written-at messages numbers n = flat_map-append (frame_of messages) numbers (n �
 
 -- ---- the turns
 
-pub map-more : {X Y : Type 0} (f : X → Y) (xs : List X) (x : X) → map f (xs ++ x ∷ []) ≡ map f xs ++ f x ∷ []
-map-more f [] x = refl
-map-more {Y = Y} f (y ∷ xs) x = ap (λ (ys : List Y). f y ∷ ys) (map-more f xs x)
-
 pub length-messages : (turns : List Turn) → length (messages_of turns) ≡ length turns
-length-messages [] = refl
-length-messages (t ∷ turns) = ap suc (length-messages turns)
+length-messages turns = length-map turns (λ (t : Turn). message t.reply)
 
 pub messages-more : (turns : List Turn) (t : Turn) → messages_of (turns ++ t ∷ []) ≡ messages_of turns ++ message t.reply ∷ []
-messages-more turns t = map-more (λ (u : Turn). message u.reply) turns t
+messages-more turns t = map_push (λ (u : Turn). message u.reply) turns t
 
 -- ---- a serving, one request on
 
@@ -118,27 +127,25 @@ stands-of E first start bodies old now was = record { turns = was.turns; journal
 
 module _ (E : Scene) (first : List Turn) (start : TurnMoment) (off : start.on ≡ None) (bodies : List (List ℕ)) (body : List ℕ) (old mid new : At) (was : ServesRequests E first start bodies old mid) where
   last : mid.exchange.last ≡ last_after 0 bodies
-  last = was.answers.last
+  last =
+      let is = sym was.answers.count ∙ sym (length-map was.turns (λ (t : Turn). t.call)) ∙ ap length was.answers.calls_are ∙ length-map (acting 0 bodies) (λ (b : List ℕ). called (message_of b)) in
+      omega (arith, is)
 
   stood : Stands E first start mid.run
   stood = stands-of E first start bodies old mid was
 
-  -- what becomes of it, by the requests so far
-  so-far : (a : Admission) → admission mid.exchange.last (request_number_of body) ≡ a → admission (last_after 0 bodies) (request_number_of body) ≡ a
-  so-far a is = ap (λ (n : ℕ). admission n (request_number_of body)) (sym last) ∙ is
+  -- what it adds to the requests so far
+  acting-as : (acts : List (List ℕ)) → acting mid.exchange.last (body ∷ []) ≡ acts → acting 0 (bodies ++ body ∷ []) ≡ acting 0 bodies ++ acts
+  acting-as acts is = acting-more 0 bodies body ∙ ap (λ (k : ℕ). acting 0 bodies ++ acting k (body ∷ [])) (sym last) ∙ ap (λ (l : List (List ℕ)). acting 0 bodies ++ l) is
 
-  acting-as : (a : Admission) → admission mid.exchange.last (request_number_of body) ≡ a → acting 0 (bodies ++ body ∷ []) ≡ acting 0 bodies ++ act_by a body
-  acting-as a is = acting-more 0 bodies body ∙ ap (λ (x : Admission). acting 0 bodies ++ act_by x body) (so-far a is)
+  numbers-as : (numbers : List ℕ) → answered_numbers mid.exchange.last (body ∷ []) ≡ numbers → answered_numbers 0 (bodies ++ body ∷ []) ≡ answered_numbers 0 bodies ++ numbers
+  numbers-as numbers is = answered-more 0 bodies body ∙ ap (λ (k : ℕ). answered_numbers 0 bodies ++ answered_numbers k (body ∷ [])) (sym last) ∙ ap (λ (l : List ℕ). answered_numbers 0 bodies ++ l) is
 
-  numbers-as : (a : Admission) → admission mid.exchange.last (request_number_of body) ≡ a → answered_numbers 0 (bodies ++ body ∷ []) ≡ answered_numbers 0 bodies ++ number_by a mid.exchange.last (request_number_of body)
-  numbers-as a is = answered-more 0 bodies body ∙ ap (λ (x : Admission). answered_numbers 0 bodies ++ number_by x (last_after 0 bodies) (request_number_of body)) (so-far a is)
-      ∙ ap (λ (n : ℕ). answered_numbers 0 bodies ++ number_by a n (request_number_of body)) (sym last)
-
-  last-as : (a : Admission) → admission mid.exchange.last (request_number_of body) ≡ a → last_after 0 (bodies ++ body ∷ []) ≡ last_by a mid.exchange.last (request_number_of body)
-  last-as a is = last-more 0 bodies body ∙ ap (λ (x : Admission). last_by x (last_after 0 bodies) (request_number_of body)) (so-far a is) ∙ ap (λ (n : ℕ). last_by a n (request_number_of body)) (sym last)
+  abbrev adds-as : Admission → Type 0
+  adds-as a = Adds body a (acting mid.exchange.last (body ∷ [])) (answered_numbers mid.exchange.last (body ∷ []))
 
   -- it is ignored
-  ignored-on : admission mid.exchange.last (request_number_of body) ≡ Ignored → new ≡ mid → ServesRequests E first start (bodies ++ body ∷ []) old new
+  ignored-on : adds-as Ignored → new ≡ mid → ServesRequests E first start (bodies ++ body ∷ []) old new
   ignored-on is same = subst (λ (x : At). ServesRequests E first start (bodies ++ body ∷ []) old x) (sym same) (record {
     turns = was.turns;
     journal_is = was.journal_is;
@@ -146,26 +153,25 @@ module _ (E : Scene) (first : List Turn) (start : TurnMoment) (off : start.on �
     none = was.none;
     uncut = was.uncut;
     answers = record {
-      calls_are = was.answers.calls_are ∙ ap calls_of_acting (sym (acting-as Ignored is ∙ append-nil (acting 0 bodies)));
-      last = sym (last-as Ignored is);
+      calls_are = was.answers.calls_are ∙ ap calls_of_acting (sym (acting-as [] is.0 ∙ append-nil (acting 0 bodies)));
       count = was.answers.count;
       kept = was.answers.kept;
     };
-    took = subst (λ (l : List ℕ). Appends old.sink.bytes mid.sink.bytes (written (messages_of was.turns) l)) (sym (numbers-as Ignored is ∙ append-nil (answered_numbers 0 bodies))) was.took;
+    took = subst (λ (l : List ℕ). Appends old.sink.bytes mid.sink.bytes (written (messages_of was.turns) l)) (sym (numbers-as [] is.1 ∙ append-nil (answered_numbers 0 bodies))) was.took;
     quiet = was.quiet;
   })
 
   -- its reply is given again
-  repeats-on : admission mid.exchange.last (request_number_of body) ≡ Repeats → 1 ≤ mid.exchange.last → (result : Result (Unit {0}) ServeEnd) → ServesAgain mid new result → result ≡ Ok tt
+  repeats-on : adds-as Repeats → request_number_of body ≡ mid.exchange.last → 1 ≤ mid.exchange.last → (result : Result (Unit {0}) ServeEnd) → ServesAgain mid new result → result ≡ Ok tt
       → ServesRequests E first start (bodies ++ body ∷ []) old new
-  repeats-on is some result did goes =
+  repeats-on is same_number some result did goes =
       let put = put-all mid.exchange.reply result mid.sink new.sink did.puts goes in
       let stands = stands-still E first start mid.run new.run stood did.run in
       let same : new.run.journal ≡ mid.run.journal = ap (λ (run : RunAt). run.journal) did.run in
       let numbers = answered_numbers 0 bodies in
-      let frame_is = was.answers.kept some in
+      let frame_is = was.answers.kept some ∙ ap (frame_of (messages_of was.turns)) (sym same_number) in
       let all_is : written (messages_of was.turns) (answered_numbers 0 (bodies ++ body ∷ [])) ≡ written (messages_of was.turns) numbers ++ mid.exchange.reply =
-      ap (written (messages_of was.turns)) (numbers-as Repeats is) ∙ written-at (messages_of was.turns) numbers mid.exchange.last ∙ ap (λ (l : List ℕ). written (messages_of was.turns) numbers ++ l) (sym frame_is) in
+      ap (written (messages_of was.turns)) (numbers-as (request_number_of body ∷ []) is.1) ∙ written-at (messages_of was.turns) numbers (request_number_of body) ∙ ap (λ (l : List ℕ). written (messages_of was.turns) numbers ++ l) (sym frame_is) in
       record {
         turns = was.turns;
         journal_is = same ∙ was.journal_is;
@@ -173,8 +179,7 @@ module _ (E : Scene) (first : List Turn) (start : TurnMoment) (off : start.on �
         none = ap (list_any (λ (t : Turn). ends_run t.reply)) same ∙ was.none;
         uncut = stands.uncut;
         answers = subst (λ (e : LastAnswer). AnswersRequests (bodies ++ body ∷ []) was.turns e) (sym did.exchange) (record {
-          calls_are = was.answers.calls_are ∙ ap calls_of_acting (sym (acting-as Repeats is ∙ append-nil (acting 0 bodies)));
-          last = sym (last-as Repeats is);
+          calls_are = was.answers.calls_are ∙ ap calls_of_acting (sym (acting-as [] is.0 ∙ append-nil (acting 0 bodies)));
           count = was.answers.count;
           kept = was.answers.kept;
         });
@@ -184,22 +189,21 @@ module _ (E : Scene) (first : List Turn) (start : TurnMoment) (off : start.on �
       }
 
   -- it acts: what is kept, and what was written
-  acts-answers : (t : Turn) → admission mid.exchange.last (request_number_of body) ≡ Acts → request_number_of body ≡ mid.exchange.last + 1 → t.call ≡ called (message_of body)
+  acts-answers : (t : Turn) → adds-as Acts → request_number_of body ≡ mid.exchange.last + 1 → t.call ≡ called (message_of body)
       → new.exchange ≡ record { last = request_number_of body; reply = frame (numbered (request_number_of body) (message t.reply)) } → AnswersRequests (bodies ++ body ∷ []) (was.turns ++ t ∷ []) new.exchange
   acts-answers t is number call_is exchange_is =
       let count = was.answers.count in
       let long = length_push was.turns t in
       let same = length-messages was.turns in
       subst (λ (e : LastAnswer). AnswersRequests (bodies ++ body ∷ []) (was.turns ++ t ∷ []) e) (sym exchange_is) (record {
-        calls_are = map-more (λ (u : Turn). u.call) was.turns t ∙ ap (λ (c : Call). map (λ (u : Turn). u.call) was.turns ++ c ∷ []) call_is
-            ∙ ap (λ (cs : List Call). cs ++ called (message_of body) ∷ []) was.answers.calls_are ∙ sym (map-more (λ (b : List ℕ). called (message_of b)) (acting 0 bodies) body)
-            ∙ ap calls_of_acting (sym (acting-as Acts is));
-        last = sym (last-as Acts is);
+        calls_are = map_push (λ (u : Turn). u.call) was.turns t ∙ ap (λ (c : Call). map (λ (u : Turn). u.call) was.turns ++ c ∷ []) call_is
+            ∙ ap (λ (cs : List Call). cs ++ called (message_of body) ∷ []) was.answers.calls_are ∙ sym (map_push (λ (b : List ℕ). called (message_of b)) (acting 0 bodies) body)
+            ∙ ap calls_of_acting (sym (acting-as (body ∷ []) is.0));
         count = omega (arith, count, long, number);
         kept = λ some. frame-last (messages_of was.turns) (message t.reply) (request_number_of body) (omega (arith, count, number, same)) ∙ ap (λ (l : List (List ℕ)). frame_of l (request_number_of body)) (sym (messages-more was.turns t));
       })
 
-  acts-took : (t : Turn) → admission mid.exchange.last (request_number_of body) ≡ Acts → request_number_of body ≡ mid.exchange.last + 1 → Appends mid.sink.bytes new.sink.bytes (frame (numbered (request_number_of body) (message t.reply)))
+  acts-took : (t : Turn) → adds-as Acts → request_number_of body ≡ mid.exchange.last + 1 → Appends mid.sink.bytes new.sink.bytes (frame (numbered (request_number_of body) (message t.reply)))
       → Appends old.sink.bytes new.sink.bytes (written (messages_of (was.turns ++ t ∷ [])) (answered_numbers 0 (bodies ++ body ∷ [])))
   acts-took t is number took =
       let numbers = answered_numbers 0 bodies in
@@ -211,13 +215,13 @@ module _ (E : Scene) (first : List Turn) (start : TurnMoment) (off : start.on �
       let piece = frame (numbered (request_number_of body) bytes) in
       let within = subst (λ (k : ℕ). Within k numbers) (sym (same ∙ count ∙ last)) (answered-within 0 bodies) in
       let all_is : written longer (answered_numbers 0 (bodies ++ body ∷ [])) ≡ written before numbers ++ piece =
-      ap (written longer) (numbers-as Acts is) ∙ written-at longer numbers (request_number_of body)
+      ap (written longer) (numbers-as (request_number_of body ∷ []) is.1) ∙ written-at longer numbers (request_number_of body)
       ∙ ap (λ (l : List ℕ). l ++ frame_of longer (request_number_of body)) (written-more before bytes numbers within)
       ∙ ap (λ (l : List ℕ). written before numbers ++ l) (sym (frame-last before bytes (request_number_of body) (omega (arith, count, number, same)))) in
       subst (λ (l : List ℕ). Appends old.sink.bytes new.sink.bytes l) (sym (ap (λ (l : List (List ℕ)). written l (answered_numbers 0 (bodies ++ body ∷ []))) (messages-more was.turns t) ∙ all_is))
       (Appends-trans old.sink.bytes mid.sink.bytes new.sink.bytes (written before numbers) piece was.took took)
 
-  acts-on : (bytes : List ℕ) → admission mid.exchange.last (request_number_of body) ≡ Acts → request_number_of body ≡ mid.exchange.last + 1
+  acts-on : (bytes : List ℕ) → adds-as Acts → request_number_of body ≡ mid.exchange.last + 1
       → OneReply E (called (message_of body)) bytes mid.run new.run
       → new.exchange ≡ record { last = request_number_of body; reply = frame (numbered (request_number_of body) bytes) }
       → Appends mid.sink.bytes new.sink.bytes (frame (numbered (request_number_of body) bytes)) → new.sink.faults ≡ mid.sink.faults → ServesRequests E first start (bodies ++ body ∷ []) old new
@@ -239,7 +243,7 @@ module _ (E : Scene) (first : List Turn) (start : TurnMoment) (off : start.on �
 
   -- ---- any request
 
-  new-on : (result : Result (Unit {0}) ServeEnd) → admission mid.exchange.last (request_number_of body) ≡ Acts → request_number_of body ≡ mid.exchange.last + 1
+  new-on : (result : Result (Unit {0}) ServeEnd) → adds-as Acts → request_number_of body ≡ mid.exchange.last + 1
       → ServesNew E (request_number_of body) (called (message_of body)) mid new result → result ≡ Ok tt → ServesRequests E first start (bodies ++ body ∷ []) old new
   new-on result is number (answered bytes one exchange_is puts) goes =
       let put = put-all (frame (numbered (request_number_of body) bytes)) result mid.sink new.sink puts goes in
@@ -248,13 +252,13 @@ module _ (E : Scene) (first : List Turn) (start : TurnMoment) (off : start.on �
 
   pub one-on : (result : Result (Unit {0}) ServeEnd) → ServesOne E body mid new result → result ≡ Ok tt → ServesRequests E first start (bodies ++ body ∷ []) old new
   one-on result serves goes =
-      by (admission mid.exchange.last (request_number_of body)) refl (admits mid.exchange.last (request_number_of body)) serves
+      by (admission mid.exchange.last (request_number_of body)) (adds mid.exchange.last body) (admits mid.exchange.last (request_number_of body)) serves
     where
-      by : (a : Admission) → admission mid.exchange.last (request_number_of body) ≡ a
+      by : (a : Admission) → adds-as a
           → Admits mid.exchange.last (request_number_of body) a → ServesBy a E body mid new result
           → ServesRequests E first start (bodies ++ body ∷ []) old new
       by Acts is number served = new-on result is number served goes
-      by Repeats is same served = repeats-on is same.1 result served goes
+      by Repeats is same served = repeats-on is same.0 same.1 result served goes
       by Ignored is none served = ignored-on is served.0
 
 -- ---- what a serving's loop keeps

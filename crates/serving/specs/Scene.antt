@@ -6,9 +6,9 @@ use Rattle.host_io.specs.declared.files.Files as files
 use Rattle.host_io.specs.declared.sink.Sink as sink
 use Rattle.host_io.specs.declared.source.Source as source
 use Rattle.verify_core.specs.declared.verifier.Verifier as verifier
-use Rattle.fwu_model.specs.{Call.Call, Reply.Turn}
+use Rattle.fwu_model.specs.Reply.{Turn}
 use Rattle.fwu_journal.specs.Shown.{turns}
-use Rattle.script_turns.specs.{Powered.TurnMoment, Powered.moment_of, Powered.device, Powered.has_power, Runs.Ran, Turning.Turns}
+use Rattle.script_turns.specs.{Powered.TurnMoment, Powered.moment_of, Powered.device, Powered.has_power, Runs.Ran}
 use Rattle.wire_frames.specs.Exchange.{LastAnswer, none_yet}
 use Rattle.serving.specs.{declared.serving.Serving.Serving, declared.ends.ServeEnd.ServeEnd}
 
@@ -26,10 +26,7 @@ scene passes tells files faults = record { passes = passes; tells = tells; files
 abbrev pub scene_of : {V D H : Type 0} → verifier.Ghosts V → Ghosts D → files.Ghosts H → V → H → Scene
 scene_of v d h by of = scene (v.passes by) d.tells (h.contents of) (h.faults of)
 
--- a turn of such a serving, and a run of turns: no call of the files fails
-abbrev pub TurnsIn : Scene → Call → Turn → TurnMoment → TurnMoment → Type 0
-TurnsIn E c t old new = Turns E.passes E.tells E.files c t old new E.faults E.faults
-
+-- a run of such turns: no call of the files fails
 abbrev pub RanIn : Scene → List Turn → TurnMoment → TurnMoment → Type 0
 RanIn E journal old new = Ran E.passes E.tells E.files journal old new E.faults E.faults
 

@@ -2,18 +2,18 @@
 use Rattle.std.specs.Prelude.{◌≡◌, ℕ, List, ◌∷◌, ◌++◌, Result, Ok, Err, IsFalse, take, []}
 use Rattle.fwu_model.specs.{Call.Call, Causes.is_cut, Reply.Turn, Run.is_send}
 use Rattle.fwu_wire.specs.Replies.{message}
-use Rattle.script_turns.specs.Powered.{FitsMachine}
+use Rattle.script_turns.specs.{Powered.FitsMachine, Turning.Turns}
 use Rattle.host_io.specs.Printed.{Prints}
 use Rattle.wire_frames.specs.{declared.exchange.Admission.Admission, Exchange.admission}
 use Rattle.wire_frames.specs.declared.exchange.Admission.TheVariants.{Acts, Repeats, Ignored}
 use Rattle.wire_frames.specs.Frames.{frame, message_of, request_number_of, numbered}
 use Rattle.serving.specs.{Ends.end_by, Ends.status_after, declared.ends.ServeEnd.ServeEnd, Written.called}
-use Rattle.serving.specs.Scene.{RunAt, Scene, TurnsIn, At, Port}
+use Rattle.serving.specs.Scene.{RunAt, Scene, At, Port}
 use Rattle.serving.specs.declared.ends.ServeEnd.TheVariants as end
 
--- One turn was done, and is kept. It reads no file, and arms no loss of power.
+-- One turn was done, and is kept. It reads no file, no call of the files fails, and no loss of power is armed.
 pub record OneTurn (E : Scene) (c : Call) (t : Turn) (old new : RunAt) : Type 0 where
-  pub turns : TurnsIn E c t old.moment new.moment
+  pub turns : Turns E.passes E.tells E.files c t old.moment new.moment E.faults E.faults
   pub fits : FitsMachine E.tells new.moment
   pub unsent : IsFalse (is_send c)
   pub uncut : IsFalse (is_cut c)
