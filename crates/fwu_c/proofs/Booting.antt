@@ -1,5 +1,5 @@
 -- A boot, by what its device tells and by its steps.
-use Rattle.std.proofs.Common.{◌≡◌, ◌∙◌, ◌⊎◌, ◌≤◌, ◌*◌, refl, ap, sym, subst, ℕ, true, List, [], length, take, arith}
+use Rattle.std.proofs.Common.{◌≡◌, ◌∙◌, ◌⊎◌, ◌≤◌, ◌*◌, refl, ap, sym, subst, ℕ, true, List, [], length, arith}
 use Rattle.std.proofs.Common.{None}
 use Rattle.std.specs.Prelude.{All, IsTrue}
 use Rattle.base_core.specs.Block.{block_bytes}
@@ -8,12 +8,12 @@ use Rattle.fwu_formats.specs.{Digests.passes_any, Places.counter_block, Places.f
 use Rattle.early_boot.specs.{Started.Started, EndsBy.BootEnds, EndsBy.EndsByBytes, EndsBy.TouchesBoot}
 use Rattle.early_boot.specs.Ends.{Ended, booted, bad_layout, no_metadata, no_bank, lost, failed, stop_of}
 use Rattle.step_flash.specs.{declared.flash.StepFlash.StepFlash, declared.step.Step.Step, Guard.guard_with, Guard.start_with}
-use Rattle.step_flash.specs.{Writes.LiesBeside, Stopped.under_as, Steps.AreDoable, Steps.run_with}
-use Rattle.step_flash.specs.Flash.{block_count, counts_of, flash_sizes, is_on, told_of, image_of, package_of, writes_of}
+use Rattle.step_flash.specs.{Device.LieAsCounted, Writes.LiesBeside, Stopped.under_as, Steps.run_with}
+use Rattle.step_flash.specs.Flash.{block_count, counts_of, device_in, is_on, told_of, image_of, package_of, writes_of}
 use Rattle.step_flash.proofs.{Causes.never_lost, Guards.by_guard}
 use Rattle.fwu_c.specs.{declared.report.Report.Report, Boots.BootsBy, Codes.end_code}
-use Rattle.fwu_c.specs.Handed.{HandsOver, HasFlashSize, IsDeviceEnd, IsJustMade, IsStartOfSteps, IsWithinWith, LieAsCounted, SameBut, boot_reach, is_idle_number}
-use Rattle.fwu_c.specs.Reports.{ReportsEnd, ReportsStart, SameStarts}
+use Rattle.fwu_c.specs.Handed.{HandsOver, HasFlashSize, IsDeviceEnd, IsJustMade, IsMadeBy, boot_reach, is_idle_number}
+use Rattle.fwu_c.specs.Reports.{ReportsEnd, ReportsStart, SameBut}
 use Rattle.early_boot.proofs.Touching.{boot-spares}
 
 pub guard_kept : (old t : Told) (e : Ended) → EndsByBytes (λ m. passes_any m) old e t → t.guard ≡ old.guard
@@ -28,17 +28,16 @@ start_guard image file = refl
 pub start_same : (b : Started) (old new : Report) → SameBut old new → ReportsStart b old → ReportsStart b new
 start_same b old new same reports = subst (ReportsStart b) (sym same) assumption
 
--- what a start writes, as it was before
-pub starts_same : (before old new : Report) → SameBut old new → SameStarts before old → SameStarts before new
-starts_same before old new same stays =
-    subst (SameStarts before) (sym same) (record { start = assumption; active = stays.active; previous = stays.previous })
+-- what changed but steps and bytes alone, twice
+pub same_then : (before old new : Report) → SameBut old new → SameBut before old → SameBut before new
+same_then before old new same stays = same ∙ ap (λ (r : Report). record r { steps = new.steps; bytes = new.bytes }) stays
 
 pub end_same : (e : Ended) (before old new : Report) → SameBut old new → ReportsEnd e before old → ReportsEnd e before new
 end_same (booted b n) before old new same reports = start_same b old new same reports
 end_same (bad_layout f) before old new same reports = cc
 end_same no_metadata before old new same reports = tt
 end_same (no_bank active previous) before old new same reports = rw same reports
-end_same e before old new same reports = starts_same before old new same reports
+end_same e before old new same reports = same_then before old new same reports
 
 -- ---- numbers
 
@@ -58,44 +57,35 @@ boot_end_is e old new spends = grind arith
 
 -- what a device lies over has the size of a flash
 pub has_flash_size : (image : List ℕ) (d : StepFlash) → length image ≡ block_bytes * block_count d → HasFlashSize image
-has_flash_size image d size = record { blocks = block_count d; fewest = (flash_sizes d).0; most = (flash_sizes d).1; size = size }
+has_flash_size image d size = record { blocks = block_count d; fewest = d.device.value.sizes.0; most = d.device.value.sizes.1; size = size }
 
 -- it was just made over the image
 pub made_new : (image file : List ℕ) (d : StepFlash) → told_of d ≡ start_with image file → is_on d ≡ true → image_of d ≡ image
-    → length image ≡ block_bytes * block_count d → ((b : ℕ) → writes_of d b ≡ 0) → IsJustMade file d
-made_new image file d made on is size none = record {
-  on = on;
-  fresh = made ∙ sym (ap (λ (i : List ℕ). start_with i file) is);
-  size = ap (λ (i : List ℕ). length i) is ∙ size;
-  unwritten = none;
-}
+    → ((b : ℕ) → writes_of d b ≡ 0) → IsJustMade file d
+made_new image file d made on is none =
+    record { on = on; fresh = made ∙ sym (ap (λ (i : List ℕ). start_with i file) is); unwritten = none }
 
 -- what counted nothing counts where it was touched alone
 pub counted_from_none : (low high : ℕ) {old new : ℕ → ℕ} → ((b : ℕ) → old b ≡ 0) → TouchesOnly low high old new
     → TouchesOnly low high (λ b. 0) new
 counted_from_none low high none touches b out = touches b out ∙ none b
 
--- it is over the image, with the package, and its steps lie within both
-pub record IsOver (image file : List ℕ) (d : StepFlash) (r : Report) (steps : List Step) (room : List ℕ) : Type 0 where
-  pub left : told_of d ≡ under_as (told_of d).under (run_with file (take r.bytes room) (start_with image file) (take r.steps steps))
-  pub within : IsWithinWith (length file) (length image) r steps room
-  pub doable : AreDoable file (take r.bytes room) (start_with image file) (take r.steps steps)
+-- it lies over the image of the first one, and has the package
+pub lies_over : (file : List ℕ) (first d : StepFlash) → IsJustMade file first → (told_of d).guard ≡ (told_of first).guard
+    → (image_of d ≡ image_of first) × (package_of d ≡ file)
+lies_over file first d made guard =
+    by_guard d (image_of first) file (guard ∙ ap (λ (x : Told). x.guard) made.fresh ∙ start_guard (image_of first) file)
 
 pub over : (file : List ℕ) (first d : StepFlash) (told r : Report) (steps : List Step) (room : List ℕ) → IsJustMade file first
-    → (told_of d).guard ≡ (told_of first).guard → HandsOver d told r steps room → IsOver (image_of first) file d r steps room
+    → (told_of d).guard ≡ (told_of first).guard → HandsOver d told r steps room
+    → IsMadeBy (image_of first) file r steps room (told_of d)
 over file first d told r steps room made guard hands =
-    let image = image_of first in
-    let both =
-    by_guard d image file (guard ∙ ap (λ (x : Told). x.guard) made.fresh ∙ start_guard image file) in
-    subst (λ (f : List ℕ). IsOver image f d r steps room) both.1
-    (subst (λ (i : List ℕ). IsOver i (package_of d) d r steps room) both.0 (record {
-      left = hands.left;
-      within = subst (λ n. IsWithinWith (length (package_of d)) n r steps room) (sym d.device.value.size) hands.within;
-      doable = hands.doable;
-    }))
+    let both = lies_over file first d made guard in
+    subst (λ (f : List ℕ). IsMadeBy (image_of first) f r steps room (told_of d)) both.1
+    (subst (λ (i : List ℕ). IsMadeBy i (package_of d) r steps room (told_of d)) both.0 hands.made)
 
 -- beside block 4, where the device counted nothing in it
-pub beside_marks_by : (d : StepFlash) (steps : List Step) → LieAsCounted d steps → writes_of d counter_block ≡ 0
+pub beside_marks_by : (d : StepFlash) (steps : List Step) → LieAsCounted (device_in d) steps → writes_of d counter_block ≡ 0
     → All (LiesBeside (block_bytes * counter_block) (block_bytes * first_record)) steps
 beside_marks_by d steps lie still = lie.beside counter_block first_record (omega arith) (λ k low high.
     let is : k ≡ counter_block = omega (arith, low, high) in ap (λ n. writes_of d n) is ∙ still)
@@ -107,15 +97,12 @@ pub boots_by : (first d : StepFlash) (e : Ended) (number : ℕ) (old told r : Re
     → BootsBy (image_of first) number old r steps room
 boots_by first d e number old told r steps room made ends hands touches fewer is reports =
     let guard = guard_kept (told_of first) (told_of d) e ends.by_bytes in
-    let o = over [] first d told r steps room made guard hands in
     record {
       end = e;
       number_is = is;
       t = told_of d;
       ends = subst (λ (x : Told). BootEnds (λ m. passes_any m) x e (told_of d)) made.fresh ends;
-      left = o.left;
-      within = o.within;
-      doable = o.doable;
+      made = over [] first d told r steps room made guard hands;
       places = hands.lie.places 1 7 (counted_from_none block_bytes boot_reach made.unwritten touches);
       beside_marks = beside_marks_by d _ hands.lie
           (boot-spares e (writes_of first) (writes_of d) fewer ∙ made.unwritten counter_block);
@@ -124,22 +111,23 @@ boots_by first d e number old told r steps room made ends hands touches fewer is
 
 -- ---- where nothing was written
 
-pub began_as : (old t : Told) → IsStartOfSteps old → t ≡ old → IsStartOfSteps t
-began_as old t began same = (began.0, began.1, same ∙ began.2)
+pub boot_idle : (e : Ended) (old t : Told) → EndsByBytes (λ m. passes_any m) old e t → IsTrue (is_idle_number (end_code e)) → t ≡ old
+boot_idle (bad_layout f) old t ends idle = ends.1
+boot_idle no_metadata old t ends idle = ends.3
+boot_idle e old t ends idle = absurd (cc)
 
-pub boot_idle : (e : Ended) (old t : Told) → IsStartOfSteps old → EndsByBytes (λ m. passes_any m) old e t → IsTrue (is_idle_number (end_code e)) → IsStartOfSteps t
-boot_idle (bad_layout f) old t began ends idle = began_as old t began ends.1
-boot_idle no_metadata old t began ends idle = began_as old t began ends.3
-boot_idle e old t began ends idle = absurd (cc)
+-- what a device tells before its first step, by its own image and package
+pub begun_as : (d : StepFlash) (image file : List ℕ) → told_of d ≡ start_with image file
+    → told_of d ≡ start_with (image_of d) (package_of d)
+begun_as d image file made =
+    let both = by_guard d image file (ap (λ (x : Told). x.guard) made ∙ start_guard image file) in
+    made ∙ sym (ap (λ (i : List ℕ). start_with i file) both.0) ∙ sym (ap (λ (f : List ℕ). start_with (image_of d) f) both.1)
 
 -- no step makes of the device's image what it tells then
-pub none_noted : (d : StepFlash) (steps : List Step) (room : List ℕ) → IsStartOfSteps (told_of d) → steps ≡ []
+pub none_noted : (d : StepFlash) (steps : List Step) (room : List ℕ) → told_of d ≡ start_with (image_of d) (package_of d) → steps ≡ []
     → told_of d ≡ under_as (told_of d).under (run_with (package_of d) room (start_with (image_of d) (package_of d)) steps)
 unfolding run_with fresh
-none_noted d steps room (image, file, made) empty =
-    let both = by_guard d image file (ap (λ (x : Told). x.guard) made ∙ start_guard image file) in
-    let begun = start_with (image_of d) (package_of d) in
-    let now : told_of d ≡ begun =
-    made ∙ sym (ap (λ (i : List ℕ). start_with i file) both.0) ∙ sym (ap (λ (f : List ℕ). start_with (image_of d) f) both.1) in
-    let whole : told_of d ≡ under_as (told_of d).under begun = subst (λ (t : Told). t ≡ under_as t.under begun) (sym now) refl in
+none_noted d steps room begun empty =
+    let first = start_with (image_of d) (package_of d) in
+    let whole : told_of d ≡ under_as (told_of d).under first = subst (λ (t : Told). t ≡ under_as t.under first) (sym begun) refl in
     rw empty whole

@@ -1,34 +1,41 @@
 -- A call behind a boot of a bank, by what the device tells before it and after it, and by its steps.
-use Rattle.std.proofs.Common.{[], ◌≡◌, ◌∙◌, ◌⊎◌, inl, inr, refl, sym, subst, ℕ, ◌++◌, Bool, true, false, List, None, Result, Ok, Err, arith, IsFalse, IsTrue}
-use Rattle.std.specs.Prelude.{IsErrOf, OnOk, is_ok}
+use Rattle.std.proofs.Common.{[], ◌≡◌, ◌∙◌, ◌⊎◌, inl, inr, refl, sym, subst, ℕ, ◌++◌, ◌≤◌, Bool, true, false, List, None, Result, Ok, Err, arith, IsFalse, IsTrue}
+use Rattle.std.specs.Prelude.{IsErrOf, OnOk, is_ok, ⊤}
 use Rattle.base_core.specs.Block.{block_bytes}
 use Rattle.base_core.proofs.Results.{same-Ok}
-use Rattle.flash_core.specs.{Told.Told, May.Guards, Touches.TouchesOnly}
+use Rattle.flash_core.specs.{Told.Told, May.Guards, Touches.TouchesOnly, Counts.Spends}
 use Rattle.flash_core.proofs.Touches.{touches_none, touches_then}
 use Rattle.flash_core.specs.declared.flash.FlashStop.TheVariants as flash_stop
 use Rattle.fwu_formats.specs.{Digests.passes_any, Image.layout_seen, Layout.Layout, declared.kinds.LayoutFault.LayoutFault}
-use Rattle.fwu_model.specs.{declared.kinds.Status.Status, State.State, State.after, Sound.Setting, Call.Call, Reply.Reply}
+use Rattle.fwu_model.specs.{State.State, State.after, Sound.Setting, Call.Call, Reply.Reply}
 use Rattle.fwu_model.specs.{Reply.Success, Answer.answer, Answer.migrate_moves, Calm.IsCalm}
 use Rattle.fwu_model.specs.Session.{Session, On, no_handles}
 use Rattle.fwu_model.specs.declared.kinds.Status.TheVariants as status
 use Rattle.moves.specs.Moved.{Does, IsShown}
 use Rattle.moves.proofs.Composed.{does-then}
-use Rattle.early_boot.specs.Started.{Started, started_numbers, started_session}
-use Rattle.early_boot.specs.TakenUp.{RunsByNumbers, TakenUp, TakesByBytes, taken, bad_layout, no_metadata, not_started, stopped, TakeUpEnds}
+use Rattle.early_boot.specs.Started.{Started, started_session}
+use Rattle.early_boot.specs.TakenUp.{TakenUp, TakesByBytes, taken, bad_layout, no_metadata, not_started, stopped, TakeUpEnds}
 use Rattle.agent_machine.specs.{declared.stop.Stop.Stop, Moment.Moment, Moment.Shows, Fields.Fields}
 use Rattle.agent_machine.specs.Meets.{Answers, GoesBy, IsDone, IsRefused, IsSettingOf, IsStopped, LeavesFlash, ShowsNext, flash_result}
 use Rattle.agent_machine.specs.Beside.{IsSparedByAll, KeepsSparedByAll, KeepsWhere}
 use Rattle.agent_machine.specs.declared.stop.Stop.TheVariants as stop
 use Rattle.agent_machine.proofs.Beside.{spared-once}
 use Rattle.agent_calls.specs.Started.{StartsFrom}
-use Rattle.step_flash.specs.{declared.step.Step.Step, declared.flash.StepFlash.StepFlash, Guard.start_told}
-use Rattle.step_flash.specs.Flash.{image_of, told_of, writes_of}
-use Rattle.fwu_c.specs.declared.report.Report.{Report}
-use Rattle.fwu_c.specs.Calls.{MovesByAnswer, CallEnds, Called, CallsBy, CallsFrom, IsAccepted, IsStepResult, IsNotTaken, MakesCall, RefusesCall, RepliesAs, ReportsCall, ReportsTakeUp, TakesUpBank, call_code, called, called_code, not_taken, take_up_code}
-use Rattle.fwu_c.specs.Handed.{HandsOver, IsJustMade, IsDeviceEnd, IsStartOfSteps, SameBut, call_reach, is_idle_number, starts_none}
-use Rattle.fwu_c.proofs.Booting.{began_as, counted_from_none, over, start_same, starts_same}
+use Rattle.step_flash.specs.{declared.step.Step.Step, declared.flash.StepFlash.StepFlash, Guard.start_with}
+use Rattle.step_flash.specs.Flash.{counts_of, image_of, told_of, writes_of}
+use Rattle.step_flash.proofs.Causes.{never_lost}
+use Rattle.fwu_c.specs.{Agents.MovesByAnswer, Reports.SameBut, declared.report.Report.Report}
+use Rattle.fwu_c.specs.Calls.{CallEnds, CallsBy, CallsFrom, IsAccepted, RepliesAs, ReportsTakeUp, TakesUp, call_code, take_up_code}
+use Rattle.fwu_c.specs.Handed.{HandsOver, IsJustMade, IsDeviceEnd, call_reach, is_idle_number, starts_none}
+use Rattle.fwu_c.proofs.Booting.{counted_from_none, over, same_then, start_same}
 
 -- ---- numbers
+
+-- No power is lost on a device of steps, and no agent that was just started is gone.
+abbrev pub IsStepResult : Result (Unit {0}) Stop → Type 0
+IsStepResult (Err stop.Lost) = ⊥
+IsStepResult (Err stop.Gone) = ⊥
+IsStepResult other = ⊤
 
 pub call_end_is : (result : Result (Unit {0}) Stop) → IsStepResult result → IsDeviceEnd (call_code result)
 call_end_is (Err (stop.Status status.Denied)) is = grind arith
@@ -41,11 +48,11 @@ take_up_not : (e : TakenUp) → (take_up_code e ≡ 6 → ⊥) × (take_up_code 
 take_up_not (stopped flash_stop.Lost) = grind arith
 take_up_not e = grind arith
 
-pub take_up_end_is : (bank number : ℕ) (first left : StepFlash) (old told : Report)
-    → RefusesCall bank number first left old told → IsDeviceEnd number
-take_up_end_is bank number first left old told refuses =
-    let few = take_up_not refuses.end in
-    let is = sym refuses.number_is in (refuses.unlost, λ six. few.0 (is ∙ six), λ seven. few.1 (is ∙ seven))
+pub take_up_end_is : (bank : ℕ) (e : TakenUp) (number : ℕ) (first left : StepFlash) (old told : Report)
+    → TakesUp bank e number first left old told → IsDeviceEnd number
+take_up_end_is bank e number first left old told takes =
+    let few = take_up_not e in
+    let is = sym takes.number_is in (takes.unlost, (λ six. few.0 (is ∙ six), λ seven. few.1 (is ∙ seven)))
 
 -- ---- the guard stays
 
@@ -53,19 +60,26 @@ pub take_up_guard : (bank : ℕ) (old t : Told) (e : TakenUp) → TakesByBytes (
 take_up_guard bank old t (stopped why) ends = elim ends [ inl same ↦ cc | inr repair ↦ repair.others.guard ]
 take_up_guard bank old t e ends = cc
 
-take_up_same : (e : TakenUp) (before old new : Report) → IsNotTaken e → SameBut old new → ReportsTakeUp e before old
-    → ReportsTakeUp e before new
-take_up_same (taken b) before old new is same reports = absurd is
-take_up_same (bad_layout f) before old new is same reports = cc
-take_up_same (stopped why) before old new is same reports = starts_same before old new same reports
-take_up_same e before old new is same reports = tt
+take_up_same : (e : TakenUp) (before old new : Report) → SameBut old new → ReportsTakeUp e before old → ReportsTakeUp e before new
+take_up_same (taken b) before old new same reports = start_same b old new same reports
+take_up_same (bad_layout f) before old new same reports = cc
+take_up_same (stopped why) before old new same reports = same_then before old new same reports
+take_up_same e before old new same reports = tt
 
 -- ---- the call
 
-pub is_called : (result : Result (Unit {0}) Stop) → (result ≡ Err stop.Lost → ⊥) → (result ≡ Err stop.Gone → ⊥) → IsStepResult result
+is_called : (result : Result (Unit {0}) Stop) → (result ≡ Err stop.Lost → ⊥) → (result ≡ Err stop.Gone → ⊥) → IsStepResult result
 is_called (Err stop.Lost) lost gone = lost refl
 is_called (Err stop.Gone) lost gone = gone refl
 is_called result lost gone = tt
+
+pub ends_so : (result : Result (Unit {0}) Stop) (old new : StepFlash) (was now : Bool)
+    → Spends (flash_result result) (counts_of old) (counts_of new) → GoesBy result was now → IsFalse was → IsStepResult result
+ends_so result old new was now costs goes here =
+    is_called result
+    (λ lost. never_lost (flash_result result) old new costs
+    (subst (λ (r : Result (Unit {0}) Stop). IsErrOf (flash_result r) flash_stop.Lost) (sym lost) refl))
+    (λ gone. let before = goes.gone.0 gone in absurd (cc (before, here)))
 
 not_stopped : (result : Result (Unit {0}) Stop) → is_ok (flash_result result) ≡ true → IsStopped result → ⊥
 not_stopped (Err stop.Lost) ok halted = absurd (cc)
@@ -146,12 +160,11 @@ touches_by result low high done refused gone = done tt
 -- ---- the bank and the call in one
 
 module _ (image : List ℕ) (bank : ℕ) (c : Call) (b : Started) (result : Result (Unit {0}) Stop) (mid t : Told)
-    (takes : TakeUpEnds (λ m. passes_any m) bank (start_told image) (taken b) mid) (runs : RunsByNumbers (λ m. passes_any m) bank b (started_numbers b))
-    (calls : CallsFrom c b result mid t) where
+    (takes : TakeUpEnds (λ m. passes_any m) bank (start_with image []) (taken b) mid) (calls : CallsFrom c b result mid t) where
   guard_is : t.guard ≡ mid.guard
   guard_is = (calls.answers (setting_of b.layout) _ refl refl takes.by_bytes.shown).guard_is
 
-  does_both : (E : Setting) (s : State) → E.passes ≡ (λ m. passes_any m) → IsCalm E (start_told image) s → Guards 1 7 (start_told image)
+  does_both : (E : Setting) (s : State) → E.passes ≡ (λ m. passes_any m) → IsCalm E (start_with image []) s → Guards 1 7 (start_with image [])
       → Does (flash_result result) E s (migrate_moves s ++ (answer E (after s (migrate_moves s)) (On bank None no_handles) c).moves) t
   does_both E s test calm guards =
       let ready = takes.by_machine E s test calm guards in
@@ -159,68 +172,71 @@ module _ (image : List ℕ) (bank : ℕ) (c : Call) (b : Started) (result : Resu
       let layout : E.layout ≡ b.layout = same-Ok {F = LayoutFault} E.layout b.layout (sym calm.sound.layout ∙ takes.by_bytes.has_layout) in
       let now = ready.does.all.calm in
       let shown : IsShown b.layout mid.now next = record { layout = subst (λ (L : Layout). layout_seen mid.now ≡ Ok L) layout now.sound.layout; shows = now.shows } in
-      let by = subst (λ (x : Session). MovesByAnswer E next (answer E next x c) result mid t) ready.session (calls.answers E next layout test shown) in
+      let by = subst (λ (x : Session). MovesByAnswer (RepliesAs result) E next (answer E next x c) (flash_result result) mid t) ready.session (calls.answers E next layout test shown) in
       does-then tt (flash_result result) E s (migrate_moves s) (answer E next (On bank None no_handles) c).moves mid t ready.does (λ at. by.does at)
 
-  pub makes_call : MakesCall image bank c b result t
-  makes_call = record { mid = mid; takes = takes; runs = runs; calls = calls; does = does_both }
+-- where the bank was not taken up
+refused_ends : (image : List ℕ) (bank : ℕ) (c : Call) (e : TakenUp) (number : ℕ) (t : Told) → number ≡ take_up_code e → 1 ≤ number
+    → CallEnds image bank c e number t t
+refused_ends image bank c (taken b) number t is some = absurd (omega (arith, is, some))
+refused_ends image bank c e number t is some = (is, refl)
 
 module _ (bank : ℕ) (c : Call) (first d : StepFlash) (made : IsJustMade [] first) (number : ℕ) (old told r : Report)
     (steps : List Step) (room : List ℕ) (hands : HandsOver d told r steps room) where
-  calls_by : (e : Called) → (told_of d).guard ≡ (told_of first).guard
-      → CallEnds (image_of first) bank c e (told_of d) → TouchesOnly block_bytes call_reach (writes_of first) (writes_of d)
-      → number ≡ called_code e → ReportsCall e old r → CallsBy (image_of first) bank c number old r steps room
-  calls_by e guard ends touches is reports =
-      let o = over [] first d told r steps room made guard hands in
-      record {
-        end = e;
-        number_is = is;
-        t = told_of d;
-        ends = ends;
-        left = o.left;
-        within = o.within;
-        doable = o.doable;
-        places = hands.lie.places 1 3 (counted_from_none block_bytes call_reach made.unwritten touches);
-        reports = reports;
-      }
-
   -- from the image
   begins : (e : TakenUp) (t : Told) → TakeUpEnds (λ m. passes_any m) bank (told_of first) e t
-      → TakeUpEnds (λ m. passes_any m) bank (start_told (image_of first)) e t
+      → TakeUpEnds (λ m. passes_any m) bank (start_with (image_of first) []) e t
   begins e t ends = subst (λ (x : Told). TakeUpEnds (λ m. passes_any m) bank x e t) made.fresh ends
 
+  calls_by : (e : TakenUp) (given : ℕ) (mid : StepFlash) → TakesUp bank e given first mid old told
+      → (told_of d).guard ≡ (told_of mid).guard → CallEnds (image_of first) bank c e number (told_of mid) (told_of d)
+      → TouchesOnly block_bytes call_reach (writes_of mid) (writes_of d) → CallsBy (image_of first) bank c number old r steps room
+  calls_by e given mid takes guard ends touches = record {
+    end = e;
+    mid = told_of mid;
+    takes = begins e (told_of mid) takes.ends;
+    runs = takes.runs;
+    t = told_of d;
+    ends = ends;
+    made = over [] first d told r steps room made
+        (guard ∙ take_up_guard bank (told_of first) (told_of mid) e takes.ends.by_bytes) hands;
+    places = hands.lie.places 1 3 (counted_from_none block_bytes call_reach made.unwritten
+        (touches_then block_bytes call_reach takes.touches touches));
+    reports = take_up_same e old told r hands.same takes.reports;
+  }
+
   -- the bank was not taken up
-  pub refused_by : (given : ℕ) → RefusesCall bank given first d old told → number ≡ given
+  pub refused_by : (given : ℕ) (e : TakenUp) → TakesUp bank e given first d old told → 1 ≤ given → number ≡ given
       → CallsBy (image_of first) bank c number old r steps room
-  refused_by given refuses is =
-      calls_by (not_taken refuses.end)
-      (take_up_guard bank (told_of first) (told_of d) refuses.end refuses.ends.by_bytes)
-      (refuses.is, begins refuses.end (told_of d) refuses.ends) refuses.touches (is ∙ refuses.number_is)
-      (take_up_same refuses.end old told r refuses.is hands.same refuses.reports)
+  refused_by given e takes some is =
+      calls_by e given d takes refl
+      (refused_ends (image_of first) bank c e number (told_of d) (is ∙ takes.number_is) (omega (arith, some, is)))
+      (touches_none block_bytes call_reach refl)
 
   -- it was, and the call was made
-  pub called_by : (mid : StepFlash) (b : Started) (result : Result (Unit {0}) Stop)
-      → TakesUpBank bank b first mid old told → CallsFrom c b result (told_of mid) (told_of d)
-      → TouchesOnly block_bytes call_reach (writes_of mid) (writes_of d) → number ≡ call_code result
-      → CallsBy (image_of first) bank c number old r steps room
+  pub called_by : (mid : StepFlash) (b : Started) (result : Result (Unit {0}) Stop) → TakesUp bank (taken b) 0 first mid old told
+      → CallsFrom c b result (told_of mid) (told_of d) → TouchesOnly block_bytes call_reach (writes_of mid) (writes_of d)
+      → number ≡ call_code result → CallsBy (image_of first) bank c number old r steps room
   called_by mid b result takes calls touches is =
       let image = image_of first in
       let from_image = begins (taken b) (told_of mid) takes.ends in
-      calls_by (called b result)
-      (guard_is image bank c b result (told_of mid) (told_of d) from_image takes.runs calls
-      ∙ take_up_guard bank (told_of first) (told_of mid) (taken b) takes.ends.by_bytes)
-      (makes_call image bank c b result (told_of mid) (told_of d) from_image takes.runs calls)
-      (touches_then block_bytes call_reach takes.touches touches) is (start_same b told r hands.same takes.reports)
+      calls_by (taken b) 0 mid takes (guard_is image bank c b result (told_of mid) (told_of d) from_image calls)
+      (record {
+        result = result;
+        number_is = is;
+        calls = calls;
+        does = does_both image bank c b result (told_of mid) (told_of d) from_image calls;
+      }) touches
 
 -- ---- where nothing was written
 
-pub take_up_idle : (bank : ℕ) (e : TakenUp) (old t : Told) → IsStartOfSteps old → TakesByBytes (λ m. passes_any m) bank old e t
-    → IsTrue (is_idle_number (take_up_code e)) → IsStartOfSteps t
-take_up_idle bank (bad_layout f) old t began ends idle = began_as old t began ends.1
-take_up_idle bank no_metadata old t began ends idle = began_as old t began ends.3
-take_up_idle bank not_started old t began ends idle = began_as old t began ends.1
-take_up_idle bank (stopped flash_stop.Lost) old t began ends idle = absurd (cc)
-take_up_idle bank e old t began ends idle = absurd (cc)
+pub take_up_idle : (bank : ℕ) (e : TakenUp) (old t : Told) → TakesByBytes (λ m. passes_any m) bank old e t
+    → IsTrue (is_idle_number (take_up_code e)) → t ≡ old
+take_up_idle bank (bad_layout f) old t ends idle = ends.1
+take_up_idle bank no_metadata old t ends idle = ends.3
+take_up_idle bank not_started old t ends idle = ends.1
+take_up_idle bank (stopped flash_stop.Lost) old t ends idle = absurd (cc)
+take_up_idle bank e old t ends idle = absurd (cc)
 
 -- a call that was made has none of these numbers
 pub call_starts : (result : Result (Unit {0}) Stop) → IsTrue (starts_none (call_code result)) → ⊥

@@ -1,6 +1,6 @@
 -- A sending of a package in memory, by what the flash told before and tells after it.
 use Rattle.std.proofs.Common.{◌≡◌, ◌∙◌, inl, inr, refl, sym, ap, subst, ℕ, ◌==◌, Bool, true, List, length, replicate, Option, Some, Result, Ok, Err, arith, IsFalse, IsTrue}
-use Rattle.std.specs.Prelude.{OnOk, is_ok}
+use Rattle.std.specs.Prelude.{OnOk, is_ok, ⊤}
 use Rattle.base_core.specs.Counts.{Rose}
 use Rattle.fwu_formats.specs.{Digests.passes_any, Layout.Layout, Package.Toc, Package.toc_of}
 use Rattle.fwu_model.specs.{State.State, State.after, Sound.Setting, Session.Session, Reply.Reply}
@@ -16,9 +16,23 @@ use Rattle.package_files.specs.OneFile.{one_file}
 use Rattle.package_files.proofs.Alone.{finds_it}
 use Rattle.host_io.specs.Contents.{Directory}
 use Rattle.fwu_c.proofs.Calls.{setting_of, spared-of, stays_here}
-use Rattle.fwu_c.specs.Sendings.{MovesByAnswer, HasInstalled, IsSent, RepliesAs, SendsPackage}
+use Rattle.fwu_c.specs.{Agents.MovesByAnswer, Handed.IsDeviceEnd, Sendings.RepliesAs, Sendings.SendsPackage, Sendings.sent_code}
 
 -- ---- what can't be answered
+
+-- No read of a package in memory fails, no power is lost on a device of steps, and no agent that was just started is gone.
+abbrev pub IsSent : Result Sent SendStop → Type 0
+IsSent (Err ReadFailed) = ⊥
+IsSent (Err Lost) = ⊥
+IsSent (Err Gone) = ⊥
+IsSent other = ⊤
+
+-- such a result has none of the numbers 4, 6 and 7
+pub sent_end_is : (result : Result Sent SendStop) → IsSent result → IsDeviceEnd (sent_code result)
+sent_end_is (Err ReadFailed) is = absurd is
+sent_end_is (Err Lost) is = absurd is
+sent_end_is (Err Gone) is = absurd is
+sent_end_is result is = grind arith
 
 pub is_sent : (result : Result Sent SendStop) → (result ≡ Err ReadFailed → ⊥) → (result ≡ Err Lost → ⊥) → (result ≡ Err Gone → ⊥) → IsSent result
 is_sent (Err ReadFailed) read lost gone = read refl
@@ -95,11 +109,11 @@ module _ (held : Directory) (file name : List ℕ) (request : ℕ) (b : Started)
   layout-after s shown = (by (setting_of b.layout) s refl refl shown).goes.stays.layout ∙ from.layout
 
   answers : (E : Setting) (s : State) → E.layout ≡ b.layout → E.passes ≡ (λ m. passes_any m) → IsShown b.layout old.told.now s
-      → MovesByAnswer E s (send_answer E toc (images_of b.layout.rows file toc) request s (started_session b)) result old.told new.told
+      → MovesByAnswer (RepliesAs result) E s (send_answer E toc (images_of b.layout.rows file toc) request s (started_session b)) (flash_of result) old.told new.told
   answers E s same passes shown =
       let w = by E s same passes shown in
       let layout : new.fields.layout ≡ E.layout = layout-after s shown ∙ sym same in
-      subst (λ (p : List (List ℕ)). MovesByAnswer E s (send_answer E toc p request s (started_session b)) result old.told new.told) images-are (record {
+      subst (λ (p : List (List ℕ)). MovesByAnswer (RepliesAs result) E s (send_answer E toc p request s (started_session b)) (flash_of result) old.told new.told) images-are (record {
         reply_is = w.reply_is;
         shows = on_done (flash_of result) (λ ok.
             subst (λ (L : Layout). IsShown L new.told.now (after s (send_answer E toc sends.images request s (started_session b)).moves)) layout
@@ -111,18 +125,18 @@ module _ (held : Directory) (file name : List ℕ) (request : ℕ) (b : Started)
 
   module _ (installs : (s : State) (x : Session) → Shows old s x → OnOk result (Installs (Some held) name toc request new s)) where
     installed : is_ok result ≡ true → (s : State) → IsShown b.layout old.told.now s
-        → HasInstalled b.layout (images_of b.layout.rows file toc) request s new.told
+        → (now : State) × IsShown b.layout new.told.now now
+        × IsInstalled (images_of b.layout.rows file toc) (replicate (length b.layout.rows) (request == 0)) s now
     installed ok s shown =
         let i = from_done result ok (installs s (started_session b) (before s shown)) in
         let layout = layout-after s shown in
         let images : i.images ≡ images_of b.layout.rows file toc =
-        i.read file there ∙ ap (λ (L : Layout). images_of L.rows file toc) layout in
-        record {
-          now = i.now;
-          shown = subst (λ (L : Layout). IsShown L new.told.now i.now) layout (sees (flash_done result ok) i.now i.session i.shows);
-          installed = subst (λ (p : List (List ℕ)). IsInstalled p (replicate (length b.layout.rows) (request == 0)) s i.now) images
-              (subst (λ (L : Layout). IsInstalled i.images (replicate (length L.rows) (request == 0)) s i.now) layout i.installed);
-        }
+        i.read file there ∙ ap (λ (L : Layout). images_of L.rows file toc) layout in (
+          i.now,
+          subst (λ (L : Layout). IsShown L new.told.now i.now) layout (sees (flash_done result ok) i.now i.session i.shows),
+          subst (λ (p : List (List ℕ)). IsInstalled p (replicate (length b.layout.rows) (request == 0)) s i.now) images
+              (subst (λ (L : Layout). IsInstalled i.images (replicate (length L.rows) (request == 0)) s i.now) layout i.installed),
+        )
 
     pub package_sent : FaultsBy (first_image_fault old.fields.layout.rows toc) result → (IsEarlySend result → new.told ≡ old.told)
         → SendsPackage file request b result old.told new.told

@@ -1,27 +1,20 @@
 -- What a call promises that tells steps, whatever it is asked for.
 use Rattle.std.proofs.Common.{◌≡◌, ◌⊎◌, ◌==◌, inl, inr, refl, ap, ℕ, ◌≤◌, ◌*◌, Bool, List, All, drop, length, take, arith}
-use Rattle.fwu_c.specs.{Reports.SameStart, declared.report.Report.Report}
-use Rattle.fwu_c.specs.Handed.{IsJustMade, LieAsCounted, HasFlashSize, IsDeviceEnd, IsUntouched, KeepsReport, TellsSteps, is_idle_number, starts_none, unmade_code}
+use Rattle.fwu_c.specs.declared.report.Report.{Report}
+use Rattle.fwu_c.specs.Handed.{IsJustMade, HasFlashSize, IsDeviceEnd, KeepsReport, TellsSteps, is_idle_number, starts_none, unmade_code}
 use Rattle.std.specs.Prelude.{◌↔◌, ◌||◌, IsTrue}
 use Rattle.step_flash.specs.{declared.step.Step.Step, declared.flash.Unmade.Unmade, Unmade.IsUnmade, Writes.LiesWithin}
-use Rattle.step_flash.specs.{declared.flash.StepFlash.StepFlash, Flash.flash_sizes, Flash.image_of, Flash.writes_of}
+use Rattle.step_flash.specs.{Device.LieAsCounted, declared.flash.StepFlash.StepFlash, Flash.device_in, Flash.image_of, Flash.writes_of}
 use Rattle.step_flash.specs.declared.flash.Unmade.TheVariants.{NoFlash, NoMemory}
 use Rattle.base_core.specs.Block.{block_bytes}
 use Rattle.flash_core.specs.Touches.{TouchesOnly}
 use Rattle.fwu_c.proofs.Booting.{counted_from_none}
 
-stays : (r : Report) (steps : List Step) (room : List ℕ) → IsUntouched r steps room r steps room
-stays r steps room = record { report_stays = refl; steps_stay = refl; room_stays = refl }
-
--- a start was not told
-same_start : (r : Report) (fault : ℕ) → SameStart r (record r { layout_fault = fault })
-same_start r fault = assumption refl
-
 pub keeps_stays : (number : ℕ) (r : Report) → KeepsReport number r r
 keeps_stays number r = record {
   fault = λ other. refl;
   banks = λ idle. (refl, refl);
-  start = λ none. same_start r r.layout_fault;
+  start = λ none. refl;
 }
 
 pub idle_starts : (number : ℕ) → IsTrue (is_idle_number number) → IsTrue (starts_none number)
@@ -48,11 +41,11 @@ lie_further low near far steps more all = λ k d lt. elim (all k d lt) [
 
 -- those of a device that wrote some of the first eight blocks alone
 pub lie_inside : (file : List ℕ) (first d : StepFlash) (last : ℕ) (steps : List Step) → IsJustMade file first → last ≤ 8
-    → TouchesOnly block_bytes (block_bytes * last) (writes_of first) (writes_of d) → LieAsCounted d steps
+    → TouchesOnly block_bytes (block_bytes * last) (writes_of first) (writes_of d) → LieAsCounted (device_in d) steps
     → All (LiesWithin block_bytes (length (image_of first))) steps
 lie_inside file first d last steps made few touches lie =
-    let blocks = (flash_sizes first).0 in
-    lie_further block_bytes (block_bytes * last) _ steps (omega (arith, few, made.size, blocks))
+    let s = first.device.value in
+    lie_further block_bytes (block_bytes * last) _ steps (omega (arith, few, s.size, s.sizes.0))
     (lie.places 1 last (counted_from_none block_bytes (block_bytes * last) made.unwritten touches))
 
 -- 6 comes of all bytes that are no flash, and of no others
@@ -77,7 +70,7 @@ told_none image number r steps room either no_flash = record {
   spared = λ six seven. absurd (grind arith);
   behind = (refl, refl);
   no_flash = no_flash;
-  untouched = λ either. stays r steps room;
+  untouched = λ either. (refl, refl, refl);
 }
 
 pub told_no_room : (image : List ℕ) (r : Report) (steps : List Step) (room : List ℕ) → HasFlashSize image
@@ -95,7 +88,7 @@ told_unmade image why number r steps room unmade is =
 pub told_handed : (image : List ℕ) (result number : ℕ) (old : Report) (old_steps : List Step) (old_room : List ℕ) (new : Report) (steps : List Step)
     (room : List ℕ) → HasFlashSize image → IsDeviceEnd number → (result ≡ number) ⊎ (result ≡ 7) → (IsTrue (is_idle_number result) → (new.steps ≡ 0) × (new.bytes ≡ 0))
     → KeepsReport result old new → ((result ≡ 7 → ⊥) → All (LiesWithin block_bytes (length image)) (take new.steps steps))
-    → (drop new.steps steps ≡ drop new.steps old_steps) × (drop new.bytes room ≡ drop new.bytes old_room) → (result ≡ 5 → new.steps ≡ length old_steps) → (result ≡ 7 → IsUntouched old old_steps old_room new steps room)
+    → (drop new.steps steps ≡ drop new.steps old_steps) × (drop new.bytes room ≡ drop new.bytes old_room) → (result ≡ 5 → new.steps ≡ length old_steps) → (result ≡ 7 → (new ≡ old) × (steps ≡ old_steps) × (room ≡ old_room))
     → TellsSteps image result old old_steps old_room new steps room
 told_handed image result number old old_steps old_room new steps room is end same idle kept spared behind full untouched =
     let not_four : result ≡ 4 → ⊥ = grind arith in

@@ -1,5 +1,5 @@
 -- An update, by what its device tells and by its steps.
-use Rattle.std.proofs.Common.{Bool, ◌≡◌, ◌∙◌, inl, refl, ℕ, ◌+◌, ◌*◌, List, length, Some, None, Ok, Err, ap, sym, subst, take, arith, get_or}
+use Rattle.std.proofs.Common.{Bool, ◌≡◌, ◌∙◌, inl, refl, ℕ, ◌+◌, ◌*◌, ◌≤◌, List, length, Some, None, Ok, Err, ap, subst, take, arith, get_or}
 use Rattle.std.proofs.Math.ListN.{get_or-map}
 use Rattle.std.specs.Prelude.{All, IsTrue, IsFalse}
 use Rattle.base_core.specs.Block.{block_bytes}
@@ -10,20 +10,20 @@ use Rattle.fwu_formats.specs.Layout.{Layout, fits_layout, start}
 use Rattle.fwu_model.specs.State.{State, Numbers, Bank, bank, no_bank, numbers_of, is_valid}
 use Rattle.fwu_model.specs.Seen.{seen}
 use Rattle.moves.specs.Moved.{IsShown}
+use Rattle.moves.proofs.Agree.{layout-kept}
 use Rattle.early_boot.specs.{Numbers.ShowsNumbers, Started.Started, Ends.Ended, Ends.booted, EndsBy.BootEnds}
 use Rattle.step_flash.specs.{declared.step.Step.Step, declared.flash.StepFlash.StepFlash, Flash.block_count, Flash.image_of}
-use Rattle.step_flash.specs.{Flash.told_of, Flash.writes_of, Guard.start_with, Steps.run_with, Writes.LiesWithin}
-use Rattle.step_flash.proofs.Room.{no_room_bytes}
-use Rattle.fwu_c.specs.{declared.report.Report.Report, Agents.BeginsAgent}
+use Rattle.step_flash.specs.{Flash.told_of, Flash.writes_of, Guard.start_with, Writes.LiesWithin}
+use Rattle.fwu_c.specs.{declared.report.Report.Report, Agents.BeginsAgent, Codes.end_code}
 use Rattle.fwu_c.specs.Handed.{HandsOver, IsJustMade, HasFlashSize, IsDeviceEnd, TellsSteps, boot_reach, starts_none}
-use Rattle.fwu_c.specs.Sendings.{InstallsBy, IsOutcome, SendOutcome, outcome_code}
-use Rattle.fwu_c.specs.Updates.{ReportsBoot, IsOnTrial, ReportsNone, UpdateEnds, Updated, UpdatesBy, on_trial, not_booted, tried, update_code, ReportsUpdate, SparesInUse}
-use Rattle.update_client.specs.declared.stops.SendStop.TheVariants.{ReadFailed, Lost, Gone}
+use Rattle.fwu_c.specs.Sendings.{InstallsBy, SendOutcome, outcome_code}
+use Rattle.fwu_c.specs.Updates.{BootsUp, IsOnTrial, SparesInUse, UpdateEnds, UpdatesBy}
+use Rattle.update_client.specs.declared.stops.SendStop.TheVariants.{ReadFailed}
 use Rattle.agent_machine.specs.{Moment.Moment, Beside.IsSparedByAll, Beside.SparesBlocksByAll}
 use Rattle.fwu_formats.proofs.Read.{layout-fits}
 use Rattle.fwu_c.proofs.{Calls.setting_of, Telling.keeps_fault, Telling.lie_further, Telling.told_handed}
 use Rattle.fwu_c.proofs.Places.{has-blocks, in-use-unwritten, marks-spared, update-touches}
-use Rattle.fwu_c.proofs.Booting.{beside_marks_by, code_few, counted_from_none, end_same, guard_kept, over, start_same}
+use Rattle.fwu_c.proofs.Booting.{beside_marks_by, code_few, counted_from_none, end_same, guard_kept, lies_over, over}
 
 -- ---- trials
 
@@ -52,20 +52,13 @@ start_now image file t made = ap (λ (x : Told). x.now) made
 
 -- ---- numbers
 
--- a known outcome has none of the numbers 4, 6 and 7
-pub outcome_end_is : (outcome : SendOutcome) → IsOutcome outcome → IsDeviceEnd (outcome_code outcome)
-outcome_end_is (Some (Err ReadFailed)) is = absurd is
-outcome_end_is (Some (Err Lost)) is = absurd is
-outcome_end_is (Some (Err Gone)) is = absurd is
-outcome_end_is outcome is = grind arith
-
 pub outcome_starts : (outcome : SendOutcome) → IsTrue (starts_none (outcome_code outcome)) → ⊥
 outcome_starts (Some (Err ReadFailed)) none = absurd (cc)
 outcome_starts outcome none = absurd (cc)
 
--- a boot that started none has none of these either
-pub none_end_is : (number : ℕ) (first left : StepFlash) (old r : Report) → ReportsNone number first left old r → IsDeviceEnd number
-none_end_is number first left old r none = grind (arith, none.unlost, none.number_is, code_few none.end)
+-- a boot has none of the numbers 4, 6 and 7
+pub boots_end_is : (e : Ended) (number : ℕ) (first left : StepFlash) (old r : Report) → BootsUp e number first left old r → IsDeviceEnd number
+boots_end_is e number first left old r boots = grind (arith, boots.unlost, boots.number_is, code_few e)
 
 -- an update is refused before it boots
 pub told_denied : (image : List ℕ) (r : Report) (steps : List Step) (room : List ℕ) → HasFlashSize image
@@ -92,89 +85,70 @@ pub sending_spares : (b : Started) (m : Moment) (gone : Bool) (mid d : StepFlash
 sending_spares b m gone mid d begins touches k spared =
     touches k (rw (begins.from.layout, begins.from.boot) spared)
 
+-- where the boot started no bank
+none_ends : (file : List ℕ) (request : ℕ) (e : Ended) (number : ℕ) (t : Told) → number ≡ end_code e → 1 ≤ number
+    → UpdateEnds file request e number t t
+none_ends file request (booted b n) number t is some = absurd (omega (arith, is, some))
+none_ends file request e number t is some = (is, refl)
+
+none_spared : (e : Ended) (steps : List Step) → 1 ≤ end_code e → All (LiesWithin block_bytes boot_reach) steps → SparesInUse e steps
+none_spared (booted b n) steps some lie = absurd (omega (arith, some))
+none_spared e steps some lie = lie
+
 module _ (file : List ℕ) (request : ℕ) (first d : StepFlash) (made : IsJustMade file first) (number : ℕ) (old told r : Report)
     (steps : List Step) (room : List ℕ) (hands : HandsOver d told r steps room) where
-  updates_by : (e : Updated) → (told_of d).guard ≡ (told_of first).guard
-      → UpdateEnds (image_of first) file request e (told_of d) → SparesInUse e (take r.steps steps)
-      → writes_of d counter_block ≡ 0 → number ≡ update_code e → ReportsUpdate e old r
-      → UpdatesBy (image_of first) file request number old r steps room
-  updates_by e kept ends spared still is reports =
-      let o = over file first d told r steps room made kept hands in
-      record {
-        end = e;
-        number_is = is;
-        t = told_of d;
-        ends = ends;
-        left = o.left;
-        within = o.within;
-        doable = o.doable;
-        spared = spared;
-        beside_marks = beside_marks_by d _ hands.lie still;
-        reports = reports;
-      }
-
-  -- from the image
-  begins : (e : Ended) (t : Told) → BootEnds (λ m. passes_any m) (told_of first) e t
-      → BootEnds (λ m. passes_any m) (start_with (image_of first) file) e t
-  begins e t ends = subst (λ (x : Told). BootEnds (λ m. passes_any m) x e t) made.fresh ends
+  updates_by : (e : Ended) (given : ℕ) (mid : StepFlash) → BootsUp e given first mid old told → (told_of d).guard ≡ (told_of mid).guard
+      → UpdateEnds file request e number (told_of mid) (told_of d) → SparesInUse e (take r.steps steps)
+      → writes_of d counter_block ≡ writes_of mid counter_block → UpdatesBy (image_of first) file request number old r steps room
+  updates_by e given mid boots guard ends spared still = record {
+    end = e;
+    mid = told_of mid;
+    boots = subst (λ (x : Told). BootEnds (λ m. passes_any m) x e (told_of mid)) made.fresh boots.ends;
+    t = told_of d;
+    ends = ends;
+    made = over file first d told r steps room made
+        (guard ∙ guard_kept (told_of first) (told_of mid) e boots.ends.by_bytes) hands;
+    spared = spared;
+    beside_marks = beside_marks_by d _ hands.lie (still ∙ boots.marks_still ∙ made.unwritten counter_block);
+    reports = end_same e old told r hands.same boots.reports;
+  }
 
   -- the boot started no bank
-  pub unbooted_by : (given : ℕ) → ReportsNone given first d old told → number ≡ given
+  pub unbooted_by : (given : ℕ) (e : Ended) → BootsUp e given first d old told → 1 ≤ given → number ≡ given
       → UpdatesBy (image_of first) file request number old r steps room
-  unbooted_by given none is =
-      updates_by (not_booted none.end) (guard_kept (told_of first) (told_of d) none.end none.boots.by_bytes)
-      (none.is, begins none.end (told_of d) none.boots)
-      (hands.lie.places 1 7 (counted_from_none block_bytes boot_reach made.unwritten none.touches))
-      (none.marks_still ∙ made.unwritten counter_block) (is ∙ none.number_is)
-      (end_same none.end old told r hands.same none.reports)
+  unbooted_by given e boots some is =
+      updates_by e given d boots refl
+      (none_ends file request e number (told_of d) (is ∙ boots.number_is) (omega (arith, some, is)))
+      (none_spared e _ (omega (arith, some, boots.number_is))
+      (hands.lie.places 1 7 (counted_from_none block_bytes boot_reach made.unwritten boots.touches))) refl
 
-  module _ (mid : StepFlash) (b : Started) (boots : ReportsBoot b first mid old told)
-      (sent : SendingSpares b mid d) where
+  module _ (mid : StepFlash) (b : Started) (n : Numbers) (boots : BootsUp (booted b n) 0 first mid old told)
+      (sent : SendingSpares b mid d) (outcome : SendOutcome) (installs : InstallsBy file request b outcome (told_of mid) (told_of d)) where
+    layout : layout_seen (told_of mid).now ≡ Ok b.layout
+    layout =
+        layout-kept b.layout _ _ (told_of first) (told_of mid) (omega arith) boots.ends.by_bytes.others boots.ends.by_bytes.chose.has_layout
+
     fits : IsTrue (fits_layout b.layout)
-    fits = layout-fits _ _ b.layout boots.layout
+    fits = layout-fits _ _ b.layout layout
+
+    guard : (told_of d).guard ≡ (told_of mid).guard
+    guard =
+        let shows = boots.ends.by_bytes.shows in
+        guard_by file request b outcome (told_of mid) (told_of d) shows.0 (record { layout = layout; shows = shows.1 }) installs
 
     -- where the steps behind a boot of a bank lie: behind block 0
-    pub tried_places : block_count d ≡ block_count mid → All (LiesWithin block_bytes (length (image_of first))) (take r.steps steps)
-    tried_places size =
+    pub tried_places : All (LiesWithin block_bytes (length (image_of first))) (take r.steps steps)
+    tried_places =
         let touches = update-touches b.layout b.bank fits first mid d made.unwritten boots.touches sent in
+        let both = lies_over file first d made (guard ∙ guard_kept (told_of first) (told_of mid) (booted b n) boots.ends.by_bytes) in
+        let long = ap (λ (i : List ℕ). length i) both.0 in
         lie_further block_bytes (block_bytes * block_count d) (length (image_of first)) _
-        (omega (arith, made.size, size, boots.size)) (hands.lie.places 1 (block_count d) touches)
+        (omega (arith, d.device.value.size, long)) (hands.lie.places 1 (block_count d) touches)
 
     -- a bank was started, and the package tried
-    pub tried_by : (outcome : SendOutcome) → InstallsBy file request b outcome (told_of mid) (told_of d)
-        → number ≡ outcome_code outcome → UpdatesBy (image_of first) file request number old r steps room
-    tried_by outcome installs is =
-        let bytes = boots.ends.by_bytes in
-        let e = booted b boots.numbers in
-        let shown : IsShown b.layout (told_of mid).now bytes.shows.0 =
-        record { layout = boots.layout; shows = bytes.shows.1 } in
-        updates_by (tried b boots.numbers outcome)
-        (guard_by file request b outcome (told_of mid) (told_of d) bytes.shows.0 shown installs
-        ∙ guard_kept (told_of first) (told_of mid) e bytes)
-        (record { mid = told_of mid; boots = begins e (told_of mid) boots.ends; installs = installs })
+    pub tried_by : number ≡ outcome_code outcome → UpdatesBy (image_of first) file request number old r steps room
+    tried_by is =
+        updates_by (booted b n) 0 mid boots guard (outcome, is, installs)
         (hands.lie.beside (start b.layout b.bank 0) (start b.layout (b.bank + 1) 0) (has-blocks b.layout b.bank fits)
         (in-use-unwritten b.layout b.bank fits first mid d made.unwritten boots.touches sent))
-        (sent counter_block (marks-spared b.layout b.bank fits) ∙ boots.marks_still ∙ made.unwritten counter_block) is
-        (start_same b told r hands.same boots.reports)
-
--- nothing was tried
-pub denied_by : (image file : List ℕ) (request : ℕ) (r : Report) (steps : List Step) (room : List ℕ) → IsOnTrial image
-    → UpdatesBy image file request 16 r (record r { steps = 0; bytes = 0 }) steps room
-unfolding run_with fresh
-denied_by image file request r steps room trial = record {
-  end = on_trial;
-  number_is = refl;
-  t = start_with image file;
-  ends = (trial, refl);
-  left = refl;
-  within = record {
-    steps_fit = omega arith;
-    bytes_fit = omega arith;
-    inside = λ k d lt. absurd (omega (arith, lt));
-    theirs = sym no_room_bytes;
-  };
-  doable = tt;
-  spared = tt;
-  beside_marks = λ k d lt. absurd (omega (arith, lt));
-  reports = (refl, refl);
-}
+        (sent counter_block (marks-spared b.layout b.bank fits))

@@ -1,8 +1,7 @@
 -- The numbers that a caller in C is told.
-use Rattle.std.specs.Prelude.{ℕ, nat_lt, if◌then◌else◌, List, Option, Some, None, Result, Ok, Err}
+use Rattle.std.specs.Prelude.{ℕ, nat_lt, if◌then◌else◌, Result, Ok, Err}
 use Rattle.early_boot.specs.Ends.{Ended, booted, bad_layout, no_metadata, no_bank, lost, failed}
-use Rattle.fwu_formats.specs.{Layout.Layout, declared.kinds.FipFault.FipFault, declared.kinds.LayoutFault.LayoutFault}
-use Rattle.fwu_formats.specs.Package.{Toc, Entry, entry_of}
+use Rattle.fwu_formats.specs.{Layout.Layout, declared.kinds.LayoutFault.LayoutFault}
 use Rattle.fwu_formats.specs.declared.kinds.LayoutFault.TheVariants.{Short, BadMagic, BadSize, BadCrc, BadField, BeyondFlash}
 
 -- the number of a boot's end
@@ -32,13 +31,3 @@ layout_code (Err f) = fault_code f
 abbrev pub slots_code : ℕ → Result Layout LayoutFault → ℕ
 slots_code bank (Err f) = fault_code f
 slots_code bank (Ok L) = if nat_lt bank L.banks then 0 else 7
-
--- 0: there; 1: the package has no entry of the type
-abbrev pub found_code : Option Entry → ℕ
-found_code (Some e) = 0
-found_code None = 1
-
--- 2: it is no package
-abbrev pub find_code : List ℕ → Result Toc FipFault → ℕ
-find_code guid (Err f) = 2
-find_code guid (Ok toc) = found_code (entry_of toc guid)

@@ -5,15 +5,15 @@ use Rattle.fwu_formats.specs.{declared.kinds.LayoutFault.LayoutFault, declared.k
 use Rattle.fwu_formats.specs.Package.{Toc, Entry, entry_of}
 use Rattle.fwu_c.specs.declared.packages.Place.{Place}
 
--- the entry of a type, where the bytes are a package
-abbrev pub entry_found : List ℕ → Result Toc FipFault → Option Entry
-entry_found guid (Err f) = None
-entry_found guid (Ok toc) = entry_of toc guid
+-- 0: there is an entry, whose place is told; 1: there is none, and the place stays
+abbrev pub FindsEntry : Option Entry → ℕ → Place → Place → Type 0
+FindsEntry (Some e) number old new = (number ≡ 0) × (new.offset ≡ e.offset) × (new.size ≡ e.size)
+FindsEntry None number old new = (number ≡ 1) × (new ≡ old)
 
--- its place is told, where there is one; else the place stays
-abbrev pub TellsPlace : Option Entry → Place → Place → Type 0
-TellsPlace (Some e) old new = (new.offset ≡ e.offset) × (new.size ≡ e.size)
-TellsPlace None old new = new ≡ old
+-- 2: the bytes are no package
+abbrev pub FindsIn : List ℕ → Result Toc FipFault → ℕ → Place → Place → Type 0
+FindsIn guid (Err f) number old new = (number ≡ 2) × (new ≡ old)
+FindsIn guid (Ok toc) number old new = FindsEntry (entry_of toc guid) number old new
 
 abbrev pub security_of : Result Manifest ManifestFault → Option ℕ
 security_of (Err f) = None

@@ -1,7 +1,7 @@
 -- What is reported of a start.
 use Rattle.std.specs.Prelude.{◌≡◌, if◌then◌else◌, length, take, ⊤}
 use Rattle.early_boot.specs.Started.{Started}
-use Rattle.early_boot.specs.Ends.{Ended, booted, bad_layout, no_metadata, no_bank, lost, failed}
+use Rattle.early_boot.specs.Ends.{Ended, booted, bad_layout, no_metadata, no_bank}
 use Rattle.fwu_c.specs.{Codes.fault_code, declared.report.Report.Report}
 
 -- each field is that of the start
@@ -16,27 +16,14 @@ pub record ReportsStart (b : Started) (r : Report) : Type 0 where
   pub images : r.images ≡ length b.layout.rows
   pub lengths : take r.images r.lengths ≡ b.lengths
 
--- what a start writes but the banks
-pub record SameStart (old new : Report) : Type 0 where
-  pub bank : new.bank ≡ old.bank
-  pub version : new.version ≡ old.version
-  pub trials : new.trials ≡ old.trials
-  pub counter : new.counter ≡ old.counter
-  pub fallback : new.fallback ≡ old.fallback
-  pub images : new.images ≡ old.images
-  pub lengths : new.lengths ≡ old.lengths
+-- nothing but the numbers of steps and of bytes changed
+abbrev pub SameBut : Report → Report → Type 0
+SameBut old new = new ≡ record old { steps = new.steps; bytes = new.bytes }
 
--- what a start writes, as it was before
-pub record SameStarts (old new : Report) : Type 0 where
-  pub start : SameStart old new
-  pub active : new.active ≡ old.active
-  pub previous : new.previous ≡ old.previous
-
--- Each end has its own fields. A stop has none, and what a start writes is then as it was before.
+-- Each end has its own fields. A stop has none.
 abbrev pub ReportsEnd : Ended → Report → Report → Type 0
 ReportsEnd (booted b n) old r = ReportsStart b r
 ReportsEnd (bad_layout f) old r = r.layout_fault ≡ fault_code f
 ReportsEnd no_metadata old r = ⊤
 ReportsEnd (no_bank active previous) old r = (r.active ≡ active) × (r.previous ≡ previous)
-ReportsEnd (lost n) old r = SameStarts old r
-ReportsEnd (failed n) old r = SameStarts old r
+ReportsEnd stopped old r = SameBut old r

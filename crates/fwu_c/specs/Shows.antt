@@ -7,7 +7,7 @@ use Rattle.fwu_formats.specs.declared.kinds.BankState.TheVariants.{Invalid, Vali
 use Rattle.fwu_model.specs.State.{Numbers}
 use Rattle.image_check.specs.{declared.bank.Verdict.Verdict, Verdict.verdict_on}
 use Rattle.image_check.specs.declared.bank.Verdict.TheVariants.{Good, BadManifest, NotAccepted, BadImage, BelowCounter}
-use Rattle.early_boot.specs.Numbers.{AreNumbers, ShowsNumbers}
+use Rattle.early_boot.specs.Numbers.{ShowsNumbers}
 use Rattle.fwu_c.specs.{Codes.fault_code, Handed.HasFlashSize, declared.show.BankShown.BankShown}
 use Rattle.fwu_c.specs.declared.show.FlashShown.{FlashShown}
 
@@ -26,18 +26,13 @@ verdict_code (BelowCounter version counter) = 4
 -- the version of a complete package, else 0
 abbrev pub version_told : Verdict → ℕ
 version_told (Good version) = version
-version_told BadManifest = 0
-version_told NotAccepted = 0
-version_told (BadImage image) = 0
 version_told (BelowCounter version counter) = version
+version_told other = 0
 
 -- the lowest bad image, else 0
 abbrev pub image_told : Verdict → ℕ
-image_told (Good version) = 0
-image_told BadManifest = 0
-image_told NotAccepted = 0
 image_told (BadImage image) = image
-image_told (BelowCounter version counter) = 0
+image_told other = 0
 
 -- 1 for each image that was accepted, and 0 for each other of 16
 abbrev pub bits_of : List Bool → List ℕ
@@ -75,12 +70,6 @@ pub record ShowsAll (image : List ℕ) (s : FlashShown) : Type 0 where
   pub shows : ShowsNumbers image numbers
   pub tells : TellsNumbers layout numbers s
   pub banks : TellsBanks image layout numbers s
-
--- the image has this layout, and shows these numbers, which are numbers of a flash
-pub record ShowsWith (image : List ℕ) (L : Layout) (n : Numbers) : Type 0 where
-  pub layout : layout_seen image ≡ Ok L
-  pub shows : ShowsNumbers image n
-  pub are : AreNumbers n
 
 -- 0: what the image shows; 1: the first fault of its layout; 2: neither replica is metadata of the layout
 abbrev pub ShowsBy : List ℕ → ℕ → FlashShown → Type 0

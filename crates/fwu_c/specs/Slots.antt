@@ -1,9 +1,7 @@
 -- Where a bank keeps its images.
-use Rattle.std.specs.Prelude.{◌≡◌, ℕ, ◌*◌, nat_lt, if◌then◌else◌, drop, length, take, slice_index_or}
-use Rattle.std.specs.Prelude.{Option, Some, None, Result, Ok, Err}
+use Rattle.std.specs.Prelude.{◌≡◌, ℕ, ◌*◌, drop, length, take, slice_index_or}
 use Rattle.base_core.specs.{Block.block_bytes, Bytes.listed}
 use Rattle.fwu_formats.specs.Layout.{Layout, no_row, slot_bytes, start}
-use Rattle.fwu_formats.specs.declared.kinds.LayoutFault.{LayoutFault}
 use Rattle.fwu_c.specs.{declared.slots.Slot.Slot, declared.slots.Slots.Slots}
 
 -- the slot of an image of a bank, in bytes
@@ -13,11 +11,6 @@ slot_of L bank image = record {
   offset = block_bytes * start L bank image;
   size = slot_bytes L image;
 }
-
--- the layout, where it has the bank
-abbrev pub layout_with : ℕ → Result Layout LayoutFault → Option Layout
-layout_with bank (Err f) = None
-layout_with bank (Ok L) = if nat_lt bank L.banks then Some L else None
 
 -- the bank's slots, in the order of the layout
 pub record TellsSlots (L : Layout) (bank : ℕ) (old s : Slots) : Type 0 where

@@ -1,7 +1,7 @@
 //! The calls of the agent on a flash that lies in memory.
 ghost use Rattle.fwu_model.specs.Call.{Accepts, Previous};
-ghost use Rattle.fwu_c.specs.Calls.{CallsBy, TellsCall};
-ghost use Rattle.fwu_c.specs.Handed.{TellsSteps};
+ghost use Rattle.fwu_c.specs.Calls.{CallsBy};
+ghost use Rattle.fwu_c.specs.Handed.{TellsAnswer, TellsSteps};
 
 use crate::calling::{AgentCall, BankCall, call_on};
 use crate::report::Report;
@@ -26,7 +26,8 @@ pub extern "C" fn fwu_accept(
     room: &mut [u8],
     report: &mut Report,
 ) -> u32
-    ensures accepts { TellsCall result → CallsBy image.now bank (Accepts guid.now) result report.old report.new steps.new room.new }
+    ensures accepts { TellsAnswer result →
+        CallsBy image.now bank (Accepts guid.now) result report.old report.new steps.new room.new }
     // Whatever it answers: no loss of power, no erase or program in block 0, which fields stay, and at 1, 2, 5 to 7 and 21 what
     // that number says.
     ensures tells { TellsSteps image.now result report.old steps.old room.old report.new steps.new room.new }
@@ -52,7 +53,7 @@ pub extern "C" fn fwu_previous(
     room: &mut [u8],
     report: &mut Report,
 ) -> u32
-    ensures selects { TellsCall result → CallsBy image.now bank Previous result report.old report.new steps.new room.new }
+    ensures selects { TellsAnswer result → CallsBy image.now bank Previous result report.old report.new steps.new room.new }
     // Whatever it answers: no loss of power, no erase or program in block 0, which fields stay, and at 1, 2, 5 to 7 and 21 what
     // that number says.
     ensures tells { TellsSteps image.now result report.old steps.old room.old report.new steps.new room.new }

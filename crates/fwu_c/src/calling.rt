@@ -4,15 +4,16 @@ ghost use Rattle.base_core.specs.Block.{block_bytes};
 ghost use Rattle.fwu_formats.specs.Digests.{passes_any};
 ghost use Rattle.fwu_model.specs.Reply.{Success};
 ghost use Rattle.early_boot.specs.Started.{Started, started};
+ghost use Rattle.early_boot.specs.TakenUp.{TakenUp, stopped, taken};
 ghost use Rattle.early_boot.specs.Started as boot;
 ghost use Rattle.agent_machine.specs.Meets.{IsRefused, Meets};
 ghost use Rattle.agent_calls.specs.Shown.{AgentGoes, device, fields, gone, moment};
 ghost use Rattle.agent_calls.specs.Started.{StartsFrom};
 ghost use Rattle.step_flash.specs.Flash.{image_of, is_on, told_of, writes_of};
 ghost use Rattle.flash_core.specs.Touches.{TouchesOnly};
-ghost use Rattle.fwu_c.specs.Calls.{CalledBy, CallsBy, IsAccepted, RefusesCall, TakesUpBank, TakesUp, TellsCall};
-ghost use Rattle.fwu_c.specs.Calls.{call_code, call_of, status_code, stop_code};
-ghost use Rattle.fwu_c.specs.Handed.{IsJustMade, TellsSteps, call_reach};
+ghost use Rattle.fwu_c.specs.Agents.{BeginsAgent};
+ghost use Rattle.fwu_c.specs.Calls.{CallsBy, CallsFrom, IsAccepted, TakesUp, call_code, call_of, status_code, take_up_code};
+ghost use Rattle.fwu_c.specs.Handed.{IsDeviceEnd, IsJustMade, TellsAnswer, TellsSteps, call_reach};
 
 use crate::handing::{hand_over, unmade_number};
 use crate::kept_agent::{agent_of, flash_from};
@@ -72,7 +73,7 @@ fn call_number(done: &Result<(), Stop>) -> u32
 
 /// The number of a stop.
 fn stop_number(stop: FlashStop) -> u32
-    ensures { result ≡ stop_code stop }
+    ensures { result ≡ take_up_code (stopped stop) }
 {
     match stop {
         FlashStop::Lost => 4,
@@ -94,8 +95,8 @@ fn taken_up<'a>(
     requires on { is_on flash ≡ true }
     requires room { block_bytes ≤ length block.old }
     ensures { IfSome result (λ end. MatchResult end
-        (λ b. TakesUpBank bank (started b.value) flash.entry (boot.device b.value) told.old told.new)
-        (λ e. RefusesCall bank e.1 flash.entry e.0 told.old told.new)) }
+        (λ b. TakesUp bank (taken (started b.value)) 0 flash.entry (boot.device b.value) told.old told.new)
+        (λ e. (1 ≤ e.1) × (end : TakenUp) × TakesUp bank end e.1 flash.entry e.0 told.old told.new)) }
 {
     match take_up(
         flash,
@@ -132,8 +133,9 @@ fn agent_taken_up<'a>(
     requires on { is_on flash ≡ true }
     requires room { block_bytes ≤ length block.old }
     ensures { IfSome result (λ end. MatchResult end
-        (λ a. TakesUp bank flash.entry (device a.value) (moment a.value) (gone a.value) told.old told.new)
-        (λ e. RefusesCall bank e.1 flash.entry e.0 told.old told.new)) }
+        (λ a. (b : Started) × BeginsAgent b (moment a.value) (gone a.value)
+        × TakesUp bank (taken b) 0 flash.entry (device a.value) told.old told.new)
+        (λ e. (1 ≤ e.1) × (end : TakenUp) × TakesUp bank end e.1 flash.entry e.0 told.old told.new)) }
 {
     match taken_up(alloc, flash, bank, block, told) {
         Some(Ok(booted)) => match agent_of(alloc, booted) {
@@ -167,7 +169,10 @@ fn called<'a>(
     call: AgentCall,
 ) -> (StepFlash<'a>, Result<(), Stop>)
     requires here { IsFalse (gone agent.value) }
-    ensures { CalledBy (call_of call) agent.entry.value result.0 result.1 }
+    ensures calls { (b : Started) → BeginsAgent b (moment agent.entry.value) (gone agent.entry.value) →
+        CallsFrom (call_of call) b result.1 (told_of (device agent.entry.value)) (told_of result.0) }
+    ensures ends { IsDeviceEnd (call_code result.1) }
+    ensures touches { TouchesOnly block_bytes call_reach (writes_of (device agent.entry.value)) (writes_of result.0) }
 {
     let mut agent = agent;
     let done = ask(&mut agent, call);
@@ -184,7 +189,7 @@ pub fn call_on(
     room: &mut [u8],
     report: &mut Report,
 ) -> u32
-    ensures calls { TellsCall result →
+    ensures calls { TellsAnswer result →
         CallsBy image.now asked.bank (call_of asked.call) result report.old report.new steps.new room.new }
     ensures tells { TellsSteps image.now result report.old steps.old room.old report.new steps.new room.new }
 {
@@ -209,7 +214,7 @@ fn call_over(
 ) -> u32
     requires new { IsJustMade [] flash }
     requires block { block_bytes ≤ length block.old.items }
-    ensures calls { TellsCall result →
+    ensures calls { TellsAnswer result →
         CallsBy (image_of flash.entry) asked.bank (call_of asked.call) result report.old report.new steps.new room.new }
     ensures tells { TellsSteps (image_of flash.entry) result report.old steps.old room.old report.new steps.new room.new }
 {

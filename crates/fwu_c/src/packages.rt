@@ -2,8 +2,7 @@
 ghost use Rattle.std.specs.Prelude.{◌≡◌, ◌≤◌, is_some, unwrap_or};
 ghost use Rattle.fwu_formats.specs.Layout.{layout_of};
 ghost use Rattle.fwu_formats.specs.Package.{toc_of};
-ghost use Rattle.fwu_c.specs.Codes.{find_code, found_code};
-ghost use Rattle.fwu_c.specs.Found.{TellsPlace, entry_found, security_version};
+ghost use Rattle.fwu_c.specs.Found.{FindsEntry, FindsIn, security_version};
 
 use base_core::Guid;
 use fip_tables::{Entry, StreamToc};
@@ -24,8 +23,7 @@ const _: () = prove!(size_of::<Place>() == 16);
 
 /// Tells where an entry's payload stands, where there is one. 0: there is one; 1: there is none.
 fn put_place(entry: Option<Entry>, place: &mut Place) -> u32
-    ensures code { result ≡ found_code entry }
-    ensures place { TellsPlace entry place.old place.new }
+    ensures { FindsEntry entry result place.old place.new }
 {
     match entry {
         Some(entry) => {
@@ -41,8 +39,7 @@ fn put_place(entry: Option<Entry>, place: &mut Place) -> u32
 /// no package. At 1 and 2 `place` stays as it was.
 #[unsafe(no_mangle)]
 pub extern "C" fn fwu_find(bytes: &[u8], guid: &[u8; 16], place: &mut Place) -> u32
-    ensures code { result ≡ find_code guid.now (toc_of bytes.now) }
-    ensures place { TellsPlace (entry_found guid.now (toc_of bytes.now)) place.old place.new }
+    ensures { FindsIn guid.now (toc_of bytes.now) result place.old place.new }
 {
     // the table is read where it stands: a fault that `feed` tells is told by `toc` again
     let mut stream = StreamToc::new();

@@ -1,11 +1,11 @@
 //! What a flash shows, and what is found of the package in each bank.
-ghost use Rattle.std.specs.Prelude.{◌≡◌, ◌⊎◌, ◌<◌, ◌≤◌, true, false, drop, length, slice_index_or, IfSome};
+ghost use Rattle.std.specs.Prelude.{◌≡◌, ◌⊎◌, ◌<◌, ◌≤◌, true, false, drop, length, slice_index_or, IfSome, Ok};
 ghost use Rattle.fwu_formats.specs.Metadata.{bit_number};
 ghost use Rattle.base_core.specs.Block.{block_bytes};
 ghost use Rattle.fwu_formats.specs.Image.{layout_seen};
 ghost use Rattle.early_boot.specs.Numbers.{AreNumbers, ShowsNumbers, numbers};
 ghost use Rattle.fwu_c.specs.Handed.{HasFlashSize};
-ghost use Rattle.fwu_c.specs.Shows.{ShowsBy, ShowsWith, TellsBanks, TellsNumbers, TellsShown, bank_shown, bits_of};
+ghost use Rattle.fwu_c.specs.Shows.{ShowsBy, TellsBanks, TellsNumbers, TellsShown, bank_shown, bits_of};
 ghost use Rattle.fwu_c.specs.Shows.{image_told, state_code, verdict_code, version_told};
 
 use crate::handing::unmade_number;
@@ -157,7 +157,9 @@ fn show_banks(
     shown: &mut FlashShown,
 ) -> bool
     requires room { length block.old ≡ block_bytes }
-    requires shown { ShowsWith image.now layout.now (numbers read.now) }
+    requires layout { layout_seen image.now ≡ Ok layout.now }
+    requires numbers { ShowsNumbers image.now (numbers read.now) }
+    requires are { AreNumbers (numbers read.now) }
     requires told { TellsNumbers layout.now (numbers read.now) shown.old }
     ensures banks { result ≡ true → TellsBanks image.now layout.now (numbers read.now) shown.new }
     ensures behind { result ≡ true → drop shown.new.banks shown.new.bank ≡ drop shown.new.banks shown.old.bank }
@@ -183,7 +185,9 @@ fn find_bank(
     block: &mut [u8],
 ) -> Option<BankShown>
     requires room { block_bytes ≤ length block.old }
-    requires shown { ShowsWith image.now layout.now (numbers read.now) }
+    requires layout { layout_seen image.now ≡ Ok layout.now }
+    requires numbers { ShowsNumbers image.now (numbers read.now) }
+    requires are { AreNumbers (numbers read.now) }
     requires bank { bank < length (numbers read.now).states }
     ensures found { IfSome result (λ found. found ≡ bank_shown image.now layout.now (numbers read.now) bank) }
     ensures room { length block.new ≡ length block.old }

@@ -1,8 +1,8 @@
 //! Where a bank keeps its images.
-ghost use Rattle.std.specs.Prelude.{◌≡◌, ◌<◌, ◌≤◌, length, IfSome};
+ghost use Rattle.std.specs.Prelude.{◌≡◌, ◌<◌, ◌≤◌, length, IfOk};
 ghost use Rattle.fwu_formats.specs.Layout.{layout_of};
 ghost use Rattle.fwu_c.specs.Codes.{slots_code};
-ghost use Rattle.fwu_c.specs.Slots.{layout_with, slot_of, TellsSlots};
+ghost use Rattle.fwu_c.specs.Slots.{slot_of, TellsSlots};
 
 use crate::layouts::fault_number;
 use base_core::BLOCK_BYTES;
@@ -70,7 +70,7 @@ fn put_slots(layout: &Layout, bank: u32, slots: &mut Slots)
 #[unsafe(no_mangle)]
 pub extern "C" fn fwu_slots(block: &[u8], blocks: u32, bank: u32, slots: &mut Slots) -> u32
     ensures code { result ≡ slots_code bank (layout_of block.now blocks) }
-    ensures slots { IfSome (layout_with bank (layout_of block.now blocks)) (λ L. TellsSlots L bank slots.old slots.new) }
+    ensures slots { result ≡ 0 → IfOk (layout_of block.now blocks) (λ L. TellsSlots L bank slots.old slots.new) }
     ensures kept { 1 ≤ result → slots.new ≡ slots.old }
 {
     let layout = match Layout::read(block, blocks) {

@@ -3,12 +3,15 @@ ghost use Rattle.std.specs.Prelude.{◌≡◌, ◌≤◌, ◌<◌, ◌*◌, [], 
 ghost use Rattle.base_core.specs.Block.{block_bytes};
 ghost use Rattle.fwu_formats.specs.declared.kinds.BankState.TheVariants.{Invalid};
 ghost use Rattle.fwu_model.specs.State.{is_valid};
+ghost use Rattle.fwu_model.specs.State as state;
 ghost use Rattle.agent_calls.specs.Shown.{device, gone, moment};
 ghost use Rattle.step_flash.specs.Flash.{image_of, is_on};
-ghost use Rattle.early_boot.specs.Started.{started};
+ghost use Rattle.early_boot.specs.Ends.{Ended, booted};
+ghost use Rattle.early_boot.specs.Started.{Started, started};
 ghost use Rattle.early_boot.specs.Started as boot;
-ghost use Rattle.fwu_c.specs.Handed.{IsJustMade, TellsSteps};
-ghost use Rattle.fwu_c.specs.Updates.{ReportsBoot, BootsUp, TellsAnswer, IsOnTrial, ReportsNone, UpdatesBy};
+ghost use Rattle.fwu_c.specs.Agents.{BeginsAgent};
+ghost use Rattle.fwu_c.specs.Handed.{IsJustMade, TellsAnswer, TellsSteps};
+ghost use Rattle.fwu_c.specs.Updates.{BootsUp, IsOnTrial, UpdatesBy};
 
 use crate::handing::{hand_over, unmade_number};
 use crate::kept_agent::agent_of;
@@ -41,7 +44,7 @@ pub extern "C" fn fwu_update(
     room: &mut [u8],
     report: &mut Report,
 ) -> u32
-    ensures updates { TellsAnswer result →
+    ensures updates { (IsOnTrial image.now → ⊥) → TellsAnswer result →
         UpdatesBy image.now file.now acceptance result report.old report.new steps.new room.new }
     // A boot would count one more start of a bank on trial. Nothing else is written then.
     ensures trial { IsOnTrial image.now → TellsAnswer result → (result ≡ 16)
@@ -145,8 +148,8 @@ fn booted_up<'a>(
     requires on { is_on flash ≡ true }
     requires room { block_bytes ≤ length block.old }
     ensures { IfSome result (λ end. MatchResult end
-        (λ b. ReportsBoot (started b.value) flash.entry (boot.device b.value) told.old told.new)
-        (λ e. ReportsNone e.1 flash.entry e.0 told.old told.new)) }
+        (λ b. (n : state.Numbers) × BootsUp (booted (started b.value) n) 0 flash.entry (boot.device b.value) told.old told.new)
+        (λ e. (1 ≤ e.1) × (end : Ended) × BootsUp end e.1 flash.entry e.0 told.old told.new)) }
 {
     match boot_in(flash, &AnyManifest, &mut block[..BLOCK_BYTES as usize]) {
         BootEnd::Booted(booted, _) => {
@@ -174,8 +177,9 @@ fn boot_agent<'a>(
     requires on { is_on flash ≡ true }
     requires room { block_bytes ≤ length block.old }
     ensures { IfSome result (λ end. MatchResult end
-        (λ a. BootsUp flash.entry (device a.value) (moment a.value) (gone a.value) told.old told.new)
-        (λ e. ReportsNone e.1 flash.entry e.0 told.old told.new)) }
+        (λ a. (b : Started) × (n : state.Numbers) × BeginsAgent b (moment a.value) (gone a.value)
+        × BootsUp (booted b n) 0 flash.entry (device a.value) told.old told.new)
+        (λ e. (1 ≤ e.1) × (end : Ended) × BootsUp end e.1 flash.entry e.0 told.old told.new)) }
 {
     match booted_up(alloc, flash, block, told) {
         Some(Ok(booted)) => match agent_of(alloc, booted) {

@@ -30,16 +30,14 @@ neither k two four (inr e) = four e
 pub erase_doable : (t : Told) (at : ℕ) → at % block_bytes ≡ 0 → IsDoable t (record { kind = 1; at = at; length = block_bytes; from = 0 })
 erase_doable t at place = record {
   block = λ _. (place, refl);
-  granules = λ k. absurd (neither 1 (λ e. omega (arith, e)) (λ e. omega (arith, e)) k);
-  erased = λ k. absurd (neither 1 (λ e. omega (arith, e)) (λ e. omega (arith, e)) k);
+  bytes = λ k. absurd (neither 1 (λ e. omega (arith, e)) (λ e. omega (arith, e)) k);
   barrier = λ e. absurd (omega (arith, e));
 }
 
 pub barrier_doable : (t : Told) → IsDoable t (record { kind = 3; at = 0; length = 0; from = 0 })
 barrier_doable t = record {
   block = λ e. absurd (omega (arith, e));
-  granules = λ k. absurd (neither 3 (λ e. omega (arith, e)) (λ e. omega (arith, e)) k);
-  erased = λ k. absurd (neither 3 (λ e. omega (arith, e)) (λ e. omega (arith, e)) k);
+  bytes = λ k. absurd (neither 3 (λ e. omega (arith, e)) (λ e. omega (arith, e)) k);
   barrier = λ _. (refl, refl, refl);
 }
 
@@ -47,8 +45,7 @@ pub program_doable : (t : Told) (kind at n from : ℕ) → (kind ≡ 1 → ⊥) 
     → IsDoable t (record { kind = kind; at = at; length = n; from = from })
 program_doable t kind at n from not_one not_three takes = record {
   block = λ e. absurd (not_one e);
-  granules = λ _. (takes.place, takes.granules, takes.some);
-  erased = λ _. takes.erased;
+  bytes = λ _. takes;
   barrier = λ e. absurd (not_three e);
 }
 

@@ -1,5 +1,5 @@
 -- What is told tells whose image and whose package it was, and guards the usual blocks.
-use Rattle.std.proofs.Common.{◌≡◌, ℕ, ◌+◌, ◌==◌, Bool, true, false, if◌then◌else◌, List, [], ◌∷◌, ◌++◌, sym, ◌∙◌, ap, arith, refl}
+use Rattle.std.proofs.Common.{◌≡◌, ℕ, ◌+◌, ◌==◌, Bool, true, false, if◌then◌else◌, List, [], ◌∷◌, ◌++◌, sym, ◌∙◌, arith, refl}
 use Rattle.std.proofs.lemmas.List.{append_cancel_left}
 use Rattle.base_core.specs.Block.{most_blocks}
 use Rattle.flash_core.specs.{Told.Told, Told.fresh, Told.put, Told.settle, May.usual_guard}

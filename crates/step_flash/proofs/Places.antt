@@ -66,7 +66,7 @@ one_has : (file room size : ℕ) (t : Told) (s : Step) → IsInsideWith file roo
 one_has file room size t s inside doable = elim (kinds s.kind inside.known) [
   | inl barrier ↦ inl barrier
   | inr (inl erase) ↦ inr (ap (λ k. k == 3) erase, omega (arith, inside.block erase))
-  | inr (inr (inl program)) ↦ inr (ap (λ k. k == 3) program, omega (arith, (doable.granules (inl program)).2))
+  | inr (inr (inl program)) ↦ inr (ap (λ k. k == 3) program, omega (arith, (doable.bytes (inl program)).some))
   | inr (inr (inr copy)) ↦ inr (ap (λ k. k == 3) copy, (inside.copied copy).0)
 ]
 

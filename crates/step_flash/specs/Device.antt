@@ -1,35 +1,15 @@
 -- What a device tells, by its image and its steps.
-use Rattle.std.specs.Prelude.{◌≡◌, ◌⊎◌, if◌then◌else◌, ℕ, ◌+◌, ◌++◌, ◌∷◌, [], Bool, true, false, List, Option, Some, None, is_none, min, slice_range, length}
-use Rattle.std.specs.Prelude.{Result, is_ok, IsErrOf, IsTrue, OnErr, OnOk}
+use Rattle.std.specs.Prelude.{◌≡◌, ◌⊎◌, if◌then◌else◌, ℕ, ◌+◌, ◌*◌, ◌<◌, ◌≤◌, ◌++◌, ◌∷◌, [], All, Bool, true, false, List, Option, Some, None}
+use Rattle.std.specs.Prelude.{is_none, min, slice_range, length, Result, is_ok, IsErrOf, IsTrue, OnErr, OnOk}
 use Rattle.std.proofs.Common.{refl}
+use Rattle.base_core.specs.Block.{block_bytes}
 use Rattle.flash_core.specs.{Told.Told, Told.IsSound, Told.fresh, Told.settle, Told.settled, Told.written, Touches.TouchesOnly}
 use Rattle.flash_core.specs.{May.Leaves, May.NoChance, May.TookEffect, declared.flash.Arming.Arming, declared.flash.Counts.Counts}
 use Rattle.flash_core.specs.{declared.flash.FlashStop.FlashStop, declared.flash.FlashStop.TheVariants.Failed}
 use Rattle.flash_core.specs.Counts.{Fires, Idles, ReachesNone, Rose, Spends, arming_kept, arming_spent, landed_of}
 use Rattle.step_flash.specs.{declared.device.StepDevice.StepDevice, declared.device.StepParts.StepParts, declared.step.Step.Step}
 use Rattle.step_flash.specs.{declared.stopped.Stopped.Stopped, Guard.start_with, Steps.NotesBytes, Steps.run_with}
-use Rattle.step_flash.specs.{Stopped.under_as, Stopped.under_of, Writes.writes_in}
-
-abbrev pub is_on : StepDevice → Bool
-is_on d = d.on
-
--- power was not on again after a stop
-abbrev pub is_live : StepDevice → Bool
-is_live d = d.live
-
-abbrev pub block_count : StepDevice → ℕ
-block_count d = d.blocks
-
-abbrev pub image_of : StepDevice → List ℕ
-image_of d = d.image.now
-
--- the bytes in which the bytes of programs were looked for
-abbrev pub package_of : StepDevice → List ℕ
-package_of d = d.file.bytes.now
-
--- how many steps are noted at most
-abbrev pub most_of : StepDevice → ℕ
-most_of d = d.most
+use Rattle.step_flash.specs.{Stopped.under_as, Stopped.under_of, Writes.LiesBeside, Writes.LiesWithin, Writes.writes_in}
 
 -- the image with the steps done
 abbrev pub after_steps : StepDevice → Told
@@ -43,20 +23,9 @@ back_on live t = if live then t else settle t
 abbrev pub told_of : StepDevice → Told
 told_of d = under_as (under_of d.stopped) (back_on d.live (after_steps d))
 
--- the steps that are noted, in their order
-abbrev pub steps_of : StepDevice → List Step
-steps_of d = d.steps.items
-
 -- how often each block is erased or programmed by these steps
 abbrev pub writes_of : StepDevice → ℕ → ℕ
 writes_of d = writes_in d.steps.items
-
--- the bytes of the programs that are no copies
-abbrev pub room_of : StepDevice → List ℕ
-room_of d = d.room.items
-
-abbrev pub arming_of : StepDevice → Option Arming
-arming_of d = d.arming
 
 -- it may fail, and loses no power
 abbrev pub counts_of : StepDevice → Counts
@@ -67,26 +36,25 @@ abbrev pub NotedBy : StepDevice → StepParts → Type 0
 NotedBy d parts =
     told_of d
     ≡ under_as (told_of d).under
-    (run_with (package_of d) parts.room.items (start_with (image_of d) (package_of d)) parts.steps.items)
+    (run_with d.file.bytes.now parts.room.items (start_with d.image.now d.file.bytes.now) parts.steps.items)
 
 -- ---- what is noted: each erase, program and barrier that is done is one step, behind those that were noted before
 
 -- no step was noted, and none was changed or taken out
 pub record KeepsSteps (old new : StepDevice) : Type 0 where
-  pub steps : steps_of new ≡ steps_of old
-  pub room : room_of new ≡ room_of old
-  pub writes : writes_of new ≡ writes_of old
+  pub steps : new.steps.items ≡ old.steps.items
+  pub room : new.room.items ≡ old.room.items
 
 -- An erase or a barrier that was done is this step, behind those before. At a stop no step is noted.
 pub record NotesStep (step : Step) (result : Result (Unit {0}) FlashStop) (old new : StepDevice) : Type 0 where
-  pub noted : OnOk result (steps_of new ≡ steps_of old ++ step ∷ [])
-  pub room : room_of new ≡ room_of old
+  pub noted : OnOk result (new.steps.items ≡ old.steps.items ++ step ∷ [])
+  pub room : new.room.items ≡ old.room.items
   pub stopped : OnErr result (KeepsSteps old new)
   pub touches : TouchesOnly step.at (step.at + step.length) (writes_of old) (writes_of new)
 
 -- A program that was done is one step: itself, or a copy of bytes of the package that are the same. At a stop no step is noted.
 pub record NotesProgram (at : ℕ) (bytes : List ℕ) (result : Result (Unit {0}) FlashStop) (old new : StepDevice) : Type 0 where
-  pub noted : OnOk result (NotesBytes (package_of old) at bytes (steps_of old) (room_of old) (steps_of new) (room_of new))
+  pub noted : OnOk result (NotesBytes old.file.bytes.now at bytes old.steps.items old.room.items new.steps.items new.room.items)
   pub stopped : OnErr result (KeepsSteps old new)
   pub touches : TouchesOnly at (at + length bytes) (writes_of old) (writes_of new)
 
@@ -95,34 +63,34 @@ pub record NotesProgram (at : ℕ) (bytes : List ℕ) (result : Result (Unit {0}
 -- what is told after a call that may fail, what it leaves of an armed loss, and its power, size and counts
 pub record CallsDevice (told : Told) (armed : Option Arming) (result : Result (Unit {0}) FlashStop) (old new : StepDevice) : Type 0 where
   pub content : IsTrue true → told_of new ≡ told
-  pub power : is_on new ≡ is_ok result
-  pub size : block_count new ≡ block_count old
-  pub arming : arming_of new ≡ armed
+  pub power : new.on ≡ is_ok result
+  pub size : new.blocks ≡ old.blocks
+  pub arming : new.arming ≡ armed
   pub counts : Spends result (counts_of old) (counts_of new)
 
 pub record ReadsImage (at : ℕ) (was out : List ℕ) (result : Result (Unit {0}) FlashStop) (old new : StepDevice) : Type 0 where
   pub bytes : OnOk result (IsTrue true → out ≡ slice_range (told_of old).now at (at + length was))
-  pub call : CallsDevice (told_of old) (arming_kept result (arming_of old)) result old new
+  pub call : CallsDevice (told_of old) (arming_kept result old.arming) result old new
   pub reached : ReachesNone result (counts_of old) (counts_of new)
 
 -- an erase or a program of these bytes
 pub record Writes (at : ℕ) (bytes : List ℕ) (result : Result (Unit {0}) FlashStop) (old new : StepDevice) : Type 0 where
-  pub call : CallsDevice (written result at bytes (told_of old)) (arming_spent result (arming_of old)) result old new
-  pub reached : Fires result (arming_of old) (counts_of old) (counts_of new)
-  pub landed : 0 ≡ landed_of result (arming_of old)
+  pub call : CallsDevice (written result at bytes (told_of old)) (arming_spent result old.arming) result old new
+  pub reached : Fires result old.arming (counts_of old) (counts_of new)
+  pub landed : 0 ≡ landed_of result old.arming
 
 -- a barrier
 pub record SettlesImage (result : Result (Unit {0}) FlashStop) (old new : StepDevice) : Type 0 where
-  pub call : CallsDevice (settled result (told_of old)) (arming_kept result (arming_of old)) result old new
+  pub call : CallsDevice (settled result (told_of old)) (arming_kept result old.arming) result old new
   pub reached : ReachesNone result (counts_of old) (counts_of new)
   pub writes : writes_of new ≡ writes_of old
 
 -- a loss is armed
 pub record ArmsLoss (n k : ℕ) (old new : StepDevice) : Type 0 where
   pub content : IsTrue true → told_of new ≡ told_of old
-  pub power : is_on new ≡ is_on old
-  pub size : block_count new ≡ block_count old
-  pub arming : arming_of new ≡ Some (record { n = n; k = k })
+  pub power : new.on ≡ old.on
+  pub size : new.blocks ≡ old.blocks
+  pub arming : new.arming ≡ Some (record { n = n; k = k })
   pub made : (counts_of new).made ≡ min ((counts_of old).made + 1) 18446744073709551615
   pub counts : Idles (counts_of old) (counts_of new)
 
@@ -132,29 +100,35 @@ pub record ComesBackOn (old new : StepDevice) : Type 0 where
   pub leaves : IsTrue true → Leaves (told_of old) (told_of new).now
   pub chance : IsTrue true → Rose (counts_of old).chances (counts_of new).chances ⊎ NoChance (told_of old) (told_of new).now
   pub effect : IsTrue true → TookEffect (told_of old).under 0 (told_of new).now
-  pub power : IsTrue (is_on new)
-  pub size : block_count new ≡ block_count old
-  pub arming : arming_of new ≡ arming_of old
+  pub power : IsTrue new.on
+  pub size : new.blocks ≡ old.blocks
+  pub arming : new.arming ≡ old.arming
   pub made : (counts_of new).made ≡ (counts_of old).made
   pub counts : Idles (counts_of old) (counts_of new)
 
 -- Only a live device does a call. Whatever came of it, the device is live where it was.
 pub record StaysLive (result : Result (Unit {0}) FlashStop) (old new : StepDevice) : Type 0 where
-  pub done : OnOk result (IsTrue (is_live old))
-  pub stays : is_live new ≡ is_live old
+  pub done : OnOk result (IsTrue old.live)
+  pub stays : new.live ≡ old.live
 
 -- A call failed, and power went. This is told then, and no step was noted.
 pub record Fails (told : Told) (result : Result (Unit {0}) FlashStop) (old new : StepDevice) : Type 0 where
   pub stop : IsErrOf result Failed
-  pub call : CallsDevice told (arming_of old) result old new
+  pub call : CallsDevice told old.arming result old new
   pub kept : KeepsSteps old new
-  pub still : (b : ℕ) → writes_of new b ≡ writes_of old b
-  pub live : is_live new ≡ is_live old
+  pub live : new.live ≡ old.live
 
 -- What was noted is handed out as it is: the steps, in their order, and the room.
 pub record IsGivenOut (d : StepDevice) (parts : StepParts) : Type 0 where
-  pub steps : parts.steps.items ≡ steps_of d
-  pub room : parts.room.items ≡ room_of d
+  pub steps : parts.steps.items ≡ d.steps.items
+  pub room : parts.room.items ≡ d.room.items
+
+-- Steps lie where the device counts erases and programs, and nowhere else.
+pub record LieAsCounted (d : StepDevice) (steps : List Step) : Type 0 where
+  pub places : (first last : ℕ) → TouchesOnly (block_bytes * first) (block_bytes * last) (λ b. 0) (writes_of d)
+      → All (LiesWithin (block_bytes * first) (block_bytes * last)) steps
+  pub beside : (first last : ℕ) → first < last → ((b : ℕ) → first ≤ b → b < last → writes_of d b ≡ 0)
+      → All (LiesBeside (block_bytes * first) (block_bytes * last)) steps
 
 -- ---- what is told fits the device
 

@@ -6,7 +6,7 @@
 -- as the usual one, and behind these the package and the image. Each byte of these is the number of a block beyond the last that a
 -- flash may have. One more such number stands between both. These numbers guard no block. Where two devices have the same guard,
 -- they have the same image and the same package.
-use Rattle.std.specs.Prelude.{ℕ, ◌+◌, ◌++◌, List, [], ◌∷◌, map}
+use Rattle.std.specs.Prelude.{ℕ, ◌+◌, ◌++◌, List, ◌∷◌, map}
 use Rattle.base_core.specs.Block.{most_blocks}
 use Rattle.flash_core.specs.{Told.Told, Told.fresh, May.usual_guard}
 
@@ -14,18 +14,10 @@ use Rattle.flash_core.specs.{Told.Told, Told.fresh, May.usual_guard}
 abbrev pub beyond : List ℕ → List ℕ
 beyond bytes = map (λ byte. byte + (most_blocks + 1)) bytes
 
--- blocks 1 to 7, the package, and behind one number more the image
+-- blocks 1 to 7, the package, and behind one number more the image; where there is no package its bytes are none
 unfoldable pub guard_with : List ℕ → List ℕ → List ℕ
 guard_with image file = usual_guard ++ (beyond file ++ (most_blocks ∷ beyond image))
-
--- where there is no package
-abbrev pub guard_of : List ℕ → List ℕ
-guard_of image = guard_with image []
 
 -- the image before the first step: nothing is dirty, and nothing under way
 abbrev pub start_with : List ℕ → List ℕ → Told
 start_with image file = fresh (guard_with image file) image
-
--- where there is no package
-abbrev pub start_told : List ℕ → Told
-start_told image = start_with image []

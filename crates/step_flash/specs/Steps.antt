@@ -8,22 +8,16 @@ use Rattle.flash_core.specs.Told.{Told, put, settle}
 use Rattle.step_flash.specs.declared.step.Step.{Step}
 
 -- Kind 1 is an erase, kind 2 a program, kind 3 a barrier, kind 4 a copy: a program whose bytes stand in the package.
-abbrev pub is_erase : Step → Bool
-is_erase s = s.kind == 1
-
 abbrev pub is_barrier : Step → Bool
 is_barrier s = s.kind == 3
 
-abbrev pub is_copy : Step → Bool
-is_copy s = s.kind == 4
-
 -- where the bytes of a program stand: in the package at a copy, else in the room
 abbrev pub source_of : List ℕ → List ℕ → Step → List ℕ
-source_of file room s = if is_copy s then file else room
+source_of file room s = if s.kind == 4 then file else room
 
 -- the bytes of an erase, or those that stand in the package or the room
 abbrev pub bytes_of : List ℕ → List ℕ → Step → List ℕ
-bytes_of file room s = if is_erase s then blank block_bytes else slice_range (source_of file room s) s.from (s.from + s.length)
+bytes_of file room s = if s.kind == 1 then blank block_bytes else slice_range (source_of file room s) s.from (s.from + s.length)
 
 -- the step that an erase, a barrier, a program of so many bytes or a copy is noted as
 abbrev pub erase_step : ℕ → Step
@@ -52,10 +46,6 @@ bytes_in_room s = if s.kind == 2 then s.length else 0
 
 unfoldable pub room_bytes : List Step → ℕ
 room_bytes steps = fold (λ n s. n + bytes_in_room s) 0 steps
-
--- where there is no package
-abbrev pub run : List ℕ → Told → List Step → Told
-run room t steps = run_with [] room t steps
 
 -- The step is of one of the four kinds. It lies in a flash of so many bytes, and its bytes in a package, or else in a room, of so
 -- many.
@@ -89,8 +79,7 @@ pub record TakesProgram (t : Told) (at n : ℕ) : Type 0 where
 -- which are erased. A barrier tells nothing.
 pub record IsDoable (t : Told) (s : Step) : Type 0 where
   pub block : s.kind ≡ 1 → (s.at % block_bytes ≡ 0) × (s.from ≡ 0)
-  pub granules : (s.kind ≡ 2) ⊎ (s.kind ≡ 4) → (s.at % granule_bytes ≡ 0) × (s.length % granule_bytes ≡ 0) × (1 ≤ s.length)
-  pub erased : (s.kind ≡ 2) ⊎ (s.kind ≡ 4) → slice_range t.now s.at (s.at + s.length) ≡ blank s.length
+  pub bytes : (s.kind ≡ 2) ⊎ (s.kind ≡ 4) → TakesProgram t s.at s.length
   pub barrier : s.kind ≡ 3 → (s.at ≡ 0) × (s.length ≡ 0) × (s.from ≡ 0)
 
 -- each of the steps can be done when its turn comes

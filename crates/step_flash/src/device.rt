@@ -120,10 +120,7 @@ impl<'a> StepDevice<'a> {
     ghost use Rattle.std.specs.Prelude.{ℕ, IfSome, IfNone, IsTrue};
     ghost use Rattle.flash_core.specs.Told.{halt};
     ghost use Rattle.flash_core.specs.Counts.{IsDue};
-    ghost use Rattle.flash_core.specs.Touches.{TouchesOnly};
-    ghost use Rattle.step_flash.specs.Writes.{LiesBeside, LiesWithin};
-    ghost use Rattle.step_flash.specs.Device.{is_on, is_live, block_count, image_of, package_of, after_steps, told_of};
-    ghost use Rattle.step_flash.specs.Device.{arming_of, most_of, steps_of, writes_of, Fails, IsGivenOut, NotedBy};
+    ghost use Rattle.step_flash.specs.Device.{after_steps, told_of, writes_of, Fails, IsGivenOut, LieAsCounted, NotedBy};
 
     /// The device over an image, with a package and the places that are tried in it.
     pub(crate) fn new(
@@ -134,15 +131,15 @@ impl<'a> StepDevice<'a> {
         places: &'a [usize],
     ) -> Option<StepDevice<'a>>
         ensures content { IfSome result (λ d. told_of d ≡ start_with image.now file.now) }
-        ensures steps { IfSome result (λ d. steps_of d ≡ []) }
+        ensures steps { IfSome result (λ d. d.steps.items ≡ []) }
         ensures unwritten { IfSome result (λ d. (b : ℕ) → writes_of d b ≡ 0) }
-        ensures power { IfSome result (λ d. is_on d ≡ true) }
-        ensures unarmed { IfSome result (λ d. arming_of d ≡ None) }
-        ensures image { IfSome result (λ d. image_of d ≡ image.now) }
-        ensures file { IfSome result (λ d. package_of d ≡ file.now) }
-        ensures live { IfSome result (λ d. is_live d ≡ true) }
-        ensures most { IfSome result (λ d. most_of d ≡ most) }
-        ensures size { IfSome result (λ d. length image.now ≡ block_bytes * block_count d) }
+        ensures power { IfSome result (λ d. d.on ≡ true) }
+        ensures unarmed { IfSome result (λ d. d.arming ≡ None) }
+        ensures image { IfSome result (λ d. d.image.now ≡ image.now) }
+        ensures file { IfSome result (λ d. d.file.bytes.now ≡ file.now) }
+        ensures live { IfSome result (λ d. d.live ≡ true) }
+        ensures most { IfSome result (λ d. d.most ≡ most) }
+        ensures size { IfSome result (λ d. length image.now ≡ block_bytes * d.blocks) }
         ensures none { IfNone result ((b : ℕ) → fewest_blocks ≤ b → b ≤ most_blocks → length image.now ≡ block_bytes * b → ⊥) }
     {
         let blocks = blocks_of(image.len())?;
@@ -164,7 +161,7 @@ impl<'a> StepDevice<'a> {
 
     /// Whether power was not on again after a stop. Then what is told is what the steps leave.
     pub(crate) fn is_live(&self) -> bool
-        ensures { result ≡ is_live self.now }
+        ensures { result ≡ self.now.live }
     {
         self.live
     }
@@ -172,17 +169,14 @@ impl<'a> StepDevice<'a> {
     /// The steps that were noted, in their order.
     pub(crate) fn into_parts(self) -> StepParts
         ensures given { IsGivenOut self.entry result }
-        ensures noted { IsTrue (is_live self.entry) → NotedBy self.entry result }
-        ensures inside { All (IsInsideWith (length (package_of self.entry)) (length result.room.items)
-            (block_bytes * block_count self.entry)) result.steps.items }
-        ensures doable { AreDoable (package_of self.entry) result.room.items
-            (start_with (image_of self.entry) (package_of self.entry)) result.steps.items }
-        ensures few { length result.steps.items ≤ most_of self.entry }
+        ensures noted { IsTrue self.entry.live → NotedBy self.entry result }
+        ensures inside { All (IsInsideWith (length self.entry.file.bytes.now) (length result.room.items)
+            (length self.entry.image.now)) result.steps.items }
+        ensures doable { AreDoable self.entry.file.bytes.now result.room.items
+            (start_with self.entry.image.now self.entry.file.bytes.now) result.steps.items }
+        ensures few { length result.steps.items ≤ self.entry.most }
         ensures theirs { length result.room.items ≡ room_bytes result.steps.items }
-        ensures within { (first last : ℕ) → TouchesOnly (block_bytes * first) (block_bytes * last) (λ b. 0) (writes_of self.entry)
-            → All (LiesWithin (block_bytes * first) (block_bytes * last)) result.steps.items }
-        ensures beside { (first last : ℕ) → first < last → ((b : ℕ) → first ≤ b → b < last → writes_of self.entry b ≡ 0)
-            → All (LiesBeside (block_bytes * first) (block_bytes * last)) result.steps.items }
+        ensures lie { LieAsCounted self.entry result.steps.items }
     {
         StepParts {
             steps: self.steps,
@@ -192,7 +186,7 @@ impl<'a> StepDevice<'a> {
 
     /// Fills the buffer with the bytes that stand from a place on after the steps.
     fn fill(&self, at: usize, out: &mut [u8])
-        requires inside { at + length out.old ≤ block_bytes * block_count self.now }
+        requires inside { at + length out.old ≤ block_bytes * self.now.blocks }
         ensures { out.new ≡ slice_range (after_steps self.now).now at (at + length out.old) }
     {
         out.copy_from_slice(&self.image[at..at + out.len()]);
@@ -212,7 +206,7 @@ impl<'a> StepDevice<'a> {
 
     /// An erase or a program fails, and power goes.
     fn stop(&mut self, at: u32, bytes: &[u8]) -> Result<(), FlashStop>
-        requires on { IsTrue (is_on self.old) }
+        requires on { IsTrue self.old.on }
         ensures { Fails (halt at bytes.now (told_of self.old)) result self.old self.new }
     {
         self.on = false;
@@ -222,8 +216,8 @@ impl<'a> StepDevice<'a> {
 
     /// Whether an erase or a program may be noted: power was not on again after a stop, and no loss is armed for it.
     fn is_ready(&self) -> bool
-        ensures live { IsTrue result → IsTrue (is_live self.now) }
-        ensures undue { IsTrue result → IsDue (arming_of self.now) → ⊥ }
+        ensures live { IsTrue result → IsTrue self.now.live }
+        ensures undue { IsTrue result → IsDue self.now.arming → ⊥ }
     {
         self.live && !matches!(self.arming, Some(Arming { n: 1, .. }))
     }
@@ -243,28 +237,28 @@ fn lowered(arming: Option<Arming>) -> Option<Arming>
 impl<'a> StepDevice<'a> {
     ghost use Rattle.std.specs.Prelude.{◌≡◌, ◌+◌, ◌*◌, ◌<◌, ◌≤◌, is_ok, length, IsTrue, IsFalse};
     ghost use Rattle.base_core.specs.Block.{blank};
-    ghost use Rattle.step_flash.specs.Device.{ArmsLoss, KeepsSteps, NotesProgram, NotesStep, ComesBackOn, ReadsImage, SettlesImage, StaysLive, Writes, is_live, is_on, block_count, told_of};
+    ghost use Rattle.step_flash.specs.Device.{ArmsLoss, KeepsSteps, NotesProgram, NotesStep, ComesBackOn, ReadsImage, SettlesImage, StaysLive, Writes, told_of};
     ghost use Rattle.step_flash.specs.Steps.{TakesProgram, barrier_step, erase_step};
 
     pub(crate) fn blocks(&self) -> u32
-        ensures { result ≡ block_count self.now }
+        ensures { result ≡ self.now.blocks }
     {
         self.blocks
     }
 
     pub(crate) fn is_on(&self) -> bool
-        ensures { result ≡ is_on self.now }
+        ensures { result ≡ self.now.on }
     {
         self.on
     }
 
     pub(crate) fn read(&mut self, at: u32, out: &mut [u8]) -> Result<(), FlashStop>
-        requires on { IsTrue (is_on self.old) }
-        requires inside { at + length out.old ≤ block_bytes * block_count self.old }
+        requires on { IsTrue self.old.on }
+        requires inside { at + length out.old ≤ block_bytes * self.old.blocks }
         ensures reads { ReadsImage at out.old out.new result self.old self.new }
         ensures kept { KeepsSteps self.old self.new }
         ensures live { StaysLive result self.old self.new }
-        ensures done { IsTrue (is_live self.old) → IsTrue (is_ok result) }
+        ensures done { IsTrue self.old.live → IsTrue (is_ok result) }
     {
         if !self.live {
             return self.failed();
@@ -274,8 +268,8 @@ impl<'a> StepDevice<'a> {
     }
 
     pub(crate) fn erase(&mut self, block: u32) -> Result<(), FlashStop>
-        requires on { IsTrue (is_on self.old) }
-        requires inside { block < block_count self.old }
+        requires on { IsTrue self.old.on }
+        requires inside { block < self.old.blocks }
         ensures writes { Writes (block_bytes * block) (blank block_bytes) result self.old self.new }
         ensures noted { NotesStep (erase_step (block_bytes * block)) result self.old self.new }
         ensures live { StaysLive result self.old self.new }
@@ -289,9 +283,9 @@ impl<'a> StepDevice<'a> {
     }
 
     pub(crate) fn program(&mut self, at: u32, bytes: &[u8]) -> Result<(), FlashStop>
-        requires on { IsTrue (is_on self.old) }
+        requires on { IsTrue self.old.on }
         requires takes { TakesProgram (told_of self.old) at (length bytes.now) }
-        requires inside { at + length bytes.now ≤ block_bytes * block_count self.old }
+        requires inside { at + length bytes.now ≤ block_bytes * self.old.blocks }
         ensures writes { Writes at bytes.now result self.old self.new }
         ensures noted { NotesProgram at bytes.now result self.old self.new }
         ensures live { StaysLive result self.old self.new }
@@ -313,7 +307,7 @@ impl<'a> StepDevice<'a> {
     }
 
     pub(crate) fn barrier(&mut self) -> Result<(), FlashStop>
-        requires on { IsTrue (is_on self.old) }
+        requires on { IsTrue self.old.on }
         ensures settles { SettlesImage result self.old self.new }
         ensures noted { NotesStep barrier_step result self.old self.new }
         ensures live { StaysLive result self.old self.new }
@@ -328,7 +322,7 @@ impl<'a> StepDevice<'a> {
         requires { 1 ≤ n }
         ensures arms { ArmsLoss n k self.old self.new }
         ensures kept { KeepsSteps self.old self.new }
-        ensures live { is_live self.new ≡ is_live self.old }
+        ensures live { self.new.live ≡ self.old.live }
     {
         self.arming = Some(Arming { n, k });
         self.made = self.made.saturating_add(1);
@@ -337,7 +331,7 @@ impl<'a> StepDevice<'a> {
     pub(crate) fn power_on(&mut self)
         ensures back { ComesBackOn self.old self.new }
         ensures kept { KeepsSteps self.old self.new }
-        ensures live { IsFalse (is_live self.new) }
+        ensures live { IsFalse self.new.live }
     {
         self.on = true;
         self.live = false;

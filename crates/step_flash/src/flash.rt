@@ -1,12 +1,10 @@
 //! The flash, as its callers hold it.
 ghost use Rattle.std.specs.Prelude.{◌≡◌, ℕ, ◌<◌, ◌≤◌, ◌+◌, ◌*◌, ◌%◌, None, true, [], All, IfErr, IfOk, IsFalse, IsTrue, is_ok, length, slice_range};
 ghost use Rattle.base_core.specs.Block.{blank, block_bytes, granule_bytes};
-ghost use Rattle.step_flash.specs.Device.{ArmsLoss, IsGivenOut, KeepsSteps, NotesProgram, NotesStep, ComesBackOn, ReadsImage, SettlesImage, StaysLive, Writes};
-ghost use Rattle.step_flash.specs.Flash.{device_in, steps_of, NotedBy, arming_of, block_count, counts_of, image_of, is_live, is_on};
-ghost use Rattle.step_flash.specs.Flash.{flash_sizes, flash_sound, flash_ahead, most_of, package_of, told_of, writes_of};
-ghost use Rattle.flash_core.specs.Touches.{TouchesOnly};
-ghost use Rattle.step_flash.specs.Writes.{LiesBeside, LiesWithin};
-ghost use Rattle.step_flash.specs.Guard.{start_told, start_with};
+ghost use Rattle.step_flash.specs.Device.{ArmsLoss, IsGivenOut, KeepsSteps, LieAsCounted, NotedBy, NotesProgram, NotesStep, ComesBackOn, ReadsImage, SettlesImage, StaysLive, Writes, device_sound};
+ghost use Rattle.step_flash.specs.Flash.{device_in, steps_of, arming_of, block_count, counts_of, image_of, is_live, is_on};
+ghost use Rattle.step_flash.specs.Flash.{most_of, package_of, told_of, writes_of};
+ghost use Rattle.step_flash.specs.Guard.{start_with};
 ghost use Rattle.step_flash.specs.Steps.{AreDoable, IsInsideWith, barrier_step, erase_step, room_bytes};
 ghost use Rattle.step_flash.specs.Unmade.{IsUnmade};
 
@@ -39,7 +37,7 @@ pub enum Unmade {
 impl<'a> StepFlash<'a> {
     /// The flash over an image, with no package, which is on, with nothing dirty, and notes so many steps at most.
     pub fn new(alloc: Global, image: &'a [u8], most: usize) -> Result<StepFlash<'a>, Unmade>
-        ensures content { IfOk result (λ d. told_of d ≡ start_told image.now) }
+        ensures content { IfOk result (λ d. told_of d ≡ start_with image.now []) }
         ensures steps { IfOk result (λ d. steps_of d ≡ []) }
         ensures unwritten { IfOk result (λ d. (b : ℕ) → writes_of d b ≡ 0) }
         ensures power { IfOk result (λ d. is_on d ≡ true) }
@@ -96,9 +94,9 @@ impl<'a> StepFlash<'a> {
     pub fn into_parts(self) -> StepParts
         // An erase, a program and a barrier that is done is one of these steps: see the calls of the trait.
         ensures given { IsGivenOut (device_in self.entry) result }
-        ensures noted { IsTrue (is_live self.entry) → NotedBy self.entry result }
+        ensures noted { IsTrue (is_live self.entry) → NotedBy (device_in self.entry) result }
         ensures inside { All (IsInsideWith (length (package_of self.entry)) (length result.room.items)
-            (block_bytes * block_count self.entry)) result.steps.items }
+            (length (image_of self.entry))) result.steps.items }
         // Each step can be done when its turn comes.
         ensures doable { AreDoable (package_of self.entry) result.room.items
             (start_with (image_of self.entry) (package_of self.entry)) result.steps.items }
@@ -106,10 +104,7 @@ impl<'a> StepFlash<'a> {
         // The room has the bytes of the programs that are no copies.
         ensures theirs { length result.room.items ≡ room_bytes result.steps.items }
         // Where the counts of the blocks say so, each step that is no barrier lies between two places, or beside what is between.
-        ensures within { (first last : ℕ) → TouchesOnly (block_bytes * first) (block_bytes * last) (λ b. 0) (writes_of self.entry)
-            → All (LiesWithin (block_bytes * first) (block_bytes * last)) result.steps.items }
-        ensures beside { (first last : ℕ) → first < last → ((b : ℕ) → first ≤ b → b < last → writes_of self.entry b ≡ 0)
-            → All (LiesBeside (block_bytes * first) (block_bytes * last)) result.steps.items }
+        ensures lie { LieAsCounted (device_in self.entry) result.steps.items }
     {
         Box::into_inner(self.device).into_parts()
     }
@@ -132,11 +127,11 @@ impl<'a> Flash for StepFlash<'a> {
 
     ghost writes = { λ d. writes_of d };
 
-    ghost sizes = { λ d. flash_sizes d };
+    ghost sizes = { λ d. (device_in d).sizes };
 
-    ghost sound = { λ d _. flash_sound d };
+    ghost sound = { λ d _. device_sound (device_in d) };
 
-    ghost ahead = { λ d. flash_ahead d };
+    ghost ahead = { λ d. (device_in d).ahead };
 
     fn blocks(&self) -> u32 {
         self.device.blocks()

@@ -4,14 +4,13 @@ ghost use Rattle.flash_core.specs.Counts.{Spends};
 ghost use Rattle.flash_core.specs.declared.flash.FlashStop.{FlashStop};
 ghost use Rattle.flash_core.specs.declared.flash.FlashStop.TheVariants.{Lost};
 ghost use Rattle.step_flash.specs.Flash.{block_count, counts_of, image_of, package_of, told_of, writes_of};
-ghost use Rattle.step_flash.specs.Guard.{guard_of, guard_with};
+ghost use Rattle.step_flash.specs.Guard.{guard_with};
 ghost use Rattle.step_flash.specs.declared.flash.StepFlash.{StepFlash};
 
 /// A device that tells the guard of an image and a package lies over that image, and has that package. No call changes the guard,
 /// so a device that a generic call gives back has the image and the package that it was handed in with.
 pub fn a_guard_tells_its_image()
-    ensures image { (d : StepFlash) (image : List ℕ) → (told_of d).guard ≡ guard_of image → image_of d ≡ image }
-    ensures both { (d : StepFlash) (image file : List ℕ) → (told_of d).guard ≡ guard_with image file
+    ensures { (d : StepFlash) (image file : List ℕ) → (told_of d).guard ≡ guard_with image file
         → (image_of d ≡ image) × (package_of d ≡ file) }
 {}
 

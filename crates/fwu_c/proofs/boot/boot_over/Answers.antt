@@ -1,22 +1,22 @@
 use Rattle.std.proofs.Common.{[], arith, ◌≡◌, ◌∙◌, refl}
 use Rattle.early_boot.specs.Ends.{device_of, ended}
 use Rattle.step_flash.specs.Flash.{image_of, told_of}
-use Rattle.fwu_c.proofs.Booting.{boot_end_is, boot_idle, boots_by, given, has_flash_size}
+use Rattle.fwu_c.proofs.Booting.{begun_as, boot_end_is, boot_idle, boots_by, given, has_flash_size}
 use Rattle.fwu_c.proofs.Telling.{lie_inside, told_handed}
 use Rattle.fwu_c.proofs.boot.boot_over.Goals as goal
 
 pub hand_over-requires-clause-idle : goal.hand_over-requires-clause-idle
 hand_over-requires-clause-idle c = λ idle. rw c.into_flash.ensures
+    (begun_as (device_of c.boot_in-end.result) (image_of c.args.flash) []
     (boot_idle (ended c.boot_in-end.result) (told_of c.args.flash) (told_of (device_of c.boot_in-end.result))
-    (image_of c.args.flash, [], c.requires.new.fresh)
-    (c.boot_in-end.ensures.boots.ends refl).by_bytes (rw c.report_end-number.ensures.number at idle))
+    (c.boot_in-end.ensures.boots.ends refl).by_bytes (rw c.report_end-number.ensures.number at idle) ∙ c.requires.new.fresh))
 
 pub returns-clause-tells : goal.returns-clause-tells
 returns-clause-tells c =
     let h = c.hand_over.ensures in
     let boots = c.boot_in-end.ensures.boots in
     told_handed (image_of c.args.flash) c.hand_over.result c.report_end-number.result _ _ _ _ _ _
-    (has_flash_size (image_of c.args.flash) c.args.flash c.requires.new.size)
+    (has_flash_size (image_of c.args.flash) c.args.flash c.args.flash.device.value.size)
     (rw c.report_end-number.ensures.number
     (boot_end_is (ended c.boot_in-end.result) c.args.flash (device_of c.boot_in-end.result) boots.costs))
     h.number h.idle h.kept

@@ -6,8 +6,7 @@ use Rattle.agent_calls.specs.Shown as agent
 use Rattle.update_client.specs.{declared.stops.Sent.Sent, declared.stops.SendStop.SendStop, Halts.flash_of}
 use Rattle.step_flash.specs.Flash.{told_of}
 use Rattle.step_flash.proofs.Causes.{never_lost}
-use Rattle.fwu_c.specs.Sendings.{IsSent}
-use Rattle.fwu_c.proofs.SentPackage.{held_there, here_after, is_sent, never_rose, package_sent}
+use Rattle.fwu_c.proofs.SentPackage.{IsSent, held_there, here_after, is_sent, never_rose, package_sent, sent_end_is}
 use Rattle.fwu_formats.proofs.Tables.{table-of}
 use Rattle.fwu_formats.specs.Package.{Entry}
 use Rattle.package_files.specs.OneFile.{one_file}
@@ -53,7 +52,6 @@ returns c =
           (here_after _ sent.result _ _ here sent.ensures.gone ok) refl s x shows)
           (λ s x shows. sent.ensures.installs here s x shows) sent.ensures.faults
           (λ early. ap (λ a. told_of (agent.device a)) (sent.ensures.untouched early));
-      ends = ends;
-      size = goes.size;
+      ends = sent_end_is sent.result ends;
       touches = sent.ensures.touches;
     })

@@ -4,12 +4,12 @@ use Rattle.fwu_c.proofs.{Showing.banks_are, Showing.inside, Updating.start_now}
 use Rattle.fwu_c.proofs.show.find_bank.Goals as goal
 
 pub check-requires-clause-fits : goal.check-requires-clause-fits
-check-requires-clause-fits c = inside c.args.image.now c.args.layout.now _ c.requires.shown.layout c.in-Ok.ensures.size
+check-requires-clause-fits c = inside c.args.image.now c.args.layout.now _ c.requires.layout c.in-Ok.ensures.size
 
 pub check-requires-clause-bank : goal.check-requires-clause-bank
 check-requires-clause-bank c =
-    let shown = c.requires.shown in
-    omega (arith, banks_are c.args.image.now c.args.layout.now (numbers c.args.read.now) shown.layout shown.shows, c.requires.bank)
+    let all = banks_are c.args.image.now c.args.layout.now (numbers c.args.read.now) c.requires.layout c.requires.numbers in
+    omega (arith, all, c.requires.bank)
 
 pub returns-clause-found : goal.returns-clause-found
 returns-clause-found c =

@@ -1,5 +1,4 @@
 use Rattle.std.proofs.Common.{◌∙◌, ap, refl, arith}
-use Rattle.early_boot.specs.Numbers.{numbers}
 use Rattle.fwu_c.specs.Codes.{fault_code}
 use Rattle.fwu_c.proofs.{Booting.has_flash_size, Showing.no_six, Showing.tells_nothing, Telling.unmade_by, Updating.start_now}
 use Rattle.fwu_c.proofs.show.fwu_show.Goals as goal

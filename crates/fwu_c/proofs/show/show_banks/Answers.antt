@@ -10,7 +10,7 @@ loop-bank-preserved c =
     let told = c.loop-bank.shown.bank in
     let bank = c.loop-bank.bank in
     let all : length told ≡ 4 = c.loop-bank.invariant.1 in
-    let near : bank < length told = omega (arith, all, c.requires.shown.are.most, c.loop-bank-test.true) in
+    let near : bank < length told = omega (arith, all, c.requires.are.most, c.loop-bank-test.true) in
     let numbers_stay = c.loop-bank.invariant.2 in (
       take_more_set told bank c.in-Some.found near
           ∙ pushed (bank_shown c.args.image.now c.args.layout.now (numbers c.args.read.now)) (take bank told) bank c.in-Some.found c.loop-bank.invariant.0 c.in-Some.ensures.found,

@@ -3,32 +3,32 @@ use Rattle.std.specs.Prelude.{IsTrue}
 use Rattle.agent_calls.specs.Shown.{device, gone, moment}
 use Rattle.step_flash.specs.Flash.{image_of, told_of}
 use Rattle.fwu_c.specs.Handed.{starts_none}
-use Rattle.fwu_c.proofs.Booting.{boot_idle, given, has_flash_size}
+use Rattle.fwu_c.proofs.Booting.{begun_as, boot_idle, given, has_flash_size}
 use Rattle.fwu_c.proofs.Telling.{idle_starts, keeps_fault, lie_inside, told_handed}
-use Rattle.fwu_c.proofs.Updating.{none_end_is, outcome_end_is, outcome_starts, sending_spares, tried_by, tried_places, unbooted_by}
+use Rattle.fwu_c.proofs.Updating.{boots_end_is, outcome_starts, sending_spares, tried_by, tried_places, unbooted_by}
 use Rattle.fwu_c.proofs.update.update_over.Goals as goal
 
 pub hand_over-requires : goal.hand_over-requires
 hand_over-requires c =
     let i = c.in-Some in
-    let up = (rw c.in-Some-Ok.field-0-is at c.in-Some-Ok.ensures) in
+    let up = rw c.in-Some-Ok.field-0-is at c.in-Some-Ok.ensures in
     let starts = λ (none : IsTrue (starts_none c.outcome_number-number.result)).
     outcome_starts i.outcome (rw c.outcome_number-number.ensures at none) in
     record {
-      known = rw c.outcome_number-number.ensures (outcome_end_is i.outcome i.ensures.ends);
+      known = rw c.outcome_number-number.ensures i.ensures.ends;
       idle = λ idle. absurd (starts (idle_starts c.outcome_number-number.result idle));
-      kept = keeps_fault _ _ _ (up.boots.kept.fault (λ one. omega (arith, one))) starts;
+      kept = keeps_fault _ _ _ (up.3.kept.fault (λ one. omega (arith, one))) starts;
     }
 
 pub hand_over-requires-in-Some-Err : goal.hand_over-requires-in-Some-Err
 hand_over-requires-in-Some-Err c =
     let none = rw c.in-Some-Err.field-0-is at c.in-Some-Err.ensures in
     record {
-      known = none_end_is _ _ _ _ _ none;
-      idle = λ idle. boot_idle none.end (told_of c.args.flash) (told_of c.in-Some-Err.flash)
-          (image_of c.args.flash, c.args.sending.file.now, c.requires.new.fresh) none.boots.by_bytes
-          (rw none.number_is at idle);
-      kept = none.kept;
+      known = boots_end_is _ _ _ _ _ _ none.2;
+      idle = λ idle. begun_as c.in-Some-Err.flash (image_of c.args.flash) c.args.sending.file.now
+          (boot_idle none.1 (told_of c.args.flash) (told_of c.in-Some-Err.flash) none.2.ends.by_bytes
+          (rw none.2.number_is at idle) ∙ c.requires.new.fresh);
+      kept = none.2.kept;
     }
 
 pub returns-in-Some-clause-updates : goal.returns-in-Some-clause-updates
@@ -38,8 +38,8 @@ returns-in-Some-clause-updates c = λ told.
     let a = c.in-Some-Ok.agent.value in
     let up = rw c.in-Some-Ok.field-0-is at c.in-Some-Ok.ensures in
     tried_by _ _ c.args.flash i.flash c.requires.new h.result _ _ _ _ _ (h.ensures.hands told.1)
-    (device a) up.began up.boots (sending_spares up.began (moment a) (gone a) (device a) i.flash up.begins i.ensures.touches)
-    i.outcome (i.ensures.installs up.began up.begins) (given _ _ h.ensures.number told.1 ∙ c.outcome_number-number.ensures)
+    (device a) up.0 up.1 up.3 (sending_spares up.0 (moment a) (gone a) (device a) i.flash up.2 i.ensures.touches)
+    i.outcome (i.ensures.installs up.0 up.2) (given _ _ h.ensures.number told.1 ∙ c.outcome_number-number.ensures)
 
 pub returns-in-Some-clause-tells : goal.returns-in-Some-clause-tells
 returns-in-Some-clause-tells c =
@@ -48,23 +48,24 @@ returns-in-Some-clause-tells c =
     let a = c.in-Some-Ok.agent.value in
     let up = rw c.in-Some-Ok.field-0-is at c.in-Some-Ok.ensures in
     told_handed (image_of c.args.flash) c.hand_over.result c.outcome_number-number.result _ _ _ _ _ _
-    (has_flash_size (image_of c.args.flash) c.args.flash c.requires.new.size)
-    (rw c.outcome_number-number.ensures (outcome_end_is i.outcome i.ensures.ends)) h.number h.idle h.kept
-    (λ not. tried_places _ 0 c.args.flash i.flash c.requires.new 0 _ _ _ _ _ (h.hands not) (device a) up.began up.boots
-    (sending_spares up.began (moment a) (gone a) (device a) i.flash up.begins i.ensures.touches) i.ensures.size)
+    (has_flash_size (image_of c.args.flash) c.args.flash c.args.flash.device.value.size)
+    (rw c.outcome_number-number.ensures i.ensures.ends) h.number h.idle h.kept
+    (λ not. tried_places _ _ c.args.flash i.flash c.requires.new 0 _ _ _ _ _ (h.hands not) (device a) up.0 up.1 up.3
+    (sending_spares up.0 (moment a) (gone a) (device a) i.flash up.2 i.ensures.touches) i.outcome (i.ensures.installs up.0 up.2))
     h.behind h.full h.untouched
 
 pub returns-in-Some-Err-clause-updates : goal.returns-in-Some-Err-clause-updates
 returns-in-Some-Err-clause-updates c = λ told.
     let h = c.hand_over-in-Some-Err in
-    unbooted_by _ _ c.args.flash c.in-Some-Err.flash c.requires.new h.result _ _ _ _ _ (h.ensures.hands told.1) _
-    (rw c.in-Some-Err.field-0-is at c.in-Some-Err.ensures) (given _ _ h.ensures.number told.1)
+    let none = rw c.in-Some-Err.field-0-is at c.in-Some-Err.ensures in
+    unbooted_by _ _ c.args.flash c.in-Some-Err.flash c.requires.new h.result _ _ _ _ _ (h.ensures.hands told.1) _ none.1
+    none.2 none.0 (given _ _ h.ensures.number told.1)
 
 pub returns-in-Some-Err-clause-tells : goal.returns-in-Some-Err-clause-tells
 returns-in-Some-Err-clause-tells c =
     let h = c.hand_over-in-Some-Err.ensures in
     let none = rw c.in-Some-Err.field-0-is at c.in-Some-Err.ensures in
     told_handed (image_of c.args.flash) c.hand_over-in-Some-Err.result c.in-Some-Err.number _ _ _ _ _ _
-    (has_flash_size (image_of c.args.flash) c.args.flash c.requires.new.size) (none_end_is _ _ _ _ _ none)
-    h.number h.idle h.kept (λ not. lie_inside _ c.args.flash c.in-Some-Err.flash 7 _ c.requires.new (omega arith) none.touches
+    (has_flash_size (image_of c.args.flash) c.args.flash c.args.flash.device.value.size) (boots_end_is _ _ _ _ _ _ none.2)
+    h.number h.idle h.kept (λ not. lie_inside _ c.args.flash c.in-Some-Err.flash 7 _ c.requires.new (omega arith) none.2.touches
     (h.hands not).lie) h.behind h.full h.untouched

@@ -2,14 +2,14 @@ use Rattle.step_flash.specs.Guard.{start_with}
 use Rattle.step_flash.proofs.Places.{all_beside, all_have, all_within}
 use Rattle.step_flash.proofs.device.StepDevice.into_parts.Goals as goal
 
-pub returns-clause-within : goal.returns-clause-within
-returns-clause-within c = λ first last only.
-    let s = c.args.self in
-    all_within first last s.steps.items
-    (all_have s.file.bytes.now s.room.items _ _ _ (start_with s.image.now s.file.bytes.now) s.steps.items s.inside s.doable) only
+pub returns-clause-inside : goal.returns-clause-inside
+returns-clause-inside c = rw c.args.self.size c.args.self.inside
 
-pub returns-clause-beside : goal.returns-clause-beside
-returns-clause-beside c = λ first last order none.
+pub returns-clause-lie : goal.returns-clause-lie
+returns-clause-lie c =
     let s = c.args.self in
-    all_beside first last s.steps.items
-    (all_have s.file.bytes.now s.room.items _ _ _ (start_with s.image.now s.file.bytes.now) s.steps.items s.inside s.doable) order none
+    let have = all_have s.file.bytes.now s.room.items _ _ _ (start_with s.image.now s.file.bytes.now) s.steps.items s.inside s.doable in
+    record {
+      places = λ first last only. all_within first last s.steps.items have only;
+      beside = λ first last order none. all_beside first last s.steps.items have order none;
+    }

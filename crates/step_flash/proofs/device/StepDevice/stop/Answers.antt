@@ -16,7 +16,6 @@ returns c =
         arming = f.call.arming;
         counts = f.call.counts;
       };
-      kept = record { steps = f.kept.steps; room = f.kept.room; writes = f.kept.writes };
-      still = f.still;
+      kept = record { steps = f.kept.steps; room = f.kept.room };
       live = f.live;
     }
