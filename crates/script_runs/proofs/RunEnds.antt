@@ -1,13 +1,13 @@
 -- The calls of a script that are left, as they are taken out one by one.
-use Rattle.std.proofs.Common.{◌≡◌, ℕ, zero, suc, ◌+◌, ◌≤◌, Bool, true, false, not, ◌&&◌, List, ◌∷◌, ◌++◌, slice_set, Some, refl, sym, ap, subst, ◌∙◌, IsTrue, IsFalse, Contains, arith, [], ◌≢◌, ◌||◌, length, take, drop, Option, None, append-nil, append_assoc, length-append}
-use Rattle.std.specs.{List.slice_get, List.list_all, List.list_any, Io.KnownBytes.Appends}
+use Rattle.std.proofs.Common.{◌≡◌, ℕ, zero, suc, ◌+◌, ◌≤◌, Bool, true, false, not, List, ◌∷◌, ◌++◌, slice_set, Some, refl, sym, ap, subst, ◌∙◌, IsTrue, IsFalse, Contains, arith, [], ◌≢◌, ◌||◌, length, take, drop, Option, None, append-nil, append_assoc, length-append}
+use Rattle.std.specs.{List.slice_get, List.list_any, Io.KnownBytes.Appends}
 use Rattle.std.proofs.lemmas.Bool.{and_parts, false≢true, or_parts}
 use Rattle.std.proofs.lemmas.List.Elements.{Contains-append_left, Contains-push}
 use Rattle.std.proofs.lemmas.Option.{same_Some, slice_get_within, get_or_from_slice_get}
-use Rattle.std.proofs.{Math.Seq.take-length, lemmas.List.Folds.list_any-append, lemmas.Grind.flat_map-append}
+use Rattle.std.proofs.{Math.Seq.take-length, lemmas.List.Folds.list_all-append, lemmas.List.Folds.list_any-append, lemmas.Grind.flat_map-append}
 use Rattle.host_io.specs.{Access.Access, Contents.Directory}
 use Rattle.fwu_model.specs.{Call.Call, Reply.Turn, Reply.Reply, Run.is_send, Run.ends_run, declared.kinds.Note.Note, Text.line}
-use Rattle.fwu_model.specs.{Text.text, Text.call_word, Text.reply_text, Wrote.may_lack, Causes.status_by, Causes.note_by}
+use Rattle.fwu_model.specs.{Headline.IsPrefixOf, Text.text, Text.call_word, Text.reply_text, Wrote.may_lack, Causes.status_by, Causes.note_by}
 use Rattle.script_turns.specs.Runs.{calls_of, sends_none, Ran}
 use Rattle.script_turns.specs.{Sending.IsUnnamed, Powered.FitsMachine, Powered.TurnMoment, Turning.Turns}
 use Rattle.std.specs.Prelude.{codes}
@@ -16,6 +16,7 @@ use Rattle.host_io.specs.Printed.{FailsAtThree, Prints, all, front, nothing}
 use Rattle.fwu_model.specs.declared.kinds.Note.TheVariants as note
 use Rattle.fwu_model.specs.Reply as reply
 use Rattle.script_turns.proofs.RunTurns.{ran-none, ran-on}
+use Rattle.script_runs.proofs.TopSources.{counts-line, later}
 use Rattle.script_runs.specs.Running.{IsUnnamedIn, DoesTurn, ScriptEnded, WritesLines, Printed, last_turn, status_of_last, note_of_last}
 
 -- those behind one that was taken stay
@@ -30,22 +31,16 @@ false-of : (b : Bool) → IsTrue (not b) → IsFalse b
 false-of false is = refl
 false-of true is = absurd (false≢true is)
 
--- where nothing is sent, no call reads a file
-pub reads-none : (calls : List Call) (i : ℕ) (c : Call) → IsTrue (sends_none calls) → slice_get calls i ≡ Some c → IsFalse (is_send c)
-reads-none [] i c none at = absurd (cc)
-reads-none (x ∷ calls) zero c none at = ap is_send (sym (same_Some x c at)) ∙ false-of (is_send x) (and_parts (not (is_send x)) (list_all (λ (y : Call). not (is_send y)) calls) none).0
-reads-none (x ∷ calls) (suc i) c none at = reads-none calls i c (and_parts (not (is_send x)) (list_all (λ (y : Call). not (is_send y)) calls) none).1 at
+-- where a script sends nothing, its first calls don't
+pub sends-front : (calls script : List Call) → IsPrefixOf calls script → IsTrue (sends_none script) → IsTrue (sends_none calls)
+sends-front calls script first none = (and_parts (sends_none calls) (sends_none first.0) (sym (list_all-append (λ (y : Call). not (is_send y)) calls first.0) ∙ ap sends_none first.1 ∙ none)).0
 
 -- where no turn is a sending, the last isn't, nor those before it
-sends-pushed : (journal : List Turn) (t : Turn) → IsTrue (sends_none (calls_of (journal ++ t ∷ []))) → IsTrue (sends_none (calls_of journal)) × IsFalse (is_send t.call)
-sends-pushed [] t none = (refl, false-of (is_send t.call) (and_parts (not (is_send t.call)) true none).0)
-sends-pushed (u ∷ turns) t none =
-    let parts = and_parts (not (is_send u.call)) (sends_none (calls_of (turns ++ t ∷ []))) none in
-    let more = sends-pushed turns t parts.1 in
-    (ap (λ (b : Bool). b && sends_none (calls_of turns)) parts.0 ∙ more.0, more.1)
-
 pub sends-more : (before after : List Turn) (t : Turn) → after ≡ before ++ t ∷ [] → IsTrue (sends_none (calls_of after)) → IsTrue (sends_none (calls_of before)) × IsFalse (is_send t.call)
-sends-more before after t kept none = sends-pushed before t (subst (λ (j : List Turn). IsTrue (sends_none (calls_of j))) kept none)
+sends-more before after t kept none =
+    let calls : calls_of after ≡ calls_of before ++ t.call ∷ [] = ap calls_of kept ∙ map-append (λ (u : Turn). u.call) before (t ∷ []) in
+    let parts = and_parts (sends_none (calls_of before)) (sends_none (t.call ∷ [])) (sym (list_all-append (λ (y : Call). not (is_send y)) (calls_of before) (t.call ∷ [])) ∙ ap sends_none (sym calls) ∙ none) in
+    (parts.0, false-of (is_send t.call) (and_parts (not (is_send t.call)) true parts.1).0)
 
 -- an access that no turn makes, the last doesn't make, nor those before it
 pub unnamed-more : (before after : List Turn) (t : Turn) (access : Access) → after ≡ before ++ t ∷ [] → IsUnnamedIn after access → IsUnnamedIn before access × IsUnnamed t.call access
@@ -126,26 +121,15 @@ appended (Some xs) (Some ys) piece before is appends = ap Some (appends ∙ ap (
 
 -- ---- what is done at a status
 
-module _ (piece : List ℕ) (plan status : ℕ) (old new : Option (List ℕ)) (was are : ℕ) where
-  printed-later : Prints piece plan status old new was are → was ≤ are
-  printed-later (all is bytes same) = omega (arith, same)
-  printed-later (front is n bytes later rose) = later
-  printed-later (nothing is same none) = omega (arith, none)
+-- at no other status than 3 and 9 the line was printed
+printed-all : (piece : List ℕ) (plan status : ℕ) (old new : Option (List ℕ)) (was are : ℕ) → Prints piece plan status old new was are → IsFalse (may_lack status) → (status ≡ plan) × Appends old new piece
+printed-all piece plan status old new was are (all is bytes later) whole = (is, bytes)
+printed-all piece plan status old new was are (front is n bytes later rose) whole = absurd (lacks-not status 3 is refl whole)
+printed-all piece plan status old new was are (nothing is same later) whole = absurd (lacks-not status 9 is refl whole)
 
-  -- at no other status than 3 and 9 the line was printed
-  printed-all : Prints piece plan status old new was are → IsFalse (may_lack status) → (status ≡ plan) × Appends old new piece
-  printed-all (all is bytes later) whole = (is, bytes)
-  printed-all (front is n bytes later rose) whole = absurd (lacks-not status 3 is refl whole)
-  printed-all (nothing is same later) whole = absurd (lacks-not status 9 is refl whole)
-
-  printed-count : Prints piece plan status old new was are → IsFalse (may_lack plan) → FailsAtThree status was are
-  printed-count (all is bytes same) whole = record { failed = λ three. absurd (lacks-not plan 3 (sym is ∙ three) refl whole); quiet = λ other. same }
-  printed-count (front is n bytes later once) whole = record { failed = λ three. once; quiet = λ other. absurd (other is) }
-  printed-count (nothing is same none) whole = record { failed = λ three. absurd (omega arith); quiet = λ other. none }
-
--- behind lines that the sink took
-counts-from : (status was am are : ℕ) → am ≡ was → FailsAtThree status am are → FailsAtThree status was are
-counts-from status was am are same = subst (λ (n : ℕ). FailsAtThree status n are) same
+-- and no reply is planned for 3
+not-three : (r : Reply) → status_by r ≢ 3
+not-three r three = lacks-not (status_by r) 3 three refl (status-whole r)
 
 -- ---- the last turn
 
@@ -161,7 +145,7 @@ last-on (x ∷ y ∷ ys) on = last-on (y ∷ ys) (or_parts (ends_run x.reply) (l
 
 -- ---- the calls
 
-take-more : (X : Type 0) (xs : List X) (n : ℕ) (x : X) → slice_get xs n ≡ Some x → take n xs ++ x ∷ [] ≡ take (n + 1) xs
+pub take-more : (X : Type 0) (xs : List X) (n : ℕ) (x : X) → slice_get xs n ≡ Some x → take n xs ++ x ∷ [] ≡ take (n + 1) xs
 take-more X xs n x is =
     let at = get_or_from_slice_get xs n x x is in
     ap (λ (y : X). take n xs ++ y ∷ []) (sym at) ∙ sym (take_more xs n x (slice_get_within xs n x is))
@@ -170,7 +154,7 @@ calls-more : (script : List Call) (n : ℕ) (c : Call) (t : Turn) (journal : Lis
 calls-more script n c t journal calls at is =
     map-append (λ (u : Turn). u.call) journal (t ∷ []) ∙ ap (λ (xs : List Call). xs ++ t.call ∷ []) calls ∙ ap (λ (x : Call). take n script ++ x ∷ []) is ∙ take-more Call script n c at
 
-on-more : (journal : List Turn) (t : Turn) → IsFalse (list_any (λ (u : Turn). ends_run u.reply) journal) → IsFalse (ends_run t.reply) → IsFalse (list_any (λ (u : Turn). ends_run u.reply) (journal ++ t ∷ []))
+pub on-more : (journal : List Turn) (t : Turn) → IsFalse (list_any (λ (u : Turn). ends_run u.reply) journal) → IsFalse (ends_run t.reply) → IsFalse (list_any (λ (u : Turn). ends_run u.reply) (journal ++ t ∷ []))
 on-more journal t on last =
     list_any-append (λ (u : Turn). ends_run u.reply) journal (t ∷ [])
     ∙ ap (λ (b : Bool). b || list_any (λ (u : Turn). ends_run u.reply) (t ∷ [])) on ∙ ap (λ (b : Bool). b || false) last
@@ -230,29 +214,23 @@ module _ (script : List Call) (n : ℕ) (c : Call) (journal : List Turn) (t : Tu
       → Printed (journal ++ t ∷ []) status taken takes was are
   printed-by bytes same prints = record {
     bytes = λ before is. whole-by before (bytes before is) prints;
-    later = let more = printed-later (line t.call t.reply) (status_by t.reply) status mids takes am are prints in omega arith;
-    count = counts-from status was am are same (printed-count (line t.call t.reply) (status_by t.reply) status mids takes am are prints (status-whole t.reply));
+    later = let more = later (line t.call t.reply) (status_by t.reply) status mids takes am are prints in omega arith;
+    count = subst (λ (n : ℕ). FailsAtThree status n are) same (counts-line (line t.call t.reply) (status_by t.reply) status mids takes am are (not-three t.reply) prints);
   }
 
 -- ---- going on
 
--- a turn whose line was put into the sink
-pub steps-printed : {passes : List ℕ → Bool} {tells : Bool} {files : Option Directory} {c : Call} {before after : List Turn} {old new : TurnMoment} {from to plan : ℕ} {noted : Note} {text piece : List ℕ} {status : ℕ} {taken takes : Option (List ℕ)} {was are : ℕ}
-    → DoesTurn passes tells files c before after old new from to plan noted text → piece ≡ text → Prints piece plan status taken takes was are → Steps passes tells files c before after old new from to status noted taken takes was are
-steps-printed {piece = piece} {status = status} {taken = taken} {takes = takes} {was = was} {are = are} does is prints = record {
+-- a turn whose line was put into the sink, of files that are told the same as at first
+pub steps-printed : {passes : List ℕ → Bool} {tells : Bool} {told files : Option Directory} {c : Call} {before after : List Turn} {old new : TurnMoment} {from to plan : ℕ} {noted : Note} {text piece : List ℕ} {status : ℕ} {taken takes : Option (List ℕ)} {was are : ℕ}
+    → told ≡ files → DoesTurn passes tells told c before after old new from to plan noted text → piece ≡ text → Prints piece plan status taken takes was are → Steps passes tells files c before after old new from to status noted taken takes was are
+steps-printed {passes = passes} {tells = tells} {c = c} {old = old} {new = new} {from = from} {to = to} {piece = piece} {status = status} {taken = taken} {takes = takes} {was = was} {are = are} same does is prints = record {
   turn = does.turn;
-  turns = does.turns;
+  turns = subst (λ (f : Option Directory). Turns passes tells f c does.turn old new from to) same does.turns;
   fits = does.fits;
   kept = does.kept;
   prints = subst (λ (w : List ℕ). Prints w (status_by does.turn.reply) status taken takes was are) (is ∙ does.text_is) (subst (λ (k : ℕ). Prints piece k status taken takes was are) does.status_is prints);
   noted_is = does.noted_is;
 }
-
--- what a turn leaves with these files, with files that are told the same
-pub steps-told : (passes : List ℕ → Bool) (tells : Bool) (told files : Option Directory) (c : Call) (before after : List Turn) (old new : TurnMoment) (from to : ℕ) (status : ℕ) (noted : Note) (taken takes : Option (List ℕ)) (was are : ℕ)
-    → told ≡ files → Steps passes tells told c before after old new from to status noted taken takes was are → Steps passes tells files c before after old new from to status noted taken takes was are
-steps-told passes tells told files c before after old new from to status noted taken takes was are same steps =
-    subst (λ (f : Option Directory). Steps passes tells f c before after old new from to status noted taken takes was are) same steps
 
 -- A run that goes on: the first n calls of its script were done, none of their turns ended it, and the sink took all lines.
 pub record GoesOn (passes : List ℕ → Bool) (tells : Bool) (files : Option Directory) (script : List Call) (n : ℕ) (journal : List Turn) (old new : TurnMoment) (from to : ℕ) (taken takes : Option (List ℕ)) (was are : ℕ) : Type 0 where
@@ -285,7 +263,7 @@ module _ (passes : List ℕ → Bool) (tells : Bool) (files : Option Directory) 
           on = on-more journal t goes.on (on-at-zero t.reply (sym printed.0 ∙ zero_is));
           bytes = λ before is. more-bytes script n c journal t status noted taken mids takes was am are (line t.call t.reply) before (goes.bytes before is) printed.1
               ∙ ap (λ (w : List ℕ). Some (before ++ w)) (sym (text-more journal t));
-          quiet = (printed-count (line t.call t.reply) (status_by t.reply) status mids takes am are step.prints (status-whole t.reply)).quiet (λ three. absurd (omega (arith, three, zero_is))) ∙ goes.quiet;
+          quiet = (counts-line (line t.call t.reply) (status_by t.reply) status mids takes am are (not-three t.reply) step.prints).quiet (λ three. absurd (omega (arith, three, zero_is))) ∙ goes.quiet;
         }
 
     pub goes-on : old.on ≡ None → GoesOn passes tells files script n journal old mid from through taken mids was am → slice_get script n ≡ Some c → Steps passes tells files c journal after mid new through to status noted mids takes am are → status ≡ 0

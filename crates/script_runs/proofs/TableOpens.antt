@@ -1,8 +1,9 @@
 -- How the flash behind a partition table is found, from what its parts did.
-use Rattle.std.proofs.Common.{◌≡◌, ◌⊎◌, inl, inr, ℕ, ◌≤◌, Bool, true, false, List, ext_get_or, Some, None, sym, ap, subst, ◌∙◌, arith}
-use Rattle.std.specs.Prelude.{IsTrue, IsFalse, Result, Ok, Err}
+use Rattle.std.proofs.Common.{◌≡◌, ◌⊎◌, inl, inr, ℕ, ◌≤◌, Bool, true, false, ext_get_or, Some, None, sym, ap, subst, ◌∙◌, arith}
+use Rattle.std.specs.Prelude.{IsTrue, Result, Ok, Err}
 use Rattle.flash_core.specs.{Counts.Rose, Counts.Idles, declared.flash.FlashStop.FlashStop, May.NoChance}
-use Rattle.flash_core.specs.Told.{Told, NothingDirty, fresh, is_unsure}
+use Rattle.flash_core.specs.Told.{Told, NothingDirty, fresh}
+use Rattle.flash_core.proofs.{Calls.fresh_dirty, OneCall.sure_settled}
 use Rattle.gpt_core.specs.{declared.layout.Places.Places, declared.table.WhichTable.WhichTable, PlacesOf.places_of}
 use Rattle.gpt_core.specs.Repair.{HeadersGuarded, MendsTable, StaysBeside, TouchesToMend}
 use Rattle.gpt_core.specs.Table.{Table, FitsTable, table_in_image}
@@ -12,17 +13,12 @@ use Rattle.script_runs.specs.ByTable.{HasPlaces, Starts, StopsBefore, Waits, Wak
 
 -- ---- power that came
 
-sure : (t : Told) (i : ℕ) → NothingDirty t → IsFalse (is_unsure t i)
-unfolding fresh is_unsure
-sure t i clean = ap (λ (x : Told). is_unsure x i) clean
-
 -- it leaves the bytes of a device with nothing dirty
 pub woken-now : (old mid : Told) → NothingDirty old → Wakes old mid → mid.now ≡ old.now
-woken-now old mid clean wakes = ext_get_or 0 mid.now old.now wakes.leaves.size (λ i below. wakes.leaves.sure i (sure old i clean))
+woken-now old mid clean wakes = ext_get_or 0 mid.now old.now wakes.leaves.size (λ i below. wakes.leaves.sure i (sure_settled old clean i))
 
 pub woken-clean : (old mid : Told) → Wakes old mid → NothingDirty mid
-unfolding fresh
-woken-clean old mid wakes = wakes.fresh_is ∙ ap (λ (g : List ℕ). fresh g mid.now) (sym (ap (λ (t : Told). t.guard) wakes.fresh_is))
+woken-clean old mid wakes = fresh_dirty mid old.guard wakes.fresh_is
 
 pub woken-same : (old mid : Told) → NothingDirty old → Wakes old mid → mid ≡ old
 woken-same old mid clean wakes = wakes.fresh_is ∙ ap (fresh old.guard) (woken-now old mid clean wakes) ∙ sym clean
@@ -133,7 +129,7 @@ module _ (stops : ℕ) (tells : Bool) (blocks m n : ℕ) (old mid found new : Tu
       stays = λ guarded. (mends-here (Err stop) (mends told) told guarded).stays;
       beside = beside-here (beside told) told;
     });
-    touches = inr (record { places = p; has = has-here; touches = touches-here });
+    touches = inr (p, has-here, touches-here);
     waits = subst (λ (k : ℕ). Waits k old new) one waited;
     off = off;
     cause = cause-before old found new (waits-then 0 old mid found woke looked) cause;

@@ -1,22 +1,18 @@
 -- The ways that a run behind a partition table may end, from what its parts did.
 use Rattle.std.proofs.Common.{◌≡◌, ◌≢◌, ℕ, Bool, List, Option, Some, None, sym, ap, subst, ◌∙◌, arith, []}
-use Rattle.std.specs.Prelude.{IsTrue, IsFalse}
-use Rattle.fwu_model.specs.{Call.Call, Reply.Turn, Causes.Faults}
-use Rattle.host_io.specs.{Contents.Directory, Printed.Prints, Printed.all, Printed.front, Printed.nothing}
+use Rattle.std.specs.Prelude.{IsFalse}
+use Rattle.fwu_model.specs.{Reply.Turn, Causes.Faults}
+use Rattle.host_io.specs.{Contents.Directory, Printed.Prints}
 use Rattle.fwu_words.specs.Order.{Asked}
 use Rattle.script_turns.specs.Powered.{TurnMoment, at}
-use Rattle.script_runs.specs.{declared.done.Note.Note, declared.done.NoTable.NoTable, Ending.is_beyond_model, Ending.noted}
+use Rattle.script_runs.specs.{declared.done.Note.Note, Ending.is_beyond_model, Ending.noted}
 use Rattle.script_runs.specs.{Running.Printed, Ways.Given, Ways.HasGoodList, Ways.Refuses}
 use Rattle.script_runs.specs.declared.done.Note.TheVariants as note
-use Rattle.script_runs.specs.ByTable.{Looks, StopsBefore, flash_fault_line, lacked_in, no_table_line, seen_at}
+use Rattle.script_runs.specs.ByTable.{flash_fault_line, no_table_line, seen_at}
 use Rattle.script_runs.specs.Ways as way
-use Rattle.script_runs.specs.WaysByTable.{ReadsScript, WayByTable, untouched, starved, lacked, stopped, ran}
+use Rattle.script_runs.specs.WaysByTable.{WayByTable, untouched, starved, lacked, stopped, ran}
+pub use Rattle.script_runs.proofs.TopSources.{not-done as not-nothing}
 use Rattle.script_runs.proofs.TopWays.{device-of, end-of, world-of, ran-from, refused-by, with-list}
-
-pub not-nothing : (line : List ℕ) (planned status : ℕ) (taken_before taken_after : Option (List ℕ)) (faults_before faults_after : ℕ) → planned ≢ 0 → Prints line planned status taken_before taken_after faults_before faults_after → status ≢ 0
-not-nothing line planned status taken_before taken_after faults_before faults_after some (all is appends later) zero_is = some (sym is ∙ zero_is)
-not-nothing line planned status taken_before taken_after faults_before faults_after some (front three n appends later rose) zero_is = absurd (omega arith)
-not-nothing line planned status taken_before taken_after faults_before faults_after some (nothing nine same later) zero_is = absurd (omega arith)
 
 module _ (passes : List ℕ → Bool) (tells : Bool) (blocks : ℕ) (journal : List Turn) (status : ℕ) (said : Note) (old new : TurnMoment) (taken_before taken_after : Option (List ℕ)) where
   -- nothing was touched, and the line of the cause was put
@@ -30,21 +26,6 @@ module _ (passes : List ℕ → Bool) (tells : Bool) (blocks : ℕ) (journal : L
   pub table-starved : (asked : Option Asked) (g : Given) (faults_before faults_after : Faults) → journal ≡ [] → new ≡ old → status ≡ 9 → said ≡ note.Nothing → (taken_after ≡ taken_before) × (faults_after.sink ≡ faults_before.sink) → WayByTable passes (device-of tells blocks) asked g (end-of journal status said) (world-of old taken_before faults_before) (world-of new taken_after faults_after)
   table-starved asked g faults_before faults_after none same nine is quiet =
       untouched none same (λ zero_is. absurd (omega arith)) (ap is_beyond_model is) (way.starved none same nine (ap noted is) quiet)
-
-  -- by where the search for the flash left the device
-  pub lacked-way : (asked : Option Asked) (g : Given) (faults_before faults_after : Faults) (mid : TurnMoment) (calls : List Call) (why : NoTable) → ReadsScript asked g calls → journal ≡ [] → Looks tells old mid
-      → (IsTrue tells → lacked_in blocks mid.told.now ≡ Some why) → new ≡ mid → said ≡ note.NoTable why → Prints (no_table_line why) 10 status taken_before taken_after faults_before.sink faults_after.sink
-      → WayByTable passes (device-of tells blocks) asked g (end-of journal status said) (world-of old taken_before faults_before) (world-of new taken_after faults_after)
-  lacked-way asked g faults_before faults_after mid calls why reads none looks lacks same is prints =
-      lacked calls why reads none (subst (Looks tells old) (sym same) looks) (λ told. subst (λ (m : TurnMoment). lacked_in blocks m.told.now ≡ Some why) (sym same) (lacks told)) is prints
-
-  pub stopped-way : (asked : Option Asked) (g : Given) (faults_before faults_after : Faults) (mid : TurnMoment) (calls : List Call) → ReadsScript asked g calls → journal ≡ [] → StopsBefore tells blocks old mid → new ≡ mid
-      → said ≡ note.Nothing → Prints flash_fault_line 5 status taken_before taken_after faults_before.sink faults_after.sink → WayByTable passes (device-of tells blocks) asked g (end-of journal status said) (world-of old taken_before faults_before) (world-of new taken_after faults_after)
-  stopped-way asked g faults_before faults_after mid calls reads none stops same is prints = stopped calls reads none (subst (StopsBefore tells blocks old) (sym same) stops) is prints
-
-  pub starved-way : (asked : Option Asked) (g : Given) (faults_before faults_after : Faults) (mid : TurnMoment) (calls : List Call) → ReadsScript asked g calls → journal ≡ [] → Looks tells old mid → new ≡ mid → status ≡ 9
-      → said ≡ note.Nothing → (taken_after ≡ taken_before) × (faults_after.sink ≡ faults_before.sink) → WayByTable passes (device-of tells blocks) asked g (end-of journal status said) (world-of old taken_before faults_before) (world-of new taken_after faults_after)
-  starved-way asked g faults_before faults_after mid calls reads none looks same nine is quiet = starved calls reads none (subst (Looks tells old) (sym same) looks) nine is quiet
 
   -- a way without a list is one behind a list that was read and is one
   pub table-with-list : (asked : Option Asked) (told files : Option Directory) (name : List ℕ) (script : Option (List ℕ)) (first faults_before faults_after : Faults) → told ≡ files → HasGoodList (Some name) files

@@ -1,8 +1,9 @@
 -- The ways of a run on a plain flash, from what the calls give.
-use Rattle.std.proofs.Common.{ℕ, Bool, List, Option, ◌≡◌, ◌≤◌, true, false, Some, None, refl, sym, subst, ◌∙◌, arith, []}
+use Rattle.std.proofs.Common.{ℕ, Bool, List, Option, ◌≡◌, ◌≤◌, Some, None, refl, sym, subst, ◌∙◌, arith, []}
 use Rattle.fwu_model.specs.{Causes.Faults, Reply.Turn, declared.kinds.Note.Note}
 use Rattle.script_turns.specs.{Powered.TurnMoment, Powered.at, Runs.Ran}
 use Rattle.std.specs.Prelude.{IfSome}
+use Rattle.std.proofs.lemmas.Bool.{false≢true}
 use Rattle.flash_core.specs.Counts.{Rose}
 use Rattle.host_io.specs.{Contents.Directory, Printed.Prints}
 use Rattle.fwu_words.specs.Order.{Asked, asked}
@@ -22,9 +23,6 @@ device-of tells blocks = record { tells = tells; blocks = blocks }
 
 -- ---- the ways that a run may end, from what its parts did
 
-false_true : false ≡ true → ⊥
-false_true e = cc
-
 -- a fact of what is told
 pub of-told : {A : Type 0} (told : Option A) (P : A → Type 0) → ((value : A) → told ≡ Some value → P value) → IfSome told P
 of-told None P all = tt
@@ -37,10 +35,10 @@ pub refuses : (asked : Option Asked) (told files : Option Directory) (name : Lis
     → Refuses asked (record { list = Some name; files = files; script = script }) first faults_after planned noted line
 refuses asked told files name script first faults_before faults_after planned noted line good later source (usage listed is) = usage good is
 refuses asked told files name script first faults_before faults_after planned noted line good later source (not_read listed is rose) = not_read good is (subst (λ (n : ℕ). Rose n faults_after.source) (sym source) rose)
-refuses asked told files name script first faults_before faults_after planned noted line good later source (list_not_read some why) = let no : false ≡ true = some in absurd (false_true no)
+refuses asked told files name script first faults_before faults_after planned noted line good later source (list_not_read some why) = absurd (false≢true some)
 refuses asked told files name script first faults_before faults_after planned noted line good later source (too_long listed is long) = too_long good is long
 refuses asked told files name script first faults_before faults_after planned noted line good later source (bad_script n listed asks short bad) = bad_script n good asks short bad
-refuses asked told files name script first faults_before faults_after planned noted line good later source (bad_list n some there bad) = let no : false ≡ true = some in absurd (false_true no)
+refuses asked told files name script first faults_before faults_after planned noted line good later source (bad_list n some there bad) = absurd (false≢true some)
 
 -- turns with these files are turns with files that are told the same
 pub ran-told : (passes : List ℕ → Bool) (tells : Bool) (files told : Option Directory) (journal : List Turn) (old new : TurnMoment) (from to : ℕ) → files ≡ told → Ran passes tells told journal old new from to

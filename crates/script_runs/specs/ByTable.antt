@@ -20,11 +20,10 @@ seen_at p m = at m.on (view_of p m.told) (writes_seen p m.writes) m.counts m.arm
 -- ---- what a table lacks
 
 abbrev pub lacked_by : Result Places PlaceFault → Option NoTable
-lacked_by (Ok p) = None
 lacked_by (Err fault.NoStore) = Some no.Store
 lacked_by (Err (fault.Replicas n)) = Some (no.Replicas n)
 lacked_by (Err fault.TooSmall) = Some no.TooSmall
-lacked_by (Err fault.NoMemory) = None
+lacked_by other = None
 
 abbrev pub lacked_of : ℕ → Option (Table × WhichTable) → Option NoTable
 lacked_of blocks None = Some no.Table
@@ -108,19 +107,14 @@ pub record StopsMending (blocks : ℕ) (woken new : Told) : Type 0 where
   pub stays : HeadersGuarded blocks woken → (image : List ℕ) → May new image → DecidesTable blocks table image
   pub beside : StaysBeside blocks table which woken new
 
--- Of a table that gives places no block was erased or programmed but those of the copy that is repaired.
-pub record TouchesOneCopy (tells : Bool) (blocks : ℕ) (woken : Told) (old new : ℕ → ℕ) : Type 0 where
-  pub places : Places
-  pub has : HasPlaces tells blocks woken places
-  pub touches : TouchesToMend blocks has.table has.which old new
-
 -- Power was lost or the flash failed before the first turn, at the reading of the table or at its repair.
 pub record StopsBefore (tells : Bool) (blocks : ℕ) (old new : TurnMoment) : Type 0 where
   pub woken : Told
   pub wakes : IsTrue tells → Wakes old.told woken
   pub left : IsTrue tells → (new.told ≡ woken) ⊎ StopsMending blocks woken new.told
-  -- on any device
-  pub touches : (new.writes ≡ old.writes) ⊎ TouchesOneCopy tells blocks woken old.writes new.writes
+  -- on any device no block was erased or programmed, but those of the copy that is repaired, of a table that gives places
+  pub touches : (new.writes ≡ old.writes)
+      ⊎ ((p : Places) × (has : HasPlaces tells blocks woken p) × TouchesToMend blocks has.table has.which old.writes new.writes)
   pub waits : Waits 1 old new
   pub off : new.power ≡ false
   pub cause : StopHasCause old.counts new.counts
@@ -129,11 +123,6 @@ pub record StopsBefore (tells : Bool) (blocks : ℕ) (old new : TurnMoment) : Ty
 abbrev pub goes_on : {T : Type 0} → Result T Unopened → Bool
 goes_on (Err unopened.Stopped) = false
 goes_on other = true
-
--- how many stops this result tells
-abbrev pub stops_opened : {T : Type 0} → Result T Unopened → ℕ
-stops_opened (Err unopened.Stopped) = 1
-stops_opened other = 0
 
 -- What looking for the flash behind a table leaves, by its result.
 abbrev pub Opens : Bool → ℕ → TurnMoment → TurnMoment → Result Places Unopened → Type 0

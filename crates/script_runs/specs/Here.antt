@@ -1,13 +1,11 @@
--- What the functions of a run say of the device, the files, the source and the sink that they were handed, and of what
--- they left.
-use Rattle.std.specs.Prelude.{ℕ, Bool, List, Option, Some}
+-- What the functions of a run say of the device, the files and the sink that they were handed, and of what they left.
+use Rattle.std.specs.Prelude.{ℕ, Bool, List, Option}
 use Rattle.flash_core.specs.declared.flash.Flash as flash
 use Rattle.host_io.specs.declared.files.Files as files
-use Rattle.host_io.specs.declared.source.Source as source
 use Rattle.host_io.specs.declared.sink.Sink as sink
 use Rattle.host_io.specs.Printed.{Prints}
-use Rattle.fwu_words.specs.{Order.Asked, declared.orders.Place.Place, declared.orders.Turns.Turns}
-use Rattle.script_runs.specs.{Ending.ending, Refusing.plain_of, Refusing.text_of, WaysByTable.WayAt, declared.done.Done.Done}
+use Rattle.fwu_words.specs.{Order.Asked, declared.orders.Place.Place}
+use Rattle.script_runs.specs.{Ending.ending, WaysByTable.WayAt, declared.done.Done.Done}
 use Rattle.script_runs.specs.Ways.{Given, device_of, moment_world}
 
 -- what a line that was put into this sink makes of a status
@@ -21,10 +19,3 @@ GoesAt at d h o passes asked g before after flash files sink done files_after si
     WayAt at passes (device_of d flash) asked g (ending done)
     (moment_world d o (record { files = h.faults files; source = before; sink = o.faults sink }) flash sink)
     (moment_world d o (record { files = h.faults files_after; source = after; sink = o.faults sink_after }) done.flash sink_after)
-
--- the same for what the words ask for, of a source that counts its failures
-abbrev pub GoesFor : {D H I O : Type 0} → Turns → flash.Ghosts D → files.Ghosts H → source.Ghosts I → sink.Ghosts O
-    → (List ℕ → Bool) → Given → D → H → I → O → Done D → H → I → O → Type 0
-GoesFor order d h i o passes g flash files source sink done files_after source_after sink_after =
-    GoesAt order.place d h o passes (Some (plain_of order.from)) (record g { script = text_of order.from (i.left source) })
-    (i.faults source) (i.faults source_after) flash files sink done files_after sink_after

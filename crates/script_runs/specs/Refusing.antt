@@ -1,44 +1,33 @@
 -- Why a run has no first turn, with the status, the line and the note of that; and why there is no script to run.
-use Rattle.std.specs.Prelude.{◌≡◌, ℕ, List, Option, Some, IfSome, IsTrue, []}
+use Rattle.std.specs.Prelude.{◌≢◌, ℕ, List, Option, Some, []}
 use Rattle.fwu_model.specs.Asked as model
-use Rattle.fwu_model.specs.{Asked.script_asked, Script.is_too_long}
-use Rattle.fwu_model.specs.Wrote.{IsBadScript, bad_list_line, bad_script_line, not_read_line, too_long_line, usage_line}
+use Rattle.fwu_model.specs.{Asked.script_asked, Causes.Faults}
+use Rattle.fwu_model.specs.Wrote.{bad_list_line, bad_script_line, not_read_line, too_long_line, usage_line}
 use Rattle.fwu_words.specs.{Order.Asked, declared.orders.ScriptFrom.ScriptFrom}
 use Rattle.fwu_words.specs.Order as ask
 use Rattle.fwu_words.specs.declared.orders.ScriptFrom.TheVariants as origin
-use Rattle.host_io.specs.Calls.{raised}
 use Rattle.script_runs.specs.ByTable.{flash_fault_line, no_table_line}
-use Rattle.script_runs.specs.{Ways.IsShortScript, declared.done.Note.Note, declared.refusing.Refusal.Refusal}
+use Rattle.script_runs.specs.{Ending.noted, declared.done.Note.Note, declared.refusing.Refusal.Refusal}
+use Rattle.script_runs.specs.Ways.{Given, HasGoodList, Refuses}
 use Rattle.script_runs.specs.declared.done.Note.TheVariants as note
 use Rattle.script_runs.specs.declared.refusing.Refusal.TheVariants as why
 
--- the status that is planned for it
-abbrev pub refusal_status : Refusal → ℕ
-refusal_status why.Usage = 1
-refusal_status why.Unread = 2
-refusal_status why.TooLong = 8
-refusal_status (why.BadScript n) = 4
-refusal_status (why.BadList n) = 13
-refusal_status (why.NoTable lack) = 10
-refusal_status why.Stopped = 5
-refusal_status why.NoMemory = 9
+-- what is planned where a run has no first turn
+pub record RefusalPlan : Type 0 where
+  pub status : ℕ
+  pub line : List ℕ
+  pub note : Note
 
--- its line; none where memory is wanting
-abbrev pub refusal_line : Refusal → List ℕ
-refusal_line why.Usage = usage_line
-refusal_line why.Unread = not_read_line
-refusal_line why.TooLong = too_long_line
-refusal_line (why.BadScript n) = bad_script_line n
-refusal_line (why.BadList n) = bad_list_line n
-refusal_line (why.NoTable lack) = no_table_line lack
-refusal_line why.Stopped = flash_fault_line
-refusal_line why.NoMemory = []
-
-abbrev pub refusal_note : Refusal → Note
-refusal_note (why.BadScript n) = note.BadLine n
-refusal_note (why.BadList n) = note.BadList n
-refusal_note (why.NoTable lack) = note.NoTable lack
-refusal_note other = note.Nothing
+-- where memory is wanting there is no line
+abbrev pub plan_of : Refusal → RefusalPlan
+plan_of why.Usage = record { status = 1; line = usage_line; note = note.Nothing }
+plan_of why.Unread = record { status = 2; line = not_read_line; note = note.Nothing }
+plan_of why.TooLong = record { status = 8; line = too_long_line; note = note.Nothing }
+plan_of (why.BadScript n) = record { status = 4; line = bad_script_line n; note = note.BadLine n }
+plan_of (why.BadList n) = record { status = 13; line = bad_list_line n; note = note.BadList n }
+plan_of (why.NoTable lack) = record { status = 10; line = no_table_line lack; note = note.NoTable lack }
+plan_of why.Stopped = record { status = 5; line = flash_fault_line; note = note.Nothing }
+plan_of why.NoMemory = record { status = 9; line = []; note = note.Nothing }
 
 -- what is asked, as the definitions of a run have it
 abbrev pub in_short : Option Asked → model.ScriptAsked
@@ -59,11 +48,9 @@ plain_of origin.Boot = ask.boot
 abbrev pub text_of : ScriptFrom → Option (List ℕ) → Option (List ℕ)
 text_of from left = script_asked (in_short (Some (plain_of from))) left
 
--- Why there is no script to run, of a source that tells this and has counted these failures. Only a read that failed is counted.
-pub data LacksScript (from : ScriptFrom) (left : Option (List ℕ)) (before after : ℕ) : Refusal → Type 0 where
-  unread : from ≡ origin.Source → after ≡ raised before → LacksScript from left before after why.Unread
-  too_long : from ≡ origin.Source → IfSome left (λ bytes. IsTrue (is_too_long bytes)) → after ≡ before
-      → LacksScript from left before after why.TooLong
-  bad : (n : ℕ) → IsShortScript (text_of from left) → IsBadScript (text_of from left) n → after ≡ before
-      → LacksScript from left before after (why.BadScript n)
-  starved : after ≡ before → LacksScript from left before after why.NoMemory
+-- There is no script to run, of a source that told this and counted these failures. Unless memory was wanting, a run with no list
+-- or a good one is refused so.
+abbrev pub LacksScript : ScriptFrom → Option (List ℕ) → ℕ → ℕ → Refusal → Type 0
+LacksScript from left before after met = met ≢ why.NoMemory → (g : Given) (was are : Faults) → HasGoodList g.list g.files
+    → Refuses (Some (plain_of from)) (record g { script = text_of from left }) (record was { source = before })
+    (record are { source = after }) (plan_of met).status (noted (plan_of met).note) (plan_of met).line

@@ -76,11 +76,10 @@ abbrev pub IsUnnamedIn : List Turn → Access → Type 0
 IsUnnamedIn journal access = (t : Turn) → Contains journal t → IsUnnamed t.call access
 
 -- What a run of a script leaves of the files: what they tell, and that none is written.
-pub record KeepsFiles {H : Type 0} (h : files.Ghosts H) (script : List Call) (journal : List Turn) (old new : H) : Type 0 where
+pub record KeepsFiles {H : Type 0} (h : files.Ghosts H) (journal : List Turn) (old new : H) : Type 0 where
   pub same : h.contents new ≡ h.contents old
   pub unwritten : h.writes new ≡ h.writes old
-  -- where the script sends nothing, or no turn is a `send`, no file was read
-  pub unread : IsTrue (sends_none script) → new ≡ old
+  -- where no turn is a `send`, no file was read
   pub unsent : IsTrue (sends_none (calls_of journal)) → new ≡ old
   -- where no turn names a file, no call asks for it
   pub spares : (access : Access) → IsUnnamedIn journal access → h.spares old new access

@@ -31,10 +31,6 @@ pub record HasGoodList (list : Option (List ℕ))
   pub there : LacksList files list → ⊥
   pub good : IfSome (list_bytes list files) (λ bytes. (n : ℕ) → digests_of bytes ≡ Err n → ⊥)
 
--- the asked script, where it is told, is within the limits of a script
-abbrev pub IsShortScript : Option (List ℕ) → Type 0
-IsShortScript script = IfSome script (λ bytes. is_too_long bytes ≡ false)
-
 -- Why nothing ran, with the status, the note and the line of that. A fault of the list comes before the others.
 pub data Refuses (asked : Option Asked) (g : Given) (faults_before faults_after : Faults) : ℕ → Note → List ℕ → Type 0 where
   usage : HasGoodList g.list g.files → asked ≡ None → Refuses asked g faults_before faults_after 1 note.Nothing usage_line
@@ -44,7 +40,8 @@ pub data Refuses (asked : Option Asked) (g : Given) (faults_before faults_after 
       → Refuses asked g faults_before faults_after 2 note.Nothing not_read_line
   too_long : HasGoodList g.list g.files → asked ≡ Some ask.run → IfSome g.script (λ bytes. IsTrue (is_too_long bytes))
       → Refuses asked g faults_before faults_after 8 note.Nothing too_long_line
-  bad_script : (n : ℕ) → HasGoodList g.list g.files → AsksTurns asked → IsShortScript g.script → IsBadScript g.script n
+  bad_script : (n : ℕ) → HasGoodList g.list g.files → AsksTurns asked → IfSome g.script (λ bytes. is_too_long bytes ≡ false)
+      → IsBadScript g.script n
       → Refuses asked g faults_before faults_after 4 (note.BadLine n) (bad_script_line n)
   bad_list : (n : ℕ) → IsSome g.list → (LacksList g.files g.list → ⊥) → IsBadList (list_bytes g.list g.files) n
       → Refuses asked g faults_before faults_after 13 (note.BadList n) (bad_list_line n)

@@ -1,14 +1,15 @@
 //! A run at the place that is asked for: on the flash as it is, or on the one that the device has behind its partition table.
-ghost use Rattle.std.specs.Prelude.{◌≡◌, ◌≤◌, [], None, IfSome, IsTrue, IsFalse};
+ghost use Rattle.std.specs.Prelude.{◌≡◌, ◌≤◌, None, Some, IsTrue, IsFalse};
 ghost use Rattle.host_io.specs.Access.{Access};
 ghost use Rattle.host_io.specs.Once.{ReadsOnce};
 ghost use Rattle.fwu_journal.specs.Shown.{turns};
 ghost use Rattle.fwu_words.specs.declared.orders.Place.TheVariants as place;
 ghost use Rattle.fwu_words.specs.declared.orders.ScriptFrom.TheVariants as origin;
-ghost use Rattle.script_runs.specs.Here.{GoesFor};
+ghost use Rattle.script_runs.specs.Here.{GoesAt};
 ghost use Rattle.script_runs.specs.Ending.{is_beyond_model};
+ghost use Rattle.script_runs.specs.Refusing.{plain_of, text_of};
 ghost use Rattle.script_runs.specs.Running.{IsUnnamedIn};
-ghost use Rattle.script_runs.specs.Sourced.{FailsOnce, ReadsInTime, TakesScript};
+ghost use Rattle.script_runs.specs.Sourced.{FailsOnce, TakesScript};
 ghost use Rattle.script_runs.specs.Ways.{Given, HasGoodList};
 ghost use Rattle.script_turns.specs.Runs.{calls_of, sends_none};
 
@@ -42,8 +43,9 @@ pub fn run_turns<D: Flash, H: Files, I: Source, O: Sink, V: Verifier>(
     requires off { IsFalse (D.on board.flash) }
     requires unarmed { D.arming board.flash ≡ None }
     ensures way { (g : Given) → HasGoodList g.list g.files → g.files ≡ H.contents files.old
-        → GoesFor order D.Flash H.Files I.Source O.Sink (V.passes board.entry.verifier.now) g
-        board.entry.flash files.old source.old sink.old result files.new source.new sink.new }
+        → GoesAt order.place D.Flash H.Files O.Sink (V.passes board.entry.verifier.now)
+        (Some (plain_of order.from)) (record g { script = text_of order.from (I.left source.old) })
+        (I.faults source.old) (I.faults source.new) board.entry.flash files.old sink.old result files.new sink.new }
     ensures note { order.place ≡ place.Flash → IsFalse (is_beyond_model result.note) }
     // What it reads: for one boot neither the source nor a file, and only the file of a `send`.
     ensures boot_source { order.from ≡ origin.Boot → source.new ≡ source.old }
@@ -52,8 +54,6 @@ pub fn run_turns<D: Flash, H: Files, I: Source, O: Sink, V: Verifier>(
     ensures spares { (access : Access) → IsUnnamedIn (turns result.journal) access → H.spares files.old files.new access }
     ensures same_files { H.contents files.new ≡ H.contents files.old }
     ensures unwritten { H.writes files.new ≡ H.writes files.old }
-    ensures read_to_end { result.status ≡ 0 → order.from ≡ origin.Source → IfSome (I.left source.new) (λ rest. rest ≡ []) }
-    ensures in_time { ReadsInTime (I.left source.old) (I.left source.new) }
     ensures takes { order.from ≡ origin.Source
         → TakesScript (turns result.journal) result.status (I.left source.old) (I.left source.new) }
     ensures source_count { FailsOnce (turns result.journal) result.status (I.faults source.old) (I.faults source.new) }

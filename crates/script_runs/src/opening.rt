@@ -1,12 +1,12 @@
 //! The flash that a device has behind a GUID partition table: the table is read and repaired before a run.
-ghost use Rattle.std.specs.Prelude.{◌≡◌, ◌≤◌, Some, None, Ok, Err, IfOk, OnOk, IsErr, IsTrue, IsFalse, is_ok};
+ghost use Rattle.std.specs.Prelude.{if◌then◌else◌, ◌≡◌, ◌≤◌, Some, None, Ok, Err, IfOk, OnOk, IsErr, IsTrue, IsFalse, is_ok};
 ghost use Rattle.flash_core.specs.Counts.{Spends, StaysUnarmed, stops_in};
 ghost use Rattle.flash_core.specs.Told.{NothingDirty};
 ghost use Rattle.gpt_core.specs.Places.{Fit};
 ghost use Rattle.gpt_core.specs.PlacesOf.{places_of};
 ghost use Rattle.gpt_core.specs.Repair.{HeadersGuarded, MendsTable, StaysBeside, TouchesToMend};
 ghost use Rattle.gpt_core.specs.Table.{FitsTable, table_in_image};
-ghost use Rattle.script_runs.specs.ByTable.{StopHasCause, Opens, Waits, goes_on, lacked_by, lacked_in, stops_opened};
+ghost use Rattle.script_runs.specs.ByTable.{StopHasCause, Opens, Waits, goes_on, lacked_by, lacked_in};
 ghost use Rattle.script_turns.specs.Powered.{moment};
 
 use crate::done::NoTable;
@@ -63,7 +63,7 @@ fn find<D: Flash>(alloc: Global, flash: &mut D) -> Result<Found, Unopened>
         → lacked_in (D.blocks flash.old) (D.told flash.old).now ≡ Some why }
     ensures content { IsTrue D.tells → D.told flash.new ≡ D.told flash.old }
     ensures power { D.on flash.new ≡ goes_on result }
-    ensures waits { Waits (stops_opened result) (moment D.Flash flash.old)
+    ensures waits { Waits (if goes_on result then 0 else 1) (moment D.Flash flash.old)
         (moment D.Flash flash.new) }
     ensures cause { result ≡ Err Unopened.Stopped → StopHasCause (D.counts flash.old) (D.counts flash.new) }
     ensures writes { D.writes flash.new ≡ D.writes flash.old }

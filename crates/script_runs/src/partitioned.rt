@@ -86,7 +86,7 @@ fn run_mapped<D: Flash, K: Start, H: Files, O: Sink, V: Verifier>(
     ensures beside { IsTrue D.tells → Beside opened.places (D.told opened.flash) (D.told result.flash) }
     ensures touches { TouchesPlaces opened.places (D.writes opened.flash) (D.writes result.flash) }
     ensures ends { EndsRun O.Sink ready.script (ending result) sink.old sink.new }
-    ensures keeps { KeepsFiles H.Files ready.script (turns result.journal) files.old files.new }
+    ensures keeps { KeepsFiles H.Files (turns result.journal) files.old files.new }
     ensures size { D.blocks result.flash ≡ D.blocks opened.flash }
 {
     let Opened { flash, places } = opened;
@@ -110,7 +110,7 @@ fn run_at<D: Flash, H: Files, O: Sink, V: Verifier>(
     ensures beside { IsTrue D.tells → Beside opened.places (D.told opened.flash) (D.told result.flash) }
     ensures touches { TouchesPlaces opened.places (D.writes opened.flash) (D.writes result.flash) }
     ensures ends { EndsRun O.Sink ready.script (ending result) sink.old sink.new }
-    ensures keeps { KeepsFiles H.Files ready.script (turns result.journal) files.old files.new }
+    ensures keeps { KeepsFiles H.Files (turns result.journal) files.old files.new }
     ensures size { D.blocks result.flash ≡ D.blocks opened.flash }
 {
     run_mapped::<D, Brand, H, O, V>(alloc, ready, files, sink, opened, verifier)

@@ -1,10 +1,10 @@
 //! The script that is to run, with the room for its turns. It is there before the flash is touched.
-ghost use Rattle.std.specs.Prelude.{◌≡◌, ◌≤◌, ℕ, List, [], Some, Err, IfOk, OnOk, IsTrue, length, false};
-ghost use Rattle.std.specs.Io.KnownBytes.{IsAtEnd};
+ghost use Rattle.std.specs.Prelude.{◌≡◌, ◌≤◌, ℕ, List, [], Some, Err, IfOk, length, false};
+ghost use Rattle.base_core.specs.Counts.{Rose};
 ghost use Rattle.fwu_model.specs.Script.{is_too_long};
 ghost use Rattle.host_io.specs.Once.{ReadsOnce};
 ghost use Rattle.fwu_words.specs.declared.orders.ScriptFrom.TheVariants as origin;
-ghost use Rattle.script_runs.specs.Sourced.{MakesScript, TakesText, read_failures, stops_long};
+ghost use Rattle.script_runs.specs.Sourced.{FailsOnce, MakesScript, TakesScript, status_read};
 
 use crate::refusing::Refusal;
 use crate::room::{Ready, Room};
@@ -29,14 +29,12 @@ const MOST_READ: usize = 4_194_305;
 /// Reads a script's text to the source's end, or to where it is too long: by its bytes at the first byte too many, and by its lines
 /// at the end of the piece that has it.
 pub fn read_source<I: Source>(alloc: Global, source: &mut I) -> Result<Vec<u8>, SourceStop>
-    ensures whole { IfOk result (λ text. (rest : List ℕ) → I.left source.old ≡ Some rest
-        → (text.items ≡ rest) × (I.left source.new ≡ Some [])) }
-    ensures end { OnOk result (IsAtEnd (I.left source.new)) }
+    ensures whole { IfOk result (λ text. (rest : List ℕ) → I.left source.old ≡ Some rest → text.items ≡ rest) }
     ensures short { IfOk result (λ text. (is_too_long text.items ≡ false) × (length text.items ≤ 4194304)) }
-    ensures long { result ≡ Err SourceStop.TooLong → (rest : List ℕ) → I.left source.old ≡ Some rest → IsTrue (is_too_long rest) }
+    ensures failed { result ≡ Err SourceStop.Failed → Rose (I.faults source.old) (I.faults source.new) }
+    ensures takes { TakesScript [] (status_read result) (I.left source.old) (I.left source.new) }
+    ensures count { FailsOnce [] (status_read result) (I.faults source.old) (I.faults source.new) }
     ensures later { I.faults source.old ≤ I.faults source.new }
-    ensures takes { TakesText (stops_long result) (I.left source.old) (I.left source.new) }
-    ensures count { I.faults source.new ≡ read_failures result (I.faults source.old) }
     ensures once { ReadsOnce I.Source source.old source.new }
 {
     let mut text = Vec::new(alloc);

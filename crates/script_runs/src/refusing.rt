@@ -4,7 +4,7 @@ ghost use Rattle.fwu_journal.specs.Shown.{turns};
 ghost use Rattle.fwu_model.specs.Wrote.{bad_list_line, bad_script_line};
 ghost use Rattle.script_runs.specs.Here.{PrintsTo};
 ghost use Rattle.script_runs.specs.ByTable.{no_table_line};
-ghost use Rattle.script_runs.specs.Refusing.{refusal_line, refusal_note, refusal_status};
+ghost use Rattle.script_runs.specs.Refusing.{plan_of};
 
 use crate::done::{Done, NoTable, Note};
 use crate::printing::{put_line, put_usage};
@@ -36,7 +36,7 @@ pub enum Refusal {
 
 /// What is noted of a refusal.
 fn note_of(why: Refusal) -> Note
-    ensures { result ≡ refusal_note why }
+    ensures { result ≡ (plan_of why).note }
 {
     match why {
         Refusal::BadScript(line) => Note::BadLine(line),
@@ -85,7 +85,7 @@ fn put_no_table<O: Sink>(alloc: Global, sink: &mut O, lack: NoTable) -> u8
 /// script, 5 for a stop, 8 for a script that is too long. It is 10 without a flash behind the table, 13 for a bad list, and 3
 /// where the sink failed. Where memory is wanting, for the line too, nothing is put and it is 9.
 fn put_refusal<O: Sink>(alloc: Global, sink: &mut O, why: Refusal) -> u8
-    ensures prints { PrintsTo O.Sink (refusal_line why) (refusal_status why) result sink.old sink.new }
+    ensures prints { PrintsTo O.Sink (plan_of why).line (plan_of why).status result sink.old sink.new }
     ensures starved { why ≡ Refusal.NoMemory → (result ≡ 9) × (sink.new ≡ sink.old) }
 {
     match why {
@@ -102,9 +102,9 @@ fn put_refusal<O: Sink>(alloc: Global, sink: &mut O, why: Refusal) -> u8
 
 /// Ends a run that has no first turn: puts the line of the refusal, and does nothing else.
 pub fn refuse<D: Flash, O: Sink>(alloc: Global, sink: &mut O, why: Refusal, flash: D) -> Done<D>
-    ensures prints { PrintsTo O.Sink (refusal_line why) (refusal_status why) result.status sink.old sink.new }
+    ensures prints { PrintsTo O.Sink (plan_of why).line (plan_of why).status result.status sink.old sink.new }
     ensures starved { why ≡ Refusal.NoMemory → (result.status ≡ 9) × (sink.new ≡ sink.old) }
-    ensures note { result.note ≡ refusal_note why }
+    ensures note { result.note ≡ (plan_of why).note }
     ensures flash { result.flash ≡ flash }
     ensures no_turns { turns result.journal ≡ [] }
 {

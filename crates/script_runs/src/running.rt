@@ -183,7 +183,7 @@ pub fn run_script<D: Flash, H: Files, O: Sink, V: Verifier>(
         (moment_on D.Flash on result.flash) (H.faults files.old) (H.faults files.new) }
     ensures ends { EndsRun O.Sink ready.script (ending result) sink.old sink.new }
     ensures size { D.blocks result.flash ≡ D.blocks (device start) }
-    ensures keeps { KeepsFiles H.Files ready.script (turns result.journal) files.old files.new }
+    ensures keeps { KeepsFiles H.Files (turns result.journal) files.old files.new }
 {
     let Ready { script, room } = ready;
     let mut run = Run::new(room, start);

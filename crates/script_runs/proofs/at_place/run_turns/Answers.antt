@@ -1,9 +1,10 @@
-use Rattle.std.proofs.Common.{Some, Err, ap, subst, sym}
+use Rattle.std.proofs.Common.{Some, ap, refl, subst, sym}
 use Rattle.fwu_words.specs.declared.orders.Place.{Place}
 use Rattle.script_turns.specs.Powered.{moment}
 use Rattle.script_runs.specs.{Here.GoesAt, Refusing.plain_of, Refusing.text_of, Ways.ran}
-use Rattle.script_runs.proofs.Refused.{asks-of, lacks-at, lacks-once, lacks-quiet, lacks-some, lacks-takes, read-takes}
-use Rattle.script_runs.proofs.{RunEnds.ended-not-long, TopSources.later, TopSources.none-fails, TopWays.ran-told}
+use Rattle.script_runs.proofs.Refused.{asks-of, lacks-at, lacks-quiet}
+use Rattle.script_runs.proofs.TopSources.{fails-by, later, none-fails, takes-by, takes-run}
+use Rattle.script_runs.proofs.{Making.boot-sends, RunEnds.ended-not-long, RunEnds.sends-front, TopWays.ran-told}
 use Rattle.script_runs.proofs.at_place.run_turns.Goals as goal
 
 -- ---- no script
@@ -20,18 +21,13 @@ pub returns-in-Err-clause-note : goal.returns-in-Err-clause-note
 returns-in-Err-clause-note g c = λ flash. lacks-quiet _ _ _ _ c.in-Err.why _ c.in-Err.ensures.lacks c.refuse.ensures.note
 
 pub returns-in-Err-clause-source_count : goal.returns-in-Err-clause-source_count
-returns-in-Err-clause-source_count g c = lacks-once _ _ _ _ c.in-Err.why _ _ _ _ _ _ c.in-Err.ensures.lacks c.refuse.ensures.no_turns c.refuse.ensures.prints
+returns-in-Err-clause-source_count g c = rw c.refuse.ensures.no_turns (fails-by _ _ c.refuse.ensures.prints c.in-Err.ensures.count)
 
 pub returns-in-Err-clause-later_sink : goal.returns-in-Err-clause-later_sink
 returns-in-Err-clause-later_sink g c = later _ _ _ _ _ _ _ c.refuse.ensures.prints
 
-pub returns-in-Err-clause-read_to_end : goal.returns-in-Err-clause-read_to_end
-returns-in-Err-clause-read_to_end g c = λ zero source. absurd (lacks-some c.in-Err.why _ _ _ _ _ c.refuse.ensures.prints zero)
-
 pub returns-in-Err-clause-takes : goal.returns-in-Err-clause-takes
-returns-in-Err-clause-takes g c source =
-    lacks-takes _ _ _ _ _ _ _ _ _ _ _ c.in-Err.why c.in-Err.ensures.lacks c.refuse.ensures.no_turns c.refuse.ensures.prints c.in-Err.ensures.takes
-    (λ n is. c.in-Err.ensures.bad_to_end n (ap Err is) source)
+returns-in-Err-clause-takes g c source = rw c.refuse.ensures.no_turns (takes-by _ _ c.refuse.ensures.prints (c.in-Err.ensures.takes source))
 
 -- ---- on the device
 
@@ -45,14 +41,14 @@ returns-in-Flash-clause-way g c = λ given listed told.
     (ran _ e.ran.0 listed (asks-of from) c.in-Ok.ensures.script (ran-told _ _ _ _ _ _ _ _ _ told (rw c.off.ensures.device at e.ran.1)) e.ends.ended e.ends.printed)
 
 pub returns-in-Flash-clause-boot_files : goal.returns-in-Flash-clause-boot_files
-returns-in-Flash-clause-boot_files g c = λ boot. c.run_script.ensures.keeps.unread (c.in-Ok.ensures.boot_sends boot)
+returns-in-Flash-clause-boot_files g c = λ boot. c.run_script.ensures.keeps.unsent (sends-front _ _ c.run_script.ensures.ends.ended.calls (boot-sends _ _ _ c.in-Ok.ensures.script boot))
 
 pub returns-in-Flash-clause-source_count : goal.returns-in-Flash-clause-source_count
-returns-in-Flash-clause-source_count g c = none-fails _ _ _ _ c.in-Ok.ensures.quiet
+returns-in-Flash-clause-source_count g c = none-fails _ _ _ _ (c.in-Ok.ensures.count.none refl)
 
 pub returns-in-Flash-clause-takes : goal.returns-in-Flash-clause-takes
 returns-in-Flash-clause-takes g c source =
-    read-takes _ _ _ _ c.in-Ok.ensures.takes (c.in-Ok.ensures.to_end source) (ended-not-long _ _ _ _ c.run_script.ensures.ends.ended)
+    takes-run _ _ _ _ (c.in-Ok.ensures.takes source) (ended-not-long _ _ _ _ c.run_script.ensures.ends.ended)
 
 -- ---- behind its partition table
 
@@ -66,10 +62,10 @@ returns-in-Partitions-clause-way g c = λ given listed told.
     (record { good = listed; asks = asks-of from; has = c.in-Ok.ensures.script }) told)
 
 pub returns-in-Partitions-clause-boot_files : goal.returns-in-Partitions-clause-boot_files
-returns-in-Partitions-clause-boot_files g c = λ boot. c.run_by_table.ensures.files (c.in-Ok.ensures.boot_sends boot)
+returns-in-Partitions-clause-boot_files g c = λ boot. c.run_by_table.ensures.files (boot-sends _ _ _ c.in-Ok.ensures.script boot)
 
 pub returns-in-Partitions-clause-source_count : goal.returns-in-Partitions-clause-source_count
-returns-in-Partitions-clause-source_count g c = none-fails _ _ _ _ c.in-Ok.ensures.quiet
+returns-in-Partitions-clause-source_count g c = none-fails _ _ _ _ (c.in-Ok.ensures.count.none refl)
 
 pub returns-in-Partitions-clause-takes : goal.returns-in-Partitions-clause-takes
-returns-in-Partitions-clause-takes g c source = read-takes _ _ _ _ c.in-Ok.ensures.takes (c.in-Ok.ensures.to_end source) c.run_by_table.ensures.not_long
+returns-in-Partitions-clause-takes g c source = takes-run _ _ _ _ (c.in-Ok.ensures.takes source) c.run_by_table.ensures.not_long

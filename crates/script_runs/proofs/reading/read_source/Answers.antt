@@ -1,13 +1,9 @@
-use Rattle.std.proofs.Common.{arith, ap, ◌∙◌, length-take, List, subst, sym, ℕ}
+use Rattle.std.proofs.Common.{arith, ap, ◌∙◌, inr, refl, length-take, List, [], subst, sym, ℕ}
 use Rattle.std.specs.Prelude.{not}
 use Rattle.host_io.specs.Calls.{raised}
 use Rattle.host_io.proofs.Once.{bytes-none, bytes-one, bytes-then, once-one, once-then}
-use Rattle.script_runs.proofs.TopSources.{IsReading, goes-on, is-long, nothing-yet, takes-failed, takes-long, takes-none, takes-piece}
+use Rattle.script_runs.proofs.TopSources.{IsReading, goes-on, may-fail, none-fails, nothing-yet, raised-rose, takes-failed, takes-long, takes-none, takes-piece}
 use Rattle.script_runs.proofs.reading.read_source.Goals as goal
-
-pub returns-then-feed-count-clause-long : goal.returns-then-feed-count-clause-long
-returns-then-feed-count-clause-long g c = λ _.
-    is-long _ _ _ _ _ c.loop-count.limit _ _ c.feed.result c.loop-count.invariant.text c.in-Ok.ensures.bytes.0 (omega (arith, c.if-feed-count.true, c.in-Ok.ensures.bound.1)) c.feed.ensures.full
 
 pub loop-count-init : goal.loop-count-init
 loop-count-init g c = record {
@@ -33,15 +29,19 @@ loop-count-preserved g c = record {
 pub returns-in-Err-clause-takes : goal.returns-in-Err-clause-takes
 returns-in-Err-clause-takes g c = takes-failed _ _ _ _ _ c.loop-count.limit _ c.loop-count.invariant.text c.in-Err.ensures.bytes
 
+pub returns-in-Err-clause-failed : goal.returns-in-Err-clause-failed
+returns-in-Err-clause-failed g c = λ is. raised-rose _ _ (c.in-Err.ensures.cause.count ∙ ap raised c.loop-count.invariant.text.none)
+
 pub returns-in-Err-clause-count : goal.returns-in-Err-clause-count
-returns-in-Err-clause-count g c = c.in-Err.ensures.cause.count ∙ ap raised c.loop-count.invariant.text.none
+returns-in-Err-clause-count g c = may-fail 2 _ _ refl (inr (c.in-Err.ensures.cause.count ∙ ap raised c.loop-count.invariant.text.none))
 
 pub returns-then-count-eq0-clause-takes : goal.returns-then-count-eq0-clause-takes
 returns-then-count-eq0-clause-takes g c =
-    takes-none _ _ _ _ _ c.loop-count.limit _ _ c.loop-count.invariant.text c.in-Ok.ensures.bytes.0 (omega (arith, c.if-count-eq0.true, c.in-Ok.ensures.bound.1))
+    takes-none _ _ _ _ _ c.loop-count.limit _ _ 0 c.loop-count.invariant.text c.in-Ok.ensures.bytes.0 (omega (arith, c.if-count-eq0.true, c.in-Ok.ensures.bound.1)) (λ is. absurd (omega arith))
+    (λ all. c.in-Ok.ensures.bytes.1 c.if-count-eq0.true (omega (arith, c.min-room.ensures, c.len.ensures, c.loop-count.invariant.text.extent.few, c.read.auto.out, length-take c.min-room.result c.loop-count.buffer)))
 
 pub returns-then-count-eq0-clause-count : goal.returns-then-count-eq0-clause-count
-returns-then-count-eq0-clause-count g c = c.in-Ok.ensures.cause.count ∙ c.loop-count.invariant.text.none
+returns-then-count-eq0-clause-count g c = none-fails [] _ _ _ (c.in-Ok.ensures.cause.count ∙ c.loop-count.invariant.text.none)
 
 pub returns-then-feed-count-clause-takes : goal.returns-then-feed-count-clause-takes
 returns-then-feed-count-clause-takes g c =
@@ -51,7 +51,7 @@ returns-then-feed-count-clause-takes g c =
     (omega (arith, c.if-feed-count.true, c.in-Ok.ensures.bound.1)) c.feed.ensures.full
 
 pub returns-then-feed-count-clause-count : goal.returns-then-feed-count-clause-count
-returns-then-feed-count-clause-count g c = c.in-Ok.ensures.cause.count ∙ c.loop-count.invariant.text.none
+returns-then-feed-count-clause-count g c = none-fails [] _ _ _ (c.in-Ok.ensures.cause.count ∙ c.loop-count.invariant.text.none)
 
 pub returns-then-is_err-clause-takes : goal.returns-then-is_err-clause-takes
 returns-then-is_err-clause-takes g c =
@@ -61,7 +61,7 @@ returns-then-is_err-clause-takes g c =
     c.feed.ensures.some (omega (arith, c.if-feed-count.false, c.in-Ok.ensures.bound.1)) c.feed.ensures.taken
 
 pub returns-then-is_err-clause-count : goal.returns-then-is_err-clause-count
-returns-then-is_err-clause-count g c = c.in-Ok.ensures.cause.count ∙ c.loop-count.invariant.text.none
+returns-then-is_err-clause-count g c = none-fails [] _ _ _ (c.in-Ok.ensures.cause.count ∙ c.loop-count.invariant.text.none)
 
 -- ---- no read behind the end, or behind a failure
 

@@ -1,11 +1,18 @@
-use Rattle.script_runs.proofs.Making.{lacks-ready, lacks-room, makes-ready}
+use Rattle.std.proofs.Common.{refl}
+use Rattle.script_runs.proofs.Making.{lacks, makes, starves}
 use Rattle.script_runs.proofs.reading.script_of.Goals as goal
 
 pub returns-in-Ok-make : goal.returns-in-Ok-make
-returns-in-Ok-make g c = makes-ready g.I.Source _ _ _ _ _ c.in-Ok.ensures
+returns-in-Ok-make g c =
+    let e = c.in-Ok.ensures in
+    makes g.I.Source _ _ _ e.boot_alone e.later e.once (λ ready. ready.script) _ e.script e.takes e.count
 
 pub returns-in-Err : goal.returns-in-Err
-returns-in-Err g c = lacks-ready g.I.Source _ _ _ _ _ c.in-Err.ensures
+returns-in-Err g c =
+    let e = c.in-Err.ensures in
+    lacks g.I.Source _ _ _ e.boot_alone e.later e.once (λ ready. ready.script) c.in-Err.why e.lacks e.takes e.count
 
 pub returns-in-Err-make : goal.returns-in-Err-make
-returns-in-Err-make g c = lacks-room g.I.Source _ _ _ _ _ c.in-Ok.ensures
+returns-in-Err-make g c =
+    let e = c.in-Ok.ensures in
+    starves g.I.Source _ _ _ e.boot_alone e.later e.once (λ ready. ready.script) (λ is. (e.takes is).in_time) (e.count.none refl)

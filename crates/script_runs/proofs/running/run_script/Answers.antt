@@ -9,7 +9,7 @@ use Rattle.script_text.specs.Shown.{shown}
 use Rattle.script_turns.specs.Powered.{at, device, has_power, moment, moment_of, moment_on, shown_on}
 use Rattle.script_turns.specs.{Runs.Ran, Runs.calls_of, Runs.sends_none, Sending.IsUnnamed}
 use Rattle.script_runs.specs.{Ending.is_beyond_model, Running.IsUnnamedIn}
-use Rattle.script_runs.proofs.RunEnds.{left-behind, reads-none, sends-more, unnamed-more, GoesOn, goes-none, goes-on, ends-ran, ends-by, ends-printed, all-ended, all-printed, steps-printed, steps-told}
+use Rattle.script_runs.proofs.RunEnds.{left-behind, sends-more, unnamed-more, GoesOn, goes-none, goes-on, ends-ran, ends-by, ends-printed, all-ended, all-printed, steps-printed}
 use Rattle.script_runs.proofs.TopSources.{done-planned}
 use Rattle.script_runs.proofs.running.run_script.Goals as goal
 
@@ -36,7 +36,6 @@ loop-index-init g c =
       size = ap (λ (p : _). g.D.Flash.blocks (device p)) (sym powered);
       same_files = refl;
       unwritten = refl;
-      files = λ none. refl;
       unsent = λ none. refl;
       spares = λ access none. g.met.H.Files.at_rest c.args.files.now access;
     }
@@ -47,7 +46,7 @@ loop-index-preserved g c =
     let taken_call = shown c.take-call.result in
     let at_call : slice_get c.args.ready.script c.loop-index.index ≡ Some taken_call = sym (was.calls_left c.loop-index.index (omega arith)) ∙ c.take-call.ensures.call in
     record {
-      goes = goes-on _ _ _ _ _ _ _ _ c.loop-index.index taken_call _ _ _ _ _ _ _ _ _ _ _ _ refl was.goes at_call (steps-told _ _ _ _ _ _ _ _ _ _ _ _ _ _ _ _ _ c.loop-index.invariant.same_files (steps-printed c.do_call-end.ensures.does c.as_slice.ensures.value c.put_line-status.ensures)) c.if-status-ne0.false;
+      goes = goes-on _ _ _ _ _ _ _ _ c.loop-index.index taken_call _ _ _ _ _ _ _ _ _ _ _ _ refl was.goes at_call (steps-printed c.loop-index.invariant.same_files c.do_call-end.ensures.does c.as_slice.ensures.value c.put_line-status.ensures) c.if-status-ne0.false;
       length_is = ap length c.take-call.ensures.left ∙ length-set c.loop-index.script c.loop-index.index call.Show ∙ was.length_is;
       calls_left = λ k behind. ap (λ (l : List Call). slice_get l k) c.take-call.ensures.left ∙ left-behind c.loop-index.script c.loop-index.index call.Show k behind ∙ was.calls_left k (omega arith);
       powered = c.do_call-end.ensures.powered (done-planned _ _ _ _ _ _ _ c.put_line-status.ensures c.if-status-ne0.false);
@@ -55,13 +54,12 @@ loop-index-preserved g c =
       size = c.do_call-end.ensures.size ∙ was.size;
       same_files = c.do_call-end.ensures.same_files ∙ was.same_files;
       unwritten = c.do_call-end.ensures.unwritten ∙ was.unwritten;
-      files = λ none. c.do_call-end.ensures.files (reads-none c.args.ready.script c.loop-index.index taken_call none at_call) ∙ was.files none;
       unsent = λ none.
-          let step = steps-printed c.do_call-end.ensures.does c.as_slice.ensures.value c.put_line-status.ensures in
+          let step = steps-printed c.loop-index.invariant.same_files c.do_call-end.ensures.does c.as_slice.ensures.value c.put_line-status.ensures in
           let parts = sends-more (turns c.loop-index.run.journal) _ step.turn step.kept none in
           c.do_call-end.ensures.files (subst (λ (x : Call). IsFalse (is_send x)) step.turns.call_is parts.1) ∙ was.unsent parts.0;
       spares = λ access none.
-          let step = steps-printed c.do_call-end.ensures.does c.as_slice.ensures.value c.put_line-status.ensures in
+          let step = steps-printed c.loop-index.invariant.same_files c.do_call-end.ensures.does c.as_slice.ensures.value c.put_line-status.ensures in
           let parts = unnamed-more (turns c.loop-index.run.journal) _ step.turn access step.kept none in
           g.met.H.Files.joins c.args.files.now c.loop-index.files c.do_call-end.new.files access (was.spares access parts.0)
           (c.do_call-end.ensures.spares access (subst (λ (x : Call). IsUnnamed x access) step.turns.call_is parts.1));
@@ -79,7 +77,7 @@ returns-then-status-ne0-clause-ran g c =
       shown_on m,
       subst (λ (x : g.row.D.Denot). Ran passes g.D.Flash.tells files (turns c.into_done.result.journal) old (moment_on g.D.Flash (shown_on m) x) from to) (sym c.into_done.ensures.flash)
           (subst (λ (j : Journal). Ran passes g.D.Flash.tells files (turns j) old (moment_on g.D.Flash (shown_on m) (device m)) from to) (sym c.into_done.ensures.journal)
-          (ends-ran _ _ _ _ _ _ _ _ c.loop-index.index (shown c.take-call.result) _ _ _ _ _ _ _ _ _ _ _ _ refl c.loop-index.invariant.goes (steps-told _ _ _ _ _ _ _ _ _ _ _ _ _ _ _ _ _ c.loop-index.invariant.same_files (steps-printed c.do_call-end.ensures.does c.as_slice.ensures.value c.put_line-status.ensures)))),
+          (ends-ran _ _ _ _ _ _ _ _ c.loop-index.index (shown c.take-call.result) _ _ _ _ _ _ _ _ _ _ _ _ refl c.loop-index.invariant.goes (steps-printed c.loop-index.invariant.same_files c.do_call-end.ensures.does c.as_slice.ensures.value c.put_line-status.ensures))),
     )
 
 pub returns-then-status-ne0-clause-ends : goal.returns-then-status-ne0-clause-ends
@@ -87,27 +85,24 @@ returns-then-status-ne0-clause-ends g c = record {
   ended =
       let at_call : slice_get c.args.ready.script c.loop-index.index ≡ Some (shown c.take-call.result) = sym (c.loop-index.invariant.calls_left c.loop-index.index (omega arith)) ∙ c.take-call.ensures.call in
       rw c.into_done.ensures.journal (rw c.into_done.ensures.status (rw c.into_done.ensures.note
-      (ends-by _ _ _ _ _ _ _ _ c.loop-index.index (shown c.take-call.result) _ _ _ _ _ _ _ _ _ _ _ _ c.loop-index.invariant.goes at_call (steps-told _ _ _ _ _ _ _ _ _ _ _ _ _ _ _ _ _ c.loop-index.invariant.same_files (steps-printed c.do_call-end.ensures.does c.as_slice.ensures.value c.put_line-status.ensures)) c.if-status-ne0.true)));
+      (ends-by _ _ _ _ _ _ _ _ c.loop-index.index (shown c.take-call.result) _ _ _ _ _ _ _ _ _ _ _ _ c.loop-index.invariant.goes at_call (steps-printed c.loop-index.invariant.same_files c.do_call-end.ensures.does c.as_slice.ensures.value c.put_line-status.ensures) c.if-status-ne0.true)));
   plain = ap is_beyond_model c.into_done.ensures.note ∙ c.do_call-end.ensures.note;
   printed =
       rw c.into_done.ensures.journal (rw c.into_done.ensures.status
-      (ends-printed _ _ _ _ _ _ _ _ c.loop-index.index (shown c.take-call.result) _ _ _ _ _ _ _ _ _ _ _ _ c.loop-index.invariant.goes (steps-told _ _ _ _ _ _ _ _ _ _ _ _ _ _ _ _ _ c.loop-index.invariant.same_files (steps-printed c.do_call-end.ensures.does c.as_slice.ensures.value c.put_line-status.ensures))));
+      (ends-printed _ _ _ _ _ _ _ _ c.loop-index.index (shown c.take-call.result) _ _ _ _ _ _ _ _ _ _ _ _ c.loop-index.invariant.goes (steps-printed c.loop-index.invariant.same_files c.do_call-end.ensures.does c.as_slice.ensures.value c.put_line-status.ensures)));
 }
 
 pub returns-then-status-ne0-clause-keeps : goal.returns-then-status-ne0-clause-keeps
 returns-then-status-ne0-clause-keeps g c = record {
   same = c.do_call-end.ensures.same_files ∙ c.loop-index.invariant.same_files;
   unwritten = c.do_call-end.ensures.unwritten ∙ c.loop-index.invariant.unwritten;
-  unread = λ none.
-      let at_call : slice_get c.args.ready.script c.loop-index.index ≡ Some (shown c.take-call.result) = sym (c.loop-index.invariant.calls_left c.loop-index.index (omega arith)) ∙ c.take-call.ensures.call in
-      c.do_call-end.ensures.files (reads-none c.args.ready.script c.loop-index.index (shown c.take-call.result) none at_call) ∙ c.loop-index.invariant.files none;
   unsent = λ none.
-      let step = steps-printed c.do_call-end.ensures.does c.as_slice.ensures.value c.put_line-status.ensures in
+      let step = steps-printed c.loop-index.invariant.same_files c.do_call-end.ensures.does c.as_slice.ensures.value c.put_line-status.ensures in
       let still = subst (λ (j : Journal). IsTrue (sends_none (calls_of (turns j)))) c.into_done.ensures.journal none in
       let parts = sends-more (turns c.loop-index.run.journal) _ step.turn step.kept still in
       c.do_call-end.ensures.files (subst (λ (x : Call). IsFalse (is_send x)) step.turns.call_is parts.1) ∙ c.loop-index.invariant.unsent parts.0;
   spares = λ access none.
-      let step = steps-printed c.do_call-end.ensures.does c.as_slice.ensures.value c.put_line-status.ensures in
+      let step = steps-printed c.loop-index.invariant.same_files c.do_call-end.ensures.does c.as_slice.ensures.value c.put_line-status.ensures in
       let still = subst (λ (j : Journal). IsUnnamedIn (turns j) access) c.into_done.ensures.journal none in
       let parts = unnamed-more (turns c.loop-index.run.journal) _ step.turn access step.kept still in
       g.met.H.Files.joins c.args.files.now c.loop-index.files c.do_call-end.new.files access (c.loop-index.invariant.spares access parts.0)
@@ -129,7 +124,6 @@ pub returns-clause-keeps : goal.returns-clause-keeps
 returns-clause-keeps g c = record {
   same = c.loop-index.invariant.same_files;
   unwritten = c.loop-index.invariant.unwritten;
-  unread = c.loop-index.invariant.files;
   unsent = λ none.
       c.loop-index.invariant.unsent (subst (λ (j : Journal). IsTrue (sends_none (calls_of (turns j)))) c.into_done-2.ensures.journal none);
   spares = λ access none. c.loop-index.invariant.spares access (subst (λ (j : Journal). IsUnnamedIn (turns j) access) c.into_done-2.ensures.journal none);

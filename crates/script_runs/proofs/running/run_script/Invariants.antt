@@ -8,7 +8,7 @@ use Rattle.script_runs.proofs.RunEnds.{GoesOn}
 use Rattle.script_runs.proofs.running.run_script.Given as goal
 
 -- the run goes on; the calls that are left are the script's; there is room for their turns; no file was read where
--- nothing is sent, and none that no turn names
+-- no turn is a `send`, and none that no turn names
 abbrev pub invariant-loop-index : goal.invariant-loop-index
 invariant-loop-index g l = record {
   goes : GoesOn (g.V.Verifier.passes l.verifier) g.D.Flash.tells (g.H.Files.contents l.fn.files) l.fn.ready.script l.index (turns l.run.journal)
@@ -22,7 +22,6 @@ invariant-loop-index g l = record {
   size : g.D.Flash.blocks (device l.run.powered) ≡ g.D.Flash.blocks (device l.fn.start);
   same_files : g.H.Files.contents l.files ≡ g.H.Files.contents l.fn.files;
   unwritten : g.H.Files.writes l.files ≡ g.H.Files.writes l.fn.files;
-  files : IsTrue (sends_none l.fn.ready.script) → l.files ≡ l.fn.files;
   unsent : IsTrue (sends_none (calls_of (turns l.run.journal))) → l.files ≡ l.fn.files;
   spares : (access : Access) → IsUnnamedIn (turns l.run.journal) access → g.H.Files.spares l.fn.files l.files access;
 }
