@@ -83,7 +83,7 @@ makes-starved = record {
   told = λ told has. tt;
   whole = λ told has. tt;
   count = tt;
-  asks = record { file = λ e. absurd cc; usage = λ e. absurd cc; sink = λ e. absurd cc; refusals = tt };
+  asks = record { file = λ e. absurd cc; sink = λ e. absurd cc; refusals = tt };
 }
 
 -- of payloads that are among those of another
@@ -129,7 +129,7 @@ module _ (value : List Part → Result (ℕ × List ℕ) Stop) (ps : List Payloa
           ∙ ap (λ (b : List ℕ). Ok (m.count, b)) (sym (made-is told all));
       whole = made-whole;
       count = made.count;
-      asks = record { file = λ e. absurd cc; usage = λ e. absurd cc; sink = λ e. absurd cc; refusals = tt };
+      asks = record { file = λ e. absurd cc; sink = λ e. absurd cc; refusals = tt };
     }
 
   pub makes-unpacked : (s : PackStop) → ((parts : List Part) → map zeroed parts ≡ os → (f : PackFault) → s ≡ pack.Fault f → value parts ≡ Err (stop.NotPacked f))
@@ -138,6 +138,6 @@ module _ (value : List Part → Result (ℕ × List ℕ) Stop) (ps : List Payloa
     told = λ told all. refuses (map (part_told told) ps) (zeros told all) f refl;
     whole = λ told all. tt;
     count = tt;
-    asks = record { file = λ e. absurd cc; usage = λ e. absurd cc; sink = λ e. absurd cc; refusals = tt };
+    asks = record { file = λ e. absurd cc; sink = λ e. absurd cc; refusals = tt };
   }
   makes-unpacked pack.NoMemory refuses = makes-starved

@@ -187,4 +187,4 @@ too-long-of told security named f e is =
 
 -- to refuse asks for nothing
 pub asks-refused : {X : Type 0} (f : ManifestFault) → AsksNothing {X = X} IsManifestStop (Err (stop.NoManifest f))
-asks-refused f = record { file = λ e. absurd cc; usage = λ e. absurd cc; sink = λ e. absurd cc; refusals = tt }
+asks-refused f = record { file = λ e. absurd cc; sink = λ e. absurd cc; refusals = tt }

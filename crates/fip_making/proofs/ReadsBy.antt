@@ -36,7 +36,6 @@ module _ {X : Type 0} {told now : Option Directory} {before after : ℕ} where
     once = omega (arith, quiet);
     quiet = none result asks;
     cause = λ e untold. absurd (asks.file e);
-    usage = asks.usage;
     sink = asks.sink;
   }
     where
@@ -47,11 +46,11 @@ module _ {X : Type 0} {told now : Option Directory} {before after : ℕ} where
 
   pub reads-done : {x : X} → now ≡ told → after ≡ before → ReadsOnly told now before after (Ok x)
   reads-done {x = x} same quiet = reads-asked {IsOwn = λ s. Unit {0}} (Ok x) same quiet
-      (record { file = λ e. absurd cc; usage = λ e. absurd cc; sink = λ e. absurd cc; refusals = tt })
+      (record { file = λ e. absurd cc; sink = λ e. absurd cc; refusals = tt })
 
   pub reads-starved : now ≡ told → after ≡ before → ReadsOnly {X = X} told now before after (Err stop.NoMemory)
   reads-starved same quiet = reads-asked {IsOwn = λ s. Unit {0}} (Err stop.NoMemory) same quiet
-      (record { file = λ e. absurd cc; usage = λ e. absurd cc; sink = λ e. absurd cc; refusals = tt })
+      (record { file = λ e. absurd cc; sink = λ e. absurd cc; refusals = tt })
 
   -- the last part, after others that read alone
   pub reads-then : {mid : Option Directory} {between : ℕ} {result : Result X Stop} → mid ≡ told → between ≡ before → ReadsOnly mid now between after result
@@ -62,7 +61,6 @@ module _ {X : Type 0} {told now : Option Directory} {before after : ℕ} where
     once = omega (arith, quiet, reads.once);
     quiet = quiet-then result before between after quiet reads.quiet;
     cause = λ e untold. rose-still _ _ _ (sym quiet) (reads.cause e (same ∙ untold));
-    usage = reads.usage;
     sink = reads.sink;
   }
 
@@ -75,7 +73,6 @@ module _ {X : Type 0} {told now : Option Directory} {before after : ℕ} where
     once = omega (arith, quiet, reads.once);
     quiet = quiet-as Y X s before between after quiet reads.quiet;
     cause = λ e untold. let is : s ≡ stop.FileFault = cc in rose-still _ _ _ (sym quiet) (reads.cause (err-same is) (same ∙ untold));
-    usage = λ e. let is : s ≡ stop.Usage = cc in reads.usage (err-same is);
     sink = λ e. let is : s ≡ stop.SinkFault = cc in reads.sink (err-same is);
   }
 
@@ -85,14 +82,13 @@ module _ {X : Type 0} {told now : Option Directory} {before after : ℕ} where
         → ReadsOnly {X = X} told now before after (Err (stop_of_table s))
     reads-no-table (toc.Fault f) same still quiet h =
         reads-asked {IsOwn = λ s. Unit {0}} (Err (stop.NotFip f)) (still ∙ same) (h.fault f refl ∙ quiet)
-        (record { file = λ e. absurd cc; usage = λ e. absurd cc; sink = λ e. absurd cc; refusals = tt })
+        (record { file = λ e. absurd cc; sink = λ e. absurd cc; refusals = tt })
     reads-no-table toc.ReadFailed same still quiet h = record {
       same = still ∙ same;
       later = omega (arith, quiet, h.later);
       once = omega (arith, quiet, h.once);
       quiet = tt;
       cause = λ e untold. failed told mid name before between after same quiet (h.failed refl) untold;
-      usage = λ e. absurd cc;
       sink = λ e. absurd cc;
     }
 

@@ -3,7 +3,7 @@ use Rattle.std.proofs.Common.{◌≡◌, ◌∙◌, ap, Result, Err, Ok}
 use Rattle.std.specs.Prelude.{IsErrAnd, IfErr}
 use Rattle.std.proofs.lemmas.Result.{err_from_is_err_and}
 use Rattle.fip_making.specs.{declared.stops.Stop.Stop, Stops.stop_of_table, Answers.IsLate}
-use Rattle.fip_making.specs.Refusals.{IsOfEnclosing, IsOfEntries, IsManifestStop, IsPackageStop, IsOfPackaging, IsOfPacking, IsOfRepacking, IsOfSource}
+use Rattle.fip_making.specs.Refusals.{IsOfCapsule, IsOfEntries, IsManifestStop, IsPackageStop, IsOfSource, PackingOr}
 use Rattle.fip_tables.specs.declared.toc.TocStop.{TocStop}
 use Rattle.fip_tables.specs.declared.toc.TocStop.TheVariants as toc
 use Rattle.fip_making.specs.declared.stops.Stop.TheVariants as stop
@@ -59,18 +59,13 @@ late-of-entries = late-is IsOfEntries tt tt tt
 pub late-of-manifest : (s : Stop) → IsLate s → IsManifestStop s
 late-of-manifest = late-is IsManifestStop tt tt tt
 
-pub late-of-packing : (s : Stop) → IsLate s → IsOfPacking s
-late-of-packing = late-is IsOfPacking tt tt tt
+pub late-of-capsule : (s : Stop) → IsLate s → IsOfCapsule s
+late-of-capsule = late-is IsOfCapsule tt tt tt
 
-pub late-of-repacking : (s : Stop) → IsLate s → IsOfRepacking s
-late-of-repacking = late-is IsOfRepacking tt tt tt
+pub late-packing : {P : Stop → Type 0} → ((s : Stop) → IsLate s → P s) → (s : Stop) → IsLate s → PackingOr P s
+late-packing turns (stop.NotPacked f) h = tt
+late-packing turns s h = turns s h
 
-pub late-of-enclosing : (s : Stop) → IsLate s → IsOfEnclosing s
-late-of-enclosing = late-is IsOfEnclosing tt tt tt
-
-pub late-of-packaging : (s : Stop) → IsLate s → IsOfPackaging s
-late-of-packaging = late-is IsOfPackaging tt tt tt
-
-pub packing-of-repacking : (s : Stop) → IsOfPacking s → IsOfRepacking s
-packing-of-repacking (stop.NotPacked f) h = tt
-packing-of-repacking s h = late-of-repacking s h
+pub packing-as : {P Q : Stop → Type 0} → ((s : Stop) → P s → Q s) → (s : Stop) → PackingOr P s → PackingOr Q s
+packing-as turns (stop.NotPacked f) h = tt
+packing-as turns s h = turns s h

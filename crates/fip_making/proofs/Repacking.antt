@@ -8,7 +8,8 @@ use Rattle.fwu_formats.specs.{Package.Entry, Package.Part, Package.Toc, Package.
 use Rattle.fip_tables.specs.Files.{Lacks, Tells}
 use Rattle.fip_words.specs.{Order.part_view, Values.NamedFile, declared.values.FileWord.FileWord}
 use Rattle.fip_making.specs.{Payloads.HasEntry, Payloads.bytes_in, declared.stops.Stop.Stop}
-use Rattle.fip_making.specs.Values.{after, first_missing, is_named, kept_part, pack_value, package_read_in, parts_in, remove_value, sized_table, table_or_stop, there, unless_missing, update_value, updated_part}
+use Rattle.fip_making.specs.Values.{after, first_missing, is_named, kept_part, pack_value, package_read_in, parts_in, remove_value, sized_table, table_or, there, unless_missing, update_value, updated_part}
+use Rattle.fip_making.specs.declared.stops.Stop.TheVariants as stop
 use Rattle.fwu_formats.proofs.Tables.{ends-within}
 use Rattle.fip_making.proofs.{Packings.held-entries, Packings.held-stored, Packings.held-there, Refusing.err-of}
 
@@ -23,7 +24,7 @@ abbrev made_with : {Y : Type 0} → List (List ℕ) → (List ℕ × Toc → Res
 made_with guids k r = after r (λ p. unless_missing (first_missing p.1 guids) (k p))
 
 abbrev package_of : Option (List ℕ) → Result (List ℕ × Toc) Stop
-package_of o = after (there o) (λ bytes. after (table_or_stop (toc_of bytes)) (λ t. Ok (bytes, t)))
+package_of o = after (there o) (λ bytes. after (table_or stop.NotFip (toc_of bytes)) (λ t. Ok (bytes, t)))
 
 abbrev table_by : List (List ℕ) → Result (List ℕ × Toc) Stop → Result Toc Stop
 table_by guids r = after {X = Toc × ℕ} (after r (λ p. Ok (p.1, length p.0))) (λ t. unless_missing (first_missing t.0 guids) (Ok t.0))
@@ -46,7 +47,7 @@ opened told name guids toc e = by-file (told name) refl e
         record { bytes = bytes; is = is; table = t ∙ ap (λ (x : Toc). Ok x) same; all = subst (λ (x : Toc). first_missing x guids ≡ None) same none }
     by-missing bytes found (Some guid) is t some h = cc
 
-    by-table : (bytes : List ℕ) (r : Result Toc FipFault) → told name ≡ Some bytes → toc_of bytes ≡ r → table_by guids (after (table_or_stop r) (λ t. Ok (bytes, t))) ≡ Ok toc → IsOpened told name guids toc
+    by-table : (bytes : List ℕ) (r : Result Toc FipFault) → told name ≡ Some bytes → toc_of bytes ≡ r → table_by guids (after (table_or stop.NotFip r) (λ t. Ok (bytes, t))) ≡ Ok toc → IsOpened told name guids toc
     by-table bytes (Err f) is t h = cc
     by-table bytes (Ok found) is t h = by-missing bytes found (first_missing found guids) is t refl h
 
@@ -64,7 +65,7 @@ stopped {Y} told name guids k s e = by-file (told name) e
     by-missing bytes found None h = cc
     by-missing bytes found (Some guid) h = err-of h
 
-    by-table : (bytes : List ℕ) (r : Result Toc FipFault) → table_by guids (after (table_or_stop r) (λ t. Ok (bytes, t))) ≡ Err s → made_with guids k (after (table_or_stop r) (λ t. Ok (bytes, t))) ≡ Err s
+    by-table : (bytes : List ℕ) (r : Result Toc FipFault) → table_by guids (after (table_or stop.NotFip r) (λ t. Ok (bytes, t))) ≡ Err s → made_with guids k (after (table_or stop.NotFip r) (λ t. Ok (bytes, t))) ≡ Err s
     by-table bytes (Err f) h = err-of h
     by-table bytes (Ok found) h = by-missing bytes found (first_missing found guids) h
 
@@ -77,7 +78,7 @@ pub going-on : {Y : Type 0} (told : Directory) (name : List ℕ) (guids : List (
     → after (package_read_in told name) (λ p. unless_missing (first_missing p.1 guids) (k p)) ≡ k (bytes_in told name, toc)
 going-on told name guids toc k o =
     ap (λ (f : Option (List ℕ)). made_with guids k (package_of f)) o.is
-    ∙ ap (λ (r : Result Toc FipFault). made_with guids k (after (table_or_stop r) (λ t. Ok (o.bytes, t)))) o.table
+    ∙ ap (λ (r : Result Toc FipFault). made_with guids k (after (table_or stop.NotFip r) (λ t. Ok (o.bytes, t)))) o.table
     ∙ ap (λ (m : Option (List ℕ)). unless_missing m (k (o.bytes, toc))) o.all
     ∙ ap (λ (f : Option (List ℕ)). k (unwrap_or f [], toc)) (sym o.is)
 

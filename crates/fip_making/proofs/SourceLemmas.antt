@@ -1,6 +1,6 @@
 -- What a reading of the source gives.
 use Rattle.std.proofs.Common.{◌≡◌, ◌≢◌, ℕ, Result, Ok, Err, ap, refl, inl, inr, ◌≤◌, ◌<◌, ◌+◌, List, [], ◌++◌, Option, true, false, length, nat_lt, arith, ◌∙◌, length-append}
-use Rattle.fip_making.specs.{Answers.source_failed, Answers.source_failures, declared.stops.Stop.Stop, Seen.SourceEndsAs}
+use Rattle.fip_making.specs.{Answers.Gives, Answers.source_failed, Answers.source_failures, declared.stops.Stop.Stop}
 use Rattle.fip_making.specs.{Seen.FedSome, Values.GivenTo, Values.StopsInTime, Values.given_table, Values.source_limit}
 use Rattle.fip_making.specs.declared.stops.Stop.TheVariants as stop
 use Rattle.std.specs.Io.KnownBytes.{Consumes, IsAtEnd}
@@ -99,11 +99,14 @@ stopped was mid new stream next count before then now rose-late rose rises few r
 stopped was mid new stream next count before then now rose-late rose rises few r s p = absurd p.1
 
 -- the source is at its end
-pub at-end : (was left : Option (List ℕ)) (rose : Type 0) (given : List ℕ) (result : Result (Toc × ℕ) Stop) → Consumes was left given → IsAtEnd left → SourceEndsAs given result
-    → GivenTo (λ (t : Toc × ℕ). t) given_table was left rose result given
-at-end was left rose given (Ok t) c e h = (c, e, h)
-at-end was left rose given (Err (stop.NotFip f)) c e h = (c, inl e, h)
-at-end was left rose given (Err s) c e h = absurd h
+at-end : (was left : Option (List ℕ)) (rose : Type 0) (given : List ℕ) (result : Result (Toc × ℕ) Stop) → Consumes was left given → IsAtEnd left → (◌≡◌ {A = Result (Toc × ℕ) Stop} result (Err stop.FileFault) → ⊥)
+    → Gives (λ (t : Toc × ℕ). t) ⊥ (given_table given) result → GivenTo (λ (t : Toc × ℕ). t) given_table was left rose result given
+at-end was left rose given (Ok t) c e file h = (c, e, h)
+at-end was left rose given (Err (stop.NotFip f)) c e file h = (c, inl e, h)
+at-end was left rose given (Err stop.FileFault) c e file h = absurd (file refl)
+at-end was left rose given (Err stop.SinkFault) c e file h = absurd h
+at-end was left rose given (Err stop.NoMemory) c e file h = c
+at-end was left rose given (Err s) c e file h = (c, h)
 
 is-long : (given : List ℕ) → decided (toc_of given) ≡ Ok tt → 4294967296 < length given → given_table given ≡ Err stop.TooLong
 unfolding given_table
@@ -132,13 +135,14 @@ ended-err given count f long few undecided is =
 -- the last read found the end
 pub last : (was mid new : Option (List ℕ)) (before then now : ℕ) (stream next : Stream) (count : ℕ) (rose-late rose : Type 0) (result : Result (Toc × ℕ) Stop) → count ≤ 4294967296 → (r : IsReading was mid before then stream count)
     → ((piece : List ℕ) × FedSome next r.so-far.given piece mid new rose-late (Ok 0))
-    → ((given : List ℕ) → Fed next given → length given ≡ count → decided (toc_of given) ≡ Ok tt → SourceEndsAs given result)
+    → ((given : List ℕ) → Fed next given → length given ≡ count → decided (toc_of given) ≡ Ok tt → Gives (λ (t : Toc × ℕ). t) ⊥ (given_table given) result)
+    → (◌≡◌ {A = Result (Toc × ℕ) Stop} result (Err stop.FileFault) → ⊥)
     → (given : List ℕ) × StopsInTime given × GivenTo (λ (t : Toc × ℕ). t) given_table was new rose result given
-last was mid new before then now stream next count rose-late rose result few r f ends =
+last was mid new before then now stream next count rose-late rose result few r f ends file =
     let piece : List ℕ = f.0 in
     let g : List ℕ = r.so-far.given ++ piece in
     let long : length g ≡ count = (let a = length-append r.so-far.given piece in let b = r.so-far.long in let c = f.1.1 in omega arith) in (
       g,
       one-more r.so-far.given piece (let a = r.so-far.long in omega arith) (let c = f.1.1 in omega arith) r.so-far.undecided,
-      at-end was new rose g result (Consumes-trans was mid new r.so-far.given piece r.so-far.consumed f.1.0) (f.1.2 refl) (ends g f.1.3 long f.1.4),
+      at-end was new rose g result (Consumes-trans was mid new r.so-far.given piece r.so-far.consumed f.1.0) (f.1.2 refl) file (ends g f.1.3 long f.1.4),
     )

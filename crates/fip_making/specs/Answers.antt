@@ -3,7 +3,7 @@ use Rattle.std.specs.Prelude.{◌≡◌, ◌⊎◌, ◌+◌, ◌≤◌, ⊤, ℕ
 use Rattle.base_core.specs.Counts.{Rose}
 use Rattle.host_io.specs.{Calls.raised, Contents.Directory}
 use Rattle.fip_making.specs.declared.stops.Stop.{Stop}
-use Rattle.fip_making.specs.declared.stops.Stop.TheVariants.{FileFault, SinkFault, NoMemory, Usage}
+use Rattle.fip_making.specs.declared.stops.Stop.TheVariants.{FileFault, SinkFault, NoMemory}
 
 -- What a part of a command answers, of a value that the files determine.
 abbrev pub Gives : {X Y : Type 0} → (X → Y) → Type 0 → Result Y Stop → Result X Stop → Type 0
@@ -25,21 +25,19 @@ abbrev pub NoneFailed : {X : Type 0} → Result X Stop → ℕ → ℕ → Type 
 NoneFailed (Err FileFault) before after = ⊤
 NoneFailed result before after = after ≡ before
 
--- A part that reads alone answers, over files that tell nothing, that a file failed only where faults rose. It answers neither
--- usage nor that the sink failed. At most one call of the files fails.
+-- A part that reads alone answers, over files that tell nothing, that a file failed only where faults rose. It doesn't answer that
+-- the sink failed. At most one call of the files fails.
 pub record ReadsOnly {X : Type 0} (told now : Option Directory) (before after : ℕ) (result : Result X Stop) : Type 0 where
   pub same : now ≡ told
   pub later : before ≤ after
   pub once : after ≤ before + 1
   pub quiet : NoneFailed result before after
   pub cause : result ≡ Err FileFault → told ≡ None → Rose before after
-  pub usage : result ≡ Err Usage → ⊥
   pub sink : result ≡ Err SinkFault → ⊥
 
--- a part that asks for nothing outside answers neither that a file failed, nor that the sink did, nor usage
+-- a part that asks for nothing outside answers neither that a file failed, nor that the sink did
 pub record AsksNothing {X : Type 0} (IsOwn : Stop → Type 0) (result : Result X Stop) : Type 0 where
   pub file : result ≡ Err FileFault → ⊥
-  pub usage : result ≡ Err Usage → ⊥
   pub sink : result ≡ Err SinkFault → ⊥
   -- it ends with a stop of its own
   pub refusals : IfErr result IsOwn

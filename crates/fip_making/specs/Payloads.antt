@@ -5,7 +5,7 @@ use Rattle.host_io.specs.{Contents.Directory, Contents.HasRange, declared.joinin
 use Rattle.host_io.specs.Joined.{HasPiece, chunk_in, joined}
 use Rattle.fip_tables.specs.declared.frame.Frame.{Frame}
 use Rattle.fwu_formats.specs.Package.{Entry, Part}
-use Rattle.fip_making.specs.{Answers.AsksNothing, Answers.Gives, Refusals.IsOfPacking, declared.made.Made.Made}
+use Rattle.fip_making.specs.{Answers.AsksNothing, Answers.Gives, Answers.IsLate, Refusals.PackingOr, declared.made.Made.Made}
 use Rattle.fip_making.specs.{declared.payloads.Payload.Payload, declared.stops.Stop.Stop}
 
 -- the bytes of a file, by the files, and none of one that isn't there
@@ -67,4 +67,4 @@ pub record MakesFile (HasAll : Option Directory → Type 0) (value : Directory �
   pub told : (told : Directory) → HasAll (Some told) → Gives (made_by told) ⊥ (value told) result
   pub whole : (told : Option Directory) → HasAll told → IfOk result (IsWholeFile told)
   pub count : IfOk result (λ m. m.count ≡ number)
-  pub asks : AsksNothing IsOfPacking result
+  pub asks : AsksNothing (PackingOr IsLate) result

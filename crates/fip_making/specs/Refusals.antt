@@ -14,15 +14,13 @@ IsPackageStop s = IsLate s
 
 -- of a package that the source gives
 abbrev pub IsOfSource : Stop → Type 0
-IsOfSource (stop.NotFip f) = ⊤
 IsOfSource stop.TooLong = ⊤
-IsOfSource s = IsLate s
+IsOfSource s = IsPackageStop s
 
 -- of entries of a package, which are named
 abbrev pub IsOfEntries : Stop → Type 0
-IsOfEntries (stop.NotFip f) = ⊤
 IsOfEntries (stop.NoSuchEntry guid) = ⊤
-IsOfEntries s = IsLate s
+IsOfEntries s = IsPackageStop s
 
 -- of a capsule that is read
 abbrev pub IsOfCapsule : Stop → Type 0
@@ -34,22 +32,7 @@ abbrev pub IsManifestStop : Stop → Type 0
 IsManifestStop (stop.NoManifest f) = ⊤
 IsManifestStop s = IsLate s
 
--- of payloads that are packed, into a package or a capsule
-abbrev pub IsOfPacking : Stop → Type 0
-IsOfPacking (stop.NotPacked f) = ⊤
-IsOfPacking s = IsLate s
-
--- of a package that is made of another one's entries, some of which are named
-abbrev pub IsOfRepacking : Stop → Type 0
-IsOfRepacking (stop.NotPacked f) = ⊤
-IsOfRepacking s = IsOfEntries s
-
--- of a capsule that is made of a package
-abbrev pub IsOfEnclosing : Stop → Type 0
-IsOfEnclosing (stop.NotPacked f) = ⊤
-IsOfEnclosing s = IsPackageStop s
-
--- of a package that is made of a capsule
-abbrev pub IsOfPackaging : Stop → Type 0
-IsOfPackaging (stop.NotPacked f) = ⊤
-IsOfPackaging s = IsOfCapsule s
+-- of a package or a capsule that is made: one of these stops, or it is not packed
+abbrev pub PackingOr : (Stop → Type 0) → Stop → Type 0
+PackingOr IsBefore (stop.NotPacked f) = ⊤
+PackingOr IsBefore s = IsBefore s

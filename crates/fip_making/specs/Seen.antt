@@ -3,12 +3,12 @@
 use Rattle.std.specs.Prelude.{◌≡◌, ◌≢◌, ◌≤◌, ℕ, List, ◌++◌, Option, Some, Result, Ok, Err, IfErr, length}
 use Rattle.std.specs.Io.KnownBytes.{Consumes, IsAtEnd}
 use Rattle.base_core.specs.Counts.{Rose}
-use Rattle.fwu_formats.specs.Package.{Toc, toc_of}
+use Rattle.fwu_formats.specs.Package.{toc_of}
 use Rattle.fip_tables.specs.{Answers.decided, Stream.Fed, Stream.Stream}
 use Rattle.host_io.specs.{Access.Access, Access.Asks, Contents.Directory, Once.ReadsOnce, Reads.ReadsFiles}
 use Rattle.host_io.specs.declared.files.Files as files
 use Rattle.host_io.specs.declared.source.Source as source
-use Rattle.fip_making.specs.{Refusals.IsOfSource, Values.GivenTo, Values.given_table, declared.stops.Stop.Stop}
+use Rattle.fip_making.specs.{Refusals.IsOfSource, Values.GivenTo, declared.stops.Stop.Stop}
 use Rattle.fip_making.specs.Answers.{Gives, ReadsOnly, source_failures}
 use Rattle.fip_making.specs.declared.stops.Stop.TheVariants as stop
 
@@ -41,12 +41,6 @@ FedSome stream given piece was left source-rose (Err (stop.NotFip f)) =
 FedSome stream given piece was left source-rose (Err stop.FileFault) = Consumes was left piece × (length piece ≤ 4096) × source-rose
 FedSome stream given piece was left source-rose (Err s) = ⊥
 
--- what is answered where the source is at its end
-abbrev pub SourceEndsAs : List ℕ → Result (Toc × ℕ) Stop → Type 0
-SourceEndsAs given (Ok t) = given_table given ≡ Ok t
-SourceEndsAs given (Err (stop.NotFip f)) = given_table given ≡ Err (stop.NotFip f)
-SourceEndsAs given (Err s) = ⊥
-
 abbrev pub GivenToIn : {I X Y : Type 0} → source.Ghosts I → (X → Y) → (List ℕ → Result Y Stop) → I → I → Result X Stop → List ℕ
     → Type 0
 GivenToIn i view value old new result given =
@@ -58,6 +52,5 @@ pub record ReadsGiven {I X : Type 0} (i : source.Ghosts I) (old new : I) (result
   pub once : ReadsOnce i old new
   pub later : i.faults old ≤ i.faults new
   pub count : i.faults new ≡ source_failures result (i.faults old)
-  pub usage : result ≡ Err stop.Usage → ⊥
   pub sink : result ≡ Err stop.SinkFault → ⊥
   pub refusals : IfErr result IsOfSource

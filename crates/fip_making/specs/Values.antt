@@ -7,7 +7,6 @@ use Rattle.sha2.specs.Sha256.{sha256}
 use Rattle.host_io.specs.Contents.{Directory}
 use Rattle.fwu_formats.specs.{Manifest.Row, Manifest.manifest_bytes, declared.kinds.FipFault.FipFault, Capsule.capsule_of}
 use Rattle.fwu_formats.specs.Package.{Entry, Part, Toc, has_guid, packed, payload, toc_of}
-use Rattle.fwu_formats.specs.declared.kinds.CapsuleFault.{CapsuleFault}
 use Rattle.fwu_formats.specs.declared.kinds.ManifestFault.TheVariants as fault
 use Rattle.capsule_tables.specs.Making.{capsule_bytes, make_fault}
 use Rattle.fip_tables.specs.{Answers.decided, Packing.pack_fault, declared.faults.PackFault.PackFault}
@@ -24,21 +23,16 @@ abbrev pub there : {X : Type 0} → Option X → Result X Stop
 there None = Err stop.FileFault
 there (Some x) = Ok x
 
--- the table of a package
-abbrev pub table_or_stop : Result Toc FipFault → Result Toc Stop
-table_or_stop (Ok t) = Ok t
-table_or_stop (Err f) = Err (stop.NotFip f)
-
--- the table of a capsule
-abbrev pub capsule_table : Result Toc CapsuleFault → Result Toc Stop
-capsule_table (Ok t) = Ok t
-capsule_table (Err f) = Err (stop.NotCapsule f)
+-- a table, or the stop of its fault
+abbrev pub table_or : {F : Type 0} → (F → Stop) → Result Toc F → Result Toc Stop
+table_or stopped (Ok t) = Ok t
+table_or stopped (Err f) = Err (stopped f)
 
 -- ---- what files give
 
 -- a package's bytes, and its table
 abbrev pub package_read_in : Directory → List ℕ → Result (List ℕ × Toc) Stop
-package_read_in files name = after (there (files name)) (λ bytes. after (table_or_stop (toc_of bytes)) (λ t. Ok (bytes, t)))
+package_read_in files name = after (there (files name)) (λ bytes. after (table_or stop.NotFip (toc_of bytes)) (λ t. Ok (bytes, t)))
 
 -- some bytes are a package with this table
 abbrev pub IsTableOfSome : Toc → Type 0
@@ -46,7 +40,8 @@ IsTableOfSome t = (bytes : List ℕ) × (toc_of bytes ≡ Ok t)
 
 -- a capsule's bytes, and its table
 abbrev pub capsule_in : Directory → List ℕ → Result (List ℕ × Toc) Stop
-capsule_in files name = after (there (files name)) (λ bytes. after (capsule_table (capsule_of bytes)) (λ t. Ok (bytes, t)))
+capsule_in files name =
+    after (there (files name)) (λ bytes. after (table_or stop.NotCapsule (capsule_of bytes)) (λ t. Ok (bytes, t)))
 
 abbrev pub part_in : Directory → NamedFile → Option Part
 part_in files p = option_map (λ bytes. record { guid = p.guid; flags = 0; bytes = bytes }) (files p.file)
@@ -82,7 +77,7 @@ unfoldable pub given_table : List ℕ → Result (Toc × ℕ) Stop
 given_table given =
     unless_decided (decided (toc_of given))
     (if nat_lt source_limit (length given) then Err stop.TooLong
-    else after (table_or_stop (toc_of given)) (λ t. Ok (t, length given)))
+    else after (table_or stop.NotFip (toc_of given)) (λ t. Ok (t, length given)))
 
 -- But for the last read, of at most 4096 bytes, the bytes that were read were not too many,
 -- and had no fault that no further bytes mend.
@@ -111,10 +106,6 @@ GivenTo view value was left source-rose (Err s) given = Consumes was left given 
 abbrev pub unless_fault : {X : Type 0} → Option PackFault → X → Result X Stop
 unless_fault None made = Ok made
 unless_fault (Some f) made = Err (stop.NotPacked f)
-
--- what is seen of a value of which this says no more
-abbrev pub nothing : {X : Type 0} → X → Unit {0}
-nothing x = tt
 
 -- what is packed: how many entries, and the bytes; or the first fault
 unfoldable pub pack_value : ℕ → ℕ → List Part → ℕ → Result (ℕ × List ℕ) Stop

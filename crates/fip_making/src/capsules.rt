@@ -4,7 +4,7 @@ ghost use Rattle.fwu_formats.specs.Package.{Toc};
 ghost use Rattle.capsule_tables.specs.Answers.{IsSomeTable};
 ghost use Rattle.fip_making.specs.Payloads.{HasEntry, IsWholeFile, bytes_in, made_by, MakesFile};
 ghost use Rattle.fip_making.specs.Values.{IsTableOfSome, capsule_value, enclose_value, kept_part, pack_value, repackage_value};
-ghost use Rattle.fip_making.specs.Refusals.{IsOfEnclosing, IsOfPackaging};
+ghost use Rattle.fip_making.specs.Refusals.{IsOfCapsule, IsPackageStop, PackingOr};
 ghost use Rattle.fip_making.specs.Seen.{AsTold, ReadsOne};
 
 use crate::enclosing::enclosed;
@@ -39,7 +39,7 @@ pub fn capsule_of_package<'a, H: Files>(
     ensures told { AsTold H.Files made_by (λ told. capsule_value told from.now) files.old files.new result }
     ensures whole { IfOk result (IsWholeFile (H.contents files.new)) }
     ensures count { IfOk result (λ m. (t : Toc) × IsTableOfSome t × (m.count ≡ length t.entries)) }
-    ensures reads { ReadsOne H.Files from.now IsOfEnclosing files.old files.new result }
+    ensures reads { ReadsOne H.Files from.now (PackingOr IsPackageStop) files.old files.new result }
 {
     let toc = table_with(files, from, &[])?;
     capsule_of_entries(alloc, from, toc.entries.as_slice())
@@ -72,7 +72,7 @@ pub fn package_of_capsule<'a, H: Files>(
     ensures told { AsTold H.Files made_by (λ told. repackage_value told align from.now) files.old files.new result }
     ensures whole { IfOk result (IsWholeFile (H.contents files.new)) }
     ensures count { IfOk result (λ m. (t : Toc) × IsSomeTable t × (m.count ≡ length t.entries)) }
-    ensures reads { ReadsOne H.Files from.now IsOfPackaging files.old files.new result }
+    ensures reads { ReadsOne H.Files from.now (PackingOr IsOfCapsule) files.old files.new result }
 {
     let toc = read_enclosed(files, from)?;
     package_of_items(alloc, align, from, &toc)

@@ -6,7 +6,8 @@ ghost use Rattle.host_io.specs.Reads.{ReadsFile};
 ghost use Rattle.fip_words.specs.Order.{part_view};
 ghost use Rattle.fip_making.specs.Payloads.{MakesFile, HasEntry, IsThere, IsWholeFile, bytes_in, made_by, part_told};
 ghost use Rattle.fip_making.specs.Values.{IsTableOfSome, after, create_value, first_missing, is_named, kept_part, pack_value, parts_in, remove_value, update_value, updated_part};
-ghost use Rattle.fip_making.specs.Refusals.{IsOfPacking, IsOfRepacking};
+ghost use Rattle.fip_making.specs.Refusals.{IsOfEntries, PackingOr};
+ghost use Rattle.fip_making.specs.Answers.{IsLate};
 ghost use Rattle.fip_making.specs.Seen.{AsTold, ReadsFilesAlone, ReadsOne};
 
 use crate::made::Made;
@@ -32,7 +33,7 @@ pub fn created<'a, H: Files>(
     ensures told { AsTold H.Files made_by (λ told. create_value told align (map part_view named.now)) files.old files.new result }
     ensures whole { IfOk result (IsWholeFile (H.contents files.new)) }
     ensures count { IfOk result (λ m. m.count ≡ length named.now) }
-    ensures reads { ReadsFilesAlone H.Files (λ access. All (λ w. access ≢ Asks w.file.now) named.now) IsOfPacking
+    ensures reads { ReadsFilesAlone H.Files (λ access. All (λ w. access ≢ Asks w.file.now) named.now) (PackingOr IsLate)
         files.old files.new result }
 {
     match payloads_of_files(alloc, files, named) {
@@ -109,7 +110,7 @@ pub fn removed<'a, H: Files>(
     ensures whole { IfOk result (IsWholeFile (H.contents files.new)) }
     ensures count { IfOk result (λ m. (t : Toc) × IsTableOfSome t × (first_missing t guids.now ≡ None)
         × (m.count ≡ length (filter (λ e. not (is_named guids.now e)) t.entries))) }
-    ensures reads { ReadsOne H.Files from.now IsOfRepacking files.old files.new result }
+    ensures reads { ReadsOne H.Files from.now (PackingOr IsOfEntries) files.old files.new result }
 {
     let toc = table_with(files, from, guids)?;
     without(alloc, align, from, &toc, guids)
@@ -130,7 +131,7 @@ fn replaced<'a, H: Files>(
         files.old files.new result }
     ensures whole { IfOk result (IsWholeFile (H.contents files.new)) }
     ensures count { IfOk result (λ m. m.count ≡ length toc.now.entries) }
-    ensures reads { ReadsFilesAlone H.Files (λ access. All (λ w. access ≢ Asks w.file.now) named.now) IsOfPacking
+    ensures reads { ReadsFilesAlone H.Files (λ access. All (λ w. access ≢ Asks w.file.now) named.now) (PackingOr IsLate)
         files.old files.new result }
 {
     match payloads_of_files(alloc, files, named) {
@@ -158,8 +159,8 @@ pub fn updated<'a, H: Files>(
         × (first_missing t (map (λ p. p.guid) (map part_view named.now)) ≡ None)
         × (m.count ≡ length t.entries)) }
     ensures reads { ReadsFilesAlone H.Files (λ access. (access ≢ Asks from.now) × All (λ w. access ≢ Asks w.file.now) named.now)
-        IsOfRepacking files.old files.new result }
-    ensures package { IfErr result (λ s. IsOfPacking s ⊎ ReadsFile H.Files from.now files.old files.new) }
+        (PackingOr IsOfEntries) files.old files.new result }
+    ensures package { IfErr result (λ s. PackingOr IsLate s ⊎ ReadsFile H.Files from.now files.old files.new) }
 {
     let types = types_of(alloc, named)?;
     let toc = table_with(files, from, types.as_slice())?;

@@ -8,7 +8,7 @@ ghost use Rattle.manifest_core.specs.Shown.{row};
 ghost use Rattle.fip_making.specs.Refusals.{IsManifestStop};
 ghost use Rattle.fip_making.specs.Seen.{AsTold, ReadsFilesAlone, ReadsOne};
 ghost use Rattle.fip_making.specs.Answers.{AsksNothing, Gives, IsLate};
-ghost use Rattle.fip_making.specs.Values.{after, image_in, image_row, is_long, manifest_value, nothing, of_rows, sizes_value, there, unless_long};
+ghost use Rattle.fip_making.specs.Values.{after, image_in, image_row, is_long, manifest_value, of_rows, sizes_value, there, unless_long};
 ghost use Rattle.fip_making.specs.declared.stops.Stop.TheVariants as stop;
 
 use crate::reading::read_file;
@@ -116,7 +116,7 @@ fn refusal(count: usize) -> ManifestFault
 
 // Whether there is a manifest of so many images, where one of them may be too long.
 fn check_count(count: usize, is_long: bool) -> Result<(), Stop>
-    ensures value { Gives nothing ⊥ (unless_long count is_long) result }
+    ensures value { Gives (λ done. done) ⊥ (unless_long count is_long) result }
     ensures asks { AsksNothing IsManifestStop result }
 {
     if count == 0 || count > 15 || is_long {
@@ -136,7 +136,7 @@ fn is_long_file<H: Files>(files: &mut H, named: &ImageWord<'_>) -> Result<bool, 
 
 // Whether there is a manifest of named images. It asks for the sizes of all files, and reads none.
 fn check_sizes<H: Files>(files: &mut H, named: &[ImageWord<'_>]) -> Result<(), Stop>
-    ensures told { AsTold H.Files (λ told. nothing) (λ told. sizes_value told (map image_view named.now))
+    ensures told { AsTold H.Files (λ told done. done) (λ told. sizes_value told (map image_view named.now))
         files.old files.new result }
     ensures reads { ReadsFilesAlone H.Files (λ access. All (λ w. access ≢ Asks w.file.now) named.now) IsManifestStop
         files.old files.new result }

@@ -7,8 +7,8 @@ ghost use Rattle.fip_tables.specs.Answers.{decided};
 ghost use Rattle.capsule_tables.specs.Answers.{IsSomeTable};
 ghost use Rattle.fip_tables.specs.Stream.{Fed};
 ghost use Rattle.fip_making.specs.Refusals.{IsOfCapsule, IsPackageStop, IsOfSource, Unstarved};
-ghost use Rattle.fip_making.specs.Seen.{AsTold, FedSome, GivenToIn, ReadsGiven, ReadsOne, SourceEndsAs};
-ghost use Rattle.fip_making.specs.Answers.{AsksNothing, IsLate};
+ghost use Rattle.fip_making.specs.Seen.{AsTold, FedSome, GivenToIn, ReadsGiven, ReadsOne};
+ghost use Rattle.fip_making.specs.Answers.{AsksNothing, Gives, IsLate};
 ghost use Rattle.fip_making.specs.Values.{StopsInTime, after, capsule_in, given_table, size_in, sized_table, source_limit, IsTableOfSome};
 ghost use Rattle.fip_making.specs.declared.stops.Stop.TheVariants as stop;
 
@@ -77,7 +77,7 @@ fn feed_some<I: Source>(source: &mut I, stream: &mut StreamToc) -> Result<usize,
 fn ended(stream: StreamToc, count: u64) -> Result<(Toc, u64), Stop>
     requires few { count ≤ source_limit }
     ensures table { (given : List ℕ) → Fed stream given → length given ≡ count → decided (toc_of given) ≡ Ok tt
-        → SourceEndsAs given result }
+        → Gives (λ t. t) ⊥ (given_table given) result }
     ensures asks { AsksNothing (Unstarved IsOfSource) result }
 {
     match stream.end() {

@@ -7,7 +7,7 @@ use Rattle.std.proofs.lemmas.List.{length-drop, length-take-le}
 use Rattle.std.proofs.lemmas.List.FromFn.{get_or-map-range_with_len}
 use Rattle.std.proofs.lemmas.Slice.Eq.{bytes_eq-Decides}
 use Rattle.host_io.specs.Contents.{Directory}
-use Rattle.fwu_formats.specs.{declared.kinds.FipFault.FipFault, Capsule.capsule_of, declared.kinds.CapsuleFault.CapsuleFault}
+use Rattle.fwu_formats.specs.Capsule.{capsule_of}
 use Rattle.fwu_formats.specs.Package.{Entry, Part, Toc, entry_at, packed, payload, toc_of}
 use Rattle.fwu_formats.proofs.Tables.{table-of}
 use Rattle.fip_tables.specs.{Again.part_has_fields, Files.Tells, Frame.AreSixteen, Packing.pack_fault}
@@ -18,8 +18,9 @@ use Rattle.capsule_tables.proofs.{ReadAgain.made-is-read, Within.is-read, Within
 use Rattle.fip_words.specs.Order.{FipAsked, info_of_source, capsule, repackage}
 use Rattle.fip_tool.specs.{Converted.Converts, Converted.IsConverted, Tool.outcome_of, Tool.puts}
 use Rattle.fip_tool.specs.Steps.{Are, Did, Makes, Refuses, CommandStep, outcome_by, with_file, written}
-use Rattle.fip_making.specs.Values.{after, capsule_table, capsule_value, enclose_value, kept_part, pack_value, repackage_value, table_or_stop, there, unless_fault}
+use Rattle.fip_making.specs.Values.{after, capsule_value, enclose_value, kept_part, pack_value, repackage_value, table_or, there, unless_fault}
 use Rattle.fip_making.specs.declared.stops.Stop.{Stop}
+use Rattle.fip_making.specs.declared.stops.Stop.TheVariants as stop
 use Rattle.fip_tool.specs.declared.lines.Format.TheVariants as format
 
 -- ---- the parts of entries
@@ -77,23 +78,14 @@ record IsOfTable {F X : Type 0} (read : List ℕ → Result Toc F) (o : Option (
   table : read bytes ≡ Ok toc
   value : f (bytes, toc) ≡ Ok made
 
-from-table : {F X : Type 0} (read : List ℕ → Result Toc F) (table : Result Toc F → Result Toc Stop) → ((r : Result Toc F) (t : Toc) → table r ≡ Ok t → r ≡ Ok t)
-    → (o : Option (List ℕ)) (f : List ℕ × Toc → Result X Stop) (made : X)
-    → after (after (there o) (λ bytes. after (table (read bytes)) (λ t. Ok (bytes, t)))) f ≡ Ok made → IsOfTable read o f made
-from-table read table ok None f made h = cc
-from-table {X = X} read table ok (Some bytes) f made h = by-table (table (read bytes)) refl h
+from-table : {F X : Type 0} (read : List ℕ → Result Toc F) (stopped : F → Stop) (o : Option (List ℕ)) (f : List ℕ × Toc → Result X Stop) (made : X)
+    → after (after (there o) (λ bytes. after (table_or stopped (read bytes)) (λ t. Ok (bytes, t)))) f ≡ Ok made → IsOfTable read o f made
+from-table read stopped None f made h = cc
+from-table {F = F} {X = X} read stopped (Some bytes) f made h = by-table (read bytes) refl h
   where
-    by-table : (r : Result Toc Stop) → table (read bytes) ≡ r → after (after r (λ t. Ok (bytes, t))) f ≡ Ok made → IsOfTable read (Some bytes) f made
+    by-table : (r : Result Toc F) → read bytes ≡ r → after (after (table_or stopped r) (λ t. Ok (bytes, t))) f ≡ Ok made → IsOfTable read (Some bytes) f made
     by-table (Err s) is h = cc
-    by-table (Ok toc) is h = record { bytes = bytes; toc = toc; is = refl; table = ok (read bytes) toc is; value = h }
-
-package-ok : (r : Result Toc FipFault) (t : Toc) → table_or_stop r ≡ Ok t → r ≡ Ok t
-package-ok (Ok x) t e = cc
-package-ok (Err f) t e = cc
-
-capsule-ok : (r : Result Toc CapsuleFault) (t : Toc) → capsule_table r ≡ Ok t → r ≡ Ok t
-capsule-ok (Ok x) t e = cc
-capsule-ok (Err f) t e = cc
+    by-table (Ok toc) is h = record { bytes = bytes; toc = toc; is = refl; table = is; value = h }
 
 -- what was made had no fault
 fault-none : {X : Type 0} (o : Option PackFault) (x made : X) → unless_fault o x ≡ Ok made → (o ≡ None) × (made ≡ x)
@@ -122,7 +114,7 @@ module _ (files : Directory) (now : Option Directory) (from out : List ℕ) (mad
   capsule-kept : capsule_value files from ≡ Ok made → IsConverted toc_of capsule_of files now from out
   unfolding capsule_value enclose_value
   capsule-kept value =
-      let t = from-table toc_of table_or_stop package-ok (files from) (λ p. enclose_value (map (kept_part p.0) p.1.entries)) made value in
+      let t = from-table toc_of stop.NotFip (files from) (λ p. enclose_value (map (kept_part p.0) p.1.entries)) made value in
       let parts = map (kept_part t.bytes) t.toc.entries in
       let two = fault-none {X = ℕ × List ℕ} (make_fault parts) (length parts, capsule_bytes parts) made t.value in
       let again : IsCapsuleOf parts (capsule_bytes parts) = made-is-read parts two.0 (sixteen-parts t.bytes t.toc.entries (package-sixteen t.bytes t.toc t.table)) in
@@ -131,7 +123,7 @@ module _ (files : Directory) (now : Option Directory) (from out : List ℕ) (mad
   package-kept : (a : ℕ) → repackage_value files a from ≡ Ok made → IsConverted capsule_of toc_of files now from out
   unfolding repackage_value pack_value
   package-kept a value =
-      let t = from-table capsule_of capsule_table capsule-ok (files from) (λ p. pack_value p.1.serial p.1.flags (map (kept_part p.0) p.1.entries) a) made value in
+      let t = from-table capsule_of stop.NotCapsule (files from) (λ p. pack_value p.1.serial p.1.flags (map (kept_part p.0) p.1.entries) a) made value in
       let parts = map (kept_part t.bytes) t.toc.entries in
       let two = fault-none {X = ℕ × List ℕ} (pack_fault parts a) (length parts, packed t.toc.serial t.toc.flags parts a) made t.value in
       let r = is-read t.bytes t.toc t.table in

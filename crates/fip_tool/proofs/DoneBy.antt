@@ -7,7 +7,7 @@ use Rattle.host_io.specs.{Access.Access, Contents.Directory, declared.writes.Wri
 use Rattle.host_io.specs.declared.files.Files as files
 use Rattle.host_io.specs.declared.sink.Sink as sink
 use Rattle.fip_tool.specs.{Names.IsUnneeded, Names.IsUnnamedBy, Names.MayRefuse, Said.IsMadeLine, Said.IsTexts, Seen.DidIn}
-use Rattle.fip_tool.specs.{Seen.DidSince, Seen.WroteIn, Seen.WroteForIn, Steps.CommandPlan, Steps.outcome_by, Tool.command_outcome}
+use Rattle.fip_tool.specs.{Seen.DidSince, Seen.WroteIn, Seen.WroteForIn, Steps.CommandPlan, Steps.outcome_by, Tool.outcome_of}
 use Rattle.fip_tool.specs.{Tool.puts, Tool.asks_files, Wrote.WroteFor, declared.lines.Format.Format}
 use Rattle.fip_tool.specs.Done.{DoneWithFiles, PutsMade, RefusesAlone, WritesTexts, CommandDone}
 use Rattle.fip_making.specs.{Stops.status_number, Payloads.made_by, Seen.AsTold, Seen.ReadsFilesAlone, Answers.Gives}
@@ -15,7 +15,7 @@ use Rattle.fip_making.specs.{Answers.IsLate, declared.made.Made.Made, declared.s
 use Rattle.fip_making.specs.declared.stops.Stop.TheVariants as stop
 use Rattle.fip_tool.proofs.{Did.did-later, Did.are-told, WritingLemmas.tears-since, Texts.says-as, Texts.says-nothing}
 use Rattle.fip_tool.proofs.Faults.{faults-as, faults-of, still, faults-none}
-use Rattle.fip_tool.proofs.Refusing.{late-alone, made-alone, made-may, memory-may}
+use Rattle.fip_tool.proofs.Refusing.{late-alone, made-alone, made-may, memory-may, usage-unasked}
 use Rattle.fip_tool.proofs.WroteLemmas.{wrote-as, wrote-none}
 use Rattle.fip_making.proofs.{Refusing.if-err-as, Refusing.err-same, Tables.either-rose, SourceLemmas.nothing-read}
 use Rattle.std.proofs.KnownBytes.{Appends-nil, Consumes-nil}
@@ -30,15 +30,14 @@ module _ {H O : Type 0} {h : files.Ghosts H} {o : sink.Ghosts O} {one : FipAsked
   pub done-unread : {X : Type 0} {IsOther : Access → Type 0} {IsOwn : Stop → Type 0} {before after : H} {old : O} (s : Stop)
       → ReadsFilesAlone {X = X} h IsOther IsOwn before after (Err s) → ((access : Access) → IsUnnamedBy (Some one) access → IsOther access)
       → ((access : Access) → IsUnneeded (Some one) (status_number s) access → IsOther access)
-      → ((told : Directory) → h.contents before ≡ Some told → DidIn h o (command_outcome one told) told before after old old (Err s))
-      → MayRefuse (Some one) s → DoneWithFiles h o one (Err s) before after old old
+      → ((told : Directory) → h.contents before ≡ Some told → DidIn h o (outcome_of (Some one) told) told before after old old (Err s))
+      → MayRefuse (Some one) s → DoneWithFiles h o ⊥ (Some one) (Err s) before after old old
   done-unread {before = before} {old = old} s reads unnamed unneeded did may = record {
-    told = did;
-    says = says-nothing (IsTexts one) _ _ _ s (λ e. reads.only.sink (err-same e)) refl;
+    told = λ told e other. did told e;
+    says = says-nothing (IsTexts (Some one)) _ _ _ s (λ e. reads.only.sink (err-same e)) refl;
     wrote = subst (λ (w : Writes). WroteFor (Some one) (o.taken old) (o.taken old) (h.writes before).done w.done (Err s)) (sym reads.files.unwritten) (wrote-none (Some one) (o.taken old) (h.writes before).done s);
     file_count = faults-as (faults-of reads.only);
-    cause = λ e none. let same : s ≡ stop.FileFault = cc in reads.only.cause (err-same same) none;
-    usage = λ e. let same : s ≡ stop.Usage = cc in reads.only.usage (err-same same);
+    cause = λ e none. let same : s ≡ stop.FileFault = cc in inl (reads.only.cause (err-same same) none);
     refusals = may;
     spares = λ access other. reads.files.spares access (unnamed access other);
     alone = λ refuses access other. reads.files.spares access (unneeded access other);
@@ -47,17 +46,16 @@ module _ {H O : Type 0} {h : files.Ghosts H} {o : sink.Ghosts O} {one : FipAsked
   }
 
   -- files were written, each with its text
-  pub done-texts : {result : Result (Unit {0}) Stop} {before after : H} {old new : O} → WritesTexts h o (IsTexts one) result before after old new
-      → (WroteIn h o (IsTexts one) before after old new result → WroteForIn h o (Some one) before after old new result) → ((s : Stop) → IsLate s → MayRefuse (Some one) s)
-      → ((told : Directory) → h.contents before ≡ Some told → DidIn h o (command_outcome one told) told before after old new result)
-      → ((access : Access) → IsUnnamedBy (Some one) access → h.spares before after access) → DoneWithFiles h o one result before after old new
+  pub done-texts : {result : Result (Unit {0}) Stop} {before after : H} {old new : O} → WritesTexts h o (IsTexts (Some one)) result before after old new
+      → (WroteIn h o (IsTexts (Some one)) before after old new result → WroteForIn h o (Some one) before after old new result) → ((s : Stop) → IsLate s → MayRefuse (Some one) s)
+      → ((told : Directory) → h.contents before ≡ Some told → DidIn h o (outcome_of (Some one) told) told before after old new result)
+      → ((access : Access) → IsUnnamedBy (Some one) access → h.spares before after access) → DoneWithFiles h o ⊥ (Some one) result before after old new
   done-texts {result = result} {before = before} {after = after} put writes late did spares = record {
-    told = did;
+    told = λ told e other. did told e;
     says = put.says;
     wrote = writes put.wrote;
     file_count = put.file_count;
-    cause = λ e none. put.cause e;
-    usage = put.usage;
+    cause = λ e none. inl (put.cause e);
     refusals = if-err-as result IsLate (MayRefuse (Some one)) late put.late;
     spares = spares;
     alone = late-alone result (λ s. (access : Access) → IsUnneeded (Some one) (status_number s) access → h.spares before after access) put.late;
@@ -67,8 +65,8 @@ module _ {H O : Type 0} {h : files.Ghosts H} {o : sink.Ghosts O} {one : FipAsked
 
   -- what was made was put into a file, and its line was printed
   pub done-made : {IsOther : Access → Type 0} {IsOwn : Stop → Type 0} {made : Result Made Stop} {result : Result (Unit {0}) Stop} {before mid after : H} {old new : O} (format : Format) (out : List ℕ) (value : Directory → Result (ℕ × List ℕ) Stop)
-      → ((told : Directory) → command_outcome one told ≡ outcome_by (puts format out) (value told)) → ((texts : List (List ℕ)) → IsMadeLine format made texts → IsTexts one texts)
-      → (WroteIn h o (IsTexts one) before after old new result → WroteForIn h o (Some one) before after old new result)
+      → ((told : Directory) → outcome_of (Some one) told ≡ outcome_by (puts format out) (value told)) → ((texts : List (List ℕ)) → IsMadeLine format made texts → IsTexts (Some one) texts)
+      → (WroteIn h o (IsTexts (Some one)) before after old new result → WroteForIn h o (Some one) before after old new result)
       → ((s : Stop) → IsLate s → MayRefuse (Some one) s)
       → ReadsFilesAlone h IsOther IsOwn before mid made → ((s : Stop) → IsOwn s → MayRefuse (Some one) s) → AsTold h made_by value before mid made
       → ((told : Directory) (value : Result (ℕ × List ℕ) Stop) (count : ℕ) → h.contents mid ≡ Some told → count ≤ h.faults mid → Gives (made_by told) (Rose count (h.faults mid)) value made
@@ -76,16 +74,15 @@ module _ {H O : Type 0} {h : files.Ghosts H} {o : sink.Ghosts O} {one : FipAsked
       → PutsMade h o format made result mid after old new
       → ((access : Access) → IsUnnamedBy (Some one) access → h.spares before after access)
       → IfErr made (λ s. RefusesAlone h (Some one) before mid (status_number s))
-      → DoneWithFiles h o one result before after old new
+      → DoneWithFiles h o ⊥ (Some one) result before after old new
   done-made {IsOwn = IsOwn} {made = made} {result = result} {before = before} {mid = mid} {after = after} {old = old} {new = new} format out value outcome texts writes late reads turns gives did put spares alone = record {
-    told = λ told e.
+    told = λ told e other.
         subst (λ (all : CommandPlan). DidIn h o all told before after old new result) (sym (outcome told))
         (did-later _ told _ _ _ _ _ _ _ _ result (λ r. r) (λ r. tears-since (h.writes after) reads.files.unwritten r) (did told (value told) (h.faults before) (reads.only.same ∙ e) reads.only.later (gives told e)));
-    says = says-as (IsMadeLine format made) (IsTexts one) _ _ _ _ result texts (λ r. r) (put.says reads.only.sink);
-    wrote = writes (wrote-as (IsMadeLine format made) (IsTexts one) _ _ _ _ _ result texts (ap (λ (w : Writes). w.done) reads.files.unwritten) put.wrote);
+    says = says-as (IsMadeLine format made) (IsTexts (Some one)) _ _ _ _ result texts (λ r. r) (put.says reads.only.sink);
+    wrote = writes (wrote-as (IsMadeLine format made) (IsTexts (Some one)) _ _ _ _ _ result texts (ap (λ (w : Writes). w.done) reads.files.unwritten) put.wrote);
     file_count = put.file_count (h.faults before) (faults-of reads.only);
-    cause = λ e none. either-rose _ _ _ reads.only.later put.later (λ failed. reads.only.cause failed none) (put.cause e);
-    usage = λ e. reads.only.usage (put.usage e);
+    cause = λ e none. inl (either-rose _ _ _ reads.only.later put.later (λ failed. reads.only.cause failed none) (put.cause e));
     refusals = made-may made result (MayRefuse (Some one)) late (if-err-as made IsOwn (MayRefuse (Some one)) turns reads.refusals) put.refusals;
     spares = spares;
     alone = made-alone made result mid after (λ (f : H) (s : Stop). (access : Access) → IsUnneeded (Some one) (status_number s) access → h.spares before f access) put.refusals put.kept alone;
@@ -98,68 +95,77 @@ module _ {H O : Type 0} {h : files.Ghosts H} {o : sink.Ghosts O} {one : FipAsked
 module _ {H I O : Type 0} {h : files.Ghosts H} {i : source.Ghosts I} {o : sink.Ghosts O} where
   -- a command that asks for files does not touch the source
   pub done-with-files : ((s : I) → i.reads s s []) → {asked : Option FipAsked} {result : Result (Unit {0}) Stop} {before after : H} {kept : I} {old new : O} (one : FipAsked) → asked ≡ Some one → IsTrue (asks_files (Some one))
-      → DoneWithFiles h o one result before after old new → CommandDone h i o asked result before after kept kept old new
+      → DoneWithFiles h o ⊥ (Some one) result before after old new → CommandDone h i o asked result before after kept kept old new
   done-with-files unread {result = result} {before = before} {after = after} {kept = kept} {old = old} {new = new} one is asks done =
       subst (λ (a : Option FipAsked). CommandDone h i o a result before after kept kept old new) (sym is) (record {
-        told = λ told e other. done.told told e;
+        done = record {
+          told = done.told;
+          says = done.says;
+          wrote = done.wrote;
+          file_count = done.file_count;
+          cause = λ e untold. elim (done.cause e untold) [
+            | inl rose ↦ inl rose
+            | inr none ↦ absurd none
+          ];
+          refusals = done.refusals;
+          spares = done.spares;
+          alone = done.alone;
+          later = done.later;
+          sink_count = done.sink_count;
+        };
         source = λ same. absurd (false≢true (sym (ap asks_files same) ∙ asks));
-        says = done.says;
         words = λ none. absurd cc;
-        usage = λ e. absurd (done.usage e);
-        refusals = done.refusals;
+        usage = λ e. absurd (usage-unasked one (let may : IfErr result (MayRefuse (Some one)) = done.refusals in rw e at may));
         source_stays = λ other. refl;
         once = once-none i unread kept;
         source_count = λ same. absurd (false≢true (sym (ap asks_files same) ∙ asks));
         files_stay = λ stays. absurd (false≢true (sym stays ∙ asks));
-        cause = λ e untold. inl (done.cause e untold);
-        spares = done.spares;
-        alone = done.alone;
-        file_count = done.file_count;
-        wrote = done.wrote;
-        later = done.later;
-        sink_count = done.sink_count;
       })
 
   module _ (unread : (s : I) → i.reads s s []) {asked : Option FipAsked} {kept : H} {held : I} {old : O} where
     pub done-usage : asked ≡ None → ((access : Access) → h.spares kept kept access) → CommandDone h i o asked (Err stop.Usage) kept kept held held old old
     done-usage none rest = subst (λ (a : Option FipAsked). CommandDone h i o a (Err stop.Usage) kept kept held held old old) (sym none) (record {
-      told = λ told e other. (refl, are-told told _ e, Appends-nil _);
+      done = record {
+        told = λ told e other. (refl, are-told told _ e, Appends-nil _);
+        says = refl;
+        wrote = refl;
+        file_count = faults-none refl;
+        cause = λ e untold. absurd cc;
+        refusals = tt;
+        spares = λ access other. rest access;
+        alone = λ refuses access other. rest access;
+        later = omega arith;
+        sink_count = refl;
+      };
       source = λ same. absurd cc;
-      says = refl;
       words = λ unasked. inl refl;
       usage = λ e. refl;
-      refusals = tt;
       source_stays = λ other. refl;
       once = once-none i unread held;
       source_count = λ same. absurd cc;
       files_stay = λ stays. refl;
-      cause = λ e untold. absurd cc;
-      spares = λ access other. rest access;
-      alone = λ refuses access other. rest access;
-      file_count = faults-none refl;
-      wrote = refl;
-      later = omega arith;
-      sink_count = refl;
     })
 
     -- want of memory before anything was done
     pub done-starved : ((access : Access) → h.spares kept kept access) → CommandDone h i o asked (Err stop.NoMemory) kept kept held held old old
     done-starved rest = record {
-      told = λ told e other. (0, are-told told _ e, Appends-nil _);
+      done = record {
+        told = λ told e other. (0, are-told told _ e, Appends-nil _);
+        says = ([], inl refl, Appends-nil _);
+        wrote = wrote-none asked (o.taken old) (h.writes kept).done stop.NoMemory;
+        file_count = faults-none refl;
+        cause = λ e untold. absurd cc;
+        refusals = memory-may asked;
+        spares = λ access other. rest access;
+        alone = λ refuses access other. rest access;
+        later = omega arith;
+        sink_count = refl;
+      };
       source = λ same. ([], nothing-read, refl, Consumes-nil _, (0, λ name. refl, Appends-nil _));
-      says = ([], inl refl, Appends-nil _);
       words = λ none. inr refl;
       usage = λ e. absurd cc;
-      refusals = memory-may asked;
       source_stays = λ other. refl;
       once = once-none i unread held;
       source_count = λ same. refl;
       files_stay = λ stays. refl;
-      cause = λ e untold. absurd cc;
-      spares = λ access other. rest access;
-      alone = λ refuses access other. rest access;
-      file_count = faults-none refl;
-      wrote = wrote-none asked (o.taken old) (h.writes kept).done stop.NoMemory;
-      later = omega arith;
-      sink_count = refl;
     }

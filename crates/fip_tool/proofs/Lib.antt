@@ -1,7 +1,6 @@
 pub mod Converted
 pub mod Did
 pub mod DoneBy
-pub mod Ending
 pub mod Refusing
 pub mod Faults
 pub mod Texts

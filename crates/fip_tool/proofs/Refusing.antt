@@ -1,9 +1,9 @@
 -- Refusals, and what they ask for.
-use Rattle.std.proofs.Common.{zero, suc, List, [], ◌∷◌, map, arith, ◌≡◌, ◌⊎◌, inl, inr, ℕ, Option, Some, None, Result, Ok, Err, refl, subst, sym}
+use Rattle.std.proofs.Common.{zero, suc, List, [], ◌∷◌, map, arith, ◌≡◌, ◌⊎◌, inl, inr, Option, Some, None, Result, Ok, Err, refl, subst, sym}
 use Rattle.std.specs.List.{All}
 use Rattle.std.specs.Prelude.{IfErr}
-use Rattle.fip_making.specs.{Refusals.IsOfPacking, Stops.status_number, Answers.IsLate, declared.stops.Stop.Stop}
-use Rattle.fip_tool.specs.{Names.MayRefuse, Names.IsRefusalStatus, Ends.Reported, Ends.StopTold}
+use Rattle.fip_making.specs.{Refusals.PackingOr, Stops.status_number, Answers.IsLate, declared.stops.Stop.Stop}
+use Rattle.fip_tool.specs.{Names.MayRefuse, Names.IsRefusalStatus}
 use Rattle.fip_words.specs.Order.{FipAsked, info_of_source}
 use Rattle.fip_making.specs.declared.stops.Stop.TheVariants as stop
 use Rattle.fip_making.proofs.Refusing.{if-err-as}
@@ -28,7 +28,7 @@ pub late-alone : {X : Type 0} (r : Result X Stop) (P : Stop → Type 0) → IfEr
 late-alone r P h = if-err-as r IsLate (λ s. IsRefusalStatus (status_number s) → P s) (λ s late refuses. absurd (late-unrefused s late refuses)) h
 
 -- a refusal of what is packed
-pub packing-six : (s : Stop) → IsOfPacking s → IsRefusalStatus (status_number s) → status_number s ≡ 6
+pub packing-six : (s : Stop) → PackingOr IsLate s → IsRefusalStatus (status_number s) → status_number s ≡ 6
 packing-six (stop.NotPacked f) h refuses = refl
 packing-six s h refuses = absurd (late-unrefused s h refuses)
 
@@ -49,25 +49,13 @@ made-alone made (Err s) mid after P (inl is) kept alone =
     λ refuses. subst (λ (f : _). P f s) (sym same) (so refuses)
 made-alone made (Err s) mid after P (inr late) kept alone = λ refuses. absurd (late-unrefused s late refuses)
 
--- any command may end for the sink, or for want of memory
-pub sink-may : (a : Option FipAsked) → MayRefuse a stop.SinkFault
-sink-may None = tt
-sink-may (Some info_of_source) = tt
-sink-may (Some a) = tt
-
+-- any command may end for want of memory
 pub memory-may : (a : Option FipAsked) → MayRefuse a stop.NoMemory
 memory-may None = tt
 memory-may (Some info_of_source) = tt
 memory-may (Some a) = tt
 
-module _ (a : Option FipAsked) (was text : Option (List ℕ)) (rose : Type 0) where
-  told-may : (s t : Stop) → MayRefuse a s → StopTold was text rose s t → MayRefuse a t
-  told-may s t may (inl h) = subst (MayRefuse a) (sym h.0) may
-  told-may s t may (inr (inl h)) = subst (MayRefuse a) (sym h.0) (sink-may a)
-  told-may s t may (inr (inr h)) = subst (MayRefuse a) (sym h.0) (memory-may a)
-
-  -- and so may the tool, when the stop is told
-  pub reported-may : (s t : Stop) → MayRefuse a s → Reported was text rose s t → MayRefuse a t
-  reported-may stop.SinkFault t may h = subst (MayRefuse a) (sym h.0) may
-  reported-may stop.NoMemory t may h = subst (MayRefuse a) (sym h.0) may
-  reported-may s t may h = told-may s t may h
+-- none that asks for something answers usage
+pub usage-unasked : (one : FipAsked) → MayRefuse (Some one) stop.Usage → ⊥
+usage-unasked info_of_source h = h
+usage-unasked one h = h

@@ -1,14 +1,14 @@
 -- The texts that are printed.
-use Rattle.std.proofs.Common.{◌≡◌, ◌≢◌, inl, inr, ◌<◌, ℕ, List, [], ◌∷◌, ◌++◌, Option, Result, Ok, Err, length, take, drop, arith, refl, sym, ap, subst, ◌∙◌, append-nil, append_assoc, length-append, true, false, nat_lt, Bool, map, None}
+use Rattle.std.proofs.Common.{◌≡◌, ◌≢◌, inl, inr, ◌<◌, ℕ, List, [], ◌∷◌, ◌++◌, Option, Result, Ok, Err, length, take, drop, arith, refl, sym, ap, subst, ◌∙◌, append-nil, append_assoc, length-append, true, false, nat_lt, Bool, map, None, Some}
 use Rattle.std.specs.Prelude.{IfOk, if◌then◌else◌, filter, not}
 use Rattle.std.proofs.Math.Seq.{drop-append_seam, take-append_seam}
 use Rattle.std.specs.Io.KnownBytes.{Appends, Consumes, IsAtEnd}
 use Rattle.std.proofs.KnownBytes.{Appends-nil, Appends-trans}
-use Rattle.fip_tool.specs.{Ends.Reported, Ends.StopTold, Ends.stop_line, Lines.made_line, Lines.info_text, Lines.packed_line}
+use Rattle.fip_tool.specs.{Lines.made_line, Lines.info_text, Lines.packed_line}
 use Rattle.fip_tool.specs.{Lines.capsule_line, Steps.PrintedText, declared.lines.Format.Format, Tool.given_value, Tool.info_value}
-use Rattle.fip_tool.specs.Said.{IsBefore, IsBegunText, IsCutText, IsMadeLine, Says, SaysAll, half_of, joined_texts, IsTexts}
+use Rattle.fip_tool.specs.Said.{IsBegunText, IsCutText, IsMadeLine, Says, half_of, joined_texts, IsTexts}
 use Rattle.fip_making.specs.{Answers.IsLate, declared.made.Made.Made, declared.stops.Stop.Stop}
-use Rattle.fip_making.specs.Values.{GivenTo, after, given_table, source_limit, sized_table, table_or_stop, unless_decided, IsTableOfSome, first_missing, is_named}
+use Rattle.fip_making.specs.Values.{GivenTo, after, given_table, source_limit, sized_table, table_or, unless_decided, IsTableOfSome, first_missing, is_named}
 use Rattle.fip_making.specs.declared.stops.Stop.TheVariants as stop
 use Rattle.fwu_formats.specs.{Package.Toc, Package.toc_of, declared.kinds.FipFault.FipFault}
 use Rattle.fip_tables.specs.Answers.{decided}
@@ -131,32 +131,6 @@ said-more before all line was at text rose u is so-far h =
     subst (Appends was text) (sym (ap joined_texts is ∙ joined-append before (line ∷ []) ∙ ap (λ (l : List ℕ). joined_texts before ++ l) (joined-one line)))
     (Appends-trans was at text (joined_texts before) line so-far here)
 
--- ---- with the line of the stop
-
-module _ (T : List (List ℕ) → Type 0) (was mid text : Option (List ℕ)) (early rose : Type 0) (rises : early → rose) where
-  at-stop : {s t : Stop} → t ≡ s → SaysAll T was text rose (Err s) → SaysAll T was text rose (Err t)
-  at-stop e h = subst (λ (s : Stop). SaysAll T was text rose (Err s)) (sym e) h
-
-  abbrev StoppedAt : Stop → Type 0
-  StoppedAt s = (said : List ℕ) × IsBefore T s said × Appends was mid said
-
-  ended : (s t : Stop) → StoppedAt s → ((said : List ℕ) × IsBefore T s said × Appends was text (said ++ stop_line s) → SaysAll T was text rose (Err s))
-      → ((said : List ℕ) → IsBefore T s said → IsBegunText T said) → StopTold mid text rose s t → SaysAll T was text rose (Err t)
-  ended s t d whole begun (inl r) = at-stop r.0 (whole (d.0, d.1, Appends-trans was mid text d.0 (stop_line s) d.2 r.1))
-  ended s t d whole begun (inr (inl r)) =
-      at-stop r.0 (r.1, inr (s, d.0, d.1, r.2, Appends-trans was mid text d.0 (take r.2 (stop_line s)) d.2 r.3))
-  ended s t d whole begun (inr (inr r)) = at-stop r.0 (d.0, begun d.0 d.1, subst (λ (x : Option (List ℕ)). Appends was x d.0) (sym r.1) d.2)
-
-  none-yet : (said : List ℕ) → said ≡ [] → IsBegunText T said
-  none-yet said e = inl e
-
-  pub says-ends : (s t : Stop) → Says T was mid early (Err s) → Reported mid text rose s t → SaysAll T was text rose (Err t)
-  says-ends stop.FileFault t h r = ended stop.FileFault t h (λ w. w) (λ said b. b) r
-  says-ends stop.SinkFault t h r =
-      at-stop r.0 (rises h.0, inl (subst (λ (x : Option (List ℕ)). IsCutText T was x) (sym r.1) h.1))
-  says-ends stop.NoMemory t h r = at-stop r.0 (h.0, h.1, subst (λ (x : Option (List ℕ)). Appends was x h.0) (sym r.1) h.2)
-  says-ends s t h r = ended s t ([], refl, appends-same was mid h) (λ w. w) none-yet r
-
 -- ---- the listing of a table
 
 -- the text of a table that was given
@@ -192,7 +166,7 @@ unfolding given_table
 table-given given t size e = go (decided (toc_of given)) (nat_lt source_limit (length given)) (toc_of given) e
   where
     go : (d : Result (Unit {0}) FipFault) (b : Bool) (r : Result Toc FipFault)
-        → unless_decided {X = Toc × ℕ} d (if b then Err stop.TooLong else after {X = Toc} {Y = Toc × ℕ} (table_or_stop r) (λ t. Ok (t, length given))) ≡ Ok (t, size) → r ≡ Ok t
+        → unless_decided {X = Toc × ℕ} d (if b then Err stop.TooLong else after {X = Toc} {Y = Toc × ℕ} (table_or stop.NotFip r) (λ t. Ok (t, length given))) ≡ Ok (t, size) → r ≡ Ok t
     go (Err f) b r e = cc
     go (Ok u) true r e = cc
     go (Ok u) false (Err f) e = cc
@@ -204,21 +178,21 @@ table-given given t size e = go (decided (toc_of given)) (nat_lt source_limit (l
 -- ---- the lines of packages and capsules that are made
 
 -- the line is of all named files, with some size
-pub create-texts : (align : ℕ) (out : List ℕ) (made : Result Made Stop) (named : List FileWord) → IfOk made (λ m. m.count ≡ length named) → (texts : List (List ℕ)) → IsMadeLine kind.Package made texts → IsTexts (create align out (map part_view named)) texts
+pub create-texts : (align : ℕ) (out : List ℕ) (made : Result Made Stop) (named : List FileWord) → IfOk made (λ m. m.count ≡ length named) → (texts : List (List ℕ)) → IsMadeLine kind.Package made texts → IsTexts (Some (create align out (map part_view named))) texts
 create-texts align out made named count texts t = let p = made-texts kind.Package made (λ n. n ≡ length named) count texts t in (p.2, p.3 ∙ ap (λ (n : ℕ). packed_line n p.2 ∷ []) (p.1 ∙ sym (length-map named part_view)))
 
 -- the line is of a package that was read, with some size
-pub remove-texts : (align : ℕ) (from out : List ℕ) (made : Result Made Stop) (guids : List (List ℕ)) → IfOk made (λ m. (t : Toc) × IsTableOfSome t × (first_missing t guids ≡ None) × (m.count ≡ length (filter (λ e. not (is_named guids e)) t.entries))) → (texts : List (List ℕ)) → IsMadeLine kind.Package made texts → IsTexts (remove align from out guids) texts
+pub remove-texts : (align : ℕ) (from out : List ℕ) (made : Result Made Stop) (guids : List (List ℕ)) → IfOk made (λ m. (t : Toc) × IsTableOfSome t × (first_missing t guids ≡ None) × (m.count ≡ length (filter (λ e. not (is_named guids e)) t.entries))) → (texts : List (List ℕ)) → IsMadeLine kind.Package made texts → IsTexts (Some (remove align from out guids)) texts
 remove-texts align from out made guids count texts t = let p = made-texts kind.Package made (λ n. (t : Toc) × IsTableOfSome t × (first_missing t guids ≡ None) × (n ≡ length (filter (λ e. not (is_named guids e)) t.entries))) count texts t in (p.1.0, p.1.1, p.2, p.1.2, p.3 ∙ ap (λ (n : ℕ). packed_line n p.2 ∷ []) p.1.3)
 
 -- the line is of a package that was read, with some size
-pub update-texts : (align : ℕ) (from out : List ℕ) (made : Result Made Stop) (named : List FileWord) → IfOk made (λ m. (t : Toc) × IsTableOfSome t × (first_missing t (map (λ p. p.guid) (map part_view named)) ≡ None) × (m.count ≡ length t.entries)) → (texts : List (List ℕ)) → IsMadeLine kind.Package made texts → IsTexts (update align from out (map part_view named)) texts
+pub update-texts : (align : ℕ) (from out : List ℕ) (made : Result Made Stop) (named : List FileWord) → IfOk made (λ m. (t : Toc) × IsTableOfSome t × (first_missing t (map (λ p. p.guid) (map part_view named)) ≡ None) × (m.count ≡ length t.entries)) → (texts : List (List ℕ)) → IsMadeLine kind.Package made texts → IsTexts (Some (update align from out (map part_view named))) texts
 update-texts align from out made named count texts t = let p = made-texts kind.Package made (λ n. (t : Toc) × IsTableOfSome t × (first_missing t (map (λ p. p.guid) (map part_view named)) ≡ None) × (n ≡ length t.entries)) count texts t in (p.1.0, p.1.1, p.2, p.1.2, p.3 ∙ ap (λ (n : ℕ). packed_line n p.2 ∷ []) p.1.3)
 
 -- the line is of a package that was read, with some size
-pub capsule-texts : (from out : List ℕ) (made : Result Made Stop) → IfOk made (λ m. (t : Toc) × IsTableOfSome t × (m.count ≡ length t.entries)) → (texts : List (List ℕ)) → IsMadeLine kind.Capsule made texts → IsTexts (capsule from out) texts
+pub capsule-texts : (from out : List ℕ) (made : Result Made Stop) → IfOk made (λ m. (t : Toc) × IsTableOfSome t × (m.count ≡ length t.entries)) → (texts : List (List ℕ)) → IsMadeLine kind.Capsule made texts → IsTexts (Some (capsule from out)) texts
 capsule-texts from out made count texts t = let p = made-texts kind.Capsule made (λ n. (t : Toc) × IsTableOfSome t × (n ≡ length t.entries)) count texts t in (p.1.0, p.1.1, p.2, p.3 ∙ ap (λ (n : ℕ). capsule_line n p.2 ∷ []) p.1.2)
 
 -- the line is of a capsule that was read, with some size
-pub package-texts : (align : ℕ) (from out : List ℕ) (made : Result Made Stop) → IfOk made (λ m. (t : Toc) × IsSomeTable t × (m.count ≡ length t.entries)) → (texts : List (List ℕ)) → IsMadeLine kind.Package made texts → IsTexts (repackage align from out) texts
+pub package-texts : (align : ℕ) (from out : List ℕ) (made : Result Made Stop) → IfOk made (λ m. (t : Toc) × IsSomeTable t × (m.count ≡ length t.entries)) → (texts : List (List ℕ)) → IsMadeLine kind.Package made texts → IsTexts (Some (repackage align from out)) texts
 package-texts align from out made count texts t = let p = made-texts kind.Package made (λ n. (t : Toc) × IsSomeTable t × (n ≡ length t.entries)) count texts t in (p.1.0, p.1.1, p.2, p.3 ∙ ap (λ (n : ℕ). packed_line n p.2 ∷ []) p.1.2)

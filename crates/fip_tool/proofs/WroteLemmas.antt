@@ -151,7 +151,6 @@ module _ {H O : Type 0} {h : files.Ghosts H} {o : sink.Ghosts O} {before after :
     file_count = faults-as faults;
     cause = λ e. let same : s ≡ stop.FileFault = cc in cause (err-same same);
     late = late;
-    usage = λ e. let same : s ≡ stop.Usage = cc in subst IsLate same late;
     later = later;
     later_sink = omega arith;
     sink_count = still _ s other;
@@ -166,7 +165,6 @@ module _ {H O : Type 0} {h : files.Ghosts H} {o : sink.Ghosts O} {before after :
       file_count = λ count faults. faults-then faults.quiet put.file_count;
       wrote = wrote-as (λ texts. texts ≡ line ∷ []) (IsMadeLine format (Ok made)) _ _ _ _ _ result (λ texts e. e ∙ ap (λ l. l ∷ []) is) refl put.wrote;
       cause = λ e. inr (put.cause e);
-      usage = λ e. absurd (put.usage e);
       refusals = if-err-as result IsLate (λ s. (◌≡◌ {A = Result Made Stop} (Ok made) (Err s)) ⊎ IsLate s) (λ s late. inr late) put.late;
       kept = tt;
       later = put.later;
@@ -176,15 +174,14 @@ module _ {H O : Type 0} {h : files.Ghosts H} {o : sink.Ghosts O} {before after :
 
     -- the file was written, and then its line was printed
     pub one-text : (line : List ℕ) → h.faults after ≡ h.faults before → (h.writes after).done ≡ raised (h.writes before).done → PrintedIn o line old new result
-        → IfErr result IsLate → (result ≡ Err stop.Usage → ⊥) → o.faults old ≤ o.faults new → o.faults new ≡ sink_failures result (o.faults old)
+        → IfErr result IsLate → o.faults old ≤ o.faults new → o.faults new ≡ sink_failures result (o.faults old)
         → WritesTexts h o (λ texts. texts ≡ line ∷ []) result before after old new
-    one-text line quiet count printed late usage later_sink sink_count = record {
+    one-text line quiet count printed late later_sink sink_count = record {
       says = says-printed (λ texts. texts ≡ line ∷ []) line _ _ _ result refl printed;
       wrote = wrote-printed line _ _ _ _ _ result count printed;
       file_count = faults-none quiet;
       cause = λ e. absurd (subst (PrintedIn o line old new) e printed);
       late = late;
-      usage = usage;
       later = omega (arith, quiet);
       later_sink = later_sink;
       sink_count = sink_count;
@@ -199,7 +196,6 @@ module _ {H O : Type 0} {h : files.Ghosts H} {o : sink.Ghosts O} {before after :
       file_count = faults-then quiet put.file_count;
       cause = λ e. rose-still _ _ _ (sym quiet) (put.cause e);
       late = put.late;
-      usage = put.usage;
       later = omega (arith, quiet, put.later);
       later_sink = put.later_sink;
       sink_count = put.sink_count;

@@ -9,11 +9,11 @@ use Rattle.host_io.specs.declared.source.Source as source
 use Rattle.host_io.specs.declared.sink.Sink as sink
 use Rattle.fip_making.specs.{Stops.status_number, declared.made.Made.Made, declared.stops.Stop.Stop}
 use Rattle.fip_making.specs.Answers.{IsLate, source_failures}
-use Rattle.fip_tool.specs.{Lines.unpacked_line, Lines.unpacked_name, Said.IsMadeLine, Said.IsTexts, Said.IsTextsOf}
+use Rattle.fip_tool.specs.{Ends.EndsWith, Lines.unpacked_line, Lines.unpacked_name, Said.IsMadeLine, Said.IsTexts}
 use Rattle.fip_tool.specs.{Steps.FaultsOnce, Steps.Makes, Steps.NoneUnwritten, Steps.sink_failures, declared.lines.Format.Format}
 use Rattle.fip_tool.specs.Names.{IsRefusalStatus, IsUnneeded, IsUnnamedBy, MayRefuse}
 use Rattle.fip_tool.specs.Seen.{DidIn, ReadSourceIn, SaysIn, WroteForIn, WroteIn}
-use Rattle.fip_tool.specs.Tool.{asks_files, command_outcome, outcome_of, unpack_steps}
+use Rattle.fip_tool.specs.Tool.{asks_files, outcome_of, unpack_steps}
 use Rattle.fip_making.specs.declared.stops.Stop.TheVariants as stop
 
 -- a refusal with this status has made no file, and asked for none but those that it comes by
@@ -30,7 +30,6 @@ pub record WritesTexts {H O : Type 0} (h : files.Ghosts H) (o : sink.Ghosts O) (
   pub file_count : FaultsOnce (h.faults files_before) (h.faults files_after) result
   pub cause : result ≡ Err stop.FileFault → Rose (h.faults files_before) (h.faults files_after)
   pub late : IfErr result IsLate
-  pub usage : result ≡ Err stop.Usage → ⊥
   pub later : h.faults files_before ≤ h.faults files_after
   pub later_sink : o.faults sink_before ≤ o.faults sink_after
   pub sink_count : o.faults sink_after ≡ sink_failures result (o.faults sink_before)
@@ -50,23 +49,26 @@ pub record Unpacked {H O : Type 0} (h : files.Ghosts H) (o : sink.Ghosts O) (fro
   pub spares : (access : Access) → access ≢ Asks from → ((guid : List ℕ) → access ≢ Makes (unpacked_name prefix guid))
       → h.spares files_before files_after access
 
--- What was done for an order that asks for files. A status is not told yet, nor a line that says why the command stopped.
-pub record DoneWithFiles {H O : Type 0} (h : files.Ghosts H) (o : sink.Ghosts O) (asked : FipAsked)
-    (result : Result (Unit {0}) Stop)
-    (files_before files_after : H) (sink_before sink_after : O) : Type 0 where
-  pub told : (told : Directory) → h.contents files_before ≡ Some told
-      → DidIn h o (command_outcome asked told) told files_before files_after sink_before sink_after result
+-- What was done in files and a sink for what the words ask for, by its result, before the line that says why it stopped. Where it
+-- lists the source, a call of that may have failed instead of one of the files.
+pub record DoneWithFiles {H O : Type 0} (h : files.Ghosts H) (o : sink.Ghosts O) (source-rose : Type 0) (asked : Option FipAsked)
+    (result : Result (Unit {0}) Stop) (files_before files_after : H) (sink_before sink_after : O) : Type 0 where
+  -- over told files the first ones of the command's steps, and all of them where it is done
+  pub told : (told : Directory) → h.contents files_before ≡ Some told → asked ≢ Some info_of_source
+      → DidIn h o (outcome_of asked told) told files_before files_after sink_before sink_after result
+  -- whatever files there are, its lines
   pub says : SaysIn o (IsTexts asked) sink_before sink_after result
-  pub wrote : WroteForIn h o (Some asked) files_before files_after sink_before sink_after result
+  -- and each of its files once, with the line behind it
+  pub wrote : WroteForIn h o asked files_before files_after sink_before sink_after result
   -- at most one call of the files failed, and none unless it ended for that
   pub file_count : FaultsOnce (h.faults files_before) (h.faults files_after) result
-  pub cause : result ≡ Err stop.FileFault → h.contents files_before ≡ None → Rose (h.faults files_before) (h.faults files_after)
-  pub usage : result ≡ Err stop.Usage → ⊥
+  pub cause : result ≡ Err stop.FileFault → h.contents files_before ≡ None
+      → Rose (h.faults files_before) (h.faults files_after) ⊎ source-rose
   -- each refusal is one of what was asked for
-  pub refusals : IfErr result (MayRefuse (Some asked))
+  pub refusals : IfErr result (MayRefuse asked)
   -- no access is made that the words don't name
-  pub spares : (access : Access) → IsUnnamedBy (Some asked) access → h.spares files_before files_after access
-  pub alone : IfErr result (λ s. RefusesAlone h (Some asked) files_before files_after (status_number s))
+  pub spares : (access : Access) → IsUnnamedBy asked access → h.spares files_before files_after access
+  pub alone : IfErr result (λ s. RefusesAlone h asked files_before files_after (status_number s))
   pub later : o.faults sink_before ≤ o.faults sink_after
   pub sink_count : o.faults sink_after ≡ sink_failures result (o.faults sink_before)
 
@@ -76,7 +78,7 @@ pub record DoneWithSource {I O : Type 0} (i : source.Ghosts I) (o : sink.Ghosts 
   pub listed : (told : Option Directory) → ReadSourceIn i o told told source_before source_after sink_before sink_after result
   -- no read of the source is made behind one that gave no bytes or failed
   pub once : ReadsOnce i source_before source_after
-  pub says : SaysIn o (IsTexts info_of_source) sink_before sink_after result
+  pub says : SaysIn o (IsTexts (Some info_of_source)) sink_before sink_after result
   pub cause : result ≡ Err stop.FileFault → Rose (i.faults source_before) (i.faults source_after)
   pub usage : result ≡ Err stop.Usage → ⊥
   pub later : o.faults sink_before ≤ o.faults sink_after
@@ -92,7 +94,6 @@ pub record PutsMade {H O : Type 0} (h : files.Ghosts H) (o : sink.Ghosts O) (for
   pub wrote : WroteIn h o (IsMadeLine format made) files_before files_after sink_before sink_after result
   pub cause : result ≡ Err stop.FileFault
       → (made ≡ Err stop.FileFault) ⊎ Rose (h.faults files_before) (h.faults files_after)
-  pub usage : result ≡ Err stop.Usage → made ≡ Err stop.Usage
   pub refusals : IfErr result (λ s. (made ≡ Err s) ⊎ IsLate s)
   -- a stop that came before leaves the files as they were
   pub kept : IfErr made (λ s. files_after ≡ files_before)
@@ -100,20 +101,17 @@ pub record PutsMade {H O : Type 0} (h : files.Ghosts H) (o : sink.Ghosts O) (for
   pub later_sink : o.faults sink_before ≤ o.faults sink_after
   pub sink_count : (made ≡ Err stop.SinkFault → ⊥) → o.faults sink_after ≡ sink_failures result (o.faults sink_before)
 
--- As DoneWithFiles, of whatever the words ask for, with what is seen of the source.
+-- And with what is seen of the source.
 pub record CommandDone {H I O : Type 0} (h : files.Ghosts H) (i : source.Ghosts I) (o : sink.Ghosts O)
     (asked : Option FipAsked) (result : Result (Unit {0}) Stop)
     (files_before files_after : H) (source_before source_after : I) (sink_before sink_after : O) : Type 0 where
-  pub told : (told : Directory) → h.contents files_before ≡ Some told → asked ≢ Some info_of_source
-      → DidIn h o (outcome_of asked told) told files_before files_after sink_before sink_after result
+  pub done : DoneWithFiles h o (Rose (i.faults source_before) (i.faults source_after)) asked result files_before files_after
+      sink_before sink_after
   pub source : asked ≡ Some info_of_source
       → ReadSourceIn i o (h.contents files_before) (h.contents files_after) source_before source_after sink_before sink_after result
-  pub says : SaysIn o (IsTextsOf asked) sink_before sink_after result
   -- usage is answered exactly where nothing is asked for, or there is no memory to see that
   pub words : asked ≡ None → (result ≡ Err stop.Usage) ⊎ (result ≡ Err stop.NoMemory)
   pub usage : result ≡ Err stop.Usage → asked ≡ None
-  -- each refusal is one of what was asked for
-  pub refusals : IfErr result (MayRefuse asked)
   -- only a listing of the source reads it
   pub source_stays : asked ≢ Some info_of_source → source_after ≡ source_before
   -- no read of the source is made behind one that gave no bytes or failed
@@ -121,13 +119,12 @@ pub record CommandDone {H I O : Type 0} (h : files.Ghosts H) (i : source.Ghosts 
   pub source_count : asked ≡ Some info_of_source
       → i.faults source_after ≡ source_failures result (i.faults source_before)
   pub files_stay : IsFalse (asks_files asked) → files_after ≡ files_before
-  -- no access is made that the words don't name
-  pub spares : (access : Access) → IsUnnamedBy asked access → h.spares files_before files_after access
-  pub alone : IfErr result (λ s. RefusesAlone h asked files_before files_after (status_number s))
-  pub cause : result ≡ Err stop.FileFault → h.contents files_before ≡ None
-      → Rose (h.faults files_before) (h.faults files_after) ⊎ Rose (i.faults source_before) (i.faults source_after)
-  -- at most one call of the files failed, and none unless it ended for that
-  pub file_count : FaultsOnce (h.faults files_before) (h.faults files_after) result
-  pub wrote : WroteForIn h o asked files_before files_after sink_before sink_after result
-  pub later : o.faults sink_before ≤ o.faults sink_after
-  pub sink_count : o.faults sink_after ≡ sink_failures result (o.faults sink_before)
+
+-- How the tool ended, by its status: how its command ended, what that did, and with which line the tool told why.
+pub record ToolEnded {H I O : Type 0} (h : files.Ghosts H) (i : source.Ghosts I) (o : sink.Ghosts O) (asked : Option FipAsked)
+    (status : ℕ) (files_before files_after : H) (source_before source_after : I) (sink_before sink_after : O) : Type 0 where
+  pub result : Result (Unit {0}) Stop
+  -- the sink once the command had ended, before the line of a stop
+  pub between : O
+  pub done : CommandDone h i o asked result files_before files_after source_before source_after sink_before between
+  pub told : EndsWith (o.taken between) (o.taken sink_after) (Rose (o.faults between) (o.faults sink_after)) result status

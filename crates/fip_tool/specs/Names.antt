@@ -1,10 +1,10 @@
 -- Which accesses to files the words don't name, which a refusal has no use for, and which stops what the words ask for may end with,
 -- whatever files there are.
-use Rattle.std.specs.Prelude.{◌≡◌, ◌≢◌, ◌≤◌, ◌⊎◌, ⊤, ℕ, List, Option, Some, None, All}
+use Rattle.std.specs.Prelude.{◌≡◌, ◌≢◌, ◌≤◌, ⊤, ℕ, List, Option, Some, None, All}
 use Rattle.host_io.specs.Access.{Access, Asks, Makes}
 use Rattle.fip_words.specs.Order.{FipAsked, info, info_of_source, create, update, remove, unpack, manifest, capsule, repackage}
-use Rattle.fip_making.specs.{Stops.status_number, Answers.IsLate, declared.stops.Stop.Stop}
-use Rattle.fip_making.specs.Refusals.{IsOfEnclosing, IsOfEntries, IsManifestStop, IsPackageStop, IsOfPackaging, IsOfPacking, IsOfRepacking, IsOfSource}
+use Rattle.fip_making.specs.{Answers.IsLate, declared.stops.Stop.Stop}
+use Rattle.fip_making.specs.Refusals.{IsManifestStop, IsOfCapsule, IsOfEntries, IsOfSource, IsPackageStop, PackingOr}
 use Rattle.fip_making.specs.declared.stops.Stop.TheVariants as stop
 use Rattle.fip_tool.specs.Lines.{unpacked_name}
 
@@ -55,14 +55,10 @@ MayRefuse None stop.Usage = ⊤
 MayRefuse None s = IsLate s
 MayRefuse (Some (info file)) s = IsPackageStop s
 MayRefuse (Some info_of_source) s = IsOfSource s
-MayRefuse (Some (create align out parts)) s = IsOfPacking s
-MayRefuse (Some (update align from out parts)) s = IsOfRepacking s
-MayRefuse (Some (remove align from out names)) s = IsOfRepacking s
+MayRefuse (Some (create align out parts)) s = PackingOr IsLate s
+MayRefuse (Some (update align from out parts)) s = PackingOr IsOfEntries s
+MayRefuse (Some (remove align from out names)) s = PackingOr IsOfEntries s
 MayRefuse (Some (unpack from prefix names)) s = IsOfEntries s
 MayRefuse (Some (manifest out security rows)) s = IsManifestStop s
-MayRefuse (Some (capsule from out)) s = IsOfEnclosing s
-MayRefuse (Some (repackage align from out)) s = IsOfPackaging s
-
--- By the status: all was done, or a stop came that is one of what was asked for.
-abbrev pub EndsFor : Option FipAsked → ℕ → Type 0
-EndsFor asked status = (status ≡ 0) ⊎ ((s : Stop) × MayRefuse asked s × (status ≡ status_number s))
+MayRefuse (Some (capsule from out)) s = PackingOr IsPackageStop s
+MayRefuse (Some (repackage align from out)) s = PackingOr IsOfCapsule s

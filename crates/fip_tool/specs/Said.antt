@@ -4,7 +4,7 @@ use Rattle.std.specs.Io.KnownBytes.{Appends}
 use Rattle.fwu_formats.specs.Package.{Toc}
 use Rattle.capsule_tables.specs.Answers.{IsSomeTable}
 use Rattle.fip_words.specs.Order.{FipAsked, info, info_of_source, create, update, remove, unpack, manifest, capsule, repackage}
-use Rattle.fip_tool.specs.{Ends.stop_line, Tool.chosen, declared.lines.Format.Format}
+use Rattle.fip_tool.specs.{Tool.chosen, declared.lines.Format.Format}
 use Rattle.fip_tool.specs.Lines.{capsule_line, info_text, made_line, manifest_line, packed_line, unpacked_line}
 use Rattle.fip_making.specs.{declared.made.Made.Made, declared.stops.Stop.Stop}
 use Rattle.fip_making.specs.Values.{first_missing, is_named, IsTableOfSome}
@@ -15,28 +15,25 @@ abbrev pub IsListing : List ℕ → Type 0
 IsListing text = (t : Toc) × (size : ℕ) × IsTableOfSome t × (text ≡ info_text t size)
 
 -- The texts that a command prints, one after the other, when all is done: of some package or some capsule's table where one is
--- read, and with some size.
-abbrev pub IsTexts : FipAsked → List (List ℕ) → Type 0
-IsTexts (info file) texts = (text : List ℕ) × IsListing text × (texts ≡ text ∷ [])
-IsTexts info_of_source texts = (text : List ℕ) × IsListing text × (texts ≡ text ∷ [])
-IsTexts (create align out parts) texts = (size : ℕ) × (texts ≡ packed_line (length parts) size ∷ [])
-IsTexts (update align from out parts) texts =
+-- read, and with some size. Words that ask for nothing have none.
+abbrev pub IsTexts : Option FipAsked → List (List ℕ) → Type 0
+IsTexts None texts = ⊥
+IsTexts (Some (info file)) texts = (text : List ℕ) × IsListing text × (texts ≡ text ∷ [])
+IsTexts (Some info_of_source) texts = (text : List ℕ) × IsListing text × (texts ≡ text ∷ [])
+IsTexts (Some (create align out parts)) texts = (size : ℕ) × (texts ≡ packed_line (length parts) size ∷ [])
+IsTexts (Some (update align from out parts)) texts =
     (t : Toc) × IsTableOfSome t × (size : ℕ) × (first_missing t (map (λ p. p.guid) parts) ≡ None)
     × (texts ≡ packed_line (length t.entries) size ∷ [])
-IsTexts (remove align from out names) texts =
+IsTexts (Some (remove align from out names)) texts =
     (t : Toc) × IsTableOfSome t × (size : ℕ) × (first_missing t names ≡ None)
     × (texts ≡ packed_line (length (filter (λ e. not (is_named names e)) t.entries)) size ∷ [])
-IsTexts (unpack from prefix names) texts =
+IsTexts (Some (unpack from prefix names)) texts =
     (t : Toc) × IsTableOfSome t × (first_missing t names ≡ None) × (texts ≡ map (unpacked_line prefix) (chosen names t.entries))
-IsTexts (manifest out security rows) texts = (size : ℕ) × (texts ≡ manifest_line (length rows) size security ∷ [])
-IsTexts (capsule from out) texts = (t : Toc) × IsTableOfSome t × (size : ℕ) × (texts ≡ capsule_line (length t.entries) size ∷ [])
-IsTexts (repackage align from out) texts =
+IsTexts (Some (manifest out security rows)) texts = (size : ℕ) × (texts ≡ manifest_line (length rows) size security ∷ [])
+IsTexts (Some (capsule from out)) texts =
+    (t : Toc) × IsTableOfSome t × (size : ℕ) × (texts ≡ capsule_line (length t.entries) size ∷ [])
+IsTexts (Some (repackage align from out)) texts =
     (t : Toc) × IsSomeTable t × (size : ℕ) × (texts ≡ packed_line (length t.entries) size ∷ [])
-
--- words that ask for nothing have none
-abbrev pub IsTextsOf : Option FipAsked → List (List ℕ) → Type 0
-IsTextsOf None texts = ⊥
-IsTextsOf (Some asked) texts = IsTexts asked texts
 
 abbrev pub joined_texts : List (List ℕ) → List ℕ
 joined_texts [] = []
@@ -65,26 +62,6 @@ Says T was text sink-rose (Err SinkFault) = sink-rose × IsCutText T was text
 Says T was text sink-rose (Err FileFault) = (said : List ℕ) × IsBegunText T said × Appends was text said
 Says T was text sink-rose (Err NoMemory) = (said : List ℕ) × IsBegunText T said × Appends was text said
 Says T was text sink-rose (Err s) = text ≡ was
-
--- what may be printed before a stop: nothing before a refusal
-abbrev pub IsBefore : (List (List ℕ) → Type 0) → Stop → List ℕ → Type 0
-IsBefore T FileFault said = IsBegunText T said
-IsBefore T s said = said ≡ []
-
--- What was printed in all, by the result. Where there is a stop, its line stands last; where the sink failed it is cut.
-abbrev pub SaysAll : (List (List ℕ) → Type 0) → Option (List ℕ) → Option (List ℕ) → Type 0 → Result (Unit {0}) Stop → Type 0
-SaysAll T was text sink-rose (Ok done) = (texts : List (List ℕ)) × T texts × Appends was text (joined_texts texts)
-SaysAll T was text sink-rose (Err SinkFault) =
-    sink-rose × (IsCutText T was text
-    ⊎ ((s : Stop) × (said : List ℕ) × IsBefore T s said × (k : ℕ) × Appends was text (said ++ take k (stop_line s))))
-SaysAll T was text sink-rose (Err NoMemory) = (said : List ℕ) × IsBegunText T said × Appends was text said
-SaysAll T was text sink-rose (Err s) = (said : List ℕ) × IsBefore T s said × Appends was text (said ++ stop_line s)
-
--- Where the sink failed, no call of this count failed, unless the line that tells so is cut.
-abbrev pub SinkAlone : Option FipAsked → Option (List ℕ) → Option (List ℕ) → ℕ → ℕ → Type 0
-SinkAlone asked was text before after =
-    (after ≡ before)
-    ⊎ ((said : List ℕ) × IsBegunText (IsTextsOf asked) said × (k : ℕ) × Appends was text (said ++ take k (stop_line FileFault)))
 
 -- the line of what was made
 abbrev pub IsMadeLine : Format → Result Made Stop → List (List ℕ) → Type 0

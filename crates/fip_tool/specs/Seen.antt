@@ -1,17 +1,15 @@
 -- What was done, as files, a source and a sink tell it. A word `DidIn` is `Did` with what those tell and count: it takes how
 -- their types tell it, and each of them before and after.
-use Rattle.std.specs.Prelude.{◌≡◌, ◌⊎◌, ℕ, List, Option, Some, Result, Ok, Err}
+use Rattle.std.specs.Prelude.{◌≡◌, ℕ, List, Option, Some, Result}
 use Rattle.base_core.specs.Counts.{Rose}
 use Rattle.fip_words.specs.Order.{FipAsked}
 use Rattle.host_io.specs.Contents.{Directory}
 use Rattle.host_io.specs.declared.files.Files as files
 use Rattle.host_io.specs.declared.source.Source as source
 use Rattle.host_io.specs.declared.sink.Sink as sink
-use Rattle.fip_tool.specs.{Ends.CommandEnded, Ends.Reported, Ends.exit_status, Said.IsTextsOf, Said.Says, Said.SaysAll}
-use Rattle.fip_tool.specs.Said.{SinkAlone}
-use Rattle.fip_tool.specs.{Tool.IsReadFor, Tool.given_value, Tool.no_files, Tool.prints, Wrote.CommandWrote, Wrote.WroteFor}
+use Rattle.fip_tool.specs.{Said.Says, Tool.IsReadFor, Tool.given_value, Tool.no_files, Tool.prints, Wrote.CommandWrote, Wrote.WroteFor}
 use Rattle.fip_tool.specs.Steps.{Did, CommandPlan, MayTear, PrintedText, outcome_by}
-use Rattle.fip_making.specs.{Stops.status_number, Values.StopsInTime, declared.stops.Stop.Stop}
+use Rattle.fip_making.specs.{Values.StopsInTime, declared.stops.Stop.Stop}
 
 -- ---- in a sink
 
@@ -20,16 +18,6 @@ PrintedIn o piece old new result = PrintedText (o.taken old) (o.taken new) (Rose
 
 abbrev pub SaysIn : {O : Type 0} → sink.Ghosts O → (List (List ℕ) → Type 0) → O → O → Result (Unit {0}) Stop → Type 0
 SaysIn o T old new result = Says T (o.taken old) (o.taken new) (Rose (o.faults old) (o.faults new)) result
-
--- By the status: what was printed in all.
-abbrev pub SaidWithIn : {O : Type 0} → sink.Ghosts O → Option FipAsked → O → O → ℕ → Type 0
-SaidWithIn o asked old new status =
-    (result : Result (Unit {0}) Stop) × (status ≡ exit_status result)
-    × SaysAll (IsTextsOf asked) (o.taken old) (o.taken new) (Rose (o.faults old) (o.faults new)) result
-
--- of a count of other calls that failed, before and after
-abbrev pub SinkAloneIn : {O : Type 0} → sink.Ghosts O → Option FipAsked → O → O → ℕ → ℕ → Type 0
-SinkAloneIn o asked old new before after = SinkAlone asked (o.taken old) (o.taken new) before after
 
 -- ---- in files and a sink
 
@@ -55,14 +43,6 @@ abbrev pub WroteForIn : {H O : Type 0} → files.Ghosts H → sink.Ghosts O → 
 WroteForIn h o asked files-old files-new old new result =
     WroteFor asked (o.taken old) (o.taken new) (h.writes files-old).done (h.writes files-new).done result
 
--- And by the exit status. Where a command stopped, the line that tells why stands behind what it printed.
-abbrev pub WroteWithIn : {H O : Type 0} → files.Ghosts H → sink.Ghosts O → Option FipAsked → H → H → O → O → ℕ → Type 0
-WroteWithIn h o asked files-old files-new old new status =
-    ((status ≡ 0) × WroteForIn h o asked files-old files-new old new (Ok tt))
-    ⊎ ((s : Stop) × (now : Stop) × (printed : Option (List ℕ))
-    × WroteFor asked (o.taken old) printed (h.writes files-old).done (h.writes files-new).done (Err s)
-    × Reported printed (o.taken new) (Rose (o.faults old) (o.faults new)) s now × (status ≡ status_number now))
-
 -- ---- in a source and a sink, with what files tell before and after
 
 -- What was done of a listing of the source, by its result. No file was touched.
@@ -72,8 +52,3 @@ ReadSourceIn i o told now source-old source-new old new result =
     (given : List ℕ) × StopsInTime given × (now ≡ told) × IsReadFor result (i.left source-old) (i.left source-new) given
     × Did (outcome_by prints (given_value given)) no_files (Some no_files) (o.taken old) (o.taken new)
     (Rose (i.faults source-old) (i.faults source-new)) ⊥ (Rose (o.faults old) (o.faults new)) result
-
-abbrev pub EndedIn : {H O : Type 0} → files.Ghosts H → sink.Ghosts O → CommandPlan → Directory → H → H → O → O → ℕ → Type 0
-EndedIn h o outcome told files-old files-new old new status =
-    CommandEnded outcome told (h.contents files-new) (o.taken old) (o.taken new) (Rose (h.faults files-old) (h.faults files-new))
-    (MayTear (h.writes files-old) (h.writes files-new)) (Rose (o.faults old) (o.faults new)) status

@@ -1,5 +1,5 @@
 -- What a command does, and what is there after it.
-use Rattle.std.specs.Prelude.{◌≡◌, ◌≢◌, ◌⊎◌, ◌+◌, ◌≤◌, ◌==◌, ◌||◌, IsFalse, ⊤, ℕ, List, [], ◌∷◌, ◌++◌, Option, Some, None, Result, Ok, Err, if◌then◌else◌, take, drop}
+use Rattle.std.specs.Prelude.{◌≡◌, ◌≢◌, ◌⊎◌, ◌+◌, ◌≤◌, ⊤, ℕ, List, [], ◌∷◌, ◌++◌, Option, Some, None, Result, Ok, Err, if◌then◌else◌, take, drop}
 use Rattle.std.specs.Str.{bytes_eq}
 use Rattle.std.specs.Io.KnownBytes.{Appends}
 use Rattle.base_core.specs.Counts.{Rose}
@@ -101,11 +101,6 @@ pub record FaultsOnce {X : Type 0} (before after : ℕ) (result : Result X Stop)
   pub once : after ≤ before + 1
   pub quiet : NoneFailed result before after
 
--- And by the exit status. The line of such a stop may be cut by the sink, or find no memory.
-pub record FailsAtMostOnce (status before after : ℕ) : Type 0 where
-  pub once : after ≤ before + 1
-  pub none : IsFalse ((status == 2) || ((status == 3) || (status == 9))) → after ≡ before
-
 -- what the sink took of a text
 abbrev pub PrintedText : Option (List ℕ) → Option (List ℕ) → Type 0 → List ℕ → Result (Unit {0}) Stop → Type 0
 PrintedText was text sink-rose piece (Ok done) = Appends was text piece
@@ -127,12 +122,6 @@ sink_failures (Err s) before = sink_failed s before
 abbrev pub line_failures : Stop → Stop → ℕ → ℕ
 line_failures SinkFault now before = before
 line_failures s now before = sink_failed now before
-
--- And by the exit status, of the source: it failed once where that is told. The line of such a stop may be cut, or find no memory.
-pub record FailsOnceAt (status before after : ℕ) : Type 0 where
-  pub once : (after ≡ before) ⊎ (after ≡ raised before)
-  pub failed : status ≡ 2 → after ≡ raised before
-  pub none : IsFalse ((status == 2) || ((status == 3) || (status == 9))) → after ≡ before
 
 -- ---- one writing
 

@@ -7,12 +7,12 @@ use Rattle.host_io.specs.declared.writes.Writes as count
 use Rattle.fwu_formats.specs.Package.{Entry, payload, toc_of}
 use Rattle.fip_tables.specs.Answers.{decided}
 use Rattle.fip_words.specs.Order.{FipAsked, info, info_of_source, create, update, remove, unpack, manifest, capsule, repackage}
-use Rattle.fip_tool.specs.{Ends.CommandEnded, Ends.EndedBy, Ends.exit_status, declared.lines.Format.Format}
+use Rattle.fip_tool.specs.{Ends.EndsWith, declared.lines.Format.Format}
 use Rattle.fip_tool.specs.Lines.{info_text, made_line, manifest_line, unpacked_line, unpacked_name}
-use Rattle.fip_tool.specs.Steps.{CommandPlan, Makes, MayTear, Refuses, CommandStep, Writes, Prints, outcome_by}
+use Rattle.fip_tool.specs.Steps.{CommandPlan, Did, Makes, MayTear, Refuses, CommandStep, Writes, Prints, outcome_by}
 use Rattle.fip_tool.specs.declared.lines.Format.TheVariants as format
 use Rattle.fip_making.specs.declared.stops.Stop.{Stop}
-use Rattle.fip_making.specs.Values.{StopsInTime, after, capsule_value, create_value, first_missing, given_table, is_named, manifest_value, package_read_in, remove_value, repackage_value, sized_table, unless_missing, update_value}
+use Rattle.fip_making.specs.Values.{after, capsule_value, create_value, first_missing, given_table, is_named, manifest_value, package_read_in, remove_value, repackage_value, sized_table, unless_missing, update_value}
 use Rattle.fip_making.specs.declared.stops.Stop.TheVariants as stop
 
 -- ---- info
@@ -56,20 +56,18 @@ writes_manifest out security made = Writes out made.1 ∷ Prints (manifest_line 
 -- ---- commands
 
 -- what the words ask for, done with these files
-abbrev pub command_outcome : FipAsked → Directory → CommandPlan
-command_outcome (info file) files = outcome_by prints (info_value files file)
-command_outcome info_of_source files = Refuses stop.Usage
-command_outcome (create align out parts) files = outcome_by (puts format.Package out) (create_value files align parts)
-command_outcome (update align from out parts) files = outcome_by (puts format.Package out) (update_value files align from parts)
-command_outcome (remove align from out names) files = outcome_by (puts format.Package out) (remove_value files align from names)
-command_outcome (unpack from prefix names) files = outcome_by (λ v. unpack_steps prefix v.0 v.1) (unpack_value files from names)
-command_outcome (manifest out security rows) files = outcome_by (writes_manifest out security) (manifest_value files security rows)
-command_outcome (capsule from out) files = outcome_by (puts format.Capsule out) (capsule_value files from)
-command_outcome (repackage align from out) files = outcome_by (puts format.Package out) (repackage_value files align from)
-
 abbrev pub outcome_of : Option FipAsked → Directory → CommandPlan
 outcome_of None files = Refuses stop.Usage
-outcome_of (Some asked) files = command_outcome asked files
+outcome_of (Some (info file)) files = outcome_by prints (info_value files file)
+outcome_of (Some info_of_source) files = Refuses stop.Usage
+outcome_of (Some (create align out parts)) files = outcome_by (puts format.Package out) (create_value files align parts)
+outcome_of (Some (update align from out parts)) files = outcome_by (puts format.Package out) (update_value files align from parts)
+outcome_of (Some (remove align from out names)) files = outcome_by (puts format.Package out) (remove_value files align from names)
+outcome_of (Some (unpack from prefix names)) files = outcome_by (λ v. unpack_steps prefix v.0 v.1) (unpack_value files from names)
+outcome_of (Some (manifest out security rows)) files =
+    outcome_by (writes_manifest out security) (manifest_value files security rows)
+outcome_of (Some (capsule from out)) files = outcome_by (puts format.Capsule out) (capsule_value files from)
+outcome_of (Some (repackage align from out)) files = outcome_by (puts format.Package out) (repackage_value files align from)
 
 -- all but usage and a listing of the source ask for a file
 abbrev pub asks_files : Option FipAsked → Bool
@@ -87,28 +85,22 @@ IsReadFor (Ok done) was left given = Consumes was left given × IsAtEnd left
 IsReadFor (Err (stop.NotFip f)) was left given = Consumes was left given × (IsAtEnd left ⊎ (decided (toc_of given) ≡ Err f))
 IsReadFor (Err s) was left given = Consumes was left given
 
--- How the tool ended that listed the source. No file was touched.
-abbrev pub EndedSource : ℕ → Option Directory → Option Directory → Option (List ℕ) → Option (List ℕ)
-    → Option (List ℕ) → Option (List ℕ) → Type 0 → Type 0 → Type 0
-EndedSource status told now left-was left was text source-rose sink-rose =
-    (given : List ℕ) × StopsInTime given × (now ≡ told) × (result : Result (Unit {0}) Stop) × (status ≡ exit_status result)
-    × IsReadFor result left-was left given
-    × EndedBy (outcome_by prints (given_value given)) no_files (Some no_files) was text source-rose ⊥ sink-rose result
-
 -- ---- when all is done
 
 -- Where what is read is there and nothing refuses it, and no call failed, all is done, unless memory was wanting.
 abbrev pub IsCompleteCommand : Type 0
 IsCompleteCommand =
-    (steps : List CommandStep) (files : Directory) (now : Option Directory) (was text : Option (List ℕ)) (f g s t status : ℕ)
-    (w x : count.Writes) → CommandEnded (Makes steps) files now was text (Rose f g) (MayTear w x) (Rose s t) status
-    → (Rose f g → ⊥) → (Rose s t → ⊥) → (status ≡ 0) ⊎ (status ≡ 9)
+    (steps : List CommandStep) (files : Directory) (now : Option Directory) (was mid text : Option (List ℕ))
+    (f g s m t status : ℕ) (w x : count.Writes) (result : Result (Unit {0}) Stop)
+    → Did (Makes steps) files now was mid (Rose f g) (MayTear w x) (Rose s m) result → EndsWith mid text (Rose m t) result status
+    → (Rose f g → ⊥) → (Rose s m → ⊥) → (Rose m t → ⊥) → (status ≡ 0) ⊎ (status ≡ 9)
 
 -- A listing of the source, where what it gave is a package: no call of the source or of the sink failed, and so all of it is
 -- listed, unless memory was wanting.
 abbrev pub IsCompleteListing : Type 0
 IsCompleteListing =
-    (told now : Option Directory) (left_before left was text : Option (List ℕ)) (f g s t status : ℕ) (steps : List CommandStep)
-    → (e : EndedSource status told now left_before left was text (Rose f g) (Rose s t))
-    → outcome_by prints (given_value e.0) ≡ Makes steps
-    → (Rose f g → ⊥) → (Rose s t → ⊥) → (status ≡ 0) ⊎ (status ≡ 9)
+    (given : List ℕ) (steps : List CommandStep) (was mid text : Option (List ℕ)) (f g s m t status : ℕ)
+    (result : Result (Unit {0}) Stop) → outcome_by prints (given_value given) ≡ Makes steps
+    → Did (outcome_by prints (given_value given)) no_files (Some no_files) was mid (Rose f g) ⊥ (Rose s m) result
+    → EndsWith mid text (Rose m t) result status
+    → (Rose f g → ⊥) → (Rose s m → ⊥) → (Rose m t → ⊥) → (status ≡ 0) ⊎ (status ≡ 9)

@@ -62,4 +62,4 @@ abbrev pub WroteFor : Option FipAsked → Option (List ℕ) → Option (List ℕ
 WroteFor None was text before after result = after ≡ before
 WroteFor (Some (info file)) was text before after result = after ≡ before
 WroteFor (Some info_of_source) was text before after result = after ≡ before
-WroteFor (Some asked) was text before after result = CommandWrote (IsTexts asked) was text before after result
+WroteFor (Some asked) was text before after result = CommandWrote (IsTexts (Some asked)) was text before after result

@@ -1,4 +1,5 @@
 //! The commands that turn a package into a capsule, and back: `capsule` and `package`.
+ghost use Rattle.std.specs.Prelude.{Some};
 ghost use Rattle.fip_words.specs.Order.{FipAsked};
 ghost use Rattle.fip_tool.specs.Done.{DoneWithFiles};
 
@@ -16,7 +17,8 @@ pub fn run_capsule<H: Files, O: Sink>(
     from: &str,
     out: &str,
 ) -> Result<(), Stop>
-    ensures { DoneWithFiles H.Files O.Sink (FipAsked.capsule from.now out.now) result files.old files.new sink.old sink.new }
+    ensures { DoneWithFiles H.Files O.Sink ⊥ (Some (FipAsked.capsule from.now out.now)) result
+        files.old files.new sink.old sink.new }
 {
     let made = capsule_of_package(alloc, files, from);
     put_made(alloc, files, sink, Format::Capsule, out, made)
@@ -32,7 +34,7 @@ pub fn run_package<H: Files, O: Sink>(
     from: &str,
     out: &str,
 ) -> Result<(), Stop>
-    ensures { DoneWithFiles H.Files O.Sink (FipAsked.repackage align from.now out.now) result
+    ensures { DoneWithFiles H.Files O.Sink ⊥ (Some (FipAsked.repackage align from.now out.now)) result
         files.old files.new sink.old sink.new }
 {
     let made = package_of_capsule(alloc, files, align, from);

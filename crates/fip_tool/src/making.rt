@@ -1,5 +1,5 @@
 //! The commands that make packages: `create`, `remove` and `update`.
-ghost use Rattle.std.specs.Prelude.{◌≡◌, map};
+ghost use Rattle.std.specs.Prelude.{◌≡◌, Some, map};
 ghost use Rattle.fip_words.specs.Order.{FipAsked, part_view};
 ghost use Rattle.fip_tool.specs.Done.{DoneWithFiles};
 
@@ -37,7 +37,7 @@ pub fn run_create<H: Files, O: Sink>(
     out: &str,
     named: &[FileWord<'_>],
 ) -> Result<(), Stop>
-    ensures { DoneWithFiles H.Files O.Sink (FipAsked.create align out.now (map part_view named.now)) result
+    ensures { DoneWithFiles H.Files O.Sink ⊥ (Some (FipAsked.create align out.now (map part_view named.now))) result
         files.old files.new sink.old sink.new }
 {
     let made = created(alloc, files, align, named);
@@ -52,8 +52,8 @@ pub fn run_remove<H: Files, O: Sink>(
     remade: &Remade<'_>,
     guids: &[Guid],
 ) -> Result<(), Stop>
-    ensures { DoneWithFiles H.Files O.Sink
-        (FipAsked.remove remade.now.align remade.now.from.now remade.now.out.now guids.now) result
+    ensures { DoneWithFiles H.Files O.Sink ⊥
+        (Some (FipAsked.remove remade.now.align remade.now.from.now remade.now.out.now guids.now)) result
         files.old files.new sink.old sink.new }
 {
     let made = removed(alloc, files, remade.align, remade.from, guids);
@@ -69,8 +69,8 @@ pub fn run_update<H: Files, O: Sink>(
     remade: &Remade<'_>,
     named: &[FileWord<'_>],
 ) -> Result<(), Stop>
-    ensures { DoneWithFiles H.Files O.Sink
-        (FipAsked.update remade.now.align remade.now.from.now remade.now.out.now (map part_view named.now)) result
+    ensures { DoneWithFiles H.Files O.Sink ⊥
+        (Some (FipAsked.update remade.now.align remade.now.from.now remade.now.out.now (map part_view named.now))) result
         files.old files.new sink.old sink.new }
 {
     let made = updated(alloc, files, remade.align, remade.from, named);

@@ -1,5 +1,5 @@
 //! The command that makes manifests: `manifest`.
-ghost use Rattle.std.specs.Prelude.{map};
+ghost use Rattle.std.specs.Prelude.{Some, map};
 ghost use Rattle.fip_words.specs.Order.{FipAsked, image_view};
 ghost use Rattle.fip_tool.specs.Done.{DoneWithFiles};
 
@@ -19,7 +19,7 @@ pub fn run_manifest<H: Files, O: Sink>(
     security: u32,
     named: &[ImageWord],
 ) -> Result<(), Stop>
-    ensures { DoneWithFiles H.Files O.Sink (FipAsked.manifest out.now security (map image_view named.now)) result
+    ensures { DoneWithFiles H.Files O.Sink ⊥ (Some (FipAsked.manifest out.now security (map image_view named.now))) result
         files.old files.new sink.old sink.new }
 {
     let (rows, bytes) = manifest(alloc, files, security, named)?;

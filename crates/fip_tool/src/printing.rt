@@ -1,9 +1,8 @@
 //! Texts for the sink.
-ghost use Rattle.std.specs.Prelude.{◌≡◌, ◌≤◌, Err, IfErr};
+ghost use Rattle.std.specs.Prelude.{◌≡◌, ◌≤◌, IfErr};
 ghost use Rattle.fip_tool.specs.Seen.{PrintedIn};
 ghost use Rattle.fip_making.specs.Answers.{IsLate};
 ghost use Rattle.fip_tool.specs.Steps.{sink_failures};
-ghost use Rattle.fip_making.specs.declared.stops.Stop.TheVariants as stop;
 
 use fip_making::Stop;
 use host_io::{Sink, WriteStop};
@@ -12,7 +11,6 @@ use host_io::{Sink, WriteStop};
 pub fn print<O: Sink>(sink: &mut O, text: &[u8]) -> Result<(), Stop>
     ensures printed { PrintedIn O.Sink text.now sink.old sink.new result }
     ensures late { IfErr result IsLate }
-    ensures usage { result ≡ Err stop.Usage → ⊥ }
     ensures later { O.faults sink.old ≤ O.faults sink.new }
     ensures count { O.faults sink.new ≡ sink_failures result (O.faults sink.old) }
 {

@@ -1,7 +1,7 @@
 //! The tool: it reads its words, does the command, and tells how it ended.
 ghost use Rattle.std.specs.Prelude.{◌==◌, if◌then◌else◌, ◌≡◌, ◌≢◌, ◌≤◌, ◌⊎◌, IsFalse, List, Some, None, Ok, Err, ℕ, false, map, string_bytes};
 ghost use Rattle.base_core.specs.Counts.{Rose};
-ghost use Rattle.fip_tool.specs.Names.{IsUnnamedBy, EndsFor};
+ghost use Rattle.fip_tool.specs.Names.{IsUnnamedBy};
 ghost use Rattle.host_io.specs.Access.{Access};
 ghost use Rattle.host_io.specs.Calls.{raised};
 ghost use Rattle.host_io.specs.Contents.{Directory};
@@ -10,12 +10,10 @@ ghost use Rattle.host_io.specs.Reads.{ReadsFile};
 ghost use Rattle.fip_words.specs.Order.{FipAsked, asked, info_of_source, view};
 ghost use Rattle.fip_words.specs.Values.{is_unpacked};
 ghost use Rattle.fip_tool.specs.Converted.{Converts};
-ghost use Rattle.fip_tool.specs.Done.{CommandDone, DoneWithFiles, DoneWithSource, RefusesAlone};
+ghost use Rattle.fip_tool.specs.Done.{CommandDone, DoneWithFiles, DoneWithSource, ToolEnded};
 ghost use Rattle.fip_tool.specs.Ends.{Reported, StopTold};
-ghost use Rattle.fip_tool.specs.Seen.{EndedIn, SaidWithIn, SinkAloneIn, WroteWithIn};
-ghost use Rattle.fip_tool.specs.Steps.{FailsAtMostOnce, FailsOnceAt, line_failures, sink_failed};
-ghost use Rattle.fip_tool.specs.Tool.{EndedSource, asks_files, outcome_of};
-ghost use Rattle.fip_making.specs.declared.stops.Stop.TheVariants as stop;
+ghost use Rattle.fip_tool.specs.Steps.{line_failures, sink_failed};
+ghost use Rattle.fip_tool.specs.Tool.{asks_files};
 ghost use Rattle.fip_making.specs.declared.stops.Stop.TheVariants.{SinkFault};
 
 use crate::capsules::{run_capsule, run_package};
@@ -36,7 +34,7 @@ fn info<H: Files, O: Sink>(
     sink: &mut O,
     name: &str,
 ) -> Result<(), Stop>
-    ensures done { DoneWithFiles H.Files O.Sink (FipAsked.info name.now) result files.old files.new sink.old sink.new }
+    ensures done { DoneWithFiles H.Files O.Sink ⊥ (Some (FipAsked.info name.now)) result files.old files.new sink.old sink.new }
     ensures files { ReadsFile H.Files name.now files.old files.new }
 {
     let text = file_info(alloc, files, name)?;
@@ -164,17 +162,10 @@ pub fn fip_top<H: Files, I: Source, O: Sink>(
     source: &mut I,
     sink: &mut O,
 ) -> u8
-    // What was done is the first ones of the command's steps. Only where a writing may have torn its file is that other than they
-    // leave it.
-    ensures told { (told : Directory) → H.contents files.old ≡ Some told → asked (map string_bytes words.now) ≢ Some info_of_source
-        → EndedIn H.Files O.Sink (outcome_of (asked (map string_bytes words.now)) told) told
-        files.old files.new sink.old sink.new result }
-    ensures source { asked (map string_bytes words.now) ≡ Some info_of_source
-        → EndedSource result (H.contents files.old) (H.contents files.new) (I.left source.old) (I.left source.new)
-        (O.taken sink.old) (O.taken sink.new) (Rose (I.faults source.old) (I.faults source.new))
-        (Rose (O.faults sink.old) (O.faults sink.new)) }
-    // What the sink took, whatever files there are: the lines of the command, and where it stopped the line of the stop last.
-    ensures said { SaidWithIn O.Sink (asked (map string_bytes words.now)) sink.old sink.new result }
+    // What the command did and told till it ended, and the line that tells why it stopped. Each fact of it goes by its result,
+    // of which the status comes: 3 and 9 may also be told in the place of a stop whose line was cut or found no memory.
+    ensures ended { ToolEnded H.Files I.Source O.Sink (asked (map string_bytes words.now)) result
+        files.old files.new source.old source.new sink.old sink.new }
     // Both conversions keep the types and the payloads, in their order.
     ensures converts { (told : Directory) → H.contents files.old ≡ Some told → result ≡ 0
         → Converts (asked (map string_bytes words.now)) told (H.contents files.new) }
@@ -183,34 +174,18 @@ pub fn fip_top<H: Files, I: Source, O: Sink>(
     ensures sink_count { O.faults sink.new ≡ (if result == 3 then raised (O.faults sink.old) else O.faults sink.old) }
     ensures cause { result ≡ 2 → H.contents files.old ≡ None → Rose (H.faults files.old) (H.faults files.new)
         ⊎ Rose (I.faults source.old) (I.faults source.new) }
-    // At most one call of the files fails, and none but at status 2, 3 and 9, whatever files there are.
-    ensures file_count { FailsAtMostOnce result (H.faults files.old) (H.faults files.new) }
-    // Where the sink failed no call of the files failed, and none of a source that is listed, unless the line that told so is cut.
-    ensures sink_alone { result ≡ 3 → SinkAloneIn O.Sink (asked (map string_bytes words.now))
-        sink.old sink.new (H.faults files.old) (H.faults files.new) }
-    ensures source_alone { asked (map string_bytes words.now) ≡ Some info_of_source → result ≡ 3
-        → SinkAloneIn O.Sink (asked (map string_bytes words.now)) sink.old sink.new (I.faults source.old) (I.faults source.new) }
-    // What is written, whatever files there are: each file once, with its line behind it, and nothing by a listing or a refusal.
-    ensures wrote { WroteWithIn H.Files O.Sink (asked (map string_bytes words.now)) files.old files.new sink.old sink.new result }
     // Usage is answered exactly by the words, whatever files there are.
     ensures usage { result ≡ 1 → asked (map string_bytes words.now) ≡ None }
     ensures words { asked (map string_bytes words.now) ≡ None → (result ≡ 1) ⊎ (result ≡ 3) ⊎ (result ≡ 9) }
-    // No command answers a refusal of another one, whatever files there are.
-    ensures refusals { EndsFor (asked (map string_bytes words.now)) result }
     // Nothing but a listing of the source reads it.
     ensures source_stays { asked (map string_bytes words.now) ≢ Some info_of_source → source.new ≡ source.old }
     // No read of the source is made behind one that gave no bytes or failed, whatever source there is.
     ensures once { ReadsOnce I.Source source.old source.new }
-    // In a listing of the source at most one call of it failed, and at status 2 one did, whatever source there is.
-    ensures source_count { asked (map string_bytes words.now) ≡ Some info_of_source
-        → FailsOnceAt result (I.faults source.old) (I.faults source.new) }
     // Neither usage nor a listing of the source asks for a file, whatever files there are.
     ensures files_stay { IsFalse (asks_files (asked (map string_bytes words.now))) → files.new ≡ files.old }
     // No file is asked for, and none is made, but those that the words name, whatever files there are.
     ensures spares { (access : Access) → IsUnnamedBy (asked (map string_bytes words.now)) access
         → H.spares files.old files.new access }
-    // A refusal makes no file, and asks for those alone that it comes by.
-    ensures alone { RefusesAlone H.Files (asked (map string_bytes words.now)) files.old files.new result }
 {
     match run(alloc, words, files, source, sink) {
         Ok(()) => 0,

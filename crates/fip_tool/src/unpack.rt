@@ -137,7 +137,7 @@ pub fn run_unpack<H: Files, O: Sink>(
     names: &[Guid],
 ) -> Result<(), Stop>
     requires other { is_unpacked prefix.now from.now ≡ false }
-    ensures { DoneWithFiles H.Files O.Sink (FipAsked.unpack from.now prefix.now names.now) result
+    ensures { DoneWithFiles H.Files O.Sink ⊥ (Some (FipAsked.unpack from.now prefix.now names.now)) result
         files.old files.new sink.old sink.new }
 {
     let toc = table_with(files, from, names)?;

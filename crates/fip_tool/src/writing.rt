@@ -42,7 +42,6 @@ fn join<H: Files>(alloc: Global, files: &mut H, file: &NewFile<'_>) -> Result<()
     ensures cause { result ≡ Err stop.FileFault → Rose (H.faults files.old) (H.faults files.new) }
     ensures silent { H.contents files.old ≡ None → H.contents files.new ≡ None }
     ensures late { IfErr result IsLate }
-    ensures usage { result ≡ Err stop.Usage → ⊥ }
     ensures sink { result ≡ Err stop.SinkFault → ⊥ }
     ensures later { H.faults files.old ≤ H.faults files.new }
 {

@@ -3,7 +3,7 @@ use Rattle.host_io.proofs.Reading.{reads-wider}
 use Rattle.fwu_formats.specs.Package.{Toc}
 use Rattle.fip_making.specs.{Payloads.made_by, Values.first_missing}
 use Rattle.fip_making.proofs.{Packings.gives-same, Tables.gives-err, Tables.if-ok-as, Tables.rose-from, ReadsBy.alone-then}
-use Rattle.fip_making.proofs.{ReadsBy.alone-wider, Refusing.packing-of-repacking, Refusing.handed-on}
+use Rattle.fip_making.proofs.{ReadsBy.alone-wider, Refusing.packing-as, Refusing.late-of-entries, Refusing.handed-on}
 use Rattle.fip_making.proofs.Repacking.{has-entries, opened, types-are, update-err, update-of}
 use Rattle.fip_making.proofs.making.updated.Goals as goal
 
@@ -30,5 +30,5 @@ returns-in_err-toc-clause-told g c =
 
 pub returns-clause-reads : goal.returns-clause-reads
 returns-clause-reads g c =
-    alone-then g.met.H.Files.joins (reads-wider g.H.Files _ _ (λ access other. other.0) _ _ c.table_with.ensures.reads.files) c.in_ok-toc.ensures.reads.only.quiet packing-of-repacking
+    alone-then g.met.H.Files.joins (reads-wider g.H.Files _ _ (λ access other. other.0) _ _ c.table_with.ensures.reads.files) c.in_ok-toc.ensures.reads.only.quiet (packing-as late-of-entries)
     (alone-wider (λ access other. other.1) c.replaced.ensures.reads)

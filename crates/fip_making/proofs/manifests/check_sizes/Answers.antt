@@ -3,7 +3,7 @@ use Rattle.std.proofs.lemmas.List.{take_all}
 use Rattle.std.specs.Prelude.{◌||◌}
 use Rattle.host_io.specs.Contents.{Directory}
 use Rattle.fip_words.specs.{Order.image_view, declared.values.ImageWord.ImageWord}
-use Rattle.fip_making.specs.{Values.nothing, Answers.IsLate}
+use Rattle.fip_making.specs.Answers.{IsLate}
 use Rattle.fip_making.proofs.{Packings.gives-same, Tables.gives-err, Tables.rose-still}
 use Rattle.fip_making.proofs.ManifestLemmas.{longs-more-at, longs_value, sizes-of, sizes-stopped-at}
 use Rattle.fip_making.proofs.ReadsBy.{alone-then, alone-then-stopped, alone-wider, one-spared}
@@ -14,7 +14,7 @@ use Rattle.fip_making.proofs.manifests.check_sizes.Goals as goal
 pub returns-in_err-more-clause-told : goal.returns-in_err-more-clause-told
 returns-in_err-more-clause-told g c =
     rw (handed-on c.from_residual.result c.in_err-more.field-0.0 c.from_residual.ensures.1) (λ told e.
-    gives-err (λ (long : Bool). long) (nothing {X = Unit {0}}) _ _ _ _ c.in_err-more.field-0.0 (λ r. rose-still _ _ _ (sym c.loop-one.invariant.quiet) r)
+    gives-err (λ (long : Bool). long) (λ (done : Unit {0}). done) _ _ _ _ c.in_err-more.field-0.0 (λ r. rose-still _ _ _ (sym c.loop-one.invariant.quiet) r)
     (sizes-stopped-at told c.args.named.now c.loop-one.one-index c.one-item.result c.loop-one-test.true c.one-item.is _)
     (c.in_err-more.ensures.told told (c.loop-one.invariant.files.same ∙ e)))
 
@@ -36,7 +36,7 @@ loop-one-preserved g c =
 pub returns-clause-told : goal.returns-clause-told
 returns-clause-told g c = λ told e.
     let all = take_all c.loop-one.one-index c.args.named.now (omega (arith, c.loop-one-test.false)) in
-    gives-same (nothing {X = Unit {0}}) _ _ _ _ c.check_count.result (λ r. absurd r)
+    gives-same (λ (done : Unit {0}). done) _ _ _ _ c.check_count.result (λ r. absurd r)
     (sizes-of told c.args.named.now c.loop-one.is_long (ap (λ (l : List ImageWord). longs_value told (map image_view l)) (sym all) ∙ c.loop-one.invariant.so-far told e))
     c.check_count.ensures.value
 

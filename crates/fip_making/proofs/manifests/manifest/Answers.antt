@@ -5,7 +5,6 @@ use Rattle.manifest_core.specs.{Shown.row, declared.rows.Row.Row as CodeRow}
 use Rattle.fip_making.proofs.{Packings.gives-same, Tables.gives-err, Tables.rose-from, ReadsBy.alone-asked, ReadsBy.alone-then}
 use Rattle.fip_making.proofs.{ReadsBy.alone-then-stopped, Refusing.handed-on, Refusing.late-of-manifest}
 use Rattle.fip_making.proofs.ManifestLemmas.{asks-refused, made-of, sizes-refuse, too-long-of, value-stopped}
-use Rattle.fip_making.specs.Values.{nothing}
 use Rattle.fip_making.specs.declared.stops.Stop.TheVariants as stop
 use Rattle.fip_making.proofs.manifests.manifest.Goals as goal
 
@@ -22,7 +21,7 @@ returns-in-None-clause-told g c = λ told e.
 pub returns-in_err-check_sizes-clause-told : goal.returns-in_err-check_sizes-clause-told
 returns-in_err-check_sizes-clause-told g c =
     rw (handed-on c.from_residual.result c.in_err-check_sizes.field-0.0 c.from_residual.ensures.1) (λ told e.
-    gives-err (nothing {X = Unit {0}}) (λ (m : ℕ × Vec ℕ Global). (m.0, m.1.items)) _ _ _ _ c.in_err-check_sizes.field-0.0 (λ r. r) (sizes-refuse told c.args.security (map image_view c.args.named.now) _) (c.in_err-check_sizes.ensures.told told e))
+    gives-err (λ (done : Unit {0}). done) (λ (m : ℕ × Vec ℕ Global). (m.0, m.1.items)) _ _ _ _ c.in_err-check_sizes.field-0.0 (λ r. r) (sizes-refuse told c.args.security (map image_view c.args.named.now) _) (c.in_err-check_sizes.ensures.told told e))
 
 pub returns-in_err-rows-clause-told : goal.returns-in_err-rows-clause-told
 returns-in_err-rows-clause-told g c =

@@ -9,7 +9,6 @@ returns-in_err-count-clause-source g c =
       once = once-one g.I.Source c.args.source.now c.read.new.self _ c.in_err-count.ensures.made;
       later = c.in_err-count.ensures.cause.later;
       count = c.in_err-count.ensures.cause.count;
-      usage = λ e. cc;
       sink = λ e. cc;
       refusals = tt;
     })
@@ -19,7 +18,6 @@ returns-in-Ok-clause-source g c = record {
   once = once-one g.I.Source c.args.source.now c.read.new.self _ c.in_ok-count.ensures.made;
   later = c.in_ok-count.ensures.cause.later;
   count = c.in_ok-count.ensures.cause.count;
-  usage = λ e. cc;
   sink = λ e. cc;
   refusals = tt;
 }
@@ -29,7 +27,6 @@ returns-in-Err-clause-source g c = record {
   once = once-one g.I.Source c.args.source.now c.read.new.self _ c.in_ok-count.ensures.made;
   later = c.in_ok-count.ensures.cause.later;
   count = c.in_ok-count.ensures.cause.count;
-  usage = λ e. cc;
   sink = λ e. cc;
   refusals = tt;
 }

@@ -34,7 +34,7 @@ returns-then-some-eq0-clause-given g c =
     last _ _ _ _ _ 0 c.loop-count.stream c.feed_some.new.stream c.loop-count.count (Unit {0}) _ c.ended.result (omega (arith, c.loop-count-test.true)) c.loop-count.invariant.read
     (subst (λ (n : ℕ). (piece : List ℕ) × FedSome c.feed_some.new.stream given piece (g.I.Source.left c.loop-count.source) (g.I.Source.left c.feed_some.new.source) (Rose (g.I.Source.faults c.loop-count.source) (g.I.Source.faults c.feed_some.new.source)) (Ok n))
     c.if-some-eq0.true (c.in_ok-some.ensures.fed given c.loop-count.invariant.read.so-far.fed))
-    c.ended.ensures.table
+    c.ended.ensures.table c.ended.ensures.asks.file
 
 pub returns-clause-given : goal.returns-clause-given
 returns-clause-given g c = too-long _ _ _ _ c.loop-count.stream c.loop-count.count (Unit {0}) c.loop-count.invariant.read (omega (arith, c.loop-count-test.false))
@@ -46,7 +46,6 @@ returns-in_err-some-clause-source g c =
       once = once-then g.I.Source g.met.I.Source.joins c.args.source.now c.loop-count.source c.feed_some.new.source c.loop-count.invariant.reads e.once;
       later = omega (arith, c.loop-count.invariant.read.later, e.later);
       count = e.count ∙ ap (source_failed c.in_err-some.field-0.0) c.loop-count.invariant.read.none;
-      usage = λ same. e.usage cc;
       sink = λ same. e.sink cc;
       refusals = e.refusals;
     })
@@ -57,7 +56,6 @@ returns-then-some-eq0-clause-source g c =
       once = once-then g.I.Source g.met.I.Source.joins c.args.source.now c.loop-count.source c.feed_some.new.source c.loop-count.invariant.reads e.once;
       later = omega (arith, c.loop-count.invariant.read.later, e.later);
       count = e.count ∙ c.loop-count.invariant.read.none ∙ ended-quiet c.ended.result _ c.ended.ensures.asks.file;
-      usage = c.ended.ensures.asks.usage;
       sink = c.ended.ensures.asks.sink;
       refusals = if-err-as c.ended.result (Unstarved IsOfSource) IsOfSource (λ s own. own.0) c.ended.ensures.asks.refusals;
     }

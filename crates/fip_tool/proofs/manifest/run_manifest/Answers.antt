@@ -1,4 +1,4 @@
-use Rattle.std.proofs.Common.{◌≡◌, ◌∙◌, ◌∷◌, [], ℕ, List, Vec, ap, length, map, refl, rules, sym, ◌≢◌}
+use Rattle.std.proofs.Common.{◌≡◌, ◌∙◌, ◌∷◌, [], ℕ, List, Vec, ap, length, map, refl, rules, sym, ◌≢◌, Some}
 use Rattle.std.proofs.lemmas.List.{length-map}
 use Rattle.std.specs.Global.{Global}
 use Rattle.base_core.specs.Counts.{Rose}
@@ -19,7 +19,7 @@ returns g c =
     let long : c.len.result ≡ length c.in_ok-rows.bytes.items = search rules in
     let line = c.as_slice.ensures.value ∙ c.in_ok-line.ensures in
     let lined = line ∙ ap (λ (n : ℕ). manifest_line n c.len.result c.args.security) (c.in_ok-rows.ensures.count ∙ sym (length-map c.args.named.now image_view)) in
-    done-texts (texts-behind (λ texts. texts ≡ c.as_slice.result.now ∷ []) (IsTexts (asks.manifest c.args.out.now c.args.security (map image_view c.args.named.now)))
+    done-texts (texts-behind (λ texts. texts ≡ c.as_slice.result.now ∷ []) (IsTexts (Some (asks.manifest c.args.out.now c.args.security (map image_view c.args.named.now))))
     (λ texts t. (c.len.result, t ∙ ap (λ (l : List ℕ). l ∷ []) lined)) c.in_ok-rows.ensures.reads.only.quiet c.manifest.ensures.reads.files.unwritten put.texts)
     (λ w. w) late-of-manifest
     (λ told e.

@@ -1,4 +1,4 @@
-use Rattle.std.proofs.Common.{◌≢◌, ◌∙◌, List, ℕ, ap, refl, subst}
+use Rattle.std.proofs.Common.{◌≢◌, List, Some, ℕ, ap, refl, subst, ◌∙◌}
 use Rattle.host_io.specs.{Access.Access, Access.Asks, declared.writes.Writes.Writes}
 use Rattle.fip_words.specs.Order as asks
 use Rattle.fip_making.specs.{Refusals.IsPackageStop, Answers.IsLate}
@@ -12,12 +12,11 @@ returns-clause-done g c =
     let read = c.in_ok-text.ensures in
     let put = c.print.ensures in
     let printed = subst (λ (l : List ℕ). PrintedIn g.O.Sink l c.args.sink.now c.print.new.sink c.print.result) c.as_slice.ensures.value put.printed in record {
-      told = λ told e. printed-text (info_value told c.args.name.now) c.in_ok-text.text.items told _ _ _ _ _ _ _ (read.told told e) (read.reads.only.same ∙ e) printed;
-      says = says-printed (IsTexts (asks.info c.args.name.now)) c.in_ok-text.text.items _ _ _ c.print.result (c.in_ok-text.text.items, read.listed, refl) printed;
+      told = λ told e other. printed-text (info_value told c.args.name.now) c.in_ok-text.text.items told _ _ _ _ _ _ _ (read.told told e) (read.reads.only.same ∙ e) printed;
+      says = says-printed (IsTexts (Some (asks.info c.args.name.now))) c.in_ok-text.text.items _ _ _ c.print.result (c.in_ok-text.text.items, read.listed, refl) printed;
       wrote = ap (λ (w : Writes). w.done) read.reads.files.unwritten;
       file_count = faults-none read.reads.only.quiet;
       cause = λ e none. absurd (rw e at put.printed);
-      usage = put.usage;
       refusals = if-err-as c.print.result IsLate IsPackageStop late-of-package put.late;
       spares = read.reads.files.spares;
       alone = late-alone c.print.result (λ s. (access : Access) → access ≢ Asks c.args.name.now → g.H.Files.spares c.args.files.now c.file_info.new.files access) put.late;

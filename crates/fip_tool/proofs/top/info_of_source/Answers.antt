@@ -1,4 +1,4 @@
-use Rattle.std.proofs.Common.{◌∙◌, List, ℕ, refl, subst, sym}
+use Rattle.std.proofs.Common.{◌∙◌, List, ℕ, refl, subst, sym, Some}
 use Rattle.base_core.specs.Counts.{Rose}
 use Rattle.fip_tool.proofs.{Faults.source-printed, Faults.printed-quiet, Texts.says-printed}
 use Rattle.fip_words.specs.Order as asks
@@ -17,9 +17,9 @@ returns g c =
           c.as_slice.ensures.value put.printed) in
           (read.given.0, read.given.1, refl, both.0, both.1);
       once = read.source.once;
-      says = says-printed (IsTexts asks.info_of_source) c.as_slice.result.now _ _ _ c.print.result (c.as_slice.result.now, subst IsListing (sym c.as_slice.ensures.value) read.listed, refl) put.printed;
+      says = says-printed (IsTexts (Some asks.info_of_source)) c.as_slice.result.now _ _ _ c.print.result (c.as_slice.result.now, subst IsListing (sym c.as_slice.ensures.value) read.listed, refl) put.printed;
       cause = λ e. absurd (rw e at put.printed);
-      usage = put.usage;
+      usage = λ e. absurd (rw e at put.late);
       later = put.later;
       source_count = read.source.count ∙ printed-quiet _ _ _ _ c.print.result _ put.printed;
       sink_count = put.count;

@@ -1,4 +1,4 @@
-use Rattle.std.proofs.Common.{◌≡◌, ◌∙◌, ◌≤◌, ◌+◌, ℕ, All, List, ap, filter, length, map, subst, sym, refl}
+use Rattle.std.proofs.Common.{◌≡◌, ◌∙◌, ◌≤◌, ◌+◌, ℕ, All, List, ap, filter, length, map, subst, sym, refl, Some}
 use Rattle.std.specs.Prelude.{◌==◌, ◌||◌}
 use Rattle.fwu_formats.specs.Package.{Entry, Toc}
 use Rattle.fip_words.specs.Order.{unpack}
@@ -36,7 +36,7 @@ returns g c =
     let put = c.unpack_entries.ensures in
     let same = chosen-filter c.args.names.now c.as_slice-entries.result.now ∙ ap (chosen c.args.names.now) (c.as_slice-entries.ensures ∙ ap (λ (t : Toc). t.entries) c.toc.view_is) in
     done-texts (texts-behind (λ texts. texts ≡ map (unpacked_line c.args.prefix.now) (filter (λ e. (length c.args.names.now == 0) || is_named c.args.names.now e) c.as_slice-entries.result.now))
-    (IsTexts (unpack c.args.from.now c.args.prefix.now c.args.names.now))
+    (IsTexts (Some (unpack c.args.from.now c.args.prefix.now c.args.names.now)))
     (λ texts t. (c.in_ok-toc.toc, read.table, read.all, t ∙ ap (map (unpacked_line c.args.prefix.now)) same)) read.reads.only.quiet c.table_with.ensures.reads.files.unwritten put.texts)
     (λ w. w) late-of-entries
     (λ told is.

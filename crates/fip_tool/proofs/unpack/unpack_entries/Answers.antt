@@ -102,7 +102,6 @@ returns-in_err-unpack_entry-clause-texts g c =
       file_count = faults-then so-far.quiet put.file_count;
       cause = λ e. rose-still _ _ _ (sym so-far.quiet) (put.cause e);
       late = put.late;
-      usage = put.usage;
       later = omega (arith, so-far.quiet, put.later);
       later_sink = omega (arith, so-far.later_sink, put.later_sink);
       sink_count = put.sink_count ∙ ap (sink_failed c.in_err-unpack_entry.field-0.0) so-far.sink_count;

@@ -9,4 +9,4 @@ returns-clause-told g c = λ told e.
 pub returns-clause-texts : goal.returns-clause-texts
 returns-clause-texts g c =
     let put = c.print.ensures in
-    one-text c.args.line.now c.in_ok-join.ensures.file_count.quiet c.in_ok-join.ensures.wrote put.printed put.late put.usage put.later put.count
+    one-text c.args.line.now c.in_ok-join.ensures.file_count.quiet c.in_ok-join.ensures.wrote put.printed put.late put.later put.count
