@@ -23,10 +23,10 @@ use Rattle.script_runs.specs.declared.done.Note.TheVariants as note
 use Rattle.script_runs.proofs.TopWays.{device-of, end-of, world-of, refused-by, with-list}
 use Rattle.script_runs.proofs.TableWays.{table-refused, table-starved, table-with-list}
 use Rattle.script_runs.proofs.TopSources.{not-done, none-fails, takes-nothing}
-use Rattle.script_cmd.specs.{Here.Answered, Promises.given_to, ServedBy.ServeWay, ReadsInputs.ReadsInputs, ByList.ByList}
+use Rattle.script_cmd.specs.{Here.Answered, Here.ServeWay, Promises.given_to, ReadsInputs.ReadsInputs, ByList.ByList}
 use Rattle.script_cmd.specs.Handed.{asks_beyond, asks_files, asks_package, asks_source, leaves_on, RunsOrNone, over_table}
 use Rattle.script_cmd.specs.NoTurns.{FormattedBy, ShowedBy}
-use Rattle.script_cmd.specs.ServedBy as serve
+use Rattle.script_cmd.specs.Here as serve
 use Rattle.script_cmd.proofs.{ServeTop.refused-serves, ServeTop.serves-with-list, SoakTop.refused-soaks, SoakTop.soaks-with-list}
 use Rattle.script_cmd.proofs.{TopLists.no-list-named, Unasked.Later, Unasked.inputs-of}
 use Rattle.script_cmd.proofs.TopFormats.{formats-with-list, none-some, refused-formats, starved-formats}

@@ -224,8 +224,8 @@ module _ (passes : List ℕ → Bool) (tells : Bool) (asked : Option Asked) (g :
   is : IsTrue (is_ran status)
   is = ran-status calls journal status noted ended
 
-  last-is : (t : Turn) → slice_get journal (length journal - 1) ≡ Some t → (IsFalse (may_lack status) → status ≡ status_by t.reply) × (noted ≡ note_by t.reply)
-  last-is t at_last =
+  last-by : (t : Turn) → slice_get journal (length journal - 1) ≡ Some t → (IsFalse (may_lack status) → status ≡ status_by t.reply) × (noted ≡ note_by t.reply)
+  last-by t at_last =
       let last = sym (last-get journal) ∙ at_last in
       ((λ lacks. ended.status_is lacks ∙ ap status_of_last last), ended.noted_is ∙ ap note_of_last last)
 
@@ -244,7 +244,7 @@ module _ (passes : List ℕ → Bool) (tells : Bool) (asked : Option Asked) (g :
         | inl e ↦
             let last = turns.ends n t found e in
             let place : n ≡ length journal - 1 = omega arith in
-            let by = last-is t (subst (λ (k : ℕ). slice_get journal k ≡ Some t) place found) in
+            let by = last-by t (subst (λ (k : ℕ). slice_get journal k ≡ Some t) place found) in
             absurd (ends-status t.reply e (sym (by.0 (subst (λ (k : ℕ). IsFalse (may_lack k)) (sym zero_is) refl)) ∙ zero_is))
         | inr e ↦ not_from_false (ends_run t.reply) e
       ]
@@ -271,7 +271,7 @@ module _ (passes : List ℕ → Bool) (tells : Bool) (asked : Option Asked) (g :
     fault_turns = turns.fault_turns;
     read_faults = turns.unread_turns;
     ends = turns.ends;
-    by_last = last-is;
+    by_last = last-by;
     by_none = before-first;
     noted_alone = λ empty.
         subst (λ (n : Note). NotedAlone g.script g.list g.files status n) (sym (ended.noted_is ∙ ap (λ (j : List Turn). note_of_last (last_turn j)) empty)) (noted_alone.Nothing no-note);

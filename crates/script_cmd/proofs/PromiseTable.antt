@@ -1,23 +1,29 @@
 -- What a run behind a partition table promises, whichever way it ends.
-use Rattle.std.proofs.Common.{◌≡◌, ◌≢◌, ◌⊎◌, inl, inr, ℕ, ◌≤◌, Bool, List, Option, Some, None, Ok, sym, ap, subst, ◌∙◌, arith, []}
-use Rattle.std.specs.Prelude.{IsTrue}
+use Rattle.std.proofs.Common.{◌≡◌, ◌≢◌, ◌⊎◌, inl, inr, ℕ, ◌≤◌, Bool, List, Option, Some, None, Ok, refl, sym, ap, subst, ◌∙◌, arith, eqb-true, ◌||◌, ◌==◌, false, []}
+use Rattle.std.specs.Prelude.{IsTrue, IsFalse}
+use Rattle.std.proofs.lemmas.Bool.{false≢true, or_cases}
+use Rattle.fwu_words.specs.Order.{Asked}
+use Rattle.fwu_model.specs.declared.kinds.Note as model
+use Rattle.fwu_model.specs.declared.kinds.Note.TheVariants as model_note
+use Rattle.host_io.specs.Printed.{nothing}
 use Rattle.flash_core.specs.{Counts.Rose, Told.Told, Told.NothingDirty}
 use Rattle.gpt_core.specs.{declared.layout.Places.Places, declared.table.WhichTable.WhichTable, PlacesOf.places_of, Places.through}
 use Rattle.gpt_core.specs.{Repair.HeadersGuarded, Table.DecidesTable, Table.Table, Table.table_in_image, View.view_of}
 use Rattle.gpt_core.proofs.{Leaving.repair-keeps, Leaving.repair-leaves, Leaving.repair-spares, Stepping.image_is_now}
-use Rattle.fwu_model.specs.{Call.Call, State.State, Sound.Setting, Causes.IsServed, Contract.Premises}
+use Rattle.fwu_model.specs.{Call.Call, State.State, Sound.Setting, Causes.Faults, Causes.IsServed, Causes.may_end_before, Contract.Premises}
 use Rattle.fwu_model.specs.Headline.{Headline, made_after}
-use Rattle.script_runs.specs.{declared.done.Note.Note, Refusing.in_short, Ways.Way}
-use Rattle.script_runs.specs.ByTable.{Starts, StopsMending, Wakes, lacked_by, lacked_in, lacked_of, seen_at}
-use Rattle.script_runs.specs.Ending.{noted, Device, Ending, World, in_model}
+use Rattle.script_runs.specs.{declared.done.Note.Note, Refusing.in_short, Ways.Given, Ways.Way}
+use Rattle.script_runs.specs.ByTable.{Starts, StopsMending, Wakes, flash_fault_line, lacked_by, lacked_in, lacked_of, no_table_line, seen_at}
+use Rattle.script_runs.specs.declared.done.Note.TheVariants as own
+use Rattle.script_runs.specs.Ending.{noted, is_beyond_model, Device, Ending, World, in_model}
 use Rattle.script_turns.specs.Powered.{TurnMoment}
 use Rattle.script_runs.specs.Ways as way
 use Rattle.script_runs.specs.WaysByTable.{WayByTable, untouched, starved, lacked, stopped, ran}
 use Rattle.script_runs.proofs.{TableOpens.woken-clean, TableOpens.woken-now, TableOpens.woken-same, TableWays.not-nothing}
 use Rattle.script_turns.proofs.RunTurns.{rose-before}
-use Rattle.script_cmd.specs.Promises.{given_to, outcome, CompleteByTable, HeadlineByTable, KeepsFlash, KeptByTable, PromisedByTable, RunsByTable, TableGives}
+use Rattle.script_cmd.specs.Promises.{given_to, outcome, CompleteByTable, HeadlineByTable, KeepsFlash, KeptByTable, NotBegun, PromisedByTable, RunsByTable, TableGives}
 use Rattle.script_cmd.specs.Handed.{Inputs}
-use Rattle.script_cmd.proofs.{PromiseAll.promised, PromiseAll.ways-are-complete, PromiseTurns.none-ended}
+use Rattle.script_cmd.proofs.{PromiseAll.promised, PromiseEnds.why-planned, PromiseAll.ways-are-complete, PromiseTurns.none-ended}
 
 same-pair : (t u : Table) (w x : WhichTable) → ◌≡◌ {A = Option (Table × WhichTable)} (Some (t, w)) (Some (u, x)) → t ≡ u
 same-pair t u w x is = ap (λ (o : Option (Table × WhichTable)). of o) is
@@ -28,6 +34,28 @@ same-pair t u w x is = ap (λ (o : Option (Table × WhichTable)). of o) is
 
 same-places : (p q : Places) → ◌≡◌ {A = Rattle.std.specs.Prelude.Result Places Rattle.gpt_core.specs.declared.layout.PlaceFault.PlaceFault} (Ok p) (Ok q) → p ≡ q
 same-places p q is = cc
+
+-- the note of the program, by that of the definitions
+pub plain-nothing : (n : Note) → IsFalse (is_beyond_model n) → noted n ≡ model_note.Nothing → n ≡ own.Nothing
+plain-nothing own.Nothing beyond is = refl
+plain-nothing (own.Input f) beyond is = absurd (false≢true (sym beyond))
+plain-nothing (own.NoTable why) beyond is = absurd (false≢true (sym beyond))
+plain-nothing other beyond is = absurd (cc)
+
+-- no refusal without a table is planned with these
+planned-none : (planned k : ℕ) → IsTrue (may_end_before planned) → planned ≡ k → may_end_before k ≡ false → ⊥
+planned-none planned k ends is not = false≢true (sym not ∙ subst (λ (n : ℕ). IsTrue (may_end_before n)) is ends)
+
+planned-both : (planned : ℕ) → IsTrue (may_end_before planned) → IsTrue ((planned == 5) || (planned == 10)) → ⊥
+planned-both planned ends is = elim (or_cases (planned == 5) (planned == 10) is) [
+  | inl five ↦ planned-none planned 5 ends (eqb-true planned 5 five) refl
+  | inr ten ↦ planned-none planned 10 ends (eqb-true planned 10 ten) refl
+]
+
+refused-some : (asked : Option Asked) (g : Given) (before after : Faults) (planned : ℕ) (said : model.Note) (line : List ℕ)
+    → way.Refuses asked g before after planned said line → planned ≡ 9 → ⊥
+refused-some asked g before after planned said line (way.usage good is) e = omega arith
+refused-some asked g before after planned said line other e = omega arith
 
 module _ (passes : List ℕ → Bool) (device : Device) (inputs : Inputs) (end : Ending Note) (old new : World) where
   abbrev Ends : Type 0
@@ -60,7 +88,78 @@ module _ (passes : List ℕ → Bool) (device : Device) (inputs : Inputs) (end :
     seen = start-seen p start starts;
     promises = promised passes device.tells inputs (in_model end) (record old { flash = seen_at p start }) (record new { flash = seen_at p new.flash })
         (way.ran calls on reads.good reads.asks reads.has does ended printed);
+    plain = beyond;
   }
+
+  -- ---- where none began
+
+  -- refused as without a table, or for want of memory
+  unbegun-plain : end.status ≢ 0 → end.journal ≡ [] → new.flash ≡ old.flash → IsFalse (is_beyond_model end.noted)
+      → Way passes device.tells inputs.asked (given_to inputs) (in_model end) old new → NotBegun device inputs end old new
+  unbegun-plain other none same beyond (way.starved empty still nine quiet stuck) = record {
+    planned = 9;
+    line = [];
+    prints = nothing nine stuck.0 stuck.1;
+    lacked = λ is. absurd (omega arith);
+    stopped = λ is. absurd (omega arith);
+    starved = λ is. (nine, plain-nothing end.noted beyond quiet, stuck, inl same);
+    reads = λ is. absurd (false≢true is);
+    refused = λ is. absurd (false≢true (sym is));
+    plain = λ is. beyond;
+  }
+  unbegun-plain other none same beyond (way.refused planned line empty still why prints) =
+      let ends = (why-planned inputs.asked (given_to inputs) old.faults new.faults planned (noted end.noted) line why).0 in
+      record {
+        planned = planned;
+        line = line;
+        prints = prints;
+        lacked = λ is. absurd (planned-none planned 10 ends is refl);
+        stopped = λ is. absurd (planned-none planned 5 ends is refl);
+        starved = λ is. absurd (refused-some inputs.asked (given_to inputs) old.faults new.faults planned (noted end.noted) line why is);
+        reads = λ is. absurd (planned-both planned ends is);
+        refused = λ is. (same, why);
+        plain = λ is. beyond;
+      }
+  unbegun-plain other none same beyond (way.ran calls on good asks has does ended printed) =
+      absurd (none-ended calls end.journal end.status (noted end.noted) none other ended)
+
+  unbegun : Ends → end.journal ≡ [] → end.status ≢ 0 → NotBegun device inputs end old new
+  unbegun (untouched none same other beyond w) empty some = unbegun-plain some none same beyond w
+  unbegun (starved calls reads none looks nine is quiet) empty some = record {
+    planned = 9;
+    line = [];
+    prints = nothing nine quiet.0 quiet.1;
+    lacked = λ is. absurd (omega arith);
+    stopped = λ is. absurd (omega arith);
+    starved = λ again. (nine, is, quiet, inr ((calls, reads), looks));
+    reads = λ is. absurd (false≢true is);
+    refused = λ is. absurd (false≢true (sym is));
+    plain = λ ten. ap is_beyond_model is;
+  }
+  unbegun (lacked calls why reads none looks lacks is prints) empty some = record {
+    planned = 10;
+    line = no_table_line why;
+    prints = prints;
+    lacked = λ again. (why, is, refl, looks, lacks);
+    stopped = λ is. absurd (omega arith);
+    starved = λ is. absurd (omega arith);
+    reads = λ again. (calls, reads);
+    refused = λ is. absurd (false≢true (sym is));
+    plain = λ ten. absurd (ten refl);
+  }
+  unbegun (stopped calls reads none stops is prints) empty some = record {
+    planned = 5;
+    line = flash_fault_line;
+    prints = prints;
+    lacked = λ is. absurd (omega arith);
+    stopped = λ again. (is, refl, stops);
+    starved = λ is. absurd (omega arith);
+    reads = λ again. (calls, reads);
+    refused = λ is. absurd (false≢true (sym is));
+    plain = λ ten. ap is_beyond_model is;
+  }
+  unbegun (ran calls p start on reads starts does beside touches ended beyond printed) empty some =
+      absurd (none-ended calls end.journal end.status (noted end.noted) empty some ended)
 
   -- the places of the run are those of the table that was handed in
   module _ (told : IsTrue device.tells) (clean : NothingDirty old.flash.told) (p q : Places) (start : TurnMoment) (starts : Starts device.tells device.blocks old.flash q start) (gives : TableGives device.blocks old.flash.told.now p) where
@@ -189,7 +288,7 @@ module _ (passes : List ℕ → Bool) (device : Device) (inputs : Inputs) (end :
 
   pub promised-by-table : Ends → PromisedByTable passes device inputs end old new
   promised-by-table w = record {
-    way = w;
+    unbegun = unbegun w;
     run = runs-by-table w;
     kept = kept-by-table w;
     headline = headline-by-table w;

@@ -1,8 +1,9 @@
 -- What holds of the turns of any run.
-use Rattle.std.proofs.Common.{◌≡◌, ◌≢◌, ℕ, suc, ◌-◌, Bool, ◌||◌, ◌==◌, List, ◌∷◌, length, Option, Some, None, slice_get, refl, sym, ap, subst, ◌∙◌, arith, inl, inr, ◌⊎◌, IsTrue, IfSome, eqb-true, [], true, false, Contains}
-use Rattle.std.proofs.lemmas.Bool.{cases_Bool, or_cases, false≢true}
+use Rattle.std.proofs.Common.{◌≡◌, ◌≢◌, ℕ, suc, ◌+◌, ◌-◌, Bool, ◌||◌, ◌==◌, List, ◌∷◌, ◌++◌, length, Option, Some, None, slice_get, refl, sym, ap, subst, ◌∙◌, arith, inl, inr, ◌⊎◌, IsTrue, IfSome, eqb-true, [], true, false, Contains}
+use Rattle.std.proofs.lemmas.Bool.{cases_Bool, or_cases, or_parts, false≢true}
+use Rattle.std.proofs.lemmas.Option.{same_Some}
 use Rattle.fwu_model.specs.{Reply.Reply, Reply.Turn, declared.kinds.Note.Note, Wrote.may_lack, Wrote.ends_early, Causes.status_by}
-use Rattle.fwu_model.specs.{Call.Call, Calm.IsAtRest, Calm.IsGuarded}
+use Rattle.fwu_model.specs.{Call.Call, Calm.IsAtRest, Calm.IsGuarded, Run.ends_run}
 use Rattle.fwu_model.specs.Reply as reply
 use Rattle.script_runs.specs.{Running.status_of_last, Running.last_turn, Running.ScriptEnded, Ending.Ending, Ending.World}
 use Rattle.flash_core.specs.{Told.Told, Told.NothingDirty, May.Guards}
@@ -11,6 +12,7 @@ use Rattle.agent_machine.specs.Fields.{Fields}
 use Rattle.host_io.specs.Contents.{Directory}
 use Rattle.script_turns.specs.{Powered.IsSafe, Powered.TurnMoment, Powered.SameDevice, Powered.at, Runs.Ran, Runs.RunsFree}
 use Rattle.script_runs.specs.Ways.{Given, Way, starved, refused, ran}
+use Rattle.flash_commands.specs.SoakWays.{EndsNone}
 use Rattle.flash_commands.proofs.FormatFlash.{clean-sure}
 use Rattle.script_cmd.specs.Promises.{RunLeaves, RanHolds}
 
@@ -22,6 +24,24 @@ last-get (t ∷ []) = refl
 last-get (t ∷ u ∷ turns) =
     let e : length (t ∷ u ∷ turns) - 1 ≡ suc (length (u ∷ turns) - 1) = omega arith in
     ap (slice_get (t ∷ u ∷ turns)) e ∙ last-get (u ∷ turns)
+
+pub last-push : (journal : List Turn) (t : Turn) → last_turn (journal ++ t ∷ []) ≡ Some t
+last-push [] t = refl
+last-push (u ∷ []) t = refl
+last-push (u ∷ v ∷ turns) t = last-push (v ∷ turns) t
+
+-- where none of them ends a run the last one doesn't
+pub none-last : (journal : List Turn) → EndsNone journal → (t : Turn) → last_turn journal ≡ Some t → IsTrue (ends_run t.reply) → ⊥
+none-last [] none t is ends = cc
+none-last (u ∷ []) none t is ends =
+    false≢true (sym (or_parts (ends_run u.reply) false none).0 ∙ ap (λ (x : Turn). ends_run x.reply) (same_Some u t is) ∙ ends)
+none-last (u ∷ v ∷ turns) none t is ends = none-last (v ∷ turns) (or_parts (ends_run u.reply) _ none).1 t is ends
+
+-- a turn with nothing behind it is the last one
+pub last-is : (journal : List Turn) (n : ℕ) (t : Turn) → slice_get journal n ≡ Some t → n + 1 ≡ length journal → last_turn journal ≡ Some t
+last-is journal n t at behind =
+    let place : length journal - 1 ≡ n = omega arith in
+    sym (last-get journal) ∙ ap (slice_get journal) place ∙ at
 
 -- ---- the statuses of turns
 

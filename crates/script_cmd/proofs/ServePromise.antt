@@ -1,26 +1,35 @@
 -- All that a serving promises, whichever way it ended.
-use Rattle.std.proofs.Common.{◌≡◌, ◌≢◌, ◌⊎◌, inl, inr, ℕ, Bool, List, ◌∷◌, ◌++◌, Contains, length, take, drop, Option, Some, None, refl, sym, ap, subst, ◌∙◌, arith, append-nil, take-append-drop, IsTrue, IsFalse, []}
-use Rattle.std.specs.Io.KnownBytes.{Consumes}
-use Rattle.std.proofs.{KnownBytes.Consumes-nil, lemmas.Bool.false≢true, lemmas.List.Elements.Contains-get_or}
-use Rattle.host_io.specs.Printed.{Prints, all, front, nothing}
+use Rattle.std.proofs.Common.{◌≡◌, ◌≢◌, inl, inr, ℕ, Bool, List, ◌∷◌, ◌++◌, Contains, length, drop, Option, Some, None, Err, refl, sym, ap, subst, ◌∙◌, arith, append-nil, slice_get, IsTrue, IsFalse, []}
+use Rattle.std.specs.Io.KnownBytes.{Appends, Consumes}
+use Rattle.std.proofs.{KnownBytes.Appends-nil, KnownBytes.Consumes-nil, lemmas.Bool.false≢true}
+use Rattle.std.proofs.lemmas.List.Elements.{Contains-get_or}
+use Rattle.host_io.specs.Printed.{Prints}
 use Rattle.wire_frames.specs.Frames.{Splits, frames}
-use Rattle.serving.specs.{Ends.status_of, Holds.Cause, Holds.IsQuietServing, Scene.Port, Scene.port, Scene.scene}
-use Rattle.serving.specs.{Written.answered_numbers, Written.messages_of, Written.written, declared.ends.ServeEnd.ServeEnd}
+use Rattle.wire_frames.specs.declared.stream.FrameStop.{FrameStop}
+use Rattle.wire_frames.specs.declared.stream.FrameStop.TheVariants as stop
+use Rattle.serving.specs.{Ends.end_by, Ends.end_of_stop, Ends.status_of, Holds.Cause, Holds.IsQuietServing, Scene.Port, Scene.port}
+use Rattle.serving.specs.{Scene.scene, declared.ends.ServeEnd.ServeEnd}
 use Rattle.serving.specs.declared.ends.ServeEnd.TheVariants as end
-use Rattle.fwu_model.specs.{Contract.Premises, Headline.IsPrefixOf, Reply.Turn, Run.is_refused_boot, Sound.Setting, State.State}
+use Rattle.fwu_model.specs.{Causes.cuts_in, Causes.note_by, Causes.status_by, Contract.Premises, Headline.IsPrefixOf, Headline.made_after}
+use Rattle.fwu_model.specs.{Reply.Reply, Reply.Turn, Run.ends_run, Run.is_refused_boot, Sound.Setting, State.State}
 use Rattle.fwu_model.specs.{declared.kinds.NoBoot.NoBoot, declared.kinds.Note.Note}
+use Rattle.fwu_model.specs.declared.kinds.Note.TheVariants as note
+use Rattle.fwu_model.specs.Call as call
+use Rattle.fwu_model.specs.Reply as reply
 use Rattle.fwu_model.proofs.Complete.{runs-boot}
 use Rattle.fwu_words.specs.Order as ask
-use Rattle.script_turns.specs.Runs.{calls_of}
-use Rattle.script_runs.specs.{Ending.Ending, Ending.World, Ways.Given, Ways.Refuses, Ways.not_read, Ways.too_long}
+use Rattle.script_turns.specs.{Powered.TurnMoment, Runs.calls_of}
+use Rattle.script_runs.specs.{Ending.Ending, Ending.PutsNone, Ending.World, Ways.Given, Ways.HasGoodList, Ways.Refuses}
 use Rattle.flash_commands.specs.Showing.{RefusedList}
-use Rattle.script_cmd.specs.{Promises.RanHolds, Granted.RefusesBadList, ByList.may_lack_list}
-use Rattle.script_cmd.specs.ServedBy.{ServeWay, ServesSource, Unread, left_by_serving, list_refused, note_of, served, sink_of, starved, ServedBy, ServedComplete, ServedEnds, ServedHeadline, ServedWrites, TakesAtMost, WroteFrames, WroteLine, may_end_serving, reads_no_more}
+use Rattle.script_cmd.specs.{Promises.EndsByLast, Promises.RanHolds, Granted.RefusesBadList, ByList.may_lack_list}
+use Rattle.script_cmd.specs.Here.{ServeWay, ServesSource, left_by_serving, list_refused, note_of, served, sink_of, starved}
+use Rattle.script_cmd.specs.ServedBy.{ServedBy, ServedComplete, ServedEnds, ServedHeadline, ServedWrites, TakesAtMost, Unread, WroteFrames, may_end_serving, reads_no_more}
 use Rattle.script_cmd.proofs.{PromiseEnds.refused-ends, PromiseHeadline.idle-head, PromiseHeadline.ran-head}
-use Rattle.script_cmd.proofs.{PromiseHeadline.sound-start, PromiseTurns.idle-holds, PromiseTurns.ran-holds, PromiseTurns.some-from}
-use Rattle.script_cmd.proofs.{PromiseWritten.appended, ServeAccount.Account, ServeAccount.account, ServeAccount.end-at}
+use Rattle.script_cmd.proofs.{PromiseHeadline.sound-start, PromiseTurns.idle-holds, PromiseTurns.last-is, PromiseTurns.ran-holds}
+use Rattle.script_cmd.proofs.{PromiseTurns.some-from, ServeAccount.Account, ServeAccount.account, ServeAccount.end-at}
+use Rattle.script_cmd.proofs.{ServeAccount.same-end, ServeAccount.stop-reads, SoakPromise.alone-last, SoakPromise.none-made}
 use Rattle.script_cmd.proofs.TopShows.{good-list-kept, refused-list, starved-list}
-use Rattle.script_cmd.proofs.TopCompletes.{granted, list-other, list-plan, list-status}
+use Rattle.script_cmd.proofs.TopCompletes.{granted, list-other, list-status}
 
 -- ---- the end of a status
 
@@ -31,6 +40,21 @@ end-at-six other is = absurd (omega arith)
 no-thirteen : (e : ServeEnd) → status_of e ≡ 13 → ⊥
 no-thirteen end.End is = omega arith
 no-thirteen other is = omega arith
+
+-- the end of a last turn that ends a run
+turn-end : (r : Reply) (e : ServeEnd) → IsTrue (ends_run r) → end_by r ≡ Err e → (status_of e ≡ status_by r) × (note_of e ≡ note_by r)
+turn-end reply.Fault e ends is = let same = same-end end.FlashFault e is in (ap status_of same, ap note_of same)
+turn-end (reply.NotBooted why) e ends is = let same = same-end (end.NotBooted why) e is in (ap status_of same, ap note_of same)
+turn-end reply.ReadFault e ends is = absurd (cc)
+turn-end other e ends is = absurd (false≢true ends)
+
+stop-other : (why : FrameStop) → status_of (end_of_stop why) ≢ 6
+stop-other stop.End is = omega arith
+stop-other other is = omega arith
+
+unnoted : (e : ServeEnd) → status_of e ≢ 6 → note_of e ≡ note.Nothing
+unnoted (end.NotBooted why) other = absurd (other refl)
+unnoted e other = refl
 
 ends-known : (e : ServeEnd) → IsTrue (may_end_serving (status_of e))
 ends-known end.End = refl
@@ -56,14 +80,6 @@ module _ (g : Given) (ending : Ending Note) (old new : World) (rest : Option (Li
   other : (k : ℕ) → IsFalse (may_lack_list k) → ending.status ≡ k → ⊥
   other = list-other ask.serve (λ is. cc) (λ is. cc) g ending.status ending.noted old new was-refused
 
-  -- nor is a line put for another
-  unplanned : (k : ℕ) → (2 ≡ k → ⊥) → (13 ≡ k → ⊥) → planned ≡ k → ⊥
-  unplanned k two thirteen is =
-      elim (list-plan ask.serve (λ x. cc) (λ x. cc) g old.faults new.faults planned ending.noted line why) [
-        | inl e ↦ two (sym e ∙ is)
-        | inr e ↦ thirteen (sym e ∙ is)
-      ]
-
   list-ends : Unread g old new rest → ServedEnds g ending old new rest
   list-ends unread =
       let ends = refused-ends (Some ask.serve) g old.faults new.faults ending.status ending.noted old.flash.counts planned line old.taken new.taken why prints in
@@ -82,27 +98,6 @@ module _ (g : Given) (ending : Ending Note) (old new : World) (rest : Option (Li
         lost = λ is. absurd (other 12 refl is);
         not_list = ends.not_list;
       }
-
-  list-line : (w : List ℕ) → (ending.status ≡ planned → w ≡ line) → IsPrefixOf w line → (ending.status ≡ 9 → w ≡ []) → WroteLine g ending old new w
-  list-line w whole part lacks = record { no_turns = none; planned = planned; line = line; why = why; all = whole; front = part; none = lacks }
-
-  list-writes : ServedWrites g ending old new
-  list-writes before told = go prints
-    where
-      go : Prints line planned ending.status old.taken new.taken old.faults.sink new.faults.sink
-          → (w : List ℕ) × (new.taken ≡ Some (before ++ w)) × (WroteFrames g.script ending.journal ending.status w ⊎ WroteLine g ending old new w)
-      go (all is bytes same) =
-          (line, appended old.taken new.taken line before told bytes, inr (list-line line (λ again. refl) ([], append-nil line) (λ nine. absurd (unplanned 9 (λ e. omega arith) (λ e. omega arith) (sym is ∙ nine)))))
-      go (front is n bytes later once) = (
-        take n line,
-        appended old.taken new.taken (take n line) before told bytes,
-        inr (list-line (take n line) (λ again. absurd (unplanned 3 (λ e. omega arith) (λ e. omega arith) (sym again ∙ is))) (drop n line, take-append-drop n line) (λ nine. absurd (omega (arith, is, nine)))),
-      )
-      go (nothing is same quiet) = (
-        [],
-        same ∙ told ∙ ap Some (sym (append-nil before)),
-        inr (list-line [] (λ again. absurd (unplanned 9 (λ e. omega arith) (λ e. omega arith) (sym again ∙ is))) (line, refl) (λ nine. refl)),
-      )
 
 -- ---- nothing was done for want of memory
 
@@ -124,19 +119,28 @@ module _ (g : Given) (ending : Ending Note) (old new : World) (rest : Option (Li
     not_list = λ is. absurd (omega (arith, is, nine));
   }
 
-  starved-frames : WroteFrames g.script ending.journal ending.status []
-  starved-frames = record {
+  starved-frames : ending.journal ≡ [] → ending.noted ≡ note.Nothing → PutsNone old new → Unread g old new rest
+      → WroteFrames g.script rest ending old.taken new.taken
+  starved-frames none quiet stuck unread = record {
     bodies = [];
     turns = [];
     part = [];
+    more = [];
+    one = omega arith;
+    each = tt;
     come = some-from g.script (λ s. IsPrefixOf [] s) (λ s told. (s, refl));
     all = λ is. absurd (omega (arith, is, nine));
+    taken = λ early. subst (λ (o : Option (List ℕ)). Consumes g.script o []) (sym unread.0) (Consumes-nil g.script);
+    stops = λ why is. absurd (false≢true (sym (ap reads_no_more (sym is ∙ nine)) ∙ stop-reads why));
     begin = (drop 1 ending.journal, refl);
     all_turns = λ is. absurd (false≢true (sym (ap reads_no_more nine) ∙ is));
     calls = refl;
-    written_is = refl;
+    all_calls = ([], ap (λ (ts : List Turn). calls_of (drop 1 ts) ++ []) none);
+    some = λ other. absurd (other nine);
+    took = subst (λ (o : Option (List ℕ)). Appends old.taken o []) (sym stuck.0) (Appends-nil old.taken);
     none = λ other. refl;
     front = λ is. absurd (omega (arith, is, nine));
+    quiet = λ other. quiet;
   }
 
 -- ---- it was served
@@ -149,7 +153,7 @@ module _ (passes : List ℕ → Bool) (tells : Bool) (g : Given) (ending : Endin
   abbrev to : Port
   to = port rest new.faults.source
 
-  done : Account g.script rest e ending.journal old.taken new.taken
+  done : Account from to e ending.journal old.taken new.taken
   done = account (scene passes tells g.files old.faults.files) old.flash (sink_of old) (left_by_serving by.on by.exchange ending.journal new) e from to by.serves
 
   cause-at : (x : ServeEnd) → e ≡ x → Cause x old.flash (sink_of old) (left_by_serving by.on by.exchange ending.journal new) from to
@@ -189,26 +193,34 @@ module _ (passes : List ℕ → Bool) (tells : Bool) (g : Given) (ending : Endin
     not_list = λ thirteen. absurd (no-thirteen e (sym is ∙ thirteen));
   }
 
-  abbrev wrote : List ℕ
-  wrote = written (messages_of done.turns) (answered_numbers 0 done.bodies) ++ done.part
-
-  served-frames : (w : List ℕ) → w ≡ wrote → WroteFrames g.script ending.journal ending.status w
-  served-frames w whole = record {
+  served-frames : WroteFrames g.script rest ending old.taken new.taken
+  served-frames = record {
     bodies = done.bodies;
     turns = done.turns;
     part = done.part;
+    more = done.more;
+    one = done.one;
+    each = done.each;
     come = done.come;
     all = λ zero. done.all (at end.End (λ z. omega arith) zero);
+    taken = λ early. done.taken (subst (λ (k : ℕ). IsFalse (reads_no_more k)) is early);
+    stops = λ why same. done.stops why (end-at e (end_of_stop why) (stop-other why) (sym is ∙ same));
     begin = done.begin;
     all_turns = λ no_more. done.all_turns (subst (λ (k : ℕ). IsTrue (reads_no_more k)) is no_more);
     calls = done.calls;
-    written_is = whole;
+    all_calls = done.all_calls;
+    some = λ other. done.some (λ lacks. other (is ∙ ap status_of lacks));
+    took = done.took;
     none = λ other. done.none (λ failed. other (is ∙ ap status_of failed));
     front = λ three. done.front (at end.SinkFailed (λ z. omega arith) three);
+    quiet = λ other. said ∙ unnoted e (λ six. other (is ∙ six));
   }
 
-  served-writes : ServedWrites g ending old new
-  served-writes before told = (wrote, appended old.taken new.taken wrote before told done.took, inl (served-frames wrote refl))
+  served-last : EndsByLast ending.journal ending.status ending.noted
+  served-last i t at ends =
+      let behind = by.holds.ran.ends i t at ends in
+      let how = turn-end t.reply e ends (done.decides t (last-is ending.journal i t at behind) ends) in
+      (behind, is ∙ how.0, said ∙ how.1)
 
   -- the boot of a sound flash starts a bank
   boots : IsTrue tells → (E : Setting) (start : State) → Premises E start old.flash.told g.files passes old.flash.counts new.flash.counts → (why : NoBoot) → e ≢ end.NotBooted why
@@ -234,6 +246,9 @@ module _ (passes : List ℕ → Bool) (tells : Bool) (g : Given) (ending : Endin
 
 -- ---- whichever way
 
+still-unread : (g : Given) (old new : World) (rest : Option (List ℕ)) → port rest new.faults.source ≡ port g.script old.faults.source → Unread g old new rest
+still-unread g old new rest still = (ap (λ (p : Port). p.bytes) still, ap (λ (p : Port). p.faults) still)
+
 module _ (passes : List ℕ → Bool) (tells : Bool) (g : Given) (ending : Ending Note) (old new : World) (rest : Option (List ℕ)) where
   lists : ServeWay passes tells g ending old new rest → RefusesBadList g old.flash new.flash ending.status old.faults new.faults
   lists (list_refused none same unread refused) = refused-list g old.flash new.flash ending.status old.faults new.faults ask.serve ending.noted old.taken new.taken same refused
@@ -258,10 +273,57 @@ module _ (passes : List ℕ → Bool) (tells : Bool) (g : Given) (ending : Endin
   why-ended (starved none same unread nine quiet stuck) = starved-ends g ending old new rest nine unread
   why-ended (served good unarmed unread e is said by) = served-ends passes tells g ending old new rest unarmed e is said by
 
-  writes : ServeWay passes tells g ending old new rest → ServedWrites g ending old new
-  writes (list_refused none same unread (planned, line, why, prints)) before told = list-writes g ending old new rest planned line none why prints before told
-  writes (starved none same unread nine quiet stuck) before told = ([], stuck.0 ∙ told ∙ ap Some (sym (append-nil before)), inl (starved-frames g ending old new rest nine))
-  writes (served good unarmed unread e is said by) before told = served-writes passes tells g ending old new rest unarmed e is said by before told
+  writes : ServeWay passes tells g ending old new rest → ServedWrites g ending old new rest
+  writes (list_refused none same unread refused) = inr (none, refused)
+  writes (starved none same unread nine quiet stuck) = inl (starved-frames g ending old new rest nine none quiet stuck unread)
+  writes (served good unarmed unread e is said by) = inl (served-frames passes tells g ending old new rest unarmed e is said by)
+
+  -- ---- the turns
+
+  no-turn : ending.journal ≡ [] → (t : Turn) → slice_get ending.journal 0 ≡ Some t → ⊥
+  no-turn none t here = never (sym (ap (λ (ts : List Turn). slice_get ts 0) none) ∙ here)
+    where
+      never : slice_get [] 0 ≡ Some t → ⊥
+      never is = cc
+
+  boots-first : ServeWay passes tells g ending old new rest → (t : Turn) → slice_get ending.journal 0 ≡ Some t → t.call ≡ call.Boot
+  boots-first (list_refused none same unread refused) t here = absurd (no-turn none t here)
+  boots-first (starved none same unread nine quiet stuck) t here = absurd (no-turn none t here)
+  boots-first (served good unarmed unread e is said by) t here = by.holds.boots t here
+
+  cuts-none : ServeWay passes tells g ending old new rest → cuts_in ending.journal ≡ 0
+  cuts-none (list_refused none same unread refused) = ap cuts_in none
+  cuts-none (starved none same unread nine quiet stuck) = ap cuts_in none
+  cuts-none (served good unarmed unread e is said by) = by.holds.uncut
+
+  arms-none : ServeWay passes tells g ending old new rest → new.flash.counts.made ≡ made_after old.flash.counts.made (cuts_in ending.journal)
+  arms-none (list_refused none same unread refused) = none-made ending.journal old.flash.counts new.flash.counts none (ap (λ (m : TurnMoment). m.counts.made) same)
+  arms-none (starved none same unread nine quiet stuck) = none-made ending.journal old.flash.counts new.flash.counts none (ap (λ (m : TurnMoment). m.counts.made) same)
+  arms-none (served good unarmed unread e is said by) = by.holds.ran.made
+
+  last-ends : ServeWay passes tells g ending old new rest → EndsByLast ending.journal ending.status ending.noted
+  last-ends (list_refused none same unread refused) = alone-last ending.journal ending.status ending.noted none
+  last-ends (starved none same unread nine quiet stuck) = alone-last ending.journal ending.status ending.noted none
+  last-ends (served good unarmed unread e is said by) = served-last passes tells g ending old new rest unarmed e is said by
+
+  behind-list : ServeWay passes tells g ending old new rest → ending.journal ≢ [] → HasGoodList g.list g.files × (new.faults.files ≡ old.faults.files)
+  behind-list (list_refused none same unread refused) some = absurd (some none)
+  behind-list (starved none same unread nine quiet stuck) some = absurd (some none)
+  behind-list (served good unarmed unread e is said by) some = (good, unread)
+
+  leaves-unread : ServeWay passes tells g ending old new rest → ending.journal ≡ [] → Unread g old new rest
+  leaves-unread (list_refused none same unread refused) empty = unread
+  leaves-unread (starved none same unread nine quiet stuck) empty = unread
+  leaves-unread (served good unarmed unread e is said by) empty =
+      still-unread g old new rest ((done passes tells g ending old new rest unarmed e is said by).unread empty)
+
+  first-alone : ServeWay passes tells g ending old new rest → (t : Turn) (x : ServeEnd) → slice_get ending.journal 0 ≡ Some t → end_by t.reply ≡ Err x
+      → (ending.journal ≡ t ∷ []) × (ending.status ≡ status_of x) × Unread g old new rest
+  first-alone (list_refused none same unread refused) t x here ends = absurd (no-turn none t here)
+  first-alone (starved none same unread nine quiet stuck) t x here ends = absurd (no-turn none t here)
+  first-alone (served good unarmed unread e is said by) t x here ends =
+      let first = (done passes tells g ending old new rest unarmed e is said by).first t x here ends in
+      (first.0, is ∙ ap status_of first.1, still-unread g old new rest first.2)
 
   all-served : ServeWay passes tells g ending old new rest → ServedComplete passes tells g ending old new
   all-served (list_refused none same unread (planned, line, why, prints)) told E start bodies given stream are few grants no_source =
@@ -273,10 +335,16 @@ module _ (passes : List ℕ → Bool) (tells : Bool) (g : Given) (ending : Endin
 
   pub served-by : ServeWay passes tells g ending old new rest → ServedBy passes tells g ending old new rest
   served-by went = record {
-    way = went;
     refuses_list = lists went;
     headline = heads went;
     turns = hold went;
+    boots = boots-first went;
+    uncut = cuts-none went;
+    made = arms-none went;
+    by_last = last-ends went;
+    listed = behind-list went;
+    unread = leaves-unread went;
+    first = first-alone went;
     ends = why-ended went;
     wrote = writes went;
     complete = all-served went;

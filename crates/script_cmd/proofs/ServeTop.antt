@@ -10,7 +10,7 @@ use Rattle.serving.specs.{Holds.ServingHolds, Scene.port, Scene.scene, Going.Ser
 use Rattle.script_turns.specs.Powered.{TurnMoment, at, moment_on}
 use Rattle.script_runs.specs.{Ending.World, Ways.HasGoodList, Ways.Given, Ways.Refuses}
 use Rattle.script_runs.proofs.TopWays.{end-of, world-of}
-use Rattle.script_cmd.specs.ServedBy.{ServeWay, ServesSource, list_refused, served, sink_of, starved}
+use Rattle.script_cmd.specs.Here.{ServeWay, ServesSource, list_refused, served, sink_of, starved}
 use Rattle.script_cmd.proofs.TopLists.{refused-behind}
 
 -- a list was refused, and nothing else was done

@@ -21,8 +21,8 @@ use Rattle.flash_commands.specs.SoakWays as soak
 use Rattle.script_runs.specs.Ways as way
 use Rattle.script_runs.specs.WaysByTable as table
 use Rattle.script_runs.proofs.TopSources.{counts-line, counts-none}
-use Rattle.script_cmd.specs.{Here.Answered, Promises.given_to, ServedBy.ServeWay}
-use Rattle.script_cmd.specs.ServedBy as serve
+use Rattle.script_cmd.specs.{Here.Answered, Here.ServeWay, Promises.given_to}
+use Rattle.script_cmd.specs.Here as serve
 use Rattle.script_cmd.specs.Handed.{Inputs, given_all, RunsOrNone, over_table}
 use Rattle.script_cmd.proofs.PromiseEnds.{why-planned}
 

@@ -1,5 +1,5 @@
 -- What `soak` promises, whichever way it ended.
-use Rattle.std.proofs.Common.{◌≡◌, ◌≢◌, ◌⊎◌, ◌||◌, ◌==◌, ℕ, Bool, true, false, not, if◌then◌else◌, List, ◌∷◌, ◌++◌, Option, Some, None, Ok, Err, refl, sym, ap, subst, ◌∙◌, inl, inr, arith, append-nil, IsTrue, IsFalse, Contains}
+use Rattle.std.proofs.Common.{◌≡◌, ◌≢◌, ◌⊎◌, ◌||◌, ◌==◌, ℕ, Bool, true, false, not, if◌then◌else◌, List, ◌∷◌, ◌++◌, Option, Some, None, Ok, Err, refl, sym, ap, subst, ◌∙◌, inl, inr, arith, append-nil, IsTrue, IsFalse, IsSome, Contains, length, slice_get, ◌+◌}
 use Rattle.std.specs.Prelude.{nat_lt, ◌*◌, option_map, []}
 use Rattle.base_core.specs.Block.{block_bytes}
 use Rattle.fip_tables.specs.{Images.images_fault, Images.image_fault as reader_fault, declared.images.ImageFault.ImageFault}
@@ -7,14 +7,19 @@ use Rattle.fip_tables.specs.declared.images.ImageFault.TheVariants as image
 use Rattle.fwu_formats.specs.Package.{Entry, Toc, entry_of}
 use Rattle.fwu_formats.specs.Layout.{ImageRow, Layout, fits_layout, blocks_needed}
 use Rattle.fwu_model.specs.{Answer.first_image_fault, Answer.image_fault, Causes.cuts_in}
-use Rattle.fwu_model.specs.{Causes.may_fail_before, Causes.status_by, Headline.IsPrefixOf, Headline.made_after, Reply.Reply}
-use Rattle.fwu_model.specs.{Reply.Turn, Run.ends_run, Run.is_refused_boot, Seen.seen, Sound.Sound, Wrote.may_lack}
-use Rattle.std.specs.Io.KnownBytes.{Appends}
+use Rattle.fwu_model.specs.{Causes.LacksList, Causes.may_fail_before, Causes.note_by, Causes.status_by, Headline.IsPrefixOf}
+use Rattle.fwu_model.specs.{Headline.made_after, Reply.Reply, Reply.Turn, Run.ends_run, Run.is_refused_boot, Seen.seen, Sound.Sound}
+use Rattle.fwu_model.specs.{Allow.list_bytes, Wrote.IsBadList, Wrote.bad_list_line, Wrote.may_lack, Wrote.not_read_line}
+use Rattle.fwu_model.specs.declared.kinds.NoBoot.{NoBoot}
+use Rattle.fwu_model.specs.declared.kinds.Note as model
+use Rattle.fwu_model.specs.declared.kinds.Note.TheVariants as model_note
+use Rattle.fwu_model.specs.Text as text
 use Rattle.std.specs.Option.{option_or}
 use Rattle.std.proofs.{lemmas.Bool.false≢true, lemmas.Option.same_Some}
 use Rattle.std.proofs.lemmas.List.Elements.{Contains-append_right, Contains-get_or}
 use Rattle.flash_core.specs.{Counts.Rose, declared.flash.Counts.Counts, May.Guards}
 use Rattle.fwu_formats.specs.{Digests.passes_any, Manifest.is_complete, Manifest.version, declared.kinds.LayoutFault.LayoutFault}
+use Rattle.fwu_formats.specs.declared.kinds.LayoutFault.TheVariants.{BeyondFlash}
 use Rattle.fwu_model.specs.Reply as reply
 use Rattle.fwu_model.proofs.{Complete.runs-boot, Selects.runs-select}
 use Rattle.fwu_words.specs.Order as ask
@@ -22,25 +27,30 @@ use Rattle.agent_machine.specs.Fields.{Fields}
 use Rattle.meta_layout.specs.Rows.{fitted}
 use Rattle.flash_format.specs.{Choosing.refusal, Choosing.refused as refused_input, Formatted.HoldsImages, Formatted.IsFormatted}
 use Rattle.flash_format.specs.{Formatted.first_state, declared.formatting.Formatted.Formatted, declared.stops.FormatStop.FormatStop}
-use Rattle.flash_format.specs.declared.stops.FormatStop.TheVariants.{Input, Flash}
+use Rattle.flash_format.specs.declared.stops.FormatStop.TheVariants.{Input, ReadFailed, Flash}
+use Rattle.flash_format.specs.declared.stops.InputFault.{InputFault}
+use Rattle.flash_format.specs.declared.stops.InputFault.TheVariants as fault
 use Rattle.gen_core.specs.Calls.{file_name, first_package, soak_calls}
 use Rattle.gen_core.specs.{Law.InstallsPackage, Line.soak_line, Line.too_small_line, Setup.is_too_small, Setup.soak_layout}
 use Rattle.gen_core.proofs.Naming.{rounds-have-packages}
 use Rattle.script_turns.specs.{Powered.TurnMoment, Powered.at, Turning.NoneFalls, Runs.Ran, Runs.RunsTo, Runs.calls_of}
-use Rattle.script_runs.specs.Ending.{Device, Ending, World, in_model, noted}
-use Rattle.flash_commands.specs.Formatting.{Tries, format_status, format_text}
-use Rattle.flash_commands.specs.Soaking.{first_files, soak_files, stop_line}
-use Rattle.flash_commands.specs.SoakWays.{SoakEnds, SoakWay, all_done, lacking, list_refused, not_formatted, ran, starved, stopped, too_small}
+use Rattle.script_runs.specs.Ending.{Device, Ending, PutsNone, World, in_model, is_beyond_model, noted}
+use Rattle.flash_commands.specs.Formatting.{Tries, format_note, format_status, format_text}
+use Rattle.flash_commands.specs.{Showing.RefusedList, Soaking.first_files, Soaking.soak_files, Soaking.stop_text}
+use Rattle.flash_commands.specs.SoakWays.{EndsNone, SoakEnds, SoakWay, all_done, lacking, list_refused, not_formatted, ran, starved, stopped, too_small}
 use Rattle.flash_commands.specs.Formatting as format
-use Rattle.host_io.specs.Printed.{Prints, all, front, nothing}
-use Rattle.script_runs.specs.{Ways.Given, declared.done.Note.Note}
-use Rattle.script_runs.proofs.TopSources.{by-plan, printed-plan, not-done}
+use Rattle.host_io.specs.Printed.{Prints, nothing}
+use Rattle.script_runs.specs.{ByTable.StopHasCause, ByTable.flash_fault_line, Running.last_turn, Ways.Given, declared.done.Note.Note}
+use Rattle.script_runs.specs.declared.done.Note.TheVariants as own
+use Rattle.script_runs.proofs.TopSources.{by-plan, done-planned, printed-plan}
 use Rattle.script_turns.proofs.RunTurns.{rose-before}
 use Rattle.flash_commands.proofs.SoakRounds.{file-there}
-use Rattle.script_cmd.specs.{NoTurns.IsFormattable, Granted.RefusesBadList}
-use Rattle.script_cmd.specs.Soaked.{HasSoakList, RunsSoak, SoakedBy, first_images, soak_setting}
+use Rattle.script_cmd.specs.{NoTurns.IsFormattable, Granted.RefusesBadList, Promises.EndsByLast}
+use Rattle.script_cmd.specs.Soaked.{HasSoakList, RunsSoak, SoakedBy, SoakedEnds, first_images, may_end_soak, soak_setting, soak_world}
+use Rattle.script_cmd.proofs.PromiseTurns.{idle-holds, last-is, last-push, none-last, ran-holds}
+use Rattle.script_cmd.proofs.PromiseTable.{plain-nothing}
 use Rattle.script_cmd.proofs.PromiseHeadline.{fits, left-by}
-use Rattle.script_cmd.proofs.TopCompletes.{format-completes, list-granted, list-other, list-status, no-input, printed}
+use Rattle.script_cmd.proofs.TopCompletes.{format-completes, list-cause, list-granted, list-other, list-status, no-input, printed, there}
 use Rattle.script_cmd.proofs.TopShows.{falls-none, good-list-kept, refused-list, starved-list}
 
 -- ---- what was formatted
@@ -118,31 +128,6 @@ planned-at : (piece : List ℕ) (plan status k : ℕ) (taken_before taken_after 
 planned-at piece plan status k taken_before taken_after faults_before faults_after prints whole is =
     sym (printed-plan piece plan status taken_before taken_after faults_before faults_after prints (ap may_lack is ∙ whole)) ∙ is
 
-at-zero : (piece : List ℕ) (status : ℕ) (taken_before taken_after : Option (List ℕ)) (faults_before faults_after : ℕ) → Prints piece 0 status taken_before taken_after faults_before faults_after → status ≡ 0 → Appends taken_before taken_after piece
-at-zero piece status taken_before taken_after faults_before faults_after (all is bytes later) zero_is = bytes
-at-zero piece status taken_before taken_after faults_before faults_after (front is k bytes later rose) zero_is = absurd (omega arith)
-at-zero piece status taken_before taken_after faults_before faults_after (nothing is same later) zero_is = absurd (omega arith)
-
-stop-other : (stop : FormatStop) → format_status (Err stop) ≡ 0 → ⊥
-stop-other (Input f) is = omega arith
-stop-other other is = omega arith
-
-turn-other : (r : Reply) (k : ℕ) → status_by r ≡ k → (k ≡ 0 → ⊥) → (k ≡ 2 → ⊥) → (k ≡ 5 → ⊥) → (k ≡ 6 → ⊥) → ⊥
-turn-other reply.Fault k is zero two five six = five (sym is)
-turn-other reply.ReadFault k is zero two five six = two (sym is)
-turn-other (reply.NotBooted why) k is zero two five six = six (sym is)
-turn-other r k is zero two five six = zero (sym is)
-
-turn-some : (r : Reply) → IsTrue (ends_run r) → status_by r ≡ 0 → ⊥
-turn-some reply.Fault ends is = omega arith
-turn-some reply.ReadFault ends is = omega arith
-turn-some (reply.NotBooted why) ends is = omega arith
-turn-some r ends is = cc
-
-turn-five : (r : Reply) → status_by r ≡ 5 → r ≡ reply.Fault
-turn-five reply.Fault is = refl
-turn-five r is = absurd (omega arith)
-
 -- ---- a flash with room
 
 either-ok : (b c : Bool) (x y : LayoutFault) (L : Layout) → b ≡ false → c ≡ false → (if b then Err x else if c then Err y else Ok L) ≡ Ok L
@@ -198,7 +183,7 @@ no-rise (inl more) = omega arith
 no-rise (inr top) = omega arith
 
 -- where nothing was armed
-none-made : (journal : List Turn) (old new : Counts) → journal ≡ [] → new.made ≡ old.made → new.made ≡ made_after old.made (cuts_in journal)
+pub none-made : (journal : List Turn) (old new : Counts) → journal ≡ [] → new.made ≡ old.made → new.made ≡ made_after old.made (cuts_in journal)
 none-made journal old new none same = subst (λ (ts : List Turn). new.made ≡ made_after old.made (cuts_in ts)) (sym none) same
 
 -- a turn that ends no run
@@ -214,80 +199,208 @@ no-end u fault read booted = go u.reply refl
 last-in : (journal before : List Turn) (t : Turn) → journal ≡ before ++ t ∷ [] → Contains journal t
 last-in journal before t is = subst (λ (ts : List Turn). Contains ts t) (sym is) (Contains-append_right before (t ∷ []) t (Contains-get_or (t ∷ []) 0 t (omega arith)))
 
+-- ---- the last turn
+
+pub alone-last : (journal : List Turn) (status : ℕ) (said : model.Note) → journal ≡ [] → EndsByLast journal status said
+alone-last journal status said none i t here ends = absurd (no-turn (sym (ap (λ (ts : List Turn). slice_get ts i) none) ∙ here))
+  where
+    no-turn : slice_get [] i ≡ Some t → ⊥
+    no-turn is = cc
+
+-- where none ends a run
+no-last : (journal : List Turn) (status : ℕ) (said : model.Note) → EndsNone journal
+    → ((i : ℕ) (t : Turn) → slice_get journal i ≡ Some t → IsTrue (ends_run t.reply) → i + 1 ≡ length journal) → EndsByLast journal status said
+no-last journal status said none last i t here ends = absurd (none-last journal none t (last-is journal i t here (last i t here ends)) ends)
+
+-- where this one does
+the-last : (journal front : List Turn) (t : Turn) (said : model.Note) → journal ≡ front ++ t ∷ [] → said ≡ note_by t.reply
+    → ((i : ℕ) (u : Turn) → slice_get journal i ≡ Some u → IsTrue (ends_run u.reply) → i + 1 ≡ length journal)
+    → EndsByLast journal (status_by t.reply) said
+the-last journal front t said is quiet last i u here ends =
+    let same : t ≡ u = same_Some t u (sym (ap last_turn is ∙ last-push front t) ∙ last-is journal i u here (last i u here ends)) in
+    (last i u here ends, ap (λ (x : Turn). status_by x.reply) same, quiet ∙ ap (λ (x : Turn). note_by x.reply) same)
+
+-- ---- notes
+
+plain-boot : (x : Note) (why : NoBoot) → IsFalse (is_beyond_model x) → noted x ≡ model_note.Boot why → x ≡ own.Boot why
+plain-boot (own.Boot other) why beyond is = cc
+plain-boot (own.Input f) why beyond is = absurd (false≢true (sym beyond))
+plain-boot (own.NoTable lack) why beyond is = absurd (false≢true (sym beyond))
+plain-boot other why beyond is = absurd (cc)
+
+plain-list : (x : Note) (k : ℕ) → IsFalse (is_beyond_model x) → noted x ≡ model_note.BadList k → x ≡ own.BadList k
+plain-list (own.BadList other) k beyond is = cc
+plain-list (own.Input f) k beyond is = absurd (false≢true (sym beyond))
+plain-list (own.NoTable lack) k beyond is = absurd (false≢true (sym beyond))
+plain-list other k beyond is = absurd (cc)
+
 -- ---- all
 
 module _ (device : Device) (g : Given) (seed n : ℕ) (end : Ending Note) (old new : World) where
-  -- ---- nothing was done
+  -- ---- why it ended
 
-  abbrev may_be_small : ℕ → Bool
-  may_be_small k = (k == 7) || (may_fail_before k || (k == 13))
-
-  idle-soaked : SoakWay device g seed n end old new → end.journal ≡ [] → new.flash ≡ old.flash
-      → RefusesBadList g old.flash new.flash end.status old.faults new.faults → IsTrue (may_be_small end.status)
-      → (end.status ≡ 7 → IsTrue (is_too_small device.blocks)) → (end.status ≡ 5 → ⊥) → (end.status ≡ 0 → ⊥)
-      → (IsFalse (is_too_small device.blocks) → HasSoakList g old.faults new.faults → (end.status ≡ 0) ⊎ (end.status ≡ 9))
-      → SoakedBy device g seed n end old new
-  idle-soaked way none same refuses may seven five zero completes = record {
-    way = way;
-    refuses_list = refuses;
-    machine = λ told guards no_chance some. absurd (some none);
-    small = λ room. (none, same, may);
-    seven = λ is told. seven is;
-    five = λ is. absurd (five is);
+  -- no turn ran
+  alone : (planned : ℕ) (line : List ℕ) → Prints line planned end.status old.taken new.taken old.faults.sink new.faults.sink
+      → end.journal ≡ [] → IsTrue (may_end_soak planned) → (planned ≡ 0 → ⊥) → (planned ≡ 6 → ⊥)
+      → (planned ≡ 2 → IsSome g.list × (Rose old.faults.files new.faults.files ⊎ LacksList g.files g.list) × (line ≡ not_read_line))
+      → (planned ≡ 5 → (line ≡ flash_fault_line) × StopHasCause old.flash.counts new.flash.counts)
+      → (planned ≡ 7 → (why : InputFault) × (end.noted ≡ own.Input why)
+      × (IsTrue (is_too_small device.blocks) → (why ≡ fault.Layout BeyondFlash) × (line ≡ too_small_line))
+      × (IsFalse (is_too_small device.blocks) → line ≡ format_text (Err (Input why))))
+      → (planned ≡ 13 → IsSome g.list × (k : ℕ) × (end.noted ≡ own.BadList k) × IsBadList (list_bytes g.list g.files) k
+      × (line ≡ bad_list_line k))
+      → (IsFalse ((planned == 6) || (planned == 7) || (planned == 13)) → end.noted ≡ own.Nothing)
+      → (planned ≡ 9 → (end.status ≡ 9) × PutsNone old new) → SoakedEnds device g seed n end old new
+  alone planned line prints none known zero six two five seven thirteen quiet nine = record {
+    planned = planned;
+    line = line;
+    prints = prints;
+    no_other = known;
+    calls = (soak_calls seed n, ap (λ (ts : List Turn). calls_of ts ++ soak_calls seed n) none);
+    by_last = alone-last end.journal planned (noted end.noted) none;
     done = λ is. absurd (zero is);
-    made = none-made end.journal old.flash.counts new.flash.counts none (ap (λ (m : TurnMoment). m.counts.made) same);
-    counts = subst (λ (m : TurnMoment). NoneFalls old.flash.counts m.counts) (sym same) (falls-none old.flash.counts);
-    guard = λ told. ap (λ (m : TurnMoment). m.told.guard) same;
-    complete = λ told guards large no_chance no_fault no_cut has no_sink. completes large has;
+    not_read = λ is. let f = two is in (none, f.0, f.1, f.2);
+    flash_fault = λ is. let f = five is in (f.0, inr (none, f.1));
+    not_booted = λ is. absurd (six is);
+    refused = λ is. let f = seven is in (none, f.0, f.1, f.2, f.3);
+    not_list = λ is. let f = thirteen is in (none, f.0, f.1, f.2, f.3, f.4);
+    quiet = quiet;
+    none = nine;
   }
 
-  -- ---- the flash was not formatted
+  starved-ended : end.journal ≡ [] → end.status ≡ 9 → end.noted ≡ own.Nothing → PutsNone old new → SoakedEnds device g seed n end old new
+  starved-ended none nine quiet stuck =
+      alone 9 [] (nothing nine stuck.0 stuck.1) none refl (λ is. omega arith) (λ is. omega arith) (λ is. absurd (omega arith))
+      (λ is. absurd (omega arith)) (λ is. absurd (omega arith)) (λ is. absurd (omega arith)) (λ other. quiet) (λ is. (nine, stuck))
 
-  stop-seven : (stop : FormatStop)
-      → Tries passes_any device.tells (Some (first_files seed)) (file_name 0) soak_layout device.blocks old.flash new.flash 0 0 (Err stop)
-      → IsTrue device.tells → IsFalse (is_too_small device.blocks) → format_status (Err stop) ≡ 7 → ⊥
-  stop-seven (Input f) t told large is =
-      no-input passes_any device.tells (Some (first_files seed)) (file_name 0) soak_layout device.blocks old.flash new.flash 0 0 f told
-      (formattable seed device.blocks large) t
-  stop-seven other t told large is = omega arith
+  list-ended : end.journal ≡ [] → IsFalse (is_beyond_model end.noted) → RefusedList (ask.soak seed n) g end.status (noted end.noted) old new
+      → SoakedEnds device g seed n end old new
+  list-ended none beyond (planned, line, why, prints) =
+      elim (list-cause (ask.soak seed n) (λ is. cc) (λ is. cc) g old.faults new.faults planned (noted end.noted) line why) [
+        | inl c ↦
+            alone planned line prints none (ap may_end_soak c.0) (λ is. omega (arith, is, c.0)) (λ is. omega (arith, is, c.0))
+            (λ is. (c.1, c.2, c.4)) (λ is. absurd (omega (arith, is, c.0))) (λ is. absurd (omega (arith, is, c.0)))
+            (λ is. absurd (omega (arith, is, c.0))) (λ other. plain-nothing end.noted beyond c.3) (λ is. absurd (omega (arith, is, c.0)))
+        | inr c ↦
+            alone planned line prints none (ap may_end_soak c.0) (λ is. omega (arith, is, c.0)) (λ is. omega (arith, is, c.0))
+            (λ is. absurd (omega (arith, is, c.0))) (λ is. absurd (omega (arith, is, c.0))) (λ is. absurd (omega (arith, is, c.0)))
+            (λ is. (c.1, c.2, plain-list end.noted c.2 beyond c.3, c.4, c.5))
+            (λ other. absurd (false≢true (sym other ∙ ap (λ (k : ℕ). (k == 6) || (k == 7) || (k == 13)) c.0)))
+            (λ is. absurd (omega (arith, is, c.0)))
+      ]
 
-  stop-five : (stop : FormatStop)
-      → Tries passes_any device.tells (Some (first_files seed)) (file_name 0) soak_layout device.blocks old.flash new.flash 0 0 (Err stop)
-      → format_status (Err stop) ≡ 5 → Rose old.flash.counts.faults new.flash.counts.faults ⊎ Rose old.flash.counts.cuts new.flash.counts.cuts
-  stop-five (Flash stop) t is = t.stopped stop refl
-  stop-five other t is = absurd (omega arith)
+  small-ended : end.journal ≡ [] → IsTrue (is_too_small device.blocks) → end.noted ≡ own.Input (fault.Layout BeyondFlash)
+      → Prints too_small_line 7 end.status old.taken new.taken old.faults.sink new.faults.sink → SoakedEnds device g seed n end old new
+  small-ended none small is prints =
+      alone 7 too_small_line prints none refl (λ e. omega arith) (λ e. omega arith) (λ e. absurd (omega arith)) (λ e. absurd (omega arith))
+      (λ e. (fault.Layout BeyondFlash, is, (λ again. (refl, refl)), (λ large. absurd (false≢true (sym large ∙ small)))))
+      (λ e. absurd (omega arith)) (λ other. absurd (false≢true (sym other))) (λ e. absurd (omega arith))
 
-  -- ---- turns ran
+  -- the flash was not formatted
+  abbrev Stops : FormatStop → Type 0
+  Stops stop = Tries passes_any device.tells (Some (first_files seed)) (file_name 0) soak_layout device.blocks old.flash new.flash 0 0 (Err stop)
 
+  format-ended : (stop : FormatStop) → Stops stop → end.journal ≡ [] → IsFalse (is_too_small device.blocks)
+      → end.noted ≡ format_note (Err stop)
+      → Prints (format_text (Err stop)) (format_status (Err stop)) end.status old.taken new.taken old.faults.sink new.faults.sink
+      → SoakedEnds device g seed n end old new
+  format-ended (Input f) t none large is prints =
+      alone 7 (format_text (Err (Input f))) prints none refl (λ e. omega arith) (λ e. omega arith) (λ e. absurd (omega arith))
+      (λ e. absurd (omega arith)) (λ e. (f, is, (λ small. absurd (false≢true (sym large ∙ small))), (λ again. refl)))
+      (λ e. absurd (omega arith)) (λ other. absurd (false≢true (sym other))) (λ e. absurd (omega arith))
+  format-ended ReadFailed t none large is prints = absurd (elim (t.reads.failed refl) [
+    | inl rose ↦ no-rise rose
+    | inr lacks ↦ there (Some (first_files seed)) (file_name 0) (first_package seed) (file-there (file_name 0) (first_package seed)) lacks
+  ])
+  format-ended (Flash stop) t none large is prints =
+      alone 5 flash_fault_line prints none refl (λ e. omega arith) (λ e. omega arith) (λ e. absurd (omega arith))
+      (λ e. (refl, t.stopped stop refl)) (λ e. absurd (omega arith)) (λ e. absurd (omega arith)) (λ other. is) (λ e. absurd (omega arith))
+
+  -- turns ran
   abbrev Ends : Type 0
   Ends = SoakEnds n (soak_calls seed n) (in_model end) old.taken new.taken old.faults.sink new.faults.sink
 
-  ends-front : Ends → IsPrefixOf (calls_of end.journal) (soak_calls seed n)
-  ends-front (all_done calls none quiet prints) = ([], append-nil (calls_of end.journal) ∙ calls)
-  ends-front (lacking less none quiet nine stuck later) = less
-  ends-front (stopped less before t is none ends read quiet prints) = less
+  -- and the last of them ended it, with this reply
+  turn-ended : (front : List Turn) (t : Turn) (r : Reply) → t.reply ≡ r → end.journal ≡ front ++ t ∷ []
+      → IsPrefixOf (calls_of end.journal) (soak_calls seed n) → EndsByLast end.journal (status_by r) (noted end.noted)
+      → IsFalse (is_beyond_model end.noted) → (r ≡ reply.Fault → Rose old.flash.counts.faults new.flash.counts.faults)
+      → IsTrue (ends_run r) → r ≢ reply.ReadFault → noted end.noted ≡ note_by r
+      → Prints (stop_text t.call r) (status_by r) end.status old.taken new.taken old.faults.sink new.faults.sink
+      → SoakedEnds device g seed n end old new
+  turn-ended front t reply.Fault is whole less by beyond fails ends other quiet prints = record {
+    planned = 5;
+    line = flash_fault_line;
+    prints = prints;
+    no_other = refl;
+    calls = less;
+    by_last = by;
+    done = λ e. absurd (omega arith);
+    not_read = λ e. absurd (omega arith);
+    flash_fault = λ e. (refl, inl (record { before = front; last = t; journal_is = whole; reply_is = is }, fails refl));
+    not_booted = λ e. absurd (omega arith);
+    refused = λ e. absurd (omega arith);
+    not_list = λ e. absurd (omega arith);
+    quiet = λ e. plain-nothing end.noted beyond quiet;
+    none = λ e. absurd (omega arith);
+  }
+  turn-ended front t (reply.NotBooted why) is whole less by beyond fails ends other quiet prints = record {
+    planned = 6;
+    line = text.line t.call (reply.NotBooted why);
+    prints = prints;
+    no_other = refl;
+    calls = less;
+    by_last = by;
+    done = λ e. absurd (omega arith);
+    not_read = λ e. absurd (omega arith);
+    flash_fault = λ e. absurd (omega arith);
+    not_booted = λ e. (why, plain-boot end.noted why beyond quiet, record { before = front; last = t; journal_is = whole; reply_is = is }, refl);
+    refused = λ e. absurd (omega arith);
+    not_list = λ e. absurd (omega arith);
+    quiet = λ e. absurd (false≢true (sym e));
+    none = λ e. absurd (omega arith);
+  }
+  turn-ended front t reply.ReadFault is whole less by beyond fails ends other quiet prints = absurd (other refl)
+  turn-ended front t any is whole less by beyond fails ends other quiet prints = absurd (false≢true ends)
 
-  ends-done : Ends → end.status ≡ 0 → (calls_of end.journal ≡ soak_calls seed n) × Appends old.taken new.taken (soak_line n end.journal)
-  ends-done (all_done calls none quiet prints) zero_is =
-      (calls, at-zero (soak_line n end.journal) end.status old.taken new.taken old.faults.sink new.faults.sink prints zero_is)
-  ends-done (lacking less none quiet nine stuck later) zero_is = absurd (omega arith)
-  ends-done (stopped less before t is none ends read quiet prints) zero_is =
-      absurd
-      (not-done (stop_line t) (status_by t.reply) end.status old.taken new.taken old.faults.sink new.faults.sink (turn-some t.reply ends)
-      prints zero_is)
-
-  -- another status, but that of the sink or memory, is of the last turn
-  ends-turn : Ends → (k : ℕ) → IsFalse (may_lack k) → (k ≡ 0 → ⊥) → end.status ≡ k
-      → (u : Turn) × Contains end.journal u × (status_by u.reply ≡ k)
-  ends-turn (all_done calls none quiet prints) k whole some is =
-      absurd (some (sym (planned-at _ 0 end.status k old.taken new.taken old.faults.sink new.faults.sink prints whole is)))
-  ends-turn (lacking less none quiet nine stuck later) k whole some is =
-      absurd (false≢true (sym whole ∙ ap may_lack (sym is ∙ nine)))
-  ends-turn (stopped less before u is none ends read quiet prints) k whole some at = (
-    u,
-    last-in end.journal before u is,
-    planned-at (stop_line u) (status_by u.reply) end.status k old.taken new.taken old.faults.sink new.faults.sink prints whole at,
-  )
+  ran-ended : Ends → IsFalse (is_beyond_model end.noted)
+      → ((i : ℕ) (t : Turn) → slice_get end.journal i ≡ Some t → IsTrue (ends_run t.reply) → i + 1 ≡ length end.journal)
+      → ((t : Turn) → Contains end.journal t → t.reply ≡ reply.Fault → Rose old.flash.counts.faults new.flash.counts.faults)
+      → SoakedEnds device g seed n end old new
+  ran-ended (all_done calls none quiet prints) beyond last fails = record {
+    planned = 0;
+    line = soak_line n end.journal;
+    prints = prints;
+    no_other = refl;
+    calls = ([], append-nil (calls_of end.journal) ∙ calls);
+    by_last = no-last end.journal 0 (noted end.noted) none last;
+    done = λ e. (calls, refl);
+    not_read = λ e. absurd (omega arith);
+    flash_fault = λ e. absurd (omega arith);
+    not_booted = λ e. absurd (omega arith);
+    refused = λ e. absurd (omega arith);
+    not_list = λ e. absurd (omega arith);
+    quiet = λ e. plain-nothing end.noted beyond quiet;
+    none = λ e. absurd (omega arith);
+  }
+  ran-ended (lacking less none quiet nine stuck later) beyond last fails = record {
+    planned = 9;
+    line = [];
+    prints = nothing nine stuck later;
+    no_other = refl;
+    calls = less;
+    by_last = no-last end.journal 9 (noted end.noted) none last;
+    done = λ e. absurd (omega arith);
+    not_read = λ e. absurd (omega arith);
+    flash_fault = λ e. absurd (omega arith);
+    not_booted = λ e. absurd (omega arith);
+    refused = λ e. absurd (omega arith);
+    not_list = λ e. absurd (omega arith);
+    quiet = λ e. plain-nothing end.noted beyond quiet;
+    none = λ e. (nine, (stuck, later));
+  }
+  ran-ended (stopped less front t is none ends read quiet prints) beyond last fails =
+      turn-ended front t t.reply refl is less (the-last end.journal front t (noted end.noted) is quiet last) beyond
+      (fails t (last-in end.journal front t is)) ends read quiet prints
 
   -- where no turn ends them, all was done
   ends-complete : Ends → (Rose old.faults.sink new.faults.sink → ⊥)
@@ -299,38 +412,74 @@ module _ (device : Device) (g : Given) (seed n : ℕ) (end : Ending Note) (old n
   ends-complete (stopped less before u is none ends read quiet prints) no_sink no_end =
       absurd (no_end u (last-in end.journal before u is) read ends)
 
+  -- ---- nothing was done
+
+  idle-soaked : SoakedEnds device g seed n end old new → end.journal ≡ [] → new.flash ≡ old.flash
+      → RefusesBadList g old.flash new.flash end.status old.faults new.faults
+      → IsTrue ((end.status == 7) || (may_fail_before end.status || (end.status == 13)))
+      → (end.status ≡ 7 → IsTrue (is_too_small device.blocks))
+      → (HasSoakList g old.faults new.faults → IsFalse (is_too_small device.blocks) → (end.status ≡ 9) × (end.noted ≡ own.Nothing))
+      → SoakedBy device g seed n end old new
+  idle-soaked why none same refuses may seven completes = record {
+    ends = why;
+    flash = inl (record { no_turns = none; same = same; status_is = may; why = completes });
+    refuses_list = refuses;
+    machine = λ told guards no_chance some. absurd (some none);
+    seven = λ is told. seven is;
+    made = none-made end.journal old.flash.counts new.flash.counts none (ap (λ (m : TurnMoment). m.counts.made) same);
+    counts = subst (λ (m : TurnMoment). NoneFalls old.flash.counts m.counts) (sym same) (falls-none old.flash.counts);
+    guard = λ told. ap (λ (m : TurnMoment). m.told.guard) same;
+    complete = λ told guards large no_chance no_fault no_cut has no_sink. inr (completes has large).0;
+  }
+
+  -- ---- the flash was not formatted
+
+  stop-seven : (stop : FormatStop) → Stops stop → IsTrue device.tells → IsFalse (is_too_small device.blocks) → format_status (Err stop) ≡ 7 → ⊥
+  stop-seven (Input f) t told large is =
+      no-input passes_any device.tells (Some (first_files seed)) (file_name 0) soak_layout device.blocks old.flash new.flash 0 0 f told
+      (formattable seed device.blocks large) t
+  stop-seven other t told large is = omega arith
+
   -- ---- whichever way
 
   pub soaked-by : SoakWay device g seed n end old new → SoakedBy device g seed n end old new
   soaked-by (list_refused none same quiet refused) =
       let other = list-other (ask.soak seed n) (λ is. cc) (λ is. cc) g end.status (noted end.noted) old new refused in
-      idle-soaked (list_refused none same quiet refused) none same
+      idle-soaked (list-ended none quiet refused) none same
       (refused-list g old.flash new.flash end.status old.faults new.faults (ask.soak seed n) (noted end.noted) old.taken new.taken same refused)
-      (list-status (ask.soak seed n) (λ is. cc) (λ is. cc) g end.status (noted end.noted) old new refused may_be_small refl refl refl refl)
-      (λ is. absurd (other 7 refl is)) (other 5 refl) (other 0 refl)
-      (λ large has.
+      (list-status (ask.soak seed n) (λ is. cc) (λ is. cc) g end.status (noted end.noted) old new refused
+      (λ (k : ℕ). (k == 7) || (may_fail_before k || (k == 13))) refl refl refl refl)
+      (λ is. absurd (other 7 refl is))
+      (λ has large.
       absurd
       (list-granted (ask.soak seed n) (λ is. cc) (λ is. cc) g old.faults new.faults refused.0 (noted end.noted) refused.1 has refused.2))
   soaked-by (starved none same nine is stuck) =
-      idle-soaked (starved none same nine is stuck) none same
-      (starved-list g old.flash new.flash end.status old.faults new.faults same nine) (ap may_be_small nine)
-      (λ is. absurd (omega (arith, is, nine))) (λ is. omega (arith, is, nine)) (λ is. omega (arith, is, nine)) (λ large has. inr nine)
+      idle-soaked (starved-ended none nine is stuck) none same
+      (starved-list g old.flash new.flash end.status old.faults new.faults same nine)
+      (ap (λ (k : ℕ). (k == 7) || (may_fail_before k || (k == 13))) nine)
+      (λ is. absurd (omega (arith, is, nine))) (λ has large. (nine, is))
   soaked-by (too_small good small none same is prints) =
-      idle-soaked (too_small good small none same is prints) none same
+      idle-soaked (small-ended none small is prints) none same
       (good-list-kept g old.flash new.flash end.status old.faults new.faults good)
-      (by-plan too_small_line 7 end.status old.taken new.taken old.faults.sink new.faults.sink prints may_be_small refl refl refl)
-      (λ seven. small)
-      (λ five. let e = planned-at _ 7 end.status 5 old.taken new.taken old.faults.sink new.faults.sink prints refl five in omega arith)
-      (not-done too_small_line 7 end.status old.taken new.taken old.faults.sink new.faults.sink (λ e. omega arith) prints)
-      (λ large has. absurd (false≢true (sym large ∙ small)))
+      (by-plan too_small_line 7 end.status old.taken new.taken old.faults.sink new.faults.sink prints
+      (λ (k : ℕ). (k == 7) || (may_fail_before k || (k == 13))) refl refl refl)
+      (λ seven. small) (λ has large. absurd (false≢true (sym large ∙ small)))
   soaked-by (not_formatted good large none stop t is prints) = record {
-    way = not_formatted good large none stop t is prints;
+    ends = format-ended stop t none large is prints;
+    flash = inr (record {
+      good = good;
+      large = large;
+      result = Err stop;
+      start = new.flash;
+      tries = t;
+      stopped = (none, is);
+      formatted = tt;
+      turns = idle-holds passes_any device.tells (Some (soak_files seed n)) end.journal (soak_world new.flash) (soak_world new.flash) none refl;
+    });
     refuses_list = good-list-kept g old.flash new.flash end.status old.faults new.faults good;
     machine = λ told guards no_chance some. absurd (some none);
-    small = λ small. absurd (false≢true (sym large ∙ small));
-    seven = λ seven told. absurd (stop-seven stop t told large (planned 7 refl seven));
-    five = λ five. elim (stop-five stop t (planned 5 refl five)) [ inl rose ↦ inl rose | inr cut ↦ inr (none, cut) ];
-    done = λ zero_is. absurd (stop-other stop (planned 0 refl zero_is));
+    seven = λ seven told. absurd (stop-seven stop t told large
+        (planned-at (format_text (Err stop)) (format_status (Err stop)) end.status 7 old.taken new.taken old.faults.sink new.faults.sink prints refl seven));
     made = none-made end.journal old.flash.counts new.flash.counts none t.made;
     counts = t.counts;
     guard = t.guard;
@@ -348,21 +497,26 @@ module _ (device : Device) (g : Given) (seed n : ℕ) (end : Ending Note) (old n
           no_sink_fault = no_sink;
         });
   }
-    where
-      planned : (k : ℕ) → IsFalse (may_lack k) → end.status ≡ k → format_status (Err stop) ≡ k
-      planned k = planned-at (format_text (Err stop)) (format_status (Err stop)) end.status k old.taken new.taken old.faults.sink new.faults.sink prints
   soaked-by (ran good large done start on t off power turns ends quiet) = record {
-    way = ran good large done start on t off power turns ends quiet;
+    ends = why;
+    flash = inr (record {
+      good = good;
+      large = large;
+      result = Ok done;
+      start = start;
+      tries = t;
+      stopped = tt;
+      formatted = (off, quiet);
+      turns = ran-holds passes_any device.tells (Some (soak_files seed n)) end.journal on 0 (soak_world start) (soak_world new.flash) (λ some. refl) turns;
+    });
     refuses_list = good-list-kept g old.flash new.flash end.status old.faults new.faults good;
     machine = λ told guards no_chance some.
         runs-soak device.tells seed device.blocks old.flash start done t told n end.journal on new.flash guards no_chance turns end.status
-        (ends-front ends) (λ zero_is. (ends-done ends zero_is).0);
-    small = λ small. absurd (false≢true (sym large ∙ small));
+        why.calls
+        (λ zero. (why.done (done-planned why.line why.planned end.status old.taken new.taken old.faults.sink new.faults.sink why.prints zero)).0);
     seven = λ seven told.
-        let u = ends-turn ends 7 refl (λ z. omega arith) seven in
-        absurd (turn-other u.0.reply 7 u.2 (λ z. omega arith) (λ z. omega arith) (λ z. omega arith) (λ z. omega arith));
-    five = λ five. let u = ends-turn ends 5 refl (λ z. omega arith) five in inl (fails u.0 u.1 (turn-five u.0.reply u.2));
-    done = ends-done ends;
+        let f = why.refused (planned-at why.line why.planned end.status 7 old.taken new.taken old.faults.sink new.faults.sink why.prints refl seven) in
+        absurd (false≢true (sym quiet ∙ ap is_beyond_model f.2));
     made = turns.made ∙ ap (λ (k : ℕ). made_after k (cuts_in end.journal)) t.made;
     counts = record {
       faults = let a = t.counts.faults in let b = turns.counts.faults in omega arith;
@@ -380,3 +534,6 @@ module _ (device : Device) (g : Given) (seed n : ℕ) (end : Ending Note) (old n
       fails : (u : Turn) → Contains end.journal u → u.reply ≡ reply.Fault → Rose old.flash.counts.faults new.flash.counts.faults
       fails u has same =
           rose-before old.flash.counts.faults start.counts.faults new.flash.counts.faults t.counts.faults (turns.fault_turns u has same)
+
+      why : SoakedEnds device g seed n end old new
+      why = ran-ended ends quiet turns.ends fails

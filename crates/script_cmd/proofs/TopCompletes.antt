@@ -1,9 +1,11 @@
 -- `show` and `format` do all that they are asked for, where nothing is lacking and nothing failed, unless memory was wanting.
-use Rattle.std.proofs.Common.{◌≡◌, ◌⊎◌, inl, inr, ℕ, Bool, true, List, Option, Some, None, Result, Ok, Err, refl, sym, subst, ◌∙◌, IsTrue, IsFalse}
+use Rattle.std.proofs.Common.{◌≡◌, ◌⊎◌, inl, inr, ℕ, Bool, true, List, Option, Some, None, Result, Ok, Err, refl, sym, subst, ◌∙◌, IsTrue, IsFalse, IsSome}
 use Rattle.std.proofs.lemmas.Bool.{false≢true}
 use Rattle.flash_core.specs.{Counts.Rose, Told.Told, Told.NothingDirty, declared.flash.Counts.Counts}
 use Rattle.fwu_formats.specs.{Layout.Layout, Image.deciding}
-use Rattle.fwu_model.specs.{Causes.Faults, declared.kinds.Note.Note, declared.kinds.NoBoot.NoBoot}
+use Rattle.fwu_model.specs.{Allow.list_bytes, Causes.Faults, Causes.LacksList, Wrote.IsBadList, Wrote.bad_list_line, Wrote.not_read_line}
+use Rattle.fwu_model.specs.{declared.kinds.Note.Note, declared.kinds.NoBoot.NoBoot}
+use Rattle.fwu_model.specs.declared.kinds.Note.TheVariants as note
 use Rattle.fwu_model.specs.declared.kinds.NoBoot.TheVariants as no_boot
 use Rattle.fip_tables.specs.Files.{Tells, Lacks}
 use Rattle.flash_format.specs.{Stops.RefusesAs, Stops.IsEarlyStop, declared.formatting.Formatted.Formatted}
@@ -35,27 +37,27 @@ printed line status old new faults_before faults_after fails (nothing is same la
 
 module _ (asked : Asked) (runs : Some asked ≡ Some ask.run → ⊥) (boots : Some asked ≡ Some ask.boot → ⊥) where
   -- a command that runs no script is refused for its list alone
-  pub list-plan : (g : Given) (before after : Faults) (planned : ℕ) (noted : Note) (line : List ℕ)
-      → Refuses (Some asked) g before after planned noted line → (planned ≡ 2) ⊎ (planned ≡ 13)
-  list-plan g before after planned noted line (usage good is) = cc
-  list-plan g before after planned noted line (not_read good is rose) = absurd (runs is)
-  list-plan g before after planned noted line (list_not_read some why) = inl refl
-  list-plan g before after planned noted line (too_long good is long) = absurd (runs is)
-  list-plan g before after planned noted line (bad_script n good (inl is) short bad) = absurd (runs is)
-  list-plan g before after planned noted line (bad_script n good (inr is) short bad) = absurd (boots is)
-  list-plan g before after planned noted line (bad_list n some there bad) = inr refl
+  pub list-cause : (g : Given) (before after : Faults) (planned : ℕ) (noted : Note) (line : List ℕ)
+      → Refuses (Some asked) g before after planned noted line
+      → ((planned ≡ 2) × IsSome g.list × (Rose before.files after.files ⊎ LacksList g.files g.list) × (noted ≡ note.Nothing)
+      × (line ≡ not_read_line))
+      ⊎ ((planned ≡ 13) × IsSome g.list × (n : ℕ) × (noted ≡ note.BadList n) × IsBadList (list_bytes g.list g.files) n
+      × (line ≡ bad_list_line n))
+  list-cause g before after planned noted line (usage good is) = cc
+  list-cause g before after planned noted line (not_read good is rose) = absurd (runs is)
+  list-cause g before after planned noted line (list_not_read some why) = inl (refl, some, why, refl, refl)
+  list-cause g before after planned noted line (too_long good is long) = absurd (runs is)
+  list-cause g before after planned noted line (bad_script n good (inl is) short bad) = absurd (runs is)
+  list-cause g before after planned noted line (bad_script n good (inr is) short bad) = absurd (boots is)
+  list-cause g before after planned noted line (bad_list n some there bad) = inr (refl, some, n, refl, bad, refl)
 
   -- where it is there and has no bad line it is not
   pub list-granted : (g : Given) (before after : Faults) (planned : ℕ) (noted : Note) (line : List ℕ) → HasSoakList g before after
       → Refuses (Some asked) g before after planned noted line → ⊥
-  list-granted g before after planned noted line has (usage good is) = cc
-  list-granted g before after planned noted line has (not_read good is rose) = runs is
-  list-granted g before after planned noted line has (list_not_read some (inl rose)) = has.read rose
-  list-granted g before after planned noted line has (list_not_read some (inr lacks)) = has.there lacks
-  list-granted g before after planned noted line has (too_long good is long) = runs is
-  list-granted g before after planned noted line has (bad_script n good (inl is) short bad) = runs is
-  list-granted g before after planned noted line has (bad_script n good (inr is) short bad) = boots is
-  list-granted g before after planned noted line has (bad_list n some there bad) = has.good n some bad
+  list-granted g before after planned noted line has why = elim (list-cause g before after planned noted line why) [
+    | inl c ↦ elim c.2 [ inl rose ↦ has.read rose | inr lacks ↦ has.there lacks ]
+    | inr c ↦ has.good c.2 c.1 c.4
+  ]
 
   pub granted : (g : Given) (before after : Counts) (faults_before faults_after : Faults) (planned : ℕ) (noted : Note) (line : List ℕ)
       → IsGranted g before after faults_before faults_after → Refuses (Some asked) g faults_before faults_after planned noted line → ⊥
@@ -71,9 +73,9 @@ module _ (asked : Asked) (runs : Some asked ≡ Some ask.run → ⊥) (boots : S
         go : RefusedList asked g status noted old new → IsTrue (f status)
         go (planned, line, why, prints) =
             by-plan line planned status old.taken new.taken old.faults.sink new.faults.sink prints f three nine
-            (elim (list-plan g old.faults new.faults planned noted line why) [
-              | inl is ↦ subst (λ (k : ℕ). IsTrue (f k)) (sym is) two
-              | inr is ↦ subst (λ (k : ℕ). IsTrue (f k)) (sym is) thirteen
+            (elim (list-cause g old.faults new.faults planned noted line why) [
+              | inl c ↦ subst (λ (k : ℕ). IsTrue (f k)) (sym c.0) two
+              | inr c ↦ subst (λ (k : ℕ). IsTrue (f k)) (sym c.0) thirteen
             ])
 
     -- no other status is of a list
@@ -106,7 +108,7 @@ module _ (g : Given) (before after : Counts) (status : ℕ) (taken_before taken_
       (granted ask.show (λ is. cc) (λ is. cc) g before after faults_before faults_after refused.0 told refused.1 grants refused.2)
 
 -- a name that is told isn't lacking
-there : (told : Option Directory) (name file : List ℕ) → Tells told name file → Lacks told name → ⊥
+pub there : (told : Option Directory) (name file : List ℕ) → Tells told name file → Lacks told name → ⊥
 there None name file tells lacks = lacks
 there (Some files) name file tells lacks = cc
 

@@ -1,20 +1,82 @@
 -- What is done for what the words ask for, by each command.
-use Rattle.std.specs.Prelude.{◌≡◌, ℕ, Bool, List, Option, Some, IsTrue, IsFalse}
+use Rattle.std.specs.Prelude.{◌≡◌, ℕ, Bool, List, Option, Some, None, IsTrue, IsFalse, []}
 use Rattle.fwu_formats.specs.Layout.{ImageRow}
 use Rattle.fwu_words.specs.Order.{Asked}
 use Rattle.fwu_words.specs.Order as ask
-use Rattle.script_runs.specs.Ending.{Device, Ending, World, in_model, is_beyond_model, ending}
-use Rattle.flash_commands.specs.SoakWays.{SoakWay}
-use Rattle.script_runs.specs.{Ways.Way, Ways.device_of, WaysByTable.WayByTable, declared.done.Note.Note, declared.done.Done.Done}
+use Rattle.script_runs.specs.Ending.{Device, Ending, PutsNone, World, in_model, is_beyond_model, ending}
+use Rattle.flash_commands.specs.{Showing.RefusedList, SoakWays.SoakWay}
+use Rattle.script_runs.specs.Ways.{Given, HasGoodList, Way, device_of}
+use Rattle.script_runs.specs.{WaysByTable.WayByTable, declared.done.Note.Note, declared.done.Done.Done}
 use Rattle.flash_core.specs.declared.flash.Flash as flash
+use Rattle.host_io.specs.Contents.{Directory}
 use Rattle.host_io.specs.declared.files.Files as files
 use Rattle.host_io.specs.declared.source.Source as source
 use Rattle.host_io.specs.declared.sink.Sink as sink
-use Rattle.fwu_model.specs.Causes.{Faults}
-use Rattle.script_turns.specs.Powered.{moment}
+use Rattle.fwu_model.specs.{Causes.Faults, Reply.Turn}
+use Rattle.fwu_model.specs.declared.kinds.Note as model
+use Rattle.fwu_model.specs.declared.kinds.Note.TheVariants as note
+use Rattle.agent_machine.specs.Fields.{Fields}
+use Rattle.script_turns.specs.Powered.{at, moment}
+use Rattle.wire_frames.specs.Exchange.{LastAnswer}
+use Rattle.serving.specs.{Ends.status_of, Holds.ServingHolds, Scene.At, Scene.Port, Scene.port, Scene.scene, Going.ServesFrom}
+use Rattle.serving.specs.declared.ends.ServeEnd.{ServeEnd}
+use Rattle.serving.specs.declared.ends.ServeEnd.TheVariants as end
 use Rattle.script_cmd.specs.Handed.{asks_beyond, leaves_on, RunsOrNone, over_table, Inputs, given_all}
-use Rattle.script_cmd.specs.{NoTurns.FormattedBy, NoTurns.ShowedBy, Promises.given_to, ServedBy.ServeWay, ByList.ByList}
+use Rattle.script_cmd.specs.{NoTurns.FormattedBy, NoTurns.ShowedBy, Promises.given_to, ServedBy.Unread, ByList.ByList}
 use Rattle.script_cmd.specs.{ByList.IsIdle, ReadsInputs.ReadsInputs}
+
+-- ---- the ways that `serve` may end
+
+-- only a boot that started no bank is noted
+abbrev pub note_of : ServeEnd → model.Note
+note_of (end.NotBooted why) = note.Boot why
+note_of other = note.Nothing
+
+abbrev pub sink_of : World → Port
+sink_of w = port w.taken w.faults.sink
+
+-- what a serving leaves: what the agent keeps at last, and the last reply, come to the turns and the world
+abbrev pub left_by_serving : Option Fields → LastAnswer → List Turn → World → At
+left_by_serving on exchange journal new =
+    record {
+      run = record {
+        moment = at on new.flash.told new.flash.writes new.flash.counts new.flash.armed new.flash.power;
+        journal = journal;
+      };
+      exchange = exchange;
+      sink = sink_of new;
+    }
+
+-- The flash was booted and the requests of the source were served, up to this end. `rest` is what the source has left then.
+pub record ServesSource (passes : List ℕ → Bool) (tells : Bool) (files : Option Directory) (stream : Option (List ℕ))
+    (e : ServeEnd) (journal : List Turn) (old new : World) (rest : Option (List ℕ)) : Type 0 where
+  pub on : Option Fields
+  pub exchange : LastAnswer
+  -- what was taken, done and written
+  pub serves : ServesFrom (scene passes tells files old.faults.files) old.flash (sink_of old)
+      (left_by_serving on exchange journal new) e
+      (port stream old.faults.source) (port rest new.faults.source)
+  -- that its turns are a run, and why it ended so
+  pub holds : ServingHolds (scene passes tells files old.faults.files) old.flash (sink_of old)
+      (left_by_serving on exchange journal new) e
+      (port stream old.faults.source) (port rest new.faults.source)
+
+-- Nothing was done, since a list of digests was not read or is none, or for want of memory; or requests were served. No loss of
+-- power was armed at first.
+pub data ServeWay (passes : List ℕ → Bool) (tells : Bool) (g : Given) (ending : Ending model.Note) (old new : World)
+    (rest : Option (List ℕ)) : Type 0 where
+  list_refused : ending.journal ≡ [] → new.flash ≡ old.flash → Unread g old new rest
+      → RefusedList ask.serve g ending.status ending.noted old new
+      → ServeWay passes tells g ending old new rest
+  starved : ending.journal ≡ [] → new.flash ≡ old.flash → Unread g old new rest → ending.status ≡ 9
+      → ending.noted ≡ note.Nothing → PutsNone old new
+      → ServeWay passes tells g ending old new rest
+  served : HasGoodList g.list g.files → old.flash.armed ≡ None → new.faults.files ≡ old.faults.files → (e : ServeEnd)
+      → ending.status ≡ status_of e → ending.noted ≡ note_of e
+      → ServesSource passes tells g.files g.script e ending.journal old new rest
+      → ServeWay passes tells g ending old new rest
+
+-- ---- by each command
 
 -- What was done for the words behind a list, or without one. `rest` is what the source tells afterwards.
 pub record Answered {H I : Type 0} (passes : List ℕ → Bool) (device : Device) (inputs : Inputs)

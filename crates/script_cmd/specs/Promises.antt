@@ -1,6 +1,6 @@
 -- What `run` or `boot` promises, whichever way it ends, on a plain flash and behind a partition table.
 use Rattle.std.specs.Prelude.{◌≡◌, ℕ, Bool, List, Some, None, Ok, Err, slice_get, ◌≢◌, ◌+◌, ◌≤◌, ◌⊎◌, ◌++◌, Option, IsTrue, IsFalse}
-use Rattle.std.specs.Prelude.{◌||◌, ◌==◌, []}
+use Rattle.std.specs.Prelude.{◌||◌, ◌==◌, [], length}
 use Rattle.fwu_model.specs.{declared.kinds.Note.Note, State.State, Sound.Setting, Sound.choice, Reply.Turn, Answer.booted_package}
 use Rattle.fwu_model.specs.{Seen.seen, Call.Call, Allow.list_bytes, Calm.IsAtRest, Calm.IsGuarded, Contract.Premises, Contract.Asks}
 use Rattle.fwu_model.specs.{Headline.Headline, Headline.Outcome, Asked.script_asked, Wrote.Wrote}
@@ -13,17 +13,22 @@ use Rattle.flash_core.specs.{Counts.Rose, Counts.all_stops, Told.NothingDirty, T
 use Rattle.agent_machine.specs.Fields.{Fields}
 use Rattle.host_io.specs.Contents.{Directory}
 use Rattle.fwu_model.specs.Call as call
-use Rattle.fwu_model.specs.Causes.{EndsAs, IsServed, cuts_in, may_fail_before}
+use Rattle.fwu_model.specs.{Causes.EndsAs, Causes.IsServed, Causes.cuts_in, Causes.may_fail_before, Causes.note_by}
+use Rattle.fwu_model.specs.{Causes.status_by, Run.ends_run}
 use Rattle.fwu_words.specs.Order.{Asked}
 use Rattle.fwu_words.specs.Order as ask
-use Rattle.script_runs.specs.{Refusing.in_short, Ending.Ending, Ending.World, Ending.Device, Ending.in_model, Ways.Given}
-use Rattle.script_runs.specs.{Ways.Refuses, Ways.Way, ByTable.Starts, ByTable.seen_at, WaysByTable.WayByTable}
+use Rattle.script_runs.specs.{Refusing.in_short, Ending.Ending, Ending.World, Ending.Device, Ending.in_model, Ending.noted}
+use Rattle.script_runs.specs.{Ending.PutsNone, Ending.is_beyond_model, Ways.Given, Ways.Refuses, Ways.Way, WaysByTable.ReadsScript}
+use Rattle.script_runs.specs.ByTable.{Looks, Starts, StopsBefore, flash_fault_line, lacked_in, no_table_line, seen_at}
+use Rattle.host_io.specs.Printed.{Prints}
 use Rattle.script_turns.specs.{Boots.BootsFrom, Powered.TurnMoment, Powered.SameDevice, Powered.at}
 use Rattle.script_turns.specs.Runs.{Follows, LossesAreDue, RunTouches, RunsFree, power_left, stops_of}
 use Rattle.gpt_core.specs.{declared.layout.Places.Places, declared.table.WhichTable.WhichTable, Beside.Beside, Beside.TouchesPlaces}
 use Rattle.gpt_core.specs.{PlacesOf.places_of, Places.through, Repair.HeadersGuarded, View.view_of, View.writes_seen}
 use Rattle.gpt_core.specs.Table.{DecidesTable, Table, table_in_image}
+use Rattle.script_runs.specs.declared.done.NoTable.{NoTable}
 use Rattle.script_runs.specs.declared.done.Note as own
+use Rattle.script_runs.specs.declared.done.Note.TheVariants as own_note
 use Rattle.script_cmd.specs.Handed.{Inputs}
 
 -- ---- the program for the one command `boot`, on any flash with nothing dirty, sound or not
@@ -89,6 +94,11 @@ abbrev pub EndsHold : Option Asked → Given → Ending Note → World → World
 EndsHold asked g ending old new =
     EndsAs (in_short asked) g.list g.files g.script ending.status ending.noted ending.journal
     old.flash.counts new.flash.counts old.faults new.faults
+
+-- a turn that ends a run is the last one, and the status and the note are by its reply
+abbrev pub EndsByLast : List Turn → ℕ → Note → Type 0
+EndsByLast journal status noted = (n : ℕ) (t : Turn) → slice_get journal n ≡ Some t → IsTrue (ends_run t.reply)
+    → (n + 1 ≡ length journal) × (status ≡ status_by t.reply) × (noted ≡ note_by t.reply)
 
 -- What each turn did, on any device, one after the other from the device as it was handed in to what is left of it. It says its
 -- reply, what the agent keeps, what an armed loss counts, and its causes. The files' faults begin with those that the files had
@@ -223,6 +233,33 @@ pub record RunsByTable (passes : List ℕ → Bool) (device : Device) (inputs : 
   -- all that a run promises, of the flash at these places
   pub promises : Promised passes device.tells inputs (in_model ending)
       (record old { flash = seen_at places start }) (record new { flash = seen_at places new.flash })
+  -- and no lack of a table is noted
+  pub plain : IsFalse (is_beyond_model ending.noted)
+
+-- the list that was named is good, and the script was read whole and has some calls
+abbrev pub ReadsCalls : Inputs → Type 0
+ReadsCalls inputs = (calls : List Call) × ReadsScript inputs.asked (given_to inputs) calls
+
+-- Why no run began, by the status that was planned, with its line. The sink took it, failed (3), or found no memory for it (9).
+pub record NotBegun (device : Device) (inputs : Inputs) (ending : Ending own.Note) (old new : World) : Type 0 where
+  pub planned : ℕ
+  pub line : List ℕ
+  pub prints : Prints line planned ending.status old.taken new.taken old.faults.sink new.faults.sink
+  -- the table gives no flash, by just what it lacks, which is noted; power came, and nothing was written
+  pub lacked : planned ≡ 10 → (why : NoTable) × (ending.noted ≡ own_note.NoTable why) × (line ≡ no_table_line why)
+      × Looks device.tells old.flash new.flash × (IsTrue device.tells → lacked_in device.blocks new.flash.told.now ≡ Some why)
+  -- the device stopped, at the reading of the table or at its repair
+  pub stopped : planned ≡ 5 → (ending.noted ≡ own_note.Nothing) × (line ≡ flash_fault_line)
+      × StopsBefore device.tells device.blocks old.flash new.flash
+  -- memory was wanting: nothing was touched, or power came
+  pub starved : planned ≡ 9 → (ending.status ≡ 9) × (ending.noted ≡ own_note.Nothing) × PutsNone old new
+      × ((new.flash ≡ old.flash) ⊎ (ReadsCalls inputs × Looks device.tells old.flash new.flash))
+  -- the device is looked at behind a good list and a script with calls
+  pub reads : IsTrue ((planned == 5) || (planned == 10)) → ReadsCalls inputs
+  -- each other status is of a refusal as without a table, and nothing was touched
+  pub refused : IsFalse ((planned == 5) || (planned == 9) || (planned == 10)) → (new.flash ≡ old.flash)
+      × Refuses inputs.asked (given_to inputs) old.faults new.faults planned (noted ending.noted) line
+  pub plain : planned ≢ 10 → IsFalse (is_beyond_model ending.noted)
 
 -- a valid table gives these places
 pub record TableGives (blocks : ℕ) (image : List ℕ) (p : Places) : Type 0 where
@@ -267,8 +304,8 @@ CompleteByTable passes device inputs ending old new =
 -- All that `run --gpt` or `boot --gpt` promises.
 pub record PromisedByTable (passes : List ℕ → Bool) (device : Device) (inputs : Inputs) (ending : Ending own.Note)
     (old new : World) : Type 0 where
-  -- For every device, files, source and sink, told or not: which way it ended.
-  pub way : WayByTable passes device inputs.asked (given_to inputs) ending old new
+  -- For every device, files, source and sink, told or not: why no run began, with the line, and how the device is left.
+  pub unbegun : ending.journal ≡ [] → ending.status ≢ 0 → NotBegun device inputs ending old new
   -- For every device: where a turn ran or all was done, a run began behind the table, and it promises all that one
   -- on a plain flash does.
   pub run : (ending.journal ≢ []) ⊎ (ending.status ≡ 0) → RunsByTable passes device inputs ending old new

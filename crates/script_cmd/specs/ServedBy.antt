@@ -1,78 +1,26 @@
--- The ways that the command `serve` may end, and what it promises, whichever way.
-use Rattle.std.specs.Prelude.{◌≡◌, ℕ, Bool, List, Option, None, ◌≢◌, ◌≤◌, ◌<◌, ◌⊎◌, ◌||◌, ◌==◌, ◌++◌, Some, IfSome, IsSome, ◌↔◌, []}
-use Rattle.std.specs.Prelude.{◌+◌, IsTrue, drop, length, take}
+-- What the command `serve` promises, whichever way it ends.
+use Rattle.std.specs.Prelude.{◌≡◌, ℕ, Bool, List, Option, ◌≢◌, ◌≤◌, ◌<◌, ◌⊎◌, ◌||◌, ◌==◌, ◌++◌, Some, IfSome, IsSome, ◌↔◌, []}
+use Rattle.std.specs.Prelude.{◌+◌, ◌∷◌, Err, IsTrue, IsFalse, drop, length, take, slice_get}
 use Rattle.fwu_model.specs.{Reply.Turn, declared.kinds.Note.Note, Allow.list_bytes, Causes.LacksList, Contract.Premises}
-use Rattle.fwu_model.specs.{Sound.Setting, State.State, Wrote.IsBadList, declared.kinds.NoBoot.NoBoot}
+use Rattle.fwu_model.specs.{Causes.cuts_in, Headline.made_after, Sound.Setting, State.State, Wrote.IsBadList}
+use Rattle.fwu_model.specs.declared.kinds.NoBoot.{NoBoot}
 use Rattle.fwu_model.specs.declared.kinds.Note.TheVariants as note
+use Rattle.fwu_model.specs.Call as call
 use Rattle.fwu_words.specs.Order as ask
-use Rattle.agent_machine.specs.Fields.{Fields}
 use Rattle.host_io.specs.{Contents.Directory, Calls.raised}
-use Rattle.script_turns.specs.{Powered.at, Powered.TurnMoment, Runs.calls_of}
-use Rattle.wire_frames.specs.{Exchange.LastAnswer, Frames.AreBodies, Frames.Splits, Frames.frames, Stream.most_bytes}
-use Rattle.serving.specs.{Ends.status_of, Holds.ServingHolds, Holds.EndsWith, Holds.RefusesBoot, Scene.At, Scene.Port, Scene.port}
-use Rattle.serving.specs.{Scene.scene, Going.ServesFrom, declared.ends.ServeEnd.ServeEnd}
-use Rattle.serving.specs.declared.ends.ServeEnd.TheVariants as end
-use Rattle.script_runs.specs.{Ending.Ending, Ending.PutsNone, Ending.World, Ways.Given, Ways.HasGoodList, Ways.Refuses}
+use Rattle.script_turns.specs.{Powered.TurnMoment, Runs.calls_of}
+use Rattle.wire_frames.specs.{Frames.AreBodies, Frames.Splits, Frames.frames, Stream.StopsReading, Stream.most_bytes}
+use Rattle.wire_frames.specs.declared.stream.FrameStop.{FrameStop}
+use Rattle.serving.specs.{Ends.end_by, Ends.end_of_stop, Ends.status_of, Holds.EndsWith, Holds.RefusesBoot}
+use Rattle.serving.specs.declared.ends.ServeEnd.{ServeEnd}
+use Rattle.script_runs.specs.{Ending.Ending, Ending.World, Ways.Given, Ways.HasGoodList}
 use Rattle.flash_commands.specs.Showing.{RefusedList}
-use Rattle.std.specs.Io.KnownBytes.{Consumes}
+use Rattle.std.specs.Io.KnownBytes.{Appends, Consumes}
 use Rattle.flash_core.specs.Counts.{Rose}
 use Rattle.serving.specs.Written.{answered_numbers, calls_for, frame_of, messages_of, written}
 use Rattle.fwu_model.specs.Headline.{Headline, IsPrefixOf}
 use Rattle.fwu_model.specs.Reply as reply
-use Rattle.script_cmd.specs.{Promises.RanHolds, Promises.outcome, Granted.IsGranted, Granted.RefusesBadList}
-
--- only a boot that started no bank is noted
-abbrev pub note_of : ServeEnd → Note
-note_of (end.NotBooted why) = note.Boot why
-note_of other = note.Nothing
-
-abbrev pub sink_of : World → Port
-sink_of w = port w.taken w.faults.sink
-
--- what a serving leaves: what the agent keeps at last, and the last reply, come to the turns and the world
-abbrev pub left_by_serving : Option Fields → LastAnswer → List Turn → World → At
-left_by_serving on exchange journal new =
-    record {
-      run = record {
-        moment = at on new.flash.told new.flash.writes new.flash.counts new.flash.armed new.flash.power;
-        journal = journal;
-      };
-      exchange = exchange;
-      sink = sink_of new;
-    }
-
--- The flash was booted and the requests of the source were served, up to this end. `rest` is what the source has left then.
-pub record ServesSource (passes : List ℕ → Bool) (tells : Bool) (files : Option Directory) (stream : Option (List ℕ))
-    (e : ServeEnd) (journal : List Turn) (old new : World) (rest : Option (List ℕ)) : Type 0 where
-  pub on : Option Fields
-  pub exchange : LastAnswer
-  -- what was taken, done and written
-  pub serves : ServesFrom (scene passes tells files old.faults.files) old.flash (sink_of old)
-      (left_by_serving on exchange journal new) e
-      (port stream old.faults.source) (port rest new.faults.source)
-  -- that its turns are a run, and why it ended so
-  pub holds : ServingHolds (scene passes tells files old.faults.files) old.flash (sink_of old)
-      (left_by_serving on exchange journal new) e
-      (port stream old.faults.source) (port rest new.faults.source)
-
--- nothing was read of the source
-abbrev pub Unread : Given → World → World → Option (List ℕ) → Type 0
-Unread g old new rest = (rest ≡ g.script) × (new.faults.source ≡ old.faults.source)
-
--- Nothing was done, since a list of digests was not read or is none, or for want of memory; or requests were served. No loss of
--- power was armed at first.
-pub data ServeWay (passes : List ℕ → Bool) (tells : Bool) (g : Given) (ending : Ending Note) (old new : World)
-    (rest : Option (List ℕ)) : Type 0 where
-  list_refused : ending.journal ≡ [] → new.flash ≡ old.flash → Unread g old new rest
-      → RefusedList ask.serve g ending.status ending.noted old new
-      → ServeWay passes tells g ending old new rest
-  starved : ending.journal ≡ [] → new.flash ≡ old.flash → Unread g old new rest → ending.status ≡ 9
-      → ending.noted ≡ note.Nothing → PutsNone old new
-      → ServeWay passes tells g ending old new rest
-  served : HasGoodList g.list g.files → old.flash.armed ≡ None → new.faults.files ≡ old.faults.files → (e : ServeEnd)
-      → ending.status ≡ status_of e → ending.noted ≡ note_of e
-      → ServesSource passes tells g.files g.script e ending.journal old new rest
-      → ServeWay passes tells g ending old new rest
+use Rattle.script_cmd.specs.{Promises.EndsByLast, Promises.RanHolds, Promises.outcome, Granted.IsGranted, Granted.RefusesBadList}
 
 -- ---- the turns
 
@@ -81,6 +29,10 @@ abbrev pub ServedHeadline : (List ℕ → Bool) → Bool → Option Directory �
 ServedHeadline passes tells files ending old new =
     IsTrue tells → (E : Setting) (start : State) → Premises E start old.told files passes old.counts new.counts
     → Headline E start (outcome (calls_of ending.journal) ending.journal ending.status old new)
+
+-- nothing was read of the source
+abbrev pub Unread : Given → World → World → Option (List ℕ) → Type 0
+Unread g old new rest = (rest ≡ g.script) × (new.faults.source ≡ old.faults.source)
 
 -- ---- why it ended
 
@@ -139,41 +91,45 @@ last_frame turns = frame_of (messages_of turns) (length turns)
 abbrev pub reads_no_more : ℕ → Bool
 reads_no_more status = (status == 0) || (status == 2) || (status == 8) || (status == 11)
 
--- The frames of the replies to requests of a stream: one for each that acts, and again for each repeat.
-pub record WroteFrames (stream : Option (List ℕ)) (journal : List Turn) (status : ℕ) (w : List ℕ) : Type 0 where
+-- The boot was done, and the requests of a stream were served by the frames of their replies. There is one for each request that
+-- acts, and again for each repeat.
+pub record WroteFrames (stream rest : Option (List ℕ)) (ending : Ending Note) (before after : Option (List ℕ)) : Type 0 where
   -- the requests that were answered, their turns behind the boot's, and a part of one more frame
   pub bodies : List (List ℕ)
   pub turns : List Turn
   pub part : List ℕ
+  -- the request that ended it, or none
+  pub more : List (List ℕ)
+  pub one : length more ≤ 1
   -- they stand at the front of the stream, and are all of it where all was done
-  pub come : IfSome stream (λ s. IsPrefixOf (frames bodies) s)
-  pub all : status ≡ 0 → IfSome stream (λ s. s ≡ frames bodies)
+  pub each : AreBodies (bodies ++ more)
+  pub come : IfSome stream (λ s. IsPrefixOf (frames (bodies ++ more)) s)
+  pub all : ending.status ≡ 0 → IfSome stream (λ s. s ≡ frames bodies)
+  -- where one of them ended it, no byte behind its frame was taken
+  pub taken : IsFalse (reads_no_more ending.status) → Consumes stream rest (frames (bodies ++ more))
+  -- where no further frame could be read, only what stood in its place was taken
+  pub stops : (why : FrameStop) → ending.status ≡ status_of (end_of_stop why)
+      → (mid : Option (List ℕ)) × (now : ℕ) × Consumes stream mid (frames bodies)
+      × StopsReading why (length (frames bodies)) now mid rest
   -- the turns are the first of the journal, and all of them where none of the requests ended the serving
-  pub begin : IsPrefixOf turns (drop 1 journal)
-  pub all_turns : IsTrue (reads_no_more status) → turns ≡ drop 1 journal
-  -- each request that acts has its turn
+  pub begin : IsPrefixOf turns (drop 1 ending.journal)
+  pub all_turns : IsTrue (reads_no_more ending.status) → turns ≡ drop 1 ending.journal
+  -- each request that acts has its turn, and no other turn is there; want of memory alone may leave none at all
   pub calls : calls_of turns ≡ calls_for bodies
+  pub all_calls : IsPrefixOf (calls_of (drop 1 ending.journal)) (calls_for (bodies ++ more))
+  pub some : ending.status ≢ 9 → ending.journal ≢ []
   -- and each frame has the reply of its number's turn
-  pub written_is : w ≡ written (messages_of turns) (answered_numbers 0 bodies) ++ part
+  pub took : Appends before after (written (messages_of turns) (answered_numbers 0 bodies) ++ part)
   -- where the sink failed, a front of the frame of the last turn stands behind them
-  pub none : status ≢ 3 → part ≡ []
-  pub front : status ≡ 3 → (n : ℕ) × (part ≡ take n (last_frame (drop 1 journal)))
+  pub none : ending.status ≢ 3 → part ≡ []
+  pub front : ending.status ≡ 3 → (n : ℕ) × (part ≡ take n (last_frame (drop 1 ending.journal)))
+  -- only a boot that started no bank is noted
+  pub quiet : ending.status ≢ 6 → ending.noted ≡ note.Nothing
 
--- the line of a list that was not read or is none, or a front of it
-pub record WroteLine (g : Given) (ending : Ending Note) (old new : World) (w : List ℕ) : Type 0 where
-  pub no_turns : ending.journal ≡ []
-  pub planned : ℕ
-  pub line : List ℕ
-  pub why : Refuses (Some ask.serve) g old.faults new.faults planned ending.noted line
-  pub all : ending.status ≡ planned → w ≡ line
-  pub front : IsPrefixOf w line
-  pub none : ending.status ≡ 9 → w ≡ []
-
--- what the sink took, where it tells that, at every status
-abbrev pub ServedWrites : Given → Ending Note → World → World → Type 0
-ServedWrites g ending old new =
-    (before : List ℕ) → old.taken ≡ Some before → (w : List ℕ) × (new.taken ≡ Some (before ++ w))
-    × (WroteFrames g.script ending.journal ending.status w ⊎ WroteLine g ending old new w)
+-- At every status, over every device, files, source and sink: frames were written, or the line of a list that was refused.
+abbrev pub ServedWrites : Given → Ending Note → World → World → Option (List ℕ) → Type 0
+ServedWrites g ending old new rest = WroteFrames g.script rest ending old.taken new.taken
+    ⊎ ((ending.journal ≡ []) × RefusedList ask.serve g ending.status ending.noted old new)
 
 -- ---- all is served
 
@@ -193,8 +149,6 @@ ServedComplete passes tells g ending old new =
 -- All that `serve` promises. `rest` is what the source has left.
 pub record ServedBy (passes : List ℕ → Bool) (tells : Bool) (g : Given) (ending : Ending Note) (old new : World)
     (rest : Option (List ℕ)) : Type 0 where
-  -- For every device, files, source and sink, told or not: which way it ended, with what was taken, done and written.
-  pub way : ServeWay passes tells g ending old new rest
   pub refuses_list : RefusesBadList g old.flash new.flash ending.status old.faults new.faults
   -- From a sound flash the turns are those of the machine. Every image that a loss may leave shows a state that they lead to, and
   -- each boot selects a complete and permitted package.
@@ -202,9 +156,20 @@ pub record ServedBy (passes : List ℕ → Bool) (tells : Bool) (g : Given) (end
   -- For every device: what each turn did, and how the device is left. On any told flash with nothing dirty no loss harms what is in
   -- use.
   pub turns : RanHolds passes tells g.files ending.journal old new
+  -- For every device: the first turn is a boot, no turn arms a loss, and one that ends a run is the last.
+  pub boots : (t : Turn) → slice_get ending.journal 0 ≡ Some t → t.call ≡ call.Boot
+  pub uncut : cuts_in ending.journal ≡ 0
+  pub made : new.flash.counts.made ≡ made_after old.flash.counts.made (cuts_in ending.journal)
+  pub by_last : EndsByLast ending.journal ending.status ending.noted
+  -- A turn is done only behind a good list, and no call of the files fails then.
+  pub listed : ending.journal ≢ [] → HasGoodList g.list g.files × (new.faults.files ≡ old.faults.files)
+  -- Nothing is read of the source without a turn, nor where the first one ends the serving: then it is the only one.
+  pub unread : ending.journal ≡ [] → Unread g old new rest
+  pub first : (t : Turn) (e : ServeEnd) → slice_get ending.journal 0 ≡ Some t → end_by t.reply ≡ Err e
+      → (ending.journal ≡ t ∷ []) × (ending.status ≡ status_of e) × Unread g old new rest
   -- For every device, files, source and sink: each status has its cause.
   pub ends : ServedEnds g ending old new rest
-  -- For every device, files and source: what the sink took, at every status.
-  pub wrote : ServedWrites g ending old new
+  -- For every device, files, source and sink: what was answered, by which turns, and what the sink took, at every status.
+  pub wrote : ServedWrites g ending old new rest
   -- From a sound flash all requests are served, where nothing was lacking and nothing failed, unless memory was wanting.
   pub complete : ServedComplete passes tells g ending old new

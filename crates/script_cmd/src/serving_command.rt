@@ -3,8 +3,7 @@ ghost use Rattle.std.specs.Prelude.{◌≡◌, ◌≤◌, None, IsFalse};
 ghost use Rattle.host_io.specs.Once.{ReadsOnce};
 ghost use Rattle.script_runs.specs.Ending.{ending, in_model, is_beyond_model, noted};
 ghost use Rattle.flash_commands.specs.Here.{without_list};
-ghost use Rattle.script_cmd.specs.ServedBy.{ServeWay, note_of};
-ghost use Rattle.script_cmd.specs.Here.{world};
+ghost use Rattle.script_cmd.specs.Here.{ServeWay, note_of, world};
 
 use flash_core::Flash;
 use host_io::{Files, Sink, Source};

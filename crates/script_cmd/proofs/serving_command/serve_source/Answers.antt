@@ -1,6 +1,6 @@
 use Rattle.std.proofs.Common.{ap, refl, sym}
 use Rattle.script_turns.specs.Powered.{moment_of}
-use Rattle.script_cmd.specs.ServedBy.{served}
+use Rattle.script_cmd.specs.Here.{served}
 use Rattle.script_cmd.proofs.{ServeAccount.sink-later, ServeTop.at-device, ServeTop.serves-source, TopLists.no-list-named}
 use Rattle.script_cmd.proofs.serving_command.serve_source.Goals as goal
 
