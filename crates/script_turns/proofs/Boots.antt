@@ -12,7 +12,7 @@ use Rattle.fwu_model.specs.{State.State, State.Numbers, State.after, Sound.Setti
 use Rattle.fwu_model.specs.{Reply.Reply, Reply.Turn, Answer.Answer, Answer.answer, Headline.LeavesOneOf, Calm.IsCalm, Calm.IsAtRest}
 use Rattle.fwu_model.specs.Call as call
 use Rattle.fwu_model.specs.Reply as reply
-use Rattle.fwu_model.specs.Run.{Condition, Step, Answered, Stopped, StoppedEarly, is_stop, moved_on, prefixes, stopped_moves}
+use Rattle.fwu_model.specs.Run.{Condition, Answered, Stopped, StoppedEarly, is_stop, moved_on, prefixes, stopped_moves}
 use Rattle.fwu_model.proofs.{Frame.calm-again, Frame.calm-stays, Runs.only}
 use Rattle.agent_machine.specs.Fields.{Fields}
 use Rattle.early_boot.specs.Started.{Started, started_session}
@@ -22,7 +22,7 @@ use Rattle.script_turns.specs.{Powered.TurnMoment, Powered.IsAt, Powered.IsSafe,
 use Rattle.script_turns.specs.{Replies.power_after, Takes.TakesBy, Takes.stop_told, Touches.TouchesByBoot}
 use Rattle.script_turns.specs.Turning.{NoneFalls, Turns, GetsPower, IsOnAfter, ShowsStarted, boot_turn, reply_of_end}
 use Rattle.script_turns.proofs.{RunTurns.rose-after, RunTurns.rose-before}
-use Rattle.script_turns.proofs.Staying.{as-told, among, falls-same, safe-by, same-guards}
+use Rattle.script_turns.proofs.Staying.{Leads, as-told, among, falls-same, safe-by, same-guards}
 
 -- ---- the guard
 
@@ -41,9 +41,6 @@ guard-kept passes (failed None) old new h = same-told old new h
 guard-kept passes (failed (Some n)) old new h = h.others.guard
 
 -- ---- a step
-
-abbrev Leads : Setting → Condition → Turn → Option Fields → Told → Type 0
-Leads E c t on new = (next : Condition) × Step E c t next × IsAt E next on new
 
 -- what shows one state shows it among others
 among-all : (E : Setting) (states : List State) (s : State) (t : Told) → Contains states s → LeavesOneOf E (s ∷ []) t → LeavesOneOf E states t

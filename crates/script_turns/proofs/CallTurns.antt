@@ -414,15 +414,11 @@ module _ (passes : List ℕ → Bool) (tells : Bool) (files : Option Directory) 
         stays = begins.stays;
       }
 
-  exact-done : (value : Unit {0}) (begins : BeginsPartly types named passes (Ok value) before behind) (E : Setting) (s : State) (x : Session) → IsSettingOf f passes E → agent.Shows before s x
-      → (reply.Success ≡ (begins_over E s x types begins.bytes).reply)
-      × agent.Shows behind (after s (begins_over E s x types begins.bytes).moves) (begins_over E s x types begins.bytes).next
-  exact-done value begins E s x setting shows = let h = begins.exact E s x setting shows in (sym h.0, h.1)
-
-  exact-refused : (st : Status) (begins : BeginsPartly types named passes (Err (stop.Status st)) before behind) (E : Setting) (s : State) (x : Session) → IsSettingOf f passes E → agent.Shows before s x
-      → (reply.Refused st ≡ (begins_over E s x types begins.bytes).reply)
-      × agent.Shows behind (after s (begins_over E s x types begins.bytes).moves) (begins_over E s x types begins.bytes).next
-  exact-refused st begins E s x setting shows = let h = begins.exact E s x setting shows in (sym h.0, h.1)
+  exact-as : (bytes : ℕ → List ℕ) (r : Reply) → ((E : Setting) (s : State) (x : Session) → IsSettingOf f passes E → agent.Shows before s x
+      → ((begins_over E s x types bytes).reply ≡ r) × agent.Shows behind (after s (begins_over E s x types bytes).moves) (begins_over E s x types bytes).next)
+      → (E : Setting) (s : State) (x : Session) → IsSettingOf f passes E → agent.Shows before s x
+      → (r ≡ (begins_over E s x types bytes).reply) × agent.Shows behind (after s (begins_over E s x types bytes).moves) (begins_over E s x types bytes).next
+  exact-as bytes r exact E s x setting shows = let h = exact E s x setting shows in (sym h.0, h.1)
 
   -- what its turn does
   pub begin-turns : (result : Result (Unit {0}) Stop) → (result ≡ Err stop.Gone → ⊥) → BeginsPartly types named passes result before behind
@@ -432,10 +428,10 @@ module _ (passes : List ℕ → Bool) (tells : Bool) (files : Option Directory) 
       → Turns passes tells files begin (quiet_turn begin (reply_by (λ (_ : Unit {0}). reply.Success) result)) (at (Some f) told w was armed power) (at (on_by result g) now v are after_armed after_power) faults faults
   begin-turns (Ok value) here begins power_is costs free takes =
       turns-answered passes tells files faults begin reply.Success f g told now w v was are armed after_armed power after_power refl refl power_was power_is
-      (exact-own (Ok value) begins reply.Success (exact-done value begins)) (says-begun (Ok value) begins reply.Success (exact-done value begins) (λ is count. count tt)) (left (Ok value) begins) costs free takes
+      (exact-own (Ok value) begins reply.Success (exact-as begins.bytes reply.Success begins.exact)) (says-begun (Ok value) begins reply.Success (exact-as begins.bytes reply.Success begins.exact) (λ is count. count tt)) (left (Ok value) begins) costs free takes
   begin-turns (Err (stop.Status st)) here begins power_is costs free takes =
       turns-answered passes tells files faults begin (reply.Refused st) f g told now w v was are armed after_armed power after_power refl refl power_was power_is
-      (exact-own (Err (stop.Status st)) begins (reply.Refused st) (exact-refused st begins)) (says-begun (Err (stop.Status st)) begins (reply.Refused st) (exact-refused st begins) (λ is count. absurd cc)) (left (Err (stop.Status st)) begins) costs free takes
+      (exact-own (Err (stop.Status st)) begins (reply.Refused st) (exact-as begins.bytes (reply.Refused st) begins.exact)) (says-begun (Err (stop.Status st)) begins (reply.Refused st) (exact-as begins.bytes (reply.Refused st) begins.exact) (λ is count. absurd cc)) (left (Err (stop.Status st)) begins) costs free takes
   begin-turns (Err stop.Lost) here begins power_is costs free takes =
       turns-stopped passes tells files faults begin flash_stop.Lost f g told now w v was are armed after_armed power after_power refl power_was power_is (left (Err stop.Lost) begins) costs free takes
   begin-turns (Err stop.Fault) here begins power_is costs free takes =

@@ -8,7 +8,7 @@ use Rattle.host_io.proofs.Reading.{reads-none}
 use Rattle.fwu_model.specs.{Call.Call, Reply.Turn, Reply.Reply, Sound.Setting, Session.Session, Session.Off, Session.On}
 use Rattle.fwu_model.specs.{Answer.Answer, Answer.answer, Answer.answered, Headline.IsCut, Causes.is_cut}
 use Rattle.fwu_model.specs.State.{State, Numbers, numbers_of, after}
-use Rattle.fwu_model.specs.Run.{is_boot, Condition, Step, Answered, Idle, is_off, is_send, is_stop, moved_on}
+use Rattle.fwu_model.specs.Run.{is_boot, Condition, Answered, Idle, is_off, is_send, is_stop, moved_on}
 use Rattle.std.specs.Prelude.{IsSome, []}
 use Rattle.flash_core.proofs.Unarmed.{unarmed_none}
 use Rattle.fwu_model.specs.Call as call
@@ -22,7 +22,7 @@ use Rattle.script_turns.specs.{Calls.needs_bank, Takes.TakesBy, Takes.stop_told}
 use Rattle.script_turns.specs.{Touches.TouchesBy, Turned.IsStageTurn, Turned.TurnLeaves, Turned.TurnsAlone}
 use Rattle.script_turns.specs.Turning.{Turns, Arms, Makes, NoneFalls, quiet_turn}
 use Rattle.script_turns.specs.Replies.{Replies, no_call_reply, power_after, show_reply}
-use Rattle.script_turns.proofs.Staying.{counts_none, among, falls-same, makes-none, never-boots, never-cuts, no-numbers, no-stop}
+use Rattle.script_turns.proofs.Staying.{Leads, counts_none, among, falls-same, makes-none, never-boots, never-cuts, no-numbers, no-stop}
 
 -- ---- the turn of a call that asks for no file
 
@@ -70,11 +70,8 @@ lacks-none files (call.Send name request) never lacks = absurd cc
 lacks-none files (call.SendPartial name request) never lacks = absurd cc
 lacks-none files other never lacks = lacks
 
-abbrev Leads : Setting → Condition → Call → Reply → Option Fields → Told → Type 0
-Leads E c what r on t = (next : Condition) × Step E c (quiet_turn what r) next × IsAt E next on t
-
 module _ (what : Call) (r : Reply) (no_boot : IsFalse (is_boot what)) (no_stop : IsFalse (is_stop r)) where
-  step : (E : Setting) (c : Condition) (on : Option Fields) (t : Told) → AnswersBy what r on t → IsAt E c on t → Leads E c what r on t
+  step : (E : Setting) (c : Condition) (on : Option Fields) (t : Told) → AnswersBy what r on t → IsAt E c on t → Leads E c (quiet_turn what r) on t
   step E c None t answers is = (
     moved_on c what c.candidates Off,
     Idle asks-nothing (record { numbers = no-numbers what no_boot; reply_is = answers E; next_is = refl }),
@@ -136,8 +133,8 @@ quiet-turns passes tells files what r old new faults quiet replied = record {
   power = quiet.power ∙ sym quiet.keeps_power;
   guard = λ test. ap (λ (t : Told). t.guard) (quiet.same test);
   step = λ test E c passes_are files_are is none.
-      subst (λ (on : Option Fields). Leads E c what r on new.told) (sym quiet.on_is)
-      (subst (λ (t : Told). Leads E c what r old.on t) (sym (quiet.same test)) (step what r quiet.no_boot quiet.no_stop E c old.on old.told quiet.answers is));
+      subst (λ (on : Option Fields). Leads E c (quiet_turn what r) on new.told) (sym quiet.on_is)
+      (subst (λ (t : Told). Leads E c (quiet_turn what r) old.on t) (sym (quiet.same test)) (step what r quiet.no_boot quiet.no_stop E c old.on old.told quiet.answers is));
   keeps = λ test f on no. spared-told _ old.told new.told (quiet.same test);
   spares = λ test f on no whole. spared-told _ old.told new.told (quiet.same test);
   decides = λ test f on agents whole. absurd (quiet.decides f on agents);

@@ -32,16 +32,11 @@ slice_get-left [] ys n below = absurd (omega (arith, below))
 slice_get-left (x ∷ xs) ys zero below = refl
 slice_get-left (x ∷ xs) ys (suc n) below = slice_get-left xs ys n (omega (arith, below))
 
-slice_get-seam : {X : Type 0} (xs : List X) (x : X) → slice_get (xs ++ x ∷ []) (length xs) ≡ Some x
-slice_get-seam xs x =
-    let len = length-append xs (x ∷ []) in
-    slice_get-get_or (xs ++ x ∷ []) (length xs) x (omega (arith, len)) ∙ ap Some (get_or-append_seam xs x [] x)
-
 slice_get-last : {X : Type 0} (xs : List X) (x : X) → slice_get (xs ++ x ∷ []) (length (xs ++ x ∷ []) - 1) ≡ Some x
 slice_get-last xs x =
     let len = length-append xs (x ∷ []) in
     let at : length (xs ++ x ∷ []) - 1 ≡ length xs = omega (arith, len) in
-    ap (slice_get (xs ++ x ∷ [])) at ∙ slice_get-seam xs x
+    ap (slice_get (xs ++ x ∷ [])) at ∙ slice_get-get_or (xs ++ x ∷ []) (length xs) x (omega (arith, len)) ∙ ap Some (get_or-append_seam xs x [] x)
 
 none-at : {X : Type 0} (p : X → Bool) (xs : List X) (n : ℕ) (x : X) → IsFalse (list_any p xs) → slice_get xs n ≡ Some x → IsFalse (p x)
 none-at p [] n x none is = absurd (cc)

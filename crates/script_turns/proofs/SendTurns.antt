@@ -16,7 +16,7 @@ use Rattle.fwu_model.specs.Session.{Session, Off, On, Staged, Handle}
 use Rattle.fwu_model.specs.Call as call
 use Rattle.fwu_model.specs.Reply as reply
 use Rattle.fwu_model.specs.Answer.{Answer, answer, answered, answer_send, answer_send_partial, bits_over, type_of_image, has_image, image_held, images_of, images_over, install_unless, partial_fault, payload_or, send_file, send_file_over, send_package, sent_over, table_in}
-use Rattle.fwu_model.specs.Run.{Condition, Step, Answered, Stopped, asks_state, is_boot, is_off, is_send, is_stop, moved_on, prefixes, stopped_moves}
+use Rattle.fwu_model.specs.Run.{Condition, Answered, Stopped, asks_state, is_boot, is_off, is_send, is_stop, moved_on, prefixes, stopped_moves}
 use Rattle.moves.specs.Moved.{IsReady}
 use Rattle.moves.proofs.Composed.{does-idle}
 use Rattle.fip_tables.specs.Files.{Lacks, Tells}
@@ -39,7 +39,7 @@ use Rattle.script_turns.specs.{Replies.Replies, Replies.power_after, Turning.Tur
 use Rattle.script_turns.specs.Powered.{TurnMoment, at, kept_at, IsAt, IsSafe, ShowsAt}
 use Rattle.script_turns.specs.Sending.{AnswersSend, IsTableOf, LacksSent, SendSays, SendsAs, SpendsSent, TellsBegun, done_reply, is_answered, send_call, sent_reply}
 use Rattle.script_turns.specs.Takes.{AreSent, SendTakes, TakesOn, stop_told, unread_told, writes_before}
-use Rattle.script_turns.proofs.Staying.{shows-here, as-told, counts_none, makes-none, never-boots, never-cuts, no-numbers, shows-as, told-shows, among, falls-same, no-stop, safe-by, same-guards}
+use Rattle.script_turns.proofs.Staying.{Leads, shows-here, as-told, counts_none, makes-none, never-boots, never-cuts, no-numbers, shows-as, told-shows, among, falls-same, no-stop, safe-by, same-guards}
 use Rattle.script_turns.proofs.{CallTakes.with, Touching.touches-sent}
 use denote.Struct.Props.{props}
 
@@ -263,9 +263,6 @@ moves-of partly files name toc request passes result old new sends one =
     (E, moves.0, moves.1, moves.2)
 
 -- ---- a step
-
-abbrev Leads : Setting → Condition → Turn → Option Fields → Told → Type 0
-Leads E from t on u = (next : Condition) × Step E from t next × IsAt E next on u
 
 module _ (E : Setting) (from : Condition) (partly : Bool) (name : List ℕ) (request : ℕ) (r : Reply) (f : Fields) (t u : Told) (is : IsAt E from (Some f) t) (guard : u.guard ≡ t.guard) where
   abbrev asked : Call

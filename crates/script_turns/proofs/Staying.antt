@@ -2,7 +2,7 @@
 use Rattle.std.proofs.Common.{Bool, true, ℕ, sym, subst, IsTrue, ◌≡◌, ◌≢◌, Contains, ◌==◌, List, ◌∷◌, None, Ok, Err, Result, refl, ap, arith, IsFalse, false, ◌||◌}
 use Rattle.flash_core.specs.{Told.Told, declared.flash.Arming.Arming, declared.flash.Counts.Counts, declared.flash.FlashStop.FlashStop, May.Guards}
 use Rattle.flash_core.specs.declared.flash.Flash.{Ghosts}
-use Rattle.fwu_model.specs.{State.State, State.Numbers, Session.Session, Call.Call, Reply.Reply, Run.is_boot, Run.is_send, Run.is_stop, Headline.IsCut}
+use Rattle.fwu_model.specs.{State.State, State.Numbers, Session.Session, Call.Call, Reply.Reply, Run.is_boot, Run.is_send, Run.is_stop, Headline.IsCut, Reply.Turn, Run.Condition, Run.Step, Sound.Setting}
 use Rattle.fwu_model.specs.Call as call
 use Rattle.fwu_model.specs.{Calm.IsAtRest, Replica.BothHold}
 use Rattle.agent_machine.specs.{Fields.Fields, Moment.Showing, Moment.Shows}
@@ -14,7 +14,7 @@ use Rattle.std.proofs.lemmas.Option.{same_Some}
 use Rattle.agent_calls.specs.Shown as of_agent
 use Rattle.agent_calls.specs.declared.agent.Agent.{Agent}
 use Rattle.agent_machine.proofs.{Known.known-shown, Showing.shows-some}
-use Rattle.script_turns.specs.Powered.{ShowsAt, kept_at, FitsMachine, moment_in, moment_of, the, IsSafe}
+use Rattle.script_turns.specs.Powered.{IsAt, ShowsAt, kept_at, FitsMachine, moment_in, moment_of, the, IsSafe}
 use Rattle.script_turns.specs.{Turning.Makes, Turning.NoneFalls, Turning.quiet_turn, Calls.is_agents, Calls.needs_bank, Stage.on_where, declared.powered.Powered.Powered, declared.stage.Stage.Stage}
 use Rattle.script_turns.specs.declared.stage.Stage.TheVariants as stage
 
@@ -33,6 +33,10 @@ module _ (tells : Bool) (f : Fields) (t : Told) (s : State) (x : Session) where
 
   pub as-told : IsTrue tells → ShowsAt tells f t s x → ShowsAt true f t s x
   as-told test shows w = subst (λ (b : Bool). agent.Shows (kept_at b f t w) s x) test (shows w)
+
+-- the turn is a step from a condition of a run to one that the flash is at
+abbrev pub Leads : Setting → Condition → Turn → Option Fields → Told → Type 0
+Leads E c t on told = (next : Condition) × Step E c t next × IsAt E next on told
 
 -- ---- what stays the same, as several kinds of turns say it
 
