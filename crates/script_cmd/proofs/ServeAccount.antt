@@ -1,7 +1,7 @@
 -- What a serving took, did and wrote, by how it ended.
-use Rattle.std.proofs.Common.{◌≡◌, ◌≢◌, ◌==◌, if◌then◌else◌, ◌≤◌, ℕ, ◌+◌, List, ◌∷◌, ◌++◌, length, length-append, take, drop, Option, Some, None, Result, Ok, Err, refl, sym, ap, subst, ◌∙◌, arith, append-nil, append_assoc}
+use Rattle.std.proofs.Common.{◌≡◌, ◌≢◌, ◌==◌, ◌&&◌, not, cond, if◌then◌else◌, ◌≤◌, ℕ, ◌+◌, Bool, List, ◌∷◌, ◌++◌, length, length-append, take, drop, Option, Some, None, Result, Ok, Err, refl, sym, ap, subst, ◌∙◌, arith, append-nil, append_assoc}
 use Rattle.std.specs.Prelude.{IfSome, IsTrue, IsFalse, false, true, map, slice_get, []}
-use Rattle.std.proofs.{lemmas.Bool.false≢true, lemmas.List.map-append, lemmas.Option.same_Some}
+use Rattle.std.proofs.{lemmas.Bool.false≢true, lemmas.List.length-map, lemmas.List.map-append, lemmas.Option.same_Some}
 use Rattle.std.specs.Io.KnownBytes.{Appends, Consumes, IsAtEnd}
 use Rattle.std.proofs.KnownBytes.{Appends-nil, Appends-trans, Consumes-nil, Consumes-trans, Consumes-whole}
 use Rattle.host_io.specs.Printed.{all, front, nothing}
@@ -10,7 +10,7 @@ use Rattle.fwu_model.specs.Call as call
 use Rattle.fwu_model.specs.Reply as reply
 use Rattle.fwu_wire.specs.Replies.{message}
 use Rattle.script_turns.specs.{Powered.TurnMoment, Runs.calls_of}
-use Rattle.wire_frames.specs.{Exchange.admission, Stream.StopsReading, declared.exchange.Admission.Admission}
+use Rattle.wire_frames.specs.{Exchange.LastAnswer, Exchange.admission, Stream.StopsReading, declared.exchange.Admission.Admission}
 use Rattle.wire_frames.specs.declared.stream.FrameStop.{FrameStop}
 use Rattle.wire_frames.specs.Frames.{AreBodies, frame, frames, message_of, request_number_of, numbered}
 use Rattle.wire_frames.specs.declared.exchange.Admission.TheVariants.{Acts, Repeats, Ignored}
@@ -21,7 +21,7 @@ use Rattle.serving.specs.Serving as acts
 use Rattle.serving.specs.{Ends.IsEarlyEnd, Ends.end_by, Ends.end_of_stop, Ends.status_of, declared.ends.ServeEnd.ServeEnd}
 use Rattle.serving.specs.Going.{ServesRequests, ServeEnds, TakesFrames, at_the_end, at_a_request, ServesFrom, not_started, started}
 use Rattle.serving.specs.Scene.{At, Port, RunAt, Scene, begin_at, unasked}
-use Rattle.serving.specs.Written.{AnswersRequests, act_by, acting, answered_numbers, called, calls_for, frame_of, last_after, messages_of, written}
+use Rattle.serving.specs.Written.{AnswersRequests, acting, answered_numbers, called, calls_for, frame_of, messages_of, written}
 use Rattle.serving.specs.declared.ends.ServeEnd.TheVariants as end
 use Rattle.serving.proofs.{Starts.goes-none, Steps.acting-more, Steps.frame-last, Steps.length-messages, Steps.messages-more}
 use Rattle.script_runs.specs.Running.{last_turn}
@@ -94,15 +94,30 @@ pub stop-reads : (why : FrameStop) → reads_no_more (status_of (end_of_stop why
 stop-reads stop.End = refl
 stop-reads other = refl
 
--- the calls of requests that may come, and of one more
+-- the call of one more request, by what becomes of it
 abbrev calls_by : Admission → List ℕ → List Call
-calls_by a body = map (λ (b : List ℕ). called (message_of b)) (act_by a body)
+calls_by Acts body = called (message_of body) ∷ []
+calls_by other body = []
 
-calls-more : (bodies : List (List ℕ)) (body : List ℕ) (a : Admission) → admission (last_after 0 bodies) (request_number_of body) ≡ a
-    → calls_for (bodies ++ body ∷ []) ≡ calls_for bodies ++ calls_by a body
-calls-more bodies body a is =
-    ap (map (λ (b : List ℕ). called (message_of b))) (acting-more 0 bodies body ∙ ap (λ (x : Admission). acting 0 bodies ++ act_by x body) is)
-    ∙ map-append (λ (b : List ℕ). called (message_of b)) (acting 0 bodies) (act_by a body)
+abbrev call_in : List ℕ → Call
+call_in body = called (message_of body)
+
+calls-one : (last : ℕ) (body : List ℕ) → map call_in (acting last (body ∷ [])) ≡ calls_by (admission last (request_number_of body)) body
+calls-one last body = by (request_number_of body == last + 1) ((request_number_of body == last) && not (request_number_of body == 0))
+  where
+    by : (x y : Bool) → map call_in (cond x (body ∷ []) []) ≡ calls_by (cond x Acts (cond y Repeats Ignored)) body
+    by true y = refl
+    by false true = refl
+    by false false = refl
+
+calls-more : (bodies : List (List ℕ)) (turns : List Turn) (a : LastAnswer) (body : List ℕ) → AnswersRequests bodies turns a
+    → calls_for (bodies ++ body ∷ []) ≡ calls_for bodies ++ calls_by (admission a.last (request_number_of body)) body
+calls-more bodies turns a body answers =
+    let count = sym answers.count ∙ sym (length-map turns (λ (t : Turn). t.call)) ∙ ap length answers.calls_are ∙ length-map (acting 0 bodies) call_in in
+    let last : a.last ≡ 0 + length (acting 0 bodies) = omega (arith, count) in
+    ap (map call_in) (acting-more 0 bodies body) ∙ map-append call_in (acting 0 bodies) (acting (0 + length (acting 0 bodies)) (body ∷ []))
+    ∙ ap (λ (k : ℕ). calls_for bodies ++ map call_in (acting k (body ∷ []))) (sym last)
+    ∙ ap (λ (cs : List Call). calls_for bodies ++ cs) (calls-one a.last body)
 
 -- These requests were answered by these turns, behind the boot's, and so much was written; of the reply of the last turn a part where
 -- the sink failed.
@@ -382,8 +397,7 @@ module _ (E : Scene) (t : Turn) (start : TurnMoment) (old new : At) (e : ServeEn
               ∙ append_assoc (calls_of goes.turns) (calls_of last.more) last.calls.0
               ∙ ap (λ (cs : List Call). cs ++ (calls_of last.more ++ last.calls.0)) goes.answers.calls_are
               ∙ ap (λ (cs : List Call). calls_for bodies ++ cs) last.calls.1
-              ∙ sym (calls-more bodies body (admission mid.exchange.last (request_number_of body))
-              (ap (λ (n : ℕ). admission n (request_number_of body)) (sym goes.answers.last))),
+              ∙ sym (calls-more bodies goes.turns mid.exchange body goes.answers),
         );
         took = Appends-trans old.sink.bytes mid.sink.bytes new.sink.bytes (written (messages_of goes.turns) (answered_numbers 0 bodies)) last.part goes.took last.took;
         none = last.none;

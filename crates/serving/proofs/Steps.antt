@@ -30,7 +30,7 @@ last_after last bodies = last + length (acting last bodies)
 last-acts : (last number : ℕ) (bodies : List (List ℕ)) → IsTrue (number == last + 1) → last_after number bodies ≡ last + suc (length (acting number bodies))
 last-acts last number bodies is = let next = eqb-true number (last + 1) is in omega (arith, next)
 
-acting-more : (last : ℕ) (bodies : List (List ℕ)) (body : List ℕ) → acting last (bodies ++ body ∷ []) ≡ acting last bodies ++ acting (last_after last bodies) (body ∷ [])
+pub acting-more : (last : ℕ) (bodies : List (List ℕ)) (body : List ℕ) → acting last (bodies ++ body ∷ []) ≡ acting last bodies ++ acting (last_after last bodies) (body ∷ [])
 acting-more last [] body = let none : last ≡ last + 0 = omega arith in ap (λ (k : ℕ). acting k (body ∷ [])) none
 acting-more last (b ∷ bodies) body = by (request_number_of b) (request_number_of b == last + 1) refl (λ at. acting-more at bodies body)
   where
