@@ -26,7 +26,8 @@ use Rattle.step_flash.specs.Flash.{counts_of, image_of, told_of, writes_of}
 use Rattle.step_flash.proofs.Causes.{never_lost}
 use Rattle.fwu_c.specs.{Agents.MovesByAnswer, Reports.SameBut, declared.report.Report.Report}
 use Rattle.fwu_c.specs.Calls.{CallEnds, CallsBy, CallsFrom, IsAccepted, RepliesAs, ReportsTakeUp, TakesUp, call_code, take_up_code}
-use Rattle.fwu_c.specs.Handed.{HandsOver, IsJustMade, IsDeviceEnd, call_reach, is_idle_number, starts_none}
+use Rattle.fwu_c.specs.Handed.{HandsOver, IsJustMade, IsDeviceEnd, call_reach, is_idle_number}
+use Rattle.fwu_c.proofs.Telling.{starts_none}
 use Rattle.fwu_c.proofs.Booting.{counted_from_none, over, same_then, start_same}
 
 -- ---- numbers

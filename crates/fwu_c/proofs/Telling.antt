@@ -1,7 +1,7 @@
 -- What a call promises that tells steps, whatever it is asked for.
 use Rattle.std.proofs.Common.{◌≡◌, ◌⊎◌, ◌==◌, inl, inr, refl, ap, ℕ, ◌≤◌, ◌*◌, Bool, List, All, drop, length, take, arith}
 use Rattle.fwu_c.specs.declared.report.Report.{Report}
-use Rattle.fwu_c.specs.Handed.{IsJustMade, HasFlashSize, IsDeviceEnd, KeepsReport, TellsSteps, is_idle_number, starts_none, unmade_code}
+use Rattle.fwu_c.specs.Handed.{IsJustMade, HasFlashSize, IsDeviceEnd, KeepsReport, TellsSteps, is_idle_number, unmade_code}
 use Rattle.std.specs.Prelude.{◌↔◌, ◌||◌, IsTrue}
 use Rattle.step_flash.specs.{declared.step.Step.Step, declared.flash.Unmade.Unmade, Unmade.IsUnmade, Writes.LiesWithin}
 use Rattle.step_flash.specs.{Device.LieAsCounted, declared.flash.StepFlash.StepFlash, Flash.device_in, Flash.image_of, Flash.writes_of}
@@ -13,9 +13,13 @@ use Rattle.fwu_c.proofs.Booting.{counted_from_none}
 pub keeps_stays : (number : ℕ) (r : Report) → KeepsReport number r r
 keeps_stays number r = record {
   fault = λ other. refl;
-  banks = λ idle. (refl, refl);
-  start = λ none. refl;
+  idle = λ idle. refl;
+  none = λ none. refl;
 }
+
+-- no bank is told as the one that is to be started
+abbrev pub starts_none : ℕ → Bool
+starts_none number = is_idle_number number || number == 3
 
 pub idle_starts : (number : ℕ) → IsTrue (is_idle_number number) → IsTrue (starts_none number)
 idle_starts number idle = ap (λ (b : Bool). b || number == 3) idle
@@ -25,8 +29,8 @@ pub keeps_fault : (number : ℕ) (old new : Report) → new.layout_fault ≡ old
     → KeepsReport number old new
 keeps_fault number old new same starts = record {
   fault = λ other. same;
-  banks = λ idle. absurd (starts (idle_starts number idle));
-  start = λ none. absurd (starts none);
+  idle = λ idle. absurd (starts (idle_starts number idle));
+  none = λ three. absurd (starts (rw three refl));
 }
 
 pub keeps_started : (old new : Report) → new.layout_fault ≡ old.layout_fault → KeepsReport 0 old new

@@ -15,13 +15,13 @@ use Rattle.early_boot.specs.{Numbers.ShowsNumbers, Started.Started, Ends.Ended, 
 use Rattle.step_flash.specs.{declared.step.Step.Step, declared.flash.StepFlash.StepFlash, Flash.block_count, Flash.image_of}
 use Rattle.step_flash.specs.{Flash.told_of, Flash.writes_of, Guard.start_with, Writes.LiesWithin}
 use Rattle.fwu_c.specs.{declared.report.Report.Report, Agents.BeginsAgent, Codes.end_code}
-use Rattle.fwu_c.specs.Handed.{HandsOver, IsJustMade, HasFlashSize, IsDeviceEnd, TellsSteps, boot_reach, starts_none}
+use Rattle.fwu_c.specs.Handed.{HandsOver, IsJustMade, HasFlashSize, IsDeviceEnd, TellsSteps, boot_reach}
 use Rattle.fwu_c.specs.Sendings.{InstallsBy, SendOutcome, outcome_code}
 use Rattle.fwu_c.specs.Updates.{BootsUp, IsOnTrial, SparesInUse, UpdateEnds, UpdatesBy}
 use Rattle.update_client.specs.declared.stops.SendStop.TheVariants.{ReadFailed}
 use Rattle.agent_machine.specs.{Moment.Moment, Beside.IsSparedByAll, Beside.SparesBlocksByAll}
 use Rattle.fwu_formats.proofs.Read.{layout-fits}
-use Rattle.fwu_c.proofs.{Calls.setting_of, Telling.keeps_fault, Telling.lie_further, Telling.told_handed}
+use Rattle.fwu_c.proofs.{Calls.setting_of, Telling.keeps_fault, Telling.lie_further, Telling.starts_none, Telling.told_handed}
 use Rattle.fwu_c.proofs.Places.{has-blocks, in-use-unwritten, marks-spared, update-touches}
 use Rattle.fwu_c.proofs.Booting.{beside_marks_by, code_few, counted_from_none, end_same, guard_kept, lies_over, over}
 

@@ -60,21 +60,12 @@ pub record HasFlashSize (image : List ℕ) : Type 0 where
   pub most : blocks ≤ most_blocks
   pub size : length image ≡ block_bytes * blocks
 
--- no bank is told as the one that is to be started
-abbrev pub starts_none : ℕ → Bool
-starts_none number = is_idle_number number || number == 3
-
--- The report's fault is written at 1 alone. At 1, 2 and 21 its banks stay. There and at 3 so does what a start writes besides.
+-- The report's fault is written at 1 alone. At 1, 2 and 21 nothing else is but the numbers of steps and of bytes, and at 3 these and
+-- the banks.
 pub record KeepsReport (number : ℕ) (old new : Report) : Type 0 where
   pub fault : number ≢ 1 → new.layout_fault ≡ old.layout_fault
-  pub banks : IsTrue (is_idle_number number) → (new.active ≡ old.active) × (new.previous ≡ old.previous)
-  pub start : IsTrue (starts_none number) → new ≡ record old {
-    layout_fault = new.layout_fault;
-    active = new.active;
-    previous = new.previous;
-    steps = new.steps;
-    bytes = new.bytes;
-  }
+  pub idle : IsTrue (is_idle_number number) → SameBut (record old { layout_fault = new.layout_fault }) new
+  pub none : number ≡ 3 → SameBut (record old { active = new.active; previous = new.previous }) new
 
 -- What each call that tells steps promises, whatever it is asked for: of what C handed in, and has then.
 pub record TellsSteps (image : List ℕ) (number : ℕ) (old : Report) (old_steps : List Step) (old_room : List ℕ) (new : Report)

@@ -4,10 +4,10 @@ use Rattle.base_core.specs.Block.{block_bytes}
 use Rattle.flash_core.proofs.Touches.{touches_then}
 use Rattle.agent_calls.specs.Shown.{device}
 use Rattle.step_flash.specs.Flash.{image_of, told_of}
-use Rattle.fwu_c.specs.{Calls.call_of, Handed.call_reach, Handed.starts_none}
+use Rattle.fwu_c.specs.{Calls.call_of, Handed.call_reach}
 use Rattle.fwu_c.proofs.Booting.{begun_as, given, has_flash_size}
 use Rattle.fwu_c.proofs.Calls.{call_starts, called_by, refused_by, take_up_end_is, take_up_idle}
-use Rattle.fwu_c.proofs.Telling.{idle_starts, keeps_fault, lie_inside, told_handed, told_no_room}
+use Rattle.fwu_c.proofs.Telling.{idle_starts, keeps_fault, lie_inside, starts_none, told_handed, told_no_room}
 use Rattle.fwu_c.proofs.calling.call_over.Goals as goal
 
 pub called-flash-requires : goal.called-flash-requires

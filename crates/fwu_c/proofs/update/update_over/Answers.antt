@@ -2,9 +2,8 @@ use Rattle.std.proofs.Common.{◌∙◌, arith}
 use Rattle.std.specs.Prelude.{IsTrue}
 use Rattle.agent_calls.specs.Shown.{device, gone, moment}
 use Rattle.step_flash.specs.Flash.{image_of, told_of}
-use Rattle.fwu_c.specs.Handed.{starts_none}
 use Rattle.fwu_c.proofs.Booting.{begun_as, boot_idle, given, has_flash_size}
-use Rattle.fwu_c.proofs.Telling.{idle_starts, keeps_fault, lie_inside, told_handed}
+use Rattle.fwu_c.proofs.Telling.{idle_starts, keeps_fault, lie_inside, starts_none, told_handed}
 use Rattle.fwu_c.proofs.Updating.{boots_end_is, outcome_starts, sending_spares, tried_by, tried_places, unbooted_by}
 use Rattle.fwu_c.proofs.update.update_over.Goals as goal
 
