@@ -2,22 +2,22 @@
 use Rattle.std.proofs.Common.{◌≡◌, ◌≤◌, ℕ, List, Some, Result, Err, ap, arith, refl, subst, sym, ◌∙◌, inl, inr, [], Option, None}
 use Rattle.std.specs.Prelude.{IfErr, IsTrue}
 use Rattle.base_core.specs.Counts.{Rose}
-use Rattle.fip_words.specs.Order.{FipAsked}
+use Rattle.fip_words.specs.Order.{FipAsked, info_of_source}
 use Rattle.host_io.specs.{Access.Access, Contents.Directory, declared.writes.Writes.Writes}
 use Rattle.host_io.specs.declared.files.Files as files
 use Rattle.host_io.specs.declared.sink.Sink as sink
 use Rattle.fip_tool.specs.{Names.IsUnneeded, Names.IsUnnamedBy, Names.MayRefuse, Said.IsMadeLine, Said.IsTexts, Seen.DidIn}
 use Rattle.fip_tool.specs.{Seen.DidSince, Seen.WroteIn, Seen.WroteForIn, Steps.CommandPlan, Steps.outcome_by, Tool.outcome_of}
 use Rattle.fip_tool.specs.{Tool.puts, Tool.asks_files, Wrote.WroteFor, declared.lines.Format.Format}
-use Rattle.fip_tool.specs.Done.{DoneWithFiles, PutsMade, RefusesAlone, WritesTexts, CommandDone}
+use Rattle.fip_tool.specs.Done.{DoneWithFiles, DoneWithSource, PutsMade, RefusesAlone, WritesTexts, CommandDone}
 use Rattle.fip_making.specs.{Stops.status_number, Payloads.made_by, Seen.AsTold, Seen.ReadsFilesAlone, Answers.Gives}
 use Rattle.fip_making.specs.{Answers.IsLate, declared.made.Made.Made, declared.stops.Stop.Stop}
 use Rattle.fip_making.specs.declared.stops.Stop.TheVariants as stop
-use Rattle.fip_tool.proofs.{Did.did-later, Did.are-told, WritingLemmas.tears-since, Texts.says-as, Texts.says-nothing}
+use Rattle.fip_tool.proofs.{Did.did-later, Did.are-told, WritingLemmas.tears-since}
 use Rattle.fip_tool.proofs.Faults.{faults-as, faults-of, still, faults-none}
 use Rattle.fip_tool.proofs.Refusing.{late-alone, made-alone, made-may, memory-may, usage-unasked}
 use Rattle.fip_tool.proofs.WroteLemmas.{wrote-as, wrote-none}
-use Rattle.fip_making.proofs.{Refusing.if-err-as, Refusing.err-same, Tables.either-rose, SourceLemmas.nothing-read}
+use Rattle.fip_making.proofs.{Refusing.if-err-all, Refusing.if-err-as, Refusing.err-same, Tables.either-rose, SourceLemmas.nothing-read}
 use Rattle.std.proofs.KnownBytes.{Appends-nil, Consumes-nil}
 use Rattle.std.proofs.lemmas.Bool.{false≢true}
 use Rattle.host_io.proofs.Once.{once-none}
@@ -34,8 +34,7 @@ module _ {H O : Type 0} {h : files.Ghosts H} {o : sink.Ghosts O} {one : FipAsked
       → MayRefuse (Some one) s → DoneWithFiles h o ⊥ (Some one) (Err s) before after old old
   done-unread {before = before} {old = old} s reads unnamed unneeded did may = record {
     told = λ told e other. did told e;
-    says = says-nothing (IsTexts (Some one)) _ _ _ s (λ e. reads.only.sink (err-same e)) refl;
-    wrote = subst (λ (w : Writes). WroteFor (Some one) (o.taken old) (o.taken old) (h.writes before).done w.done (Err s)) (sym reads.files.unwritten) (wrote-none (Some one) (o.taken old) (h.writes before).done s);
+    wrote = subst (λ (w : Writes). WroteFor (Some one) (o.taken old) (o.taken old) (h.writes before).done w.done (Err s)) (sym reads.files.unwritten) (wrote-none (Some one) (o.taken old) (h.writes before).done s (λ e. reads.only.sink (err-same e)));
     file_count = faults-as (faults-of reads.only);
     cause = λ e none. let same : s ≡ stop.FileFault = cc in inl (reads.only.cause (err-same same) none);
     refusals = may;
@@ -52,7 +51,6 @@ module _ {H O : Type 0} {h : files.Ghosts H} {o : sink.Ghosts O} {one : FipAsked
       → ((access : Access) → IsUnnamedBy (Some one) access → h.spares before after access) → DoneWithFiles h o ⊥ (Some one) result before after old new
   done-texts {result = result} {before = before} {after = after} put writes late did spares = record {
     told = λ told e other. did told e;
-    says = put.says;
     wrote = writes put.wrote;
     file_count = put.file_count;
     cause = λ e none. inl (put.cause e);
@@ -79,8 +77,7 @@ module _ {H O : Type 0} {h : files.Ghosts H} {o : sink.Ghosts O} {one : FipAsked
     told = λ told e other.
         subst (λ (all : CommandPlan). DidIn h o all told before after old new result) (sym (outcome told))
         (did-later _ told _ _ _ _ _ _ _ _ result (λ r. r) (λ r. tears-since (h.writes after) reads.files.unwritten r) (did told (value told) (h.faults before) (reads.only.same ∙ e) reads.only.later (gives told e)));
-    says = says-as (IsMadeLine format made) (IsTexts (Some one)) _ _ _ _ result texts (λ r. r) (put.says reads.only.sink);
-    wrote = writes (wrote-as (IsMadeLine format made) (IsTexts (Some one)) _ _ _ _ _ result texts (ap (λ (w : Writes). w.done) reads.files.unwritten) put.wrote);
+    wrote = writes (wrote-as (IsMadeLine format made) (IsTexts (Some one)) (λ n. n) _ _ _ _ _ result texts (ap (λ (w : Writes). w.done) reads.files.unwritten) (put.wrote reads.only.sink));
     file_count = put.file_count (h.faults before) (faults-of reads.only);
     cause = λ e none. inl (either-rose _ _ _ reads.only.later put.later (λ failed. reads.only.cause failed none) (put.cause e));
     refusals = made-may made result (MayRefuse (Some one)) late (if-err-as made IsOwn (MayRefuse (Some one)) turns reads.refusals) put.refusals;
@@ -100,7 +97,6 @@ module _ {H I O : Type 0} {h : files.Ghosts H} {i : source.Ghosts I} {o : sink.G
       subst (λ (a : Option FipAsked). CommandDone h i o a result before after kept kept old new) (sym is) (record {
         done = record {
           told = done.told;
-          says = done.says;
           wrote = done.wrote;
           file_count = done.file_count;
           cause = λ e untold. elim (done.cause e untold) [
@@ -122,13 +118,37 @@ module _ {H I O : Type 0} {h : files.Ghosts H} {i : source.Ghosts I} {o : sink.G
         files_stay = λ stays. absurd (false≢true (sym stays ∙ asks));
       })
 
+  -- a listing of the source does not touch the files
+  pub done-with-source : {asked : Option FipAsked} {result : Result (Unit {0}) Stop} {kept : H} {first last : I} {old new : O} → asked ≡ Some info_of_source → ((access : Access) → h.spares kept kept access)
+      → DoneWithSource i o result first last old new → CommandDone h i o asked result kept kept first last old new
+  done-with-source {result = result} {kept = kept} {first = first} {last = last} {old = old} {new = new} is rest done =
+      subst (λ (a : Option FipAsked). CommandDone h i o a result kept kept first last old new) (sym is) (record {
+        done = record {
+          told = λ told e other. absurd (other refl);
+          wrote = done.wrote (h.writes kept).done;
+          file_count = faults-none refl;
+          cause = λ e untold. inr (done.cause e);
+          refusals = done.refusals;
+          spares = λ access other. rest access;
+          alone = if-err-all result (λ s. RefusesAlone h (Some info_of_source) kept kept (status_number s)) (λ s refuses access other. rest access);
+          later = done.later;
+          sink_count = done.sink_count;
+        };
+        source = λ same. done.listed (h.contents kept);
+        words = λ none. absurd cc;
+        usage = λ e. absurd (let may : IfErr result (MayRefuse (Some info_of_source)) = done.refusals in rw e at may);
+        source_stays = λ other. absurd (other refl);
+        once = done.once;
+        source_count = λ same. done.source_count;
+        files_stay = λ stays. refl;
+      })
+
   module _ (unread : (s : I) → i.reads s s []) {asked : Option FipAsked} {kept : H} {held : I} {old : O} where
     pub done-usage : asked ≡ None → ((access : Access) → h.spares kept kept access) → CommandDone h i o asked (Err stop.Usage) kept kept held held old old
     done-usage none rest = subst (λ (a : Option FipAsked). CommandDone h i o a (Err stop.Usage) kept kept held held old old) (sym none) (record {
       done = record {
         told = λ told e other. (refl, are-told told _ e, Appends-nil _);
-        says = refl;
-        wrote = refl;
+        wrote = wrote-none None (o.taken old) (h.writes kept).done stop.Usage (λ e. cc);
         file_count = faults-none refl;
         cause = λ e untold. absurd cc;
         refusals = tt;
@@ -151,8 +171,7 @@ module _ {H I O : Type 0} {h : files.Ghosts H} {i : source.Ghosts I} {o : sink.G
     done-starved rest = record {
       done = record {
         told = λ told e other. (0, are-told told _ e, Appends-nil _);
-        says = ([], inl refl, Appends-nil _);
-        wrote = wrote-none asked (o.taken old) (h.writes kept).done stop.NoMemory;
+        wrote = wrote-none asked (o.taken old) (h.writes kept).done stop.NoMemory (λ e. cc);
         file_count = faults-none refl;
         cause = λ e untold. absurd cc;
         refusals = memory-may asked;

@@ -1,13 +1,13 @@
 -- The texts that are printed.
-use Rattle.std.proofs.Common.{◌≡◌, ◌≢◌, inl, inr, ◌<◌, ℕ, List, [], ◌∷◌, ◌++◌, Option, Result, Ok, Err, length, take, drop, arith, refl, sym, ap, subst, ◌∙◌, append-nil, append_assoc, length-append, true, false, nat_lt, Bool, map, None, Some}
+use Rattle.std.proofs.Common.{◌≡◌, ℕ, List, [], ◌∷◌, ◌++◌, Option, Result, Ok, Err, length, take, drop, refl, sym, ap, subst, ◌∙◌, append-nil, append_assoc, true, false, nat_lt, Bool, map, None, Some}
 use Rattle.std.specs.Prelude.{IfOk, if◌then◌else◌, filter, not}
 use Rattle.std.proofs.Math.Seq.{drop-append_seam, take-append_seam}
 use Rattle.std.specs.Io.KnownBytes.{Appends, Consumes, IsAtEnd}
 use Rattle.std.proofs.KnownBytes.{Appends-nil, Appends-trans}
 use Rattle.fip_tool.specs.{Lines.made_line, Lines.info_text, Lines.packed_line}
-use Rattle.fip_tool.specs.{Lines.capsule_line, Steps.PrintedText, declared.lines.Format.Format, Tool.given_value, Tool.info_value}
-use Rattle.fip_tool.specs.Said.{IsBegunText, IsCutText, IsMadeLine, Says, half_of, joined_texts, IsTexts}
-use Rattle.fip_making.specs.{Answers.IsLate, declared.made.Made.Made, declared.stops.Stop.Stop}
+use Rattle.fip_tool.specs.{Lines.capsule_line, declared.lines.Format.Format, Tool.given_value, Tool.info_value}
+use Rattle.fip_tool.specs.{Said.IsMadeLine, Said.joined_texts, Said.IsTexts, Wrote.WroteAll}
+use Rattle.fip_making.specs.{declared.made.Made.Made, declared.stops.Stop.Stop}
 use Rattle.fip_making.specs.Values.{GivenTo, after, given_table, source_limit, sized_table, table_or, unless_decided, IsTableOfSome, first_missing, is_named}
 use Rattle.fip_making.specs.declared.stops.Stop.TheVariants as stop
 use Rattle.fwu_formats.specs.{Package.Toc, Package.toc_of, declared.kinds.FipFault.FipFault}
@@ -29,33 +29,6 @@ appends-same was text e = subst (λ (t : Option (List ℕ)). Appends was t []) (
 pub joined-one : (line : List ℕ) → joined_texts (line ∷ []) ≡ line
 joined-one line = append-nil line
 
--- a text that was printed is all of its kind
-pub says-printed : (T : List (List ℕ) → Type 0) (line : List ℕ) (was text : Option (List ℕ)) (rose : Type 0) (r : Result (Unit {0}) Stop) → T (line ∷ []) → PrintedText was text rose line r → Says T was text rose r
-says-printed T line was text rose (Ok u) t p = (line ∷ [], t, subst (Appends was text) (sym (joined-one line)) p)
-says-printed T line was text rose (Err stop.SinkFault) t p = (p.0, (line ∷ [], t, 0, omega arith, p.1, p.2))
-says-printed T line was text rose (Err stop.NoMemory) t p = ([], inl refl, appends-same was text p)
-says-printed T line was text rose (Err s) t p = absurd p
-
--- a part that stopped before anything was printed
-pub says-nothing : (T : List (List ℕ) → Type 0) (was text : Option (List ℕ)) (rose : Type 0) (s : Stop) → s ≢ stop.SinkFault → text ≡ was → Says T was text rose (Err s)
-says-nothing T was text rose stop.SinkFault other e = absurd (other refl)
-says-nothing T was text rose stop.NoMemory other e = ([], inl refl, appends-same was text e)
-says-nothing T was text rose stop.FileFault other e = ([], inl refl, appends-same was text e)
-says-nothing T was text rose s other e = e
-
--- ---- texts of another kind
-
-begun-as : (T U : List (List ℕ) → Type 0) → ((texts : List (List ℕ)) → T texts → U texts) → (said : List ℕ) → IsBegunText T said → IsBegunText U said
-begun-as T U turns said (inl e) = inl e
-begun-as T U turns said (inr b) = inr (b.0, turns b.0 b.1, b.2, b.3, b.4)
-
-pub says-as : (T U : List (List ℕ) → Type 0) (was text : Option (List ℕ)) (rose late : Type 0) (r : Result (Unit {0}) Stop) → ((texts : List (List ℕ)) → T texts → U texts) → (rose → late) → Says T was text rose r → Says U was text late r
-says-as T U was text rose late (Ok u) turns rises h = (h.0, turns h.0 h.1, h.2)
-says-as T U was text rose late (Err stop.SinkFault) turns rises h = (rises h.0, (h.1.0, turns h.1.0 h.1.1, h.1.2, h.1.3, h.1.4, h.1.5))
-says-as T U was text rose late (Err stop.NoMemory) turns rises h = (h.0, begun-as T U turns h.0 h.1, h.2)
-says-as T U was text rose late (Err stop.FileFault) turns rises h = (h.0, begun-as T U turns h.0 h.1, h.2)
-says-as T U was text rose late (Err s) turns rises h = h
-
 -- the line of what was made
 pub made-texts : (format : Format) (made : Result Made Stop) (P : ℕ → Type 0) → IfOk made (λ m. P m.count) → (texts : List (List ℕ)) → IsMadeLine format made texts
     → (n : ℕ) × P n × (size : ℕ) × (texts ≡ made_line format n size ∷ [])
@@ -74,60 +47,11 @@ front before line after all is = ap (take (length before)) is ∙ take-append_se
 pub back : (before : List (List ℕ)) (line : List ℕ) (after all : List (List ℕ)) → all ≡ before ++ (line ∷ after) → drop (length before) all ≡ line ∷ after
 back before line after all is = ap (drop (length before)) is ∙ drop-append_seam before (line ∷ after)
 
-pub none-of-one : (line said : List ℕ) → IsBegunText (λ texts. texts ≡ line ∷ []) said → said ≡ []
-none-of-one line said (inl e) = e
-none-of-one line said (inr b) =
-    let zero-is : b.2 ≡ 0 = omega (arith, b.3, ap length b.1) in
-    b.4 ∙ ap (λ (n : ℕ). joined_texts (take n b.0)) zero-is
-
-pub front-of-one : (line : List ℕ) (texts : List (List ℕ)) → texts ≡ line ∷ [] → (n k : ℕ) → n < length texts → joined_texts (take n texts) ++ half_of k (drop n texts) ≡ take k line
-front-of-one line texts is n k lt =
-    let zero-is : n ≡ 0 = omega (arith, lt, ap length is) in
-    ap (λ (m : ℕ). joined_texts (take m texts) ++ half_of k (drop m texts)) zero-is ∙ ap (half_of k) is
-
--- a stop at one text, behind texts that were printed and before others
-module _ (before : List (List ℕ)) (line : List ℕ) (after all : List (List ℕ)) (is : all ≡ before ++ (line ∷ after)) (was at text : Option (List ℕ)) (rose late : Type 0) (rises : rose → late)
-    (so-far : Appends was at (joined_texts before)) where
-  abbrev One : List (List ℕ) → Type 0
-  One texts = texts ≡ line ∷ []
-
-  abbrev All : List (List ℕ) → Type 0
-  All texts = texts ≡ all
-
-  within : length before < length all
-  within = omega (arith, ap length is, length-append before (line ∷ after))
-
-  whole : (said : List ℕ) → IsBegunText One said → Appends at text said → (x : List ℕ) × IsBegunText All x × Appends was text x
-  whole said b a =
-      let none = none-of-one line said b in
-      let here : Appends at text [] = subst (Appends at text) none a in
-      (joined_texts before, inr (all, refl, length before, within, sym (ap joined_texts (front before line after all is))), subst (Appends was text) (append-nil (joined_texts before)) (Appends-trans was at text (joined_texts before) [] so-far here))
-
-  cut : IsCutText One at text → IsCutText All was text
-  cut h =
-      let here = front-of-one line h.0 h.1 h.2 h.4 h.3 in
-      let there : joined_texts (take (length before) all) ++ half_of h.4 (drop (length before) all) ≡ joined_texts before ++ take h.4 line =
-      ap (λ (ts : List (List ℕ)). joined_texts ts ++ half_of h.4 (drop (length before) all)) (front before line after all is)
-      ∙ ap (λ (ts : List (List ℕ)). joined_texts before ++ half_of h.4 ts) (back before line after all is) in (
-        all,
-        refl,
-        length before,
-        within,
-        h.4,
-        subst (Appends was text) (sym there) (Appends-trans was at text (joined_texts before) (take h.4 line) so-far (subst (Appends at text) here h.5)),
-      )
-
-  pub says-behind : (s : Stop) → IsLate s → Says One at text rose (Err s) → Says All was text late (Err s)
-  says-behind stop.SinkFault l h = (rises h.0, cut h.1)
-  says-behind stop.FileFault l h = whole h.0 h.1 h.2
-  says-behind stop.NoMemory l h = whole h.0 h.1 h.2
-  says-behind s l h = absurd l
-
 -- one more text was printed
-pub said-more : (before all : List (List ℕ)) (line : List ℕ) (was at text : Option (List ℕ)) (rose : Type 0) (u : Unit {0}) → all ≡ before ++ (line ∷ []) → Appends was at (joined_texts before)
-    → Says (λ texts. texts ≡ line ∷ []) at text rose (Ok u) → Appends was text (joined_texts all)
-said-more before all line was at text rose u is so-far h =
-    let here : Appends at text line = subst (Appends at text) (ap joined_texts h.1 ∙ joined-one line) h.2 in
+pub said-more : (before all : List (List ℕ)) (line : List ℕ) (was at text : Option (List ℕ)) (mid now : ℕ) → all ≡ before ++ (line ∷ []) → Appends was at (joined_texts before)
+    → WroteAll (λ texts. texts ≡ line ∷ []) (λ n. n) at text mid now → Appends was text (joined_texts all)
+said-more before all line was at text mid now is so-far w =
+    let here : Appends at text line = subst (Appends at text) (ap joined_texts w.are ∙ joined-one line) w.said in
     subst (Appends was text) (sym (ap joined_texts is ∙ joined-append before (line ∷ []) ∙ ap (λ (l : List ℕ). joined_texts before ++ l) (joined-one line)))
     (Appends-trans was at text (joined_texts before) line so-far here)
 

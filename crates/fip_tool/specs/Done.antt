@@ -9,10 +9,10 @@ use Rattle.host_io.specs.declared.source.Source as source
 use Rattle.host_io.specs.declared.sink.Sink as sink
 use Rattle.fip_making.specs.{Stops.status_number, declared.made.Made.Made, declared.stops.Stop.Stop}
 use Rattle.fip_making.specs.Answers.{IsLate, source_failures}
-use Rattle.fip_tool.specs.{Ends.EndsWith, Lines.unpacked_line, Lines.unpacked_name, Said.IsMadeLine, Said.IsTexts}
+use Rattle.fip_tool.specs.{Ends.EndsWith, Lines.unpacked_line, Lines.unpacked_name, Said.IsMadeLine, Wrote.WroteFor}
 use Rattle.fip_tool.specs.{Steps.FaultsOnce, Steps.Makes, Steps.NoneUnwritten, Steps.sink_failures, declared.lines.Format.Format}
 use Rattle.fip_tool.specs.Names.{IsRefusalStatus, IsUnneeded, IsUnnamedBy, MayRefuse}
-use Rattle.fip_tool.specs.Seen.{DidIn, ReadSourceIn, SaysIn, WroteForIn, WroteIn}
+use Rattle.fip_tool.specs.Seen.{DidIn, ReadSourceIn, WroteForIn, WroteIn}
 use Rattle.fip_tool.specs.Tool.{asks_files, outcome_of, unpack_steps}
 use Rattle.fip_making.specs.declared.stops.Stop.TheVariants as stop
 
@@ -24,7 +24,6 @@ RefusesAlone h asked before after status =
 -- What was done by a part of a command that writes files, each with its text behind it, whatever files there are.
 pub record WritesTexts {H O : Type 0} (h : files.Ghosts H) (o : sink.Ghosts O) (T : List (List ℕ) → Type 0)
     (result : Result (Unit {0}) Stop) (files_before files_after : H) (sink_before sink_after : O) : Type 0 where
-  pub says : SaysIn o T sink_before sink_after result
   pub wrote : WroteIn h o T files_before files_after sink_before sink_after result
   -- at most one call of the files failed, and none unless it ended for that
   pub file_count : FaultsOnce (h.faults files_before) (h.faults files_after) result
@@ -56,9 +55,7 @@ pub record DoneWithFiles {H O : Type 0} (h : files.Ghosts H) (o : sink.Ghosts O)
   -- over told files the first ones of the command's steps, and all of them where it is done
   pub told : (told : Directory) → h.contents files_before ≡ Some told → asked ≢ Some info_of_source
       → DidIn h o (outcome_of asked told) told files_before files_after sink_before sink_after result
-  -- whatever files there are, its lines
-  pub says : SaysIn o (IsTexts asked) sink_before sink_after result
-  -- and each of its files once, with the line behind it
+  -- whatever files there are, its lines, and each of its files once, with its line behind it
   pub wrote : WroteForIn h o asked files_before files_after sink_before sink_after result
   -- at most one call of the files failed, and none unless it ended for that
   pub file_count : FaultsOnce (h.faults files_before) (h.faults files_after) result
@@ -78,9 +75,9 @@ pub record DoneWithSource {I O : Type 0} (i : source.Ghosts I) (o : sink.Ghosts 
   pub listed : (told : Option Directory) → ReadSourceIn i o told told source_before source_after sink_before sink_after result
   -- no read of the source is made behind one that gave no bytes or failed
   pub once : ReadsOnce i source_before source_after
-  pub says : SaysIn o (IsTexts (Some info_of_source)) sink_before sink_after result
+  -- its text, and no file
+  pub wrote : (count : ℕ) → WroteFor (Some info_of_source) (o.taken sink_before) (o.taken sink_after) count count result
   pub cause : result ≡ Err stop.FileFault → Rose (i.faults source_before) (i.faults source_after)
-  pub usage : result ≡ Err stop.Usage → ⊥
   pub later : o.faults sink_before ≤ o.faults sink_after
   pub source_count : i.faults source_after ≡ source_failures result (i.faults source_before)
   pub sink_count : o.faults sink_after ≡ sink_failures result (o.faults sink_before)
@@ -89,9 +86,9 @@ pub record DoneWithSource {I O : Type 0} (i : source.Ghosts I) (o : sink.Ghosts 
 -- What is done by the making of a file, with its line behind it, or a stop that came in place of what was to be made.
 pub record PutsMade {H O : Type 0} (h : files.Ghosts H) (o : sink.Ghosts O) (format : Format) (made : Result Made Stop)
     (result : Result (Unit {0}) Stop) (files_before files_after : H) (sink_before sink_after : O) : Type 0 where
-  pub says : (made ≡ Err stop.SinkFault → ⊥) → SaysIn o (IsMadeLine format made) sink_before sink_after result
   pub file_count : (before : ℕ) → FaultsOnce before (h.faults files_before) made → FaultsOnce before (h.faults files_after) result
-  pub wrote : WroteIn h o (IsMadeLine format made) files_before files_after sink_before sink_after result
+  pub wrote : (made ≡ Err stop.SinkFault → ⊥)
+      → WroteIn h o (IsMadeLine format made) files_before files_after sink_before sink_after result
   pub cause : result ≡ Err stop.FileFault
       → (made ≡ Err stop.FileFault) ⊎ Rose (h.faults files_before) (h.faults files_after)
   pub refusals : IfErr result (λ s. (made ≡ Err s) ⊎ IsLate s)

@@ -1,6 +1,5 @@
 -- What the tool prints, whatever files there are.
-use Rattle.std.specs.Prelude.{◌≡◌, ◌⊎◌, ◌<◌, ℕ, List, [], ◌∷◌, ◌++◌, Option, Some, None, Result, Ok, Err, filter, length, map, take, drop, not}
-use Rattle.std.specs.Io.KnownBytes.{Appends}
+use Rattle.std.specs.Prelude.{◌≡◌, ℕ, List, [], ◌∷◌, ◌++◌, Option, Some, None, Result, Ok, Err, filter, length, map, take, not}
 use Rattle.fwu_formats.specs.Package.{Toc}
 use Rattle.capsule_tables.specs.Answers.{IsSomeTable}
 use Rattle.fip_words.specs.Order.{FipAsked, info, info_of_source, create, update, remove, unpack, manifest, capsule, repackage}
@@ -8,7 +7,6 @@ use Rattle.fip_tool.specs.{Tool.chosen, declared.lines.Format.Format}
 use Rattle.fip_tool.specs.Lines.{capsule_line, info_text, made_line, manifest_line, packed_line, unpacked_line}
 use Rattle.fip_making.specs.{declared.made.Made.Made, declared.stops.Stop.Stop}
 use Rattle.fip_making.specs.Values.{first_missing, is_named, IsTableOfSome}
-use Rattle.fip_making.specs.declared.stops.Stop.TheVariants.{FileFault, SinkFault, NoMemory}
 
 -- the listing of some package, with some size
 abbrev pub IsListing : List ℕ → Type 0
@@ -43,25 +41,6 @@ joined_texts (text ∷ texts) = text ++ joined_texts texts
 abbrev pub half_of : ℕ → List (List ℕ) → List ℕ
 half_of k [] = []
 half_of k (text ∷ texts) = take k text
-
--- nothing, or the first ones of such texts, but not all of them
-abbrev pub IsBegunText : (List (List ℕ) → Type 0) → List ℕ → Type 0
-IsBegunText T said = (said ≡ []) ⊎ ((texts : List (List ℕ)) × T texts × (n : ℕ) × (n < length texts)
-    × (said ≡ joined_texts (take n texts)))
-
--- the sink failed at one of such texts: those before it are printed, and a front of it
-abbrev pub IsCutText : (List (List ℕ) → Type 0) → Option (List ℕ) → Option (List ℕ) → Type 0
-IsCutText T was text =
-    (texts : List (List ℕ)) × T texts × (n : ℕ) × (n < length texts)
-    × (k : ℕ) × Appends was text (joined_texts (take n texts) ++ half_of k (drop n texts))
-
--- what was printed by the result of a command, before the line that tells why it stopped
-abbrev pub Says : (List (List ℕ) → Type 0) → Option (List ℕ) → Option (List ℕ) → Type 0 → Result (Unit {0}) Stop → Type 0
-Says T was text sink-rose (Ok done) = (texts : List (List ℕ)) × T texts × Appends was text (joined_texts texts)
-Says T was text sink-rose (Err SinkFault) = sink-rose × IsCutText T was text
-Says T was text sink-rose (Err FileFault) = (said : List ℕ) × IsBegunText T said × Appends was text said
-Says T was text sink-rose (Err NoMemory) = (said : List ℕ) × IsBegunText T said × Appends was text said
-Says T was text sink-rose (Err s) = text ≡ was
 
 -- the line of what was made
 abbrev pub IsMadeLine : Format → Result Made Stop → List (List ℕ) → Type 0

@@ -7,7 +7,7 @@ use Rattle.host_io.specs.Contents.{Directory}
 use Rattle.host_io.specs.declared.files.Files as files
 use Rattle.host_io.specs.declared.source.Source as source
 use Rattle.host_io.specs.declared.sink.Sink as sink
-use Rattle.fip_tool.specs.{Said.Says, Tool.IsReadFor, Tool.given_value, Tool.no_files, Tool.prints, Wrote.CommandWrote, Wrote.WroteFor}
+use Rattle.fip_tool.specs.{Tool.IsReadFor, Tool.given_value, Tool.no_files, Tool.prints, Wrote.CommandWrote, Wrote.WroteFor}
 use Rattle.fip_tool.specs.Steps.{Did, CommandPlan, MayTear, PrintedText, outcome_by}
 use Rattle.fip_making.specs.{Values.StopsInTime, declared.stops.Stop.Stop}
 
@@ -15,9 +15,6 @@ use Rattle.fip_making.specs.{Values.StopsInTime, declared.stops.Stop.Stop}
 
 abbrev pub PrintedIn : {O : Type 0} → sink.Ghosts O → List ℕ → O → O → Result (Unit {0}) Stop → Type 0
 PrintedIn o piece old new result = PrintedText (o.taken old) (o.taken new) (Rose (o.faults old) (o.faults new)) piece result
-
-abbrev pub SaysIn : {O : Type 0} → sink.Ghosts O → (List (List ℕ) → Type 0) → O → O → Result (Unit {0}) Stop → Type 0
-SaysIn o T old new result = Says T (o.taken old) (o.taken new) (Rose (o.faults old) (o.faults new)) result
 
 -- ---- in files and a sink
 
@@ -36,7 +33,7 @@ DidIn h o outcome told files-old files-new old new result =
 abbrev pub WroteIn : {H O : Type 0} → files.Ghosts H → sink.Ghosts O → (List (List ℕ) → Type 0) → H → H → O → O
     → Result (Unit {0}) Stop → Type 0
 WroteIn h o T files-old files-new old new result =
-    CommandWrote T (o.taken old) (o.taken new) (h.writes files-old).done (h.writes files-new).done result
+    CommandWrote T (λ n. n) (o.taken old) (o.taken new) (h.writes files-old).done (h.writes files-new).done result
 
 abbrev pub WroteForIn : {H O : Type 0} → files.Ghosts H → sink.Ghosts O → Option FipAsked → H → H → O → O
     → Result (Unit {0}) Stop → Type 0

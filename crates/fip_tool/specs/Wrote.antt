@@ -1,5 +1,5 @@
--- What is written, whatever files there are: files one after the other, each with its text behind it.
-use Rattle.std.specs.Prelude.{◌≡◌, ◌⊎◌, ◌+◌, ◌<◌, ◌≤◌, ℕ, zero, suc, List, [], ◌++◌, Option, Some, None, Result, Ok, Err, length, take, drop}
+-- What is written and printed, whatever files there are: texts one after the other, each behind its file where it has one.
+use Rattle.std.specs.Prelude.{◌≡◌, ◌≢◌, ◌⊎◌, ◌+◌, ◌<◌, ◌≤◌, ℕ, zero, suc, List, [], ◌++◌, Option, Some, Result, Ok, Err, length, take, drop}
 use Rattle.std.specs.Io.KnownBytes.{Appends}
 use Rattle.host_io.specs.Calls.{raised}
 use Rattle.fip_words.specs.Order.{FipAsked, info, info_of_source}
@@ -17,12 +17,12 @@ abbrev pub raised_by : ℕ → ℕ → ℕ
 raised_by zero count = count
 raised_by (suc n) count = raised (raised_by n count)
 
--- as many files were written as there are texts, and all texts were printed
-pub record WroteAll (T : List (List ℕ) → Type 0) (was text : Option (List ℕ)) (before after : ℕ) : Type 0 where
+-- all texts were printed, and as many files were written as so many texts have
+pub record WroteAll (T : List (List ℕ) → Type 0) (files_of : ℕ → ℕ) (was text : Option (List ℕ)) (before after : ℕ) : Type 0 where
   pub texts : List (List ℕ)
   pub are : T texts
   pub said : Appends was text (joined_texts texts)
-  pub count : after ≡ raised_by (length texts) before
+  pub count : after ≡ raised_by (files_of (length texts)) before
 
 -- how many files may be written whose text was not printed whole: none where a file's fault is told
 abbrev pub files_ahead : Stop → ℕ
@@ -35,7 +35,8 @@ IsRestOfTexts SinkFault rest texts = (k : ℕ) × (rest ≡ half_of k texts)
 IsRestOfTexts s rest texts = rest ≡ []
 
 -- Before the stop s as many files were written as texts were printed, which are not all, or one more.
-pub record WroteSome (T : List (List ℕ) → Type 0) (s : Stop) (was text : Option (List ℕ)) (before after : ℕ) : Type 0 where
+pub record WroteSome (T : List (List ℕ) → Type 0) (files_of : ℕ → ℕ) (s : Stop) (was text : Option (List ℕ))
+    (before after : ℕ) : Type 0 where
   pub texts : List (List ℕ)
   pub are : T texts
   pub printed : ℕ
@@ -46,20 +47,24 @@ pub record WroteSome (T : List (List ℕ) → Type 0) (s : Stop) (was text : Opt
   pub files : ℕ
   pub least : printed ≤ files
   pub most : files ≤ printed + files_ahead s
-  pub count : after ≡ raised_by files before
+  pub count : after ≡ raised_by (files_of files) before
 
 -- nothing was printed, and no file was written
 abbrev pub WroteNone : Option (List ℕ) → Option (List ℕ) → ℕ → ℕ → Type 0
 WroteNone was text before after = (after ≡ before) × Appends was text []
 
 -- By the result of a command, whose texts are these where all is done. Where it refuses, nothing is written.
-abbrev pub CommandWrote : (List (List ℕ) → Type 0) → Option (List ℕ) → Option (List ℕ) → ℕ → ℕ → Result (Unit {0}) Stop → Type 0
-CommandWrote T was text before after (Ok done) = WroteAll T was text before after
-CommandWrote T was text before after (Err s) = WroteNone was text before after ⊎ (IsLate s × WroteSome T s was text before after)
+abbrev pub CommandWrote : (List (List ℕ) → Type 0) → (ℕ → ℕ) → Option (List ℕ) → Option (List ℕ) → ℕ → ℕ → Result (Unit {0}) Stop
+    → Type 0
+CommandWrote T files_of was text before after (Ok done) = WroteAll T files_of was text before after
+CommandWrote T files_of was text before after (Err s) =
+    ((s ≢ SinkFault) × WroteNone was text before after) ⊎ (IsLate s × WroteSome T files_of s was text before after)
 
--- usage and a listing write nothing
+-- how many files so many texts have: one each, but for a listing
+abbrev pub files_with : Option FipAsked → ℕ → ℕ
+files_with (Some (info file)) n = 0
+files_with (Some info_of_source) n = 0
+files_with asked n = n
+
 abbrev pub WroteFor : Option FipAsked → Option (List ℕ) → Option (List ℕ) → ℕ → ℕ → Result (Unit {0}) Stop → Type 0
-WroteFor None was text before after result = after ≡ before
-WroteFor (Some (info file)) was text before after result = after ≡ before
-WroteFor (Some info_of_source) was text before after result = after ≡ before
-WroteFor (Some asked) was text before after result = CommandWrote (IsTexts (Some asked)) was text before after result
+WroteFor asked was text before after result = CommandWrote (IsTexts asked) (files_with asked) was text before after result

@@ -1,7 +1,7 @@
 use Rattle.std.proofs.Common.{List, Some, ℕ, ap, map, refl, sym, ◌∙◌}
 use Rattle.fip_words.specs.Order.{image_view, part_view, view}
 use Rattle.fip_words.specs.Order as asks
-use Rattle.fip_tool.proofs.DoneBy.{done-with-files}
+use Rattle.fip_tool.proofs.DoneBy.{done-with-files, done-with-source}
 use Rattle.fip_tool.proofs.top.command.Goals as goal
 
 pub run_unpack-requires : goal.run_unpack-requires
@@ -10,6 +10,9 @@ run_unpack-requires g c = record { other = c.requires.other c.in-Unpack.from.now
 pub returns-in-Info : goal.returns-in-Info
 returns-in-Info g c =
     done-with-files g.met.I.Source.at_rest (asks.info c.in-Info.file.now) (ap (λ o. Some (view o)) c.in-Info.is) refl c.info.ensures.done
+
+pub returns-in-InfoOfSource : goal.returns-in-InfoOfSource
+returns-in-InfoOfSource g c = done-with-source (ap (λ o. Some (view o)) c.in-InfoOfSource.is) (g.met.H.Files.at_rest c.args.files.now) c.info_of_source.ensures
 
 pub returns-in-Create : goal.returns-in-Create
 returns-in-Create g c =

@@ -2,8 +2,8 @@ use Rattle.std.proofs.Common.{◌≢◌, List, Some, ℕ, ap, refl, subst, ◌�
 use Rattle.host_io.specs.{Access.Access, Access.Asks, declared.writes.Writes.Writes}
 use Rattle.fip_words.specs.Order as asks
 use Rattle.fip_making.specs.{Refusals.IsPackageStop, Answers.IsLate}
-use Rattle.fip_tool.specs.{Said.IsTexts, Seen.PrintedIn, Tool.info_value}
-use Rattle.fip_tool.proofs.{Did.printed-text, Faults.faults-none, Refusing.late-alone, Texts.says-printed}
+use Rattle.fip_tool.specs.{Said.IsTexts, Seen.PrintedIn, Tool.info_value, Wrote.files_with}
+use Rattle.fip_tool.proofs.{Did.printed-text, Faults.faults-none, Refusing.late-alone, WroteLemmas.wrote-printed}
 use Rattle.fip_making.proofs.Refusing.{if-err-as, late-of-package}
 use Rattle.fip_tool.proofs.top.info.Goals as goal
 
@@ -13,8 +13,9 @@ returns-clause-done g c =
     let put = c.print.ensures in
     let printed = subst (λ (l : List ℕ). PrintedIn g.O.Sink l c.args.sink.now c.print.new.sink c.print.result) c.as_slice.ensures.value put.printed in record {
       told = λ told e other. printed-text (info_value told c.args.name.now) c.in_ok-text.text.items told _ _ _ _ _ _ _ (read.told told e) (read.reads.only.same ∙ e) printed;
-      says = says-printed (IsTexts (Some (asks.info c.args.name.now))) c.in_ok-text.text.items _ _ _ c.print.result (c.in_ok-text.text.items, read.listed, refl) printed;
-      wrote = ap (λ (w : Writes). w.done) read.reads.files.unwritten;
+      wrote =
+          wrote-printed (IsTexts (Some (asks.info c.args.name.now))) (files_with (Some (asks.info c.args.name.now))) c.in_ok-text.text.items (c.in_ok-text.text.items, read.listed, refl)
+          _ _ _ _ _ c.print.result (ap (λ (w : Writes). w.done) read.reads.files.unwritten) printed;
       file_count = faults-none read.reads.only.quiet;
       cause = λ e none. absurd (rw e at put.printed);
       refusals = if-err-as c.print.result IsLate IsPackageStop late-of-package put.late;

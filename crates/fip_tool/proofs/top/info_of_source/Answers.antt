@@ -1,8 +1,8 @@
-use Rattle.std.proofs.Common.{◌∙◌, List, ℕ, refl, subst, sym, Some}
+use Rattle.std.proofs.Common.{◌∙◌, Some, List, ℕ, refl, subst, sym, Some}
 use Rattle.base_core.specs.Counts.{Rose}
-use Rattle.fip_tool.proofs.{Faults.source-printed, Faults.printed-quiet, Texts.says-printed}
+use Rattle.fip_tool.proofs.{Faults.source-printed, Faults.printed-quiet, WroteLemmas.wrote-printed}
 use Rattle.fip_words.specs.Order as asks
-use Rattle.fip_tool.specs.{Said.IsListing, Said.IsTexts, Steps.PrintedText}
+use Rattle.fip_tool.specs.{Said.IsListing, Said.IsTexts, Steps.PrintedText, Wrote.files_with}
 use Rattle.fip_making.specs.{Answers.IsLate, Refusals.IsOfSource}
 use Rattle.fip_making.proofs.Refusing.{if-err-as, late-of-source}
 use Rattle.fip_tool.proofs.top.info_of_source.Goals as goal
@@ -17,9 +17,8 @@ returns g c =
           c.as_slice.ensures.value put.printed) in
           (read.given.0, read.given.1, refl, both.0, both.1);
       once = read.source.once;
-      says = says-printed (IsTexts (Some asks.info_of_source)) c.as_slice.result.now _ _ _ c.print.result (c.as_slice.result.now, subst IsListing (sym c.as_slice.ensures.value) read.listed, refl) put.printed;
+      wrote = λ count. wrote-printed (IsTexts (Some asks.info_of_source)) (files_with (Some asks.info_of_source)) c.as_slice.result.now (c.as_slice.result.now, subst IsListing (sym c.as_slice.ensures.value) read.listed, refl) _ _ _ count count c.print.result refl put.printed;
       cause = λ e. absurd (rw e at put.printed);
-      usage = λ e. absurd (rw e at put.late);
       later = put.later;
       source_count = read.source.count ∙ printed-quiet _ _ _ _ c.print.result _ put.printed;
       sink_count = put.count;

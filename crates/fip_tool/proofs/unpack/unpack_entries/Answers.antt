@@ -6,7 +6,7 @@ use Rattle.std.proofs.lemmas.List.Elements.{All-get_or}
 use Rattle.fwu_formats.specs.Package.{Entry}
 use Rattle.fip_tool.specs.{Lines.unpacked_line, Said.joined_texts, Steps.sink_failed, Wrote.raised_by}
 use Rattle.fip_making.specs.Values.{is_named}
-use Rattle.fip_tool.proofs.{Texts.said-more, Texts.says-behind, Faults.faults-then, WritingLemmas.none-unwritten}
+use Rattle.fip_tool.proofs.{Texts.said-more, Faults.faults-then, WritingLemmas.none-unwritten}
 use Rattle.fip_tool.proofs.{WritingLemmas.tears-still, WroteLemmas.one-wrote, WroteLemmas.wrote-behind}
 use Rattle.fip_tool.proofs.UnpackLemmas.{all-done, next-chosen, next-passed, split-chosen, step-done, step-passed, step-stops, tells-still, there-still}
 use Rattle.fip_tool.proofs.unpack.unpack_entries.Goals.{then-is_chosen+in_ok-unpack_entry, else-is_chosen}
@@ -51,9 +51,9 @@ loop-entry-preserved g c =
             later_sink = omega (arith, c.loop-entry.invariant.later_sink, w.unpack_entry.ensures.texts.later_sink);
             sink_count = w.in_ok-unpack_entry.ensures.texts.sink_count ∙ c.loop-entry.invariant.sink_count;
             said =
-                said-more (map line (filter p (take i es))) _ (line e) _ _ _ (Unit {0}) tt
+                said-more (map line (filter p (take i es))) _ (line e) _ _ _ _ _
                 (ap (map line) more ∙ map-append line (filter p (take i es)) (e ∷ []))
-                c.loop-entry.invariant.said w.in_ok-unpack_entry.ensures.texts.says;
+                c.loop-entry.invariant.said w.in_ok-unpack_entry.ensures.texts.wrote;
             so-far = λ told bytes is stored.
                 let s = c.loop-entry.invariant.so-far told bytes is stored in
                 step-done c.args.unpacked.now.prefix.now c.args.unpacked.now.from.now bytes p es i told _
@@ -93,12 +93,9 @@ returns-in_err-unpack_entry-clause-texts g c =
     let so-far = c.loop-entry.invariant in
     let put = c.in_err-unpack_entry.ensures.texts in
     rw (handed-on c.from_residual.result c.in_err-unpack_entry.field-0.0 c.from_residual.ensures.1) (record {
-      says =
-          says-behind (map line (filter p (take i es))) (line e) (map line (filter p (drop (i + 1) es))) (map line (filter p es)) all
-          _ _ _ _ _ (λ r. rose-from _ _ _ so-far.later_sink r) so-far.said c.in_err-unpack_entry.field-0.0 put.late put.says;
       wrote =
-          wrote-behind (map line (filter p (take i es))) (line e) (map line (filter p (drop (i + 1) es))) (map line (filter p es)) _ _ _ _ start _ _ c.in_err-unpack_entry.field-0.0 all so-far.said
-          (so-far.wrote ∙ ap (λ (n : ℕ). raised_by n start) (sym (length-map (filter p (take i es)) line))) put.late put.says put.wrote;
+          wrote-behind (map line (filter p (take i es))) (line e) (map line (filter p (drop (i + 1) es))) (map line (filter p es)) _ _ _ start _ _ c.in_err-unpack_entry.field-0.0 all so-far.said
+          (so-far.wrote ∙ ap (λ (n : ℕ). raised_by n start) (sym (length-map (filter p (take i es)) line))) put.late put.wrote;
       file_count = faults-then so-far.quiet put.file_count;
       cause = λ e. rose-still _ _ _ (sym so-far.quiet) (put.cause e);
       late = put.late;
