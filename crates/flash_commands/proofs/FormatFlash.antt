@@ -1,11 +1,14 @@
 -- What `show` and `format` do, and the line of a format.
-use Rattle.std.proofs.Common.{◌≡◌, ℕ, ◌+◌, ◌≤◌, arith, List, ext_get_or, Option, None, Ok, Err, Result, refl, sym, ap, subst, ◌∙◌, inl, inr, IsFalse, ◌⊎◌, ◌∷◌, ◌++◌, length, decimal, append_assoc, []}
-use Rattle.flash_core.specs.{Told.Told, Told.NothingDirty, Told.fresh, Told.is_unsure, May.Leaves, declared.flash.Arming.Arming}
+use Rattle.std.proofs.Common.{◌≡◌, ℕ, ◌+◌, ◌≤◌, arith, List, Option, None, Ok, Err, Result, refl, sym, ap, subst, ◌∙◌, inl, inr, ◌⊎◌, ◌∷◌, ◌++◌, length, decimal, append_assoc, []}
+use Rattle.flash_core.specs.{Told.Told, Told.fresh, May.Leaves, declared.flash.Arming.Arming}
 use Rattle.flash_core.specs.{declared.flash.Counts.Counts, declared.flash.FlashStop.FlashStop}
-use Rattle.flash_core.specs.Counts.{Rose, Idles, ReachesNone, Spends, all_stops, arming_kept, stops_in}
+use Rattle.flash_core.specs.Counts.{Idles, ReachesNone, Spends, all_stops, arming_kept, stops_in}
 use Rattle.flash_core.specs.declared.flash.FlashStop.TheVariants as flash_stop
 use Rattle.fwu_model.specs.declared.kinds.Note.TheVariants as note
 use Rattle.script_turns.specs.Turning.{NoneFalls}
+use Rattle.script_turns.proofs.RunTurns.{rose-before}
+pub use Rattle.flash_core.proofs.OneCall.{sure_settled as clean-sure}
+pub use Rattle.script_runs.proofs.TableOpens.{woken-same as wakes-clean}
 use Rattle.fwu_model.specs.{declared.kinds.Note.Note, declared.kinds.NoBoot.NoBoot, Text.format_line}
 use Rattle.script_runs.specs.ByTable.{Wakes, StopHasCause}
 use Rattle.std.specs.Prelude.{IsTrue, is_ok, codes}
@@ -15,23 +18,9 @@ use Rattle.host_io.specs.Printed.{Prints}
 use Rattle.fwu_formats.specs.Layout.{Layout, blocks_needed}
 use Rattle.flash_commands.specs.Showing as show
 use Rattle.flash_commands.specs.Showing.{ShowFinds, ShowsNone, not_shown_line}
-use Rattle.flash_commands.specs.Formatting.{format_status, images_text}
+use Rattle.flash_commands.specs.Formatting.{format_status}
 
 -- ---- the command `show`: a clean flash is read as it is
-
-fresh-sure : (guard image : List ℕ) (i : ℕ) → IsFalse (is_unsure (fresh guard image) i)
-unfolding is_unsure fresh
-fresh-sure guard image i = refl
-
--- with nothing dirty no byte is unsure
-pub clean-sure : (t : Told) → NothingDirty t → (i : ℕ) → IsFalse (is_unsure t i)
-clean-sure t clean i = subst (λ (x : Told). IsFalse (is_unsure x i)) (sym clean) (fresh-sure t.guard t.now i)
-
--- a power-on with nothing dirty keeps all
-pub power-on-keeps : (old new : Told) → NothingDirty old → new ≡ fresh old.guard new.now → Leaves old new.now → new ≡ old
-power-on-keeps old new clean is leaves =
-    let same : new.now ≡ old.now = ext_get_or 0 new.now old.now leaves.size (λ i below. leaves.sure i (clean-sure old clean i)) in
-    is ∙ ap (fresh old.guard) same ∙ sym clean
 
 -- a power-on guards the same blocks
 pub power-on-guards : (old new : Told) → new ≡ fresh old.guard new.now → new.guard ≡ old.guard
@@ -62,29 +51,21 @@ none-falls result before mid after idle spends = record {
 pub stops-then : {T : Type 0} (result : Result T FlashStop) (before mid after : Counts) → Idles before mid → Spends result mid after → all_stops after ≤ all_stops before + stops_in result
 stops-then result before mid after idle spends = omega (arith, idle.faults, idle.cuts, idle.reached, spends.once)
 
-pub rose-later : (a b c : ℕ) → a ≤ b → Rose b c → Rose a c
-rose-later a b c later (inl less) = inl (omega (arith, later, less))
-rose-later a b c later (inr most) = inr most
-
 -- power comes back, and then the flash stops a call that reaches no armed loss
 pub has-cause : (stop : FlashStop) (before mid after : Counts) → Idles before mid → Spends {T = Unit {0}} (Err stop) mid after → ReachesNone {T = Unit {0}} (Err stop) mid after → StopHasCause before after
-has-cause flash_stop.Lost before mid after idle spends reaches = inr (rose-later before.cuts mid.cuts after.cuts (omega (arith, idle.cuts)) (reaches.lost refl))
-has-cause flash_stop.Failed before mid after idle spends reaches = inl (rose-later before.faults mid.faults after.faults (omega (arith, idle.faults)) (spends.failed refl))
+has-cause flash_stop.Lost before mid after idle spends reaches = inr (rose-before before.cuts mid.cuts after.cuts (omega (arith, idle.cuts)) (reaches.lost refl))
+has-cause flash_stop.Failed before mid after idle spends reaches = inl (rose-before before.faults mid.faults after.faults (omega (arith, idle.faults)) (spends.failed refl))
 
-pub not-found : (known : Type 0) (image : List ℕ) (before after : Counts) (why : NoBoot) (status : ℕ) (noted : Note) (line : List ℕ)
+pub not-found : {known : Type 0} {image : List ℕ} {before after : Counts} {status : ℕ} {noted : Note} {line : List ℕ} (why : NoBoot)
     → status ≡ 6 → noted ≡ note.Boot why → line ≡ not_shown_line why → (known → ShowsNone image why) → ShowFinds known image before after status noted line
-not-found known image before after why status noted line s n l none =
+not-found {known = known} {image = image} {before = before} {after = after} {noted = noted} {line = line} why s n l none =
     subst (λ (x : ℕ). ShowFinds known image before after x noted line) (sym s)
     (subst (λ (x : Note). ShowFinds known image before after 6 x line) (sym n)
     (subst (λ (x : List ℕ). ShowFinds known image before after 6 (note.Boot why) x) (sym l) (show.none why none)))
 
 -- power comes back, and what is there is read
-pub wakes-on : (old mid new : Told) → new ≡ mid → mid ≡ fresh old.guard mid.now → Leaves old mid.now → Wakes old new
-wakes-on old mid new same is leaves = subst (λ (t : Told). Wakes old t) (sym same) (record { fresh_is = is; leaves = leaves })
-
--- with nothing dirty that is what was there
-pub wakes-clean : (old new : Told) → NothingDirty old → Wakes old new → new ≡ old
-wakes-clean old new clean wakes = power-on-keeps old new clean wakes.fresh_is wakes.leaves
+pub wakes-on : {old mid new : Told} → new ≡ mid → mid ≡ fresh old.guard mid.now → Leaves old mid.now → Wakes old new
+wakes-on {old = old} same is leaves = subst (λ (t : Told). Wakes old t) (sym same) (record { fresh_is = is; leaves = leaves })
 
 -- ---- the command `format`: a stop of the flash has its cause, after the power came
 
@@ -123,10 +104,14 @@ flat a b c d e f g h n =
     ∙ append_assoc ((a ++ b) ++ (c ++ d)) (e ++ f) ((g ++ h) ++ n)
     ∙ append_assoc (a ++ b) (c ++ d) ((e ++ f) ++ ((g ++ h) ++ n))
 
-pub format-whole : (old mid new : List ℕ) (L : Layout) (version banks : ℕ) → banks ≡ L.banks → mid ≡ old ++ (codes "format banks=" ++ decimal banks) → new ≡ mid ++ images_text L version → new ≡ old ++ format_line L version
+-- from the images on
+abbrev images-on : Layout → ℕ → List ℕ
+images-on L version = codes " images=" ++ decimal (length L.rows) ++ (codes " blocks=" ++ decimal (blocks_needed L) ++ (codes " version=" ++ decimal version ++ 10 ∷ []))
+
+pub format-whole : (old mid new : List ℕ) (L : Layout) (version banks : ℕ) → banks ≡ L.banks → mid ≡ old ++ (codes "format banks=" ++ decimal banks) → new ≡ mid ++ images-on L version → new ≡ old ++ format_line L version
 unfolding format_line
 format-whole old mid new L version banks same front rest =
-    rest ∙ ap (λ (l : List ℕ). l ++ images_text L version) front ∙ append_assoc old (codes "format banks=" ++ decimal banks) (images_text L version)
+    rest ∙ ap (λ (l : List ℕ). l ++ images-on L version) front ∙ append_assoc old (codes "format banks=" ++ decimal banks) (images-on L version)
     ∙ ap (λ (l : List ℕ). old ++ l)
-    (ap (λ (n : ℕ). (codes "format banks=" ++ decimal n) ++ images_text L version) same
+    (ap (λ (n : ℕ). (codes "format banks=" ++ decimal n) ++ images-on L version) same
     ∙ sym (flat (codes "format banks=") (decimal L.banks) (codes " images=") (decimal (length L.rows)) (codes " blocks=") (decimal (blocks_needed L)) (codes " version=") (decimal version) (10 ∷ [])))

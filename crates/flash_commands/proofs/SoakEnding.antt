@@ -18,7 +18,7 @@ use Rattle.script_turns.specs.{declared.powered.Powered.Powered, Runs.Ran}
 use Rattle.script_turns.specs.Powered.{TurnMoment, device, moment, moment_of, moment_on, shown_on}
 use Rattle.script_runs.specs.ByTable.{flash_fault_line}
 use Rattle.script_runs.proofs.TopWays.{end-of}
-use Rattle.flash_commands.specs.Soaking.{AreWithin, counted_turn, SoakReached, goes, starved, ended, first_files, soak_files, stop_text}
+use Rattle.flash_commands.specs.Soaking.{AreWithin, SoakReached, goes, starved, ended, first_files, soak_files, stop_text}
 use Rattle.flash_commands.specs.{Formatting.Tries, SoakWays.SoakEnds, SoakWays.all_done, SoakWays.lacking, SoakWays.stopped}
 
 -- ---- the totals of a journal, one turn after the other
@@ -30,17 +30,37 @@ pub totals-none : totals_of [] ≡ no_totals
 unfolding totals_of
 totals-none = refl
 
+-- the numbers of the last boot so far
+abbrev started_of : Totals → LastStart
+started_of t = record { bank = t.bank; version = t.version; counter = t.counter }
+
+-- the totals with one turn more
+abbrev pub counted_turn : Totals → Reply → Totals
+counted_turn t r = record {
+  turns = t.turns + 1;
+  boots = t.boots + cond (is_booted r) 1 0;
+  losses = t.losses + cond (is_lost r) 1 0;
+  fallbacks = t.fallbacks + cond (is_fallback r) 1 0;
+  sends = t.sends + cond (is_sent r) 1 0;
+  bank = (started (started_of t) r).bank;
+  version = (started (started_of t) r).version;
+  counter = (started (started_of t) r).counter;
+}
+
 count-more : (test : Reply → Bool) (journal : List Turn) (t : Turn) → count_of test (journal ++ t ∷ []) ≡ count_of test journal + cond (test t.reply) 1 0
 count-more test journal t = sum_by-append (λ (x : Turn). cond (test x.reply) 1 0) journal (t ∷ []) ∙ omega arith
 
 started-more : (journal : List Turn) (t : Turn) → last_started (journal ++ t ∷ []) ≡ started (last_started journal) t.reply
 started-more journal t = fold-append (λ (last : LastStart) (x : Turn). started last x.reply) (record { bank = 0; version = 0; counter = 0 }) journal (t ∷ [])
 
-pub totals-more : (journal : List Turn) (t : Turn) → totals_of (journal ++ t ∷ []) ≡ counted_turn (totals_of journal) t.reply
+totals-more : (journal : List Turn) (t : Turn) → totals_of (journal ++ t ∷ []) ≡ counted_turn (totals_of journal) t.reply
 unfolding totals_of
 totals-more journal t =
     rw (length-append journal (t ∷ [])) (rw (count-more is_booted journal t) (rw (count-more is_lost journal t) (rw (count-more is_fallback journal t) (rw (count-more is_sent journal t)
     (rw (started-more journal t) refl)))))
+
+pub counts-on : (journal : List Turn) (t : Turn) (old new : Totals) (r : Reply) → new ≡ counted_turn old r → old ≡ totals_of journal → t.reply ≡ r → new ≡ totals_of (journal ++ t ∷ [])
+counts-on journal t old new r is was same = is ∙ ap (λ (x : Totals). counted_turn x r) was ∙ ap (counted_turn (totals_of journal)) (sym same) ∙ sym (totals-more journal t)
 
 pub totals-within : (journal : List Turn) → AreWithin (totals_of journal)
 unfolding totals_of

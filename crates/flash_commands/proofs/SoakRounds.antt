@@ -1,6 +1,6 @@
 -- The rounds of a soak, one after the other.
 use Rattle.std.proofs.Common.{◌≡◌, ℕ, zero, suc, ◌+◌, ◌-◌, ◌<◌, Bool, List, ◌∷◌, ◌++◌, length, get_or, take, drop, map, Option, Some, None, refl, sym, ap, subst, ◌∙◌, Contains, All, arith, append-nil, append_assoc}
-use Rattle.std.specs.Prelude.{IfSome, flat_map, ◌==◌, []}
+use Rattle.std.specs.Prelude.{IfSome, flat_map, is_some, ◌==◌, []}
 use Rattle.std.specs.List.{slice_get}
 use Rattle.std.proofs.{lemmas.Bool.cond_both, lemmas.Bool.eqb-false, lemmas.List.drop_more, lemmas.List.take-append-drop}
 use Rattle.std.proofs.{lemmas.List.Concat.flat_map-cons, lemmas.Grind.flat_map-append, lemmas.Option.get_or_from_slice_get}
@@ -18,8 +18,10 @@ use Rattle.gen_core.specs.Rounds.{cut_of, draws_of, round_of, rounds_from}
 use Rattle.gen_core.specs.declared.rounds.Ending.TheVariants as ending
 use Rattle.script_text.specs.Armable.{IsArmable}
 use Rattle.script_turns.specs.Powered.{TurnMoment}
-use Rattle.flash_commands.specs.Soaking.{AgreeFor, GoesSoaking, IsArmableCut, SoakReached, only_file_of, starved, goes}
-use Rattle.flash_commands.proofs.SoakTurns.{prefix-same, stands-going, stands-longer, take-next}
+use Rattle.flash_commands.specs.Soaking.{GoesSoaking, SoakReached, only_file_of, starved, goes}
+use Rattle.flash_commands.proofs.SoakSetting.{AgreeFor}
+use Rattle.flash_commands.proofs.SoakTurns.{prefix-same, stands-going, stands-longer}
+use Rattle.script_runs.proofs.RunEnds.{take-more}
 
 -- ---- the calls of a round
 
@@ -52,14 +54,10 @@ all-shown P [] each = All-nil (λ c. P (soak_shown c))
 all-shown P (x ∷ xs) each =
     All-cons (λ c. P (soak_shown c)) x xs (All-head P (soak_shown x) (map soak_shown xs) each) (all-shown P xs (All-tail P (soak_shown x) (map soak_shown xs) each))
 
-armable-cut : (cut : Option Cut) → IfSome cut IsArmableCut → IfSome cut (λ k. IsArmable (call.Cut k.n k.k))
-armable-cut None is = tt
-armable-cut (Some k) is = (is.some, is.few, is.within)
-
 -- each call of a round may be armed
-pub calls-armable : (rows : List ImageRow) (r : Round) (calls : List SoakCall) → map soak_shown calls ≡ round_calls rows r → IfSome r.cut IsArmableCut → All (λ c. IsArmable (soak_shown c)) calls
+pub calls-armable : (rows : List ImageRow) (r : Round) (calls : List SoakCall) → map soak_shown calls ≡ round_calls rows r → IfSome r.cut (λ k. IsArmable (call.Cut k.n k.k)) → All (λ c. IsArmable (soak_shown c)) calls
 calls-armable rows r calls is cut =
-    all-shown IsArmable calls (subst (λ (cs : List Call). All IsArmable cs) (sym is) (round-all IsArmable r rows (armable-cut r.cut cut) tt tt (λ guid. tt) tt))
+    all-shown IsArmable calls (subst (λ (cs : List Call). All IsArmable cs) (sym is) (round-all IsArmable r rows cut tt tt (λ guid. tt) tt))
 
 -- ---- the file of a round
 
@@ -75,21 +73,21 @@ pub round-agrees : (rows : List ImageRow) (r : Round) (name bytes : List ℕ) (a
 round-agrees rows r name bytes all cs calls_are name_is bytes_are there c in_it =
     let here : only_file_of name bytes (file_name r.number) ≡ Some bytes = ap (only_file_of name bytes) (sym name_is) ∙ file-there name bytes in
     All-contains (AgreeFor (only_file_of name bytes) all) (round_calls rows r) c
-    (round-all (AgreeFor (only_file_of name bytes) all) r rows (agree-cut (only_file_of name bytes) all r.cut) (here ∙ ap Some bytes_are ∙ sym there, bytes, here) tt (λ guid. tt) tt)
+    (round-all (AgreeFor (only_file_of name bytes) all) r rows (agree-cut (only_file_of name bytes) all r.cut) (here ∙ ap Some bytes_are ∙ sym there, ap is_some here) tt (λ guid. tt) tt)
     (subst (λ (l : List Call). Contains l c) calls_are in_it)
 
 -- ---- a round that is drawn
 
 -- a loss that is drawn may be armed
-cut-armable : (y : ℕ) → IfSome (cut_of y) IsArmableCut
+cut-armable : (y : ℕ) → IfSome (cut_of y) (λ k. IsArmable (call.Cut k.n k.k))
 unfolding drawn
 cut-armable y =
-    cond_both (draw y 1 32 == 0) None (Some (record { n = draw y 1 32; k = draw y 2 4097 })) (λ o. IfSome o IsArmableCut) (λ is. tt)
-    (λ other. let some = eqb-false (draw y 1 32) 0 other in record { some = omega (arith, some); few = omega arith; within = omega arith })
+    cond_both (draw y 1 32 == 0) None (Some (record { n = draw y 1 32; k = draw y 2 4097 })) (λ o. IfSome o (λ k. IsArmable (call.Cut k.n k.k))) (λ is. tt)
+    (λ other. let some = eqb-false (draw y 1 32) 0 other in (omega (arith, some), omega arith, omega arith))
 
-pub drawn-armable : (x number : ℕ) (r : Round) → r ≡ round_of x number → IfSome r.cut IsArmableCut
+pub drawn-armable : (x number : ℕ) (r : Round) → r ≡ round_of x number → IfSome r.cut (λ k. IsArmable (call.Cut k.n k.k))
 unfolding round_of
-drawn-armable x number r is = subst (λ (q : Round). IfSome q.cut IsArmableCut) (sym is) (cut-armable (register_after 4 x))
+drawn-armable x number r is = subst (λ (q : Round). IfSome q.cut (λ k. IsArmable (call.Cut k.n k.k))) (sym is) (cut-armable (register_after 4 x))
 
 pub drawn-number : (x number : ℕ) (r : Round) → r ≡ round_of x number → r.number ≡ number
 unfolding round_of
@@ -137,7 +135,7 @@ module _ (x n i register : ℕ) (r : Round) (below : i < n) (left : drop i (roun
       append_assoc done (flat_map f (take i rounds)) (f r)
       ∙ ap (λ (l : List Call). done ++ l)
       (ap (λ (l : List Call). flat_map f (take i rounds) ++ l) (sym (append-nil (f r)) ∙ sym (flat_map-cons f r []))
-      ∙ sym (flat_map-append f (take i rounds) (r ∷ [])) ∙ ap (flat_map f) (take-next Round rounds i r round-here))
+      ∙ sym (flat_map-append f (take i rounds) (r ∷ [])) ∙ ap (flat_map f) (take-more Round rounds i r round-here))
 
   rounds-front : (done : List Call) → IsPrefixOf (done ++ flat_map (round_calls soak_layout.rows) (take (i + 1) (rounds_from x 1 n))) (done ++ flat_map (round_calls soak_layout.rows) (rounds_from x 1 n))
   rounds-front done =

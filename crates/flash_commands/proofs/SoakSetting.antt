@@ -1,6 +1,6 @@
 -- What a turn of a soak does with one file at hand, it does with all packages at hand.
 use Rattle.std.proofs.Common.{◌≡◌, ◌⊎◌, ℕ, Bool, false, ◌||◌, ◌&&◌, not, ◌==◌, List, ◌∷◌, Option, Some, None, Result, Ok, Err, refl, sym, ap, subst, ◌∙◌, inl, inr}
-use Rattle.std.specs.Prelude.{if◌then◌else◌, nat_lt, [], length, replicate}
+use Rattle.std.specs.Prelude.{if◌then◌else◌, nat_lt, [], length, replicate, IsSome, ⊤}
 use Rattle.std.proofs.lemmas.Option.{same_Some}
 use Rattle.flash_core.specs.{declared.flash.Arming.Arming, Told.Told}
 use Rattle.host_io.specs.Contents.{Directory}
@@ -19,7 +19,22 @@ use Rattle.agent_machine.specs.Moment as agent
 use Rattle.script_turns.specs.Powered.{IsAt, TurnMoment, SameDevice, ShowsCondition, kept_at}
 use Rattle.script_turns.specs.{Replies.Replies, Takes.SendTakes, Takes.StopTakes, Takes.TakesBy, Turning.Turns}
 use Rattle.script_turns.specs.Sending.{AnswersSend, IsTableOf, LacksSent, SendSays, SendsBy}
-use Rattle.flash_commands.specs.Soaking.{AgreeFor}
+use Rattle.gen_core.specs.{Calls.file_name, Calls.shown as soak_shown, declared.calls.SoakCall.SoakCall}
+use Rattle.gen_core.specs.declared.calls.SoakCall.TheVariants as does
+
+-- it is a call of a soak, and the package that it sends is in the one file and among all
+abbrev pub AgreeFor : Directory → Directory → Call → Type 0
+AgreeFor one all (call.Send name request) = (one name ≡ all name) × IsSome (one name)
+AgreeFor one all call.Boot = ⊤
+AgreeFor one all (call.Cut n k) = ⊤
+AgreeFor one all (call.Accepts guid) = ⊤
+AgreeFor one all call.Previous = ⊤
+AgreeFor one all other = ⊥
+
+-- so does each call of a soak, where the packages that are sent do
+pub agrees-shown : (one all : Directory) (x : SoakCall) → ((name : List ℕ) (request : ℕ) → soak_shown x ≡ call.Send name request → (one name ≡ all name) × IsSome (one name)) → AgreeFor one all (soak_shown x)
+agrees-shown one all (does.Send number acceptance) sends = sends (file_name number) acceptance refl
+agrees-shown one all other sends = tt
 
 -- ---- sound flashes don't depend on the files
 
@@ -122,10 +137,7 @@ module _ (E : Setting) (other : Directory) where
   answer-with : (s : State) (x : Session) (c : Call) → AgreeFor other E.files c → answer F s x c ≡ answer E s x c
   unfolding answer
   answer-with s Off call.Boot agree = boot-with s
-  answer-with s Off (call.Cut n k) agree = refl
-  answer-with s Off (call.Send name request) agree = refl
-  answer-with s Off (call.Accepts guid) agree = refl
-  answer-with s Off call.Previous agree = refl
+  answer-with s Off c agree = refl
   answer-with s (On boot staging handles) call.Boot agree = boot-with s
   answer-with s (On boot staging handles) (call.Cut n k) agree = refl
   answer-with s (On boot staging handles) (call.Send name request) agree =
@@ -211,22 +223,14 @@ module _ (passes : List ℕ → Bool) (tells : Bool) (one all : Directory) where
       inr (record { toc = by.toc; table = table-with name (Ok by.toc) same by.table; entries = by.entries; sent = by.sent; spent = by.spent })
 
   spent-with : (name : List ℕ) (f : Fields) (r : Reply) (old new : TurnMoment) → one name ≡ all name → SendTakes false (Some one) name f r old new → SendTakes false (Some all) name f r old new
-  spent-with name f (reply.BadPackage g) old new same by = by
-  spent-with name f (reply.BadCapsule g) old new same by = by
-  spent-with name f (reply.Missing guid) old new same by = by
-  spent-with name f (reply.TooLarge guid) old new same by = by
-  spent-with name f (reply.BeginRefused st) old new same by = by
   spent-with name f reply.ReadFault old new same by = read-with name f old new same by
-  spent-with name f r old new same by = tt
+  spent-with name f r old new same by = by
 
   takes-with : (c : Call) (on : Option Fields) (old : TurnMoment) (r : Reply) (new : TurnMoment) → AgreeFor one all c → TakesBy (Some one) c on old r new → TakesBy (Some all) c on old r new
   takes-with c None old r new agree takes = takes
   takes-with (call.Send name request) (Some f) old r new agree takes = spent-with name f r old new agree.0 takes
-  takes-with call.Boot (Some f) old r new agree takes = takes
-  takes-with (call.Cut n k) (Some f) old r new agree takes = takes
-  takes-with (call.Accepts guid) (Some f) old r new agree takes = takes
-  takes-with call.Previous (Some f) old r new agree takes = takes
-  takes-with c (Some f) old r new agree takes = absurd agree
+  takes-with (call.SendPartial name request) (Some f) old r new agree takes = absurd agree
+  takes-with c (Some f) old r new agree takes = takes
 
   lacks-with : (c : Call) → AgreeFor one all c → LacksSent (Some all) c → LacksSent (Some one) c
   lacks-with (call.Send name request) agree lacks = agree.0 ∙ lacks
@@ -235,11 +239,8 @@ module _ (passes : List ℕ → Bool) (tells : Bool) (one all : Directory) where
 
   replies-with : (c : Call) (old : TurnMoment) (t : Turn) (new : TurnMoment) → AgreeFor one all c → Replies passes tells (Some one) c old t new → Replies passes tells (Some all) c old t new
   replies-with (call.Send name request) old t new agree says = says-with name request old.on old t.reply new.on new agree.0 says
-  replies-with call.Boot old t new agree says = says
-  replies-with (call.Cut n k) old t new agree says = says
-  replies-with (call.Accepts guid) old t new agree says = says
-  replies-with call.Previous old t new agree says = says
-  replies-with c old t new agree says = absurd agree
+  replies-with (call.SendPartial name request) old t new agree says = absurd agree
+  replies-with c old t new agree says = says
 
   agree-back : (c : Call) → AgreeFor one all c → (files : Directory) → files ≡ all → AgreeFor one files c
   agree-back c agree files same = subst (λ (d : Directory). AgreeFor one d c) (sym same) agree

@@ -1,9 +1,9 @@
 -- The turns of a soak, one after the other.
-use Rattle.std.proofs.Common.{◌≡◌, ◌≢◌, ℕ, ◌+◌, ◌<◌, Bool, ◌||◌, List, ◌∷◌, ◌++◌, length, take, drop, map, Some, None, refl, sym, ap, subst, ◌∙◌, inl, inr, IsTrue, Contains, arith, append_assoc, get_or}
-use Rattle.std.specs.Prelude.{option_map, []}
-use Rattle.std.specs.List.{slice_get, list_any}
-use Rattle.std.proofs.{lemmas.Bool.false≢true, lemmas.List.take-append-drop, lemmas.List.map-append, lemmas.List.take_more}
-use Rattle.std.proofs.{lemmas.List.Folds.list_any-append, lemmas.List.Elements.Contains-get_or, Math.Seq.take-length}
+use Rattle.std.proofs.Common.{◌≡◌, ◌≢◌, ℕ, ◌+◌, ◌<◌, Bool, List, ◌∷◌, ◌++◌, length, take, drop, map, Some, None, refl, sym, ap, subst, ◌∙◌, inl, inr, IsTrue, Contains, arith, append_assoc, get_or}
+use Rattle.std.specs.Prelude.{option_map, is_some, IsSome, []}
+use Rattle.std.specs.List.{slice_get}
+use Rattle.std.proofs.{lemmas.Bool.false≢true, lemmas.List.take-append-drop, lemmas.List.map-append}
+use Rattle.std.proofs.{lemmas.List.Elements.Contains-get_or, Math.Seq.take-length}
 use Rattle.std.proofs.lemmas.Option.{slice_get_within, get_or_from_slice_get, slice_get-map, slice_get-get_or}
 use Rattle.gen_core.specs.{Calls.shown as soak_shown, declared.calls.SoakCall.SoakCall}
 use Rattle.host_io.specs.Contents.{Directory}
@@ -16,10 +16,10 @@ use Rattle.fwu_model.specs.declared.kinds.Note.TheVariants as note
 use Rattle.fwu_formats.specs.Digests.{passes_any}
 use Rattle.script_turns.specs.{Powered.TurnMoment, Runs.Ran, Runs.calls_of}
 use Rattle.script_runs.specs.Running.{DoesTurn}
-use Rattle.script_runs.proofs.RunEnds.{on-at-zero}
+use Rattle.script_runs.proofs.RunEnds.{on-at-zero, on-more, take-more}
 use Rattle.script_turns.proofs.RunTurns.{ran-none, ran-on}
-use Rattle.flash_commands.specs.Soaking.{AgreeFor, GoesSoaking, SoakReached, goes, starved, ended}
-use Rattle.flash_commands.proofs.SoakSetting.{turns-with}
+use Rattle.flash_commands.specs.Soaking.{EndsNone, GoesSoaking, SoakReached, goes, starved, ended}
+use Rattle.flash_commands.proofs.SoakSetting.{AgreeFor, agrees-shown, turns-with}
 
 -- another status is of a turn that ends the run
 ends-otherwise : (r : Reply) → (status_by r ≡ 0 → ⊥) → IsTrue (ends_run r)
@@ -30,16 +30,13 @@ ends-otherwise r other = absurd (other refl)
 
 -- a file that is there is read
 was-read : (one all : Directory) (c : Call) (r : Reply) → AgreeFor one all c → (r ≡ reply.ReadFault → FileNotRead (Some one) 0 0 c) → r ≢ reply.ReadFault
-was-read one all (call.Send name request) r agree unread is = elim (unread is) [ inl rose ↦ no-rise rose | inr lacks ↦ let there = agree.2 in cc ]
+was-read one all (call.Send name request) r agree unread is = elim (unread is) [ inl rose ↦ no-rise rose | inr lacks ↦ false≢true (sym (ap is_some lacks) ∙ agree.1) ]
   where
     no-rise : Rose 0 0 → ⊥
     no-rise (inl more) = omega arith
     no-rise (inr top) = omega arith
-was-read one all call.Boot r agree unread is = unread is
-was-read one all (call.Cut n k) r agree unread is = unread is
-was-read one all (call.Accepts guid) r agree unread is = unread is
-was-read one all call.Previous r agree unread is = unread is
-was-read one all c r agree unread is = agree
+was-read one all (call.SendPartial name request) r agree unread is = agree
+was-read one all c r agree unread is = unread is
 
 -- nothing was done yet
 pub goes-none : (tells : Bool) (all : Directory) (old : TurnMoment) → old.on ≡ None → GoesSoaking tells all [] [] old old
@@ -63,9 +60,7 @@ module _ (tells : Bool) (one all : Directory) (done : List Call) (c : Call) (jou
   steps-on was s agree off zero_is = record {
     ran = ran-more was s agree off;
     calls_are = calls-more was s;
-    none = ap (list_any (λ (u : Turn). ends_run u.reply)) s.kept ∙ list_any-append (λ (u : Turn). ends_run u.reply) journal (s.turn ∷ [])
-        ∙ ap (λ (b : Bool). b || list_any (λ (u : Turn). ends_run u.reply) (s.turn ∷ [])) was.none
-        ∙ ap (λ (b : Bool). b || Bool.false) (on-at-zero s.turn.reply (sym s.status_is ∙ zero_is));
+    none = subst EndsNone (sym s.kept) (on-more journal s.turn was.none (on-at-zero s.turn.reply (sym s.status_is ∙ zero_is)));
   }
 
   -- and where it ends
@@ -78,14 +73,9 @@ module _ (tells : Bool) (one all : Directory) (done : List Call) (c : Call) (jou
 -- ---- calls of a list
 
 module _ (X : Type 0) where
-  pub take-next : (xs : List X) (n : ℕ) (x : X) → slice_get xs n ≡ Some x → take n xs ++ x ∷ [] ≡ take (n + 1) xs
-  take-next xs n x is =
-      let at = get_or_from_slice_get xs n x x is in
-      ap (λ (y : X). take n xs ++ y ∷ []) (sym at) ∙ sym (take_more xs n x (slice_get_within xs n x is))
-
   -- what was done and the front of a list, and one more
   pub behind-next : (done xs : List X) (n : ℕ) (x : X) → slice_get xs n ≡ Some x → (done ++ take n xs) ++ x ∷ [] ≡ done ++ take (n + 1) xs
-  behind-next done xs n x is = append_assoc done (take n xs) (x ∷ []) ∙ ap (λ (ys : List X). done ++ ys) (take-next xs n x is)
+  behind-next done xs n x is = append_assoc done (take n xs) (x ∷ []) ∙ ap (λ (ys : List X). done ++ ys) (take-more X xs n x is)
 
   pub front-of : (done xs : List X) (n : ℕ) → IsPrefixOf (done ++ take n xs) (done ++ xs)
   front-of done xs n = (drop n xs, append_assoc done (take n xs) (drop n xs) ∙ ap (λ (ys : List X). done ++ ys) (take-append-drop n xs))
@@ -128,20 +118,25 @@ contains-at calls i c at =
     subst (λ (x : Call). Contains calls x) (get_or_from_slice_get calls i c c at) (Contains-get_or calls i c (slice_get_within calls i c at))
 
 module _ (tells : Bool) (one all : Directory) (done : List Call) (calls : List SoakCall) (i : ℕ) (x d : SoakCall) (c : Call) (journal after : List Turn) (old mid new : TurnMoment) (status : ℕ) (noted : Note) (text : List ℕ) where
+  agrees-at : c ≡ soak_shown x → slice_get (map soak_shown calls) i ≡ Some c → ((name : List ℕ) (request : ℕ) → Contains (map soak_shown calls) (call.Send name request) → (one name ≡ all name) × IsSome (one name)) → AgreeFor one all c
+  agrees-at is at agree =
+      subst (AgreeFor one all) (sym is)
+      (agrees-shown one all x (λ name request sends. agree name request (subst (Contains (map soak_shown calls)) (is ∙ sends) (contains-at (map soak_shown calls) i c at))))
+
   pub calls-on : i < length calls → x ≡ get_or calls i d → c ≡ soak_shown x → GoesSoaking tells all (done ++ take i (map soak_shown calls)) journal old mid
-      → DoesTurn passes_any tells (Some one) c journal after mid new 0 0 status noted text → ((a : Call) → Contains (map soak_shown calls) a → AgreeFor one all a) → old.on ≡ None → status ≡ 0
+      → DoesTurn passes_any tells (Some one) c journal after mid new 0 0 status noted text → ((name : List ℕ) (request : ℕ) → Contains (map soak_shown calls) (call.Send name request) → (one name ≡ all name) × IsSome (one name)) → old.on ≡ None → status ≡ 0
       → GoesSoaking tells all (done ++ take (i + 1) (map soak_shown calls)) after old new
   calls-on below is shown_is was s agree off zero_is =
       let at : slice_get (map soak_shown calls) i ≡ Some c = call-at calls i x d below is ∙ ap Some (sym shown_is) in
       subst (λ (xs : List Call). GoesSoaking tells all xs after old new) (behind-next Call done (map soak_shown calls) i c at)
-      (steps-on tells one all (done ++ take i (map soak_shown calls)) c journal after old mid new status noted text was s (agree c (contains-at (map soak_shown calls) i c at)) off zero_is)
+      (steps-on tells one all (done ++ take i (map soak_shown calls)) c journal after old mid new status noted text was s (agrees-at shown_is at agree) off zero_is)
 
   pub calls-end : i < length calls → x ≡ get_or calls i d → c ≡ soak_shown x → GoesSoaking tells all (done ++ take i (map soak_shown calls)) journal old mid
-      → DoesTurn passes_any tells (Some one) c journal after mid new 0 0 status noted text → ((a : Call) → Contains (map soak_shown calls) a → AgreeFor one all a) → old.on ≡ None → (status ≡ 0 → ⊥)
+      → DoesTurn passes_any tells (Some one) c journal after mid new 0 0 status noted text → ((name : List ℕ) (request : ℕ) → Contains (map soak_shown calls) (call.Send name request) → (one name ≡ all name) × IsSome (one name)) → old.on ≡ None → (status ≡ 0 → ⊥)
       → SoakReached tells all (done ++ map soak_shown calls) after old new status noted text
   calls-end below is shown_is was s agree off other =
       let at : slice_get (map soak_shown calls) i ≡ Some c = call-at calls i x d below is ∙ ap Some (sym shown_is) in
-      steps-end tells one all (done ++ take i (map soak_shown calls)) c journal after old mid new status noted text (done ++ map soak_shown calls) was s (agree c (contains-at (map soak_shown calls) i c at)) off other
+      steps-end tells one all (done ++ take i (map soak_shown calls)) c journal after old mid new status noted text (done ++ map soak_shown calls) was s (agrees-at shown_is at agree) off other
       (prefix-same ((done ++ take i (map soak_shown calls)) ++ c ∷ []) (done ++ take (i + 1) (map soak_shown calls)) (done ++ map soak_shown calls) (behind-next Call done (map soak_shown calls) i c at) (front-of Call done (map soak_shown calls) (i + 1)))
 
 module _ (tells : Bool) (all : Directory) (done calls : List Call) (i : ℕ) (journal : List Turn) (old mid : TurnMoment) (text : List ℕ) where

@@ -1,6 +1,6 @@
 -- What the command `format` does, tells and prints.
-use Rattle.std.specs.Prelude.{◌≡◌, ◌⊎◌, ◌+◌, ◌*◌, ◌≤◌, ℕ, ◌++◌, ◌∷◌, false, Bool, List, Option, None, Result, Ok, Err, IfOk, []}
-use Rattle.std.specs.Prelude.{IsTrue, IsFalse, is_ok, codes, decimal, length}
+use Rattle.std.specs.Prelude.{◌≡◌, ◌⊎◌, ◌+◌, ◌*◌, ◌≤◌, ℕ, ◌++◌, ◌∷◌, Bool, List, Option, None, Result, Ok, Err, IfOk, []}
+use Rattle.std.specs.Prelude.{IsTrue, IsFalse, is_ok, codes, decimal}
 use Rattle.flash_core.specs.{Counts.all_stops, Counts.stops_in, May.Keeps, Told.Told, Told.NothingDirty, Touches.TouchesOnly}
 use Rattle.flash_core.specs.declared.flash.FlashStop.{FlashStop}
 use Rattle.base_core.specs.Guid.{guid_text}
@@ -11,16 +11,16 @@ use Rattle.fwu_model.specs.{Answer.images_of, Text.format_line, Text.no_boot_tex
 use Rattle.fwu_model.specs.declared.kinds.NoBoot.TheVariants as no_boot
 use Rattle.meta_layout.specs.Rows.{fitted}
 use Rattle.fip_tables.specs.Files.{Lacks, Tells}
-use Rattle.image_check.specs.{Law.verdict_may_start, Passed.HasPassed, declared.bank.Verdict.Verdict}
+use Rattle.image_check.specs.{Passed.HasPassed, declared.bank.Verdict.Verdict}
 use Rattle.image_check.specs.declared.bank.Verdict.TheVariants as verdict
 use Rattle.flash_format.specs.{Choosing.refusal, declared.formatting.Formatted.Formatted, declared.stops.FormatStop.FormatStop}
 use Rattle.flash_format.specs.{declared.stops.InputFault.InputFault, Stops.flash_result, Stops.unread_in}
 use Rattle.flash_format.specs.Formatted.{HoldsImages, IsBlank, IsFormatted, IsInOrder, IsRefusedFormat, IsSpelled, IsUnlaid}
-use Rattle.flash_format.specs.Stops.{RefusesAs, FormatFinishes, IsEarlyStop, IsOfBytes, IsOfLayout, LayoutBy, ReadsFileBy}
+use Rattle.flash_format.specs.Stops.{FormatFinishes, IfRefused, IsByVerdict, IsEarlyStop, IsOfBytes, IsOfLayout, LayoutBy, ReadsFileBy}
+use Rattle.flash_format.specs.Stops.{RefusesAs}
 use Rattle.flash_format.specs.declared.stops.FormatStop.TheVariants.{Input, ReadFailed, Flash}
 use Rattle.flash_format.specs.declared.stops.InputFault.TheVariants as fault
 use Rattle.fwu_words.specs.Order as ask
-use Rattle.fwu_words.specs.declared.orders.NewFlash.{NewFlash}
 use Rattle.script_turns.specs.{Powered.TurnMoment, Turning.NoneFalls}
 use Rattle.script_runs.specs.ByTable.{StopHasCause, Wakes, flash_fault_line}
 use Rattle.script_runs.specs.Ending.{Device, PutsNone, World, is_beyond_model, noted}
@@ -29,10 +29,6 @@ use Rattle.script_runs.specs.declared.done.Note.TheVariants as note
 use Rattle.flash_commands.specs.Showing.{RefusedList}
 
 -- ---- the line, the status and the note of what became of a format
-
--- a name, and an image's type
-abbrev pub named_text : List ℕ → List ℕ → List ℕ
-named_text name guid = name ++ guid_text guid
 
 -- what is wrong with the images; a verdict that they are good is none of a format that was refused, nor is one by a counter
 abbrev pub verdict_text : Verdict → List ℕ
@@ -45,19 +41,9 @@ verdict_text (verdict.BelowCounter version counter) = codes "below-counter"
 abbrev pub input_text : InputFault → List ℕ
 input_text (fault.Layout f) = no_boot_text (no_boot.Layout f)
 input_text (fault.Package f) = codes "bad-package " ++ fip_fault_text f
-input_text (fault.Missing guid) = named_text (codes "missing ") guid
-input_text (fault.TooLarge guid) = named_text (codes "too-large ") guid
+input_text (fault.Missing guid) = codes "missing " ++ guid_text guid
+input_text (fault.TooLarge guid) = codes "too-large " ++ guid_text guid
 input_text (fault.Incomplete found) = codes "incomplete " ++ verdict_text found
-
--- the ends of the line of a flash that was formatted: from the version on, from the blocks on, and from the images on
-abbrev pub version_text : ℕ → List ℕ
-version_text version = codes " version=" ++ decimal version ++ 10 ∷ []
-
-abbrev pub blocks_text : Layout → ℕ → List ℕ
-blocks_text L version = codes " blocks=" ++ decimal (blocks_needed L) ++ version_text version
-
-abbrev pub images_text : Layout → ℕ → List ℕ
-images_text L version = codes " images=" ++ decimal (length L.rows) ++ blocks_text L version
 
 -- the line
 abbrev pub format_text : Result Formatted FormatStop → List ℕ
@@ -84,10 +70,8 @@ format_note other = note.Nothing
 pub record Tries (passes : List ℕ → Bool) (tells : Bool) (told : Option Directory) (name : List ℕ)
     (L : Layout) (blocks : ℕ) (old new : TurnMoment) (faults_before faults_after : ℕ)
     (r : Result Formatted FormatStop) : Type 0 where
-  -- what is told after the power came, which is what was told where nothing was dirty
-  pub mid : Told
-  pub fresh : IsTrue tells → NothingDirty old.told → mid ≡ old.told
   -- power came, and left this
+  pub mid : Told
   pub woken : IsTrue tells → Wakes old.told mid
   -- what is refused before the flash is touched, exactly
   pub layout : LayoutBy (fitted L blocks) r
@@ -110,19 +94,16 @@ pub record Tries (passes : List ℕ → Bool) (tells : Bool) (told : Option Dire
   pub formatted : IfOk r (λ done. IsTrue tells → IsFormatted passes done.layout done.version new.told)
   pub spelled : IfOk r (λ done. IsTrue tells → IsSpelled done.layout new.told.now)
   -- refused for what is in bank 0
-  pub refused : (found : Verdict) → r ≡ Err (Input (fault.Incomplete found)) → IsTrue tells
-      → IsRefusedFormat passes L found new.told.now
+  pub refused : IfRefused r (λ found. IsTrue tells → IsRefusedFormat passes L found new.told.now)
   -- on every device: for no verdict by which the bank may start, and for none without what was read that gives it
-  pub bad : (found : Verdict) → r ≡ Err (Input (fault.Incomplete found)) → (verdict_may_start found ≡ false)
-      × HasPassed passes L.rows 0 found
+  pub bad : IsByVerdict passes L.rows r
   pub images : FormatFinishes r (IsTrue tells → (file : List ℕ) (toc : Toc) → Tells told name file → toc_of file ≡ Ok toc
       → HoldsImages L (images_of L.rows file toc) new.told.now)
   -- blocks 3 to 7 and the banks behind bank 0 are erased: no old mark, record of the counter or package is left
   pub blank : FormatFinishes r (IsTrue tells → IsBlank L new.told.now)
-  pub deserved : (found : Verdict) → r ≡ Err (Input (fault.Incomplete found)) → IsTrue tells
-      → (file : List ℕ) (toc : Toc) → Tells told name file → toc_of file ≡ Ok toc
+  pub deserved : IfRefused r (λ found. IsTrue tells → (file : List ℕ) (toc : Toc) → Tells told name file → toc_of file ≡ Ok toc
       → IsTrue (is_complete L.rows (images_of L.rows file toc))
-      → IsTrue (passes (manifest_part (images_of L.rows file toc))) → ⊥
+      → IsTrue (passes (manifest_part (images_of L.rows file toc))) → ⊥)
   -- Either way nothing is dirty. Whatever the end, and whatever a loss leaves, block 0 alone was touched, or a layout stands only
   -- with both replicas. The one that was asked for stands only on a flash that is formatted whole, and until a loss no other is.
   pub clean : FormatFinishes r (IsTrue tells → NothingDirty new.told)
@@ -145,10 +126,6 @@ pub record Tries (passes : List ℕ → Bool) (tells : Bool) (told : Option Dire
   pub stopped : (stop : FlashStop) → r ≡ Err (Flash stop) → StopHasCause old.counts new.counts
 
 -- ---- what the command did
-
--- the layout that a flash is asked to have
-abbrev pub layout_of : NewFlash → Layout
-layout_of wanted = record { banks = wanted.banks; rows = wanted.rows.items }
 
 -- Nothing was done for want of memory, or since a list of digests was not read or is none. Or the flash was formatted or was not,
 -- and the line of that was put into the sink.

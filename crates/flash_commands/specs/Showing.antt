@@ -33,10 +33,6 @@ pub data ShowFinds (known : Type 0) (image : List ℕ) (before after : Counts) :
   none : (why : NoBoot) → (known → ShowsNone image why) → ShowFinds known image before after 6 (note.Boot why) (not_shown_line why)
   stopped : StopHasCause before after → ShowFinds known image before after 5 note.Nothing flash_fault_line
 
--- how many stops of the flash this status tells
-abbrev pub stops_shown : ℕ → ℕ
-stops_shown status = if status == 5 then 1 else 0
-
 -- a list of digests was not read or is none, so nothing was looked at
 abbrev pub RefusedList : Asked → Given → ℕ → Note → World → World → Type 0
 RefusedList asked g status noted old new =
@@ -50,7 +46,7 @@ pub data Showed (tells : Bool) (g : Given) (old new : World) (status : ℕ) (not
   list_refused : new.flash ≡ old.flash → RefusedList ask.show g status noted old new → Showed tells g old new status noted
   found : HasGoodList g.list g.files → (planned : ℕ) (line : List ℕ) → (IsTrue tells → Wakes old.flash.told new.flash.told)
       → ShowFinds (IsTrue tells) new.flash.told.now old.flash.counts new.flash.counts planned noted line
-      → all_stops new.flash.counts ≤ all_stops old.flash.counts + stops_shown planned
+      → all_stops new.flash.counts ≤ all_stops old.flash.counts + (if planned == 5 then 1 else 0)
       → new.flash.power ≡ not (planned == 5)
       -- on every device, whatever its reads give, no block is erased or programmed
       → new.flash.writes ≡ old.flash.writes

@@ -1,6 +1,5 @@
 -- The ways that a soak may end.
 use Rattle.std.specs.Prelude.{◌≡◌, ◌≢◌, ℕ, true, List, ◌∷◌, ◌++◌, Option, Some, None, Ok, Err, IsTrue, IsFalse, []}
-use Rattle.std.specs.List.{list_any}
 use Rattle.fwu_formats.specs.{Digests.passes_any, declared.kinds.LayoutFault.TheVariants.BeyondFlash}
 use Rattle.fwu_model.specs.{Call.Call, Reply.Turn, Run.ends_run, Headline.IsPrefixOf, Causes.status_by, Causes.note_by}
 use Rattle.fwu_model.specs.Reply as reply
@@ -18,11 +17,7 @@ use Rattle.host_io.specs.Printed.{Prints}
 use Rattle.script_runs.specs.{Ways.Given, Ways.HasGoodList, declared.done.Note.Note}
 use Rattle.script_runs.specs.declared.done.Note.TheVariants as note
 use Rattle.flash_commands.specs.Formatting.{Tries, format_note, format_status, format_text}
-use Rattle.flash_commands.specs.{Showing.RefusedList, Soaking.first_files, Soaking.soak_files, Soaking.stop_line}
-
--- none of the turns ends a run
-abbrev pub EndsNone : List Turn → Type 0
-EndsNone journal = IsFalse (list_any (λ (t : Turn). ends_run t.reply) journal)
+use Rattle.flash_commands.specs.{Showing.RefusedList, Soaking.EndsNone, Soaking.first_files, Soaking.soak_files, Soaking.stop_line}
 
 -- How the turns of a soak of these calls ended, and which line was put into the sink. All calls were done, and the line is that of
 -- the totals. Or memory was wanting, for more calls or for the line, and there is none. Or the last turn ended it, and the line is

@@ -1,39 +1,20 @@
 -- What the turns of a soak do, and what its line tells.
-use Rattle.std.specs.Prelude.{◌≡◌, ◌≢◌, ◌≤◌, ℕ, ◌+◌, Bool, cond, List, ◌∷◌, ◌++◌, Some, ⊤, IsTrue, IsFalse, ◌<◌, slice_index_or, []}
+use Rattle.std.specs.Prelude.{◌≡◌, ◌≢◌, ◌≤◌, ℕ, ◌+◌, Bool, List, ◌∷◌, ◌++◌, Some, IsTrue, IsFalse, ◌<◌, slice_index_or, []}
 use Rattle.std.specs.List.{list_any}
 use Rattle.host_io.specs.Contents.{Directory, bytes_in}
 use Rattle.fwu_model.specs.{Call.Call, Reply.Reply, Reply.Turn, Run.ends_run, Text.line, Headline.IsPrefixOf, Causes.status_by}
 use Rattle.fwu_model.specs.{Causes.note_by, declared.kinds.Note.Note}
-use Rattle.fwu_model.specs.Call as call
 use Rattle.fwu_model.specs.Reply as reply
 use Rattle.fwu_model.specs.declared.kinds.Note.TheVariants as note
 use Rattle.fwu_formats.specs.Digests.{passes_any}
 use Rattle.gen_core.specs.{Calls.file_name, Calls.first_package, Calls.packages_of, Calls.round_package, Rounds.soak_rounds}
-use Rattle.gen_core.specs.{Rounds.rounds_from, declared.line.Totals.Totals, declared.rounds.Cut.Cut, declared.rounds.Round.Round}
-use Rattle.gen_core.specs.Line.{LastStart, is_booted, is_fallback, is_lost, is_sent, started}
+use Rattle.gen_core.specs.{Rounds.rounds_from, declared.line.Totals.Totals, declared.rounds.Round.Round}
 use Rattle.script_turns.specs.{Powered.TurnMoment, Powered.moment_of, Runs.Ran, Runs.calls_of}
 use Rattle.script_runs.specs.{ByTable.flash_fault_line, Ending.noted, declared.running.End.End, declared.running.Run.Run}
 use Rattle.flash_core.specs.declared.flash.Flash.{Ghosts}
 use Rattle.fwu_journal.specs.Shown.{turns}
 
--- ---- the totals, one turn after the other
-
--- the numbers of the last boot so far
-abbrev pub started_of : Totals → LastStart
-started_of t = record { bank = t.bank; version = t.version; counter = t.counter }
-
--- the totals with one turn more
-abbrev pub counted_turn : Totals → Reply → Totals
-counted_turn t r = record {
-  turns = t.turns + 1;
-  boots = t.boots + cond (is_booted r) 1 0;
-  losses = t.losses + cond (is_lost r) 1 0;
-  fallbacks = t.fallbacks + cond (is_fallback r) 1 0;
-  sends = t.sends + cond (is_sent r) 1 0;
-  bank = (started (started_of t) r).bank;
-  version = (started (started_of t) r).version;
-  counter = (started (started_of t) r).counter;
-}
+-- ---- the totals so far
 
 -- no count is above that of the turns
 pub record AreWithin (t : Totals) : Type 0 where
@@ -56,21 +37,6 @@ first_files seed = only_file_of (file_name 0) (first_package seed)
 abbrev pub soak_files : ℕ → ℕ → Directory
 soak_files seed n = packages_of (soak_rounds seed n)
 
--- it is a call of a soak, and the package that it sends is in the one file and among all
-abbrev pub AgreeFor : Directory → Directory → Call → Type 0
-AgreeFor one all (call.Send name request) = (one name ≡ all name) × (bytes : List ℕ) × (one name ≡ Some bytes)
-AgreeFor one all call.Boot = ⊤
-AgreeFor one all (call.Cut n k) = ⊤
-AgreeFor one all (call.Accepts guid) = ⊤
-AgreeFor one all call.Previous = ⊤
-AgreeFor one all other = ⊥
-
--- a loss that may be armed
-pub record IsArmableCut (cut : Cut) : Type 0 where
-  pub some : 1 ≤ cut.n
-  pub few : cut.n ≤ 4294967295
-  pub within : cut.k ≤ 4096
-
 -- the line of a turn that ends a soak
 abbrev pub stop_text : Call → Reply → List ℕ
 stop_text c reply.Fault = flash_fault_line
@@ -81,12 +47,16 @@ stop_line t = stop_text t.call t.reply
 
 -- ---- the turns so far
 
+-- none of the turns ends a run
+abbrev pub EndsNone : List Turn → Type 0
+EndsNone journal = IsFalse (list_any (λ (t : Turn). ends_run t.reply) journal)
+
 -- These calls were done, in their order, and none of them ended the soak.
 pub record GoesSoaking (tells : Bool) (all : Directory) (calls : List Call) (journal : List Turn)
     (old new : TurnMoment) : Type 0 where
   pub ran : Ran passes_any tells (Some all) journal old new 0 0
   pub calls_are : calls_of journal ≡ calls
-  pub none : IsFalse (list_any (λ (t : Turn). ends_run t.reply) journal)
+  pub none : EndsNone journal
 
 -- How a soak that does these calls stands. All were done, or memory was wanting for more than the first of them. Or a
 -- turn ended it, whose line is in the text.
@@ -98,8 +68,7 @@ pub data SoakReached (tells : Bool) (all : Directory) (calls : List Call) (journ
       → GoesSoaking tells all front journal old new
       → SoakReached tells all calls journal old new status noted text
   ended : (front : List Turn) (t : Turn) → journal ≡ front ++ t ∷ [] → IsPrefixOf (calls_of journal) calls
-      → Ran passes_any tells (Some all) journal old new 0 0
-      → IsFalse (list_any (λ (u : Turn). ends_run u.reply) front) → IsTrue (ends_run t.reply) → t.reply ≢ reply.ReadFault
+      → Ran passes_any tells (Some all) journal old new 0 0 → EndsNone front → IsTrue (ends_run t.reply) → t.reply ≢ reply.ReadFault
       → status ≡ status_by t.reply → noted ≡ note_by t.reply → text ≡ line t.call t.reply
       → SoakReached tells all calls journal old new status noted text
 

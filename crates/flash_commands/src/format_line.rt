@@ -1,10 +1,10 @@
 //! The line of a flash that was formatted or was not, in room that was made before. Nothing here takes memory.
-ghost use Rattle.std.specs.Prelude.{◌≡◌, ◌≤◌, ◌+◌, ◌++◌, Err, length, decimal};
-ghost use Rattle.fwu_formats.specs.FaultText.{fip_fault_text};
+ghost use Rattle.std.specs.Prelude.{◌≡◌, ◌≤◌, ◌+◌, ◌++◌, ◌∷◌, [], Err, codes, decimal, length};
+ghost use Rattle.base_core.specs.Guid.{guid_text};
+ghost use Rattle.fwu_formats.specs.{FaultText.fip_fault_text, Layout.blocks_needed};
 ghost use Rattle.fwu_model.specs.Text.{format_line};
 ghost use Rattle.fwu_journal.specs.Room.{Grows, HasRoom};
-ghost use Rattle.flash_commands.specs.Formatting.{blocks_text, format_text, images_text, input_text, named_text};
-ghost use Rattle.flash_commands.specs.Formatting.{verdict_text, version_text};
+ghost use Rattle.flash_commands.specs.Formatting.{format_text, input_text, verdict_text};
 ghost use Rattle.flash_commands.specs.declared.format_line.TheConstants.{FORMAT_ROOM};
 ghost use Rattle.flash_format.specs.declared.stops.FormatStop.TheVariants.{Input as InputRefused};
 
@@ -22,8 +22,8 @@ pub const FORMAT_ROOM: usize = 128;
 /// Adds a name and an image's type.
 fn add_guid(text: &mut Vec<u8>, name: &[u8], guid: &Guid)
     requires { HasRoom text.old (length name.now + 36) }
-    ensures grows { Grows text.old text.new (named_text name.now guid.now) }
-    ensures short { length (named_text name.now guid.now) ≤ length name.now + 36 }
+    ensures grows { Grows text.old text.new (name.now ++ guid_text guid.now) }
+    ensures short { length (name.now ++ guid_text guid.now) ≤ length name.now + 36 }
 {
     let mut spelled = [0; 36];
     guid.text(&mut spelled);
@@ -97,7 +97,7 @@ fn add_refused(text: &mut Vec<u8>, fault: &InputFault)
 /// Adds the version, and the line's end.
 fn add_version(text: &mut Vec<u8>, version: u32)
     requires { HasRoom text.old 20 }
-    ensures grows { Grows text.old text.new (version_text version) }
+    ensures grows { Grows text.old text.new (codes " version=" ++ decimal version ++ 10 ∷ []) }
 {
     add_named(text, b" version=", version);
     add(text, b"\n")
@@ -106,7 +106,8 @@ fn add_version(text: &mut Vec<u8>, version: u32)
 /// Adds the blocks of a layout, and what stands behind them.
 fn add_blocks(text: &mut Vec<u8>, done: &Formatted)
     requires { HasRoom text.old 40 }
-    ensures grows { Grows text.old text.new (blocks_text done.now.layout done.now.version) }
+    ensures grows { Grows text.old text.new (codes " blocks=" ++ decimal (blocks_needed done.now.layout)
+        ++ (codes " version=" ++ decimal done.now.version ++ 10 ∷ [])) }
 {
     add_named(text, b" blocks=", done.layout.blocks());
     add_version(text, done.version)
@@ -122,7 +123,9 @@ fn count_images(layout: &Layout) -> u32
 /// Adds the images of a layout, and what stands behind them.
 fn add_images(text: &mut Vec<u8>, done: &Formatted)
     requires { HasRoom text.old 60 }
-    ensures grows { Grows text.old text.new (images_text done.now.layout done.now.version) }
+    ensures grows { Grows text.old text.new (codes " images=" ++ decimal (length done.now.layout.rows)
+        ++ (codes " blocks=" ++ decimal (blocks_needed done.now.layout)
+        ++ (codes " version=" ++ decimal done.now.version ++ 10 ∷ []))) }
 {
     add_named(text, b" images=", count_images(&done.layout));
     add_blocks(text, done)

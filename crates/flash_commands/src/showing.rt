@@ -1,5 +1,5 @@
 //! The command `show`.
-ghost use Rattle.std.specs.Prelude.{not, ◌==◌, ◌≡◌, ◌+◌, ◌≤◌, ◌++◌, [], None, length, IsTrue, IsFalse};
+ghost use Rattle.std.specs.Prelude.{if◌then◌else◌, not, ◌==◌, ◌≡◌, ◌+◌, ◌≤◌, ◌++◌, [], None, length, IsTrue, IsFalse};
 ghost use Rattle.flash_core.specs.Counts.{all_stops};
 ghost use Rattle.flash_core.specs.Told.{NothingDirty};
 ghost use Rattle.early_boot.specs.Numbers.{numbers as read};
@@ -12,7 +12,7 @@ ghost use Rattle.script_runs.specs.Ways.{Given, HasGoodList, moment_world};
 ghost use Rattle.script_runs.specs.ByTable.{Wakes};
 ghost use Rattle.script_runs.specs.Ending.{is_beyond_model, noted};
 ghost use Rattle.script_turns.specs.Turning.{NoneFalls};
-ghost use Rattle.flash_commands.specs.Showing.{ShowFinds, Showed, shown_line, not_shown_line, stops_shown};
+ghost use Rattle.flash_commands.specs.Showing.{ShowFinds, Showed, shown_line, not_shown_line};
 
 use early_boot::{Numbers, Unshown, read_numbers};
 use flash_core::Flash;
@@ -60,7 +60,7 @@ fn find<D: Flash>(flash: &mut D, text: &mut Vec<u8>) -> Found
         (D.counts flash.old) (D.counts flash.new) result.status (noted result.note) text.new.items }
     ensures note { IsFalse (is_beyond_model result.note) }
     ensures counts { NoneFalls (D.counts flash.old) (D.counts flash.new) }
-    ensures once { all_stops (D.counts flash.new) ≤ all_stops (D.counts flash.old) + stops_shown result.status }
+    ensures once { all_stops (D.counts flash.new) ≤ all_stops (D.counts flash.old) + (if result.status == 5 then 1 else 0) }
     ensures made { (D.counts flash.new).made ≡ (D.counts flash.old).made }
     ensures unarmed { D.arming flash.new ≡ None }
     ensures power { D.on flash.new ≡ not (result.status == 5) }

@@ -1,5 +1,5 @@
 //! The calls of a soak, one after the other. No line of a turn is printed here.
-ghost use Rattle.std.specs.Prelude.{◌≡◌, ◌≤◌, ◌++◌, ◌∷◌, [], All, Contains, List, Some, IfOk, IfSome};
+ghost use Rattle.std.specs.Prelude.{◌≡◌, ◌≤◌, ◌++◌, ◌∷◌, ℕ, [], All, Contains, List, Some, IfOk, IfSome, IsSome};
 ghost use Rattle.std.specs.Prelude.{IsTrue, IsFalse, None, flat_map, length, map, string_bytes};
 ghost use Rattle.fwu_journal.specs.Shown.{HasRoomFor, turns};
 ghost use Rattle.fwu_model.specs.Call.{Call as Calls};
@@ -13,7 +13,7 @@ ghost use Rattle.script_text.specs.Armable.{IsArmable};
 ghost use Rattle.script_text.specs.Shown.{HasBuffer, shown};
 ghost use Rattle.script_turns.specs.Powered.{TurnMoment, device, has_power, moment_of, shown_on};
 ghost use Rattle.script_runs.specs.Ending.{is_beyond_model};
-ghost use Rattle.flash_commands.specs.Soaking.{GoesHere, HasPackages, StandsHere, AgreeFor, IsArmableCut, only_file_of};
+ghost use Rattle.flash_commands.specs.Soaking.{GoesHere, HasPackages, StandsHere, only_file_of};
 
 use crate::one_file::OneFile;
 use base_core::NoMemory;
@@ -52,8 +52,9 @@ fn do_calls<D: Flash>(
     requires armable { All (λ c. IsArmable (soak_shown c)) calls.now }
     requires turns_fit { HasRoomFor run.old.journal (length calls.now) }
     ensures stands { (all : Directory) (done : List Calls) (old : TurnMoment) → GoesHere all done old run.old
-        → ((c : Calls) → Contains (map soak_shown calls.now) c
-        → AgreeFor (only_file_of (string_bytes files.old.name) files.old.bytes.items) all c) → old.on ≡ None
+        → ((name : List ℕ) (request : ℕ) → Contains (map soak_shown calls.now) (call.Send name request)
+        → let here = only_file_of (string_bytes files.old.name) files.old.bytes.items name in (here ≡ all name) × IsSome here)
+        → old.on ≡ None
         → StandsHere all (done ++ map soak_shown calls.now) old run.new result }
     ensures note { IsFalse (is_beyond_model result.note) }
     ensures powered { result.status ≡ 0 → D.on (device run.new.powered) ≡ has_power run.new.powered }
@@ -96,7 +97,7 @@ fn do_round<D: Flash>(alloc: Global, run: &mut Run<D>, round: &Round) -> End
     requires powered { D.on (device run.old.powered) ≡ has_power run.old.powered }
     requires fit { IsTrue (fit_sizes soak_layout.rows round.now.sizes) }
     requires version { round.now.security ≤ 223 }
-    requires armable { IfSome round.now.cut IsArmableCut }
+    requires armable { IfSome round.now.cut (λ cut. IsArmable (call.Cut cut.n cut.k)) }
     ensures stands { (all : Directory) (done : List Calls) (old : TurnMoment) → GoesHere all done old run.old
         → all (file_name round.now.number) ≡ Some (round_package round.now) → old.on ≡ None
         → StandsHere all (done ++ round_calls soak_layout.rows round.now) old run.new result }

@@ -1,8 +1,9 @@
 //! What the line of a soak tells of its turns.
-ghost use Rattle.std.specs.Prelude.{◌≡◌, ◌<◌};
+ghost use Rattle.std.specs.Prelude.{◌≡◌, ◌<◌, ◌++◌, ◌∷◌, [], List};
 ghost use Rattle.fwu_journal.specs.Shown.{reply, turns};
+ghost use Rattle.fwu_model.specs.Reply.{Turn};
 ghost use Rattle.gen_core.specs.Line.{totals_of};
-ghost use Rattle.flash_commands.specs.Soaking.{AreWithin, counted_turn};
+ghost use Rattle.flash_commands.specs.Soaking.{AreWithin};
 
 use fwu_journal::{Journal, Reply};
 use gen_core::Totals;
@@ -23,7 +24,8 @@ const NONE: Totals = Totals {
 fn count(totals: &mut Totals, answer: &Reply)
     requires few { totals.old.turns < 18446744073709551615 }
     requires within { AreWithin totals.old }
-    ensures { totals.new ≡ counted_turn totals.old (reply answer.now) }
+    ensures { (journal : List Turn) (t : Turn) → totals.old ≡ totals_of journal → t.reply ≡ reply answer.now
+        → totals.new ≡ totals_of (journal ++ t ∷ []) }
 {
     totals.turns += 1;
     match answer {

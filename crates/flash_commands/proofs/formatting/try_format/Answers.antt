@@ -4,7 +4,7 @@ use Rattle.flash_core.proofs.Touches.{touches_none, touches_then}
 use Rattle.fwu_formats.specs.Layout.{Layout, blocks_needed}
 use Rattle.script_turns.specs.Powered.{moment}
 use Rattle.flash_commands.specs.Formatting.{Tries}
-use Rattle.flash_commands.proofs.FormatFlash.{power-on-guards, power-on-keeps, none-falls, stops-then, stop-cause, unwritten-by}
+use Rattle.flash_commands.proofs.FormatFlash.{power-on-guards, none-falls, stops-then, stop-cause, unwritten-by}
 use Rattle.flash_commands.proofs.formatting.try_format.Goals as goal
 
 pub returns-clause-tries : goal.returns-clause-tries
@@ -20,7 +20,6 @@ returns-clause-tries g c =
     c.power_on.ensures.size
     (record {
       mid = told mid;
-      fresh = λ tells clean. power-on-keeps (told old) (told mid) clean (c.power_on.ensures.fresh tells) (c.power_on.ensures.leaves tells);
       woken = λ tells. record { fresh_is = c.power_on.ensures.fresh tells; leaves = c.power_on.ensures.leaves tells };
       layout = e.input.layout;
       answers = e.input.answers;
@@ -35,7 +34,7 @@ returns-clause-tries g c =
       formatted = IfOk-weaker c.format.result _ _ (λ done made. made.formatted) e.made;
       spelled = IfOk-weaker c.format.result _ _ (λ done made. made.spelled) e.made;
       refused = e.refused;
-      bad = λ found is. (e.refuses.bad found is, e.refuses.seen found is);
+      bad = e.refuses;
       images = e.images;
       blank = e.blank;
       deserved = e.deserved;

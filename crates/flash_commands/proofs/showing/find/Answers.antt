@@ -11,35 +11,24 @@ use Rattle.flash_commands.proofs.showing.find.Goals as goal
 
 pub returns-in-Ok-clause-finds : goal.returns-in-Ok-clause-finds
 returns-in-Ok-clause-finds g c =
-    let known = IsTrue g.D.Flash.tells in
-    let image = (g.D.Flash.told c.read_numbers.new.flash).now in
     let n = read c.in-Ok.shown in
-    subst (λ (l : List ℕ). ShowFinds known image (g.D.Flash.counts c.args.flash.now) (g.D.Flash.counts c.read_numbers.new.flash) 0 note.Nothing l)
+    subst (λ (l : List ℕ). ShowFinds (IsTrue g.D.Flash.tells) (g.D.Flash.told c.read_numbers.new.flash).now (g.D.Flash.counts c.args.flash.now) (g.D.Flash.counts c.read_numbers.new.flash) 0 note.Nothing l)
     (sym (c.add_shown.ensures ∙ ap (λ (l : List ℕ). l ++ shown_line n) c.requires.empty))
     (show.numbers n c.in-Ok.ensures.are
     (λ k. subst (λ (t : Told). ShowsNumbers t.now n) (sym (c.in-Ok.ensures.reads.content k)) (c.in-Ok.ensures.numbers k)))
 
 pub returns-in-Err-Layout-clause-finds : goal.returns-in-Err-Layout-clause-finds
 returns-in-Err-Layout-clause-finds g c =
-    let known = IsTrue g.D.Flash.tells in
-    let image = (g.D.Flash.told c.read_numbers.new.flash).now in
     let why = no_boot.Layout c.in-Err-Layout.fault in
-    let before = g.D.Flash.counts c.args.flash.now in
-    let after = g.D.Flash.counts c.read_numbers.new.flash in
-    not-found known image before after why c.not_found.result.status (noted c.not_found.result.note) c.not_found.new.text.items
-    c.not_found.ensures.status (ap noted c.not_found.ensures.note) (c.not_found.ensures.line ∙ ap (λ (l : List ℕ). l ++ not_shown_line why) c.requires.empty)
+    let r = c.not_found.ensures in
+    not-found why r.status (ap noted r.note) (r.line ∙ ap (λ (l : List ℕ). l ++ not_shown_line why) c.requires.empty)
     (λ k. subst (λ (t : Told). ShowsNone t.now why) (sym (c.in-Err-Layout.ensures.reads.content k)) (rw c.in-Err-Layout.field-0-is at c.in-Err-Layout.ensures.nothing k))
 
 pub returns-in-Err-Metadata-clause-finds : goal.returns-in-Err-Metadata-clause-finds
 returns-in-Err-Metadata-clause-finds g c =
-    let known = IsTrue g.D.Flash.tells in
-    let image = (g.D.Flash.told c.read_numbers.new.flash).now in
     let why = no_boot.Metadata in
-    let before = g.D.Flash.counts c.args.flash.now in
-    let after = g.D.Flash.counts c.read_numbers.new.flash in
-    let r = c.not_found-in-Err-Metadata in
-    not-found known image before after why r.result.status (noted r.result.note) r.new.text.items
-    r.ensures.status (ap noted r.ensures.note) (r.ensures.line ∙ ap (λ (l : List ℕ). l ++ not_shown_line why) c.requires.empty)
+    let r = c.not_found-in-Err-Metadata.ensures in
+    not-found why r.status (ap noted r.note) (r.line ∙ ap (λ (l : List ℕ). l ++ not_shown_line why) c.requires.empty)
     (λ k. subst (λ (t : Told). ShowsNone t.now why) (sym (c.in-Err-Metadata.ensures.reads.content k)) (rw c.in-Err-Metadata.field-0-is at c.in-Err-Metadata.ensures.nothing k))
 
 pub returns-in-Err-Flash-clause-finds : goal.returns-in-Err-Flash-clause-finds
@@ -74,17 +63,13 @@ returns-in-Err-Metadata-clause-power g c =
     (rw c.in-Err-Metadata.field-0-is at c.in-Err-Metadata.ensures.reads.power) ∙ sym (ap (λ (n : ℕ). not (n == 5)) c.not_found-in-Err-Metadata.ensures.status)
 
 pub returns-in-Ok-clause-woken : goal.returns-in-Ok-clause-woken
-returns-in-Ok-clause-woken g c tells =
-    wakes-on (g.D.Flash.told c.args.flash.now) (g.D.Flash.told c.power_on.new.self) (g.D.Flash.told c.read_numbers.new.flash) (c.in-Ok.ensures.reads.content tells) (c.power_on.ensures.fresh tells) (c.power_on.ensures.leaves tells)
+returns-in-Ok-clause-woken g c tells = wakes-on (c.in-Ok.ensures.reads.content tells) (c.power_on.ensures.fresh tells) (c.power_on.ensures.leaves tells)
 
 pub returns-in-Err-Layout-clause-woken : goal.returns-in-Err-Layout-clause-woken
-returns-in-Err-Layout-clause-woken g c tells =
-    wakes-on (g.D.Flash.told c.args.flash.now) (g.D.Flash.told c.power_on.new.self) (g.D.Flash.told c.read_numbers.new.flash) (c.in-Err-Layout.ensures.reads.content tells) (c.power_on.ensures.fresh tells) (c.power_on.ensures.leaves tells)
+returns-in-Err-Layout-clause-woken g c tells = wakes-on (c.in-Err-Layout.ensures.reads.content tells) (c.power_on.ensures.fresh tells) (c.power_on.ensures.leaves tells)
 
 pub returns-in-Err-Metadata-clause-woken : goal.returns-in-Err-Metadata-clause-woken
-returns-in-Err-Metadata-clause-woken g c tells =
-    wakes-on (g.D.Flash.told c.args.flash.now) (g.D.Flash.told c.power_on.new.self) (g.D.Flash.told c.read_numbers.new.flash) (c.in-Err-Metadata.ensures.reads.content tells) (c.power_on.ensures.fresh tells) (c.power_on.ensures.leaves tells)
+returns-in-Err-Metadata-clause-woken g c tells = wakes-on (c.in-Err-Metadata.ensures.reads.content tells) (c.power_on.ensures.fresh tells) (c.power_on.ensures.leaves tells)
 
 pub returns-in-Err-Flash-clause-woken : goal.returns-in-Err-Flash-clause-woken
-returns-in-Err-Flash-clause-woken g c tells =
-    wakes-on (g.D.Flash.told c.args.flash.now) (g.D.Flash.told c.power_on.new.self) (g.D.Flash.told c.read_numbers.new.flash) (c.in-Err-Flash.ensures.reads.content tells) (c.power_on.ensures.fresh tells) (c.power_on.ensures.leaves tells)
+returns-in-Err-Flash-clause-woken g c tells = wakes-on (c.in-Err-Flash.ensures.reads.content tells) (c.power_on.ensures.fresh tells) (c.power_on.ensures.leaves tells)

@@ -2,6 +2,7 @@ use Rattle.std.proofs.Common.{◌≡◌, ◌++◌, List, sym, ap, subst, ◌∙�
 use Rattle.std.specs.Prelude.{string_bytes}
 use Rattle.fwu_journal.specs.Shown.{turns}
 use Rattle.fwu_model.specs.{Call.Call, Reply.Turn}
+use Rattle.fwu_model.specs.Call as call
 use Rattle.gen_core.specs.{Calls.round_calls, Calls.shown as soak_shown, Setup.soak_layout}
 use Rattle.script_turns.specs.Powered.{moment_of}
 use Rattle.script_runs.specs.Ending.{noted}
@@ -30,4 +31,4 @@ returns-clause-stands g c all done old was there off =
     ap (map soak_shown) c.as_slice.ensures.value ∙ c.in-Ok-round_calls.ensures ∙ ap (λ rows. round_calls rows c.args.round.now) c.soak_rows.ensures.rows in
     subst (λ (cs : List Call). SoakReached g.D.Flash.tells all (done ++ cs) (turns c.do_calls.new.run.journal) old (moment_of c.do_calls.new.run.powered) c.do_calls.result.status (noted c.do_calls.result.note) c.do_calls.new.run.text.items) shown_are
     (c.do_calls.ensures.stands all done old (subst (λ (ts : List Turn). GoesSoaking g.D.Flash.tells all done ts old (moment_of c.args.run.now.powered)) (sym c.make_room.ensures.stays) was)
-    (round-agrees soak_layout.rows c.args.round.now (string_bytes c.in-Ok.file.name) c.in-Ok.file.bytes.items all (map soak_shown c.as_slice.result.now) shown_are c.in-Ok.ensures.name c.in-Ok.ensures.bytes there) off)
+    (λ name request. round-agrees soak_layout.rows c.args.round.now (string_bytes c.in-Ok.file.name) c.in-Ok.file.bytes.items all (map soak_shown c.as_slice.result.now) shown_are c.in-Ok.ensures.name c.in-Ok.ensures.bytes there (call.Send name request)) off)
