@@ -87,8 +87,8 @@ kept_at tells f t w = record { tells = tells; told = t; writes = w; fields = f }
 abbrev pub ShowsAt : Bool → Fields → Told → State → Session → Type 0
 ShowsAt tells f t s x = (w : ℕ → ℕ) → agent.Shows (kept_at tells f t w) s x
 
--- What the agent keeps fits some machine, where a bank was started. Where the device tells its content, sound or not, the flash shows
--- the state that the agent shows: what was answered stands there. And both replicas hold the metadata that the agent keeps.
+-- What the agent keeps fits some machine, where a bank was started. Where the device tells its content, sound or not, the flash
+-- shows the state that the agent shows: what was answered stands there. And both replicas hold the metadata that the agent keeps.
 abbrev pub FitsMachine : Bool → TurnMoment → Type 0
 FitsMachine tells m = (f : Fields) → m.on ≡ Some f
     → ∥ agent.Showing (kept_at tells f m.told m.writes) ∥₁

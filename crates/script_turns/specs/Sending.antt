@@ -49,8 +49,8 @@ SpendsSent (reply.EndRefused st) writes armed arming = TakesWrites writes armed 
 SpendsSent other writes armed arming = ⊤
 
 -- Some table and images were sent, those of the file where it is told. The answer is that of each machine that the agent shows, and
--- it shows the machine after it. An armed loss counts the writes of this same table: those of the begin, and of its images in pieces
--- of 4096 bytes.
+-- it shows the machine after it. An armed loss counts the writes of this same table: those of the begin, and of its images in
+-- pieces of 4096 bytes.
 pub record SendsBy (passes : List ℕ → Bool) (files : Option Directory) (name : List ℕ) (request : ℕ) (r : Reply)
     (old new : agent.Moment) (armed arming : Option Arming) : Type 0 where
   pub toc : Toc
