@@ -12,7 +12,7 @@ use Rattle.agent_machine.specs.Fields.{Fields}
 use Rattle.host_io.specs.Contents.{Directory}
 use Rattle.script_turns.specs.{Powered.IsSafe, Powered.TurnMoment, Powered.SameDevice, Powered.at, Runs.Ran, Runs.RunsFree}
 use Rattle.script_runs.specs.Ways.{Given, Way, starved, refused, ran}
-use Rattle.flash_commands.specs.SoakWays.{EndsNone}
+use Rattle.flash_commands.specs.Soaking.{EndsNone}
 use Rattle.flash_commands.proofs.FormatFlash.{clean-sure}
 use Rattle.script_cmd.specs.Promises.{RunLeaves, RanHolds}
 

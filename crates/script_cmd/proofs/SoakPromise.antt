@@ -37,7 +37,8 @@ use Rattle.script_turns.specs.{Powered.TurnMoment, Powered.at, Turning.NoneFalls
 use Rattle.script_runs.specs.Ending.{Device, Ending, PutsNone, World, in_model, is_beyond_model, noted}
 use Rattle.flash_commands.specs.Formatting.{Tries, format_note, format_status, format_text}
 use Rattle.flash_commands.specs.{Showing.RefusedList, Soaking.first_files, Soaking.soak_files, Soaking.stop_text}
-use Rattle.flash_commands.specs.SoakWays.{EndsNone, SoakEnds, SoakWay, all_done, lacking, list_refused, not_formatted, ran, starved, stopped, too_small}
+use Rattle.flash_commands.specs.Soaking.{EndsNone}
+use Rattle.flash_commands.specs.SoakWays.{SoakEnds, SoakWay, all_done, lacking, list_refused, not_formatted, ran, starved, stopped, too_small}
 use Rattle.flash_commands.specs.Formatting as format
 use Rattle.host_io.specs.Printed.{Prints, nothing}
 use Rattle.script_runs.specs.{ByTable.StopHasCause, ByTable.flash_fault_line, Running.last_turn, Ways.Given, declared.done.Note.Note}
