@@ -1,16 +1,13 @@
-use Rattle.std.proofs.Common.{refl, Err, Ok, arith, subst, ◌∙◌, take}
+use Rattle.std.proofs.Common.{refl, Ok, arith, ◌∙◌, take}
 use Rattle.host_io.proofs.Once.{bytes-none, bytes-then, once-bytes, once-then}
 use Rattle.wire_frames.proofs.Readings.{length-frame}
-use Rattle.serving.specs.{Scene.at, Scene.port, Scene.scene, Serving.ServesOne}
 use Rattle.serving.proofs.Steps.{ends-at, ends-there, so-far-more, so-far-none}
 use Rattle.serving.proofs.serving.serve_all.Goals as goal
 
 pub loop-size-init : goal.loop-size-init
 loop-size-init g c =
-    let E = scene (g.V.Verifier.passes c.args.verifier.now) g.D.Flash.tells (g.H.Files.contents c.args.files.now) (g.H.Files.faults c.args.files.now) in
-    let old = at c.args.serving.now (port (g.O.Sink.taken c.args.sink.now) (g.O.Sink.faults c.args.sink.now)) in
     record {
-      so_far = so-far-none E old (port (g.I.Source.left c.args.source.now) (g.I.Source.faults c.args.source.now)) c.new-reader.result c.new-reader.ensures (omega (arith, c.new-reader.ensures));
+      so_far = so-far-none _ _ _ c.new-reader.result c.new-reader.ensures (omega (arith, c.new-reader.ensures));
       powered = c.requires.powered;
       size = refl;
       files = refl;
@@ -19,45 +16,21 @@ loop-size-init g c =
 
 pub returns-in-Err-clause-goes : goal.returns-in-Err-clause-goes
 returns-in-Err-clause-goes g c =
-    let E = scene (g.V.Verifier.passes c.args.verifier.now) g.D.Flash.tells (g.H.Files.contents c.args.files.now) (g.H.Files.faults c.args.files.now) in
-    let old = at c.args.serving.now (port (g.O.Sink.taken c.args.sink.now) (g.O.Sink.faults c.args.sink.now)) in
-    let from = port (g.I.Source.left c.args.source.now) (g.I.Source.faults c.args.source.now) in
-    let now = at c.loop-size.serving (port (g.O.Sink.taken c.loop-size.sink) (g.O.Sink.faults c.loop-size.sink)) in
-    let mid = port (g.I.Source.left c.loop-size.source) (g.I.Source.faults c.loop-size.source) in
-    let rest = port (g.I.Source.left c.next.new.source) (g.I.Source.faults c.next.new.source) in
-    ends-there E old from now mid c.loop-size.reader c.loop-size.invariant.so_far rest c.next.new.self c.end_of_stop.result c.in-Err.why c.in-Err.ensures.stops c.next.ensures.within c.in-Err.ensures.reads.faults c.next.ensures.reads.later c.end_of_stop.ensures
+    ends-there _ _ _ _ _ _ c.loop-size.invariant.so_far _ c.next.new.self c.end_of_stop.result c.in-Err.why c.in-Err.ensures.stops c.next.ensures.within c.in-Err.ensures.reads.faults c.next.ensures.reads.later c.end_of_stop.ensures
 
 pub returns-in-Err-served-clause-goes : goal.returns-in-Err-served-clause-goes
 returns-in-Err-served-clause-goes g c =
-    let passes = g.V.Verifier.passes c.args.verifier.now in
-    let E = scene passes g.D.Flash.tells (g.H.Files.contents c.args.files.now) (g.H.Files.faults c.args.files.now) in
-    let old = at c.args.serving.now (port (g.O.Sink.taken c.args.sink.now) (g.O.Sink.faults c.args.sink.now)) in
-    let from = port (g.I.Source.left c.args.source.now) (g.I.Source.faults c.args.source.now) in
-    let now = at c.loop-size.serving (port (g.O.Sink.taken c.loop-size.sink) (g.O.Sink.faults c.loop-size.sink)) in
-    let mid = port (g.I.Source.left c.loop-size.source) (g.I.Source.faults c.loop-size.source) in
-    let rest = port (g.I.Source.left c.next.new.source) (g.I.Source.faults c.next.new.source) in
-    let body = take c.in-Ok.size c.next.new.body in
-    let new = at c.serve_one-served.new.serving (port (g.O.Sink.taken c.serve_one-served.new.sink) (g.O.Sink.faults c.serve_one-served.new.sink)) in
-    let serves = subst (λ (f : g.row.H.Denot). ServesOne (scene passes g.D.Flash.tells (g.H.Files.contents f) (g.H.Files.faults f)) body now new (Err c.in-Err-served.end)) c.loop-size.invariant.files c.in-Err-served.ensures.serves in
-    ends-at E old from now mid c.loop-size.reader c.loop-size.invariant.so_far rest c.next.new.self body c.in-Ok.ensures.frame new c.in-Err-served.end c.in-Ok.ensures.reads.faults c.next.ensures.within serves c.in-Err-served.ensures.ends
+    let serves = rw c.loop-size.invariant.files at c.in-Err-served.ensures.serves in
+    ends-at _ _ _ _ _ _ c.loop-size.invariant.so_far _ c.next.new.self (take c.in-Ok.size c.next.new.body) c.in-Ok.ensures.frame _ c.in-Err-served.end c.in-Ok.ensures.reads.faults c.next.ensures.within serves c.in-Err-served.ensures.ends
 
 pub loop-size-smaller : goal.loop-size-smaller
 loop-size-smaller g c = omega (arith, length-frame (take c.in-Ok.size c.next.new.body), c.in-Ok.ensures.frame.count, c.next.ensures.within)
 
 pub loop-size-preserved : goal.loop-size-preserved
 loop-size-preserved g c =
-    let passes = g.V.Verifier.passes c.args.verifier.now in
-    let E = scene passes g.D.Flash.tells (g.H.Files.contents c.args.files.now) (g.H.Files.faults c.args.files.now) in
-    let old = at c.args.serving.now (port (g.O.Sink.taken c.args.sink.now) (g.O.Sink.faults c.args.sink.now)) in
-    let from = port (g.I.Source.left c.args.source.now) (g.I.Source.faults c.args.source.now) in
-    let now = at c.loop-size.serving (port (g.O.Sink.taken c.loop-size.sink) (g.O.Sink.faults c.loop-size.sink)) in
-    let mid = port (g.I.Source.left c.loop-size.source) (g.I.Source.faults c.loop-size.source) in
-    let rest = port (g.I.Source.left c.next.new.source) (g.I.Source.faults c.next.new.source) in
-    let body = take c.in-Ok.size c.next.new.body in
-    let new = at c.serve_one-served.new.serving (port (g.O.Sink.taken c.serve_one-served.new.sink) (g.O.Sink.faults c.serve_one-served.new.sink)) in
-    let serves = subst (λ (f : g.row.H.Denot). ServesOne (scene passes g.D.Flash.tells (g.H.Files.contents f) (g.H.Files.faults f)) body now new (Ok tt)) c.loop-size.invariant.files c.in_default.ensures.serves in
+    let serves = rw c.loop-size.invariant.files at c.in_default.ensures.serves in
     record {
-      so_far = so-far-more E old from now mid c.loop-size.reader c.loop-size.invariant.so_far rest c.next.new.self body c.in-Ok.ensures.frame new (Ok tt) c.in-Ok.ensures.reads.faults c.next.ensures.within serves refl;
+      so_far = so-far-more _ _ _ _ _ _ c.loop-size.invariant.so_far _ c.next.new.self (take c.in-Ok.size c.next.new.body) c.in-Ok.ensures.frame _ (Ok tt) c.in-Ok.ensures.reads.faults c.next.ensures.within serves refl;
       powered = c.in_default.ensures.leaves.powered;
       size = c.serve_one-served.ensures.leaves.size ∙ c.loop-size.invariant.size;
       files = c.serve_one-served.ensures.leaves.files ∙ c.loop-size.invariant.files;

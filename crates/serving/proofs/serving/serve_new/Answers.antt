@@ -1,15 +1,13 @@
 use Rattle.std.proofs.Common.{◌≡◌, ◌∙◌, ℕ, List, length, replicate, take, drop, ap, refl, subst, arith}
 use Rattle.std.proofs.lemmas.List.{length-replicate, length-take-le, take_rest}
 use Rattle.fwu_wire.proofs.Written.{behind-eight, frame-written}
-use Rattle.serving.specs.{Serving.OneReply, Serving.OneStop, Serving.ServesNew, Serving.stopped, Written.called, Scene.at}
-use Rattle.serving.specs.Scene.{port, run_of, scene}
+use Rattle.serving.specs.{Serving.ServesNew, Serving.stopped, Written.called, Scene.at, Scene.port, Scene.scene}
 use Rattle.serving.proofs.Starts.{new-answered}
 use Rattle.serving.proofs.serving.serve_new.Goals as goal
 
 pub returns-in-Err-clause-serves : goal.returns-in-Err-clause-serves
 returns-in-Err-clause-serves g c =
-    let E = scene (g.V.Verifier.passes c.args.verifier.now) g.D.Flash.tells (g.H.Files.contents c.args.files.now) (g.H.Files.faults c.args.files.now) in
-    let stop = subst (λ (m : List ℕ). OneStop E (called m) c.in-Err.end (run_of c.args.serving.now) (run_of c.act_on-acted.new.serving)) (take_rest c.args.body.now 4) c.in-Err.ensures.acts in
+    let stop = rw (take_rest c.args.body.now 4) at c.in-Err.ensures.acts in
     stopped c.in-Err.end stop refl c.act_on-acted.ensures.exchange refl
 
 pub returns-clause-serves : goal.returns-clause-serves
@@ -28,6 +26,6 @@ returns-clause-serves g c =
     let long = c.act_on-acted.auto.out in
     let behind : drop 8 out ≡ sub = c.put_head.ensures.behind ∙ behind-eight first sub (omega (arith, room)) in
     let whole = frame-written c.number_of-number.result size out (take size sub) c.put_head.ensures.front (ap (take size) behind) (length-take-le size sub (omega (arith, few, long, room))) in
-    let one = subst (λ (m : List ℕ). OneReply E (called m) (take size sub) (run_of c.args.serving.now) (run_of acted)) (take_rest body 4) c.in-Ok.ensures.acts in
+    let one = rw (take_rest body 4) at c.in-Ok.ensures.acts in
     subst (λ (n : ℕ). ServesNew E n (called (drop 4 body)) old new c.put.result) c.number_of-number.ensures
     (new-answered E c.number_of-number.result size (called (drop 4 body)) old new c.put.result sub out one whole c.keep.ensures c.put.ensures.puts)
