@@ -16,10 +16,11 @@ use Rattle.image_check.specs.declared.bank.Verdict.TheVariants as verdict
 use Rattle.flash_format.specs.{Choosing.refusal, declared.formatting.Formatted.Formatted, declared.stops.FormatStop.FormatStop}
 use Rattle.flash_format.specs.{declared.stops.InputFault.InputFault, Stops.flash_result, Stops.unread_in}
 use Rattle.flash_format.specs.Formatted.{HoldsImages, IsBlank, IsFormatted, IsInOrder, IsRefusedFormat, IsSpelled, IsUnlaid}
-use Rattle.flash_format.specs.Stops.{FormatFinishes, IfRefused, IsByVerdict, IsEarlyStop, IsOfBytes, IsOfLayout, LayoutBy, ReadsFileBy}
-use Rattle.flash_format.specs.Stops.{RefusesAs}
+use Rattle.flash_format.specs.Stops.{FormatFinishes, IfRefused, IsByVerdict, IsEarlyStop, IsOfBytes, IsOfLayout, LayoutBy}
+use Rattle.flash_format.specs.Stops.{ReadsFileBy, RefusesAs}
 use Rattle.flash_format.specs.declared.stops.FormatStop.TheVariants.{Input, ReadFailed, Flash}
 use Rattle.flash_format.specs.declared.stops.InputFault.TheVariants as fault
+use Rattle.fwu_words.specs.declared.orders.NewFlash.{NewFlash}
 use Rattle.fwu_words.specs.Order as ask
 use Rattle.script_turns.specs.{Powered.TurnMoment, Turning.NoneFalls}
 use Rattle.script_runs.specs.ByTable.{StopHasCause, Wakes, flash_fault_line}
@@ -126,6 +127,10 @@ pub record Tries (passes : List ℕ → Bool) (tells : Bool) (told : Option Dire
   pub stopped : (stop : FlashStop) → r ≡ Err (Flash stop) → StopHasCause old.counts new.counts
 
 -- ---- what the command did
+
+-- the layout that a flash is asked to have
+abbrev pub layout_of : NewFlash → Layout
+layout_of wanted = record { banks = wanted.banks; rows = wanted.rows.items }
 
 -- Nothing was done for want of memory, or since a list of digests was not read or is none. Or the flash was formatted or was not,
 -- and the line of that was put into the sink.

@@ -1,5 +1,5 @@
 -- What the turns of a soak do, and what its line tells.
-use Rattle.std.specs.Prelude.{◌≡◌, ◌≢◌, ◌≤◌, ℕ, ◌+◌, Bool, List, ◌∷◌, ◌++◌, Some, IsTrue, IsFalse, ◌<◌, slice_index_or, []}
+use Rattle.std.specs.Prelude.{◌≡◌, ◌≢◌, ◌≤◌, ℕ, ◌+◌, Bool, List, ◌∷◌, ◌++◌, Some, IsSome, IsTrue, IsFalse, ◌<◌, slice_index_or, []}
 use Rattle.std.specs.List.{list_any}
 use Rattle.host_io.specs.Contents.{Directory, bytes_in}
 use Rattle.fwu_model.specs.{Call.Call, Reply.Reply, Reply.Turn, Run.ends_run, Text.line, Headline.IsPrefixOf, Causes.status_by}
@@ -36,6 +36,10 @@ first_files seed = only_file_of (file_name 0) (first_package seed)
 -- the packages of all rounds
 abbrev pub soak_files : ℕ → ℕ → Directory
 soak_files seed n = packages_of (soak_rounds seed n)
+
+-- the file of this name is there, and it is the same among all
+abbrev pub AgreeAt : Directory → Directory → List ℕ → Type 0
+AgreeAt one all name = (one name ≡ all name) × IsSome (one name)
 
 -- the line of a turn that ends a soak
 abbrev pub stop_text : Call → Reply → List ℕ

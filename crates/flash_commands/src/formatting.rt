@@ -3,7 +3,7 @@ ghost use Rattle.std.specs.Prelude.{◌≡◌, ◌≤◌, ℕ, List, [], Option,
 ghost use Rattle.fwu_journal.specs.Shown.{turns};
 ghost use Rattle.host_io.specs.Reads.{ReadsFile};
 ghost use Rattle.script_turns.specs.Powered.{moment};
-ghost use Rattle.flash_commands.specs.Formatting.{Formats, Tries, format_note, format_status};
+ghost use Rattle.flash_commands.specs.Formatting.{Formats, Tries, format_note, format_status, layout_of};
 ghost use Rattle.flash_commands.specs.Here.{without_list, world_at};
 ghost use Rattle.script_runs.specs.Ways.{device_of};
 
@@ -80,8 +80,7 @@ pub fn format_flash<'a, D: Flash, H: Files, O: Sink, V: Verifier>(
     requires off { IsFalse (D.on flash) }
     requires unarmed { D.arming flash ≡ None }
     ensures formats { (script : Option (List ℕ)) (was are : ℕ) → Formats (V.passes verifier.now) (device_of D.Flash flash)
-        (without_list H.Files script files.old) wanted.entry.package.now
-        (record { banks = wanted.entry.banks; rows = wanted.entry.rows.items })
+        (without_list H.Files script files.old) wanted.entry.package.now (layout_of wanted.entry)
         (world_at D.Flash H.Files O.Sink was flash files.old sink.old)
         (world_at D.Flash H.Files O.Sink are result.flash files.new sink.new) result.status result.note }
     ensures power { result.status ≡ 0 → IsTrue (D.on result.flash) }

@@ -1,5 +1,5 @@
 //! The calls of a soak, one after the other. No line of a turn is printed here.
-ghost use Rattle.std.specs.Prelude.{◌≡◌, ◌≤◌, ◌++◌, ◌∷◌, ℕ, [], All, Contains, List, Some, IfOk, IfSome, IsSome};
+ghost use Rattle.std.specs.Prelude.{◌≡◌, ◌≤◌, ◌++◌, ◌∷◌, ℕ, [], All, Contains, List, Some, IfOk, IfSome};
 ghost use Rattle.std.specs.Prelude.{IsTrue, IsFalse, None, flat_map, length, map, string_bytes};
 ghost use Rattle.fwu_journal.specs.Shown.{HasRoomFor, turns};
 ghost use Rattle.fwu_model.specs.Call.{Call as Calls};
@@ -13,7 +13,7 @@ ghost use Rattle.script_text.specs.Armable.{IsArmable};
 ghost use Rattle.script_text.specs.Shown.{HasBuffer, shown};
 ghost use Rattle.script_turns.specs.Powered.{TurnMoment, device, has_power, moment_of, shown_on};
 ghost use Rattle.script_runs.specs.Ending.{is_beyond_model};
-ghost use Rattle.flash_commands.specs.Soaking.{GoesHere, HasPackages, StandsHere, only_file_of};
+ghost use Rattle.flash_commands.specs.Soaking.{AgreeAt, GoesHere, HasPackages, StandsHere, only_file_of};
 
 use crate::one_file::OneFile;
 use base_core::NoMemory;
@@ -53,8 +53,7 @@ fn do_calls<D: Flash>(
     requires turns_fit { HasRoomFor run.old.journal (length calls.now) }
     ensures stands { (all : Directory) (done : List Calls) (old : TurnMoment) → GoesHere all done old run.old
         → ((name : List ℕ) (request : ℕ) → Contains (map soak_shown calls.now) (call.Send name request)
-        → let here = only_file_of (string_bytes files.old.name) files.old.bytes.items name in (here ≡ all name) × IsSome here)
-        → old.on ≡ None
+        → AgreeAt (only_file_of (string_bytes files.old.name) files.old.bytes.items) all name) → old.on ≡ None
         → StandsHere all (done ++ map soak_shown calls.now) old run.new result }
     ensures note { IsFalse (is_beyond_model result.note) }
     ensures powered { result.status ≡ 0 → D.on (device run.new.powered) ≡ has_power run.new.powered }
