@@ -5,8 +5,8 @@ use Rattle.fip_tables.specs.{Packing.zeroed, declared.faults.PackFault.PackFault
 use Rattle.capsule_tables.specs.{Making.capsule_bytes, Making.make_fault, Answers.IsCapsuleAnswer}
 use Rattle.capsule_tables.specs.declared.faults.CapsuleStop.{CapsuleStop}
 use Rattle.capsule_tables.proofs.{Made.same-make_fault, Within.ends-within}
-use Rattle.fip_making.specs.{Payloads.HasEntry, Payloads.bytes_in, declared.stops.Stop.Stop}
-use Rattle.fip_making.specs.Values.{enclose_value, after, capsule_in, capsule_value, kept_part, pack_value, repackage_value, table_or, there}
+use Rattle.fip_making.specs.{Payloads.HasEntry, Payloads.file_bytes, declared.stops.Stop.Stop}
+use Rattle.fip_making.specs.Values.{enclose_value, and_then, capsule_in, capsule_value, kept_part, pack_value, repackage_value, table_or, there}
 use Rattle.fip_making.specs.declared.stops.Stop.TheVariants as stop
 use Rattle.std.specs.Prelude.{unwrap_or}
 use Rattle.std.specs.List.{All}
@@ -30,13 +30,13 @@ module _ (ps os : List Part) (same : map zeroed ps ≡ os) where
 -- ---- the table of a capsule in a file
 
 abbrev pub table_in : Directory → List ℕ → Result Toc Stop
-table_in told name = after (capsule_in told name) (λ p. Ok p.1)
+table_in told name = and_then (capsule_in told name) (λ p. Ok p.1)
 
 abbrev capsule_by : Option (List ℕ) → Result (List ℕ × Toc) Stop
-capsule_by o = after (there o) (λ bytes. after (table_or stop.NotCapsule (capsule_of bytes)) (λ t. Ok (bytes, t)))
+capsule_by o = and_then (there o) (λ bytes. and_then (table_or stop.NotCapsule (capsule_of bytes)) (λ t. Ok (bytes, t)))
 
 abbrev table_by : Result (List ℕ × Toc) Stop → Result Toc Stop
-table_by r = after r (λ p. Ok p.1)
+table_by r = and_then r (λ p. Ok p.1)
 
 -- the capsule that such a table is of
 pub record IsEnclosed (told : Directory) (name : List ℕ) (toc : Toc) : Type 0 where
@@ -47,7 +47,7 @@ pub record IsEnclosed (told : Directory) (name : List ℕ) (toc : Toc) : Type 0 
 pub opened-capsule : (told : Directory) (name : List ℕ) (toc : Toc) → table_in told name ≡ Ok toc → IsEnclosed told name toc
 opened-capsule told name toc e = by-file (told name) refl e
   where
-    by-table : (bytes : List ℕ) (r : Result Toc CapsuleFault) → told name ≡ Some bytes → capsule_of bytes ≡ r → table_by (after (table_or stop.NotCapsule r) (λ t. Ok (bytes, t))) ≡ Ok toc → IsEnclosed told name toc
+    by-table : (bytes : List ℕ) (r : Result Toc CapsuleFault) → told name ≡ Some bytes → capsule_of bytes ≡ r → table_by (and_then (table_or stop.NotCapsule r) (λ t. Ok (bytes, t))) ≡ Ok toc → IsEnclosed told name toc
     by-table bytes (Err f) is t h = cc
     by-table bytes (Ok found) is t h =
         let same : found ≡ toc = cc in
@@ -59,7 +59,7 @@ opened-capsule told name toc e = by-file (told name) refl e
 
 pub capsule-ok : (told : Directory) (name bytes : List ℕ) (toc : Toc) → told name ≡ Some bytes → capsule_of bytes ≡ Ok toc → table_in told name ≡ Ok toc
 capsule-ok told name bytes toc is table =
-    ap (λ (o : Option (List ℕ)). table_by (capsule_by o)) is ∙ ap (λ (r : Result Toc CapsuleFault). table_by (after (table_or stop.NotCapsule r) (λ t. Ok (bytes, t)))) table
+    ap (λ (o : Option (List ℕ)). table_by (capsule_by o)) is ∙ ap (λ (r : Result Toc CapsuleFault). table_by (and_then (table_or stop.NotCapsule r) (λ t. Ok (bytes, t)))) table
 
 -- ---- what a reading gives
 
@@ -86,27 +86,27 @@ has-items o p name toc same knows =
 -- ---- what is made of it
 
 -- a stop of the table is one of what is made
-stopped-capsule : {Y : Type 0} (told : Directory) (name : List ℕ) (k : List ℕ × Toc → Result Y Stop) (s : Stop) → table_in told name ≡ Err s → after (capsule_in told name) k ≡ Err s
+stopped-capsule : {Y : Type 0} (told : Directory) (name : List ℕ) (k : List ℕ × Toc → Result Y Stop) (s : Stop) → table_in told name ≡ Err s → and_then (capsule_in told name) k ≡ Err s
 stopped-capsule {Y} told name k s e = go (capsule_in told name) e
   where
-    go : (r : Result (List ℕ × Toc) Stop) → table_by r ≡ Err s → after r k ≡ Err s
+    go : (r : Result (List ℕ × Toc) Stop) → table_by r ≡ Err s → and_then r k ≡ Err s
     go (Ok p) h = cc
     go (Err t) h = let same : t ≡ s = cc in ap (λ (x : Stop). Err x) same
 
 pub package-of : (told : Directory) (a : ℕ) (name : List ℕ) (toc : Toc) (o : IsEnclosed told name toc)
-    → repackage_value told a name ≡ pack_value toc.serial toc.flags (map (kept_part (bytes_in told name)) toc.entries) a
+    → repackage_value told a name ≡ pack_value toc.serial toc.flags (map (kept_part (file_bytes told name)) toc.entries) a
 unfolding repackage_value
 package-of told a name toc o =
     let k : List ℕ × Toc → Result (ℕ × List ℕ) Stop = λ p. pack_value p.1.serial p.1.flags (map (kept_part p.0) p.1.entries) a in
-    ap (λ (b : Option (List ℕ)). after (capsule_by b) k) o.is
-    ∙ ap (λ (r : Result Toc CapsuleFault). after (after (table_or stop.NotCapsule r) (λ t. Ok (o.bytes, t))) k) o.table
+    ap (λ (b : Option (List ℕ)). and_then (capsule_by b) k) o.is
+    ∙ ap (λ (r : Result Toc CapsuleFault). and_then (and_then (table_or stop.NotCapsule r) (λ t. Ok (o.bytes, t))) k) o.table
     ∙ ap (λ (f : Option (List ℕ)). k (unwrap_or f [], toc)) (sym o.is)
 
 pub package-err : (told : Directory) (a : ℕ) (name : List ℕ) (s : Stop) → table_in told name ≡ Err s → repackage_value told a name ≡ Err s
 unfolding repackage_value
 package-err told a name s e = stopped-capsule told name (λ p. pack_value p.1.serial p.1.flags (map (kept_part p.0) p.1.entries) a) s e
 
-pub capsule-of : (told : Directory) (name : List ℕ) (toc : Toc) (o : IsOpened told name [] toc) → capsule_value told name ≡ enclose_value (map (kept_part (bytes_in told name)) toc.entries)
+pub capsule-of : (told : Directory) (name : List ℕ) (toc : Toc) (o : IsOpened told name [] toc) → capsule_value told name ≡ enclose_value (map (kept_part (file_bytes told name)) toc.entries)
 unfolding capsule_value
 capsule-of told name toc o = going-on told name [] toc (λ p. enclose_value (map (kept_part p.0) p.1.entries)) o
 

@@ -3,7 +3,7 @@ use Rattle.std.proofs.Common.{◌≡◌, ◌<◌, ◌+◌, ℕ, suc, List, [], �
 use Rattle.std.specs.Prelude.{IfSome, option_and_then}
 use Rattle.std.proofs.lemmas.List.{map-append, take-append-drop, take_more}
 use Rattle.fip_words.specs.Values.{each}
-use Rattle.fip_making.specs.{Values.after, Values.there, declared.stops.Stop.Stop}
+use Rattle.fip_making.specs.{Values.and_then, Values.there, declared.stops.Stop.Stop}
 use Rattle.fip_making.specs.declared.stops.Stop.TheVariants as stop
 
 -- one more, where there is one
@@ -57,7 +57,7 @@ pub record IsValue {Y Z : Type 0} (value : Option Y → Result Z Stop) (some : Y
 pub plain : {Y : Type 0} → IsValue {Y = Y} there (λ y. y)
 plain = record { none = refl; one = λ y. refl }
 
-pub made-by : {Y Z : Type 0} (some : Y → Z) → IsValue (λ o. after (there o) (λ y. Ok (some y))) some
+pub made-by : {Y Z : Type 0} (some : Y → Z) → IsValue (λ o. and_then (there o) (λ y. Ok (some y))) some
 made-by some = record { none = refl; one = λ y. refl }
 
 missing : {Y Z : Type 0} {value : Option Y → Result Z Stop} {some : Y → Z} → IsValue value some → (o : Option Y) (s : Stop)
@@ -72,7 +72,7 @@ pub stopped-by : {Y Z W : Type 0} {value : Option Y → Result Z Stop} {some : Y
 stopped-by v other none o s e = let m = missing v o s e in ap other m.0 ∙ none ∙ ap (λ (t : Stop). Err t) m.1
 
 -- what was made was made of a value
-pub after-ok : {X Y : Type 0} (r : Result X Stop) (k : X → Result Y Stop) (y : Y) → after r k ≡ Ok y
+pub after-ok : {X Y : Type 0} (r : Result X Stop) (k : X → Result Y Stop) (y : Y) → and_then r k ≡ Ok y
     → (x : X) × (r ≡ Ok x) × (k x ≡ Ok y)
 after-ok (Ok x) k y e = (x, refl, e)
 after-ok (Err s) k y e = absurd cc
@@ -83,12 +83,12 @@ is-there (Some y) x e = cc
 
 -- what ends with the number of them, where the value of all is known
 pub ends-as : {X Y W V : Type 0} (f : X → Option Y) (xs : List X) (whole : List Y → W) (w : W) (end : ℕ → W → Result V Stop)
-    → after (there (each f xs)) (λ ys. Ok (whole ys)) ≡ Ok w
-    → after (there (each f xs)) (λ ys. end (length ys) (whole ys)) ≡ end (length xs) w
+    → and_then (there (each f xs)) (λ ys. Ok (whole ys)) ≡ Ok w
+    → and_then (there (each f xs)) (λ ys. end (length ys) (whole ys)) ≡ end (length xs) w
 ends-as {Y = Y} {W = W} {V = V} f xs whole w end e = go (each f xs) (each-long f xs) e
   where
-    go : (o : Option (List Y)) → IfSome o (λ ys. length ys ≡ length xs) → after (there o) (λ ys. Ok (whole ys)) ≡ Ok w
-        → after (there o) (λ ys. end (length ys) (whole ys)) ≡ end (length xs) w
+    go : (o : Option (List Y)) → IfSome o (λ ys. length ys ≡ length xs) → and_then (there o) (λ ys. Ok (whole ys)) ≡ Ok w
+        → and_then (there o) (λ ys. end (length ys) (whole ys)) ≡ end (length xs) w
     go None long h = cc
     go (Some ys) long h = let were : whole ys ≡ w = cc in cc
 

@@ -11,7 +11,7 @@ use Rattle.fwu_formats.specs.declared.kinds.ManifestFault.TheVariants as fault
 use Rattle.manifest_core.specs.{Shown.row, declared.rows.Row.Row as CodeRow}
 use Rattle.fip_words.specs.{Order.image_view, Values.NamedImage, Values.each, declared.values.ImageWord.ImageWord}
 use Rattle.fip_making.specs.{Answers.AsksNothing, Refusals.IsManifestStop, declared.stops.Stop.Stop}
-use Rattle.fip_making.specs.Values.{Image, after, file_value, image_in, image_limit, image_row, is_long, manifest_value, of_rows, size_in, sizes_value, there, unless_long}
+use Rattle.fip_making.specs.Values.{Image, and_then, file_value, image_in, image_limit, image_row, is_long, manifest_value, of_rows, size_in, sizes_value, there, unless_long}
 use Rattle.fip_making.specs.declared.stops.Stop.TheVariants as stop
 use Rattle.fip_making.proofs.{Refusing.err-of, Tables.sized}
 use Rattle.fip_making.proofs.Folds.{before, before-none, each-more, ends-as, made-by, more-at, plain, stopped-by, stops-at, with_one}
@@ -22,11 +22,11 @@ image_by x o = option_map (λ (b : List ℕ). let i : Image = record { guid = x.
 
 -- what a manifest says of a named image
 abbrev pub row_value : Directory → NamedImage → Result (Option Row) Stop
-row_value told x = after (there (image_in told x)) (λ i. Ok (image_row i))
+row_value told x = and_then (there (image_in told x)) (λ i. Ok (image_row i))
 
 -- and of several
 abbrev pub rows_value : Directory → List NamedImage → Result (Option (List Row)) Stop
-rows_value told xs = after (there (each (image_in told) xs)) (λ images. Ok (each image_row images))
+rows_value told xs = and_then (there (each (image_in told) xs)) (λ images. Ok (each image_row images))
 
 pub row-made : (told : Directory) (x : NamedImage) (bytes image : List ℕ) (more : Option Row) → file_value told x.file ≡ Ok bytes → image ≡ bytes
     → more ≡ image_row (record { guid = x.guid; version = x.version; bytes = image }) → row_value told x ≡ Ok more
@@ -40,7 +40,7 @@ row-made told x bytes image more e same is = go (told x.file) refl e
 pub row-stopped : (told : Directory) (x : NamedImage) (s : Stop) → file_value told x.file ≡ Err s → row_value told x ≡ Err s
 unfolding file_value
 row-stopped told x s e =
-    stopped-by plain (λ o. after (there (image_by x o)) (λ i. Ok (image_row i))) refl (told x.file) s e
+    stopped-by plain (λ o. and_then (there (image_by x o)) (λ i. Ok (image_row i))) refl (told x.file) s e
 
 -- the manifest of so many images, by their rows
 abbrev pub counted : ℕ → ℕ → Option (List Row) → Result (ℕ × List ℕ) Stop
@@ -50,15 +50,15 @@ pub value-stopped : (told : Directory) (security : ℕ) (xs : List NamedImage) (
 unfolding manifest_value
 value-stopped told security xs s e =
     stopped-by (made-by (each image_row))
-    (λ o. after (there o) (λ images. counted (length images) security (each image_row images))) refl (each (image_in told) xs) s e
+    (λ o. and_then (there o) (λ images. counted (length images) security (each image_row images))) refl (each (image_in told) xs) s e
 
 -- ---- whether one is too long
 
 abbrev pub long_value : Directory → NamedImage → Result Bool Stop
-long_value told x = after (there (image_in told x)) (λ i. Ok (is_long i))
+long_value told x = and_then (there (image_in told x)) (λ i. Ok (is_long i))
 
 abbrev pub longs_value : Directory → List NamedImage → Result Bool Stop
-longs_value told xs = after (there (each (image_in told) xs)) (λ images. Ok (list_any is_long images))
+longs_value told xs = and_then (there (each (image_in told) xs)) (λ images. Ok (list_any is_long images))
 
 pub long-made : (told : Directory) (x : NamedImage) (n : ℕ) (long : Bool) → size_in told x.file ≡ Ok n → long ≡ nat_lt image_limit n → long_value told x ≡ Ok long
 long-made told x n long e is = let s = sized told x.file n e in rw (s.1, s.2, is) refl
@@ -66,7 +66,7 @@ long-made told x n long e is = let s = sized told x.file n e in rw (s.1, s.2, is
 pub long-stopped : (told : Directory) (x : NamedImage) (s : Stop) → size_in told x.file ≡ Err s → long_value told x ≡ Err s
 unfolding size_in
 long-stopped told x s e =
-    stopped-by (made-by length) (λ o. after (there (image_by x o)) (λ i. Ok (is_long i))) refl (told x.file) s e
+    stopped-by (made-by length) (λ o. and_then (there (image_by x o)) (λ i. Ok (is_long i))) refl (told x.file) s e
 
 any-more : (images : List Image) (i : Image) → list_any is_long (images ++ (i ∷ [])) ≡ list_any is_long images || is_long i
 any-more images i = list_any-append is_long images (i ∷ []) ∙ ap (λ (b : Bool). list_any is_long images || b) (or-false (is_long i))
@@ -99,8 +99,8 @@ sizes-refuse told security xs s e = go (each (image_in told) xs) e
     by images false true is h = ap (of_rows security) (no-row images is) ∙ err-of h
     by images false false is h = cc
 
-    go : (a : Option (List Image)) → after (there a) (λ images. unless_long (length images) (list_any is_long images)) ≡ Err s
-        → after (there a) (λ images. counted (length images) security (each image_row images)) ≡ Err s
+    go : (a : Option (List Image)) → and_then (there a) (λ images. unless_long (length images) (list_any is_long images)) ≡ Err s
+        → and_then (there a) (λ images. counted (length images) security (each image_row images)) ≡ Err s
     go None h = err-of h
     go (Some images) h = by images ((length images == 0) || nat_lt 15 (length images)) (list_any is_long images) refl h
 
@@ -110,13 +110,13 @@ module _ (told : Directory) (all : List ImageWord) (i : ℕ) (x : ImageWord) (wi
   pub stopped-at : (s : Stop) → row_value told (image_view x) ≡ Err s → rows_value told (map image_view all) ≡ Err s
   stopped-at s e =
       stops-at image_view all i x within is (image_in told) (made-by image_row)
-      (λ o. after (there o) (λ images. Ok (each image_row images))) refl s e
+      (λ o. and_then (there o) (λ images. Ok (each image_row images))) refl s e
 
   pub sizes-stopped-at : (s : Stop) → long_value told (image_view x) ≡ Err s → sizes_value told (map image_view all) ≡ Err s
   unfolding sizes_value
   sizes-stopped-at s e =
       stops-at image_view all i x within is (image_in told) (made-by is_long)
-      (λ o. after (there o) (λ images. unless_long (length images) (list_any is_long images))) refl s e
+      (λ o. and_then (there o) (λ images. unless_long (length images) (list_any is_long images))) refl s e
 
   pub longs-more-at : (longs long : Bool) → longs_value told (map image_view (take i all)) ≡ Ok longs → long_value told (image_view x) ≡ Ok long
       → longs_value told (map image_view (take (i + 1) all)) ≡ Ok (longs || long)

@@ -5,8 +5,8 @@ use Rattle.fwu_formats.specs.Package.{Part, packed, Entry, payload}
 use Rattle.fip_words.specs.{Order.part_view, Values.NamedFile, declared.values.FileWord.FileWord}
 use Rattle.fip_tables.specs.{Packing.pack_fault, Packing.zeroed, declared.faults.PackFault.PackFault, Files.Lacks, Files.Tells}
 use Rattle.fip_making.specs.{Answers.Gives, declared.stops.Stop.Stop, declared.payloads.Payload.Payload}
-use Rattle.fip_making.specs.Values.{after, create_value, new_serial, pack_value, part_in, parts_in, there, size_in, new_bytes, updated_part}
-use Rattle.fip_making.specs.Payloads.{HasEntry, IsThere, bytes_in, outline_of, part_told}
+use Rattle.fip_making.specs.Values.{and_then, create_value, new_serial, pack_value, part_in, parts_in, there, size_in, new_bytes, updated_part}
+use Rattle.fip_making.specs.Payloads.{HasEntry, IsThere, file_bytes, outline_of, part_told}
 use Rattle.fip_making.specs.declared.stops.Stop.TheVariants as stop
 use Rattle.fip_making.proofs.Folds.{more-at as add-at, plain, stops-at, made-by, stopped-by}
 use Rattle.fip_making.proofs.Tables.{gives-err, sized}
@@ -46,11 +46,11 @@ packs-fault serial flags ps a f e = rw e refl
 
 pub create-of : (told : Directory) (a : ℕ) (xs : List NamedFile) (ps : List Part) → parts_in told xs ≡ Ok ps → create_value told a xs ≡ pack_value new_serial 0 ps a
 unfolding create_value
-create-of told a xs ps e = ap (λ (r : Result (List Part) Stop). after r (λ qs. pack_value new_serial 0 qs a)) e
+create-of told a xs ps e = ap (λ (r : Result (List Part) Stop). and_then r (λ qs. pack_value new_serial 0 qs a)) e
 
 pub create-err : (told : Directory) (a : ℕ) (xs : List NamedFile) (s : Stop) → parts_in told xs ≡ Err s → create_value told a xs ≡ Err s
 unfolding create_value
-create-err told a xs s e = ap (λ (r : Result (List Part) Stop). after r (λ qs. pack_value new_serial 0 qs a)) e
+create-err told a xs s e = ap (λ (r : Result (List Part) Stop). and_then r (λ qs. pack_value new_serial 0 qs a)) e
 
 -- ---- a named file
 
@@ -140,7 +140,7 @@ module _ (told : Directory) (bytes : List ℕ) (new : List Payload) (e : Entry) 
       find-map (part_told told) (λ (x : Part). same_bytes x.guid e.guid) new ∙ ap (option_map (part_told told)) is in
       spelled p guid flags (part_told told q).bytes same ∙ ap by-new (sym found)
 
-  pub entry-kept : (p : Payload) → of_its_type ≡ None → bytes_in told p.file.now ≡ bytes → p.guid ≡ e.guid → p.flags ≡ e.flags → p.size ≡ e.size → p.at ≡ e.offset
+  pub entry-kept : (p : Payload) → of_its_type ≡ None → file_bytes told p.file.now ≡ bytes → p.guid ≡ e.guid → p.flags ≡ e.flags → p.size ≡ e.size → p.at ≡ e.offset
       → part_told told p ≡ updated_part bytes (map (part_told told) new) e
   entry-kept p is file guid flags size at =
       let same : (part_told told p).bytes ≡ payload bytes e =

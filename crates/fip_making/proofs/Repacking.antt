@@ -7,8 +7,8 @@ use Rattle.host_io.specs.Contents.{Directory}
 use Rattle.fwu_formats.specs.{Package.Entry, Package.Part, Package.Toc, Package.toc_of, declared.kinds.FipFault.FipFault}
 use Rattle.fip_tables.specs.Files.{Lacks, Tells}
 use Rattle.fip_words.specs.{Order.part_view, Values.NamedFile, declared.values.FileWord.FileWord}
-use Rattle.fip_making.specs.{Payloads.HasEntry, Payloads.bytes_in, declared.stops.Stop.Stop}
-use Rattle.fip_making.specs.Values.{after, first_missing, is_named, kept_part, pack_value, package_read_in, parts_in, remove_value, sized_table, table_or, there, unless_missing, update_value, updated_part}
+use Rattle.fip_making.specs.{Payloads.HasEntry, Payloads.file_bytes, declared.stops.Stop.Stop}
+use Rattle.fip_making.specs.Values.{and_then, first_missing, has_type_among, kept_part, pack_value, package_read_in, parts_in, remove_value, sized_table, table_or, there, unless_missing, update_value, updated_part}
 use Rattle.fip_making.specs.declared.stops.Stop.TheVariants as stop
 use Rattle.fwu_formats.proofs.Tables.{ends-within}
 use Rattle.fip_making.proofs.{Packings.held-entries, Packings.held-stored, Packings.held-there, Refusing.err-of}
@@ -17,17 +17,17 @@ use Rattle.fip_making.proofs.{Packings.held-entries, Packings.held-stored, Packi
 
 -- the table in a file, where it has an entry of each of these types
 abbrev pub table_with : Directory → List ℕ → List (List ℕ) → Result Toc Stop
-table_with told name guids = after (sized_table told name) (λ t. unless_missing (first_missing t.0 guids) (Ok t.0))
+table_with told name guids = and_then (sized_table told name) (λ t. unless_missing (first_missing t.0 guids) (Ok t.0))
 
 -- what is made of such a package
 abbrev made_with : {Y : Type 0} → List (List ℕ) → (List ℕ × Toc → Result Y Stop) → Result (List ℕ × Toc) Stop → Result Y Stop
-made_with guids k r = after r (λ p. unless_missing (first_missing p.1 guids) (k p))
+made_with guids k r = and_then r (λ p. unless_missing (first_missing p.1 guids) (k p))
 
 abbrev package_of : Option (List ℕ) → Result (List ℕ × Toc) Stop
-package_of o = after (there o) (λ bytes. after (table_or stop.NotFip (toc_of bytes)) (λ t. Ok (bytes, t)))
+package_of o = and_then (there o) (λ bytes. and_then (table_or stop.NotFip (toc_of bytes)) (λ t. Ok (bytes, t)))
 
 abbrev table_by : List (List ℕ) → Result (List ℕ × Toc) Stop → Result Toc Stop
-table_by guids r = after {X = Toc × ℕ} (after r (λ p. Ok (p.1, length p.0))) (λ t. unless_missing (first_missing t.0 guids) (Ok t.0))
+table_by guids r = and_then {X = Toc × ℕ} (and_then r (λ p. Ok (p.1, length p.0))) (λ t. unless_missing (first_missing t.0 guids) (Ok t.0))
 
 -- the package that such a table is of
 pub record IsOpened (told : Directory) (name : List ℕ) (guids : List (List ℕ)) (toc : Toc) : Type 0 where
@@ -47,7 +47,7 @@ opened told name guids toc e = by-file (told name) refl e
         record { bytes = bytes; is = is; table = t ∙ ap (λ (x : Toc). Ok x) same; all = subst (λ (x : Toc). first_missing x guids ≡ None) same none }
     by-missing bytes found (Some guid) is t some h = cc
 
-    by-table : (bytes : List ℕ) (r : Result Toc FipFault) → told name ≡ Some bytes → toc_of bytes ≡ r → table_by guids (after (table_or stop.NotFip r) (λ t. Ok (bytes, t))) ≡ Ok toc → IsOpened told name guids toc
+    by-table : (bytes : List ℕ) (r : Result Toc FipFault) → told name ≡ Some bytes → toc_of bytes ≡ r → table_by guids (and_then (table_or stop.NotFip r) (λ t. Ok (bytes, t))) ≡ Ok toc → IsOpened told name guids toc
     by-table bytes (Err f) is t h = cc
     by-table bytes (Ok found) is t h = by-missing bytes found (first_missing found guids) is t refl h
 
@@ -57,7 +57,7 @@ opened told name guids toc e = by-file (told name) refl e
 
 -- a stop of the table is one of what is made
 pub stopped : {Y : Type 0} (told : Directory) (name : List ℕ) (guids : List (List ℕ)) (k : List ℕ × Toc → Result Y Stop) (s : Stop) → table_with told name guids ≡ Err s
-    → after (package_read_in told name) (λ p. unless_missing (first_missing p.1 guids) (k p)) ≡ Err s
+    → and_then (package_read_in told name) (λ p. unless_missing (first_missing p.1 guids) (k p)) ≡ Err s
 unfolding sized_table
 stopped {Y} told name guids k s e = by-file (told name) e
   where
@@ -65,7 +65,7 @@ stopped {Y} told name guids k s e = by-file (told name) e
     by-missing bytes found None h = cc
     by-missing bytes found (Some guid) h = err-of h
 
-    by-table : (bytes : List ℕ) (r : Result Toc FipFault) → table_by guids (after (table_or stop.NotFip r) (λ t. Ok (bytes, t))) ≡ Err s → made_with guids k (after (table_or stop.NotFip r) (λ t. Ok (bytes, t))) ≡ Err s
+    by-table : (bytes : List ℕ) (r : Result Toc FipFault) → table_by guids (and_then (table_or stop.NotFip r) (λ t. Ok (bytes, t))) ≡ Err s → made_with guids k (and_then (table_or stop.NotFip r) (λ t. Ok (bytes, t))) ≡ Err s
     by-table bytes (Err f) h = err-of h
     by-table bytes (Ok found) h = by-missing bytes found (first_missing found guids) h
 
@@ -75,10 +75,10 @@ stopped {Y} told name guids k s e = by-file (told name) e
 
 -- and where there is none
 pub going-on : {Y : Type 0} (told : Directory) (name : List ℕ) (guids : List (List ℕ)) (toc : Toc) (k : List ℕ × Toc → Result Y Stop) → (o : IsOpened told name guids toc)
-    → after (package_read_in told name) (λ p. unless_missing (first_missing p.1 guids) (k p)) ≡ k (bytes_in told name, toc)
+    → and_then (package_read_in told name) (λ p. unless_missing (first_missing p.1 guids) (k p)) ≡ k (file_bytes told name, toc)
 going-on told name guids toc k o =
     ap (λ (f : Option (List ℕ)). made_with guids k (package_of f)) o.is
-    ∙ ap (λ (r : Result Toc FipFault). made_with guids k (after (table_or stop.NotFip r) (λ t. Ok (o.bytes, t)))) o.table
+    ∙ ap (λ (r : Result Toc FipFault). made_with guids k (and_then (table_or stop.NotFip r) (λ t. Ok (o.bytes, t)))) o.table
     ∙ ap (λ (m : Option (List ℕ)). unless_missing m (k (o.bytes, toc))) o.all
     ∙ ap (λ (f : Option (List ℕ)). k (unwrap_or f [], toc)) (sym o.is)
 
@@ -103,15 +103,15 @@ module _ (o p : Option Directory) (name : List ℕ) (guids : List (List ℕ)) (t
 -- ---- what is made of it
 
 pub remove-of : (told : Directory) (a : ℕ) (name : List ℕ) (guids : List (List ℕ)) (toc : Toc) (o : IsOpened told name guids toc)
-    → remove_value told a name guids ≡ pack_value toc.serial toc.flags (map (kept_part (bytes_in told name)) (filter (λ e. not (is_named guids e)) toc.entries)) a
+    → remove_value told a name guids ≡ pack_value toc.serial toc.flags (map (kept_part (file_bytes told name)) (filter (λ e. not (has_type_among guids e)) toc.entries)) a
 unfolding remove_value
 remove-of told a name guids toc o =
-    going-on told name guids toc (λ p. pack_value p.1.serial p.1.flags (map (kept_part p.0) (filter (λ e. not (is_named guids e)) p.1.entries)) a) o
+    going-on told name guids toc (λ p. pack_value p.1.serial p.1.flags (map (kept_part p.0) (filter (λ e. not (has_type_among guids e)) p.1.entries)) a) o
 
 pub remove-err : (told : Directory) (a : ℕ) (name : List ℕ) (guids : List (List ℕ)) (s : Stop) → table_with told name guids ≡ Err s → remove_value told a name guids ≡ Err s
 unfolding remove_value
 remove-err told a name guids s e =
-    stopped told name guids (λ p. pack_value p.1.serial p.1.flags (map (kept_part p.0) (filter (λ e. not (is_named guids e)) p.1.entries)) a) s e
+    stopped told name guids (λ p. pack_value p.1.serial p.1.flags (map (kept_part p.0) (filter (λ e. not (has_type_among guids e)) p.1.entries)) a) s e
 
 -- the types of the named files
 pub types-are : (words : List FileWord) → map (λ q. q.guid) (map part_view words) ≡ map (λ (w : FileWord). w.guid) words
@@ -119,10 +119,10 @@ types-are [] = refl
 types-are (w ∷ words) = ap (λ (l : List (List ℕ)). w.guid ∷ l) (types-are words)
 
 abbrev updating : Directory → ℕ → List NamedFile → List ℕ × Toc → Result (ℕ × List ℕ) Stop
-updating told a parts p = after (parts_in told parts) (λ fresh. pack_value p.1.serial p.1.flags (map (updated_part p.0 fresh) p.1.entries) a)
+updating told a parts p = and_then (parts_in told parts) (λ fresh. pack_value p.1.serial p.1.flags (map (updated_part p.0 fresh) p.1.entries) a)
 
 pub update-of : (told : Directory) (a : ℕ) (name : List ℕ) (words : List FileWord) (guids : List (List ℕ)) (toc : Toc) (o : IsOpened told name guids toc) → guids ≡ map (λ (w : FileWord). w.guid) words
-    → update_value told a name (map part_view words) ≡ after (parts_in told (map part_view words)) (λ fresh. pack_value toc.serial toc.flags (map (updated_part (bytes_in told name) fresh) toc.entries) a)
+    → update_value told a name (map part_view words) ≡ and_then (parts_in told (map part_view words)) (λ fresh. pack_value toc.serial toc.flags (map (updated_part (file_bytes told name) fresh) toc.entries) a)
 unfolding update_value
 update-of told a name words guids toc o e =
     ap (λ (g : List (List ℕ)). made_with g (updating told a (map part_view words)) (package_read_in told name)) (types-are words ∙ sym e)
@@ -145,8 +145,8 @@ kept-updated bytes fresh entries kept same none =
     ap (map (kept_part bytes)) (sym same) ∙ ap (λ (ps : List Part). map (updated_part bytes ps) entries) (sym none)
 
 pub replaced-value : (parts : Result (List Part) Stop) (serial flags a : ℕ) (bytes : List ℕ) (fresh new : List Part) (es entries : List Entry) → parts ≡ Ok new → fresh ≡ new → es ≡ entries
-    → after parts (λ ps. pack_value serial flags (map (updated_part bytes ps) entries) a) ≡ pack_value serial flags (map (updated_part bytes fresh) es) a
+    → and_then parts (λ ps. pack_value serial flags (map (updated_part bytes ps) entries) a) ≡ pack_value serial flags (map (updated_part bytes fresh) es) a
 replaced-value parts serial flags a bytes fresh new es entries e same all =
-    ap (λ (r : Result (List Part) Stop). after r (λ ps. pack_value serial flags (map (updated_part bytes ps) entries) a)) e
+    ap (λ (r : Result (List Part) Stop). and_then r (λ ps. pack_value serial flags (map (updated_part bytes ps) entries) a)) e
     ∙ ap (λ (ps : List Part). pack_value serial flags (map (updated_part bytes ps) entries) a) (sym same)
     ∙ ap (λ (l : List Entry). pack_value serial flags (map (updated_part bytes fresh) l) a) (sym all)

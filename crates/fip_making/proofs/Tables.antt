@@ -6,7 +6,7 @@ use Rattle.fwu_formats.specs.{Package.Toc, Package.toc_of, declared.kinds.FipFau
 use Rattle.fip_tables.specs.{Files.IsTocAnswer, Files.Lacks, Files.Tells, declared.toc.TocStop.TocStop}
 use Rattle.fip_tables.specs.declared.toc.TocStop.TheVariants.{Fault, ReadFailed}
 use Rattle.fip_making.specs.{Answers.Gives, Stops.stop_of_table, declared.stops.Stop.Stop}
-use Rattle.fip_making.specs.Values.{after, size_in, sized_table, table_or, there}
+use Rattle.fip_making.specs.Values.{and_then, size_in, sized_table, table_or, there}
 use Rattle.fip_making.specs.declared.stops.Stop.TheVariants as stop
 use Rattle.fip_making.proofs.Folds.{after-ok, is-there, made-by, stopped-by}
 
@@ -62,7 +62,7 @@ pub size-err : (files : Directory) (name : List ℕ) (s : Stop) → size_in file
 unfolding size_in sized_table
 size-err files name s e =
     stopped-by {W = Toc × ℕ} (made-by length)
-    (λ o. after {X = List ℕ × Toc} (after (there o) (λ bytes. after (table_or stop.NotFip (toc_of bytes)) (λ t. Ok (bytes, t))))
+    (λ o. and_then {X = List ℕ × Toc} (and_then (there o) (λ bytes. and_then (table_or stop.NotFip (toc_of bytes)) (λ t. Ok (bytes, t))))
     (λ p. Ok (p.1, length p.0))) refl (files name) s e
 
 pub table-ok : (files : Directory) (name bytes : List ℕ) (n : ℕ) (toc : Toc) → files name ≡ Some bytes → length bytes ≡ n → toc_of bytes ≡ Ok toc → sized_table files name ≡ Ok (toc, n)

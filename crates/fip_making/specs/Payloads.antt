@@ -9,12 +9,12 @@ use Rattle.fip_making.specs.{Answers.AsksNothing, Answers.Gives, Answers.IsLate,
 use Rattle.fip_making.specs.{declared.payloads.Payload.Payload, declared.stops.Stop.Stop}
 
 -- the bytes of a file, by the files, and none of one that isn't there
-abbrev pub bytes_in : Directory → List ℕ → List ℕ
-bytes_in files name = unwrap_or (files name) []
+abbrev pub file_bytes : Directory → List ℕ → List ℕ
+file_bytes files name = unwrap_or (files name) []
 
 -- the part that a payload is, by the files
 abbrev pub part_told : Directory → Payload → Part
-part_told files p = record { guid = p.guid; flags = p.flags; bytes = take p.size (drop p.at (bytes_in files p.file.now)) }
+part_told files p = record { guid = p.guid; flags = p.flags; bytes = take p.size (drop p.at (file_bytes files p.file.now)) }
 
 -- the part with zeros in place of its bytes
 abbrev pub outline_of : Payload → Part

@@ -11,17 +11,17 @@ use Rattle.fip_tables.specs.declared.toc.TocStop.TheVariants as toc
 use Rattle.fip_making.specs.declared.stops.Stop.{Stop}
 use Rattle.fip_making.specs.declared.stops.Stop.TheVariants as stop
 
-abbrev pub status_number : Stop → ℕ
-status_number stop.Usage = 1
-status_number stop.FileFault = 2
-status_number stop.SinkFault = 3
-status_number (stop.NotFip f) = 4
-status_number (stop.NoSuchEntry guid) = 5
-status_number (stop.NotPacked f) = 6
-status_number (stop.NoManifest f) = 6
-status_number stop.TooLong = 7
-status_number (stop.NotCapsule f) = 8
-status_number stop.NoMemory = 9
+abbrev pub exit_status : Stop → ℕ
+exit_status stop.Usage = 1
+exit_status stop.FileFault = 2
+exit_status stop.SinkFault = 3
+exit_status (stop.NotFip f) = 4
+exit_status (stop.NoSuchEntry guid) = 5
+exit_status (stop.NotPacked f) = 6
+exit_status (stop.NoManifest f) = 6
+exit_status stop.TooLong = 7
+exit_status (stop.NotCapsule f) = 8
+exit_status stop.NoMemory = 9
 
 -- the stop of a table that was not read
 abbrev pub stop_of_table : TocStop → Stop

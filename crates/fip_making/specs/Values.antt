@@ -15,9 +15,9 @@ use Rattle.fip_making.specs.declared.stops.Stop.{Stop}
 use Rattle.fip_making.specs.declared.stops.Stop.TheVariants as stop
 
 -- a value, and then what is made of it
-abbrev pub after : {X Y : Type 0} → Result X Stop → (X → Result Y Stop) → Result Y Stop
-after (Ok x) f = f x
-after (Err s) f = Err s
+abbrev pub and_then : {X Y : Type 0} → Result X Stop → (X → Result Y Stop) → Result Y Stop
+and_then (Ok x) f = f x
+and_then (Err s) f = Err s
 
 abbrev pub there : {X : Type 0} → Option X → Result X Stop
 there None = Err stop.FileFault
@@ -32,7 +32,7 @@ table_or stopped (Err f) = Err (stopped f)
 
 -- a package's bytes, and its table
 abbrev pub package_read_in : Directory → List ℕ → Result (List ℕ × Toc) Stop
-package_read_in files name = after (there (files name)) (λ bytes. after (table_or stop.NotFip (toc_of bytes)) (λ t. Ok (bytes, t)))
+package_read_in files name = and_then (there (files name)) (λ bytes. and_then (table_or stop.NotFip (toc_of bytes)) (λ t. Ok (bytes, t)))
 
 -- some bytes are a package with this table
 abbrev pub IsTableOfSome : Toc → Type 0
@@ -41,7 +41,7 @@ IsTableOfSome t = (bytes : List ℕ) × (toc_of bytes ≡ Ok t)
 -- a capsule's bytes, and its table
 abbrev pub capsule_in : Directory → List ℕ → Result (List ℕ × Toc) Stop
 capsule_in files name =
-    after (there (files name)) (λ bytes. after (table_or stop.NotCapsule (capsule_of bytes)) (λ t. Ok (bytes, t)))
+    and_then (there (files name)) (λ bytes. and_then (table_or stop.NotCapsule (capsule_of bytes)) (λ t. Ok (bytes, t)))
 
 abbrev pub part_in : Directory → NamedFile → Option Part
 part_in files p = option_map (λ bytes. record { guid = p.guid; flags = 0; bytes = bytes }) (files p.file)
@@ -52,11 +52,11 @@ parts_in files parts = there (each (part_in files) parts)
 
 -- a package's table, and how many bytes it has
 unfoldable pub sized_table : Directory → List ℕ → Result (Toc × ℕ) Stop
-sized_table files name = after (package_read_in files name) (λ p. Ok (p.1, length p.0))
+sized_table files name = and_then (package_read_in files name) (λ p. Ok (p.1, length p.0))
 
 -- how many bytes a file has
 unfoldable pub size_in : Directory → List ℕ → Result ℕ Stop
-size_in files name = after (there (files name)) (λ bytes. Ok (length bytes))
+size_in files name = and_then (there (files name)) (λ bytes. Ok (length bytes))
 
 -- the bytes of a file
 unfoldable pub file_value : Directory → List ℕ → Result (List ℕ) Stop
@@ -77,7 +77,7 @@ unfoldable pub given_table : List ℕ → Result (Toc × ℕ) Stop
 given_table given =
     unless_decided (decided (toc_of given))
     (if nat_lt source_limit (length given) then Err stop.TooLong
-    else after (table_or stop.NotFip (toc_of given)) (λ t. Ok (t, length given)))
+    else and_then (table_or stop.NotFip (toc_of given)) (λ t. Ok (t, length given)))
 
 -- But for the last read, of at most 4096 bytes, the bytes that were read were not too many,
 -- and had no fault that no further bytes mend.
@@ -116,7 +116,7 @@ abbrev pub new_serial : ℕ
 new_serial = 0x12345678
 
 unfoldable pub create_value : Directory → ℕ → List NamedFile → Result (ℕ × List ℕ) Stop
-create_value files align parts = after (parts_in files parts) (λ ps. pack_value new_serial 0 ps align)
+create_value files align parts = and_then (parts_in files parts) (λ ps. pack_value new_serial 0 ps align)
 
 -- the first type that the package hasn't
 abbrev pub first_missing : Toc → List (List ℕ) → Option (List ℕ)
@@ -138,19 +138,19 @@ updated_part bytes new e =
 -- serial number, flags and order stay
 unfoldable pub update_value : Directory → ℕ → List ℕ → List NamedFile → Result (ℕ × List ℕ) Stop
 update_value files align from parts =
-    after (package_read_in files from) (λ p. unless_missing (first_missing p.1 (map (λ q. q.guid) parts))
-    (after (parts_in files parts) (λ new. pack_value p.1.serial p.1.flags (map (updated_part p.0 new) p.1.entries) align)))
+    and_then (package_read_in files from) (λ p. unless_missing (first_missing p.1 (map (λ q. q.guid) parts))
+    (and_then (parts_in files parts) (λ new. pack_value p.1.serial p.1.flags (map (updated_part p.0 new) p.1.entries) align)))
 
 abbrev pub kept_part : List ℕ → Entry → Part
 kept_part bytes e = record { guid = e.guid; flags = e.flags; bytes = payload bytes e }
 
-abbrev pub is_named : List (List ℕ) → Entry → Bool
-is_named guids e = list_any (λ guid. same_bytes guid e.guid) guids
+abbrev pub has_type_among : List (List ℕ) → Entry → Bool
+has_type_among guids e = list_any (λ guid. same_bytes guid e.guid) guids
 
 unfoldable pub remove_value : Directory → ℕ → List ℕ → List (List ℕ) → Result (ℕ × List ℕ) Stop
 remove_value files align from guids =
-    after (package_read_in files from) (λ p. unless_missing (first_missing p.1 guids)
-    (pack_value p.1.serial p.1.flags (map (kept_part p.0) (filter (λ e. not (is_named guids e)) p.1.entries)) align))
+    and_then (package_read_in files from) (λ p. unless_missing (first_missing p.1 guids)
+    (pack_value p.1.serial p.1.flags (map (kept_part p.0) (filter (λ e. not (has_type_among guids e)) p.1.entries)) align))
 
 -- ---- from packages to capsules, and back
 
@@ -160,12 +160,12 @@ enclose_value parts = unless_fault (make_fault parts) (length parts, capsule_byt
 
 -- of all entries, in their order
 unfoldable pub capsule_value : Directory → List ℕ → Result (ℕ × List ℕ) Stop
-capsule_value files from = after (package_read_in files from) (λ p. enclose_value (map (kept_part p.0) p.1.entries))
+capsule_value files from = and_then (package_read_in files from) (λ p. enclose_value (map (kept_part p.0) p.1.entries))
 
 -- of all items, in their order
 unfoldable pub repackage_value : Directory → ℕ → List ℕ → Result (ℕ × List ℕ) Stop
 repackage_value files align from =
-    after (capsule_in files from) (λ p. pack_value p.1.serial p.1.flags (map (kept_part p.0) p.1.entries) align)
+    and_then (capsule_in files from) (λ p. pack_value p.1.serial p.1.flags (map (kept_part p.0) p.1.entries) align)
 
 -- ---- manifests
 
@@ -201,7 +201,7 @@ unless_long count long =
 -- whether there is a manifest of named images, by how many they are and how long
 unfoldable pub sizes_value : Directory → List NamedImage → Result (Unit {0}) Stop
 sizes_value files named =
-    after (there (each (image_in files) named)) (λ images. unless_long (length images) (list_any is_long images))
+    and_then (there (each (image_in files) named)) (λ images. unless_long (length images) (list_any is_long images))
 
 abbrev pub of_rows : ℕ → Option (List Row) → Result (ℕ × List ℕ) Stop
 of_rows security None = Err (stop.NoManifest fault.TooLarge)
@@ -209,6 +209,6 @@ of_rows security (Some rows) = Ok (length rows, manifest_bytes (record { securit
 
 unfoldable pub manifest_value : Directory → ℕ → List NamedImage → Result (ℕ × List ℕ) Stop
 manifest_value files security named =
-    after (there (each (image_in files) named)) (λ images.
+    and_then (there (each (image_in files) named)) (λ images.
     if (length images == 0) || nat_lt 15 (length images) then Err (stop.NoManifest fault.BadCount)
     else of_rows security (each image_row images))

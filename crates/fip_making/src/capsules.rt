@@ -2,7 +2,7 @@
 ghost use Rattle.std.specs.Prelude.{◌≡◌, All, IfOk, length, map};
 ghost use Rattle.fwu_formats.specs.Package.{Toc};
 ghost use Rattle.capsule_tables.specs.Answers.{IsSomeTable};
-ghost use Rattle.fip_making.specs.Payloads.{HasEntry, IsWholeFile, bytes_in, made_by, MakesFile};
+ghost use Rattle.fip_making.specs.Payloads.{HasEntry, IsWholeFile, file_bytes, made_by, MakesFile};
 ghost use Rattle.fip_making.specs.Values.{IsTableOfSome, capsule_value, enclose_value, kept_part, pack_value, repackage_value};
 ghost use Rattle.fip_making.specs.Refusals.{IsOfCapsule, IsPackageStop, PackingOr};
 ghost use Rattle.fip_making.specs.Seen.{AsTold, ReadsOne};
@@ -21,7 +21,7 @@ use std::alloc::Global;
 // The capsule of a package's entries.
 fn capsule_of_entries<'a>(alloc: Global, from: &'a str, entries: &[Entry]) -> Result<Made<'a>, Stop>
     ensures { MakesFile (λ told. All (HasEntry told from.now) entries.now)
-        (λ told. enclose_value (map (kept_part (bytes_in told from.now)) entries.now)) (length entries.now) result }
+        (λ told. enclose_value (map (kept_part (file_bytes told from.now)) entries.now)) (length entries.now) result }
 {
     let none = Vec::new(alloc);
     let Ok(payloads) = payloads_of_entries(alloc, from, entries, none.as_slice()) else {
@@ -53,7 +53,7 @@ fn package_of_items<'a>(
     toc: &Toc,
 ) -> Result<Made<'a>, Stop>
     ensures { MakesFile (λ told. All (HasEntry told from.now) toc.now.entries)
-        (λ told. pack_value toc.now.serial toc.now.flags (map (kept_part (bytes_in told from.now)) toc.now.entries) align)
+        (λ told. pack_value toc.now.serial toc.now.flags (map (kept_part (file_bytes told from.now)) toc.now.entries) align)
         (length toc.now.entries) result }
 {
     let none = Vec::new(alloc);

@@ -18,6 +18,6 @@ pub use capsules::{capsule_of_package, package_of_capsule};
 pub use made::Made;
 pub use making::{created, removed, updated};
 pub use manifests::manifest;
-pub use named::{is_named, table_with};
+pub use named::{has_type_among, table_with};
 pub use stops::Stop;
 pub use table::{read_given, read_package};

@@ -4,14 +4,14 @@ ghost use Rattle.fwu_formats.specs.Package.{Toc};
 ghost use Rattle.host_io.specs.Access.{Asks};
 ghost use Rattle.host_io.specs.Reads.{ReadsFile};
 ghost use Rattle.fip_words.specs.Order.{part_view};
-ghost use Rattle.fip_making.specs.Payloads.{MakesFile, HasEntry, IsThere, IsWholeFile, bytes_in, made_by, part_told};
-ghost use Rattle.fip_making.specs.Values.{IsTableOfSome, after, create_value, first_missing, is_named, kept_part, pack_value, parts_in, remove_value, update_value, updated_part};
+ghost use Rattle.fip_making.specs.Payloads.{MakesFile, HasEntry, IsThere, IsWholeFile, file_bytes, made_by, part_told};
+ghost use Rattle.fip_making.specs.Values.{IsTableOfSome, and_then, create_value, first_missing, has_type_among, kept_part, pack_value, parts_in, remove_value, update_value, updated_part};
 ghost use Rattle.fip_making.specs.Refusals.{IsOfEntries, PackingOr};
 ghost use Rattle.fip_making.specs.Answers.{IsLate};
 ghost use Rattle.fip_making.specs.Seen.{AsTold, ReadsFilesAlone, ReadsOne};
 
 use crate::made::Made;
-use crate::named::{is_named, table_with};
+use crate::named::{has_type_among, table_with};
 use crate::packing::packed;
 use crate::payloads::{Payload, payloads_of_entries, payloads_of_files};
 use crate::stops::Stop;
@@ -54,7 +54,7 @@ pub fn repacked<'a>(
 ) -> Result<Made<'a>, Stop>
     ensures { MakesFile (λ told. All (IsThere told) new.now × All (HasEntry told from.now) entries.now)
         (λ told. pack_value toc.now.serial toc.now.flags
-        (map (updated_part (bytes_in told from.now) (map (part_told told) new.now)) entries.now) align)
+        (map (updated_part (file_bytes told from.now) (map (part_told told) new.now)) entries.now) align)
         (length entries.now) result }
 {
     let Ok(payloads) = payloads_of_entries(alloc, from, entries, new) else {
@@ -65,12 +65,12 @@ pub fn repacked<'a>(
 
 // The entries that are not named.
 fn kept_entries(alloc: Global, entries: &[Entry], guids: &[Guid]) -> Result<Vec<Entry>, AllocError>
-    ensures { IfOk result (λ v. v.items ≡ filter (λ e. not (is_named guids.now e)) entries.now) }
+    ensures { IfOk result (λ v. v.items ≡ filter (λ e. not (has_type_among guids.now e)) entries.now) }
 {
     entries
         .iter()
         .copied()
-        .filter(|entry| !is_named(guids, entry))
+        .filter(|entry| !has_type_among(guids, entry))
         .collect(alloc)
 }
 
@@ -90,8 +90,8 @@ fn without<'a>(
     guids: &[Guid],
 ) -> Result<Made<'a>, Stop>
     ensures { MakesFile (λ told. All (HasEntry told from.now) toc.now.entries) (λ told. pack_value toc.now.serial toc.now.flags
-        (map (kept_part (bytes_in told from.now)) (filter (λ e. not (is_named guids.now e)) toc.now.entries)) align)
-        (length (filter (λ e. not (is_named guids.now e)) toc.now.entries)) result }
+        (map (kept_part (file_bytes told from.now)) (filter (λ e. not (has_type_among guids.now e)) toc.now.entries)) align)
+        (length (filter (λ e. not (has_type_among guids.now e)) toc.now.entries)) result }
 {
     let kept = kept_entries(alloc, toc.entries.as_slice(), guids)?;
     let none = Vec::new(alloc);
@@ -109,7 +109,7 @@ pub fn removed<'a, H: Files>(
     ensures told { AsTold H.Files made_by (λ told. remove_value told align from.now guids.now) files.old files.new result }
     ensures whole { IfOk result (IsWholeFile (H.contents files.new)) }
     ensures count { IfOk result (λ m. (t : Toc) × IsTableOfSome t × (first_missing t guids.now ≡ None)
-        × (m.count ≡ length (filter (λ e. not (is_named guids.now e)) t.entries))) }
+        × (m.count ≡ length (filter (λ e. not (has_type_among guids.now e)) t.entries))) }
     ensures reads { ReadsOne H.Files from.now (PackingOr IsOfEntries) files.old files.new result }
 {
     let toc = table_with(files, from, guids)?;
@@ -126,8 +126,8 @@ fn replaced<'a, H: Files>(
     named: &[FileWord<'a>],
 ) -> Result<Made<'a>, Stop>
     requires { All (HasEntry (H.contents files.old) from.now) toc.now.entries }
-    ensures told { AsTold H.Files made_by (λ told. after (parts_in told (map part_view named.now))
-        (λ new. pack_value toc.now.serial toc.now.flags (map (updated_part (bytes_in told from.now) new) toc.now.entries) align))
+    ensures told { AsTold H.Files made_by (λ told. and_then (parts_in told (map part_view named.now))
+        (λ new. pack_value toc.now.serial toc.now.flags (map (updated_part (file_bytes told from.now) new) toc.now.entries) align))
         files.old files.new result }
     ensures whole { IfOk result (IsWholeFile (H.contents files.new)) }
     ensures count { IfOk result (λ m. m.count ≡ length toc.now.entries) }

@@ -8,7 +8,7 @@ ghost use Rattle.manifest_core.specs.Shown.{row};
 ghost use Rattle.fip_making.specs.Refusals.{IsManifestStop};
 ghost use Rattle.fip_making.specs.Seen.{AsTold, ReadsFilesAlone, ReadsOne};
 ghost use Rattle.fip_making.specs.Answers.{AsksNothing, Gives, IsLate};
-ghost use Rattle.fip_making.specs.Values.{after, image_in, image_row, is_long, manifest_value, of_rows, sizes_value, there, unless_long};
+ghost use Rattle.fip_making.specs.Values.{and_then, image_in, image_row, is_long, manifest_value, of_rows, sizes_value, there, unless_long};
 ghost use Rattle.fip_making.specs.declared.stops.Stop.TheVariants as stop;
 
 use crate::reading::read_file;
@@ -43,7 +43,7 @@ fn row_of_file<H: Files>(
     named: &ImageWord,
 ) -> Result<Option<Row>, Stop>
     ensures told { AsTold H.Files (λ told. option_map row)
-        (λ told. after (there (image_in told (image_view named.now))) (λ i. Ok (image_row i))) files.old files.new result }
+        (λ told. and_then (there (image_in told (image_view named.now))) (λ i. Ok (image_row i))) files.old files.new result }
     ensures reads { ReadsOne H.Files named.now.file.now IsLate files.old files.new result }
 {
     let image = read_file(alloc, files, named.file)?;
@@ -71,7 +71,7 @@ fn rows_of_files<H: Files>(
     named: &[ImageWord],
 ) -> Result<Option<Vec<Row>>, Stop>
     ensures told { AsTold H.Files (λ told. option_map (λ v. map row v.items))
-        (λ told. after (there (each (image_in told) (map image_view named.now))) (λ images. Ok (each image_row images)))
+        (λ told. and_then (there (each (image_in told) (map image_view named.now))) (λ images. Ok (each image_row images)))
         files.old files.new result }
     ensures reads { ReadsFilesAlone H.Files (λ access. All (λ w. access ≢ Asks w.file.now) named.now) IsLate
         files.old files.new result }
@@ -128,7 +128,7 @@ fn check_count(count: usize, is_long: bool) -> Result<(), Stop>
 // Whether the image of a file is too long, by its size.
 fn is_long_file<H: Files>(files: &mut H, named: &ImageWord<'_>) -> Result<bool, Stop>
     ensures told { AsTold H.Files (λ told long. long)
-        (λ told. after (there (image_in told (image_view named.now))) (λ i. Ok (is_long i))) files.old files.new result }
+        (λ told. and_then (there (image_in told (image_view named.now))) (λ i. Ok (is_long i))) files.old files.new result }
     ensures reads { ReadsOne H.Files named.now.file.now IsLate files.old files.new result }
 {
     Ok(size_of(files, named.file)? > IMAGE_LIMIT as u64)

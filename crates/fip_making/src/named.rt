@@ -1,7 +1,7 @@
 //! The entries of a package that the words name, each by its type.
 ghost use Rattle.std.specs.Prelude.{◌≡◌, ◌<◌, ◌+◌, ◌^◌, All, IfOk, None, Ok, IfErr, length};
 ghost use Rattle.fip_making.specs.Refusals.{IsOfEntries, IsPackageStop, Unstarved};
-ghost use Rattle.fip_making.specs.Values.{IsTableOfSome, after, first_missing, is_named, sized_table, unless_missing};
+ghost use Rattle.fip_making.specs.Values.{IsTableOfSome, and_then, first_missing, has_type_among, sized_table, unless_missing};
 ghost use Rattle.fip_making.specs.Seen.{AsTold, ReadsOne};
 
 use crate::stops::Stop;
@@ -19,15 +19,15 @@ fn first_missing(toc: &Toc, guids: &[Guid]) -> Option<Guid>
 }
 
 /// Whether the entry's type is one of these.
-pub fn is_named(guids: &[Guid], entry: &Entry) -> bool
-    ensures { result ≡ is_named guids.now entry.now }
+pub fn has_type_among(guids: &[Guid], entry: &Entry) -> bool
+    ensures { result ≡ has_type_among guids.now entry.now }
 {
     guids.iter().any(|guid| guid.is(&entry.guid))
 }
 
 /// The table of a package that has an entry of each of these types.
 pub fn table_with<H: Files>(files: &mut H, name: &str, guids: &[Guid]) -> Result<Toc, Stop>
-    ensures told { AsTold H.Files (λ told t. t) (λ told. after (sized_table told name.now)
+    ensures told { AsTold H.Files (λ told t. t) (λ told. and_then (sized_table told name.now)
         (λ t. unless_missing (first_missing t.0 guids.now) (Ok t.0))) files.old files.new result }
     ensures all { IfOk result (λ t. first_missing t guids.now ≡ None) }
     ensures table { IfOk result IsTableOfSome }

@@ -6,7 +6,7 @@ ghost use Rattle.host_io.specs.Access.{Asks};
 ghost use Rattle.fip_words.specs.Order.{part_view};
 ghost use Rattle.fip_making.specs.Seen.{AsTold, ReadsFilesAlone, ReadsOne};
 ghost use Rattle.fip_making.specs.Answers.{IsLate};
-ghost use Rattle.fip_making.specs.Payloads.{HasEntry, IsThere, bytes_in, outline_of, part_told, payload_piece};
+ghost use Rattle.fip_making.specs.Payloads.{HasEntry, IsThere, file_bytes, outline_of, part_told, payload_piece};
 ghost use Rattle.fip_making.specs.Values.{part_in, parts_in, there, updated_part};
 
 use crate::stops::Stop;
@@ -109,7 +109,7 @@ fn of_type<'a>(payloads: &[Payload<'a>], guid: &Guid) -> Option<Payload<'a>>
 // The payload of an entry of a package, or the new one of its type, where there is one.
 fn payload_of_entry<'a>(from: &'a str, entry: &Entry, new: &[Payload<'a>]) -> Payload<'a>
     ensures told { (told : Directory)
-        → part_told told result ≡ updated_part (bytes_in told from.now) (map (part_told told) new.now) entry.now }
+        → part_told told result ≡ updated_part (file_bytes told from.now) (map (part_told told) new.now) entry.now }
     ensures there { (told : Option Directory) → All (IsThere told) new.now × HasEntry told from.now entry.now
         → IsThere told result }
 {
@@ -139,7 +139,7 @@ pub fn payloads_of_entries<'a>(
     new: &[Payload<'a>],
 ) -> Result<Vec<Payload<'a>>, NoMemory>
     ensures told { (told : Directory) → IfOk result (λ v. map (part_told told) v.items
-        ≡ map (updated_part (bytes_in told from.now) (map (part_told told) new.now)) entries.now) }
+        ≡ map (updated_part (file_bytes told from.now) (map (part_told told) new.now)) entries.now) }
     ensures there { (told : Option Directory) → All (IsThere told) new.now × All (HasEntry told from.now) entries.now
         → IfOk result (λ v. All (IsThere told) v.items) }
     ensures count { IfOk result (λ v. length v.items ≡ length entries.now) }

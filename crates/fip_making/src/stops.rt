@@ -130,11 +130,11 @@ impl From<CapsuleStop> for Stop {
 }
 
 impl Stop {
-    ghost use Rattle.fip_making.specs.Stops.{status_number};
+    ghost use Rattle.fip_making.specs.Stops.{exit_status};
 
     /// The exit status.
     pub fn status(&self) -> u8
-        ensures { result ≡ status_number self.now }
+        ensures { result ≡ exit_status self.now }
     {
         match self {
             Stop::Usage => 1,

@@ -9,7 +9,7 @@ ghost use Rattle.fip_tables.specs.Stream.{Fed};
 ghost use Rattle.fip_making.specs.Refusals.{IsOfCapsule, IsPackageStop, IsOfSource, Unstarved};
 ghost use Rattle.fip_making.specs.Seen.{AsTold, FedSome, GivenToIn, ReadsGiven, ReadsOne};
 ghost use Rattle.fip_making.specs.Answers.{AsksNothing, Gives, IsLate};
-ghost use Rattle.fip_making.specs.Values.{StopsInTime, after, capsule_in, given_table, size_in, sized_table, source_limit, IsTableOfSome};
+ghost use Rattle.fip_making.specs.Values.{StopsInTime, and_then, capsule_in, given_table, size_in, sized_table, source_limit, IsTableOfSome};
 ghost use Rattle.fip_making.specs.declared.stops.Stop.TheVariants as stop;
 
 use crate::stops::Stop;
@@ -46,7 +46,7 @@ pub fn read_package<H: Files>(files: &mut H, name: &str) -> Result<(Toc, u64), S
 
 /// The table of a capsule in a file.
 pub fn read_enclosed<H: Files>(files: &mut H, name: &str) -> Result<Toc, Stop>
-    ensures told { AsTold H.Files (λ told t. t) (λ told. after (capsule_in told name.now) (λ p. Ok p.1))
+    ensures told { AsTold H.Files (λ told t. t) (λ told. and_then (capsule_in told name.now) (λ p. Ok p.1))
         files.old files.new result }
     ensures table { IfOk result IsSomeTable }
     ensures reads { ReadsOne H.Files name.now (Unstarved IsOfCapsule) files.old files.new result }

@@ -17,8 +17,8 @@ use Rattle.capsule_tables.specs.Making.{IsCapsuleOf, capsule_bytes, make_fault}
 use Rattle.capsule_tables.proofs.{ReadAgain.made-is-read, Within.is-read, Within.no-flags, Within.types-sixteen}
 use Rattle.fip_words.specs.Order.{FipAsked, info_of_source, capsule, repackage}
 use Rattle.fip_tool.specs.{Converted.Converts, Converted.IsConverted, Tool.outcome_of, Tool.puts}
-use Rattle.fip_tool.specs.Steps.{Are, Did, Makes, Refuses, CommandStep, outcome_by, with_file, written}
-use Rattle.fip_making.specs.Values.{after, capsule_value, enclose_value, kept_part, pack_value, repackage_value, table_or, there, unless_fault}
+use Rattle.fip_tool.specs.Steps.{Are, Did, Makes, Refuses, CommandStep, outcome_by, with_file, with_steps}
+use Rattle.fip_making.specs.Values.{and_then, capsule_value, enclose_value, kept_part, pack_value, repackage_value, table_or, there, unless_fault}
 use Rattle.fip_making.specs.declared.stops.Stop.{Stop}
 use Rattle.fip_making.specs.declared.stops.Stop.TheVariants as stop
 use Rattle.fip_tool.specs.declared.lines.Format.TheVariants as format
@@ -64,7 +64,7 @@ file-there out bytes files (Some d) are =
 
 -- a command that was done has a value
 done-has : {X : Type 0} (steps : X → List CommandStep) (r : Result X Stop) (files : Directory) (now : Option Directory) (was text : Option (List ℕ)) (rose spoiled sink-rose : Type 0)
-    → Did (outcome_by steps r) files now was text rose spoiled sink-rose (Ok tt) → (x : X) × (r ≡ Ok x) × Are now (written (steps x) files)
+    → Did (outcome_by steps r) files now was text rose spoiled sink-rose (Ok tt) → (x : X) × (r ≡ Ok x) × Are now (with_steps (steps x) files)
 done-has steps (Ok x) files now was text rose spoiled sink-rose d = (x, refl, d.1)
 done-has steps (Err s) files now was text rose spoiled sink-rose d = let no : Refuses s ≡ Makes [] = d.0 in cc
 
@@ -79,11 +79,11 @@ record IsOfTable {F X : Type 0} (read : List ℕ → Result Toc F) (o : Option (
   value : f (bytes, toc) ≡ Ok made
 
 from-table : {F X : Type 0} (read : List ℕ → Result Toc F) (stopped : F → Stop) (o : Option (List ℕ)) (f : List ℕ × Toc → Result X Stop) (made : X)
-    → after (after (there o) (λ bytes. after (table_or stopped (read bytes)) (λ t. Ok (bytes, t)))) f ≡ Ok made → IsOfTable read o f made
+    → and_then (and_then (there o) (λ bytes. and_then (table_or stopped (read bytes)) (λ t. Ok (bytes, t)))) f ≡ Ok made → IsOfTable read o f made
 from-table read stopped None f made h = cc
 from-table {F = F} {X = X} read stopped (Some bytes) f made h = by-table (read bytes) refl h
   where
-    by-table : (r : Result Toc F) → read bytes ≡ r → after (after (table_or stopped r) (λ t. Ok (bytes, t))) f ≡ Ok made → IsOfTable read (Some bytes) f made
+    by-table : (r : Result Toc F) → read bytes ≡ r → and_then (and_then (table_or stopped r) (λ t. Ok (bytes, t))) f ≡ Ok made → IsOfTable read (Some bytes) f made
     by-table (Err s) is h = cc
     by-table (Ok toc) is h = record { bytes = bytes; toc = toc; is = refl; table = is; value = h }
 

@@ -10,7 +10,7 @@ use Rattle.fip_tool.specs.{Names.IsUnneeded, Names.IsUnnamedBy, Names.MayRefuse,
 use Rattle.fip_tool.specs.{Seen.DidSince, Seen.WroteIn, Seen.WroteForIn, Steps.CommandPlan, Steps.outcome_by, Tool.outcome_of}
 use Rattle.fip_tool.specs.{Tool.puts, Tool.asks_files, Wrote.WroteFor, declared.lines.Format.Format}
 use Rattle.fip_tool.specs.Done.{DoneWithFiles, DoneWithSource, PutsMade, RefusesAlone, WritesTexts, CommandDone}
-use Rattle.fip_making.specs.{Stops.status_number, Payloads.made_by, Seen.AsTold, Seen.ReadsFilesAlone, Answers.Gives}
+use Rattle.fip_making.specs.{Stops.exit_status, Payloads.made_by, Seen.AsTold, Seen.ReadsFilesAlone, Answers.Gives}
 use Rattle.fip_making.specs.{Answers.IsLate, declared.made.Made.Made, declared.stops.Stop.Stop}
 use Rattle.fip_making.specs.declared.stops.Stop.TheVariants as stop
 use Rattle.fip_tool.proofs.{Did.did-later, Did.are-told, WritingLemmas.tears-since}
@@ -29,7 +29,7 @@ module _ {H O : Type 0} {h : files.Ghosts H} {o : sink.Ghosts O} {one : FipAsked
   -- a stop before anything was done
   pub done-unread : {X : Type 0} {IsOther : Access → Type 0} {IsOwn : Stop → Type 0} {before after : H} {old : O} (s : Stop)
       → ReadsFilesAlone {X = X} h IsOther IsOwn before after (Err s) → ((access : Access) → IsUnnamedBy (Some one) access → IsOther access)
-      → ((access : Access) → IsUnneeded (Some one) (status_number s) access → IsOther access)
+      → ((access : Access) → IsUnneeded (Some one) (exit_status s) access → IsOther access)
       → ((told : Directory) → h.contents before ≡ Some told → DidIn h o (outcome_of (Some one) told) told before after old old (Err s))
       → MayRefuse (Some one) s → DoneWithFiles h o ⊥ (Some one) (Err s) before after old old
   done-unread {before = before} {old = old} s reads unnamed unneeded did may = record {
@@ -56,7 +56,7 @@ module _ {H O : Type 0} {h : files.Ghosts H} {o : sink.Ghosts O} {one : FipAsked
     cause = λ e none. inl (put.cause e);
     refusals = if-err-as result IsLate (MayRefuse (Some one)) late put.late;
     spares = spares;
-    alone = late-alone result (λ s. (access : Access) → IsUnneeded (Some one) (status_number s) access → h.spares before after access) put.late;
+    alone = late-alone result (λ s. (access : Access) → IsUnneeded (Some one) (exit_status s) access → h.spares before after access) put.late;
     later = put.later_sink;
     sink_count = put.sink_count;
   }
@@ -71,7 +71,7 @@ module _ {H O : Type 0} {h : files.Ghosts H} {o : sink.Ghosts O} {one : FipAsked
       → DidSince h o count (outcome_by (puts format out) value) told mid after old new result)
       → PutsMade h o format made result mid after old new
       → ((access : Access) → IsUnnamedBy (Some one) access → h.spares before after access)
-      → IfErr made (λ s. RefusesAlone h (Some one) before mid (status_number s))
+      → IfErr made (λ s. RefusesAlone h (Some one) before mid (exit_status s))
       → DoneWithFiles h o ⊥ (Some one) result before after old new
   done-made {IsOwn = IsOwn} {made = made} {result = result} {before = before} {mid = mid} {after = after} {old = old} {new = new} format out value outcome texts writes late reads turns gives did put spares alone = record {
     told = λ told e other.
@@ -82,7 +82,7 @@ module _ {H O : Type 0} {h : files.Ghosts H} {o : sink.Ghosts O} {one : FipAsked
     cause = λ e none. inl (either-rose _ _ _ reads.only.later put.later (λ failed. reads.only.cause failed none) (put.cause e));
     refusals = made-may made result (MayRefuse (Some one)) late (if-err-as made IsOwn (MayRefuse (Some one)) turns reads.refusals) put.refusals;
     spares = spares;
-    alone = made-alone made result mid after (λ (f : H) (s : Stop). (access : Access) → IsUnneeded (Some one) (status_number s) access → h.spares before f access) put.refusals put.kept alone;
+    alone = made-alone made result mid after (λ (f : H) (s : Stop). (access : Access) → IsUnneeded (Some one) (exit_status s) access → h.spares before f access) put.refusals put.kept alone;
     later = put.later_sink;
     sink_count = put.sink_count reads.only.sink;
   }
@@ -130,7 +130,7 @@ module _ {H I O : Type 0} {h : files.Ghosts H} {i : source.Ghosts I} {o : sink.G
           cause = λ e untold. inr (done.cause e);
           refusals = done.refusals;
           spares = λ access other. rest access;
-          alone = if-err-all result (λ s. RefusesAlone h (Some info_of_source) kept kept (status_number s)) (λ s refuses access other. rest access);
+          alone = if-err-all result (λ s. RefusesAlone h (Some info_of_source) kept kept (exit_status s)) (λ s refuses access other. rest access);
           later = done.later;
           sink_count = done.sink_count;
         };

@@ -8,7 +8,7 @@ use Rattle.fip_tool.specs.{Lines.made_line, Lines.info_text, Lines.packed_line}
 use Rattle.fip_tool.specs.{Lines.capsule_line, declared.lines.Format.Format, Tool.given_value, Tool.info_value}
 use Rattle.fip_tool.specs.{Said.IsMadeLine, Said.joined_texts, Said.IsTexts, Wrote.WroteAll}
 use Rattle.fip_making.specs.{declared.made.Made.Made, declared.stops.Stop.Stop}
-use Rattle.fip_making.specs.Values.{GivenTo, after, given_table, source_limit, sized_table, table_or, unless_decided, IsTableOfSome, first_missing, is_named}
+use Rattle.fip_making.specs.Values.{GivenTo, and_then, given_table, source_limit, sized_table, table_or, unless_decided, IsTableOfSome, first_missing, has_type_among}
 use Rattle.fip_making.specs.declared.stops.Stop.TheVariants as stop
 use Rattle.fwu_formats.specs.{Package.Toc, Package.toc_of, declared.kinds.FipFault.FipFault}
 use Rattle.fip_tables.specs.Answers.{decided}
@@ -58,9 +58,9 @@ said-more before all line was at text mid now is so-far w =
 -- ---- the listing of a table
 
 -- the text of a table that was given
-value-of : (given : List ℕ) (r : Result (Toc × ℕ) Stop) → given_table given ≡ r → given_value given ≡ after r (λ t. Ok (info_text t.0 t.1))
+value-of : (given : List ℕ) (r : Result (Toc × ℕ) Stop) → given_table given ≡ r → given_value given ≡ and_then r (λ t. Ok (info_text t.0 t.1))
 unfolding given_value
-value-of given r e = ap (λ (x : Result (Toc × ℕ) Stop). after x (λ t. Ok (info_text t.0 t.1))) e
+value-of given r e = ap (λ (x : Result (Toc × ℕ) Stop). and_then x (λ t. Ok (info_text t.0 t.1))) e
 
 -- a stop of the table is one of its text
 pub text-stopped : {A : Type 0} (view : A → List ℕ) (was left : Option (List ℕ)) (rose : Type 0) (given : List ℕ) (s : Stop) → GivenTo (λ (t : Toc × ℕ). t) given_table was left rose (Err s) given
@@ -90,12 +90,12 @@ unfolding given_table
 table-given given t size e = go (decided (toc_of given)) (nat_lt source_limit (length given)) (toc_of given) e
   where
     go : (d : Result (Unit {0}) FipFault) (b : Bool) (r : Result Toc FipFault)
-        → unless_decided {X = Toc × ℕ} d (if b then Err stop.TooLong else after {X = Toc} {Y = Toc × ℕ} (table_or stop.NotFip r) (λ t. Ok (t, length given))) ≡ Ok (t, size) → r ≡ Ok t
+        → unless_decided {X = Toc × ℕ} d (if b then Err stop.TooLong else and_then {X = Toc} {Y = Toc × ℕ} (table_or stop.NotFip r) (λ t. Ok (t, length given))) ≡ Ok (t, size) → r ≡ Ok t
     go (Err f) b r e = cc
     go (Ok u) true r e = cc
     go (Ok u) false (Err f) e = cc
     go (Ok u) false (Ok x) e =
-        let first : ◌≡◌ {A = Result Toc Stop} (Ok x) (Ok t) = ap (λ (r : Result (Toc × ℕ) Stop). after {X = Toc × ℕ} {Y = Toc} r (λ p. Ok p.0)) e in
+        let first : ◌≡◌ {A = Result Toc Stop} (Ok x) (Ok t) = ap (λ (r : Result (Toc × ℕ) Stop). and_then {X = Toc × ℕ} {Y = Toc} r (λ p. Ok p.0)) e in
         let same : x ≡ t = cc in
         ap (λ (y : Toc). Ok y) same
 
@@ -106,8 +106,8 @@ pub create-texts : (align : ℕ) (out : List ℕ) (made : Result Made Stop) (nam
 create-texts align out made named count texts t = let p = made-texts kind.Package made (λ n. n ≡ length named) count texts t in (p.2, p.3 ∙ ap (λ (n : ℕ). packed_line n p.2 ∷ []) (p.1 ∙ sym (length-map named part_view)))
 
 -- the line is of a package that was read, with some size
-pub remove-texts : (align : ℕ) (from out : List ℕ) (made : Result Made Stop) (guids : List (List ℕ)) → IfOk made (λ m. (t : Toc) × IsTableOfSome t × (first_missing t guids ≡ None) × (m.count ≡ length (filter (λ e. not (is_named guids e)) t.entries))) → (texts : List (List ℕ)) → IsMadeLine kind.Package made texts → IsTexts (Some (remove align from out guids)) texts
-remove-texts align from out made guids count texts t = let p = made-texts kind.Package made (λ n. (t : Toc) × IsTableOfSome t × (first_missing t guids ≡ None) × (n ≡ length (filter (λ e. not (is_named guids e)) t.entries))) count texts t in (p.1.0, p.1.1, p.2, p.1.2, p.3 ∙ ap (λ (n : ℕ). packed_line n p.2 ∷ []) p.1.3)
+pub remove-texts : (align : ℕ) (from out : List ℕ) (made : Result Made Stop) (guids : List (List ℕ)) → IfOk made (λ m. (t : Toc) × IsTableOfSome t × (first_missing t guids ≡ None) × (m.count ≡ length (filter (λ e. not (has_type_among guids e)) t.entries))) → (texts : List (List ℕ)) → IsMadeLine kind.Package made texts → IsTexts (Some (remove align from out guids)) texts
+remove-texts align from out made guids count texts t = let p = made-texts kind.Package made (λ n. (t : Toc) × IsTableOfSome t × (first_missing t guids ≡ None) × (n ≡ length (filter (λ e. not (has_type_among guids e)) t.entries))) count texts t in (p.1.0, p.1.1, p.2, p.1.2, p.3 ∙ ap (λ (n : ℕ). packed_line n p.2 ∷ []) p.1.3)
 
 -- the line is of a package that was read, with some size
 pub update-texts : (align : ℕ) (from out : List ℕ) (made : Result Made Stop) (named : List FileWord) → IfOk made (λ m. (t : Toc) × IsTableOfSome t × (first_missing t (map (λ p. p.guid) (map part_view named)) ≡ None) × (m.count ≡ length t.entries)) → (texts : List (List ℕ)) → IsMadeLine kind.Package made texts → IsTexts (Some (update align from out (map part_view named))) texts

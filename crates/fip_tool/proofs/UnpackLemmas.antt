@@ -17,15 +17,15 @@ use Rattle.host_io.specs.Contents.{Directory}
 use Rattle.fip_tables.specs.Files.{Lacks, Tells}
 use Rattle.fwu_formats.specs.Package.{Entry, payload, Toc}
 use Rattle.fip_tool.specs.{Lines.unpacked_line, Lines.unpacked_name, Tool.chosen, Tool.unpack_steps, Tool.unpack_value}
-use Rattle.fip_tool.specs.Steps.{IsPrinting, Makes, Refuses, CommandStep, Writes, Prints, Are, AreUpTo, StandAfter, Did, half_printed, printed, with_file, written}
-use Rattle.fip_making.specs.{Values.is_named, Values.there, declared.stops.Stop.Stop}
+use Rattle.fip_tool.specs.Steps.{IsPrinting, Makes, Refuses, CommandStep, Writes, Prints, Are, AreUpTo, StandAfter, Did, half_printed, printed, with_file, with_steps}
+use Rattle.fip_making.specs.{Values.has_type_among, Values.there, declared.stops.Stop.Stop}
 use Rattle.fip_making.specs.declared.stops.Stop.TheVariants as stop
 use Rattle.fip_tool.proofs.Did.{are-up-to, did-later}
 use Rattle.fip_making.proofs.Repacking.{IsOpened, going-on, stopped, table_with}
 
 -- ---- steps one after the other
 
-written-append : (first second : List CommandStep) (files : Directory) → written (first ++ second) files ≡ written second (written first files)
+written-append : (first second : List CommandStep) (files : Directory) → with_steps (first ++ second) files ≡ with_steps second (with_steps first files)
 written-append [] second files = refl
 written-append (Writes name bytes ∷ first) second files = written-append first second (with_file name bytes files)
 written-append (Prints text ∷ first) second files = written-append first second files
@@ -35,7 +35,7 @@ printed-append [] second = refl
 printed-append (Writes name bytes ∷ first) second = printed-append first second
 printed-append (Prints text ∷ first) second = ap (λ (l : List ℕ). text ++ l) (printed-append first second) ∙ sym (append_assoc text (printed first) (printed second))
 
-written-along : (steps : List CommandStep) (a b : Directory) → ((name : List ℕ) → a name ≡ b name) → (name : List ℕ) → written steps a name ≡ written steps b name
+written-along : (steps : List CommandStep) (a b : Directory) → ((name : List ℕ) → a name ≡ b name) → (name : List ℕ) → with_steps steps a name ≡ with_steps steps b name
 written-along [] a b h other = h other
 written-along (Prints text ∷ steps) a b h other = written-along steps a b h other
 written-along (Writes name bytes ∷ steps) a b h other =
@@ -53,13 +53,13 @@ are-up-to-along (Writes name bytes ∷ rest) a b (Some now) h are = λ other dif
 
 -- these steps are done
 pub record IsDone (steps : List CommandStep) (files now : Directory) (was text : Option (List ℕ)) : Type 0 where
-  pub are : (name : List ℕ) → now name ≡ written steps files name
+  pub are : (name : List ℕ) → now name ≡ with_steps steps files name
   pub said : Appends was text (printed steps)
 
-written-then : (first steps : List CommandStep) (files mid : Directory) → ((name : List ℕ) → mid name ≡ written first files name)
-    → (name : List ℕ) → written steps mid name ≡ written (first ++ steps) files name
+written-then : (first steps : List CommandStep) (files mid : Directory) → ((name : List ℕ) → mid name ≡ with_steps first files name)
+    → (name : List ℕ) → with_steps steps mid name ≡ with_steps (first ++ steps) files name
 written-then first steps files mid are name =
-    written-along steps mid (written first files) are name ∙ sym (ap (λ (d : Directory). d name) (written-append first steps files))
+    written-along steps mid (with_steps first files) are name ∙ sym (ap (λ (d : Directory). d name) (written-append first steps files))
 
 said-then : (first steps : List CommandStep) (was at text : Option (List ℕ)) → Appends was at (printed first) → Appends at text (printed steps) → Appends was text (printed (first ++ steps))
 said-then first steps was at text a b = subst (Appends was text) (sym (printed-append first steps)) (Appends-trans was at text (printed first) (printed steps) a b)
@@ -111,10 +111,10 @@ module _ (first second rest : List CommandStep) (files mid : Directory) (now : O
   unfolding reach
   unreached n = let f = fewer n second rest in drop-append-add first (second ++ rest) f.0 ∙ f.2
 
-  there-are : (n : ℕ) → Are now (written (take n second) mid) → Are now (written (take (reach n) (first ++ (second ++ rest))) files)
+  there-are : (n : ℕ) → Are now (with_steps (take n second) mid) → Are now (with_steps (take (reach n) (first ++ (second ++ rest))) files)
   there-are n are =
-      subst (λ (l : List CommandStep). Are now (written l files)) (sym (reached n))
-      (are-along (written (take n second) mid) (written (first ++ take n second) files) now (written-then first (take n second) files mid done.are) are)
+      subst (λ (l : List CommandStep). Are now (with_steps l files)) (sym (reached n))
+      (are-along (with_steps (take n second) mid) (with_steps (first ++ take n second) files) now (written-then first (take n second) files mid done.are) are)
 
   there-said : (n : ℕ) → Appends at text (printed (take n second)) → Appends was text (printed (take (reach n) (first ++ (second ++ rest))))
   there-said n said =
@@ -144,14 +144,14 @@ module _ (first second rest : List CommandStep) (files mid : Directory) (now : O
       cause (inl e) = cc
       cause (inr r) = inr (rises r)
 
-      upto : (n : ℕ) → AreUpTo (drop n second) now (written (take n second) mid)
-          → AreUpTo (drop (reach n) (first ++ (second ++ rest))) now (written (take (reach n) (first ++ (second ++ rest))) files)
+      upto : (n : ℕ) → AreUpTo (drop n second) now (with_steps (take n second) mid)
+          → AreUpTo (drop (reach n) (first ++ (second ++ rest))) now (with_steps (take (reach n) (first ++ (second ++ rest))) files)
       upto n are =
-          let along : AreUpTo (drop n second) now (written (first ++ take n second) files) =
-          are-up-to-along (drop n second) (written (take n second) mid) (written (first ++ take n second) files) now (written-then first (take n second) files mid done.are) are in
-          let more : AreUpTo (drop n second ++ rest) now (written (first ++ take n second) files) = more-left (drop n second) rest _ now along in
-          subst (λ (l : List CommandStep). AreUpTo l now (written (take (reach n) (first ++ (second ++ rest))) files)) (sym (unreached n))
-          (subst (λ (l : List CommandStep). AreUpTo (drop n second ++ rest) now (written l files)) (sym (reached n)) more)
+          let along : AreUpTo (drop n second) now (with_steps (first ++ take n second) files) =
+          are-up-to-along (drop n second) (with_steps (take n second) mid) (with_steps (first ++ take n second) files) now (written-then first (take n second) files mid done.are) are in
+          let more : AreUpTo (drop n second ++ rest) now (with_steps (first ++ take n second) files) = more-left (drop n second) rest _ now along in
+          subst (λ (l : List CommandStep). AreUpTo l now (with_steps (take (reach n) (first ++ (second ++ rest))) files)) (sym (unreached n))
+          (subst (λ (l : List CommandStep). AreUpTo (drop n second ++ rest) now (with_steps l files)) (sym (reached n)) more)
 
       stand : (n : ℕ) → StandAfter n (Makes second) mid now spoiled → StandAfter (reach n) (Makes (first ++ (second ++ rest))) files now spoiled-late
       stand n (inl are) = inl (there-are n are)
@@ -181,11 +181,11 @@ filter-all : (es : List Entry) → filter (λ e. true) es ≡ es
 filter-all [] = refl
 filter-all (e ∷ es) = ap (λ l. e ∷ l) (filter-all es)
 
-pub chosen-filter : (guids : List (List ℕ)) (es : List Entry) → filter (λ e. (length guids == 0) || is_named guids e) es ≡ chosen guids es
+pub chosen-filter : (guids : List (List ℕ)) (es : List Entry) → filter (λ e. (length guids == 0) || has_type_among guids e) es ≡ chosen guids es
 chosen-filter [] es = filter-all es
 chosen-filter (guid ∷ guids) es =
     let no : (length (guid ∷ guids) == 0) ≡ false = grind (arith, nat_tests) in
-    ap (λ (b : Bool). filter (λ e. b || is_named (guid ∷ guids) e) es) no
+    ap (λ (b : Bool). filter (λ e. b || has_type_among (guid ∷ guids) e) es) no
 
 -- ---- the file that is read is not written
 

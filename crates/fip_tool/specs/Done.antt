@@ -7,9 +7,9 @@ use Rattle.host_io.specs.{Access.Access, Access.Asks, Access.Makes, Contents.Dir
 use Rattle.host_io.specs.declared.files.Files as files
 use Rattle.host_io.specs.declared.source.Source as source
 use Rattle.host_io.specs.declared.sink.Sink as sink
-use Rattle.fip_making.specs.{Stops.status_number, declared.made.Made.Made, declared.stops.Stop.Stop}
+use Rattle.fip_making.specs.{Stops.exit_status, declared.made.Made.Made, declared.stops.Stop.Stop}
 use Rattle.fip_making.specs.Answers.{IsLate, source_failures}
-use Rattle.fip_tool.specs.{Ends.EndsWith, Lines.unpacked_line, Lines.unpacked_name, Said.IsMadeLine, Wrote.WroteFor}
+use Rattle.fip_tool.specs.{Ends.EndsWithLine, Lines.unpacked_line, Lines.unpacked_name, Said.IsMadeLine, Wrote.WroteFor}
 use Rattle.fip_tool.specs.{Steps.FaultsOnce, Steps.Makes, Steps.NoneUnwritten, Steps.sink_failures, declared.lines.Format.Format}
 use Rattle.fip_tool.specs.Names.{IsRefusalStatus, IsUnneeded, IsUnnamedBy, MayRefuse}
 use Rattle.fip_tool.specs.Seen.{DidIn, ReadSourceIn, WroteForIn, WroteIn}
@@ -65,7 +65,7 @@ pub record DoneWithFiles {H O : Type 0} (h : files.Ghosts H) (o : sink.Ghosts O)
   pub refusals : IfErr result (MayRefuse asked)
   -- no access is made that the words don't name
   pub spares : (access : Access) → IsUnnamedBy asked access → h.spares files_before files_after access
-  pub alone : IfErr result (λ s. RefusesAlone h asked files_before files_after (status_number s))
+  pub alone : IfErr result (λ s. RefusesAlone h asked files_before files_after (exit_status s))
   pub later : o.faults sink_before ≤ o.faults sink_after
   pub sink_count : o.faults sink_after ≡ sink_failures result (o.faults sink_before)
 
@@ -124,4 +124,4 @@ pub record ToolEnded {H I O : Type 0} (h : files.Ghosts H) (i : source.Ghosts I)
   -- the sink once the command had ended, before the line of a stop
   pub between : O
   pub done : CommandDone h i o asked result files_before files_after source_before source_after sink_before between
-  pub told : EndsWith (o.taken between) (o.taken sink_after) (Rose (o.faults between) (o.faults sink_after)) result status
+  pub told : EndsWithLine (o.taken between) (o.taken sink_after) (Rose (o.faults between) (o.faults sink_after)) result status

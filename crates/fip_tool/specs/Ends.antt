@@ -6,7 +6,7 @@ use Rattle.fwu_formats.specs.{FaultText.capsule_fault_number, FaultText.fip_faul
 use Rattle.fwu_formats.specs.declared.kinds.ManifestFault.TheVariants as manifest
 use Rattle.fip_tables.specs.declared.faults.PackFault.{PackFault}
 use Rattle.fip_tables.specs.declared.faults.PackFault.TheVariants as pack
-use Rattle.fip_making.specs.{declared.stops.Stop.Stop, Stops.status_number}
+use Rattle.fip_making.specs.{declared.stops.Stop.Stop, Stops.exit_status}
 use Rattle.fip_making.specs.declared.stops.Stop.TheVariants as stop
 
 abbrev pub pack_fault_text : PackFault → List ℕ
@@ -50,6 +50,6 @@ Reported was text sink-rose s now = StopTold was text sink-rose s now
 
 -- How the tool ends, by how its command ended: at status 0 with no further line, and else with the line of the stop, where that is
 -- told. The sink's text was `was` before that line, and is `text`.
-abbrev pub EndsWith : Option (List ℕ) → Option (List ℕ) → Type 0 → Result (Unit {0}) Stop → ℕ → Type 0
-EndsWith was text sink-rose (Ok done) status = (status ≡ 0) × (text ≡ was)
-EndsWith was text sink-rose (Err s) status = (now : Stop) × Reported was text sink-rose s now × (status ≡ status_number now)
+abbrev pub EndsWithLine : Option (List ℕ) → Option (List ℕ) → Type 0 → Result (Unit {0}) Stop → ℕ → Type 0
+EndsWithLine was text sink-rose (Ok done) status = (status ≡ 0) × (text ≡ was)
+EndsWithLine was text sink-rose (Err s) status = (now : Stop) × Reported was text sink-rose s now × (status ≡ exit_status now)

@@ -6,7 +6,7 @@ use Rattle.fip_words.specs.Order.{FipAsked, info, info_of_source, create, update
 use Rattle.fip_tool.specs.{Tool.chosen, declared.lines.Format.Format}
 use Rattle.fip_tool.specs.Lines.{capsule_line, info_text, made_line, manifest_line, packed_line, unpacked_line}
 use Rattle.fip_making.specs.{declared.made.Made.Made, declared.stops.Stop.Stop}
-use Rattle.fip_making.specs.Values.{first_missing, is_named, IsTableOfSome}
+use Rattle.fip_making.specs.Values.{first_missing, has_type_among, IsTableOfSome}
 
 -- the listing of some package, with some size
 abbrev pub IsListing : List ℕ → Type 0
@@ -24,7 +24,7 @@ IsTexts (Some (update align from out parts)) texts =
     × (texts ≡ packed_line (length t.entries) size ∷ [])
 IsTexts (Some (remove align from out names)) texts =
     (t : Toc) × IsTableOfSome t × (size : ℕ) × (first_missing t names ≡ None)
-    × (texts ≡ packed_line (length (filter (λ e. not (is_named names e)) t.entries)) size ∷ [])
+    × (texts ≡ packed_line (length (filter (λ e. not (has_type_among names e)) t.entries)) size ∷ [])
 IsTexts (Some (unpack from prefix names)) texts =
     (t : Toc) × IsTableOfSome t × (first_missing t names ≡ None) × (texts ≡ map (unpacked_line prefix) (chosen names t.entries))
 IsTexts (Some (manifest out security rows)) texts = (size : ℕ) × (texts ≡ manifest_line (length rows) size security ∷ [])

@@ -27,10 +27,10 @@ abbrev pub with_file : List ℕ → List ℕ → Directory → Directory
 with_file name bytes files other = if bytes_eq name other then Some bytes else files other
 
 -- the files after these steps
-abbrev pub written : List CommandStep → Directory → Directory
-written [] files = files
-written (Writes name bytes ∷ steps) files = written steps (with_file name bytes files)
-written (Prints text ∷ steps) files = written steps files
+abbrev pub with_steps : List CommandStep → Directory → Directory
+with_steps [] files = files
+with_steps (Writes name bytes ∷ steps) files = with_steps steps (with_file name bytes files)
+with_steps (Prints text ∷ steps) files = with_steps steps files
 
 -- the text that these steps print
 abbrev pub printed : List CommandStep → List ℕ
@@ -68,8 +68,8 @@ IsPrinting (Prints text ∷ steps) = ⊤
 -- The files after the first n steps. Only where a writing may have torn its file may that of the next step be another.
 abbrev pub StandAfter : ℕ → CommandPlan → Directory → Option Directory → Type 0 → Type 0
 StandAfter n outcome files now spoiled =
-    Are now (written (take n (steps_in_plan outcome)) files)
-    ⊎ (spoiled × AreUpTo (drop n (steps_in_plan outcome)) now (written (take n (steps_in_plan outcome)) files))
+    Are now (with_steps (take n (steps_in_plan outcome)) files)
+    ⊎ (spoiled × AreUpTo (drop n (steps_in_plan outcome)) now (with_steps (take n (steps_in_plan outcome)) files))
 
 -- What was done of a command, by its result. The files were `files` and the told contents are `now`; the sink's text was `was`
 -- and is `text`. Nothing but the command's steps was done, in their order. A call of the files failed where `files-rose`, and a
@@ -77,12 +77,12 @@ StandAfter n outcome files now spoiled =
 abbrev pub Did : CommandPlan → Directory → Option Directory → Option (List ℕ) → Option (List ℕ) → Type 0 → Type 0 → Type 0
     → Result (Unit {0}) Stop → Type 0
 Did outcome files now was text files-rose spoiled sink-rose (Ok done) =
-    (outcome ≡ Makes (steps_in_plan outcome)) × Are now (written (steps_in_plan outcome) files)
+    (outcome ≡ Makes (steps_in_plan outcome)) × Are now (with_steps (steps_in_plan outcome) files)
     × Appends was text (printed (steps_in_plan outcome))
 Did outcome files now was text files-rose spoiled sink-rose (Err NoMemory) =
-    (n : ℕ) × Are now (written (take n (steps_in_plan outcome)) files) × Appends was text (printed (take n (steps_in_plan outcome)))
+    (n : ℕ) × Are now (with_steps (take n (steps_in_plan outcome)) files) × Appends was text (printed (take n (steps_in_plan outcome)))
 Did outcome files now was text files-rose spoiled sink-rose (Err SinkFault) =
-    sink-rose × (n : ℕ) × Are now (written (take n (steps_in_plan outcome)) files)
+    sink-rose × (n : ℕ) × Are now (with_steps (take n (steps_in_plan outcome)) files)
     × (k : ℕ) × Appends was text (printed (take n (steps_in_plan outcome)) ++ half_printed k (drop n (steps_in_plan outcome)))
     × IsPrinting (drop n (steps_in_plan outcome))
 Did outcome files now was text files-rose spoiled sink-rose (Err FileFault) =

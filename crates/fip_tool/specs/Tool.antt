@@ -7,24 +7,24 @@ use Rattle.host_io.specs.declared.writes.Writes as count
 use Rattle.fwu_formats.specs.Package.{Entry, payload, toc_of}
 use Rattle.fip_tables.specs.Answers.{decided}
 use Rattle.fip_words.specs.Order.{FipAsked, info, info_of_source, create, update, remove, unpack, manifest, capsule, repackage}
-use Rattle.fip_tool.specs.{Ends.EndsWith, declared.lines.Format.Format}
+use Rattle.fip_tool.specs.{Ends.EndsWithLine, declared.lines.Format.Format}
 use Rattle.fip_tool.specs.Lines.{info_text, made_line, manifest_line, unpacked_line, unpacked_name}
 use Rattle.fip_tool.specs.Steps.{CommandPlan, Did, Makes, MayTear, Refuses, CommandStep, Writes, Prints, outcome_by}
 use Rattle.fip_tool.specs.declared.lines.Format.TheVariants as format
 use Rattle.fip_making.specs.declared.stops.Stop.{Stop}
-use Rattle.fip_making.specs.Values.{after, capsule_value, create_value, first_missing, given_table, is_named, manifest_value, package_read_in, remove_value, repackage_value, sized_table, unless_missing, update_value}
+use Rattle.fip_making.specs.Values.{and_then, capsule_value, create_value, first_missing, given_table, has_type_among, manifest_value, package_read_in, remove_value, repackage_value, sized_table, unless_missing, update_value}
 use Rattle.fip_making.specs.declared.stops.Stop.TheVariants as stop
 
 -- ---- info
 
 unfoldable pub info_value : Directory → List ℕ → Result (List ℕ) Stop
-info_value files name = after (sized_table files name) (λ t. Ok (info_text t.0 t.1))
+info_value files name = and_then (sized_table files name) (λ t. Ok (info_text t.0 t.1))
 
 abbrev pub prints : List ℕ → List CommandStep
 prints text = Prints text ∷ []
 
 unfoldable pub given_value : List ℕ → Result (List ℕ) Stop
-given_value given = after (given_table given) (λ t. Ok (info_text t.0 t.1))
+given_value given = and_then (given_table given) (λ t. Ok (info_text t.0 t.1))
 
 -- ---- packages and capsules that are made
 
@@ -37,7 +37,7 @@ puts kind out made = Writes out made.1 ∷ Prints (made_line kind made.0 (length
 -- the entries that are named, or all where none is named
 abbrev pub chosen : List (List ℕ) → List Entry → List Entry
 chosen [] entries = entries
-chosen (guid ∷ guids) entries = filter (is_named (guid ∷ guids)) entries
+chosen (guid ∷ guids) entries = filter (has_type_among (guid ∷ guids)) entries
 
 abbrev pub unpack_steps : List ℕ → List ℕ → List Entry → List CommandStep
 unpack_steps prefix bytes [] = []
@@ -46,7 +46,7 @@ unpack_steps prefix bytes (e ∷ entries) =
 
 unfoldable pub unpack_value : Directory → List ℕ → List (List ℕ) → Result (List ℕ × List Entry) Stop
 unpack_value files from guids =
-    after (package_read_in files from) (λ p. unless_missing (first_missing p.1 guids) (Ok (p.0, chosen guids p.1.entries)))
+    and_then (package_read_in files from) (λ p. unless_missing (first_missing p.1 guids) (Ok (p.0, chosen guids p.1.entries)))
 
 -- ---- manifests
 
@@ -92,7 +92,7 @@ abbrev pub IsCompleteCommand : Type 0
 IsCompleteCommand =
     (steps : List CommandStep) (files : Directory) (now : Option Directory) (was mid text : Option (List ℕ))
     (f g s m t status : ℕ) (w x : count.Writes) (result : Result (Unit {0}) Stop)
-    → Did (Makes steps) files now was mid (Rose f g) (MayTear w x) (Rose s m) result → EndsWith mid text (Rose m t) result status
+    → Did (Makes steps) files now was mid (Rose f g) (MayTear w x) (Rose s m) result → EndsWithLine mid text (Rose m t) result status
     → (Rose f g → ⊥) → (Rose s m → ⊥) → (Rose m t → ⊥) → (status ≡ 0) ⊎ (status ≡ 9)
 
 -- A listing of the source, where what it gave is a package: no call of the source or of the sink failed, and so all of it is
@@ -102,5 +102,5 @@ IsCompleteListing =
     (given : List ℕ) (steps : List CommandStep) (was mid text : Option (List ℕ)) (f g s m t status : ℕ)
     (result : Result (Unit {0}) Stop) → outcome_by prints (given_value given) ≡ Makes steps
     → Did (outcome_by prints (given_value given)) no_files (Some no_files) was mid (Rose f g) ⊥ (Rose s m) result
-    → EndsWith mid text (Rose m t) result status
+    → EndsWithLine mid text (Rose m t) result status
     → (Rose f g → ⊥) → (Rose s m → ⊥) → (Rose m t → ⊥) → (status ≡ 0) ⊎ (status ≡ 9)

@@ -10,13 +10,13 @@ ghost use Rattle.fip_tool.specs.Lines.{unpacked_line, unpacked_name};
 ghost use Rattle.fip_tool.specs.Done.{DoneWithFiles, WritesTexts, Unpacked};
 ghost use Rattle.fip_tool.specs.Seen.{DidIn};
 ghost use Rattle.fip_tool.specs.Steps.{Makes};
-ghost use Rattle.fip_making.specs.Values.{is_named};
+ghost use Rattle.fip_making.specs.Values.{has_type_among};
 ghost use Rattle.fip_tool.specs.Tool.{unpack_steps};
 
 use crate::lines::{add, add_guid, add_named};
 use crate::writing::{NewFile, join_and_print};
 use base_core::{Guid, NoMemory};
-use fip_making::{Stop, is_named, table_with};
+use fip_making::{Stop, has_type_among, table_with};
 use fip_tables::Entry;
 use host_io::{Files, Piece, Sink};
 use std::alloc::Global;
@@ -83,9 +83,9 @@ fn unpack_entry<H: Files, O: Sink>(
 
 // Whether the entry is named, or none is.
 fn is_chosen(names: &[Guid], entry: &Entry) -> bool
-    ensures { result ≡ ((length names.now == 0) || is_named names.now entry.now) }
+    ensures { result ≡ ((length names.now == 0) || has_type_among names.now entry.now) }
 {
-    names.is_empty() || is_named(names, entry)
+    names.is_empty() || has_type_among(names, entry)
 }
 
 // A package that is unpacked: its file, the front of the files' names, and the types that are named.
@@ -110,10 +110,10 @@ fn unpack_entries<H: Files, O: Sink>(
     requires there { Lacks (H.contents files.old) unpacked.now.from.now → ⊥ }
     ensures told { (told : Directory) → (bytes : List ℕ) → H.contents files.old ≡ Some told
         → told unpacked.now.from.now ≡ Some bytes → DidIn H.Files O.Sink (Makes (unpack_steps unpacked.now.prefix.now bytes
-        (filter (λ e. (length unpacked.now.names.now == 0) || is_named unpacked.now.names.now e) entries.now))) told
+        (filter (λ e. (length unpacked.now.names.now == 0) || has_type_among unpacked.now.names.now e) entries.now))) told
         files.old files.new sink.old sink.new result }
     ensures texts { WritesTexts H.Files O.Sink (λ texts. texts ≡ map (unpacked_line unpacked.now.prefix.now)
-        (filter (λ e. (length unpacked.now.names.now == 0) || is_named unpacked.now.names.now e) entries.now)) result
+        (filter (λ e. (length unpacked.now.names.now == 0) || has_type_among unpacked.now.names.now e) entries.now)) result
         files.old files.new sink.old sink.new }
     ensures spares { (access : Access) → access ≢ Asks unpacked.now.from.now
         → ((guid : List ℕ) → access ≢ Makes (unpacked_name unpacked.now.prefix.now guid)) → H.spares files.old files.new access }

@@ -2,7 +2,7 @@
 use Rattle.std.proofs.Common.{◌≡◌, ◌+◌, Bool, cond, List, ◌∷◌, ◌++◌, length, refl, ◌∙◌, arith, length-append, [], ◌≢◌, ◌<◌, ℕ, get_or, Option, Some, None, Result, sym, ap, subst, IsTrue}
 use Rattle.std.proofs.lemmas.List.Sums.{count_by-le-length, fold-append, sum_by-append}
 use Rattle.fwu_model.specs.{Reply.Reply, Reply.Turn, Call.Call, Run.ends_run, Causes.status_by, Text.line, declared.kinds.Note.Note}
-use Rattle.gen_core.specs.Line.{LastStart, count_of, is_booted, is_fallback, is_lost, is_sent, last_started, started, totals_of, soak_line}
+use Rattle.gen_core.specs.Line.{LastStart, count_of, is_booted, is_fallback, is_lost, is_sent, last_started, start_after, totals_of, soak_line}
 use Rattle.gen_core.specs.{declared.line.Totals.Totals, Calls.file_name, Calls.round_calls, Calls.round_package, Calls.soak_calls}
 use Rattle.gen_core.specs.{Draws.register_after, Rounds.rounds_from, Setup.soak_layout, declared.rounds.Round.Round}
 use Rattle.std.specs.Prelude.{flat_map}
@@ -42,16 +42,16 @@ counted_turn t r = record {
   losses = t.losses + cond (is_lost r) 1 0;
   fallbacks = t.fallbacks + cond (is_fallback r) 1 0;
   sends = t.sends + cond (is_sent r) 1 0;
-  bank = (started (started_of t) r).bank;
-  version = (started (started_of t) r).version;
-  counter = (started (started_of t) r).counter;
+  bank = (start_after (started_of t) r).bank;
+  version = (start_after (started_of t) r).version;
+  counter = (start_after (started_of t) r).counter;
 }
 
 count-more : (test : Reply → Bool) (journal : List Turn) (t : Turn) → count_of test (journal ++ t ∷ []) ≡ count_of test journal + cond (test t.reply) 1 0
 count-more test journal t = sum_by-append (λ (x : Turn). cond (test x.reply) 1 0) journal (t ∷ []) ∙ omega arith
 
-started-more : (journal : List Turn) (t : Turn) → last_started (journal ++ t ∷ []) ≡ started (last_started journal) t.reply
-started-more journal t = fold-append (λ (last : LastStart) (x : Turn). started last x.reply) (record { bank = 0; version = 0; counter = 0 }) journal (t ∷ [])
+started-more : (journal : List Turn) (t : Turn) → last_started (journal ++ t ∷ []) ≡ start_after (last_started journal) t.reply
+started-more journal t = fold-append (λ (last : LastStart) (x : Turn). start_after last x.reply) (record { bank = 0; version = 0; counter = 0 }) journal (t ∷ [])
 
 totals-more : (journal : List Turn) (t : Turn) → totals_of (journal ++ t ∷ []) ≡ counted_turn (totals_of journal) t.reply
 unfolding totals_of

@@ -37,10 +37,10 @@ pub record ComesBack (known : ℕ) (loss : Loss) (old new : Told) : Type 0 where
 
 -- ---- what becomes of a call
 
-abbrev pub outcome : Fate → Result (Unit {0}) FlashStop
-outcome Done = Ok tt
-outcome Fails = Err Failed
-outcome (Dies landed known back) = Err Lost
+abbrev pub fate_result : Fate → Result (Unit {0}) FlashStop
+fate_result Done = Ok tt
+fate_result Fails = Err Failed
+fate_result (Dies landed known back) = Err Lost
 
 -- as many bytes as are known take effect
 abbrev pub Lands : Fate → ℕ → Type 0

@@ -34,13 +34,13 @@ fn place(bytes: &[u8], at: u64, n: usize) -> io::Result<usize>
 }
 
 impl MemoryFile {
-    ghost use Rattle.flash_devices.specs.MemoryFiles.{bytes_of, calls_of, fails_next, fails_of, writes_of, IsCalledOnce};
+    ghost use Rattle.flash_devices.specs.MemoryFiles.{content_of, calls_made, fails_next, fails_of, writes_of, IsCalledOnce};
 
     /// A file of these bytes, whose calls of these numbers fail.
     pub fn new(alloc: Global, bytes: Vec<u8>, fails: Vec<u64>) -> Result<MemoryFile, AllocError>
-        ensures bytes { IfOk result (λ file. bytes_of file ≡ bytes.items) }
+        ensures bytes { IfOk result (λ file. content_of file ≡ bytes.items) }
         ensures fails { IfOk result (λ file. fails_of file ≡ fails.items) }
-        ensures calls { IfOk result (λ file. calls_of file ≡ 0) }
+        ensures calls { IfOk result (λ file. calls_made file ≡ 0) }
         ensures unwritten { IfOk result (λ file. (b : ℕ) → writes_of file b ≡ 0) }
     {
         let written = vec![in alloc; 0; bytes.len().div_ceil(BLOCK_BYTES as usize)]?;
@@ -54,7 +54,7 @@ impl MemoryFile {
 
     /// Its bytes.
     pub fn bytes(&self) -> &[u8]
-        ensures { result.now ≡ bytes_of self.now }
+        ensures { result.now ≡ content_of self.now }
     {
         &self.bytes
     }
@@ -70,7 +70,7 @@ impl MemoryFile {
     fn call(&mut self) -> io::Result<()>
         ensures fails { is_err result ≡ fails_next self.old }
         ensures called { IsCalledOnce self.old self.new }
-        ensures same { bytes_of self.new ≡ bytes_of self.old }
+        ensures same { content_of self.new ≡ content_of self.old }
         ensures writes { writes_of self.new ≡ writes_of self.old }
     {
         self.calls = self.calls.saturating_add(1);
@@ -84,11 +84,11 @@ impl MemoryFile {
 impl ByteFile for MemoryFile {
     ghost use Rattle.flash_core.specs.Touches.{TouchesOnly};
     ghost use Rattle.flash_devices.specs.Meters.{CountsMet};
-    ghost use Rattle.flash_devices.specs.MemoryFiles.{bytes_of, fails_next, writes_of, IsCalledOnce};
+    ghost use Rattle.flash_devices.specs.MemoryFiles.{content_of, fails_next, writes_of, IsCalledOnce};
 
-    ghost content = { λ f. Some (bytes_of f) };
+    ghost content = { λ f. Some (content_of f) };
 
-    ghost size = { λ f. Some (length (bytes_of f)) };
+    ghost size = { λ f. Some (length (content_of f)) };
 
     ghost writes = { λ f. writes_of f };
 
@@ -99,8 +99,8 @@ impl ByteFile for MemoryFile {
     ghost flushed = { λ old new. IsCalledOnce old new };
 
     fn size(&mut self) -> io::Result<u64>
-        ensures size { IfOk result (λ n. n ≡ length (bytes_of self.old)) }
-        ensures same { Some (bytes_of self.new) ≡ Some (bytes_of self.old) }
+        ensures size { IfOk result (λ n. n ≡ length (content_of self.old)) }
+        ensures same { Some (content_of self.new) ≡ Some (content_of self.old) }
         ensures writes { writes_of self.new ≡ writes_of self.old }
         ensures fails { FailsAs (Some (fails_next self.old)) (is_err result) }
         ensures called { IsCalledOnce self.old self.new }
@@ -110,10 +110,10 @@ impl ByteFile for MemoryFile {
     }
 
     fn read_at(&mut self, at: u64, out: &mut [u8]) -> io::Result<()>
-        ensures bytes { OnOk result (HoldsAt at out.new (Some (bytes_of self.old))) }
-        ensures same { Some (bytes_of self.new) ≡ Some (bytes_of self.old) }
+        ensures bytes { OnOk result (HoldsAt at out.new (Some (content_of self.old))) }
+        ensures same { Some (content_of self.new) ≡ Some (content_of self.old) }
         ensures writes { writes_of self.new ≡ writes_of self.old }
-        ensures fails { FailsWithin (Some (fails_next self.old)) (Some (bytes_of self.old)) at (length out.old) (is_err result) }
+        ensures fails { FailsWithin (Some (fails_next self.old)) (Some (content_of self.old)) at (length out.old) (is_err result) }
         ensures called { IsCalledOnce self.old self.new }
     {
         self.call()?;
@@ -123,10 +123,10 @@ impl ByteFile for MemoryFile {
     }
 
     fn write_at(&mut self, at: u64, bytes: &[u8]) -> io::Result<()>
-        ensures writes { WritesBytes result at bytes.now (Some (bytes_of self.old)) (Some (bytes_of self.new)) }
-        ensures fails { FailsWithin (Some (fails_next self.old)) (Some (bytes_of self.old)) at (length bytes.now) (is_err result) }
-        ensures unchanged { OnErr result (bytes_of self.new ≡ bytes_of self.old) }
-        ensures inside { OnOk result (Lies at (length bytes.now) (bytes_of self.old)) }
+        ensures writes { WritesBytes result at bytes.now (Some (content_of self.old)) (Some (content_of self.new)) }
+        ensures fails { FailsWithin (Some (fails_next self.old)) (Some (content_of self.old)) at (length bytes.now) (is_err result) }
+        ensures unchanged { OnErr result (content_of self.new ≡ content_of self.old) }
+        ensures inside { OnOk result (Lies at (length bytes.now) (content_of self.old)) }
         ensures called { IsCalledOnce self.old self.new }
         ensures counted { OnOk result (CountsMet at (length bytes.now) (writes_of self.old) (writes_of self.new)) }
         ensures touches { TouchesOnly at (at + length bytes.now) (writes_of self.old) (writes_of self.new) }
@@ -139,7 +139,7 @@ impl ByteFile for MemoryFile {
     }
 
     fn flush(&mut self) -> io::Result<()>
-        ensures same { Some (bytes_of self.new) ≡ Some (bytes_of self.old) }
+        ensures same { Some (content_of self.new) ≡ Some (content_of self.old) }
         ensures writes { writes_of self.new ≡ writes_of self.old }
         ensures fails { FailsAs (Some (fails_next self.old)) (is_err result) }
         ensures called { IsCalledOnce self.old self.new }

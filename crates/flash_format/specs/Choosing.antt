@@ -9,14 +9,14 @@ use Rattle.flash_format.specs.declared.stops.InputFault.{InputFault}
 use Rattle.flash_format.specs.declared.stops.InputFault.TheVariants.{Layout as BadLayout, Package as BadPackage, Missing, TooLarge}
 
 -- the fault of an image, as a refusal
-abbrev pub refused : ImageFault → InputFault
-refused (image.Missing guid) = Missing guid
-refused (image.TooLarge guid) = TooLarge guid
+abbrev pub input_refusal : ImageFault → InputFault
+input_refusal (image.Missing guid) = Missing guid
+input_refusal (image.TooLarge guid) = TooLarge guid
 
 abbrev pub refusal_by : Result Layout LayoutFault → Result Toc FipFault → Option InputFault
 refusal_by (Err fault) answer = Some (BadLayout fault)
 refusal_by (Ok L) (Err fault) = Some (BadPackage fault)
-refusal_by (Ok L) (Ok toc) = option_map refused (images_fault L.rows toc)
+refusal_by (Ok L) (Ok toc) = option_map input_refusal (images_fault L.rows toc)
 
 -- What is refused of these rows and banks on a flash of so many blocks, and of the file. It is the first of these:
 -- that they are no layout of the flash, that the file is no package, and the fault of the lowest image that has one.

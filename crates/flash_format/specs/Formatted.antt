@@ -14,8 +14,8 @@ use Rattle.image_check.specs.{Law.verdict_may_start, Passed.HasPassed, Verdict.v
 use Rattle.image_check.specs.declared.bank.Verdict.TheVariants.{Good}
 
 -- the layout that so many banks and these rows ask for
-abbrev pub asked : ℕ → List ImageRow → Layout
-asked banks rows = record { banks = banks; rows = rows }
+abbrev pub asked_layout : ℕ → List ImageRow → Layout
+asked_layout banks rows = record { banks = banks; rows = rows }
 
 -- a bank that holds an accepted package, and one that holds none
 abbrev pub full_bank : Layout → List (List ℕ) → Bank

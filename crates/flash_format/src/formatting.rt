@@ -12,7 +12,7 @@ ghost use Rattle.fwu_model.specs.Answer.{images_of};
 ghost use Rattle.fwu_formats.specs.Manifest.{is_complete, manifest_part};
 ghost use Rattle.meta_layout.specs.Rows.{fitted};
 ghost use Rattle.fip_tables.specs.Files.{Lacks, Tells};
-ghost use Rattle.flash_format.specs.Formatted.{asked, HasAtMost, HoldsImages, IsBlank, IsInOrder, IsMade, IsOrdered, IsRefusedFormat, IsUnlaid, IsWholeFormat};
+ghost use Rattle.flash_format.specs.Formatted.{asked_layout, HasAtMost, HoldsImages, IsBlank, IsInOrder, IsMade, IsOrdered, IsRefusedFormat, IsUnlaid, IsWholeFormat};
 ghost use Rattle.flash_format.specs.Places.{Erased};
 ghost use Rattle.flash_format.specs.Planned.{IsFilled, IsPlan, FormatTakes, writes_to_format};
 ghost use Rattle.flash_format.specs.Stops.{flash_result, FormatFinishes, IfRefused, IsByVerdict, IsEarlyStop, IsOfLayout, ReadsPackage, RefusesInput, StopsEarly};
@@ -131,7 +131,7 @@ pub fn format<D: Flash, H: Files, V: Verifier>(
     requires { IsTrue (D.on flash.old) }
 
     // What is refused before the flash is touched.
-    ensures input { RefusesInput (H.contents files.old) name.now (asked banks rows.now) (D.blocks flash.old) result }
+    ensures input { RefusesInput (H.contents files.old) name.now (asked_layout banks rows.now) (D.blocks flash.old) result }
     ensures untouched { IsEarlyStop result → flash.new ≡ flash.old }
     // A file that could not be read: the flash is as it was, or has no layout, whatever a loss leaves.
     ensures failed { result ≡ Err FileFailed → IsTrue D.tells → D.told flash.new ≡ D.told flash.old ⊎ IsUnlaid (D.told flash.new) }
@@ -139,16 +139,16 @@ pub fn format<D: Flash, H: Files, V: Verifier>(
     ensures missing { Lacks (H.contents files.old) name.now
         → (IsOfLayout result ⊎ (result ≡ Err FileFailed)) × (flash.new ≡ flash.old) }
     // Formatted: by the layout that was asked for.
-    ensures given { IfOk result (λ done. fitted (asked banks rows.now) (D.blocks flash.old) ≡ Ok done.layout) }
+    ensures given { IfOk result (λ done. fitted (asked_layout banks rows.now) (D.blocks flash.old) ≡ Ok done.layout) }
     ensures made { IfOk result (λ done. IsMade D.Flash (V.passes verifier.now) done.layout done.version flash.new) }
     // Refused: the flash has no layout, and what it is refused for is the verdict on what bank 0 holds.
     ensures refused { IfRefused result (λ found. IsTrue D.tells →
-        IsRefusedFormat (V.passes verifier.now) (asked banks rows.now) found (D.told flash.new).now) }
+        IsRefusedFormat (V.passes verifier.now) (asked_layout banks rows.now) found (D.told flash.new).now) }
     // Either way bank 0 holds the package's images, and they aren't refused where they are a complete package that passes.
     ensures images { FormatFinishes result (IsTrue D.tells → (file : List ℕ) (toc : Toc) →
         Tells (H.contents files.old) name.now file → toc_of file ≡ Ok toc
-        → HoldsImages (asked banks rows.now) (images_of rows.now file toc) (D.told flash.new).now) }
-    ensures blank { FormatFinishes result (IsTrue D.tells → IsBlank (asked banks rows.now) (D.told flash.new).now) }
+        → HoldsImages (asked_layout banks rows.now) (images_of rows.now file toc) (D.told flash.new).now) }
+    ensures blank { FormatFinishes result (IsTrue D.tells → IsBlank (asked_layout banks rows.now) (D.told flash.new).now) }
     ensures deserved { IfRefused result (λ found. IsTrue D.tells → (file : List ℕ) (toc : Toc) →
         Tells (H.contents files.old) name.now file → toc_of file ≡ Ok toc
         → IsTrue (is_complete rows.now (images_of rows.now file toc))
@@ -157,13 +157,13 @@ pub fn format<D: Flash, H: Files, V: Verifier>(
     ensures clean { FormatFinishes result (IsTrue D.tells → NothingDirty (D.told flash.new)) }
     // At any exit, whatever a loss leaves: block 0 alone was touched, or a layout stands only with both replicas. The one that was
     // asked for stands only on a flash that is formatted whole, and until a loss no other layout is there.
-    ensures ordered { IsTrue D.tells → IsInOrder (V.passes verifier.now) (asked banks rows.now)
+    ensures ordered { IsTrue D.tells → IsInOrder (V.passes verifier.now) (asked_layout banks rows.now)
         (D.told flash.old) (D.told flash.new) }
     // Beyond the last bank nothing changes, at any exit.
-    ensures keeps { IsTrue D.tells → Keeps 0 (block_bytes * blocks_needed (asked banks rows.now))
+    ensures keeps { IsTrue D.tells → Keeps 0 (block_bytes * blocks_needed (asked_layout banks rows.now))
         (D.told flash.old) (D.told flash.new) }
     // On every device, whatever its reads give: no block beyond the last bank is erased or programmed, at any exit.
-    ensures touches { TouchesOnly 0 (block_bytes * blocks_needed (asked banks rows.now))
+    ensures touches { TouchesOnly 0 (block_bytes * blocks_needed (asked_layout banks rows.now))
         (D.writes flash.old) (D.writes flash.new) }
     ensures goes { Goes D.Flash (flash_result result) flash.old flash.new }
     // On every device, in total: an erase for each block up to the last bank's end. And a program for each piece of an image, for
@@ -171,7 +171,7 @@ pub fn format<D: Flash, H: Files, V: Verifier>(
     ensures spent { IfOk result (λ done.
         FormatTakes (H.contents files.old) name.now done.layout 3 (D.arming flash.old) (D.arming flash.new)) }
     ensures worn { IfRefused result (λ found. FormatTakes (H.contents files.old) name.now
-        (asked banks rows.now) 0 (D.arming flash.old) (D.arming flash.new)) }
+        (asked_layout banks rows.now) 0 (D.arming flash.old) (D.arming flash.new)) }
     ensures refuses { IsByVerdict (V.passes verifier.now) rows.now result }
     ensures reads { ReadsPackage H.Files name.now result files.old files.new }
 {

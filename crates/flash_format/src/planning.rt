@@ -4,7 +4,7 @@ ghost use Rattle.fwu_formats.specs.Package.{toc_of};
 ghost use Rattle.meta_layout.specs.Rows.{fitted};
 ghost use Rattle.fip_tables.specs.Files.{Lacks, Tells};
 ghost use Rattle.flash_format.specs.Choosing.{refusal_by};
-ghost use Rattle.flash_format.specs.Formatted.{asked};
+ghost use Rattle.flash_format.specs.Formatted.{asked_layout};
 ghost use Rattle.flash_format.specs.Planned.{IsPlan};
 ghost use Rattle.flash_format.specs.Stops.{RefusesAs, IsOfBytes, IsOfLayout, ReadsPackage, RefusesInput, StopsEarly};
 ghost use Rattle.flash_format.specs.declared.stops.FormatStop.TheVariants.{ReadFailed as FileFailed};
@@ -44,9 +44,9 @@ pub fn plan<H: Files>(
     files: &mut H,
     name: &str,
 ) -> Result<Plan, FormatStop>
-    ensures fits { IfOk result (λ plan. fitted (asked banks rows.now) blocks ≡ Ok plan.layout) }
+    ensures fits { IfOk result (λ plan. fitted (asked_layout banks rows.now) blocks ≡ Ok plan.layout) }
     ensures plans { IfOk result (λ plan. IsPlan (H.contents files.old) name.now plan.layout plan.entries) }
-    ensures input { RefusesInput (H.contents files.old) name.now (asked banks rows.now) blocks result }
+    ensures input { RefusesInput (H.contents files.old) name.now (asked_layout banks rows.now) blocks result }
     ensures missing { Lacks (H.contents files.old) name.now → IsOfLayout result ⊎ (result ≡ Err FileFailed) }
     ensures stops { IfErr result StopsEarly }
     ensures reads { ReadsPackage H.Files name.now result files.old files.new }

@@ -1,6 +1,6 @@
 //! Why a flash was not formatted.
 ghost use Rattle.std.specs.Prelude.{◌≡◌};
-ghost use Rattle.flash_format.specs.Choosing.{refused};
+ghost use Rattle.flash_format.specs.Choosing.{input_refusal};
 ghost use Rattle.flash_format.specs.declared.stops.FormatStop.TheVariants.{Flash as FlashStopped, Input as InputRefused};
 
 use base_core::Guid;
@@ -60,7 +60,7 @@ impl From<InputFault> for FormatStop {
 }
 
 impl From<ImageFault> for FormatStop {
-    ghost from_gives = { λ fault e. e ≡ InputRefused (refused fault) };
+    ghost from_gives = { λ fault e. e ≡ InputRefused (input_refusal fault) };
 
     fn from(fault: ImageFault) -> Self {
         match fault {

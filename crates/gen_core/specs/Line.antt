@@ -32,13 +32,13 @@ pub record LastStart : Type 0 where
   pub counter : ℕ
 
 -- the numbers of this reply where it is a boot's, else those of an earlier one
-abbrev pub started : LastStart → Reply → LastStart
-started last (reply.Booted bank version trials counter fallback) = record { bank = bank; version = version; counter = counter }
-started last other = last
+abbrev pub start_after : LastStart → Reply → LastStart
+start_after last (reply.Booted bank version trials counter fallback) = record { bank = bank; version = version; counter = counter }
+start_after last other = last
 
 -- each is 0 where no boot was answered with a bank
 abbrev pub last_started : List Turn → LastStart
-last_started journal = fold (λ last turn. started last turn.reply) (record { bank = 0; version = 0; counter = 0 }) journal
+last_started journal = fold (λ last turn. start_after last turn.reply) (record { bank = 0; version = 0; counter = 0 }) journal
 
 -- what the line tells of the turns that were done
 unfoldable pub totals_of : List Turn → Totals

@@ -21,7 +21,7 @@ use Rattle.serving.specs.Serving as acts
 use Rattle.serving.specs.{Ends.IsEarlyEnd, Ends.end_by, Ends.end_of_stop, Ends.status_of, declared.ends.ServeEnd.ServeEnd}
 use Rattle.serving.specs.Going.{ServesRequests, ServeEnds, TakesFrames, at_the_end, at_a_request, ServesFrom, not_started, started}
 use Rattle.serving.specs.Scene.{At, Port, RunAt, Scene, begin_at, unasked}
-use Rattle.serving.specs.Written.{AnswersRequests, acting, answered_numbers, called, calls_for, frame_of, messages_of, written}
+use Rattle.serving.specs.Written.{AnswersRequests, acting, answered_numbers, called, calls_for, frame_of, messages_of, all_frames}
 use Rattle.serving.specs.declared.ends.ServeEnd.TheVariants as end
 use Rattle.serving.proofs.{Starts.goes-none, Steps.acting-more, Steps.frame-last, Steps.length-messages, Steps.messages-more}
 use Rattle.script_runs.specs.Running.{last_turn}
@@ -137,7 +137,7 @@ pub record Account (from to : Port) (e : ServeEnd) (journal : List Turn) (before
   pub all_turns : IsTrue (reads_no_more (status_of e)) → turns ≡ drop 1 journal
   pub calls : calls_of turns ≡ calls_for bodies
   pub all_calls : IsPrefixOf (calls_of (drop 1 journal)) (calls_for (bodies ++ more))
-  pub took : Appends before after (written (messages_of turns) (answered_numbers 0 bodies) ++ part)
+  pub took : Appends before after (all_frames (messages_of turns) (answered_numbers 0 bodies) ++ part)
   pub none : e ≢ end.SinkFailed → part ≡ []
   pub front : e ≡ end.SinkFailed → (n : ℕ) × (part ≡ take n (last_frame (drop 1 journal)))
   pub some : e ≢ end.NoMemory → journal ≢ []
@@ -349,7 +349,7 @@ module _ (E : Scene) (t : Turn) (start : TurnMoment) (old new : At) (e : ServeEn
         all_turns = λ is. sym behind;
         calls = goes.answers.calls_are;
         all_calls = ([], append-nil (calls_of (drop 1 new.run.journal)) ∙ ap calls_of behind ∙ goes.answers.calls_are ∙ ap calls_for (sym whole));
-        took = subst (Appends old.sink.bytes new.sink.bytes) (sym (append-nil (written (messages_of goes.turns) (answered_numbers 0 bodies)))) goes.took;
+        took = subst (Appends old.sink.bytes new.sink.bytes) (sym (append-nil (all_frames (messages_of goes.turns) (answered_numbers 0 bodies)))) goes.took;
         none = λ differs. refl;
         front = λ is. absurd (fails is);
         some = λ differs none. let all_of : new.run.journal ≡ t ∷ goes.turns = goes.journal_is in cc;
@@ -399,7 +399,7 @@ module _ (E : Scene) (t : Turn) (start : TurnMoment) (old new : At) (e : ServeEn
               ∙ ap (λ (cs : List Call). calls_for bodies ++ cs) last.calls.1
               ∙ sym (calls-more bodies goes.turns mid.exchange body goes.answers),
         );
-        took = Appends-trans old.sink.bytes mid.sink.bytes new.sink.bytes (written (messages_of goes.turns) (answered_numbers 0 bodies)) last.part goes.took last.took;
+        took = Appends-trans old.sink.bytes mid.sink.bytes new.sink.bytes (all_frames (messages_of goes.turns) (answered_numbers 0 bodies)) last.part goes.took last.took;
         none = last.none;
         front = λ is. let f = last.front is in (f.0, f.1 ∙ ap (λ (ts : List Turn). take f.0 (last_frame ts)) (sym behind));
         some = λ differs none. cc;

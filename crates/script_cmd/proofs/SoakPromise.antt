@@ -25,7 +25,7 @@ use Rattle.fwu_model.proofs.{Complete.runs-boot, Selects.runs-select}
 use Rattle.fwu_words.specs.Order as ask
 use Rattle.agent_machine.specs.Fields.{Fields}
 use Rattle.meta_layout.specs.Rows.{fitted}
-use Rattle.flash_format.specs.{Choosing.refusal, Choosing.refused as refused_input, Formatted.HoldsImages, Formatted.IsFormatted}
+use Rattle.flash_format.specs.{Choosing.refusal, Choosing.input_refusal as refused_input, Formatted.HoldsImages, Formatted.IsFormatted}
 use Rattle.flash_format.specs.{Formatted.first_state, declared.formatting.Formatted.Formatted, declared.stops.FormatStop.FormatStop}
 use Rattle.flash_format.specs.declared.stops.FormatStop.TheVariants.{Input, ReadFailed, Flash}
 use Rattle.flash_format.specs.declared.stops.InputFault.{InputFault}

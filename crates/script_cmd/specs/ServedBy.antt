@@ -17,7 +17,7 @@ use Rattle.script_runs.specs.{Ending.Ending, Ending.World, Ways.Given, Ways.HasG
 use Rattle.flash_commands.specs.Showing.{RefusedList}
 use Rattle.std.specs.Io.KnownBytes.{Appends, Consumes}
 use Rattle.flash_core.specs.Counts.{Rose}
-use Rattle.serving.specs.Written.{answered_numbers, calls_for, frame_of, messages_of, written}
+use Rattle.serving.specs.Written.{answered_numbers, calls_for, frame_of, messages_of, all_frames}
 use Rattle.fwu_model.specs.Headline.{Headline, IsPrefixOf}
 use Rattle.fwu_model.specs.Reply as reply
 use Rattle.script_cmd.specs.{Promises.EndsByLast, Promises.RanHolds, Promises.outcome, Granted.IsGranted, Granted.RefusesBadList}
@@ -119,7 +119,7 @@ pub record WroteFrames (stream rest : Option (List ℕ)) (ending : Ending Note) 
   pub all_calls : IsPrefixOf (calls_of (drop 1 ending.journal)) (calls_for (bodies ++ more))
   pub some : ending.status ≢ 9 → ending.journal ≢ []
   -- and each frame has the reply of its number's turn
-  pub took : Appends before after (written (messages_of turns) (answered_numbers 0 bodies) ++ part)
+  pub took : Appends before after (all_frames (messages_of turns) (answered_numbers 0 bodies) ++ part)
   -- where the sink failed, a front of the frame of the last turn stands behind them
   pub none : ending.status ≢ 3 → part ≡ []
   pub front : ending.status ≡ 3 → (n : ℕ) × (part ≡ take n (last_frame (drop 1 ending.journal)))

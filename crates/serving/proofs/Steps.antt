@@ -14,7 +14,7 @@ use Rattle.fwu_wire.specs.Replies.{message}
 use Rattle.std.specs.{List.list_any, Io.KnownBytes.Appends, Io.KnownBytes.Consumes}
 use Rattle.script_turns.specs.Powered.{TurnMoment}
 use Rattle.wire_frames.specs.declared.exchange.Admission.TheVariants.{Acts, Repeats, Ignored}
-use Rattle.serving.specs.Written.{acting, answered_numbers, frame_of, messages_of, written, called, AnswersRequests}
+use Rattle.serving.specs.Written.{acting, answered_numbers, frame_of, messages_of, all_frames, called, AnswersRequests}
 use Rattle.serving.specs.Serving.{OneReply, ServesAgain, ServesBy, ServesNew, ServesOne, answered, stopped}
 use Rattle.serving.specs.{Going.ServesRequests, Going.GoesOn, Going.ServeEnds, Scene.At, Scene.RunAt, Scene.Scene, Scene.Port}
 use Rattle.serving.specs.{declared.ends.ServeEnd.ServeEnd, Ends.IsEarlyEnd, Ends.end_of_stop}
@@ -91,22 +91,22 @@ adds last body = by (request_number_of body == last + 1) ((request_number_of bod
 -- ---- the frames
 
 -- a reply more doesn't change those before
-pub written-more : (messages : List (List ℕ)) (m : List ℕ) (numbers : List ℕ) → Within (length messages) numbers → written (messages ++ m ∷ []) numbers ≡ written messages numbers
+pub written-more : (messages : List (List ℕ)) (m : List ℕ) (numbers : List ℕ) → Within (length messages) numbers → all_frames (messages ++ m ∷ []) numbers ≡ all_frames messages numbers
 unfolding Within
 written-more messages m [] within = refl
 written-more messages m (n ∷ numbers) within =
     let some = within.0 in
     let few = within.1 in
     let same : get_or (messages ++ m ∷ []) (n - 1) [] ≡ get_or messages (n - 1) [] = get_or_append_left messages (m ∷ []) [] (n - 1) (omega (arith, some, few)) in
-    ap (λ (l : List ℕ). frame (numbered n l) ++ written (messages ++ m ∷ []) numbers) same
+    ap (λ (l : List ℕ). frame (numbered n l) ++ all_frames (messages ++ m ∷ []) numbers) same
     ∙ ap (λ (l : List ℕ). frame_of messages n ++ l) (written-more messages m numbers within.2)
 
 -- the frame of the last one
 pub frame-last : (messages : List (List ℕ)) (m : List ℕ) (n : ℕ) → n ≡ length messages + 1 → frame (numbered n m) ≡ frame_of (messages ++ m ∷ []) n
 frame-last messages m n is = ap (λ (l : List ℕ). frame (numbered n l)) (sym (get_or_push messages m [] (n - 1) (omega (arith, is))))
 
-pub written-at : (messages : List (List ℕ)) (numbers : List ℕ) (n : ℕ) → written messages (numbers ++ n ∷ []) ≡ written messages numbers ++ frame_of messages n
-written-at messages numbers n = flat_map-append (frame_of messages) numbers (n ∷ []) ∙ ap (λ (l : List ℕ). written messages numbers ++ l) (append-nil (frame_of messages n))
+pub written-at : (messages : List (List ℕ)) (numbers : List ℕ) (n : ℕ) → all_frames messages (numbers ++ n ∷ []) ≡ all_frames messages numbers ++ frame_of messages n
+written-at messages numbers n = flat_map-append (frame_of messages) numbers (n ∷ []) ∙ ap (λ (l : List ℕ). all_frames messages numbers ++ l) (append-nil (frame_of messages n))
 
 -- ---- the turns
 
@@ -157,7 +157,7 @@ module _ (E : Scene) (first : List Turn) (start : TurnMoment) (off : start.on �
       count = was.answers.count;
       kept = was.answers.kept;
     };
-    took = subst (λ (l : List ℕ). Appends old.sink.bytes mid.sink.bytes (written (messages_of was.turns) l)) (sym (numbers-as [] is.1 ∙ append-nil (answered_numbers 0 bodies))) was.took;
+    took = subst (λ (l : List ℕ). Appends old.sink.bytes mid.sink.bytes (all_frames (messages_of was.turns) l)) (sym (numbers-as [] is.1 ∙ append-nil (answered_numbers 0 bodies))) was.took;
     quiet = was.quiet;
   })
 
@@ -170,8 +170,8 @@ module _ (E : Scene) (first : List Turn) (start : TurnMoment) (off : start.on �
       let same : new.run.journal ≡ mid.run.journal = ap (λ (run : RunAt). run.journal) did.run in
       let numbers = answered_numbers 0 bodies in
       let frame_is = was.answers.kept some ∙ ap (frame_of (messages_of was.turns)) (sym same_number) in
-      let all_is : written (messages_of was.turns) (answered_numbers 0 (bodies ++ body ∷ [])) ≡ written (messages_of was.turns) numbers ++ mid.exchange.reply =
-      ap (written (messages_of was.turns)) (numbers-as (request_number_of body ∷ []) is.1) ∙ written-at (messages_of was.turns) numbers (request_number_of body) ∙ ap (λ (l : List ℕ). written (messages_of was.turns) numbers ++ l) (sym frame_is) in
+      let all_is : all_frames (messages_of was.turns) (answered_numbers 0 (bodies ++ body ∷ [])) ≡ all_frames (messages_of was.turns) numbers ++ mid.exchange.reply =
+      ap (all_frames (messages_of was.turns)) (numbers-as (request_number_of body ∷ []) is.1) ∙ written-at (messages_of was.turns) numbers (request_number_of body) ∙ ap (λ (l : List ℕ). all_frames (messages_of was.turns) numbers ++ l) (sym frame_is) in
       record {
         turns = was.turns;
         journal_is = same ∙ was.journal_is;
@@ -184,7 +184,7 @@ module _ (E : Scene) (first : List Turn) (start : TurnMoment) (off : start.on �
           kept = was.answers.kept;
         });
         took = subst (λ (l : List ℕ). Appends old.sink.bytes new.sink.bytes l) (sym all_is)
-            (Appends-trans old.sink.bytes mid.sink.bytes new.sink.bytes (written (messages_of was.turns) numbers) mid.exchange.reply was.took put.0);
+            (Appends-trans old.sink.bytes mid.sink.bytes new.sink.bytes (all_frames (messages_of was.turns) numbers) mid.exchange.reply was.took put.0);
         quiet = put.1 ∙ was.quiet;
       }
 
@@ -204,7 +204,7 @@ module _ (E : Scene) (first : List Turn) (start : TurnMoment) (off : start.on �
       })
 
   acts-took : (t : Turn) → adds-as Acts → request_number_of body ≡ mid.exchange.last + 1 → Appends mid.sink.bytes new.sink.bytes (frame (numbered (request_number_of body) (message t.reply)))
-      → Appends old.sink.bytes new.sink.bytes (written (messages_of (was.turns ++ t ∷ [])) (answered_numbers 0 (bodies ++ body ∷ [])))
+      → Appends old.sink.bytes new.sink.bytes (all_frames (messages_of (was.turns ++ t ∷ [])) (answered_numbers 0 (bodies ++ body ∷ [])))
   acts-took t is number took =
       let numbers = answered_numbers 0 bodies in
       let count = was.answers.count in
@@ -214,12 +214,12 @@ module _ (E : Scene) (first : List Turn) (start : TurnMoment) (off : start.on �
       let longer : List (List ℕ) = before ++ bytes ∷ [] in
       let piece = frame (numbered (request_number_of body) bytes) in
       let within = subst (λ (k : ℕ). Within k numbers) (sym (same ∙ count ∙ last)) (answered-within 0 bodies) in
-      let all_is : written longer (answered_numbers 0 (bodies ++ body ∷ [])) ≡ written before numbers ++ piece =
-      ap (written longer) (numbers-as (request_number_of body ∷ []) is.1) ∙ written-at longer numbers (request_number_of body)
+      let all_is : all_frames longer (answered_numbers 0 (bodies ++ body ∷ [])) ≡ all_frames before numbers ++ piece =
+      ap (all_frames longer) (numbers-as (request_number_of body ∷ []) is.1) ∙ written-at longer numbers (request_number_of body)
       ∙ ap (λ (l : List ℕ). l ++ frame_of longer (request_number_of body)) (written-more before bytes numbers within)
-      ∙ ap (λ (l : List ℕ). written before numbers ++ l) (sym (frame-last before bytes (request_number_of body) (omega (arith, count, number, same)))) in
-      subst (λ (l : List ℕ). Appends old.sink.bytes new.sink.bytes l) (sym (ap (λ (l : List (List ℕ)). written l (answered_numbers 0 (bodies ++ body ∷ []))) (messages-more was.turns t) ∙ all_is))
-      (Appends-trans old.sink.bytes mid.sink.bytes new.sink.bytes (written before numbers) piece was.took took)
+      ∙ ap (λ (l : List ℕ). all_frames before numbers ++ l) (sym (frame-last before bytes (request_number_of body) (omega (arith, count, number, same)))) in
+      subst (λ (l : List ℕ). Appends old.sink.bytes new.sink.bytes l) (sym (ap (λ (l : List (List ℕ)). all_frames l (answered_numbers 0 (bodies ++ body ∷ []))) (messages-more was.turns t) ∙ all_is))
+      (Appends-trans old.sink.bytes mid.sink.bytes new.sink.bytes (all_frames before numbers) piece was.took took)
 
   acts-on : (bytes : List ℕ) → adds-as Acts → request_number_of body ≡ mid.exchange.last + 1
       → OneReply E (called (message_of body)) bytes mid.run new.run

@@ -9,7 +9,7 @@ use Rattle.fwu_model.specs.Call as call
 use Rattle.serving.specs.{Ends.IsEarlyEnd, Ends.end_of_stop, Ends.end_by, Serving.ServesOne, Serving.OneStop, Serving.OneTurn}
 use Rattle.serving.specs.declared.ends.ServeEnd.{ServeEnd}
 use Rattle.serving.specs.Scene.{At, Port, RanIn, Scene, port, RunAt, begin_at, unasked}
-use Rattle.serving.specs.Written.{AnswersRequests, answered_numbers, messages_of, written}
+use Rattle.serving.specs.Written.{AnswersRequests, answered_numbers, messages_of, all_frames}
 
 -- These requests were served, behind the first turns of the journal, and none of them ended the serving. The turns are a run from
 -- the start. The requests that act have one turn each, and its reply was written for each of them, and again for each repeat.
@@ -22,7 +22,7 @@ pub record ServesRequests (E : Scene) (first : List Turn) (start : TurnMoment) (
   -- no loss of power was armed
   pub uncut : cuts_in new.run.journal ≡ 0
   pub answers : AnswersRequests bodies turns new.exchange
-  pub took : Appends old.sink.bytes new.sink.bytes (written (messages_of turns) (answered_numbers 0 bodies))
+  pub took : Appends old.sink.bytes new.sink.bytes (all_frames (messages_of turns) (answered_numbers 0 bodies))
   pub quiet : new.sink.faults ≡ old.sink.faults
 
 -- the frames of these bodies, and no other byte, were taken from a source

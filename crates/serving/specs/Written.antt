@@ -48,8 +48,8 @@ abbrev pub frame_of : List (List ℕ) → ℕ → List ℕ
 frame_of messages n = frame (numbered n (slice_index_or messages (n - 1) []))
 
 -- all that is written
-abbrev pub written : List (List ℕ) → List ℕ → List ℕ
-written messages numbers = flat_map (frame_of messages) numbers
+abbrev pub all_frames : List (List ℕ) → List ℕ → List ℕ
+all_frames messages numbers = flat_map (frame_of messages) numbers
 
 -- ---- in one
 

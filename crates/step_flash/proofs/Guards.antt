@@ -4,14 +4,14 @@ use Rattle.std.proofs.lemmas.List.{append_cancel_left}
 use Rattle.base_core.specs.Block.{most_blocks}
 use Rattle.flash_core.specs.{Told.Told, Told.fresh, Told.put, Told.settle, May.usual_guard}
 use Rattle.step_flash.specs.{declared.step.Step.Step, declared.flash.StepFlash.StepFlash, Device.after_steps, Device.back_on}
-use Rattle.step_flash.specs.{Flash.image_of, Flash.package_of, Flash.told_of, Steps.run_with, Steps.run_step, Steps.bytes_of}
+use Rattle.step_flash.specs.{Flash.image_of, Flash.package_of, Flash.told_of, Steps.run_with, Steps.run_step, Steps.step_bytes}
 use Rattle.step_flash.specs.Guard.{beyond, guard_with, start_with}
 
 step_guard : (file room : List ℕ) (t : Told) (s : Step) → (run_step file room t s).guard ≡ t.guard
 unfolding put settle fresh
 step_guard file room t s = at_kind (s.kind == 3)
   where
-    at_kind : (b : Bool) → (if b then settle t else put s.at (bytes_of file room s) t).guard ≡ t.guard
+    at_kind : (b : Bool) → (if b then settle t else put s.at (step_bytes file room s) t).guard ≡ t.guard
     at_kind true = refl
     at_kind false = refl
 

@@ -7,7 +7,7 @@ use Rattle.base_core.proofs.Blocks.{length-blank}
 use Rattle.flash_core.specs.Told.{Told, fresh, put, settle, overwritten}
 use Rattle.flash_core.proofs.{Calls.now-put, Calls.now-settle, Images.length-overwritten}
 use Rattle.step_flash.specs.declared.step.Step.{Step}
-use Rattle.step_flash.specs.Steps.{IsInsideWith, bytes_of, run_step, run_with, source_of}
+use Rattle.step_flash.specs.Steps.{IsInsideWith, step_bytes, run_step, run_with, source_of}
 use Rattle.step_flash.proofs.Slices.{length-part}
 
 -- the bytes of a program or a copy stand where they are to stand
@@ -21,13 +21,13 @@ stands file room size s inside not_one = at_kind (s.kind == 4) refl
         subst (λ b. s.from + s.length ≤ length (if b then file else room)) (sym is) (inside.bytes not_one (λ e. false≢true (sym is ∙ eq-eqb s.kind 4 e)))
 
 length-bytes_of : (file room : List ℕ) (size : ℕ) (s : Step) → IsInsideWith (length file) (length room) size s
-    → length (bytes_of file room s) ≡ s.length
+    → length (step_bytes file room s) ≡ s.length
 length-bytes_of file room size s inside = at_kind (s.kind == 1) refl
   where
     by : Bool → List ℕ
     by b = if b then blank block_bytes else slice_range (source_of file room s) s.from (s.from + s.length)
 
-    at_kind : (b : Bool) → (s.kind == 1) ≡ b → length (bytes_of file room s) ≡ s.length
+    at_kind : (b : Bool) → (s.kind == 1) ≡ b → length (step_bytes file room s) ≡ s.length
     at_kind true is = ap (λ c. length (by c)) is ∙ length-blank block_bytes ∙ sym (inside.block (eqb-true s.kind 1 is))
     at_kind false is =
         ap (λ c. length (by c)) is
@@ -38,10 +38,10 @@ step_size : (file room : List ℕ) (size : ℕ) (t : Told) (s : Step) → length
 unfolding put settle fresh
 step_size file room size t s is inside = at_kind (s.kind == 3)
   where
-    at_kind : (b : Bool) → length (if b then settle t else put s.at (bytes_of file room s) t).now ≡ size
+    at_kind : (b : Bool) → length (if b then settle t else put s.at (step_bytes file room s) t).now ≡ size
     at_kind true = is
     at_kind false =
-        length-overwritten s.at (bytes_of file room s) t.now (omega (arith, inside.place, length-bytes_of file room size s inside, is)) ∙ is
+        length-overwritten s.at (step_bytes file room s) t.now (omega (arith, inside.place, length-bytes_of file room size s inside, is)) ∙ is
 
 -- steps keep the size
 pub run_size : (file room : List ℕ) (size : ℕ) (t : Told) (ss : List Step) → length t.now ≡ size

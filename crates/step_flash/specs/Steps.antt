@@ -16,8 +16,8 @@ abbrev pub source_of : List ℕ → List ℕ → Step → List ℕ
 source_of file room s = if s.kind == 4 then file else room
 
 -- the bytes of an erase, or those that stand in the package or the room
-abbrev pub bytes_of : List ℕ → List ℕ → Step → List ℕ
-bytes_of file room s = if s.kind == 1 then blank block_bytes else slice_range (source_of file room s) s.from (s.from + s.length)
+abbrev pub step_bytes : List ℕ → List ℕ → Step → List ℕ
+step_bytes file room s = if s.kind == 1 then blank block_bytes else slice_range (source_of file room s) s.from (s.from + s.length)
 
 -- the step that an erase, a barrier, a program of so many bytes or a copy is noted as
 abbrev pub erase_step : ℕ → Step
@@ -34,7 +34,7 @@ copy_step at n from = record { kind = 4; at = at; length = n; from = from }
 
 -- what a flash tells after one step
 abbrev pub run_step : List ℕ → List ℕ → Told → Step → Told
-run_step file room t s = if is_barrier s then settle t else put s.at (bytes_of file room s) t
+run_step file room t s = if is_barrier s then settle t else put s.at (step_bytes file room s) t
 
 -- what a flash tells after the steps, in their order
 unfoldable pub run_with : List ℕ → List ℕ → Told → List Step → Told

@@ -6,7 +6,7 @@ use Rattle.fwu_model.specs.{Session.Session, Session.Off, Session.On, State.Stat
 use Rattle.fwu_model.specs.Answer.{Answer, answered, are_named, bits_over, has_image, image_held, images_over, install_unless, partial_fault, sent_over}
 use Rattle.agent_calls.specs.Takes.{writes_to_copy}
 use Rattle.update_client.specs.{Takes.writes_in, declared.stops.SendStop.SendStop, Choosing.no_row, Choosing.refused_image}
-use Rattle.update_client.specs.{Sends.EndsAs, Sends.IsInstalled, declared.stops.Sent.Sent}
+use Rattle.update_client.specs.{Sends.SendEndsAs, Sends.IsInstalled, declared.stops.Sent.Sent}
 use Rattle.update_client.specs.declared.stops.SendStop.TheVariants.{End, ReadFailed}
 pub use Rattle.fip_tables.specs.Images.{present}
 use Rattle.host_io.specs.Contents.{Directory}
@@ -38,7 +38,7 @@ over_answer E toc p request s (On boot staging handles) =
 
 -- as of a sending, by the machine's answer to it
 abbrev pub GoesAs : Result Sent SendStop → Answer → Setting → Moment → Moment → State → Session → Type 0
-GoesAs result a E old new s x = EndsAs (λ sent. reply.SentPartial sent.images sent.skipped sent.copied) result a E old new s x
+GoesAs result a E old new s x = SendEndsAs (λ sent. reply.SentPartial sent.images sent.skipped sent.copied) result a E old new s x
 
 -- the begin was done, and the flash stopped nothing behind it
 abbrev pub WasBegun : Result Sent SendStop → Type 0

@@ -35,23 +35,23 @@ AllowsBegin E s x = (answer E s x (call.Begin 0)).reply ≡ reply.Success
 -- An answer or a refusal is the machine's, with all its moves. A failed read leaves those of a begin, and no staging. At a stop of
 -- the flash each loss leaves a prefix of the moves. Neither comes where a begin is refused. An agent that is there is never
 -- answered to be gone.
-abbrev pub EndsAs : (Sent → Reply) → Result Sent SendStop → Answer → Setting → Moment → Moment → State → Session → Type 0
-EndsAs done (Ok sent) a E old new s x = AnswersBy (done sent) a E old new s
-EndsAs done (Err (MissingImage guid)) a E old new s x = AnswersBy (reply.Missing guid) a E old new s
-EndsAs done (Err (ImageTooLarge guid)) a E old new s x = AnswersBy (reply.TooLarge guid) a E old new s
-EndsAs done (Err (Begin st)) a E old new s x = AnswersBy (reply.BeginRefused st) a E old new s
-EndsAs done (Err (End st)) a E old new s x = AnswersBy (reply.EndRefused st) a E old new s
-EndsAs done (Err ReadFailed) a E old new s x =
+abbrev pub SendEndsAs : (Sent → Reply) → Result Sent SendStop → Answer → Setting → Moment → Moment → State → Session → Type 0
+SendEndsAs done (Ok sent) a E old new s x = AnswersBy (done sent) a E old new s
+SendEndsAs done (Err (MissingImage guid)) a E old new s x = AnswersBy (reply.Missing guid) a E old new s
+SendEndsAs done (Err (ImageTooLarge guid)) a E old new s x = AnswersBy (reply.TooLarge guid) a E old new s
+SendEndsAs done (Err (Begin st)) a E old new s x = AnswersBy (reply.BeginRefused st) a E old new s
+SendEndsAs done (Err (End st)) a E old new s x = AnswersBy (reply.EndRefused st) a E old new s
+SendEndsAs done (Err ReadFailed) a E old new s x =
     AllowsBegin E s x × GoesByMoves E (Ok tt) old new s (answer E s x (call.Begin 0)).moves (ended_session x)
-EndsAs done (Err Lost) a E old new s x =
+SendEndsAs done (Err Lost) a E old new s x =
     AllowsBegin E s x × GoesByMoves E (Err flash_stop.Lost) old new s a.moves (ended_session x)
-EndsAs done (Err Fault) a E old new s x =
+SendEndsAs done (Err Fault) a E old new s x =
     AllowsBegin E s x × GoesByMoves E (Err flash_stop.Failed) old new s a.moves (ended_session x)
-EndsAs done (Err Gone) a E old new s x = ⊥
+SendEndsAs done (Err Gone) a E old new s x = ⊥
 
 abbrev pub SendEndsBy : Result Sent SendStop → Setting → Toc → List (List ℕ) → ℕ → Moment → Moment → State → Session → Type 0
 SendEndsBy result E toc p request old new s x =
-    EndsAs (λ sent. reply.Sent sent.images sent.skipped) result (send_answer E toc p request s x) E old new s x
+    SendEndsAs (λ sent. reply.Sent sent.images sent.skipped) result (send_answer E toc p request s x) E old new s x
 
 -- What a sending says of an agent that isn't gone, on any device. There are images, those of the file where it is told. Each
 -- machine that the agent shows goes by the sending of them.

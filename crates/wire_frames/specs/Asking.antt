@@ -18,8 +18,8 @@ abbrev pub may_ask : Asking → Bool
 may_ask a = not a.is_open && nat_lt a.last 4294967295
 
 -- after asking with this message, by the next number
-abbrev pub asked : Asking → List ℕ → Asking
-asked a message = record { last = a.last + 1; is_open = true; request = frame (numbered (a.last + 1) message) }
+abbrev pub with_request : Asking → List ℕ → Asking
+with_request a message = record { last = a.last + 1; is_open = true; request = frame (numbered (a.last + 1) message) }
 
 -- a reply is that of the open request
 abbrev pub fits : Asking → List ℕ → Bool
@@ -32,5 +32,5 @@ closed a reply = if fits a reply then record a { is_open = false } else a
 -- What an asking does: the frame is kept, and written to the front; or nothing changes.
 abbrev pub AsksFrame : Asked → Asking → Asking → List ℕ → List ℕ → List ℕ → Type 0
 AsksFrame (Frame size) old new message before after =
-    IsTrue (may_ask old) × (new ≡ asked old message) × PutsFront size new.request before after
+    IsTrue (may_ask old) × (new ≡ with_request old message) × PutsFront size new.request before after
 AsksFrame Waiting old new message before after = IsFalse (may_ask old) × (new ≡ old) × (after ≡ before)

@@ -1,6 +1,6 @@
 //! The side that asks.
 ghost use Rattle.std.specs.Prelude.{◌≡◌, ◌≤◌, IsTrue, length};
-ghost use Rattle.wire_frames.specs.Asking.{asked, asked_none, closed, fits, may_ask};
+ghost use Rattle.wire_frames.specs.Asking.{with_request, asked_none, closed, fits, may_ask};
 ghost use Rattle.wire_frames.specs.Asking.{AsksFrame};
 ghost use Rattle.wire_frames.specs.Frames.{PutsFront};
 

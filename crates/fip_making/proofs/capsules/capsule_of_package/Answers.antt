@@ -1,7 +1,7 @@
 use Rattle.std.proofs.Common.{◌∙◌, [], List, Some, ap, map, subst, sym}
 use Rattle.std.specs.List.{All}
 use Rattle.fwu_formats.specs.Package.{Entry, Toc}
-use Rattle.fip_making.specs.{Payloads.HasEntry, Payloads.bytes_in, Payloads.made_by, Values.enclose_value, Values.kept_part}
+use Rattle.fip_making.specs.{Payloads.HasEntry, Payloads.file_bytes, Payloads.made_by, Values.enclose_value, Values.kept_part}
 use Rattle.fip_making.proofs.{Packings.gives-same, Repacking.has-entries, Repacking.opened, Tables.gives-err, Refusing.handed-on}
 use Rattle.fip_making.proofs.Conversions.{capsule-err, capsule-of}
 use Rattle.fip_making.proofs.capsules.capsule_of_package.Goals as goal
@@ -17,7 +17,7 @@ returns-clause-told g c = λ told e.
     let o = opened told c.args.from.now [] c.in_ok-toc.toc (c.in_ok-toc.ensures.told told e) in
     let entries = c.as_slice.ensures ∙ ap (λ (t : Toc). t.entries) c.toc.view_is in
     gives-same (made_by told) _ _ _ _ c.capsule_of_entries.result (λ r. absurd r)
-    (capsule-of told c.args.from.now c.in_ok-toc.toc o ∙ ap (λ (es : List Entry). enclose_value (map (kept_part (bytes_in told c.args.from.now)) es)) (sym entries))
+    (capsule-of told c.args.from.now c.in_ok-toc.toc o ∙ ap (λ (es : List Entry). enclose_value (map (kept_part (file_bytes told c.args.from.now)) es)) (sym entries))
     (c.capsule_of_entries.ensures.told told (subst (All (HasEntry (Some told) c.args.from.now)) (sym entries)
     (has-entries _ (Some told) c.args.from.now [] c.in_ok-toc.toc (sym e) (λ d k. c.in_ok-toc.ensures.told d k))))
 

@@ -1,7 +1,7 @@
 use Rattle.std.proofs.Common.{◌∙◌, List, ap, length, map, subst, sym}
 use Rattle.std.specs.List.{All}
 use Rattle.fwu_formats.specs.Package.{Part, Toc}
-use Rattle.fip_making.specs.{Payloads.HasEntry, Payloads.IsThere, Payloads.bytes_in, Payloads.part_told, Values.pack_value}
+use Rattle.fip_making.specs.{Payloads.HasEntry, Payloads.IsThere, Payloads.file_bytes, Payloads.part_told, Values.pack_value}
 use Rattle.fip_making.proofs.{Makings.makes-as, Packings.none-there, Repacking.kept-updated}
 use Rattle.fip_making.proofs.capsules.package_of_items.Goals as goal
 
@@ -11,5 +11,5 @@ returns c =
     let none = c.as_slice.ensures.value ∙ c.new-none.ensures.items in
     makes-as (λ told has. (none-there (IsThere told) c.as_slice.result.now none, subst (All (HasEntry told c.args.from.now)) (sym entries) has))
     (λ told has. ap (λ (ps : List Part). pack_value c.args.toc.now.serial c.args.toc.now.flags ps c.args.align)
-    (kept-updated (bytes_in told c.args.from.now) (map (part_told told) c.as_slice.result.now) c.as_slice-entries.result.now c.args.toc.now.entries entries (ap (map (part_told told)) none)))
+    (kept-updated (file_bytes told c.args.from.now) (map (part_told told) c.as_slice.result.now) c.as_slice-entries.result.now c.args.toc.now.entries entries (ap (map (part_told told)) none)))
     (ap length (sym entries)) c.repacked.ensures

@@ -2,7 +2,7 @@ use Rattle.std.proofs.Common.{◌≡◌, ◌∙◌, All, List, Option, ℕ, Some
 use Rattle.host_io.specs.Contents.{Directory}
 use Rattle.fwu_formats.specs.Package.{Entry, Toc}
 use Rattle.fip_words.specs.Order.{part_view}
-use Rattle.fip_making.specs.{Payloads.HasEntry, Payloads.bytes_in, Payloads.made_by, Payloads.part_told, Values.parts_in}
+use Rattle.fip_making.specs.{Payloads.HasEntry, Payloads.file_bytes, Payloads.made_by, Payloads.part_told, Values.parts_in}
 use Rattle.fip_making.proofs.{Packings.there-of-files, Packings.gives-same, Repacking.replaced-value}
 use Rattle.fip_making.proofs.making.replaced.Goals as goal
 
@@ -24,7 +24,7 @@ pub returns-in-Ok-clause-told : goal.returns-in-Ok-clause-told
 returns-in-Ok-clause-told g c = λ told e.
     let entries = c.as_slice-entries.ensures ∙ ap (λ (t : Toc). t.entries) c.toc.view_is in
     gives-same (made_by told) _ _ _ _ c.repacked.result (λ r. absurd r)
-    (replaced-value (parts_in told (map part_view c.args.named.now)) c.args.toc.now.serial c.args.toc.now.flags c.args.align (bytes_in told c.args.from.now) (map (part_told told) c.as_slice.result.now)
+    (replaced-value (parts_in told (map part_view c.args.named.now)) c.args.toc.now.serial c.args.toc.now.flags c.args.align (file_bytes told c.args.from.now) (map (part_told told) c.as_slice.result.now)
     (map (part_told told) c.in-Ok.new.items) c.as_slice-entries.result.now c.args.toc.now.entries (c.in-Ok.ensures.told told e) (ap (map (part_told told)) c.as_slice.ensures.value) entries)
     (c.repacked.ensures.told told (
       there-of-files _ (Some told) c.in-Ok.new.items c.as_slice.result.now (sym e) c.as_slice.ensures.value c.in-Ok.ensures.there,

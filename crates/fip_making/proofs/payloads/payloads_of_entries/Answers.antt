@@ -2,7 +2,7 @@ use Rattle.std.proofs.Common.{◌≡◌, ◌∙◌, ◌+◌, All, List, [], ◌�
 use Rattle.std.proofs.lemmas.List.{length-append, map-append, take_more}
 use Rattle.std.proofs.lemmas.List.Elements.{All-get_or}
 use Rattle.fwu_formats.specs.Package.{Entry, Part}
-use Rattle.fip_making.specs.{Payloads.HasEntry, Payloads.IsThere, Payloads.bytes_in, Payloads.part_told, Values.updated_part}
+use Rattle.fip_making.specs.{Payloads.HasEntry, Payloads.IsThere, Payloads.file_bytes, Payloads.part_told, Values.updated_part}
 use Rattle.fip_making.proofs.Packings.{one-more-there}
 use Rattle.fip_making.proofs.payloads.payloads_of_entries.Goals as goal
 
@@ -15,7 +15,7 @@ loop-entry-preserved c =
     let es = c.args.entries.now in
     let here : take (i + 1) es ≡ take i es ++ (e ∷ []) = take_more es i e c.loop-entry-test.true ∙ ap (λ (x : Entry). take i es ++ (x ∷ [])) (sym c.entry-item.is) in record {
       told = λ told.
-          let part = updated_part (bytes_in told c.args.from.now) (map (part_told told) c.args.new.now) in
+          let part = updated_part (file_bytes told c.args.from.now) (map (part_told told) c.args.new.now) in
           ap (map (part_told told)) more ∙ map-append (part_told told) c.loop-entry.payloads.items (p ∷ [])
           ∙ ap (λ (xs : List Part). xs ++ (part_told told p ∷ [])) (c.loop-entry.invariant.told told)
           ∙ ap (λ (x : Part). map part (take i es) ++ (x ∷ [])) (c.payload_of_entry.ensures.told told)

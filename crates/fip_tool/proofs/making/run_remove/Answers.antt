@@ -1,7 +1,7 @@
 use Rattle.std.proofs.Common.{Some, refl}
 use Rattle.fip_words.specs.Order.{remove}
 use Rattle.fip_tool.specs.Done.{RefusesAlone}
-use Rattle.fip_making.specs.{Stops.status_number, Values.remove_value}
+use Rattle.fip_making.specs.{Stops.exit_status, Values.remove_value}
 use Rattle.fip_tool.specs.declared.lines.Format.TheVariants as format
 use Rattle.fip_tool.proofs.{DoneBy.done-made, Texts.remove-texts}
 use Rattle.fip_making.proofs.Refusing.{if-err-all, late-of-entries, late-packing}
@@ -14,4 +14,4 @@ returns g c =
     done-made format.Package c.args.remade.now.out.now (λ told. remove_value told c.args.remade.now.align c.args.remade.now.from.now c.args.guids.now) (λ told. refl) (remove-texts c.args.remade.now.align c.args.remade.now.from.now c.args.remade.now.out.now made.result c.args.guids.now made.ensures.count) (λ w. w) (late-packing late-of-entries)
     made.ensures.reads (λ s own. own) made.ensures.told put.told put.puts
     (λ access other. g.met.H.Files.joins _ _ _ access (made.ensures.reads.files.spares access other.0) (put.spares access other.1))
-    (if-err-all made.result (λ s. RefusesAlone g.H.Files (Some (remove c.args.remade.now.align c.args.remade.now.from.now c.args.remade.now.out.now c.args.guids.now)) c.args.files.now made.new.files (status_number s)) (λ s refuses access other. made.ensures.reads.files.spares access (other)))
+    (if-err-all made.result (λ s. RefusesAlone g.H.Files (Some (remove c.args.remade.now.align c.args.remade.now.from.now c.args.remade.now.out.now c.args.guids.now)) c.args.files.now made.new.files (exit_status s)) (λ s refuses access other. made.ensures.reads.files.spares access (other)))

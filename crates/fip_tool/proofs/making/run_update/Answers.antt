@@ -2,7 +2,7 @@ use Rattle.std.proofs.Common.{◌⊎◌, inl, inr, Some, map, refl, ◌≢◌}
 use Rattle.fip_words.specs.{Values.NamedFile, Order.update, Order.part_view}
 use Rattle.fip_tool.proofs.{Refusing.of-map, Refusing.packing-six, DoneBy.done-made, Texts.update-texts}
 use Rattle.host_io.specs.{Access.Asks, Reads.ReadsFile}
-use Rattle.fip_making.specs.{Answers.IsLate, Refusals.PackingOr, Stops.status_number, Values.update_value}
+use Rattle.fip_making.specs.{Answers.IsLate, Refusals.PackingOr, Stops.exit_status, Values.update_value}
 use Rattle.fip_tool.specs.Done.{RefusesAlone}
 use Rattle.fip_tool.specs.declared.lines.Format.TheVariants as format
 use Rattle.fip_making.proofs.Refusing.{if-err-as, late-of-entries, late-packing}
@@ -16,7 +16,7 @@ returns g c =
     made.ensures.reads (λ s own. own) made.ensures.told put.told put.puts
     (λ access other. g.met.H.Files.joins _ _ _ access (made.ensures.reads.files.spares access (other.0, of-map (λ (p : NamedFile). access ≢ Asks p.file) part_view c.args.named.now other.1)) (put.spares access other.2))
     (if-err-as made.result (λ s. PackingOr IsLate s ⊎ ReadsFile g.H.Files c.args.remade.now.from.now c.args.files.now made.new.files)
-    (λ s. RefusesAlone g.H.Files (Some (update c.args.remade.now.align c.args.remade.now.from.now c.args.remade.now.out.now (map part_view c.args.named.now))) c.args.files.now made.new.files (status_number s))
+    (λ s. RefusesAlone g.H.Files (Some (update c.args.remade.now.align c.args.remade.now.from.now c.args.remade.now.out.now (map part_view c.args.named.now))) c.args.files.now made.new.files (exit_status s))
     (λ s by refuses access other. elim by [
       | inl packing ↦ made.ensures.reads.files.spares access (other.0, of-map (λ (p : NamedFile). access ≢ Asks p.file) part_view c.args.named.now (other.1 (packing-six s packing refuses)))
       | inr reads ↦ reads.spares access other.0

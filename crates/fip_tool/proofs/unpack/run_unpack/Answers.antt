@@ -4,7 +4,7 @@ use Rattle.fwu_formats.specs.Package.{Entry, Toc}
 use Rattle.fip_words.specs.Order.{unpack}
 use Rattle.fip_tool.specs.{Lines.unpacked_line, Said.IsTexts, Seen.DidIn, Steps.Makes}
 use Rattle.fip_tool.specs.Tool.{chosen, unpack_steps, unpack_value}
-use Rattle.fip_making.specs.Values.{is_named}
+use Rattle.fip_making.specs.Values.{has_type_among}
 use Rattle.fip_tool.proofs.{Did.made-steps, Did.refused, WritingLemmas.tears-since, WroteLemmas.texts-behind}
 use Rattle.fip_tool.proofs.DoneBy.{done-texts, done-unread}
 use Rattle.fip_tool.proofs.UnpackLemmas.{unpack-err, unpack-of, chosen-filter}
@@ -35,7 +35,7 @@ returns g c =
     let read = c.in_ok-toc.ensures in
     let put = c.unpack_entries.ensures in
     let same = chosen-filter c.args.names.now c.as_slice-entries.result.now ∙ ap (chosen c.args.names.now) (c.as_slice-entries.ensures ∙ ap (λ (t : Toc). t.entries) c.toc.view_is) in
-    done-texts (texts-behind (λ texts. texts ≡ map (unpacked_line c.args.prefix.now) (filter (λ e. (length c.args.names.now == 0) || is_named c.args.names.now e) c.as_slice-entries.result.now))
+    done-texts (texts-behind (λ texts. texts ≡ map (unpacked_line c.args.prefix.now) (filter (λ e. (length c.args.names.now == 0) || has_type_among c.args.names.now e) c.as_slice-entries.result.now))
     (IsTexts (Some (unpack c.args.from.now c.args.prefix.now c.args.names.now)))
     (λ texts t. (c.in_ok-toc.toc, read.table, read.all, t ∙ ap (map (unpacked_line c.args.prefix.now)) same)) read.reads.only.quiet c.table_with.ensures.reads.files.unwritten put.texts)
     (λ w. w) late-of-entries

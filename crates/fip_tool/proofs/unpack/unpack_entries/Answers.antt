@@ -5,7 +5,7 @@ use Rattle.std.specs.Prelude.{◌==◌, ◌||◌}
 use Rattle.std.proofs.lemmas.List.Elements.{All-get_or}
 use Rattle.fwu_formats.specs.Package.{Entry}
 use Rattle.fip_tool.specs.{Lines.unpacked_line, Said.joined_texts, Steps.sink_failed, Wrote.raised_by}
-use Rattle.fip_making.specs.Values.{is_named}
+use Rattle.fip_making.specs.Values.{has_type_among}
 use Rattle.fip_tool.proofs.{Texts.said-more, Faults.faults-then, WritingLemmas.none-unwritten}
 use Rattle.fip_tool.proofs.{WritingLemmas.tears-still, WroteLemmas.one-wrote, WroteLemmas.wrote-behind}
 use Rattle.fip_tool.proofs.UnpackLemmas.{all-done, next-chosen, next-passed, split-chosen, step-done, step-passed, step-stops, tells-still, there-still}
@@ -26,13 +26,13 @@ pub returns-in_err-unpack_entry-clause-told : goal.returns-in_err-unpack_entry-c
 returns-in_err-unpack_entry-clause-told g c =
     rw (handed-on c.from_residual.result c.in_err-unpack_entry.field-0.0 c.from_residual.ensures.1) (λ told bytes is stored.
     let s = c.loop-entry.invariant.so-far told bytes is stored in
-    step-stops c.args.unpacked.now.prefix.now c.args.unpacked.now.from.now bytes (λ e. (length c.args.unpacked.now.names.now == 0) || is_named c.args.unpacked.now.names.now e) c.args.entries.now c.loop-entry.entry-index told _
+    step-stops c.args.unpacked.now.prefix.now c.args.unpacked.now.from.now bytes (λ e. (length c.args.unpacked.now.names.now == 0) || has_type_among c.args.unpacked.now.names.now e) c.args.entries.now c.loop-entry.entry-index told _
     c.entry-item.result c.loop-entry-test.true (sym c.entry-item.is) _ _ _ _ _ _ _ s _ _ _ c.in_err-unpack_entry.field-0.0
     (λ r. rose-still _ _ _ (sym c.loop-entry.invariant.quiet) r) (λ r. tears-still (g.H.Files.writes c.args.files.now) (g.H.Files.writes c.loop-entry.files) (g.H.Files.writes c.unpack_entry.new.files) c.loop-entry.invariant.unspoiled r) (λ r. rose-from _ _ _ c.loop-entry.invariant.later_sink r) (sym c.is_chosen.ensures ∙ c.if-is_chosen.true) (c.in_err-unpack_entry.ensures.told s.now bytes s.is s.stored))
 
 pub loop-entry-preserved : goal.loop-entry-preserved
 loop-entry-preserved g c =
-    let p = λ (e : Entry). (length c.args.unpacked.now.names.now == 0) || is_named c.args.unpacked.now.names.now e in
+    let p = λ (e : Entry). (length c.args.unpacked.now.names.now == 0) || has_type_among c.args.unpacked.now.names.now e in
     let e = c.entry-item.result in
     let es = c.args.entries.now in
     let i = c.loop-entry.entry-index in
@@ -82,7 +82,7 @@ loop-entry-preserved g c =
 
 pub returns-in_err-unpack_entry-clause-texts : goal.returns-in_err-unpack_entry-clause-texts
 returns-in_err-unpack_entry-clause-texts g c =
-    let p = λ (e : Entry). (length c.args.unpacked.now.names.now == 0) || is_named c.args.unpacked.now.names.now e in
+    let p = λ (e : Entry). (length c.args.unpacked.now.names.now == 0) || has_type_among c.args.unpacked.now.names.now e in
     let e = c.entry-item.result in
     let es = c.args.entries.now in
     let i = c.loop-entry.entry-index in
@@ -107,7 +107,7 @@ returns-in_err-unpack_entry-clause-texts g c =
 pub returns-clause-told : goal.returns-clause-told
 returns-clause-told g c = λ told bytes is stored.
     let far : length c.args.entries.now ≤ c.loop-entry.entry-index = omega (arith, c.loop-entry-test.false) in
-    all-done c.args.unpacked.now.prefix.now c.args.unpacked.now.from.now bytes (λ e. (length c.args.unpacked.now.names.now == 0) || is_named c.args.unpacked.now.names.now e) c.args.entries.now c.loop-entry.entry-index told _ _ _ (Unit {0}) (Unit {0}) (Unit {0}) tt far
+    all-done c.args.unpacked.now.prefix.now c.args.unpacked.now.from.now bytes (λ e. (length c.args.unpacked.now.names.now == 0) || has_type_among c.args.unpacked.now.names.now e) c.args.entries.now c.loop-entry.entry-index told _ _ _ (Unit {0}) (Unit {0}) (Unit {0}) tt far
     (c.loop-entry.invariant.so-far told bytes is stored)
 
 pub returns-in_err-unpack_entry-clause-spares : goal.returns-in_err-unpack_entry-clause-spares

@@ -9,7 +9,7 @@ use Rattle.fip_tables.specs.Files.{Tells}
 use Rattle.image_check.specs.Passed.{HasPassed}
 use Rattle.flash_format.specs.{Stops.FormatFinishes, declared.formatting.Formatted.Formatted, declared.stops.FormatStop.FormatStop}
 use Rattle.flash_format.specs.{declared.stops.FormatStop.TheVariants.Input, declared.stops.InputFault.TheVariants.Incomplete}
-use Rattle.flash_format.specs.Formatted.{asked, HoldsImages, IsBlank, IsInOrder, IsRefusedFormat}
+use Rattle.flash_format.specs.Formatted.{asked_layout, HoldsImages, IsBlank, IsInOrder, IsRefusedFormat}
 use Rattle.flash_format.specs.Planned.{IsFilled, FormatTakes, writes_to_format}
 use Rattle.flash_format.proofs.{Formats.not_refused, Taking.pieces_fit, Stopped.handed-on}
 use Rattle.flash_format.proofs.Given.{IsFitted, fitted_is, hold_given, finishes_err}
@@ -19,13 +19,13 @@ use Rattle.flash_format.proofs.formatting.format.Goals as goal
 
 pub carry_out-requires-clause-ready : goal.carry_out-requires-clause-ready
 carry_out-requires-clause-ready g c =
-    let inside = (fitted_is (asked c.args.banks c.args.rows.now) c.blocks-2.result c.in_ok-plan.plan.layout c.in_ok-plan.ensures.fits).inside in
+    let inside = (fitted_is (asked_layout c.args.banks c.args.rows.now) c.blocks-2.result c.in_ok-plan.plan.layout c.in_ok-plan.ensures.fits).inside in
     record { on = search rules; room = omega (arith, inside, c.blocks-2.ensures) }
 
 module _ (g : given.Over) (c : After-carry_out g) where
   -- the layout that was asked for, and that of the plan, which is the same
   abbrev L : Layout
-  L = asked c.args.banks c.args.rows.now
+  L = asked_layout c.args.banks c.args.rows.now
 
   abbrev K : Layout
   K = c.in_ok-plan.plan.layout
