@@ -37,7 +37,7 @@ pub record IsIdle (journal : List Turn) (status : ℕ) (old new : TurnMoment) : 
   pub status_is : IsTrue (may_lack_list status)
 
 -- The promise holds for the manifests that pass, by the list that was read.
--- Where none was read nothing was done, and it holds whichever pass.
+-- Where one is named and none was read nothing was done, and it holds whichever pass.
 abbrev pub ByList : (HasPasses : (List ℕ → Bool) → Type 0) → (Idle : Type 0) → (Promise : (List ℕ → Bool) → Type 0) → Type 0
 ByList Has Idle Promise = ((passes : List ℕ → Bool) × Has passes × Promise passes)
     ⊎ (Idle × ((passes : List ℕ → Bool) → Promise passes))

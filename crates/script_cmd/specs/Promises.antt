@@ -31,7 +31,7 @@ use Rattle.script_runs.specs.declared.done.Note as own
 use Rattle.script_runs.specs.declared.done.Note.TheVariants as own_note
 use Rattle.script_cmd.specs.Handed.{Inputs}
 
--- ---- the program for the one command `boot`, on any flash with nothing dirty, sound or not
+-- ---- the program for the one command `boot`, on any told flash with nothing dirty, sound or not
 
 -- the first turn tells that this bank was booted, with the version of the package that it holds
 pub record BootsBank (s : State) (b : ℕ) (journal : List Turn) : Type 0 where
@@ -117,8 +117,8 @@ pub record RepliesHold (passes : List ℕ → Bool) (tells : Bool) (files : Opti
       (at on new.flash.told new.flash.writes new.flash.counts new.flash.armed new.flash.power)
   pub ends : journal ≢ [] → to ≡ new.faults.files
 
--- The one command `boot`, on any flash with nothing dirty, where no failure and no loss stopped it, and the list had no bad line,
--- goes by the bytes. Where no loss was armed none that is armed can stop it.
+-- The one command `boot`, on any told flash with nothing dirty, where no failure and no loss stopped it, and the list had no bad
+-- line, goes by the bytes. Where no loss was armed none that is armed can stop it.
 abbrev pub BootWordHolds : (List ℕ → Bool) → Bool → Option Asked → Ending Note → TurnMoment → TurnMoment → Type 0
 BootWordHolds passes tells asked ending old new =
     IsTrue tells → NothingDirty old.told → asked ≡ Some ask.boot
@@ -138,14 +138,14 @@ pub record RunLeaves (tells : Bool) (journal : List Turn) (old new : TurnMoment)
   pub free : old.armed ≡ None → cuts_in journal ≡ 0 → RunsFree journal old new
   pub due : LossesAreDue journal old new
 
--- on any flash with nothing dirty a first turn that is a boot goes by the bytes
+-- on any told flash with nothing dirty a first turn that is a boot goes by the bytes
 abbrev pub FirstHolds : (List ℕ → Bool) → Bool → List Turn → TurnMoment → Type 0
 FirstHolds passes tells journal old =
     IsTrue tells → NothingDirty old.told → (t : Turn) → slice_get journal 0 ≡ Some t
     → t.call ≡ call.Boot → BootsFrom passes old.told.now t.reply
 
--- On any flash with nothing dirty, no loss then harms what is in use, even where a seal came about by chance. And with power
--- nothing dirty or under way meets blocks 0 to 7.
+-- On any told flash with nothing dirty and blocks 1 to 7 guarded, no loss then harms what is in use, even where a seal came about
+-- by chance. And with power nothing dirty or under way meets blocks 0 to 7.
 abbrev pub GuardedHolds : Bool → TurnMoment → TurnMoment → Type 0
 GuardedHolds tells old new =
     IsTrue tells → NothingDirty old.told → Guards 1 7 old.told → IsGuarded new.told
@@ -155,16 +155,16 @@ GuardedHolds tells old new =
 pub record RanHolds (passes : List ℕ → Bool) (tells : Bool) (files : Option Directory) (journal : List Turn)
     (old new : World) : Type 0 where
   -- For every device: each turn's reply is that of each machine that the agent shows. A boot's reply tells whether an agent is
-  -- there, and with which numbers it begins. While off all else is answered `off`. What an armed loss counts of the turn is known.
+  -- there, and with which numbers it begins. While off a call of the agent is answered `off`. What an armed loss counts is known.
   pub replies : RepliesHold passes tells files journal old new
   -- For every device: where no turn ran it is as it was, and its power is by the replies.
   pub device : RunLeaves tells journal old.flash new.flash
-  -- On any flash with nothing dirty, sound or not: a first turn that is a boot goes by the bytes.
+  -- On any told flash with nothing dirty, sound or not: a first turn that is a boot goes by the bytes.
   pub first : FirstHolds passes tells journal old.flash
-  -- From a flash with nothing dirty, sound or not: no loss may harm what is in use, and with power it is at rest.
+  -- From such a flash with blocks 1 to 7 guarded: no loss may harm what is in use, and with power it is at rest.
   pub guarded : GuardedHolds tells old.flash new.flash
 
--- from such a flash all is done, where nothing was lacking and nothing failed, unless memory was wanting
+-- from a sound flash all is done, where nothing was lacking and nothing failed, unless memory was wanting
 abbrev pub CompleteHolds : (List ℕ → Bool) → Bool → Inputs → Ending Note → World → World → Type 0
 CompleteHolds passes tells inputs ending old new =
     IsTrue tells → (E : Setting) (start : State) (calls : List Call) (script : List ℕ)
@@ -189,12 +189,12 @@ pub record Promised (passes : List ℕ → Bool) (tells : Bool) (inputs : Inputs
   -- For every device, files, source and sink: which turns and causes ended the run. Which calls they are, and why 4 and 8, where
   -- the source tells its bytes; why 13, where the files do.
   pub ends : EndsHold inputs.asked (given_to inputs) ending old new
-  -- For every device: what each turn did, and how the device is left. On any flash with nothing dirty no loss harms what is in
-  -- use.
+  -- For every device: what each turn did, and how the device is left. On a told flash with nothing dirty, whose front is guarded,
+  -- no loss harms what is in use.
   pub turns : RanHolds passes tells inputs.files ending.journal old new
   -- `boot` on any told flash with nothing dirty, sound or not, where nothing failed, goes by the bytes.
   pub boot_word : BootWordHolds passes tells inputs.asked ending old.flash new.flash
-  -- From such a flash all is done, where nothing was lacking and nothing failed, unless memory was wanting.
+  -- From a sound flash all is done, where nothing was lacking and nothing failed, unless memory was wanting.
   pub complete : CompleteHolds passes tells inputs ending old new
 
 -- ---- as laws
@@ -236,7 +236,7 @@ pub record RunsByTable (passes : List ℕ → Bool) (device : Device) (inputs : 
   -- and no lack of a table is noted
   pub plain : IsFalse (is_beyond_model ending.noted)
 
--- the list that was named is good, and the script was read whole and has some calls
+-- the list that was named is good, and the script was read whole and has these calls
 abbrev pub ReadsCalls : Inputs → Type 0
 ReadsCalls inputs = (calls : List Call) × ReadsScript inputs.asked (given_to inputs) calls
 
@@ -245,7 +245,7 @@ pub record NotBegun (device : Device) (inputs : Inputs) (ending : Ending own.Not
   pub planned : ℕ
   pub line : List ℕ
   pub prints : Prints line planned ending.status old.taken new.taken old.faults.sink new.faults.sink
-  -- the table gives no flash, by just what it lacks, which is noted; power came, and nothing was written
+  -- the table gives no flash, and what it lacks is noted, on a told device just that; power came, and nothing was written
   pub lacked : planned ≡ 10 → (why : NoTable) × (ending.noted ≡ own_note.NoTable why) × (line ≡ no_table_line why)
       × Looks device.tells old.flash new.flash × (IsTrue device.tells → lacked_in device.blocks new.flash.told.now ≡ Some why)
   -- the device stopped, at the reading of the table or at its repair
@@ -254,7 +254,7 @@ pub record NotBegun (device : Device) (inputs : Inputs) (ending : Ending own.Not
   -- memory was wanting: nothing was touched, or power came
   pub starved : planned ≡ 9 → (ending.status ≡ 9) × (ending.noted ≡ own_note.Nothing) × PutsNone old new
       × ((new.flash ≡ old.flash) ⊎ (ReadsCalls inputs × Looks device.tells old.flash new.flash))
-  -- the device is looked at behind a good list and a script with calls
+  -- the device is looked at behind a good list and a script that was read
   pub reads : IsTrue ((planned == 5) || (planned == 10)) → ReadsCalls inputs
   -- each other status is of a refusal as without a table, and nothing was touched
   pub refused : IsFalse ((planned == 5) || (planned == 9) || (planned == 10)) → (new.flash ≡ old.flash)

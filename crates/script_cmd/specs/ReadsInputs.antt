@@ -13,7 +13,7 @@ use Rattle.script_cmd.specs.Handed.{asks_files, asks_package, asks_source, Input
 -- `rest` is what the source tells afterwards; the files and the source are those before and after.
 pub record ReadsInputs {H I : Type 0} (inputs : Inputs) (ending : Ending Note) (old new : Faults) (rest : Option (List ℕ))
     (files_before files_after : H) (source_before source_after : I) : Type 0 where
-  -- the source is as it was but for `run` and `serve`, and behind a list that told files lack, or that is none
+  -- but for `run` and `serve` the source is as it was, and for these where the list is lacking in told files, or is none
   pub source : IsFalse (asks_source inputs.asked) → source_after ≡ source_before
   pub list_first : (HasGoodList inputs.list inputs.files → ⊥) → source_after ≡ source_before
   -- Of a script that tells its bytes: how much was taken. 8 is of a text that is too long. Behind a turn, and at 0, 4, 5, 6 and 10,
@@ -21,7 +21,7 @@ pub record ReadsInputs {H I : Type 0} (inputs : Inputs) (ending : Ending Note) (
   pub takes : in_short inputs.asked ≡ model.Source → TakesScript ending.journal ending.status inputs.source rest
   -- the source failed once at most, and then no turn ran, and the status is 2, 3 or 9
   pub source_count : in_short inputs.asked ≡ model.Source → FailsOnce ending.journal ending.status old.source new.source
-  -- the files are as they were but for `run`, `format` and a list, and for a `run` in which no turn sends
+  -- without a list, a command other than `run` and `format` leaves the files as they were; so does a `run` in which no turn sends
   pub files : inputs.list ≡ None → IsFalse (asks_files inputs.asked) → files_after ≡ files_before
   pub unsent : inputs.list ≡ None → IsFalse (asks_package inputs.asked)
       → IsTrue (sends_none (calls_of ending.journal)) → files_after ≡ files_before

@@ -62,7 +62,7 @@ pub record ServedEnds (g : Given) (ending : Ending Note) (old new : World) (rest
       ⊎ ((ending.journal ≡ []) × IsSome g.list × (Rose old.faults.files new.faults.files ⊎ LacksList g.files g.list))
   -- and else no read of the source failed
   pub read_all : (ending.status ≡ 2 → ending.journal ≡ []) → new.faults.source ≡ old.faults.source
-  -- the sink failed: at a frame, or at the line of a list
+  -- the sink failed
   pub sink_fault : ending.status ≡ 3 → Rose old.faults.sink new.faults.sink
   -- the last turn is a fault of the flash
   pub flash_fault : ending.status ≡ 5 → EndsWith ending.journal reply.Fault × Rose old.flash.counts.faults new.flash.counts.faults
@@ -91,8 +91,8 @@ last_frame turns = frame_of (messages_of turns) (length turns)
 abbrev pub reads_no_more : ℕ → Bool
 reads_no_more status = (status == 0) || (status == 2) || (status == 8) || (status == 11)
 
--- The boot was done, and the requests of a stream were served by the frames of their replies. There is one for each request that
--- acts, and again for each repeat.
+-- Behind a boot the requests of a stream were served by the frames of their replies. There is one for each request that acts, and
+-- again for each repeat.
 pub record WroteFrames (stream rest : Option (List ℕ)) (ending : Ending Note) (before after : Option (List ℕ)) : Type 0 where
   -- the requests that were answered, their turns behind the boot's, and a part of one more frame
   pub bodies : List (List ℕ)
@@ -126,7 +126,7 @@ pub record WroteFrames (stream rest : Option (List ℕ)) (ending : Ending Note) 
   -- only a boot that started no bank is noted
   pub quiet : ending.status ≢ 6 → ending.noted ≡ note.Nothing
 
--- At every status, over every device, files, source and sink: frames were written, or the line of a list that was refused.
+-- At every status, over every device, files, source and sink: what was written are frames, or the line of a list that was refused.
 abbrev pub ServedWrites : Given → Ending Note → World → World → Option (List ℕ) → Type 0
 ServedWrites g ending old new rest = WroteFrames g.script rest ending old.taken new.taken
     ⊎ ((ending.journal ≡ []) × RefusedList ask.serve g ending.status ending.noted old new)
@@ -153,8 +153,8 @@ pub record ServedBy (passes : List ℕ → Bool) (tells : Bool) (g : Given) (end
   -- From a sound flash the turns are those of the machine. Every image that a loss may leave shows a state that they lead to, and
   -- each boot selects a complete and permitted package.
   pub headline : ServedHeadline passes tells g.files ending old.flash new.flash
-  -- For every device: what each turn did, and how the device is left. On any told flash with nothing dirty no loss harms what is in
-  -- use.
+  -- For every device: what each turn did, and how the device is left. On a told flash with nothing dirty, whose front is guarded,
+  -- no loss harms what is in use.
   pub turns : RanHolds passes tells g.files ending.journal old new
   -- For every device: the first turn is a boot, no turn arms a loss, and one that ends a run is the last.
   pub boots : (t : Turn) → slice_get ending.journal 0 ≡ Some t → t.call ≡ call.Boot

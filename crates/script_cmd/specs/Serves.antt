@@ -32,20 +32,20 @@ pub record Serves {H I : Type 0} (passes : List ℕ → Bool) (device : Device) 
   -- with no seal by chance, they are a run of the machine from the flash as it was formatted.
   pub soaks : (seed rounds : ℕ) → inputs.asked ≡ Some (ask.soak seed rounds)
       → SoakedBy device (given_all inputs) seed rounds ending old new
-  -- `serve`: a boot, and a turn for each request that acts, as those of `run`. A told sink has the frames of the replies. On a
-  -- sound flash that is told, with told files, the turns are a run of the machine.
+  -- `serve`: the first turn is a boot, and each other one is of a request that acts, as those of `run`. A told sink has the frames
+  -- of the replies. On a sound flash that is told, with told files, the turns are a run of the machine.
   pub serves : inputs.asked ≡ Some ask.serve → ServedBy passes device.tells (given_all inputs) (in_model ending) old new rest
-  -- `show` and `format` leave the flash on where they are done; for the others power goes by the turns
+  -- `show` and `format` leave the flash on where they are done
   pub power : IsTrue (leaves_on inputs.asked) → ending.status ≡ 0 → IsTrue new.flash.power
-  -- only `format` and `soak` note an input, and only `--gpt` what a partition table lacks
+  -- no command but `format`, `soak` and those with `--gpt` notes an input, or what a partition table lacks
   pub note : IsFalse (asks_beyond inputs.asked) → IsFalse (is_beyond_model ending.noted)
   -- what it takes of its files and its source, where these tell it, and which failures they count, always
   pub reads : ReadsInputs inputs ending old.faults new.faults rest files_before files_after source_before source_after
   -- the sink failed once where the status is 3, and else not at all
   pub sink_count : FailsAtThree ending.status old.faults.sink new.faults.sink
 
--- The same by the manifests that the list has which the words name. Where no list was read nothing was done, and it holds
--- whichever pass.
+-- The same by the manifests that the list has which the words name. Where they name one and none was read nothing was done, and it
+-- holds whichever pass.
 abbrev pub ServesByList : {H I : Type 0} → List (List ℕ) → Device → Inputs → Ending Note → World → World → Option (List ℕ)
     → H → H → I → I → Type 0
 ServesByList words device inputs ending old new rest files_before files_after source_before source_after =

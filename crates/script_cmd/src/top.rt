@@ -22,11 +22,11 @@ use verify_core::Verifier;
 /// only then does its lines in order; `boot` is the script of the one line `boot`. Each line that is a call is one turn, which is
 /// kept in the journal and printed in one piece. A line of `send` reads the file that it names, and no other line reads one. Where
 /// that file can't be read, the flash failed or nothing could be booted, the run ends after the line of that turn, by the status 2,
-/// 5 or 6. `show` prints what the flash shows. `format` makes a layout and stores a package. The room for all turns and for the
-/// longest line is made before the first turn, and status 9 with an empty journal means that there was none. `soak` formats the
-/// flash and does rounds of updates and power cuts that are drawn from a number, by any manifest, and prints one line. It makes
-/// room for its turns round by round. `serve` boots, and then answers each request of the source by a frame before it reads on; it
-/// makes room for its turns one by one, and prints no line.
+/// 5 or 6, or by 3 where the sink fails at that line. `show` prints what the flash shows. `format` makes a layout and stores a
+/// package. The room for all turns and for the longest line is made before the first turn; where there is none the status is 9, and
+/// no turn is done. `soak` formats the flash and does rounds of updates and power cuts that are drawn from a number, by any
+/// manifest, and prints one line. It makes room for its turns round by round. `serve` boots, and then answers each request of the
+/// source by a frame before it reads on; it makes room for its turns one by one, and prints no line but that of a refused list.
 pub fn fwu_top_with<D: Flash, H: Files, I: Source, O: Sink, V: Verifier>(
     alloc: Global,
     words: &[String],
@@ -57,8 +57,9 @@ pub fn fwu_top_with<D: Flash, H: Files, I: Source, O: Sink, V: Verifier>(
 }
 
 /// `fwu_top_with` for any manifest, or where the words begin with `--allow FILE`, for those whose digests that file lists. A list
-/// that isn't there or can't be read is answered by status 2, and one with a bad line by 13, before the other words are looked
-/// at. (That such a list is answered so is a clause where the files tell what they hold. The system's files don't.)
+/// that isn't there or can't be read is answered by status 2, and one with a bad line by 13, before the other words are looked at;
+/// by 3 or 9 where the sink fails at the line of that, or memory is wanting. (That such a list is answered so is a clause where
+/// the files tell what they hold. The system's files don't.)
 pub fn fwu_top<D: Flash, H: Files, I: Source, O: Sink>(
     alloc: Global,
     words: &[String],
@@ -70,7 +71,7 @@ pub fn fwu_top<D: Flash, H: Files, I: Source, O: Sink>(
     requires off { IsFalse (D.on flash) }
     requires unarmed { D.arming flash ≡ None }
 
-    // By the manifests that the list has; where no list was read nothing was done, and it holds whichever pass.
+    // By the manifests that the list has; where one is named and none was read nothing was done, and it holds whichever pass.
     ensures serves { ServesByList (map string_bytes words.now) (told_device D.Flash flash)
         (inputs_listed H.Files I.Source (map string_bytes words.now) files.old source.old) (ending result)
         (world D.Flash H.Files I.Source O.Sink flash files.old source.old sink.old)

@@ -43,7 +43,7 @@ pub record Turns (passes : List ℕ → Bool) (tells : Bool) (files : Option Dir
   -- no call of the files failed but the one that is told
   pub later : was ≤ are
   pub unread_once : are ≤ was + unread_told t.reply
-  -- only `send` reads a file
+  -- only at a `send` may a call of the files fail
   pub reads_none : IsFalse (is_send c) → are ≡ was
   -- on any device: the reply, what the agent keeps, and what an armed loss counts
   pub replies : Replies passes tells files c old t new
