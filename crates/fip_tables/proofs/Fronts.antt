@@ -2,7 +2,7 @@
 use Rattle.std.proofs.Common.{◌≡◌, ℕ, ◌+◌, ◌*◌, ◌≤◌, List, ◌++◌, length, take, drop, sym, ap, ◌∙◌, arith, length-append, length-drop, ◌-◌, ◌<◌, true, false, [], Option, Some, None, Result, Ok, Err, refl, append_assoc, append-nil}
 use Rattle.std.proofs.lemmas.List.{take-append-le, drop-append-le, drop-drop}
 use Rattle.base_core.specs.Bytes.{num, num_at}
-use Rattle.fwu_formats.specs.Package.{Entry, Toc, entry_at, entry_limit, entries_from, is_beyond, toc_of, within}
+use Rattle.fwu_formats.specs.Package.{Entry, Toc, entry_at, entry_limit, entries_from, is_beyond, toc_of, unless_beyond}
 use Rattle.fwu_formats.specs.declared.kinds.FipFault.{FipFault}
 use Rattle.fip_tables.specs.{Answers.decided, Answers.has_marker, Answers.lasting, declared.reader.Stage.Stage}
 use Rattle.fip_tables.specs.Stream.{entry_from, HasHeader, ReaderHoldsAt, ReadsOn, group_size, met}
@@ -53,7 +53,7 @@ header-front bytes rest toc h = record {
 abbrev pub answer_at : Stage → Toc → List ℕ → Result Toc FipFault
 answer_at Header toc bytes = Err fault.ShortHeader
 answer_at Table toc bytes = Err (fault.NoEnd (length toc.entries))
-answer_at Whole toc bytes = within bytes toc (position (is_beyond bytes) toc.entries)
+answer_at Whole toc bytes = unless_beyond bytes toc (position (is_beyond bytes) toc.entries)
 answer_at (Faulty f) toc bytes = Err f
 
 same-end : (bytes : List ℕ) → bytes ++ [] ≡ bytes
@@ -73,11 +73,11 @@ answers Whole toc pending bytes few h =
     by-table bytes toc h.header (ap (λ (xs : List ℕ). entries_from xs [] 0 entry_limit) (sym (same-end bytes)) ∙ h.entries [])
 answers (Faulty f) toc pending bytes few h = ap toc_of (sym (same-end bytes)) ∙ h.first []
 
-none-decided : (bytes : List ℕ) (toc : Toc) (at : Option ℕ) → decided (within bytes toc at) ≡ Ok tt
+none-decided : (bytes : List ℕ) (toc : Toc) (at : Option ℕ) → decided (unless_beyond bytes toc at) ≡ Ok tt
 none-decided bytes toc None = refl
 none-decided bytes toc (Some i) = refl
 
-marked : (bytes : List ℕ) (toc : Toc) (at : Option ℕ) → has_marker (within bytes toc at) ≡ true
+marked : (bytes : List ℕ) (toc : Toc) (at : Option ℕ) → has_marker (unless_beyond bytes toc at) ≡ true
 marked bytes toc None = refl
 marked bytes toc (Some i) = refl
 

@@ -5,7 +5,7 @@ use Rattle.std.specs.List.{list_any}
 use Rattle.std.specs.Prelude.{position, IsTrue}
 use Rattle.base_core.specs.Bytes.{num_at, same_bytes}
 use Rattle.fwu_formats.specs.{Layout.nil_guid, declared.kinds.FipFault.FipFault}
-use Rattle.fwu_formats.specs.Package.{Entry, Toc, entry_at, entry_limit, entries_from, fip_name, has_guid, is_beyond, toc_of, within, with_entries}
+use Rattle.fwu_formats.specs.Package.{Entry, Toc, entry_at, entry_limit, entries_from, fip_name, has_guid, is_beyond, toc_of, unless_beyond, with_entries}
 use Rattle.fwu_formats.specs.declared.kinds.FipFault.TheVariants as fault
 use Rattle.fip_tables.specs.{Again.FaultsStand, Again.TablesStandByLength, Stream.HasHeader}
 use Rattle.fip_tables.specs.Answers.{decided, has_marker, lasting}
@@ -106,7 +106,7 @@ lasting-is (fault.Beyond i) f e = cc
 lasting-is g f e = cc
 
 -- the answer of bytes with a good header, by what their entries are
-undecided : (bytes : List ℕ) (toc : Toc) (o : Option ℕ) (f : FipFault) → decided (within bytes toc o) ≡ Err f → ⊥
+undecided : (bytes : List ℕ) (toc : Toc) (o : Option ℕ) (f : FipFault) → decided (unless_beyond bytes toc o) ≡ Err f → ⊥
 undecided bytes toc None f e = cc
 undecided bytes toc (Some i) f e = cc
 
@@ -124,7 +124,7 @@ faults-by-entries bytes rest toc f h e (Err g) is =
     ]
 faults-by-entries bytes rest toc f h e (Ok es) is =
     let full : Toc = record { serial = num_at 4 bytes 4; flags = num_at 8 bytes 8; entries = es } in
-    let here : toc_of bytes ≡ within bytes full (position (is_beyond bytes) es) = by-entries bytes toc h ∙ ap (with_entries bytes) is in
+    let here : toc_of bytes ≡ unless_beyond bytes full (position (is_beyond bytes) es) = by-entries bytes toc h ∙ ap (with_entries bytes) is in
     absurd (undecided bytes full (position (is_beyond bytes) es) f (sym (ap decided here) ∙ e))
 
 pub faults-stand : FaultsStand
@@ -141,7 +141,7 @@ faults-stand bytes rest f e =
 
 -- ---- whole tables
 
-within-any : (a b : List ℕ) (toc : Toc) (o : Option ℕ) → within a toc o ≡ within b toc o
+within-any : (a b : List ℕ) (toc : Toc) (o : Option ℕ) → unless_beyond a toc o ≡ unless_beyond b toc o
 within-any a b toc None = refl
 within-any a b toc (Some i) = refl
 
@@ -169,7 +169,7 @@ tables-by-entries bytes gap other toc h long (Ok es) a b =
     let full : Toc = record { serial = toc.serial; flags = toc.flags; entries = es } in
     let header : HasHeader bytes full = record { long = h.long; name = h.name; some = h.some; serial = h.serial; flags = h.flags } in
     by-table (bytes ++ gap) full (header-front bytes gap full header) a
-    ∙ ap (within (bytes ++ gap) full) (beyond-by-length (bytes ++ gap) (bytes ++ other) es (same-length bytes gap other long))
+    ∙ ap (unless_beyond (bytes ++ gap) full) (beyond-by-length (bytes ++ gap) (bytes ++ other) es (same-length bytes gap other long))
     ∙ within-any (bytes ++ gap) (bytes ++ other) full (position (is_beyond (bytes ++ other)) es)
     ∙ sym (by-table (bytes ++ other) full (header-front bytes other full header) b)
 

@@ -4,7 +4,7 @@ use Rattle.std.specs.List.{list_any}
 use Rattle.std.specs.Prelude.{position}
 use Rattle.base_core.specs.Bytes.{num_at, same_bytes}
 use Rattle.fwu_formats.specs.{Layout.nil_guid, declared.kinds.FipFault.FipFault}
-use Rattle.fwu_formats.specs.Package.{Entry, Toc, entry_at, entry_limit, entries_from, fip_name, has_guid, is_beyond, toc_of, with_entries, within}
+use Rattle.fwu_formats.specs.Package.{Entry, Toc, entry_at, entry_limit, entries_from, fip_name, has_guid, is_beyond, toc_of, with_entries, unless_beyond}
 use Rattle.fwu_formats.specs.declared.kinds.FipFault.TheVariants as fault
 use Rattle.fip_tables.specs.Stream.{HasHeader}
 
@@ -96,7 +96,7 @@ same-toc : {s t f g : ℕ} {es : List Entry} → s ≡ t → f ≡ g → ◌≡�
 same-toc a b = cc
 
 pub by-table : (bytes : List ℕ) (toc : Toc) → HasHeader bytes toc → entries_from bytes [] 0 entry_limit ≡ Ok toc.entries
-    → toc_of bytes ≡ within bytes toc (position (is_beyond bytes) toc.entries)
+    → toc_of bytes ≡ unless_beyond bytes toc (position (is_beyond bytes) toc.entries)
 by-table bytes toc h e =
     by-entries bytes toc h ∙ ap (with_entries bytes) e
-    ∙ ap (λ (t : Toc). within bytes t (position (is_beyond bytes) toc.entries)) (same-toc (sym h.serial) (sym h.flags))
+    ∙ ap (λ (t : Toc). unless_beyond bytes t (position (is_beyond bytes) toc.entries)) (same-toc (sym h.serial) (sym h.flags))

@@ -1,7 +1,7 @@
 //! The table of contents at the front of a package, read group by group.
 
 ghost use Rattle.std.specs.Prelude.{◌≡◌, ◌≢◌, ◌+◌, ◌*◌, ◌<◌, ◌≤◌, ◌^◌, ◌++◌, ℕ, List, [], Option, IsTrue, IsNone, OnOk, ◌↔◌, length, take, position, MatchResult, Ok, Err};
-ghost use Rattle.fwu_formats.specs.Package.{is_beyond, toc_of, within};
+ghost use Rattle.fwu_formats.specs.Package.{is_beyond, toc_of, unless_beyond};
 ghost use Rattle.fip_tables.specs.Stream.{IsHeaderOf, ReaderHoldsAt, IsGroup};
 ghost use Rattle.fip_tables.specs.declared.reader.Stage.TheVariants as stage;
 
@@ -104,8 +104,8 @@ fn count_of(toc: &Toc) -> u32
 // The fault of a table whose marker was read, in a package of so many bytes.
 fn check_ends(toc: &Toc, size: u64) -> Result<(), FipFault>
     ensures { (bytes : List ℕ) → size ≡ length bytes → MatchResult result
-        (λ _. within bytes toc.now (position (is_beyond bytes) toc.now.entries) ≡ Ok toc.now)
-        (λ fault. within bytes toc.now (position (is_beyond bytes) toc.now.entries) ≡ Err fault) }
+        (λ _. unless_beyond bytes toc.now (position (is_beyond bytes) toc.now.entries) ≡ Ok toc.now)
+        (λ fault. unless_beyond bytes toc.now (position (is_beyond bytes) toc.now.entries) ≡ Err fault) }
 {
     match toc.entries.first_beyond(size) {
         Some(i) => Err(FipFault::Beyond(i as u32)),

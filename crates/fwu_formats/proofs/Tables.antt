@@ -13,7 +13,7 @@ use Rattle.std.proofs.lemmas.List.Quantifiers.{all_pairs_push}
 use Rattle.base_core.specs.Bytes.{num_at, same_bytes}
 use Rattle.base_core.proofs.{Spelled.same_is, Spelled.same_refl, Results.same-Ok, Lists.none-found}
 use Rattle.fwu_formats.specs.{Layout.nil_guid, Law.TablesAreRead}
-use Rattle.fwu_formats.specs.Package.{Entry, Toc, IsTable, fip_name, entry_limit, entry_at, has_guid, entries_from, is_beyond, within, with_entries, toc_of, FipFault}
+use Rattle.fwu_formats.specs.Package.{Entry, Toc, IsTable, fip_name, entry_limit, entry_at, has_guid, entries_from, is_beyond, unless_beyond, with_entries, toc_of, FipFault}
 use Rattle.fwu_formats.specs.declared.kinds.FipFault.TheVariants as fault
 use Rattle.fwu_formats.proofs.{SealLaws.was_not_refused, Spell.listed-is, Spell.not_refused}
 
@@ -131,7 +131,7 @@ table-of bytes toc e =
     let c = was_not_refused (num_at 4 bytes 4 == 0) fault.ZeroSerial _ toc b.1 in
     by-entries (eqb-true _ fip_name (not-false (num_at 4 bytes 0 == fip_name) b.0)) (λ is. absurd (let f : (num_at 4 bytes 4 == 0) ≡ true = eq-eqb _ 0 is in cc)) (entries_from bytes [] 0 entry_limit) refl c.1
   where
-    by-within : num_at 4 bytes 0 ≡ fip_name → num_at 4 bytes 4 ≢ 0 → (es : List Entry) → IsRead bytes es entry_limit → (o : Option ℕ) → position (is_beyond bytes) es ≡ o → within bytes (headed bytes es) o ≡ Ok toc → IsTable bytes toc
+    by-within : num_at 4 bytes 0 ≡ fip_name → num_at 4 bytes 4 ≢ 0 → (es : List Entry) → IsRead bytes es entry_limit → (o : Option ℕ) → position (is_beyond bytes) es ≡ o → unless_beyond bytes (headed bytes es) o ≡ Ok toc → IsTable bytes toc
     by-within name serial es read None fits h = subst (λ (x : Toc). IsTable bytes x) (same-Ok {F = FipFault} (headed bytes es) toc h) (table-is bytes es name serial read fits)
     by-within name serial es read (Some i) fits h = absurd cc
 

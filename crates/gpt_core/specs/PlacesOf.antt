@@ -40,19 +40,19 @@ is_usable blocks entry_blocks q =
 abbrev pub are_apart : Partition → Partition → Bool
 are_apart q r = nat_lt q.last r.first || nat_lt r.last q.first
 
-abbrev pub size_of : Partition → ℕ
-size_of q = q.last + 1 - q.first
+abbrev pub partition_blocks : Partition → ℕ
+partition_blocks q = q.last + 1 - q.first
 
 unfoldable pub are_large : ℕ → ℕ → Partition → Partition → Partition → Bool
 are_large blocks entry_blocks store zero one =
     is_usable blocks entry_blocks store && is_usable blocks entry_blocks zero && is_usable blocks entry_blocks one
     && (are_apart store zero && are_apart store one && are_apart zero one)
-    && (nat_le fewest_blocks (size_of store) && nat_le (size_of store) most_blocks)
+    && (nat_le fewest_blocks (partition_blocks store) && nat_le (partition_blocks store) most_blocks)
 
 abbrev pub placed : ℕ → ℕ → List Partition → List Partition → Result Places PlaceFault
 placed blocks entry_blocks (store ∷ []) (zero ∷ one ∷ []) =
     if are_large blocks entry_blocks store zero one
-    then Ok (record { store_first = store.first; store_blocks = size_of store; replicas = zero.first ∷ one.first ∷ [] })
+    then Ok (record { store_first = store.first; store_blocks = partition_blocks store; replicas = zero.first ∷ one.first ∷ [] })
     else Err TooSmall
 placed blocks entry_blocks (store ∷ []) replicas = Err (Replicas (length replicas))
 placed blocks entry_blocks stores replicas = Err NoStore

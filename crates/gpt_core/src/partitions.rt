@@ -5,7 +5,7 @@ ghost use Rattle.base_core.specs.Block.{fewest_blocks, most_blocks};
 ghost use Rattle.base_core.specs.Bytes.{num_at, same_bytes};
 ghost use Rattle.gpt_core.specs.Table.{Table as Said, FitsTable, blocks_of, entry_number_of};
 ghost use Rattle.gpt_core.specs.Places.{Fit};
-ghost use Rattle.gpt_core.specs.PlacesOf.{in_text_order, store_type, metadata_type, partition_at, of_type as of_type_in, is_usable, are_apart, size_of, are_large, placed, places_of};
+ghost use Rattle.gpt_core.specs.PlacesOf.{in_text_order, store_type, metadata_type, partition_at, of_type as of_type_in, is_usable, are_apart, partition_blocks, are_large, placed, places_of};
 ghost use Rattle.gpt_core.specs.declared.layout.PlaceFault.{PlaceFault};
 ghost use Rattle.gpt_core.specs.declared.layout.PlaceFault.TheVariants as fault;
 
@@ -111,7 +111,7 @@ fn are_all_apart(store: &Partition, zero: &Partition, one: &Partition) -> bool
 
 /// Whether it has 8 to 65,536 blocks.
 fn is_sized(store: &Partition) -> bool
-    ensures { result ≡ (nat_le fewest_blocks (size_of store.now) && nat_le (size_of store.now) most_blocks) }
+    ensures { result ≡ (nat_le fewest_blocks (partition_blocks store.now) && nat_le (partition_blocks store.now) most_blocks) }
 {
     if store.last < store.first {
         return false;
@@ -143,7 +143,7 @@ fn places_at(store: &Partition, zero: &Partition, one: &Partition) -> Places
     requires forward { store.now.first ≤ store.now.last }
     requires small { (store.now.last < most_blocks) × (zero.now.first < most_blocks) × (one.now.first < most_blocks) }
     ensures { result ≡
-        record { store_first = store.now.first; store_blocks = size_of store.now; replicas = zero.now.first ∷ one.now.first ∷ [] } }
+        record { store_first = store.now.first; store_blocks = partition_blocks store.now; replicas = zero.now.first ∷ one.now.first ∷ [] } }
 {
     Places {
         store_first: store.first as u32,

@@ -7,7 +7,7 @@ use Rattle.std.proofs.lemmas.Result.{on_ok_weaker}
 use Rattle.std.specs.Prelude.{Result, Ok, Err}
 use Rattle.flash_core.specs.{declared.flash.FlashStop.FlashStop, Told.Told, Told.settle, Told.settled, May.Keeps}
 use Rattle.flash_core.proofs.Calls.{keeps_same, keeps_wider, keeps_then, keeps_settle, now-settle, settle-fresh}
-use Rattle.slot_writer.specs.Slots.{Programs, Appends, FinishesImage, IsBlankAhead, blocks_for, done_of, bytes_in}
+use Rattle.slot_writer.specs.Slots.{Programs, Appends, FinishesImage, IsBlankAhead, blocks_for, done_of, bytes_stored}
 
 take-split : (a n : ℕ) (xs : List ℕ) → take (a + n) xs ≡ take a xs ++ take n (drop a xs)
 take-split a n xs = sym (take-append-drop a (take (a + n) xs)) ∙ ap₂ (λ (x y : List ℕ). x ++ y) (take-take a (a + n) xs (omega arith)) (drop-take a n xs)
@@ -52,7 +52,7 @@ module _ (first size whole : ℕ) (rest bytes left : List ℕ) (s t : Told) (gra
         let a = take size (drop (4096 * first) s.now) in
         let there : take (size + whole) (drop (4096 * first) t.now) ≡ a ++ take whole bytes = front-programmed first size whole (take whole bytes) s t (sym count) (omega (arith, is, room)) programs in
         let left_is : take ((size + length bytes) % 16) left ≡ drop whole bytes = ap (λ (k : ℕ). take k left) (omega (arith, granule, is)) ∙ kept in
-        let before : bytes_in first size rest s.now ≡ a = ap₂ (λ (i j : ℕ). take i (drop (4096 * first) s.now) ++ take j rest) (omega (arith, granule)) granule ∙ append-nil a in
+        let before : bytes_stored first size rest s.now ≡ a = ap₂ (λ (i j : ℕ). take i (drop (4096 * first) s.now) ++ take j rest) (omega (arith, granule)) granule ∙ append-nil a in
         ap₂ (λ (x y : List ℕ). x ++ y) (ap (λ (k : ℕ). take k (drop (4096 * first) t.now)) now_done ∙ there) left_is
         ∙ append_assoc a (take whole bytes) (drop whole bytes) ∙ ap (λ (l : List ℕ). a ++ l) (take-append-drop whole bytes) ∙ ap (λ (l : List ℕ). l ++ bytes) (sym before);
     ahead = λ i above below. programs.ahead i (omega (arith, above, now_done, count)) (subst (λ (k : ℕ). i < 4096 * (first + blocks_for k)) (now_done ∙ ap (λ (k : ℕ). size + k) (sym count)) below);
@@ -92,11 +92,11 @@ module _ {T : Type 0} (result : Result T FlashStop) (first size room : ℕ) (res
         let a = take (done_of size) (drop (4096 * first) s.now) in
         let head = take (size % 16) rest in
         let there : take (done_of size + 16) (drop (4096 * first) m.now) ≡ a ++ filled = front-programmed first (done_of size) 16 filled s m (sym sixteen) (omega (arith, room_is, enough, fits)) programs in
-        let before : bytes_in first (done_of size + 16) filled m.now ≡ a ++ filled =
+        let before : bytes_stored first (done_of size + 16) filled m.now ≡ a ++ filled =
         let i_is : done_of (done_of size + 16) ≡ done_of size + 16 = omega arith in
         let j_is : (done_of size + 16) % 16 ≡ 0 = omega arith in
         ap₂ (λ (i j : ℕ). take i (drop (4096 * first) m.now) ++ take j filled) i_is j_is ∙ append-nil _ ∙ there in
-        ap (λ (k : ℕ). bytes_in first k left t.now) (sym all) ∙ e ∙ ap (λ (l : List ℕ). l ++ drop room bytes) (before ∙ ap (λ (l : List ℕ). a ++ l) filled_is)
+        ap (λ (k : ℕ). bytes_stored first k left t.now) (sym all) ∙ e ∙ ap (λ (l : List ℕ). l ++ drop room bytes) (before ∙ ap (λ (l : List ℕ). a ++ l) filled_is)
         ∙ append_assoc a (head ++ take room bytes) (drop room bytes)
         ∙ ap (λ (l : List ℕ). a ++ l) (append_assoc head (take room bytes) (drop room bytes) ∙ ap (λ (l : List ℕ). head ++ l) (take-append-drop room bytes))
         ∙ sym (append_assoc a head bytes)) appends.written;
@@ -127,7 +127,7 @@ module _ (first size n : ℕ) (rest last : List ℕ) (s m : Told) (n_is : n ≡ 
   keeps_here : Keeps (4096 * first + done_of size) (4096 * (first + blocks_for size)) s m
   keeps_here = keeps_wider (4096 * first + done_of size) (4096 * (first + blocks_for (done_of size + length (take n last)))) (4096 * first + done_of size) (4096 * (first + blocks_for size)) s m (omega arith) (omega (arith, padded-size, n_is)) programs.keeps
 
-  whole_there : take size (drop (4096 * first) m.now) ≡ bytes_in first size rest s.now
+  whole_there : take size (drop (4096 * first) m.now) ≡ bytes_stored first size rest s.now
   whole_there =
       let a = take (done_of size) (drop (4096 * first) s.now) in
       let a_size : length a ≡ done_of size = length-take-le (done_of size) (drop (4096 * first) s.now) (omega (arith, length-drop (4096 * first) s.now, fits)) in

@@ -12,8 +12,8 @@ abbrev pub done_of : ℕ → ℕ
 done_of size = size - size % granule_bytes
 
 -- the bytes of an image of this length: those on the flash, and the rest that is kept
-abbrev pub bytes_in : ℕ → ℕ → List ℕ → List ℕ → List ℕ
-bytes_in first size rest now = take (done_of size) (drop (block_bytes * first) now) ++ take (size % granule_bytes) rest
+abbrev pub bytes_stored : ℕ → ℕ → List ℕ → List ℕ → List ℕ
+bytes_stored first size rest now = take (done_of size) (drop (block_bytes * first) now) ++ take (size % granule_bytes) rest
 
 -- behind the bytes that are on the flash, the block that they end in is blank
 abbrev pub IsBlankAhead : ℕ → ℕ → List ℕ → Type 0
@@ -49,7 +49,7 @@ pub record Appends {T : Type 0} (result : Result T FlashStop) (first size : ℕ)
   -- nothing at all where no granule becomes whole
   pub idle : done_of (size + length bytes) ≡ done_of size → t ≡ s
   -- when done, the bytes stand behind those before
-  pub written : OnOk result (bytes_in first (size + length bytes) left t.now ≡ bytes_in first size rest s.now ++ bytes)
+  pub written : OnOk result (bytes_stored first (size + length bytes) left t.now ≡ bytes_stored first size rest s.now ++ bytes)
   pub ahead : OnOk result (IsBlankAhead first (done_of (size + length bytes)) t.now)
   -- no barrier is made: what is sure to outlive a loss is what it was
   pub stable : t.stable ≡ s.stable
@@ -61,6 +61,6 @@ pub record FinishesImage {T : Type 0} (result : Result T FlashStop) (first size 
   -- where nothing is kept, nothing is written
   pub idle : size % granule_bytes ≡ 0 → t ≡ settled result s
   -- when done, all of it is on the flash, 0xFF behind it up to the block's end, and nothing is dirty
-  pub written : OnOk result (take size (drop (block_bytes * first) t.now) ≡ bytes_in first size rest s.now)
+  pub written : OnOk result (take size (drop (block_bytes * first) t.now) ≡ bytes_stored first size rest s.now)
   pub padded : OnOk result (IsBlankAhead first size t.now)
   pub stable : OnOk result (NothingDirty t)

@@ -10,78 +10,78 @@ use Rattle.fwu_formats.specs.{Layout.ImageRow, Layout.find_image, Package.Entry,
 use Rattle.fwu_model.specs.Session.{Nothing}
 use Rattle.fwu_model.specs.Answer.{are_named, names_unknown, copied_part, copied_parts, has_image, images_over, payload_or}
 use Rattle.fwu_model.proofs.Staging.{same-self, same-is}
-use Rattle.update_client.specs.{Partial.present, Partial.types_of, Choosing.no_row}
+use Rattle.update_client.specs.{Partial.present, Partial.entry_types, Choosing.no_row}
 use Rattle.update_client.proofs.{Present.kept_parts, Present.kept-at, Present.kept-long, OwnImages.found-has, Over.payloads}
 
 -- a type that is named is that of an entry, so of an image that the table has
-named-has : (rows : List ImageRow) (toc : Toc) (guid : List ℕ) → list_any (same_bytes guid) (types_of (present rows toc)) ≡ true → is_some (entry_of toc guid) ≡ true
+named-has : (rows : List ImageRow) (toc : Toc) (guid : List ℕ) → list_any (same_bytes guid) (entry_types (present rows toc)) ≡ true → is_some (entry_of toc guid) ≡ true
 named-has [] toc guid is = absurd cc
 named-has (r ∷ rows) toc guid is = by-entry (named-has rows toc guid) (entry_of toc r.guid) refl is
   where
-    either : (e : Entry) → entry_of toc r.guid ≡ Some e → (list_any (same_bytes guid) (types_of (present rows toc)) ≡ true → is_some (entry_of toc guid) ≡ true)
-        → (b : Bool) → same_bytes guid e.guid ≡ b → (b || list_any (same_bytes guid) (types_of (present rows toc))) ≡ true → is_some (entry_of toc guid) ≡ true
+    either : (e : Entry) → entry_of toc r.guid ≡ Some e → (list_any (same_bytes guid) (entry_types (present rows toc)) ≡ true → is_some (entry_of toc guid) ≡ true)
+        → (b : Bool) → same_bytes guid e.guid ≡ b → (b || list_any (same_bytes guid) (entry_types (present rows toc))) ≡ true → is_some (entry_of toc guid) ≡ true
     either e it on true same h =
         let guids : guid ≡ r.guid = same-is guid e.guid same ∙ found-has r.guid toc.entries e it in
         ap (λ (g : List ℕ). is_some (entry_of toc g)) guids ∙ ap (λ (o : Option Entry). is_some o) it
     either e it on false same h = on h
 
-    by-entry : (list_any (same_bytes guid) (types_of (present rows toc)) ≡ true → is_some (entry_of toc guid) ≡ true) → (o : Option Entry)
-        → entry_of toc r.guid ≡ o → list_any (same_bytes guid) (types_of (cons_option (entry_of toc r.guid) (present rows toc))) ≡ true → is_some (entry_of toc guid) ≡ true
-    by-entry on None it h = on (sym (ap (λ (o : Option Entry). list_any (same_bytes guid) (types_of (cons_option o (present rows toc)))) it) ∙ h)
+    by-entry : (list_any (same_bytes guid) (entry_types (present rows toc)) ≡ true → is_some (entry_of toc guid) ≡ true) → (o : Option Entry)
+        → entry_of toc r.guid ≡ o → list_any (same_bytes guid) (entry_types (cons_option (entry_of toc r.guid) (present rows toc))) ≡ true → is_some (entry_of toc guid) ≡ true
+    by-entry on None it h = on (sym (ap (λ (o : Option Entry). list_any (same_bytes guid) (entry_types (cons_option o (present rows toc)))) it) ∙ h)
     by-entry on (Some e) it h = either e it on (same_bytes guid e.guid) refl
-        (sym (ap (λ (o : Option Entry). list_any (same_bytes guid) (types_of (cons_option o (present rows toc)))) it) ∙ h)
+        (sym (ap (λ (o : Option Entry). list_any (same_bytes guid) (entry_types (cons_option o (present rows toc)))) it) ∙ h)
 
 -- and the type of an image that it has is named
 has-named : (rows : List ImageRow) (toc : Toc) (i : ℕ) (e : Entry) → i < length rows → entry_of toc (get_or rows i no_row).guid ≡ Some e
-    → list_any (same_bytes (get_or rows i no_row).guid) (types_of (present rows toc)) ≡ true
+    → list_any (same_bytes (get_or rows i no_row).guid) (entry_types (present rows toc)) ≡ true
 has-named [] toc i e lt it = absurd (omega (arith, lt))
 has-named (r ∷ rows) toc zero e lt it =
-    ap (λ (o : Option Entry). list_any (same_bytes r.guid) (types_of (cons_option o (present rows toc)))) it
-    ∙ ap (λ (g : List ℕ). same_bytes r.guid g || list_any (same_bytes r.guid) (types_of (present rows toc))) (found-has r.guid toc.entries e it)
-    ∙ ap (λ (b : Bool). b || list_any (same_bytes r.guid) (types_of (present rows toc))) (same-self r.guid)
+    ap (λ (o : Option Entry). list_any (same_bytes r.guid) (entry_types (cons_option o (present rows toc)))) it
+    ∙ ap (λ (g : List ℕ). same_bytes r.guid g || list_any (same_bytes r.guid) (entry_types (present rows toc))) (found-has r.guid toc.entries e it)
+    ∙ ap (λ (b : Bool). b || list_any (same_bytes r.guid) (entry_types (present rows toc))) (same-self r.guid)
 has-named (r ∷ rows) toc (suc i) e lt it = by-entry (has-named rows toc i e (omega (arith, lt)) it) (entry_of toc r.guid)
   where
     or-true : (b c : Bool) → c ≡ true → (b || c) ≡ true
     or-true true c h = refl
     or-true false c h = h
 
-    by-entry : list_any (same_bytes (get_or rows i no_row).guid) (types_of (present rows toc)) ≡ true → (o : Option Entry)
-        → list_any (same_bytes (get_or rows i no_row).guid) (types_of (cons_option o (present rows toc))) ≡ true
+    by-entry : list_any (same_bytes (get_or rows i no_row).guid) (entry_types (present rows toc)) ≡ true → (o : Option Entry)
+        → list_any (same_bytes (get_or rows i no_row).guid) (entry_types (cons_option o (present rows toc))) ≡ true
     by-entry on None = on
     by-entry on (Some x) = or-true (same_bytes (get_or rows i no_row).guid x.guid) _ on
 
 pub named-is : (rows : List ImageRow) (toc : Toc) (i : ℕ) → i < length rows
-    → list_any (same_bytes (get_or rows i no_row).guid) (types_of (present rows toc)) ≡ has_image toc (get_or rows i no_row)
+    → list_any (same_bytes (get_or rows i no_row).guid) (entry_types (present rows toc)) ≡ has_image toc (get_or rows i no_row)
 named-is rows toc i lt = by-entry (entry_of toc (get_or rows i no_row).guid) refl
   where
     by-entry : (o : Option Entry) → entry_of toc (get_or rows i no_row).guid ≡ o
-        → list_any (same_bytes (get_or rows i no_row).guid) (types_of (present rows toc)) ≡ has_image toc (get_or rows i no_row)
+        → list_any (same_bytes (get_or rows i no_row).guid) (entry_types (present rows toc)) ≡ has_image toc (get_or rows i no_row)
     by-entry (Some e) it = has-named rows toc i e lt it ∙ sym (ap (λ (o : Option Entry). is_some o) it)
-    by-entry None it = elim (cases_Bool (list_any (same_bytes (get_or rows i no_row).guid) (types_of (present rows toc)))) [
+    by-entry None it = elim (cases_Bool (list_any (same_bytes (get_or rows i no_row).guid) (entry_types (present rows toc)))) [
       | inl named ↦ named ∙ sym (named-has rows toc (get_or rows i no_row).guid named)
       | inr other ↦ other ∙ sym (ap (λ (o : Option Entry). is_some o) it)
     ]
 
 -- none of them is unknown
 pub known-types : (all rows : List ImageRow) (toc : Toc) → ((i : ℕ) → i < length rows → is_some (find_image all (get_or rows i no_row).guid) ≡ true)
-    → names_unknown all (types_of (present rows toc)) ≡ false
+    → names_unknown all (entry_types (present rows toc)) ≡ false
 known-types all [] toc found = refl
 known-types all (r ∷ rows) toc found = by-entry (known-types all rows toc (λ i lt. found (suc i) (omega (arith, lt)))) (entry_of toc r.guid) refl
   where
-    by-entry : names_unknown all (types_of (present rows toc)) ≡ false → (o : Option Entry) → entry_of toc r.guid ≡ o
-        → names_unknown all (types_of (cons_option o (present rows toc))) ≡ false
+    by-entry : names_unknown all (entry_types (present rows toc)) ≡ false → (o : Option Entry) → entry_of toc r.guid ≡ o
+        → names_unknown all (entry_types (cons_option o (present rows toc))) ≡ false
     by-entry on None it = on
     by-entry on (Some e) it =
-        ap (λ (g : List ℕ). not (is_some (find_image all g)) || names_unknown all (types_of (present rows toc))) (found-has r.guid toc.entries e it)
-        ∙ ap (λ (b : Bool). not b || names_unknown all (types_of (present rows toc))) (found 0 (omega arith)) ∙ on
+        ap (λ (g : List ℕ). not (is_some (find_image all g)) || names_unknown all (entry_types (present rows toc))) (found-has r.guid toc.entries e it)
+        ∙ ap (λ (b : Bool). not b || names_unknown all (entry_types (present rows toc))) (found 0 (omega arith)) ∙ on
 
 -- what a begin copies that names them
 pub copied-is : (rows : List ImageRow) (toc : Toc) (bytes : ℕ → List ℕ)
-    → copied_parts (are_named rows (types_of (present rows toc))) bytes ≡ kept_parts toc bytes 0 rows
+    → copied_parts (are_named rows (entry_types (present rows toc))) bytes ≡ kept_parts toc bytes 0 rows
 unfolding copied_parts
 copied-is rows toc bytes =
-    let named = are_named rows (types_of (present rows toc)) in
-    let test = λ (r : ImageRow). list_any (same_bytes r.guid) (types_of (present rows toc)) in
+    let named = are_named rows (entry_types (present rows toc)) in
+    let test = λ (r : ImageRow). list_any (same_bytes r.guid) (entry_types (present rows toc)) in
     let g = λ (i : ℕ). copied_part (get_or named i true) (bytes i) in
     let size = length-map rows test in
     let long = length-map-range_with_len g 0 (length named) in

@@ -19,7 +19,7 @@ use Rattle.agent_calls.proofs.BegunPartly.{held, held-is}
 use Rattle.update_client.specs.{declared.stops.Sent.Sent, declared.stops.SendStop.SendStop, Finishes.InstallsImages}
 use Rattle.update_client.specs.{Halts.unbegun_as, Images.AreUnstaged, Images.sent_parts, Sends.IsInstalled}
 use Rattle.update_client.specs.Choosing.{no_row, refused_image}
-use Rattle.update_client.specs.Partial.{AreWhole, GoesAs, WasBegun, IsCountedOver, SendsOver, over_answer, present, types_of, AreSendable, InstallsOver}
+use Rattle.update_client.specs.Partial.{AreWhole, GoesAs, WasBegun, IsCountedOver, SendsOver, over_answer, present, entry_types, AreSendable, InstallsOver}
 use Rattle.update_client.proofs.{Installed.told_value, Installed.told-is, Named.copied-is, Named.named-is, Named.payloads-are}
 use Rattle.update_client.proofs.{Staging.IsPacked, Present.placed-in, Present.kept_parts, Present.places}
 use Rattle.update_client.proofs.Over.{done-bits, done-committed, done-package, over-payloads, sent-over, over_images}
@@ -63,7 +63,7 @@ module _ (toc : Toc) (passes : List ℕ → Bool) (old : Moment) where
   rows = old.fields.layout.rows
 
   abbrev types : List (List ℕ)
-  types = types_of (present rows toc)
+  types = entry_types (present rows toc)
 
   -- the bytes of a begin that names the images of the table are those of the others
   copied-of : (new : Moment) (q : Result (Unit {0}) Stop) (begins : BeginsPartly types (are_named rows types) passes q old new)

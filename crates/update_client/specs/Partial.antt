@@ -15,8 +15,8 @@ use Rattle.agent_machine.specs.{Fields.Fields, Fields.total_of, Moment.Moment, M
 
 -- ---- which entries are sent
 
-abbrev pub types_of : List Entry → List (List ℕ)
-types_of entries = map (λ (e : Entry). e.guid) entries
+abbrev pub entry_types : List Entry → List (List ℕ)
+entry_types entries = map (λ (e : Entry). e.guid) entries
 
 -- they are chosen where it has one at all and none is too large
 pub record AreSendable (rows : List ImageRow) (toc : Toc) (entries : List Entry) : Type 0 where
@@ -89,7 +89,7 @@ IsCountedOver rows toc sent = reply.SentPartial sent.images sent.skipped sent.co
 
 -- the writes and commits of the images that are copied
 abbrev pub writes_copied : List ImageRow → List ℕ → Toc → ℕ
-writes_copied rows lengths toc = writes_to_copy (are_named rows (types_of (present rows toc))) lengths (length rows)
+writes_copied rows lengths toc = writes_to_copy (are_named rows (entry_types (present rows toc))) lengths (length rows)
 
 -- and of those that are sent, `size` bytes at a time
 abbrev pub writes_over : ℕ → List ImageRow → List ℕ → Toc → ℕ

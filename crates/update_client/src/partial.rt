@@ -14,7 +14,7 @@ ghost use Rattle.update_client.specs.Packages.{HoldsPayloads};
 ghost use Rattle.update_client.specs.Pieces.{ReadsPieceBy};
 ghost use Rattle.update_client.specs.Sends.{FaultsBy, GoneBy, IsEarlySend, IsSwitched};
 ghost use Rattle.update_client.specs.Halts.{flash_of};
-ghost use Rattle.update_client.specs.Partial.{InstallsOver, IsCountedOver, SendsOver, present, types_of, writes_copied, writes_over};
+ghost use Rattle.update_client.specs.Partial.{InstallsOver, IsCountedOver, SendsOver, present, entry_types, writes_copied, writes_over};
 
 use crate::choosing::{choose_present, skipped};
 use crate::finishing::install;
@@ -31,7 +31,7 @@ use verify_core::Verifier;
 /// The types of up to 16 entries, and nil behind them.
 fn types_in(entries: &[Entry]) -> [Guid; 16]
     requires { length entries.now ≤ 16 }
-    ensures { take (length entries.now) result ≡ types_of entries.now }
+    ensures { take (length entries.now) result ≡ entry_types entries.now }
 {
     let mut types = [Guid::nil(); 16];
     for k in 0..entries.len() {

@@ -6,7 +6,7 @@ use Rattle.agent_calls.specs.Takes.{Takes, writes_to_begin, writes_to_copy}
 use Rattle.agent_machine.proofs.{Showing.shows-some, Spending.call-spent, Spending.spent-then}
 use Rattle.update_client.specs.{Takes.writes_in, declared.stops.Sent.Sent, Halts.flash_of, Choosing.refused_image}
 use Rattle.update_client.specs.{Packages.HoldsPayloads, Pieces.SparesOthers}
-use Rattle.update_client.specs.Partial.{AreSendable, present, types_of, writes_copied, writes_over}
+use Rattle.update_client.specs.Partial.{AreSendable, present, entry_types, writes_copied, writes_over}
 use Rattle.update_client.proofs.{Named.known-types, WholeSending.switches, partial.send_partial.Goals.After-install}
 use Rattle.update_client.proofs.Sparing.{begun-spares, gone-spares, spares-then}
 use Rattle.update_client.proofs.Spending.{goes-of, here-before, not-gone}
@@ -39,7 +39,7 @@ module _ (g : given.Over) (c : After-install g) where
       (subst (λ (l : List Entry). AreSendable c.rows.result.now c.args.toc.now l) (sym c.as_slice-2.ensures) c.in_ok-entries.ensures)
 
   abbrev named : List (List ℕ)
-  named = types_of (present c.args.agent.now.layout.rows c.args.toc.now)
+  named = entry_types (present c.args.agent.now.layout.rows c.args.toc.now)
 
   known : names_unknown c.args.agent.now.layout.rows named ≡ false
   known = known-types _ _ c.args.toc.now (λ i lt. rows-found c.args.agent.now.layout i c.rows.ensures.fits lt)
@@ -84,7 +84,7 @@ returns-in-Err-clause-sends g c = λ here.
     let toc = c.args.toc.now in
     let are = subst (λ (rs : List ImageRow). AreSendable rs toc c.in_ok-entries.entries) c.rows.ensures.value c.in_ok-entries.ensures in
     let is = are.entries_are in
-    let listed : take c.len.result c.types_in-types.result ≡ types_of (present L.rows toc) =
+    let listed : take c.len.result c.types_in-types.result ≡ entry_types (present L.rows toc) =
     cc (c.len.ensures.length, c.types_in-types.ensures, c.as_slice.ensures, is) in
     rw c.unbegun.ensures (over-unbegun _ _ _ _ _ _ are.none (known-types _ _ toc (λ i lt. rows-found L i c.rows.ensures.fits lt)) _ c.in-Err.stop
     (not-gone {T = Unit {0}} c.in-Err.stop _ here c.in-Err.ensures.goes.gone.gone.0)
