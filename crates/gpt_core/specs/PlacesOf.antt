@@ -40,6 +40,7 @@ is_usable blocks entry_blocks q =
 abbrev pub are_apart : Partition → Partition → Bool
 are_apart q r = nat_lt q.last r.first || nat_lt r.last q.first
 
+-- how many blocks it has
 abbrev pub partition_blocks : Partition → ℕ
 partition_blocks q = q.last + 1 - q.first
 
