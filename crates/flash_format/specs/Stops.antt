@@ -95,7 +95,7 @@ IfRefused result fact = (found : Verdict) → result ≡ Err (Input (Incomplete 
 pub record IsByVerdict {T : Type 0} (passes : List ℕ → Bool) (rows : List ImageRow) (result : Result T FormatStop) : Type 0 where
   -- The bank may not start by the verdict.
   pub bad : IfRefused result (λ found. verdict_may_start found ≡ false)
-  -- What was read gives it: a manifest that the verifier refuses, or one that passes.
+  -- What was read gives it: a manifest that the verifier refuses, or one that passes. Of a bad manifest it says nothing.
   pub seen : IfRefused result (λ found. HasPassed passes rows 0 found)
 
 -- the fact, where the images were written: the flash was formatted, or what is in the bank was refused

@@ -54,7 +54,8 @@ fn finish<D: Flash, V: Verifier>(
     ensures clean { FormatFinishes result (IsTrue D.tells → NothingDirty (D.told flash.old) → NothingDirty (D.told flash.new)) }
     ensures keeps { IsTrue D.tells → Keeps 0 (block_bytes * 3) (D.told flash.old) (D.told flash.new) }
     ensures touches { TouchesOnly 0 (block_bytes * 3) (D.writes flash.old) (D.writes flash.new) }
-    // Whatever a loss leaves, no layout is there before both replicas are, and this one only on a flash that is formatted.
+    // Where nothing was dirty: whatever a loss leaves, no layout is there before both replicas are, and this one only on a flash
+    // that is formatted.
     ensures ordered { IsTrue D.tells → NothingDirty (D.told flash.old) → IsOrdered layout.now (D.told flash.new) }
     ensures whole { IsTrue D.tells → NothingDirty (D.told flash.old) →
         IsWholeFormat (V.passes verifier.now) layout.now (D.told flash.new) }
@@ -135,7 +136,7 @@ pub fn format<D: Flash, H: Files, V: Verifier>(
     ensures untouched { IsEarlyStop result → flash.new ≡ flash.old }
     // A file that could not be read: the flash is as it was, or has no layout, whatever a loss leaves.
     ensures failed { result ≡ Err FileFailed → IsTrue D.tells → D.told flash.new ≡ D.told flash.old ⊎ IsUnlaid (D.told flash.new) }
-    // A name that told files lack gives a file that could not be read, unless there is no layout; and nothing was done.
+    // A name that told files lack gives a file that could not be read, unless rows and banks are no layout; the flash is as it was.
     ensures missing { Lacks (H.contents files.old) name.now
         → (IsOfLayout result ⊎ (result ≡ Err FileFailed)) × (flash.new ≡ flash.old) }
     // Formatted: by the layout that was asked for.
@@ -166,8 +167,9 @@ pub fn format<D: Flash, H: Files, V: Verifier>(
     ensures touches { TouchesOnly 0 (block_bytes * blocks_needed (asked_layout banks rows.now))
         (D.writes flash.old) (D.writes flash.new) }
     ensures goes { Goes D.Flash (flash_result result) flash.old flash.new }
-    // On every device, in total: an erase for each block up to the last bank's end. And a program for each piece of an image, for
-    // each replica and for the layout. Where what is in the bank is refused, there is none for replicas and layout.
+    // On every device, in total: an erase for each block up to the last bank's end. And a program for each piece of an image (of
+    // untold files of as many pieces as a bank has room for), each replica and the layout. Where the bank is refused, the last two
+    // are not there.
     ensures spent { IfOk result (λ done.
         FormatTakes (H.contents files.old) name.now done.layout 3 (D.arming flash.old) (D.arming flash.new)) }
     ensures worn { IfRefused result (λ found. FormatTakes (H.contents files.old) name.now

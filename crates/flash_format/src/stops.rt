@@ -10,7 +10,7 @@ use fwu_formats::{FipFault, LayoutFault};
 use image_check::Verdict;
 use thiserror::Error;
 
-/// What is wrong with what was given, the first of these that is so.
+/// What is wrong with what was given: the first fault of the layout, the package, its images by their rows, and the bank.
 #[derive(Clone, Copy, Debug, PartialEq, Eq, Error)]
 pub enum InputFault {
     /// The rows and banks are no layout of the flash.
@@ -25,7 +25,7 @@ pub enum InputFault {
     /// The image of this type, the lowest image that has a fault, is larger than its slot.
     #[error("the image {0:?} is larger than its slot")]
     TooLarge(Guid),
-    /// The images, once they were in bank 0, were not good. The flash was erased and has no layout.
+    /// The images, once they were in bank 0, were not good. They stand there, and the flash has no layout.
     #[error("the bank was not good: {0:?}")]
     Incomplete(Verdict),
 }
