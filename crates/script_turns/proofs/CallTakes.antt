@@ -11,12 +11,12 @@ use Rattle.host_io.specs.Contents.{Directory}
 use Rattle.fwu_model.specs.Call as call
 use Rattle.agent_machine.specs.{declared.stop.Stop.Stop, Fields.Fields, Fields.target, Ends.IsWriter, Stored.TakesStore}
 use Rattle.agent_machine.specs.declared.stop.Stop.TheVariants as stop
-use Rattle.fwu_formats.specs.Metadata.{state_at}
+use Rattle.fwu_formats.specs.{Layout.find_image, Metadata.bit_at, Metadata.state_at}
 use Rattle.agent_calls.specs.{Metas.meta_begun, declared.agent.Agent.Agent, Shown.device, Shown.fields}
 use Rattle.agent_calls.proofs.Taking.{takes-begin as takes-a-begin}
 use Rattle.agent_machine.specs.Meets.{IsDone, IsRefused, flash_result}
 use Rattle.script_turns.specs.Powered.{TurnMoment, SameDevice, moment_on}
-use Rattle.script_turns.specs.{Takes.ReadTakes, Takes.TakesOn, Calls.is_there, Calls.reply_by, Stage.on_where}
+use Rattle.script_turns.specs.{Takes.ReadsBy, Takes.TakesOn, Calls.is_there, Calls.reply_by, Stage.on_where}
 
 -- what an agent keeps, where it is there afterwards
 abbrev pub on_by : {T : Type 0} → Result T Stop → Fields → Option Fields
@@ -35,10 +35,10 @@ abbrev pub got : List ℕ → ℕ × ℕ → Reply
 got out value = reply.Got value.1 (take value.0 out)
 
 pub reads-by : (result : Result (ℕ × ℕ) Stop) (out : List ℕ) (old new : TurnMoment) → new.writes ≡ old.writes → new.armed ≡ arming_kept (flash_result result) old.armed
-    → ReachesNone (flash_result result) old.counts new.counts → ReadTakes (reply_by (got out) result) old new
-reads-by (Ok value) out old new still armed reached = record { writes = still; armed = armed; reached = reached }
-reads-by (Err (stop.Status st)) out old new still armed reached = record { writes = still; armed = armed; reached = reached }
-reads-by (Err other) out old new still armed reached = record { writes = still; armed = armed; reached = reached }
+    → ReachesNone (flash_result result) old.counts new.counts → (IsRefused result → SameDevice old new) → ReadsBy (reply_by (got out) result) old new
+reads-by (Ok value) out old new still armed reached refused = record { writes = still; armed = armed; reached = reached }
+reads-by (Err (stop.Status st)) out old new still armed reached refused = refused tt
+reads-by (Err other) out old new still armed reached refused = record { writes = still; armed = armed; reached = reached }
 
 -- ---- an agent and its call
 
@@ -93,3 +93,13 @@ module _ {D : Type 0} {F : Ghosts D} (a b : Agent D F) where
   takes-commit files number request (Ok value) spent still = record { spent = spent; still = λ none. same-device _ _ (still none) }
   takes-commit files number request (Err (stop.Status st)) spent still = record { spent = spent; still = λ none. same-device _ _ (still none) }
   takes-commit files number request (Err other) spent still = record { spent = spent; still = λ none. same-device _ _ (still none) }
+
+  pub takes-accept : (files : Option Directory) (guid : List ℕ) (result : Result (Unit {0}) Stop)
+      → OnOk result (TakesStore (fields a).meta (fields b).meta (F.arming (device a)) (F.arming (device b))) → (IsRefused result → b ≡ a)
+      → ((image : ℕ) → find_image (fields a).layout.rows guid ≡ Some image
+      → IsTrue (bit_at (fields a).meta.meta (fields a).meta.meta.active image) → device b ≡ device a)
+      → Takes files (call.Accepts guid) (done_reply result) (on_by result (fields b))
+  takes-accept files guid (Ok value) spent refused still = record { spent = spent; still = λ image found is. same-device _ _ (still image found is) }
+  takes-accept files guid (Err (stop.Status st)) spent refused still =
+      record { spent = refusing refused tt st; still = λ image found is. same-device _ _ (still image found is) }
+  takes-accept files guid (Err other) spent refused still = record { spent = tt; still = λ image found is. same-device _ _ (still image found is) }

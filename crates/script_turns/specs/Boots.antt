@@ -63,7 +63,7 @@ IsOnAfter other on = on ≡ None
 
 -- ---- a flash that is to boot has power
 
--- No bank was started on it: power came back, or was there with nothing dirty.
+-- No bank is on: power came back, or was there with nothing dirty.
 pub record PowersOn (tells : Bool) (old new : TurnMoment) : Type 0 where
   pub writes : new.writes ≡ old.writes
   pub idles : Idles old.counts new.counts

@@ -14,7 +14,7 @@ use Rattle.script_turns.specs.Powered.{TurnMoment, kept_at, numbers_kept}
 use Rattle.script_turns.specs.{Arms.Arms, Boots.BootsAs, Sending.SendSays}
 pub use Rattle.script_turns.specs.Sending.{IsFlashStop}
 
--- what `show` answers, by what the agent keeps where the flash is on
+-- what `show` answers, by what the agent keeps where a bank is on
 abbrev pub show_reply : Option Fields → Reply
 show_reply None = reply.IsOff
 show_reply (Some f) = reply.Shown (numbers_kept f)
@@ -34,8 +34,8 @@ pub record AreTold (bank trials counter : ℕ) (fallback : Bool) (f : Fields) : 
   pub nothing : HasNothing f.session
   pub handles : handles_meant f.session ≡ no_handles
 
--- After a boot with this reply the flash is on exactly where a bank was started, and its numbers are those that were told. A boot
--- has no other reply.
+-- After a boot with this reply a bank is on exactly where one was started, and its numbers are those that were told. A boot has no
+-- other reply.
 abbrev pub LeavesOn : Reply → Option Fields → Type 0
 LeavesOn (reply.Booted bank version trials counter fallback) (Some f) = AreTold bank trials counter fallback f
 LeavesOn (reply.Booted bank version trials counter fallback) None = ⊥
@@ -74,7 +74,7 @@ abbrev pub AnswersTo : (List ℕ → Bool) → Call → Reply → agent.Moment �
 AnswersTo passes (call.BeginPartial types) r old new = AnswersBegin passes types r old new
 AnswersTo passes other r old new = AnswersCall passes other r old new
 
--- While off no call of the agent is done. Else it is answered or refused, or the flash stops it and nothing is on.
+-- Where no bank is on no call of the agent is done. Else it is answered or refused, or the flash stops it and nothing is on.
 abbrev pub CallSays : (List ℕ → Bool) → Bool → Call → Option Fields → TurnMoment → Reply → Option Fields → TurnMoment → Type 0
 CallSays passes tells c None before r on now = (r ≡ reply.IsOff) × (on ≡ None)
 CallSays passes tells c (Some f) before r None now = IsFlashStop r

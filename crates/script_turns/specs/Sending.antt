@@ -113,7 +113,7 @@ IsFlashStop reply.Lost = ⊤
 IsFlashStop reply.Fault = ⊤
 IsFlashStop other = ⊥
 
--- While off nothing is sent. Else it is answered, or nothing is on: the flash stopped it, or the file could not be read.
+-- Where no bank is on nothing is sent. Else it is answered, or nothing is on: the flash stopped it, or the file could not be read.
 abbrev pub SendSays : Bool → (List ℕ → Bool) → Bool → Option Directory → List ℕ → ℕ → Option Fields → TurnMoment → Reply
     → Option Fields → TurnMoment → Type 0
 SendSays partial passes tells files name request None before r on now = (r ≡ reply.IsOff) × (on ≡ None)

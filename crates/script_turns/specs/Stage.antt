@@ -22,7 +22,7 @@ shown_on (stage.Off flash) = None
 shown_on (stage.Fresh fresh) = None
 shown_on (stage.On live) = on_where live.here (of_agent.fields live.agent)
 
--- whether it is one that has power
+-- whether its device has power, where the run goes on; a refused boot and a failed read of a file end it, and leave power
 abbrev pub has_power : {D : Type 0} {F : Ghosts D} → Stage D F → Bool
 has_power (stage.Off flash) = false
 has_power (stage.Fresh fresh) = true

@@ -1,13 +1,14 @@
--- What an armed loss counts of a turn, on any device. "Did nothing" says of each device, also of one that tells no content, that its
--- counts, its power and the armed loss stay, and that nothing was erased or programmed, where the device counts that. "Wrote
+-- What an armed loss counts of a turn, on any device. "Did nothing" says of each device, also of one that tells no content, that
+-- its counts, its power and the armed loss stay, and that nothing was erased or programmed, where the device counts that. "Wrote
 -- nothing" says of the armed loss alone that it stays.
-use Rattle.std.specs.Prelude.{◌≡◌, ◌⊎◌, ℕ, ◌+◌, ◌-◌, Bool, true, false, List, length, Option, Some, None, Result, Ok, Err, ⊤, IsFalse, ◌||◌}
+use Rattle.std.specs.Prelude.{◌≡◌, ◌⊎◌, ℕ, ◌+◌, ◌-◌, Bool, true, false, List, length, Option, Some, None, Result, Ok, Err, IsTrue}
+use Rattle.std.specs.Prelude.{⊤, IsFalse, ◌||◌}
 use Rattle.flash_core.specs.declared.flash.FlashStop.{FlashStop}
 use Rattle.flash_core.specs.declared.flash.FlashStop.TheVariants as flash_stop
 use Rattle.flash_core.specs.Counts.{ReachesNone, Rose, arming_kept}
 use Rattle.base_core.specs.Block.{block_bytes}
 use Rattle.host_io.specs.Contents.{Directory}
-use Rattle.fwu_formats.specs.{Layout.ImageRow, Package.Entry, Package.Toc}
+use Rattle.fwu_formats.specs.{Layout.ImageRow, Layout.find_image, Metadata.bit_at, Package.Entry, Package.Toc}
 use Rattle.slot_writer.specs.Writes.{SpendsArming, writes_to_append, writes_to_finish}
 use Rattle.agent_kept.specs.Kept.{handle_kept, part_at, size_of}
 use Rattle.agent_kept.specs.declared.parts.Handle.TheVariants as handle
@@ -60,6 +61,17 @@ pub record ReadTakes (r : Reply) (old new : TurnMoment) : Type 0 where
   pub armed : new.armed ≡ arming_kept (stop_told r) old.armed
   pub reached : ReachesNone (stop_told r) old.counts new.counts
 
+-- by the reply of a read: a refused one did nothing
+abbrev pub ReadsBy : Reply → TurnMoment → TurnMoment → Type 0
+ReadsBy (reply.Refused st) old new = SameDevice old new
+ReadsBy r old new = ReadTakes r old new
+
+-- what an acceptance wrote; where the image is accepted already, nothing was done
+pub record AcceptsBy (r : Reply) (f : Fields) (guid : List ℕ) (old new : TurnMoment) : Type 0 where
+  pub spent : ByReply r (StoresMeta f new.on old new) (SameDevice old new)
+  pub still : (image : ℕ) → find_image f.layout.rows guid ≡ Some image → IsTrue (bit_at f.meta.meta f.meta.meta.active image)
+      → SameDevice old new
+
 -- those of its begin, and of the copies of a partial one
 abbrev pub writes_before : Bool → Fields → Toc → ℕ
 writes_before false f toc = writes_to_begin f
@@ -91,20 +103,20 @@ SendTakes partial files name f (reply.BeginRefused st) old new = SameDevice old 
 SendTakes partial files name f reply.ReadFault old new = SameDevice old new ⊎ StopTakes partial files name f old new
 SendTakes partial files name f other old new = ⊤
 
--- By what the agent kept: the calls that are not named did nothing. Nor did a refused one, but that a refused going back may have
--- read the flash. A begin stores the metadata, or writes nothing where the update bank was invalid already. A partial one writes
--- each image that is copied besides. An end is a switch: an erase of the marks, or none, and a store. What a boot takes stands
--- beside its end, in `BootsAs`.
+-- By what the agent kept: the calls that are not named did nothing. Nor did one that is answered `Refused`, but a going back, which
+-- may have read the flash. A begin stores the metadata, or writes nothing where the update bank was invalid already. A partial one
+-- writes each image that is copied besides. An end is a switch: an erase of the marks, or none, and a store. What a boot takes
+-- stands beside its end, in `BootsAs`.
 abbrev pub TakesOn : Option Directory → Call → Fields → TurnMoment → Reply → TurnMoment → Type 0
 TakesOn files (call.Begin n) f old r new =
     ByReply r (TakesWrites (writes_to_begin f) old.armed new.armed) (SameDevice old new)
 TakesOn files (call.BeginPartial types) f old r new = ByReply r (TakesWrites (writes_to_begin f
     + writes_to_copy (are_named f.layout.rows types) f.lengths (length f.layout.rows)) old.armed new.armed) (SameDevice old new)
 TakesOn files (call.Write number bytes) f old r new = WritesBy r f number bytes old new
-TakesOn files (call.Read number room) f old r new = ReadTakes r old new
+TakesOn files (call.Read number room) f old r new = ReadsBy r old new
 TakesOn files (call.Commit number request) f old r new = CommitsBy r f number old new
 TakesOn files call.End f old r new = ByReply r (TakesSwitch old.armed new.armed) (SameDevice old new)
-TakesOn files (call.Accepts guid) f old r new = ByReply r (StoresMeta f new.on old new) (SameDevice old new)
+TakesOn files (call.Accepts guid) f old r new = AcceptsBy r f guid old new
 TakesOn files call.Previous f old r new =
     ByReply r (StoresMeta f new.on old new) ((new.armed ≡ old.armed) × (new.writes ≡ old.writes))
 TakesOn files (call.Send name request) f old r new = SendTakes false files name f r old new
@@ -113,12 +125,12 @@ TakesOn files call.Boot f old r new = ⊤
 TakesOn files (call.Cut n k) f old r new = ⊤
 TakesOn files other f old r new = SameDevice old new
 
--- and no flash that is off is touched but by a boot and a `cut`
+-- and where no bank is on, nothing is done but by a boot and a `cut`
 abbrev pub TakesBy : Option Directory → Call → Option Fields → TurnMoment → Reply → TurnMoment → Type 0
 TakesBy files c None old r new = IsFalse (is_boot c || is_cut c) → SameDevice old new
 TakesBy files c (Some f) old r new = TakesOn files c f old r new
 
--- and a file that is not there, or could not be read before anything was sent, leaves the device as it is
+-- and a read that failed without a fault of the files leaves the device as it is
 pub record TakesTurn (files : Option Directory) (c : Call) (old : TurnMoment) (r : Reply) (new : TurnMoment)
     (was are : ℕ) : Type 0 where
   pub by_call : TakesBy files c old.on old r new

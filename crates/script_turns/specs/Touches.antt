@@ -17,7 +17,7 @@ pub record TouchesByBoot (old new : ℕ → ℕ) : Type 0 where
   pub front : TouchesOnly block_bytes (block_bytes * 7) old new
   pub marks_still : new counter_block ≡ old counter_block
 
--- A boot touches these, whatever was on, and where no bank was started no other call touches any. Where one was, a call of the
+-- A boot touches these, whatever was on, and where no bank is on no other call touches any. Where one is, a call of the
 -- agent touches only the metadata, the marks of the starts on trial and the bank behind the one that was started. That bank it
 -- touches only where the one that was started is active, or by calls in a row. A show, a cut and a request for no call touch
 -- nothing.

@@ -62,12 +62,13 @@ pub record Turns (passes : List ℕ → Bool) (tells : Bool) (files : Option Dir
   pub keeps : IsTrue tells → (f : Fields) → old.on ≡ Some f → IsFalse (is_boot c) → KeepsSparedByAll f old.told new.told
   pub spares : IsTrue tells → (f : Fields) → old.on ≡ Some f → IsFalse (is_boot c) → IsFalse (is_composed c)
       → KeepsSpared f old.told new.told
-  -- on any flash, at any exit of a call of the agent that is not composed: which metadata decides in what a loss leaves
+  -- On a flash at rest whose replicas both hold what the agent kept, at any exit of a call of the agent that is not composed: which
+  -- metadata decides in what a loss leaves.
   pub decides : IsTrue tells → (f : Fields) → old.on ≡ Some f → IsTrue (is_agents c) → IsFalse (is_composed c)
       → DecidesAfter c f old.told new.told
-  -- on any flash no loss harms what is in use
+  -- on any flash: where no loss harmed what is in use before the turn, none does after it
   pub safe : IsTrue tells → IsSafe old.power old.told → IsSafe new.power new.told
-  -- a boot of a flash that is off and has nothing dirty goes by its bytes, and the other calls leave these
+  -- a boot where no bank is on and nothing is dirty goes by the bytes
   pub boots : IsTrue tells → old.on ≡ None → NothingDirty old.told → c ≡ call.Boot → BootsFrom passes old.told.now t.reply
 
 -- ---- a boot of a flash that is on

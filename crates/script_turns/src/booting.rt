@@ -107,7 +107,7 @@ fn turned_by<D: Flash>(end: BootEnd<D>) -> Booting<D>
     }
 }
 
-/// Power comes back to a flash that is off, on which no bank was started.
+/// Power comes back to a flash that is off, on which no bank is on.
 fn powered_on<D: Flash>(flash: D) -> D
     requires { IsFalse (D.on flash) }
     ensures power { IsTrue (D.on result) }

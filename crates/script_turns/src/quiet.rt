@@ -34,7 +34,7 @@ fn numbers_of<D: Flash>(agent: &Agent<D>) -> Numbers
     }
 }
 
-/// What `show` answers: the numbers, or `off` where no bank was started.
+/// What `show` answers: the numbers, or `off` where no bank is on.
 fn shown_by<D: Flash>(stage: &Stage<D>) -> Reply
     ensures value { reply result ≡ show_reply (shown_on stage.now) }
     ensures short { IsShortReply (reply result) }
@@ -54,7 +54,7 @@ pub(crate) fn show_turn<D: Flash>(stage: &Stage<D>) -> Turn
     turn_of(Call::Show, shown_by(stage))
 }
 
-/// What a request for no call is answered: nothing is done, but a bank must have been started.
+/// What a request for no call is answered: nothing is done, but a bank must be on.
 fn not_understood<D: Flash>(stage: &Stage<D>) -> Reply
     ensures value { reply result ≡ no_call_reply (shown_on stage.now) }
     ensures short { IsShortReply (reply result) }

@@ -157,8 +157,8 @@ fn send_partial_by<D: Flash, H: Files, V: Verifier>(
     sent_turn(Call::SendPartial { name, request }, &sent, true)
 }
 
-/// The turn of `send` on a flash whose bank was started: the package or the capsule of this name is sent.
-/// Each write has 4096 bytes. Of a partial one the images that the file lacks are those of the active bank.
+/// The turn of `send` where a bank is on: the package or capsule of this name is sent. Of a partial one the images that it lacks
+/// are the active bank's. An armed loss counts its writes as pieces of 4096 bytes, or less at an image's end.
 pub(crate) fn send_turn<D: Flash, H: Files, V: Verifier>(
     agent: &mut Agent<D>,
     name: String,

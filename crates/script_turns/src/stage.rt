@@ -18,9 +18,8 @@ pub struct Fresh<D: Flash> {
     ghost clean: { IsTrue D.tells → NothingDirty (D.told flash) },
 }
 
-/// A flash on which a bank was started, with its agent. A turn that was stopped ends the agent, which then lies there until the
-/// flash boots again. Until then no stop of the flash has ended it, and it shows some machine; what it shows stands on a flash that
-/// tells its content.
+/// A flash on which a bank was started, with its agent, which lies there also where a turn has ended it. While `here`, no stop of
+/// the flash has ended it, it shows some machine, and what it shows stands on a flash that tells its content.
 #[derive(Drop)]
 pub struct Live<D: Flash> {
     pub agent: Agent<D>,
@@ -33,7 +32,7 @@ pub struct Live<D: Flash> {
         → IsShown (fields agent).layout (D.told (agent_device agent)).now s },
 }
 
-/// A flash between two turns: off, or on before the first boot, or with a bank that was started.
+/// A flash between two turns: off or behind a refused boot, on before the first boot, or with a bank that was started.
 #[derive(Drop)]
 pub enum Stage<D: Flash> {
     Off(D),

@@ -76,7 +76,7 @@ fn capsule_table<H: Files>(files: &mut H, name: &str) -> Result<Toc, TableStop>
 }
 
 /// The table that a file is sent by: what begins with the UUID of capsules is read as one, and any other file as a package. The
-/// error is the file's first fault, or that a read failed. Nothing here takes memory.
+/// error is a fault, of a told file its first, or that a read failed or no file has the name. Nothing here takes memory.
 pub fn read_table<H: Files>(files: &mut H, name: &str) -> Result<Toc, TableStop>
     ensures { ReadsTable H.Files table_in name.now result files.old files.new }
 {

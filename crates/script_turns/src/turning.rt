@@ -141,9 +141,8 @@ fn boot_in<D: Flash, V: Verifier>(powered: &mut Powered<D>, verifier: &V) -> Tur
     turn
 }
 
-/// Does a call. `boot` brings power back where it is off; where it is on, the flash boots again as it reads now. `cut` arms the
-/// flash, on or off, and `show` tells its numbers. The others are calls of the agent of the bank that was started, and `send` makes
-/// many of them; where no bank was started all these are answered `off`.
+/// Does a call. `boot` brings power back where it is off, and boots the flash as it reads now; `cut` arms it, on or off. Where no
+/// bank is on the others answer `off`. Else `show` tells its numbers, `NoCall` asks no agent, and the rest ask the bank's.
 pub fn turn<D: Flash, H: Files, V: Verifier>(
     alloc: Global,
     powered: &mut Powered<D>,

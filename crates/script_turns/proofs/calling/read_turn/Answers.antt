@@ -3,8 +3,9 @@ use Rattle.std.proofs.lemmas.List.{take_at}
 use Rattle.fwu_model.specs.Call as call
 use Rattle.fwu_model.specs.Reply as reply
 use Rattle.agent_machine.specs.declared.stop.Stop.{Stop}
+use Rattle.agent_calls.specs.Shown.{device}
 use Rattle.script_turns.specs.Turning.{quiet_turn}
-use Rattle.script_turns.proofs.{CallTakes.got, CallTakes.reads-by, Called.called-read, Called.never-gone, Called.turns-by}
+use Rattle.script_turns.proofs.{CallTakes.got, CallTakes.reads-by, CallTakes.same-device, Called.called-read, Called.never-gone, Called.turns-by}
 use Rattle.script_turns.proofs.calling.read_turn.Goals as goal
 
 -- what is left of the buffer
@@ -40,4 +41,4 @@ returns-in-Err-clause-turns g c passes =
     turns-by a b c.refused.result result live h.goes (got out) passes (call.Read c.args.handle c.args.room)
     c.refused.ensures.turn c.refused.ensures.here h.records.metadata
     (called-read g.D.Flash.tells result passes c.args.handle c.args.room out _ _ refl here tt (rw room at (h.meets live passes)))
-    (λ files. reads-by result out _ _ h.reads.writes h.reads.arming h.reads.reached)
+    (λ files. reads-by result out _ _ h.reads.writes h.reads.arming h.reads.reached (λ is. same-device a b _ _ (ap device (h.refused is))))
