@@ -139,14 +139,14 @@ struct fwu_step {
 struct fwu_report {
     uint32_t bank;                     /* at 0: the bank that is to be started */
     uint32_t version;                  /* at 0: the security version of its package */
-    uint32_t trials;                   /* at 0: starts of the active bank on trial, this one counted; 0 if not on trial */
+    uint32_t trials;                   /* at 0: starts of the active bank on trial, this one too if it is of that bank; else 0 */
     uint32_t counter;                  /* at 0: the anti-rollback counter, after the steps */
     uint32_t fallback;                 /* at 0: 1 where it is the previous bank in place of the active one, else 0 */
     uint32_t active;                   /* at 0 and 3: the active bank */
     uint32_t previous;                 /* at 0 and 3: the bank that was active before */
     uint32_t layout_fault;             /* at 1: enum fwu_layout_fault */
     uint32_t images;                   /* at 0: how many images the bank has, 2 to 16 */
-    uint32_t lengths[FWU_MOST_IMAGES]; /* at 0: the bytes of each image, in the order of the layout */
+    uint32_t lengths[FWU_MOST_IMAGES]; /* at 0: the bytes of each image, in the order of the layout; 0 behind them */
     uint32_t steps;                    /* how many steps are told */
     uint32_t bytes;                    /* how many bytes of the room are theirs: as many as the programs have */
 };
@@ -176,13 +176,13 @@ FWU_ASSERT(sizeof(struct fwu_report) == 108 && offsetof(struct fwu_report, lengt
  * is until the steps are done.
  *
  * 0: once all steps are done, in their order, the next boot tries the package first. 1 to 3: no bank may be started, as fwu_boot
- * says. 5, 16 to 19: nothing is installed. The steps that are told then needn't be done; to do the first ones of them harms no bank
- * in use. Where the active bank is on trial no step is told, since a boot would count one more start of it. 6 and 7: nothing is
- * written, as fwu_boot says.
+ * says. 5, 16 to 19: nothing is installed where none of the steps is done, and none of them need be; at 5 all of them may install
+ * it. No step meets the bank that the boot starts. Where the active bank is on trial no step is told, since a boot would count one
+ * more start of it. 6 and 7: nothing is written, as fwu_boot says.
  *
- * What the report says at 0 and 16 to 19 is what fwu_boot says at 0, of the bank that runs. Where the active bank is on trial,
- * only `steps` and `bytes` are written, as 0. At 5 it is what it is at 0 where the boot in it started a bank, and else nothing but
- * `steps` and `bytes`. */
+ * What the report says at 0 and 16 to 19 is what fwu_boot says at 0, of the bank that the boot in it starts, which need not be the
+ * one that runs. Where the active bank is on trial, only `steps` and `bytes` are written, as 0. At 5 it is what it is at 0 where
+ * the boot in it started a bank, and else nothing but `steps` and `bytes`. */
 uint32_t fwu_update(const uint8_t *flash, size_t length, const uint8_t *package, size_t bytes, uint32_t acceptance,
                     struct fwu_step *steps, size_t most, uint8_t *room, size_t size, struct fwu_report *report);
 

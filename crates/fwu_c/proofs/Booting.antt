@@ -1,16 +1,16 @@
 -- A boot, by what its device tells and by its steps.
 use Rattle.std.proofs.Common.{◌≡◌, ◌∙◌, ◌⊎◌, ◌≤◌, ◌*◌, refl, ap, sym, subst, ℕ, true, List, [], length, arith}
 use Rattle.std.proofs.Common.{None}
-use Rattle.std.specs.Prelude.{All, IsTrue}
+use Rattle.std.specs.Prelude.{All, IsFalse, IsTrue, take}
 use Rattle.base_core.specs.Block.{block_bytes}
 use Rattle.flash_core.specs.{Told.Told, Told.fresh, Touches.TouchesOnly, Counts.Spends}
 use Rattle.fwu_formats.specs.{Digests.passes_any, Places.counter_block, Places.first_record}
 use Rattle.early_boot.specs.{Started.Started, EndsBy.BootEnds, EndsBy.EndsByBytes, EndsBy.TouchesBoot}
 use Rattle.early_boot.specs.Ends.{Ended, booted, bad_layout, no_metadata, no_bank, lost, failed, stop_of}
 use Rattle.step_flash.specs.{declared.flash.StepFlash.StepFlash, declared.step.Step.Step, Guard.guard_with, Guard.start_with}
-use Rattle.step_flash.specs.{Device.LieAsCounted, Writes.LiesBeside, Stopped.under_as, Steps.run_with}
-use Rattle.step_flash.specs.Flash.{block_count, counts_of, device_in, is_on, told_of, image_of, package_of, writes_of}
-use Rattle.step_flash.proofs.{Causes.never_lost, Guards.by_guard}
+use Rattle.step_flash.specs.{Device.LieAsCounted, Writes.LiesBeside, Writes.writes_in, Stopped.under_as, Steps.run_with}
+use Rattle.step_flash.specs.Flash.{block_count, counts_of, device_in, is_on, told_of, image_of, package_of, steps_of, writes_of}
+use Rattle.step_flash.proofs.{Causes.never_lost, Guards.by_guard, Places.none_met}
 use Rattle.fwu_c.specs.{declared.report.Report.Report, Boots.BootsBy, Codes.end_code}
 use Rattle.fwu_c.specs.Handed.{HandsOver, HasFlashSize, IsDeviceEnd, IsJustMade, IsMadeBy, boot_reach, is_idle_number}
 use Rattle.fwu_c.specs.Reports.{ReportsEnd, ReportsStart, SameBut}
@@ -90,12 +90,32 @@ pub beside_marks_by : (d : StepFlash) (steps : List Step) → LieAsCounted (devi
 beside_marks_by d steps lie still = lie.beside counter_block first_record (omega arith) (λ k low high.
     let is : k ≡ counter_block = omega (arith, low, high) in ap (λ n. writes_of d n) is ∙ still)
 
+-- ---- what is counted
+
+none_counted : (steps : List Step) → steps ≡ [] → writes_in steps ≡ (λ k. 0)
+none_counted steps empty = ap writes_in empty ∙ (λ i k. none_met k i)
+
+-- the steps of a boot, where those that are told are the device's, or none with an idle number
+pub boot_counts : (e : Ended) (first d : StepFlash) (number : ℕ) (steps : List Step) → number ≡ end_code e → ((k : ℕ) → writes_of first k ≡ 0)
+    → TouchesBoot e (writes_of first) (writes_of d) → (IsFalse (is_idle_number number) → steps ≡ steps_of d)
+    → (IsTrue (is_idle_number number) → steps ≡ []) → TouchesBoot e (λ k. 0) (writes_in steps)
+boot_counts (bad_layout f) first d number steps is none touches given empty = none_counted steps (empty (rw is refl))
+boot_counts no_metadata first d number steps is none touches given empty = none_counted steps (empty (rw is refl))
+boot_counts e first d number steps is none touches given empty =
+    subst (λ (w : ℕ → ℕ). TouchesBoot e w (writes_in steps)) (λ i k. none k i)
+    (subst (λ (w : ℕ → ℕ). TouchesBoot e (writes_of first) w) (sym (ap writes_in (given (rw is refl)))) touches)
+
+-- as many are told
+pub none_taken : {X : Type 0} (n : ℕ) (xs : List X) → n ≡ 0 → take n xs ≡ []
+none_taken n xs zero = rw zero refl
+
 pub boots_by : (first d : StepFlash) (e : Ended) (number : ℕ) (old told r : Report) (steps : List Step) (room : List ℕ)
     → IsJustMade [] first → BootEnds (λ m. passes_any m) (told_of first) e (told_of d)
     → HandsOver d told r steps room → TouchesOnly block_bytes boot_reach (writes_of first) (writes_of d)
     → TouchesBoot e (writes_of first) (writes_of d) → number ≡ end_code e → ReportsEnd e old told
+    → (IsFalse (is_idle_number number) → take r.steps steps ≡ steps_of d) → (IsTrue (is_idle_number number) → r.steps ≡ 0)
     → BootsBy (image_of first) number old r steps room
-boots_by first d e number old told r steps room made ends hands touches fewer is reports =
+boots_by first d e number old told r steps room made ends hands touches fewer is reports counted idle =
     let guard = guard_kept (told_of first) (told_of d) e ends.by_bytes in
     record {
       end = e;
@@ -106,6 +126,8 @@ boots_by first d e number old told r steps room made ends hands touches fewer is
       places = hands.lie.places 1 7 (counted_from_none block_bytes boot_reach made.unwritten touches);
       beside_marks = beside_marks_by d _ hands.lie
           (boot-spares e (writes_of first) (writes_of d) fewer ∙ made.unwritten counter_block);
+      touches_fewer = boot_counts e first d number (take r.steps steps) is made.unwritten fewer counted
+          (λ none. none_taken r.steps steps (idle none));
       reports = end_same e old told r hands.same reports;
     }
 

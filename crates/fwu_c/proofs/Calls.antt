@@ -1,14 +1,17 @@
 -- A call behind a boot of a bank, by what the device tells before it and after it, and by its steps.
-use Rattle.std.proofs.Common.{[], ◌≡◌, ◌∙◌, ◌⊎◌, inl, inr, refl, sym, subst, ℕ, ◌++◌, ◌≤◌, Bool, true, false, List, None, Result, Ok, Err, arith, IsFalse, IsTrue}
-use Rattle.std.specs.Prelude.{IsErrOf, OnOk, is_ok, ⊤}
+use Rattle.std.proofs.Common.{[], ◌≡◌, ◌∙◌, ◌⊎◌, inl, inr, cond, refl, ap, sym, subst, ℕ, ◌++◌, ◌≤◌, Bool, true, false, List, None, Result, Ok, Err, arith, IsFalse, IsTrue}
+use Rattle.std.specs.Prelude.{IsErrOf, OnOk, Some, is_ok, ⊤}
 use Rattle.base_core.specs.Block.{block_bytes}
 use Rattle.base_core.proofs.Results.{same-Ok}
 use Rattle.flash_core.specs.{Told.Told, May.Guards, Touches.TouchesOnly, Counts.Spends}
 use Rattle.flash_core.proofs.Touches.{touches_none, touches_then}
 use Rattle.flash_core.specs.declared.flash.FlashStop.TheVariants as flash_stop
-use Rattle.fwu_formats.specs.{Digests.passes_any, Image.layout_seen, Layout.Layout, declared.kinds.LayoutFault.LayoutFault}
+use Rattle.fwu_formats.specs.{Digests.passes_any, Image.layout_seen, Layout.Layout, Layout.find_image, declared.kinds.LayoutFault.LayoutFault}
+use Rattle.fwu_formats.specs.Metadata.{Meta, MetaRead, bit_at}
 use Rattle.fwu_model.specs.{State.State, State.after, Sound.Setting, Call.Call, Reply.Reply}
-use Rattle.fwu_model.specs.{Reply.Success, Answer.answer, Answer.migrate_moves, Calm.IsCalm}
+use Rattle.fwu_model.specs.{Reply.Success, Answer.answer, Answer.migrate_moves, Calm.IsCalm, MoveMetas.meta_after, Replica.Decides}
+use Rattle.fwu_model.specs.Call as call
+use Rattle.fwu_model.specs.State as move
 use Rattle.fwu_model.specs.Session.{Session, On, no_handles}
 use Rattle.fwu_model.specs.declared.kinds.Status.TheVariants as status
 use Rattle.moves.specs.Moved.{Does, IsShown}
@@ -18,14 +21,16 @@ use Rattle.early_boot.specs.TakenUp.{TakenUp, TakesByBytes, taken, bad_layout, n
 use Rattle.agent_machine.specs.{declared.stop.Stop.Stop, Moment.Moment, Moment.Shows, Fields.Fields}
 use Rattle.agent_machine.specs.Meets.{Answers, GoesBy, IsDone, IsRefused, IsSettingOf, IsStopped, LeavesFlash, ShowsNext, flash_result}
 use Rattle.agent_machine.specs.Beside.{IsSparedByAll, KeepsSparedByAll, KeepsWhere}
+use Rattle.agent_machine.specs.Deciding.{KeepsOldOrNew}
 use Rattle.agent_machine.specs.declared.stop.Stop.TheVariants as stop
-use Rattle.agent_machine.proofs.Beside.{spared-once}
-use Rattle.agent_calls.specs.Started.{StartsFrom}
+use Rattle.agent_machine.proofs.{Beside.spared-once, Deciding.decides-same}
+use Rattle.agent_calls.specs.{Started.StartsFrom, Metas.meta_back}
+use Rattle.agent_calls.specs.Metas as agent
 use Rattle.step_flash.specs.{declared.step.Step.Step, declared.flash.StepFlash.StepFlash, Guard.start_with}
 use Rattle.step_flash.specs.Flash.{counts_of, image_of, told_of, writes_of}
 use Rattle.step_flash.proofs.Causes.{never_lost}
 use Rattle.fwu_c.specs.{Agents.MovesByAnswer, Reports.SameBut, declared.report.Report.Report}
-use Rattle.fwu_c.specs.Calls.{CallEnds, CallsBy, CallsFrom, IsAccepted, RepliesAs, ReportsTakeUp, TakesUp, call_code, take_up_code}
+use Rattle.fwu_c.specs.Calls.{CallEnds, CallsBy, CallsFrom, IsAccepted, RepliesAs, ReportsTakeUp, TakesUp, call_code, meta_accepted, meta_made, take_up_code}
 use Rattle.fwu_c.specs.Handed.{HandsOver, IsJustMade, IsDeviceEnd, call_reach, is_idle_number}
 use Rattle.fwu_c.proofs.Telling.{starts_none}
 use Rattle.fwu_c.proofs.Booting.{counted_from_none, over, same_then, start_same}
@@ -109,6 +114,51 @@ pub spared-of : (L : Layout) (bank : ℕ) (f : Fields) (s t : Told) → f.layout
 spared-of L bank f s t layout boot kept =
     rw (layout, boot) at kept
 
+-- ---- which metadata decides
+
+-- one of two decides; and where the second is the first, or a third one, the first or the third does
+decides_made : (L : Layout) (r made new : MetaRead) (s t : Told) → (new ≡ r) ⊎ (new ≡ made) → KeepsOldOrNew L r new s t → KeepsOldOrNew L r made s t
+decides_made L r made new s t (inl same) kept = λ rest both image may. elim (kept rest both image may) [
+  | inl first ↦ inl first
+  | inr second ↦ inl (second ∙ ap (λ (m : MetaRead). Some m) same)
+]
+decides_made L r made new s t (inr is) kept = λ rest both image may. subst (λ (m : MetaRead). Decides L r m image) is (kept rest both image may)
+
+-- in the words of the boot that an agent started from
+decides_of : (L : Layout) (r made : MetaRead) (f : Fields) (new : MetaRead) (s t : Told) → f.layout ≡ L → f.meta ≡ r → (new ≡ r) ⊎ (new ≡ made)
+    → KeepsOldOrNew f.layout f.meta new s t → KeepsOldOrNew L r made s t
+decides_of L r made f new s t layout meta is kept = decides_made L r made new s t is (rw (layout, meta) at kept)
+
+-- where nothing was done the old one does
+decides_by : (c : Call) (b : Started) (result : Result (Unit {0}) Stop) (f : Fields) (new : MetaRead) (s t : Told) → IsStepResult result → StartsFrom b f
+    → (IsRefused result → t ≡ s) → (IsDone result → (new ≡ b.meta) ⊎ (new ≡ meta_made c b)) → KeepsOldOrNew f.layout f.meta new s t
+    → KeepsOldOrNew b.layout b.meta (meta_made c b) s t
+decides_by c b (Err (stop.Status st)) f new s t is from refused done kept = decides-same b.layout b.meta (meta_made c b) s t (refused tt)
+decides_by c b (Err stop.Gone) f new s t is from refused done kept = absurd is
+decides_by c b result f new s t is from refused done kept =
+    decides_of b.layout b.meta (meta_made c b) f new s t from.layout from.meta (done tt) kept
+
+-- ---- the metadata that an agent keeps
+
+set_or_same : (set : Bool) (r : MetaRead) (later : Meta)
+    → (record r { meta = cond set r.meta later } ≡ r) ⊎ (record r { meta = cond set r.meta later } ≡ record r { meta = later })
+set_or_same true r later = inl refl
+set_or_same false r later = inr refl
+
+pub accepts_meta : (guid : List ℕ) (b : Started) (f : Fields) (image : ℕ) (m : MetaRead) → StartsFrom b f → find_image f.layout.rows guid ≡ Some image
+    → m ≡ agent.meta_accepted f image → (m ≡ b.meta) ⊎ (m ≡ meta_made (call.Accepts guid) b)
+accepts_meta guid b f image m from found is =
+    let here : find_image b.layout.rows guid ≡ Some image = rw from.layout at found in
+    let now = rw from.meta at is in
+    elim (set_or_same (bit_at b.meta.meta b.meta.meta.active image) b.meta (meta_after b.meta.meta (move.Accept image))) [
+      | inl same ↦ inl (now ∙ same)
+      | inr later ↦ inr (now ∙ later ∙ sym (ap (meta_accepted b.meta) here))
+    ]
+
+pub back_meta : (b : Started) (f : Fields) (m : MetaRead) → StartsFrom b f → (m ≡ f.meta) ⊎ (m ≡ meta_back f)
+    → (m ≡ b.meta) ⊎ (m ≡ meta_made call.Previous b)
+back_meta b f m from either = rw from.meta at either
+
 module _ (E : Setting) (s : State) (x : Session) (c : Call) (new : Moment) where
   reply_by : (result : Result (Unit {0}) Stop) → IsStepResult result → Answers (λ (value : Unit {0}) (reply : Reply). reply ≡ Success) result E s x c new → RepliesAs result (answer E s x c).reply
   reply_by (Err stop.Lost) is by = absurd is
@@ -129,7 +179,8 @@ module _ (c : Call) (b : Started) (result : Result (Unit {0}) Stop) (old new : M
     (leaves : LeavesFlash (flash_result result) (λ m. passes_any m) c old new)
     (starts : (s : State) → IsShown old.fields.layout old.told.now s → Shows old s (started_session b))
     (sees : is_ok (flash_result result) ≡ true → (s : State) (x : Session) → Shows new s x → IsShown new.fields.layout new.told.now s)
-    (refused : IsRefused result → new.told ≡ old.told) (again : IsAccepted c b → new.told ≡ old.told) where
+    (refused : IsRefused result → new.told ≡ old.told) (again : IsAccepted c b → new.told ≡ old.told)
+    (metadata : IsDone result → (new.fields.meta ≡ b.meta) ⊎ (new.fields.meta ≡ meta_made c b)) where
   pub calls_from : CallsFrom c b result old.told new.told
   calls_from = record {
     answers = λ E s same passes shown.
@@ -149,6 +200,7 @@ module _ (c : Call) (b : Started) (result : Result (Unit {0}) Stop) (old new : M
     refused = refused;
     again = again;
     keeps = spared-of b.layout b.bank old.fields old.told new.told from.layout from.boot (spared-once old.fields old.told new.told (leaves.keeps tells));
+    decides = decides_by c b result old.fields new.fields.meta old.told new.told is from refused metadata (leaves.decides tells);
   }
 
 -- which blocks a call touches, by how it ended

@@ -1,5 +1,5 @@
 -- Where the steps of an update lie, by what its boot and its sending count.
-use Rattle.std.proofs.Common.{◌≡◌, ◌≢◌, ◌∙◌, inl, inr, ℕ, ◌+◌, ◌*◌, ◌%◌, ◌<◌, ◌≤◌, IsTrue, arith}
+use Rattle.std.proofs.Common.{◌≡◌, ◌≢◌, ◌⊎◌, ◌∙◌, inl, inr, All, List, ℕ, ◌+◌, ◌*◌, ◌%◌, ◌<◌, ◌≤◌, IsTrue, arith}
 use Rattle.std.proofs.lemmas.Bool.{cases_lt}
 use Rattle.std.proofs.Math.Nat.{mod-lt}
 use Rattle.base_core.specs.Block.{block_bytes}
@@ -11,6 +11,7 @@ use Rattle.moves.proofs.Staged.{banks-order}
 use Rattle.image_check.proofs.OfBank.{some_blocks}
 use Rattle.agent_machine.specs.Beside.{IsBesideBank, IsSparedByAll}
 use Rattle.step_flash.specs.{declared.flash.StepFlash.StepFlash, Flash.block_count, Flash.writes_of}
+use Rattle.step_flash.specs.{declared.step.Step.Step, Writes.LiesBeside, Writes.LiesWithin}
 use Rattle.step_flash.proofs.Places.{none_behind}
 use Rattle.fwu_c.specs.Handed.{boot_reach}
 
@@ -21,9 +22,30 @@ other-follows banks bank two = elim (cases_lt bank banks) [
   | inr behind ↦ λ same. let less : (bank + 1) % banks < banks = mod-lt (bank + 1) (omega (arith, two)) in omega (arith, less, same, behind)
 ]
 
+-- the bank behind one
+abbrev pub update-bank : Layout → ℕ → ℕ
+update-bank L bank = (bank + 1) % L.banks
+
+-- a bank begins behind block 6
+pub behind-front : (L : Layout) (bank : ℕ) → 7 < start L bank 0
+behind-front L bank = omega arith
+
+-- steps that lie before the end of a bank, and beside what is between block 6 and the bank
+pub either-place : (L : Layout) (bank : ℕ) (steps : List Step) → All (LiesWithin block_bytes (block_bytes * start L (bank + 1) 0)) steps
+    → All (LiesBeside boot_reach (block_bytes * start L bank 0)) steps
+    → All (λ s. LiesWithin block_bytes boot_reach s ⊎ LiesWithin (block_bytes * start L bank 0) (block_bytes * start L (bank + 1) 0) s) steps
+either-place L bank steps within beside = λ k d lt. elim (within k d lt) [
+  | inl barrier ↦ inl (inl barrier)
+  | inr place ↦ elim (beside k d lt) [
+    | inl barrier ↦ inl (inl barrier)
+    | inr (inl low) ↦ inl (inr (place.0, low))
+    | inr (inr high) ↦ inr (inr (high, place.1))
+  ]
+]
+
 module _ (L : Layout) (bank : ℕ) (fits : IsTrue (fits_layout L)) where
   abbrev next : ℕ
-  next = (bank + 1) % L.banks
+  next = update-bank L bank
 
   two : 2 ≤ L.banks
   two = (limits L fits).fewest_banks
@@ -62,6 +84,17 @@ module _ (L : Layout) (bank : ℕ) (fits : IsTrue (fits_layout L)) where
     pub in-use-unwritten : (k : ℕ) → start L bank 0 ≤ k → k < start L (bank + 1) 0 → writes_of d k ≡ 0
     in-use-unwritten k above below =
         sent k (in-use-spared k above below) ∙ booted k (inr (omega (arith, above))) ∙ none k
+
+    -- nor one between block 6 and the bank behind it
+    pub between-unwritten : (k : ℕ) → 7 ≤ k → k < start L next 0 → writes_of d k ≡ 0
+    between-unwritten k above below =
+        sent k (inr (omega (arith, above)), inl (omega (arith, below))) ∙ booted k (inr (omega (arith, above))) ∙ none k
+
+    -- nor block 0, nor one behind that bank
+    pub behind-untouched : TouchesOnly block_bytes (block_bytes * start L (next + 1) 0) (λ b. 0) (writes_of d)
+    behind-untouched k (inl low) =
+        let zero : k ≡ 0 = omega (arith, low) in sent k (layout-spared k zero) ∙ booted k (inl (omega (arith, low))) ∙ none k
+    behind-untouched k (inr high) = sent k (inr (omega (arith, high)), inr high) ∙ booted k (inr (omega (arith, high))) ∙ none k
 
     -- nor block 0
     pub update-touches : TouchesOnly block_bytes (block_bytes * block_count d) (λ b. 0) (writes_of d)

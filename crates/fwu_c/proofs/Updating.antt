@@ -11,19 +11,20 @@ use Rattle.fwu_model.specs.State.{State, Numbers, Bank, bank, no_bank, numbers_o
 use Rattle.fwu_model.specs.Seen.{seen}
 use Rattle.moves.specs.Moved.{IsShown}
 use Rattle.moves.proofs.Agree.{layout-kept}
-use Rattle.early_boot.specs.{Numbers.ShowsNumbers, Started.Started, Ends.Ended, Ends.booted, EndsBy.BootEnds}
+use Rattle.early_boot.specs.{Numbers.ShowsNumbers, Started.Started, Ends.Ended, Ends.booted, EndsBy.BootEnds, EndsBy.TouchesBoot}
+use Rattle.early_boot.proofs.Touching.{boot-spares}
 use Rattle.step_flash.specs.{declared.step.Step.Step, declared.flash.StepFlash.StepFlash, Flash.block_count, Flash.image_of}
-use Rattle.step_flash.specs.{Flash.told_of, Flash.writes_of, Guard.start_with, Writes.LiesWithin}
+use Rattle.step_flash.specs.{Flash.steps_of, Flash.told_of, Flash.writes_of, Guard.start_with, Writes.LiesWithin, Writes.writes_in}
 use Rattle.fwu_c.specs.{declared.report.Report.Report, Agents.BeginsAgent, Codes.end_code}
-use Rattle.fwu_c.specs.Handed.{HandsOver, IsJustMade, HasFlashSize, IsDeviceEnd, TellsSteps, boot_reach}
+use Rattle.fwu_c.specs.Handed.{HandsOver, IsJustMade, HasFlashSize, IsDeviceEnd, TellsSteps, boot_reach, is_idle_number}
 use Rattle.fwu_c.specs.Sendings.{InstallsBy, SendOutcome, outcome_code}
-use Rattle.fwu_c.specs.Updates.{BootsUp, IsOnTrial, SparesInUse, UpdateEnds, UpdatesBy}
+use Rattle.fwu_c.specs.Updates.{BootsUp, IsOnTrial, LiesInUpdate, SparesInUse, TouchesUpdate, UpdateEnds, UpdatesBy}
 use Rattle.update_client.specs.declared.stops.SendStop.TheVariants.{ReadFailed}
 use Rattle.agent_machine.specs.{Moment.Moment, Beside.IsSparedByAll, Beside.SparesBlocksByAll}
 use Rattle.fwu_formats.proofs.Read.{layout-fits}
 use Rattle.fwu_c.proofs.{Calls.setting_of, Telling.keeps_fault, Telling.lie_further, Telling.starts_none, Telling.told_handed}
-use Rattle.fwu_c.proofs.Places.{has-blocks, in-use-unwritten, marks-spared, update-touches}
-use Rattle.fwu_c.proofs.Booting.{beside_marks_by, code_few, counted_from_none, end_same, guard_kept, lies_over, over}
+use Rattle.fwu_c.proofs.Places.{behind-front, behind-untouched, between-unwritten, either-place, has-blocks, in-use-unwritten, marks-spared, update-bank, update-touches}
+use Rattle.fwu_c.proofs.Booting.{beside_marks_by, boot_counts, code_few, counted_from_none, end_same, guard_kept, lies_over, none_taken, over}
 
 -- ---- trials
 
@@ -55,6 +56,11 @@ start_now image file t made = ap (λ (x : Told). x.now) made
 pub outcome_starts : (outcome : SendOutcome) → IsTrue (starts_none (outcome_code outcome)) → ⊥
 outcome_starts (Some (Err ReadFailed)) none = absurd (cc)
 outcome_starts outcome none = absurd (cc)
+
+-- so steps are told
+pub never_idle : (outcome : SendOutcome) (number : ℕ) → number ≡ outcome_code outcome → IsFalse (is_idle_number number)
+never_idle (Some (Err ReadFailed)) number is = rw is refl
+never_idle outcome number is = rw is refl
 
 -- a boot has none of the numbers 4, 6 and 7
 pub boots_end_is : (e : Ended) (number : ℕ) (first left : StepFlash) (old r : Report) → BootsUp e number first left old r → IsDeviceEnd number
@@ -91,16 +97,25 @@ none_ends : (file : List ℕ) (request : ℕ) (e : Ended) (number : ℕ) (t : To
 none_ends file request (booted b n) number t is some = absurd (omega (arith, is, some))
 none_ends file request e number t is some = (is, refl)
 
-none_spared : (e : Ended) (steps : List Step) → 1 ≤ end_code e → All (LiesWithin block_bytes boot_reach) steps → SparesInUse e steps
-none_spared (booted b n) steps some lie = absurd (omega (arith, some))
-none_spared e steps some lie = lie
+none_spared : (e : Ended) (steps : List Step) → 1 ≤ end_code e → SparesInUse e steps
+none_spared (booted b n) steps some = absurd (omega (arith, some))
+none_spared e steps some = tt
+
+none_behind : (e : Ended) (writes : ℕ → ℕ) → 1 ≤ end_code e → TouchesBoot e (λ k. 0) writes → TouchesUpdate e writes
+none_behind (booted b n) writes some boot = absurd (omega (arith, some))
+none_behind e writes some boot = (writes, boot, refl)
+
+none_lie : (e : Ended) (steps : List Step) → 1 ≤ end_code e → All (LiesWithin block_bytes boot_reach) steps → All (LiesInUpdate e) steps
+none_lie (booted b n) steps some lie = absurd (omega (arith, some))
+none_lie e steps some lie = lie
 
 module _ (file : List ℕ) (request : ℕ) (first d : StepFlash) (made : IsJustMade file first) (number : ℕ) (old told r : Report)
     (steps : List Step) (room : List ℕ) (hands : HandsOver d told r steps room) where
   updates_by : (e : Ended) (given : ℕ) (mid : StepFlash) → BootsUp e given first mid old told → (told_of d).guard ≡ (told_of mid).guard
-      → UpdateEnds file request e number (told_of mid) (told_of d) → SparesInUse e (take r.steps steps)
-      → writes_of d counter_block ≡ writes_of mid counter_block → UpdatesBy (image_of first) file request number old r steps room
-  updates_by e given mid boots guard ends spared still = record {
+      → UpdateEnds file request e number (told_of mid) (told_of d) → All (LiesInUpdate e) (take r.steps steps) → SparesInUse e (take r.steps steps)
+      → writes_of d counter_block ≡ writes_of mid counter_block → TouchesUpdate e (writes_in (take r.steps steps))
+      → UpdatesBy (image_of first) file request number old r steps room
+  updates_by e given mid boots guard ends places spared still fewer = record {
     end = e;
     mid = told_of mid;
     boots = subst (λ (x : Told). BootEnds (λ m. passes_any m) x e (told_of mid)) made.fresh boots.ends;
@@ -108,19 +123,26 @@ module _ (file : List ℕ) (request : ℕ) (first d : StepFlash) (made : IsJustM
     ends = ends;
     made = over file first d told r steps room made
         (guard ∙ guard_kept (told_of first) (told_of mid) e boots.ends.by_bytes) hands;
+    places = places;
     spared = spared;
-    beside_marks = beside_marks_by d _ hands.lie (still ∙ boots.marks_still ∙ made.unwritten counter_block);
+    beside_marks = beside_marks_by d _ hands.lie
+        (still ∙ boot-spares e (writes_of first) (writes_of mid) boots.touches_fewer ∙ made.unwritten counter_block);
+    touches_fewer = fewer;
     reports = end_same e old told r hands.same boots.reports;
   }
 
   -- the boot started no bank
   pub unbooted_by : (given : ℕ) (e : Ended) → BootsUp e given first d old told → 1 ≤ given → number ≡ given
+      → (IsFalse (is_idle_number number) → take r.steps steps ≡ steps_of d) → (IsTrue (is_idle_number number) → r.steps ≡ 0)
       → UpdatesBy (image_of first) file request number old r steps room
-  unbooted_by given e boots some is =
+  unbooted_by given e boots some is counted idle =
       updates_by e given d boots refl
       (none_ends file request e number (told_of d) (is ∙ boots.number_is) (omega (arith, some, is)))
-      (none_spared e _ (omega (arith, some, boots.number_is))
-      (hands.lie.places 1 7 (counted_from_none block_bytes boot_reach made.unwritten boots.touches))) refl
+      (none_lie e _ (omega (arith, some, boots.number_is))
+      (hands.lie.places 1 7 (counted_from_none block_bytes boot_reach made.unwritten boots.touches)))
+      (none_spared e _ (omega (arith, some, boots.number_is))) refl
+      (none_behind e _ (omega (arith, some, boots.number_is)) (boot_counts e first d number (take r.steps steps) (is ∙ boots.number_is)
+      made.unwritten boots.touches_fewer counted (λ none. none_taken r.steps steps (idle none))))
 
   module _ (mid : StepFlash) (b : Started) (n : Numbers) (boots : BootsUp (booted b n) 0 first mid old told)
       (sent : SendingSpares b mid d) (outcome : SendOutcome) (installs : InstallsBy file request b outcome (told_of mid) (told_of d)) where
@@ -146,9 +168,17 @@ module _ (file : List ℕ) (request : ℕ) (first d : StepFlash) (made : IsJustM
         (omega (arith, d.device.value.size, long)) (hands.lie.places 1 (block_count d) touches)
 
     -- a bank was started, and the package tried
-    pub tried_by : number ≡ outcome_code outcome → UpdatesBy (image_of first) file request number old r steps room
-    tried_by is =
+    pub tried_by : number ≡ outcome_code outcome → take r.steps steps ≡ steps_of d
+        → UpdatesBy (image_of first) file request number old r steps room
+    tried_by is counted =
         updates_by (booted b n) 0 mid boots guard (outcome, is, installs)
+        (either-place b.layout (update-bank b.layout b.bank) _
+        (hands.lie.places 1 (start b.layout (update-bank b.layout b.bank + 1) 0)
+        (behind-untouched b.layout b.bank fits first mid d made.unwritten boots.touches sent))
+        (hands.lie.beside 7 (start b.layout (update-bank b.layout b.bank) 0) (behind-front b.layout (update-bank b.layout b.bank))
+        (between-unwritten b.layout b.bank fits first mid d made.unwritten boots.touches sent)))
         (hands.lie.beside (start b.layout b.bank 0) (start b.layout (b.bank + 1) 0) (has-blocks b.layout b.bank fits)
         (in-use-unwritten b.layout b.bank fits first mid d made.unwritten boots.touches sent))
         (sent counter_block (marks-spared b.layout b.bank fits))
+        (writes_of mid, subst (λ (w : ℕ → ℕ). TouchesBoot (booted b n) w (writes_of mid)) (λ i k. made.unwritten k i) boots.touches_fewer,
+        λ k spared. ap (λ (ss : List Step). writes_in ss k) counted ∙ sent k spared)

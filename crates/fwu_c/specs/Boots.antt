@@ -3,8 +3,8 @@ use Rattle.std.specs.Prelude.{◌≡◌, ℕ, ◌*◌, List, [], All, take}
 use Rattle.base_core.specs.Block.{block_bytes}
 use Rattle.flash_core.specs.Told.{Told}
 use Rattle.fwu_formats.specs.{Digests.passes_any, Places.counter_block, Places.first_record}
-use Rattle.early_boot.specs.{Ends.Ended, EndsBy.BootEnds}
-use Rattle.step_flash.specs.{declared.step.Step.Step, Guard.start_with, Writes.LiesBeside, Writes.LiesWithin}
+use Rattle.early_boot.specs.{Ends.Ended, EndsBy.BootEnds, EndsBy.TouchesBoot}
+use Rattle.step_flash.specs.{declared.step.Step.Step, Guard.start_with, Writes.LiesBeside, Writes.LiesWithin, Writes.writes_in}
 use Rattle.fwu_c.specs.{Codes.end_code, Handed.IsMadeBy, Handed.boot_reach, Reports.ReportsEnd, declared.report.Report.Report}
 
 -- From the image it boots as the definitions say. What the flash then tells is what the steps make of the image.
@@ -18,4 +18,6 @@ pub record BootsBy (image : List ℕ) (number : ℕ) (old r : Report) (steps : L
   -- each lies in blocks 1 to 6, and so in no bank, and none in block 4, which has the counter's marks
   pub places : All (LiesWithin block_bytes boot_reach) (take r.steps steps)
   pub beside_marks : All (LiesBeside (block_bytes * counter_block) (block_bytes * first_record)) (take r.steps steps)
+  -- and of these blocks, by how it ends, fewer or none
+  pub touches_fewer : TouchesBoot end (λ k. 0) (writes_in (take r.steps steps))
   pub reports : ReportsEnd end old r

@@ -1,18 +1,19 @@
 -- What C is told of one call of the agent, in the session behind a boot of a bank.
-use Rattle.std.specs.Prelude.{◌≡◌, ◌≢◌, ℕ, ◌++◌, List, [], All, take, None, Some, Result, Ok, Err, IsTrue, ⊤}
+use Rattle.std.specs.Prelude.{◌≡◌, ◌≢◌, ℕ, ◌++◌, List, [], All, take, Option, None, Some, Result, Ok, Err, IsTrue, ⊤}
 use Rattle.base_core.specs.Block.{block_bytes}
 use Rattle.flash_core.specs.{Told.Told, Touches.TouchesOnly, May.Guards}
 use Rattle.flash_core.specs.declared.flash.FlashStop.TheVariants as flash_stop
-use Rattle.fwu_formats.specs.{Digests.passes_any, Layout.find_image, Metadata.bit_at}
+use Rattle.fwu_formats.specs.{Digests.passes_any, Layout.find_image, Metadata.MetaRead, Metadata.bit_at}
 use Rattle.fwu_model.specs.{declared.kinds.Status.Status, State.State, State.after, Sound.Setting, Session.On, Session.no_handles}
-use Rattle.fwu_model.specs.{Call.Call, Reply.Reply, Reply.Refused, Reply.Success, Calm.IsCalm}
+use Rattle.fwu_model.specs.{Call.Call, Reply.Reply, Reply.Refused, Reply.Success, Calm.IsCalm, MoveMetas.meta_after}
 use Rattle.fwu_model.specs.Answer.{answer, migrate_moves}
 use Rattle.fwu_model.specs.declared.kinds.Status.TheVariants as status
 use Rattle.fwu_model.specs.Call as call
+use Rattle.fwu_model.specs.State as move
 use Rattle.moves.specs.Moved.{Does, IsShown}
 use Rattle.early_boot.specs.Started.{Started, started_session}
 use Rattle.early_boot.specs.TakenUp.{TakenByNumbers, TakenUp, TakeUpEnds, taken, bad_layout, no_metadata, not_started, stopped}
-use Rattle.agent_machine.specs.{declared.stop.Stop.Stop, Meets.IsRefused, Meets.flash_result}
+use Rattle.agent_machine.specs.{declared.stop.Stop.Stop, Deciding.KeepsOldOrNew, Meets.IsRefused, Meets.flash_result}
 use Rattle.agent_machine.specs.Beside.{IsSparedByAll, KeepsWhere}
 use Rattle.agent_machine.specs.declared.stop.Stop.TheVariants as stop
 use Rattle.step_flash.specs.{declared.step.Step.Step, declared.flash.StepFlash.StepFlash, Flash.told_of, Flash.writes_of}
@@ -89,6 +90,17 @@ IsAccepted (call.Accepts guid) b =
     (image : ℕ) × (find_image b.layout.rows guid ≡ Some image) × IsTrue (bit_at b.meta.meta b.meta.meta.active image)
 IsAccepted other b = ⊥
 
+-- the metadata in which an image of the active bank is accepted; where there is none it is as it was
+abbrev pub meta_accepted : MetaRead → Option ℕ → MetaRead
+meta_accepted r None = r
+meta_accepted r (Some image) = record r { meta = meta_after r.meta (move.Accept image) }
+
+-- what the call makes of the metadata that the boot told
+abbrev pub meta_made : Call → Started → MetaRead
+meta_made (call.Accepts guid) b = meta_accepted b.meta (find_image b.layout.rows guid)
+meta_made call.Previous b = record b.meta { meta = meta_after b.meta.meta move.Back }
+meta_made other b = b.meta
+
 -- The call was made in the session behind a boot of the bank.
 pub record CallsFrom (c : Call) (b : Started) (result : Result (Unit {0}) Stop) (old t : Told) : Type 0 where
   pub answers : (E : Setting) (s : State) → E.layout ≡ b.layout → E.passes ≡ (λ m. passes_any m) → IsShown b.layout old.now s
@@ -98,6 +110,9 @@ pub record CallsFrom (c : Call) (b : Started) (result : Result (Unit {0}) Stop) 
   pub again : IsAccepted c b → t ≡ old
   -- on any flash, at any exit: nothing changed but blocks 1 to 3, and the bank behind the one that was started
   pub keeps : KeepsWhere (IsSparedByAll b.layout b.bank) old t
+  -- from a flash at rest, sound or not, at any exit: in each image that a loss leaves the boot's metadata decides, or what the call
+  -- makes of it
+  pub decides : KeepsOldOrNew b.layout b.meta (meta_made c b) old t
 
 -- ---- all of it
 

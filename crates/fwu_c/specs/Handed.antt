@@ -17,8 +17,8 @@ boot_reach = 28672
 abbrev pub call_reach : ℕ
 call_reach = 12288
 
--- What a flash tells is what the steps that are told make of an image, with the bytes of copies from a package. At 5 an erase or a
--- program beyond them may be under way.
+-- What a flash tells is what the steps that are told make of an image, with the bytes of copies from a package. Whether an
+-- operation beyond them is under way is not said here.
 pub record IsMadeBy (image file : List ℕ) (r : Report) (steps : List Step) (room : List ℕ) (t : Told) : Type 0 where
   pub left : t ≡ under_as t.under (run_with file (take r.bytes room) (start_with image file) (take r.steps steps))
   -- so many steps and bytes are there
@@ -60,8 +60,8 @@ pub record HasFlashSize (image : List ℕ) : Type 0 where
   pub most : blocks ≤ most_blocks
   pub size : length image ≡ block_bytes * blocks
 
--- The report's fault is written at 1 alone. At 1, 2 and 21 nothing else is but the numbers of steps and of bytes, and at 3 these and
--- the banks.
+-- The report's fault is written at 1 alone. At 1, 2 and 21 nothing else is but the numbers of steps and of bytes, and at 3 these
+-- and the banks.
 pub record KeepsReport (number : ℕ) (old new : Report) : Type 0 where
   pub fault : number ≢ 1 → new.layout_fault ≡ old.layout_fault
   pub idle : IsTrue (is_idle_number number) → SameBut (record old { layout_fault = new.layout_fault }) new

@@ -1,18 +1,19 @@
 //! A call of the agent in the session behind a boot of a bank.
-ghost use Rattle.std.specs.Prelude.{◌≡◌, ◌≤◌, [], length, true, IfSome, IsFalse, MatchResult};
+ghost use Rattle.std.specs.Prelude.{◌≡◌, ◌⊎◌, ◌≤◌, [], length, true, IfSome, IsFalse, MatchResult};
 ghost use Rattle.base_core.specs.Block.{block_bytes};
 ghost use Rattle.fwu_formats.specs.Digests.{passes_any};
 ghost use Rattle.fwu_model.specs.Reply.{Success};
 ghost use Rattle.early_boot.specs.Started.{Started, started};
 ghost use Rattle.early_boot.specs.TakenUp.{TakenUp, stopped, taken};
 ghost use Rattle.early_boot.specs.Started as boot;
-ghost use Rattle.agent_machine.specs.Meets.{IsRefused, Meets};
+ghost use Rattle.agent_machine.specs.Meets.{IsDone, IsRefused, Meets};
 ghost use Rattle.agent_calls.specs.Shown.{AgentGoes, device, fields, gone, moment};
 ghost use Rattle.agent_calls.specs.Started.{StartsFrom};
 ghost use Rattle.step_flash.specs.Flash.{image_of, is_on, told_of, writes_of};
 ghost use Rattle.flash_core.specs.Touches.{TouchesOnly};
 ghost use Rattle.fwu_c.specs.Agents.{BeginsAgent};
-ghost use Rattle.fwu_c.specs.Calls.{CallsBy, CallsFrom, IsAccepted, TakesUp, call_code, call_of, status_code, take_up_code};
+ghost use Rattle.fwu_c.specs.Calls.{CallsBy, CallsFrom, IsAccepted, TakesUp, call_code, call_of, meta_made, status_code};
+ghost use Rattle.fwu_c.specs.Calls.{take_up_code};
 ghost use Rattle.fwu_c.specs.Handed.{IsDeviceEnd, IsJustMade, TellsAnswer, TellsSteps, call_reach};
 
 use crate::handing::{hand_over, unmade_number};
@@ -154,6 +155,9 @@ fn ask(agent: &mut Agent<StepFlash<'_>>, call: AgentCall) -> Result<(), Stop>
     ensures refused { IsRefused result → told_of (device agent.new) ≡ told_of (device agent.old) }
     ensures again { (b : Started) → StartsFrom b (fields agent.old) → IsAccepted (call_of call) b →
         told_of (device agent.new) ≡ told_of (device agent.old) }
+    // The agent keeps the metadata of the boot, or what the call makes of it.
+    ensures metadata { (b : Started) → StartsFrom b (fields agent.old) → IsDone result →
+        ((fields agent.new).meta ≡ b.meta) ⊎ ((fields agent.new).meta ≡ meta_made (call_of call) b) }
     ensures goes { AgentGoes result agent.old agent.new }
     ensures touches { TouchesOnly block_bytes call_reach (writes_of (device agent.old)) (writes_of (device agent.new)) }
 {

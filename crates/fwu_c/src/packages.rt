@@ -50,7 +50,8 @@ pub extern "C" fn fwu_find(bytes: &[u8], guid: &[u8; 16], place: &mut Place) -> 
     }
 }
 
-/// Writes where the first payloads of a package begin, and answers how many it wrote: none where the bytes are no package.
+/// Writes where the first payloads of a package begin, and answers how many it wrote: none where the bytes are no package. No
+/// clause says which.
 // kept apart, so that the table is on the stack only while it is read
 #[inline(never)]
 pub fn read_places(file: &[u8], places: &mut [usize; MOST_PLACES]) -> usize

@@ -18,7 +18,8 @@ pub struct Report {
     pub bank: u32,
     /// The security version of its package.
     pub version: u32,
-    /// How often the active bank was started on trial, this start counted, and 0 where it is not on trial.
+    /// How often the active bank was started on trial, and 0 where it is not on trial. Where it is the active bank that is to be
+    /// started, this start is counted.
     pub trials: u32,
     /// The anti-rollback counter after the steps.
     pub counter: u32,
@@ -32,7 +33,7 @@ pub struct Report {
     pub layout_fault: u32,
     /// How many images the bank has.
     pub images: u32,
-    /// The length of each image in bytes, in the order of the layout.
+    /// The length of each image in bytes, in the order of the layout; behind them 0.
     pub lengths: [u32; 16],
     /// How many steps are told.
     pub steps: u32,
@@ -54,8 +55,10 @@ pub fn report_start<D: Flash>(booted: &Booted<D>, report: &mut Report)
     report.fallback = u32::from(booted.fallback());
     report.active = booted.active();
     report.previous = booted.previous();
-    report.images = booted.layout().rows().len() as u32;
-    report.lengths = booted.lengths();
+    let images = booted.layout().rows().len();
+    report.images = images as u32;
+    report.lengths = [0; 16];
+    report.lengths[..images].copy_from_slice(&booted.lengths()[..images]);
 }
 
 /// Reports how a boot ended, and answers its number.

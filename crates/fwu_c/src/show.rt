@@ -175,7 +175,7 @@ fn show_banks(
     true
 }
 
-/// What is shown of a bank. None where a read failed.
+/// What is shown of a bank. None where there is no memory for a device, or a read failed.
 fn find_bank(
     alloc: Global,
     image: &[u8],

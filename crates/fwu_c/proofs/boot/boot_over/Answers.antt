@@ -31,3 +31,4 @@ returns-clause-boots c = λ low.
     c.requires.new (boots.ends refl) (rw c.into_flash.ensures at (c.hand_over.ensures.hands known)) boots.touches
     boots.touches_fewer (given _ _ c.hand_over.ensures.number known ∙ c.report_end-number.ensures.number)
     c.report_end-number.ensures.reports
+    (λ other. rw c.into_flash.ensures at ((c.hand_over.ensures.given known other).0)) (λ idle. (c.hand_over.ensures.idle idle).0)

@@ -22,4 +22,4 @@ returns-clause-calls c =
     calls_from (call_of c.args.call) b done.result (agent.moment first) (agent.moment done.new.agent)
     (ends_so done.result (agent.device first) (agent.device done.new.agent) _ _ goes.costs goes.gone here) refl begins.from meets.exact meets.leaves begins.shows
     (λ ok s x shows. (rw c.deref.ensures at c.showing.ensures.seen) (here_after done.result _ _ here goes.gone ok) refl s x shows)
-    done.ensures.refused (done.ensures.again b begins.from))
+    done.ensures.refused (done.ensures.again b begins.from) (done.ensures.metadata b begins.from))

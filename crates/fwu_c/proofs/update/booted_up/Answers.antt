@@ -1,7 +1,6 @@
 use Rattle.std.proofs.Common.{◌≡◌, ◌≤◌, ◌∙◌, refl, sym, arith}
-use Rattle.early_boot.specs.{Ends.booted, Ends.device_of, Ends.ended, Numbers.numbers, Started.started}
+use Rattle.early_boot.specs.{Ends.device_of, Ends.ended, Numbers.numbers}
 use Rattle.early_boot.specs.{declared.booted.Booted.Booted, declared.numbers.Numbers.Numbers, declared.ends.BootEnd.BootEnd}
-use Rattle.early_boot.proofs.Touching.{boot-spares}
 use Rattle.fwu_c.specs.Codes.{end_code}
 use Rattle.fwu_c.proofs.{Booting.boot_end_is, Telling.keeps_started}
 use Rattle.flash_core.specs.declared.flash.Flash.{Ghosts}
@@ -24,7 +23,7 @@ returns-in-Ok c = rw c.in-Ok.ensures.ok (
     kept = keeps_started _ _ c.report_start.ensures.kept;
     unlost = λ four. omega (arith, four);
     touches = c.in-Booted.ensures.boots.touches;
-    marks_still = boot-spares (booted (started c.in-Booted.booted) (numbers c.in-Booted.field-1)) _ _ c.in-Booted.ensures.boots.touches_fewer;
+    touches_fewer = c.in-Booted.ensures.boots.touches_fewer;
   },
 )
 
@@ -48,6 +47,6 @@ returns c =
         kept = ended_as.kept;
         unlost = λ four. end.0 (sym code ∙ four);
         touches = boots.touches;
-        marks_still = boot-spares (ended c.boot_in.result) _ _ boots.touches_fewer;
+        touches_fewer = boots.touches_fewer;
       },
     )

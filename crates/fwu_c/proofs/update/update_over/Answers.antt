@@ -4,7 +4,7 @@ use Rattle.agent_calls.specs.Shown.{device, gone, moment}
 use Rattle.step_flash.specs.Flash.{image_of, told_of}
 use Rattle.fwu_c.proofs.Booting.{begun_as, boot_idle, given, has_flash_size}
 use Rattle.fwu_c.proofs.Telling.{idle_starts, keeps_fault, lie_inside, starts_none, told_handed}
-use Rattle.fwu_c.proofs.Updating.{boots_end_is, outcome_starts, sending_spares, tried_by, tried_places, unbooted_by}
+use Rattle.fwu_c.proofs.Updating.{boots_end_is, never_idle, outcome_starts, sending_spares, tried_by, tried_places, unbooted_by}
 use Rattle.fwu_c.proofs.update.update_over.Goals as goal
 
 pub hand_over-requires : goal.hand_over-requires
@@ -39,6 +39,7 @@ returns-in-Some-clause-updates c = λ told.
     tried_by _ _ c.args.flash i.flash c.requires.new h.result _ _ _ _ _ (h.ensures.hands told.1)
     (device a) up.0 up.1 up.3 (sending_spares up.0 (moment a) (gone a) (device a) i.flash up.2 i.ensures.touches)
     i.outcome (i.ensures.installs up.0 up.2) (given _ _ h.ensures.number told.1 ∙ c.outcome_number-number.ensures)
+    (h.ensures.given told.1 (never_idle i.outcome h.result (given _ _ h.ensures.number told.1 ∙ c.outcome_number-number.ensures))).0
 
 pub returns-in-Some-clause-tells : goal.returns-in-Some-clause-tells
 returns-in-Some-clause-tells c =
@@ -58,7 +59,7 @@ returns-in-Some-Err-clause-updates c = λ told.
     let h = c.hand_over-in-Some-Err in
     let none = rw c.in-Some-Err.field-0-is at c.in-Some-Err.ensures in
     unbooted_by _ _ c.args.flash c.in-Some-Err.flash c.requires.new h.result _ _ _ _ _ (h.ensures.hands told.1) _ none.1
-    none.2 none.0 (given _ _ h.ensures.number told.1)
+    none.2 none.0 (given _ _ h.ensures.number told.1) (λ other. (h.ensures.given told.1 other).0) (λ idle. (h.ensures.idle idle).0)
 
 pub returns-in-Some-Err-clause-tells : goal.returns-in-Some-Err-clause-tells
 returns-in-Some-Err-clause-tells c =
