@@ -20,7 +20,7 @@ use Rattle.fip_tables.specs.Files.{Lacks, Tells}
 use Rattle.fwu_formats.specs.Package.{Entry, payload, Toc}
 use Rattle.fip_tool.specs.{Lines.unpacked_line, Lines.unpacked_name, Names.MakesNoneFor, Tool.chosen, Tool.unpack_steps, Tool.unpack_value}
 use Rattle.fip_tool.specs.Steps.{IsPrinting, Makes, Refuses, CommandStep, Writes, Prints, Are, AreUpTo, StandAfter, Did, half_printed, printed, with_file, with_steps}
-use Rattle.fip_making.specs.{Values.has_type_among, Values.there, declared.stops.Stop.Stop}
+use Rattle.fip_making.specs.{Values.has_type_among, declared.stops.Stop.Stop}
 use Rattle.fip_making.specs.declared.stops.Stop.TheVariants as stop
 use Rattle.fip_tool.proofs.Did.{are-up-to, did-later}
 use Rattle.fip_making.proofs.Repacking.{IsOpened, going-on, stopped, table_with}
