@@ -1,7 +1,7 @@
 -- The payloads of a package or a capsule to come, and what told files have of them. What is made of them asks for no file.
-use Rattle.std.specs.Prelude.{◌≡◌, ℕ, List, [], Option, Some, Result, IfOk, length, map, take, drop, replicate, unwrap_or}
+use Rattle.std.specs.Prelude.{◌≡◌, ◌≢◌, ℕ, List, [], Option, Some, Result, IfOk, length, map, take, drop, replicate, unwrap_or}
 use Rattle.std.specs.List.{All, zip}
-use Rattle.host_io.specs.{Contents.Directory, Contents.HasRange, declared.joining.Piece.Piece}
+use Rattle.host_io.specs.{Access.Access, Access.Asks, Contents.Directory, Contents.HasRange, declared.joining.Piece.Piece}
 use Rattle.host_io.specs.Joined.{HasPiece, chunk_in, joined}
 use Rattle.fip_tables.specs.declared.frame.Frame.{Frame}
 use Rattle.fwu_formats.specs.Package.{Entry, Part}
@@ -23,6 +23,10 @@ outline_of p = record { guid = p.guid; flags = p.flags; bytes = replicate p.size
 -- told files have the payload's bytes
 abbrev pub IsThere : Option Directory → Payload → Type 0
 IsThere told p = HasRange told p.file.now p.at p.size
+
+-- it asks for no file in which one of these payloads lies
+abbrev pub IsElsewhere : List Payload → Access → Type 0
+IsElsewhere ps access = All (λ p. access ≢ Asks p.file.now) ps
 
 -- told files have the entry's payload
 abbrev pub HasEntry : Option Directory → List ℕ → Entry → Type 0
@@ -60,11 +64,17 @@ pub record IsWholeFile (told : Option Directory) (m : Made) : Type 0 where
   pub there : All (HasPiece told) m.pieces.items
   pub sized : (files : Directory) → told ≡ Some files → m.frame.size ≡ length (made_bytes files m)
 
--- A file of so many payloads is made, or it is said why none is. `HasAll` is for files that have the payloads.
-pub record MakesFile (HasAll : Option Directory → Type 0) (value : Directory → Result (ℕ × List ℕ) Stop) (number : ℕ)
-    (result : Result Made Stop) : Type 0 where
+-- it has no piece of a file that such an access asks for
+abbrev pub HasNoPieceOf : (Access → Type 0) → Made → Type 0
+HasNoPieceOf IsOther m = (access : Access) → IsOther access → All (λ p. access ≢ Asks p.file.now) m.pieces.items
+
+-- A file of so many payloads is made, or it is said why none is. `HasAll` is for files that have the payloads, and `IsOther` for
+-- accesses to others.
+pub record MakesFile (HasAll : Option Directory → Type 0) (IsOther : Access → Type 0)
+    (value : Directory → Result (ℕ × List ℕ) Stop) (number : ℕ) (result : Result Made Stop) : Type 0 where
   -- by files that have them, what is made, or why nothing is
   pub told : (told : Directory) → HasAll (Some told) → Gives (made_by told) ⊥ (value told) result
   pub whole : (told : Option Directory) → HasAll told → IfOk result (IsWholeFile told)
   pub count : IfOk result (λ m. m.count ≡ number)
+  pub pieces : IfOk result (HasNoPieceOf IsOther)
   pub asks : AsksNothing (PackingOr IsLate) result

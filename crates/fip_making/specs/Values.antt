@@ -32,7 +32,8 @@ table_or stopped (Err f) = Err (stopped f)
 
 -- a package's bytes, and its table
 abbrev pub package_read_in : Directory → List ℕ → Result (List ℕ × Toc) Stop
-package_read_in files name = and_then (there (files name)) (λ bytes. and_then (table_or stop.NotFip (toc_of bytes)) (λ t. Ok (bytes, t)))
+package_read_in files name =
+    and_then (there (files name)) (λ bytes. and_then (table_or stop.NotFip (toc_of bytes)) (λ t. Ok (bytes, t)))
 
 -- some bytes are a package with this table
 abbrev pub IsTableOfSome : Toc → Type 0

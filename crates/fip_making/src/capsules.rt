@@ -1,8 +1,9 @@
 //! Capsules that are made of packages, and packages of capsules.
-ghost use Rattle.std.specs.Prelude.{◌≡◌, All, IfOk, length, map};
+ghost use Rattle.std.specs.Prelude.{◌≡◌, ◌≢◌, All, IfOk, length, map};
 ghost use Rattle.fwu_formats.specs.Package.{Toc};
 ghost use Rattle.capsule_tables.specs.Answers.{IsSomeTable};
-ghost use Rattle.fip_making.specs.Payloads.{HasEntry, IsWholeFile, file_bytes, made_by, MakesFile};
+ghost use Rattle.host_io.specs.Access.{Asks};
+ghost use Rattle.fip_making.specs.Payloads.{HasEntry, HasNoPieceOf, IsWholeFile, file_bytes, made_by, MakesFile};
 ghost use Rattle.fip_making.specs.Values.{IsTableOfSome, capsule_value, enclose_value, kept_part, pack_value, repackage_value};
 ghost use Rattle.fip_making.specs.Refusals.{IsOfCapsule, IsPackageStop, PackingOr};
 ghost use Rattle.fip_making.specs.Seen.{AsTold, ReadsOne};
@@ -20,7 +21,7 @@ use std::alloc::Global;
 
 // The capsule of a package's entries.
 fn capsule_of_entries<'a>(alloc: Global, from: &'a str, entries: &[Entry]) -> Result<Made<'a>, Stop>
-    ensures { MakesFile (λ told. All (HasEntry told from.now) entries.now)
+    ensures { MakesFile (λ told. All (HasEntry told from.now) entries.now) (λ access. access ≢ Asks from.now)
         (λ told. enclose_value (map (kept_part (file_bytes told from.now)) entries.now)) (length entries.now) result }
 {
     let none = Vec::new(alloc);
@@ -39,6 +40,7 @@ pub fn capsule_of_package<'a, H: Files>(
     ensures told { AsTold H.Files made_by (λ told. capsule_value told from.now) files.old files.new result }
     ensures whole { IfOk result (IsWholeFile (H.contents files.new)) }
     ensures count { IfOk result (λ m. (t : Toc) × IsTableOfSome t × (m.count ≡ length t.entries)) }
+    ensures pieces { IfOk result (HasNoPieceOf (λ access. access ≢ Asks from.now)) }
     ensures reads { ReadsOne H.Files from.now (PackingOr IsPackageStop) files.old files.new result }
 {
     let toc = table_with(files, from, &[])?;
@@ -52,7 +54,7 @@ fn package_of_items<'a>(
     from: &'a str,
     toc: &Toc,
 ) -> Result<Made<'a>, Stop>
-    ensures { MakesFile (λ told. All (HasEntry told from.now) toc.now.entries)
+    ensures { MakesFile (λ told. All (HasEntry told from.now) toc.now.entries) (λ access. access ≢ Asks from.now)
         (λ told. pack_value toc.now.serial toc.now.flags (map (kept_part (file_bytes told from.now)) toc.now.entries) align)
         (length toc.now.entries) result }
 {
@@ -72,6 +74,7 @@ pub fn package_of_capsule<'a, H: Files>(
     ensures told { AsTold H.Files made_by (λ told. repackage_value told align from.now) files.old files.new result }
     ensures whole { IfOk result (IsWholeFile (H.contents files.new)) }
     ensures count { IfOk result (λ m. (t : Toc) × IsSomeTable t × (m.count ≡ length t.entries)) }
+    ensures pieces { IfOk result (HasNoPieceOf (λ access. access ≢ Asks from.now)) }
     ensures reads { ReadsOne H.Files from.now (PackingOr IsOfCapsule) files.old files.new result }
 {
     let toc = read_enclosed(files, from)?;

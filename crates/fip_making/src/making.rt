@@ -4,7 +4,7 @@ ghost use Rattle.fwu_formats.specs.Package.{Toc};
 ghost use Rattle.host_io.specs.Access.{Asks};
 ghost use Rattle.host_io.specs.Reads.{ReadsFile};
 ghost use Rattle.fip_words.specs.Order.{part_view};
-ghost use Rattle.fip_making.specs.Payloads.{MakesFile, HasEntry, IsThere, IsWholeFile, file_bytes, made_by, part_told};
+ghost use Rattle.fip_making.specs.Payloads.{MakesFile, HasEntry, HasNoPieceOf, IsElsewhere, IsThere, IsWholeFile, file_bytes, made_by, part_told};
 ghost use Rattle.fip_making.specs.Values.{IsTableOfSome, and_then, create_value, first_missing, has_type_among, kept_part, pack_value, parts_in, remove_value, update_value, updated_part};
 ghost use Rattle.fip_making.specs.Refusals.{IsOfEntries, PackingOr};
 ghost use Rattle.fip_making.specs.Answers.{IsLate};
@@ -33,6 +33,7 @@ pub fn created<'a, H: Files>(
     ensures told { AsTold H.Files made_by (λ told. create_value told align (map part_view named.now)) files.old files.new result }
     ensures whole { IfOk result (IsWholeFile (H.contents files.new)) }
     ensures count { IfOk result (λ m. m.count ≡ length named.now) }
+    ensures pieces { IfOk result (HasNoPieceOf (λ access. All (λ w. access ≢ Asks w.file.now) named.now)) }
     ensures reads { ReadsFilesAlone H.Files (λ access. All (λ w. access ≢ Asks w.file.now) named.now) (PackingOr IsLate)
         files.old files.new result }
 {
@@ -53,6 +54,7 @@ pub fn repacked<'a>(
     new: &[Payload<'a>],
 ) -> Result<Made<'a>, Stop>
     ensures { MakesFile (λ told. All (IsThere told) new.now × All (HasEntry told from.now) entries.now)
+        (λ access. (access ≢ Asks from.now) × IsElsewhere new.now access)
         (λ told. pack_value toc.now.serial toc.now.flags
         (map (updated_part (file_bytes told from.now) (map (part_told told) new.now)) entries.now) align)
         (length entries.now) result }
@@ -89,7 +91,8 @@ fn without<'a>(
     toc: &Toc,
     guids: &[Guid],
 ) -> Result<Made<'a>, Stop>
-    ensures { MakesFile (λ told. All (HasEntry told from.now) toc.now.entries) (λ told. pack_value toc.now.serial toc.now.flags
+    ensures { MakesFile (λ told. All (HasEntry told from.now) toc.now.entries) (λ access. access ≢ Asks from.now)
+        (λ told. pack_value toc.now.serial toc.now.flags
         (map (kept_part (file_bytes told from.now)) (filter (λ e. not (has_type_among guids.now e)) toc.now.entries)) align)
         (length (filter (λ e. not (has_type_among guids.now e)) toc.now.entries)) result }
 {
@@ -110,6 +113,7 @@ pub fn removed<'a, H: Files>(
     ensures whole { IfOk result (IsWholeFile (H.contents files.new)) }
     ensures count { IfOk result (λ m. (t : Toc) × IsTableOfSome t × (first_missing t guids.now ≡ None)
         × (m.count ≡ length (filter (λ e. not (has_type_among guids.now e)) t.entries))) }
+    ensures pieces { IfOk result (HasNoPieceOf (λ access. access ≢ Asks from.now)) }
     ensures reads { ReadsOne H.Files from.now (PackingOr IsOfEntries) files.old files.new result }
 {
     let toc = table_with(files, from, guids)?;
@@ -131,6 +135,8 @@ fn replaced<'a, H: Files>(
         files.old files.new result }
     ensures whole { IfOk result (IsWholeFile (H.contents files.new)) }
     ensures count { IfOk result (λ m. m.count ≡ length toc.now.entries) }
+    ensures pieces { IfOk result (HasNoPieceOf (λ access. (access ≢ Asks from.now)
+        × All (λ w. access ≢ Asks w.file.now) named.now)) }
     ensures reads { ReadsFilesAlone H.Files (λ access. All (λ w. access ≢ Asks w.file.now) named.now) (PackingOr IsLate)
         files.old files.new result }
 {
@@ -158,6 +164,8 @@ pub fn updated<'a, H: Files>(
     ensures count { IfOk result (λ m. (t : Toc) × IsTableOfSome t
         × (first_missing t (map (λ p. p.guid) (map part_view named.now)) ≡ None)
         × (m.count ≡ length t.entries)) }
+    ensures pieces { IfOk result (HasNoPieceOf (λ access. (access ≢ Asks from.now)
+        × All (λ w. access ≢ Asks w.file.now) named.now)) }
     ensures reads { ReadsFilesAlone H.Files (λ access. (access ≢ Asks from.now) × All (λ w. access ≢ Asks w.file.now) named.now)
         (PackingOr IsOfEntries) files.old files.new result }
     ensures package { IfErr result (λ s. PackingOr IsLate s ⊎ ReadsFile H.Files from.now files.old files.new) }

@@ -64,7 +64,7 @@ fn with_row(rows: Option<Vec<Row>>, more: Option<Row>) -> Result<Option<Vec<Row>
     }
 }
 
-// The rows of named images, or nothing where one is too long by now. All files are read.
+// The rows of named images, or nothing where one is too long by now.
 fn rows_of_files<H: Files>(
     alloc: Global,
     files: &mut H,
@@ -134,7 +134,7 @@ fn is_long_file<H: Files>(files: &mut H, named: &ImageWord<'_>) -> Result<bool, 
     Ok(size_of(files, named.file)? > IMAGE_LIMIT as u64)
 }
 
-// Whether there is a manifest of named images. It asks for the sizes of all files, and reads none.
+// Whether there is a manifest of named images, by how many they are and how long.
 fn check_sizes<H: Files>(files: &mut H, named: &[ImageWord<'_>]) -> Result<(), Stop>
     ensures told { AsTold H.Files (λ told done. done) (λ told. sizes_value told (map image_view named.now))
         files.old files.new result }

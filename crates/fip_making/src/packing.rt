@@ -1,6 +1,6 @@
 //! Packages that are made of payloads, by their sizes: no file is read for them.
 ghost use Rattle.std.specs.Prelude.{◌≡◌, All, IfOk, length, map};
-ghost use Rattle.fip_making.specs.Payloads.{MakesFile, IsThere, outline_of, part_told};
+ghost use Rattle.fip_making.specs.Payloads.{IsElsewhere, MakesFile, IsThere, outline_of, part_told};
 ghost use Rattle.fip_making.specs.Values.{pack_value};
 
 use crate::made::Made;
@@ -27,7 +27,7 @@ pub fn packed<'a>(
     align: u32,
     payloads: &[Payload<'a>],
 ) -> Result<Made<'a>, Stop>
-    ensures { MakesFile (λ told. All (IsThere told) payloads.now)
+    ensures { MakesFile (λ told. All (IsThere told) payloads.now) (IsElsewhere payloads.now)
         (λ told. pack_value serial flags (map (part_told told) payloads.now) align) (length payloads.now) result }
 {
     let outlines = outlines(alloc, payloads)?;

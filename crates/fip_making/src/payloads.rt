@@ -2,11 +2,11 @@
 ghost use Rattle.std.specs.Prelude.{◌≡◌, ◌≢◌, All, IfOk, Option, find, length, map};
 ghost use Rattle.base_core.specs.Bytes.{same_bytes};
 ghost use Rattle.host_io.specs.Contents.{Directory};
-ghost use Rattle.host_io.specs.Access.{Asks};
+ghost use Rattle.host_io.specs.Access.{Access, Asks};
 ghost use Rattle.fip_words.specs.Order.{part_view};
 ghost use Rattle.fip_making.specs.Seen.{AsTold, ReadsFilesAlone, ReadsOne};
 ghost use Rattle.fip_making.specs.Answers.{IsLate};
-ghost use Rattle.fip_making.specs.Payloads.{HasEntry, IsThere, file_bytes, outline_of, part_told, payload_piece};
+ghost use Rattle.fip_making.specs.Payloads.{HasEntry, IsElsewhere, IsThere, file_bytes, outline_of, part_told, payload_piece};
 ghost use Rattle.fip_making.specs.Values.{part_in, parts_in, there, updated_part};
 
 use crate::stops::Stop;
@@ -57,6 +57,7 @@ impl<'a> Payload<'a> {
 fn payload_of_file<'a, H: Files>(files: &mut H, named: &FileWord<'a>) -> Result<Payload<'a>, Stop>
     ensures told { AsTold H.Files part_told (λ told. there (part_in told (part_view named.now))) files.old files.new result }
     ensures there { IfOk result (IsThere (H.contents files.old)) }
+    ensures file { IfOk result (λ p. p.file.now ≡ named.now.file.now) }
     ensures reads { ReadsOne H.Files named.now.file.now IsLate files.old files.new result }
 {
     let size = size_of(files, named.file)?;
@@ -79,6 +80,8 @@ pub fn payloads_of_files<'a, H: Files>(
         files.old files.new result }
     ensures there { IfOk result (λ v. All (IsThere (H.contents files.old)) v.items) }
     ensures count { IfOk result (λ v. length v.items ≡ length named.now) }
+    ensures elsewhere { IfOk result (λ v. (access : Access) → All (λ w. access ≢ Asks w.file.now) named.now
+        → IsElsewhere v.items access) }
     ensures reads { ReadsFilesAlone H.Files (λ access. All (λ w. access ≢ Asks w.file.now) named.now) IsLate
         files.old files.new result }
 {
@@ -112,6 +115,8 @@ fn payload_of_entry<'a>(from: &'a str, entry: &Entry, new: &[Payload<'a>]) -> Pa
         → part_told told result ≡ updated_part (file_bytes told from.now) (map (part_told told) new.now) entry.now }
     ensures there { (told : Option Directory) → All (IsThere told) new.now × HasEntry told from.now entry.now
         → IsThere told result }
+    ensures elsewhere { (access : Access) → (access ≢ Asks from.now) × IsElsewhere new.now access
+        → access ≢ Asks result.file.now }
 {
     match of_type(new, &entry.guid) {
         Some(payload) => Payload {
@@ -143,6 +148,8 @@ pub fn payloads_of_entries<'a>(
     ensures there { (told : Option Directory) → All (IsThere told) new.now × All (HasEntry told from.now) entries.now
         → IfOk result (λ v. All (IsThere told) v.items) }
     ensures count { IfOk result (λ v. length v.items ≡ length entries.now) }
+    ensures elsewhere { IfOk result (λ v. (access : Access) → (access ≢ Asks from.now) × IsElsewhere new.now access
+        → IsElsewhere v.items access) }
 {
     let mut payloads = Vec::new(alloc);
     for entry in entries {

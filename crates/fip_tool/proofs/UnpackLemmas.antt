@@ -1,24 +1,26 @@
 -- Steps that are done one after the other, and the steps of `unpack`.
 use Rattle.std.proofs.Common.{◌≡◌, ◌≢◌, ◌⊎◌, inl, inr, ◌≤◌, ◌<◌, ◌+◌, ℕ, zero, suc, Bool, true, false, List, [], ◌∷◌, ◌++◌, Option, Some, None, Result, Ok, Err, length, take, drop, filter, get_or, arith, refl, sym, ap, subst, ◌∙◌, append-nil, append_assoc, take-append-drop, eq-eqb, true≢false}
 use Rattle.std.specs.Prelude.{cond, codes, decimal, ◌==◌, ◌||◌, IsTrue, if◌then◌else◌, unwrap_or}
-use Rattle.std.proofs.Math.Seq.{take-append_seam, drop-append_seam, take-append-add, drop-append-add}
+use Rattle.std.specs.List.{All}
+use Rattle.std.proofs.Math.Seq.{get_or-append_seam, take-append_seam, drop-append_seam, take-append-add, drop-append-add}
 use Rattle.std.proofs.lemmas.List.{drop_more, length-append, take_all, take_more}
 use Rattle.std.proofs.lemmas.Bool.{and_from}
 use Rattle.std.proofs.lemmas.Bool.Decides.{nat_tests}
 use Rattle.std.proofs.lemmas.Slice.Eq.{bytes_eq-Decides}
 use Rattle.base_core.specs.{Bytes.same_bytes, Guid.guid_of, Guid.guid_text}
-use Rattle.base_core.proofs.Spelled.{same_refl}
+use Rattle.base_core.proofs.Spelled.{same_is, same_refl}
 use Rattle.fip_words.specs.Values.{bin, is_lower_guid, is_unpacked}
-use Rattle.std.proofs.lemmas.List.Elements.{filter-append}
+use Rattle.std.proofs.lemmas.List.Elements.{filter-append, filter_passes}
 use Rattle.std.specs.Str.{bytes_eq}
 use Rattle.std.specs.Io.KnownBytes.{Appends}
 use Rattle.std.proofs.KnownBytes.{Appends-trans}
-use Rattle.host_io.specs.Contents.{Directory}
+use Rattle.host_io.specs.{Access.Access, Contents.Directory}
+use Rattle.host_io.specs.Access as way
 use Rattle.fip_tables.specs.Files.{Lacks, Tells}
 use Rattle.fwu_formats.specs.Package.{Entry, payload, Toc}
-use Rattle.fip_tool.specs.{Lines.unpacked_line, Lines.unpacked_name, Tool.chosen, Tool.unpack_steps, Tool.unpack_value}
+use Rattle.fip_tool.specs.{Lines.unpacked_line, Lines.unpacked_name, Names.MakesNoneFor, Tool.chosen, Tool.unpack_steps, Tool.unpack_value}
 use Rattle.fip_tool.specs.Steps.{IsPrinting, Makes, Refuses, CommandStep, Writes, Prints, Are, AreUpTo, StandAfter, Did, half_printed, printed, with_file, with_steps}
-use Rattle.fip_making.specs.{Values.has_type_among, Values.there, declared.stops.Stop.Stop}
+use Rattle.fip_making.specs.{Values.has_type_among, declared.stops.Stop.Stop}
 use Rattle.fip_making.specs.declared.stops.Stop.TheVariants as stop
 use Rattle.fip_tool.proofs.Did.{are-up-to, did-later}
 use Rattle.fip_making.proofs.Repacking.{IsOpened, going-on, stopped, table_with}
@@ -187,6 +189,25 @@ chosen-filter (guid ∷ guids) es =
     let no : (length (guid ∷ guids) == 0) ≡ false = grind (arith, nat_tests) in
     ap (λ (b : Bool). filter (λ e. b || has_type_among (guid ∷ guids) e) es) no
 
+-- ---- the files of chosen entries
+
+-- an entry whose type is among these has what is so of each of them
+type-among : (P : List ℕ → Type 0) (guids : List (List ℕ)) (e : Entry) → All P guids → IsTrue (has_type_among guids e) → P e.guid
+type-among P [] e all among = cc
+type-among P (guid ∷ guids) e all among = go (same_bytes guid e.guid) refl (type-among P guids e (λ k d lt. all (suc k) d (omega (arith, lt)))) among
+  where
+    go : (b : Bool) → same_bytes guid e.guid ≡ b → (IsTrue (has_type_among guids e) → P e.guid) → IsTrue (b || has_type_among guids e) → P e.guid
+    go true is rest h = subst P (same_is guid e.guid is) (all 0 guid (omega arith))
+    go false is rest h = rest h
+
+-- who makes the file of no named type makes that of no chosen entry
+pub none-for-chosen : (prefix : List ℕ) (guids : List (List ℕ)) (es chosen-ones : List Entry) (access : Access) → chosen-ones ≡ chosen guids es → MakesNoneFor prefix guids access
+    → All (λ e. access ≢ way.Makes (unpacked_name prefix e.guid)) chosen-ones
+none-for-chosen prefix [] es chosen-ones access is none = λ k d lt. none (get_or chosen-ones k d).guid
+none-for-chosen prefix (guid ∷ guids) es chosen-ones access is none =
+    let among : All (λ e. has_type_among (guid ∷ guids) e ≡ true) chosen-ones = subst (All (λ e. has_type_among (guid ∷ guids) e ≡ true)) (sym is) (filter_passes (has_type_among (guid ∷ guids)) es) in
+    λ k d lt. type-among (λ (g : List ℕ). access ≢ way.Makes (unpacked_name prefix g)) (guid ∷ guids) (get_or chosen-ones k d) none (among k d lt)
+
 -- ---- the file that is read is not written
 
 same_by : (xs ys : List ℕ) → xs ≡ ys → IsTrue (same_bytes xs ys)
@@ -298,6 +319,14 @@ module _ (p : Entry → Bool) (es : List Entry) (i : ℕ) (e : Entry) (lt : i < 
       ap (filter p) (sym (take-append-drop i es)) ∙ filter-append p (take i es) (drop i es)
       ∙ ap (λ (l : List Entry). filter p (take i es) ++ filter p l) (drop_more es i e lt ∙ ap (λ (x : Entry). x ∷ drop (i + 1) es) here)
       ∙ ap (λ (b : Bool). filter p (take i es) ++ cond b (e ∷ rest) rest) h
+
+  -- what is so of all chosen ones is so of it
+  pub one-chosen : p e ≡ true → (P : Entry → Type 0) → All P (filter p es) → P e
+  one-chosen h P all =
+      let before : List Entry = filter p (take i es) in
+      let rest : List Entry = filter p (drop (i + 1) es) in
+      let split : All P (before ++ (e ∷ rest)) = subst (All P) (split-chosen h) all in
+      subst P (get_or-append_seam before e rest e) (split (length before) e (let long = length-append before (e ∷ rest) in omega (arith, long)))
 
 module _ (prefix from bytes : List ℕ) (p : Entry → Bool) (es : List Entry) (i : ℕ) (told : Directory) (was : Option (List ℕ)) where
   pub step-passed : (e : Entry) → i < length es → get_or es i e ≡ e → (contents : Option Directory) (text : Option (List ℕ)) → IsUnpacking prefix from bytes (filter p (take i es)) told contents was text

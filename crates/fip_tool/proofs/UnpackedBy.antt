@@ -66,5 +66,5 @@ module _ {H O : Type 0} {h : files.Ghosts H} {o : sink.Ghosts O} where
         silent = silent;
         unspoiled = unspoiled;
         texts = texts-behind (λ texts. texts ≡ line ∷ []) (λ texts. texts ≡ unpacked_line prefix entry ∷ []) (λ texts t. t ∙ ap (λ (l : List ℕ). l ∷ []) line-of) refl refl put;
-        spares = λ access asked other. spares access (λ is. other guid (is ∙ ap way.Makes named));
+        spares = λ access asked other. spares access (λ is. other (is ∙ ap way.Makes (named ∙ one)));
       }

@@ -171,6 +171,7 @@ module _ {H O : Type 0} {h : files.Ghosts H} {o : sink.Ghosts O} {before after :
       cause = λ e. inr (put.cause e);
       refusals = if-err-as result IsLate (λ s. (◌≡◌ {A = Result Made Stop} (Ok made) (Err s)) ⊎ IsLate s) (λ s late. inr late) put.late;
       kept = tt;
+      sink_kept = tt;
       later = put.later;
       later_sink = put.later_sink;
       sink_count = λ apart. put.sink_count;

@@ -44,8 +44,8 @@ pub record Unpacked {H O : Type 0} (h : files.Ghosts H) (o : sink.Ghosts O) (fro
   pub unspoiled : OnOk result (NoneUnwritten (h.writes files_before) (h.writes files_after))
   pub texts : WritesTexts h o (λ texts. texts ≡ unpacked_line prefix entry ∷ []) result files_before files_after sink_before
       sink_after
-  -- its payload's file is made, and no other than the package asked for
-  pub spares : (access : Access) → access ≢ Asks from → ((guid : List ℕ) → access ≢ Makes (unpacked_name prefix guid))
+  -- no access is made but these: the package is asked for, and the file of its payload made
+  pub spares : (access : Access) → access ≢ Asks from → access ≢ Makes (unpacked_name prefix entry.guid)
       → h.spares files_before files_after access
 
 -- What was done in files and a sink for what the words ask for, by its result, before the line that says why it stopped. Where it
@@ -63,7 +63,7 @@ pub record DoneWithFiles {H O : Type 0} (h : files.Ghosts H) (o : sink.Ghosts O)
       → Rose (h.faults files_before) (h.faults files_after) ⊎ source-rose
   -- each refusal is one of what was asked for
   pub refusals : IfErr result (MayRefuse asked)
-  -- no access is made that the words don't name
+  -- no access is made that the words don't name; a piece of a file that is made is none
   pub spares : (access : Access) → IsUnnamedBy asked access → h.spares files_before files_after access
   pub alone : IfErr result (λ s. RefusesAlone h asked files_before files_after (exit_status s))
   pub later : o.faults sink_before ≤ o.faults sink_after
@@ -92,13 +92,14 @@ pub record PutsMade {H O : Type 0} (h : files.Ghosts H) (o : sink.Ghosts O) (for
   pub cause : result ≡ Err stop.FileFault
       → (made ≡ Err stop.FileFault) ⊎ Rose (h.faults files_before) (h.faults files_after)
   pub refusals : IfErr result (λ s. (made ≡ Err s) ⊎ IsLate s)
-  -- a stop that came before leaves the files as they were
+  -- a stop that came before leaves the files and the sink as they were
   pub kept : IfErr made (λ s. files_after ≡ files_before)
+  pub sink_kept : IfErr made (λ s. sink_after ≡ sink_before)
   pub later : h.faults files_before ≤ h.faults files_after
   pub later_sink : o.faults sink_before ≤ o.faults sink_after
   pub sink_count : (made ≡ Err stop.SinkFault → ⊥) → o.faults sink_after ≡ sink_failures result (o.faults sink_before)
 
--- And with what is seen of the source.
+-- As DoneWithFiles, with what is seen of the source.
 pub record CommandDone {H I O : Type 0} (h : files.Ghosts H) (i : source.Ghosts I) (o : sink.Ghosts O)
     (asked : Option FipAsked) (result : Result (Unit {0}) Stop)
     (files_before files_after : H) (source_before source_after : I) (sink_before sink_after : O) : Type 0 where

@@ -16,7 +16,7 @@ pack_fault_text (pack.NilGuid i) = codes "nil-uuid " ++ decimal i
 pack_fault_text pack.BadAlign = codes "bad-align"
 pack_fault_text pack.TooLarge = codes "too-large"
 
--- of the faults of a manifest's rows; the others are those of reading one
+-- `BadCount` and `TooLarge` are faults of a manifest that is made; the others are of reading one
 abbrev pub manifest_fault_text : ManifestFault → List ℕ
 manifest_fault_text manifest.VersionTooHigh = codes "version-too-high"
 manifest_fault_text manifest.BadCount = codes "bad-count"

@@ -1,12 +1,17 @@
--- Which accesses to files the words don't name, which a refusal has no use for, and which stops what the words ask for may end with,
--- whatever files there are.
-use Rattle.std.specs.Prelude.{◌≡◌, ◌≢◌, ◌≤◌, ⊤, ℕ, List, Option, Some, None, All}
+-- Which accesses to files the words don't name, which a refusal has no use for, and which stops what the words ask for may end
+-- with, whatever files there are.
+use Rattle.std.specs.Prelude.{◌≡◌, ◌≢◌, ◌≤◌, ⊤, ℕ, List, [], Option, Some, None, All}
 use Rattle.host_io.specs.Access.{Access, Asks, Makes}
 use Rattle.fip_words.specs.Order.{FipAsked, info, info_of_source, create, update, remove, unpack, manifest, capsule, repackage}
 use Rattle.fip_making.specs.{Answers.IsLate, declared.stops.Stop.Stop}
 use Rattle.fip_making.specs.Refusals.{IsManifestStop, IsOfCapsule, IsOfEntries, IsOfSource, IsPackageStop, PackingOr}
 use Rattle.fip_making.specs.declared.stops.Stop.TheVariants as stop
 use Rattle.fip_tool.specs.Lines.{unpacked_name}
+
+-- it makes no file of the payload of a named type, or of any type where none is named
+abbrev pub MakesNoneFor : List ℕ → List (List ℕ) → Access → Type 0
+MakesNoneFor prefix [] access = (guid : List ℕ) → access ≢ Makes (unpacked_name prefix guid)
+MakesNoneFor prefix names access = All (λ guid. access ≢ Makes (unpacked_name prefix guid)) names
 
 -- it asks for none of the files that are to be read, and makes none of those that are to be made
 abbrev pub IsUnnamedBy : Option FipAsked → Access → Type 0
@@ -17,8 +22,7 @@ IsUnnamedBy (Some (create align out parts)) access = All (λ p. access ≢ Asks 
 IsUnnamedBy (Some (update align from out parts)) access =
     (access ≢ Asks from) × All (λ p. access ≢ Asks p.file) parts × (access ≢ Makes out)
 IsUnnamedBy (Some (remove align from out names)) access = (access ≢ Asks from) × (access ≢ Makes out)
-IsUnnamedBy (Some (unpack from prefix names)) access =
-    (access ≢ Asks from) × ((guid : List ℕ) → access ≢ Makes (unpacked_name prefix guid))
+IsUnnamedBy (Some (unpack from prefix names)) access = (access ≢ Asks from) × MakesNoneFor prefix names access
 IsUnnamedBy (Some (manifest out security rows)) access = All (λ r. access ≢ Asks r.file) rows × (access ≢ Makes out)
 IsUnnamedBy (Some (capsule from out)) access = (access ≢ Asks from) × (access ≢ Makes out)
 IsUnnamedBy (Some (repackage align from out)) access = (access ≢ Asks from) × (access ≢ Makes out)

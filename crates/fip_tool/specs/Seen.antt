@@ -42,7 +42,7 @@ WroteForIn h o asked files-old files-new old new result =
 
 -- ---- in a source and a sink, with what files tell before and after
 
--- What was done of a listing of the source, by its result. No file was touched.
+-- What was done of a listing of the source, by its result. What files tell stays.
 abbrev pub ReadSourceIn : {I O : Type 0} → source.Ghosts I → sink.Ghosts O → Option Directory → Option Directory → I → I → O → O
     → Result (Unit {0}) Stop → Type 0
 ReadSourceIn i o told now source-old source-new old new result =

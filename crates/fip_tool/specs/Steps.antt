@@ -80,7 +80,8 @@ Did outcome files now was text files-rose spoiled sink-rose (Ok done) =
     (outcome ≡ Makes (steps_in_plan outcome)) × Are now (with_steps (steps_in_plan outcome) files)
     × Appends was text (printed (steps_in_plan outcome))
 Did outcome files now was text files-rose spoiled sink-rose (Err NoMemory) =
-    (n : ℕ) × Are now (with_steps (take n (steps_in_plan outcome)) files) × Appends was text (printed (take n (steps_in_plan outcome)))
+    (n : ℕ) × Are now (with_steps (take n (steps_in_plan outcome)) files)
+    × Appends was text (printed (take n (steps_in_plan outcome)))
 Did outcome files now was text files-rose spoiled sink-rose (Err SinkFault) =
     sink-rose × (n : ℕ) × Are now (with_steps (take n (steps_in_plan outcome)) files)
     × (k : ℕ) × Appends was text (printed (take n (steps_in_plan outcome)) ++ half_printed k (drop n (steps_in_plan outcome)))

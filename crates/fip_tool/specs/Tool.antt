@@ -92,7 +92,8 @@ abbrev pub IsCompleteCommand : Type 0
 IsCompleteCommand =
     (steps : List CommandStep) (files : Directory) (now : Option Directory) (was mid text : Option (List ℕ))
     (f g s m t status : ℕ) (w x : count.Writes) (result : Result (Unit {0}) Stop)
-    → Did (Makes steps) files now was mid (Rose f g) (MayTear w x) (Rose s m) result → EndsWithLine mid text (Rose m t) result status
+    → Did (Makes steps) files now was mid (Rose f g) (MayTear w x) (Rose s m) result
+    → EndsWithLine mid text (Rose m t) result status
     → (Rose f g → ⊥) → (Rose s m → ⊥) → (Rose m t → ⊥) → (status ≡ 0) ⊎ (status ≡ 9)
 
 -- A listing of the source, where what it gave is a package: no call of the source or of the sink failed, and so all of it is

@@ -53,7 +53,7 @@ fn pack_fault_text(alloc: Global, fault: PackFault) -> Result<Vec<u8>, NoMemory>
     }
 }
 
-// Of the faults of a manifest's rows. The others are those of reading a manifest.
+// `BadCount` and `TooLarge` are faults of a manifest that is made. The others are of reading one.
 fn manifest_fault_text(alloc: Global, fault: ManifestFault) -> Result<Vec<u8>, NoMemory>
     ensures { IfOk result (λ found. found.items ≡ said.manifest_fault_text fault) }
 {

@@ -116,7 +116,9 @@ fn unpack_entries<H: Files, O: Sink>(
         (filter (λ e. (length unpacked.now.names.now == 0) || has_type_among unpacked.now.names.now e) entries.now)) result
         files.old files.new sink.old sink.new }
     ensures spares { (access : Access) → access ≢ Asks unpacked.now.from.now
-        → ((guid : List ℕ) → access ≢ Makes (unpacked_name unpacked.now.prefix.now guid)) → H.spares files.old files.new access }
+        → All (λ e. access ≢ Makes (unpacked_name unpacked.now.prefix.now e.guid))
+        (filter (λ e. (length unpacked.now.names.now == 0) || has_type_among unpacked.now.names.now e) entries.now)
+        → H.spares files.old files.new access }
 {
     for entry in entries {
         if is_chosen(unpacked.names, entry) {

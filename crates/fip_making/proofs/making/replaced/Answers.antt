@@ -2,8 +2,8 @@ use Rattle.std.proofs.Common.{◌≡◌, ◌∙◌, All, List, Option, ℕ, Some
 use Rattle.host_io.specs.Contents.{Directory}
 use Rattle.fwu_formats.specs.Package.{Entry, Toc}
 use Rattle.fip_words.specs.Order.{part_view}
-use Rattle.fip_making.specs.{Payloads.HasEntry, Payloads.file_bytes, Payloads.made_by, Payloads.part_told, Values.parts_in}
-use Rattle.fip_making.proofs.{Packings.there-of-files, Packings.gives-same, Repacking.replaced-value}
+use Rattle.fip_making.specs.{Payloads.HasEntry, Payloads.IsElsewhere, Payloads.file_bytes, Payloads.made_by, Payloads.part_told, Values.parts_in, declared.payloads.Payload.Payload}
+use Rattle.fip_making.proofs.{Packings.there-of-files, Packings.gives-same, Repacking.replaced-value, Tables.if-ok-as}
 use Rattle.fip_making.proofs.making.replaced.Goals as goal
 
 -- the entries' payloads, in files that stayed as they were
@@ -30,3 +30,7 @@ returns-in-Ok-clause-told g c = λ told e.
       there-of-files _ (Some told) c.in-Ok.new.items c.as_slice.result.now (sym e) c.as_slice.ensures.value c.in-Ok.ensures.there,
       entries-in _ (Some told) c.args.from.now c.as_slice-entries.result.now c.args.toc.now.entries (sym e) entries c.requires,
     ))
+
+pub returns-in-Ok-clause-pieces : goal.returns-in-Ok-clause-pieces
+returns-in-Ok-clause-pieces g c =
+    if-ok-as c.repacked.result _ _ (λ m none access other. none access (other.0, subst (λ (ps : List Payload). IsElsewhere ps access) (sym c.as_slice.ensures.value) (c.in-Ok.ensures.elsewhere access other.1))) c.repacked.ensures.pieces

@@ -1,7 +1,8 @@
-use Rattle.std.proofs.Common.{refl, sym, ap, ◌∙◌}
+use Rattle.std.proofs.Common.{◌≢◌, refl, sym, ap, ◌∙◌}
 use Rattle.std.specs.Prelude.{find}
 use Rattle.base_core.specs.Bytes.{same_bytes}
 use Rattle.fwu_formats.specs.Package.{Entry}
+use Rattle.host_io.specs.Access.{Asks}
 use Rattle.fip_making.specs.{declared.payloads.Payload.Payload, Payloads.IsThere, Payloads.file_bytes}
 use Rattle.fip_making.proofs.Packings.{entry-kept, entry-renewed, found-has}
 use Rattle.fip_making.proofs.payloads.payload_of_entry.Goals as goal
@@ -26,3 +27,7 @@ returns-in-None-clause-told c = λ told.
 pub returns-in-Some-clause-there : goal.returns-in-Some-clause-there
 returns-in-Some-clause-there c = λ told has.
     found-has (IsThere told) (λ (p : Payload). same_bytes p.guid c.entry.inside.guid) c.args.new.now c.in-Some.payload has.0 (sym c.in-Some.ensures)
+
+pub returns-in-Some-clause-elsewhere : goal.returns-in-Some-clause-elsewhere
+returns-in-Some-clause-elsewhere c = λ access other.
+    found-has (λ (p : Payload). access ≢ Asks p.file.now) (λ (p : Payload). same_bytes p.guid c.entry.inside.guid) c.args.new.now c.in-Some.payload other.1 (sym c.in-Some.ensures)

@@ -1,8 +1,9 @@
-use Rattle.std.proofs.Common.{◌≡◌, ◌∙◌, ◌+◌, All, List, [], ◌∷◌, ◌++◌, ap, arith, sym, subst, length, map, take}
+use Rattle.std.proofs.Common.{◌≡◌, ◌≢◌, ◌∙◌, ◌+◌, All, List, [], ◌∷◌, ◌++◌, ap, arith, sym, subst, length, map, take}
 use Rattle.std.proofs.lemmas.List.{length-append, map-append, take_more}
 use Rattle.std.proofs.lemmas.List.Elements.{All-get_or}
 use Rattle.fwu_formats.specs.Package.{Entry, Part}
-use Rattle.fip_making.specs.{Payloads.HasEntry, Payloads.IsThere, Payloads.file_bytes, Payloads.part_told, Values.updated_part}
+use Rattle.host_io.specs.Access.{Asks}
+use Rattle.fip_making.specs.{Payloads.HasEntry, Payloads.IsElsewhere, Payloads.IsThere, Payloads.file_bytes, Payloads.part_told, Values.updated_part, declared.payloads.Payload.Payload}
 use Rattle.fip_making.proofs.Packings.{one-more-there}
 use Rattle.fip_making.proofs.payloads.payloads_of_entries.Goals as goal
 
@@ -24,5 +25,8 @@ loop-entry-preserved c =
           subst (All (IsThere told)) (sym more)
           (one-more-there (IsThere told) c.loop-entry.payloads.items p (c.loop-entry.invariant.there told has)
           (c.payload_of_entry.ensures.there told (has.0, subst (HasEntry told c.args.from.now) (sym c.entry-item.is) (All-get_or (HasEntry told c.args.from.now) es i e c.loop-entry-test.true has.1))));
+      elsewhere = λ access other.
+          subst (λ (ps : List Payload). IsElsewhere ps access) (sym more)
+          (one-more-there (λ q. access ≢ Asks q.file.now) c.loop-entry.payloads.items p (c.loop-entry.invariant.elsewhere access other) (c.payload_of_entry.ensures.elsewhere access other));
       count = omega (arith, ap length more, length-append c.loop-entry.payloads.items (p ∷ []), c.loop-entry.invariant.count);
     }

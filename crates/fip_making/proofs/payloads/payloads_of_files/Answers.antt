@@ -1,8 +1,8 @@
-use Rattle.std.proofs.Common.{◌∙◌, All, Ok, Option, List, Vec, [], ◌∷◌, ap, arith, sym, subst, length, map}
+use Rattle.std.proofs.Common.{◌∙◌, ◌≢◌, ℕ, All, Ok, Option, List, Vec, [], ◌∷◌, ap, arith, sym, subst, length, map}
 use Rattle.std.proofs.lemmas.List.{length-append}
 use Rattle.std.specs.Global.{Global}
-use Rattle.host_io.specs.Contents.{Directory}
-use Rattle.fip_making.specs.{Payloads.IsThere, Payloads.part_told, declared.payloads.Payload.Payload, Answers.IsLate}
+use Rattle.host_io.specs.{Access.Asks, Contents.Directory}
+use Rattle.fip_making.specs.{Payloads.IsElsewhere, Payloads.IsThere, Payloads.part_told, declared.payloads.Payload.Payload, Answers.IsLate}
 use Rattle.fip_making.proofs.Packings.{more-payloads, one-more-there, stopped-at}
 use Rattle.fip_making.proofs.ReadsBy.{alone-starved, alone-then, alone-then-stopped, alone-wider, one-spared}
 use Rattle.fip_making.proofs.Tables.{gives-err, rose-still}
@@ -24,6 +24,10 @@ loop-one-preserved g c =
       there = subst (All (IsThere (g.H.Files.contents c.args.files.now))) (sym more)
           (one-more-there (IsThere (g.H.Files.contents c.args.files.now)) c.loop-one.payloads.items c.in-Ok.payload c.loop-one.invariant.there
           (subst (λ (o : Option Directory). IsThere o c.in-Ok.payload) c.loop-one.invariant.files.same c.in-Ok.ensures.there));
+      elsewhere = λ access other.
+          subst (λ (ps : List Payload). IsElsewhere ps access) (sym more)
+          (one-more-there (λ p. access ≢ Asks p.file.now) c.loop-one.payloads.items c.in-Ok.payload (c.loop-one.invariant.elsewhere access other)
+          (subst (λ (name : List ℕ). access ≢ Asks name) (sym c.in-Ok.ensures.file) (one-spared (λ (w : FileWord). w.file.now) _ _ _ c.one-item.is c.loop-one-test.true access other)));
       so-far = λ told e.
           more-payloads told c.args.named.now c.loop-one.one-index c.one-item.result c.loop-one-test.true c.one-item.is
           c.loop-one.payloads.items c.in-Ok.payload (c.loop-one.invariant.so-far told e)

@@ -7,7 +7,7 @@ use Rattle.fip_tool.specs.Tool.{chosen, unpack_steps, unpack_value}
 use Rattle.fip_making.specs.Values.{has_type_among}
 use Rattle.fip_tool.proofs.{Did.made-steps, Did.refused, WritingLemmas.tears-since, WroteLemmas.texts-behind}
 use Rattle.fip_tool.proofs.DoneBy.{done-texts, done-unread}
-use Rattle.fip_tool.proofs.UnpackLemmas.{unpack-err, unpack-of, chosen-filter}
+use Rattle.fip_tool.proofs.UnpackLemmas.{none-for-chosen, unpack-err, unpack-of, chosen-filter}
 use Rattle.fip_making.proofs.{Refusing.late-of-entries, Refusing.handed-on, Tables.gives-err, Tables.rose-still}
 use Rattle.fip_making.proofs.Repacking.{opened, stored-of, there-of}
 use Rattle.fip_tool.proofs.unpack.run_unpack.Goals as goal
@@ -45,4 +45,4 @@ returns g c =
     (λ r. tears-since (g.H.Files.writes c.unpack_entries.new.files) c.table_with.ensures.reads.files.unwritten r)
     (subst (λ (l : List Entry). DidIn g.H.Files g.O.Sink (Makes (unpack_steps c.args.prefix.now o.bytes l)) told c.table_with.new.files c.unpack_entries.new.files c.args.sink.now c.unpack_entries.new.sink c.unpack_entries.result)
     same (put.told told o.bytes (c.table_with.ensures.reads.only.same ∙ is) o.is)))
-    (λ access other. g.met.H.Files.joins _ _ _ access (c.table_with.ensures.reads.files.spares access other.0) (put.spares access other.0 other.1))
+    (λ access other. g.met.H.Files.joins _ _ _ access (c.table_with.ensures.reads.files.spares access other.0) (put.spares access other.0 (none-for-chosen c.args.prefix.now c.args.names.now c.in_ok-toc.toc.entries _ access same other.1)))

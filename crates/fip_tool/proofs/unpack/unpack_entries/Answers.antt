@@ -1,14 +1,15 @@
-use Rattle.std.proofs.Common.{◌∙◌, ◌+◌, ◌≤◌, ◌∷◌, [], ℕ, List, ap, drop, filter, length, map, take, arith, sym, subst}
+use Rattle.std.proofs.Common.{◌∙◌, ◌≢◌, ◌+◌, ◌≤◌, ◌∷◌, [], ℕ, List, ap, drop, filter, length, map, take, arith, sym, subst}
 use Rattle.std.specs.Io.KnownBytes.{Appends}
 use Rattle.std.proofs.lemmas.List.{length-append, length-map, map-append}
 use Rattle.std.specs.Prelude.{◌==◌, ◌||◌}
 use Rattle.std.proofs.lemmas.List.Elements.{All-get_or}
 use Rattle.fwu_formats.specs.Package.{Entry}
-use Rattle.fip_tool.specs.{Lines.unpacked_line, Said.joined_texts, Steps.sink_failed, Wrote.raised_by}
+use Rattle.host_io.specs.Access.{Makes}
+use Rattle.fip_tool.specs.{Lines.unpacked_line, Lines.unpacked_name, Said.joined_texts, Steps.sink_failed, Wrote.raised_by}
 use Rattle.fip_making.specs.Values.{has_type_among}
 use Rattle.fip_tool.proofs.{Texts.said-more, Faults.faults-then, WritingLemmas.none-unwritten}
 use Rattle.fip_tool.proofs.{WritingLemmas.tears-still, WroteLemmas.one-wrote, WroteLemmas.wrote-behind}
-use Rattle.fip_tool.proofs.UnpackLemmas.{all-done, next-chosen, next-passed, split-chosen, step-done, step-passed, step-stops, tells-still, there-still}
+use Rattle.fip_tool.proofs.UnpackLemmas.{all-done, next-chosen, next-passed, one-chosen, split-chosen, step-done, step-passed, step-stops, tells-still, there-still}
 use Rattle.fip_tool.proofs.unpack.unpack_entries.Goals.{then-is_chosen+in_ok-unpack_entry, else-is_chosen}
 use Rattle.fip_making.proofs.{Tables.rose-from, Tables.rose-still, Refusing.handed-on}
 use Rattle.fip_tool.proofs.unpack.unpack_entries.Goals as goal
@@ -42,7 +43,8 @@ loop-entry-preserved g c =
           let more = next-chosen p es i e c.loop-entry-test.true (sym c.entry-item.is) (sym c.is_chosen.ensures ∙ w.if-is_chosen.true) in
           rw (w.files-is, w.sink-is) (record {
             silent = λ e. w.in_ok-unpack_entry.ensures.silent (c.loop-entry.invariant.silent e);
-            spares = λ access asked made. g.met.H.Files.joins _ _ _ access (c.loop-entry.invariant.spares access asked made) (w.in_ok-unpack_entry.ensures.spares access asked made);
+            spares = λ access asked made. g.met.H.Files.joins _ _ _ access (c.loop-entry.invariant.spares access asked made) (w.in_ok-unpack_entry.ensures.spares access asked
+                (one-chosen p es i e c.loop-entry-test.true (sym c.entry-item.is) (sym c.is_chosen.ensures ∙ w.if-is_chosen.true) (λ x. access ≢ Makes (unpacked_name c.args.unpacked.now.prefix.now x.guid)) made));
             quiet = w.in_ok-unpack_entry.ensures.texts.file_count.quiet ∙ c.loop-entry.invariant.quiet;
             unspoiled = none-unwritten (g.H.Files.writes c.args.files.now) (g.H.Files.writes c.loop-entry.files) (g.H.Files.writes w.unpack_entry.new.files) c.loop-entry.invariant.unspoiled w.in_ok-unpack_entry.ensures.unspoiled;
             wrote =
@@ -112,4 +114,7 @@ returns-clause-told g c = λ told bytes is stored.
 
 pub returns-in_err-unpack_entry-clause-spares : goal.returns-in_err-unpack_entry-clause-spares
 returns-in_err-unpack_entry-clause-spares g c = λ access asked made.
-    g.met.H.Files.joins _ _ _ access (c.loop-entry.invariant.spares access asked made) (c.in_err-unpack_entry.ensures.spares access asked made)
+    let p = λ (e : Entry). (length c.args.unpacked.now.names.now == 0) || has_type_among c.args.unpacked.now.names.now e in
+    g.met.H.Files.joins _ _ _ access (c.loop-entry.invariant.spares access asked made) (c.in_err-unpack_entry.ensures.spares access asked
+    (one-chosen p c.args.entries.now c.loop-entry.entry-index c.entry-item.result c.loop-entry-test.true (sym c.entry-item.is) (sym c.is_chosen.ensures ∙ c.if-is_chosen.true)
+    (λ x. access ≢ Makes (unpacked_name c.args.unpacked.now.prefix.now x.guid)) made))

@@ -1,4 +1,4 @@
-use Rattle.std.proofs.Common.{◌≡◌, ◌≢◌, ◌≤◌, ℕ, List, None, Some, filter, length, map, take}
+use Rattle.std.proofs.Common.{◌≡◌, ◌≢◌, ◌≤◌, ℕ, All, List, None, Some, filter, length, map, take}
 use Rattle.std.specs.Prelude.{◌==◌, ◌||◌}
 use Rattle.std.specs.Io.KnownBytes.{Appends}
 use Rattle.host_io.specs.{Access.Access, Access.Asks, Access.Makes, Contents.Directory}
@@ -11,7 +11,9 @@ use Rattle.fip_tool.proofs.unpack.unpack_entries.Given as goal
 abbrev pub invariant-loop-entry : goal.invariant-loop-entry
 invariant-loop-entry g l = record {
   silent : g.H.Files.contents l.fn.files ≡ None → g.H.Files.contents l.files ≡ None;
-  spares : (access : Access) → access ≢ Asks l.unpacked.from.now → ((guid : List ℕ) → access ≢ Makes (unpacked_name l.unpacked.prefix.now guid)) → g.H.Files.spares l.fn.files l.files access;
+  spares : (access : Access) → access ≢ Asks l.unpacked.from.now
+      → All (λ e. access ≢ Makes (unpacked_name l.unpacked.prefix.now e.guid)) (filter (λ e. (length l.unpacked.names.now == 0) || has_type_among l.unpacked.names.now e) l.entries)
+      → g.H.Files.spares l.fn.files l.files access;
   quiet : g.H.Files.faults l.files ≡ g.H.Files.faults l.fn.files;
   unspoiled : NoneUnwritten (g.H.Files.writes l.fn.files) (g.H.Files.writes l.files);
   wrote : (g.H.Files.writes l.files).done ≡ raised_by (length (filter (λ e. (length l.unpacked.names.now == 0) || has_type_among l.unpacked.names.now e) (take l.entry-index l.entries))) (g.H.Files.writes l.fn.files).done;
