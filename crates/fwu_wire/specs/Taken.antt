@@ -1,12 +1,15 @@
 -- What a call of the agent gave, as a reply of the machine, and what a server made of a request.
-use Rattle.std.specs.Prelude.{◌≡◌, ℕ, Bool, true, false, List, length, take, Option, Some, None, Result, Ok, Err, IfOk, ⊤}
+use Rattle.std.specs.Prelude.{◌≡◌, ℕ, ◌+◌, Bool, true, false, List, take, drop, Option, Some, None, Result, Ok, Err, IfOk, IsTrue}
+use Rattle.std.specs.Prelude.{⊤}
 use Rattle.fwu_model.specs.{Call.Call, Reply.Reply, declared.kinds.Status.Status}
+use Rattle.fwu_model.specs.Call as call
 use Rattle.fwu_model.specs.Reply as model
 use Rattle.agent_machine.specs.declared.stop.Stop as agents
 use Rattle.agent_machine.specs.declared.stop.Stop.TheVariants as agent_stop
-use Rattle.agent_machine.specs.{Meets.LeavesFlash, Meets.flash_result, Moment.Moment}
-use Rattle.agent_calls.specs.{AnswersCall.AnswersCall, declared.agent.Agent.Agent}
+use Rattle.agent_machine.specs.{Ends.IsWriter, Fields.Fields, Meets.LeavesFlash, Meets.flash_result, Moment.Moment}
+use Rattle.agent_calls.specs.{AnswersCall.AnswersCall, Metas.has_invalid_target, declared.agent.Agent.Agent}
 use Rattle.wire_frames.specs.{declared.exchange.Admission.Admission, Frames.frame, Frames.request_number_of, Frames.numbered}
+use Rattle.wire_frames.specs.Frames.{PutsFront}
 use Rattle.wire_frames.specs.declared.exchange.Admission.TheVariants.{Acts, Repeats, Ignored}
 use Rattle.wire_frames.specs.Exchange.{LastAnswer, admission}
 use Rattle.fwu_wire.specs.{Replies.message, Replies.replied, declared.replies.AgentReply.AgentReply, declared.stops.Stop.Stop}
@@ -51,6 +54,31 @@ pub record CallMeets (passes : List ℕ → Bool) (c : Call) (result : Result Ag
   pub answers : IfOk result (λ r. AnswersCall passes c (replied r bytes) old new)
   pub leaves : LeavesFlash (flash_result (agent_stopped_by result)) passes c old new
 
+-- ---- what is left as it was
+
+-- Of these calls, by what the agent keeps, and of a request for none the device is neither read nor written.
+abbrev pub IsQuietRequest : Fields → Option Call → Type 0
+IsQuietRequest f None = ⊤
+IsQuietRequest f (Some call.Discover) = ⊤
+IsQuietRequest f (Some (call.OpenRead guid)) = ⊤
+IsQuietRequest f (Some (call.OpenWrite guid)) = ⊤
+IsQuietRequest f (Some call.Cancel) = ⊤
+IsQuietRequest f (Some (call.Begin count)) = IsTrue (has_invalid_target f)
+IsQuietRequest f (Some (call.Commit handle request)) = (image : ℕ) → IsWriter f handle image → ⊥
+IsQuietRequest f other = ⊥
+
+-- how many bytes were read
+abbrev pub count_read : AgentReply → ℕ
+count_read (wire.Got total count) = count
+count_read other = 0
+
+-- The buffer at a stop: a read that the flash stopped may have left any bytes from this place on, as many as it asks for.
+abbrev pub LeavesBuffer : ℕ → Option Call → Stop → List ℕ → List ℕ → Type 0
+LeavesBuffer at (Some (call.Read handle room)) stop.Gone before after = after ≡ before
+LeavesBuffer at (Some (call.Read handle room)) why before after =
+    (take at after ≡ take at before) × (drop (at + room) after ≡ drop (at + room) before)
+LeavesBuffer at asked why before after = after ≡ before
+
 -- ---- a request that acts
 
 -- The message is that of the machine's reply to the call. A refusal leaves what the agent keeps.
@@ -81,10 +109,10 @@ IsNextRequest a body = admission a.last (request_number_of body) ≡ Acts
 -- nothing.
 abbrev pub GivesTaken : Admission → ℕ → Result Taken Stop → LastAnswer → LastAnswer → List ℕ → List ℕ → Type 0
 GivesTaken Acts number (Ok (taken.Reply n true)) old new before after =
-    (length (take n after) ≡ n) × (new ≡ record { last = number; reply = take n after })
+    PutsFront n new.reply before after × (new.last ≡ number)
 GivesTaken Acts number (Err why) old new before after = new ≡ old
 GivesTaken Repeats number (Ok (taken.Reply n false)) old new before after =
-    (length (take n after) ≡ n) × (take n after ≡ old.reply) × (new ≡ old)
+    PutsFront n old.reply before after × (new ≡ old)
 GivesTaken Ignored number (Ok taken.Ignored) old new before after = (new ≡ old) × (after ≡ before)
 GivesTaken admitted number other old new before after = ⊥
 

@@ -1,9 +1,9 @@
 //! Calls of the agent, with their answers as replies.
-ghost use Rattle.std.specs.Prelude.{◌≡◌, ◌≤◌, ℕ, Bool, List, IsFalse, IfOk, Err, length, ◌++◌};
-ghost use Rattle.agent_calls.specs.Shown.{AgentGoes, gone, moment};
+ghost use Rattle.std.specs.Prelude.{◌≡◌, ◌≤◌, ℕ, Bool, List, IsFalse, IfOk, IfErr, Some, Err, drop, length, ◌++◌};
+ghost use Rattle.agent_calls.specs.Shown.{AgentGoes, device, fields, gone, moment};
 ghost use Rattle.fwu_model.specs.Call as call;
 ghost use Rattle.fwu_wire.specs.Calls.{most_room, open_call, shown, AsksWithin, FitsFrame};
-ghost use Rattle.fwu_wire.specs.Taken.{CallMeets, agents_answer, said};
+ghost use Rattle.fwu_wire.specs.Taken.{CallMeets, IsQuietRequest, LeavesBuffer, agents_answer, count_read, said};
 
 use crate::calls::AgentCall;
 use crate::replies::AgentReply;
@@ -54,6 +54,8 @@ fn open<D: Flash>(agent: &mut Agent<D>, guid: Guid, op: Op) -> Result<AgentReply
         CallMeets passes (open_call guid op) result bytes
         (moment agent.old) (moment agent.new) }
     ensures goes { AgentGoes (agents_answer result) agent.old agent.new }
+    ensures still { device agent.new ≡ device agent.old }
+    ensures none { IfOk result (λ r. count_read r ≡ 0) }
     ensures fits { IfOk result FitsFrame }
 {
     match agent.open(guid, op) {
@@ -69,6 +71,8 @@ fn read<D: Flash>(agent: &mut Agent<D>, handle: u32, out: &mut [u8]) -> Result<A
         CallMeets passes (call.Read handle (length out.old)) result (out.new ++ behind)
         (moment agent.old) (moment agent.new) }
     ensures goes { AgentGoes (agents_answer result) agent.old agent.new }
+    ensures behind { IfOk result (λ r. drop (count_read r) out.new ≡ drop (count_read r) out.old) }
+    ensures buffer { IfErr result (λ why. LeavesBuffer 0 (Some (call.Read handle (length out.old))) why out.old out.new) }
     ensures fits { IfOk result FitsFrame }
 {
     match agent.read_stream(handle, out) {
@@ -90,6 +94,9 @@ pub fn call_agent<D: Flash, V: Verifier>(
         CallMeets (V.passes verifier.now) (shown call.now) result out.new
         (moment agent.old) (moment agent.new) }
     ensures goes { AgentGoes (agents_answer result) agent.old agent.new }
+    ensures still { IsQuietRequest (fields agent.old) (Some (shown call.now)) → device agent.new ≡ device agent.old }
+    ensures behind { IfOk result (λ r. drop (count_read r) out.new ≡ drop (count_read r) out.old) }
+    ensures buffer { IfErr result (λ why. LeavesBuffer 0 (Some (shown call.now)) why out.old out.new) }
     ensures fits { IfOk result FitsFrame }
 {
     match *call {

@@ -25,7 +25,7 @@ pub enum AgentCall<'a> {
         guid: Guid,
         op: Op,
     },
-    /// The bytes stand in the request, at most 4,096 of them.
+    /// The bytes stand in the request; a body has room for 4,096.
     Write {
         handle: u32,
         bytes: &'a [u8],

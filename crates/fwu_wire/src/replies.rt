@@ -1,7 +1,8 @@
 //! The bytes of a reply.
-ghost use Rattle.std.specs.Prelude.{◌≡◌, ◌≤◌, ◌+◌, length, take, drop};
+ghost use Rattle.std.specs.Prelude.{◌≡◌, ◌≤◌, ◌+◌, length, drop};
 ghost use Rattle.fwu_wire.specs.Calls.{FitsFrame};
 ghost use Rattle.fwu_model.specs.Reply as model;
+ghost use Rattle.wire_frames.specs.Frames.{PutsFront};
 ghost use Rattle.fwu_wire.specs.Replies.{below_zero, message, replied, state_number, status_number};
 
 use crate::words::put_words;
@@ -60,7 +61,7 @@ fn state_number(state: AgentState) -> u32
 pub fn put_no_call(out: &mut [u8]) -> usize
     requires { 4104 ≤ length out.old }
     ensures size { result ≡ 4 }
-    ensures bytes { take result out.new ≡ message model.NotUnderstood }
+    ensures puts { PutsFront result (message model.NotUnderstood) out.old out.new }
 {
     put_words(out, &[NOT_UNDERSTOOD])
 }
@@ -73,7 +74,7 @@ pub fn put_reply(out: &mut [u8], reply: AgentReply) -> usize
     requires fits { FitsFrame reply }
     ensures few { result ≤ 4104 }
     ensures some { 4 ≤ result }
-    ensures bytes { take result out.new ≡ message (replied reply (drop 8 out.old)) }
+    ensures puts { PutsFront result (message (replied reply (drop 8 out.old))) out.old out.new }
 {
     match reply {
         AgentReply::Refused(status) => put_words(out, &[status_number(status)]),

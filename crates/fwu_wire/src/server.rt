@@ -1,12 +1,13 @@
 //! The side that answers: the agent's calls, each once.
-ghost use Rattle.std.specs.Prelude.{◌≡◌, ◌≤◌, IsFalse, IfOk, length, take};
-ghost use Rattle.agent_calls.specs.Shown.{AgentGoes, gone, moment};
+ghost use Rattle.std.specs.Prelude.{◌≡◌, ◌≤◌, IsErr, IsFalse, IfOk, IfErr, drop, length, take};
+ghost use Rattle.agent_calls.specs.Shown.{AgentGoes, device, fields, gone, moment};
 ghost use Rattle.wire_frames.specs.Exchange.{admission, none_yet};
-ghost use Rattle.wire_frames.specs.Frames.{IsBody, message_of, request_number_of};
+ghost use Rattle.wire_frames.specs.Frames.{IsBody, PutsFront, message_of, request_number_of};
 ghost use Rattle.fwu_model.specs.Reply as model;
 ghost use Rattle.fwu_wire.specs.Calls.{asks};
 ghost use Rattle.fwu_wire.specs.Replies.{message};
-ghost use Rattle.fwu_wire.specs.Taken.{agent_of, exchange_of, GivesTaken, IsNextRequest, IsReply, LeavesBy, RepliesTo, agent_stopped_by};
+ghost use Rattle.fwu_wire.specs.Taken.{agent_of, exchange_of, GivesTaken, IsNextRequest, IsReply, LeavesBy, RepliesTo};
+ghost use Rattle.fwu_wire.specs.Taken.{IsQuietRequest, LeavesBuffer, agent_stopped_by};
 
 use crate::calling::call_agent;
 use crate::calls::call_of;
@@ -20,8 +21,9 @@ use wire_frames::{Admission, Exchange, number_of, put_head};
 /// Nothing is done for a request that asks for no call. An agent that is gone doesn't answer it either.
 fn answer_none<D: Flash>(called: &mut Agent<D>, out: &mut [u8]) -> Result<usize, Stop>
     requires { 4104 ≤ length out.old }
-    ensures replies { IfOk result (λ n. take n out.new ≡ message model.NotUnderstood) }
+    ensures puts { IfOk result (λ n. PutsFront n (message model.NotUnderstood) out.old out.new) }
     ensures size { IfOk result (λ n. n ≡ 4) }
+    ensures buffer { IsErr result → out.new ≡ out.old }
     ensures goes { AgentGoes (agent_stopped_by result) called.old called.new }
     ensures still { called.new ≡ called.old }
 {
@@ -49,7 +51,10 @@ fn answer<D: Flash, V: Verifier>(
         (moment called.old) (moment called.new) }
     ensures some { IfOk result (λ n. 4 ≤ n) }
     ensures few { IfOk result (λ n. n ≤ 4104) }
+    ensures behind { IfOk result (λ n. drop n out.new ≡ drop n out.old) }
+    ensures buffer { IfErr result (λ why. LeavesBuffer 8 (asks message.now) why out.old out.new) }
     ensures goes { AgentGoes (agent_stopped_by result) called.old called.new }
+    ensures still { IsQuietRequest (fields called.old) (asks message.now) → device called.new ≡ device called.old }
 {
     match call_of(message) {
         Some(call) => match call_agent(called, &call, &mut out[8..], verifier) {
@@ -105,6 +110,9 @@ impl<D: Flash> Server<D> {
             LeavesBy result (V.passes verifier.now) (asks message.now)
             (moment (agent_of self.old)) (moment (agent_of self.new)) }
         ensures goes { AgentGoes (agent_stopped_by result) (agent_of self.old) (agent_of self.new) }
+        ensures quiet { IsQuietRequest (fields (agent_of self.old)) (asks message.now) →
+            device (agent_of self.new) ≡ device (agent_of self.old) }
+        ensures buffer { IfErr result (λ why. LeavesBuffer 16 (asks message.now) why out.old out.new) }
     {
         let size = match answer(&mut self.agent, message, &mut out[8..], verifier) {
             Ok(size) => size,
@@ -121,7 +129,7 @@ impl<D: Flash> Server<D> {
 
     /// Takes the body of a request, of 8 to 4,108 bytes. With the next number it acts: the agent does what it asks for, and the
     /// frame of the reply stands at the front of `out` and is kept. The last number again gives that frame again, and does nothing.
-    /// A request of another number is ignored, and behind 4,294,967,295 each is.
+    /// Another number is ignored. Behind 4,294,967,295 no other acts.
     ///
     /// Lost, Fault: the flash stopped the call, and there is no reply. Gone: it stopped an earlier one. The number stays unused.
     pub fn take<V: Verifier>(
@@ -135,7 +143,11 @@ impl<D: Flash> Server<D> {
         // By the number and what is kept: what is given, and what is kept then.
         ensures gives { GivesTaken (admission (exchange_of self.old).last (request_number_of request.now))
             (request_number_of request.now) result (exchange_of self.old) (exchange_of self.new) out.old out.new }
-        // On any device: the reply to a request that acted is the machine's.
+        // At a stop: the buffer is as it was, but where the flash stopped a read.
+        ensures buffer { IfErr result (λ why.
+            LeavesBuffer 16 (asks (message_of request.now)) why out.old out.new) }
+        // On any device, of an agent that isn't gone: the reply to a request that acted is the machine's. (The bytes that are read,
+        // and whether `previous` goes back, are so where the device tells its content.)
         ensures reply { IsFalse (gone (agent_of self.old)) →
             IsReply (V.passes verifier.now) (asks (message_of request.now))
             (request_number_of request.now) result out.new
@@ -150,6 +162,9 @@ impl<D: Flash> Server<D> {
         // and that no other touches the agent.
         ensures still { (IsNextRequest (exchange_of self.old) request.now → ⊥) →
             agent_of self.new ≡ agent_of self.old }
+        // On any device, by the call and by what the agent keeps: which requests leave the device as it was.
+        ensures quiet { IsQuietRequest (fields (agent_of self.old)) (asks (message_of request.now)) →
+            device (agent_of self.new) ≡ device (agent_of self.old) }
     {
         let number = number_of(request);
         match self.exchange.admit(number) {

@@ -6,7 +6,7 @@ use thiserror::Error;
 pub enum Taken {
     /// The frame of its reply was given, of so many bytes. It acted, or it acted before and the frame is the one that was kept.
     Reply { length: u32, acted: bool },
-    /// It has another number than the last and the next one.
+    /// It is neither the next number nor that of a request that acted last.
     Ignored,
 }
 

@@ -23,7 +23,7 @@ abbrev pub status_after : Result (Unit {0}) ServeEnd → ℕ
 status_after (Ok value) = 0
 status_after (Err e) = status_of e
 
--- before its source was at its end
+-- any end but that of the source between two frames
 abbrev pub IsEarlyEnd : ServeEnd → Type 0
 IsEarlyEnd end.End = ⊥
 IsEarlyEnd other = ⊤

@@ -19,7 +19,7 @@ pub record ServesRequests (E : Scene) (first : List Turn) (start : TurnMoment) (
   pub journal_is : new.run.journal ≡ first ++ turns
   pub ran : RanIn E new.run.journal start new.run.moment
   pub none : IsFalse (list_any (λ (t : Turn). ends_run t.reply) new.run.journal)
-  -- no loss of power was armed
+  -- no turn armed a loss of power
   pub uncut : cuts_in new.run.journal ≡ 0
   pub answers : AnswersRequests bodies turns new.exchange
   pub took : Appends old.sink.bytes new.sink.bytes (all_frames (messages_of turns) (answered_numbers 0 bodies))

@@ -14,7 +14,8 @@ use Rattle.serving.specs.declared.ends.ServeEnd.TheVariants as end
 
 -- ---- why it ended so
 
--- Reading stopped, by the bytes where the source tells them: behind some frames.
+-- Reading stopped, by the bytes where the source tells them: behind some frames. (`TooLong`: the stream is longer than the most
+-- bytes.)
 abbrev pub StopsBy : FrameStop → Port → Type 0
 StopsBy why from = (stream : List ℕ) → from.bytes ≡ Some stream → (bodies : List (List ℕ)) × StopsStream why stream bodies
 
@@ -37,7 +38,7 @@ pub record IsLost (old new : TurnMoment) : Type 0 where
   pub counted : Rose old.counts.cuts new.counts.cuts ⊎ Rose old.counts.reached new.counts.reached
   pub unarmed : old.armed ≡ None → Rose old.counts.cuts new.counts.cuts
 
--- Want of memory has no other cause.
+-- For want of memory no cause is said.
 abbrev pub Cause : ServeEnd → TurnMoment → Port → At → Port → Port → Type 0
 Cause end.End start sink new from to = StopsBy stop.End from
 Cause end.ReadFailed start sink new from to = Rose from.faults to.faults

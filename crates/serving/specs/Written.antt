@@ -1,4 +1,4 @@
--- The calls of a run that a request may ask for.
+-- The calls that requests ask for, and what is written for them.
 use Rattle.std.specs.Prelude.{List, ℕ, IsFalse, ◌≡◌, ◌≤◌, ◌+◌, ◌-◌, ◌∷◌, ◌==◌, ◌&&◌, not, if◌then◌else◌, length, map, slice_index_or, []}
 use Rattle.fwu_model.specs.Call as model
 use Rattle.fwu_model.specs.{Causes.is_cut, Run.is_send, Reply.Turn}

@@ -28,7 +28,7 @@ pub struct Serving<D: Flash> {
     pub exchange: Exchange,
 }
 
-/// Puts a frame into the sink, in one piece.
+/// Puts a frame into the sink.
 fn put<O: Sink>(sink: &mut O, frame: &[u8]) -> Result<(), ServeEnd>
     ensures puts { Puts frame.now result (sink_port O.Sink sink.old) (sink_port O.Sink sink.new) }
     ensures ends { IfErr result IsEarlyEnd }

@@ -2,6 +2,7 @@ use Rattle.std.proofs.Common.{◌≡◌, ◌≤◌, ◌∙◌, ℕ, List, ◌++�
 use Rattle.std.proofs.lemmas.List.{length-take-le}
 use Rattle.fwu_model.specs.Call as call
 use Rattle.fwu_wire.specs.Calls.{open_call, shown, AsksWithin}
+use Rattle.fwu_wire.proofs.Buffers.{read-behind}
 use Rattle.fwu_wire.proofs.Meeting.{here, meets-as, meets-done, meets-previous}
 use Rattle.fwu_wire.proofs.calling.call_agent.Goals as goal
 
@@ -23,6 +24,9 @@ returns-in-Read-clause-meets g c live =
     let behind : List ℕ = drop c.in-Read.room c.args.out.now in
     meets-as (shown c.args.call.now) (call.Read c.in-Read.handle (length (take c.in-Read.room c.args.out.now))) _ c.read.result (c.read.new.out ++ behind) passes _ _
     (ap shown c.in-Read.is ∙ sym (ap (call.Read c.in-Read.handle) room)) refl (c.read.ensures.meets live passes behind)
+
+pub returns-in-Read-clause-behind : goal.returns-in-Read-clause-behind
+returns-in-Read-clause-behind g c = read-behind c.read.result c.in-Read.room c.args.out.now c.read.new.out c.read.auto.out c.read.ensures.behind
 
 pub returns-in-Previous-clause-meets : goal.returns-in-Previous-clause-meets
 returns-in-Previous-clause-meets g c live =
