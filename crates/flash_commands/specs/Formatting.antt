@@ -132,11 +132,11 @@ pub record Tries (passes : List ℕ → Bool) (tells : Bool) (told : Option Dire
 abbrev pub layout_of : NewFlash → Layout
 layout_of wanted = record { banks = wanted.banks; rows = wanted.rows.items }
 
--- Nothing was done for want of memory, or since a list of digests was not read or is none. Or the flash was formatted or was not,
--- and the line of that was put into the sink.
+-- Nothing was done for want of memory, and no call of the files failed; or since a list of digests was not read or is none. Or the
+-- flash was formatted or was not, and the line of that was put into the sink.
 pub data Formats (passes : List ℕ → Bool) (device : Device) (g : Given) (name : List ℕ) (L : Layout)
     (old new : World) (status : ℕ) (said : Note) : Type 0 where
-  starved : status ≡ 9 → said ≡ note.Nothing → new.flash ≡ old.flash → PutsNone old new
+  starved : status ≡ 9 → said ≡ note.Nothing → new.flash ≡ old.flash → PutsNone old new → new.faults.files ≡ old.faults.files
       → Formats passes device g name L old new status said
   tried : HasGoodList g.list g.files → (r : Result Formatted FormatStop)
       → Tries passes device.tells g.files name L device.blocks old.flash new.flash old.faults.files new.faults.files r

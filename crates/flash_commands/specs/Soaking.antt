@@ -1,4 +1,4 @@
--- What the turns of a soak do, and what its line tells.
+-- What the turns of a soak do, and the line of one that ends it.
 use Rattle.std.specs.Prelude.{◌≡◌, ◌≢◌, ◌≤◌, ℕ, ◌+◌, Bool, List, ◌∷◌, ◌++◌, Some, IsSome, IsTrue, IsFalse, ◌<◌, slice_index_or, []}
 use Rattle.std.specs.List.{list_any}
 use Rattle.host_io.specs.Contents.{Directory, bytes_in}

@@ -181,8 +181,8 @@ fn format_and_soak<D: Flash, O: Sink>(
 /// the seed, by any manifest. No turn's line is printed. At the end one line tells the totals.
 ///
 /// Status 5 says that power was lost or the flash failed while it was formatted, or that it failed within a turn. 6 says that a
-/// boot started no bank, whose line is then printed, and 7 that the flash is too small. Status 9 says that memory was wanting,
-/// for a package, a round or the line; the turns that were done are in the journal.
+/// boot started no bank, whose line is then printed, and 7 that the flash is too small, or does not hold what was written to it.
+/// Status 9 says that memory was wanting, for a package, a round or the line; the turns that were done are in the journal.
 pub fn soak<D: Flash, O: Sink>(
     alloc: Global,
     seed: u32,

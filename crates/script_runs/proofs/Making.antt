@@ -11,10 +11,10 @@ use Rattle.host_io.specs.declared.source.Source as source
 use Rattle.fwu_words.specs.declared.orders.ScriptFrom.TheVariants as origin
 use Rattle.script_turns.specs.Runs.{sends_none}
 use Rattle.script_runs.specs.Refusing.{LacksScript, in_short, plan_of, text_of}
-use Rattle.script_runs.specs.Sourced.{FailsOnce, MakesScript, ReadsInTime, TakesScript}
+use Rattle.script_runs.specs.Sourced.{FailsOnce, MakesScript, StarvesScript, TakesScript}
 use Rattle.script_runs.specs.{Ways.AsksTurns, Ways.HasCalls, declared.refusing.Refusal.Refusal}
 use Rattle.script_runs.specs.declared.refusing.Refusal.TheVariants as why
-use Rattle.script_runs.proofs.TopSources.{none-fails, takes-short}
+use Rattle.script_runs.proofs.TopSources.{none-fails, starves-by, starves-nothing, takes-short}
 
 -- ---- what is asked
 
@@ -59,19 +59,29 @@ source-not-boot e = absurd cc
 boot-not-source : {A : Type 0} (from : ScriptFrom) → from ≡ origin.Boot → from ≡ origin.Source → A
 boot-not-source from boot e = absurd cc
 
+same-refusal : {R : Type 0} (x y : Refusal) → ◌≡◌ {A = Result R Refusal} (Err x) (Err y) → x ≡ y
+same-refusal x y e = cc
+
+-- behind a script that was made, memory was wanting for its turns
+pub starves-made : {I R : Type 0} (s : source.Ghosts I) (from : ScriptFrom) (calls : R → List Call) (made : R) (old new : I) → MakesScript s from calls (Ok made) old new → StarvesScript (s.left old) (s.left new) (s.faults old) (s.faults new)
+starves-made s origin.Source calls made old new e = starves-by 0 _ _ _ _ (e.takes refl) (λ is. absurd (omega arith)) refl (e.count.none refl)
+starves-made {I = I} s origin.Boot calls made old new e =
+    subst (λ (x : I). StarvesScript (s.left old) (s.left x) (s.faults old) (s.faults x)) (sym (e.boot_alone refl)) (starves-nothing (s.left old) (s.faults old))
+
 module _ {I : Type 0} (s : source.Ghosts I) (from : ScriptFrom) (old new : I) (alone : from ≡ origin.Boot → new ≡ old) (later : s.faults old ≤ s.faults new) (once : ReadsOnce s old new) where
   pub makes : {R : Type 0} (calls : R → List Call) (made : R) → HasCalls (text_of from (s.left old)) (calls made) → (from ≡ origin.Source → TakesScript [] 0 (s.left old) (s.left new))
       → FailsOnce [] 0 (s.faults old) (s.faults new) → MakesScript s from calls (Ok made) old new
-  makes calls made has takes count = record { script = has; lacks = tt; boot_alone = alone; takes = takes; count = count; later = later; once = once }
+  makes calls made has takes count = record { script = has; lacks = tt; boot_alone = alone; takes = takes; count = count; starved = λ is. absurd cc; later = later; once = once }
 
   pub lacks : {R : Type 0} (calls : R → List Call) (met : Refusal) → LacksScript from (s.left old) (s.faults old) (s.faults new) met → (from ≡ origin.Source → TakesScript [] (plan_of met).status (s.left old) (s.left new))
-      → FailsOnce [] (plan_of met).status (s.faults old) (s.faults new) → MakesScript s from calls (Err met) old new
-  lacks calls met why takes count = record { script = tt; lacks = why; boot_alone = alone; takes = takes; count = count; later = later; once = once }
+      → FailsOnce [] (plan_of met).status (s.faults old) (s.faults new) → (met ≡ why.NoMemory → StarvesScript (s.left old) (s.left new) (s.faults old) (s.faults new)) → MakesScript s from calls (Err met) old new
+  lacks calls met lack takes count starved =
+      record { script = tt; lacks = lack; boot_alone = alone; takes = takes; count = count; starved = λ is. starved (same-refusal met why.NoMemory is); later = later; once = once }
 
-  -- for want of memory, where no read failed
-  pub starves : {R : Type 0} (calls : R → List Call) → (from ≡ origin.Source → ReadsInTime (s.left old) (s.left new)) → s.faults new ≡ s.faults old → MakesScript s from calls (Err why.NoMemory) old new
-  starves calls in_time same =
-      lacks calls why.NoMemory (λ some. absurd (some refl)) (λ is. takes-short 9 _ _ (in_time is) (λ eight. absurd (omega arith)) refl refl) (none-fails [] 9 _ _ same)
+  -- for want of memory
+  pub starves : {R : Type 0} (calls : R → List Call) → StarvesScript (s.left old) (s.left new) (s.faults old) (s.faults new) → MakesScript s from calls (Err why.NoMemory) old new
+  starves calls short =
+      lacks calls why.NoMemory (λ some. absurd (some refl)) (λ is. takes-short 9 _ _ short.in_time (λ eight. absurd (omega arith)) refl refl) (none-fails [] 9 _ _ short.quiet) (λ is. short)
 
 -- one boot, for which nothing is read
 module _ {I : Type 0} (s : source.Ghosts I) (at : I) (still : ReadsOnce s at at) (from : ScriptFrom) (boot : from ≡ origin.Boot) where
@@ -81,4 +91,4 @@ module _ {I : Type 0} (s : source.Ghosts I) (at : I) (still : ReadsOnce s at at)
       (subst (λ (f : ScriptFrom). HasCalls (text_of f (s.left at)) calls) (sym boot) (boot-is-short, boot-is-script ∙ ap Ok (sym is))) (boot-not-source from boot) (none-fails [] 0 _ _ refl)
 
   pub starves-boot : MakesScript s from (λ (script : List Call). script) (Err why.NoMemory) at at
-  starves-boot = starves s from at at (λ again. refl) (omega arith) still (λ script. script) (boot-not-source from boot) refl
+  starves-boot = starves s from at at (λ again. refl) (omega arith) still (λ script. script) (starves-nothing (s.left at) (s.faults at))

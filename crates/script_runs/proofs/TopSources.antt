@@ -8,7 +8,7 @@ use Rattle.script_text.specs.Limit.{Extent, IsExtentOf}
 use Rattle.script_text.proofs.Extents.{long-stays-long}
 use Rattle.base_core.specs.Counts.{Rose}
 use Rattle.host_io.specs.{Calls.raised, Printed.FailsAtThree, Printed.Prints, Printed.all, Printed.front, Printed.nothing}
-use Rattle.script_runs.specs.Sourced.{FailsOnce, ReadsInTime, TakesScript, reads_all}
+use Rattle.script_runs.specs.Sourced.{FailsOnce, ReadsInTime, StarvesScript, TakesScript, reads_all}
 
 -- ---- reading a script's text from the source
 
@@ -114,6 +114,10 @@ takes-more was mid new before middle limit text piece status long r some short f
   to_end = end;
 }
 
+-- at a status that tells whether it is too long
+pub starves-by : (status : ℕ) (was now : Option (List ℕ)) (before after : ℕ) → TakesScript [] status was now → status ≢ 8 → IsFalse (may_lack status) → after ≡ before → StarvesScript was now before after
+starves-by status was now before after t other whole same = record { in_time = t.in_time; within = t.within other whole; quiet = same }
+
 nothing-of : (piece : List ℕ) → length piece ≤ 0 → piece ≡ []
 nothing-of [] none = refl
 nothing-of (x ∷ xs) none = absurd (omega (arith, none))
@@ -131,11 +135,13 @@ takes-failed was mid new before middle limit text r same =
     takes-none was mid new before middle limit text [] 2 r (Consumes-kept mid mid new [] (Consumes-nil mid) same) (omega arith) (λ is. absurd (omega arith)) (λ all. absurd (false≢true all))
 
 -- it gave a piece that was all within the limits, for which memory was wanting
-pub takes-piece : (was mid new : Option (List ℕ)) (before middle : ℕ) (limit next : Extent) (text piece : List ℕ) (n : ℕ) → IsReading was mid before middle limit text → Consumes mid new piece → length piece ≤ 4096 → length text + length piece ≤ 4194305
-    → n ≤ length piece → length piece ≤ n → ((given : List ℕ) → IsExtentOf limit given → IsExtentOf next (given ++ take n piece)) → TakesScript [] 9 was new
-takes-piece was mid new before middle limit next text piece n r some short few within entire fed =
-    takes-more was mid new before middle limit text piece 9 false r some short few (ap (λ (l : List ℕ). is_too_long (text ++ l)) (sym (take_all n piece (omega arith))) ∙ (fed text r.extent).within)
-    (λ is. absurd (omega arith)) (λ is. refl) (λ all. absurd (false≢true all))
+pub starves-piece : (was mid new : Option (List ℕ)) (before middle after : ℕ) (limit next : Extent) (text piece : List ℕ) (n : ℕ) → IsReading was mid before middle limit text → after ≡ middle → Consumes mid new piece → length piece ≤ 4096 → length text + length piece ≤ 4194305
+    → n ≤ length piece → length piece ≤ n → ((given : List ℕ) → IsExtentOf limit given → IsExtentOf next (given ++ take n piece)) → StarvesScript was new before after
+starves-piece was mid new before middle after limit next text piece n r same some short few within entire fed =
+    starves-by 1 was new before after
+    (takes-more was mid new before middle limit text piece 1 false r some short few (ap (λ (l : List ℕ). is_too_long (text ++ l)) (sym (take_all n piece (omega arith))) ∙ (fed text r.extent).within)
+    (λ is. absurd (omega arith)) (λ is. refl) (λ all. absurd (false≢true all)))
+    (λ is. absurd (omega arith)) refl (same ∙ r.none)
 
 -- it gave a piece with which it is too long
 pub takes-long : (was mid new : Option (List ℕ)) (before middle : ℕ) (limit : Extent) (text piece : List ℕ) (n : ℕ) → IsReading was mid before middle limit text → Consumes mid new piece → length piece ≤ 4096 → length text + length piece ≤ 4194305
@@ -155,6 +161,10 @@ takes-nothing journal status was now same none other leaves = subst (TakesScript
   ran = λ some. absurd (some none);
   to_end = λ every. absurd (false≢true (sym leaves ∙ every));
 })
+
+pub starves-nothing : (was : Option (List ℕ)) (faults : ℕ) → StarvesScript was was faults faults
+starves-nothing was faults =
+    starves-by 1 was was faults faults (takes-nothing [] 1 was was refl refl (λ is. absurd (omega arith)) refl) (λ is. absurd (omega arith)) refl refl
 
 -- memory was wanting, or the sink cut the line short
 pub takes-short : (status : ℕ) (was now : Option (List ℕ)) → ReadsInTime was now → status ≢ 8 → IsTrue (may_lack status) → IsFalse (reads_all status) → TakesScript [] status was now

@@ -9,6 +9,7 @@ use Rattle.fwu_words.specs.declared.orders.ScriptFrom.{ScriptFrom}
 use Rattle.fwu_words.specs.declared.orders.ScriptFrom.TheVariants as origin
 use Rattle.script_runs.specs.{declared.reading.SourceStop.SourceStop, Ways.HasCalls, declared.refusing.Refusal.Refusal}
 use Rattle.script_runs.specs.declared.reading.SourceStop.TheVariants as stop
+use Rattle.script_runs.specs.declared.refusing.Refusal.TheVariants as why
 use Rattle.script_runs.specs.Refusing.{LacksScript, plan_of, text_of}
 
 -- But for the last read, of at most 4096 bytes, the bytes that were taken are no script that is too long. They end at byte
@@ -38,8 +39,7 @@ pub record TakesScript (journal : List Turn) (status : ℕ) (left_before left_af
   -- nor is anything left at these statuses: so at 4, a bad line, the whole source was read
   pub to_end : IsTrue (reads_all status) → IsAtEnd left_after
 
--- The first call of the source that fails is the last one, and no turn ran then. The line of that may be cut by the sink, or find
--- no memory.
+-- At most one call of the source failed, and then no turn ran. The line of that may be cut by the sink, or find no memory.
 pub record FailsOnce (journal : List Turn) (status before after : ℕ) : Type 0 where
   pub once : (after ≡ before) ⊎ (after ≡ raised before)
   pub ran : journal ≢ [] → after ≡ before
@@ -59,6 +59,12 @@ abbrev pub status_made : {R : Type 0} → Result R Refusal → ℕ
 status_made (Ok made) = 0
 status_made (Err met) = (plan_of met).status
 
+-- Where memory was wanting, no read of the source failed, and what was taken of it is not too long.
+pub record StarvesScript (left_before left_after : Option (List ℕ)) (before after : ℕ) : Type 0 where
+  pub in_time : ReadsInTime left_before left_after
+  pub within : IsFalse (is_too_long (in_time.before ++ in_time.last))
+  pub quiet : after ≡ before
+
 -- A value with these calls was made, or there is no script to run. Only words that ask for a script of the source have it read.
 pub record MakesScript {I R : Type 0} (s : source.Ghosts I) (from : ScriptFrom) (calls : R → List Call) (result : Result R Refusal)
     (old new : I) : Type 0 where
@@ -71,6 +77,8 @@ pub record MakesScript {I R : Type 0} (s : source.Ghosts I) (from : ScriptFrom) 
   -- what was taken of the source, and how often that failed, as of a run that ends so before its first turn
   pub takes : from ≡ origin.Source → TakesScript [] (status_made result) (s.left old) (s.left new)
   pub count : FailsOnce [] (status_made result) (s.faults old) (s.faults new)
+  -- and how it was read where memory was wanting
+  pub starved : result ≡ Err why.NoMemory → StarvesScript (s.left old) (s.left new) (s.faults old) (s.faults new)
   -- the count of reads that failed doesn't fall
   pub later : s.faults old ≤ s.faults new
   -- no read is made behind one that gave no bytes or failed

@@ -1,4 +1,4 @@
--- The ways that `run --gpt` or `boot --gpt` may end, and what they promise.
+-- The ways that `run --gpt` or `boot --gpt` may end.
 use Rattle.std.specs.Prelude.{◌≡◌, ◌≢◌, ℕ, Bool, List, Option, Some, IsTrue, IsFalse, []}
 use Rattle.gpt_core.specs.{declared.layout.Places.Places, Beside.Beside, Beside.TouchesPlaces}
 use Rattle.fwu_model.specs.Call.{Call}

@@ -38,9 +38,10 @@ pub enum Note {
 pub struct Done<D: Flash> {
     /// The exit status. 0 is done, 1 usage, 2 that the source or a file was not read. (The file is a list of digests, a package
     /// to format with, or what a line of `send` names, after whose line the run ended.) 3 is that the sink failed, 4 no script, 5
-    /// that the flash failed, 6 nothing to boot. 7 is no layout or package that a flash can be formatted with, 8 a script or
-    /// requests that are too long, 9 no memory. 10 is no partition table that gives a flash, 11 bytes that are no frame, 12 that
-    /// power was lost while requests were served, 13 no list of digests.
+    /// that the flash failed, or that power was lost in `show`, in a format, of a soak too, or before the turns of `--gpt`. 6 is
+    /// nothing to boot, 7 no layout or package that a flash can be formatted with, 8 a script or requests that are too long, 9 no
+    /// memory. 10 is no partition table that gives a flash, 11 bytes that are no frame, 12 that power was lost while requests were
+    /// served, 13 no list of digests.
     pub status: u8,
     /// What the run met, where its status alone doesn't tell it.
     pub note: Note,

@@ -4,7 +4,7 @@ ghost use Rattle.base_core.specs.Counts.{Rose};
 ghost use Rattle.fwu_model.specs.Script.{is_too_long};
 ghost use Rattle.host_io.specs.Once.{ReadsOnce};
 ghost use Rattle.fwu_words.specs.declared.orders.ScriptFrom.TheVariants as origin;
-ghost use Rattle.script_runs.specs.Sourced.{FailsOnce, MakesScript, TakesScript, status_read};
+ghost use Rattle.script_runs.specs.Sourced.{FailsOnce, MakesScript, StarvesScript, TakesScript, status_read};
 
 use crate::refusing::Refusal;
 use crate::room::{Ready, Room};
@@ -34,6 +34,8 @@ pub fn read_source<I: Source>(alloc: Global, source: &mut I) -> Result<Vec<u8>, 
     ensures failed { result ≡ Err SourceStop.Failed → Rose (I.faults source.old) (I.faults source.new) }
     ensures takes { TakesScript [] (status_read result) (I.left source.old) (I.left source.new) }
     ensures count { FailsOnce [] (status_read result) (I.faults source.old) (I.faults source.new) }
+    ensures starved { result ≡ Err SourceStop.NoMemory
+        → StarvesScript (I.left source.old) (I.left source.new) (I.faults source.old) (I.faults source.new) }
     ensures later { I.faults source.old ≤ I.faults source.new }
     ensures once { ReadsOnce I.Source source.old source.new }
 {

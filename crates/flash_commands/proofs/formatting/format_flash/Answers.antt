@@ -23,7 +23,7 @@ pub returns-in_default-clause-formats : goal.returns-in_default-clause-formats
 returns-in_default-clause-formats g c = λ script source sources.
     let e = c.refuse.ensures in
     let stuck = e.starved refl in
-    starved stuck.0 e.note (ap (moment g.D.Flash) e.flash) (ap g.O.Sink.taken stuck.1, ap g.O.Sink.faults stuck.1)
+    starved stuck.0 e.note (ap (moment g.D.Flash) e.flash) (ap g.O.Sink.taken stuck.1, ap g.O.Sink.faults stuck.1) refl
 
 pub returns-in_default-clause-later_sink : goal.returns-in_default-clause-later_sink
 returns-in_default-clause-later_sink g c = later _ _ _ _ _ _ _ c.refuse.ensures.prints

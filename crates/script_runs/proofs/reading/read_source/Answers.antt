@@ -2,7 +2,7 @@ use Rattle.std.proofs.Common.{arith, ap, ◌∙◌, inr, refl, length-take, List
 use Rattle.std.specs.Prelude.{not}
 use Rattle.host_io.specs.Calls.{raised}
 use Rattle.host_io.proofs.Once.{bytes-none, bytes-one, bytes-then, once-one, once-then}
-use Rattle.script_runs.proofs.TopSources.{IsReading, goes-on, may-fail, none-fails, nothing-yet, raised-rose, takes-failed, takes-long, takes-none, takes-piece}
+use Rattle.script_runs.proofs.TopSources.{IsReading, goes-on, may-fail, none-fails, nothing-yet, raised-rose, starves-piece, takes-failed, takes-long, takes-none, takes-short}
 use Rattle.script_runs.proofs.reading.read_source.Goals as goal
 
 pub loop-count-init : goal.loop-count-init
@@ -53,12 +53,16 @@ returns-then-feed-count-clause-takes g c =
 pub returns-then-feed-count-clause-count : goal.returns-then-feed-count-clause-count
 returns-then-feed-count-clause-count g c = none-fails [] _ _ _ (c.in-Ok.ensures.cause.count ∙ c.loop-count.invariant.text.none)
 
-pub returns-then-is_err-clause-takes : goal.returns-then-is_err-clause-takes
-returns-then-is_err-clause-takes g c =
-    takes-piece _ _ _ _ _ c.loop-count.limit _ _ _ c.feed.result c.loop-count.invariant.text c.in-Ok.ensures.bytes.0
+pub returns-then-is_err-clause-starved : goal.returns-then-is_err-clause-starved
+returns-then-is_err-clause-starved g c is =
+    starves-piece _ _ _ _ _ _ c.loop-count.limit _ _ _ c.feed.result c.loop-count.invariant.text c.in-Ok.ensures.cause.count c.in-Ok.ensures.bytes.0
     (omega (arith, c.in-Ok.ensures.bound.0, c.in-Ok.ensures.bound.1, c.min-room.ensures, c.read.auto.out, length-take c.min-room.result c.loop-count.buffer))
     (omega (arith, c.in-Ok.ensures.bound.0, c.in-Ok.ensures.bound.1, c.min-room.ensures, c.len.ensures, c.loop-count.invariant.text.extent.few, c.read.auto.out, length-take c.min-room.result c.loop-count.buffer))
     c.feed.ensures.some (omega (arith, c.if-feed-count.false, c.in-Ok.ensures.bound.1)) c.feed.ensures.taken
+
+pub returns-then-is_err-clause-takes : goal.returns-then-is_err-clause-takes
+returns-then-is_err-clause-takes g c =
+    takes-short 9 _ _ (returns-then-is_err-clause-starved g c refl).in_time (λ eight. absurd (omega arith)) refl refl
 
 pub returns-then-is_err-clause-count : goal.returns-then-is_err-clause-count
 returns-then-is_err-clause-count g c = none-fails [] _ _ _ (c.in-Ok.ensures.cause.count ∙ c.loop-count.invariant.text.none)

@@ -1,5 +1,5 @@
-use Rattle.std.proofs.Common.{refl}
-use Rattle.script_runs.proofs.Making.{lacks, makes, starves}
+use Rattle.std.proofs.Common.{Err, ap}
+use Rattle.script_runs.proofs.Making.{lacks, makes, starves, starves-made}
 use Rattle.script_runs.proofs.reading.script_of.Goals as goal
 
 pub returns-in-Ok-make : goal.returns-in-Ok-make
@@ -10,9 +10,9 @@ returns-in-Ok-make g c =
 pub returns-in-Err : goal.returns-in-Err
 returns-in-Err g c =
     let e = c.in-Err.ensures in
-    lacks g.I.Source _ _ _ e.boot_alone e.later e.once (λ ready. ready.script) c.in-Err.why e.lacks e.takes e.count
+    lacks g.I.Source _ _ _ e.boot_alone e.later e.once (λ ready. ready.script) c.in-Err.why e.lacks e.takes e.count (λ is. e.starved (ap Err is))
 
 pub returns-in-Err-make : goal.returns-in-Err-make
 returns-in-Err-make g c =
     let e = c.in-Ok.ensures in
-    starves g.I.Source _ _ _ e.boot_alone e.later e.once (λ ready. ready.script) (λ is. (e.takes is).in_time) (e.count.none refl)
+    starves g.I.Source _ _ _ e.boot_alone e.later e.once (λ ready. ready.script) (starves-made g.I.Source _ _ _ _ _ e)
