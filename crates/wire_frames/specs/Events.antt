@@ -30,7 +30,7 @@ pub record WireWorld : Type 0 where
 
 abbrev pub start_world : WireWorld
 start_world =
-    record { client = asked_none; server = none_yet; gone = false; requests = []; replies = []; with_request = []; acted = []; stopped = []; taken = [] }
+    record { client = asked_none; server = none_yet; gone = false; requests = []; replies = []; asked = []; acted = []; stopped = []; taken = [] }
 
 -- What may happen next. A loss is a frame that never comes.
 pub data Event : Type 0 where
@@ -47,7 +47,7 @@ pub data Event : Type 0 where
 abbrev pub asks : WireWorld → List ℕ → WireWorld
 asks w message =
     let body = numbered (w.client.last + 1) message in
-    record w { client = with_request w.client message; requests = frame body ∷ w.requests; with_request = w.asked ++ body ∷ [] }
+    record w { client = with_request w.client message; requests = frame body ∷ w.requests; asked = w.asked ++ body ∷ [] }
 
 -- ---- a request comes
 
