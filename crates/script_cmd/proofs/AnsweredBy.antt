@@ -15,7 +15,6 @@ use Rattle.script_turns.specs.{Powered.TurnMoment, Runs.calls_of, Runs.sends_non
 use Rattle.script_runs.specs.{Refusing.in_short, Refusing.plain_of, Refusing.text_of, Sourced.FailsOnce, Sourced.TakesScript}
 use Rattle.script_runs.specs.{Sourced.reads_all, WaysByTable.WayAt, WaysByTable.WayByTable, declared.done.Note.Note}
 use Rattle.script_runs.specs.Ending.{is_beyond_model, noted, Device, Ending, World, in_model}
-use Rattle.flash_commands.specs.SoakWays.{SoakWay}
 use Rattle.flash_commands.specs.SoakWays as soak
 use Rattle.script_runs.specs.Ways.{Given, HasGoodList, Refuses, Way}
 use Rattle.script_runs.specs.Ways as way
@@ -23,7 +22,7 @@ use Rattle.script_runs.specs.declared.done.Note.TheVariants as note
 use Rattle.script_runs.proofs.TopWays.{device-of, end-of, world-of, refused-by, with-list}
 use Rattle.script_runs.proofs.TableWays.{table-refused, table-starved, table-with-list}
 use Rattle.script_runs.proofs.TopSources.{not-done, none-fails, takes-nothing}
-use Rattle.script_cmd.specs.{Here.Answered, Here.ServeWay, Promises.given_to, ReadsInputs.ReadsInputs, ByList.ByList}
+use Rattle.script_cmd.specs.{Here.Answered, Here.ServeWay, Here.SoakHere, Promises.given_to, ReadsInputs.ReadsInputs, ByList.ByList}
 use Rattle.script_cmd.specs.Handed.{asks_beyond, asks_files, asks_package, asks_source, leaves_on, RunsOrNone, over_table}
 use Rattle.script_cmd.specs.NoTurns.{FormattedBy, ShowedBy}
 use Rattle.script_cmd.specs.Here as serve
@@ -127,7 +126,7 @@ abbrev DoneBy : (List ℕ → Bool) → Device → Given → Ending Note → Wor
 DoneBy passes device g end old new rest ask.show = ShowedBy device.tells g (in_model end) old new
 DoneBy passes device g end old new rest (ask.format banks rows file) =
     FormattedBy passes device g file (record { banks = banks; rows = rows }) end old new
-DoneBy passes device g end old new rest (ask.soak seed rounds) = SoakWay device g seed rounds end old new
+DoneBy passes device g end old new rest (ask.soak seed rounds) = SoakHere device g seed rounds end old new
 DoneBy passes device g end old new rest ask.serve = ServeWay passes device.tells g (in_model end) old new rest
 DoneBy passes device g end old new rest other = ⊤
 
@@ -253,7 +252,7 @@ module _ {H I : Type 0} {passes : List ℕ → Bool} {tells : Bool} {blocks : �
     shows = λ words. starved-shows tells (record { list = list; files = told; script = left }) old new status (noted said) journal taken_before taken_after faults_before faults_after same unarmed none nine (ap noted is) stuck;
     formats = λ banks rows file words.
         starved-formats passes tells (record { list = list; files = told; script = left }) file (record { banks = banks; rows = rows }) blocks old new status said journal taken_before taken_after faults_before faults_after same unarmed none is nine stuck;
-    soaks = λ seed rounds words. soak.starved none same nine is stuck;
+    soaks = λ seed rounds words. (soak.starved none same nine is stuck, tt);
     serves = λ words. serve.starved none same (unread, once) nine (ap noted is) stuck;
     power = λ leaves zero. absurd (omega (arith, zero, nine));
     note = λ other. ap is_beyond_model is;
@@ -306,7 +305,7 @@ module _ {H I : Type 0} {passes : List ℕ → Bool} {tells : Bool} {blocks : �
         shows = λ words. shows-with-list tells mid_told told name left old new status (noted said) journal taken_before taken_after faults_before mid faults_after good later at_source at_sink (a.shows words);
         formats = λ banks rows file words.
             formats-with-list passes tells mid_told told name left file (record { banks = banks; rows = rows }) blocks old new status said journal taken_before taken_after faults_before mid faults_after same good counted at_source at_sink unarmed (a.formats banks rows file words);
-        soaks = λ seed rounds words. soaks-with-list tells mid_told told name left seed rounds blocks journal status said old new taken_before taken_after faults_before mid faults_after good later at_source at_sink (a.soaks seed rounds words);
+        soaks = λ seed rounds words. soaks-with-list tells mid_told told name left seed rounds blocks journal status said old new taken_before taken_after faults_before mid faults_after good counted at_source at_sink (a.soaks seed rounds words);
         serves = λ words. serves-with-list passes tells mid_told told name left old new status (noted said) journal taken_before taken_after faults_before mid faults_after rest same good counted at_source at_sink (a.serves words);
         power = a.power;
         note = a.note;

@@ -1,7 +1,10 @@
 -- What a serving took, did and wrote, by how it ended.
-use Rattle.std.proofs.Common.{◌≡◌, ◌≢◌, ◌==◌, ◌&&◌, not, cond, if◌then◌else◌, ◌≤◌, ℕ, ◌+◌, Bool, List, ◌∷◌, ◌++◌, length, length-append, take, drop, Option, Some, None, Result, Ok, Err, refl, sym, ap, subst, ◌∙◌, arith, append-nil, append_assoc}
-use Rattle.std.specs.Prelude.{IfSome, IsTrue, IsFalse, false, true, map, slice_get, []}
-use Rattle.std.proofs.{lemmas.Bool.false≢true, lemmas.List.length-map, lemmas.List.map-append, lemmas.Option.same_Some}
+use Rattle.std.proofs.Common.{◌≡◌, ◌≢◌, ◌==◌, ◌&&◌, not, cond, if◌then◌else◌, ◌≤◌, ℕ, ◌+◌, Bool, List, ◌∷◌, ◌++◌, length, length-append, take, drop, Option, Some, None, Result, Ok, Err, refl, sym, ap, subst, ◌∙◌, arith, append-nil, append_assoc, inl, inr}
+use Rattle.std.specs.Prelude.{IfSome, IsTrue, IsFalse, false, true, map, slice_get, [], Contains, ◌<◌}
+use Rattle.std.proofs.{lemmas.Bool.cases_eq, lemmas.Bool.false≢true, lemmas.List.length-map, lemmas.List.map-append}
+use Rattle.std.proofs.lemmas.List.{get_or_append_left, get_or_push, length_push}
+use Rattle.std.proofs.lemmas.List.Elements.{Contains-append_right}
+use Rattle.std.proofs.lemmas.Option.{get_or_from_slice_get, same_Some, slice_get_within}
 use Rattle.std.specs.Io.KnownBytes.{Appends, Consumes, IsAtEnd}
 use Rattle.std.proofs.KnownBytes.{Appends-nil, Appends-trans, Consumes-nil, Consumes-trans, Consumes-whole}
 use Rattle.host_io.specs.Printed.{all, front, nothing}
@@ -23,7 +26,7 @@ use Rattle.serving.specs.Going.{ServesRequests, ServeEnds, TakesFrames, at_the_e
 use Rattle.serving.specs.Scene.{At, Port, RunAt, Scene, begin_at, unasked}
 use Rattle.serving.specs.Written.{AnswersRequests, acting, answered_numbers, called, calls_for, frame_of, messages_of, all_frames}
 use Rattle.serving.specs.declared.ends.ServeEnd.TheVariants as end
-use Rattle.serving.proofs.{Starts.goes-none, Steps.acting-more, Steps.frame-last, Steps.length-messages, Steps.messages-more}
+use Rattle.serving.proofs.{Starts.goes-more, Starts.goes-none, Steps.acting-more, Steps.frame-last, Steps.length-messages, Steps.messages-more}
 use Rattle.script_runs.specs.Running.{last_turn}
 use Rattle.script_runs.proofs.TopSources.{later}
 use Rattle.script_cmd.specs.ServedBy.{last_frame, reads_no_more}
@@ -69,6 +72,55 @@ end-is e other = refl
 
 pub end-at : (e x : ServeEnd) → status_of x ≢ 6 → status_of e ≡ status_of x → e ≡ x
 end-at e x other is = sym (end-is e (λ six. other (sym is ∙ six))) ∙ ap end_at is ∙ end-is x other
+
+-- ---- the turns
+
+no-answer : (e : ServeEnd) → ◌≡◌ {A = Result (Unit {0}) ServeEnd} (Err e) (Ok tt) → ⊥
+no-answer e is = cc
+
+-- behind each of them it went on
+abbrev pub AllGo : List Turn → Type 0
+AllGo turns = (t : Turn) → Contains turns t → end_by t.reply ≡ Ok tt
+
+-- one by which it ends is the last
+abbrev pub EndsLast : ServeEnd → List Turn → Type 0
+EndsLast e journal =
+    (n : ℕ) (t : Turn) (x : ServeEnd) → slice_get journal n ≡ Some t → end_by t.reply ≡ Err x → (n + 1 ≡ length journal) × (e ≡ x)
+
+in-at : (journal : List Turn) (n : ℕ) (t : Turn) → slice_get journal n ≡ Some t → Contains journal t
+in-at journal n t at = (n, slice_get_within journal n t at, get_or_from_slice_get journal n t t at)
+
+none-ends : (e : ServeEnd) (journal : List Turn) → AllGo journal → EndsLast e journal
+none-ends e journal goes n t x at ends = absurd (no-answer x (sym ends ∙ goes t (in-at journal n t at)))
+
+one-ends : (e : ServeEnd) (before : List Turn) (t : Turn) → AllGo before → end_by t.reply ≡ Err e → EndsLast e (before ++ t ∷ [])
+one-ends e before t goes by n u x at ends =
+    let journal : List Turn = before ++ t ∷ [] in
+    let long = length_push before t in
+    let within = slice_get_within journal n u at in
+    let is = get_or_from_slice_get journal n u u at in
+    elim (cases_eq n (length before)) [
+      | inl last ↦
+          let same : t ≡ u = sym (get_or_push before t u n (sym last)) ∙ is in
+          (omega (arith, long, last), same-end x e (sym ends ∙ ap (λ (y : Turn). end_by y.reply) (sym same) ∙ by))
+      | inr differs ↦
+          let inside : n < length before = omega (arith, long, within, differs) in
+          absurd (no-answer x (sym ends ∙ goes u (n, inside, sym (get_or_append_left before (t ∷ []) u n inside) ∙ is)))
+    ]
+
+one-long : (journal : List Turn) → drop 1 journal ≡ [] → length journal ≤ 1
+one-long [] one = omega arith
+one-long (t ∷ []) one = omega arith
+one-long (t ∷ u ∷ turns) one = absurd (cc)
+
+-- of one turn at most
+first-ends : (e : ServeEnd) (journal : List Turn) → drop 1 journal ≡ []
+    → ((t : Turn) → slice_get journal 0 ≡ Some t → end_by t.reply ≡ Err e) → EndsLast e journal
+first-ends e journal one by n t x at ends =
+    let long = one-long journal one in
+    let within = slice_get_within journal n t at in
+    let first : n ≡ 0 = omega (arith, long, within) in
+    (omega (arith, long, within), same-end x e (sym ends ∙ by t (subst (λ (k : ℕ). slice_get journal k ≡ Some t) first at)))
 
 -- ---- the account
 
@@ -136,6 +188,7 @@ pub record Account (from to : Port) (e : ServeEnd) (journal : List Turn) (before
   pub begin : IsPrefixOf turns (drop 1 journal)
   pub all_turns : IsTrue (reads_no_more (status_of e)) → turns ≡ drop 1 journal
   pub calls : calls_of turns ≡ calls_for bodies
+  pub goes : AllGo turns
   pub all_calls : IsPrefixOf (calls_of (drop 1 journal)) (calls_for (bodies ++ more))
   pub took : Appends before after (all_frames (messages_of turns) (answered_numbers 0 bodies) ++ part)
   pub none : e ≢ end.SinkFailed → part ≡ []
@@ -143,7 +196,8 @@ pub record Account (from to : Port) (e : ServeEnd) (journal : List Turn) (before
   pub some : e ≢ end.NoMemory → journal ≢ []
   -- nothing is read without a turn, nor where the first one ends it; and a last turn that ends a run gives the end
   pub unread : journal ≡ [] → to ≡ from
-  pub first : (t : Turn) (x : ServeEnd) → slice_get journal 0 ≡ Some t → end_by t.reply ≡ Err x → (journal ≡ t ∷ []) × (e ≡ x) × (to ≡ from)
+  pub first : (t : Turn) (x : ServeEnd) → slice_get journal 0 ≡ Some t → end_by t.reply ≡ Err x → to ≡ from
+  pub ends : EndsLast e journal
   pub decides : (t : Turn) → last_turn journal ≡ Some t → IsTrue (ends_run t.reply) → end_by t.reply ≡ Err e
 
 -- ---- nothing was served
@@ -156,7 +210,7 @@ first-of (u ∷ v ∷ turns) t one last = absurd (cc)
 
 idle : (from to : Port) (e : ServeEnd) (journal : List Turn) (before after : Option (List ℕ)) → to ≡ from → after ≡ before
     → (IsTrue (reads_no_more (status_of e)) → ⊥) → (e ≡ end.SinkFailed → ⊥) → (e ≢ end.NoMemory → journal ≢ []) → drop 1 journal ≡ []
-    → ((t : Turn) → slice_get journal 0 ≡ Some t → (journal ≡ t ∷ []) × (end_by t.reply ≡ Err e)) → Account from to e journal before after
+    → ((t : Turn) → slice_get journal 0 ≡ Some t → end_by t.reply ≡ Err e) → Account from to e journal before after
 idle from to e journal before after still same goes fails some one by = record {
   bodies = [];
   turns = [];
@@ -172,14 +226,16 @@ idle from to e journal before after still same goes fails some one by = record {
   begin = (drop 1 journal, refl);
   all_turns = λ is. absurd (goes is);
   calls = refl;
+  goes = λ t has. let below = has.1 in absurd (omega (arith, below));
   all_calls = ([], ap (λ (ts : List Turn). calls_of ts ++ []) one);
   took = subst (λ (o : Option (List ℕ)). Appends before o []) (sym same) (Appends-nil before);
   none = λ differs. refl;
   front = λ is. absurd (fails is);
   some = some;
   unread = λ none. still;
-  first = λ t x at ends. let b = by t at in (b.0, same-end x e (sym ends ∙ b.1), still);
-  decides = λ t last ends. (by t (first-of journal t one last)).1;
+  first = λ t x at ends. still;
+  ends = first-ends e journal one by;
+  decides = λ t last ends. by t (first-of journal t one last);
 }
 
 by-stop : (E : Scene) (start : TurnMoment) (sink : Port) (new : At) (e : ServeEnd) (from to : Port) → OneStop E call.Boot e (begin_at start) new.run → new.sink ≡ sink → to ≡ from → Account from to e new.run.journal sink.bytes new.sink.bytes
@@ -195,7 +251,7 @@ by-stop E start sink new e from to (acts.ended t one by) same unread =
     (λ differs none. let kept : new.run.journal ≡ t ∷ [] = one.kept in cc) (ap (drop 1) one.kept)
     (λ u at.
     let same : t ≡ u = same_Some t u (sym (ap (λ (ts : List Turn). slice_get ts 0) one.kept) ∙ at) in
-    (one.kept ∙ ap (λ (x : Turn). x ∷ []) same, ap (λ (x : Turn). end_by x.reply) (sym same) ∙ by))
+    ap (λ (x : Turn). end_by x.reply) (sym same) ∙ by)
 
 -- ---- the request that ended it
 
@@ -208,6 +264,7 @@ record Last (e : ServeEnd) (turns : List Turn) (may : List Call) (old new : At) 
   front : e ≡ end.SinkFailed → (n : ℕ) × (part ≡ take n (last_frame (turns ++ more)))
   goes : IsTrue (reads_no_more (status_of e)) → ⊥
   calls : IsPrefixOf (calls_of more) may
+  ends : AllGo old.run.journal → EndsLast e new.run.journal
   decides : (t : Turn) → last_turn new.run.journal ≡ Some t → IsTrue (ends_run t.reply) → end_by t.reply ≡ Err e
 
 -- the turn that was put behind the others is the last
@@ -219,9 +276,9 @@ abbrev Quiet : At → Type 0
 Quiet new = (t : Turn) → last_turn new.run.journal ≡ Some t → IsTrue (ends_run t.reply) → ⊥
 
 put-last : (e : ServeEnd) (turns more : List Turn) (may : List Call) (old new : At) (piece : List ℕ) → IsEarlyEnd e → new.run.journal ≡ old.run.journal ++ more → piece ≡ last_frame (turns ++ more) → IsPrefixOf (calls_of more) may → Quiet new
-    → Puts piece (Err e) old.sink new.sink → Last e turns may old new
-put-last e turns more may old new piece early kept is_frame calls quiet_turn (all is bytes same) = absurd (early-some e early is)
-put-last e turns more may old new piece early kept is_frame calls quiet_turn (front is n bytes later once) = record {
+    → (AllGo old.run.journal → AllGo new.run.journal) → Puts piece (Err e) old.sink new.sink → Last e turns may old new
+put-last e turns more may old new piece early kept is_frame calls quiet_turn on (all is bytes same) = absurd (early-some e early is)
+put-last e turns more may old new piece early kept is_frame calls quiet_turn on (front is n bytes later once) = record {
   more = more;
   part = take n piece;
   journal_is = kept;
@@ -230,9 +287,10 @@ put-last e turns more may old new piece early kept is_frame calls quiet_turn (fr
   front = λ failed. (n, ap (take n) is_frame);
   goes = λ more_is. false≢true (sym (ap reads_no_more is) ∙ more_is);
   calls = calls;
+  ends = λ before. none-ends e new.run.journal (on before);
   decides = λ t last ends. absurd (quiet_turn t last ends);
 }
-put-last e turns more may old new piece early kept is_frame calls quiet_turn (nothing is same quiet) = record {
+put-last e turns more may old new piece early kept is_frame calls quiet_turn on (nothing is same quiet) = record {
   more = more;
   part = [];
   journal_is = kept;
@@ -241,6 +299,7 @@ put-last e turns more may old new piece early kept is_frame calls quiet_turn (no
   front = λ failed. absurd (omega (arith, is, ap status_of failed));
   goes = λ more_is. false≢true (sym (ap reads_no_more is) ∙ more_is);
   calls = calls;
+  ends = λ before. none-ends e new.run.journal (on before);
   decides = λ t last ends. absurd (quiet_turn t last ends);
 }
 
@@ -255,6 +314,7 @@ stop-last E c e turns old new before (acts.starved is still) same = record {
   front = λ failed. absurd (cc);
   goes = no-memory-reads e is;
   calls = (c ∷ [], refl);
+  ends = λ goes. none-ends e new.run.journal (subst (λ (r : RunAt). AllGo r.journal) (sym still) goes);
   decides = λ t last ends. absurd (before t (sym (ap (λ (r : RunAt). last_turn r.journal) still) ∙ last) ends);
 }
 stop-last E c e turns old new before (acts.ended t one by) same = record {
@@ -266,6 +326,7 @@ stop-last E c e turns old new before (acts.ended t one by) same = record {
   front = λ failed. absurd (not-sink t.reply (subst (λ (y : ServeEnd). end_by t.reply ≡ Err y) failed by));
   goes = no-turn-reads t.reply e by;
   calls = ([], ap (λ (x : Call). x ∷ []) one.turns.call_is);
+  ends = λ goes. subst (EndsLast e) (sym one.kept) (one-ends e old.run.journal t goes by);
   decides = λ u last ends. ap (λ (x : Turn). end_by x.reply) (sym (pushed old new t u one.kept last)) ∙ by;
 }
 
@@ -285,12 +346,9 @@ new-last E number c e turns old new early is before (answered bytes one exchange
     ([], ap (λ (x : Call). x ∷ []) one.one.turns.call_is)
     (λ u last ends. false≢true (sym (goes-none E.files E.faults E.faults c t.reply one.one.unsent one.one.turns.unread one.goes)
     ∙ ap (λ (x : Turn). ends_run x.reply) (pushed old new t u one.one.kept last) ∙ ends))
-    puts
+    (λ goes. subst AllGo (sym one.one.kept) (goes-more old.run.journal t goes one.goes)) puts
 new-last E number c e turns old new early is before (stopped why stops_by same_end exchange same) =
     stop-last E c e turns old new before (subst (λ (y : ServeEnd). OneStop E c y old.run new.run) (same-end e why same_end) stops_by) same
-
-no-answer : (e : ServeEnd) → ◌≡◌ {A = Result (Unit {0}) ServeEnd} (Err e) (Ok tt) → ⊥
-no-answer e is = cc
 
 one-last : (E : Scene) (body : List ℕ) (e : ServeEnd) (bodies : List (List ℕ)) (turns : List Turn) (old new : At) → IsEarlyEnd e
     → AnswersRequests bodies turns old.exchange → Quiet old → (a : Admission) → Admits old.exchange.last (request_number_of body) a
@@ -301,7 +359,8 @@ one-last E body e bodies turns old new early answers before Repeats same serves 
     put-last e turns [] [] old new old.exchange.reply early (ap (λ (r : RunAt). r.journal) serves.run ∙ sym (append-nil old.run.journal))
     (answers.kept same.1 ∙ ap (λ (n : ℕ). frame_of (messages_of turns) n) (sym answers.count)
     ∙ ap last_frame (sym (append-nil turns))) ([], refl)
-    (λ t last ends. before t (sym (ap (λ (r : RunAt). last_turn r.journal) serves.run) ∙ last) ends) serves.puts
+    (λ t last ends. before t (sym (ap (λ (r : RunAt). last_turn r.journal) serves.run) ∙ last) ends)
+    (λ goes. subst (λ (r : RunAt). AllGo r.journal) (sym serves.run) goes) serves.puts
 one-last E body e bodies turns old new early answers before Ignored none serves = absurd (no-answer e serves.1)
 
 -- ---- what was taken of the source
@@ -348,6 +407,7 @@ module _ (E : Scene) (t : Turn) (start : TurnMoment) (old new : At) (e : ServeEn
         begin = ([], append-nil goes.turns ∙ sym behind);
         all_turns = λ is. sym behind;
         calls = goes.answers.calls_are;
+        goes = λ u has. goes.goes u (subst (λ (j : List Turn). Contains j u) (sym goes.journal_is) (Contains-append_right (t ∷ []) goes.turns u has));
         all_calls = ([], append-nil (calls_of (drop 1 new.run.journal)) ∙ ap calls_of behind ∙ goes.answers.calls_are ∙ ap calls_for (sym whole));
         took = subst (Appends old.sink.bytes new.sink.bytes) (sym (append-nil (all_frames (messages_of goes.turns) (answered_numbers 0 bodies)))) goes.took;
         none = λ differs. refl;
@@ -355,6 +415,7 @@ module _ (E : Scene) (t : Turn) (start : TurnMoment) (old new : At) (e : ServeEn
         some = λ differs none. let all_of : new.run.journal ≡ t ∷ goes.turns = goes.journal_is in cc;
         unread = λ none. absurd (let all_of : new.run.journal ≡ t ∷ goes.turns = goes.journal_is in cc);
         first = λ u x at ends. absurd (goes-first new.run.journal goes.turns u x goes.journal_is on at ends);
+        ends = none-ends e new.run.journal goes.goes;
         decides = λ u last ends. absurd (none-last new.run.journal goes.none u last ends);
       }
 
@@ -390,6 +451,7 @@ module _ (E : Scene) (t : Turn) (start : TurnMoment) (old new : At) (e : ServeEn
         begin = (last.more, sym behind);
         all_turns = λ is. absurd (last.goes is);
         calls = goes.answers.calls_are;
+        goes = λ u has. goes.goes u (subst (λ (j : List Turn). Contains j u) (sym goes.journal_is) (Contains-append_right (t ∷ []) goes.turns u has));
         all_calls = (
           last.calls.0,
           ap (λ (ts : List Turn). calls_of ts ++ last.calls.0) behind
@@ -405,6 +467,7 @@ module _ (E : Scene) (t : Turn) (start : TurnMoment) (old new : At) (e : ServeEn
         some = λ differs none. cc;
         unread = λ none. absurd (cc);
         first = λ u x at ends. absurd (goes-first new.run.journal (goes.turns ++ last.more) u x all_of on at ends);
+        ends = last.ends goes.goes;
         decides = last.decides;
       }
 

@@ -1,5 +1,5 @@
 -- All that a serving promises, whichever way it ended.
-use Rattle.std.proofs.Common.{◌≡◌, ◌≢◌, inl, inr, ℕ, Bool, List, ◌∷◌, ◌++◌, Contains, length, drop, Option, Some, None, Err, refl, sym, ap, subst, ◌∙◌, arith, append-nil, slice_get, IsTrue, IsFalse, []}
+use Rattle.std.proofs.Common.{◌≡◌, ◌≢◌, inl, inr, ℕ, Bool, List, ◌∷◌, ◌++◌, Contains, length, drop, Option, Some, None, Err, refl, sym, ap, subst, ◌∙◌, arith, append-nil, slice_get, ◌+◌, IsTrue, IsFalse, []}
 use Rattle.std.specs.Io.KnownBytes.{Appends, Consumes}
 use Rattle.std.proofs.{KnownBytes.Appends-nil, KnownBytes.Consumes-nil, lemmas.Bool.false≢true}
 use Rattle.std.proofs.lemmas.List.Elements.{Contains-get_or}
@@ -135,6 +135,7 @@ module _ (g : Given) (ending : Ending Note) (old new : World) (rest : Option (Li
     begin = (drop 1 ending.journal, refl);
     all_turns = λ is. absurd (false≢true (sym (ap reads_no_more nine) ∙ is));
     calls = refl;
+    goes = λ t has. let below = has.1 in absurd (omega (arith, below));
     all_calls = ([], ap (λ (ts : List Turn). calls_of (drop 1 ts) ++ []) none);
     some = λ other. absurd (other nine);
     took = subst (λ (o : Option (List ℕ)). Appends old.taken o []) (sym stuck.0) (Appends-nil old.taken);
@@ -208,6 +209,7 @@ module _ (passes : List ℕ → Bool) (tells : Bool) (g : Given) (ending : Endin
     begin = done.begin;
     all_turns = λ no_more. done.all_turns (subst (λ (k : ℕ). IsTrue (reads_no_more k)) is no_more);
     calls = done.calls;
+    goes = done.goes;
     all_calls = done.all_calls;
     some = λ other. done.some (λ lacks. other (is ∙ ap status_of lacks));
     took = done.took;
@@ -280,15 +282,15 @@ module _ (passes : List ℕ → Bool) (tells : Bool) (g : Given) (ending : Endin
 
   -- ---- the turns
 
-  no-turn : ending.journal ≡ [] → (t : Turn) → slice_get ending.journal 0 ≡ Some t → ⊥
-  no-turn none t here = never (sym (ap (λ (ts : List Turn). slice_get ts 0) none) ∙ here)
+  no-turn : ending.journal ≡ [] → (n : ℕ) (t : Turn) → slice_get ending.journal n ≡ Some t → ⊥
+  no-turn none n t here = never (sym (ap (λ (ts : List Turn). slice_get ts n) none) ∙ here)
     where
-      never : slice_get [] 0 ≡ Some t → ⊥
+      never : slice_get [] n ≡ Some t → ⊥
       never is = cc
 
   boots-first : ServeWay passes tells g ending old new rest → (t : Turn) → slice_get ending.journal 0 ≡ Some t → t.call ≡ call.Boot
-  boots-first (list_refused none same unread refused) t here = absurd (no-turn none t here)
-  boots-first (starved none same unread nine quiet stuck) t here = absurd (no-turn none t here)
+  boots-first (list_refused none same unread refused) t here = absurd (no-turn none 0 t here)
+  boots-first (starved none same unread nine quiet stuck) t here = absurd (no-turn none 0 t here)
   boots-first (served good unarmed unread e is said by) t here = by.holds.boots t here
 
   cuts-none : ServeWay passes tells g ending old new rest → cuts_in ending.journal ≡ 0
@@ -317,13 +319,19 @@ module _ (passes : List ℕ → Bool) (tells : Bool) (g : Given) (ending : Endin
   leaves-unread (served good unarmed unread e is said by) empty =
       still-unread g old new rest ((done passes tells g ending old new rest unarmed e is said by).unread empty)
 
-  first-alone : ServeWay passes tells g ending old new rest → (t : Turn) (x : ServeEnd) → slice_get ending.journal 0 ≡ Some t → end_by t.reply ≡ Err x
-      → (ending.journal ≡ t ∷ []) × (ending.status ≡ status_of x) × Unread g old new rest
-  first-alone (list_refused none same unread refused) t x here ends = absurd (no-turn none t here)
-  first-alone (starved none same unread nine quiet stuck) t x here ends = absurd (no-turn none t here)
-  first-alone (served good unarmed unread e is said by) t x here ends =
-      let first = (done passes tells g ending old new rest unarmed e is said by).first t x here ends in
-      (first.0, is ∙ ap status_of first.1, still-unread g old new rest first.2)
+  first-unread : ServeWay passes tells g ending old new rest → (t : Turn) (x : ServeEnd) → slice_get ending.journal 0 ≡ Some t → end_by t.reply ≡ Err x
+      → Unread g old new rest
+  first-unread (list_refused none same unread refused) t x here ends = unread
+  first-unread (starved none same unread nine quiet stuck) t x here ends = unread
+  first-unread (served good unarmed unread e is said by) t x here ends =
+      still-unread g old new rest ((done passes tells g ending old new rest unarmed e is said by).first t x here ends)
+
+  last-by-end : ServeWay passes tells g ending old new rest → (n : ℕ) (t : Turn) (x : ServeEnd) → slice_get ending.journal n ≡ Some t → end_by t.reply ≡ Err x
+      → (n + 1 ≡ length ending.journal) × (ending.status ≡ status_of x)
+  last-by-end (list_refused none same unread refused) n t x here ends = absurd (no-turn none n t here)
+  last-by-end (starved none same unread nine quiet stuck) n t x here ends = absurd (no-turn none n t here)
+  last-by-end (served good unarmed unread e is said by) n t x here ends =
+      let last = (done passes tells g ending old new rest unarmed e is said by).ends n t x here ends in (last.0, is ∙ ap status_of last.1)
 
   all-served : ServeWay passes tells g ending old new rest → ServedComplete passes tells g ending old new
   all-served (list_refused none same unread (planned, line, why, prints)) told E start bodies given stream are few grants no_source =
@@ -342,9 +350,10 @@ module _ (passes : List ℕ → Bool) (tells : Bool) (g : Given) (ending : Endin
     uncut = cuts-none went;
     made = arms-none went;
     by_last = last-ends went;
+    by_end = last-by-end went;
     listed = behind-list went;
     unread = leaves-unread went;
-    first = first-alone went;
+    first = first-unread went;
     ends = why-ended went;
     wrote = writes went;
     complete = all-served went;

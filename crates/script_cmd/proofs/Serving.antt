@@ -13,7 +13,7 @@ serving passes device inputs ending old new rest fb fa sb sa a = record {
   by_table = λ plain over. promised-by-table _ _ _ _ _ _ (a.by_table plain over);
   shows = a.shows;
   formats = a.formats;
-  soaks = λ seed rounds is. soaked-by _ _ seed rounds _ _ _ (a.soaks seed rounds is);
+  soaks = λ seed rounds is. let went = a.soaks seed rounds is in soaked-by _ _ seed rounds _ _ _ went.0 went.1;
   serves = λ is. served-by _ _ _ _ _ _ _ (a.serves is);
   power = a.power;
   note = a.note;

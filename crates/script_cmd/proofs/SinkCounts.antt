@@ -118,5 +118,5 @@ module _ (old new : World) where
       go (Some ask.show) is = show-counts device.tells (given_all inputs) end.status (in_model end).noted (a.shows is).showed
       go (Some (ask.format banks rows file)) is =
           format-counts passes device (given_all inputs) file (record { banks = banks; rows = rows }) end.status end.noted (a.formats banks rows file is).formats
-      go (Some (ask.soak seed rounds)) is = soak-counts device (given_all inputs) seed rounds end (a.soaks seed rounds is)
+      go (Some (ask.soak seed rounds)) is = soak-counts device (given_all inputs) seed rounds end (a.soaks seed rounds is).0
       go (Some ask.serve) is = serve-counts passes device.tells (given_all inputs) (in_model end) rest (a.serves is)

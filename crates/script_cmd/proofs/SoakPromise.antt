@@ -46,7 +46,7 @@ use Rattle.script_runs.specs.declared.done.Note.TheVariants as own
 use Rattle.script_runs.proofs.TopSources.{by-plan, done-planned, printed-plan}
 use Rattle.script_turns.proofs.RunTurns.{rose-before}
 use Rattle.flash_commands.proofs.SoakRounds.{file-there}
-use Rattle.script_cmd.specs.{NoTurns.IsFormattable, Granted.RefusesBadList, Promises.EndsByLast}
+use Rattle.script_cmd.specs.{Here.FailsNoFile, NoTurns.IsFormattable, Granted.RefusesBadList, Promises.EndsByLast}
 use Rattle.script_cmd.specs.Soaked.{HasSoakList, RunsSoak, SoakedBy, SoakedEnds, first_images, may_end_soak, soak_setting, soak_world}
 use Rattle.script_cmd.proofs.PromiseTurns.{idle-holds, last-is, last-push, none-last, ran-holds}
 use Rattle.script_cmd.proofs.PromiseTable.{plain-nothing}
@@ -243,13 +243,13 @@ module _ (device : Device) (g : Given) (seed n : ℕ) (end : Ending Note) (old n
   -- no turn ran
   alone : (planned : ℕ) (line : List ℕ) → Prints line planned end.status old.taken new.taken old.faults.sink new.faults.sink
       → end.journal ≡ [] → IsTrue (may_end_soak planned) → (planned ≡ 0 → ⊥) → (planned ≡ 6 → ⊥)
-      → (planned ≡ 2 → IsSome g.list × (Rose old.faults.files new.faults.files ⊎ LacksList g.files g.list) × (line ≡ not_read_line))
+      → (planned ≡ 2 → (new.flash ≡ old.flash) × IsSome g.list × (Rose old.faults.files new.faults.files ⊎ LacksList g.files g.list) × (line ≡ not_read_line))
       → (planned ≡ 5 → (line ≡ flash_fault_line) × StopHasCause old.flash.counts new.flash.counts)
       → (planned ≡ 7 → (why : InputFault) × (end.noted ≡ own.Input why)
       × (IsTrue (is_too_small device.blocks) → (why ≡ fault.Layout BeyondFlash) × (line ≡ too_small_line))
       × (IsFalse (is_too_small device.blocks) → line ≡ format_text (Err (Input why))))
-      → (planned ≡ 13 → IsSome g.list × (k : ℕ) × (end.noted ≡ own.BadList k) × IsBadList (list_bytes g.list g.files) k
-      × (line ≡ bad_list_line k))
+      → (planned ≡ 13 → (new.flash ≡ old.flash) × IsSome g.list × (k : ℕ) × (end.noted ≡ own.BadList k)
+      × IsBadList (list_bytes g.list g.files) k × (line ≡ bad_list_line k))
       → (IsFalse ((planned == 6) || (planned == 7) || (planned == 13)) → end.noted ≡ own.Nothing)
       → (planned ≡ 9 → (end.status ≡ 9) × PutsNone old new) → SoakedEnds device g seed n end old new
   alone planned line prints none known zero six two five seven thirteen quiet nine = record {
@@ -260,11 +260,11 @@ module _ (device : Device) (g : Given) (seed n : ℕ) (end : Ending Note) (old n
     calls = (soak_calls seed n, ap (λ (ts : List Turn). calls_of ts ++ soak_calls seed n) none);
     by_last = alone-last end.journal planned (noted end.noted) none;
     done = λ is. absurd (zero is);
-    not_read = λ is. let f = two is in (none, f.0, f.1, f.2);
+    not_read = λ is. let f = two is in (none, f.0, f.1, f.2, f.3);
     flash_fault = λ is. let f = five is in (f.0, inr (none, f.1));
     not_booted = λ is. absurd (six is);
     refused = λ is. let f = seven is in (none, f.0, f.1, f.2, f.3);
-    not_list = λ is. let f = thirteen is in (none, f.0, f.1, f.2, f.3, f.4);
+    not_list = λ is. let f = thirteen is in (none, f.0, f.1, f.2, f.3, f.4, f.5);
     quiet = quiet;
     none = nine;
   }
@@ -274,18 +274,18 @@ module _ (device : Device) (g : Given) (seed n : ℕ) (end : Ending Note) (old n
       alone 9 [] (nothing nine stuck.0 stuck.1) none refl (λ is. omega arith) (λ is. omega arith) (λ is. absurd (omega arith))
       (λ is. absurd (omega arith)) (λ is. absurd (omega arith)) (λ is. absurd (omega arith)) (λ other. quiet) (λ is. (nine, stuck))
 
-  list-ended : end.journal ≡ [] → IsFalse (is_beyond_model end.noted) → RefusedList (ask.soak seed n) g end.status (noted end.noted) old new
+  list-ended : end.journal ≡ [] → new.flash ≡ old.flash → IsFalse (is_beyond_model end.noted) → RefusedList (ask.soak seed n) g end.status (noted end.noted) old new
       → SoakedEnds device g seed n end old new
-  list-ended none beyond (planned, line, why, prints) =
+  list-ended none same beyond (planned, line, why, prints) =
       elim (list-cause (ask.soak seed n) (λ is. cc) (λ is. cc) g old.faults new.faults planned (noted end.noted) line why) [
         | inl c ↦
             alone planned line prints none (ap may_end_soak c.0) (λ is. omega (arith, is, c.0)) (λ is. omega (arith, is, c.0))
-            (λ is. (c.1, c.2, c.4)) (λ is. absurd (omega (arith, is, c.0))) (λ is. absurd (omega (arith, is, c.0)))
+            (λ is. (same, c.1, c.2, c.4)) (λ is. absurd (omega (arith, is, c.0))) (λ is. absurd (omega (arith, is, c.0)))
             (λ is. absurd (omega (arith, is, c.0))) (λ other. plain-nothing end.noted beyond c.3) (λ is. absurd (omega (arith, is, c.0)))
         | inr c ↦
             alone planned line prints none (ap may_end_soak c.0) (λ is. omega (arith, is, c.0)) (λ is. omega (arith, is, c.0))
             (λ is. absurd (omega (arith, is, c.0))) (λ is. absurd (omega (arith, is, c.0))) (λ is. absurd (omega (arith, is, c.0)))
-            (λ is. (c.1, c.2, plain-list end.noted c.2 beyond c.3, c.4, c.5))
+            (λ is. (same, c.1, c.2, plain-list end.noted c.2 beyond c.3, c.4, c.5))
             (λ other. absurd (false≢true (sym other ∙ ap (λ (k : ℕ). (k == 6) || (k == 7) || (k == 13)) c.0)))
             (λ is. absurd (omega (arith, is, c.0)))
       ]
@@ -443,10 +443,10 @@ module _ (device : Device) (g : Given) (seed n : ℕ) (end : Ending Note) (old n
 
   -- ---- whichever way
 
-  pub soaked-by : SoakWay device g seed n end old new → SoakedBy device g seed n end old new
-  soaked-by (list_refused none same quiet refused) =
+  pub soaked-by : (way : SoakWay device g seed n end old new) → FailsNoFile device g seed n end old new way → SoakedBy device g seed n end old new
+  soaked-by (list_refused none same quiet refused) kept =
       let other = list-other (ask.soak seed n) (λ is. cc) (λ is. cc) g end.status (noted end.noted) old new refused in
-      idle-soaked (list-ended none quiet refused) none same
+      idle-soaked (list-ended none same quiet refused) none same
       (refused-list g old.flash new.flash end.status old.faults new.faults (ask.soak seed n) (noted end.noted) old.taken new.taken same refused)
       (list-status (ask.soak seed n) (λ is. cc) (λ is. cc) g end.status (noted end.noted) old new refused
       (λ (k : ℕ). (k == 7) || (may_fail_before k || (k == 13))) refl refl refl refl)
@@ -454,22 +454,23 @@ module _ (device : Device) (g : Given) (seed n : ℕ) (end : Ending Note) (old n
       (λ has large.
       absurd
       (list-granted (ask.soak seed n) (λ is. cc) (λ is. cc) g old.faults new.faults refused.0 (noted end.noted) refused.1 has refused.2))
-  soaked-by (starved none same nine is stuck) =
+  soaked-by (starved none same nine is stuck) kept =
       idle-soaked (starved-ended none nine is stuck) none same
       (starved-list g old.flash new.flash end.status old.faults new.faults same nine)
       (ap (λ (k : ℕ). (k == 7) || (may_fail_before k || (k == 13))) nine)
       (λ is. absurd (omega (arith, is, nine))) (λ has large. (nine, is))
-  soaked-by (too_small good small none same is prints) =
+  soaked-by (too_small good small none same is prints) kept =
       idle-soaked (small-ended none small is prints) none same
       (good-list-kept g old.flash new.flash end.status old.faults new.faults good)
       (by-plan too_small_line 7 end.status old.taken new.taken old.faults.sink new.faults.sink prints
       (λ (k : ℕ). (k == 7) || (may_fail_before k || (k == 13))) refl refl refl)
       (λ seven. small) (λ has large. absurd (false≢true (sym large ∙ small)))
-  soaked-by (not_formatted good large none stop t is prints) = record {
+  soaked-by (not_formatted good large none stop t is prints) kept = record {
     ends = format-ended stop t none large is prints;
     flash = inr (record {
       good = good;
       large = large;
+      files = kept;
       result = Err stop;
       start = new.flash;
       tries = t;
@@ -498,11 +499,12 @@ module _ (device : Device) (g : Given) (seed n : ℕ) (end : Ending Note) (old n
           no_sink_fault = no_sink;
         });
   }
-  soaked-by (ran good large done start on t off power turns ends quiet) = record {
+  soaked-by (ran good large done start on t off power turns ends quiet) kept = record {
     ends = why;
     flash = inr (record {
       good = good;
       large = large;
+      files = kept;
       result = Ok done;
       start = start;
       tries = t;

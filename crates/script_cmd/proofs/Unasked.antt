@@ -3,6 +3,7 @@ use Rattle.std.proofs.Common.{◌≤◌, ℕ, List, Option, ◌≡◌, ◌∙◌
 use Rattle.fwu_model.specs.{Causes.Faults, Reply.Turn}
 use Rattle.fwu_words.specs.Order.{Asked}
 use Rattle.host_io.specs.{Access.Access, Contents.Directory, Reads.ReadsFile, Reads.ReadsFiles, declared.files.Files.Ghosts}
+use Rattle.script_runs.specs.Ways.{HasGoodList}
 use Rattle.script_cmd.specs.{Handed.Inputs, ReadsInputs.IsUnasked}
 
 -- ---- what a run was given, from its parts, and that no count of failures fell
@@ -31,14 +32,14 @@ module _ {H : Type 0} (g : Ghosts H) {asked : Option Asked} {list : Option (List
   asks-list name old new is read = record { same = read.same; unwritten = read.unwritten; later = read.later; spares = λ access other. read.spares access (other.list name is) }
 
   -- what is asked for without a list is asked for behind one
-  pub asks-behind : (joins : (a b c : H) (access : Access) → g.spares a b access → g.spares b c access → g.spares a c access) (name : List ℕ) (old mid new : H) (mid_told : Option Directory) → list ≡ Some name
+  pub asks-behind : (joins : (a b c : H) (access : Access) → g.spares a b access → g.spares b c access → g.spares a c access) (name : List ℕ) (old mid new : H) (mid_told : Option Directory) → list ≡ Some name → HasGoodList list told
       → ReadsFile g name old mid → ReadsFiles g (IsUnasked (inputs-of asked None mid_told left) journal) mid new → ReadsFiles g (IsUnasked (inputs-of asked list told left) journal) old new
-  asks-behind joins name old mid new mid_told is read rest = record {
+  asks-behind joins name old mid new mid_told is good read rest = record {
     same = rest.same ∙ read.same;
     unwritten = rest.unwritten ∙ read.unwritten;
     later = omega (arith, read.later, rest.later);
     spares = λ access other.
-        joins old mid new access (read.spares access (other.list name is)) (rest.spares access (record { list = λ n none. absurd cc; wanted = other.wanted; sent = other.sent }));
+        joins old mid new access (read.spares access (other.list name is)) (rest.spares access (record { list = λ n none. absurd cc; wanted = λ banks rows file asks none. other.wanted banks rows file asks good; sent = other.sent }));
   }
 
   -- by equal words
@@ -49,5 +50,5 @@ module _ {H : Type 0} (g : Ghosts H) {asked : Option Asked} {list : Option (List
     unwritten = reads.unwritten;
     later = reads.later;
     spares = λ access un.
-        reads.spares access (record { list = λ name named_is. un.list name (is ∙ named_is); wanted = λ banks rows file asks. un.wanted banks rows file (words ∙ asks); sent = λ none. un.sent (λ seed rounds soaks. none seed rounds (sym words ∙ soaks)) });
+        reads.spares access (record { list = λ name named_is. un.list name (is ∙ named_is); wanted = λ banks rows file asks good. un.wanted banks rows file (words ∙ asks) (subst (λ (l : Option (List ℕ)). HasGoodList l told) (sym is) good); sent = λ none. un.sent (λ seed rounds soaks. none seed rounds (sym words ∙ soaks)) });
   }

@@ -8,7 +8,7 @@ use Rattle.fwu_model.specs.{Allow.list_bytes, Wrote.IsBadList}
 use Rattle.fwu_model.specs.Causes.{Faults, LacksList, RefusesList, may_fail_before}
 
 -- A list that told files lack is answered by 2, and one with a bad line by 13, or 2 where it could not be read. The sink may fail
--- at that line, or memory be wanting. And nothing was done.
+-- at that line, or memory be wanting. And the flash is as it was.
 pub record RefusesBadList (g : Given) (old new : TurnMoment) (status : ℕ)
     (faults_before faults_after : Faults) : Type 0 where
   pub lacking : LacksList g.files g.list → (new ≡ old) × IsTrue (may_fail_before status)

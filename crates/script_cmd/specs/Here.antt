@@ -1,10 +1,11 @@
 -- What is done for what the words ask for, by each command.
-use Rattle.std.specs.Prelude.{◌≡◌, ℕ, Bool, List, Option, Some, None, IsTrue, IsFalse, []}
+use Rattle.std.specs.Prelude.{◌≡◌, ℕ, Bool, List, Option, Some, None, IsTrue, IsFalse, [], ⊤}
 use Rattle.fwu_formats.specs.Layout.{ImageRow}
 use Rattle.fwu_words.specs.Order.{Asked}
 use Rattle.fwu_words.specs.Order as ask
 use Rattle.script_runs.specs.Ending.{Device, Ending, PutsNone, World, in_model, is_beyond_model, ending}
 use Rattle.flash_commands.specs.{Showing.RefusedList, SoakWays.SoakWay}
+use Rattle.flash_commands.specs.SoakWays as soak
 use Rattle.script_runs.specs.Ways.{Given, HasGoodList, Way, told_device}
 use Rattle.script_runs.specs.{WaysByTable.WayByTable, declared.done.Note.Note, declared.done.Done.Done}
 use Rattle.flash_core.specs.declared.flash.Flash as flash
@@ -76,6 +77,21 @@ pub data ServeWay (passes : List ℕ → Bool) (tells : Bool) (g : Given) (endin
       → ServesSource passes tells g.files g.script e ending.journal old new rest
       → ServeWay passes tells g ending old new rest
 
+-- ---- the ways that `soak` may end
+
+-- where its flash was formatted, or that was tried, no call of the files failed
+abbrev pub FailsNoFile : (device : Device) (g : Given) (seed rounds : ℕ) (ending : Ending Note) (old new : World)
+    → SoakWay device g seed rounds ending old new → Type 0
+FailsNoFile device g seed rounds ending old new (soak.not_formatted good large none stop tries is prints) =
+    new.faults.files ≡ old.faults.files
+FailsNoFile device g seed rounds ending old new (soak.ran good large done start on tries off power turns ends quiet) =
+    new.faults.files ≡ old.faults.files
+FailsNoFile device g seed rounds ending old new other = ⊤
+
+abbrev pub SoakHere : Device → Given → ℕ → ℕ → Ending Note → World → World → Type 0
+SoakHere device g seed rounds ending old new = (way : SoakWay device g seed rounds ending old new)
+    × FailsNoFile device g seed rounds ending old new way
+
 -- ---- by each command
 
 -- What was done for the words behind a list, or without one. `rest` is what the source tells afterwards.
@@ -89,11 +105,12 @@ pub record Answered {H I : Type 0} (passes : List ℕ → Bool) (device : Device
   pub formats : (banks : ℕ) (rows : List ImageRow) (file : List ℕ) → inputs.asked ≡ Some (ask.format banks rows file)
       → FormattedBy passes device (given_all inputs) file (record { banks = banks; rows = rows }) ending old new
   pub soaks : (seed rounds : ℕ) → inputs.asked ≡ Some (ask.soak seed rounds)
-      → SoakWay device (given_all inputs) seed rounds ending old new
+      → SoakHere device (given_all inputs) seed rounds ending old new
   pub serves : inputs.asked ≡ Some ask.serve → ServeWay passes device.tells (given_all inputs) (in_model ending) old new rest
   pub power : IsTrue (leaves_on inputs.asked) → ending.status ≡ 0 → IsTrue new.flash.power
   pub note : IsFalse (asks_beyond inputs.asked) → IsFalse (is_beyond_model ending.noted)
-  -- what it takes of its files and its source, where these tell it, and which failures they count, always
+  -- what it takes of its files and its source, where these tell it, and which failures they count: of the files, where nothing was
+  -- sent, and but for `format`
   pub reads : ReadsInputs inputs ending old.faults new.faults rest files_before files_after source_before source_after
 
 -- The same by the manifests of a list that was read (`Has` says of which), or nothing was done, and it holds whichever pass.

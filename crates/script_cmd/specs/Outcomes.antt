@@ -66,7 +66,7 @@ NoMetadataIsNone =
     → Promised passes true inputs (record ending { journal = t ∷ turns }) old new
     → (L : Layout) × (layout_seen old.flash.told.now ≡ Ok L) × (deciding L old.flash.told.now ≡ None)
 
--- Words that ask for nothing read no source: where they are answered by 2, a list was named and not read.
+-- Words that ask for nothing are answered by 2 only where a list was named and not read.
 abbrev pub UsageReadsNoSource : Type 0
 UsageReadsNoSource =
     (passes : List ℕ → Bool) (tells : Bool) (inputs : Inputs) (ending : Ending Note) (old new : World)
@@ -75,7 +75,7 @@ UsageReadsNoSource =
 
 -- ---- lists of digests
 
--- Behind a list that told files lack, or that has a bad line, no manifests pass.
+-- Behind a list that told files lack, or that has a bad line, there is no choice of manifests that pass.
 abbrev pub MissingListIsNone : Type 0
 MissingListIsNone = (name : List ℕ) (files : Directory) (passes : List ℕ → Bool) → files name ≡ None
     → HasPasses true (Some name) (Some files) passes → ⊥

@@ -1,4 +1,5 @@
--- What a command reads of its files and its source, and which failures it counts, whatever it is asked for.
+-- What a command reads of its files and its source, and which failures it counts. Of the files' failures in `format`, and where
+-- something is sent, it says no more than that their count does not fall.
 use Rattle.std.specs.Prelude.{◌≡◌, ◌≤◌, ℕ, List, Option, None, IsTrue, IsFalse, ◌≢◌, Some}
 use Rattle.fwu_model.specs.Asked as model
 use Rattle.fwu_model.specs.{Causes.Faults, Causes.may_fail_before, Reply.Turn}
@@ -25,7 +26,7 @@ pub record ReadsInputs {H I : Type 0} (inputs : Inputs) (ending : Ending Note) (
   pub files : inputs.list ≡ None → IsFalse (asks_files inputs.asked) → files_after ≡ files_before
   pub unsent : inputs.list ≡ None → IsFalse (asks_package inputs.asked)
       → IsTrue (sends_none (calls_of ending.journal)) → files_after ≡ files_before
-  -- where nothing was sent no call of the files failed, but at 2, 3 and 9, by which the list may not have been read
+  -- but for `format`: where nothing was sent no call of the files failed, except at 2, 3 and 9, which may be of an unread list
   pub list_alone : IsFalse (asks_package inputs.asked) → IsTrue (sends_none (calls_of ending.journal))
       → IsFalse (may_fail_before ending.status) → new.files ≡ old.files
   -- no count of failures falls
@@ -40,8 +41,8 @@ pub record ReadsInputs {H I : Type 0} (inputs : Inputs) (ending : Ending Note) (
 pub record IsUnasked (inputs : Inputs) (journal : List Turn) (access : Access) : Type 0 where
   -- the list of digests
   pub list : (name : List ℕ) → inputs.list ≡ Some name → access ≢ Asks name
-  -- the package that a flash is formatted with
+  -- the package that a flash is formatted with, but where told files lack the list or show it to be bad
   pub wanted : (banks : ℕ) (rows : List ImageRow) (file : List ℕ) → inputs.asked ≡ Some (ask.format banks rows file)
-      → access ≢ Asks file
+      → HasGoodList inputs.list inputs.files → access ≢ Asks file
   -- what is sent
   pub sent : ((seed rounds : ℕ) → inputs.asked ≡ Some (ask.soak seed rounds) → ⊥) → IsUnnamedIn journal access

@@ -1,6 +1,6 @@
 -- What the command `serve` promises, whichever way it ends.
 use Rattle.std.specs.Prelude.{◌≡◌, ℕ, Bool, List, Option, ◌≢◌, ◌≤◌, ◌<◌, ◌⊎◌, ◌||◌, ◌==◌, ◌++◌, Some, IfSome, IsSome, ◌↔◌, []}
-use Rattle.std.specs.Prelude.{◌+◌, ◌∷◌, Err, IsTrue, IsFalse, drop, length, take, slice_get}
+use Rattle.std.specs.Prelude.{◌+◌, ◌∷◌, Err, IsTrue, IsFalse, drop, length, take, slice_get, Contains, Ok}
 use Rattle.fwu_model.specs.{Reply.Turn, declared.kinds.Note.Note, Allow.list_bytes, Causes.LacksList, Contract.Premises}
 use Rattle.fwu_model.specs.{Causes.cuts_in, Headline.made_after, Sound.Setting, State.State, Wrote.IsBadList}
 use Rattle.fwu_model.specs.declared.kinds.NoBoot.{NoBoot}
@@ -30,7 +30,7 @@ ServedHeadline passes tells files ending old new =
     IsTrue tells → (E : Setting) (start : State) → Premises E start old.told files passes old.counts new.counts
     → Headline E start (outcome (calls_of ending.journal) ending.journal ending.status old new)
 
--- nothing was read of the source
+-- what the source has left is as it was, and so is its count of failures
 abbrev pub Unread : Given → World → World → Option (List ℕ) → Type 0
 Unread g old new rest = (rest ≡ g.script) × (new.faults.source ≡ old.faults.source)
 
@@ -114,6 +114,8 @@ pub record WroteFrames (stream rest : Option (List ℕ)) (ending : Ending Note) 
   -- the turns are the first of the journal, and all of them where none of the requests ended the serving
   pub begin : IsPrefixOf turns (drop 1 ending.journal)
   pub all_turns : IsTrue (reads_no_more ending.status) → turns ≡ drop 1 ending.journal
+  -- none of them ends the serving: a request whose turn does has no frame
+  pub goes : (t : Turn) → Contains turns t → end_by t.reply ≡ Ok tt
   -- each request that acts has its turn, and no other turn is there; want of memory alone may leave none at all
   pub calls : calls_of turns ≡ calls_for bodies
   pub all_calls : IsPrefixOf (calls_of (drop 1 ending.journal)) (calls_for (bodies ++ more))
@@ -161,12 +163,14 @@ pub record ServedBy (passes : List ℕ → Bool) (tells : Bool) (g : Given) (end
   pub uncut : cuts_in ending.journal ≡ 0
   pub made : new.flash.counts.made ≡ made_after old.flash.counts.made (cuts_in ending.journal)
   pub by_last : EndsByLast ending.journal ending.status ending.noted
+  -- So is one that ends the serving, as a loss of power does, and the status is by it: nothing was put behind it.
+  pub by_end : (n : ℕ) (t : Turn) (e : ServeEnd) → slice_get ending.journal n ≡ Some t → end_by t.reply ≡ Err e
+      → (n + 1 ≡ length ending.journal) × (ending.status ≡ status_of e)
   -- A turn is done only behind a good list, and no call of the files fails then.
   pub listed : ending.journal ≢ [] → HasGoodList g.list g.files × (new.faults.files ≡ old.faults.files)
-  -- Nothing is read of the source without a turn, nor where the first one ends the serving: then it is the only one.
+  -- Without a turn, and where the first one ends the serving, the source has left what it had, and counts no further failure.
   pub unread : ending.journal ≡ [] → Unread g old new rest
-  pub first : (t : Turn) (e : ServeEnd) → slice_get ending.journal 0 ≡ Some t → end_by t.reply ≡ Err e
-      → (ending.journal ≡ t ∷ []) × (ending.status ≡ status_of e) × Unread g old new rest
+  pub first : (t : Turn) (e : ServeEnd) → slice_get ending.journal 0 ≡ Some t → end_by t.reply ≡ Err e → Unread g old new rest
   -- For every device, files, source and sink: each status has its cause.
   pub ends : ServedEnds g ending old new rest
   -- For every device, files, source and sink: what was answered, by which turns, and what the sink took, at every status.

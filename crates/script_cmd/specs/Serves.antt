@@ -39,7 +39,8 @@ pub record Serves {H I : Type 0} (passes : List ℕ → Bool) (device : Device) 
   pub power : IsTrue (leaves_on inputs.asked) → ending.status ≡ 0 → IsTrue new.flash.power
   -- no command but `format`, `soak` and those with `--gpt` notes an input, or what a partition table lacks
   pub note : IsFalse (asks_beyond inputs.asked) → IsFalse (is_beyond_model ending.noted)
-  -- what it takes of its files and its source, where these tell it, and which failures they count, always
+  -- what it takes of its files and its source, where these tell it, and which failures they count: of the files, where nothing was
+  -- sent, and but for `format`
   pub reads : ReadsInputs inputs ending old.faults new.faults rest files_before files_after source_before source_after
   -- the sink failed once where the status is 3, and else not at all
   pub sink_count : FailsAtThree ending.status old.faults.sink new.faults.sink

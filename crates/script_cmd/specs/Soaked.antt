@@ -67,6 +67,8 @@ soak_world flash = record { flash = flash; taken = None; faults = record { files
 pub record SoaksFlash (device : Device) (g : Given) (seed rounds : ℕ) (ending : Ending Note) (old new : World) : Type 0 where
   pub good : HasGoodList g.list g.files
   pub large : IsFalse (is_too_small device.blocks)
+  -- no call of the files failed, as the list was read or later
+  pub files : new.faults.files ≡ old.faults.files
   pub result : Result Formatted FormatStop
   pub start : TurnMoment
   pub tries : Tries passes_any device.tells (Some (first_files seed)) (file_name 0) soak_layout device.blocks
@@ -98,8 +100,8 @@ pub record SoakedEnds (device : Device) (g : Given) (seed rounds : ℕ) (ending 
   pub by_last : EndsByLast ending.journal planned (noted ending.noted)
   -- all calls were done, and the line is that of their totals
   pub done : planned ≡ 0 → (calls_of ending.journal ≡ soak_calls seed rounds) × (line ≡ soak_line rounds ending.journal)
-  -- a list of digests was not read
-  pub not_read : planned ≡ 2 → (ending.journal ≡ []) × IsSome g.list
+  -- a list of digests was not read, and the flash is as it was
+  pub not_read : planned ≡ 2 → (ending.journal ≡ []) × (new.flash ≡ old.flash) × IsSome g.list
       × (Rose old.faults.files new.faults.files ⊎ LacksList g.files g.list) × (line ≡ not_read_line)
   -- the flash failed at the last turn, or it stopped while it was formatted
   pub flash_fault : planned ≡ 5 → (line ≡ flash_fault_line)
@@ -112,9 +114,9 @@ pub record SoakedEnds (device : Device) (g : Given) (seed rounds : ℕ) (ending 
   pub refused : planned ≡ 7 → (ending.journal ≡ []) × (why : InputFault) × (ending.noted ≡ note.Input why)
       × (IsTrue (is_too_small device.blocks) → (why ≡ fault.Layout BeyondFlash) × (line ≡ too_small_line))
       × (IsFalse (is_too_small device.blocks) → line ≡ format_text (Err (Input why)))
-  -- the list of digests has a bad line, which is noted
-  pub not_list : planned ≡ 13 → (ending.journal ≡ []) × IsSome g.list × (n : ℕ) × (ending.noted ≡ note.BadList n)
-      × IsBadList (list_bytes g.list g.files) n × (line ≡ bad_list_line n)
+  -- the list of digests has a bad line, which is noted, and the flash is as it was
+  pub not_list : planned ≡ 13 → (ending.journal ≡ []) × (new.flash ≡ old.flash) × IsSome g.list
+      × (n : ℕ) × (ending.noted ≡ note.BadList n) × IsBadList (list_bytes g.list g.files) n × (line ≡ bad_list_line n)
   -- and nothing else is noted; for want of memory nothing is put
   pub quiet : IsFalse ((planned == 6) || (planned == 7) || (planned == 13)) → ending.noted ≡ note.Nothing
   pub none : planned ≡ 9 → (ending.status ≡ 9) × PutsNone old new

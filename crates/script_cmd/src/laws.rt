@@ -47,17 +47,17 @@ pub fn no_metadata_is_none()
     ensures { NoMetadataIsNone }
 {}
 
-/// Words that ask for nothing are answered by 2 only for a list of digests.
+/// Words that ask for nothing are answered by 2 only where a list was named and not read.
 pub fn usage_reads_no_source()
     ensures { UsageReadsNoSource }
 {}
 
-/// Behind a list that told files lack no manifests pass.
+/// Behind a list that told files lack there is no choice of manifests that pass.
 pub fn missing_list_is_none()
     ensures { MissingListIsNone }
 {}
 
-/// Behind a list with a bad line no manifests pass.
+/// Behind a list that told files show to have a bad line there is no choice of manifests that pass.
 pub fn bad_list_is_none()
     ensures { BadListIsNone }
 {}

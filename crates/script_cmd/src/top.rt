@@ -58,8 +58,8 @@ pub fn fwu_top_with<D: Flash, H: Files, I: Source, O: Sink, V: Verifier>(
 
 /// `fwu_top_with` for any manifest, or where the words begin with `--allow FILE`, for those whose digests that file lists. A list
 /// that isn't there or can't be read is answered by status 2, and one with a bad line by 13, before the other words are looked at;
-/// by 3 or 9 where the sink fails at the line of that, or memory is wanting. (That such a list is answered so is a clause where
-/// the files tell what they hold. The system's files don't.)
+/// by 3 or 9 where the sink fails at the line of that, or memory is wanting. (Where the files tell what they hold it is a clause
+/// that one that they lack ends with 2, 3 or 9, and a bad one with 13, 3 or 9, or with 2 where a failure was counted.)
 pub fn fwu_top<D: Flash, H: Files, I: Source, O: Sink>(
     alloc: Global,
     words: &[String],

@@ -1,5 +1,5 @@
 -- The requests of a source, one more of them, and all so far.
-use Rattle.std.proofs.Common.{◌≡◌, ℕ, ◌+◌, ◌-◌, ◌≤◌, Bool, true, false, not, ◌&&◌, ◌==◌, cond, IsTrue, List, ◌∷◌, ◌++◌, length, map, suc, get_or, refl, sym, ap, subst, ◌∙◌, arith, append_assoc, append-nil, [], Ok, Result, None, Err, length-append}
+use Rattle.std.proofs.Common.{◌≡◌, ℕ, ◌+◌, ◌-◌, ◌≤◌, Bool, true, false, not, ◌&&◌, ◌==◌, cond, IsTrue, List, ◌∷◌, ◌++◌, length, map, suc, get_or, refl, sym, ap, subst, ◌∙◌, arith, append_assoc, append-nil, [], Ok, Result, None, Err, length-append, Contains}
 use Rattle.std.proofs.lemmas.Bool.{and_parts, eqb-false, eqb-true, not-true}
 use Rattle.std.proofs.lemmas.List.{get_or_append_left, get_or_push, length_push, length-map, map_push}
 use Rattle.std.proofs.lemmas.List.Concat.{flat_map-append}
@@ -18,7 +18,7 @@ use Rattle.serving.specs.Written.{acting, answered_numbers, frame_of, messages_o
 use Rattle.serving.specs.Serving.{OneReply, ServesAgain, ServesBy, ServesNew, ServesOne, answered, stopped}
 use Rattle.serving.specs.{Going.ServesRequests, Going.GoesOn, Going.ServeEnds, Scene.At, Scene.RunAt, Scene.Scene, Scene.Port}
 use Rattle.serving.specs.{declared.ends.ServeEnd.ServeEnd, Ends.IsEarlyEnd, Ends.end_of_stop}
-use Rattle.serving.proofs.Starts.{Stands, any-more, goes-none, put-all, stands-on, stands-still}
+use Rattle.serving.proofs.Starts.{Stands, any-more, goes-more, goes-none, put-all, stands-on, stands-still}
 
 -- ---- what is done for requests, with one request more
 
@@ -149,6 +149,7 @@ module _ (E : Scene) (first : List Turn) (start : TurnMoment) (off : start.on �
   ignored-on is same = subst (λ (x : At). ServesRequests E first start (bodies ++ body ∷ []) old x) (sym same) (record {
     turns = was.turns;
     journal_is = was.journal_is;
+    goes = was.goes;
     ran = was.ran;
     none = was.none;
     uncut = was.uncut;
@@ -175,6 +176,7 @@ module _ (E : Scene) (first : List Turn) (start : TurnMoment) (off : start.on �
       record {
         turns = was.turns;
         journal_is = same ∙ was.journal_is;
+        goes = λ t has. was.goes t (subst (λ (j : List Turn). Contains j t) same has);
         ran = stands.ran;
         none = ap (list_any (λ (t : Turn). ends_run t.reply)) same ∙ was.none;
         uncut = stands.uncut;
@@ -233,6 +235,7 @@ module _ (E : Scene) (first : List Turn) (start : TurnMoment) (off : start.on �
       record {
         turns = was.turns ++ t ∷ [];
         journal_is = did.kept ∙ ap (λ (j : List Turn). j ++ t ∷ []) was.journal_is ∙ append_assoc first was.turns (t ∷ []);
+        goes = λ u has. goes-more mid.run.journal t was.goes one.goes u (subst (λ (j : List Turn). Contains j u) did.kept has);
         ran = stands.ran;
         none = ap (list_any (λ (u : Turn). ends_run u.reply)) did.kept ∙ any-more (λ (u : Turn). ends_run u.reply) mid.run.journal t was.none goes;
         uncut = stands.uncut;

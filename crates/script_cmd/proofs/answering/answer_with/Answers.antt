@@ -6,7 +6,7 @@ use Rattle.script_runs.specs.Ways.{Given}
 use Rattle.script_runs.proofs.TopSources.{later}
 use Rattle.script_turns.specs.Powered.{moment}
 use Rattle.script_cmd.proofs.AnsweredBy.{answered-plain, answered-starved, answered-turns, answered-usage, no-other}
-use Rattle.script_cmd.proofs.{TopFormats.formatted-by, TopShows.showed-by, TopLists.no-list-named}
+use Rattle.script_cmd.proofs.{SoakTop.fails-no-file, TopFormats.formatted-by, TopShows.showed-by, TopLists.no-list-named}
 use Rattle.script_cmd.proofs.Unasked.{asks-none, asks-still}
 use Rattle.script_cmd.proofs.answering.answer_with.Goals as goal
 
@@ -48,8 +48,9 @@ returns-in-Ok-Soak-clause-answers g c =
     let e = c.soak.ensures in
     answered-plain _ (ask.soak c.in-Ok-Soak.seed c.in-Ok-Soak.rounds) (rw c.in-Ok-Soak.field-0-is at c.in-Ok-Soak.ensures)
     ((λ runs. runs), refl, refl)
+    (fails-no-file _ _ _ _ _ _ _
     (e.way (record { list = None; files = g.H.Files.contents c.args.files.now; script = g.I.Source.left c.args.source.now })
-    (record { files = files; source = source; sink = 0 }) (record { files = files; source = source; sink = 0 }) no-list-named)
+    (record { files = files; source = source; sink = 0 }) (record { files = files; source = source; sink = 0 }) no-list-named) refl)
     (λ leaves. absurd (false≢true leaves)) (λ other. absurd (false≢true (sym other))) (λ other. refl) (λ other. refl) (λ other. (refl, refl))
     (record { files = omega arith; source = omega arith; sink = e.later })
 
@@ -116,7 +117,7 @@ returns-in-Ok-Format-clause-reads g c =
       unwritten = e.unwritten;
       later = e.later;
       spares = λ access other.
-          e.spares access (other.wanted c.in-Ok-Format.wanted.banks c.in-Ok-Format.wanted.rows.items c.in-Ok-Format.wanted.package.now (rw c.in-Ok-Format.field-0-is at c.in-Ok-Format.ensures));
+          e.spares access (other.wanted c.in-Ok-Format.wanted.banks c.in-Ok-Format.wanted.rows.items c.in-Ok-Format.wanted.package.now (rw c.in-Ok-Format.field-0-is at c.in-Ok-Format.ensures) no-list-named);
     }
 
 pub returns-in-Ok-Soak-clause-reads : goal.returns-in-Ok-Soak-clause-reads

@@ -96,7 +96,12 @@ returns-in-Err-NoMemory-clause-once g c = once-none g.I.Source g.met.I.Source.at
 
 pub returns-in-Ok-clause-reads : goal.returns-in-Ok-clause-reads
 returns-in-Ok-clause-reads g c =
-    asks-behind g.H.Files g.met.H.Files.joins c.args.listed.name.now _ _ _ _ refl c.read_list.ensures.reads c.answer_with.ensures.reads
+    let name = c.args.listed.name.now in
+    let files = g.H.Files.contents c.args.files.now in
+    let read = c.in-Ok.ensures.ok in
+    asks-behind g.H.Files g.met.H.Files.joins name _ _ _ _ refl
+    (good-list files name read.bytes c.in-Ok.list (bytes-there files name read.bytes read.stands) read.is)
+    c.read_list.ensures.reads c.answer_with.ensures.reads
 
 pub returns-in-Err-Failed-clause-reads : goal.returns-in-Err-Failed-clause-reads
 returns-in-Err-Failed-clause-reads g c = asks-list g.H.Files c.args.listed.name.now _ _ refl c.read_list.ensures.reads
