@@ -4,14 +4,14 @@ use Rattle.flash_core.specs.declared.flash.Flash as flash
 use Rattle.host_io.specs.declared.files.Files as files
 use Rattle.host_io.specs.declared.sink.Sink as sink
 use Rattle.fwu_model.specs.Causes.{Faults}
-use Rattle.script_runs.specs.{Ending.ending, Ending.World, Ways.Given, Ways.told_device, Ways.moment_world, declared.done.Done.Done}
+use Rattle.script_runs.specs.{Ending.ending, Ending.World, Ways.Given, Ways.described, Ways.moment_world, declared.done.Done.Done}
 use Rattle.flash_commands.specs.SoakWays.{SoakWay}
 
 -- one of the ways of a soak
 abbrev pub SoaksWay : {D O : Type 0} → flash.Ghosts D → sink.Ghosts O → Given → ℕ → ℕ → Faults → Faults → D → O → Done D → O
     → Type 0
 SoaksWay d o g seed rounds before after flash sink done sink_after =
-    SoakWay (told_device d flash) g seed rounds (ending done) (moment_world d o before flash sink)
+    SoakWay (described d flash) g seed rounds (ending done) (moment_world d o before flash sink)
     (moment_world d o after done.flash sink_after)
 
 -- a world whose source counts this many failures

@@ -5,7 +5,7 @@ ghost use Rattle.host_io.specs.Reads.{ReadsFile};
 ghost use Rattle.script_turns.specs.Powered.{moment};
 ghost use Rattle.flash_commands.specs.Formatting.{Formats, Tries, format_note, format_status, layout_of};
 ghost use Rattle.flash_commands.specs.Here.{without_list, world_at};
-ghost use Rattle.script_runs.specs.Ways.{told_device};
+ghost use Rattle.script_runs.specs.Ways.{described};
 
 use crate::format_line::{FORMAT_ROOM, add_format_line};
 use base_core::ImageRow;
@@ -79,7 +79,7 @@ pub fn format_flash<'a, D: Flash, H: Files, O: Sink, V: Verifier>(
 ) -> Done<D>
     requires off { IsFalse (D.on flash) }
     requires unarmed { D.arming flash ≡ None }
-    ensures formats { (script : Option (List ℕ)) (was are : ℕ) → Formats (V.passes verifier.now) (told_device D.Flash flash)
+    ensures formats { (script : Option (List ℕ)) (was are : ℕ) → Formats (V.passes verifier.now) (described D.Flash flash)
         (without_list H.Files script files.old) wanted.entry.package.now (layout_of wanted.entry)
         (world_at D.Flash H.Files O.Sink was flash files.old sink.old)
         (world_at D.Flash H.Files O.Sink are result.flash files.new sink.new) result.status result.note }

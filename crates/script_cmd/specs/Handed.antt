@@ -85,5 +85,5 @@ abbrev pub unlisted : {H I : Type 0} → files.Ghosts H → source.Ghosts I → 
 unlisted h i words files source = inputs_of h i (asked words) None files source
 
 -- by words that may begin with a list
-abbrev pub inputs_listed : {H I : Type 0} → files.Ghosts H → source.Ghosts I → List (List ℕ) → H → I → Inputs
-inputs_listed h i words files source = inputs_of h i (asked_with_list words) (list_name words) files source
+abbrev pub by_list : {H I : Type 0} → files.Ghosts H → source.Ghosts I → List (List ℕ) → H → I → Inputs
+by_list h i words files source = inputs_of h i (asked_with_list words) (list_name words) files source

@@ -6,7 +6,7 @@ use Rattle.fwu_words.specs.Order as ask
 use Rattle.script_runs.specs.Ending.{Device, Ending, PutsNone, World, in_model, is_beyond_model, ending}
 use Rattle.flash_commands.specs.{Showing.RefusedList, SoakWays.SoakWay}
 use Rattle.flash_commands.specs.SoakWays as soak
-use Rattle.script_runs.specs.Ways.{Given, HasGoodList, Way, told_device}
+use Rattle.script_runs.specs.Ways.{Given, HasGoodList, Way, described}
 use Rattle.script_runs.specs.{WaysByTable.WayByTable, declared.done.Note.Note, declared.done.Done.Done}
 use Rattle.flash_core.specs.declared.flash.Flash as flash
 use Rattle.host_io.specs.Contents.{Directory}
@@ -139,12 +139,12 @@ world d h i o flash files source sink =
 abbrev pub AnsweredHere : {D H I O : Type 0} → flash.Ghosts D → files.Ghosts H → source.Ghosts I → sink.Ghosts O
     → (List ℕ → Bool) → Inputs → D → H → I → O → Done D → H → I → O → Type 0
 AnsweredHere d h i o passes inputs flash files source sink done files_after source_after sink_after =
-    Answered passes (told_device d flash) inputs (ending done) (world d h i o flash files source sink)
+    Answered passes (described d flash) inputs (ending done) (world d h i o flash files source sink)
     (world d h i o done.flash files_after source_after sink_after) (i.left source_after) files files_after source source_after
 
 -- and by the manifests of a list that was read
 abbrev pub AnswersHere : {D H I O : Type 0} → flash.Ghosts D → files.Ghosts H → source.Ghosts I → sink.Ghosts O
     → ((List ℕ → Bool) → Type 0) → Inputs → D → H → I → O → Done D → H → I → O → Type 0
 AnswersHere d h i o Has inputs flash files source sink done files_after source_after sink_after =
-    AnsweredByList Has (told_device d flash) inputs (ending done) (world d h i o flash files source sink)
+    AnsweredByList Has (described d flash) inputs (ending done) (world d h i o flash files source sink)
     (world d h i o done.flash files_after source_after sink_after) (i.left source_after) files files_after source source_after

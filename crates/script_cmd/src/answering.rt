@@ -5,7 +5,7 @@ ghost use Rattle.host_io.specs.Reads.{ReadsFiles};
 ghost use Rattle.fwu_model.specs.Allow.{asks_list, list_name};
 ghost use Rattle.fwu_words.specs.Order.{asked};
 ghost use Rattle.script_cmd.specs.Here.{AnsweredHere, AnswersHere};
-ghost use Rattle.script_cmd.specs.Handed.{inputs_listed, unlisted, inputs_of};
+ghost use Rattle.script_cmd.specs.Handed.{by_list, unlisted, inputs_of};
 ghost use Rattle.script_cmd.specs.ReadsInputs.{IsUnasked};
 ghost use Rattle.script_runs.specs.Ending.{ending};
 ghost use Rattle.script_cmd.specs.ByList.{HasPasses, ReadsList};
@@ -106,9 +106,9 @@ pub fn answer<D: Flash, H: Files, I: Source, O: Sink>(
     requires unarmed { D.arming flash ≡ None }
     ensures answers { AnswersHere D.Flash H.Files I.Source O.Sink
         (HasPasses (asks_list (map string_bytes words.now)) (list_name (map string_bytes words.now)) (H.contents files.old))
-        (inputs_listed H.Files I.Source (map string_bytes words.now) files.old source.old)
+        (by_list H.Files I.Source (map string_bytes words.now) files.old source.old)
         flash files.old source.old sink.old result files.new source.new sink.new }
-    ensures reads { ReadsFiles H.Files (IsUnasked (inputs_listed H.Files I.Source (map string_bytes words.now) files.old source.old)
+    ensures reads { ReadsFiles H.Files (IsUnasked (by_list H.Files I.Source (map string_bytes words.now) files.old source.old)
         (ending result).journal) files.old files.new }
     ensures once { ReadsOnce I.Source source.old source.new }
     ensures size { D.blocks result.flash ≡ D.blocks flash }

@@ -3,10 +3,10 @@ ghost use Rattle.std.specs.Prelude.{◌≡◌, None, map, string_bytes, IsFalse}
 ghost use Rattle.host_io.specs.Once.{ReadsOnce};
 ghost use Rattle.host_io.specs.Reads.{ReadsFiles};
 ghost use Rattle.script_runs.specs.Ending.{ending};
-ghost use Rattle.script_cmd.specs.Handed.{inputs_listed, unlisted};
+ghost use Rattle.script_cmd.specs.Handed.{by_list, unlisted};
 ghost use Rattle.script_cmd.specs.Serves.{Serves, ServesByList};
 ghost use Rattle.script_cmd.specs.ReadsInputs.{IsUnasked};
-ghost use Rattle.script_runs.specs.Ways.{told_device};
+ghost use Rattle.script_runs.specs.Ways.{described};
 ghost use Rattle.script_cmd.specs.Here.{world};
 
 use crate::answering::{answer, answer_with};
@@ -39,7 +39,7 @@ pub fn fwu_top_with<D: Flash, H: Files, I: Source, O: Sink, V: Verifier>(
     requires off { IsFalse (D.on flash) }
     requires unarmed { D.arming flash ≡ None }
 
-    ensures serves { Serves (V.passes verifier.now) (told_device D.Flash flash)
+    ensures serves { Serves (V.passes verifier.now) (described D.Flash flash)
         (unlisted H.Files I.Source (map string_bytes words.now) files.old source.old) (ending result)
         (world D.Flash H.Files I.Source O.Sink flash files.old source.old sink.old)
         (world D.Flash H.Files I.Source O.Sink result.flash files.new source.new sink.new)
@@ -72,14 +72,14 @@ pub fn fwu_top<D: Flash, H: Files, I: Source, O: Sink>(
     requires unarmed { D.arming flash ≡ None }
 
     // By the manifests that the list has; where one is named and none was read nothing was done, and it holds whichever pass.
-    ensures serves { ServesByList (map string_bytes words.now) (told_device D.Flash flash)
-        (inputs_listed H.Files I.Source (map string_bytes words.now) files.old source.old) (ending result)
+    ensures serves { ServesByList (map string_bytes words.now) (described D.Flash flash)
+        (by_list H.Files I.Source (map string_bytes words.now) files.old source.old) (ending result)
         (world D.Flash H.Files I.Source O.Sink flash files.old source.old sink.old)
         (world D.Flash H.Files I.Source O.Sink result.flash files.new source.new sink.new)
         (I.left source.new) files.old files.new source.old source.new }
     // No file is asked for but the list that the words name, the package of `format` and what turns send. None is written. (Of the
     // system's files only the second is a clause.)
-    ensures reads { ReadsFiles H.Files (IsUnasked (inputs_listed H.Files I.Source (map string_bytes words.now) files.old source.old)
+    ensures reads { ReadsFiles H.Files (IsUnasked (by_list H.Files I.Source (map string_bytes words.now) files.old source.old)
         (ending result).journal) files.old files.new }
     // No read of the source is made behind one that gave no bytes or failed. (Of the standard input it is no clause.)
     ensures once { ReadsOnce I.Source source.old source.new }

@@ -6,7 +6,7 @@ use Rattle.host_io.specs.declared.sink.Sink as sink
 use Rattle.host_io.specs.Printed.{Prints}
 use Rattle.fwu_words.specs.{Order.Asked, declared.orders.Place.Place}
 use Rattle.script_runs.specs.{Ending.ending, WaysByTable.WayAt, declared.done.Done.Done}
-use Rattle.script_runs.specs.Ways.{Given, told_device, moment_world}
+use Rattle.script_runs.specs.Ways.{Given, described, moment_world}
 
 -- what a line that was put into this sink makes of a status
 abbrev pub PrintsTo : {O : Type 0} → sink.Ghosts O → List ℕ → ℕ → ℕ → O → O → Type 0
@@ -16,6 +16,6 @@ PrintsTo o piece planned status old new = Prints piece planned status (o.taken o
 abbrev pub GoesAt : {D H O : Type 0} → Place → flash.Ghosts D → files.Ghosts H → sink.Ghosts O → (List ℕ → Bool) → Option Asked
     → Given → ℕ → ℕ → D → H → O → Done D → H → O → Type 0
 GoesAt at d h o passes asked g before after flash files sink done files_after sink_after =
-    WayAt at passes (told_device d flash) asked g (ending done)
+    WayAt at passes (described d flash) asked g (ending done)
     (moment_world d o (record { files = h.faults files; source = before; sink = o.faults sink }) flash sink)
     (moment_world d o (record { files = h.faults files_after; source = after; sink = o.faults sink_after }) done.flash sink_after)

@@ -60,8 +60,8 @@ moment_world d o faults flash sink =
     }
 
 -- what a device is
-abbrev pub told_device : {D : Type 0} → flash.Ghosts D → D → Device
-told_device d flash = record { tells = d.tells; blocks = d.blocks flash }
+abbrev pub described : {D : Type 0} → flash.Ghosts D → D → Device
+described d flash = record { tells = d.tells; blocks = d.blocks flash }
 
 -- Nothing ran for want of memory; or for a cause, whose line was put into the sink; or the turns of the script ran, and no fault of
 -- the files was counted but by them.
