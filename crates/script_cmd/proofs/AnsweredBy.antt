@@ -243,15 +243,15 @@ module _ {H I : Type 0} {passes : List ℕ → Bool} {tells : Bool} {blocks : �
   }
 
   -- nothing was done for want of memory, whatever is asked for
-  pub answered-starved : (asked : Option Asked) (list : Option (List ℕ)) → journal ≡ [] → new ≡ old → old.armed ≡ None → status ≡ 9 → said ≡ note.Nothing → (taken_after ≡ taken_before) × (faults_after.sink ≡ faults_before.sink) → (list ≡ None → files_after ≡ files)
+  pub answered-starved : (asked : Option Asked) (list : Option (List ℕ)) → journal ≡ [] → new ≡ old → old.armed ≡ None → status ≡ 9 → said ≡ note.Nothing → (taken_after ≡ taken_before) × (faults_after.sink ≡ faults_before.sink) → faults_after.files ≡ faults_before.files → (list ≡ None → files_after ≡ files)
       → source_after ≡ source → rest ≡ left → faults_after.source ≡ faults_before.source → Later faults_before faults_after
       → Answered passes (device-of tells blocks) (inputs-of asked list told left) (end-of journal status said) (world-of old taken_before faults_before) (world-of new taken_after faults_after) rest files files_after source source_after
-  answered-starved asked list none same unarmed nine is stuck kept stays unread once later = record {
+  answered-starved asked list none same unarmed nine is stuck still kept stays unread once later = record {
     way = λ runs. way.starved none same nine (ap noted is) stuck;
     by_table = λ plain over. table-starved passes tells blocks journal status said old new taken_before taken_after (Some plain) (record { list = list; files = told; script = script_asked (in_short (Some plain)) left }) faults_before faults_after none same nine is stuck;
     shows = λ words. starved-shows tells (record { list = list; files = told; script = left }) old new status (noted said) journal taken_before taken_after faults_before faults_after same unarmed none nine (ap noted is) stuck;
     formats = λ banks rows file words.
-        starved-formats passes tells (record { list = list; files = told; script = left }) file (record { banks = banks; rows = rows }) blocks old new status said journal taken_before taken_after faults_before faults_after same unarmed none is nine stuck;
+        starved-formats passes tells (record { list = list; files = told; script = left }) file (record { banks = banks; rows = rows }) blocks old new status said journal taken_before taken_after faults_before faults_after same unarmed none is nine stuck still;
     soaks = λ seed rounds words. (soak.starved none same nine is stuck, tt);
     serves = λ words. serve.starved none same (unread, once) nine (ap noted is) stuck;
     power = λ leaves zero. absurd (omega (arith, zero, nine));

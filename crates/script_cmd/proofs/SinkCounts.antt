@@ -73,7 +73,7 @@ module _ (old new : World) where
       counts-line line planned status old.taken new.taken old.faults.sink new.faults.sink (found-other _ new.flash.told.now old.flash.counts new.flash.counts planned noted line finds) prints
 
   format-counts : (passes : List ℕ → Bool) (device : Device) (g : Given) (name : List ℕ) (L : Layout) (status : ℕ) (said : Note) → Formats passes device g name L old new status said → FailsAtThree status old.faults.sink new.faults.sink
-  format-counts passes device g name L status said (format.starved nine is same stuck) = counts-none status old.faults.sink new.faults.sink nine stuck.1
+  format-counts passes device g name L status said (format.starved nine is same stuck still) = counts-none status old.faults.sink new.faults.sink nine stuck.1
   format-counts passes device g name L status said (format.tried good r tries prints is) =
       counts-line (format_text r) (format_status r) status old.taken new.taken old.faults.sink new.faults.sink (format-other r) prints
   format-counts passes device g name L status said (format.list_refused same beyond refused) = list-counts _ g status _ refused

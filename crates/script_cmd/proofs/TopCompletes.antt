@@ -142,7 +142,7 @@ module _ (passes : List ℕ → Bool) (g : Given) (name : List ℕ) (L : Layout)
       stopped (inr cut) = grants.no_cut cut
 
   by-formats : Formats passes (device-of true blocks) g name L (world-of old taken_before faults_before) (world-of new taken_after faults_after) status said → IsFormattable passes g.files name L blocks → IsGranted g old.counts new.counts faults_before faults_after → (status ≡ 0) ⊎ (status ≡ 9)
-  by-formats (format.starved nine is same taken_after) can grants = inr nine
+  by-formats (format.starved nine is same taken_after still) can grants = inr nine
   by-formats (format.tried good r tries prints is) can grants = tried r can grants tries prints
   by-formats (format.list_refused same quiet refused) can grants =
       absurd

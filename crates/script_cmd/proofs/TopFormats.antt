@@ -25,22 +25,22 @@ use Rattle.script_cmd.proofs.TopLists.{from-sink, refused-behind}
 
 module _ (passes : List ℕ → Bool) (tells : Bool) (g : Given) (file : List ℕ) (L : Layout) (blocks : ℕ) (old new : TurnMoment) (status : ℕ) (said : Note) (journal : List Turn) (taken_before taken_after : Option (List ℕ)) (faults_before faults_after : Faults) where
   lists : Formats passes (device-of tells blocks) g file L (world-of old taken_before faults_before) (world-of new taken_after faults_after) status said → RefusesBadList g old new status faults_before faults_after
-  lists (starved nine is same none) = starved-list g old new status faults_before faults_after same nine
+  lists (starved nine is same none still) = starved-list g old new status faults_before faults_after same nine
   lists (tried good r t prints is) = good-list-kept g old new status faults_before faults_after good
   lists (list_refused same quiet refused) = refused-list g old new status faults_before faults_after (ask.format L.banks L.rows file) (noted said) taken_before taken_after same refused
 
   made-none : Formats passes (device-of tells blocks) g file L (world-of old taken_before faults_before) (world-of new taken_after faults_after) status said → new.counts.made ≡ old.counts.made
-  made-none (starved nine is same none) = ap (λ (m : TurnMoment). m.counts.made) same
+  made-none (starved nine is same none still) = ap (λ (m : TurnMoment). m.counts.made) same
   made-none (tried good r t prints is) = t.made
   made-none (list_refused same quiet refused) = ap (λ (m : TurnMoment). m.counts.made) same
 
   arms-none : old.armed ≡ None → Formats passes (device-of tells blocks) g file L (world-of old taken_before faults_before) (world-of new taken_after faults_after) status said → new.armed ≡ None
-  arms-none unarmed (starved nine is same none) = ap (λ (m : TurnMoment). m.armed) same ∙ unarmed
+  arms-none unarmed (starved nine is same none still) = ap (λ (m : TurnMoment). m.armed) same ∙ unarmed
   arms-none unarmed (tried good r t prints is) = t.unarmed
   arms-none unarmed (list_refused same quiet refused) = ap (λ (m : TurnMoment). m.armed) same ∙ unarmed
 
   guards : Formats passes (device-of tells blocks) g file L (world-of old taken_before faults_before) (world-of new taken_after faults_after) status said → IsTrue tells → new.told.guard ≡ old.told.guard
-  guards (starved nine is same none) told = ap (λ (m : TurnMoment). m.told.guard) same
+  guards (starved nine is same none still) told = ap (λ (m : TurnMoment). m.told.guard) same
   guards (tried good r t prints is) told = t.guard told
   guards (list_refused same quiet refused) told = ap (λ (m : TurnMoment). m.told.guard) same
 
@@ -50,7 +50,7 @@ module _ (passes : List ℕ → Bool) (tells : Bool) (g : Given) (file : List �
   unread r M fits by (inr is) = ap format_status is
 
   lacks-package : Formats passes (device-of tells blocks) g file L (world-of old taken_before faults_before) (world-of new taken_after faults_after) status said → Lacks g.files file → (M : Layout) → fitted L blocks ≡ Ok M → IsTrue (may_fail_before status || (status == 13))
-  lacks-package (starved nine is same none) lacks M fits = subst (λ (k : ℕ). IsTrue (may_fail_before k || (k == 13))) (sym nine) refl
+  lacks-package (starved nine is same none still) lacks M fits = subst (λ (k : ℕ). IsTrue (may_fail_before k || (k == 13))) (sym nine) refl
   lacks-package (tried good r t prints is) lacks M fits =
       by-plan (format_text r) (format_status r) status taken_before taken_after faults_before.sink faults_after.sink prints (λ k. may_fail_before k || (k == 13)) refl refl
       (subst (λ (k : ℕ). IsTrue (may_fail_before k || (k == 13))) (sym (unread r M fits t.layout (t.missing lacks).0)) refl)
@@ -67,7 +67,7 @@ module _ (passes : List ℕ → Bool) (tells : Bool) (g : Given) (file : List �
   blanks-at (Err (Flash stop)) t prints zero told = absurd (not-done (format_text (Err (Flash stop))) 5 status taken_before taken_after faults_before.sink faults_after.sink (λ e. omega arith) prints zero)
 
   blanks : Formats passes (device-of tells blocks) g file L (world-of old taken_before faults_before) (world-of new taken_after faults_after) status said → status ≡ 0 → IsTrue tells → IsBlank L new.told.now
-  blanks (starved nine is same none) zero told = absurd (omega arith)
+  blanks (starved nine is same none still) zero told = absurd (omega arith)
   blanks (tried good r t prints is) zero told = blanks-at r t prints zero told
   blanks (list_refused same quiet refused) zero told =
       absurd
@@ -97,8 +97,8 @@ module _ (passes : List ℕ → Bool) (tells : Bool) (g : Given) (file : List �
       (planned, line, subst (λ (x : model.Note). Refuses (Some (ask.format L.banks L.rows file)) g faults_before faults_after planned x line) (sym is) why, prints))
 
   -- nothing was done for want of memory
-  pub starved-formats : new ≡ old → old.armed ≡ None → journal ≡ [] → said ≡ note.Nothing → status ≡ 9 → (taken_after ≡ taken_before) × (faults_after.sink ≡ faults_before.sink) → FormattedBy passes (device-of tells blocks) g file L (end-of journal status said) (world-of old taken_before faults_before) (world-of new taken_after faults_after)
-  starved-formats same unarmed none is nine stuck = formatted-by unarmed none (starved nine is same stuck)
+  pub starved-formats : new ≡ old → old.armed ≡ None → journal ≡ [] → said ≡ note.Nothing → status ≡ 9 → (taken_after ≡ taken_before) × (faults_after.sink ≡ faults_before.sink) → faults_after.files ≡ faults_before.files → FormattedBy passes (device-of tells blocks) g file L (end-of journal status said) (world-of old taken_before faults_before) (world-of new taken_after faults_after)
+  starved-formats same unarmed none is nine stuck still = formatted-by unarmed none (starved nine is same stuck still)
 
 pub none-some : {A : Type 0} (x : A) (o : Option A) → o ≡ None → o ≡ Some x → ⊥
 none-some x o none some = cc
@@ -116,7 +116,7 @@ module _ (passes : List ℕ → Bool) (tells : Bool) (told files : Option Direct
 
       go : Formats passes (device-of tells blocks) (record { list = None; files = told; script = script }) file L (world-of old taken_before faults_before) (world-of new taken_after faults_after) status said
           → Formats passes (device-of tells blocks) (record { list = Some name; files = files; script = script }) file L (world-of old taken_before first) (world-of new taken_after faults_after) status said
-      go (starved nine is kept none) = starved nine is kept (none.0, none.1 ∙ sym sink)
+      go (starved nine is kept none still) = starved nine is kept (none.0, none.1 ∙ sym sink) (still ∙ counted)
       go (tried listed r t prints is) =
           tried good r
           (subst (λ (n : ℕ). Tries passes tells files file L blocks old new n faults_after.files r) counted

@@ -72,7 +72,7 @@ pub returns-in-Err-NoMemory-clause-answers : goal.returns-in-Err-NoMemory-clause
 returns-in-Err-NoMemory-clause-answers g c =
     let e = c.refuse-in-Err-NoMemory.ensures in
     let stuck = e.starved refl in
-    answered-starved _ None e.no_turns (ap (moment g.D.Flash) e.flash) c.requires.unarmed stuck.0 e.note (ap g.O.Sink.taken stuck.1, ap g.O.Sink.faults stuck.1)
+    answered-starved _ None e.no_turns (ap (moment g.D.Flash) e.flash) c.requires.unarmed stuck.0 e.note (ap g.O.Sink.taken stuck.1, ap g.O.Sink.faults stuck.1) refl
     (λ unlisted. refl) refl refl refl (record { files = omega arith; source = omega arith; sink = let quiet = ap g.O.Sink.faults stuck.1 in omega (arith, quiet) })
 
 -- ---- no read at all

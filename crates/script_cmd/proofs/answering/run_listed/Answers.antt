@@ -77,7 +77,7 @@ returns-in-Err-NoMemory-clause-answers g c =
     inr (
       idles _ _ _ _ e.no_turns same stuck.0,
       λ passes.
-          answered-starved _ _ e.no_turns same c.requires.unarmed stuck.0 e.note (ap g.O.Sink.taken stuck.1, ap g.O.Sink.faults stuck.1) (λ unlisted. absurd cc) refl refl refl
+          answered-starved _ _ e.no_turns same c.requires.unarmed stuck.0 e.note (ap g.O.Sink.taken stuck.1, ap g.O.Sink.faults stuck.1) (c.in-Err-NoMemory.ensures.cause.memory (ap Err c.in-Err-NoMemory.field-0-is)) (λ unlisted. absurd cc) refl refl refl
           (record { files = c.read_list.ensures.reads.later; source = omega arith; sink = let quiet = ap g.O.Sink.faults stuck.1 in omega (arith, quiet) }),
     )
 
