@@ -139,7 +139,7 @@ struct fwu_step {
 struct fwu_report {
     uint32_t bank;                     /* at 0: the bank that is to be started */
     uint32_t version;                  /* at 0: the security version of its package */
-    uint32_t trials;                   /* at 0: starts of the active bank on trial, this one too if it is of that bank; else 0 */
+    uint32_t trials;                   /* at 0: starts of the active bank on trial, with this one if it is its; 0 if not on trial */
     uint32_t counter;                  /* at 0: the anti-rollback counter, after the steps */
     uint32_t fallback;                 /* at 0: 1 where it is the previous bank in place of the active one, else 0 */
     uint32_t active;                   /* at 0 and 3: the active bank */
