@@ -179,6 +179,8 @@ module _ (file : List ℕ) (request : ℕ) (first d : StepFlash) (made : IsJustM
         (between-unwritten b.layout b.bank fits first mid d made.unwritten boots.touches sent)))
         (hands.lie.beside (start b.layout b.bank 0) (start b.layout (b.bank + 1) 0) (has-blocks b.layout b.bank fits)
         (in-use-unwritten b.layout b.bank fits first mid d made.unwritten boots.touches sent))
-        (sent counter_block (marks-spared b.layout b.bank fits))
-        (writes_of mid, subst (λ (w : ℕ → ℕ). TouchesBoot (booted b n) w (writes_of mid)) (λ i k. made.unwritten k i) boots.touches_fewer,
-        λ k spared. ap (λ (ss : List Step). writes_in ss k) counted ∙ sent k spared)
+        (sent counter_block (marks-spared b.layout b.bank fits)) (
+          writes_of mid,
+          subst (λ (w : ℕ → ℕ). TouchesBoot (booted b n) w (writes_of mid)) (λ i k. made.unwritten k i) boots.touches_fewer,
+          λ k spared. ap (λ (ss : List Step). writes_in ss k) counted ∙ sent k spared,
+        )
