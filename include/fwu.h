@@ -146,7 +146,7 @@ struct fwu_report {
     uint32_t previous;                 /* at 0 and 3: the bank that was active before */
     uint32_t layout_fault;             /* at 1: enum fwu_layout_fault */
     uint32_t images;                   /* at 0: how many images the bank has, 2 to 16 */
-    uint32_t lengths[FWU_MOST_IMAGES]; /* at 0: the bytes of each image, in the order of the layout; 0 behind them */
+    uint32_t lengths[FWU_MOST_IMAGES]; /* at 0: the bytes of each image, in the order of the layout */
     uint32_t steps;                    /* how many steps are told */
     uint32_t bytes;                    /* how many bytes of the room are theirs: as many as the programs have */
 };

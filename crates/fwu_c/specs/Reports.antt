@@ -1,5 +1,5 @@
 -- What is reported of a start.
-use Rattle.std.specs.Prelude.{◌≡◌, ◌-◌, if◌then◌else◌, drop, length, replicate, take, ⊤}
+use Rattle.std.specs.Prelude.{◌≡◌, if◌then◌else◌, length, take, ⊤}
 use Rattle.early_boot.specs.Started.{Started}
 use Rattle.early_boot.specs.Ends.{Ended, booted, bad_layout, no_metadata, no_bank}
 use Rattle.fwu_c.specs.{Codes.fault_code, declared.report.Report.Report}
@@ -15,8 +15,6 @@ pub record ReportsStart (b : Started) (r : Report) : Type 0 where
   pub previous : r.previous ≡ b.meta.meta.previous
   pub images : r.images ≡ length b.layout.rows
   pub lengths : take r.images r.lengths ≡ b.lengths
-  -- and behind the images there is none
-  pub behind : drop r.images r.lengths ≡ replicate (16 - r.images) 0
 
 -- nothing but the numbers of steps and of bytes changed
 abbrev pub SameBut : Report → Report → Type 0

@@ -33,7 +33,7 @@ pub struct Report {
     pub layout_fault: u32,
     /// How many images the bank has.
     pub images: u32,
-    /// The length of each image in bytes, in the order of the layout; behind them 0.
+    /// The length of each image in bytes, in the order of the layout. No clause says what is behind them.
     pub lengths: [u32; 16],
     /// How many steps are told.
     pub steps: u32,
@@ -55,10 +55,8 @@ pub fn report_start<D: Flash>(booted: &Booted<D>, report: &mut Report)
     report.fallback = u32::from(booted.fallback());
     report.active = booted.active();
     report.previous = booted.previous();
-    let images = booted.layout().rows().len();
-    report.images = images as u32;
-    report.lengths = [0; 16];
-    report.lengths[..images].copy_from_slice(&booted.lengths()[..images]);
+    report.images = booted.layout().rows().len() as u32;
+    report.lengths = booted.lengths();
 }
 
 /// Reports how a boot ended, and answers its number.
